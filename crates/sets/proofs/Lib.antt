@@ -1,3 +1,4 @@
 -- The laws of `specs/`, for the crates above.
 pub mod Tests
 pub mod Laws
+pub mod TabLaws
