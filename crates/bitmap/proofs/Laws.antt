@@ -7,11 +7,13 @@ use Prim.Native.Nat.{ℕ, zero, suc, _*_, _/_, _%_, _^_, _-_, _<_, _≤_}
 use native.Mathlib.Nat.{zero-div}
 use native.Mathlib.Decide.{decLt, ℕ-discrete}
 use native.Mathlib.Omega.{arith}
-use lib.ListN.{length, getD, set, replicate, length-set, length-replicate, List·getD-eq-default}
+use lib.ListN.{length, getD, set, length-set, List·getD-eq-default}
 use lib.Seq.{getD-set-same, getD-set-other, set-out, set-getD}
 use lib.Bits.{bitAnd, bitOr}
-use lib.Dec.{eqb}
-use borrow.Author.Tests.{eqb-true, eqb-false, eq-eqb, ne-eqb}
+use lib.Dec.{eqb, ltb}
+use borrow.Author.Tests.{eqb-true, eqb-false, ltb-true, ltb-false}
+use Rattle.fill.specs.Many.{many}
+use Rattle.fill.proofs.Laws.{length-many, getD-many}
 use Rattle.sets.specs.Sets.{Set, none, add, size}
 use Rattle.sets.proofs.Tests.{split}
 use Rattle.sets.proofs.Laws.{size-add, size-none, size-cong}
@@ -24,7 +26,7 @@ length-mark m k = length-set m (k / 8) _
 
 pub length-unmarked : (n : ℕ) → length (unmarked n) ≡ n
 unfolding unmarked
-length-unmarked n = length-replicate n 0
+length-unmarked n = length-many n 0
 
 -- ---- past the end
 
@@ -76,10 +78,11 @@ mark-again m k h = rw (with-idle (getD m (k / 8) 0) (k % 8) h) (set-getD m (k / 
 
 -- ---- after clear
 
-zeros : (n i : ℕ) → _≡_ {A = ℕ} (getD (replicate n 0) i 0) 0
-zeros zero i = refl
-zeros (suc n) zero = refl
-zeros (suc n) (suc i) = zeros n i
+zeros : (n i : ℕ) → getD (many n 0) i 0 ≡ 0
+zeros n i =
+    split (ltb i n)
+    (λ y. getD-many n 0 i (ltb-true i n y))
+    (λ z. List·getD-eq-default (many n 0) 0 (rw (length-many n 0) (ltb-false i n z)))
 
 pub marked-unmarked : (n k : ℕ) → markedIn (unmarked n) k ≡ false
 unfolding markedIn unmarked

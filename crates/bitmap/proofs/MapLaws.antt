@@ -6,9 +6,11 @@ use mathlib.Core.List.{List}
 use Prim.Native.Nat.{ℕ, zero, suc, _+_, _-_, _*_, _^_, _<_, _≤_, _/_, _%_}
 use native.Mathlib.Omega.{arith}
 use lib.Dec.{eqb}
-use lib.ListN.{length, getD, set, replicate, length-set, length-replicate, getD-replicate}
+use lib.ListN.{length, getD, set, length-set}
 use lib.Seq.{getD-set-same, getD-set-other}
 use borrow.Author.Tests.{eqb-true, eqb-false, eq-eqb, ne-eqb}
+use Rattle.fill.specs.Many.{many}
+use Rattle.fill.proofs.Laws.{length-many, getD-many}
 use Rattle.sets.specs.Sets.{Set, none, add, one, size}
 use Rattle.sets.specs.Tab.{tab}
 use Rattle.sets.proofs.Tests.{split}
@@ -78,7 +80,7 @@ length-map n S = length-tab n (octet S)
 
 pub map-none : (n : ℕ) → unmarked n ≡ mapOf n none
 unfolding unmarked mapOf octet pack
-map-none n = is-tab (replicate n 0) n (octet none) (length-replicate n 0) (λ j h. getD-replicate n j 0 0 h)
+map-none n = is-tab (many n 0) n (octet none) (length-many n 0) (λ j h. getD-many n 0 j h)
 
 pub marked-map : (n : ℕ) (S : Set) (k : ℕ) → k < n * 8 → markedIn (mapOf n S) k ≡ S k
 unfolding markedIn mapOf octet

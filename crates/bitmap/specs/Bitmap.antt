@@ -2,8 +2,9 @@
 use Prim.Native.Nat.{ℕ, _+_, _-_, _*_, _/_, _%_, _^_}
 use mathlib.Core.Bool.{Bool, cond}
 use mathlib.Core.List.{List}
-use lib.ListN.{length, getD, set, replicate}
+use lib.ListN.{length, getD, set}
 use lib.Dec.{eqb}
+use Rattle.fill.specs.Many.{many}
 use Rattle.sets.specs.Sets.{Set, one, size}
 use Rattle.sets.specs.Tab.{tab}
 
@@ -25,7 +26,7 @@ withMark m k = set m (k / 8) (withBit (getD m (k / 8) 0) (k % 8))
 
 -- a map of n bytes with no mark
 unfoldable pub unmarked : ℕ → List ℕ
-unmarked n = replicate n 0
+unmarked n = many n 0
 
 -- how many marks are set
 unfoldable pub marks : List ℕ → ℕ

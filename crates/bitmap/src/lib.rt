@@ -29,9 +29,5 @@ pub fn mark(map: &mut [u8], k: usize)
 pub fn clear(map: &mut [u8])
     ensures { λ _. ⌜ now (map .exit) ≡ unmarked (length (now (map .entry))) ⌝ }
 {
-    let mut i = 0;
-    while i < map.len() {
-        map[i] = 0;
-        i += 1;
-    }
+    fill::fill(map, 0);
 }

@@ -1,0 +1,47 @@
+-- A part of a list replaced: its length, and each byte of it. Assumes nothing.
+use mathlib.Core.Path.{_≡_, refl, sym, ap, _∙_, subst}
+use mathlib.Core.List.{List, _++_}
+use Prim.Native.Nat.{ℕ, _+_, _-_, _<_, _≤_}
+use native.Mathlib.Omega.{arith}
+use lib.ListN.{length, getD, take, drop, length-append, length-take, length-drop, List·getD-append}
+use lib.Seq.{length-take-le, drop-drop, getD-take, getD-drop, getD-append-add}
+use borrow.Rule.Slice.PartMut.{putMid}
+use Rattle.flash.specs.Flash.{over}
+
+module _ (d : List ℕ) (at : ℕ) (s : List ℕ) (fits : at + length s ≤ length d) where
+  pub length-over : length (over d at s) ≡ length d
+  unfolding over
+  length-over = simp (length-append, length-take, length-drop) (omega arith)
+
+  pub over-inside : (j : ℕ) → at ≤ j → j < at + length s → getD (over d at s) j 0 ≡ getD s (j - at) 0
+  unfolding over
+  over-inside j h l =
+      let e : at + (j - at) ≡ j = omega arith in
+      subst (λ (k : ℕ). getD (take at d ++ (s ++ drop (at + length s) d)) k 0 ≡ getD s (j - at) 0) e
+      (subst (λ (n : ℕ). getD (take at d ++ (s ++ drop (at + length s) d)) (n + (j - at)) 0 ≡ getD s (j - at) 0) (length-take-le at d (omega arith))
+      (getD-append-add (take at d) (s ++ drop (at + length s) d) (j - at) 0 ∙ List·getD-append s (drop (at + length s) d) 0 (j - at) (omega arith)))
+
+  pub over-before : (j : ℕ) → j < at → getD (over d at s) j 0 ≡ getD d j 0
+  unfolding over
+  over-before j l =
+      List·getD-append (take at d) _ 0 j (rw (length-take-le at d (omega arith)) l) ∙ getD-take at d j 0 l
+
+  pub over-after : (j : ℕ) → at + length s ≤ j → getD (over d at s) j 0 ≡ getD d j 0
+  unfolding over
+  over-after j l =
+      let n = length s in
+      let e : j ≡ at + (n + (j - (at + n))) = omega arith in
+      let g : at + n + (j - (at + n)) ≡ j = omega arith in
+      subst (λ (k : ℕ). getD (take at d ++ (s ++ drop (at + n) d)) k 0 ≡ getD d j 0) (sym e)
+      (subst (λ (m : ℕ). getD (take at d ++ (s ++ drop (at + n) d)) (m + (n + (j - (at + n)))) 0 ≡ getD d j 0) (length-take-le at d (omega arith))
+      (getD-append-add (take at d) (s ++ drop (at + n) d) (n + (j - (at + n))) 0
+      ∙ getD-append-add s (drop (at + n) d) (j - (at + n)) 0
+      ∙ getD-drop (at + n) d (j - (at + n)) 0
+      ∙ ap (λ (k : ℕ). getD d k 0) g))
+
+-- what a callee left in a part that it was lent, said of the whole
+pub put-over : (a n : ℕ) (xs ys : List ℕ) → length ys ≡ n → putMid a (a + n - a) xs ys ≡ over xs a ys
+unfolding over
+put-over a n xs ys e =
+    let h : a + n - a ≡ n = omega arith in
+    rw (h, drop-drop n a xs, e) refl

@@ -1,0 +1,58 @@
+// The lent flash: whether its length is right, a sector erased, a payload stored.
+ghost use mathlib.Core.Path.{_≡_};
+ghost use Rattle.flash.specs.Flash.{flashLength, eraseAt, payloadOf, storeAt};
+
+// A flash by its length. It names the sizes; the bytes themselves are lent as a slice.
+pub struct Flash {
+    pub len: usize,
+}
+
+impl Flash {
+    pub const SECTOR: usize = 4096;
+
+    pub const PAYLOAD: usize = 256;
+
+    pub const LEAST: usize = 4096;
+
+    pub const MOST: usize = 33554432;
+
+    // The bytes of an arrival that are its payload.
+    pub const FROM: usize = 32;
+
+    pub const TO: usize = 288;
+}
+
+// May a flash have this length?
+pub fn right_length(len: usize) -> bool
+    ensures { λ r. ⌜ r ≡ flashLength len ⌝ }
+{
+    (len % Flash::SECTOR == 0) & (Flash::LEAST <= len) & (len <= Flash::MOST)
+}
+
+// Sets the bytes of a sector to 0xFF. A sector past the end changes nothing.
+pub fn erase(flash: &mut [u8], sector: usize)
+    ensures { λ _. ⌜ now (flash .exit) ≡ eraseAt (now (flash .entry)) sector ⌝ }
+{
+    if sector < flash.len() / Flash::SECTOR {
+        let a = sector * Flash::SECTOR;
+        let e = a + Flash::SECTOR;
+        fill::fill(&mut flash[a..e], 255);
+    }
+}
+
+// Stores the payload of an arrival at an address of the flash. Where either does not fit nothing changes.
+pub fn store(flash: &mut [u8], at: usize, arrival: &[u8])
+    ensures { λ _. ⌜ now (flash .exit) ≡ storeAt (now (flash .entry)) at (payloadOf (now (arrival .entry))) ⌝ }
+{
+    if arrival.len() < Flash::TO {
+        return;
+    }
+    if flash.len() < Flash::PAYLOAD {
+        return;
+    }
+    if flash.len() - Flash::PAYLOAD < at {
+        return;
+    }
+    let e = at + Flash::PAYLOAD;
+    bytes::copy(&arrival[Flash::FROM..Flash::TO], &mut flash[at..e]);
+}
