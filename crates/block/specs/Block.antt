@@ -1,0 +1,55 @@
+-- A UF2 block (01, "A UF2 block"): its fields, and what its header says. Assumes nothing.
+use Prim.Native.Nat.{ℕ, _+_, _*_, _/_, _%_}
+use mathlib.Core.Bool.{Bool, not, cond}
+use mathlib.Core.List.{List}
+use lib.ListN.{length, getD}
+use lib.Dec.{eqb, leb}
+use Rattle.block.specs.declared.Block.{Block}
+use Rattle.block.specs.declared.Header.{Header}
+use Rattle.block.specs.declared.Header.the-variants.{NotBlock, Container, Comment, NoFamily, Found}
+
+-- "Little-endian 32-bit fields": the field at an offset, or 0 where it runs past the end
+unfoldable pub fieldAt : List ℕ → ℕ → ℕ
+fieldAt a at =
+    cond (leb (at + 4) (length a))
+    (getD a at 0 + 256 * getD a (at + 1) 0 + 65536 * getD a (at + 2) 0 + 16777216 * getD a (at + 3) 0)
+    0
+
+-- "8 flags": is the flag of weight f set?
+abbrev pub hasFlag : List ℕ → ℕ → Bool
+hasFlag a f = eqb (fieldAt a 8 / f % 2) 1
+
+-- "12 address, 16 payload size, 20 block number, 24 total, 28 family"
+unfoldable pub fieldsOf : List ℕ → Block
+fieldsOf a =
+    record {
+      address = fieldAt a 12;
+      size = fieldAt a 16;
+      number = fieldAt a 20;
+      total = fieldAt a 24;
+      family = fieldAt a 28;
+    }
+
+-- "Flags: 0x1 not main flash, 0x1000 container, 0x2000 family present", asked in the order of answers 5 (also when 0x1 is set), 6 and 7
+unfoldable pub flaggedOf : List ℕ → Header
+flaggedOf a =
+    cond (hasFlag a 0x1000) Container
+    (cond (hasFlag a 0x1) Comment
+    (cond (not (hasFlag a 0x2000)) NoFamily
+    (Found (fieldsOf a))))
+
+-- "Read the header first; if that yields no block, no other field counts": "0 magic 0x0A324655, 4 magic 0x9E5D5157, .. 508 magic 0x0AB16F30"
+unfoldable pub headerOf : List ℕ → Header
+headerOf a =
+    cond (not (eqb (fieldAt a 0) 0x0A324655)) NotBlock
+    (cond (not (eqb (fieldAt a 4) 0x9E5D5157)) NotBlock
+    (cond (not (eqb (fieldAt a 508) 0x0AB16F30)) NotBlock
+    (flaggedOf a)))
+
+-- the numbers of the refusals; a block is none, and has 0
+abbrev pub headerNumber : Header → ℕ
+headerNumber NotBlock = 4
+headerNumber Container = 5
+headerNumber Comment = 6
+headerNumber NoFamily = 7
+headerNumber (Found b) = 0

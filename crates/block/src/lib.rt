@@ -1,0 +1,119 @@
+// A UF2 block: its little-endian fields, and the answer of its header.
+ghost use mathlib.Core.Path.{_≡_};
+ghost use Prim.Native.Nat.{_+_, _*_};
+ghost use Rattle.block.specs.Block.{fieldAt, fieldsOf, flaggedOf, headerOf, headerNumber};
+
+// The fields of a block that a header leaves to the checks after it.
+pub struct Block {
+    pub address: u32,
+    pub size: u32,
+    pub number: u32,
+    pub total: u32,
+    pub family: u32,
+}
+
+// What the header of an arrival says: a refusal, or a block.
+pub enum Header {
+    NotBlock,
+    Container,
+    Comment,
+    NoFamily,
+    Found(Block),
+}
+
+impl Block {
+    pub const ARRIVAL: usize = 512;
+
+    pub const MAGIC_FIRST: u32 = 0x0A324655;
+
+    pub const MAGIC_SECOND: u32 = 0x9E5D5157;
+
+    pub const MAGIC_LAST: u32 = 0x0AB16F30;
+
+    pub const FLAG_NOT_MAIN_FLASH: u32 = 0x1;
+
+    pub const FLAG_CONTAINER: u32 = 0x1000;
+
+    pub const FLAG_FAMILY: u32 = 0x2000;
+}
+
+// The number of four bytes, the lowest first.
+fn joined(a: u8, b: u8, c: u8, d: u8) -> u32
+    ensures { λ r. ⌜ r ≡ a + 256 * b + 65536 * c + 16777216 * d ⌝ }
+{
+    (a as u32) + 256 * (b as u32) + 65536 * (c as u32) + 16777216 * (d as u32)
+}
+
+// The little-endian 32-bit field at an offset, or 0 where it runs past the end.
+pub fn field(bytes: &[u8], at: usize) -> u32
+    ensures { λ r. ⌜ r ≡ fieldAt (now (bytes .entry)) at ⌝ }
+{
+    if bytes.len() < 4 {
+        return 0;
+    }
+    if bytes.len() - 4 < at {
+        return 0;
+    }
+    joined(bytes[at], bytes[at + 1], bytes[at + 2], bytes[at + 3])
+}
+
+// The fields of a block.
+fn fields(arrival: &[u8]) -> Block
+    ensures { λ r. ⌜ r ≡ fieldsOf (now (arrival .entry)) ⌝ }
+{
+    Block {
+        address: field(arrival, 12),
+        size: field(arrival, 16),
+        number: field(arrival, 20),
+        total: field(arrival, 24),
+        family: field(arrival, 28),
+    }
+}
+
+// The header of an arrival whose magic numbers are right.
+fn flagged(arrival: &[u8]) -> Header
+    ensures { λ r. ⌜ r ≡ flaggedOf (now (arrival .entry)) ⌝ }
+{
+    let flags = field(arrival, 8);
+    if flags / Block::FLAG_CONTAINER % 2 == 1 {
+        return Header::Container;
+    }
+    if flags / Block::FLAG_NOT_MAIN_FLASH % 2 == 1 {
+        return Header::Comment;
+    }
+    if flags / Block::FLAG_FAMILY % 2 != 1 {
+        return Header::NoFamily;
+    }
+    Header::Found(fields(arrival))
+}
+
+// The header of an arrival.
+pub fn read(arrival: &[u8]) -> Header
+    ensures { λ r. ⌜ r ≡ headerOf (now (arrival .entry)) ⌝ }
+{
+    if field(arrival, 0) != Block::MAGIC_FIRST {
+        return Header::NotBlock;
+    }
+    if field(arrival, 4) != Block::MAGIC_SECOND {
+        return Header::NotBlock;
+    }
+    if field(arrival, 508) != Block::MAGIC_LAST {
+        return Header::NotBlock;
+    }
+    flagged(arrival)
+}
+
+impl Header {
+    // The number of a refusal, and 0 for a block.
+    pub fn number(self) -> u8
+        ensures { λ r. ⌜ r ≡ headerNumber self ⌝ }
+    {
+        match self {
+            Header::NotBlock => 4,
+            Header::Container => 5,
+            Header::Comment => 6,
+            Header::NoFamily => 7,
+            Header::Found(_) => 0,
+        }
+    }
+}
