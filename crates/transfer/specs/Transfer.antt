@@ -1,0 +1,76 @@
+-- The transfer (01, "One arrival, checks in this order"): its answers' numbers, row 3, and rows 12 to 15. Assumes nothing.
+use Prim.Native.Nat.{ℕ, _+_}
+use mathlib.Core.Bool.{Bool, true, false, _&&_, cond}
+use lib.Dec.{ltb, leb, eqb}
+use Rattle.transfer.specs.declared.Head.{Head}
+use Rattle.transfer.specs.declared.Run.{Run}
+use Rattle.transfer.specs.declared.State.{State}
+use Rattle.transfer.specs.declared.State.the-variants.{Idle, Running, Done}
+use Rattle.transfer.specs.declared.Transfer.{Transfer}
+use Rattle.transfer.specs.declared.Taken.{Taken}
+use Rattle.transfer.specs.declared.Step.{Step}
+use Rattle.transfer.specs.declared.Step.the-variants.{Stays, Takes}
+use Rattle.transfer.specs.declared.Answer.{Answer}
+use Rattle.transfer.specs.declared.Answer.the-variants.{BadBuffers, BadSettings, BadState, NotBlock, Container, Comment, NoFamily, NoPlace, BadPayload, BadNumbers, BadAddress, Finished, Again, Written, Completed}
+
+-- 01's numbers of the answers
+abbrev pub numberOf : Answer → ℕ
+numberOf BadBuffers = 1
+numberOf BadSettings = 2
+numberOf BadState = 3
+numberOf NotBlock = 4
+numberOf Container = 5
+numberOf Comment = 6
+numberOf NoFamily = 7
+numberOf NoPlace = 8
+numberOf BadPayload = 9
+numberOf BadNumbers = 10
+numberOf BadAddress = 11
+numberOf Finished = 12
+numberOf Again = 13
+numberOf Written = 14
+numberOf Completed = 15
+
+-- "A fresh transfer is Idle"
+abbrev pub fresh : Transfer
+fresh = record { state = Idle }
+
+abbrev pub running : Head → ℕ → State
+running g c = Running (record { head = g; count = c })
+
+-- row 3 is passed: "Running without 1 <= count < total <= 131,072; Done without 1 <= total <= 131,072" is bad
+unfoldable pub goodState : State → Bool
+goodState Idle = true
+goodState (Running r) = leb 1 (r .count) && ltb (r .count) (r .head .total) && leb (r .head .total) 131072
+goodState (Done g) = leb 1 (g .total) && leb (g .total) 131072
+
+-- "same family and total"
+unfoldable pub sameHead : Head → Head → Bool
+sameHead g h = eqb (g .family) (h .family) && eqb (g .total) (h .total)
+
+-- "at the total the transfer is Done"
+unfoldable pub counted : Head → ℕ → State
+counted g c = cond (ltb c (g .total)) (running g c) (Done g)
+
+-- rows 14 and 15: Written where "the raised count is under the block's total", Completed otherwise
+unfoldable pub raised : Head → ℕ → Answer
+raised g c = cond (ltb c (g .total)) Written Completed
+
+-- a block of head g is taken, and c is the raised count
+unfoldable pub taken : Bool → Bool → Head → ℕ → Taken
+taken clears discards g c =
+    record {
+      transfer = record { state = counted g c };
+      answer = raised g c;
+      discarded = discards;
+      fresh = clears;
+    }
+
+-- rows 12 to 15, of a block of head g whose number is marked or not
+unfoldable pub stepOf : State → Head → Bool → Step
+stepOf Idle g marked = Takes (taken true false g 1)
+stepOf (Running r) g marked =
+    cond (sameHead (r .head) g)
+    (cond marked (Stays Again) (Takes (taken false false g (r .count + 1))))
+    (Takes (taken true true g 1))
+stepOf (Done h) g marked = Stays Finished
