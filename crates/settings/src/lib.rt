@@ -131,3 +131,97 @@ fn sectors_overlap(f: u32, n: u32, g: u32, m: u32) -> bool
     let other_to = other + m as usize;
     (0 < n) & (0 < m) & (from < other_to) & (other < to)
 }
+
+fn alone_bad(e: Entry, flash_len: usize) -> bool
+    ensures { λ r. ⌜ r ≡ aloneBad «flash_len» e ⌝ }
+{
+    let past = (e.first as usize + e.sectors as usize) * 4096;
+    (e.sectors == 0) | (flash_len < past) | (4 < e.user_count) | reserved_user(e)
+}
+
+// The index that an entry's link names, 0 where it names none.
+fn target(e: Entry) -> u8
+    ensures { λ r. ⌜ r ≡ linkTarget (e .link) ⌝ }
+{
+    let link = e.link;
+    match link {
+        Link::Unlinked => 0,
+        Link::OwnedBy(k) => k,
+        Link::BOf(k) => k,
+    }
+}
+
+// A used entry is wrong by itself or by its link.
+fn any_wrong(table: [Entry; 16], count: usize, flash_len: usize) -> bool
+    requires { ⌜ count ≤ 16 ⌝ }
+    ensures { λ r. ⌜ r ≡ any count (wrongEntry table «flash_len») ⌝ }
+{
+    let mut k: usize = 0;
+    while k < count {
+        let e = table[k];
+        let next = k + 1;
+        if alone_bad(e, flash_len) {
+            return true;
+        }
+        if !unowned(e) {
+            let j = target(e) as usize;
+            if k <= j {
+                return true;
+            }
+            let o = table[j];
+            if !is_a(o) {
+                return true;
+            }
+        }
+        k = next;
+    }
+    false
+}
+
+// Two used entries share a sector: each entry beside those before it.
+fn any_shares(table: [Entry; 16], count: usize) -> bool
+    requires { ⌜ count ≤ 16 ⌝ }
+    ensures { λ r. ⌜ r ≡ any count (sharesBelow table) ⌝ }
+{
+    let mut k: usize = 0;
+    while k < count {
+        let first = table[k].first;
+        let sectors = table[k].sectors;
+        let mut j: usize = 0;
+        while j < k {
+            if sectors_overlap(first, sectors, table[j].first, table[j].sectors) {
+                return true;
+            }
+            j += 1;
+        }
+        k += 1;
+    }
+    false
+}
+
+pub fn is_enabled(settings: Settings, arch: Arch) -> bool
+    ensures { λ r. ⌜ r ≡ enabled settings arch ⌝ }
+{
+    match arch {
+        Arch::Arm => settings.arm,
+        Arch::RiscV => settings.riscv,
+    }
+}
+
+pub fn good(settings: Settings, flash_len: usize) -> bool
+    ensures { λ r. ⌜ r ≡ goodSettings settings «flash_len» ⌝ }
+{
+    let current = settings.current;
+    let count = settings.count as usize;
+    let table = settings.table;
+    if !is_enabled(settings, current) {
+        return false;
+    }
+    if 16 < count {
+        return false;
+    }
+    if any_wrong(table, count, flash_len) {
+        return false;
+    }
+    !any_shares(table, count)
+}
