@@ -22,8 +22,7 @@ module _ (f n g m : ℕ) where
   unfolding overlap
   overlap-tells h =
       let h3 = and-left (ltb 0 n && ltb 0 m && ltb f (g + m)) _ h in
-      let h2 = and-left (ltb 0 n && ltb 0 m) _ h3 in
-      (
+      let h2 = and-left (ltb 0 n && ltb 0 m) _ h3 in (
         ltb-true _ _ (and-left (ltb 0 n) _ h2),
         ltb-true _ _ (and-right (ltb 0 n) _ h2),
         ltb-true _ _ (and-right (ltb 0 n && ltb 0 m) _ h3),
@@ -34,14 +33,14 @@ module _ (f n g m : ℕ) where
   pub overlap-exact : (overlap f n g m ≡ true) ↔ ((x : ℕ) × Within f n x × Within g m x)
   overlap-exact = (
     λ h.
-    let t = overlap-tells h in
-    split (ltb f g)
-    (λ l. let b = ltb-true f g l in (g, (omega arith, omega (arith, t .3)), (omega arith, omega (arith, t .1))))
-    (λ l. let b = ltb-false f g l in (f, (omega arith, omega (arith, t .0)), (omega arith, omega (arith, t .2)))),
+        let t = overlap-tells h in
+        split (ltb f g)
+        (λ l. let b = ltb-true f g l in (g, (omega arith, omega (arith, t .3)), (omega arith, omega (arith, t .1))))
+        (λ l. let b = ltb-false f g l in (f, (omega arith, omega (arith, t .0)), (omega arith, omega (arith, t .2)))),
     λ w.
-    let a = w .1 in
-    let b = w .2 in
-    overlap-yes (omega arith) (omega arith) (omega arith) (omega arith),
+        let a = w .1 in
+        let b = w .2 in
+        overlap-yes (omega arith) (omega arith) (omega arith) (omega arith),
   )
 
 pub overlap-swaps : (f n g m : ℕ) → overlap f n g m ≡ true → overlap g m f n ≡ true

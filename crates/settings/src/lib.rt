@@ -3,7 +3,16 @@ ghost use mathlib.Core.Path.{_≡_};
 ghost use Prim.Native.Nat.{_≤_};
 ghost use Rattle.sets.specs.Sets.{any};
 ghost use Rattle.settings.specs.Settings.{
-    isA, isUnowned, linkTarget, hasUser, accepts, isReserved, reservedUser, overlap, enabled, goodSettings
+  isA,
+  isUnowned,
+  linkTarget,
+  hasUser,
+  accepts,
+  isReserved,
+  reservedUser,
+  overlap,
+  enabled,
+  goodSettings,
 };
 ghost use Rattle.settings.specs.Parts.{aloneBad, linkBad, wrongEntry, sharesBelow};
 

@@ -10,9 +10,6 @@ use Rattle.settings.specs.Parts.{sharesBelow}
 use borrow.Author.Needs.{needs}
 use Rattle.settings.proofs.any_shares.Statement.{statement}
 use Rattle.settings.proofs.any_shares.Tie as tie
-use Rattle.settings.proofs.any_shares.Reads as reads
-use Rattle.settings.proofs.any_shares.Lts as lts
-use Rattle.settings.proofs.sectors_overlap.Reads as sectors-overlap-reads
 
 abbrev Inv-loop2 : tie.InvT-loop2
 Inv-loop2 count table k first sectors j₀ j = (j ≤ k) × (any j (overlapAt table k) ≡ false)
@@ -26,89 +23,70 @@ Inv-loop count table k₀ k = (k ≤ count) × (any k (sharesBelow table) ≡ fa
 abbrev μ-loop : tie.MeasureT-loop
 μ-loop count table k₀ k = count - k
 
--- src/lib.rt:187:5
 loop-holds : tie.Need-loop-holds Inv-loop2 μ-loop2 Inv-loop μ-loop
 loop-holds c = (search needs, any-zero _)
 
--- src/lib.rt:188:21
 mul-first : tie.Need-mul-first Inv-loop2 μ-loop2 Inv-loop μ-loop
 mul-first c = search needs
 
--- src/lib.rt:188:13
 element-copy-out-first : tie.Need-element-copy-out-first Inv-loop2 μ-loop2 Inv-loop μ-loop
 element-copy-out-first c = search needs
 
--- src/lib.rt:189:23
 mul-sectors : tie.Need-mul-sectors Inv-loop2 μ-loop2 Inv-loop μ-loop
 mul-sectors c = search needs
 
--- src/lib.rt:189:13
 element-copy-out-sectors : tie.Need-element-copy-out-sectors Inv-loop2 μ-loop2 Inv-loop μ-loop
 element-copy-out-sectors c = search needs
 
--- src/lib.rt:191:9
 loop2-holds : tie.Need-loop2-holds Inv-loop2 μ-loop2 Inv-loop μ-loop
 loop2-holds c = (search needs, any-zero _)
 
--- src/lib.rt:192:48
 mul-sectors-overlap : tie.Need-mul-sectors-overlap Inv-loop2 μ-loop2 Inv-loop μ-loop
 mul-sectors-overlap c = search needs
 
--- src/lib.rt:192:48
 element-copy-out-sectors-overlap :
     tie.Need-element-copy-out-sectors-overlap Inv-loop2 μ-loop2 Inv-loop μ-loop
 element-copy-out-sectors-overlap c = search needs
 
--- src/lib.rt:192:64
 mul-sectors-overlap-2 : tie.Need-mul-sectors-overlap-2 Inv-loop2 μ-loop2 Inv-loop μ-loop
 mul-sectors-overlap-2 c = search needs
 
--- src/lib.rt:192:64
 element-copy-out-sectors-overlap-2 :
     tie.Need-element-copy-out-sectors-overlap-2 Inv-loop2 μ-loop2 Inv-loop μ-loop
 element-copy-out-sectors-overlap-2 c = search needs
 
--- src/lib.rt:192:16
 sectors-overlap-requires : tie.Need-sectors-overlap-requires Inv-loop2 μ-loop2 Inv-loop μ-loop
 sectors-overlap-requires c κs = search needs
 
--- src/lib.rt:193:17
 returns : tie.Need-returns Inv-loop2 μ-loop2 Inv-loop μ-loop
 unfolding sharesBelow overlapAt
-returns c = 
+returns c =
     sym
     (any-hit _ _ _ (c .before .before .before .before .loop-test .taken)
     (any-hit _ _ _ (c .before .before .loop2-test .taken) (sym (c .before .sectors-overlap .ensures) ∙ c .if1 .taken)))
 
--- src/lib.rt:195:13
 add-j : tie.Need-add-j Inv-loop2 μ-loop2 Inv-loop μ-loop
 add-j c = search needs
 
--- src/lib.rt:191:9
 loop2-less : tie.Need-loop2-less Inv-loop2 μ-loop2 Inv-loop μ-loop
 loop2-less c = search needs
 
--- src/lib.rt:191:9
 loop2-again : tie.Need-loop2-again Inv-loop2 μ-loop2 Inv-loop μ-loop
 unfolding overlapAt
 loop2-again c = (search needs, any-more _ _ (c .before .before .before .loop2 .inv .1) (sym (c .before .sectors-overlap .ensures) ∙ c .if1 .left))
 
--- src/lib.rt:197:9
 add-k : tie.Need-add-k Inv-loop2 μ-loop2 Inv-loop μ-loop
 add-k c = search needs
 
--- src/lib.rt:187:5
 loop-less : tie.Need-loop-less Inv-loop2 μ-loop2 Inv-loop μ-loop
 loop-less c = search needs
 
--- src/lib.rt:187:5
 loop-again : tie.Need-loop-again Inv-loop2 μ-loop2 Inv-loop μ-loop
 unfolding sharesBelow
-loop-again c = 
+loop-again c =
     let e : c .before .loop2 .j ≡ c .before .before .before .loop .k = omega arith in
     (search needs, any-more _ _ (c .before .before .before .loop .inv .1) (rw e at (c .before .loop2 .inv .1)))
 
--- src/lib.rt:182:1
 returns-2 : tie.Need-returns-2 Inv-loop2 μ-loop2 Inv-loop μ-loop
 returns-2 c = let e : c .before .loop .k ≡ c .before .before .args .count = omega arith in sym (rw e at (c .before .loop .inv .1))
 

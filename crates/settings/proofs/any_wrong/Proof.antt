@@ -12,12 +12,6 @@ use Rattle.settings.proofs.Laws.{wrong-alone, wrong-link, right-entry, 
 use borrow.Author.Needs.{needs}
 use Rattle.settings.proofs.any_wrong.Statement.{statement}
 use Rattle.settings.proofs.any_wrong.Tie as tie
-use Rattle.settings.proofs.any_wrong.Reads as reads
-use Rattle.settings.proofs.any_wrong.Lts as lts
-use Rattle.settings.proofs.alone_bad.Reads as alone-bad-reads
-use Rattle.settings.proofs.is_a.Reads as is-a-reads
-use Rattle.settings.proofs.target.Reads as target-reads
-use Rattle.settings.proofs.unowned.Reads as unowned-reads
 
 abbrev Inv-loop : tie.InvT-loop
 Inv-loop count flash-len table k₀ k = (k ≤ count) × (any k (wrongEntry table flash-len) ≡ false)
@@ -25,68 +19,54 @@ Inv-loop count flash-len table k₀ k = (k ≤ count) × (any k (wrongEntry tabl
 abbrev μ-loop : tie.MeasureT-loop
 μ-loop count flash-len table k₀ k = count - k
 
--- src/lib.rt:160:5
 loop-holds : tie.Need-loop-holds Inv-loop μ-loop
 loop-holds c = (search needs, any-zero _)
 
--- src/lib.rt:161:17
 mul-e : tie.Need-mul-e Inv-loop μ-loop
 mul-e c = search needs
 
--- src/lib.rt:161:17
 array-copy-out-e : tie.Need-array-copy-out-e Inv-loop μ-loop
 array-copy-out-e c = search needs
 
--- src/lib.rt:162:20
 add-next : tie.Need-add-next Inv-loop μ-loop
 add-next c = search needs
 
--- src/lib.rt:163:12
 alone-bad-requires : tie.Need-alone-bad-requires Inv-loop μ-loop
 alone-bad-requires c κs = search needs
 
--- src/lib.rt:164:13
 returns : tie.Need-returns Inv-loop μ-loop
-returns c = 
+returns c =
     sym
     (any-hit _ _ _ (c .before .before .before .loop-test .taken)
     (wrong-alone _ _ _ (sym (c .before .alone-bad .ensures) ∙ c .if1 .taken)))
 
--- src/lib.rt:166:13
 unowned-requires : tie.Need-unowned-requires Inv-loop μ-loop
 unowned-requires c κs = search needs
 
--- src/lib.rt:167:21
 target-requires : tie.Need-target-requires Inv-loop μ-loop
 target-requires c κs = search needs
 
--- src/lib.rt:167:21
 cast-j : tie.Need-cast-j Inv-loop μ-loop
 cast-j c = search needs
 
--- src/lib.rt:169:17
 returns-2 : tie.Need-returns-2 Inv-loop μ-loop
-returns-2 c = 
+returns-2 c =
     let u = not-true _ (c .before .before .if2 .taken) in
     sym
     (any-hit _ _ _ (c .before .before .before .before .before .before .before .loop-test .taken)
     (wrong-link _ _ _ (link-up _ _ (sym (c .before .before .before .unowned .ensures) ∙ u) (omega (arith, c .before .target .ensures)))))
 
--- src/lib.rt:171:21
 mul-o : tie.Need-mul-o Inv-loop μ-loop
 mul-o c = search needs
 
--- src/lib.rt:171:21
 array-copy-out-o : tie.Need-array-copy-out-o Inv-loop μ-loop
 array-copy-out-o c = search needs
 
--- src/lib.rt:172:17
 is-a-requires : tie.Need-is-a-requires Inv-loop μ-loop
 is-a-requires c κs = search needs
 
--- src/lib.rt:173:17
 returns-3 : tie.Need-returns-3 Inv-loop μ-loop
-returns-3 c = 
+returns-3 c =
     let x = c .before .before .before .before .before .before .before .before .before .before .before .before .args in
     let d = c .before .before .before in
     let u = not-true _ (d .before .before .if2 .taken) in
@@ -96,38 +76,31 @@ returns-3 c =
     (wrong-link _ _ _
     (link-to-b _ _ (sym (d .before .before .before .unowned .ensures) ∙ u) (sym t ∙ sym (c .before .is-a .ensures) ∙ not-true _ (c .if4 .taken)))))
 
--- src/lib.rt:160:5
 loop-less : tie.Need-loop-less Inv-loop μ-loop
 loop-less c = search needs
 
--- src/lib.rt:160:5
 loop-again : tie.Need-loop-again Inv-loop μ-loop
-loop-again c = 
+loop-again c =
     let x = c .before .before .before .before .before .before .before .before .before .before .before .before .args in
     let d = c .before .before .before in
-    let t = ap (λ (j : ℕ). isA (entryAt (x .t1) j)) (d .before .target .ensures) in
-    (
+    let t = ap (λ (j : ℕ). isA (entryAt (x .t1) j)) (d .before .target .ensures) in (
       search needs,
       any-more _ _ (d .before .before .before .before .before .before .before .before .loop .inv .1)
-      (right-entry _ _ _ (sym (d .before .before .before .before .before .alone-bad .ensures) ∙ d .before .before .before .before .if1 .left)
-      (link-right _ _ (omega (arith, d .before .target .ensures)) (sym t ∙ sym (c .before .is-a .ensures) ∙ not-false _ (c .if4 .left)))),
+          (right-entry _ _ _ (sym (d .before .before .before .before .before .alone-bad .ensures) ∙ d .before .before .before .before .if1 .left)
+          (link-right _ _ (omega (arith, d .before .target .ensures)) (sym t ∙ sym (c .before .is-a .ensures) ∙ not-false _ (c .if4 .left)))),
     )
 
--- src/lib.rt:160:5
 loop-less-2 : tie.Need-loop-less-2 Inv-loop μ-loop
 loop-less-2 c = search needs
 
--- src/lib.rt:160:5
 loop-again-2 : tie.Need-loop-again-2 Inv-loop μ-loop
-loop-again-2 c = 
-    (
-      search needs,
-      any-more _ _ (c .before .before .before .before .before .before .loop .inv .1)
+loop-again-2 c = (
+  search needs,
+  any-more _ _ (c .before .before .before .before .before .before .loop .inv .1)
       (right-entry _ _ _ (sym (c .before .before .before .alone-bad .ensures) ∙ c .before .before .if1 .left)
       (link-none _ _ (sym (c .before .unowned .ensures) ∙ not-false _ (c .if2 .left)))),
-    )
+)
 
--- src/lib.rt:155:1
 returns-4 : tie.Need-returns-4 Inv-loop μ-loop
 returns-4 c = let e : c .before .loop .k ≡ c .before .before .args .count = omega arith in sym (rw e at (c .before .loop .inv .1))
 

@@ -3,43 +3,31 @@ use Rattle.settings.specs.Settings.{reservedUser}
 use borrow.Author.Needs.{needs}
 use Rattle.settings.proofs.reserved_user.Statement.{statement}
 use Rattle.settings.proofs.reserved_user.Tie as tie
-use Rattle.settings.proofs.reserved_user.Reads as reads
-use Rattle.settings.proofs.reserved_user.Lts as lts
-use Rattle.settings.proofs.reserved.Reads as reserved-reads
 
--- src/lib.rt:119:25
 array-read-reserved : tie.Need-array-read-reserved
 array-read-reserved c = search needs
 
--- src/lib.rt:119:16
 reserved-requires : tie.Need-reserved-requires
 reserved-requires c κs = search needs
 
--- src/lib.rt:120:31
 array-read-reserved-2 : tie.Need-array-read-reserved-2
 array-read-reserved-2 c = search needs
 
--- src/lib.rt:120:22
 reserved-requires-2 : tie.Need-reserved-requires-2
 reserved-requires-2 c κs = search needs
 
--- src/lib.rt:121:31
 array-read-reserved-3 : tie.Need-array-read-reserved-3
 array-read-reserved-3 c = search needs
 
--- src/lib.rt:121:22
 reserved-requires-3 : tie.Need-reserved-requires-3
 reserved-requires-3 c κs = search needs
 
--- src/lib.rt:122:31
 array-read-reserved-4 : tie.Need-array-read-reserved-4
 array-read-reserved-4 c = search needs
 
--- src/lib.rt:122:22
 reserved-requires-4 : tie.Need-reserved-requires-4
 reserved-requires-4 c κs = search needs
 
--- src/lib.rt:114:1
 returns : tie.Need-returns
 unfolding any reservedUser
 returns c = cc
