@@ -1,5 +1,6 @@
 -- The place of a family (01, "Settings and the place of a family"). Numbers are natural, so nothing wraps. Assumes nothing.
-use Prim.Native.Nat.{ℕ, zero, suc, _*_}
+use Prim.Native.Nat.{ℕ, zero, suc, _+_, _*_, _%_, _<_, _≤_}
+use mathlib.Core.Path.{_≡_}
 use mathlib.Core.Bool.{Bool, true, false, _&&_, _||_, cond, not}
 use mathlib.Core.List.{List}
 use lib.Dec.{leb, eqb}
@@ -46,7 +47,7 @@ forOther s f = s .«auto_switch» && enabled s (otherArch (s .current)) && eqb f
 -- what the passes have to know of the settings
 unfoldable pub wantedOf : Settings → ℕ → Wanted
 wantedOf s f =
-    record { family = f; current = s .current; «for_current» = forCurrent s f; «for_other» = forOther s f; }
+    record { family = f; current = s .current; «for_current» = forCurrent s f; «for_other» = forOther s f }
 
 -- what a pass asks of an A entry that accepts the family; 01's passes 1 to 4 are counted from 0
 unfoldable pub passAllows : Wanted → ℕ → Entry → Bool
@@ -135,3 +136,13 @@ askedNumber BadBuffers = 1
 askedNumber BadSettings = 2
 askedNumber NoPlace = 8
 askedNumber (Found a n) = 0
+
+-- ---- what is claimed of places
+
+-- entry k is used, is an A entry and accepts the family
+abbrev pub Accepting : Settings → ℕ → ℕ → Type 0
+Accepting s f k = (k < s .count) × (isA (entryAt (s .table) k) ≡ true) × (accepts (entryAt (s .table) k) f ≡ true)
+
+-- n bytes from a on lie in a flash of len bytes, and start and end at a sector
+abbrev pub Inside : ℕ → ℕ → ℕ → Type 0
+Inside len a n = (a % 4096 ≡ 0) × (n % 4096 ≡ 0) × (a + n ≤ len)

@@ -2,11 +2,26 @@
 ghost use mathlib.Core.Path.{_≡_};
 ghost use Prim.Native.Nat.{_≤_};
 ghost use Rattle.place.specs.Place.{
-    otherArch, imageOf, isMarked, isBootable, passAllows, passTakes, chosen, usedCount, wantedOf, takenWhole, wholeIf,
-    bytesOf, placeOf, askOf, askedNumber
+  otherArch,
+  imageOf,
+  isMarked,
+  isBootable,
+  passAllows,
+  passTakes,
+  chosen,
+  usedCount,
+  wantedOf,
+  takenWhole,
+  wholeIf,
+  bytesOf,
+  placeOf,
+  askOf,
+  askedNumber,
 };
-
-use settings::{Arch, Entry, Family, Settings};
+use settings::Arch;
+use settings::Entry;
+use settings::Family;
+use settings::Settings;
 
 // The place of a family, in bytes.
 pub enum Place {
@@ -115,11 +130,7 @@ fn choose(table: [Entry; 16], n: usize, w: Wanted) -> Choice
 fn used_count(count: u8) -> usize
     ensures { λ r. ⌜ r ≡ usedCount count ⌝ }
 {
-    if count <= 16 {
-        count as usize
-    } else {
-        16
-    }
+    if count <= 16 { count as usize } else { 16 }
 }
 
 fn want(settings: Settings, family: u32) -> Wanted

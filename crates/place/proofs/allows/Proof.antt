@@ -3,49 +3,36 @@ use Rattle.place.specs.Place.{passAllows}
 use borrow.Author.Needs.{needs}
 use Rattle.place.proofs.allows.Statement.{statement}
 use Rattle.place.proofs.allows.Tie as tie
-use Rattle.place.proofs.allows.Reads as reads
-use Rattle.place.proofs.allows.Lts as lts
-use Rattle.place.proofs.bootable.Reads as bootable-reads
-use Rattle.place.proofs.other.Reads as other-reads
-use Rattle.settings.proofs.unowned.Reads as unowned-reads
 
--- src/lib.rt:78:30
 bootable-requires : tie.Need-bootable-requires
 bootable-requires c κs = search needs
 
--- src/lib.rt:79:40
 other-requires : tie.Need-other-requires
 other-requires c κs = search needs
 
--- src/lib.rt:79:28
 bootable-requires-2 : tie.Need-bootable-requires-2
 bootable-requires-2 c κs = search needs
 
--- src/lib.rt:80:14
 unowned-requires : tie.Need-unowned-requires
 unowned-requires c κs = search needs
 
--- src/lib.rt:73:1
 returns : tie.Need-returns
 unfolding passAllows
 returns c = rw (c .before .before .match .keys1) (simp (c .before .bootable .ensures))
 
--- src/lib.rt:73:1
 returns-2 : tie.Need-returns-2
 unfolding passAllows
-returns-2 c = 
+returns-2 c =
     let m = c .before .before .before .match .keys2 in
     rw m (simp (c .before .bootable2 .ensures, c .before .before .other .ensures))
 
--- src/lib.rt:73:1
 returns-3 : tie.Need-returns-3
 unfolding passAllows
 returns-3 c = rw (c .before .match .keys3) (c .unowned .ensures)
 
--- src/lib.rt:73:1
 returns-4 : tie.Need-returns-4
 unfolding passAllows
-returns-4 c = 
+returns-4 c =
     simp (ne-eqb _ _ (c .match .rest .0 .0 .1), ne-eqb _ _ (c .match .rest .0 .1), ne-eqb _ _ (c .match .rest .1))
 
 pub allows-spec : {M : Type 1} → statement M

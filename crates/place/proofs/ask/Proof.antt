@@ -1,47 +1,47 @@
+use mathlib.Core.Path.{sym, ap, _∙_}
+use borrow.Author.Tests.{not-true, not-false}
+use Rattle.place.specs.Place.{foundAt}
+use Rattle.place.proofs.Laws.{ask-length, ask-settings, ask-place}
 use borrow.Author.Needs.{needs}
 use Rattle.place.proofs.ask.Statement.{statement}
 use Rattle.place.proofs.ask.Tie as tie
-use Rattle.place.proofs.ask.Reads as reads
-use Rattle.place.proofs.ask.Lts as lts
-use Rattle.flash.proofs.right_length.Reads as right-length-reads
-use Rattle.place.proofs.find.Reads as find-reads
-use Rattle.settings.proofs.good.Reads as good-reads
 
--- src/lib.rt:198:9
 right-length-requires : tie.Need-right-length-requires
 right-length-requires c κs = search needs
 
--- src/lib.rt:199:9
 returns : tie.Need-returns
-returns c = ?
+returns c = sym (ask-length _ _ _ (sym (c .before .right-length .ensures) ∙ not-true _ (c .if1 .taken)))
 
--- src/lib.rt:201:9
 good-requires : tie.Need-good-requires
 good-requires c κs = search needs
 
--- src/lib.rt:202:9
 returns-2 : tie.Need-returns-2
-returns-2 c = ?
+returns-2 c =
+    let l = sym (c .before .before .before .right-length .ensures) ∙ not-false _ (c .before .before .if1 .left) in
+    sym (ask-settings _ _ _ l (sym (c .before .good2 .ensures) ∙ not-true _ (c .if2 .taken)))
 
--- src/lib.rt:204:11
 find-requires : tie.Need-find-requires
 find-requires c κs = search needs
 
--- src/lib.rt:205:27
 enum-told : tie.Need-enum-told
 enum-told c = search needs
 
--- src/lib.rt:206:21
 enum-known-start : tie.Need-enum-known-start
 enum-known-start c = search needs
 
--- src/lib.rt:195:1
 returns-3 : tie.Need-returns-3
-returns-3 c = ?
+returns-3 c =
+    let d = c .before .before in
+    let l = sym (d .before .before .before .before .right-length .ensures) ∙ not-false _ (d .before .before .before .if1 .left) in
+    let g = sym (d .before .before .good2 .ensures) ∙ not-false _ (d .before .if2 .left) in
+    sym (ask-place _ _ _ l g ∙ ap foundAt (sym (d .find .ensures) ∙ c .enum-told .given .1))
 
--- src/lib.rt:195:1
 returns-4 : tie.Need-returns-4
-returns-4 c = ?
+returns-4 c =
+    let d = c .before .before .before in
+    let l = sym (d .before .before .before .before .right-length .ensures) ∙ not-false _ (d .before .before .before .if1 .left) in
+    let g = sym (d .before .before .good2 .ensures) ∙ not-false _ (d .before .if2 .left) in
+    sym (ask-place _ _ _ l g ∙ ap foundAt (sym (d .find .ensures) ∙ c .before .start .given .1))
 
 pub ask-spec : {M : Type 1} → statement M
 ask-spec =

@@ -8,9 +8,6 @@ use Rattle.place.proofs.First.{first-zero, first-more, first-hit, if-ta
 use borrow.Author.Needs.{needs}
 use Rattle.place.proofs.choose.Statement.{statement}
 use Rattle.place.proofs.choose.Tie as tie
-use Rattle.place.proofs.choose.Reads as reads
-use Rattle.place.proofs.choose.Lts as lts
-use Rattle.place.proofs.takes.Reads as takes-reads
 
 abbrev Inv-loop : tie.InvT-loop
 Inv-loop n w table pass i₀ i = (i ≤ n) × (firstOf (entryIf table w pass) i ≡ Nothing)
@@ -24,66 +21,52 @@ Inv-search n w table pass₀ pass = (pass ≤ 4) × (firstOf (inPass table n w) 
 abbrev μ-search : tie.MeasureT-search
 μ-search n w table pass₀ pass = 4 - pass
 
--- src/lib.rt:97:9
 search-holds : tie.Need-search-holds Inv-loop μ-loop Inv-search μ-search
 search-holds c = (search needs, first-zero _)
 
--- src/lib.rt:102:9
 loop-holds : tie.Need-loop-holds Inv-loop μ-loop Inv-search μ-search
 loop-holds c = (search needs, first-zero _)
 
--- src/lib.rt:103:21
 mul-e : tie.Need-mul-e Inv-loop μ-loop Inv-search μ-search
 mul-e c = search needs
 
--- src/lib.rt:103:21
 array-copy-out-e : tie.Need-array-copy-out-e Inv-loop μ-loop Inv-search μ-search
 array-copy-out-e c = search needs
 
--- src/lib.rt:104:16
 takes-requires : tie.Need-takes-requires Inv-loop μ-loop Inv-search μ-search
 takes-requires c κs = search needs
 
--- src/lib.rt:107:13
 add-i : tie.Need-add-i Inv-loop μ-loop Inv-search μ-search
 add-i c = search needs
 
--- src/lib.rt:102:9
 loop-less : tie.Need-loop-less Inv-loop μ-loop Inv-search μ-search
 loop-less c = search needs
 
--- src/lib.rt:102:9
 loop-again : tie.Need-loop-again Inv-loop μ-loop Inv-search μ-search
-loop-again c = 
-    (
-      search needs,
-      first-more _ _ (c .before .before .before .before .loop .inv .1) (if-passed _ _ _ _ (sym (c .before .takes .ensures) ∙ c .if2 .left)),
-    )
+loop-again c = (
+  search needs,
+  first-more _ _ (c .before .before .before .before .loop .inv .1) (if-passed _ _ _ _ (sym (c .before .takes .ensures) ∙ c .if2 .left)),
+)
 
--- src/lib.rt:109:9
 add-pass : tie.Need-add-pass Inv-loop μ-loop Inv-search μ-search
 add-pass c = search needs
 
--- src/lib.rt:97:9
 search-less : tie.Need-search-less Inv-loop μ-loop Inv-search μ-search
 search-less c = search needs
 
--- src/lib.rt:97:9
 search-again : tie.Need-search-again Inv-loop μ-loop Inv-search μ-search
 unfolding inPass
-search-again c = 
+search-again c =
     let e : c .before .loop .i ≡ c .before .before .before .before .args .n = omega arith in
     (search needs, first-more _ _ (c .before .before .before .search .inv .1) (rw e at (c .before .loop .inv .1)))
 
--- src/lib.rt:92:1
 returns : tie.Need-returns Inv-loop μ-loop Inv-search μ-search
 unfolding chosen
 returns c = let e : c .before .search .pass ≡ 4 = omega arith in sym (rw e at (c .before .search .inv .1))
 
--- src/lib.rt:92:1
 returns-2 : tie.Need-returns-2 Inv-loop μ-loop Inv-search μ-search
 unfolding chosen inPass
-returns-2 c = 
+returns-2 c =
     let d = c .before .before .before in
     sym
     (first-hit _ 4 _ (d .before .before .if1 .left) (d .before .before .before .search .inv .1)

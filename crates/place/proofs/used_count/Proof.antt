@@ -1,15 +1,10 @@
 use borrow.Author.Tests.{le-leb, lt-leb}
-use borrow.Author.Needs.{needs}
 use Rattle.place.proofs.used_count.Statement.{statement}
 use Rattle.place.proofs.used_count.Tie as tie
-use Rattle.place.proofs.used_count.Reads as reads
-use Rattle.place.proofs.used_count.Lts as lts
 
--- src/lib.rt:115:1
 returns : tie.Need-returns
 returns c = simp (le-leb _ _ (c .if1 .taken))
 
--- src/lib.rt:115:1
 returns-2 : tie.Need-returns-2
 returns-2 c = simp (lt-leb _ _ (c .if1 .left))
 

@@ -1,14 +1,10 @@
 use borrow.Author.Needs.{needs}
 use Rattle.place.proofs.whole_if.Statement.{statement}
 use Rattle.place.proofs.whole_if.Tie as tie
-use Rattle.place.proofs.whole_if.Reads as reads
-use Rattle.place.proofs.whole_if.Lts as lts
 
--- src/lib.rt:148:1
 returns : tie.Need-returns
 returns c = simp (c .if1 .taken)
 
--- src/lib.rt:148:1
 returns-2 : tie.Need-returns-2
 returns-2 c = search needs
 
