@@ -1,0 +1,148 @@
+-- The place of a family (01, "Settings and the place of a family"). Numbers are natural, so nothing wraps. Assumes nothing.
+use Prim.Native.Nat.{ℕ, zero, suc, _+_, _*_, _%_, _<_, _≤_}
+use mathlib.Core.Path.{_≡_}
+use mathlib.Core.Bool.{Bool, true, false, _&&_, _||_, cond, not}
+use mathlib.Core.List.{List}
+use lib.Dec.{leb, eqb}
+use Rattle.settings.specs.Settings.{familyRp2040, familyAbsolute, familyData, familyArmS, familyRiscV, entryAt, isA, isUnowned, accepts, enabled, goodSettings}
+use Rattle.settings.specs.declared.Settings.{Settings}
+use Rattle.settings.specs.declared.Entry.{Entry}
+use Rattle.settings.specs.declared.Arch.{Arch}
+use Rattle.settings.specs.declared.Arch.the-variants.{Arm, RiscV}
+use Rattle.flash.specs.Flash.{flashLength}
+use Rattle.place.specs.declared.Wanted.{Wanted}
+use Rattle.place.specs.declared.Choice.{Choice}
+use Rattle.place.specs.declared.Choice.the-variants as choice
+use Rattle.place.specs.declared.Place.{Place}
+use Rattle.place.specs.declared.Place.the-variants.{Nowhere, At}
+use Rattle.place.specs.declared.Asked.{Asked}
+use Rattle.place.specs.declared.Asked.the-variants.{BadBuffers, BadSettings, NoPlace, Found}
+
+abbrev pub otherArch : Arch → Arch
+otherArch Arm = RiscV
+otherArch RiscV = Arm
+
+-- the family of an architecture's image
+abbrev pub imageOf : Arch → ℕ
+imageOf Arm = familyArmS
+imageOf RiscV = familyRiscV
+
+-- the entry is marked not bootable for the architecture
+abbrev pub isMarked : Entry → Arch → Bool
+isMarked e Arm = e .«not_bootable_arm»
+isMarked e RiscV = e .«not_bootable_riscv»
+
+-- "unowned, not marked not-bootable for it"
+abbrev pub isBootable : Entry → Arch → Bool
+isBootable e a = isUnowned e && not (isMarked e a)
+
+-- "only if the family is the current architecture's image"
+abbrev pub forCurrent : Settings → ℕ → Bool
+forCurrent s f = eqb f (imageOf (s .current))
+
+-- "only if auto switch is on, the other architecture is enabled and the family is its image"
+abbrev pub forOther : Settings → ℕ → Bool
+forOther s f = s .«auto_switch» && enabled s (otherArch (s .current)) && eqb f (imageOf (otherArch (s .current)))
+
+-- what the passes have to know of the settings
+unfoldable pub wantedOf : Settings → ℕ → Wanted
+wantedOf s f =
+    record { family = f; current = s .current; «for_current» = forCurrent s f; «for_other» = forOther s f }
+
+-- what a pass asks of an A entry that accepts the family; 01's passes 1 to 4 are counted from 0
+unfoldable pub passAllows : Wanted → ℕ → Entry → Bool
+passAllows w pass e =
+    cond (eqb pass 0) (w .«for_current» && isBootable e (w .current))
+    (cond (eqb pass 1) (w .«for_other» && isBootable e (otherArch (w .current)))
+    (cond (eqb pass 2) (isUnowned e) true))
+
+-- "each looks only at A entries that accept the family"
+unfoldable pub passTakes : Wanted → ℕ → Entry → Bool
+passTakes w pass e = isA e && accepts e (w .family) && passAllows w pass e
+
+-- ---- the first match
+
+abbrev pub orElse : Choice → Choice → Choice
+orElse choice.Nothing c = c
+orElse (choice.Entry k) c = choice.Entry k
+
+-- the first of g 0, g 1, .., g (n - 1) that is an entry
+unfoldable pub firstOf : (ℕ → Choice) → ℕ → Choice
+firstOf g zero = choice.Nothing
+firstOf g (suc n) = orElse (firstOf g n) (g n)
+
+-- entry k where the pass takes it
+unfoldable pub entryIf : List Entry → Wanted → ℕ → ℕ → Choice
+entryIf table w pass k = cond (passTakes w pass (entryAt table k)) (choice.Entry k) choice.Nothing
+
+-- one pass over n entries, first to last, ending at the first match
+unfoldable pub inPass : List Entry → ℕ → Wanted → ℕ → Choice
+inPass table n w pass = firstOf (entryIf table w pass) n
+
+-- "four passes over the table, first to last, ending at the first match"
+unfoldable pub chosen : List Entry → ℕ → Wanted → Choice
+chosen table n w = firstOf (inPass table n w) 4
+
+-- ---- the place
+
+-- how many entries are looked at: as many as are used, of the 16 that there are
+abbrev pub usedCount : ℕ → ℕ
+usedCount n = cond (leb n 16) n 16
+
+-- the entry that the passes choose
+unfoldable pub chosenEntry : Settings → ℕ → Choice
+chosenEntry s f = chosen (s .table) (usedCount (s .count)) (wantedOf s f)
+
+-- "data, arm-s (Arm enabled) and riscv (RISC-V enabled) get the whole flash"
+abbrev pub takenWhole : Bool → Bool → ℕ → Bool
+takenWhole arm riscv f = eqb f familyData || eqb f familyArmS && arm || eqb f familyRiscV && riscv
+
+-- the whole flash, or no place
+abbrev pub wholeIf : Bool → ℕ → Place
+wholeIf b len = cond b (At 0 len) Nowhere
+
+-- the bytes of an entry
+abbrev pub bytesOf : Entry → Place
+bytesOf e = At (e .first * 4096) (e .sectors * 4096)
+
+abbrev pub placeOfChoice : List Entry → Choice → Place
+placeOfChoice table choice.Nothing = Nowhere
+placeOfChoice table (choice.Entry k) = bytesOf (entryAt table k)
+
+-- the place of a family, for settings that are good
+unfoldable pub placeOf : Settings → ℕ → ℕ → Place
+placeOf s len f =
+    cond (eqb f familyAbsolute) (wholeIf (s .absolute) len)
+    (cond (eqb f familyRp2040) Nowhere
+    (cond (eqb (s .count) 0) (wholeIf (takenWhole (s .arm) (s .riscv) f) len)
+    (placeOfChoice (s .table) (chosenEntry s f))))
+
+-- ---- a place asked for alone
+
+abbrev pub foundAt : Place → Asked
+foundAt Nowhere = NoPlace
+foundAt (At a n) = Found a n
+
+-- "A place asked for alone, with settings and a flash length, is refused by 1, 2 or 8, in that order."
+unfoldable pub askOf : Settings → ℕ → ℕ → Asked
+askOf s len f =
+    cond (not (flashLength len)) BadBuffers
+    (cond (not (goodSettings s len)) BadSettings
+    (foundAt (placeOf s len f)))
+
+-- the refusals' numbers; a place that is found is no refusal, and has 0
+abbrev pub askedNumber : Asked → ℕ
+askedNumber BadBuffers = 1
+askedNumber BadSettings = 2
+askedNumber NoPlace = 8
+askedNumber (Found a n) = 0
+
+-- ---- what is claimed of places
+
+-- entry k is used, is an A entry and accepts the family
+abbrev pub Accepting : Settings → ℕ → ℕ → Type 0
+Accepting s f k = (k < s .count) × (isA (entryAt (s .table) k) ≡ true) × (accepts (entryAt (s .table) k) f ≡ true)
+
+-- n bytes from a on lie in a flash of len bytes, and start and end at a sector
+abbrev pub Inside : ℕ → ℕ → ℕ → Type 0
+Inside len a n = (a % 4096 ≡ 0) × (n % 4096 ≡ 0) × (a + n ≤ len)

@@ -1,0 +1,231 @@
+// The place of a family: the whole flash, the bytes of a partition entry, or none.
+ghost use mathlib.Core.Path.{_≡_};
+ghost use Prim.Native.Nat.{_≤_};
+ghost use Rattle.place.specs.Place.{
+  otherArch,
+  imageOf,
+  isMarked,
+  isBootable,
+  passAllows,
+  passTakes,
+  chosen,
+  usedCount,
+  wantedOf,
+  takenWhole,
+  wholeIf,
+  bytesOf,
+  placeOf,
+  askOf,
+  askedNumber,
+};
+use settings::Arch;
+use settings::Entry;
+use settings::Family;
+use settings::Settings;
+
+// The place of a family, in bytes.
+pub enum Place {
+    Nowhere,
+    At { start: usize, len: usize },
+}
+
+// The entry that the passes choose.
+pub enum Choice {
+    Nothing,
+    Entry(usize),
+}
+
+// The answer to a place asked for alone.
+pub enum Asked {
+    BadBuffers,
+    BadSettings,
+    NoPlace,
+    Found { start: usize, len: usize },
+}
+
+// What the passes have to know of the settings: the family, the current architecture, and whether the family is its image
+// or, where switching is on, the other's.
+struct Wanted {
+    family: u32,
+    current: Arch,
+    for_current: bool,
+    for_other: bool,
+}
+
+fn other(a: Arch) -> Arch
+    ensures { λ r. ⌜ r ≡ otherArch a ⌝ }
+{
+    match a {
+        Arch::Arm => Arch::RiscV,
+        Arch::RiscV => Arch::Arm,
+    }
+}
+
+fn image(a: Arch) -> u32
+    ensures { λ r. ⌜ r ≡ imageOf a ⌝ }
+{
+    match a {
+        Arch::Arm => Family::ARM_S,
+        Arch::RiscV => Family::RISCV,
+    }
+}
+
+fn marked(e: Entry, a: Arch) -> bool
+    ensures { λ r. ⌜ r ≡ isMarked e a ⌝ }
+{
+    match a {
+        Arch::Arm => e.not_bootable_arm,
+        Arch::RiscV => e.not_bootable_riscv,
+    }
+}
+
+fn bootable(e: Entry, a: Arch) -> bool
+    ensures { λ r. ⌜ r ≡ isBootable e a ⌝ }
+{
+    settings::unowned(e) & !marked(e, a)
+}
+
+fn allows(w: Wanted, pass: usize, e: Entry) -> bool
+    ensures { λ r. ⌜ r ≡ passAllows w pass e ⌝ }
+{
+    let current = w.current;
+    match pass {
+        0 => w.for_current & bootable(e, current),
+        1 => w.for_other & bootable(e, other(current)),
+        2 => settings::unowned(e),
+        _ => true,
+    }
+}
+
+fn takes(w: Wanted, pass: usize, e: Entry) -> bool
+    ensures { λ r. ⌜ r ≡ passTakes w pass e ⌝ }
+{
+    settings::is_a(e) & settings::accepts_family(e, w.family) & allows(w, pass, e)
+}
+
+// Four passes over n entries, first to last, ending at the first match.
+fn choose(table: [Entry; 16], n: usize, w: Wanted) -> Choice
+    requires { ⌜ n ≤ 16 ⌝ }
+    ensures { λ r. ⌜ r ≡ chosen table n w ⌝ }
+{
+    let mut pass: usize = 0;
+    let found = 'search: loop {
+        if 4 <= pass {
+            break 'search Choice::Nothing;
+        }
+        let mut i: usize = 0;
+        while i < n {
+            let e = table[i];
+            if takes(w, pass, e) {
+                break 'search Choice::Entry(i);
+            }
+            i += 1;
+        }
+        pass += 1;
+    };
+    found
+}
+
+// How many entries are looked at, of the 16 that there are.
+fn used_count(count: u8) -> usize
+    ensures { λ r. ⌜ r ≡ usedCount count ⌝ }
+{
+    if count <= 16 { count as usize } else { 16 }
+}
+
+fn want(settings: Settings, family: u32) -> Wanted
+    ensures { λ r. ⌜ r ≡ wantedOf settings family ⌝ }
+{
+    let current = settings.current;
+    let o = other(current);
+    let on = settings::is_enabled(settings, o);
+    Wanted {
+        family,
+        current,
+        for_current: family == image(current),
+        for_other: settings.auto_switch & on & (family == image(o)),
+    }
+}
+
+// The families that get the whole flash where there is no table.
+fn taken_whole(arm: bool, riscv: bool, family: u32) -> bool
+    ensures { λ r. ⌜ r ≡ takenWhole arm riscv family ⌝ }
+{
+    (family == Family::DATA)
+        | ((family == Family::ARM_S) & arm)
+        | ((family == Family::RISCV) & riscv)
+}
+
+fn whole_if(yes: bool, flash_len: usize) -> Place
+    ensures { λ r. ⌜ r ≡ wholeIf yes «flash_len» ⌝ }
+{
+    if yes {
+        Place::At {
+            start: 0,
+            len: flash_len,
+        }
+    } else {
+        Place::Nowhere
+    }
+}
+
+fn bytes_of(e: Entry) -> Place
+    ensures { λ r. ⌜ r ≡ bytesOf e ⌝ }
+{
+    let start = e.first as usize * 4096;
+    let len = e.sectors as usize * 4096;
+    Place::At { start, len }
+}
+
+// The place of a family. The settings are taken to be good; of others it looks at no more than 16 entries.
+pub fn find(settings: Settings, flash_len: usize, family: u32) -> Place
+    ensures { λ r. ⌜ r ≡ placeOf settings «flash_len» family ⌝ }
+{
+    let count = settings.count;
+    let table = settings.table;
+    if family == Family::ABSOLUTE {
+        return whole_if(settings.absolute, flash_len);
+    }
+    if family == Family::RP2040 {
+        return Place::Nowhere;
+    }
+    if count == 0 {
+        return whole_if(taken_whole(settings.arm, settings.riscv, family), flash_len);
+    }
+    let w = want(settings, family);
+    match choose(table, used_count(count), w) {
+        Choice::Nothing => Place::Nowhere,
+        Choice::Entry(k) => {
+            let e = table[k];
+            bytes_of(e)
+        }
+    }
+}
+
+// A place asked for alone.
+pub fn ask(settings: Settings, flash_len: usize, family: u32) -> Asked
+    ensures { λ r. ⌜ r ≡ askOf settings «flash_len» family ⌝ }
+{
+    if !flash::right_length(flash_len) {
+        return Asked::BadBuffers;
+    }
+    if !settings::good(settings, flash_len) {
+        return Asked::BadSettings;
+    }
+    match find(settings, flash_len, family) {
+        Place::Nowhere => Asked::NoPlace,
+        Place::At { start, len } => Asked::Found { start, len },
+    }
+}
+
+// The number of a refusal, and 0 for a place that is found.
+pub fn number(a: Asked) -> u8
+    ensures { λ r. ⌜ r ≡ askedNumber a ⌝ }
+{
+    match a {
+        Asked::BadBuffers => 1,
+        Asked::BadSettings => 2,
+        Asked::NoPlace => 8,
+        Asked::Found { start: _, len: _ } => 0,
+    }
+}

@@ -1,0 +1,47 @@
+-- The test for shared sectors is true exactly if some sector lies in both, and does not depend on the order. Assumes nothing.
+use Prim.Native.Nat.{ℕ, _+_, _≤_, _<_}
+use mathlib.Core.Path.{_≡_, refl, sym, ap, _∙_}
+use mathlib.Core.Logic.{_↔_, ⊎-elim}
+use mathlib.Core.Bool.{Bool, true, false, _&&_}
+use native.Mathlib.Omega.{arith}
+use lib.Dec.{ltb}
+use borrow.Author.Tests.{lt-ltb, ltb-true, ltb-false}
+use Rattle.sets.proofs.Tests.{split, clash, is-false, and-left, and-right, both}
+use Rattle.settings.specs.Settings.{overlap}
+
+-- sector x is one of the n from f
+abbrev pub Within : ℕ → ℕ → ℕ → Type 0
+Within f n x = (f ≤ x) × (x < f + n)
+
+module _ (f n g m : ℕ) where
+  pub overlap-yes : 0 < n → 0 < m → f < g + m → g < f + n → overlap f n g m ≡ true
+  unfolding overlap
+  overlap-yes a b c d = both (both (both (lt-ltb _ _ a) (lt-ltb _ _ b)) (lt-ltb _ _ c)) (lt-ltb _ _ d)
+
+  pub overlap-tells : overlap f n g m ≡ true → (0 < n) × (0 < m) × (f < g + m) × (g < f + n)
+  unfolding overlap
+  overlap-tells h =
+      let h3 = and-left (ltb 0 n && ltb 0 m && ltb f (g + m)) _ h in
+      let h2 = and-left (ltb 0 n && ltb 0 m) _ h3 in (
+        ltb-true _ _ (and-left (ltb 0 n) _ h2),
+        ltb-true _ _ (and-right (ltb 0 n) _ h2),
+        ltb-true _ _ (and-right (ltb 0 n && ltb 0 m) _ h3),
+        ltb-true _ _ (and-right (ltb 0 n && ltb 0 m && ltb f (g + m)) _ h),
+      )
+
+  -- the test is true exactly if some sector lies in both
+  pub overlap-exact : (overlap f n g m ≡ true) ↔ ((x : ℕ) × Within f n x × Within g m x)
+  overlap-exact = (
+    λ h.
+        let t = overlap-tells h in
+        split (ltb f g)
+        (λ l. let b = ltb-true f g l in (g, (omega arith, omega (arith, t .3)), (omega arith, omega (arith, t .1))))
+        (λ l. let b = ltb-false f g l in (f, (omega arith, omega (arith, t .0)), (omega arith, omega (arith, t .2)))),
+    λ w.
+        let a = w .1 in
+        let b = w .2 in
+        overlap-yes (omega arith) (omega arith) (omega arith) (omega arith),
+  )
+
+pub overlap-swaps : (f n g m : ℕ) → overlap f n g m ≡ true → overlap g m f n ≡ true
+overlap-swaps f n g m h = let t = overlap-tells f n g m h in overlap-yes g m f n (t .1) (t .0) (t .3) (t .2)
