@@ -1,0 +1,106 @@
+-- One arrival (01, "One arrival, checks in this order"): what decides, and what is done. Assumes nothing.
+use Prim.Native.Nat.{ℕ, _/_}
+use mathlib.Core.Bool.{Bool, false, _&&_, not, cond}
+use mathlib.Core.List.{List}
+use lib.Dec.{eqb}
+use lib.ListN.{length}
+use Rattle.bitmap.specs.Bitmap.{markedIn, withMark, unmarked}
+use Rattle.flash.specs.Flash.{flashLength, eraseAt, payloadOf, storeAt}
+use Rattle.settings.specs.Settings.{goodSettings}
+use Rattle.settings.specs.declared.Settings.{Settings}
+use Rattle.transfer.specs.Transfer.{goodState, stepOf}
+use Rattle.transfer.specs.declared.State.{State}
+use Rattle.transfer.specs.declared.Taken.{Taken}
+use Rattle.transfer.specs.declared.Step.{Step}
+use Rattle.transfer.specs.declared.Step.the-variants.{Stays, Takes}
+use Rattle.transfer.specs.declared.Answer.{Answer}
+use Rattle.transfer.specs.declared.Answer.the-variants.{BadBuffers, BadSettings, BadState}
+use Rattle.screen.specs.Screen.{screenOf}
+use Rattle.screen.specs.declared.Page.{Page}
+use Rattle.screen.specs.declared.Screened.{Screened}
+use Rattle.screen.specs.declared.Screened.the-variants.{Refused, Passed}
+
+-- what a stored page changes: the flash and the sector map
+pub record Held : Type 0 where
+  pub flash : List ℕ
+  pub sectors : List ℕ
+
+-- what one arrival is handed and hands back: the transfer and the three lent buffers
+pub record World : Type 0 where
+  pub transfer : State
+  pub seen : List ℕ
+  pub held : Held
+
+-- what an arrival leaves, with "a number, the answer, and a yes/no "discarded""
+pub record Outcome : Type 0 where
+  pub world : World
+  pub answer : Answer
+  pub discarded : Bool
+
+-- ---- what decides: settings, lengths, transfer, seen map and arrival; no flash byte and no sector map
+
+pub data Decision : Type 0 where
+  stays : Answer → Decision  -- answers 1 to 13: nothing changes
+  takes : Page → Taken → Decision  -- answers 14 and 15
+
+-- row 1 is passed: the lengths of arrival, flash, seen map and sector map
+unfoldable pub rightLengths : ℕ → ℕ → ℕ → ℕ → Bool
+rightLengths a f m k = eqb a 512 && flashLength f && eqb m 16384 && eqb k 1024
+
+abbrev pub stepped : Page → Step → Decision
+stepped p (Stays x) = stays x
+stepped p (Takes t) = takes p t
+
+-- rows 12 to 15, of what the screening gives
+unfoldable pub looked : State → List ℕ → Screened → Decision
+looked t seen (Refused x) = stays x
+looked t seen (Passed p) = stepped p (stepOf t (p .head) (markedIn seen (p .number)))
+
+-- rows 1 to 15, for a flash of f bytes and a sector map of k
+unfoldable pub decide : Settings → ℕ → ℕ → State → List ℕ → List ℕ → Decision
+decide s f k t seen a =
+    cond (not (rightLengths (length a) f (length seen) k)) (stays BadBuffers)
+    (cond (not (goodSettings s f)) (stays BadSettings)
+    (cond (not (goodState t)) (stays BadState)
+    (looked t seen (screenOf s f a))))
+
+-- ---- what is done
+
+-- "both maps are first set to zero", where the block begins a transfer
+unfoldable pub clearedIf : Bool → List ℕ → List ℕ
+clearedIf clears m = cond clears (unmarked (length m)) m
+
+unfoldable pub wipedIf : Bool → Held → Held
+wipedIf clears h = record { flash = h .flash; sectors = clearedIf clears (h .sectors) }
+
+-- "If the storage sector isn't marked, all its 4,096 bytes become 0xFF"
+unfoldable pub preparedAt : ℕ → Held → List ℕ
+preparedAt q h = cond (markedIn (h .sectors) q) (h .flash) (eraseAt (h .flash) q)
+
+-- "and it is marked. The payload is stored"
+unfoldable pub pagedAt : ℕ → List ℕ → Held → Held
+pagedAt at payload h =
+    record { flash = storeAt (preparedAt (at / 4096) h) at payload; sectors = withMark (h .sectors) (at / 4096) }
+
+-- "the number marked, the count raised", of a page with its payload
+unfoldable pub tookOf : World → List ℕ → Page → Taken → World
+tookOf w payload p t =
+    record {
+      transfer = t .transfer .state;
+      seen = withMark (clearedIf (t .fresh) (w .seen)) (p .number);
+      held = pagedAt (p .at) payload (wipedIf (t .fresh) (w .held));
+    }
+
+-- "Answers 1 to 13 change nothing, "discarded" is no."
+abbrev pub unchanged : World → Answer → Outcome
+unchanged w x = record { world = w; answer = x; discarded = false }
+
+unfoldable pub done : World → List ℕ → Decision → Outcome
+done w payload (stays x) = unchanged w x
+done w payload (takes p t) = record { world = tookOf w payload p t; answer = t .answer; discarded = t .discarded }
+
+-- one arrival
+unfoldable pub receiveOf : Settings → World → List ℕ → Outcome
+receiveOf s w a =
+    done w (payloadOf a)
+    (decide s (length (w .held .flash)) (length (w .held .sectors)) (w .transfer) (w .seen) a)

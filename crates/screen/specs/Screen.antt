@@ -1,0 +1,56 @@
+-- Rows 4 to 11 of 01's checks, in their order. Assumes nothing.
+use Prim.Native.Nat.{ℕ, _+_, _-_, _*_, _%_}
+use mathlib.Core.Bool.{Bool, _||_, not, cond}
+use mathlib.Core.List.{List}
+use lib.Dec.{ltb, leb, eqb}
+use Rattle.block.specs.Block.{headerOf}
+use Rattle.block.specs.declared.Block.{Block}
+use Rattle.block.specs.declared.Header.{Header}
+use Rattle.block.specs.declared.Header.the-variants as header
+use Rattle.settings.specs.declared.Settings.{Settings}
+use Rattle.place.specs.Place.{placeOf}
+use Rattle.place.specs.declared.Place.{Place}
+use Rattle.place.specs.declared.Place.the-variants.{Nowhere, At}
+use Rattle.transfer.specs.declared.Answer.{Answer}
+use Rattle.transfer.specs.declared.Answer.the-variants.{NotBlock, Container, Comment, NoFamily, NoPlace, BadPayload, BadNumbers, BadAddress}
+use Rattle.screen.specs.declared.Page.{Page}
+use Rattle.screen.specs.declared.Screened.{Screened}
+use Rattle.screen.specs.declared.Screened.the-variants.{Refused, Passed}
+
+-- row 10: "total 0, total x 256 over the place, or number >= total"
+abbrev pub badNumbers : ℕ → Block → Bool
+badNumbers size b = eqb (b .total) 0 || ltb size (b .total * 256) || leb (b .total) (b .number)
+
+-- row 11: "below the window, no multiple of 256, or address - 0x10000000 + 256 over the place"
+abbrev pub badAddress : ℕ → Block → Bool
+badAddress size b = ltb (b .address) 0x10000000 || not (eqb (b .address % 256) 0) || ltb size (b .address - 0x10000000 + 256)
+
+-- "Storage address = place start + block address - 0x10000000"
+abbrev pub pageAt : ℕ → Block → Page
+pageAt start b =
+    record {
+      head = record { family = b .family; total = b .total };
+      number = b .number;
+      at = start + (b .address - 0x10000000);
+    }
+
+-- rows 8 to 11, of a block by its family's place
+unfoldable pub placed : Place → Block → Screened
+placed Nowhere b = Refused NoPlace
+placed (At start size) b =
+    cond (not (eqb (b .size) 256)) (Refused BadPayload)
+    (cond (badNumbers size b) (Refused BadNumbers)
+    (cond (badAddress size b) (Refused BadAddress)
+    (Passed (pageAt start b))))
+
+-- rows 4 to 7: "Read the header first; if that yields no block, no other field counts"
+unfoldable pub headed : Settings → ℕ → Header → Screened
+headed s len header.NotBlock = Refused NotBlock
+headed s len header.Container = Refused Container
+headed s len header.Comment = Refused Comment
+headed s len header.NoFamily = Refused NoFamily
+headed s len (header.Found b) = placed (placeOf s len (b .family)) b
+
+-- rows 4 to 11, for a flash of len bytes
+unfoldable pub screenOf : Settings → ℕ → List ℕ → Screened
+screenOf s len a = headed s len (headerOf a)
