@@ -1,2 +1,5 @@
 pub mod Arrive
 pub mod Lists
+pub mod Facts
+pub mod Tally
+pub mod Demand

@@ -1,0 +1,5 @@
+mod Heads
+mod Items
+mod Count
+mod Cells
+mod Effect

@@ -1,0 +1,181 @@
+-- Demand 3 (01, "The list of demand 3"): what a valid file, a list of its blocks and the end of the list are, and the claim.
+-- Proved in proofs/Demand.antt. Assumes nothing.
+use Prim.Native.Nat.{ℕ, _+_, _-_, _/_, _≤_, _<_}
+use mathlib.Core.Path.{_≡_}
+use mathlib.Core.Bool.{Bool, true, false, not, cond, _&&_, _||_}
+use mathlib.Core.List.{List, [], _∷_, _++_}
+use lib.Dec.{eqb, ltb, leb}
+use lib.ListN.{length, getD}
+use Rattle.sets.specs.Sets.{Set, none, add, size, any}
+use Rattle.bitmap.specs.Bitmap.{mapOf}
+use Rattle.flash.specs.Flash.{payloadOf, spans}
+use Rattle.block.specs.Block.{fieldAt}
+use Rattle.settings.specs.declared.Settings.{Settings}
+use Rattle.place.specs.Place.{placeOf}
+use Rattle.place.specs.declared.Place.{Place}
+use Rattle.place.specs.declared.Place.the-variants.{Nowhere, At}
+use Rattle.transfer.specs.Transfer.{numberOf, running}
+use Rattle.transfer.specs.declared.Head.{Head}
+use Rattle.transfer.specs.declared.State.the-variants.{Idle, Done}
+use Rattle.transfer.specs.declared.Answer.{Answer}
+use Rattle.transfer.specs.declared.Answer.the-variants.{Finished, Again, Written, Completed}
+use Rattle.arrival.specs.Arrive.{World, receiveOf}
+use Rattle.arrival.specs.Lists.{receiveAll, answersOf}
+
+-- ---- a valid file
+
+-- a file of `total` blocks of one family: the arrival that is block k
+pub record File : Type 0 where
+  pub total : ℕ
+  pub family : ℕ
+  pub block : ℕ → List ℕ
+
+-- "Whether a block earns 1 to 11 is asked with the fixed settings and what is lent at the start."
+abbrev pub earns : Settings → World → List ℕ → ℕ
+earns s w a = numberOf (receiveOf s w a .answer)
+
+-- "numbers 0 to n-1 once each, n at least 1, one family, the total n in every block, different addresses, no block earning answers 1 to 11"
+pub record ValidFile (s : Settings) (w : World) (F : File) : Type 0 where
+  pub some : 1 ≤ F .total
+  pub numbers : (k : ℕ) → k < F .total → fieldAt (F .block k) 20 ≡ k
+  pub families : (k : ℕ) → k < F .total → fieldAt (F .block k) 28 ≡ F .family
+  pub totals : (k : ℕ) → k < F .total → fieldAt (F .block k) 24 ≡ F .total
+  pub addresses : (i k : ℕ) → i < F .total → k < F .total → fieldAt (F .block i) 12 ≡ fieldAt (F .block k) 12 → i ≡ k
+  pub passes : (k : ℕ) → k < F .total → 12 ≤ earns s w (F .block k)
+
+-- ---- a list of its blocks
+
+-- "Arrivals answered 4 to 11 are the foreign ones."
+abbrev pub Foreign : Settings → World → List ℕ → Type 0
+Foreign s w a = (4 ≤ earns s w a) × (earns s w a ≤ 11)
+
+-- "every list of its blocks, in any order, any number of times or not at all, mixed with arrivals answered 4 to 11"
+pub data Sent (s : Settings) (w : World) (F : File) : List (List ℕ) → Type 0 where
+  nothing : Sent s w F []
+  own : {l : List (List ℕ)} (k : ℕ) → k < F .total → Sent s w F l → Sent s w F (F .block k ∷ l)
+  other : {l : List (List ℕ)} (a : List ℕ) → Foreign s w a → Sent s w F l → Sent s w F (a ∷ l)
+
+-- ---- what is seen
+
+-- two arrivals are the same, byte for byte
+unfoldable pub sameBytes : List ℕ → List ℕ → Bool
+sameBytes [] [] = true
+sameBytes [] (y ∷ b) = false
+sameBytes (x ∷ a) [] = false
+sameBytes (x ∷ a) (y ∷ b) = eqb x y && sameBytes a b
+
+-- the arrival is one of the list
+unfoldable pub among : List ℕ → List (List ℕ) → Bool
+among a [] = false
+among a (b ∷ l) = sameBytes a b || among a l
+
+-- "A file block is seen once it has been an arrival of the list; repeats add nothing." (01's term: seen)
+abbrev pub seenOf : File → List (List ℕ) → Set
+seenOf F l k = ltb k (F .total) && among (F .block k) l
+
+-- m, the number of different blocks of S
+abbrev pub howMany : File → Set → ℕ
+howMany F S = size (F .total) S
+
+-- "the set is whole"
+abbrev pub isWhole : File → Set → Bool
+isWhole F S = eqb (howMany F S) (F .total)
+
+-- ---- where it goes
+
+-- "Storage address = place start + block address - 0x10000000"
+abbrev pub storageIn : Place → ℕ → ℕ
+storageIn Nowhere address = 0
+storageIn (At start size) address = start + (address - 0x10000000)
+
+abbrev pub storageOf : Settings → World → List ℕ → ℕ
+storageOf s w a = storageIn (placeOf s (length (w .held .flash)) (fieldAt a 28)) (fieldAt a 12)
+
+-- block k holds byte j
+abbrev pub holds : Settings → World → File → ℕ → ℕ → Bool
+holds s w F k j = spans (storageOf s w (F .block k)) j
+
+-- "A sector is touched if the storage address of a seen block lies in it." (01's term: touched)
+abbrev pub touchedBy : Settings → World → File → Set → Set
+touchedBy s w F S q = any (F .total) (λ k. S k && eqb q (storageOf s w (F .block k) / 4096))
+
+-- ---- the answers, by the set alone
+
+-- the answer to the arrival a, once the blocks of S have come
+unfoldable pub replyTo : Settings → World → File → Set → List ℕ → Answer
+replyTo s w F S a =
+    cond (leb (earns s w a) 11) (receiveOf s w a .answer)
+    (cond (isWhole F S) Finished
+    (cond (S (fieldAt a 20)) Again
+    (cond (ltb (howMany F S + 1) (F .total)) Written Completed)))
+
+-- S, once the arrival a has come
+unfoldable pub withArrival : Settings → World → Set → List ℕ → Set
+withArrival s w S a = cond (leb (earns s w a) 11) S (add (fieldAt a 20) S)
+
+unfoldable pub repliesTo : Settings → World → File → Set → List (List ℕ) → List Answer
+repliesTo s w F S [] = []
+repliesTo s w F S (a ∷ l) = replyTo s w F S a ∷ repliesTo s w F (withArrival s w S a) l
+
+-- ---- the end of the list
+
+abbrev pub headIn : File → Head
+headIn F = record { family = F .family; total = F .total }
+
+-- The four bullets of 01, with S the set of blocks seen and v the world after the list.
+pub record Ends (s : Settings) (w : World) (F : File) (S : Set) (v : World) : Type 0 where
+  -- "m = 0: transfer, flash and maps are as lent."
+  pub untouched : howMany F S ≡ 0 → v ≡ w
+  -- "m from 1 to n-1: Running (family, n, m). m = n, the set is whole: Done (family, n)."
+  pub going : 1 ≤ howMany F S → howMany F S < F .total → v .transfer ≡ running (headIn F) (howMany F S)
+  pub whole : howMany F S ≡ F .total → v .transfer ≡ Done (headIn F)
+  -- "the seen map marks exactly the numbers of the seen blocks, the sector map exactly the touched sectors; every other bit is 0."
+  pub seen-map : 1 ≤ howMany F S → v .seen ≡ mapOf 16384 S
+  pub sector-map : 1 ≤ howMany F S → v .held .sectors ≡ mapOf 1024 (touchedBy s w F S)
+  -- "each seen payload at its storage address,"
+  pub payloads : (k : ℕ) → k < F .total → S k ≡ true → (i : ℕ) → i < 256
+      → getD (v .held .flash) (storageOf s w (F .block k) + i) 0 ≡ getD (payloadOf (F .block k)) i 0
+  -- "0xFF in the rest of each touched sector,"
+  pub erased : (j : ℕ) → j < length (w .held .flash) → touchedBy s w F S (j / 4096) ≡ true
+      → ((k : ℕ) → k < F .total → S k ≡ true → holds s w F k j ≡ false) → getD (v .held .flash) j 0 ≡ 255
+  -- "every other byte as lent."
+  pub others : (j : ℕ) → touchedBy s w F S (j / 4096) ≡ false → getD (v .held .flash) j 0 ≡ getD (w .held .flash) j 0
+  pub flash-length : length (v .held .flash) ≡ length (w .held .flash)
+
+-- ---- the claims, of every valid file and every list, the empty one too, from an Idle transfer with buffers of any content
+
+-- what holds of every such start, file and list
+abbrev pub EveryList : (Settings → World → File → List (List ℕ) → Type 0) → Type 0
+EveryList P =
+    (s : Settings) (w : World) (F : File) → w .transfer ≡ Idle → ValidFile s w F
+    → (l : List (List ℕ)) → Sent s w F l → P s w F l
+
+-- "what was lent at the start and the set of file blocks seen decide flash, maps and transfer, and nothing else does"
+unfoldable pub List-ends : Type 0
+List-ends = EveryList (λ s w F l. Ends s w F (seenOf F l) (receiveAll s w l))
+
+-- the answer to each arrival of the list
+unfoldable pub List-answers : Type 0
+List-answers = EveryList (λ s w F l. answersOf s w l ≡ repliesTo s w F none l)
+
+abbrev pub isCompleted : Answer → Bool
+isCompleted x = eqb (numberOf x) 15
+
+-- ""Completed" comes exactly when an arrival makes the set whole, and no second time": a is the arrival after the list l
+unfoldable pub Completed-exactly : Type 0
+Completed-exactly =
+    (s : Settings) (w : World) (F : File) → w .transfer ≡ Idle → ValidFile s w F
+    → (l : List (List ℕ)) (a : List ℕ) → Sent s w F (l ++ (a ∷ []))
+    → isCompleted (receiveOf s (receiveAll s w l) a .answer) ≡ not (isWhole F (seenOf F l)) && isWhole F (seenOf F (l ++ (a ∷ [])))
+
+-- "Two such lists with the same set, from the same start, end alike."
+unfoldable pub Same-set-same-end : Type 0
+Same-set-same-end =
+    EveryList
+    (λ s w F l.
+    (m : List (List ℕ)) → Sent s w F m → ((k : ℕ) → k < F .total → seenOf F l k ≡ seenOf F m k)
+    → receiveAll s w l ≡ receiveAll s w m)
+
+-- "So do two such lists of the file played one after the other, whichever goes first."
+unfoldable pub Either-first : Type 0
+Either-first = EveryList (λ s w F l. (m : List (List ℕ)) → Sent s w F m → receiveAll s w (l ++ m) ≡ receiveAll s w (m ++ l))

@@ -1,0 +1,66 @@
+-- What is claimed of one arrival, whatever the settings, the transfer, the buffers and the arrival. Proved in proofs/Facts.antt.
+-- Assumes nothing.
+use Prim.Native.Nat.{ℕ, _+_, _≤_, _<_}
+use mathlib.Core.Path.{_≡_}
+use mathlib.Core.Logic.{_⊎_}
+use mathlib.Core.List.{List}
+use lib.ListN.{length, getD}
+use Rattle.block.specs.Block.{fieldAt}
+use Rattle.flash.specs.Flash.{payloadOf}
+use Rattle.settings.specs.declared.Settings.{Settings}
+use Rattle.place.specs.Place.{placeOf}
+use Rattle.place.specs.declared.Place.{Place}
+use Rattle.place.specs.declared.Place.the-variants.{Nowhere, At}
+use Rattle.transfer.specs.Transfer.{numberOf}
+use Rattle.arrival.specs.Arrive.{World, unchanged, receiveOf}
+
+-- "Answers 1 to 13 change nothing, "discarded" is no."
+unfoldable pub Refusals-change-nothing : Type 0
+Refusals-change-nothing =
+    (s : Settings) (w : World) (a : List ℕ) → numberOf (receiveOf s w a .answer) ≤ 13
+    → receiveOf s w a ≡ unchanged w (receiveOf s w a .answer)
+
+-- the same but for flash bytes and the sector map
+pub record Alike (v w : World) : Type 0 where
+  pub transfer : v .transfer ≡ w .transfer
+  pub seen : v .seen ≡ w .seen
+  pub flash-length : length (v .held .flash) ≡ length (w .held .flash)
+  pub sectors-length : length (v .held .sectors) ≡ length (w .held .sectors)
+
+-- "Answers depend on the arrival, settings, transfer, seen map and lengths, never on a flash byte or the sector map."
+unfoldable pub Answers-read-no-flash : Type 0
+Answers-read-no-flash =
+    (s : Settings) (v w : World) (a : List ℕ) → Alike v w
+    → (receiveOf s v a .answer ≡ receiveOf s w a .answer) × (receiveOf s v a .discarded ≡ receiveOf s w a .discarded)
+
+-- every buffer keeps its length
+pub record Lengths-kept (v w : World) : Type 0 where
+  pub flash : length (v .held .flash) ≡ length (w .held .flash)
+  pub seen : length (v .seen) ≡ length (w .seen)
+  pub sectors : length (v .held .sectors) ≡ length (w .held .sectors)
+
+unfoldable pub Arrivals-keep-lengths : Type 0
+Arrivals-keep-lengths = (s : Settings) (w : World) (a : List ℕ) → Lengths-kept (receiveOf s w a .world) w
+
+-- byte j of the flash lies outside a place
+abbrev pub Outside : Place → ℕ → Type 0
+Outside Nowhere j = Unit {0}
+Outside (At start size) j = (j < start) ⊎ (start + size ≤ j)
+
+-- "Outside the place no byte changes."
+unfoldable pub Outside-kept : Type 0
+Outside-kept =
+    (s : Settings) (w : World) (a : List ℕ) (j : ℕ) → Outside (placeOf s (length (w .held .flash)) (fieldAt a 28)) j
+    → getD (receiveOf s w a .world .held .flash) j 0 ≡ getD (w .held .flash) j 0
+
+-- b is a but for the flags, of which x more are set: 0x4000, 0x8000 or both
+pub record Flagged (x : ℕ) (a b : List ℕ) : Type 0 where
+  pub which : (x ≡ 0x4000) ⊎ ((x ≡ 0x8000) ⊎ (x ≡ 0xC000))
+  pub flags : fieldAt b 8 ≡ fieldAt a 8 + x
+  pub others : (at : ℕ) → (at ≡ 8 → ⊥) → fieldAt b at ≡ fieldAt a at
+  pub size : length b ≡ length a
+  pub payload : payloadOf b ≡ payloadOf a
+
+-- "Flags 0x4000 and 0x8000 don't change an answer."
+unfoldable pub Flags-ignored : Type 0
+Flags-ignored = (s : Settings) (w : World) (x : ℕ) (a b : List ℕ) → Flagged x a b → receiveOf s w b ≡ receiveOf s w a

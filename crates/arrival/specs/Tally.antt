@@ -1,0 +1,61 @@
+-- The count (01, "One arrival"): "over any sequence from Idle with everything handed back, once a block has been accepted, count (the total,
+-- when Done) = marks set = different numbers accepted since the last clearing". Proved in proofs/Tally.antt. Assumes nothing.
+use Prim.Native.Nat.{ℕ}
+use mathlib.Core.Path.{_≡_}
+use mathlib.Core.Logic.{_↔_}
+use mathlib.Core.Bool.{Bool, true, false, not, cond, _||_}
+use mathlib.Core.List.{List, [], _∷_}
+use lib.Dec.{leb}
+use Rattle.sets.specs.Sets.{Set, none, add, size}
+use Rattle.bitmap.specs.Bitmap.{marks}
+use Rattle.block.specs.Block.{fieldAt}
+use Rattle.settings.specs.declared.Settings.{Settings}
+use Rattle.transfer.specs.Transfer.{numberOf, sameHead}
+use Rattle.transfer.specs.declared.Head.{Head}
+use Rattle.transfer.specs.declared.State.{State}
+use Rattle.transfer.specs.declared.State.the-variants.{Idle, Running, Done}
+use Rattle.transfer.specs.declared.Answer.{Answer}
+use Rattle.arrival.specs.Arrive.{World, receiveOf}
+use Rattle.arrival.specs.Lists.{receiveAll}
+
+-- a block is accepted: answer 14 or 15
+abbrev pub isAccepted : Answer → Bool
+isAccepted x = leb 14 (numberOf x)
+
+abbrev pub headOf : List ℕ → Head
+headOf a = record { family = fieldAt a 28; total = fieldAt a 24 }
+
+-- "if the transfer was Idle, or Running with another family or total, both maps are first set to zero"
+abbrev pub clears : State → Head → Bool
+clears Idle g = true
+clears (Running r) g = not (sameHead (r .head) g)
+clears (Done h) g = false
+
+-- A, the numbers accepted since the last clearing, once the arrival a has come
+abbrev pub acceptedBy : Settings → World → List ℕ → Set → Set
+acceptedBy s w a A =
+    cond (isAccepted (receiveOf s w a .answer)) (add (fieldAt a 20) (cond (clears (w .transfer) (headOf a)) none A)) A
+
+unfoldable pub acceptedOf : Settings → World → List (List ℕ) → Set → Set
+acceptedOf s w [] A = A
+acceptedOf s w (a ∷ l) A = acceptedOf s (receiveOf s w a .world) l (acceptedBy s w a A)
+
+-- some block of the list was accepted
+unfoldable pub anyAccepted : Settings → World → List (List ℕ) → Bool
+anyAccepted s w [] = false
+anyAccepted s w (a ∷ l) = isAccepted (receiveOf s w a .answer) || anyAccepted s (receiveOf s w a .world) l
+
+-- "count (the total, when Done)"
+abbrev pub countOf : State → ℕ
+countOf Idle = 0
+countOf (Running r) = r .count
+countOf (Done g) = g .total
+
+pub record Tallied (s : Settings) (w : World) (l : List (List ℕ)) : Type 0 where
+  pub idle : (receiveAll s w l .transfer ≡ Idle) ↔ (anyAccepted s w l ≡ false)
+  pub marked : anyAccepted s w l ≡ true → countOf (receiveAll s w l .transfer) ≡ marks (receiveAll s w l .seen)
+  pub different : anyAccepted s w l ≡ true → countOf (receiveAll s w l .transfer) ≡ size 131072 (acceptedOf s w l none)
+
+-- over any list of arrivals
+unfoldable pub Count-is-marks : Type 0
+Count-is-marks = (s : Settings) (w : World) → w .transfer ≡ Idle → (l : List (List ℕ)) → Tallied s w l
