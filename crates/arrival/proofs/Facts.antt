@@ -1,0 +1,115 @@
+-- The claims of specs/Facts.antt hold. Assumes nothing.
+use Prim.Native.Nat.{ℕ, _+_, _/_, _%_, _≤_, _<_}
+use mathlib.Core.Path.{_≡_, refl, sym, ap, subst, _∙_}
+use mathlib.Core.Logic.{_⊎_, ⊎-elim}
+use mathlib.Core.Bool.{Bool, true, false, cond, _&&_, not}
+use mathlib.Core.List.{List}
+use native.Mathlib.Omega.{arith}
+use lib.Dec.{eqb, ltb, leb}
+use lib.ListN.{length, getD}
+use borrow.Author.Tests.{ne-eqb}
+use Rattle.sets.proofs.Tests.{split, is-false}
+use Rattle.bitmap.specs.Bitmap.{markedIn}
+use Rattle.bitmap.proofs.Laws.{length-mark, length-unmarked}
+use Rattle.block.specs.Block.{fieldAt, headerOf}
+use Rattle.block.proofs.Laws.{header-marked}
+use Rattle.flash.specs.Flash.{payloadOf, spans, roomAt}
+use Rattle.flash.proofs.Laws.{getD-store}
+use Rattle.settings.specs.declared.Settings.{Settings}
+use Rattle.place.specs.Place.{placeOf}
+use Rattle.place.specs.declared.Place.{Place}
+use Rattle.place.specs.declared.Place.the-variants.{Nowhere, At}
+use Rattle.transfer.specs.Transfer.{numberOf}
+use Rattle.transfer.specs.declared.State.{State}
+use Rattle.transfer.specs.declared.Taken.{Taken}
+use Rattle.screen.specs.Screen.{headed, screenOf}
+use Rattle.screen.specs.declared.Page.{Page}
+use Rattle.arrival.specs.Arrive.{Held, World, Outcome, Decision, stays, takes, decide, clearedIf, wipedIf, preparedAt, pagedAt, tookOf, unchanged, done, receiveOf}
+use Rattle.arrival.specs.Facts.{Refusals-change-nothing, Alike, Answers-read-no-flash, Lengths-kept, Arrivals-keep-lengths, Outside, Outside-kept, Flagged, Flags-ignored}
+use Rattle.arrival.proofs.Effect.{length-prepared, length-paged, sectors-paged, getD-prepared, spans-true}
+use Rattle.arrival.proofs.Screened.{Passing, passing-inside}
+use Rattle.arrival.proofs.Decided.{flashOf, decisionOf, Decided, kept, took, decided, took-number}
+
+-- ---- answers 1 to 13
+
+stayed : (s : Settings) (w : World) (a : List ℕ) (p : List ℕ) {d : Decision} → Decided s w a d → numberOf (done w p d .answer) ≤ 13
+    → done w p d ≡ unchanged w (done w p d .answer)
+unfolding done
+stayed s w a p (kept x h) n = refl
+stayed s w a p (took g k B l q t) n = absurd (omega (arith, took-number t))
+
+pub refusals-change-nothing : Refusals-change-nothing
+unfolding Refusals-change-nothing receiveOf
+refusals-change-nothing s w a n = stayed s w a (payloadOf a) (decided s w a) n
+
+-- ---- no flash byte, no sector map
+
+told : (v w : World) (p : List ℕ) (d : Decision) → (done v p d .answer ≡ done w p d .answer) × (done v p d .discarded ≡ done w p d .discarded)
+unfolding done
+told v w p (stays x) = (refl, refl)
+told v w p (takes g k) = (refl, refl)
+
+pub answers-read-no-flash : Answers-read-no-flash
+unfolding Answers-read-no-flash receiveOf
+answers-read-no-flash s v w a e = rw (e .transfer, e .seen, e .flash-length, e .sectors-length) (told (record { transfer = w .transfer; seen = w .seen; held = v .held }) w (payloadOf a) (decisionOf s w a))
+
+-- ---- lengths
+
+length-cleared : (b : Bool) (m : List ℕ) → length (clearedIf b m) ≡ length m
+unfolding clearedIf
+length-cleared true m = length-unmarked (length m)
+length-cleared false m = refl
+
+kept-lengths : (w : World) (p : List ℕ) (d : Decision) → Lengths-kept (done w p d .world) w
+unfolding done tookOf
+kept-lengths w p (stays x) = record { flash = refl; seen = refl; sectors = refl }
+kept-lengths w p (takes g k) =
+    record {
+      flash = length-paged (g .at) p (wipedIf (k .fresh) (w .held)) ∙ unfold wipedIf in refl;
+      seen = length-mark (clearedIf (k .fresh) (w .seen)) (g .number) ∙ length-cleared (k .fresh) (w .seen);
+      sectors = sectors-paged (g .at) p (wipedIf (k .fresh) (w .held)) ∙ wiped (k .fresh);
+    }
+  where
+    wiped : (b : Bool) → length (wipedIf b (w .held) .sectors) ≡ length (w .held .sectors)
+    wiped b = unfold wipedIf in length-cleared b (w .held .sectors)
+
+pub arrivals-keep-lengths : Arrivals-keep-lengths
+unfolding Arrivals-keep-lengths receiveOf
+arrivals-keep-lengths s w a = kept-lengths w (payloadOf a) (decisionOf s w a)
+
+-- ---- outside the place
+
+-- a byte before or after a run of whole sectors is not changed by a page in it
+outside-page : (start size at : ℕ) (p : List ℕ) (x : Held) (j : ℕ) → start % 4096 ≡ 0 → size % 4096 ≡ 0 → start ≤ at → at + 256 ≤ start + size
+    → (j < start) ⊎ (start + size ≤ j) → getD (pagedAt at p x .flash) j 0 ≡ getD (x .flash) j 0
+unfolding pagedAt
+outside-page start size at p x j e f l h o =
+    let away : spans at j ≡ false =
+    is-false (spans at j) (λ y. let r = spans-true at j y in ⊎-elim (λ b. omega (arith, r)) (λ b. omega (arith, r)) o) in
+    let far : eqb (j / 4096) (at / 4096) ≡ false = ne-eqb (j / 4096) (at / 4096) (λ y. ⊎-elim (λ b. omega arith) (λ b. omega arith) o) in
+    getD-store (preparedAt (at / 4096) x) at p j
+    ∙ split (roomAt (preparedAt (at / 4096) x) at p)
+    (λ y. rw (y, away) (getD-prepared (at / 4096) x j ∙ rw far))
+    (λ z. rw z (getD-prepared (at / 4096) x j ∙ rw far))
+
+outside-done : (s : Settings) (w : World) (a : List ℕ) (j : ℕ) {d : Decision} → Decided s w a d → Outside (placeOf s (flashOf w) (fieldAt a 28)) j
+    → getD (done w (payloadOf a) d .world .held .flash) j 0 ≡ getD (w .held .flash) j 0
+unfolding done tookOf
+outside-done s w a j (kept x h) o = refl
+outside-done s w a j (took g k B l q t) o =
+    let i = passing-inside s (flashOf w) a g q (B .flash) (B .good) in
+    outside-page (q .start) (q .size) (g .at) (payloadOf a) (wipedIf (k .fresh) (w .held)) j (i .0) (i .1) (i .3) (i .4)
+    (subst (λ (p : Place). Outside p j) (q .place) o)
+    ∙ unfold wipedIf in refl
+
+pub outside-kept : Outside-kept
+unfolding Outside-kept receiveOf
+outside-kept s w a j o = outside-done s w a j (decided s w a) o
+
+-- ---- flags 0x4000 and 0x8000
+
+pub flags-ignored : Flags-ignored
+unfolding Flags-ignored receiveOf decide screenOf
+flags-ignored s w x a b f =
+    let m : x % 0x4000 ≡ 0 = ⊎-elim (λ e. omega arith) (λ o. ⊎-elim (λ e. omega arith) (λ e. omega arith) o) (f .which) in
+    rw (f .payload, f .size, header-marked x a b (record { which = m; flags = f .flags; others = f .others }))
