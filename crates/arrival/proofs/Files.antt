@@ -74,6 +74,24 @@ sent-append nothing q = q
 sent-append (own k h p) q = own k h (sent-append p q)
 sent-append (other a f p) q = other a f (sent-append p q)
 
+-- the two parts of a list of blocks and foreign arrivals are such lists
+pub sent-split : (s : Settings) (w : World) (F : File) (l m : List (List ℕ)) → Sent s w F (l ++ m) → Sent s w F l × Sent s w F m
+sent-split s w F [] m p = (nothing, p)
+sent-split s w F (a ∷ l) m p = go (λ r. sent-split s w F l m r) refl p
+  where
+    go : (Sent s w F (l ++ m) → Sent s w F l × Sent s w F m) → {n : List (List ℕ)} → n ≡ a ∷ (l ++ m) → Sent s w F n → Sent s w F (a ∷ l) × Sent s w F m
+    go f e nothing = absurd (omega (arith, ap length e))
+    go f e (own {l = n} k h r) =
+        let x : F .block k ≡ a = cc in
+        let y : n ≡ l ++ m = cc in
+        let q = f (subst (Sent s w F) y r) in
+        (subst (λ (b : List ℕ). Sent s w F (b ∷ l)) x (own k h (q .0)), q .1)
+    go f e (other {l = n} b g r) =
+        let x : b ≡ a = cc in
+        let y : n ≡ l ++ m = cc in
+        let q = f (subst (Sent s w F) y r) in
+        (subst (λ (b : List ℕ). Sent s w F (b ∷ l)) x (other b g (q .0)), q .1)
+
 -- ---- a valid file
 
 abbrev pub pagesOf : Settings → World → File → Pages

@@ -8,3 +8,4 @@ mod Decided
 pub mod Facts
 mod Lists
 mod Files
+pub mod Demand
