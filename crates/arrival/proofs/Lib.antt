@@ -9,3 +9,4 @@ pub mod Facts
 mod Lists
 mod Files
 pub mod Demand
+pub mod Tally
