@@ -27,6 +27,15 @@ pub record Fits (n : ℕ) (at : ℕ) (payload : List ℕ) : Type 0 where
   pub within : at + 256 ≤ n
   pub full : length payload ≡ 256
 
+-- each byte after the sector was prepared
+pub getD-prepared : (q : ℕ) (x : Held) (j : ℕ)
+    → getD (preparedAt q x) j 0 ≡ cond (eqb (j / 4096) q && ltb q (length (x .flash) / 4096) && not (markedIn (x .sectors) q)) 255 (getD (x .flash) j 0)
+unfolding preparedAt
+getD-prepared q x j =
+    split (markedIn (x .sectors) q)
+    (λ y. rw (y, and-false (eqb (j / 4096) q && ltb q (length (x .flash) / 4096))))
+    (λ z. rw (z, and-true (eqb (j / 4096) q && ltb q (length (x .flash) / 4096))) (getD-erase (x .flash) q j))
+
 pub length-prepared : (q : ℕ) (x : Held) → length (preparedAt q x) ≡ length (x .flash)
 unfolding preparedAt
 length-prepared q x = split (markedIn (x .sectors) q) (λ y. rw y) (λ z. rw z (length-erase (x .flash) q))
@@ -38,15 +47,6 @@ length-paged at payload x = length-store (preparedAt (at / 4096) x) at payload �
 pub sectors-paged : (at : ℕ) (payload : List ℕ) (x : Held) → length (pagedAt at payload x .sectors) ≡ length (x .sectors)
 unfolding pagedAt
 sectors-paged at payload x = length-mark (x .sectors) (at / 4096)
-
--- each byte after the sector was prepared
-pub getD-prepared : (q : ℕ) (x : Held) (j : ℕ)
-    → getD (preparedAt q x) j 0 ≡ cond (eqb (j / 4096) q && ltb q (length (x .flash) / 4096) && not (markedIn (x .sectors) q)) 255 (getD (x .flash) j 0)
-unfolding preparedAt
-getD-prepared q x j =
-    split (markedIn (x .sectors) q)
-    (λ y. rw (y, and-false (eqb (j / 4096) q && ltb q (length (x .flash) / 4096))))
-    (λ z. rw (z, and-true (eqb (j / 4096) q && ltb q (length (x .flash) / 4096))) (getD-erase (x .flash) q j))
 
 module _ (at : ℕ) (payload : List ℕ) (x : Held) (T : Set) (marks : x .sectors ≡ mapOf 1024 T)
     (whole : length (x .flash) % 4096 ≡ 0) (most : length (x .flash) ≤ 33554432) (ok : Fits (length (x .flash)) at payload) where

@@ -16,3 +16,8 @@ receiveAll s w (a ∷ l) = receiveAll s (receiveOf s w a .world) l
 unfoldable pub answersOf : Settings → World → List (List ℕ) → List Answer
 answersOf s w [] = []
 answersOf s w (a ∷ l) = receiveOf s w a .answer ∷ answersOf s (receiveOf s w a .world) l
+
+-- and its "discarded"
+unfoldable pub discardsOf : Settings → World → List (List ℕ) → List Bool
+discardsOf s w [] = []
+discardsOf s w (a ∷ l) = receiveOf s w a .discarded ∷ discardsOf s (receiveOf s w a .world) l

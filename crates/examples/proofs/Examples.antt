@@ -1,0 +1,18 @@
+-- Every example of the table holds: one equation, computed. Assumes nothing.
+use mathlib.Core.Path.{refl}
+use Rattle.fill.specs.Many.{many}
+use Rattle.sets.specs.Sets.{any}
+use Rattle.bitmap.specs.Bitmap.{bit, withBit, markedIn, withMark, unmarked}
+use Rattle.flash.specs.Flash.{flashLength, over, eraseAt, payloadOf, storeAt}
+use Rattle.block.specs.Block.{fieldAt, fieldsOf, flaggedOf, headerOf}
+use Rattle.settings.specs.Settings.{hasUser, accepts, overlap, overlapAt, sharesSector, reservedUser, badEntry, goodSettings}
+use Rattle.place.specs.Place.{wantedOf, passAllows, passTakes, firstOf, entryIf, inPass, chosen, chosenEntry, placeOf}
+use Rattle.transfer.specs.Transfer.{goodState, sameHead, counted, raised, taken, stepOf}
+use Rattle.screen.specs.Screen.{placed, headed, screenOf}
+use Rattle.arrival.specs.Arrive.{rightLengths, looked, decide, clearedIf, wipedIf, preparedAt, pagedAt, tookOf, done, receiveOf}
+use Rattle.arrival.specs.Lists.{receiveAll, answersOf, discardsOf}
+use Rattle.examples.specs.Examples.{examples, Examples-hold}
+
+pub examples-hold : Examples-hold
+unfolding Examples-hold examples many any bit withBit markedIn withMark unmarked flashLength over eraseAt payloadOf storeAt fieldAt fieldsOf flaggedOf headerOf hasUser accepts overlap overlapAt sharesSector reservedUser badEntry goodSettings wantedOf passAllows passTakes firstOf entryIf inPass chosen chosenEntry placeOf goodState sameHead counted raised taken stepOf placed headed screenOf rightLengths looked decide clearedIf wipedIf preparedAt pagedAt tookOf done receiveOf receiveAll answersOf discardsOf
+examples-hold = refl

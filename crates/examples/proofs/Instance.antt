@@ -1,0 +1,66 @@
+-- The hypotheses of demand 3 are met by the file of specs/Instance.antt, and the theorem speaks of it. Assumes nothing.
+use Prim.Native.Nat.{ℕ, zero, suc, _+_, _*_, _≤_, _<_}
+use mathlib.Core.Path.{_≡_, refl}
+use native.Mathlib.Omega.{arith}
+use Rattle.fill.specs.Many.{many}
+use Rattle.sets.specs.Sets.{any, size}
+use Rattle.bitmap.specs.Bitmap.{bit, withBit, markedIn, withMark, unmarked}
+use Rattle.flash.specs.Flash.{flashLength, over, eraseAt, payloadOf, storeAt}
+use Rattle.block.specs.Block.{fieldAt, fieldsOf, flaggedOf, headerOf}
+use Rattle.settings.specs.Settings.{familyArmS, hasUser, accepts, overlap, overlapAt, sharesSector, reservedUser, badEntry, goodSettings}
+use Rattle.place.specs.Place.{placeOf}
+use Rattle.transfer.specs.Transfer.{goodState, sameHead, counted, raised, taken, stepOf}
+use Rattle.transfer.specs.declared.State.the-variants.{Done}
+use Rattle.screen.specs.Screen.{placed, headed, screenOf}
+use Rattle.arrival.specs.Arrive.{rightLengths, looked, decide, clearedIf, wipedIf, preparedAt, pagedAt, tookOf, done, receiveOf}
+use Rattle.arrival.specs.Lists.{receiveAll}
+use Rattle.arrival.specs.Demand.{ValidFile, nothing, own, other, earns, sameBytes, among, seenOf, howMany, List-ends}
+use Rattle.arrival.proofs.Demand.{list-ends}
+use Rattle.examples.specs.Boards.{arrivalOf, plain, armS}
+use Rattle.examples.specs.Examples.{third}
+use Rattle.examples.specs.Instance.{file, start, arrivals, Hypotheses-are-met}
+
+-- what holds of 0, 1 and 2 holds below 3
+three : (P : ℕ → Type 0) → P 0 → P 1 → P 2 → (k : ℕ) → k < 3 → P k
+three P a b c zero h = a
+three P a b c (suc zero) h = b
+three P a b c (suc (suc zero)) h = c
+three P a b c (suc (suc (suc k))) h = absurd (omega arith)
+
+address : (k : ℕ) → k < 3 → fieldAt (third k) 12 ≡ 0x10000000 + k * 256
+unfolding fieldAt
+address = three (λ k. fieldAt (third k) 12 ≡ 0x10000000 + k * 256) refl refl refl
+
+-- the answers at the start
+earned : (k : ℕ) → k < 3 → earns plain start (third k) ≡ 14
+unfolding many any flashLength payloadOf fieldAt fieldsOf flaggedOf headerOf goodSettings placeOf goodState counted raised taken stepOf placed headed screenOf rightLengths looked decide done receiveOf
+earned = three (λ k. earns plain start (third k) ≡ 14) refl refl refl
+
+beyond : earns plain start (arrivalOf 0x10010000 0 3 1) ≡ 11
+unfolding many any flashLength payloadOf fieldAt fieldsOf flaggedOf headerOf goodSettings placeOf goodState counted raised taken stepOf placed headed screenOf rightLengths looked decide done receiveOf
+beyond = refl
+
+valid : ValidFile plain start file
+valid =
+    record {
+      some = omega arith;
+      numbers = unfold fieldAt in three (λ k. fieldAt (third k) 20 ≡ k) refl refl refl;
+      families = unfold fieldAt in three (λ k. fieldAt (third k) 28 ≡ familyArmS) refl refl refl;
+      totals = unfold fieldAt in three (λ k. fieldAt (third k) 24 ≡ 3) refl refl refl;
+      addresses = λ i k hi hk e. omega (arith, address i hi, address k hk);
+      passes = λ k h. omega (arith, earned k h);
+    }
+
+pub hypotheses-are-met : Hypotheses-are-met
+unfolding Hypotheses-are-met
+hypotheses-are-met = (
+  valid,
+  own 2 (omega arith) (own 0 (omega arith) (own 2 (omega arith) (other (arrivalOf 0x10010000 0 3 1) (omega (arith, beyond), omega (arith, beyond)) (own 1 (omega arith) (own 0 (omega arith) nothing))))),
+)
+
+-- so the theorem gives its end
+pub ends-done : receiveAll plain start arrivals .transfer ≡ Done (armS 3)
+ends-done = unfold Hypotheses-are-met List-ends in list-ends plain start file refl valid arrivals (hypotheses-are-met .1) .whole whole
+  where
+    whole : howMany file (seenOf file arrivals) ≡ 3
+    whole = unfold size among sameBytes in refl

@@ -1,0 +1,3 @@
+-- The proofs of the examples.
+pub mod Examples
+pub mod Instance

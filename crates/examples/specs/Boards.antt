@@ -1,0 +1,81 @@
+-- Arrivals, settings and lent buffers of real sizes to compute with. Assumes nothing.
+use Prim.Native.Nat.{ℕ, _+_, _*_, _/_, _%_}
+use mathlib.Core.Bool.{Bool, true, false}
+use mathlib.Core.List.{List, [], _∷_, _++_}
+use lib.ListN.{replicate}
+use Rattle.settings.specs.Settings.{familyArmS}
+use Rattle.settings.specs.declared.Settings.{Settings}
+use Rattle.settings.specs.declared.Entry.{Entry}
+use Rattle.settings.specs.declared.Arch.the-variants.{Arm}
+use Rattle.settings.specs.declared.Link.the-variants.{Unlinked}
+use Rattle.transfer.specs.declared.Head.{Head}
+use Rattle.transfer.specs.declared.State.{State}
+use Rattle.arrival.specs.Arrive.{World}
+
+abbrev pub bytes4 : ℕ → List ℕ
+bytes4 n = n % 256 ∷ n / 256 % 256 ∷ n / 65536 % 256 ∷ n / 16777216 % 256 ∷ []
+
+-- a block of family arm-s: address, number, total, and the byte that fills its payload
+abbrev pub arrivalOf : ℕ → ℕ → ℕ → ℕ → List ℕ
+arrivalOf address number total fill =
+    bytes4 0x0A324655
+    ++ bytes4 0x9E5D5157
+    ++ bytes4 0x2000
+    ++ bytes4 address
+    ++ bytes4 256
+    ++ bytes4 number
+    ++ bytes4 total
+    ++ bytes4 familyArmS
+    ++ replicate 256 fill
+    ++ replicate 220 0
+    ++ bytes4 0x0AB16F30
+
+-- an unowned entry that accepts arm-s: its first sector, how many, and whether it is not bootable for Arm
+abbrev pub entryOf : ℕ → ℕ → Bool → Entry
+entryOf from sectors shut =
+    record {
+      first = from;
+      sectors = sectors;
+      «data» = false;
+      «arm_s» = true;
+      riscv = false;
+      «arm_ns» = false;
+      «user_count» = 0;
+      users = replicate 4 0;
+      «not_bootable_arm» = shut;
+      «not_bootable_riscv» = false;
+      link = Unlinked;
+    }
+
+-- Arm alone, with a table of which so many entries are used
+abbrev pub armWith : ℕ → List Entry → Settings
+armWith n table =
+    record {
+      arm = true;
+      riscv = false;
+      current = Arm;
+      «auto_switch» = false;
+      absolute = true;
+      count = n;
+      table = table;
+    }
+
+-- no table
+abbrev pub plain : Settings
+plain = armWith 0 (replicate 16 (entryOf 0 0 false))
+
+-- one partition, two sectors from sector 4
+abbrev pub fourth : Settings
+fourth = armWith 1 (entryOf 4 2 false ∷ replicate 15 (entryOf 0 0 false))
+
+-- entries 0 and 1, of which 0 is not bootable for Arm; so many are used
+abbrev pub pair : ℕ → Settings
+pair n = armWith n (entryOf 0 2 true ∷ entryOf 2 2 false ∷ replicate 14 (entryOf 0 0 false))
+
+abbrev pub armS : ℕ → Head
+armS total = record { family = familyArmS; total = total }
+
+-- a flash of 65,536 bytes, all 7, and maps of any content
+abbrev pub lentTo : State → World
+lentTo t =
+    record { transfer = t; seen = replicate 16384 9; held = record { flash = replicate 65536 7; sectors = replicate 1024 9 } }

@@ -1,0 +1,91 @@
+-- The examples that 01 marks P ("Examples to compute with"), in a table, and the one statement over it. Proved in proofs/Examples.antt.
+-- Assumes nothing.
+use Prim.Native.Nat.{ℕ, _+_, _-_, _*_}
+use mathlib.Core.Path.{_≡_}
+use mathlib.Core.Bool.{Bool, true, false}
+use mathlib.Core.List.{List, [], _∷_, _++_, map}
+use lib.ListN.{replicate}
+use Rattle.settings.specs.Settings.{familyArmS}
+use Rattle.settings.specs.declared.Settings.{Settings}
+use Rattle.place.specs.Place.{chosenEntry, placeOf}
+use Rattle.place.specs.declared.Choice.{Choice}
+use Rattle.place.specs.declared.Choice.the-variants.{Entry}
+use Rattle.place.specs.declared.Place.{Place}
+use Rattle.place.specs.declared.Place.the-variants.{At}
+use Rattle.transfer.specs.Transfer.{numberOf, running}
+use Rattle.transfer.specs.declared.State.{State}
+use Rattle.transfer.specs.declared.State.the-variants.{Idle, Done}
+use Rattle.arrival.specs.Lists.{receiveAll, answersOf, discardsOf}
+use Rattle.examples.specs.Boards.{arrivalOf, plain, fourth, pair, armS, lentTo}
+
+-- what is asked: a list of arrivals from a transfer, or the place of arm-s
+pub data Question : Type 0 where
+  arriving : Settings → State → List (List ℕ) → Question
+  placing : Settings → Question
+
+-- what it gives: the answers' numbers, the discards, the transfer and the flash; or the chosen entry and the place
+pub data Result : Type 0 where
+  ran : List ℕ → List Bool → State → List ℕ → Result
+  placed : Choice → Place → Result
+
+abbrev pub found : Question → Result
+found (arriving s t l) =
+    ran (map numberOf (answersOf s (lentTo t) l)) (discardsOf s (lentTo t) l) (receiveAll s (lentTo t) l .transfer) (receiveAll s (lentTo t) l .held .flash)
+found (placing s) = placed (chosenEntry s familyArmS) (placeOf s 65536 familyArmS)
+
+pub record Example : Type 0 where
+  pub asked : Question
+  pub wanted : Result
+
+abbrev case : Question → Result → Example
+case q r = record { asked = q; wanted = r }
+
+-- one arrival to an Idle transfer
+abbrev one : Settings → List ℕ → ℕ → State → List ℕ → Example
+one s a n t f = case (arriving s Idle (a ∷ [])) (ran (n ∷ []) (false ∷ []) t f)
+
+-- what was lent
+abbrev lent : List ℕ
+lent = replicate 65536 7
+
+-- a page of value v as page i of the sector at `before`, the rest of the sector erased, `after` more bytes as lent
+abbrev page : ℕ → ℕ → ℕ → ℕ → List ℕ
+page before i v after =
+    replicate before 7 ++ (replicate (i * 256) 255 ++ (replicate 256 v ++ (replicate ((15 - i) * 256) 255 ++ replicate after 7)))
+
+-- arrival k of a file of three
+abbrev pub third : ℕ → List ℕ
+third k = arrivalOf (0x10000000 + k * 256) k 3 k
+
+unfoldable pub examples : List Example
+examples =
+    -- "flash 65,536, no table, Arm, arm-s: total 256 passes, 257 gives 10;"
+    one plain (arrivalOf 0x10000000 0 256 1) 14 (running (armS 256) 1) (page 0 0 1 61440)
+    ∷ one plain (arrivalOf 0x10000000 0 257 1) 10 Idle lent
+    -- "address 0x1000FF00 passes, 0x10010000 gives 11; number = total gives 10."
+    ∷ one plain (arrivalOf 0x1000FF00 0 256 1) 14 (running (armS 256) 1) (page 61440 15 1 0)
+    ∷ one plain (arrivalOf 0x10010000 0 256 1) 11 Idle lent
+    ∷ one plain (arrivalOf 0x10000000 3 3 1) 10 Idle lent
+    -- "place from sector 4, two sectors: 0x10000100 is stored at 16,640;"
+    ∷ one fourth (arrivalOf 0x10000100 0 3 1) 14 (running (armS 3) 1) (page 16384 1 1 45056)
+    -- "0x10001F00 passes, 0x10002000 gives 11; total 33 gives 10."
+    ∷ one fourth (arrivalOf 0x10001F00 0 32 1) 14 (running (armS 32) 1) (page 20480 15 1 40960)
+    ∷ one fourth (arrivalOf 0x10002000 0 32 1) 11 Idle lent
+    ∷ one fourth (arrivalOf 0x10000000 0 33 1) 10 Idle lent
+    -- "n = 3, arrivals 2, 0, 2, 1, 0: answers 14, 14, 13, 15, 12."
+    ∷ case (arriving plain Idle (third 2 ∷ third 0 ∷ third 2 ∷ third 1 ∷ third 0 ∷ []))
+    (ran (14 ∷ 14 ∷ 13 ∷ 15 ∷ 12 ∷ []) (replicate 5 false) (Done (armS 3))
+    (replicate 256 0 ++ (replicate 256 1 ++ (replicate 256 2 ++ (replicate 3328 255 ++ replicate 61440 7)))))
+    -- "total 1: 15 at once, 3,840 bytes of 0xFF beside the payload."
+    ∷ one plain (arrivalOf 0x10000000 0 1 3) 15 (Done (armS 1)) (replicate 256 3 ++ (replicate 3840 255 ++ replicate 61440 7))
+    -- "Running with total 3, same family with total 4: 14, discarded, count 1."
+    ∷ case (arriving plain (running (armS 3) 2) (arrivalOf 0x10000000 0 4 1 ∷ []))
+    (ran (14 ∷ []) (true ∷ []) (running (armS 4) 1) (page 0 0 1 61440))
+    -- "unowned entries 0 and 1 accept arm-s, 0 not bootable for Arm, Arm current: place 1; entry 1 gone: place 0."
+    ∷ case (placing (pair 2)) (placed (Entry 1) (At 8192 8192))
+    ∷ case (placing (pair 1)) (placed (Entry 0) (At 0 8192))
+    ∷ []
+
+-- every question gives what is wanted
+unfoldable pub Examples-hold : Type 0
+Examples-hold = map (λ e. found (e .asked)) examples ≡ map (λ e. e .wanted) examples
