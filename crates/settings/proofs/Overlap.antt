@@ -2,10 +2,10 @@
 use Prim.Native.Nat.{ℕ, _+_, _≤_, _<_}
 use mathlib.Core.Path.{_≡_, refl, sym, ap, _∙_}
 use mathlib.Core.Logic.{_↔_, ⊎-elim}
-use mathlib.Core.Bool.{Bool, true, false, _&&_}
+use mathlib.Core.Bool.{Bool, true, false, _&&_, and-true, and-false}
 use native.Mathlib.Omega.{arith}
 use lib.Dec.{ltb}
-use borrow.Author.Tests.{lt-ltb, ltb-true, ltb-false}
+use borrow.Author.Tests.{lt-ltb, le-ltb, ltb-true, ltb-false}
 use Rattle.sets.proofs.Tests.{split, clash, is-false, and-left, and-right, both}
 use Rattle.settings.specs.Settings.{overlap}
 
@@ -17,6 +17,21 @@ module _ (f n g m : ℕ) where
   pub overlap-yes : 0 < n → 0 < m → f < g + m → g < f + n → overlap f n g m ≡ true
   unfolding overlap
   overlap-yes a b c d = both (both (both (lt-ltb _ _ a) (lt-ltb _ _ b)) (lt-ltb _ _ c)) (lt-ltb _ _ d)
+
+  pub overlap-before : g + m ≤ f → overlap f n g m ≡ false
+  unfolding overlap
+  overlap-before h = let z = le-ltb f (g + m) h in simp (z, and-false (ltb 0 n && ltb 0 m))
+
+  pub overlap-after : f + n ≤ g → overlap f n g m ≡ false
+  unfolding overlap
+  overlap-after h = let z = le-ltb g (f + n) h in simp (z, and-false (ltb 0 n && ltb 0 m && ltb f (g + m)))
+
+  pub overlap-rest : f < g + m → g < f + n → overlap f n g m ≡ ltb 0 n && ltb 0 m
+  unfolding overlap
+  overlap-rest p q =
+      let y = lt-ltb f (g + m) p in
+      let z = lt-ltb g (f + n) q in
+      simp (y, z, and-true (ltb 0 n && ltb 0 m))
 
   pub overlap-tells : overlap f n g m ≡ true → (0 < n) × (0 < m) × (f < g + m) × (g < f + n)
   unfolding overlap

@@ -138,7 +138,13 @@ fn sectors_overlap(f: u32, n: u32, g: u32, m: u32) -> bool
     let to = from + n as usize;
     let other = g as usize;
     let other_to = other + m as usize;
-    (0 < n) & (0 < m) & (from < other_to) & (other < to)
+    if other_to <= from {
+        return false;
+    }
+    if to <= other {
+        return false;
+    }
+    (0 < n) & (0 < m)
 }
 
 fn alone_bad(e: Entry, flash_len: usize) -> bool
