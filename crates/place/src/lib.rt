@@ -18,6 +18,7 @@ ghost use Rattle.place.specs.Place.{
   askOf,
   askedNumber,
 };
+use flash::Flash;
 use settings::Arch;
 use settings::Entry;
 use settings::Family;
@@ -104,7 +105,7 @@ fn takes(w: Wanted, pass: usize, e: Entry) -> bool
 }
 
 // Four passes over n entries, first to last, ending at the first match.
-fn choose(table: [Entry; 16], n: usize, w: Wanted) -> Choice
+fn choose(table: [Entry; Settings::ENTRIES], n: usize, w: Wanted) -> Choice
     requires { ⌜ n ≤ 16 ⌝ }
     ensures { λ r. ⌜ r ≡ chosen table n w ⌝ }
 {
@@ -172,8 +173,8 @@ fn whole_if(yes: bool, flash_len: usize) -> Place
 fn bytes_of(e: Entry) -> Place
     ensures { λ r. ⌜ r ≡ bytesOf e ⌝ }
 {
-    let start = e.first as usize * 4096;
-    let len = e.sectors as usize * 4096;
+    let start = e.first as usize * Flash::SECTOR;
+    let len = e.sectors as usize * Flash::SECTOR;
     Place::At { start, len }
 }
 

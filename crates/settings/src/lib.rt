@@ -14,7 +14,8 @@ ghost use Rattle.settings.specs.Settings.{
   enabled,
   goodSettings,
 };
-ghost use Rattle.settings.specs.Parts.{aloneBad, linkBad, wrongEntry, sharesBelow};
+ghost use Rattle.settings.specs.Parts.{aloneBad, wrongEntry, sharesBelow};
+use flash::Flash;
 
 // How an entry hangs on another.
 pub enum Link {
@@ -49,7 +50,17 @@ pub struct Settings {
     pub auto_switch: bool,
     pub absolute: bool,
     pub count: u8,
-    pub table: [Entry; 16],
+    pub table: [Entry; Settings::ENTRIES],
+}
+
+impl Entry {
+    // The most user families.
+    pub const USERS: u8 = 4;
+}
+
+impl Settings {
+    // The entries of a table.
+    pub const ENTRIES: usize = 16;
 }
 
 // The families that have a meaning of their own.
@@ -150,8 +161,8 @@ fn sectors_overlap(f: u32, n: u32, g: u32, m: u32) -> bool
 fn alone_bad(e: Entry, flash_len: usize) -> bool
     ensures { λ r. ⌜ r ≡ aloneBad «flash_len» e ⌝ }
 {
-    let past = (e.first as usize + e.sectors as usize) * 4096;
-    (e.sectors == 0) | (flash_len < past) | (4 < e.user_count) | reserved_user(e)
+    let past = (e.first as usize + e.sectors as usize) * Flash::SECTOR;
+    (e.sectors == 0) | (flash_len < past) | (Entry::USERS < e.user_count) | reserved_user(e)
 }
 
 // The index that an entry's link names, 0 where it names none.
@@ -167,7 +178,7 @@ fn target(e: Entry) -> u8
 }
 
 // A used entry is wrong by itself or by its link.
-fn any_wrong(table: [Entry; 16], count: usize, flash_len: usize) -> bool
+fn any_wrong(table: [Entry; Settings::ENTRIES], count: usize, flash_len: usize) -> bool
     requires { ⌜ count ≤ 16 ⌝ }
     ensures { λ r. ⌜ r ≡ any count (wrongEntry table «flash_len») ⌝ }
 {
@@ -194,7 +205,7 @@ fn any_wrong(table: [Entry; 16], count: usize, flash_len: usize) -> bool
 }
 
 // Two used entries share a sector: each entry beside those before it.
-fn any_shares(table: [Entry; 16], count: usize) -> bool
+fn any_shares(table: [Entry; Settings::ENTRIES], count: usize) -> bool
     requires { ⌜ count ≤ 16 ⌝ }
     ensures { λ r. ⌜ r ≡ any count (sharesBelow table) ⌝ }
 {
@@ -232,7 +243,7 @@ pub fn good(settings: Settings, flash_len: usize) -> bool
     if !is_enabled(settings, current) {
         return false;
     }
-    if 16 < count {
+    if Settings::ENTRIES < count {
         return false;
     }
     if any_wrong(table, count, flash_len) {
