@@ -1,23 +1,7 @@
 // The place of a family: the whole flash, the bytes of a partition entry, or none.
 ghost use mathlib.Core.Path.{_≡_};
 ghost use Prim.Native.Nat.{_≤_};
-ghost use Rattle.place.specs.Place.{
-  otherArch,
-  imageOf,
-  isMarked,
-  isBootable,
-  passAllows,
-  passTakes,
-  chosen,
-  usedCount,
-  wantedOf,
-  takenWhole,
-  wholeIf,
-  bytesOf,
-  placeOf,
-  askOf,
-  askedNumber,
-};
+ghost use Rattle.place.specs.Place.{otherArch, imageOf, isMarked, isBootable, passAllows, passTakes, chosen, usedCount, wantedOf, takenWhole, wholeIf, bytesOf, placeOf, askOf, askedNumber};
 use flash::Flash;
 use settings::Arch;
 use settings::Entry;
@@ -71,6 +55,7 @@ fn image(a: Arch) -> u32
     }
 }
 
+// Marked not bootable for the architecture?
 fn marked(e: Entry, a: Arch) -> bool
     ensures { λ r. ⌜ r ≡ isMarked e a ⌝ }
 {
@@ -86,6 +71,7 @@ fn bootable(e: Entry, a: Arch) -> bool
     settings::unowned(e) & !marked(e, a)
 }
 
+// What a pass asks besides; 01's passes 1 to 4 are counted from 0.
 fn allows(w: Wanted, pass: usize, e: Entry) -> bool
     ensures { λ r. ⌜ r ≡ passAllows w pass e ⌝ }
 {

@@ -2,22 +2,11 @@
 ghost use mathlib.Core.Path.{_≡_};
 ghost use Prim.Native.Nat.{_≤_};
 ghost use Rattle.sets.specs.Sets.{any};
-ghost use Rattle.settings.specs.Settings.{
-  isA,
-  isUnowned,
-  linkTarget,
-  hasUser,
-  accepts,
-  isReserved,
-  reservedUser,
-  overlap,
-  enabled,
-  goodSettings,
-};
+ghost use Rattle.settings.specs.Settings.{isA, isUnowned, linkTarget, hasUser, accepts, isReserved, reservedUser, overlap, enabled, goodSettings};
 ghost use Rattle.settings.specs.Parts.{aloneBad, wrongEntry, sharesBelow};
 use flash::Flash;
 
-// How an entry hangs on another.
+// What an entry is linked to.
 pub enum Link {
     Unlinked,
     OwnedBy(u8),
@@ -82,6 +71,7 @@ impl Family {
     pub const ARM_NS: u32 = 0xe48bff5b;
 }
 
+// An A partition?
 pub fn is_a(e: Entry) -> bool
     ensures { λ r. ⌜ r ≡ isA e ⌝ }
 {
@@ -93,6 +83,7 @@ pub fn is_a(e: Entry) -> bool
     }
 }
 
+// Linked to no other?
 pub fn unowned(e: Entry) -> bool
     ensures { λ r. ⌜ r ≡ isUnowned e ⌝ }
 {
@@ -115,6 +106,7 @@ fn has_user(e: Entry, family: u32) -> bool
         | ((3 < n) & (users[3] == family))
 }
 
+// By the flag for the family, or as a user family.
 pub fn accepts_family(e: Entry, family: u32) -> bool
     ensures { λ r. ⌜ r ≡ accepts e family ⌝ }
 {
@@ -142,6 +134,7 @@ fn reserved_user(e: Entry) -> bool
         | ((3 < n) & reserved(users[3]))
 }
 
+// Have n sectors from f and m sectors from g one in common? In usize no sum wraps.
 fn sectors_overlap(f: u32, n: u32, g: u32, m: u32) -> bool
     ensures { λ r. ⌜ r ≡ overlap f n g m ⌝ }
 {
@@ -158,6 +151,7 @@ fn sectors_overlap(f: u32, n: u32, g: u32, m: u32) -> bool
     (0 < n) & (0 < m)
 }
 
+// Is an entry wrong by itself?
 fn alone_bad(e: Entry, flash_len: usize) -> bool
     ensures { λ r. ⌜ r ≡ aloneBad «flash_len» e ⌝ }
 {
@@ -177,7 +171,7 @@ fn target(e: Entry) -> u8
     }
 }
 
-// A used entry is wrong by itself or by its link.
+// Is a used entry wrong by itself or by its link?
 fn any_wrong(table: [Entry; Settings::ENTRIES], count: usize, flash_len: usize) -> bool
     requires { ⌜ count ≤ 16 ⌝ }
     ensures { λ r. ⌜ r ≡ any count (wrongEntry table «flash_len») ⌝ }
@@ -204,7 +198,7 @@ fn any_wrong(table: [Entry; Settings::ENTRIES], count: usize, flash_len: usize) 
     false
 }
 
-// Two used entries share a sector: each entry beside those before it.
+// Do two used entries share a sector? Each is held against those before it.
 fn any_shares(table: [Entry; Settings::ENTRIES], count: usize) -> bool
     requires { ⌜ count ≤ 16 ⌝ }
     ensures { λ r. ⌜ r ≡ any count (sharesBelow table) ⌝ }
@@ -234,6 +228,7 @@ pub fn is_enabled(settings: Settings, arch: Arch) -> bool
     }
 }
 
+// Are the settings good for a flash of this many bytes?
 pub fn good(settings: Settings, flash_len: usize) -> bool
     ensures { λ r. ⌜ r ≡ goodSettings settings «flash_len» ⌝ }
 {
