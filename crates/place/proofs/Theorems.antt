@@ -1,23 +1,22 @@
 -- When a family has no place, and where a place lies. Assumes nothing.
-use Prim.Native.Nat.{ℕ, _+_, _*_, _%_, _≤_, _<_}
+use Prim.Native.Nat.{ℕ, _*_, _%_, _≤_, _<_}
 use mathlib.Core.Path.{_≡_, refl, sym, ap, _∙_}
 use mathlib.Core.Logic.{_↔_, _≢_}
-use mathlib.Core.Bool.{Bool, true, false, _&&_, cond}
+use mathlib.Core.Bool.{Bool, true, false, _&&_}
 use mathlib.Core.List.{List}
 use native.Mathlib.Omega.{arith}
 use lib.Dec.{leb, eqb}
-use borrow.Author.Tests.{lt-ltb, eqb-true, eqb-false}
-use Rattle.sets.proofs.Tests.{split, is-false, and-left, and-right, clash}
+use borrow.Author.Tests.{eqb-true, eqb-false}
+use Rattle.sets.proofs.Tests.{split, is-false, and-left, and-right}
 use Rattle.flash.specs.Flash.{flashLength}
 use Rattle.settings.specs.declared.Entry as settings
 use Rattle.settings.specs.declared.Settings.{Settings}
 use Rattle.settings.specs.Settings.{familyRp2040, familyAbsolute, entryAt, isA, accepts, goodSettings}
 use Rattle.settings.proofs.Laws.{good-count, good-fits}
-use Rattle.place.specs.Place.{passAllows, passTakes, entryIf, inPass, chosen, usedCount, wantedOf, chosenEntry, takenWhole, wholeIf, placeOfChoice, placeOf, Accepting, Inside}
+use Rattle.place.specs.Place.{passAllows, passTakes, inPass, chosen, usedCount, wantedOf, chosenEntry, takenWhole, wholeIf, placeOfChoice, placeOf, Accepting, Inside}
 use Rattle.place.specs.declared.Wanted.{Wanted}
 use Rattle.place.specs.declared.Choice.{Choice}
 use Rattle.place.specs.declared.Choice.the-variants.{Nothing, Entry}
-use Rattle.place.specs.declared.Place.{Place}
 use Rattle.place.specs.declared.Place.the-variants.{Nowhere, At}
 use Rattle.place.proofs.First.{first-all, first-none, if-taken, if-passed}
 use Rattle.place.proofs.Laws.{place-absolute, place-rp2040, place-whole, place-table, used-least, used-whole, chosen-taken}

@@ -1,7 +1,7 @@
 -- The place of a family (01, "Settings and the place of a family"). Numbers are natural, so nothing wraps. Assumes nothing.
 use Prim.Native.Nat.{ℕ, zero, suc, _+_, _*_, _%_, _<_, _≤_}
 use mathlib.Core.Path.{_≡_}
-use mathlib.Core.Bool.{Bool, true, false, _&&_, _||_, cond, not}
+use mathlib.Core.Bool.{Bool, true, _&&_, _||_, cond, not}
 use mathlib.Core.List.{List}
 use lib.Dec.{leb, eqb}
 use Rattle.settings.specs.Settings.{familyRp2040, familyAbsolute, familyData, familyArmS, familyRiscV, entryAt, isA, isUnowned, accepts, enabled, goodSettings}

@@ -1,23 +1,8 @@
 // The place of a family: the whole flash, the bytes of a partition entry, or none.
 ghost use mathlib.Core.Path.{_≡_};
 ghost use Prim.Native.Nat.{_≤_};
-ghost use Rattle.place.specs.Place.{
-  otherArch,
-  imageOf,
-  isMarked,
-  isBootable,
-  passAllows,
-  passTakes,
-  chosen,
-  usedCount,
-  wantedOf,
-  takenWhole,
-  wholeIf,
-  bytesOf,
-  placeOf,
-  askOf,
-  askedNumber,
-};
+ghost use Rattle.place.specs.Place.{otherArch, imageOf, isMarked, isBootable, passAllows, passTakes, chosen, usedCount, wantedOf, takenWhole, wholeIf, bytesOf, placeOf, askOf, askedNumber};
+use flash::Flash;
 use settings::Arch;
 use settings::Entry;
 use settings::Family;
@@ -70,6 +55,7 @@ fn image(a: Arch) -> u32
     }
 }
 
+// Marked not bootable for the architecture?
 fn marked(e: Entry, a: Arch) -> bool
     ensures { λ r. ⌜ r ≡ isMarked e a ⌝ }
 {
@@ -85,6 +71,7 @@ fn bootable(e: Entry, a: Arch) -> bool
     settings::unowned(e) & !marked(e, a)
 }
 
+// What a pass asks besides; 01's passes 1 to 4 are counted from 0.
 fn allows(w: Wanted, pass: usize, e: Entry) -> bool
     ensures { λ r. ⌜ r ≡ passAllows w pass e ⌝ }
 {
@@ -104,7 +91,7 @@ fn takes(w: Wanted, pass: usize, e: Entry) -> bool
 }
 
 // Four passes over n entries, first to last, ending at the first match.
-fn choose(table: [Entry; 16], n: usize, w: Wanted) -> Choice
+fn choose(table: [Entry; Settings::ENTRIES], n: usize, w: Wanted) -> Choice
     requires { ⌜ n ≤ 16 ⌝ }
     ensures { λ r. ⌜ r ≡ chosen table n w ⌝ }
 {
@@ -172,8 +159,8 @@ fn whole_if(yes: bool, flash_len: usize) -> Place
 fn bytes_of(e: Entry) -> Place
     ensures { λ r. ⌜ r ≡ bytesOf e ⌝ }
 {
-    let start = e.first as usize * 4096;
-    let len = e.sectors as usize * 4096;
+    let start = e.first as usize * Flash::SECTOR;
+    let len = e.sectors as usize * Flash::SECTOR;
     Place::At { start, len }
 }
 

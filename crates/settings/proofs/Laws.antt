@@ -1,8 +1,8 @@
 -- The parts that the code checks make up the definition; and what good settings tell. Assumes nothing.
 use Prim.Native.Nat.{ℕ, _+_, _*_, _≤_, _<_}
-use mathlib.Core.Path.{_≡_, refl, sym, ap, _∙_}
+use mathlib.Core.Path.{_≡_, refl, _∙_}
 use mathlib.Core.Logic.{_≢_}
-use mathlib.Core.Bool.{Bool, true, false, _&&_, _||_, not, or-true, or-assoc, or-comm}
+use mathlib.Core.Bool.{Bool, true, false, _||_, not, or-true, or-assoc, or-comm}
 use mathlib.Core.List.{List}
 use native.Mathlib.Omega.{arith}
 use lib.Dec.{ltb, leb, eqb}
@@ -12,7 +12,7 @@ use Rattle.sets.specs.Sets.{any}
 use Rattle.sets.proofs.Laws.{any-hit, any-none, any-all, any-found}
 use Rattle.settings.specs.declared.Entry.{Entry}
 use Rattle.settings.specs.declared.Settings.{Settings}
-use Rattle.settings.specs.Settings.{isA, isUnowned, linkTarget, entryAt, enabled, countOver, noSectors, runsPast, overlap, overlapAt, sharesWith, sharesSector, linksUp, linksToB, manyUsers, reservedUser, badEntry, goodSettings}
+use Rattle.settings.specs.Settings.{isA, isUnowned, linkTarget, entryAt, enabled, countOver, noSectors, runsPast, overlapAt, sharesWith, sharesSector, linksUp, linksToB, manyUsers, reservedUser, badEntry, goodSettings}
 use Rattle.settings.specs.Parts.{aloneBad, linkBad, wrongEntry, sharesBelow}
 use Rattle.settings.proofs.Overlap.{overlap-swaps}
 

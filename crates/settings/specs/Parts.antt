@@ -1,6 +1,6 @@
 -- The definition of bad settings, cut as the code checks it. Assumes nothing.
 use Prim.Native.Nat.{ℕ}
-use mathlib.Core.Bool.{Bool, _&&_, _||_, not}
+use mathlib.Core.Bool.{Bool, _||_}
 use mathlib.Core.List.{List}
 use Rattle.sets.specs.Sets.{any}
 use Rattle.settings.specs.declared.Entry.{Entry}

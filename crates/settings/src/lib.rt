@@ -2,21 +2,11 @@
 ghost use mathlib.Core.Path.{_≡_};
 ghost use Prim.Native.Nat.{_≤_};
 ghost use Rattle.sets.specs.Sets.{any};
-ghost use Rattle.settings.specs.Settings.{
-  isA,
-  isUnowned,
-  linkTarget,
-  hasUser,
-  accepts,
-  isReserved,
-  reservedUser,
-  overlap,
-  enabled,
-  goodSettings,
-};
-ghost use Rattle.settings.specs.Parts.{aloneBad, linkBad, wrongEntry, sharesBelow};
+ghost use Rattle.settings.specs.Settings.{isA, isUnowned, linkTarget, hasUser, accepts, isReserved, reservedUser, overlap, enabled, goodSettings};
+ghost use Rattle.settings.specs.Parts.{aloneBad, wrongEntry, sharesBelow};
+use flash::Flash;
 
-// How an entry hangs on another.
+// What an entry is linked to.
 pub enum Link {
     Unlinked,
     OwnedBy(u8),
@@ -49,7 +39,17 @@ pub struct Settings {
     pub auto_switch: bool,
     pub absolute: bool,
     pub count: u8,
-    pub table: [Entry; 16],
+    pub table: [Entry; Settings::ENTRIES],
+}
+
+impl Entry {
+    // The most user families.
+    pub const USERS: u8 = 4;
+}
+
+impl Settings {
+    // The entries of a table.
+    pub const ENTRIES: usize = 16;
 }
 
 // The families that have a meaning of their own.
@@ -71,6 +71,7 @@ impl Family {
     pub const ARM_NS: u32 = 0xe48bff5b;
 }
 
+// An A partition?
 pub fn is_a(e: Entry) -> bool
     ensures { λ r. ⌜ r ≡ isA e ⌝ }
 {
@@ -82,6 +83,7 @@ pub fn is_a(e: Entry) -> bool
     }
 }
 
+// Linked to no other?
 pub fn unowned(e: Entry) -> bool
     ensures { λ r. ⌜ r ≡ isUnowned e ⌝ }
 {
@@ -104,6 +106,7 @@ fn has_user(e: Entry, family: u32) -> bool
         | ((3 < n) & (users[3] == family))
 }
 
+// By the flag for the family, or as a user family.
 pub fn accepts_family(e: Entry, family: u32) -> bool
     ensures { λ r. ⌜ r ≡ accepts e family ⌝ }
 {
@@ -131,6 +134,7 @@ fn reserved_user(e: Entry) -> bool
         | ((3 < n) & reserved(users[3]))
 }
 
+// Have n sectors from f and m sectors from g one in common? In usize no sum wraps.
 fn sectors_overlap(f: u32, n: u32, g: u32, m: u32) -> bool
     ensures { λ r. ⌜ r ≡ overlap f n g m ⌝ }
 {
@@ -138,14 +142,21 @@ fn sectors_overlap(f: u32, n: u32, g: u32, m: u32) -> bool
     let to = from + n as usize;
     let other = g as usize;
     let other_to = other + m as usize;
-    (0 < n) & (0 < m) & (from < other_to) & (other < to)
+    if other_to <= from {
+        return false;
+    }
+    if to <= other {
+        return false;
+    }
+    (0 < n) & (0 < m)
 }
 
+// Is an entry wrong by itself?
 fn alone_bad(e: Entry, flash_len: usize) -> bool
     ensures { λ r. ⌜ r ≡ aloneBad «flash_len» e ⌝ }
 {
-    let past = (e.first as usize + e.sectors as usize) * 4096;
-    (e.sectors == 0) | (flash_len < past) | (4 < e.user_count) | reserved_user(e)
+    let past = (e.first as usize + e.sectors as usize) * Flash::SECTOR;
+    (e.sectors == 0) | (flash_len < past) | (Entry::USERS < e.user_count) | reserved_user(e)
 }
 
 // The index that an entry's link names, 0 where it names none.
@@ -160,8 +171,8 @@ fn target(e: Entry) -> u8
     }
 }
 
-// A used entry is wrong by itself or by its link.
-fn any_wrong(table: [Entry; 16], count: usize, flash_len: usize) -> bool
+// Is a used entry wrong by itself or by its link?
+fn any_wrong(table: [Entry; Settings::ENTRIES], count: usize, flash_len: usize) -> bool
     requires { ⌜ count ≤ 16 ⌝ }
     ensures { λ r. ⌜ r ≡ any count (wrongEntry table «flash_len») ⌝ }
 {
@@ -187,8 +198,8 @@ fn any_wrong(table: [Entry; 16], count: usize, flash_len: usize) -> bool
     false
 }
 
-// Two used entries share a sector: each entry beside those before it.
-fn any_shares(table: [Entry; 16], count: usize) -> bool
+// Do two used entries share a sector? Each is held against those before it.
+fn any_shares(table: [Entry; Settings::ENTRIES], count: usize) -> bool
     requires { ⌜ count ≤ 16 ⌝ }
     ensures { λ r. ⌜ r ≡ any count (sharesBelow table) ⌝ }
 {
@@ -217,6 +228,7 @@ pub fn is_enabled(settings: Settings, arch: Arch) -> bool
     }
 }
 
+// Are the settings good for a flash of this many bytes?
 pub fn good(settings: Settings, flash_len: usize) -> bool
     ensures { λ r. ⌜ r ≡ goodSettings settings «flash_len» ⌝ }
 {
@@ -226,7 +238,7 @@ pub fn good(settings: Settings, flash_len: usize) -> bool
     if !is_enabled(settings, current) {
         return false;
     }
-    if 16 < count {
+    if Settings::ENTRIES < count {
         return false;
     }
     if any_wrong(table, count, flash_len) {

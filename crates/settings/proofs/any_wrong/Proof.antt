@@ -1,12 +1,12 @@
 -- The invariant: no entry before k is wrong.
-use Prim.Native.Nat.{ℕ, _≤_, _<_, _-_}
+use Prim.Native.Nat.{ℕ, _≤_, _-_}
 use mathlib.Core.Path.{_≡_, sym, ap, _∙_}
-use mathlib.Core.Bool.{true, false}
+use mathlib.Core.Bool.{false}
 use native.Mathlib.Omega.{arith}
 use borrow.Author.Tests.{not-true, not-false}
 use Rattle.sets.specs.Sets.{any}
 use Rattle.sets.proofs.Laws.{any-zero, any-more, any-hit}
-use Rattle.settings.specs.Settings.{isA, isUnowned, linkTarget, entryAt}
+use Rattle.settings.specs.Settings.{isA, entryAt}
 use Rattle.settings.specs.Parts.{wrongEntry}
 use Rattle.settings.proofs.Laws.{wrong-alone, wrong-link, right-entry, link-up, link-to-b, link-none, link-right}
 use borrow.Author.Needs.{needs}
