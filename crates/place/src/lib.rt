@@ -14,6 +14,7 @@ ghost use Rattle.place.specs.Place.{
   takenWhole,
   wholeIf,
   bytesOf,
+  StartsLow,
   placeOf,
   askOf,
   askedNumber,
@@ -158,6 +159,7 @@ fn taken_whole(arm: bool, riscv: bool, family: u32) -> bool
 
 fn whole_if(yes: bool, flash_len: usize) -> Place
     ensures { λ r. ⌜ r ≡ wholeIf yes «flash_len» ⌝ }
+    ensures low { λ r. ⌜ StartsLow r ⌝ }
 {
     if yes {
         Place::At {
@@ -171,6 +173,7 @@ fn whole_if(yes: bool, flash_len: usize) -> Place
 
 fn bytes_of(e: Entry) -> Place
     ensures { λ r. ⌜ r ≡ bytesOf e ⌝ }
+    ensures low { λ r. ⌜ StartsLow r ⌝ }
 {
     let start = e.first as usize * 4096;
     let len = e.sectors as usize * 4096;
@@ -180,6 +183,7 @@ fn bytes_of(e: Entry) -> Place
 // The place of a family. The settings are taken to be good; of others it looks at no more than 16 entries.
 pub fn find(settings: Settings, flash_len: usize, family: u32) -> Place
     ensures { λ r. ⌜ r ≡ placeOf settings «flash_len» family ⌝ }
+    ensures low { λ r. ⌜ StartsLow r ⌝ }
 {
     let count = settings.count;
     let table = settings.table;
