@@ -109,6 +109,11 @@ abbrev pub placeOfChoice : List Entry → Choice → Place
 placeOfChoice table choice.Nothing = Nowhere
 placeOfChoice table (choice.Entry k) = bytesOf (entryAt table k)
 
+-- the place begins below 2 ^ 44, the 2 ^ 32 sectors that an entry can name; so it is for bad settings too
+abbrev pub StartsLow : Place → Type 0
+StartsLow Nowhere = Unit
+StartsLow (At a n) = a < 0x100000000000
+
 -- the place of a family, for settings that are good
 unfoldable pub placeOf : Settings → ℕ → ℕ → Place
 placeOf s len f =

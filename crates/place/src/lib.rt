@@ -1,7 +1,24 @@
 // The place of a family: the whole flash, the bytes of a partition entry, or none.
 ghost use mathlib.Core.Path.{_≡_};
 ghost use Prim.Native.Nat.{_≤_};
-ghost use Rattle.place.specs.Place.{otherArch, imageOf, isMarked, isBootable, passAllows, passTakes, chosen, usedCount, wantedOf, takenWhole, wholeIf, bytesOf, placeOf, askOf, askedNumber};
+ghost use Rattle.place.specs.Place.{
+  otherArch,
+  imageOf,
+  isMarked,
+  isBootable,
+  passAllows,
+  passTakes,
+  chosen,
+  usedCount,
+  wantedOf,
+  takenWhole,
+  wholeIf,
+  bytesOf,
+  StartsLow,
+  placeOf,
+  askOf,
+  askedNumber,
+};
 use flash::Flash;
 use settings::Arch;
 use settings::Entry;
@@ -145,6 +162,7 @@ fn taken_whole(arm: bool, riscv: bool, family: u32) -> bool
 
 fn whole_if(yes: bool, flash_len: usize) -> Place
     ensures { λ r. ⌜ r ≡ wholeIf yes «flash_len» ⌝ }
+    ensures low { λ r. ⌜ StartsLow r ⌝ }
 {
     if yes {
         Place::At {
@@ -158,6 +176,7 @@ fn whole_if(yes: bool, flash_len: usize) -> Place
 
 fn bytes_of(e: Entry) -> Place
     ensures { λ r. ⌜ r ≡ bytesOf e ⌝ }
+    ensures low { λ r. ⌜ StartsLow r ⌝ }
 {
     let start = e.first as usize * Flash::SECTOR;
     let len = e.sectors as usize * Flash::SECTOR;
@@ -167,6 +186,7 @@ fn bytes_of(e: Entry) -> Place
 // The place of a family. The settings are taken to be good; of others it looks at no more than 16 entries.
 pub fn find(settings: Settings, flash_len: usize, family: u32) -> Place
     ensures { λ r. ⌜ r ≡ placeOf settings «flash_len» family ⌝ }
+    ensures low { λ r. ⌜ StartsLow r ⌝ }
 {
     let count = settings.count;
     let table = settings.table;

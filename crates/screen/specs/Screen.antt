@@ -43,6 +43,14 @@ placed (At start size) b =
     (cond (badAddress size b) (Refused BadAddress)
     (Passed (pageAt start b))))
 
+-- the answer to a header that yields no block; a block gets none of them, and nothing asks for its
+abbrev pub headerRefusal : Header → Answer
+headerRefusal header.NotBlock = NotBlock
+headerRefusal header.Container = Container
+headerRefusal header.Comment = Comment
+headerRefusal header.NoFamily = NoFamily
+headerRefusal (header.Found b) = NotBlock
+
 -- rows 4 to 7: "Read the header first; if that yields no block, no other field counts"
 unfoldable pub headed : Settings → ℕ → Header → Screened
 headed s len header.NotBlock = Refused NotBlock

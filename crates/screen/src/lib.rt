@@ -1,4 +1,12 @@
 // The screening of an arrival, rows 4 to 11: by the settings, the flash's length and the arrival alone.
+ghost use mathlib.Core.Path.{_≡_};
+ghost use Prim.Native.Nat.{_<_};
+ghost use Rattle.place.specs.declared.Place.the-variants.{At};
+ghost use Rattle.screen.specs.Screen.{headerRefusal, placed, screenOf};
+use block::Block;
+use block::Header;
+use place::Place;
+use settings::Settings;
 use transfer::Answer;
 use transfer::Head;
 
@@ -12,4 +20,76 @@ pub struct Page {
 pub enum Screened {
     Refused(Answer),
     Passed(Page),
+}
+
+impl Page {
+    // Where the address window begins, which is where a place's first byte is seen.
+    pub const WINDOW: usize = 0x10000000;
+}
+
+// The answer to a header that yields no block.
+fn header_answer(h: Header) -> Answer
+    ensures { λ r. ⌜ r ≡ headerRefusal h ⌝ }
+{
+    match h {
+        Header::NotBlock => Answer::NotBlock,
+        Header::Container => Answer::Container,
+        Header::Comment => Answer::Comment,
+        Header::NoFamily => Answer::NoFamily,
+        Header::Found(_) => Answer::NotBlock,
+    }
+}
+
+// A block beside its place. Sums and products are of 64 bits, since each may pass 32.
+fn fits_place(b: Block, start: usize, size: usize) -> Screened
+    requires { ⌜ start < 0x100000000000 ⌝ }
+    ensures { λ r. ⌜ r ≡ placed (At start size) b ⌝ }
+{
+    if b.size != 256 {
+        return Screened::Refused(Answer::BadPayload);
+    }
+    if b.total == 0 {
+        return Screened::Refused(Answer::BadNumbers);
+    }
+    if size < b.total as usize * 256 {
+        return Screened::Refused(Answer::BadNumbers);
+    }
+    if b.total <= b.number {
+        return Screened::Refused(Answer::BadNumbers);
+    }
+    let address = b.address as usize;
+    if address < Page::WINDOW {
+        return Screened::Refused(Answer::BadAddress);
+    }
+    if address % 256 != 0 {
+        return Screened::Refused(Answer::BadAddress);
+    }
+    let past = address + 256;
+    if size < past - Page::WINDOW {
+        return Screened::Refused(Answer::BadAddress);
+    }
+    let head = Head {
+        family: b.family,
+        total: b.total,
+    };
+    Screened::Passed(Page {
+        head,
+        number: b.number,
+        at: start + (address - Page::WINDOW),
+    })
+}
+
+// Rows 4 to 11: the first that refuses the arrival, or its page.
+pub fn screen(settings: Settings, flash_len: usize, arrival: &[u8]) -> Screened
+    ensures { λ r. ⌜ r ≡ screenOf settings «flash_len» (now (arrival .entry)) ⌝ }
+{
+    let h = block::read(arrival);
+    let Header::Found(b) = h else {
+        return Screened::Refused(header_answer(h));
+    };
+    let p = place::find(settings, flash_len, b.family);
+    match p {
+        Place::Nowhere => Screened::Refused(Answer::NoPlace),
+        Place::At { start, len } => fits_place(b, start, len),
+    }
 }

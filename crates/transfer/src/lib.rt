@@ -1,4 +1,7 @@
 // The transfer: its state, the answers to an arrival, and one step of it.
+ghost use mathlib.Core.Path.{_≡_};
+ghost use Prim.Native.Nat.{_+_};
+ghost use Rattle.transfer.specs.Transfer.{numberOf, fresh, goodState, sameHead, taken, stepOf};
 
 // What makes two blocks one transfer.
 pub struct Head {
@@ -53,4 +56,113 @@ pub struct Taken {
 pub enum Step {
     Stays(Answer),
     Takes(Taken),
+}
+
+impl Answer {
+    pub fn number(self) -> u8
+        ensures { λ r. ⌜ r ≡ numberOf self ⌝ }
+    {
+        match self {
+            Answer::BadBuffers => 1,
+            Answer::BadSettings => 2,
+            Answer::BadState => 3,
+            Answer::NotBlock => 4,
+            Answer::Container => 5,
+            Answer::Comment => 6,
+            Answer::NoFamily => 7,
+            Answer::NoPlace => 8,
+            Answer::BadPayload => 9,
+            Answer::BadNumbers => 10,
+            Answer::BadAddress => 11,
+            Answer::Finished => 12,
+            Answer::Again => 13,
+            Answer::Written => 14,
+            Answer::Completed => 15,
+        }
+    }
+}
+
+fn same_head(g: Head, h: Head) -> bool
+    ensures { λ r. ⌜ r ≡ sameHead g h ⌝ }
+{
+    (g.family == h.family) & (g.total == h.total)
+}
+
+// A block is taken after `before` others. The raised count may not fit 32 bits, so it is compared in 64.
+fn take(head: Head, before: u32, clears: bool, discarded: bool) -> Taken
+    ensures { λ r. ⌜ r ≡ taken clears discarded head (before + 1) ⌝ }
+{
+    let raised = before as u64 + 1;
+    if raised < head.total as u64 {
+        let count = raised as u32;
+        let run = Run { head, count };
+        let state = State::Running(run);
+        let transfer = Transfer { state };
+        return Taken {
+            transfer,
+            answer: Answer::Written,
+            discarded,
+            fresh: clears,
+        };
+    }
+    let state = State::Done(head);
+    let transfer = Transfer { state };
+    Taken {
+        transfer,
+        answer: Answer::Completed,
+        discarded,
+        fresh: clears,
+    }
+}
+
+impl Transfer {
+    // The most blocks that a transfer may have.
+    pub const LIMIT: u32 = 131072;
+
+    pub fn new() -> Self
+        ensures { λ r. ⌜ r ≡ fresh ⌝ }
+    {
+        Self { state: State::Idle }
+    }
+
+    // May this state be handed in? Nothing but these bounds is asked of it.
+    pub fn sound(self) -> bool
+        ensures { λ r. ⌜ r ≡ goodState (self .state) ⌝ }
+    {
+        let state = self.state;
+        match state {
+            State::Idle => true,
+            State::Running(run) => {
+                let total = run.head.total;
+                (1 <= run.count) & (run.count < total) & (total <= Transfer::LIMIT)
+            }
+            State::Done(head) => (1 <= head.total) & (head.total <= Transfer::LIMIT),
+        }
+    }
+
+    // What a block of this head does, whose number is marked or not.
+    pub fn step(self, head: Head, marked: bool) -> Step
+        ensures { λ r. ⌜ r ≡ stepOf (self .state) head marked ⌝ }
+    {
+        let state = self.state;
+        match state {
+            State::Idle => Step::Takes(take(head, 0, true, false)),
+            State::Running(run) => go_on(run, head, marked),
+            State::Done(_) => Step::Stays(Answer::Finished),
+        }
+    }
+}
+
+// What a block of this head does to a running transfer.
+fn go_on(run: Run, head: Head, marked: bool) -> Step
+    ensures { λ r. ⌜ r ≡ stepOf (State.Running run) head marked ⌝ }
+{
+    let current = run.head;
+    if !same_head(current, head) {
+        return Step::Takes(take(head, 0, true, true));
+    }
+    if marked {
+        return Step::Stays(Answer::Again);
+    }
+    Step::Takes(take(head, run.count, false, false))
 }

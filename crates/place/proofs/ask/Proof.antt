@@ -34,14 +34,14 @@ returns-3 c =
     let d = c .before .before in
     let l = sym (d .before .before .before .before .right-length .ensures) ∙ not-false _ (d .before .before .before .if1 .left) in
     let g = sym (d .before .before .good2 .ensures) ∙ not-false _ (d .before .if2 .left) in
-    sym (ask-place _ _ _ l g ∙ ap foundAt (sym (d .find .ensures) ∙ c .enum-told .given .1))
+    sym (ask-place _ _ _ l g ∙ ap foundAt (sym (d .find .ensures .0) ∙ c .enum-told .given .1))
 
 returns-4 : tie.Need-returns-4
 returns-4 c =
     let d = c .before .before .before in
     let l = sym (d .before .before .before .before .right-length .ensures) ∙ not-false _ (d .before .before .before .if1 .left) in
     let g = sym (d .before .before .good2 .ensures) ∙ not-false _ (d .before .if2 .left) in
-    sym (ask-place _ _ _ l g ∙ ap foundAt (sym (d .find .ensures) ∙ c .before .start .given .1))
+    sym (ask-place _ _ _ l g ∙ ap foundAt (sym (d .find .ensures .0) ∙ c .before .start .given .1))
 
 pub ask-spec : {M : Type 1} → statement M
 ask-spec =

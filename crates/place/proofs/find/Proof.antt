@@ -11,10 +11,10 @@ whole-if-requires : tie.Need-whole-if-requires
 whole-if-requires c κs = search needs
 
 returns : tie.Need-returns
-returns c = c .whole-if .ensures ∙ sym (place-absolute _ _ _ (c .before .if1 .taken))
+returns c = (c .whole-if .ensures .0 ∙ sym (place-absolute _ _ _ (c .before .if1 .taken)), c .whole-if .ensures .1)
 
 returns-2 : tie.Need-returns-2
-returns-2 c = sym (place-rp2040 _ _ _ (c .if2 .taken))
+returns-2 c = (sym (place-rp2040 _ _ _ (c .if2 .taken)), tt)
 
 taken-whole-requires : tie.Need-taken-whole-requires
 taken-whole-requires c κs = search needs
@@ -23,10 +23,12 @@ whole-if-requires-2 : tie.Need-whole-if-requires-2
 whole-if-requires-2 c κs = search needs
 
 returns-3 : tie.Need-returns-3
-returns-3 c =
-    c .whole-if2 .ensures
-    ∙ ap (λ (b : Bool). wholeIf b (c .before .before .before .before .before .before .args .flash-len)) (c .before .taken-whole .ensures)
-    ∙ sym (place-whole _ _ _ (c .before .before .before .before .if1 .left) (c .before .before .before .if2 .left) (c .before .before .if3 .taken))
+returns-3 c = (
+  c .whole-if2 .ensures .0
+      ∙ ap (λ (b : Bool). wholeIf b (c .before .before .before .before .before .before .args .flash-len)) (c .before .taken-whole .ensures)
+      ∙ sym (place-whole _ _ _ (c .before .before .before .before .if1 .left) (c .before .before .before .if2 .left) (c .before .before .if3 .taken)),
+  c .whole-if2 .ensures .1,
+)
 
 want-requires : tie.Need-want-requires
 want-requires c κs = search needs
@@ -68,7 +70,7 @@ returns-4 c =
     let x = d .before .before .before .before .before .before .before .args in
     let h = chosen-is (x .settings) (x .family) _ _ (d .choose .ensures) (d .before .used-count .ensures) (d .before .before .want .ensures) in
     let e = ap (placeOfChoice (x .settings .table)) (sym h ∙ c .enum-told .given .1) in
-    sym (place-table _ _ _ (d .before .before .before .before .before .if1 .left) (d .before .before .before .before .if2 .left) (d .before .before .before .if3 .left) ∙ e)
+    (sym (place-table _ _ _ (d .before .before .before .before .before .if1 .left) (d .before .before .before .before .if2 .left) (d .before .before .before .if3 .left) ∙ e), tt)
 
 returns-5 : tie.Need-returns-5
 returns-5 c =
@@ -76,7 +78,7 @@ returns-5 c =
     let x = d .before .before .before .before .before .before .before .args in
     let h = chosen-is (x .settings) (x .family) _ _ (d .choose .ensures) (d .before .used-count .ensures) (d .before .before .want .ensures) in
     let e = ap (placeOfChoice (x .settings .table)) (sym h ∙ c .before .before .before .k .given .1) in
-    c .bytes-of .ensures ∙ sym (place-table _ _ _ (d .before .before .before .before .before .if1 .left) (d .before .before .before .before .if2 .left) (d .before .before .before .if3 .left) ∙ e)
+    (c .bytes-of .ensures .0 ∙ sym (place-table _ _ _ (d .before .before .before .before .before .if1 .left) (d .before .before .before .before .if2 .left) (d .before .before .before .if3 .left) ∙ e), c .bytes-of .ensures .1)
 
 pub find-spec : {M : Type 1} → statement M
 find-spec =

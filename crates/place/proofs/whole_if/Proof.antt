@@ -3,7 +3,7 @@ use Rattle.place.proofs.whole_if.Statement.{statement}
 use Rattle.place.proofs.whole_if.Tie as tie
 
 returns : tie.Need-returns
-returns c = simp (c .if1 .taken)
+returns c = (simp (c .if1 .taken), search needs)
 
 returns-2 : tie.Need-returns-2
 returns-2 c = search needs

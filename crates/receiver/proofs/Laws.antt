@@ -1,0 +1,76 @@
+-- One arrival by cases, in the shape of the code's returns. Assumes nothing.
+use mathlib.Core.Path.{_≡_, refl, sym, ap, _∙_}
+use mathlib.Core.Bool.{Bool, true, false}
+use mathlib.Core.List.{List}
+use Prim.Native.Nat.{ℕ}
+use lib.ListN.{length}
+use Rattle.bitmap.specs.Bitmap.{markedIn}
+use Rattle.flash.specs.Flash.{eraseAt, payloadOf}
+use Rattle.settings.specs.Settings.{goodSettings}
+use Rattle.settings.specs.declared.Settings.{Settings}
+use Rattle.transfer.specs.Transfer.{goodState, stepOf}
+use Rattle.transfer.specs.declared.Transfer.{Transfer}
+use Rattle.transfer.specs.declared.Taken.{Taken}
+use Rattle.transfer.specs.declared.Step.{Step}
+use Rattle.transfer.specs.declared.Step.the-variants.{Stays, Takes}
+use Rattle.transfer.specs.declared.Answer.{Answer}
+use Rattle.transfer.specs.declared.Answer.the-variants.{BadBuffers, BadSettings, BadState}
+use Rattle.screen.specs.Screen.{screenOf}
+use Rattle.screen.specs.declared.Page.{Page}
+use Rattle.screen.specs.declared.Screened.{Screened}
+use Rattle.screen.specs.declared.Screened.the-variants.{Refused, Passed}
+use Rattle.arrival.specs.Arrive.{Outcome, rightLengths, stepped, looked, decide, preparedAt, tookOf, stays, takes, done, receiveOf}
+use Rattle.receiver.specs.Receiver.{held, world, refusal, outcome}
+use Rattle.receiver.specs.declared.Received.{Received}
+
+-- ---- a sector before a page is stored in it
+
+module _ (q : ℕ) (f k : List ℕ) where
+  pub prepared-kept : markedIn k q ≡ true → preparedAt q (held f k) ≡ f
+  unfolding preparedAt
+  prepared-kept h = rw h
+
+  pub prepared-new : markedIn k q ≡ false → preparedAt q (held f k) ≡ eraseAt f q
+  unfolding preparedAt
+  prepared-new h = rw h
+
+-- ---- rows 12 to 15
+
+module _ (t : Transfer) (p : Page) (a f m k : List ℕ) {known : Bool} {s : Step} (e : known ≡ markedIn m (p .number)) (h : s ≡ stepOf (t .state) (p .head) known) where
+  step-is : stepOf (t .state) (p .head) (markedIn m (p .number)) ≡ s
+  step-is = rw (sym e) (sym h)
+
+  pub look-stays : {r : Received} {x : Answer} → s ≡ Stays x → r ≡ refusal t x → outcome r f m k ≡ done (world t f m k) (payloadOf a) (stepped p (stepOf (t .state) (p .head) (markedIn m (p .number))))
+  unfolding done
+  look-stays q y = let z = step-is ∙ q in rw z (ap (λ (r : Received). outcome r f m k) y)
+
+  -- what is taken does not look at the transfer that was
+  pub look-takes : {o : Outcome} {y : Taken} (u : Transfer) → s ≡ Takes y → o ≡ done (world u f m k) (payloadOf a) (takes p y) → o ≡ done (world t f m k) (payloadOf a) (stepped p (stepOf (t .state) (p .head) (markedIn m (p .number))))
+  unfolding done tookOf
+  look-takes u q y = let z = step-is ∙ q in rw z y
+
+-- ---- rows 1 to 15
+
+module _ (s : Settings) (t : Transfer) (a f m k : List ℕ) where
+  pub receive-lengths : {r : Received} → rightLengths (length a) (length f) (length m) (length k) ≡ false → r ≡ refusal t BadBuffers → outcome r f m k ≡ receiveOf s (world t f m k) a
+  unfolding receiveOf decide done
+  receive-lengths l y = rw l (ap (λ (r : Received). outcome r f m k) y)
+
+  module _ (l : rightLengths (length a) (length f) (length m) (length k) ≡ true) where
+    pub receive-settings : {r : Received} → goodSettings s (length f) ≡ false → r ≡ refusal t BadSettings → outcome r f m k ≡ receiveOf s (world t f m k) a
+    unfolding receiveOf decide done
+    receive-settings g y = rw (l, g) (ap (λ (r : Received). outcome r f m k) y)
+
+    module _ (g : goodSettings s (length f) ≡ true) where
+      pub receive-state : {r : Received} → goodState (t .state) ≡ false → r ≡ refusal t BadState → outcome r f m k ≡ receiveOf s (world t f m k) a
+      unfolding receiveOf decide done
+      receive-state n y = rw (l, g, n) (ap (λ (r : Received). outcome r f m k) y)
+
+      module _ (n : goodState (t .state) ≡ true) where
+        pub receive-refused : {r : Received} {x : Answer} → screenOf s (length f) a ≡ Refused x → r ≡ refusal t x → outcome r f m k ≡ receiveOf s (world t f m k) a
+        unfolding receiveOf decide looked done
+        receive-refused q y = rw (l, g, n, q) (ap (λ (r : Received). outcome r f m k) y)
+
+        pub receive-passed : {o : Outcome} {p : Page} → screenOf s (length f) a ≡ Passed p → o ≡ done (world t f m k) (payloadOf a) (stepped p (stepOf (t .state) (p .head) (markedIn m (p .number)))) → o ≡ receiveOf s (world t f m k) a
+        unfolding receiveOf decide looked
+        receive-passed q y = rw (l, g, n, q) y

@@ -1,0 +1,39 @@
+-- `receiver::store` meets its contract. Assumes nothing.
+use Rattle.arrival.specs.Arrive.{pagedAt, wipedIf}
+use borrow.Author.Needs.{needs}
+use Rattle.receiver.proofs.store.Statement.{statement}
+use Rattle.receiver.proofs.store.Tie as tie
+
+clear-if-requires : tie.Need-clear-if-requires
+clear-if-requires c κs = search needs
+
+erase-new-requires : tie.Need-erase-new-requires
+erase-new-requires c κs = search needs
+
+store-requires : tie.Need-store-requires
+store-requires c κs = search needs
+
+mark-requires : tie.Need-mark-requires
+mark-requires c κs = search needs
+
+same-length : tie.Need-same-length
+same-length c = search needs
+
+same-length-2 : tie.Need-same-length-2
+same-length-2 c = search needs
+
+returns : tie.Need-returns
+unfolding pagedAt wipedIf
+returns c = cc
+
+pub store-spec : {M : Type 1} → statement M
+store-spec =
+    tie.close
+    (tie.spec
+    clear-if-requires
+    erase-new-requires
+    store-requires
+    mark-requires
+    same-length
+    same-length-2
+    returns)

@@ -1,0 +1,113 @@
+-- The screening by cases: the header, the place, and a block beside its place. Assumes nothing.
+use mathlib.Core.Path.{_≡_, refl, sym, ap, _∙_}
+use mathlib.Core.Bool.{Bool, true, false, _||_, not}
+use mathlib.Core.List.{List, [], _∷_}
+use mathlib.Core.Logic.{_≢_, ⊎-elim}
+use types.Run.{OneOf}
+use denote.Enum.Declared.{tagOf}
+use Prim.Native.Nat.{ℕ, _+_, _-_, _*_, _%_, _<_, _≤_}
+use native.Mathlib.Omega.{arith}
+use lib.Dec.{ltb, leb, eqb}
+use borrow.Author.Tests.{lt-ltb, le-ltb, lt-leb, eq-eqb, ne-eqb, ltb-false, leb-false, eqb-true, eqb-false, not-false}
+use Rattle.sets.proofs.Tests.{split, or-left, or-right}
+use Rattle.block.proofs.Header.{the-type}
+use Rattle.block.specs.Block.{headerOf}
+use Rattle.block.specs.declared.Block.{Block}
+use Rattle.block.specs.declared.Header.{Header}
+use Rattle.block.specs.declared.Header.the-variants as header
+use Rattle.settings.specs.declared.Settings.{Settings}
+use Rattle.place.specs.Place.{placeOf}
+use Rattle.place.specs.declared.Place.{Place}
+use Rattle.place.specs.declared.Place.the-variants.{At}
+use Rattle.transfer.specs.declared.Answer.the-variants.{BadPayload, BadNumbers, BadAddress}
+use Rattle.screen.specs.Screen.{badNumbers, badAddress, pageAt, placed, headerRefusal, headed, screenOf}
+use Rattle.screen.specs.declared.Screened.the-variants.{Refused, Passed}
+
+-- ---- what rows 10 and 11 leave
+
+pub record Numbers (size : ℕ) (b : Block) : Type 0 where
+  pub some : b .total ≢ 0
+  pub room : b .total * 256 ≤ size
+  pub below : b .number < b .total
+
+pub record Address (size : ℕ) (b : Block) : Type 0 where
+  pub window : 0x10000000 ≤ b .address
+  pub whole : b .address % 256 ≡ 0
+  pub inside : b .address - 0x10000000 + 256 ≤ size
+
+module _ (size : ℕ) (b : Block) where
+  pub numbers-right : Numbers size b → badNumbers size b ≡ false
+  numbers-right n =
+      rw (ne-eqb (b .total) 0 (n .some), le-ltb size (b .total * 256) (n .room), lt-leb (b .total) (b .number) (n .below))
+
+  pub numbers-false : badNumbers size b ≡ false → Numbers size b
+  numbers-false h =
+      let l = or-left (eqb (b .total) 0 || ltb size (b .total * 256)) (leb (b .total) (b .number)) h in
+      record {
+        some = eqb-false _ _ (or-left (eqb (b .total) 0) (ltb size (b .total * 256)) l);
+        room = ltb-false _ _ (or-right (eqb (b .total) 0) (ltb size (b .total * 256)) l);
+        below = leb-false _ _ (or-right (eqb (b .total) 0 || ltb size (b .total * 256)) (leb (b .total) (b .number)) h);
+      }
+
+  pub address-right : Address size b → badAddress size b ≡ false
+  address-right a =
+      rw (
+        le-ltb (b .address) 0x10000000 (a .window),
+        eq-eqb (b .address % 256) 0 (a .whole),
+        le-ltb size (b .address - 0x10000000 + 256) (a .inside),
+      )
+
+  pub address-false : badAddress size b ≡ false → Address size b
+  address-false h =
+      let w = ltb (b .address) 0x10000000 in
+      let m = not (eqb (b .address % 256) 0) in
+      let i = ltb size (b .address - 0x10000000 + 256) in
+      let l = or-left (w || m) i h in
+      record {
+        window = ltb-false _ _ (or-left w m l);
+        whole = eqb-true _ _ (not-false _ (or-right w m l));
+        inside = ltb-false _ _ (or-right (w || m) i h);
+      }
+
+-- ---- a block beside its place
+
+module _ (start size : ℕ) (b : Block) where
+  pub placed-payload : b .size ≢ 256 → placed (At start size) b ≡ Refused BadPayload
+  unfolding placed
+  placed-payload n = rw (ne-eqb (b .size) 256 n)
+
+  module _ (p : b .size ≡ 256) where
+    numbers-true : badNumbers size b ≡ true → placed (At start size) b ≡ Refused BadNumbers
+    unfolding placed
+    numbers-true h = rw (eq-eqb (b .size) 256 p, h)
+
+    pub placed-numbers : (Numbers size b → ⊥) → placed (At start size) b ≡ Refused BadNumbers
+    placed-numbers n = split (badNumbers size b) numbers-true (λ h. absurd (n (numbers-false size b h)))
+
+    module _ (n : Numbers size b) where
+      address-true : badAddress size b ≡ true → placed (At start size) b ≡ Refused BadAddress
+      unfolding placed
+      address-true h = rw (eq-eqb (b .size) 256 p, numbers-right size b n, h)
+
+      pub placed-address : (Address size b → ⊥) → placed (At start size) b ≡ Refused BadAddress
+      placed-address a = split (badAddress size b) address-true (λ h. absurd (a (address-false size b h)))
+
+      pub placed-passed : Address size b → placed (At start size) b ≡ Passed (pageAt start b)
+      unfolding placed
+      placed-passed a = rw (eq-eqb (b .size) 256 p, numbers-right size b n, address-right size b a)
+
+-- ---- an arrival
+
+module _ (s : Settings) (len : ℕ) (a : List ℕ) where
+  -- the header is none of those before `Found`, by its tag
+  pub screen-refused : (h : Header) → h ≡ headerOf a → OneOf (0 ∷ 1 ∷ 2 ∷ 3 ∷ []) (tagOf the-type h) → screenOf s len a ≡ Refused (headerRefusal h)
+  unfolding screenOf headed
+  screen-refused header.NotBlock e n = rw (sym e)
+  screen-refused header.Container e n = rw (sym e)
+  screen-refused header.Comment e n = rw (sym e)
+  screen-refused header.NoFamily e n = rw (sym e)
+  screen-refused (header.Found b) e n = absurd (⊎-elim (λ x. omega arith) (⊎-elim (λ x. omega arith) (⊎-elim (λ x. omega arith) (λ x. omega arith))) n)
+
+  pub screen-placed : (b : Block) (p : Place) → headerOf a ≡ header.Found b → placeOf s len (b .family) ≡ p → screenOf s len a ≡ placed p b
+  unfolding screenOf headed
+  screen-placed b p e q = rw (e, q)

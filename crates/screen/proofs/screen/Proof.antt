@@ -1,0 +1,54 @@
+-- `screen::screen` meets its contract. Assumes nothing.
+use mathlib.Core.Path.{sym, ap, _∙_}
+use Rattle.screen.proofs.Laws.{screen-refused, screen-placed}
+use Rattle.screen.specs.Screen.{placed}
+use Rattle.screen.specs.declared.Screened.the-variants.{Refused}
+use borrow.Author.Needs.{needs}
+use Rattle.screen.proofs.screen.Statement.{statement}
+use Rattle.screen.proofs.screen.Tie as tie
+
+read-requires : tie.Need-read-requires
+read-requires c κs = search needs
+
+enum-known-h : tie.Need-enum-known-h
+enum-known-h c = search needs
+
+header-answer-requires : tie.Need-header-answer-requires
+header-answer-requires c κs = search needs
+
+returns : tie.Need-returns
+returns c = ap Refused (c .header-answer .ensures) ∙ sym (screen-refused _ _ _ _ (c .before .before .read .ensures) (c .before .match .keys2))
+
+find-requires : tie.Need-find-requires
+find-requires c κs = search needs
+
+enum-told : tie.Need-enum-told
+enum-told c = search needs
+
+enum-known-p : tie.Need-enum-known-p
+enum-known-p c = search needs
+
+fits-place-requires : tie.Need-fits-place-requires
+fits-place-requires c κs = let h = c .before .before .before .find .ensures .1 in rw (c .before .p .given .1) at h
+
+returns-2 : tie.Need-returns-2
+unfolding placed
+returns-2 c = let d = c .before .before in sym (screen-placed _ _ _ _ _ (sym (d .before .before .before .before .read .ensures) ∙ d .before .before .h .given .1) (sym (d .find .ensures .0) ∙ c .enum-told .given .1))
+
+returns-3 : tie.Need-returns-3
+returns-3 c = let d = c .before .before .before .before in c .fits-place .ensures ∙ sym (screen-placed _ _ _ _ _ (sym (d .before .before .before .before .read .ensures) ∙ d .before .before .h .given .1) (sym (d .find .ensures .0) ∙ c .before .before .p .given .1))
+
+pub screen-spec : {M : Type 1} → statement M
+screen-spec =
+    tie.close
+    (tie.spec
+    read-requires
+    enum-known-h
+    header-answer-requires
+    returns
+    find-requires
+    enum-told
+    enum-known-p
+    fits-place-requires
+    returns-2
+    returns-3)

@@ -1,0 +1,44 @@
+-- A taken block and a step of a transfer by cases. Assumes nothing.
+use mathlib.Core.Path.{_≡_, refl}
+use mathlib.Core.Bool.{Bool, true, false}
+use Prim.Native.Nat.{ℕ, _+_, _<_, _≤_}
+use borrow.Author.Tests.{lt-ltb, le-ltb}
+use Rattle.transfer.specs.Transfer.{running, goodState, sameHead, counted, raised, taken, stepOf}
+use Rattle.transfer.specs.declared.Head.{Head}
+use Rattle.transfer.specs.declared.Run.{Run}
+use Rattle.transfer.specs.declared.State.{State}
+use Rattle.transfer.specs.declared.State.the-variants.{Idle, Running, Done}
+use Rattle.transfer.specs.declared.Taken.{Taken}
+use Rattle.transfer.specs.declared.Answer.{Answer}
+use Rattle.transfer.specs.declared.Answer.the-variants.{Finished, Again, Written, Completed}
+use Rattle.transfer.specs.declared.Step.the-variants.{Stays, Takes}
+
+-- ---- a block that is taken
+
+abbrev pub takenTo : State → Answer → Bool → Bool → Taken
+takenTo s a clears discards = record { transfer = record { state = s }; answer = a; discarded = discards; fresh = clears }
+
+module _ (clears discards : Bool) (g : Head) (c : ℕ) where
+  pub taken-more : c < g .total → taken clears discards g c ≡ takenTo (running g c) Written clears discards
+  unfolding taken counted raised
+  taken-more h = simp (lt-ltb c (g .total) h)
+
+  pub taken-last : g .total ≤ c → taken clears discards g c ≡ takenTo (Done g) Completed clears discards
+  unfolding taken counted raised
+  taken-last h = simp (le-ltb c (g .total) h)
+
+-- ---- a step
+
+module _ (r : Run) (g : Head) (m : Bool) where
+  pub step-other : sameHead (r .head) g ≡ false → stepOf (Running r) g m ≡ Takes (taken true true g 1)
+  unfolding stepOf
+  step-other h = simp h
+
+  module _ (h : sameHead (r .head) g ≡ true) where
+    pub step-again : m ≡ true → stepOf (Running r) g m ≡ Stays Again
+    unfolding stepOf
+    step-again k = simp (h, k)
+
+    pub step-more : m ≡ false → stepOf (Running r) g m ≡ Takes (taken false false g (r .count + 1))
+    unfolding stepOf
+    step-more k = simp (h, k)
