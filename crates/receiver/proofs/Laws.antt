@@ -2,10 +2,10 @@
 use mathlib.Core.Path.{_≡_, refl, sym, ap, _∙_}
 use mathlib.Core.Bool.{Bool, true, false}
 use mathlib.Core.List.{List}
-use Prim.Native.Nat.{ℕ}
+use Prim.Native.Nat.{ℕ, _/_}
 use lib.ListN.{length}
-use Rattle.bitmap.specs.Bitmap.{markedIn}
-use Rattle.flash.specs.Flash.{eraseAt, payloadOf}
+use Rattle.bitmap.specs.Bitmap.{markedIn, withMark}
+use Rattle.flash.specs.Flash.{eraseAt, payloadOf, storeAt}
 use Rattle.settings.specs.Settings.{goodSettings}
 use Rattle.settings.specs.declared.Settings.{Settings}
 use Rattle.transfer.specs.Transfer.{goodState, stepOf}
@@ -19,7 +19,7 @@ use Rattle.screen.specs.Screen.{screenOf}
 use Rattle.screen.specs.declared.Page.{Page}
 use Rattle.screen.specs.declared.Screened.{Screened}
 use Rattle.screen.specs.declared.Screened.the-variants.{Refused, Passed}
-use Rattle.arrival.specs.Arrive.{Outcome, rightLengths, stepped, looked, decide, preparedAt, tookOf, stays, takes, done, receiveOf}
+use Rattle.arrival.specs.Arrive.{Outcome, rightLengths, stepped, looked, decide, clearedIf, wipedIf, preparedAt, pagedAt, tookOf, stays, takes, done, receiveOf}
 use Rattle.receiver.specs.Receiver.{held, world, refusal, outcome}
 use Rattle.receiver.specs.declared.Received.{Received}
 
@@ -33,6 +33,16 @@ module _ (q : ℕ) (f k : List ℕ) where
   pub prepared-new : markedIn k q ≡ false → preparedAt q (held f k) ≡ eraseAt f q
   unfolding preparedAt
   prepared-new h = rw h
+
+-- ---- what is written, call by call
+
+pub stored : (at : ℕ) (clears : Bool) (a f k : List ℕ) {k1 f1 f2 k2 : List ℕ} → k1 ≡ clearedIf clears k → f1 ≡ preparedAt (at / 4096) (held f k1) → f2 ≡ storeAt f1 at (payloadOf a) → k2 ≡ withMark k1 (at / 4096) → held f2 k2 ≡ pagedAt at (payloadOf a) (wipedIf clears (held f k))
+unfolding pagedAt wipedIf
+stored at clears a f k cleared erased laid marked = rw (marked, laid, erased, cleared)
+
+pub took : (p : Page) (t : Taken) (a f m k : List ℕ) {g n1 n2 j : List ℕ} → held g j ≡ pagedAt (p .at) (payloadOf a) (wipedIf (t .fresh) (held f k)) → n1 ≡ clearedIf (t .fresh) m → n2 ≡ withMark n1 (p .number) → outcome (record { transfer = t .transfer; answer = t .answer; discarded = t .discarded }) g n2 j ≡ done (world (t .transfer) f m k) (payloadOf a) (takes p t)
+unfolding done tookOf
+took p t a f m k paged cleared marked = cc
 
 -- ---- rows 12 to 15
 

@@ -3,7 +3,7 @@ use Prim.Native.Nat.{ℕ, _+_, _*_}
 use mathlib.Core.Bool.{Bool, true, false, _&&_, _||_, not}
 use mathlib.Core.List.{List, []}
 use lib.Dec.{ltb, leb, eqb}
-use lib.ListN.{getD}
+use lib.ListN.{getD, replicate}
 use Rattle.sets.specs.Sets.{any}
 use Rattle.settings.specs.declared.Entry.{Entry}
 use Rattle.settings.specs.declared.Settings.{Settings}
@@ -172,3 +172,35 @@ badEntry table n len k =
 unfoldable pub goodSettings : Settings → ℕ → Bool
 goodSettings s len =
     not (not (enabled s (s .current)) || countOver s || any (s .count) (badEntry (s .table) (s .count) len))
+
+-- ---- settings of a board with no partition table
+
+-- an entry of no sectors, which accepts nothing
+abbrev pub blankEntry : Entry
+blankEntry =
+    record {
+      first = 0;
+      sectors = 0;
+      «data» = false;
+      «arm_s» = false;
+      riscv = false;
+      «arm_ns» = false;
+      «user_count» = 0;
+      users = replicate 4 0;
+      «not_bootable_arm» = false;
+      «not_bootable_riscv» = false;
+      link = Unlinked;
+    }
+
+-- no partition table, Arm alone, absolute allowed or not
+abbrev pub armOnly : Bool → Settings
+armOnly b =
+    record {
+      arm = true;
+      riscv = false;
+      current = Arm;
+      «auto_switch» = false;
+      absolute = b;
+      count = 0;
+      table = replicate 16 blankEntry;
+    }

@@ -2,7 +2,7 @@
 ghost use mathlib.Core.Path.{_≡_};
 ghost use Prim.Native.Nat.{_≤_};
 ghost use Rattle.sets.specs.Sets.{any};
-ghost use Rattle.settings.specs.Settings.{isA, isUnowned, linkTarget, hasUser, accepts, isReserved, reservedUser, overlap, enabled, goodSettings};
+ghost use Rattle.settings.specs.Settings.{isA, isUnowned, linkTarget, hasUser, accepts, isReserved, reservedUser, overlap, enabled, goodSettings, armOnly};
 ghost use Rattle.settings.specs.Parts.{aloneBad, wrongEntry, sharesBelow};
 use flash::Flash;
 
@@ -55,6 +55,37 @@ impl Settings {
 // The families that have a meaning of their own.
 pub struct Family {
     pub id: u32,
+}
+
+impl Settings {
+    // No partition table, Arm alone, absolute allowed or not.
+    pub fn arm_only(absolute: bool) -> Self
+        ensures { λ r. ⌜ r ≡ armOnly absolute ⌝ }
+    {
+        let e = Entry {
+            first: 0,
+            sectors: 0,
+            data: false,
+            arm_s: false,
+            riscv: false,
+            arm_ns: false,
+            user_count: 0,
+            users: [0; 4],
+            not_bootable_arm: false,
+            not_bootable_riscv: false,
+            link: Link::Unlinked,
+        };
+        let table = [e; 16];
+        Self {
+            arm: true,
+            riscv: false,
+            current: Arch::Arm,
+            auto_switch: false,
+            absolute,
+            count: 0,
+            table,
+        }
+    }
 }
 
 impl Family {

@@ -1,5 +1,5 @@
 -- `receiver::store` meets its contract. Assumes nothing.
-use Rattle.arrival.specs.Arrive.{pagedAt, wipedIf}
+use Rattle.receiver.proofs.Laws.{stored}
 use borrow.Author.Needs.{needs}
 use Rattle.receiver.proofs.store.Statement.{statement}
 use Rattle.receiver.proofs.store.Tie as tie
@@ -23,8 +23,12 @@ same-length-2 : tie.Need-same-length-2
 same-length-2 c = search needs
 
 returns : tie.Need-returns
-unfolding pagedAt wipedIf
-returns c = cc
+returns c =
+    let marked = c .before .before in
+    let laid = marked .before .before .before .before in
+    let erased = laid .before .before .before .before in
+    let cleared = erased .before .before .before .before .before in
+    stored _ _ _ _ _ (cleared .clear-if .ensures) (erased .erase-new .ensures) (laid .store .ensures) (marked .mark .ensures)
 
 pub store-spec : {M : Type 1} → statement M
 store-spec =

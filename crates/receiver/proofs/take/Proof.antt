@@ -1,5 +1,5 @@
 -- `receiver::take` meets its contract. Assumes nothing.
-use Rattle.arrival.specs.Arrive.{tookOf, done}
+use Rattle.receiver.proofs.Laws.{took}
 use borrow.Author.Needs.{needs}
 use Rattle.receiver.proofs.take.Statement.{statement}
 use Rattle.receiver.proofs.take.Tie as tie
@@ -26,8 +26,11 @@ same-length-3 : tie.Need-same-length-3
 same-length-3 c = search needs
 
 returns : tie.Need-returns
-unfolding tookOf done
-returns c = cc
+returns c =
+    let marked = c .before .before in
+    let cleared = marked .before .before .before .before in
+    let paged = cleared .before .before .before .before .before .before in
+    took _ _ _ _ _ _ (paged .store .ensures) (cleared .clear-if .ensures) (marked .mark .ensures)
 
 pub take-spec : {M : Type 1} → statement M
 take-spec =
