@@ -1,0 +1,102 @@
+// Reads arrivals of 512 bytes from standard input and prints the answer to each: a flash of 32,768 bytes, no partition table, Arm alone,
+// absolute allowed.
+use libc::STDIN_FILENO;
+use libc::STDOUT_FILENO;
+use settings::Settings;
+use transfer::State;
+use transfer::Transfer;
+
+// One turn: the transfer after it, and whether the input may hold more.
+struct Turned {
+    transfer: Transfer,
+    more: bool,
+}
+
+fn print_answer(index: u64, answer: u8, discarded: bool) {
+    io::print_decimal(STDOUT_FILENO, index);
+    io::write_all(STDOUT_FILENO, b" ");
+    io::print_decimal(STDOUT_FILENO, answer as u64);
+    if discarded {
+        io::write_all(STDOUT_FILENO, b" 1\n");
+    } else {
+        io::write_all(STDOUT_FILENO, b" 0\n");
+    }
+}
+
+fn print_counts(total: u32, seen: u32) {
+    io::write_all(STDOUT_FILENO, b" total ");
+    io::print_decimal(STDOUT_FILENO, total as u64);
+    io::write_all(STDOUT_FILENO, b" seen ");
+    io::print_decimal(STDOUT_FILENO, seen as u64);
+    io::write_all(STDOUT_FILENO, b"\n");
+}
+
+fn print_state(transfer: Transfer) {
+    let state = transfer.state;
+    match state {
+        State::Idle => {
+            io::write_all(STDOUT_FILENO, b"state idle");
+            print_counts(0, 0);
+        }
+        State::Running(run) => {
+            io::write_all(STDOUT_FILENO, b"state running");
+            print_counts(run.head.total, run.count);
+        }
+        State::Done(head) => {
+            io::write_all(STDOUT_FILENO, b"state done");
+            print_counts(head.total, head.total);
+        }
+    }
+}
+
+// Reads one piece and answers it. A short piece is the last: `read_full` stops short only where the input ends or a read fails.
+fn turn(
+    settings: Settings,
+    transfer: Transfer,
+    index: u64,
+    flash: &mut [u8],
+    seen: &mut [u8],
+    sectors: &mut [u8],
+) -> Turned {
+    let mut arrival = [0u8; 512];
+    let n = io::read_full(STDIN_FILENO, &mut arrival);
+    if n == 0 {
+        return Turned {
+            transfer,
+            more: false,
+        };
+    }
+    let received = receiver::receive(settings, transfer, &arrival[..n], flash, seen, sectors);
+    let answer = received.answer;
+    let next = received.transfer;
+    print_answer(index, answer.number(), received.discarded);
+    Turned {
+        transfer: next,
+        more: n == 512,
+    }
+}
+
+// Answers every piece of the input. The bound on the index lets the proof see that the loop ends; no input is so long.
+fn run(flash: &mut [u8], seen: &mut [u8], sectors: &mut [u8]) -> Transfer {
+    let settings = Settings::arm_only(true);
+    let mut transfer = Transfer::new();
+    let mut index: u64 = 0;
+    while index < u64::MAX {
+        let t = turn(settings, transfer, index, flash, seen, sectors);
+        transfer = t.transfer;
+        if !t.more {
+            break;
+        }
+        index += 1;
+    }
+    transfer
+}
+
+fn main() {
+    // no answer depends on a byte of the flash; it starts erased
+    let mut flash = [0xFFu8; 32768];
+    let mut seen = [0u8; 16384];
+    let mut sectors = [0u8; 1024];
+    io::write_all(STDOUT_FILENO, b"arrival answer discarded\n");
+    print_state(run(&mut flash, &mut seen, &mut sectors));
+}
