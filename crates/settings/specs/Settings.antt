@@ -77,9 +77,9 @@ accepts e f =
 
 -- ---- the table
 
--- what stands past the table's end, where no test looks
-abbrev pub emptyEntry : Entry
-emptyEntry =
+-- an entry of no sectors, which accepts nothing, by its user families that are not used
+abbrev pub blankEntry : List ℕ → Entry
+blankEntry us =
     record {
       first = 0;
       sectors = 0;
@@ -88,11 +88,15 @@ emptyEntry =
       riscv = false;
       «arm_ns» = false;
       «user_count» = 0;
-      users = [];
+      users = us;
       «not_bootable_arm» = false;
       «not_bootable_riscv» = false;
       link = Unlinked;
     }
+
+-- what stands past the table's end, where no test looks
+abbrev pub emptyEntry : Entry
+emptyEntry = blankEntry []
 
 abbrev pub entryAt : List Entry → ℕ → Entry
 entryAt table k = getD table k emptyEntry
@@ -175,23 +179,6 @@ goodSettings s len =
 
 -- ---- settings of a board with no partition table
 
--- an entry of no sectors, which accepts nothing
-abbrev pub blankEntry : Entry
-blankEntry =
-    record {
-      first = 0;
-      sectors = 0;
-      «data» = false;
-      «arm_s» = false;
-      riscv = false;
-      «arm_ns» = false;
-      «user_count» = 0;
-      users = replicate 4 0;
-      «not_bootable_arm» = false;
-      «not_bootable_riscv» = false;
-      link = Unlinked;
-    }
-
 -- no partition table, Arm alone, absolute allowed or not
 abbrev pub armOnly : Bool → Settings
 armOnly b =
@@ -202,5 +189,5 @@ armOnly b =
       «auto_switch» = false;
       absolute = b;
       count = 0;
-      table = replicate 16 blankEntry;
+      table = replicate 16 (blankEntry (replicate 4 0));
     }
