@@ -1,0 +1,150 @@
+//! Times the proved receiver and the plain Rust reference in one run, on the same inputs. Settings pass as words to the one and by reference
+//! to the other; what the first has to read them is part of its time.
+
+use std::hint::black_box;
+use std::time::Instant;
+
+use compare::{page, proved_settings, Random};
+use reference::{Arch, Entry, Link, Settings};
+
+const FLASH: usize = 33_554_432;
+const ROUNDS: usize = 15;
+
+fn settings(count: u8, table: [Entry; 16]) -> Settings {
+    Settings {
+        arm: true,
+        riscv: true,
+        current: Arch::Arm,
+        auto_switch: true,
+        absolute: true,
+        count,
+        table,
+    }
+}
+
+/// Sixteen good entries: fifteen of one sector, and the last, which alone accepts arm-s, of all the others.
+fn sixteen() -> Settings {
+    let mut table = [Entry::EMPTY; 16];
+    for (k, e) in table.iter_mut().enumerate() {
+        e.first = k as u32;
+        e.sectors = 1;
+        e.data = true;
+        e.user_count = 3;
+        e.users = [1, 2, 3 + k as u32, 0];
+        e.link = match k % 3 {
+            0 => Link::None,
+            1 => Link::OwnedBy(0),
+            _ => Link::BOf(k as u8 - 1),
+        };
+    }
+    table[15].sectors = (FLASH / 4096 - 15) as u32;
+    table[15].arm_s = true;
+    settings(16, table)
+}
+
+/// The best of several rounds of each, in turn, in nanoseconds a call.
+fn pair(name: &str, calls: usize, mut ours: impl FnMut() -> u64, mut plain: impl FnMut() -> u64) {
+    let (mut a, mut b) = (f64::MAX, f64::MAX);
+    for _ in 0..ROUNDS {
+        let start = Instant::now();
+        let x = ours();
+        a = a.min(start.elapsed().as_nanos() as f64 / calls as f64);
+        let start = Instant::now();
+        let y = plain();
+        b = b.min(start.elapsed().as_nanos() as f64 / calls as f64);
+        assert_eq!(x, y, "{name}: the two say the same");
+    }
+    println!("| {name} | {a:.0} ns | {b:.0} ns | {:.2} : 1 |", a / b);
+}
+
+fn places(name: &str, s: &Settings) {
+    let p = proved_settings(s);
+    let families = [reference::ARM_S, 18, 99];
+    let calls = 30_000;
+    pair(
+        name,
+        calls,
+        || {
+            let ask = |i: usize| proved::ask_place(black_box(&p), FLASH, families[i % 3]);
+            (0..calls).map(|i| ask(i).map_or(0, |x| x.0 as u64)).sum()
+        },
+        || {
+            let ask = |i: usize| reference::ask_place(black_box(s), FLASH, families[i % 3]);
+            (0..calls).map(|i| ask(i).map_or(0, |x| x.0 as u64)).sum()
+        },
+    );
+}
+
+fn file(name: &str, s: &Settings, blocks: u32, shuffled: bool) {
+    let p = proved_settings(s);
+    let mut order: Vec<u32> = (0..blocks).collect();
+    if shuffled {
+        Random(7).shuffle(&mut order);
+    }
+    let file: Vec<u8> = order
+        .iter()
+        .flat_map(|&k| page(reference::ARM_S, blocks, k))
+        .collect();
+    let mut ours = (vec![0; FLASH], vec![0; 16_384], vec![0; 1024]);
+    let mut theirs = ours.clone();
+    pair(
+        name,
+        blocks as usize,
+        || {
+            let (flash, seen, sectors) = &mut ours;
+            let mut t = proved::Transfer::Idle;
+            let mut sum = 0;
+            for a in file.chunks_exact(512) {
+                let o = proved::receive(black_box(&p), t, a, flash, seen, sectors);
+                t = o.transfer;
+                sum += u64::from(o.answer);
+            }
+            sum
+        },
+        || {
+            let (flash, seen, sectors) = &mut theirs;
+            let mut t = reference::Transfer::Idle;
+            let mut sum = 0;
+            for a in file.chunks_exact(512) {
+                let o = reference::receive(black_box(s), t, a, flash, seen, sectors);
+                t = o.transfer;
+                sum += u64::from(o.answer);
+            }
+            sum
+        },
+    );
+}
+
+fn main() {
+    let none = settings(0, [Entry::EMPTY; 16]);
+    let full = sixteen();
+    println!("| work | proved | plain Rust | ratio |\n|---|---|---|---|");
+    places("settings good and place, no table", &none);
+    places("settings good and place, 16 entries", &full);
+    file(
+        "an arrival of 131,072 in order, no table",
+        &none,
+        131_072,
+        false,
+    );
+    file(
+        "an arrival of 131,072 shuffled, no table",
+        &none,
+        131_072,
+        true,
+    );
+    // the last entry has room for so many
+    let room = (FLASH / 4096 - 15) as u32 * 16;
+    file(
+        "an arrival of 130,832 in order, 16 entries",
+        &full,
+        room,
+        false,
+    );
+    file(
+        "an arrival of 130,832 shuffled, 16 entries",
+        &full,
+        room,
+        true,
+    );
+}

@@ -1,0 +1,254 @@
+//! Inputs for both receivers, from a seed, and the settings of one as the other takes them.
+
+use reference::{Arch, Entry, Link, Settings, Transfer};
+
+/// A small generator (splitmix64): the same numbers on every machine.
+pub struct Random(pub u64);
+
+impl Random {
+    pub fn next(&mut self) -> u64 {
+        self.0 = self.0.wrapping_add(0x9E37_79B9_7F4A_7C15);
+        let mut z = self.0;
+        z = (z ^ (z >> 30)).wrapping_mul(0xBF58_476D_1CE4_E5B9);
+        z = (z ^ (z >> 27)).wrapping_mul(0x94D0_49BB_1331_11EB);
+        z ^ (z >> 31)
+    }
+
+    pub fn below(&mut self, n: u64) -> u64 {
+        self.next() % n
+    }
+
+    pub fn one_in(&mut self, n: u64) -> bool {
+        self.below(n) == 0
+    }
+
+    pub fn of<T: Copy>(&mut self, choices: &[T]) -> T {
+        choices[self.below(choices.len() as u64) as usize]
+    }
+
+    pub fn shuffle<T>(&mut self, items: &mut [T]) {
+        for i in (1..items.len()).rev() {
+            items.swap(i, self.below(i as u64 + 1) as usize);
+        }
+    }
+}
+
+pub fn proved_settings(s: &Settings) -> proved::Settings {
+    let arch = match s.current {
+        Arch::Arm => proved::Arch::Arm,
+        Arch::RiscV => proved::Arch::RiscV,
+    };
+    let table = s.table.map(|e| proved_entry(&e));
+    proved::Settings::new(
+        s.arm,
+        s.riscv,
+        arch,
+        s.auto_switch,
+        s.absolute,
+        s.count,
+        &table,
+    )
+}
+
+fn proved_entry(e: &Entry) -> proved::Entry {
+    proved::Entry {
+        first: e.first,
+        sectors: e.sectors,
+        data: e.data,
+        arm_s: e.arm_s,
+        riscv: e.riscv,
+        arm_ns: e.arm_ns,
+        user_count: e.user_count,
+        users: e.users,
+        not_bootable_arm: e.not_bootable_arm,
+        not_bootable_riscv: e.not_bootable_riscv,
+        link: match e.link {
+            Link::None => proved::Link::Unlinked,
+            Link::OwnedBy(k) => proved::Link::OwnedBy(k),
+            Link::BOf(k) => proved::Link::BOf(k),
+        },
+    }
+}
+
+pub fn proved_transfer(t: Transfer) -> proved::Transfer {
+    match t {
+        Transfer::Idle => proved::Transfer::Idle,
+        Transfer::Running {
+            family,
+            total,
+            count,
+        } => proved::Transfer::Running {
+            family,
+            total,
+            count,
+        },
+        Transfer::Done { family, total } => proved::Transfer::Done { family, total },
+    }
+}
+
+/// Settings of any kind: most of them good, some bad in one way or another.
+pub fn any_settings(r: &mut Random, flash_sectors: u64) -> Settings {
+    let mut s = Settings {
+        arm: !r.one_in(6),
+        riscv: !r.one_in(3),
+        current: r.of(&[Arch::Arm, Arch::Arm, Arch::RiscV]),
+        auto_switch: r.one_in(2),
+        absolute: r.one_in(2),
+        count: 0,
+        table: [Entry::EMPTY; 16],
+    };
+    let used = r.of(&[0, 0, 1, 2, 3, 8, 16]) as u64;
+    s.count = used as u8;
+    let mut from = 0;
+    for k in 0..used {
+        let room = (flash_sectors / used).max(1);
+        let sectors = 1 + r.below(room);
+        s.table[k as usize] = any_entry(r, k, from, sectors);
+        from += sectors;
+    }
+    if r.one_in(4) {
+        spoil(r, &mut s);
+    }
+    s
+}
+
+fn any_entry(r: &mut Random, k: u64, from: u64, sectors: u64) -> Entry {
+    let link = match r.below(6) {
+        0 if k > 0 => Link::OwnedBy(r.below(k) as u8),
+        1 if k > 0 => Link::BOf(r.below(k) as u8),
+        _ => Link::None,
+    };
+    Entry {
+        first: from as u32,
+        sectors: sectors as u32,
+        data: r.one_in(3),
+        arm_s: !r.one_in(3),
+        riscv: r.one_in(2),
+        arm_ns: r.one_in(3),
+        user_count: r.below(5) as u8,
+        users: [USER, r.next() as u32 % 8, 0xe48b_ff55, 0xe48b_ff5c],
+        not_bootable_arm: r.one_in(3),
+        not_bootable_riscv: r.one_in(3),
+        link,
+    }
+}
+
+/// One field of the settings gets a value at or past its bound.
+fn spoil(r: &mut Random, s: &mut Settings) {
+    let k = r.below(16) as usize;
+    let e = &mut s.table[k];
+    match r.below(9) {
+        0 => e.sectors = 0,
+        1 => e.sectors = u32::MAX,
+        2 => e.first = r.of(&[u32::MAX, u32::MAX - 1, 0, 1 << 20]),
+        3 => e.link = Link::BOf(k as u8),
+        4 => e.link = Link::OwnedBy(r.below(256) as u8),
+        5 => e.user_count = r.of(&[4, 5, 255]),
+        6 => e.users[0] = r.of(&[0xe48b_ff55, 0xe48b_ff56, 0xe48b_ff5b, 0xe48b_ff5c]),
+        7 => s.count = r.of(&[15, 16, 17, 255]),
+        _ => s.arm = !s.arm,
+    }
+}
+
+/// A user family that some entries accept.
+pub const USER: u32 = 0x1234_5678;
+
+pub const FAMILIES: [u32; 9] = [
+    reference::ARM_S,
+    reference::ARM_S,
+    reference::ABSOLUTE,
+    reference::DATA,
+    reference::RISCV,
+    reference::ARM_NS,
+    reference::RP2040,
+    USER,
+    3,
+];
+
+/// A block's fields; the payload is filled from the seed.
+#[derive(Clone, Copy)]
+pub struct Fields {
+    pub flags: u32,
+    pub address: u32,
+    pub size: u32,
+    pub number: u32,
+    pub total: u32,
+    pub family: u32,
+}
+
+pub fn arrival(f: Fields, seed: u64) -> Vec<u8> {
+    let mut a = vec![0; 512];
+    let mut put = |at: usize, v: u32| a[at..at + 4].copy_from_slice(&v.to_le_bytes());
+    put(0, 0x0A32_4655);
+    put(4, 0x9E5D_5157);
+    put(8, f.flags);
+    put(12, f.address);
+    put(16, f.size);
+    put(20, f.number);
+    put(24, f.total);
+    put(28, f.family);
+    put(508, 0x0AB1_6F30);
+    let mut r = Random(seed);
+    for b in &mut a[32..508] {
+        *b = r.next() as u8;
+    }
+    a
+}
+
+/// Block k of a file of consecutive pages.
+pub fn page(family: u32, total: u32, k: u32) -> Vec<u8> {
+    let fields = Fields {
+        flags: 0x2000,
+        address: 0x1000_0000 + 256 * k,
+        size: 256,
+        number: k,
+        total,
+        family,
+    };
+    arrival(fields, u64::from(k) + 1)
+}
+
+/// An arrival of any kind: near a bound, damaged, or plain.
+pub fn any_arrival(r: &mut Random, pages: u64) -> Vec<u8> {
+    let total = r.of(&[1, 2, 3, 16, pages as u32, pages as u32 + 1, 0, 0x0100_0000]);
+    let number = match r.below(4) {
+        0 => total,
+        1 => total.wrapping_sub(1),
+        _ => r.below(u64::from(total).max(1)) as u32,
+    };
+    let inside = 0x1000_0000 + 256 * r.below(pages) as u32;
+    let fields = Fields {
+        flags: r.of(&[
+            0x2000,
+            0x2000,
+            0x2000,
+            0xE000,
+            0x6000,
+            0,
+            0x2001,
+            0x3000,
+            0x3001,
+            0xFFFF_FFFF,
+        ]),
+        address: r.of(&[
+            0x1000_0000,
+            inside,
+            0x1000_0000 + 256 * (pages as u32 - 1),
+            0x1000_0000 + 256 * pages as u32,
+            0x0FFF_FF00,
+            0x1000_0001,
+            0xFFFF_FF00,
+            0x1200_0000,
+        ]),
+        size: r.of(&[256, 256, 256, 256, 255, 476, 0]),
+        number,
+        total,
+        family: r.of(&FAMILIES),
+    };
+    let mut a = arrival(fields, r.next());
+    if r.one_in(12) {
+        let at = r.of(&[0, 3, 4, 7, 508, 511]);
+        a[at] ^= 1 << r.below(8);
+    }
+    a
+}

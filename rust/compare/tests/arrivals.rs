@@ -1,0 +1,176 @@
+//! Lists of arrivals: after each, answer, transfer and every lent byte are the same.
+
+use compare::{
+    any_arrival, any_settings, page, proved_settings, proved_transfer, Random, FAMILIES,
+};
+use reference::{Settings, Transfer};
+
+/// Both receivers, each with buffers of its own.
+struct Pair {
+    settings: Settings,
+    proved: proved::Settings,
+    transfer: Transfer,
+    ours: [Vec<u8>; 3],
+    theirs: [Vec<u8>; 3],
+}
+
+impl Pair {
+    fn new(settings: Settings, transfer: Transfer, buffers: [Vec<u8>; 3]) -> Pair {
+        Pair {
+            proved: proved_settings(&settings),
+            settings,
+            transfer,
+            ours: buffers.clone(),
+            theirs: buffers,
+        }
+    }
+
+    /// Hands both the arrival, and says what both answered.
+    fn take(&mut self, arrival: &[u8]) -> u8 {
+        let [flash, seen, sectors] = &mut self.theirs;
+        let wanted =
+            reference::receive(&self.settings, self.transfer, arrival, flash, seen, sectors);
+        let [flash, seen, sectors] = &mut self.ours;
+        let t = proved_transfer(self.transfer);
+        let got = proved::receive(&self.proved, t, arrival, flash, seen, sectors);
+        assert_eq!(got.answer, wanted.answer, "answer");
+        assert_eq!(got.discarded, wanted.discarded, "discarded");
+        assert_eq!(got.transfer, proved_transfer(wanted.transfer), "transfer");
+        assert!(self.ours == self.theirs, "buffers");
+        self.transfer = wanted.transfer;
+        wanted.answer
+    }
+}
+
+fn any_buffers(r: &mut Random, sectors: u64) -> [Vec<u8>; 3] {
+    let mut bytes = |n: usize| -> Vec<u8> { (0..n).map(|_| r.next() as u8).collect() };
+    [bytes(sectors as usize * 4096), bytes(16_384), bytes(1024)]
+}
+
+fn any_transfer(r: &mut Random, pages: u64) -> Transfer {
+    let family = r.of(&FAMILIES);
+    let total = r.of(&[0, 1, 2, 3, 16, pages as u32, 131_072, 131_073]);
+    match r.below(4) {
+        0 | 1 => Transfer::Idle,
+        2 => Transfer::Done { family, total },
+        _ => Transfer::Running {
+            family,
+            total,
+            count: r.of(&[0, 1, 2, total.wrapping_sub(1), total, u32::MAX]),
+        },
+    }
+}
+
+#[test]
+fn arrivals_agree() {
+    let mut r = Random(2);
+    let mut answers = [0u32; 16];
+    for _ in 0..3_000 {
+        let sectors = r.of(&[1, 2, 5, 16]);
+        let settings = any_settings(&mut r, sectors);
+        let transfer = any_transfer(&mut r, sectors * 16);
+        let buffers = any_buffers(&mut r, sectors);
+        let mut pair = Pair::new(settings, transfer, buffers);
+        for _ in 0..40 {
+            let a = any_arrival(&mut r, sectors * 16);
+            answers[usize::from(pair.take(&a))] += 1;
+        }
+    }
+    // every answer but 1 came
+    assert!(answers[2..].iter().all(|&n| n > 50), "{answers:?}");
+}
+
+#[test]
+fn wrong_lengths_agree() {
+    let mut r = Random(3);
+    for _ in 0..2_000 {
+        let settings = any_settings(&mut r, 4);
+        let mut buffers = any_buffers(&mut r, 4);
+        let mut a = page(reference::ARM_S, 4, 1);
+        let change = |r: &mut Random, v: &mut Vec<u8>| {
+            let n = r.of(&[0, 1, v.len() - 1, v.len() + 1, v.len() / 2, v.len() + 4096]);
+            v.resize(n, 9);
+        };
+        match r.below(4) {
+            0 => change(&mut r, &mut a),
+            k => change(&mut r, &mut buffers[k as usize - 1]),
+        }
+        Pair::new(settings, Transfer::Idle, buffers).take(&a);
+    }
+}
+
+/// Files in any order, with repeats and other arrivals between: completed once, at the arrival that makes the set whole.
+#[test]
+fn shuffled_files_agree() {
+    let mut r = Random(4);
+    for _ in 0..400 {
+        let sectors = r.of(&[1, 2, 8]);
+        let pages = sectors * 16;
+        let n = 1 + r.below(pages) as u32;
+        let file: Vec<Vec<u8>> = (0..n).map(|k| page(reference::ARM_S, n, k)).collect();
+        let mut order: Vec<usize> = (0..n as usize).collect();
+        for _ in 0..n {
+            order.push(r.below(u64::from(n)) as usize);
+        }
+        r.shuffle(&mut order);
+        let settings = Settings {
+            arm: true,
+            riscv: false,
+            current: reference::Arch::Arm,
+            auto_switch: false,
+            absolute: true,
+            count: 0,
+            table: [reference::Entry::EMPTY; 16],
+        };
+        let mut pair = Pair::new(settings, Transfer::Idle, any_buffers(&mut r, sectors));
+        let mut seen = vec![false; n as usize];
+        for k in order {
+            if r.one_in(5) {
+                let mut foreign = page(reference::RP2040, n, 0);
+                foreign[508] ^= r.below(2) as u8;
+                let answer = pair.take(&foreign);
+                assert!((4..=11).contains(&answer));
+            }
+            let whole = seen.iter().all(|&s| s);
+            seen[k] = true;
+            let completes = !whole && seen.iter().all(|&s| s);
+            assert_eq!(pair.take(&file[k]) == 15, completes);
+        }
+        for (k, a) in file.iter().enumerate() {
+            assert_eq!(pair.ours[0][k * 256..][..256], a[32..288]);
+        }
+    }
+}
+
+/// The longest file there is, shuffled, in the largest flash.
+#[test]
+fn longest_file_agrees() {
+    let mut r = Random(5);
+    let n = 131_072;
+    let mut order: Vec<u32> = (0..n).collect();
+    r.shuffle(&mut order);
+    let settings = Settings {
+        arm: true,
+        riscv: true,
+        current: reference::Arch::RiscV,
+        auto_switch: true,
+        absolute: true,
+        count: 0,
+        table: [reference::Entry::EMPTY; 16],
+    };
+    let p = proved_settings(&settings);
+    let mut buffers = [vec![7; 33_554_432], vec![9; 16_384], vec![9; 1024]];
+    let mut transfer = proved::Transfer::Idle;
+    for (i, &k) in order.iter().enumerate() {
+        let [flash, seen, sectors] = &mut buffers;
+        let a = page(reference::DATA, n, k);
+        let got = proved::receive(&p, transfer, &a, flash, seen, sectors);
+        assert_eq!(got.answer, if i + 1 == n as usize { 15 } else { 14 });
+        transfer = got.transfer;
+    }
+    assert!(buffers[1].iter().chain(&buffers[2]).all(|&b| b == 0xFF));
+    for k in 0..n {
+        let a = page(reference::DATA, n, k);
+        assert!(buffers[0][k as usize * 256..][..256] == a[32..288]);
+    }
+}

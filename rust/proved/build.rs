@@ -1,0 +1,14 @@
+//! Links target/staticlib/libcapi.a, which `rt staticlib capi` writes.
+
+use std::path::Path;
+
+fn main() {
+    let here = std::env::var("CARGO_MANIFEST_DIR").expect("cargo sets it");
+    let folder = Path::new(&here).join("../../target/staticlib");
+    println!("cargo:rustc-link-search=native={}", folder.display());
+    println!("cargo:rustc-link-lib=static=capi");
+    println!(
+        "cargo:rerun-if-changed={}",
+        folder.join("libcapi.a").display()
+    );
+}

@@ -1,0 +1,279 @@
+//! The UF2 side of the update receiver, written from the papers alone so that
+//! it can be compared with another implementation.
+//!
+//! Each arrival gets one of the answers 1 to 15 of document 01. Every function
+//! is total: no input makes it panic, and a refusal leaves what was lent as is.
+
+mod place;
+
+#[cfg(test)]
+mod tests;
+
+pub use place::{
+    ask_place, place_of, settings_good, Arch, Entry, Link, Settings, ABSOLUTE, ARM_NS, ARM_S, DATA,
+    MAX_ENTRIES, MAX_USERS, RISCV, RP2040,
+};
+
+pub const ARRIVAL_LEN: usize = 512;
+pub const PAYLOAD_LEN: usize = 256;
+pub const SECTOR_LEN: usize = 4096;
+pub const MAX_FLASH_LEN: usize = 33_554_432;
+pub const SEEN_LEN: usize = 16_384;
+pub const SECTORS_LEN: usize = 1024;
+/// The largest total: the payloads that fill the largest flash.
+pub const MAX_TOTAL: u32 = 131_072;
+/// The block address that means the start of the place.
+pub const WINDOW: u32 = 0x1000_0000;
+
+pub const BAD_BUFFERS: u8 = 1;
+pub const BAD_SETTINGS: u8 = 2;
+pub const BAD_STATE: u8 = 3;
+pub const NOT_BLOCK: u8 = 4;
+pub const CONTAINER: u8 = 5;
+pub const COMMENT: u8 = 6;
+pub const NO_FAMILY: u8 = 7;
+pub const NO_PLACE: u8 = 8;
+pub const BAD_PAYLOAD: u8 = 9;
+pub const BAD_NUMBERS: u8 = 10;
+pub const BAD_ADDRESS: u8 = 11;
+pub const FINISHED: u8 = 12;
+pub const AGAIN: u8 = 13;
+pub const WRITTEN: u8 = 14;
+pub const COMPLETED: u8 = 15;
+
+const MAGIC_FIRST: u32 = 0x0A32_4655;
+const MAGIC_SECOND: u32 = 0x9E5D_5157;
+const MAGIC_LAST: u32 = 0x0AB1_6F30;
+
+const FLAG_NOT_MAIN_FLASH: u32 = 0x1;
+const FLAG_CONTAINER: u32 = 0x1000;
+const FLAG_FAMILY: u32 = 0x2000;
+
+/// How far the transfer is; `count` is the number of different blocks stored.
+#[derive(Clone, Copy, PartialEq, Eq, Debug)]
+pub enum Transfer {
+    Idle,
+    Running { family: u32, total: u32, count: u32 },
+    Done { family: u32, total: u32 },
+}
+
+/// What comes back with each arrival.
+#[derive(Clone, Copy, PartialEq, Eq, Debug)]
+pub struct Outcome {
+    pub transfer: Transfer,
+    pub answer: u8,
+    pub discarded: bool,
+}
+
+/// The fields of an arrival whose three magic numbers are right.
+struct Block<'a> {
+    flags: u32,
+    address: u32,
+    size: u32,
+    number: u32,
+    total: u32,
+    family: u32,
+    payload: &'a [u8],
+}
+
+type Arrival = [u8; ARRIVAL_LEN];
+type SeenMap = [u8; SEEN_LEN];
+type SectorMap = [u8; SECTORS_LEN];
+
+/// Takes one arrival: judges it, and stores its payload if nothing refuses it.
+pub fn receive(
+    s: &Settings,
+    t: Transfer,
+    arrival: &[u8],
+    flash: &mut [u8],
+    seen: &mut [u8],
+    sectors: &mut [u8],
+) -> Outcome {
+    let refused = |answer| Outcome {
+        transfer: t,
+        answer,
+        discarded: false,
+    };
+    if !flash_len_good(flash.len()) {
+        return refused(BAD_BUFFERS);
+    }
+    let Ok(arrival) = <&Arrival>::try_from(arrival) else {
+        return refused(BAD_BUFFERS);
+    };
+    let Ok(seen) = <&mut SeenMap>::try_from(seen) else {
+        return refused(BAD_BUFFERS);
+    };
+    let Ok(sectors) = <&mut SectorMap>::try_from(sectors) else {
+        return refused(BAD_BUFFERS);
+    };
+    match judge(s, t, arrival, flash.len(), seen) {
+        Ok((block, storage)) => accept(t, &block, storage, flash, seen, sectors),
+        Err(answer) => refused(answer),
+    }
+}
+
+fn flash_len_good(flash_len: usize) -> bool {
+    (SECTOR_LEN..=MAX_FLASH_LEN).contains(&flash_len) && flash_len.is_multiple_of(SECTOR_LEN)
+}
+
+/// Rows 2 to 13 in order: the block with its storage address, or the refusal.
+fn judge<'a>(
+    s: &Settings,
+    t: Transfer,
+    arrival: &'a Arrival,
+    flash_len: usize,
+    seen: &SeenMap,
+) -> Result<(Block<'a>, usize), u8> {
+    if !settings_good(s, flash_len) {
+        return Err(BAD_SETTINGS);
+    }
+    if !state_good(t) {
+        return Err(BAD_STATE);
+    }
+    let block = read_block(arrival).ok_or(NOT_BLOCK)?;
+    check_flags(block.flags)?;
+    let (start, len) = place_of(s, flash_len, block.family).ok_or(NO_PLACE)?;
+    let offset = check_fit(&block, len)?;
+    if matches!(t, Transfer::Done { .. }) {
+        return Err(FINISHED);
+    }
+    let continues = counted(t, block.family, block.total).is_some();
+    if continues && marked(seen, block.number as usize) {
+        return Err(AGAIN);
+    }
+    Ok((block, start + offset))
+}
+
+fn state_good(t: Transfer) -> bool {
+    match t {
+        Transfer::Idle => true,
+        Transfer::Running { total, count, .. } => 1 <= count && count < total && total <= MAX_TOTAL,
+        Transfer::Done { total, .. } => (1..=MAX_TOTAL).contains(&total),
+    }
+}
+
+fn read_block(arrival: &Arrival) -> Option<Block<'_>> {
+    let field = |at: usize| {
+        u32::from_le_bytes([
+            arrival[at],
+            arrival[at + 1],
+            arrival[at + 2],
+            arrival[at + 3],
+        ])
+    };
+    if field(0) != MAGIC_FIRST || field(4) != MAGIC_SECOND || field(508) != MAGIC_LAST {
+        return None;
+    }
+    Some(Block {
+        flags: field(8),
+        address: field(12),
+        size: field(16),
+        number: field(20),
+        total: field(24),
+        family: field(28),
+        payload: &arrival[32..32 + PAYLOAD_LEN],
+    })
+}
+
+/// Rows 5 to 7. A container is one whether or not it is also a comment.
+fn check_flags(flags: u32) -> Result<(), u8> {
+    if flags & FLAG_CONTAINER != 0 {
+        Err(CONTAINER)
+    } else if flags & FLAG_NOT_MAIN_FLASH != 0 {
+        Err(COMMENT)
+    } else if flags & FLAG_FAMILY == 0 {
+        Err(NO_FAMILY)
+    } else {
+        Ok(())
+    }
+}
+
+/// Rows 9 to 11: the payload's offset in a place of `len` bytes.
+fn check_fit(block: &Block, len: usize) -> Result<usize, u8> {
+    // 64 bits, since products and sums of the fields may pass 32.
+    let len = len as u64;
+    let size = PAYLOAD_LEN as u64;
+    if u64::from(block.size) != size {
+        return Err(BAD_PAYLOAD);
+    }
+    let total = u64::from(block.total);
+    if total == 0 || total * size > len || block.number >= block.total {
+        return Err(BAD_NUMBERS);
+    }
+    let offset = block.address.checked_sub(WINDOW).ok_or(BAD_ADDRESS)?;
+    // WINDOW is itself a multiple of 256, so offset and address agree on that.
+    if u64::from(offset) % size != 0 || u64::from(offset) + size > len {
+        return Err(BAD_ADDRESS);
+    }
+    Ok(offset as usize)
+}
+
+/// Rows 14 and 15, for a block that `judge` let through.
+fn accept(
+    t: Transfer,
+    block: &Block,
+    storage: usize,
+    flash: &mut [u8],
+    seen: &mut SeenMap,
+    sectors: &mut SectorMap,
+) -> Outcome {
+    let continued = counted(t, block.family, block.total);
+    if continued.is_none() {
+        seen.fill(0);
+        sectors.fill(0);
+    }
+    store(block.payload, storage, flash, sectors);
+    mark(seen, block.number as usize);
+    let (transfer, answer) = advance(block, continued.unwrap_or(0) + 1);
+    Outcome {
+        transfer,
+        answer,
+        discarded: continued.is_none() && matches!(t, Transfer::Running { .. }),
+    }
+}
+
+/// The count of a transfer that a block of this family and total goes on with.
+fn counted(t: Transfer, family: u32, total: u32) -> Option<u32> {
+    match t {
+        Transfer::Running {
+            family: f,
+            total: n,
+            count,
+        } if (f, n) == (family, total) => Some(count),
+        _ => None,
+    }
+}
+
+/// The transfer and the answer after the block as the `count`th one stored.
+fn advance(block: &Block, count: u32) -> (Transfer, u8) {
+    let (family, total) = (block.family, block.total);
+    if count < total {
+        let running = Transfer::Running {
+            family,
+            total,
+            count,
+        };
+        (running, WRITTEN)
+    } else {
+        (Transfer::Done { family, total }, COMPLETED)
+    }
+}
+
+/// Stores the payload, erasing its sector only the first time it is touched.
+fn store(payload: &[u8], storage: usize, flash: &mut [u8], sectors: &mut SectorMap) {
+    let sector = storage / SECTOR_LEN;
+    if !marked(sectors, sector) {
+        flash[sector * SECTOR_LEN..(sector + 1) * SECTOR_LEN].fill(0xFF);
+        mark(sectors, sector);
+    }
+    flash[storage..storage + PAYLOAD_LEN].copy_from_slice(payload);
+}
+
+/// Bits are counted from the most significant of each byte.
+fn marked(map: &[u8], k: usize) -> bool {
+    map[k / 8] & (0x80 >> (k % 8)) != 0
+}
+
+fn mark(map: &mut [u8], k: usize) {
+    map[k / 8] |= 0x80 >> (k % 8);
+}
