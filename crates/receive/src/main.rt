@@ -23,7 +23,8 @@ fn print_state(transfer: Transfer) {
     io::write_all(STDOUT_FILENO, &text[..n]);
 }
 
-// Reads one piece and answers it. A short piece is the last: `read_full` stops short only where the input ends or a read fails.
+// Reads one piece and answers it. A short piece is answered as an arrival of a wrong length, and is the last: `read_full` stops short only
+// where the input ends or a read fails.
 fn turn(
     settings: Settings,
     transfer: Transfer,
@@ -50,7 +51,8 @@ fn turn(
     }
 }
 
-// Answers every piece of the input. The bound on the index lets the proof see that the loop ends; no input is so long.
+// Answers every piece of the input. The loop has a bound so that its end can be proved: after 2 ^ 64 - 1 pieces, more than any input has,
+// the rest would be left unread.
 fn run(flash: &mut [u8], seen: &mut [u8], sectors: &mut [u8]) -> Transfer {
     let settings = Settings::arm_only(true);
     let mut transfer = Transfer::new();
