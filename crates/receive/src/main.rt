@@ -3,7 +3,6 @@
 use libc::STDIN_FILENO;
 use libc::STDOUT_FILENO;
 use settings::Settings;
-use transfer::State;
 use transfer::Transfer;
 
 // One turn: the transfer after it, and whether the input may hold more.
@@ -13,43 +12,19 @@ struct Turned {
 }
 
 fn print_answer(index: u64, answer: u8, discarded: bool) {
-    io::print_decimal(STDOUT_FILENO, index);
-    io::write_all(STDOUT_FILENO, b" ");
-    io::print_decimal(STDOUT_FILENO, answer as u64);
-    if discarded {
-        io::write_all(STDOUT_FILENO, b" 1\n");
-    } else {
-        io::write_all(STDOUT_FILENO, b" 0\n");
-    }
-}
-
-fn print_counts(total: u32, seen: u32) {
-    io::write_all(STDOUT_FILENO, b" total ");
-    io::print_decimal(STDOUT_FILENO, total as u64);
-    io::write_all(STDOUT_FILENO, b" seen ");
-    io::print_decimal(STDOUT_FILENO, seen as u64);
-    io::write_all(STDOUT_FILENO, b"\n");
+    let mut text = [0u8; 80];
+    let n = lines::answer_line(&mut text, index, answer, discarded);
+    io::write_all(STDOUT_FILENO, &text[..n]);
 }
 
 fn print_state(transfer: Transfer) {
-    let state = transfer.state;
-    match state {
-        State::Idle => {
-            io::write_all(STDOUT_FILENO, b"state idle");
-            print_counts(0, 0);
-        }
-        State::Running(run) => {
-            io::write_all(STDOUT_FILENO, b"state running");
-            print_counts(run.head.total, run.count);
-        }
-        State::Done(head) => {
-            io::write_all(STDOUT_FILENO, b"state done");
-            print_counts(head.total, head.total);
-        }
-    }
+    let mut text = [0u8; 80];
+    let n = lines::state_line(&mut text, transfer);
+    io::write_all(STDOUT_FILENO, &text[..n]);
 }
 
-// Reads one piece and answers it. A short piece is the last: `read_full` stops short only where the input ends or a read fails.
+// Reads one piece and answers it. A short piece is answered as an arrival of a wrong length, and is the last: `read_full` stops short only
+// where the input ends or a read fails.
 fn turn(
     settings: Settings,
     transfer: Transfer,
@@ -76,7 +51,8 @@ fn turn(
     }
 }
 
-// Answers every piece of the input. The bound on the index lets the proof see that the loop ends; no input is so long.
+// Answers every piece of the input. The loop has a bound so that its end can be proved: after 2 ^ 64 - 1 pieces, more than any input has,
+// the rest would be left unread.
 fn run(flash: &mut [u8], seen: &mut [u8], sectors: &mut [u8]) -> Transfer {
     let settings = Settings::arm_only(true);
     let mut transfer = Transfer::new();

@@ -1,5 +1,5 @@
 -- One arrival by cases, in the shape of the code's returns. Assumes nothing.
-use mathlib.Core.Path.{_≡_, refl, sym, ap, _∙_}
+use mathlib.Core.Path.{_≡_, sym, ap, _∙_}
 use mathlib.Core.Bool.{Bool, true, false}
 use mathlib.Core.List.{List}
 use Prim.Native.Nat.{ℕ, _/_}
@@ -17,7 +17,6 @@ use Rattle.transfer.specs.declared.Answer.{Answer}
 use Rattle.transfer.specs.declared.Answer.the-variants.{BadBuffers, BadSettings, BadState}
 use Rattle.screen.specs.Screen.{screenOf}
 use Rattle.screen.specs.declared.Page.{Page}
-use Rattle.screen.specs.declared.Screened.{Screened}
 use Rattle.screen.specs.declared.Screened.the-variants.{Refused, Passed}
 use Rattle.arrival.specs.Arrive.{Outcome, rightLengths, stepped, looked, decide, clearedIf, wipedIf, preparedAt, pagedAt, tookOf, stays, takes, done, receiveOf}
 use Rattle.receiver.specs.Receiver.{held, world, refusal, outcome}

@@ -1,6 +1,6 @@
 -- The screening by cases: the header, the place, and a block beside its place. Assumes nothing.
-use mathlib.Core.Path.{_≡_, refl, sym, ap, _∙_}
-use mathlib.Core.Bool.{Bool, true, false, _||_, not}
+use mathlib.Core.Path.{_≡_, sym}
+use mathlib.Core.Bool.{true, false, _||_, not}
 use mathlib.Core.List.{List, [], _∷_}
 use mathlib.Core.Logic.{_≢_, ⊎-elim}
 use types.Run.{OneOf}
@@ -8,7 +8,7 @@ use denote.Enum.Declared.{tagOf}
 use Prim.Native.Nat.{ℕ, _+_, _-_, _*_, _%_, _<_, _≤_}
 use native.Mathlib.Omega.{arith}
 use lib.Dec.{ltb, leb, eqb}
-use borrow.Author.Tests.{lt-ltb, le-ltb, lt-leb, eq-eqb, ne-eqb, ltb-false, leb-false, eqb-true, eqb-false, not-false}
+use borrow.Author.Tests.{le-ltb, lt-leb, eq-eqb, ne-eqb, ltb-false, leb-false, eqb-true, eqb-false, not-false}
 use Rattle.sets.proofs.Tests.{split, or-left, or-right}
 use Rattle.block.proofs.Header.{the-type}
 use Rattle.block.specs.Block.{headerOf}

@@ -1,16 +1,16 @@
 -- A taken block and a step of a transfer by cases. Assumes nothing.
-use mathlib.Core.Path.{_≡_, refl}
+use mathlib.Core.Path.{_≡_}
 use mathlib.Core.Bool.{Bool, true, false}
 use Prim.Native.Nat.{ℕ, _+_, _<_, _≤_}
 use borrow.Author.Tests.{lt-ltb, le-ltb}
-use Rattle.transfer.specs.Transfer.{running, goodState, sameHead, counted, raised, taken, stepOf}
+use Rattle.transfer.specs.Transfer.{running, sameHead, counted, raised, taken, stepOf}
 use Rattle.transfer.specs.declared.Head.{Head}
 use Rattle.transfer.specs.declared.Run.{Run}
 use Rattle.transfer.specs.declared.State.{State}
-use Rattle.transfer.specs.declared.State.the-variants.{Idle, Running, Done}
+use Rattle.transfer.specs.declared.State.the-variants.{Running, Done}
 use Rattle.transfer.specs.declared.Taken.{Taken}
 use Rattle.transfer.specs.declared.Answer.{Answer}
-use Rattle.transfer.specs.declared.Answer.the-variants.{Finished, Again, Written, Completed}
+use Rattle.transfer.specs.declared.Answer.the-variants.{Again, Written, Completed}
 use Rattle.transfer.specs.declared.Step.the-variants.{Stays, Takes}
 
 -- ---- a block that is taken

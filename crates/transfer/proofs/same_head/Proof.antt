@@ -1,7 +1,6 @@
 -- `transfer::same_head` meets its contract. Assumes nothing.
 use mathlib.Core.Path.{refl}
 use Rattle.transfer.specs.Transfer.{sameHead}
-use borrow.Author.Needs.{needs}
 use Rattle.transfer.proofs.same_head.Statement.{statement}
 use Rattle.transfer.proofs.same_head.Tie as tie
 

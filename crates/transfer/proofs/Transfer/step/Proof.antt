@@ -1,6 +1,6 @@
 -- `transfer::Transfer::step` meets its contract. Assumes nothing.
 use Rattle.transfer.specs.Transfer.{stepOf}
-use mathlib.Core.Path.{sym, ap, _∙_}
+use mathlib.Core.Path.{ap}
 use Rattle.transfer.specs.declared.Step.the-variants.{Takes}
 use borrow.Author.Needs.{needs}
 use Rattle.transfer.proofs.Transfer.step.Statement.{statement}

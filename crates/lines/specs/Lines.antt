@@ -1,0 +1,66 @@
+-- The program's lines of text (01, "Examples to compute with"), in ASCII. Assumes nothing.
+use Prim.Native.Nat.{ℕ, zero, suc, _+_, _/_, _%_}
+use mathlib.Core.Bool.{Bool, cond}
+use mathlib.Core.List.{List, [], _∷_, _++_}
+use lib.Dec.{ltb}
+use lib.ListN.{length, take, drop}
+use Rattle.transfer.specs.declared.State.{State}
+use Rattle.transfer.specs.declared.State.the-variants.{Idle, Running, Done}
+
+-- the last digit of a number
+abbrev pub digit : ℕ → ℕ
+digit n = 48 + n % 10
+
+-- a number in decimal, of at most so many digits
+unfoldable pub decimalBy : ℕ → ℕ → List ℕ
+decimalBy zero n = []
+decimalBy (suc most) n = cond (ltb n 10) (digit n ∷ []) (decimalBy most (n / 10) ++ (digit n ∷ []))
+
+-- a number of 64 bits in decimal, which has at most 20 digits
+unfoldable pub decimalOf : ℕ → List ℕ
+decimalOf n = decimalBy 20 n
+
+-- ---- the line of an answer: "0 14 0"
+
+abbrev pub flagText : Bool → List ℕ
+flagText b = 32 ∷ cond b 49 48 ∷ 10 ∷ []
+
+unfoldable pub answerLine : ℕ → ℕ → Bool → List ℕ
+answerLine index answer discarded = decimalOf index ++ (32 ∷ []) ++ decimalOf answer ++ flagText discarded
+
+-- ---- the last line: "state done total 2 seen 2"
+
+-- "state idle", "state running", "state done"
+abbrev pub stateName : State → List ℕ
+stateName Idle = 115 ∷ 116 ∷ 97 ∷ 116 ∷ 101 ∷ 32 ∷ 105 ∷ 100 ∷ 108 ∷ 101 ∷ []
+stateName (Running r) = 115 ∷ 116 ∷ 97 ∷ 116 ∷ 101 ∷ 32 ∷ 114 ∷ 117 ∷ 110 ∷ 110 ∷ 105 ∷ 110 ∷ 103 ∷ []
+stateName (Done g) = 115 ∷ 116 ∷ 97 ∷ 116 ∷ 101 ∷ 32 ∷ 100 ∷ 111 ∷ 110 ∷ 101 ∷ []
+
+abbrev pub stateTotal : State → ℕ
+stateTotal Idle = 0
+stateTotal (Running r) = r .head .total
+stateTotal (Done g) = g .total
+
+abbrev pub stateSeen : State → ℕ
+stateSeen Idle = 0
+stateSeen (Running r) = r .count
+stateSeen (Done g) = g .total
+
+-- the name, " total ", the total, " seen ", the count, and the line's end
+unfoldable pub countsLine : List ℕ → ℕ → ℕ → List ℕ
+countsLine name total seen =
+    name
+    ++ (32 ∷ 116 ∷ 111 ∷ 116 ∷ 97 ∷ 108 ∷ 32 ∷ [])
+    ++ decimalOf total
+    ++ (32 ∷ 115 ∷ 101 ∷ 101 ∷ 110 ∷ 32 ∷ [])
+    ++ decimalOf seen
+    ++ (10 ∷ [])
+
+unfoldable pub stateLine : State → List ℕ
+stateLine s = countsLine (stateName s) (stateTotal s) (stateSeen s)
+
+-- ---- where the text goes
+
+-- xs with the bytes from `at` on replaced by t
+unfoldable pub laid : List ℕ → ℕ → List ℕ → List ℕ
+laid xs at t = take at xs ++ (t ++ drop (at + length t) xs)

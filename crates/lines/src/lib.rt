@@ -1,0 +1,78 @@
+// The program's lines of text, put at the start of a lent array.
+ghost use mathlib.Core.Path.{_≡_};
+ghost use Prim.Native.Nat.{_+_, _≤_};
+ghost use mathlib.Core.Bool.{cond};
+ghost use lib.ListN.{length};
+ghost use Rattle.io.specs.Counts.{Counts};
+ghost use Rattle.lines.specs.Lines.{decimalOf, answerLine, countsLine, stateLine, laid};
+use transfer::State;
+use transfer::Transfer;
+
+// Puts a part at an index, and answers the index after it.
+fn put(out: &mut [u8], at: usize, part: &[u8]) -> usize
+    requires { ⌜ at + length (now part) ≤ length (now out) ⌝ }
+    ensures { λ r. ⌜ r ≡ at + length (now (part .entry)) ⌝ }
+    ensures { λ _. ⌜ now (out .exit) ≡ laid (now (out .entry)) at (now (part .entry)) ⌝ }
+{
+    let e = at + part.len();
+    bytes::copy(part, &mut out[at..e]);
+    e
+}
+
+fn put_decimal(out: &mut [u8], at: usize, n: u64) -> usize
+    requires { ⌜ at + 20 ≤ length (now out) ⌝ }
+    ensures { λ r. ⌜ r ≡ at + length (decimalOf n) ⌝ }
+    ensures { λ _. ⌜ now (out .exit) ≡ laid (now (out .entry)) at (decimalOf n) ⌝ }
+{
+    let mut text = [0u8; 20];
+    let k = io::decimal(n, &mut text);
+    put(out, at, &text[..k])
+}
+
+fn flag(b: bool) -> u8
+    ensures { λ r. ⌜ r ≡ cond b 49 48 ⌝ }
+{
+    if b { 49 } else { 48 }
+}
+
+// The line of an answer.
+pub fn answer_line(out: &mut [u8; 80], index: u64, answer: u8, discarded: bool) -> usize
+    ensures { λ r. ⌜ r ≡ length (answerLine index answer discarded) ⌝ }
+    ensures { λ _. ⌜ now (out .exit) ≡ laid (now (out .entry)) 0 (answerLine index answer discarded) ⌝ }
+    ensures { λ r. ⌜ Counts r (now (out .exit)) ⌝ }
+{
+    let text = [b' ', flag(discarded), b'\n'];
+    let a = put_decimal(out, 0, index);
+    let b = put(out, a, b" ");
+    let c = put_decimal(out, b, answer as u64);
+    put(out, c, &text)
+}
+
+// The last line, by the state's name and its two numbers.
+fn counts_line(out: &mut [u8; 80], name: &[u8], total: u32, seen: u32) -> usize
+    requires { ⌜ length (now name) ≤ 20 ⌝ }
+    ensures { λ r. ⌜ r ≡ length (countsLine (now (name .entry)) total seen) ⌝ }
+    ensures { λ _. ⌜ now (out .exit) ≡ laid (now (out .entry)) 0 (countsLine (now (name .entry)) total seen) ⌝ }
+    ensures { λ r. ⌜ Counts r (now (out .exit)) ⌝ }
+{
+    let a = put(out, 0, name);
+    let b = put(out, a, b" total ");
+    let c = put_decimal(out, b, total as u64);
+    let d = put(out, c, b" seen ");
+    let e = put_decimal(out, d, seen as u64);
+    put(out, e, b"\n")
+}
+
+// The last line.
+pub fn state_line(out: &mut [u8; 80], transfer: Transfer) -> usize
+    ensures { λ r. ⌜ r ≡ length (stateLine (transfer .state)) ⌝ }
+    ensures { λ _. ⌜ now (out .exit) ≡ laid (now (out .entry)) 0 (stateLine (transfer .state)) ⌝ }
+    ensures { λ r. ⌜ Counts r (now (out .exit)) ⌝ }
+{
+    let state = transfer.state;
+    match state {
+        State::Idle => counts_line(out, b"state idle", 0, 0),
+        State::Running(run) => counts_line(out, b"state running", run.head.total, run.count),
+        State::Done(head) => counts_line(out, b"state done", head.total, head.total),
+    }
+}
