@@ -1,9 +1,10 @@
 -- Every example of the table holds: one equation, computed. Assumes nothing.
 use mathlib.Core.Path.{refl}
 use Rattle.fill.specs.Many.{many}
+use Rattle.sets.specs.Over.{over}
 use Rattle.sets.specs.Sets.{any}
 use Rattle.bitmap.specs.Bitmap.{bit, withBit, markedIn, withMark, unmarked}
-use Rattle.flash.specs.Flash.{flashLength, over, eraseAt, payloadOf, storeAt}
+use Rattle.flash.specs.Flash.{flashLength, eraseAt, payloadOf, storeAt}
 use Rattle.block.specs.Block.{fieldAt, fieldsOf, flaggedOf, headerOf}
 use Rattle.settings.specs.Settings.{hasUser, accepts, overlap, overlapAt, sharesSector, reservedUser, badEntry, goodSettings}
 use Rattle.place.specs.Place.{wantedOf, passAllows, passTakes, firstOf, entryIf, inPass, chosen, chosenEntry, placeOf}

@@ -3,9 +3,10 @@ use Prim.Native.Nat.{ℕ, zero, suc, _+_, _*_, _≤_, _<_}
 use mathlib.Core.Path.{_≡_, refl}
 use native.Mathlib.Omega.{arith}
 use Rattle.fill.specs.Many.{many}
+use Rattle.sets.specs.Over.{over}
 use Rattle.sets.specs.Sets.{any, size}
 use Rattle.bitmap.specs.Bitmap.{bit, withBit, markedIn, withMark, unmarked}
-use Rattle.flash.specs.Flash.{flashLength, over, eraseAt, payloadOf, storeAt}
+use Rattle.flash.specs.Flash.{flashLength, eraseAt, payloadOf, storeAt}
 use Rattle.block.specs.Block.{fieldAt, fieldsOf, flaggedOf, headerOf}
 use Rattle.settings.specs.Settings.{familyArmS, hasUser, accepts, overlap, overlapAt, sharesSector, reservedUser, badEntry, goodSettings}
 use Rattle.place.specs.Place.{placeOf}

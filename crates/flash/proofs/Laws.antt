@@ -3,19 +3,20 @@
 use mathlib.Core.Path.{_≡_, refl, sym, ap, _∙_}
 use mathlib.Core.Bool.{Bool, true, false, _&&_, cond, and-false}
 use mathlib.Core.Logic.{_≢_}
-use mathlib.Core.List.{List, _++_, append-nil}
+use mathlib.Core.List.{List, _++_}
 use Prim.Native.Nat.{ℕ, _+_, _-_, _*_, _/_, _%_, _<_, _≤_}
 use native.Mathlib.Omega.{arith}
-use lib.ListN.{length, getD, take, drop, length-take, length-drop, drop-of-length-le}
-use lib.Seq.{getD-take, getD-drop, take-length}
+use lib.ListN.{length, getD, take, drop, length-take, length-drop}
+use lib.Seq.{getD-take, getD-drop}
 use lib.Dec.{eqb, ltb, leb}
 use borrow.Rule.Slice.PartMut.{putMid}
 use borrow.Author.Tests.{lt-ltb, le-ltb, le-leb, lt-leb, eq-eqb, ne-eqb, ltb-true, ltb-false, leb-true, leb-false, eqb-true, eqb-false}
+use Rattle.sets.specs.Over.{over}
+use Rattle.sets.proofs.OverLaws.{length-over, over-inside, over-before, over-after, put-over, copied-over}
 use Rattle.sets.proofs.Tests.{split, and-left, and-right, is-false}
 use Rattle.fill.specs.Many.{many}
 use Rattle.fill.proofs.Laws.{length-many, getD-many}
-use Rattle.flash.specs.Flash.{flashLength, over, eraseAt, payloadOf, spans, roomAt, storeAt}
-use Rattle.flash.proofs.Over.{length-over, over-inside, over-before, over-after, put-over}
+use Rattle.flash.specs.Flash.{flashLength, eraseAt, payloadOf, spans, roomAt, storeAt}
 
 -- ---- the length
 
@@ -168,9 +169,4 @@ pub stored : (at : ℕ) (f a ys : List ℕ) → 288 ≤ length a → at + 256 �
 unfolding payloadOf
 stored at f a ys h l e =
     let n : length (payloadOf a) ≡ 256 = length-payload a h in
-    let m : length (take (at + 256 - at) (drop at f)) ≤ length (payloadOf a) = rw n (simp (length-take, length-drop) (omega arith)) in
-    let y : ys ≡ payloadOf a = e ∙ copied (payloadOf a) (take (at + 256 - at) (drop at f)) m in
-    put-over at 256 f ys (rw y n) ∙ rw y (sym (store-in f at (payloadOf a) (room-yes f at (payloadOf a) n l)))
-  where
-    copied : (s t : List ℕ) → length t ≤ length s → take (length s) s ++ drop (length s) t ≡ s
-    copied s t l = rw (take-length s, drop-of-length-le t l) (append-nil s)
+    copied-over at 256 f (payloadOf a) ys n l e ∙ sym (store-in f at (payloadOf a) (room-yes f at (payloadOf a) n l))

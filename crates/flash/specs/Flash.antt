@@ -1,18 +1,15 @@
 -- What reads and writes of the flash mean. Assumes nothing.
 use Prim.Native.Nat.{ℕ, _+_, _*_, _/_, _%_}
 use mathlib.Core.Bool.{Bool, _&&_, cond}
-use mathlib.Core.List.{List, _++_}
+use mathlib.Core.List.{List}
 use lib.ListN.{length, take, drop}
 use lib.Dec.{eqb, ltb, leb}
 use Rattle.fill.specs.Many.{many}
+use Rattle.sets.specs.Over.{over}
 
 -- 01, "Sizes": flash, "multiple of 4,096, from 4,096 to 33,554,432"
 unfoldable pub flashLength : ℕ → Bool
 flashLength n = eqb (n % 4096) 0 && leb 4096 n && leb n 33554432
-
--- d with the bytes from `at` on replaced by s
-unfoldable pub over : List ℕ → ℕ → List ℕ → List ℕ
-over d at s = take at d ++ (s ++ drop (at + length s) d)
 
 -- "all its 4,096 bytes become 0xFF", of a sector of the flash; past the end nothing changes
 unfoldable pub eraseAt : List ℕ → ℕ → List ℕ

@@ -1,62 +1,44 @@
 -- A text that grows at the start of a list, and `io`'s decimal digits as `decimalOf` has them. Assumes nothing.
 use mathlib.Core.Path.{_≡_, refl, sym, ap, _∙_}
 use mathlib.Core.Bool.{Bool, true, false, cond}
-use mathlib.Core.List.{List, [], _∷_, _++_, append-nil, append-assoc}
+use mathlib.Core.List.{List, [], _∷_, _++_, append-assoc}
 use Prim.Native.Nat.{ℕ, zero, suc, _+_, _-_, _/_, _%_, _^_, _<_, _≤_}
 use native.Mathlib.Nat.{pow-le-pow-right}
 use native.Mathlib.Omega.{arith}
 use lib.Dec.{ltb}
-use lib.ListN.{length, take, drop, length-append, length-take, length-drop, drop-of-length-le}
-use lib.Seq.{take-length, length-take-le, take-at, drop-drop, drop-append-add}
-use borrow.Rule.Slice.PartMut.{putMid}
+use lib.ListN.{length, take, drop, length-append}
+use lib.Seq.{length-take-le, take-at, drop-drop, drop-append-add}
 use borrow.Author.Tests.{lt-ltb, le-ltb, ltb-true, ltb-false}
+use Rattle.sets.specs.Over.{over}
 use Rattle.sets.proofs.Tests.{split}
 use Rattle.io.specs.Counts.{Counts}
 use Rattle.io.specs.Digits.{glyph, digits, Fewest}
-use Rattle.lines.specs.Lines.{digit, decimalBy, decimalOf, laid}
-
--- ---- a part that was copied into its place
-
-copied : (s t : List ℕ) → length t ≤ length s → take (length s) s ++ drop (length s) t ≡ s
-copied s t l = rw (take-length s, drop-of-length-le t l) (append-nil s)
-
-pub part-laid : (a : ℕ) (xs p ys : List ℕ) → a + length p ≤ length xs
-    → ys ≡ take (length p) p ++ drop (length p) (take (a + length p - a) (drop a xs)) → putMid a (a + length p - a) xs ys ≡ laid xs a p
-unfolding laid
-part-laid a xs p ys l e =
-    let h : a + length p - a ≡ length p = omega arith in
-    let m : length (take (a + length p - a) (drop a xs)) ≤ length p = simp (length-take, length-drop) (omega arith) in
-    let y : ys ≡ p = e ∙ copied p (take (a + length p - a) (drop a xs)) m in
-    rw (y, h, drop-drop (length p) a xs)
+use Rattle.lines.specs.Lines.{digit, decimalBy, decimalOf}
 
 -- ---- a text that grows
 
-pub length-laid : (xs : List ℕ) (at : ℕ) (t : List ℕ) → at + length t ≤ length xs → length (laid xs at t) ≡ length xs
-unfolding laid
-length-laid xs at t l = simp (length-append, length-take, length-drop) (omega arith)
-
-laid-more : (xs t p : List ℕ) → laid (laid xs 0 t) (length t) p ≡ laid xs 0 (t ++ p)
-unfolding laid
-laid-more xs t p =
+over-more : (xs t p : List ℕ) → over (over xs 0 t) (length t) p ≡ over xs 0 (t ++ p)
+unfolding over
+over-more xs t p =
     let d = drop (0 + length t) xs in
     let e : 0 + length t + length p ≡ 0 + length (t ++ p) = omega (arith, length-append t p) in
     rw (take-at t d (length t) refl, drop-append-add t d (length p), drop-drop (length p) (0 + length t) xs, e) (sym (append-assoc t p _))
 
 -- the list xs with the text t in front, whose end is at e
 abbrev pub Grown : List ℕ → List ℕ → List ℕ → ℕ → Type 0
-Grown xs t ys e = (e ≡ length t) × (ys ≡ laid xs 0 t)
+Grown xs t ys e = (e ≡ length t) × (ys ≡ over xs 0 t)
 
 pub grown-none : (xs : List ℕ) → Grown xs [] xs 0
-unfolding laid
+unfolding over
 grown-none xs = (refl, refl)
 
-pub grown-more : (xs t p : List ℕ) {ys zs : List ℕ} {at e : ℕ} → Grown xs t ys at → (e ≡ at + length p) × (zs ≡ laid ys at p) → Grown xs (t ++ p) zs e
+pub grown-more : (xs t p : List ℕ) {ys zs : List ℕ} {at e : ℕ} → Grown xs t ys at → (e ≡ at + length p) × (zs ≡ over ys at p) → Grown xs (t ++ p) zs e
 grown-more xs t p g h = (
   omega (arith, g .0, h .0, length-append t p),
-  h .1 ∙ rw (g .0, g .1) (laid-more xs t p),
+  h .1 ∙ rw (g .0, g .1) (over-more xs t p),
 )
 
-pub grown-counts : (xs t : List ℕ) {ys : List ℕ} {e : ℕ} → Grown xs t ys e → e ≤ length ys → (e ≡ length t) × ((ys ≡ laid xs 0 t) × Counts e ys)
+pub grown-counts : (xs t : List ℕ) {ys : List ℕ} {e : ℕ} → Grown xs t ys e → e ≤ length ys → (e ≡ length t) × ((ys ≡ over xs 0 t) × Counts e ys)
 grown-counts xs t {ys} {e} g l = (g .0, (g .1, (l, sym (length-take-le e ys l))))
 
 -- ---- decimal digits

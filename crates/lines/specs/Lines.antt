@@ -3,7 +3,6 @@ use Prim.Native.Nat.{ℕ, zero, suc, _+_, _/_, _%_}
 use mathlib.Core.Bool.{Bool, cond}
 use mathlib.Core.List.{List, [], _∷_, _++_}
 use lib.Dec.{ltb}
-use lib.ListN.{length, take, drop}
 use Rattle.transfer.specs.declared.State.{State}
 use Rattle.transfer.specs.declared.State.the-variants.{Idle, Running, Done}
 
@@ -58,9 +57,3 @@ countsLine name total seen =
 
 unfoldable pub stateLine : State → List ℕ
 stateLine s = countsLine (stateName s) (stateTotal s) (stateSeen s)
-
--- ---- where the text goes
-
--- xs with the bytes from `at` on replaced by t
-unfoldable pub laid : List ℕ → ℕ → List ℕ → List ℕ
-laid xs at t = take at xs ++ (t ++ drop (at + length t) xs)

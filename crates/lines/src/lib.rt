@@ -4,7 +4,8 @@ ghost use Prim.Native.Nat.{_+_, _≤_};
 ghost use mathlib.Core.Bool.{cond};
 ghost use lib.ListN.{length};
 ghost use Rattle.io.specs.Counts.{Counts};
-ghost use Rattle.lines.specs.Lines.{decimalOf, answerLine, countsLine, stateLine, laid};
+ghost use Rattle.lines.specs.Lines.{decimalOf, answerLine, countsLine, stateLine};
+ghost use Rattle.sets.specs.Over.{over};
 use transfer::State;
 use transfer::Transfer;
 
@@ -12,7 +13,7 @@ use transfer::Transfer;
 fn put(out: &mut [u8], at: usize, part: &[u8]) -> usize
     requires { ⌜ at + length (now part) ≤ length (now out) ⌝ }
     ensures { λ r. ⌜ r ≡ at + length (now (part .entry)) ⌝ }
-    ensures { λ _. ⌜ now (out .exit) ≡ laid (now (out .entry)) at (now (part .entry)) ⌝ }
+    ensures { λ _. ⌜ now (out .exit) ≡ over (now (out .entry)) at (now (part .entry)) ⌝ }
 {
     let e = at + part.len();
     bytes::copy(part, &mut out[at..e]);
@@ -22,7 +23,7 @@ fn put(out: &mut [u8], at: usize, part: &[u8]) -> usize
 fn put_decimal(out: &mut [u8], at: usize, n: u64) -> usize
     requires { ⌜ at + 20 ≤ length (now out) ⌝ }
     ensures { λ r. ⌜ r ≡ at + length (decimalOf n) ⌝ }
-    ensures { λ _. ⌜ now (out .exit) ≡ laid (now (out .entry)) at (decimalOf n) ⌝ }
+    ensures { λ _. ⌜ now (out .exit) ≡ over (now (out .entry)) at (decimalOf n) ⌝ }
 {
     let mut text = [0u8; 20];
     let k = io::decimal(n, &mut text);
@@ -38,7 +39,7 @@ fn flag(b: bool) -> u8
 // The line of an answer.
 pub fn answer_line(out: &mut [u8; 80], index: u64, answer: u8, discarded: bool) -> usize
     ensures { λ r. ⌜ r ≡ length (answerLine index answer discarded) ⌝ }
-    ensures { λ _. ⌜ now (out .exit) ≡ laid (now (out .entry)) 0 (answerLine index answer discarded) ⌝ }
+    ensures { λ _. ⌜ now (out .exit) ≡ over (now (out .entry)) 0 (answerLine index answer discarded) ⌝ }
     ensures { λ r. ⌜ Counts r (now (out .exit)) ⌝ }
 {
     let text = [b' ', flag(discarded), b'\n'];
@@ -52,7 +53,7 @@ pub fn answer_line(out: &mut [u8; 80], index: u64, answer: u8, discarded: bool) 
 fn counts_line(out: &mut [u8; 80], name: &[u8], total: u32, seen: u32) -> usize
     requires { ⌜ length (now name) ≤ 20 ⌝ }
     ensures { λ r. ⌜ r ≡ length (countsLine (now (name .entry)) total seen) ⌝ }
-    ensures { λ _. ⌜ now (out .exit) ≡ laid (now (out .entry)) 0 (countsLine (now (name .entry)) total seen) ⌝ }
+    ensures { λ _. ⌜ now (out .exit) ≡ over (now (out .entry)) 0 (countsLine (now (name .entry)) total seen) ⌝ }
     ensures { λ r. ⌜ Counts r (now (out .exit)) ⌝ }
 {
     let a = put(out, 0, name);
@@ -66,7 +67,7 @@ fn counts_line(out: &mut [u8; 80], name: &[u8], total: u32, seen: u32) -> usize
 // The last line.
 pub fn state_line(out: &mut [u8; 80], transfer: Transfer) -> usize
     ensures { λ r. ⌜ r ≡ length (stateLine (transfer .state)) ⌝ }
-    ensures { λ _. ⌜ now (out .exit) ≡ laid (now (out .entry)) 0 (stateLine (transfer .state)) ⌝ }
+    ensures { λ _. ⌜ now (out .exit) ≡ over (now (out .entry)) 0 (stateLine (transfer .state)) ⌝ }
     ensures { λ r. ⌜ Counts r (now (out .exit)) ⌝ }
 {
     let state = transfer.state;

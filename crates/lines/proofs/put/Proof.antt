@@ -1,6 +1,6 @@
 -- `lines::put` meets its contract. Assumes nothing.
 use mathlib.Core.Path.{refl}
-use Rattle.lines.proofs.Laws.{part-laid}
+use Rattle.sets.proofs.OverLaws.{copied-over}
 use borrow.Author.Needs.{needs}
 use Rattle.lines.proofs.put.Statement.{statement}
 use Rattle.lines.proofs.put.Tie as tie
@@ -24,7 +24,7 @@ same-length : tie.Need-same-length
 same-length c = search needs
 
 returns : tie.Need-returns
-returns c = (refl, part-laid _ _ _ _ (c .before .before .before .before .before .before .pre) (c .before .before .copy .ensures .1))
+returns c = (refl, copied-over _ _ _ _ _ refl (c .before .before .before .before .before .before .pre) (c .before .before .copy .ensures .1))
 
 pub put-spec : {M : Type 1} → statement M
 put-spec =

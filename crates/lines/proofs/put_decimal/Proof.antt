@@ -4,7 +4,7 @@ use mathlib.Core.List.{List}
 use Prim.Native.Nat.{ℕ, _+_}
 use native.Mathlib.Omega.{arith}
 use lib.ListN.{length}
-use Rattle.lines.specs.Lines.{laid}
+use Rattle.sets.specs.Over.{over}
 use Rattle.lines.proofs.Laws.{decimal-is, decimal-short}
 use borrow.Author.Needs.{needs}
 use Rattle.lines.proofs.put_decimal.Statement.{statement}
@@ -34,7 +34,7 @@ returns c =
     let d = c .before .before .before .before .before .decimal in
     let x = c .before .before .before .before .before .before .before .before .args in
     let e = decimal-is (x .n) (d .result) (c .before .before .before .before .before .before .before .before .fits .n .fits) (d .ensures .1 .0) (d .ensures .1 .1) in
-    (c .before .before .put .ensures .0 ∙ ap (λ (t : List ℕ). x .at + length t) e, c .before .before .put .ensures .1 ∙ ap (laid _ (x .at)) e)
+    (c .before .before .put .ensures .0 ∙ ap (λ (t : List ℕ). x .at + length t) e, c .before .before .put .ensures .1 ∙ ap (over _ (x .at)) e)
 
 pub put-decimal-spec : {M : Type 1} → statement M
 put-decimal-spec =

@@ -1,12 +1,13 @@
--- A part of a list replaced: its length, and each byte of it. Assumes nothing.
+-- The laws of a part of a list replaced: its length, each element of it, and what a callee leaves in a part that it was lent.
+-- Assumes nothing.
 use mathlib.Core.Path.{_≡_, refl, sym, ap, _∙_, subst}
-use mathlib.Core.List.{List, _++_}
+use mathlib.Core.List.{List, _++_, append-nil}
 use Prim.Native.Nat.{ℕ, _+_, _-_, _<_, _≤_}
 use native.Mathlib.Omega.{arith}
-use lib.ListN.{length, getD, take, drop, length-append, length-take, length-drop, List·getD-append}
-use lib.Seq.{length-take-le, drop-drop, getD-take, getD-drop, getD-append-add}
+use lib.ListN.{length, getD, take, drop, length-append, length-take, length-drop, List·getD-append, drop-of-length-le}
+use lib.Seq.{take-length, length-take-le, drop-drop, getD-take, getD-drop, getD-append-add}
 use borrow.Rule.Slice.PartMut.{putMid}
-use Rattle.flash.specs.Flash.{over}
+use Rattle.sets.specs.Over.{over}
 
 module _ (d : List ℕ) (at : ℕ) (s : List ℕ) (fits : at + length s ≤ length d) where
   pub length-over : length (over d at s) ≡ length d
@@ -45,3 +46,14 @@ unfolding over
 put-over a n xs ys e =
     let h : a + n - a ≡ n = omega arith in
     rw (h, drop-drop n a xs, e) refl
+
+-- a source p of n elements that was copied into a part of n
+pub copied-over : (a n : ℕ) (xs p ys : List ℕ) → length p ≡ n → a + n ≤ length xs
+    → ys ≡ take (length p) p ++ drop (length p) (take (a + n - a) (drop a xs)) → putMid a (a + n - a) xs ys ≡ over xs a p
+copied-over a n xs p ys k l e =
+    let m : length (take (a + n - a) (drop a xs)) ≤ length p = simp (length-take, length-drop) (omega arith) in
+    let y : ys ≡ p = e ∙ copied p (take (a + n - a) (drop a xs)) m in
+    put-over a n xs ys (rw y k) ∙ rw y refl
+  where
+    copied : (s t : List ℕ) → length t ≤ length s → take (length s) s ++ drop (length s) t ≡ s
+    copied s t l = rw (take-length s, drop-of-length-le t l) (append-nil s)
