@@ -1,5 +1,5 @@
-//! Times the proved receiver and the plain Rust reference in one run, on the same inputs. Settings pass as words to the one and by reference
-//! to the other; what the first has to read them is part of its time.
+//! Times the proved receiver and the plain Rust reference in one run, on the same inputs. Both get the settings as words and read them: at
+//! each call where a place is asked for, once a file where arrivals are received.
 
 use std::hint::black_box;
 use std::time::Instant;
@@ -42,6 +42,45 @@ fn sixteen() -> Settings {
     settings(16, table)
 }
 
+/// The settings that words stand for, in plain Rust.
+fn read(words: &[u32]) -> Settings {
+    let mut table = [Entry::EMPTY; 16];
+    for (e, w) in table.iter_mut().zip(words[6..].chunks_exact(15)) {
+        let index = w[14].min(255) as u8;
+        *e = Entry {
+            first: w[0],
+            sectors: w[1],
+            data: w[2] != 0,
+            arm_s: w[3] != 0,
+            riscv: w[4] != 0,
+            arm_ns: w[5] != 0,
+            user_count: w[6].min(255) as u8,
+            users: [w[7], w[8], w[9], w[10]],
+            not_bootable_arm: w[11] != 0,
+            not_bootable_riscv: w[12] != 0,
+            link: match w[13] {
+                0 => Link::None,
+                1 => Link::OwnedBy(index),
+                2 => Link::BOf(index),
+                _ => Link::OwnedBy(255),
+            },
+        };
+    }
+    Settings {
+        arm: words[0] != 0,
+        riscv: words[1] != 0,
+        current: if words[2] == 0 {
+            Arch::Arm
+        } else {
+            Arch::RiscV
+        },
+        auto_switch: words[3] != 0,
+        absolute: words[4] != 0,
+        count: words[5].min(255) as u8,
+        table,
+    }
+}
+
 /// The best of several rounds of each, in turn, in nanoseconds a call.
 fn pair(name: &str, calls: usize, mut ours: impl FnMut() -> u64, mut plain: impl FnMut() -> u64) {
     let (mut a, mut b) = (f64::MAX, f64::MAX);
@@ -69,7 +108,9 @@ fn places(name: &str, s: &Settings) {
             (0..calls).map(|i| ask(i).map_or(0, |x| x.0 as u64)).sum()
         },
         || {
-            let ask = |i: usize| reference::ask_place(black_box(s), FLASH, families[i % 3]);
+            let ask = |i: usize| {
+                reference::ask_place(&read(black_box(p.words())), FLASH, families[i % 3])
+            };
             (0..calls).map(|i| ask(i).map_or(0, |x| x.0 as u64)).sum()
         },
     );
@@ -87,30 +128,26 @@ fn file(name: &str, s: &Settings, blocks: u32, shuffled: bool) {
         .collect();
     let mut ours = (vec![0; FLASH], vec![0; 16_384], vec![0; 1024]);
     let mut theirs = ours.clone();
+    let (mut results, mut plain) = (vec![0; order.len()], vec![0; order.len()]);
     pair(
         name,
         blocks as usize,
         || {
             let (flash, seen, sectors) = &mut ours;
-            let mut t = proved::Transfer::Idle;
-            let mut sum = 0;
-            for a in file.chunks_exact(512) {
-                let o = proved::receive(black_box(&p), t, a, flash, seen, sectors);
-                t = o.transfer;
-                sum += u64::from(o.answer);
-            }
-            sum
+            let t = proved::Transfer::Idle;
+            proved::receive_all(&p, t, &file, &mut results, flash, seen, sectors);
+            results.iter().map(|&r| u64::from(r)).sum()
         },
         || {
             let (flash, seen, sectors) = &mut theirs;
             let mut t = reference::Transfer::Idle;
-            let mut sum = 0;
-            for a in file.chunks_exact(512) {
-                let o = reference::receive(black_box(s), t, a, flash, seen, sectors);
+            let s = read(black_box(p.words()));
+            for (a, r) in file.chunks_exact(512).zip(&mut plain) {
+                let o = reference::receive(&s, t, a, flash, seen, sectors);
                 t = o.transfer;
-                sum += u64::from(o.answer);
+                *r = u32::from(o.answer) + 256 * u32::from(o.discarded);
             }
-            sum
+            plain.iter().map(|&r| u64::from(r)).sum()
         },
     );
 }

@@ -97,7 +97,7 @@ pub fn any_settings(r: &mut Random, flash_sectors: u64) -> Settings {
         count: 0,
         table: [Entry::EMPTY; 16],
     };
-    let used = r.of(&[0, 0, 1, 2, 3, 8, 16]) as u64;
+    let used: u64 = r.of(&[0, 0, 1, 2, 3, 8, 16]).min(flash_sectors);
     s.count = used as u8;
     let mut from = 0;
     for k in 0..used {

@@ -71,9 +71,15 @@ fn arrivals_agree() {
         let transfer = any_transfer(&mut r, sectors * 16);
         let buffers = any_buffers(&mut r, sectors);
         let mut pair = Pair::new(settings, transfer, buffers);
+        let mut sent: Vec<Vec<u8>> = Vec::new();
         for _ in 0..40 {
-            let a = any_arrival(&mut r, sectors * 16);
+            let a = if !sent.is_empty() && r.one_in(3) {
+                sent[r.below(sent.len() as u64) as usize].clone()
+            } else {
+                any_arrival(&mut r, sectors * 16)
+            };
             answers[usize::from(pair.take(&a))] += 1;
+            sent.push(a);
         }
     }
     // every answer but 1 came
@@ -139,6 +145,43 @@ fn shuffled_files_agree() {
         for (k, a) in file.iter().enumerate() {
             assert_eq!(pair.ours[0][k * 256..][..256], a[32..288]);
         }
+    }
+}
+
+/// Arrivals handed over at once are received as one by one.
+#[test]
+fn all_at_once_agrees() {
+    let mut r = Random(8);
+    for _ in 0..500 {
+        let sectors = r.of(&[1, 2, 5, 16]);
+        let settings = any_settings(&mut r, sectors);
+        let transfer = any_transfer(&mut r, sectors * 16);
+        let buffers = any_buffers(&mut r, sectors);
+        let mut one = Pair::new(settings, transfer, buffers.clone());
+        let n = r.below(20) as usize;
+        let mut file: Vec<u8> = (0..n)
+            .flat_map(|_| any_arrival(&mut r, sectors * 16))
+            .collect();
+        // a last piece that is no whole arrival, and room for fewer results, or for more
+        file.resize(file.len() + r.below(512) as usize, 1);
+        let mut results = vec![77; r.below(25) as usize];
+        let [mut flash, mut seen, mut map] = buffers;
+        let (end, number) = proved::receive_all(
+            &one.proved,
+            proved_transfer(transfer),
+            &file,
+            &mut results,
+            &mut flash,
+            &mut seen,
+            &mut map,
+        );
+        assert_eq!(number, n.min(results.len()));
+        for (i, a) in file.chunks_exact(512).take(number).enumerate() {
+            assert_eq!(results[i] % 256, u32::from(one.take(a)));
+        }
+        assert!(results[number..].iter().all(|&x| x == 77));
+        assert_eq!(end, proved_transfer(one.transfer));
+        assert!([flash, seen, map] == one.ours);
     }
 }
 

@@ -80,9 +80,31 @@ extern "C" {
         sectors: *mut u8,
         sectors_len: usize,
     ) -> u32;
+
+    fn uf2_receive_all(
+        settings: *const u32,
+        settings_len: usize,
+        transfer: *mut u32,
+        transfer_len: usize,
+        arrivals: *const u8,
+        arrivals_len: usize,
+        results: *mut u32,
+        results_len: usize,
+        flash: *mut u8,
+        flash_len: usize,
+        seen: *mut u8,
+        seen_len: usize,
+        sectors: *mut u8,
+        sectors_len: usize,
+    ) -> usize;
 }
 
 impl Settings {
+    /// The words of the settings, as the C interface has them.
+    pub fn words(&self) -> &[u32] {
+        &self.words
+    }
+
     pub fn new(
         arm: bool,
         riscv: bool,
@@ -215,4 +237,38 @@ pub fn receive(
         answer: (result % 256) as u8,
         discarded: result / 256 == 1,
     }
+}
+
+/// Whole arrivals one after the other, as many as there are results for. Each result is the answer, and 256 more where a running transfer
+/// was discarded. Says the transfer after them and how many they were.
+pub fn receive_all(
+    settings: &Settings,
+    transfer: Transfer,
+    arrivals: &[u8],
+    results: &mut [u32],
+    flash: &mut [u8],
+    seen: &mut [u8],
+    sectors: &mut [u8],
+) -> (Transfer, usize) {
+    let words = &settings.words;
+    let mut state = transfer.words();
+    let number = unsafe {
+        uf2_receive_all(
+            words.as_ptr(),
+            words.len(),
+            state.as_mut_ptr(),
+            state.len(),
+            arrivals.as_ptr(),
+            arrivals.len(),
+            results.as_mut_ptr(),
+            results.len(),
+            flash.as_mut_ptr(),
+            flash.len(),
+            seen.as_mut_ptr(),
+            seen.len(),
+            sectors.as_mut_ptr(),
+            sectors.len(),
+        )
+    };
+    (Transfer::from_words(state), number)
 }
