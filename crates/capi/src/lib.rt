@@ -1,0 +1,279 @@
+// The C interface: settings and transfers as words, everything else as numbers and slices. include/uf2_receiver.h has the layout.
+ghost use mathlib.Core.Path.{_≡_};
+ghost use Prim.Native.Nat.{_≤_};
+ghost use lib.ListN.{length};
+ghost use Rattle.capi.specs.Words.{
+  wordAt,
+  byteFrom,
+  archFrom,
+  linkFrom,
+  usersFrom,
+  entryFrom,
+  entriesFrom,
+  settingsFrom,
+  stateOf,
+  stateWords,
+  four,
+};
+ghost use Rattle.capi.specs.Calls.{
+  newWords,
+  told,
+  toldOf,
+  askWords,
+  ran,
+  resultOf,
+  keptWords,
+  transferFrom,
+  receiveWords,
+};
+use place::Asked;
+use settings::Arch;
+use settings::Entry;
+use settings::Link;
+use settings::Settings;
+use transfer::Head;
+use transfer::Run;
+use transfer::State;
+use transfer::Transfer;
+
+// The word at i, and 0 past the end.
+fn word(words: &[u32], i: usize) -> u32
+    ensures { λ r. ⌜ r ≡ wordAt (now (words .entry)) i ⌝ }
+{
+    if i < words.len() { words[i] } else { 0 }
+}
+
+// A word as a byte: 255 where it is more.
+fn byte(x: u32) -> u8
+    ensures { λ r. ⌜ r ≡ byteFrom x ⌝ }
+{
+    if x <= 255 { x as u8 } else { 255 }
+}
+
+fn arch(x: u32) -> Arch
+    ensures { λ r. ⌜ r ≡ archFrom x ⌝ }
+{
+    if x == 0 { Arch::Arm } else { Arch::RiscV }
+}
+
+// Of another kind than 0, 1 and 2: a link that is bad at every index.
+fn link(kind: u32, index: u32) -> Link
+    ensures { λ r. ⌜ r ≡ linkFrom kind index ⌝ }
+{
+    if kind == 0 {
+        return Link::Unlinked;
+    }
+    if kind == 1 {
+        return Link::OwnedBy(byte(index));
+    }
+    if kind == 2 {
+        return Link::BOf(byte(index));
+    }
+    Link::OwnedBy(255)
+}
+
+fn users(words: &[u32], o: usize) -> [u32; 4]
+    requires { ⌜ o ≤ 1000 ⌝ }
+    ensures { λ r. ⌜ r ≡ usersFrom (now (words .entry)) o ⌝ }
+{
+    let a = word(words, o);
+    let b = word(words, o + 1);
+    let c = word(words, o + 2);
+    let d = word(words, o + 3);
+    [a, b, c, d]
+}
+
+// The entry whose words begin at o.
+fn entry(words: &[u32], o: usize) -> Entry
+    requires { ⌜ o ≤ 900 ⌝ }
+    ensures { λ r. ⌜ r ≡ entryFrom (now (words .entry)) o ⌝ }
+{
+    let users = users(words, o + 7);
+    let link = link(word(words, o + 13), word(words, o + 14));
+    Entry {
+        first: word(words, o),
+        sectors: word(words, o + 1),
+        data: word(words, o + 2) != 0,
+        arm_s: word(words, o + 3) != 0,
+        riscv: word(words, o + 4) != 0,
+        arm_ns: word(words, o + 5) != 0,
+        user_count: byte(word(words, o + 6)),
+        users,
+        not_bootable_arm: word(words, o + 11) != 0,
+        not_bootable_riscv: word(words, o + 12) != 0,
+        link,
+    }
+}
+
+// The table. Every element begins as the first entry, which spares a blank one.
+fn entries(words: &[u32]) -> [Entry; Settings::ENTRIES]
+    ensures { λ r. ⌜ r ≡ entriesFrom (now (words .entry)) 6 16 ⌝ }
+{
+    let first = entry(words, 6);
+    let mut table = [first; 16];
+    let mut k: usize = 1;
+    while k < 16 {
+        let o = 6 + k * 15;
+        let e = entry(words, o);
+        table[k] = e;
+        k += 1;
+    }
+    table
+}
+
+fn settings_of(words: &[u32]) -> Settings
+    ensures { λ r. ⌜ r ≡ settingsFrom (now (words .entry)) ⌝ }
+{
+    let table = entries(words);
+    let current = arch(word(words, 2));
+    Settings {
+        arm: word(words, 0) != 0,
+        riscv: word(words, 1) != 0,
+        current,
+        auto_switch: word(words, 3) != 0,
+        absolute: word(words, 4) != 0,
+        count: byte(word(words, 5)),
+        table,
+    }
+}
+
+// Of another kind than 0, 1 and 2: a running transfer that is bad.
+fn state(kind: u32, head: Head, count: u32) -> State
+    ensures { λ r. ⌜ r ≡ stateOf kind (head .family) (head .total) count ⌝ }
+{
+    if kind == 0 {
+        return State::Idle;
+    }
+    if kind == 1 {
+        let run = Run { head, count };
+        return State::Running(run);
+    }
+    if kind == 2 {
+        return State::Done(head);
+    }
+    let run = Run { head, count: 0 };
+    State::Running(run)
+}
+
+fn transfer_of(words: &[u32]) -> Transfer
+    ensures { λ r. ⌜ r ≡ transferFrom (now (words .entry)) ⌝ }
+{
+    let head = Head {
+        family: word(words, 1),
+        total: word(words, 2),
+    };
+    let state = state(word(words, 0), head, word(words, 3));
+    Transfer { state }
+}
+
+fn write(words: &mut [u32], a: u32, b: u32, c: u32, d: u32)
+    requires { ⌜ length (now words) ≡ 4 ⌝ }
+    ensures { λ _. ⌜ now (words .exit) ≡ four a b c d ⌝ }
+{
+    words[0] = a;
+    words[1] = b;
+    words[2] = c;
+    words[3] = d;
+}
+
+// The words of a transfer.
+fn put(words: &mut [u32], next: Transfer)
+    requires { ⌜ length (now words) ≡ 4 ⌝ }
+    ensures { λ _. ⌜ now (words .exit) ≡ stateWords (next .state) ⌝ }
+{
+    let state = next.state;
+    match state {
+        State::Idle => write(words, 0, 0, 0, 0),
+        State::Running(run) => {
+            let head = run.head;
+            write(words, 1, head.family, head.total, run.count);
+        }
+        State::Done(head) => write(words, 2, head.family, head.total, head.total),
+    }
+}
+
+// The words of the next transfer, where the answer is 14 or 15.
+fn keep(words: &mut [u32], answer: u8, next: Transfer)
+    requires { ⌜ length (now words) ≡ 4 ⌝ }
+    ensures { λ _. ⌜ now (words .exit) ≡ keptWords (now (words .entry)) answer (stateWords (next .state)) ⌝ }
+{
+    if 14 <= answer {
+        put(words, next);
+    }
+}
+
+fn report(answer: u8, discarded: bool) -> u32
+    ensures { λ r. ⌜ r ≡ resultOf answer discarded ⌝ }
+{
+    let n = answer as u32;
+    if discarded { n + 256 } else { n }
+}
+
+// A fresh transfer, where there are 4 words.
+#[no_mangle]
+pub extern "C" fn uf2_new(transfer: &mut [u32])
+    ensures { λ _. ⌜ now (transfer .exit) ≡ newWords (now (transfer .entry)) ⌝ }
+{
+    if transfer.len() == 4 {
+        write(transfer, 0, 0, 0, 0);
+    }
+}
+
+// Writes where a place was found.
+fn tell(asked: Asked, found: &mut [u64]) -> u32
+    requires { ⌜ length (now found) ≡ 2 ⌝ }
+    ensures { λ r. ⌜ told r (now (found .exit)) ≡ toldOf (now (found .entry)) asked ⌝ }
+{
+    match asked {
+        Asked::BadBuffers => 1,
+        Asked::BadSettings => 2,
+        Asked::NoPlace => 8,
+        Asked::Found { start, len } => {
+            found[0] = start as u64;
+            found[1] = len as u64;
+            0
+        }
+    }
+}
+
+// A place asked for alone: 0 and its start and length in `found`, or 1, 2 or 8.
+#[no_mangle]
+pub extern "C" fn uf2_ask(
+    settings: &[u32],
+    flash_len: usize,
+    family: u32,
+    found: &mut [u64],
+) -> u32
+    ensures { λ r. ⌜ told r (now (found .exit)) ≡ askWords (now (settings .entry)) «flash_len» family (now (found .entry)) ⌝ }
+{
+    if found.len() != 2 {
+        return 1;
+    }
+    let s = settings_of(settings);
+    tell(place::ask(s, flash_len, family), found)
+}
+
+// One arrival: the answer's number, and 256 more where a running transfer was discarded.
+#[no_mangle]
+pub extern "C" fn uf2_receive(
+    settings: &[u32],
+    transfer: &mut [u32],
+    arrival: &[u8],
+    flash: &mut [u8],
+    seen: &mut [u8],
+    sectors: &mut [u8],
+) -> u32
+    ensures { λ r. ⌜ ran r (now (transfer .exit)) (now (flash .exit)) (now (seen .exit)) (now (sectors .exit)) ≡ receiveWords (now (settings .entry)) (now (transfer .entry)) (now (arrival .entry)) (now (flash .entry)) (now (seen .entry)) (now (sectors .entry)) ⌝ }
+{
+    if transfer.len() != 4 {
+        return 1;
+    }
+    let s = settings_of(settings);
+    let t = transfer_of(transfer);
+    let r = receiver::receive(s, t, arrival, flash, seen, sectors);
+    let answer = r.answer;
+    let next = r.transfer;
+    let n = answer.number();
+    keep(transfer, n, next);
+    report(n, r.discarded)
+}
