@@ -2,19 +2,27 @@
 use Prim.Native.Nat.{ℕ, zero, suc, _+_, _*_, _<_}
 use mathlib.Core.Path.{_≡_, refl, sym, ap, _∙_}
 use mathlib.Core.Logic.{⊎-elim, _≢_}
-use mathlib.Core.Bool.{true}
 use mathlib.Core.List.{List, [], _∷_}
 use native.Mathlib.Nat.{le-of-suc-le-suc, not-suc-le-zero, eq-or-lt-of-le}
 use native.Mathlib.Numerals.{add-one}
 use native.Mathlib.Omega.{arith}
 use lib.ListN.{length, getD, set, replicate}
 use lib.Seq.{ext-getD, getD-set-same, getD-set-other}
+use borrow.Author.Tests.{eq-eqb, ne-eqb}
 use Rattle.settings.specs.declared.Entry.{Entry}
+use Rattle.settings.specs.declared.Settings.{Settings}
 use Rattle.settings.specs.Settings.{emptyEntry, entryAt}
 use Rattle.transfer.specs.declared.State.{State}
 use Rattle.transfer.specs.declared.State.the-variants.{Idle, Running, Done}
-use Rattle.transfer.specs.Transfer.{goodState}
-use Rattle.capi.specs.Words.{entryFrom, entriesFrom, stateOf, stateFrom, stateWords, four}
+use Rattle.transfer.specs.declared.Transfer.{Transfer}
+use Rattle.transfer.specs.Transfer.{numberOf}
+use Rattle.place.specs.declared.Asked.{Asked}
+use Rattle.place.specs.Place.{askOf}
+use Rattle.arrival.specs.Arrive.{receiveOf}
+use Rattle.receiver.specs.declared.Received.{Received}
+use Rattle.receiver.specs.Receiver.{world, outcome}
+use Rattle.capi.specs.Words.{entryFrom, entriesFrom, settingsFrom, stateOf, stateFrom, stateWords, four}
+use Rattle.capi.specs.Calls.{Told, told, toldOf, askWords, ran, resultOf, keptWords, transferFrom, ranOf, receiveWords}
 
 -- ---- the table
 
@@ -76,3 +84,28 @@ unfolding stateOf
 round-trip Idle = refl
 round-trip (Running r) = refl
 round-trip (Done g) = refl
+
+-- ---- calls by cases
+
+module _ (s : List ℕ) (len f : ℕ) (l : List ℕ) where
+  pub ask-short : length l ≢ 2 → told 1 l ≡ askWords s len f l
+  unfolding askWords
+  ask-short h = simp (ne-eqb (length l) 2 h)
+
+  pub ask-told : {z : Settings} {x : Asked} {o : Told} → length l ≡ 2 → z ≡ settingsFrom s → x ≡ askOf z len f → o ≡ toldOf l x → o ≡ askWords s len f l
+  unfolding askWords
+  ask-told n hz hx ho = simp (eq-eqb (length l) 2 n) (ho ∙ ap (toldOf l) (hx ∙ ap (λ (z : Settings). askOf z len f) hz))
+
+module _ (s t a f m k : List ℕ) where
+  pub receive-short : length t ≢ 4 → ran 1 t f m k ≡ receiveWords s t a f m k
+  unfolding receiveWords
+  receive-short h = simp (ne-eqb (length t) 4 h)
+
+  pub receive-ran : {z : Settings} {u : Transfer} {r : Received} {g n j v : List ℕ} {x y : ℕ} → length t ≡ 4 → z ≡ settingsFrom s → u ≡ transferFrom t → outcome r g n j ≡ receiveOf z (world u f m k) a → x ≡ numberOf (r .answer) → v ≡ keptWords t x (stateWords (r .transfer .state)) → y ≡ resultOf x (r .discarded) → ran y v g n j ≡ receiveWords s t a f m k
+  unfolding receiveWords
+  receive-ran {u = u} h hz hu ho hx hv hy =
+      let p =
+        ho
+        ∙ ap (λ (z : Settings). receiveOf z (world u f m k) a) hz
+        ∙ ap (λ (u : Transfer). receiveOf (settingsFrom s) (world u f m k) a) hu in
+      rw (eq-eqb (length t) 4 h, hy, hv, hx) (ap (ranOf t) p)

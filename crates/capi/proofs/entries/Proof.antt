@@ -1,5 +1,5 @@
 -- `capi::entries` meets its contract. The invariant: the first k entries are read. Assumes nothing.
-use Prim.Native.Nat.{_≤_, _-_}
+use Prim.Native.Nat.{_≤_, _<_, _-_}
 use mathlib.Core.Path.{_≡_}
 use native.Mathlib.Omega.{arith}
 use lib.ListN.{length, length-set}
@@ -42,7 +42,10 @@ loop-less : tie.Need-loop-less Inv-loop μ-loop
 loop-less c = search needs
 
 loop-again : tie.Need-loop-again Inv-loop μ-loop
-loop-again c = let i = c .before .before .loop .inv in (search needs, simp length-set (i .1), read-more _ _ _ _ (omega arith) (i .2) (c .entry2 .ensures))
+loop-again c = 
+    let at = c .before .before .loop in
+    let l : at .k < length (at .table) = omega arith in
+    (search needs, simp length-set (at .inv .1), read-more _ _ _ _ l (at .inv .2) (c .entry2 .ensures))
 
 returns : tie.Need-returns Inv-loop μ-loop
 returns c = let i = c .before .loop .inv in let e : c .before .loop .k ≡ 16 = omega arith in is-entries _ _ 16 _ (i .1) (rw e at (i .2))

@@ -20,7 +20,7 @@ same-length : tie.Need-same-length
 same-length c = search needs
 
 returns : tie.Need-returns
-returns c = four-set _ _ _ _ _ (c .before .pre)
+returns c = four-set (c .args .words .now) _ _ _ _ (c .pre)
 
 pub write-spec : {M : Type 1} → statement M
 write-spec =
