@@ -45,7 +45,7 @@ loop-again : tie.Need-loop-again Inv-loop μ-loop
 loop-again c = 
     let at = c .before .before .loop in
     let l : at .k < length (at .table) = omega arith in
-    (search needs, simp length-set (at .inv .1), read-more _ _ _ _ l (at .inv .2) (c .entry2 .ensures))
+    (search needs, simp length-set (at .inv .1), read-more _ _ (at .table) _ l (at .inv .2) (c .entry2 .ensures))
 
 returns : tie.Need-returns Inv-loop μ-loop
 returns c = let i = c .before .loop .inv in let e : c .before .loop .k ≡ 16 = omega arith in is-entries _ _ 16 _ (i .1) (rw e at (i .2))
