@@ -105,7 +105,7 @@ module _ (s t a f m k : List ℕ) where
   unfolding receiveWords
   receive-ran {u = u} h hz hu ho hx hv hy =
       let p =
-        ho
-        ∙ ap (λ (z : Settings). receiveOf z (world u f m k) a) hz
-        ∙ ap (λ (u : Transfer). receiveOf (settingsFrom s) (world u f m k) a) hu in
+      ho
+      ∙ ap (λ (z : Settings). receiveOf z (world u f m k) a) hz
+      ∙ ap (λ (u : Transfer). receiveOf (settingsFrom s) (world u f m k) a) hu in
       rw (eq-eqb (length t) 4 h, hy, hv, hx) (ap (ranOf t) p)

@@ -36,6 +36,13 @@ use transfer::Run;
 use transfer::State;
 use transfer::Transfer;
 
+// The words before the table, of an entry and of a transfer.
+const HEAD: usize = 6;
+
+const ENTRY: usize = 15;
+
+const TRANSFER: usize = 4;
+
 // The word at i, and 0 past the end.
 fn word(words: &[u32], i: usize) -> u32
     ensures { λ r. ⌜ r ≡ wordAt (now (words .entry)) i ⌝ }
@@ -109,11 +116,11 @@ fn entry(words: &[u32], o: usize) -> Entry
 fn entries(words: &[u32]) -> [Entry; Settings::ENTRIES]
     ensures { λ r. ⌜ r ≡ entriesFrom (now (words .entry)) 6 16 ⌝ }
 {
-    let first = entry(words, 6);
-    let mut table = [first; 16];
+    let first = entry(words, HEAD);
+    let mut table = [first; Settings::ENTRIES];
     let mut k: usize = 1;
-    while k < 16 {
-        let o = 6 + k * 15;
+    while k < Settings::ENTRIES {
+        let o = HEAD + k * ENTRY;
         let e = entry(words, o);
         table[k] = e;
         k += 1;
@@ -214,7 +221,7 @@ fn report(answer: u8, discarded: bool) -> u32
 pub extern "C" fn uf2_new(transfer: &mut [u32])
     ensures { λ _. ⌜ now (transfer .exit) ≡ newWords (now (transfer .entry)) ⌝ }
 {
-    if transfer.len() == 4 {
+    if transfer.len() == TRANSFER {
         write(transfer, 0, 0, 0, 0);
     }
 }
@@ -238,12 +245,7 @@ fn tell(asked: Asked, found: &mut [u64]) -> u32
 
 // A place asked for alone: 0 and its start and length in `found`, or 1, 2 or 8.
 #[no_mangle]
-pub extern "C" fn uf2_ask(
-    settings: &[u32],
-    flash_len: usize,
-    family: u32,
-    found: &mut [u64],
-) -> u32
+pub extern "C" fn uf2_ask(settings: &[u32], flash_len: usize, family: u32, found: &mut [u64]) -> u32
     ensures { λ r. ⌜ told r (now (found .exit)) ≡ askWords (now (settings .entry)) «flash_len» family (now (found .entry)) ⌝ }
 {
     if found.len() != 2 {
@@ -265,7 +267,7 @@ pub extern "C" fn uf2_receive(
 ) -> u32
     ensures { λ r. ⌜ ran r (now (transfer .exit)) (now (flash .exit)) (now (seen .exit)) (now (sectors .exit)) ≡ receiveWords (now (settings .entry)) (now (transfer .entry)) (now (arrival .entry)) (now (flash .entry)) (now (seen .entry)) (now (sectors .entry)) ⌝ }
 {
-    if transfer.len() != 4 {
+    if transfer.len() != TRANSFER {
         return 1;
     }
     let s = settings_of(settings);

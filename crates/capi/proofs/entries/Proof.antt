@@ -42,7 +42,7 @@ loop-less : tie.Need-loop-less Inv-loop μ-loop
 loop-less c = search needs
 
 loop-again : tie.Need-loop-again Inv-loop μ-loop
-loop-again c = 
+loop-again c =
     let at = c .before .before .loop in
     let l : at .k < length (at .table) = omega arith in
     (search needs, simp length-set (at .inv .1), read-more _ _ (at .table) _ l (at .inv .2) (c .entry2 .ensures))

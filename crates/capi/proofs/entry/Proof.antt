@@ -81,7 +81,7 @@ word-requires-11 c κs = search needs
 
 returns : tie.Need-returns
 unfolding entryFrom
-returns c = 
+returns c =
     let flags = c .before .before .before in
     let numbers = flags .before .before .before .before .before in
     let link = numbers .before .before in

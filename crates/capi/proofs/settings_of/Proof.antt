@@ -33,7 +33,7 @@ byte-requires c κs = search needs
 
 returns : tie.Need-returns
 unfolding settingsFrom
-returns c = 
+returns c =
     let head = c .before .before .before .before .before in
     simp (
       head .before .before .before .entries .ensures,

@@ -37,7 +37,7 @@ same-length : tie.Need-same-length
 same-length c = search needs
 
 returns-4 : tie.Need-returns-4
-returns-4 c = 
+returns-4 c =
     let s = c .before .before .before in
     ap (told 0) (two-set (s .args .found .now) _ _ (s .pre)) ∙ sym (ap (toldOf (s .args .found .now)) (c .before .asked .given .1))
 

@@ -20,7 +20,7 @@ same-length : tie.Need-same-length
 same-length c = search needs
 
 returns-2 : tie.Need-returns-2
-returns-2 c = 
+returns-2 c =
     let b = c .before .before in
     let a = b .before .before in
     ask-told _ _ _ _ (a .before .before .if1 .left) (a .before .settings-of .ensures) (a .ask .ensures) (b .tell .ensures)

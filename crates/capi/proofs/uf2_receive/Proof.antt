@@ -38,7 +38,7 @@ same-length-4 : tie.Need-same-length-4
 same-length-4 c = search needs
 
 returns-2 : tie.Need-returns-2
-returns-2 c = 
+returns-2 c =
     let kept = c .before .before .before in
     let number = kept .before .before in
     let got = number .before .before .before .before .before .before .before .before in
