@@ -104,6 +104,13 @@ uint32_t uf2_receive(const uint32_t *settings, size_t settings_len, uint32_t *tr
                      size_t arrival_len, uint8_t *flash, size_t flash_len, uint8_t *seen, size_t seen_len, uint8_t *sectors,
                      size_t sectors_len);
 
+/* Arrivals one after the other, each UF2_ARRIVAL bytes: as many whole ones as there are elements in `results`, which get what
+ * uf2_receive would return; the number of them. 0, and nothing changes, where transfer_len is not UF2_TRANSFER_WORDS. Settings
+ * are read once. The transfer's words stay as they were lent where no arrival is answered UF2_WRITTEN or UF2_COMPLETED. */
+size_t uf2_receive_all(const uint32_t *settings, size_t settings_len, uint32_t *transfer, size_t transfer_len,
+                       const uint8_t *arrivals, size_t arrivals_len, uint32_t *results, size_t results_len, uint8_t *flash,
+                       size_t flash_len, uint8_t *seen, size_t seen_len, uint8_t *sectors, size_t sectors_len);
+
 #ifdef __cplusplus
 }
 #endif

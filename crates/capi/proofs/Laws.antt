@@ -2,6 +2,7 @@
 use Prim.Native.Nat.{ℕ, zero, suc, _+_, _*_, _<_}
 use mathlib.Core.Path.{_≡_, refl, sym, ap, _∙_}
 use mathlib.Core.Logic.{⊎-elim, _≢_}
+use mathlib.Core.Bool.{Bool}
 use mathlib.Core.List.{List, [], _∷_}
 use native.Mathlib.Nat.{le-of-suc-le-suc, not-suc-le-zero, eq-or-lt-of-le}
 use native.Mathlib.Numerals.{add-one}
@@ -22,7 +23,7 @@ use Rattle.arrival.specs.Arrive.{receiveOf}
 use Rattle.receiver.specs.declared.Received.{Received}
 use Rattle.receiver.specs.Receiver.{world, outcome}
 use Rattle.capi.specs.Words.{entryFrom, entriesFrom, settingsFrom, stateOf, stateFrom, stateWords, four}
-use Rattle.capi.specs.Calls.{Told, told, toldOf, askWords, ran, resultOf, keptWords, transferFrom, ranOf, receiveWords}
+use Rattle.capi.specs.Calls.{Told, told, toldOf, askWords, ran, resultOf, isTaken, keptWords, transferFrom, ranOf, receiveWords}
 
 -- ---- the table
 
@@ -101,11 +102,11 @@ module _ (s t a f m k : List ℕ) where
   unfolding receiveWords
   receive-short h = simp (ne-eqb (length t) 4 h)
 
-  pub receive-ran : {z : Settings} {u : Transfer} {r : Received} {g n j v : List ℕ} {x y : ℕ} → length t ≡ 4 → z ≡ settingsFrom s → u ≡ transferFrom t → outcome r g n j ≡ receiveOf z (world u f m k) a → x ≡ numberOf (r .answer) → v ≡ keptWords t x (stateWords (r .transfer .state)) → y ≡ resultOf x (r .discarded) → ran y v g n j ≡ receiveWords s t a f m k
+  pub receive-ran : {z : Settings} {u : Transfer} {r : Received} {g n j v : List ℕ} {x y : ℕ} {b : Bool} → length t ≡ 4 → z ≡ settingsFrom s → u ≡ transferFrom t → outcome r g n j ≡ receiveOf z (world u f m k) a → x ≡ numberOf (r .answer) → b ≡ isTaken x → v ≡ keptWords t b (r .transfer .state) → y ≡ resultOf x (r .discarded) → ran y v g n j ≡ receiveWords s t a f m k
   unfolding receiveWords
-  receive-ran {u = u} h hz hu ho hx hv hy =
+  receive-ran {u = u} h hz hu ho hx hb hv hy =
       let p =
       ho
       ∙ ap (λ (z : Settings). receiveOf z (world u f m k) a) hz
       ∙ ap (λ (u : Transfer). receiveOf (settingsFrom s) (world u f m k) a) hu in
-      rw (eq-eqb (length t) 4 h, hy, hv, hx) (ap (ranOf t) p)
+      rw (eq-eqb (length t) 4 h, hy, hv, hb, hx) (ap (ranOf t) p)

@@ -22,10 +22,15 @@ ghost use Rattle.capi.specs.Calls.{
   askWords,
   ran,
   resultOf,
+  isTaken,
   keptWords,
+  fewer,
+  many,
+  receiveMany,
   transferFrom,
   receiveWords,
 };
+use block::Block;
 use place::Asked;
 use settings::Arch;
 use settings::Entry;
@@ -199,12 +204,18 @@ fn put(words: &mut [u32], next: Transfer)
     }
 }
 
-// The words of the next transfer, where the answer is 14 or 15.
-fn keep(words: &mut [u32], answer: u8, next: Transfer)
-    requires { ⌜ length (now words) ≡ 4 ⌝ }
-    ensures { λ _. ⌜ now (words .exit) ≡ keptWords (now (words .entry)) answer (stateWords (next .state)) ⌝ }
+fn is_taken(answer: u8) -> bool
+    ensures { λ r. ⌜ r ≡ isTaken answer ⌝ }
 {
-    if 14 <= answer {
+    14 <= answer
+}
+
+// The words of the next transfer, where a block was taken.
+fn keep(words: &mut [u32], taken: bool, next: Transfer)
+    requires { ⌜ length (now words) ≡ 4 ⌝ }
+    ensures { λ _. ⌜ now (words .exit) ≡ keptWords (now (words .entry)) taken (next .state) ⌝ }
+{
+    if taken {
         put(words, next);
     }
 }
@@ -276,6 +287,50 @@ pub extern "C" fn uf2_receive(
     let answer = r.answer;
     let next = r.transfer;
     let n = answer.number();
-    keep(transfer, n, next);
+    keep(transfer, is_taken(n), next);
     report(n, r.discarded)
+}
+
+fn at_most(a: usize, b: usize) -> usize
+    ensures { λ r. ⌜ r ≡ fewer a b ⌝ }
+    ensures low { λ r. ⌜ (r ≤ a) × (r ≤ b) ⌝ }
+{
+    if a <= b { a } else { b }
+}
+
+// Whole arrivals one after the other, as many as there are results for: their number, and the result of each.
+#[no_mangle]
+pub extern "C" fn uf2_receive_all(
+    settings: &[u32],
+    transfer: &mut [u32],
+    arrivals: &[u8],
+    results: &mut [u32],
+    flash: &mut [u8],
+    seen: &mut [u8],
+    sectors: &mut [u8],
+) -> usize
+    ensures { λ r. ⌜ many r (now (transfer .exit)) (now (results .exit)) (now (flash .exit)) (now (seen .exit)) (now (sectors .exit)) ≡ receiveMany (now (settings .entry)) (now (transfer .entry)) (now (arrivals .entry)) (now (results .entry)) (now (flash .entry)) (now (seen .entry)) (now (sectors .entry)) ⌝ }
+{
+    if transfer.len() != TRANSFER {
+        return 0;
+    }
+    let s = settings_of(settings);
+    let mut t = transfer_of(transfer);
+    let mut taken = false;
+    let n = at_most(arrivals.len() / Block::ARRIVAL, results.len());
+    let mut i: usize = 0;
+    while i < n {
+        let from = i * Block::ARRIVAL;
+        let to = from + Block::ARRIVAL;
+        let r = receiver::receive(s, t, &arrivals[from..to], flash, seen, sectors);
+        let answer = r.answer;
+        let next = r.transfer;
+        let number = answer.number();
+        results[i] = report(number, r.discarded);
+        taken = taken | is_taken(number);
+        t = next;
+        i += 1;
+    }
+    keep(transfer, taken, t);
+    n
 }

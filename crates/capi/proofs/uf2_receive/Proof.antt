@@ -1,4 +1,5 @@
 -- `capi::uf2_receive` meets its contract. Assumes nothing.
+use mathlib.Core.Path.{_∙_}
 use Rattle.capi.proofs.Laws.{receive-short, receive-ran}
 use borrow.Author.Needs.{needs}
 use Rattle.capi.proofs.uf2_receive.Statement.{statement}
@@ -18,6 +19,9 @@ receive-requires c κs = search needs
 
 number-requires : tie.Need-number-requires
 number-requires c κs = search needs
+
+is-taken-requires : tie.Need-is-taken-requires
+is-taken-requires c κs = search needs
 
 keep-requires : tie.Need-keep-requires
 keep-requires c κs = search needs
@@ -40,11 +44,11 @@ same-length-4 c = search needs
 returns-2 : tie.Need-returns-2
 returns-2 c =
     let kept = c .before .before .before in
-    let number = kept .before .before in
+    let number = kept .before .before .before in
     let got = number .before .before .before .before .before .before .before .before in
     let read = got .before .before .before .before in
     let tested = read .before .before .before in
-    receive-ran _ _ _ _ _ _ (tested .if1 .left) (read .before .before .settings-of .ensures) (read .transfer-of .ensures) (got .receive .ensures) (number .number .ensures) (kept .keep .ensures) (c .report .ensures)
+    receive-ran _ _ _ _ _ _ (tested .if1 .left) (read .before .before .settings-of .ensures) (read .transfer-of .ensures) (got .receive .ensures) (number .number .ensures) (kept .before .is-taken .ensures) (kept .keep .ensures) (c .report .ensures)
 
 pub uf2-receive-spec : {M : Type 1} → statement M
 uf2-receive-spec =
@@ -55,6 +59,7 @@ uf2-receive-spec =
     transfer-of-requires
     receive-requires
     number-requires
+    is-taken-requires
     keep-requires
     report-requires
     same-length
