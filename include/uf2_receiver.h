@@ -28,7 +28,7 @@ extern "C" {
 #define UF2_SETTINGS_AUTO_SWITCH 3 /* flag */
 #define UF2_SETTINGS_ABSOLUTE 4    /* flag: the family absolute is allowed */
 #define UF2_SETTINGS_COUNT 5       /* used entries, at most 16; 0: no partition table */
-#define UF2_SETTINGS_TABLE 6       /* 16 entries of UF2_ENTRY_WORDS words */
+#define UF2_SETTINGS_TABLE 6       /* 16 entries of UF2_ENTRY_WORDS words; those past the count are not read */
 
 /* The words of an entry; entry k begins at UF2_ENTRY(k). */
 #define UF2_ENTRIES 16

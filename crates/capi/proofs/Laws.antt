@@ -1,18 +1,19 @@
 -- The laws of `specs/`: the table by index, words that are written, and a transfer read back from its words. Assumes nothing.
 use Prim.Native.Nat.{ℕ, zero, suc, _+_, _*_, _<_}
 use mathlib.Core.Path.{_≡_, refl, sym, ap, _∙_}
-use mathlib.Core.Logic.{⊎-elim, _≢_}
+use mathlib.Core.Logic.{_≢_}
 use mathlib.Core.Bool.{Bool}
 use mathlib.Core.List.{List, [], _∷_}
-use native.Mathlib.Nat.{le-of-suc-le-suc, not-suc-le-zero, eq-or-lt-of-le}
-use native.Mathlib.Numerals.{add-one}
+use native.Mathlib.Nat.{le-of-suc-le-suc, not-suc-le-zero}
 use native.Mathlib.Omega.{arith}
-use lib.ListN.{length, getD, set, replicate}
+use lib.Dec.{ltb, eqb}
+use lib.ListN.{length, set, replicate, length-set, length-replicate, getD-replicate}
 use lib.Seq.{ext-getD, getD-set-same, getD-set-other}
-use borrow.Author.Tests.{eq-eqb, ne-eqb}
+use borrow.Author.Tests.{le-ltb, lt-ltb, ltb-true, ltb-false, eq-eqb, ne-eqb, eqb-true, eqb-false}
+use Rattle.sets.proofs.Tests.{split}
 use Rattle.settings.specs.declared.Entry.{Entry}
 use Rattle.settings.specs.declared.Settings.{Settings}
-use Rattle.settings.specs.Settings.{emptyEntry, entryAt}
+use Rattle.settings.specs.Settings.{emptyEntry, entryAt, blankEntry}
 use Rattle.transfer.specs.declared.State.{State}
 use Rattle.transfer.specs.declared.State.the-variants.{Idle, Running, Done}
 use Rattle.transfer.specs.declared.Transfer.{Transfer}
@@ -22,44 +23,61 @@ use Rattle.place.specs.Place.{askOf}
 use Rattle.arrival.specs.Arrive.{receiveOf}
 use Rattle.receiver.specs.declared.Received.{Received}
 use Rattle.receiver.specs.Receiver.{world, outcome}
-use Rattle.capi.specs.Words.{entryFrom, entriesFrom, settingsFrom, stateOf, stateFrom, stateWords, four}
+use Rattle.capi.specs.Words.{entryFrom, slotFrom, slotsFrom, settingsFrom, stateOf, stateFrom, stateWords, four}
 use Rattle.capi.specs.Calls.{Told, told, toldOf, askWords, ran, resultOf, isTaken, keptWords, transferFrom, ranOf, receiveWords}
 
 -- ---- the table
 
-entries-length : (w : List ℕ) (o n : ℕ) → length (entriesFrom w o n) ≡ n
-unfolding entriesFrom
-entries-length w o zero = refl
-entries-length w o (suc n) = ap suc (entries-length w (o + 15) n)
+slots-length : (w : List ℕ) (n k m : ℕ) → length (slotsFrom w n k m) ≡ m
+unfolding slotsFrom
+slots-length w n k zero = refl
+slots-length w n k (suc m) = ap suc (slots-length w n (k + 1) m)
 
-entries-at : (w : List ℕ) (o n j : ℕ) → j < n → entryAt (entriesFrom w o n) j ≡ entryFrom w (o + j * 15)
-unfolding entriesFrom
-entries-at w o zero j b = absurd (not-suc-le-zero b)
-entries-at w o (suc n) zero b = ap (entryFrom w) (omega arith)
-entries-at w o (suc n) (suc j) b = entries-at w (o + 15) n j (le-of-suc-le-suc b) ∙ ap (entryFrom w) (omega arith)
+slots-at : (w : List ℕ) (n k m j : ℕ) → j < m → entryAt (slotsFrom w n k m) j ≡ slotFrom w n (k + j)
+unfolding slotsFrom
+slots-at w n k zero j b = absurd (not-suc-le-zero b)
+slots-at w n k (suc m) zero b = ap (slotFrom w n) (omega arith)
+slots-at w n k (suc m) (suc j) b = slots-at w n (k + 1) m j (le-of-suc-le-suc b) ∙ ap (slotFrom w n) (omega arith)
 
--- the first k entries of a table are those of the words from o on
-abbrev pub Read : List ℕ → ℕ → List Entry → ℕ → Type 0
-Read w o t k = (j : ℕ) → j < k → entryAt t j ≡ entryFrom w (o + j * 15)
+-- a table of 16 entries of which the first n are read
+abbrev pub Read : List ℕ → ℕ → List Entry → Type 0
+Read w n t = (length t ≡ 16) × ((j : ℕ) → j < 16 → entryAt t j ≡ slotFrom w n j)
 
-pub is-entries : (w : List ℕ) (o n : ℕ) (t : List Entry) → length t ≡ n → Read w o t n → t ≡ entriesFrom w o n
-is-entries w o n t l h =
-    ext-getD emptyEntry t (entriesFrom w o n) (l ∙ sym (entries-length w o n))
-    (λ j b. let q : j < n = omega arith in h j q ∙ sym (entries-at w o n j q))
+pub read-table : (w : List ℕ) (n : ℕ) (t : List Entry) → Read w n t → t ≡ slotsFrom w n 0 16
+read-table w n t h =
+    ext-getD emptyEntry t (slotsFrom w n 0 16) (h .0 ∙ sym (slots-length w n 0 16))
+    (λ j b.
+    let l = h .0 in
+    let q : j < 16 = omega arith in
+    h .1 j q ∙ sym (slots-at w n 0 16 j q ∙ ap (slotFrom w n) (omega arith)))
 
--- every element is the first entry
-pub read-first : (w : List ℕ) (o n : ℕ) {e : Entry} → e ≡ entryFrom w o → Read w o (replicate (suc n) e) 1
-read-first w o n q zero b = q ∙ ap (entryFrom w) (omega arith)
-read-first w o n q (suc j) b = absurd (omega arith)
+-- none is read
+pub read-none : (w : List ℕ) {t : List Entry} → t ≡ replicate 16 blankEntry → Read w 0 t
+unfolding slotFrom
+read-none w e =
+    (rw e (length-replicate 16 blankEntry), λ j b. rw (e, getD-replicate 16 j blankEntry emptyEntry b, le-ltb j 0 (omega arith)))
 
--- one entry more
-pub read-more : (w : List ℕ) (o : ℕ) (t : List Entry) (k : ℕ) {e : Entry} → k < length t → Read w o t k → e ≡ entryFrom w (o + k * 15) → Read w o (set t k e) (k + 1)
-read-more w o t k {e} l h q j b =
-    let s : suc j < suc (suc k) = omega arith in
-    ⊎-elim
-    (λ (x : j ≡ k). rw (x, getD-set-same t k e emptyEntry l) q)
-    (λ (x : j < k). let d : j ≢ k = omega arith in rw (getD-set-other t k j e emptyEntry d) (h j x))
-    (eq-or-lt-of-le (le-of-suc-le-suc (le-of-suc-le-suc s)))
+-- one more is read
+slot-other : (w : List ℕ) (k j : ℕ) → j ≢ k → slotFrom w (k + 1) j ≡ slotFrom w k j
+unfolding slotFrom
+slot-other w k j d =
+    split (ltb j k)
+    (λ b. let l = ltb-true j k b in rw (b, lt-ltb j (k + 1) (omega arith)))
+    (λ b. let l = ltb-false j k b in rw (b, le-ltb j (k + 1) (omega arith)))
+
+slot-new : (w : List ℕ) (k : ℕ) → slotFrom w (k + 1) k ≡ entryFrom w (6 + k * 15)
+unfolding slotFrom
+slot-new w k = rw (lt-ltb k (k + 1) (omega arith))
+
+pub read-more : (w : List ℕ) (k : ℕ) (t : List Entry) {e : Entry} → k < 16 → Read w k t → e ≡ entryFrom w (6 + k * 15) → Read w (k + 1) (set t k e)
+read-more w k t {e} l h q = (
+  length-set t k e ∙ h .0,
+  λ j b.
+      let n = h .0 in
+      split (eqb j k)
+      (λ x. let y = eqb-true j k x in rw (y, getD-set-same t k e emptyEntry (omega arith), slot-new w k) q)
+      (λ x. let d = eqb-false j k x in rw (getD-set-other t k j e emptyEntry d, slot-other w k j d) (h .1 j b)),
+)
 
 -- ---- words that are written
 

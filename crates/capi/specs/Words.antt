@@ -1,8 +1,8 @@
 -- Settings and transfers as words, each a number below 2 ^ 32. Assumes nothing.
-use Prim.Native.Nat.{ℕ, zero, suc, _+_}
+use Prim.Native.Nat.{ℕ, zero, suc, _+_, _*_}
 use mathlib.Core.Bool.{Bool, not, cond}
 use mathlib.Core.List.{List, [], _∷_}
-use lib.Dec.{leb, eqb}
+use lib.Dec.{ltb, leb, eqb}
 use lib.ListN.{getD}
 use Rattle.settings.specs.declared.Arch.{Arch}
 use Rattle.settings.specs.declared.Arch.the-variants.{Arm, RiscV}
@@ -10,6 +10,8 @@ use Rattle.settings.specs.declared.Link.{Link}
 use Rattle.settings.specs.declared.Link.the-variants.{Unlinked, OwnedBy, BOf}
 use Rattle.settings.specs.declared.Entry.{Entry}
 use Rattle.settings.specs.declared.Settings.{Settings}
+use Rattle.settings.specs.Settings.{blankEntry}
+use Rattle.place.specs.Place.{usedCount}
 use Rattle.transfer.specs.declared.Head.{Head}
 use Rattle.transfer.specs.declared.State.{State}
 use Rattle.transfer.specs.declared.State.the-variants.{Idle, Running, Done}
@@ -59,10 +61,14 @@ entryFrom words o =
       link = linkFrom (wordAt words (o + 13)) (wordAt words (o + 14));
     }
 
--- n entries, one after the other, from word o
-unfoldable pub entriesFrom : List ℕ → ℕ → ℕ → List Entry
-entriesFrom words o zero = []
-entriesFrom words o (suc n) = entryFrom words o ∷ entriesFrom words (o + 15) n
+-- entry k of a table of which n are used; the others are blank, whatever their words
+unfoldable pub slotFrom : List ℕ → ℕ → ℕ → Entry
+slotFrom words n k = cond (ltb k n) (entryFrom words (6 + k * 15)) blankEntry
+
+-- m entries of such a table, from entry k on
+unfoldable pub slotsFrom : List ℕ → ℕ → ℕ → ℕ → List Entry
+slotsFrom words n k zero = []
+slotsFrom words n k (suc m) = slotFrom words n k ∷ slotsFrom words n (k + 1) m
 
 -- 6 words and 16 entries
 unfoldable pub settingsFrom : List ℕ → Settings
@@ -74,7 +80,7 @@ settingsFrom words =
       «auto_switch» = isOn (wordAt words 3);
       absolute = isOn (wordAt words 4);
       count = byteFrom (wordAt words 5);
-      table = entriesFrom words 6 16;
+      table = slotsFrom words (usedCount (byteFrom (wordAt words 5))) 0 16;
     }
 
 -- ---- a transfer

@@ -9,7 +9,7 @@ ghost use Rattle.capi.specs.Words.{
   linkFrom,
   usersFrom,
   entryFrom,
-  entriesFrom,
+  slotsFrom,
   settingsFrom,
   stateOf,
   stateWords,
@@ -117,14 +117,22 @@ fn entry(words: &[u32], o: usize) -> Entry
     }
 }
 
-// The table. Every element begins as the first entry, which spares a blank one.
-fn entries(words: &[u32]) -> [Entry; Settings::ENTRIES]
-    ensures { λ r. ⌜ r ≡ entriesFrom (now (words .entry)) 6 16 ⌝ }
+fn at_most(a: usize, b: usize) -> usize
+    ensures { λ r. ⌜ r ≡ fewer a b ⌝ }
+    ensures low { λ r. ⌜ (r ≤ a) × (r ≤ b) ⌝ }
 {
-    let first = entry(words, HEAD);
-    let mut table = [first; Settings::ENTRIES];
-    let mut k: usize = 1;
-    while k < Settings::ENTRIES {
+    if a <= b { a } else { b }
+}
+
+// A table of which n entries are used. Only their words are read, which is what a call costs on a board with few.
+fn entries(words: &[u32], n: usize) -> [Entry; Settings::ENTRIES]
+    requires { ⌜ n ≤ 16 ⌝ }
+    ensures { λ r. ⌜ r ≡ slotsFrom (now (words .entry)) n 0 16 ⌝ }
+{
+    let blank = Settings::arm_only(false);
+    let mut table = blank.table;
+    let mut k: usize = 0;
+    while k < n {
         let o = HEAD + k * ENTRY;
         let e = entry(words, o);
         table[k] = e;
@@ -136,7 +144,8 @@ fn entries(words: &[u32]) -> [Entry; Settings::ENTRIES]
 fn settings_of(words: &[u32]) -> Settings
     ensures { λ r. ⌜ r ≡ settingsFrom (now (words .entry)) ⌝ }
 {
-    let table = entries(words);
+    let count = byte(word(words, 5));
+    let table = entries(words, at_most(count as usize, Settings::ENTRIES));
     let current = arch(word(words, 2));
     Settings {
         arm: word(words, 0) != 0,
@@ -144,7 +153,7 @@ fn settings_of(words: &[u32]) -> Settings
         current,
         auto_switch: word(words, 3) != 0,
         absolute: word(words, 4) != 0,
-        count: byte(word(words, 5)),
+        count,
         table,
     }
 }
@@ -289,13 +298,6 @@ pub extern "C" fn uf2_receive(
     let n = answer.number();
     keep(transfer, is_taken(n), next);
     report(n, r.discarded)
-}
-
-fn at_most(a: usize, b: usize) -> usize
-    ensures { λ r. ⌜ r ≡ fewer a b ⌝ }
-    ensures low { λ r. ⌜ (r ≤ a) × (r ≤ b) ⌝ }
-{
-    if a <= b { a } else { b }
 }
 
 // Whole arrivals one after the other, as many as there are results for: their number, and the result of each.
