@@ -2,7 +2,7 @@
 use Prim.Native.Nat.{ℕ, zero, suc, _+_, _*_, _<_}
 use mathlib.Core.Path.{_≡_, refl, sym, ap, _∙_}
 use mathlib.Core.Logic.{_≢_}
-use mathlib.Core.Bool.{Bool}
+use mathlib.Core.Bool.{Bool, false}
 use mathlib.Core.List.{List, [], _∷_}
 use native.Mathlib.Nat.{le-of-suc-le-suc, not-suc-le-zero}
 use native.Mathlib.Omega.{arith}
@@ -17,7 +17,7 @@ use Rattle.settings.specs.Settings.{emptyEntry, entryAt, blankEntry}
 use Rattle.transfer.specs.declared.State.{State}
 use Rattle.transfer.specs.declared.State.the-variants.{Idle, Running, Done}
 use Rattle.transfer.specs.declared.Transfer.{Transfer}
-use Rattle.transfer.specs.Transfer.{numberOf}
+use Rattle.transfer.specs.Transfer.{numberOf, goodState}
 use Rattle.place.specs.declared.Asked.{Asked}
 use Rattle.place.specs.Place.{askOf}
 use Rattle.arrival.specs.Arrive.{receiveOf}
@@ -103,6 +103,12 @@ unfolding stateOf
 round-trip Idle = refl
 round-trip (Running r) = refl
 round-trip (Done g) = refl
+
+-- words of another kind than 0, 1 and 2 are a bad transfer
+pub other-kind : (kind f n c : ℕ) → 2 < kind → goodState (stateOf kind f n c) ≡ false
+unfolding stateOf goodState
+other-kind kind f n c h =
+    simp (ne-eqb kind 0 (omega arith), ne-eqb kind 1 (omega arith), ne-eqb kind 2 (omega arith))
 
 -- ---- calls by cases
 

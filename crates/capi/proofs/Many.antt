@@ -1,6 +1,6 @@
 -- Arrivals one after the other: a turn of the loop, and its end. Assumes nothing.
 use Prim.Native.Nat.{ℕ, suc, _+_, _-_, _*_, _/_, _<_, _≤_}
-use mathlib.Core.Path.{_≡_, refl, sym, ap, _∙_}
+use mathlib.Core.Path.{_≡_, sym, ap, _∙_}
 use mathlib.Core.Logic.{_≢_}
 use mathlib.Core.Bool.{Bool, false, _||_, or-false, or-assoc}
 use mathlib.Core.List.{List, [], _∷_}

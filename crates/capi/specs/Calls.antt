@@ -4,14 +4,13 @@ use mathlib.Core.Bool.{Bool, false, _||_, cond}
 use mathlib.Core.List.{List, [], _∷_}
 use lib.Dec.{leb, eqb}
 use lib.ListN.{length, take, drop, set}
-use Rattle.place.specs.Place.{askOf, askedNumber}
+use Rattle.place.specs.Place.{askOf}
 use Rattle.place.specs.declared.Asked.{Asked}
 use Rattle.place.specs.declared.Asked.the-variants.{BadBuffers, BadSettings, NoPlace, Found}
-use Rattle.transfer.specs.Transfer.{numberOf}
+use Rattle.transfer.specs.Transfer.{numberOf, fresh}
 use Rattle.transfer.specs.declared.Transfer.{Transfer}
 use Rattle.transfer.specs.declared.Answer.{Answer}
 use Rattle.transfer.specs.declared.State.{State}
-use Rattle.transfer.specs.declared.State.the-variants.{Idle}
 use Rattle.settings.specs.declared.Settings.{Settings}
 use Rattle.arrival.specs.Arrive.{World, Outcome, receiveOf}
 use Rattle.arrival.specs.Lists.{receiveAll, answersOf, discardsOf}
@@ -20,9 +19,9 @@ use Rattle.capi.specs.Words.{settingsFrom, stateFrom, stateWords}
 
 -- ---- a fresh transfer
 
--- written where there are 4 words
+-- its words, where there are 4 to write
 unfoldable pub newWords : List ℕ → List ℕ
-newWords t = cond (eqb (length t) 4) (stateWords Idle) t
+newWords t = cond (eqb (length t) 4) (stateWords (fresh .state)) t
 
 -- ---- a place asked for alone
 

@@ -124,7 +124,7 @@ fn at_most(a: usize, b: usize) -> usize
     if a <= b { a } else { b }
 }
 
-// A table of which n entries are used. Only their words are read, which is what a call costs on a board with few.
+// A table of which n entries are used. Only their words are read: a board with few entries waits for no more.
 fn entries(words: &[u32], n: usize) -> [Entry; Settings::ENTRIES]
     requires { ⌜ n ≤ 16 ⌝ }
     ensures { λ r. ⌜ r ≡ slotsFrom (now (words .entry)) n 0 16 ⌝ }

@@ -1,6 +1,5 @@
 -- `capi::arch` meets its contract. Assumes nothing.
 use borrow.Author.Tests.{eq-eqb, ne-eqb}
-use borrow.Author.Needs.{needs}
 use Rattle.capi.proofs.arch.Statement.{statement}
 use Rattle.capi.proofs.arch.Tie as tie
 

@@ -1,7 +1,7 @@
 -- `capi::entries` meets its contract. The invariant: the first k entries are read. Assumes nothing.
 use mathlib.Core.Path.{_≡_, ap}
 use Rattle.settings.specs.declared.Settings.{Settings}
-use Prim.Native.Nat.{_≤_, _<_, _-_}
+use Prim.Native.Nat.{_≤_, _-_}
 use native.Mathlib.Omega.{arith}
 use Rattle.capi.proofs.Laws.{Read, read-none, read-more, read-table}
 use borrow.Author.Needs.{needs}

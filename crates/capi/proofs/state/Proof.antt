@@ -1,7 +1,6 @@
 -- `capi::state` meets its contract. Assumes nothing.
 use borrow.Author.Tests.{eq-eqb, ne-eqb}
 use Rattle.capi.specs.Words.{stateOf}
-use borrow.Author.Needs.{needs}
 use Rattle.capi.proofs.state.Statement.{statement}
 use Rattle.capi.proofs.state.Tie as tie
 

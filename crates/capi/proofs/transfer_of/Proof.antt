@@ -1,7 +1,4 @@
 -- `capi::transfer_of` meets its contract. Assumes nothing.
-use mathlib.Core.Path.{ap, _∙_}
-use Rattle.transfer.specs.declared.Transfer.{Transfer}
-use Rattle.transfer.specs.declared.State.{State}
 use borrow.Author.Needs.{needs}
 use Rattle.capi.proofs.transfer_of.Statement.{statement}
 use Rattle.capi.proofs.transfer_of.Tie as tie

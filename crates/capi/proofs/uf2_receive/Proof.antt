@@ -1,5 +1,4 @@
 -- `capi::uf2_receive` meets its contract. Assumes nothing.
-use mathlib.Core.Path.{_∙_}
 use Rattle.capi.proofs.Laws.{receive-short, receive-ran}
 use borrow.Author.Needs.{needs}
 use Rattle.capi.proofs.uf2_receive.Statement.{statement}

@@ -1,9 +1,9 @@
 -- `capi::uf2_receive_all` meets its contract. The invariant: what is still to be received leads to the same end. Assumes nothing.
-use Prim.Native.Nat.{ℕ, _≤_, _+_, _-_, _*_}
-use mathlib.Core.Path.{_≡_, refl, ap, _∙_}
+use Prim.Native.Nat.{_≤_, _-_, _*_}
+use mathlib.Core.Path.{_≡_, refl, _∙_}
 use mathlib.Core.Bool.{false}
 use native.Mathlib.Omega.{arith}
-use lib.ListN.{length, take, drop, length-set}
+use lib.ListN.{length, drop, length-set}
 use Rattle.receiver.specs.Receiver.{world}
 use Rattle.capi.specs.Calls.{arrivalsOf, manyFrom}
 use Rattle.capi.proofs.Many.{all-start, all-more, all-short, all-ran}
