@@ -1,0 +1,32 @@
+-- `capi::link` meets its contract. Assumes nothing.
+use borrow.Author.Tests.{eq-eqb, ne-eqb}
+use Rattle.capi.specs.Words.{linkFrom}
+use borrow.Author.Needs.{needs}
+use Rattle.capi.proofs.link.Statement.{statement}
+use Rattle.capi.proofs.link.Tie as tie
+
+returns : tie.Need-returns
+unfolding linkFrom
+returns c = simp (eq-eqb _ _ (c .if1 .taken))
+
+byte-requires : tie.Need-byte-requires
+byte-requires c κs = search needs
+
+returns-2 : tie.Need-returns-2
+unfolding linkFrom
+returns-2 c = simp (ne-eqb _ _ (c .before .before .if1 .left), eq-eqb _ _ (c .before .if2 .taken), c .byte .ensures)
+
+byte-requires-2 : tie.Need-byte-requires-2
+byte-requires-2 c κs = search needs
+
+returns-3 : tie.Need-returns-3
+unfolding linkFrom
+returns-3 c = simp (ne-eqb _ _ (c .before .before .before .if1 .left), ne-eqb _ _ (c .before .before .if2 .left), eq-eqb _ _ (c .before .if3 .taken), c .byte2 .ensures)
+
+returns-4 : tie.Need-returns-4
+unfolding linkFrom
+returns-4 c = simp (ne-eqb _ _ (c .before .before .if1 .left), ne-eqb _ _ (c .before .if2 .left), ne-eqb _ _ (c .if3 .left))
+
+pub link-spec : {M : Type 1} → statement M
+link-spec =
+    tie.close (tie.spec returns byte-requires returns-2 byte-requires-2 returns-3 returns-4)

@@ -1,0 +1,149 @@
+-- `capi::uf2_receive_all` meets its contract. The invariant: what is still to be received leads to the same end. Assumes nothing.
+use Prim.Native.Nat.{_≤_, _-_, _*_}
+use mathlib.Core.Path.{_≡_, refl, _∙_}
+use mathlib.Core.Bool.{false}
+use native.Mathlib.Omega.{arith}
+use lib.ListN.{length, drop, length-set}
+use Rattle.receiver.specs.Receiver.{world}
+use Rattle.capi.specs.Calls.{arrivalsOf, manyFrom}
+use Rattle.capi.proofs.Many.{all-start, all-more, all-short, all-ran}
+use borrow.Author.Needs.{needs}
+use Rattle.capi.proofs.uf2_receive_all.Statement.{statement}
+use Rattle.capi.proofs.uf2_receive_all.Tie as tie
+
+abbrev Inv-loop : tie.InvT-loop
+Inv-loop settings transfer arrivals results₀ flash₀ seen₀ sectors₀ s t₀ taken₀ n i₀ results flash seen sectors t taken i =
+    (i ≤ n)
+    × (length results ≡ length results₀)
+    × (length flash ≡ length flash₀)
+    × (length seen ≡ length seen₀)
+    × (length sectors ≡ length sectors₀)
+    × (manyFrom n s transfer (world t flash seen sectors) taken results i (arrivalsOf (n - i) (drop (i * 512) arrivals)) ≡ manyFrom n s transfer (world t₀ flash₀ seen₀ sectors₀) false results₀ 0 (arrivalsOf n arrivals))
+
+abbrev μ-loop : tie.MeasureT-loop
+μ-loop settings transfer arrivals results₀ flash₀ seen₀ sectors₀ s t₀ taken₀ n i₀ results flash seen sectors t taken i =
+    n - i
+
+returns : tie.Need-returns Inv-loop μ-loop
+returns c = all-short _ _ _ _ _ _ _ (c .if1 .taken)
+
+settings-of-requires : tie.Need-settings-of-requires Inv-loop μ-loop
+settings-of-requires c κs = search needs
+
+transfer-of-requires : tie.Need-transfer-of-requires Inv-loop μ-loop
+transfer-of-requires c κs = search needs
+
+at-most-requires : tie.Need-at-most-requires Inv-loop μ-loop
+at-most-requires c κs = search needs
+
+loop-holds : tie.Need-loop-holds Inv-loop μ-loop
+loop-holds c = (search needs, refl, refl, refl, refl, all-start _ _ _ _ _ _ _ _)
+
+mul-from : tie.Need-mul-from Inv-loop μ-loop
+mul-from c = search needs
+
+add-to : tie.Need-add-to Inv-loop μ-loop
+add-to c = search needs
+
+sub-receive : tie.Need-sub-receive Inv-loop μ-loop
+sub-receive c = search needs
+
+part-receive-start : tie.Need-part-receive-start Inv-loop μ-loop
+part-receive-start c = search needs
+
+part-receive-end : tie.Need-part-receive-end Inv-loop μ-loop
+part-receive-end c = search needs
+
+receive-requires : tie.Need-receive-requires Inv-loop μ-loop
+receive-requires c κs = search needs
+
+number-requires : tie.Need-number-requires Inv-loop μ-loop
+number-requires c κs = search needs
+
+report-requires : tie.Need-report-requires Inv-loop μ-loop
+report-requires c κs = search needs
+
+mul-results : tie.Need-mul-results Inv-loop μ-loop
+mul-results c =
+    let turn = c .before .before .before .before .before .before .before .before .before .before .before .before .before .before in
+    let made = turn .before .before in
+    let begin = made .before .before .before .before .before .before .before .before .before .before .before .before in
+    omega (arith, turn .loop-test .taken, made .at-most .ensures .1 .1, begin .good .1 .1 .1 .0 .1)
+
+slice-write-results : tie.Need-slice-write-results Inv-loop μ-loop
+slice-write-results c = search needs
+
+is-taken-requires : tie.Need-is-taken-requires Inv-loop μ-loop
+is-taken-requires c κs = search needs
+
+add-i : tie.Need-add-i Inv-loop μ-loop
+add-i c = search needs
+
+loop-less : tie.Need-loop-less Inv-loop μ-loop
+loop-less c = search needs
+
+loop-again : tie.Need-loop-again Inv-loop μ-loop
+loop-again c =
+    let got = c .before .before .before .before .before .before .before .before .before .before in
+    let turn = got .before .before .before .before .before in
+    let at = turn .before .loop in
+    (search needs, simp length-set (at .inv .1), search needs, search needs, search needs, all-more _ _ _ _ _ _ _ _ _ _ _ (turn .loop-test .taken) (got .receive .ensures) (c .before .before .number .ensures) (c .before .report .ensures) (c .is-taken .ensures) ∙ at .inv .5)
+
+keep-requires : tie.Need-keep-requires Inv-loop μ-loop
+keep-requires c κs = search needs
+
+same-length : tie.Need-same-length Inv-loop μ-loop
+same-length c = search needs
+
+same-length-2 : tie.Need-same-length-2 Inv-loop μ-loop
+same-length-2 c = search needs
+
+same-length-3 : tie.Need-same-length-3 Inv-loop μ-loop
+same-length-3 c = search needs
+
+same-length-4 : tie.Need-same-length-4 Inv-loop μ-loop
+same-length-4 c = search needs
+
+same-length-5 : tie.Need-same-length-5 Inv-loop μ-loop
+same-length-5 c = search needs
+
+returns-2 : tie.Need-returns-2 Inv-loop μ-loop
+returns-2 c =
+    let kept = c .before .before in
+    let out = kept .before .before in
+    let made = out .before .before in
+    let read = made .before in
+    all-ran _ _ _ _ _ _ _ (out .before .loop .t) (out .before .loop .taken) (read .before .before .before .if1 .left) (made .at-most .ensures .0) (read .before .before .settings-of .ensures) (read .transfer-of .ensures) (out .loop-test .left) (out .before .loop .inv .5) (kept .keep .ensures)
+
+pub uf2-receive-all-spec : {M : Type 1} → statement M
+uf2-receive-all-spec =
+    tie.close
+    (tie.spec
+    Inv-loop
+    μ-loop
+    returns
+    settings-of-requires
+    transfer-of-requires
+    at-most-requires
+    loop-holds
+    mul-from
+    add-to
+    sub-receive
+    part-receive-start
+    part-receive-end
+    receive-requires
+    number-requires
+    report-requires
+    mul-results
+    slice-write-results
+    is-taken-requires
+    add-i
+    loop-less
+    loop-again
+    keep-requires
+    same-length
+    same-length-2
+    same-length-3
+    same-length-4
+    same-length-5
+    returns-2)
