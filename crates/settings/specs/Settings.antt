@@ -78,8 +78,8 @@ accepts e f =
 -- ---- the table
 
 -- an entry of no sectors, which accepts nothing, by its user families that are not used
-abbrev pub blankEntry : List ℕ → Entry
-blankEntry us =
+abbrev pub blankWith : List ℕ → Entry
+blankWith us =
     record {
       first = 0;
       sectors = 0;
@@ -96,7 +96,7 @@ blankEntry us =
 
 -- what stands past the table's end, where no test looks
 abbrev pub emptyEntry : Entry
-emptyEntry = blankEntry []
+emptyEntry = blankWith []
 
 abbrev pub entryAt : List Entry → ℕ → Entry
 entryAt table k = getD table k emptyEntry
@@ -179,6 +179,10 @@ goodSettings s len =
 
 -- ---- settings of a board with no partition table
 
+-- a blank entry of the table, with its four user families
+abbrev pub blankEntry : Entry
+blankEntry = blankWith (replicate 4 0)
+
 -- no partition table, Arm alone, absolute allowed or not
 abbrev pub armOnly : Bool → Settings
 armOnly b =
@@ -189,5 +193,5 @@ armOnly b =
       «auto_switch» = false;
       absolute = b;
       count = 0;
-      table = replicate 16 (blankEntry (replicate 4 0));
+      table = replicate 16 blankEntry;
     }
