@@ -1,6 +1,6 @@
 -- The parts that the code checks make up the definition; and what good settings tell. Assumes nothing.
 use Prim.Native.Nat.{ℕ, _+_, _*_, _≤_, _<_}
-use mathlib.Core.Path.{_≡_, refl, _∙_}
+use mathlib.Core.Path.{_≡_, refl, ap, _∙_}
 use mathlib.Core.Logic.{_≢_}
 use mathlib.Core.Bool.{Bool, true, false, _||_, not, or-true, or-assoc, or-comm}
 use mathlib.Core.List.{List}
@@ -9,7 +9,7 @@ use lib.Dec.{ltb, leb, eqb}
 use borrow.Author.Tests.{le-leb, lt-leb, le-ltb, lt-ltb, ltb-true, ltb-false, eqb-false, ne-eqb, not-true, not-false}
 use Rattle.sets.proofs.Tests.{split, clash, is-false, or-left, or-right}
 use Rattle.sets.specs.Sets.{any}
-use Rattle.sets.proofs.Laws.{any-hit, any-none, any-all, any-found}
+use Rattle.sets.proofs.Laws.{any-zero, any-hit, any-none, any-all, any-found}
 use Rattle.settings.specs.declared.Entry.{Entry}
 use Rattle.settings.specs.declared.Settings.{Settings}
 use Rattle.settings.specs.Settings.{isA, isUnowned, linkTarget, entryAt, enabled, countOver, noSectors, runsPast, overlapAt, sharesWith, sharesSector, linksUp, linksToB, manyUsers, reservedUser, badEntry, goodSettings}
@@ -136,6 +136,11 @@ module _ (s : Settings) (len : ℕ) where
   right-any : enabled s (s .current) ≡ true → s .count ≤ 16 → any (s .count) (badEntry (s .table) (s .count) len) ≡ false → goodSettings s len ≡ true
   unfolding goodSettings
   right-any e l h = let z = le-ltb 16 (s .count) l in simp (e, z, h)
+
+  pub good-none : enabled s (s .current) ≡ true → s .count ≡ 0 → goodSettings s len ≡ true
+  good-none e z =
+      right-any e (omega arith)
+      (ap (λ (n : ℕ). any n (badEntry (s .table) (s .count) len)) z ∙ any-zero (badEntry (s .table) (s .count) len))
 
   -- what is left to ask where no entry is wrong by itself or by its link
   pub good-rest : enabled s (s .current) ≡ true → s .count ≤ 16 → any (s .count) (wrongEntry (s .table) len) ≡ false → goodSettings s len ≡ not (any (s .count) (sharesBelow (s .table)))

@@ -265,13 +265,17 @@ pub fn good(settings: Settings, flash_len: usize) -> bool
 {
     let current = settings.current;
     let count = settings.count as usize;
-    let table = settings.table;
     if !is_enabled(settings, current) {
         return false;
+    }
+    // no table, and so no copy of one
+    if count == 0 {
+        return true;
     }
     if Settings::ENTRIES < count {
         return false;
     }
+    let table = settings.table;
     if any_wrong(table, count, flash_len) {
         return false;
     }

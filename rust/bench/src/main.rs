@@ -45,7 +45,8 @@ fn sixteen() -> Settings {
 /// The settings that words stand for, in plain Rust.
 fn read(words: &[u32]) -> Settings {
     let mut table = [Entry::EMPTY; 16];
-    for (e, w) in table.iter_mut().zip(words[6..].chunks_exact(15)) {
+    let used = words[5] as usize;
+    for (e, w) in table.iter_mut().zip(words[6..].chunks_exact(15)).take(used) {
         let index = w[14].min(255) as u8;
         *e = Entry {
             first: w[0],
