@@ -1,13 +1,12 @@
 -- What a screened arrival has: a refusal is one of 4 to 11, and a block that passes lies in its place. Assumes nothing.
 use Prim.Native.Nat.{ℕ, _+_, _-_, _*_, _%_, _<_, _≤_}
 use mathlib.Core.Path.{_≡_, refl, sym, subst, _∙_}
-use mathlib.Core.Bool.{Bool, true, false, not, cond, _||_}
+use mathlib.Core.Bool.{Bool, true, false, not, cond}
 use mathlib.Core.List.{List}
 use native.Mathlib.Omega.{arith}
-use lib.Dec.{eqb, leb, ltb}
+use lib.Dec.{eqb}
 use lib.ListN.{length}
-use borrow.Author.Tests.{eqb-true, ltb-false, leb-false, not-false}
-use Rattle.sets.proofs.Tests.{split, or-left, or-right}
+use Rattle.sets.proofs.Tests.{split}
 use Rattle.block.specs.Block.{fieldAt, hasFlag, fieldsOf, flaggedOf, headerOf}
 use Rattle.block.specs.declared.Block.{Block}
 use Rattle.block.specs.declared.Header.{Header}
@@ -23,6 +22,7 @@ use Rattle.place.proofs.Theorems.{place-inside}
 use Rattle.transfer.specs.Transfer.{numberOf}
 use Rattle.transfer.specs.declared.Answer.{Answer}
 use Rattle.screen.specs.Screen.{badNumbers, badAddress, placed, headed, screenOf}
+use Rattle.screen.proofs.Laws.{numbers-false, address-false}
 use Rattle.screen.specs.declared.Page.{Page}
 use Rattle.screen.specs.declared.Screened.{Screened}
 use Rattle.screen.specs.declared.Screened.the-variants.{Refused, Passed}
@@ -83,11 +83,8 @@ module _ (s : Settings) (len : ℕ) (a : List ℕ) where
       (λ e10.
       good-cond (badAddress size (fieldsOf a)) _ _ (omega arith, omega arith)
       (λ e11.
-      let n : ℕ = fieldAt a 20 in
-      let t : ℕ = fieldAt a 24 in
-      let x : ℕ = fieldAt a 12 in
-      let p : eqb t 0 || ltb size (t * 256) ≡ false = or-left (eqb t 0 || ltb size (t * 256)) (leb t n) e10 in
-      let q : ltb x 0x10000000 || not (eqb (x % 256) 0) ≡ false = or-left (ltb x 0x10000000 || not (eqb (x % 256) 0)) (ltb size (x - 0x10000000 + 256)) e11 in
+      let n = numbers-false size (fieldsOf a) e10 in
+      let x = address-false size (fieldsOf a) e11 in
       record {
         start = start;
         size = size;
@@ -95,11 +92,11 @@ module _ (s : Settings) (len : ℕ) (a : List ℕ) where
         head = refl;
         number = refl;
         at = refl;
-        low = ltb-false x 0x10000000 (or-left (ltb x 0x10000000) (not (eqb (x % 256) 0)) q);
-        aligned = eqb-true (x % 256) 0 (not-false (eqb (x % 256) 0) (or-right (ltb x 0x10000000) (not (eqb (x % 256) 0)) q));
-        ends = ltb-false size (x - 0x10000000 + 256) (or-right (ltb x 0x10000000 || not (eqb (x % 256) 0)) (ltb size (x - 0x10000000 + 256)) e11);
-        below = leb-false t n (or-right (eqb t 0 || ltb size (t * 256)) (leb t n) e10);
-        room = ltb-false size (t * 256) (or-right (eqb t 0) (ltb size (t * 256)) p);
+        low = x .window;
+        aligned = x .whole;
+        ends = x .inside;
+        below = n .below;
+        room = n .room;
       })))
 
   header-good : (h : Header) → Fielded a h → Good s len a (headed s len h)

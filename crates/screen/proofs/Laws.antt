@@ -1,5 +1,5 @@
 -- The screening by cases: the header, the place, and a block beside its place. Assumes nothing.
-use mathlib.Core.Path.{_≡_, sym}
+use mathlib.Core.Path.{_≡_, refl, sym}
 use mathlib.Core.Bool.{true, false, _||_, not}
 use mathlib.Core.List.{List, [], _∷_}
 use mathlib.Core.Logic.{_≢_, ⊎-elim}
@@ -11,7 +11,7 @@ use lib.Dec.{ltb, leb, eqb}
 use borrow.Author.Tests.{le-ltb, lt-leb, eq-eqb, ne-eqb, ltb-false, leb-false, eqb-true, eqb-false, not-false}
 use Rattle.sets.proofs.Tests.{split, or-left, or-right}
 use Rattle.block.proofs.Header.{the-type}
-use Rattle.block.specs.Block.{headerOf}
+use Rattle.block.specs.Block.{headerOf, headerNumber}
 use Rattle.block.specs.declared.Block.{Block}
 use Rattle.block.specs.declared.Header.{Header}
 use Rattle.block.specs.declared.Header.the-variants as header
@@ -19,6 +19,7 @@ use Rattle.settings.specs.declared.Settings.{Settings}
 use Rattle.place.specs.Place.{placeOf}
 use Rattle.place.specs.declared.Place.{Place}
 use Rattle.place.specs.declared.Place.the-variants.{At}
+use Rattle.transfer.specs.Transfer.{numberOf}
 use Rattle.transfer.specs.declared.Answer.the-variants.{BadPayload, BadNumbers, BadAddress}
 use Rattle.screen.specs.Screen.{badNumbers, badAddress, pageAt, placed, headerRefusal, headed, screenOf}
 use Rattle.screen.specs.declared.Screened.the-variants.{Refused, Passed}
@@ -111,3 +112,12 @@ module _ (s : Settings) (len : ℕ) (a : List ℕ) where
   pub screen-placed : (b : Block) (p : Place) → headerOf a ≡ header.Found b → placeOf s len (b .family) ≡ p → screenOf s len a ≡ placed p b
   unfolding screenOf headed
   screen-placed b p e q = rw (e, q)
+
+-- ---- the numbers of the header's refusals are the answers'
+
+pub refusal-number : (h : Header) → headerNumber h ≢ 0 → numberOf (headerRefusal h) ≡ headerNumber h
+refusal-number header.NotBlock n = refl
+refusal-number header.Container n = refl
+refusal-number header.Comment n = refl
+refusal-number header.NoFamily n = refl
+refusal-number (header.Found b) n = absurd (n refl)

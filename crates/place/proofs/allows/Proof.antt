@@ -1,3 +1,4 @@
+-- `place::allows` meets its contract. Assumes nothing.
 use borrow.Author.Tests.{ne-eqb}
 use Rattle.place.specs.Place.{passAllows}
 use borrow.Author.Needs.{needs}

@@ -1,3 +1,4 @@
+-- `place::ask` meets its contract. Assumes nothing.
 use mathlib.Core.Path.{sym, ap, _∙_}
 use borrow.Author.Tests.{not-true, not-false}
 use Rattle.place.specs.Place.{foundAt}

@@ -1,3 +1,4 @@
+-- `place::bootable` meets its contract. Assumes nothing.
 use borrow.Author.Needs.{needs}
 use Rattle.place.proofs.bootable.Statement.{statement}
 use Rattle.place.proofs.bootable.Tie as tie

@@ -1,3 +1,4 @@
+-- `place::takes` meets its contract. Assumes nothing.
 use Rattle.place.specs.Place.{passTakes}
 use borrow.Author.Needs.{needs}
 use Rattle.place.proofs.takes.Statement.{statement}

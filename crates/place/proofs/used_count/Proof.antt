@@ -1,3 +1,4 @@
+-- `place::used_count` meets its contract. Assumes nothing.
 use borrow.Author.Tests.{le-leb, lt-leb}
 use Rattle.place.proofs.used_count.Statement.{statement}
 use Rattle.place.proofs.used_count.Tie as tie

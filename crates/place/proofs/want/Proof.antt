@@ -1,3 +1,4 @@
+-- `place::want` meets its contract. Assumes nothing.
 use Rattle.place.specs.Place.{wantedOf}
 use borrow.Author.Needs.{needs}
 use Rattle.place.proofs.want.Statement.{statement}

@@ -1,3 +1,4 @@
+-- `place::whole_if` meets its contract. Assumes nothing.
 use borrow.Author.Needs.{needs}
 use Rattle.place.proofs.whole_if.Statement.{statement}
 use Rattle.place.proofs.whole_if.Tie as tie

@@ -1,3 +1,4 @@
+-- `settings::accepts_family` meets its contract. Assumes nothing.
 use Rattle.settings.specs.Settings.{accepts}
 use borrow.Author.Needs.{needs}
 use Rattle.settings.proofs.accepts_family.Statement.{statement}

@@ -1,3 +1,4 @@
+-- `settings::alone_bad` meets its contract. Assumes nothing.
 use Rattle.settings.specs.Parts.{aloneBad}
 use borrow.Author.Needs.{needs}
 use Rattle.settings.proofs.alone_bad.Statement.{statement}

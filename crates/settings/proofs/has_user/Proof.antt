@@ -1,3 +1,4 @@
+-- `settings::has_user` meets its contract. Assumes nothing.
 use mathlib.Core.Path.{refl}
 use Rattle.sets.specs.Sets.{any}
 use Rattle.settings.specs.Settings.{hasUser}

@@ -1,3 +1,4 @@
+-- `settings::reserved_user` meets its contract. Assumes nothing.
 use Rattle.sets.specs.Sets.{any}
 use Rattle.settings.specs.Settings.{reservedUser}
 use borrow.Author.Needs.{needs}

@@ -1,3 +1,4 @@
+-- `settings::sectors_overlap` meets its contract. Assumes nothing.
 use mathlib.Core.Path.{sym}
 use Rattle.settings.proofs.Overlap.{overlap-before, overlap-after, overlap-rest}
 use borrow.Author.Needs.{needs}
