@@ -1,22 +1,22 @@
 -- Demand 3 over an invariant of flash and sector map: transfer, seen map and answers are told by the set of seen blocks alone.
 -- Nothing here knows of flash. Assumes nothing.
-use Prim.Native.Nat.{ℕ, suc, _+_, _<_, _≤_}
-use mathlib.Core.Path.{_≡_, refl, sym, ap, subst, _∙_, fun-ext}
-use mathlib.Core.Bool.{Bool, true, false, not, cond, _&&_, _||_, or-assoc, or-comm}
-use mathlib.Core.List.{List, [], _∷_, _++_}
+use Prim.Native.Nat.{ℕ, _+_, _<_, _≤_}
+use mathlib.Core.Path.{_≡_, refl, sym, ap, _∙_}
+use mathlib.Core.Bool.{Bool, true, false, cond}
+use mathlib.Core.List.{List, [], _∷_}
 use native.Mathlib.Omega.{arith}
 use lib.Dec.{eqb, ltb}
 use lib.ListN.{length}
-use borrow.Author.Tests.{lt-ltb, ltb-true, ltb-false, eqb-true, ne-eqb}
-use Rattle.sets.specs.Sets.{Set, none, add, size, Within}
-use Rattle.sets.proofs.Tests.{split, clash, eqb-same}
-use Rattle.sets.proofs.Laws.{add-idle, size-none, size-lt, size-add, size-some, size-full}
+use borrow.Author.Tests.{lt-ltb, ltb-true, ne-eqb}
+use Rattle.sets.specs.Sets.{Set, none, add, size}
+use Rattle.sets.proofs.Tests.{split, eqb-same}
+use Rattle.sets.proofs.Laws.{add-idle, size-none, size-lt, size-add, size-some}
 use Rattle.bitmap.specs.Bitmap.{markedIn, withMark, mapOf}
 use Rattle.bitmap.proofs.MapLaws.{map-none, marked-map, mark-map}
-use Rattle.transfer.specs.Transfer.{running, sameHead, counted, raised, taken, stepOf}
+use Rattle.transfer.specs.Transfer.{running, counted, raised, taken, stepOf}
 use Rattle.transfer.specs.declared.Head.{Head}
-use Rattle.transfer.specs.declared.State.the-variants.{Idle, Running, Done}
-use Rattle.transfer.specs.declared.Step.the-variants.{Stays, Takes}
+use Rattle.transfer.specs.declared.State.the-variants.{Done}
+use Rattle.transfer.specs.declared.Step.the-variants.{Takes}
 use Rattle.transfer.specs.declared.Answer.{Answer}
 use Rattle.transfer.specs.declared.Answer.the-variants.{Finished, Again}
 use Rattle.screen.specs.declared.Page.{Page}

@@ -1,12 +1,12 @@
 -- What has been decided of an arrival: an answer up to 13, or a page that passed rows 1 to 11 and a step that takes it. Assumes nothing.
 use Prim.Native.Nat.{ℕ, _+_, _≤_, _<_}
-use mathlib.Core.Path.{_≡_, refl, sym, ap, subst, _∙_}
-use mathlib.Core.Bool.{Bool, true, false, not, cond, _&&_}
+use mathlib.Core.Path.{_≡_, refl, sym, subst}
+use mathlib.Core.Bool.{Bool, true, false, cond, _&&_}
 use mathlib.Core.List.{List}
 use native.Mathlib.Omega.{arith}
-use lib.Dec.{eqb, leb, ltb}
+use lib.Dec.{eqb, ltb}
 use lib.ListN.{length}
-use borrow.Author.Tests.{eqb-true, lt-ltb, ltb-true, ltb-false, le-leb, not-true, not-false}
+use borrow.Author.Tests.{eqb-true, le-leb}
 use Rattle.sets.proofs.Tests.{split, and-left, and-right}
 use Rattle.bitmap.specs.Bitmap.{markedIn}
 use Rattle.flash.specs.Flash.{flashLength}

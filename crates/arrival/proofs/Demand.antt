@@ -1,28 +1,26 @@
 -- The claims of specs/Demand.antt hold. Assumes nothing.
 use Prim.Native.Nat.{ℕ, _+_, _-_, _/_, _≤_, _<_}
 use mathlib.Core.Path.{_≡_, refl, sym, ap, subst, _∙_, fun-ext}
-use mathlib.Core.Bool.{Bool, true, false, not, cond, _&&_, _||_, or-comm, and-false, not-and-self}
+use mathlib.Core.Bool.{Bool, true, false, not, _&&_, _||_, or-comm, and-false, not-and-self}
 use mathlib.Core.List.{List, [], _∷_, _++_, map}
 use native.Mathlib.Omega.{arith}
-use lib.Dec.{eqb, ltb, leb}
+use lib.Dec.{eqb, ltb}
 use lib.ListN.{length, getD, List·getD-eq-default}
-use borrow.Author.Tests.{eq-eqb, ne-eqb, eqb-true, lt-ltb, le-ltb, ltb-true, ltb-false, le-leb, lt-leb}
-use Rattle.sets.specs.Sets.{Set, none, add, size, any}
-use Rattle.sets.proofs.Tests.{split, clash, is-false, eqb-same}
-use Rattle.sets.proofs.Laws.{add-idle, size-none, size-le, size-lt, size-add, size-full, any-hit}
+use borrow.Author.Tests.{eq-eqb, ne-eqb, ltb-true, ltb-false, le-leb, lt-leb}
+use Rattle.sets.specs.Sets.{Set, none, add, size}
+use Rattle.sets.proofs.Tests.{split, clash, is-false}
+use Rattle.sets.proofs.Laws.{add-idle, size-le, size-add, size-full, any-hit}
 use Rattle.bitmap.specs.Bitmap.{mapOf}
-use Rattle.block.specs.Block.{fieldAt}
-use Rattle.flash.specs.Flash.{payloadOf, spans}
+use Rattle.flash.specs.Flash.{spans}
 use Rattle.settings.specs.declared.Settings.{Settings}
-use Rattle.transfer.specs.Transfer.{numberOf, running, counted, raised}
-use Rattle.transfer.specs.declared.State.the-variants.{Idle, Done}
+use Rattle.transfer.specs.Transfer.{raised}
+use Rattle.transfer.specs.declared.State.the-variants.{Idle}
 use Rattle.transfer.specs.declared.Answer.{Answer}
-use Rattle.transfer.specs.declared.Answer.the-variants.{Finished, Again, Written, Completed}
 use Rattle.arrival.specs.Arrive.{Held, World, Outcome, receiveOf}
 use Rattle.arrival.specs.Lists.{receiveAll, answersOf}
-use Rattle.arrival.specs.Demand.{File, earns, ValidFile, Foreign, Sent, nothing, own, other, among, seenOf, howMany, isWhole, storageOf, holds, touchedBy, replyTo, withArrival, repliesTo, headIn, Ends, EveryList, List-ends, List-answers, isCompleted, Completed-exactly, Same-set-same-end, Either-first}
-use Rattle.arrival.proofs.Items.{Item, refused, block, arrive, run, answers}
-use Rattle.arrival.proofs.Count.{Pages, count, itemOf, Keeps, After, untouched, begun, verdict, verdicts, seenBy, block-step, run-after, told-after, nothing-seen, some-seen, still-running, whole-done, seen-map, keeps-of, after, after-is}
+use Rattle.arrival.specs.Demand.{File, earns, ValidFile, Foreign, Sent, nothing, own, other, among, seenOf, isWhole, replyTo, withArrival, repliesTo, Ends, List-ends, List-answers, isCompleted, Completed-exactly, Same-set-same-end, Either-first}
+use Rattle.arrival.proofs.Items.{block, arrive, run}
+use Rattle.arrival.proofs.Count.{Pages, count, Keeps, After, untouched, begun, verdict, verdicts, block-step, run-after, told-after, nothing-seen, some-seen, still-running, whole-done, seen-map, keeps-of, after, after-is}
 use Rattle.arrival.proofs.Cells.{cell, cell-none, cell-owned, cell-free, getD-buffer}
 use Rattle.arrival.proofs.Effect.{spans-is, Valid, layout, sectorsOf, apart-of, effect, length-effect, grows}
 use Rattle.arrival.proofs.Decided.{flashOf}

@@ -1,19 +1,18 @@
 -- What a set of pages leaves in flash and sector map, and that one page more makes it grow. Assumes nothing.
 use Prim.Native.Nat.{ℕ, _+_, _-_, _/_, _%_, _<_, _≤_}
 use mathlib.Core.Path.{_≡_, refl, sym, ap, subst, _∙_, fun-ext}
-use mathlib.Core.Bool.{Bool, true, false, not, cond, _&&_, _||_, and-false, and-true}
+use mathlib.Core.Bool.{true, not, cond, _&&_, and-false, and-true}
 use mathlib.Core.List.{List}
-use mathlib.Core.Logic.{_≢_}
 use native.Mathlib.Omega.{arith}
 use lib.Dec.{eqb, leb, ltb}
 use lib.ListN.{length, getD}
-use borrow.Author.Tests.{eq-eqb, ne-eqb, eqb-true, eqb-false, lt-ltb, le-leb, leb-true, ltb-true}
-use Rattle.sets.specs.Sets.{Set, none, add, any}
-use Rattle.sets.proofs.Tests.{split, eqb-same, and-left, and-right}
+use borrow.Author.Tests.{eq-eqb, eqb-true, lt-ltb, le-leb, leb-true, ltb-true}
+use Rattle.sets.specs.Sets.{Set, none, add}
+use Rattle.sets.proofs.Tests.{split, and-left, and-right}
 use Rattle.bitmap.specs.Bitmap.{markedIn, withMark, mapOf}
-use Rattle.bitmap.proofs.Laws.{length-mark, length-unmarked}
+use Rattle.bitmap.proofs.Laws.{length-mark}
 use Rattle.bitmap.proofs.MapLaws.{map-none, marked-map, mark-map}
-use Rattle.flash.specs.Flash.{eraseAt, spans, roomAt, storeAt}
+use Rattle.flash.specs.Flash.{spans}
 use Rattle.flash.proofs.Laws.{length-erase, getD-erase, room-yes, length-store, getD-store}
 use Rattle.arrival.specs.Arrive.{Held, clearedIf, wipedIf, preparedAt, pagedAt}
 use Rattle.arrival.proofs.Cells.{Layout, Apart, touched, touched-add, touched-none, Leaves, buffer, length-buffer, buffer-none, buffer-add}

@@ -1,33 +1,28 @@
 -- The claims of specs/Facts.antt hold. Assumes nothing.
 use Prim.Native.Nat.{ℕ, _+_, _/_, _%_, _≤_, _<_}
-use mathlib.Core.Path.{_≡_, refl, sym, ap, subst, _∙_}
+use mathlib.Core.Path.{_≡_, refl, subst, _∙_}
 use mathlib.Core.Logic.{_⊎_, ⊎-elim}
-use mathlib.Core.Bool.{Bool, true, false, cond, _&&_, not}
+use mathlib.Core.Bool.{Bool, true, false}
 use mathlib.Core.List.{List}
 use native.Mathlib.Omega.{arith}
-use lib.Dec.{eqb, ltb, leb}
+use lib.Dec.{eqb}
 use lib.ListN.{length, getD}
 use borrow.Author.Tests.{ne-eqb}
 use Rattle.sets.proofs.Tests.{split, is-false}
-use Rattle.bitmap.specs.Bitmap.{markedIn}
 use Rattle.bitmap.proofs.Laws.{length-mark, length-unmarked}
-use Rattle.block.specs.Block.{fieldAt, headerOf}
+use Rattle.block.specs.Block.{fieldAt}
 use Rattle.block.proofs.Laws.{header-marked}
 use Rattle.flash.specs.Flash.{payloadOf, spans, roomAt}
 use Rattle.flash.proofs.Laws.{getD-store}
 use Rattle.settings.specs.declared.Settings.{Settings}
 use Rattle.place.specs.Place.{placeOf}
 use Rattle.place.specs.declared.Place.{Place}
-use Rattle.place.specs.declared.Place.the-variants.{Nowhere, At}
 use Rattle.transfer.specs.Transfer.{numberOf}
-use Rattle.transfer.specs.declared.State.{State}
-use Rattle.transfer.specs.declared.Taken.{Taken}
-use Rattle.screen.specs.Screen.{headed, screenOf}
-use Rattle.screen.specs.declared.Page.{Page}
-use Rattle.arrival.specs.Arrive.{Held, World, Outcome, Decision, stays, takes, decide, clearedIf, wipedIf, preparedAt, pagedAt, tookOf, unchanged, done, receiveOf}
-use Rattle.arrival.specs.Facts.{Refusals-change-nothing, Alike, Answers-read-no-flash, Lengths-kept, Arrivals-keep-lengths, Outside, Outside-kept, Flagged, Flags-ignored}
-use Rattle.arrival.proofs.Effect.{length-prepared, length-paged, sectors-paged, getD-prepared, spans-true}
-use Rattle.arrival.proofs.Screened.{Passing, passing-inside}
+use Rattle.screen.specs.Screen.{screenOf}
+use Rattle.arrival.specs.Arrive.{Held, World, Decision, stays, takes, decide, clearedIf, wipedIf, preparedAt, pagedAt, tookOf, unchanged, done, receiveOf}
+use Rattle.arrival.specs.Facts.{Refusals-change-nothing, Answers-read-no-flash, Lengths-kept, Arrivals-keep-lengths, Outside, Outside-kept, Flags-ignored}
+use Rattle.arrival.proofs.Effect.{length-paged, sectors-paged, getD-prepared, spans-true}
+use Rattle.arrival.proofs.Screened.{passing-inside}
 use Rattle.arrival.proofs.Decided.{flashOf, decisionOf, Decided, kept, took, decided, took-number}
 
 -- ---- answers 1 to 13

@@ -2,12 +2,12 @@
 -- Assumes nothing.
 use Prim.Native.Nat.{ℕ, _+_, _-_, _≤_, _<_}
 use mathlib.Core.Path.{_≡_, refl, sym, ap, subst, _∙_, fun-ext}
-use mathlib.Core.Bool.{Bool, true, false, cond, _&&_, _||_, and-or-distrib-left, or-assoc, or-comm, and-false}
+use mathlib.Core.Bool.{Bool, true, false, _&&_, _||_, and-or-distrib-left, or-assoc, or-comm, and-false}
 use mathlib.Core.List.{List, [], _∷_, _++_, map}
 use native.Mathlib.Omega.{arith}
-use lib.Dec.{eqb, ltb, leb}
+use lib.Dec.{eqb, ltb}
 use lib.ListN.{length}
-use borrow.Author.Tests.{eqb-true, eqb-false, eq-eqb, lt-ltb, ltb-true}
+use borrow.Author.Tests.{eqb-true, eqb-false, lt-ltb, ltb-true}
 use Rattle.sets.specs.Sets.{Set, none, add}
 use Rattle.sets.proofs.Tests.{split, clash, is-false, eqb-same, and-left, and-right}
 use Rattle.block.specs.Block.{fieldAt}
@@ -16,22 +16,17 @@ use Rattle.flash.proofs.Laws.{length-right}
 use Rattle.settings.specs.declared.Settings.{Settings}
 use Rattle.place.specs.Place.{placeOf}
 use Rattle.place.specs.declared.Place.{Place}
-use Rattle.place.specs.declared.Place.the-variants.{Nowhere, At}
+use Rattle.place.specs.declared.Place.the-variants.{At}
 use Rattle.transfer.specs.Transfer.{numberOf, taken, stepOf}
-use Rattle.transfer.specs.declared.Head.{Head}
-use Rattle.transfer.specs.declared.State.{State}
-use Rattle.transfer.specs.declared.State.the-variants.{Idle, Running, Done}
-use Rattle.transfer.specs.declared.Step.the-variants.{Stays, Takes}
-use Rattle.transfer.specs.declared.Answer.{Answer}
+use Rattle.transfer.specs.declared.State.the-variants.{Idle}
 use Rattle.screen.specs.Screen.{screenOf}
 use Rattle.screen.specs.declared.Page.{Page}
 use Rattle.screen.specs.declared.Screened.{Screened}
 use Rattle.screen.specs.declared.Screened.the-variants.{Refused, Passed}
 use Rattle.arrival.specs.Arrive.{World, Outcome, done, receiveOf}
-use Rattle.arrival.specs.Tally.{headOf}
 use Rattle.arrival.specs.Demand.{File, earns, ValidFile, Foreign, Sent, nothing, own, other, sameBytes, among, seenOf, storageIn, storageOf, headIn}
 use Rattle.arrival.proofs.Items.{Item, refused, block, brought, arrive}
-use Rattle.arrival.proofs.Count.{Pages, count, pageOf, itemOf, Parts, end, ours, foreign, seeing, seenBy, Opens}
+use Rattle.arrival.proofs.Count.{Pages, pageOf, itemOf, Parts, end, ours, foreign, seeing, seenBy, Opens}
 use Rattle.arrival.proofs.Effect.{Fits, Valid}
 use Rattle.arrival.proofs.Screened.{Passing, Good, screen-good, passing-fits, passing-few}
 use Rattle.arrival.proofs.Decided.{flashOf, Board, Rows, stopped, through, rows, raised-number}

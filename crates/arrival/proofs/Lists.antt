@@ -1,17 +1,15 @@
 -- Rows 1 to 3 stay passed, so that a list of arrivals runs as the list of what they are screened to. Assumes nothing.
 use Prim.Native.Nat.{ℕ, _+_, _≤_}
-use mathlib.Core.Path.{_≡_, refl, sym, ap, subst, _∙_}
+use mathlib.Core.Path.{_≡_, refl, ap, _∙_}
 use mathlib.Core.Bool.{Bool, true, false, cond}
 use mathlib.Core.List.{List, [], _∷_, map}
 use native.Mathlib.Omega.{arith}
 use lib.ListN.{length}
-use Rattle.sets.proofs.Tests.{split}
 use Rattle.flash.specs.Flash.{flashLength, payloadOf}
 use Rattle.settings.specs.declared.Settings.{Settings}
 use Rattle.settings.specs.Settings.{goodSettings}
-use Rattle.transfer.specs.Transfer.{goodState, counted, taken}
+use Rattle.transfer.specs.Transfer.{goodState, taken}
 use Rattle.transfer.specs.declared.Head.{Head}
-use Rattle.transfer.specs.declared.State.{State}
 use Rattle.transfer.specs.declared.Answer.{Answer}
 use Rattle.screen.specs.Screen.{screenOf}
 use Rattle.screen.specs.declared.Screened.{Screened}

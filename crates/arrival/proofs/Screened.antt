@@ -1,6 +1,6 @@
 -- What a screened arrival has: a refusal is one of 4 to 11, and a block that passes lies in its place. Assumes nothing.
 use Prim.Native.Nat.{ℕ, _+_, _-_, _*_, _%_, _<_, _≤_}
-use mathlib.Core.Path.{_≡_, refl, sym, subst, _∙_}
+use mathlib.Core.Path.{_≡_, refl, sym, subst}
 use mathlib.Core.Bool.{Bool, true, false, not, cond}
 use mathlib.Core.List.{List}
 use native.Mathlib.Omega.{arith}
@@ -20,7 +20,6 @@ use Rattle.place.specs.declared.Place.{Place}
 use Rattle.place.specs.declared.Place.the-variants.{Nowhere, At}
 use Rattle.place.proofs.Theorems.{place-inside}
 use Rattle.transfer.specs.Transfer.{numberOf}
-use Rattle.transfer.specs.declared.Answer.{Answer}
 use Rattle.screen.specs.Screen.{badNumbers, badAddress, placed, headed, screenOf}
 use Rattle.screen.proofs.Laws.{numbers-false, address-false}
 use Rattle.screen.specs.declared.Page.{Page}

@@ -1,12 +1,12 @@
 -- The claim of specs/Tally.antt holds. Assumes nothing.
-use Prim.Native.Nat.{ℕ, _+_, _-_, _*_, _≤_, _<_}
+use Prim.Native.Nat.{ℕ, _+_, _-_, _≤_, _<_}
 use mathlib.Core.Path.{_≡_, refl, sym, ap, subst, _∙_}
 use mathlib.Core.Bool.{Bool, true, false, not, cond, _&&_, _||_}
 use mathlib.Core.List.{List, [], _∷_}
 use native.Mathlib.Omega.{arith}
-use lib.Dec.{eqb, ltb, leb}
+use lib.Dec.{ltb}
 use lib.ListN.{length}
-use borrow.Author.Tests.{ltb-true, ltb-false, le-leb, lt-leb}
+use borrow.Author.Tests.{ltb-false, le-leb, lt-leb}
 use Rattle.sets.specs.Sets.{Set, none, add, size, Within}
 use Rattle.sets.proofs.Tests.{split, clash}
 use Rattle.sets.proofs.Laws.{size-none, size-le, size-add, size-within, within-none, within-add}
@@ -17,16 +17,14 @@ use Rattle.flash.specs.Flash.{payloadOf}
 use Rattle.settings.specs.declared.Settings.{Settings}
 use Rattle.transfer.specs.Transfer.{numberOf, counted, taken}
 use Rattle.transfer.specs.declared.Head.{Head}
-use Rattle.transfer.specs.declared.Run.{Run}
 use Rattle.transfer.specs.declared.State.{State}
 use Rattle.transfer.specs.declared.State.the-variants.{Idle, Running, Done}
 use Rattle.transfer.specs.declared.Taken.{Taken}
-use Rattle.screen.specs.declared.Page.{Page}
 use Rattle.arrival.specs.Arrive.{World, Outcome, Decision, clearedIf, tookOf, done, receiveOf}
 use Rattle.arrival.specs.Lists.{receiveAll}
-use Rattle.arrival.specs.Tally.{isAccepted, headOf, clears, acceptedBy, acceptedOf, anyAccepted, countOf, Tallied, Count-is-marks}
-use Rattle.arrival.proofs.Screened.{Passing, passing-few}
-use Rattle.arrival.proofs.Decided.{flashOf, decisionOf, Board, Took, took-number, Decided, kept, took, decided}
+use Rattle.arrival.specs.Tally.{isAccepted, headOf, clears, acceptedBy, acceptedOf, anyAccepted, countOf, Count-is-marks}
+use Rattle.arrival.proofs.Screened.{passing-few}
+use Rattle.arrival.proofs.Decided.{flashOf, Took, took-number, Decided, kept, took, decided}
 
 -- ---- the transfer and the seen map, A being what was accepted since the last clearing
 

@@ -5,7 +5,7 @@ use Prim.Native.Nat.{ℕ}
 use mathlib.Core.Bool.{Bool}
 use Rattle.settings.specs.declared.Settings.{Settings}
 use Rattle.transfer.specs.declared.Answer.{Answer}
-use Rattle.arrival.specs.Arrive.{World, Outcome, receiveOf}
+use Rattle.arrival.specs.Arrive.{World, receiveOf}
 
 -- what the list leaves
 unfoldable pub receiveAll : Settings → World → List (List ℕ) → World

@@ -1,9 +1,9 @@
 -- The laws of marks, for a map of any length. Assumes nothing.
-use mathlib.Core.Path.{_≡_, refl, sym, ap, _∙_, fun-ext}
-use mathlib.Core.Bool.{Bool, true, false, not, _||_}
+use mathlib.Core.Path.{_≡_, _∙_, fun-ext}
+use mathlib.Core.Bool.{true, false, not}
 use mathlib.Core.List.{List}
 use mathlib.Core.Logic.{_≢_}
-use Prim.Native.Nat.{ℕ, zero, suc, _*_, _/_, _%_, _^_, _-_, _<_, _≤_}
+use Prim.Native.Nat.{ℕ, suc, _*_, _/_, _%_, _^_, _-_, _<_, _≤_}
 use native.Mathlib.Nat.{zero-div}
 use native.Mathlib.Decide.{decLt, ℕ-discrete}
 use native.Mathlib.Omega.{arith}
@@ -14,10 +14,10 @@ use lib.Dec.{eqb, ltb}
 use borrow.Author.Tests.{eqb-true, eqb-false, ltb-true, ltb-false}
 use Rattle.fill.specs.Many.{many}
 use Rattle.fill.proofs.Laws.{length-many, getD-many}
-use Rattle.sets.specs.Sets.{Set, none, add, size}
+use Rattle.sets.specs.Sets.{none, add}
 use Rattle.sets.proofs.Tests.{split}
 use Rattle.sets.proofs.Laws.{size-add, size-none, size-cong}
-use Rattle.bitmap.specs.Bitmap.{bit, withBit, markedIn, withMark, unmarked, marks}
+use Rattle.bitmap.specs.Bitmap.{bit, markedIn, withMark, unmarked, marks}
 use Rattle.bitmap.proofs.Byte.{with-same, with-other, with-idle, or-mask, and-mask}
 
 pub length-mark : (m : List ℕ) (k : ℕ) → length (withMark m k) ≡ length m

@@ -1,19 +1,17 @@
 -- The hypotheses of demand 3 are met by the file of specs/Instance.antt, and the theorem speaks of it. Assumes nothing.
-use Prim.Native.Nat.{ℕ, zero, suc, _+_, _*_, _≤_, _<_}
+use Prim.Native.Nat.{ℕ, zero, suc, _+_, _*_, _<_}
 use mathlib.Core.Path.{_≡_, refl}
 use native.Mathlib.Omega.{arith}
 use Rattle.fill.specs.Many.{many}
-use Rattle.sets.specs.Over.{over}
 use Rattle.sets.specs.Sets.{any, size}
-use Rattle.bitmap.specs.Bitmap.{bit, withBit, markedIn, withMark, unmarked}
-use Rattle.flash.specs.Flash.{flashLength, eraseAt, payloadOf, storeAt}
+use Rattle.flash.specs.Flash.{flashLength, payloadOf}
 use Rattle.block.specs.Block.{fieldAt, fieldsOf, flaggedOf, headerOf}
-use Rattle.settings.specs.Settings.{familyArmS, hasUser, accepts, overlap, overlapAt, sharesSector, reservedUser, badEntry, goodSettings}
+use Rattle.settings.specs.Settings.{familyArmS, goodSettings}
 use Rattle.place.specs.Place.{placeOf}
-use Rattle.transfer.specs.Transfer.{goodState, sameHead, counted, raised, taken, stepOf}
+use Rattle.transfer.specs.Transfer.{goodState, counted, raised, taken, stepOf}
 use Rattle.transfer.specs.declared.State.the-variants.{Done}
 use Rattle.screen.specs.Screen.{placed, headed, screenOf}
-use Rattle.arrival.specs.Arrive.{rightLengths, looked, decide, clearedIf, wipedIf, preparedAt, pagedAt, tookOf, done, receiveOf}
+use Rattle.arrival.specs.Arrive.{rightLengths, looked, decide, done, receiveOf}
 use Rattle.arrival.specs.Lists.{receiveAll}
 use Rattle.arrival.specs.Demand.{ValidFile, nothing, own, other, earns, sameBytes, among, seenOf, howMany, List-ends}
 use Rattle.arrival.proofs.Demand.{list-ends}

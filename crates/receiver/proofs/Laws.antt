@@ -18,7 +18,7 @@ use Rattle.transfer.specs.declared.Answer.the-variants.{BadBuffers, BadSettings
 use Rattle.screen.specs.Screen.{screenOf}
 use Rattle.screen.specs.declared.Page.{Page}
 use Rattle.screen.specs.declared.Screened.the-variants.{Refused, Passed}
-use Rattle.arrival.specs.Arrive.{Outcome, rightLengths, stepped, looked, decide, clearedIf, wipedIf, preparedAt, pagedAt, tookOf, stays, takes, done, receiveOf}
+use Rattle.arrival.specs.Arrive.{Outcome, rightLengths, stepped, looked, decide, clearedIf, wipedIf, preparedAt, pagedAt, tookOf, takes, done, receiveOf}
 use Rattle.receiver.specs.Receiver.{held, world, refusal, outcome}
 use Rattle.receiver.specs.declared.Received.{Received}
 

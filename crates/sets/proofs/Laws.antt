@@ -1,7 +1,7 @@
 -- The laws of sets of numbers. Assumes nothing.
 use mathlib.Core.Path.{_≡_, refl, sym, ap, _∙_, fun-ext}
 use mathlib.Core.Logic.{_≢_}
-use mathlib.Core.Bool.{Bool, true, false, cond, _||_, _&&_, or-true, and-false}
+use mathlib.Core.Bool.{Bool, true, false, _||_, _&&_, or-true, and-false}
 use Prim.Native.Nat.{ℕ, zero, suc, _+_, _<_, _≤_}
 use native.Mathlib.Nat.{not-suc-le-zero, suc-add, zero-add}
 use native.Mathlib.Numerals.{add-one}
@@ -9,7 +9,7 @@ use native.Mathlib.Omega.{arith}
 use lib.Dec.{eqb}
 use borrow.Author.Tests.{eqb-true, eqb-false, ne-eqb}
 use Rattle.sets.specs.Sets.{Set, none, add, one, size, Within, any, pick}
-use Rattle.sets.proofs.Tests.{split, clash, is-false, eqb-same, or-idle, or-left, or-right}
+use Rattle.sets.proofs.Tests.{split, clash, is-false, eqb-same, or-idle}
 
 pub add-idle : (k : ℕ) (S : Set) → S k ≡ true → add k S ≡ S
 add-idle k S h = fun-ext (λ j. or-idle (eqb j k) (S j) (λ e. ap S (eqb-true j k e) ∙ h))
