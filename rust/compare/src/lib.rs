@@ -86,6 +86,19 @@ pub fn proved_transfer(t: Transfer) -> proved::Transfer {
     }
 }
 
+/// Arm alone, absolute allowed, no table: the program's settings.
+pub fn arm_only() -> Settings {
+    Settings {
+        arm: true,
+        riscv: false,
+        current: Arch::Arm,
+        auto_switch: false,
+        absolute: true,
+        count: 0,
+        table: [Entry::EMPTY; 16],
+    }
+}
+
 /// Settings of any kind: most of them good, some bad in one way or another.
 pub fn any_settings(r: &mut Random, flash_sectors: u64) -> Settings {
     let mut s = Settings {

@@ -1,7 +1,7 @@
 //! Lists of arrivals: after each, answer, transfer and every lent byte are the same.
 
 use compare::{
-    any_arrival, any_settings, page, proved_settings, proved_transfer, Random, FAMILIES,
+    any_arrival, any_settings, arm_only, page, proved_settings, proved_transfer, Random, FAMILIES,
 };
 use reference::{Settings, Transfer};
 
@@ -119,16 +119,7 @@ fn shuffled_files_agree() {
             order.push(r.below(u64::from(n)) as usize);
         }
         r.shuffle(&mut order);
-        let settings = Settings {
-            arm: true,
-            riscv: false,
-            current: reference::Arch::Arm,
-            auto_switch: false,
-            absolute: true,
-            count: 0,
-            table: [reference::Entry::EMPTY; 16],
-        };
-        let mut pair = Pair::new(settings, Transfer::Idle, any_buffers(&mut r, sectors));
+        let mut pair = Pair::new(arm_only(), Transfer::Idle, any_buffers(&mut r, sectors));
         let mut seen = vec![false; n as usize];
         for k in order {
             if r.one_in(5) {
@@ -192,16 +183,7 @@ fn longest_file_agrees() {
     let n = 131_072;
     let mut order: Vec<u32> = (0..n).collect();
     r.shuffle(&mut order);
-    let settings = Settings {
-        arm: true,
-        riscv: true,
-        current: reference::Arch::RiscV,
-        auto_switch: true,
-        absolute: true,
-        count: 0,
-        table: [reference::Entry::EMPTY; 16],
-    };
-    let p = proved_settings(&settings);
+    let p = proved_settings(&arm_only());
     let mut buffers = [vec![7; 33_554_432], vec![9; 16_384], vec![9; 1024]];
     let mut transfer = proved::Transfer::Idle;
     for (i, &k) in order.iter().enumerate() {

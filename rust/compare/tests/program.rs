@@ -4,19 +4,11 @@ use std::fmt::Write as _;
 use std::io::Write as _;
 use std::process::{Command, Stdio};
 
-use compare::{any_arrival, page, Random};
-use reference::{Arch, Entry, Settings, Transfer};
+use compare::{any_arrival, arm_only, page, Random};
+use reference::Transfer;
 
 fn wanted(input: &[u8]) -> String {
-    let settings = Settings {
-        arm: true,
-        riscv: false,
-        current: Arch::Arm,
-        auto_switch: false,
-        absolute: true,
-        count: 0,
-        table: [Entry::EMPTY; 16],
-    };
+    let settings = arm_only();
     let (mut flash, mut seen, mut sectors) = (vec![0; 32_768], vec![0; 16_384], vec![0; 1024]);
     let mut t = Transfer::Idle;
     let mut text = String::from("arrival answer discarded\n");
