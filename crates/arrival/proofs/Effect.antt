@@ -41,7 +41,7 @@ length-prepared q x = split (markedIn (x .sectors) q) (λ y. rw y) (λ z. rw z (
 
 pub length-paged : (at : ℕ) (payload : List ℕ) (x : Held) → length (pagedAt at payload x .flash) ≡ length (x .flash)
 unfolding pagedAt
-length-paged at payload x = length-store (preparedAt (at / 4096) x) at payload ∙ length-prepared (at / 4096) x
+length-paged at payload x = length-store _ _ _ ∙ length-prepared (at / 4096) x
 
 pub sectors-paged : (at : ℕ) (payload : List ℕ) (x : Held) → length (pagedAt at payload x .sectors) ≡ length (x .sectors)
 unfolding pagedAt
