@@ -1,5 +1,6 @@
-//! Times the proved receiver and the plain Rust reference in one run, on the same inputs. Both get the settings as words and read them: at
-//! each call where a place is asked for, once a file where arrivals are received.
+//! Times the proved receiver and the plain Rust reference in one run, on the same inputs. Both get the settings as words. Where a place is
+//! asked for, both read them at each call; where a file is received, the plain side reads them once, and the proved side once
+//! (`uf2_receive_all`) or, one call an arrival (`uf2_receive`), each time.
 
 use std::hint::black_box;
 use std::time::Instant;
@@ -117,16 +118,29 @@ fn places(name: &str, s: &Settings) {
     );
 }
 
-fn file(name: &str, s: &Settings, blocks: u32, shuffled: bool) {
+/// A file as it arrives: in order or shuffled, and whole, or with a payload size that row 9 refuses.
+#[derive(Clone, Copy)]
+struct Sent {
+    blocks: u32,
+    shuffled: bool,
+    refused: bool,
+}
+
+fn file(name: &str, s: &Settings, sent: Sent, at_once: bool) {
     let p = proved_settings(s);
+    let blocks = sent.blocks;
     let mut order: Vec<u32> = (0..blocks).collect();
-    if shuffled {
+    if sent.shuffled {
         Random(7).shuffle(&mut order);
     }
-    let file: Vec<u8> = order
+    let mut file: Vec<u8> = order
         .iter()
         .flat_map(|&k| page(reference::ARM_S, blocks, k))
         .collect();
+    if sent.refused {
+        // 257 bytes of payload: settings, header and place are asked, and nothing is stored
+        file.iter_mut().skip(16).step_by(512).for_each(|b| *b = 1);
+    }
     let mut ours = (vec![0; FLASH], vec![0; 16_384], vec![0; 1024]);
     let mut theirs = ours.clone();
     let (mut results, mut plain) = (vec![0; order.len()], vec![0; order.len()]);
@@ -135,8 +149,16 @@ fn file(name: &str, s: &Settings, blocks: u32, shuffled: bool) {
         blocks as usize,
         || {
             let (flash, seen, sectors) = &mut ours;
-            let t = proved::Transfer::Idle;
-            proved::receive_all(&p, t, &file, &mut results, flash, seen, sectors);
+            let mut t = proved::Transfer::Idle;
+            if at_once {
+                proved::receive_all(&p, t, &file, &mut results, flash, seen, sectors);
+            } else {
+                for (a, r) in file.chunks_exact(512).zip(&mut results) {
+                    let o = proved::receive(black_box(&p), t, a, flash, seen, sectors);
+                    t = o.transfer;
+                    *r = u32::from(o.answer) + 256 * u32::from(o.discarded);
+                }
+            }
             results.iter().map(|&r| u64::from(r)).sum()
         },
         || {
@@ -159,30 +181,22 @@ fn main() {
     println!("| work | proved | plain Rust | ratio |\n|---|---|---|---|");
     places("settings good and place, no table", &none);
     places("settings good and place, 16 entries", &full);
-    file(
-        "an arrival of 131,072 in order, no table",
-        &none,
-        131_072,
-        false,
-    );
-    file(
-        "an arrival of 131,072 shuffled, no table",
-        &none,
-        131_072,
-        true,
-    );
     // the last entry has room for so many
     let room = (FLASH / 4096 - 15) as u32 * 16;
-    file(
-        "an arrival of 130,832 in order, 16 entries",
-        &full,
-        room,
-        false,
-    );
-    file(
-        "an arrival of 130,832 shuffled, 16 entries",
-        &full,
-        room,
-        true,
-    );
+    for (table, s, blocks) in [("no table", &none, 131_072), ("16 entries", &full, room)] {
+        let sent = |shuffled, refused| Sent {
+            blocks,
+            shuffled,
+            refused,
+        };
+        let checks =
+            format!("settings, header and place of an arrival that row 9 refuses, {table}");
+        file(&checks, s, sent(false, true), true);
+        for (how, at_once) in [("all in one call", true), ("one call each", false)] {
+            for (order, shuffled) in [("in order", false), ("shuffled", true)] {
+                let name = format!("an arrival of {blocks} {order}, {table}, {how}");
+                file(&name, s, sent(shuffled, false), at_once);
+            }
+        }
+    }
 }
