@@ -1,0 +1,32 @@
+-- The answers to a line (01, "Universal Hex, a line at a time"). Assumes nothing.
+use Prim.Native.Nat.{ℕ}
+use mathlib.Core.Bool.{Bool, _&&_, _||_}
+use lib.Dec.{leb, eqb}
+use Rattle.grammar.specs.declared.Answer.{Answer}
+use Rattle.grammar.specs.declared.Answer.the-variants.{BadReader, BadImage, NoColon, BadShape, BadDigit, TooLong, BadLength, BadSum, OutOfPlace, Unaligned, Repeated, Crosses, MissingBoard, AfterEnd, Outside, Stored, Passed, Ended, FileTooLong}
+
+-- 01's numbers of the answers
+abbrev pub numberOf : Answer → ℕ
+numberOf BadReader = 18
+numberOf BadImage = 19
+numberOf NoColon = 20
+numberOf BadShape = 21
+numberOf BadDigit = 22
+numberOf TooLong = 23
+numberOf BadLength = 24
+numberOf BadSum = 25
+numberOf OutOfPlace = 26
+numberOf Unaligned = 27
+numberOf Repeated = 28
+numberOf Crosses = 29
+numberOf MissingBoard = 30
+numberOf AfterEnd = 31
+numberOf Outside = 32
+numberOf Stored = 33
+numberOf Passed = 34
+numberOf Ended = 35
+numberOf FileTooLong = 36
+
+-- "20 to 30 and 36 make the reader failed"
+abbrev pub isFailure : Answer → Bool
+isFailure a = leb 20 (numberOf a) && leb (numberOf a) 30 || eqb (numberOf a) 36

@@ -1,0 +1,219 @@
+// The grammar of Universal Hex: where a reader stands, and what a record is there.
+ghost use mathlib.Core.Path.{_≡_};
+ghost use Rattle.grammar.specs.Answers.{numberOf, isFailure};
+ghost use Rattle.grammar.specs.Boards.{noBoards, hasBoard, withBoard, bothBoards};
+ghost use Rattle.grammar.specs.declared.Stand.the-variants.{Between, Opened, Inside};
+ghost use Rattle.grammar.specs.Grammar.{dataKind, afterPadding, roleOf};
+
+// The answers to a line, by their numbers from 18 to 36.
+pub enum Answer {
+    BadReader,
+    BadImage,
+    NoColon,
+    BadShape,
+    BadDigit,
+    TooLong,
+    BadLength,
+    BadSum,
+    OutOfPlace,
+    Unaligned,
+    Repeated,
+    Crosses,
+    MissingBoard,
+    AfterEnd,
+    Outside,
+    Stored,
+    Passed,
+    Ended,
+    FileTooLong,
+}
+
+// What a failed reader remembers.
+pub struct Failure {
+    pub answer: Answer,
+}
+
+// Which of V1 and V2.
+pub struct Boards {
+    pub v1: bool,
+    pub v2: bool,
+}
+
+// Where a reader stands: between sections, after a section's opening 04, in the section of a board, in it after its first 0C, after
+// the 01, or failed.
+pub enum Stand {
+    Between,
+    Opened,
+    Inside(u16),
+    Padded(u16),
+    Ended,
+    Failed(Failure),
+}
+
+// What a record is where the reader stands.
+pub enum Role {
+    // the 04 that opens a section
+    Opening,
+    // the 0A that names its board
+    Naming,
+    // a further 04
+    Address,
+    // data for a board
+    Data(u16),
+    // an 0C in the section of a board
+    Padding(u16),
+    // an 0E
+    Other,
+    // the 0B that ends a section
+    Closing,
+    // the 01 that ends the file
+    Ending,
+    // not allowed there
+    Refused,
+}
+
+impl Boards {
+    pub const V1: u16 = 0x9900;
+
+    pub const V2: u16 = 0x9903;
+
+    pub fn none() -> Boards
+        ensures { λ r. ⌜ r ≡ noBoards ⌝ }
+    {
+        Boards {
+            v1: false,
+            v2: false,
+        }
+    }
+
+    pub fn has(self, board: u16) -> bool
+        ensures { λ r. ⌜ r ≡ hasBoard self board ⌝ }
+    {
+        ((board == Boards::V1) & self.v1) | ((board == Boards::V2) & self.v2)
+    }
+
+    // These and a further one; a board that is neither adds nothing.
+    pub fn with(self, board: u16) -> Boards
+        ensures { λ r. ⌜ r ≡ withBoard self board ⌝ }
+    {
+        Boards {
+            v1: self.v1 | (board == Boards::V1),
+            v2: self.v2 | (board == Boards::V2),
+        }
+    }
+
+    pub fn both(self) -> bool
+        ensures { λ r. ⌜ r ≡ bothBoards self ⌝ }
+    {
+        self.v1 & self.v2
+    }
+}
+
+impl Answer {
+    pub fn number(self) -> u8
+        ensures { λ r. ⌜ r ≡ numberOf self ⌝ }
+    {
+        match self {
+            Answer::BadReader => 18,
+            Answer::BadImage => 19,
+            Answer::NoColon => 20,
+            Answer::BadShape => 21,
+            Answer::BadDigit => 22,
+            Answer::TooLong => 23,
+            Answer::BadLength => 24,
+            Answer::BadSum => 25,
+            Answer::OutOfPlace => 26,
+            Answer::Unaligned => 27,
+            Answer::Repeated => 28,
+            Answer::Crosses => 29,
+            Answer::MissingBoard => 30,
+            Answer::AfterEnd => 31,
+            Answer::Outside => 32,
+            Answer::Stored => 33,
+            Answer::Passed => 34,
+            Answer::Ended => 35,
+            Answer::FileTooLong => 36,
+        }
+    }
+
+    // A failure that a reader may remember.
+    pub fn is_failure(self) -> bool
+        ensures { λ r. ⌜ r ≡ isFailure self ⌝ }
+    {
+        let n = self.number();
+        ((20 <= n) & (n <= 30)) | (n == 36)
+    }
+}
+
+// The type of a data record in the section of a board.
+fn data_kind(board: u16) -> u8
+    ensures { λ r. ⌜ r ≡ dataKind board ⌝ }
+{
+    if board == Boards::V1 { 0 } else { 13 }
+}
+
+// The records that may follow the first 0C of a section.
+fn after_padding(board: u16, kind: u8) -> Role
+    ensures { λ r. ⌜ r ≡ afterPadding board kind ⌝ }
+{
+    if kind == 12 {
+        return Role::Padding(board);
+    }
+    if kind == 14 {
+        return Role::Other;
+    }
+    if kind == 11 {
+        return Role::Closing;
+    }
+    Role::Refused
+}
+
+// Between sections.
+fn between(kind: u8, len: u8) -> Role
+    ensures { λ r. ⌜ r ≡ roleOf Between kind len ⌝ }
+{
+    if (kind == 4) & (len == 2) {
+        return Role::Opening;
+    }
+    if (kind == 1) & (len == 0) {
+        return Role::Ending;
+    }
+    Role::Refused
+}
+
+// After a section's opening 04.
+fn opened(kind: u8, len: u8) -> Role
+    ensures { λ r. ⌜ r ≡ roleOf Opened kind len ⌝ }
+{
+    if (kind == 10) & (2 <= len) {
+        return Role::Naming;
+    }
+    Role::Refused
+}
+
+// In the section of a board, before its first 0C.
+fn inside(board: u16, kind: u8, len: u8) -> Role
+    ensures { λ r. ⌜ r ≡ roleOf (Inside board) kind len ⌝ }
+{
+    if (kind == 4) & (len == 2) {
+        return Role::Address;
+    }
+    if kind == data_kind(board) {
+        return Role::Data(board);
+    }
+    after_padding(board, kind)
+}
+
+// What a record of a type and a number of data bytes is where a reader stands.
+pub fn role_at(stand: Stand, kind: u8, len: u8) -> Role
+    ensures { λ r. ⌜ r ≡ roleOf stand kind len ⌝ }
+{
+    match stand {
+        Stand::Between => between(kind, len),
+        Stand::Opened => opened(kind, len),
+        Stand::Inside(board) => inside(board, kind, len),
+        Stand::Padded(board) => after_padding(board, kind),
+        Stand::Ended => Role::Refused,
+        Stand::Failed(_) => Role::Refused,
+    }
+}

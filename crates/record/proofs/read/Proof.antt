@@ -1,0 +1,24 @@
+-- `record::read` meets its contract. Assumes nothing.
+use mathlib.Core.Path.{sym}
+use lib.Seq.{length-take-le}
+use Rattle.record.specs.Record.{textOf, readOf}
+use borrow.Author.Needs.{needs}
+use Rattle.record.proofs.read.Statement.{statement}
+use Rattle.record.proofs.read.Tie as tie
+
+text-len-requires : tie.Need-text-len-requires
+text-len-requires c κs = search needs
+
+slice-aggregate-read-text : tie.Need-slice-aggregate-read-text
+slice-aggregate-read-text c = sym (length-take-le _ _ (c .before .text-len .ensures .1))
+
+read-text-requires : tie.Need-read-text-requires
+read-text-requires c κs = search needs
+
+returns : tie.Need-returns
+unfolding readOf textOf
+returns c = cc
+
+pub read-spec : {M : Type 1} → statement M
+read-spec =
+    tie.close (tie.spec text-len-requires slice-aggregate-read-text read-text-requires returns)

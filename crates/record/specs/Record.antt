@@ -1,0 +1,127 @@
+-- One line of Intel Hex, by the bytes of its text (01, "Universal Hex, a line at a time", rows 20 to 25). Assumes nothing.
+use Prim.Native.Nat.{ℕ, _+_, _-_, _*_, _/_, _%_}
+use mathlib.Core.Path.{_≡_}
+use mathlib.Core.Bool.{Bool, true, _&&_, _||_, not, cond}
+use mathlib.Core.List.{List, [], _∷_}
+use lib.Dec.{ltb, leb, eqb}
+use lib.ListN.{length, getD, take, drop}
+use Rattle.sets.specs.Tab.{tab}
+use Rattle.record.specs.declared.Record.{Record}
+use Rattle.record.specs.declared.Parsed.{Parsed}
+use Rattle.record.specs.declared.Line.{Line}
+use Rattle.record.specs.declared.Parsed.the-variants.{Good, NoColon, BadShape, BadDigit, TooLong, BadLength, BadSum}
+
+-- ---- "one LF, then one CR before it, is dropped"
+
+-- the first n characters of a line end in c
+abbrev pub endsIn : ℕ → List ℕ → ℕ → Bool
+endsIn c l n = ltb 0 n && eqb (getD l (n - 1) 0) c
+
+-- how many characters are left
+unfoldable pub textLen : List ℕ → ℕ
+textLen l =
+    cond (endsIn 10 l (length l))
+    (cond (endsIn 13 l (length l - 1)) (length l - 2) (length l - 1))
+    (length l)
+
+unfoldable pub textOf : List ℕ → List ℕ
+textOf l = take (textLen l) l
+
+-- ---- digits and bytes
+
+-- the value of a hex digit ("upper and lower case are fine"), or 16 where the character is none
+unfoldable pub digitOf : ℕ → ℕ
+digitOf c =
+    cond (leb 48 c && leb c 57) (c - 48)
+    (cond (leb 65 c && leb c 70) (c - 55)
+    (cond (leb 97 c && leb c 102) (c - 87) 16))
+
+abbrev pub isDigit : ℕ → Bool
+isDigit c = ltb (digitOf c) 16
+
+unfoldable pub allDigits : List ℕ → Bool
+allDigits [] = true
+allDigits (c ∷ l) = isDigit c && allDigits l
+
+-- two digits a byte, high first
+unfoldable pub bytesOf : List ℕ → List ℕ
+bytesOf [] = []
+bytesOf (c ∷ []) = []
+bytesOf (c ∷ d ∷ l) = (16 * digitOf c + digitOf d) ∷ bytesOf l
+
+-- `out` begins with the bytes that the digits l say, as many as it has room for
+abbrev pub Decoded : List ℕ → List ℕ → Type 0
+Decoded l out = take (length l / 2) out ≡ take (length out) (bytesOf l)
+
+-- ---- the fields of a record, by its bytes: length, address (two, high first), type, data, checksum
+
+abbrev pub lenOf : List ℕ → ℕ
+lenOf b = getD b 0 0
+
+abbrev pub dataOf : List ℕ → List ℕ
+dataOf b = take (lenOf b) (drop 4 b)
+
+-- 32 bytes: those of d, and 0 past its end
+unfoldable pub held : List ℕ → List ℕ
+held d = tab 32 (λ i. getD d i 0)
+
+abbrev pub recordOf : List ℕ → Record
+recordOf b = record { kind = getD b 3 0; address = 256 * getD b 1 0 + getD b 2 0; len = lenOf b }
+
+-- a good record with its data, and a refusal, which has none
+abbrev pub good : List ℕ → Line
+good b = record { parsed = Good (recordOf b); «data» = held (dataOf b) }
+
+abbrev pub refused : Parsed → Line
+refused p = record { parsed = p; «data» = held [] }
+
+-- the sum of bytes; row 25 keeps it to eight bits, which is its remainder by 256
+unfoldable pub total : List ℕ → ℕ
+total [] = 0
+total (b ∷ l) = b + total l
+
+-- ---- the rows, of a line's text
+
+-- row 20: "empty or not beginning with ':'"
+abbrev pub noColon : List ℕ → Bool
+noColon t = eqb (length t) 0 || not (eqb (getD t 0 0) 58)
+
+-- row 21: "under 11, over 521 or an even number of characters"
+abbrev pub badShape : ℕ → Bool
+badShape n = ltb n 11 || ltb 521 n || eqb (n % 2) 0
+
+-- row 24: "characters aren't 11 + 2 x the length field"
+abbrev pub badLength : ℕ → List ℕ → Bool
+badLength n b = not (eqb n (11 + 2 * lenOf b))
+
+-- row 25: "the sum of all its bytes, kept to eight bits, is not zero"
+abbrev pub badSum : List ℕ → Bool
+badSum b = not (eqb (total b % 256) 0)
+
+-- rows 23 to 25, of n characters that say the bytes b; row 23: "the length field is over 32"
+unfoldable pub lineBytes : ℕ → List ℕ → Line
+lineBytes n b =
+    cond (ltb 32 (lenOf b)) (refused TooLong)
+    (cond (badLength n b) (refused BadLength)
+    (cond (badSum b) (refused BadSum) (good b)))
+
+-- rows 20 to 25, of a text; row 22: a character after the colon is no digit
+unfoldable pub lineText : List ℕ → Line
+lineText t =
+    cond (noColon t) (refused NoColon)
+    (cond (badShape (length t)) (refused BadShape)
+    (cond (not (allDigits (drop 1 t))) (refused BadDigit) (lineBytes (length t) (bytesOf (drop 1 t)))))
+
+-- a line as it is handed, its ending included
+unfoldable pub readOf : List ℕ → Line
+readOf l = lineText (textOf l)
+
+-- ---- 01's numbers of the refusals; a good record has none, and 0 stands for it
+abbrev pub parsedNumber : Parsed → ℕ
+parsedNumber NoColon = 20
+parsedNumber BadShape = 21
+parsedNumber BadDigit = 22
+parsedNumber TooLong = 23
+parsedNumber BadLength = 24
+parsedNumber BadSum = 25
+parsedNumber (Good r) = 0

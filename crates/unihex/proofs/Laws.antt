@@ -1,0 +1,129 @@
+-- Laws of a good record, one for each way that the code leaves. Assumes nothing.
+use Prim.Native.Nat.{ℕ, _+_, _%_, _≤_, _<_}
+use mathlib.Core.Path.{_≡_, ap, sym, _∙_}
+use mathlib.Core.Bool.{Bool, true, false, _||_, not}
+use mathlib.Core.List.{List}
+use lib.ListN.{length, take}
+use lib.Dec.{ltb}
+use borrow.Author.Tests.{ltb-false, lt-ltb, le-ltb, eq-eqb}
+use Rattle.sets.specs.Over.{over}
+use Rattle.sets.proofs.Tests.{or-left, or-right}
+use Rattle.record.specs.declared.Record.{Record}
+use Rattle.record.specs.declared.Parsed.{Parsed}
+use Rattle.record.specs.declared.Line.{Line}
+use Rattle.record.specs.Record.{readOf}
+use Rattle.grammar.specs.Grammar.{roleOf}
+use Rattle.grammar.specs.Boards.{isV1, isV2, hasBoard, bothBoards}
+use Rattle.grammar.specs.declared.Answer.{Answer}
+use Rattle.grammar.specs.declared.Answer.the-variants as answer
+use Rattle.grammar.specs.declared.Answer.the-variants.{BadReader, BadImage, Repeated, MissingBoard, Outside, Stored, Passed, FileTooLong}
+use Rattle.grammar.specs.declared.Stand.{Stand}
+use Rattle.grammar.specs.declared.Stand.the-variants.{Opened, Inside, Ended}
+use Rattle.grammar.specs.declared.Role.{Role}
+use Rattle.grammar.specs.declared.Role.the-variants.{Opening, Naming, Ending}
+use Rattle.unihex.specs.declared.Reader.{Reader}
+use Rattle.unihex.specs.declared.Read.{Read}
+use Rattle.unihex.specs.declared.Step.{Step}
+use Rattle.unihex.specs.declared.Step.the-variants.{Fails, Passes, Stores, Ends}
+use Rattle.unihex.specs.Reader.{badFailure, badReader, standing, withUpper, withSection, movedTo, stepOf}
+use Rattle.unihex.specs.Line.{Outcome, outcome, read, failedBy, failing, addressOf, wordOf, storing, stepped, takenOf, parsedLine, liveLine, standLine, badImage, lineOf}
+
+pub opening-passes : (r q s : Reader) (w : ℕ) → r .offset % 512 ≡ 0 → q ≡ withUpper r w → s ≡ standing q Opened → Passes s ≡ stepOf r Opening 0 0 w
+unfolding stepOf
+opening-passes r q s w h e f = simp (eq-eqb _ _ h) (ap Passes (f ∙ ap (λ (x : Reader). standing x Opened) e))
+
+pub naming-repeats : (r : Reader) (w : ℕ) (b : Bool) → b ≡ hasBoard (r .came) w → b ≡ true → Fails Repeated ≡ stepOf r Naming 0 0 w
+unfolding stepOf
+naming-repeats r w b e h = simp (sym e ∙ h)
+
+pub naming-passes : (r q s : Reader) (w : ℕ) (b : Bool) → b ≡ hasBoard (r .came) w → b ≡ false → q ≡ withSection r w → s ≡ standing q (Inside w) → Passes s ≡ stepOf r Naming 0 0 w
+unfolding stepOf
+naming-passes r q s w b e h f g =
+    simp (sym e ∙ h) (ap Passes (g ∙ ap (λ (x : Reader). standing x (Inside w)) f))
+
+pub ending-ends : (r q : Reader) (b : Bool) → b ≡ bothBoards (r .gave) → b ≡ true → q ≡ standing r Ended → Ends q ≡ stepOf r Ending 0 0 0
+unfolding stepOf
+ending-ends r q b e h f = simp (sym e ∙ h) (ap Ends f)
+
+pub ending-misses : (r : Reader) (b : Bool) → b ≡ bothBoards (r .gave) → b ≡ false → Fails MissingBoard ≡ stepOf r Ending 0 0 0
+unfolding stepOf
+ending-misses r b e h = simp (sym e ∙ h)
+
+-- ---- own data
+
+pub store-outside : (r q : Reader) (rec : Record) (d : List ℕ) (e : ℕ) (img : List ℕ) → q ≡ movedTo r e → length img < addressOf r rec + rec .len → outcome q Outside img ≡ storing r rec d e img
+unfolding storing
+store-outside r q rec d e img h p = simp (lt-ltb _ _ p) (ap (λ (x : Reader). outcome x Outside img) h)
+
+pub store-inside : (r q : Reader) (rec : Record) (d : List ℕ) (e : ℕ) (img new : List ℕ) → q ≡ movedTo r e → addressOf r rec + rec .len ≤ length img
+    → new ≡ over img (addressOf r rec) (take (rec .len) d) → outcome q Stored new ≡ storing r rec d e img
+unfolding storing
+store-inside r q rec d e img new h p k =
+    simp (le-ltb _ _ p) (ap (λ (x : Reader). outcome x Stored new) h ∙ ap (outcome (movedTo r e) Stored) k)
+
+-- ---- a good record, by its step
+
+pub step-fails : (r : Reader) (rec : Record) (d : List ℕ) (e : ℕ) (img : List ℕ) (a : Answer) (x : Read) → x ≡ read (failedBy a r) a → outcome (x .reader) (x .answer) img ≡ stepped r rec d e img (Fails a)
+unfolding stepped
+step-fails r rec d e img a x h = ap (λ (y : Read). outcome (y .reader) (y .answer) img) h
+
+pub step-passes : (r q next : Reader) (rec : Record) (d : List ℕ) (e : ℕ) (img : List ℕ) → next ≡ movedTo q e → outcome next Passed img ≡ stepped r rec d e img (Passes q)
+unfolding stepped
+step-passes r q next rec d e img h = ap (λ (y : Reader). outcome y Passed img) h
+
+pub step-ends : (r q next : Reader) (rec : Record) (d : List ℕ) (e : ℕ) (img : List ℕ) → next ≡ movedTo q e → outcome next answer.Ended img ≡ stepped r rec d e img (Ends q)
+unfolding stepped
+step-ends r q next rec d e img h = ap (λ (y : Reader). outcome y answer.Ended img) h
+
+pub step-stores : (r q : Reader) (rec : Record) (d : List ℕ) (e : ℕ) (img : List ℕ) (o : Outcome) → o ≡ storing q rec d e img → o ≡ stepped r rec d e img (Stores q)
+unfolding stepped
+step-stores r q rec d e img o h = h
+
+pub taken-by : (r : Reader) (rec : Record) (d : List ℕ) (e : ℕ) (img : List ℕ) (role : Role) (word : ℕ) (s t : Step) (o : Outcome)
+    → role ≡ roleOf (r .stand) (rec .kind) (rec .len) → word ≡ wordOf d → s ≡ stepOf r role (rec .address) (rec .len) word → s ≡ t
+    → o ≡ stepped r rec d e img t → o ≡ takenOf r rec d e img
+unfolding takenOf
+taken-by r rec d e img role word s t o a b k f g =
+    g
+    ∙ ap (stepped r rec d e img) (sym f ∙ k ∙ ap (λ (x : Role). stepOf r x (rec .address) (rec .len) word) a)
+    ∙ ap (λ (w : ℕ). stepped r rec d e img (stepOf r (roleOf (r .stand) (rec .kind) (rec .len)) (rec .address) (rec .len) w)) b
+
+-- ---- a line of a reader that is neither failed nor at the end
+
+pub line-fails : (r : Reader) (img : List ℕ) (a : Answer) (x : Read) → x ≡ read (failedBy a r) a → outcome (x .reader) (x .answer) img ≡ failing r a img
+line-fails r img a x h = ap (λ (y : Read). outcome (y .reader) (y .answer) img) h
+
+pub live-too-long : (r : Reader) (l img : List ℕ) (o : Outcome) → 4194304 < r .offset + length l → o ≡ failing r FileTooLong img → o ≡ liveLine r l img
+unfolding liveLine
+live-too-long r l img o p h = simp (lt-ltb _ _ p) h
+
+pub live-by : (r : Reader) (l img : List ℕ) (x : Line) (p : Parsed) (o : Outcome) → r .offset + length l ≤ 4194304 → x ≡ readOf l → x .parsed ≡ p
+    → o ≡ parsedLine r (x .«data») (r .offset + length l) img p → o ≡ liveLine r l img
+unfolding liveLine
+live-by r l img x p o q h k f =
+    simp (le-ltb _ _ q)
+    (f
+    ∙ ap (parsedLine r (x .«data») (r .offset + length l) img) (sym k)
+    ∙ ap (λ (y : Line). parsedLine r (y .«data») (r .offset + length l) img (y .parsed)) h)
+
+-- ---- any line
+
+pub offset-within : (r : Reader) (b : Bool) → b ≡ badReader r → b ≡ false → r .offset ≤ 4194304
+unfolding badReader
+offset-within r b e h =
+    let board : Bool = not (isV1 (r .own) || isV2 (r .own)) in
+    let far : Bool = ltb 4194304 (r .offset) in
+    ltb-false 4194304 (r .offset) (or-right board far (or-left (board || far) (badFailure (r .stand)) (sym e ∙ h)))
+
+pub bad-image : (r : Reader) (l img : List ℕ) → badImage (length img) ≡ true → outcome r BadImage img ≡ lineOf r l img
+unfolding lineOf
+bad-image r l img h = simp h
+
+pub bad-reader : (r : Reader) (l img : List ℕ) (b : Bool) → badImage (length img) ≡ false → b ≡ badReader r → b ≡ true → outcome r BadReader img ≡ lineOf r l img
+unfolding lineOf
+bad-reader r l img b g e h = simp (g, sym e ∙ h)
+
+pub line-by : (r : Reader) (l img : List ℕ) (b : Bool) (s : Stand) (o : Outcome) → badImage (length img) ≡ false → b ≡ badReader r → b ≡ false → r .stand ≡ s
+    → o ≡ standLine r l img s → o ≡ lineOf r l img
+unfolding lineOf
+line-by r l img b s o g e h k f = simp (g, sym e ∙ h) (f ∙ ap (standLine r l img) (sym k))
