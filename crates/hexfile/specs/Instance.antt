@@ -1,0 +1,56 @@
+-- A small file, so that the claims are not empty: a section of V1, padded to 512 bytes, a section of V2, and the 01. Computed in
+-- proofs/Instance.antt. Assumes nothing.
+use Prim.Native.Nat.{ℕ}
+use mathlib.Core.Path.{_≡_}
+use mathlib.Core.List.{List, [], _∷_, _++_, map}
+use lib.ListN.{replicate}
+use Rattle.record.specs.Write.{recordText}
+use Rattle.grammar.specs.Answers.{numberOf}
+use Rattle.hexfile.specs.Lines.{Store, start, readAll, answersOf, storesOf}
+
+-- a record, ended by LF
+unfoldable pub line : ℕ → ℕ → List ℕ → List ℕ
+line kind address d = recordText kind address d ++ (10 ∷ [])
+
+-- the section's data: two bytes at 2, one of them again at 3, and two at 7
+unfoldable pub sectionV1 : List (List ℕ)
+sectionV1 =
+    line 4 0 (0 ∷ 0 ∷ [])
+    ∷ line 10 0 (0x99 ∷ 0x00 ∷ 0xC0 ∷ 0xDE ∷ [])
+    ∷ line 0 2 (0xAA ∷ 0xBB ∷ [])
+    ∷ line 0 3 (0xCC ∷ [])
+    ∷ line 0 7 (0xDD ∷ 0xEE ∷ [])
+    ∷ line 12 0 (replicate 13 255)
+    ∷ replicate 5 (line 12 0 (replicate 32 255)) ++ (line 11 0 [] ∷ [])
+
+unfoldable pub sectionV2 : List (List ℕ)
+sectionV2 =
+    line 4 0 (0 ∷ 0 ∷ [])
+    ∷ line 10 0 (0x99 ∷ 0x03 ∷ 0xC0 ∷ 0xDE ∷ [])
+    ∷ line 13 1 (0x11 ∷ 0x22 ∷ [])
+    ∷ line 11 0 []
+    ∷ []
+
+-- the two sections, the 01, and a line after it
+unfoldable pub file : List (List ℕ)
+file = sectionV1 ++ (sectionV2 ++ (line 1 0 [] ∷ line 1 0 [] ∷ []))
+
+-- what a reader of a board with an image of eight bytes 0 makes of it: the answers, the stores, and the image
+pub record Reads (own : ℕ) (answers : List ℕ) (stores : List Store) (image : List ℕ) : Type 0 where
+  pub answered : map numberOf (answersOf (start own (replicate 8 0)) file) ≡ answers
+  pub stored : storesOf (start own (replicate 8 0)) file ≡ stores
+  pub left : readAll (start own (replicate 8 0)) file .image ≡ image
+
+abbrev pub at : ℕ → List ℕ → Store
+at address bytes = record { address = address; bytes = bytes }
+
+unfoldable pub File-reads : Type 0
+File-reads =
+    Reads 0x9900
+    (34 ∷ 34 ∷ 33 ∷ 33 ∷ 32 ∷ 34 ∷ 34 ∷ 34 ∷ 34 ∷ 34 ∷ 34 ∷ 34 ∷ 34 ∷ 34 ∷ 34 ∷ 34 ∷ 35 ∷ 31 ∷ [])
+    (at 2 (0xAA ∷ 0xBB ∷ []) ∷ at 3 (0xCC ∷ []) ∷ [])
+    (0 ∷ 0 ∷ 0xAA ∷ 0xCC ∷ 0 ∷ 0 ∷ 0 ∷ 0 ∷ [])
+    × Reads 0x9903
+    (34 ∷ 34 ∷ 34 ∷ 34 ∷ 34 ∷ 34 ∷ 34 ∷ 34 ∷ 34 ∷ 34 ∷ 34 ∷ 34 ∷ 34 ∷ 34 ∷ 33 ∷ 34 ∷ 35 ∷ 31 ∷ [])
+    (at 1 (0x11 ∷ 0x22 ∷ []) ∷ [])
+    (0 ∷ 0x11 ∷ 0x22 ∷ 0 ∷ 0 ∷ 0 ∷ 0 ∷ 0 ∷ [])

@@ -1,0 +1,4 @@
+pub mod Facts
+pub mod Lines
+pub mod Claims
+pub mod Instance

@@ -1,0 +1,119 @@
+-- Lists of lines: each line gets the reader that the last one handed back, and the image as that one left it. Assumes nothing.
+use Prim.Native.Nat.{ℕ, _+_, _-_}
+use mathlib.Core.Bool.{Bool, false, cond, _&&_, _||_}
+use mathlib.Core.List.{List, [], _∷_, _++_}
+use lib.Dec.{leb, ltb, eqb}
+use lib.ListN.{length, getD, take}
+use Rattle.record.specs.Record.{readOf}
+use Rattle.record.specs.declared.Parsed.{Parsed}
+use Rattle.record.specs.declared.Parsed.the-variants.{Good, NoColon, BadShape, BadDigit, TooLong, BadLength, BadSum}
+use Rattle.grammar.specs.Answers.{numberOf}
+use Rattle.grammar.specs.Grammar.{dataKind}
+use Rattle.grammar.specs.declared.Answer.{Answer}
+use Rattle.grammar.specs.declared.Stand.{Stand}
+use Rattle.grammar.specs.declared.Stand.the-variants.{Between, Opened, Inside, Padded, Ended, Failed}
+use Rattle.unihex.specs.declared.Reader.{Reader}
+use Rattle.unihex.specs.Reader.{freshOf}
+use Rattle.unihex.specs.Line.{Outcome, addressOf, lineOf}
+use Rattle.hexfile.specs.Facts.{isTaken, moveOf}
+
+-- what the caller holds between two lines
+pub record Held : Type 0 where
+  pub reader : Reader
+  pub image : List ℕ
+
+-- "a fresh hex reader stands before the first section"
+abbrev pub start : ℕ → List ℕ → Held
+start own img = record { reader = freshOf own; image = img }
+
+abbrev pub turn : Held → List ℕ → Outcome
+turn h l = lineOf (h .reader) l (h .image)
+
+abbrev pub next : Held → List ℕ → Held
+next h l = record { reader = turn h l .reader; image = turn h l .image }
+
+-- what the lines leave
+unfoldable pub readAll : Held → List (List ℕ) → Held
+readAll h [] = h
+readAll h (l ∷ ls) = readAll (next h l) ls
+
+-- the answer to each
+unfoldable pub answersOf : Held → List (List ℕ) → List Answer
+answersOf h [] = []
+answersOf h (l ∷ ls) = turn h l .answer ∷ answersOf (next h l) ls
+
+-- ---- what is stored
+
+-- bytes that were stored, from an address on
+pub record Store : Type 0 where
+  pub address : ℕ
+  pub bytes : List ℕ
+
+-- the record's data at its address
+abbrev pub storeOf : Reader → List ℕ → Parsed → List Store
+storeOf r d (Good rec) = record { address = addressOf r rec; bytes = take (rec .len) d } ∷ []
+storeOf r d NoColon = []
+storeOf r d BadShape = []
+storeOf r d BadDigit = []
+storeOf r d TooLong = []
+storeOf r d BadLength = []
+storeOf r d BadSum = []
+
+abbrev pub isStored : Answer → Bool
+isStored a = eqb (numberOf a) 33
+
+-- of each line answered 33, in the order of the lines
+unfoldable pub storesOf : Held → List (List ℕ) → List Store
+storesOf h [] = []
+storesOf h (l ∷ ls) = cond (isStored (turn h l .answer)) (storeOf (h .reader) (readOf l .«data») (readOf l .parsed)) [] ++ storesOf (next h l) ls
+
+-- a store has byte j of the image
+abbrev pub covers : Store → ℕ → Bool
+covers s j = leb (s .address) j && ltb j (s .address + length (s .bytes))
+
+abbrev pub byteOf : Store → ℕ → ℕ
+byteOf s j = getD (s .bytes) (j - s .address) 0
+
+unfoldable pub anyCovers : List Store → ℕ → Bool
+anyCovers [] j = false
+anyCovers (s ∷ ss) j = covers s j || anyCovers ss j
+
+-- the latest byte that was stored at j, and where none was, d
+unfoldable pub latest : ℕ → List Store → ℕ → ℕ
+latest j [] d = d
+latest j (s ∷ ss) d = latest j ss (cond (covers s j) (byteOf s j) d)
+
+-- ---- what the reader has counted
+
+-- the lengths of the lines answered 32 to 35, together
+unfoldable pub bytesTaken : Held → List (List ℕ) → ℕ
+bytesTaken h [] = 0
+bytesTaken h (l ∷ ls) = moveOf (turn h l .answer) l + bytesTaken (next h l) ls
+
+-- the reader is in the section of a board, before its first 0C
+abbrev pub isInside : Stand → ℕ → Bool
+isInside Between b = false
+isInside Opened b = false
+isInside (Inside c) b = eqb c b
+isInside (Padded c) b = false
+isInside Ended b = false
+isInside (Failed f) b = false
+
+-- a line says a data record of a board, of at least one byte
+abbrev pub saysData : Parsed → ℕ → Bool
+saysData (Good rec) b = eqb (rec .kind) (dataKind b) && leb 1 (rec .len)
+saysData NoColon b = false
+saysData BadShape b = false
+saysData BadDigit b = false
+saysData TooLong b = false
+saysData BadLength b = false
+saysData BadSum b = false
+
+-- "gave a data byte, stored or not": a line taken as data of at least one byte in the section of board b
+abbrev pub gives : Reader → List ℕ → Answer → ℕ → Bool
+gives r l a b = isTaken a && (isInside (r .stand) b && saysData (readOf l .parsed) b)
+
+-- some line did
+unfoldable pub anyGives : Held → List (List ℕ) → ℕ → Bool
+anyGives h [] b = false
+anyGives h (l ∷ ls) b = gives (h .reader) l (turn h l .answer) b || anyGives (next h l) ls b
