@@ -1,9 +1,11 @@
-//! The UF2 side of the update receiver, written from the papers alone so that
-//! it can be compared with another implementation.
+//! The update receiver, written from the papers alone so that it can be
+//! compared with another implementation: UF2 arrivals here, lines of Universal
+//! Hex in [`hex`].
 //!
 //! Each arrival gets one of the answers 1 to 15 of document 01. Every function
 //! is total: no input makes it panic, and a refusal leaves what was lent as is.
 
+pub mod hex;
 mod place;
 
 #[cfg(test)]

@@ -1,6 +1,8 @@
 //! Common ground of the unit tests: settings, blocks and lent buffers.
 
 mod arrival;
+mod hex;
+mod hex_file;
 mod list;
 mod place;
 mod storing;
