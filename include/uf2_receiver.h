@@ -1,8 +1,8 @@
 /* The update receiver for C: every function is proved to do what crates/capi/specs says, for every input.
  *
- * Link with libcapi.a, which `rt staticlib capi` writes to target/staticlib/. A slice is a pointer and then the number of its
- * elements, and no function keeps a pointer. A pointer is never null, also of an empty slice, and points to as many elements as
- * the number says, aligned as C aligns them. Slices that a function writes (no `const`) overlap no other slice of the call. */
+ * Link with libcapi.a, which `rt staticlib capi` writes to target/staticlib/. A slice is a pointer to bytes and then their number,
+ * and no function keeps a pointer. A pointer is never null, also of an empty slice, and points to as many bytes as the number
+ * says. Slices that a function writes (no `const`) overlap no other slice of the call. */
 #ifndef UF2_RECEIVER_H
 #define UF2_RECEIVER_H
 
@@ -20,47 +20,66 @@ extern "C" {
 #define UF2_SECTOR 4096
 #define UF2_FLASH_MOST 33554432
 
-/* ---- Settings, as words. A flag is on if its word is not 0. A word past the end of the slice is read as 0. */
-#define UF2_SETTINGS_WORDS 246
+/* ---- Numbers of 32 bits in the layouts below stand as four bytes, the lowest first. */
+static inline void uf2_put32(uint8_t *at, uint32_t x) {
+    at[0] = (uint8_t)(x & 255u);
+    at[1] = (uint8_t)(x >> 8 & 255u);
+    at[2] = (uint8_t)(x >> 16 & 255u);
+    at[3] = (uint8_t)(x >> 24);
+}
+
+static inline uint32_t uf2_get32(const uint8_t *at) {
+    return (uint32_t)at[0] | (uint32_t)at[1] << 8 | (uint32_t)at[2] << 16 | (uint32_t)at[3] << 24;
+}
+
+/* ---- Settings, by the offsets of their bytes. A flag is on if its byte is not 0. A slice of another length is no settings, and is
+ * answered UF2_BAD_SETTINGS. All zeros with UF2_SETTINGS_ARM set: Arm alone, no partition table. */
+#define UF2_SETTINGS 534
 #define UF2_SETTINGS_ARM 0         /* flag: Arm enabled */
 #define UF2_SETTINGS_RISCV 1       /* flag: RISC-V enabled */
 #define UF2_SETTINGS_CURRENT 2     /* current architecture: 0 Arm, else RISC-V */
 #define UF2_SETTINGS_AUTO_SWITCH 3 /* flag */
 #define UF2_SETTINGS_ABSOLUTE 4    /* flag: the family absolute is allowed */
 #define UF2_SETTINGS_COUNT 5       /* used entries, at most 16; 0: no partition table */
-#define UF2_SETTINGS_TABLE 6       /* 16 entries of UF2_ENTRY_WORDS words; those past the count are not read */
+#define UF2_SETTINGS_TABLE 6       /* 16 entries of UF2_ENTRY bytes; those past the count are not read */
 
-/* The words of an entry; entry k begins at UF2_ENTRY(k). */
+/* The bytes of an entry; entry k begins at UF2_ENTRY_AT(k). */
 #define UF2_ENTRIES 16
-#define UF2_ENTRY_WORDS 15
-#define UF2_ENTRY(k) (UF2_SETTINGS_TABLE + (k) * UF2_ENTRY_WORDS)
-#define UF2_ENTRY_FIRST 0               /* first sector */
-#define UF2_ENTRY_SECTORS 1             /* number of sectors */
-#define UF2_ENTRY_DATA 2                /* flags: the families that the entry accepts */
-#define UF2_ENTRY_ARM_S 3
-#define UF2_ENTRY_RISCV 4
-#define UF2_ENTRY_ARM_NS 5
-#define UF2_ENTRY_USER_COUNT 6          /* used user families, at most 4 */
-#define UF2_ENTRY_USERS 7               /* four user families */
-#define UF2_ENTRY_NOT_BOOTABLE_ARM 11   /* flag */
-#define UF2_ENTRY_NOT_BOOTABLE_RISCV 12 /* flag */
-#define UF2_ENTRY_LINK 13               /* UF2_LINK_..; any other kind makes a used entry bad */
-#define UF2_ENTRY_LINK_INDEX 14         /* the entry that it is owned by or B of */
+#define UF2_ENTRY 33
+#define UF2_ENTRY_AT(k) (UF2_SETTINGS_TABLE + (k) * UF2_ENTRY)
+#define UF2_ENTRY_FIRST 0               /* 32 bits: first sector */
+#define UF2_ENTRY_SECTORS 4             /* 32 bits: number of sectors */
+#define UF2_ENTRY_USERS 8               /* 32 bits each: four user families */
+#define UF2_ENTRY_DATA 24               /* flags: the families that the entry accepts */
+#define UF2_ENTRY_ARM_S 25
+#define UF2_ENTRY_RISCV 26
+#define UF2_ENTRY_ARM_NS 27
+#define UF2_ENTRY_USER_COUNT 28         /* used user families, at most 4 */
+#define UF2_ENTRY_NOT_BOOTABLE_ARM 29   /* flag */
+#define UF2_ENTRY_NOT_BOOTABLE_RISCV 30 /* flag */
+#define UF2_ENTRY_LINK 31               /* UF2_LINK_..; any other kind makes a used entry bad */
+#define UF2_ENTRY_LINK_INDEX 32         /* the entry that it is owned by or B of */
 
 #define UF2_LINK_NONE 0
 #define UF2_LINK_OWNED_BY 1
 #define UF2_LINK_B_OF 2
 
-/* ---- A transfer, as words: made by uf2_new, handed back by uf2_receive. */
-#define UF2_TRANSFER_WORDS 4
-#define UF2_TRANSFER_KIND 0   /* UF2_IDLE, UF2_RUNNING or UF2_DONE; any other kind is refused as UF2_BAD_STATE */
-#define UF2_TRANSFER_FAMILY 1 /* all three are 0 where idle */
-#define UF2_TRANSFER_TOTAL 2
-#define UF2_TRANSFER_COUNT 3  /* blocks counted; the total where done, where it is not read */
+/* ---- A transfer, by the offsets of its bytes: made by uf2_new, handed back by uf2_receive. A slice of another length is no
+ * state, and is answered UF2_BAD_STATE. */
+#define UF2_TRANSFER 13
+#define UF2_TRANSFER_KIND 0   /* UF2_IDLE, UF2_RUNNING or UF2_DONE; any other kind is no state either */
+#define UF2_TRANSFER_FAMILY 1 /* 32 bits each, and 0 where idle */
+#define UF2_TRANSFER_TOTAL 5
+#define UF2_TRANSFER_COUNT 9  /* blocks counted; the total where done, where it is not read */
 
 #define UF2_IDLE 0
 #define UF2_RUNNING 1
 #define UF2_DONE 2
+
+/* ---- A place, by the offsets of its bytes: written by uf2_ask. */
+#define UF2_PLACE 8
+#define UF2_PLACE_START 0 /* 32 bits each, in bytes of the flash */
+#define UF2_PLACE_LENGTH 4
 
 /* ---- Families */
 #define UF2_FAMILY_RP2040 0xe48bff56u
@@ -89,26 +108,26 @@ extern "C" {
 #define UF2_COMPLETED 15
 
 /* The result of uf2_receive is the answer, and UF2_DISCARDED more where the block discarded a running transfer. */
-#define UF2_DISCARDED 256
-#define UF2_ANSWER(result) ((result) & 255)
+#define UF2_DISCARDED 128
+#define UF2_ANSWER(result) ((result) & 127)
 
-/* Writes a fresh transfer, where there are UF2_TRANSFER_WORDS words; else changes nothing. */
-void uf2_new(uint32_t *transfer, size_t transfer_len);
+/* Writes a fresh transfer, where there are UF2_TRANSFER bytes; else changes nothing. */
+void uf2_new(uint8_t *transfer, size_t transfer_len);
 
-/* The place of a family: UF2_FOUND, with start and length in bytes in found[0] and found[1]; or UF2_BAD_BUFFERS (the flash's
- * length is wrong, or found_len is not 2), UF2_BAD_SETTINGS or UF2_NO_PLACE, with `found` unchanged. */
-uint32_t uf2_ask(const uint32_t *settings, size_t settings_len, size_t flash_len, uint32_t family, uint64_t *found, size_t found_len);
+/* The place of a family: UF2_FOUND, with start and length in `place`; or UF2_BAD_BUFFERS (the flash's length is wrong, or place_len is
+ * not UF2_PLACE), UF2_BAD_SETTINGS or UF2_NO_PLACE, with `place` unchanged. */
+uint32_t uf2_ask(const uint8_t *settings, size_t settings_len, size_t flash_len, uint32_t family, uint8_t *place, size_t place_len);
 
-/* One arrival. UF2_BAD_BUFFERS too where transfer_len is not UF2_TRANSFER_WORDS. */
-uint32_t uf2_receive(const uint32_t *settings, size_t settings_len, uint32_t *transfer, size_t transfer_len, const uint8_t *arrival,
+/* One arrival. UF2_WRITTEN and UF2_COMPLETED write the next transfer; every other answer leaves all that is lent. */
+uint32_t uf2_receive(const uint8_t *settings, size_t settings_len, uint8_t *transfer, size_t transfer_len, const uint8_t *arrival,
                      size_t arrival_len, uint8_t *flash, size_t flash_len, uint8_t *seen, size_t seen_len, uint8_t *sectors,
                      size_t sectors_len);
 
-/* Arrivals one after the other, each UF2_ARRIVAL bytes: as many whole ones as there are elements in `results`, which get what
- * uf2_receive would return; the number of them. 0, and nothing changes, where transfer_len is not UF2_TRANSFER_WORDS. Settings
- * are read once. The transfer's words stay as they were lent where no arrival is answered UF2_WRITTEN or UF2_COMPLETED. */
-size_t uf2_receive_all(const uint32_t *settings, size_t settings_len, uint32_t *transfer, size_t transfer_len,
-                       const uint8_t *arrivals, size_t arrivals_len, uint32_t *results, size_t results_len, uint8_t *flash,
+/* Arrivals one after the other, each UF2_ARRIVAL bytes: as many whole ones as there are bytes in `results`, which get what
+ * uf2_receive would return; the number of them. Settings are read once. The transfer's bytes stay as they were lent where no
+ * arrival is answered UF2_WRITTEN or UF2_COMPLETED. */
+size_t uf2_receive_all(const uint8_t *settings, size_t settings_len, uint8_t *transfer, size_t transfer_len,
+                       const uint8_t *arrivals, size_t arrivals_len, uint8_t *results, size_t results_len, uint8_t *flash,
                        size_t flash_len, uint8_t *seen, size_t seen_len, uint8_t *sectors, size_t sectors_len);
 
 #ifdef __cplusplus

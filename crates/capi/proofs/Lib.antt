@@ -1,3 +1,4 @@
 -- The laws of `specs/`.
+pub mod Places
 pub mod Laws
 pub mod Many

@@ -1,13 +1,11 @@
 -- Arrivals one after the other: a turn of the loop, and its end. Assumes nothing.
 use Prim.Native.Nat.{ℕ, suc, _+_, _-_, _*_, _/_, _<_, _≤_}
 use mathlib.Core.Path.{_≡_, sym, ap, _∙_}
-use mathlib.Core.Logic.{_≢_}
 use mathlib.Core.Bool.{Bool, false, _||_, or-false, or-assoc}
 use mathlib.Core.List.{List, [], _∷_}
 use native.Mathlib.Omega.{arith}
 use lib.ListN.{length, take, drop, set}
 use lib.Seq.{drop-drop}
-use borrow.Author.Tests.{eq-eqb, ne-eqb}
 use Rattle.settings.specs.declared.Settings.{Settings}
 use Rattle.transfer.specs.declared.Transfer.{Transfer}
 use Rattle.transfer.specs.Transfer.{numberOf}
@@ -15,8 +13,8 @@ use Rattle.arrival.specs.Arrive.{World, Outcome, receiveOf}
 use Rattle.arrival.specs.Lists.{receiveAll, answersOf, discardsOf}
 use Rattle.receiver.specs.declared.Received.{Received}
 use Rattle.receiver.specs.Receiver.{world, outcome}
-use Rattle.capi.specs.Words.{settingsFrom}
-use Rattle.capi.specs.Calls.{resultOf, isTaken, keptWords, transferFrom, arrivalsOf, resultsOf, anyTaken, laid, Many, many, manyFrom, fewer, receiveMany}
+use Rattle.layout.specs.Layout.{settingsFrom, transferFrom}
+use Rattle.capi.specs.Calls.{resultOf, isTaken, kept, arrivalsOf, resultsOf, anyTaken, laid, Many, many, manyFrom, fewer, receiveMany}
 
 -- ---- the arrivals that are left
 
@@ -46,7 +44,7 @@ module _ (n : ℕ) (s : Settings) (t : List ℕ) (taken : Bool) (r : List ℕ) (
   pub all-start : (w : World) (a : List ℕ) → manyFrom n s t w taken r i (arrivalsOf (n - 0) (drop (0 * 512) a)) ≡ manyFrom n s t w taken r i (arrivalsOf n a)
   all-start w a = ap (λ (j : ℕ). manyFrom n s t w taken r i (arrivalsOf j a)) (omega arith)
 
-  many-end : (u : Transfer) (f m k : List ℕ) → manyFrom n s t (world u f m k) taken r i [] ≡ many n (keptWords t taken (u .state)) r f m k
+  many-end : (u : Transfer) (f m k : List ℕ) → manyFrom n s t (world u f m k) taken r i [] ≡ many n (kept t taken (u .state)) r f m k
   unfolding manyFrom receiveAll answersOf discardsOf resultsOf anyTaken laid
   many-end u f m k = simp (or-false taken)
 
@@ -65,18 +63,14 @@ module _ (n : ℕ) (s : Settings) (t : List ℕ) (taken : Bool) (r : List ℕ) (
 -- ---- all of them
 
 module _ (sw t a r₀ f₀ m₀ k₀ : List ℕ) where
-  pub all-short : length t ≢ 4 → many 0 t r₀ f₀ m₀ k₀ ≡ receiveMany sw t a r₀ f₀ m₀ k₀
+  pub all-ran : {n i : ℕ} {s : Settings} {u₀ : Transfer} (u : Transfer) (taken : Bool) {v r f m k : List ℕ} → n ≡ fewer (length a / 512) (length r₀) → s ≡ settingsFrom sw → u₀ ≡ transferFrom t → n ≤ i → manyFrom n s t (world u f m k) taken r i (arrivalsOf (n - i) (drop (i * 512) a)) ≡ manyFrom n s t (world u₀ f₀ m₀ k₀) false r₀ 0 (arrivalsOf n a) → v ≡ kept t taken (u .state) → many n v r f m k ≡ receiveMany sw t a r₀ f₀ m₀ k₀
   unfolding receiveMany
-  all-short h = simp (ne-eqb (length t) 4 h)
-
-  pub all-ran : {n i : ℕ} {s : Settings} {u₀ : Transfer} (u : Transfer) (taken : Bool) {v r f m k : List ℕ} → length t ≡ 4 → n ≡ fewer (length a / 512) (length r₀) → s ≡ settingsFrom sw → u₀ ≡ transferFrom t → n ≤ i → manyFrom n s t (world u f m k) taken r i (arrivalsOf (n - i) (drop (i * 512) a)) ≡ manyFrom n s t (world u₀ f₀ m₀ k₀) false r₀ 0 (arrivalsOf n a) → v ≡ keptWords t taken (u .state) → many n v r f m k ≡ receiveMany sw t a r₀ f₀ m₀ k₀
-  unfolding receiveMany
-  all-ran {n} {i} {s} {u₀} u taken {r = r} {f} {m} {k} h hn hs hu l e hv =
+  all-ran {n} {i} {s} {u₀} u taken {r = r} {f} {m} {k} hn hs hu l e hv =
       let start : Settings → Transfer → ℕ → Many = λ z y n. manyFrom n z t (world y f₀ m₀ k₀) false r₀ 0 (arrivalsOf n a) in
       let ended =
       ap (manyFrom n s t (world u f m k) taken r i) (arrivals-none n i (drop (i * 512) a) l)
       ∙ many-end n s t taken r i u f m k in
-      rw (eq-eqb (length t) 4 h, hv)
+      rw hv
       (sym ended
       ∙ e
       ∙ ap (λ (z : Settings). start z u₀ n) hs

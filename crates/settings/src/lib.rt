@@ -2,7 +2,7 @@
 ghost use mathlib.Core.Path.{_≡_};
 ghost use Prim.Native.Nat.{_≤_};
 ghost use Rattle.sets.specs.Sets.{any};
-ghost use Rattle.settings.specs.Settings.{isA, isUnowned, linkTarget, hasUser, accepts, isReserved, reservedUser, overlap, enabled, goodSettings, armOnly};
+ghost use Rattle.settings.specs.Settings.{isA, isUnowned, linkTarget, hasUser, accepts, isReserved, reservedUser, overlap, enabled, goodSettings, blankEntry, armOnly};
 ghost use Rattle.settings.specs.Parts.{aloneBad, wrongEntry, sharesBelow};
 use flash::Flash;
 
@@ -45,6 +45,25 @@ pub struct Settings {
 impl Entry {
     // The most user families.
     pub const USERS: u8 = 4;
+
+    // No sectors, and nothing that it accepts.
+    pub fn blank() -> Self
+        ensures { λ r. ⌜ r ≡ blankEntry ⌝ }
+    {
+        Self {
+            first: 0,
+            sectors: 0,
+            data: false,
+            arm_s: false,
+            riscv: false,
+            arm_ns: false,
+            user_count: 0,
+            users: [0; 4],
+            not_bootable_arm: false,
+            not_bootable_riscv: false,
+            link: Link::Unlinked,
+        }
+    }
 }
 
 impl Settings {
@@ -62,19 +81,7 @@ impl Settings {
     pub fn arm_only(absolute: bool) -> Self
         ensures { λ r. ⌜ r ≡ armOnly absolute ⌝ }
     {
-        let e = Entry {
-            first: 0,
-            sectors: 0,
-            data: false,
-            arm_s: false,
-            riscv: false,
-            arm_ns: false,
-            user_count: 0,
-            users: [0; 4],
-            not_bootable_arm: false,
-            not_bootable_riscv: false,
-            link: Link::Unlinked,
-        };
+        let e = Entry::blank();
         let table = [e; 16];
         Self {
             arm: true,

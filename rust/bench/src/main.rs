@@ -1,4 +1,4 @@
-//! Times the proved receiver and the plain Rust reference in one run, on the same inputs. Both get the settings as words. Where a place is
+//! Times the proved receiver and the plain Rust reference in one run, on the same inputs. Both get the settings as bytes. Where a place is
 //! asked for, both read them at each call; where a file is received, the plain side reads them once, and the proved side once
 //! (`uf2_receive_all`) or, one call an arrival (`uf2_receive`), each time.
 
@@ -43,42 +43,42 @@ fn sixteen() -> Settings {
     settings(16, table)
 }
 
-/// The settings that words stand for, in plain Rust.
-fn read(words: &[u32]) -> Settings {
+/// The settings that bytes are, in plain Rust.
+fn read(bytes: &[u8]) -> Settings {
     let mut table = [Entry::EMPTY; 16];
-    let used = words[5] as usize;
-    for (e, w) in table.iter_mut().zip(words[6..].chunks_exact(15)).take(used) {
-        let index = w[14].min(255) as u8;
+    let used = usize::from(bytes[5]);
+    for (e, b) in table.iter_mut().zip(bytes[6..].chunks_exact(33)).take(used) {
+        let field = |at: usize| u32::from_le_bytes([b[at], b[at + 1], b[at + 2], b[at + 3]]);
         *e = Entry {
-            first: w[0],
-            sectors: w[1],
-            data: w[2] != 0,
-            arm_s: w[3] != 0,
-            riscv: w[4] != 0,
-            arm_ns: w[5] != 0,
-            user_count: w[6].min(255) as u8,
-            users: [w[7], w[8], w[9], w[10]],
-            not_bootable_arm: w[11] != 0,
-            not_bootable_riscv: w[12] != 0,
-            link: match w[13] {
+            first: field(0),
+            sectors: field(4),
+            data: b[24] != 0,
+            arm_s: b[25] != 0,
+            riscv: b[26] != 0,
+            arm_ns: b[27] != 0,
+            user_count: b[28],
+            users: [field(8), field(12), field(16), field(20)],
+            not_bootable_arm: b[29] != 0,
+            not_bootable_riscv: b[30] != 0,
+            link: match b[31] {
                 0 => Link::None,
-                1 => Link::OwnedBy(index),
-                2 => Link::BOf(index),
+                1 => Link::OwnedBy(b[32]),
+                2 => Link::BOf(b[32]),
                 _ => Link::OwnedBy(255),
             },
         };
     }
     Settings {
-        arm: words[0] != 0,
-        riscv: words[1] != 0,
-        current: if words[2] == 0 {
+        arm: bytes[0] != 0,
+        riscv: bytes[1] != 0,
+        current: if bytes[2] == 0 {
             Arch::Arm
         } else {
             Arch::RiscV
         },
-        auto_switch: words[3] != 0,
-        absolute: words[4] != 0,
-        count: words[5].min(255) as u8,
+        auto_switch: bytes[3] != 0,
+        absolute: bytes[4] != 0,
+        count: bytes[5],
         table,
     }
 }
@@ -99,21 +99,26 @@ fn pair(name: &str, calls: usize, mut ours: impl FnMut() -> u64, mut plain: impl
 }
 
 fn places(name: &str, s: &Settings) {
-    let p = proved_settings(s);
+    let p = proved_settings(s).bytes();
     let families = [reference::ARM_S, 18, 99];
     let calls = 30_000;
     pair(
         name,
         calls,
         || {
-            let ask = |i: usize| proved::ask_place(black_box(&p), FLASH, families[i % 3]);
-            (0..calls).map(|i| ask(i).map_or(0, |x| x.0 as u64)).sum()
+            let ask = |i: usize| {
+                let mut place = [0; 8];
+                proved::bytes::ask(black_box(&p), FLASH, families[i % 3], &mut place);
+                u64::from(place[0]) + 256 * u64::from(place[1])
+            };
+            (0..calls).map(ask).sum()
         },
         || {
             let ask = |i: usize| {
-                reference::ask_place(&read(black_box(p.words())), FLASH, families[i % 3])
+                reference::ask_place(&read(black_box(&p)), FLASH, families[i % 3])
+                    .map_or(0, |x| x.0 as u64 % 65_536)
             };
-            (0..calls).map(|i| ask(i).map_or(0, |x| x.0 as u64)).sum()
+            (0..calls).map(ask).sum()
         },
     );
 }
@@ -127,7 +132,7 @@ struct Sent {
 }
 
 fn file(name: &str, s: &Settings, sent: Sent, at_once: bool) {
-    let p = proved_settings(s);
+    let p = proved_settings(s).bytes();
     let blocks = sent.blocks;
     let mut order: Vec<u32> = (0..blocks).collect();
     if sent.shuffled {
@@ -149,14 +154,12 @@ fn file(name: &str, s: &Settings, sent: Sent, at_once: bool) {
         blocks as usize,
         || {
             let (flash, seen, sectors) = &mut ours;
-            let mut t = proved::Transfer::Idle;
+            let mut t = proved::Transfer::Idle.bytes();
             if at_once {
-                proved::receive_all(&p, t, &file, &mut results, flash, seen, sectors);
+                proved::bytes::receive_all(&p, &mut t, &file, &mut results, flash, seen, sectors);
             } else {
                 for (a, r) in file.chunks_exact(512).zip(&mut results) {
-                    let o = proved::receive(black_box(&p), t, a, flash, seen, sectors);
-                    t = o.transfer;
-                    *r = u32::from(o.answer) + 256 * u32::from(o.discarded);
+                    *r = proved::bytes::receive(black_box(&p), &mut t, a, flash, seen, sectors);
                 }
             }
             results.iter().map(|&r| u64::from(r)).sum()
@@ -164,11 +167,11 @@ fn file(name: &str, s: &Settings, sent: Sent, at_once: bool) {
         || {
             let (flash, seen, sectors) = &mut theirs;
             let mut t = reference::Transfer::Idle;
-            let s = read(black_box(p.words()));
+            let s = read(black_box(&p));
             for (a, r) in file.chunks_exact(512).zip(&mut plain) {
                 let o = reference::receive(&s, t, a, flash, seen, sectors);
                 t = o.transfer;
-                *r = u32::from(o.answer) + 256 * u32::from(o.discarded);
+                *r = o.answer + 128 * u8::from(o.discarded);
             }
             plain.iter().map(|&r| u64::from(r)).sum()
         },

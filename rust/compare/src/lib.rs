@@ -38,16 +38,15 @@ pub fn proved_settings(s: &Settings) -> proved::Settings {
         Arch::Arm => proved::Arch::Arm,
         Arch::RiscV => proved::Arch::RiscV,
     };
-    let table = s.table.map(|e| proved_entry(&e));
-    proved::Settings::new(
-        s.arm,
-        s.riscv,
-        arch,
-        s.auto_switch,
-        s.absolute,
-        s.count,
-        &table,
-    )
+    proved::Settings {
+        arm: s.arm,
+        riscv: s.riscv,
+        current: arch,
+        auto_switch: s.auto_switch,
+        absolute: s.absolute,
+        count: s.count,
+        table: s.table.map(|e| proved_entry(&e)),
+    }
 }
 
 fn proved_entry(e: &Entry) -> proved::Entry {

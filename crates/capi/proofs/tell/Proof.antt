@@ -1,7 +1,8 @@
 -- `capi::tell` meets its contract. Assumes nothing.
-use mathlib.Core.Path.{sym, ap, _∙_}
-use Rattle.capi.specs.Calls.{told, toldOf}
-use Rattle.capi.proofs.Laws.{two-set}
+use mathlib.Core.Path.{sym, ap, _∙_, subst}
+use native.Mathlib.Omega.{arith}
+use Rattle.capi.specs.Calls.{Low, told, toldOf}
+use Rattle.capi.proofs.Places.{place-put}
 use borrow.Author.Needs.{needs}
 use Rattle.capi.proofs.tell.Statement.{statement}
 use Rattle.capi.proofs.tell.Tie as tie
@@ -18,28 +19,41 @@ enum-told-3 c = search needs
 enum-known-asked : tie.Need-enum-known-asked
 enum-known-asked c = search needs
 
-slice-write-found : tie.Need-slice-write-found
-slice-write-found c = search needs
+cast-put : tie.Need-cast-put
+cast-put c =
+    let low = subst Low (c .before .before .asked .given .1) (c .before .before .before .before .before .pre .1) in
+    omega arith
 
-slice-write-found-2 : tie.Need-slice-write-found-2
-slice-write-found-2 c = search needs
+put-requires : tie.Need-put-requires
+put-requires c κs = search needs
+
+cast-put-2 : tie.Need-cast-put-2
+cast-put-2 c =
+    let low = subst Low (c .before .before .before .before .before .before .asked .given .1) (c .before .before .before .before .before .before .before .before .before .pre .1) in
+    omega arith
+
+put-requires-2 : tie.Need-put-requires-2
+put-requires-2 c κs = search needs
 
 returns : tie.Need-returns
-returns c = sym (ap (toldOf (c .before .before .args .found .now)) (c .enum-told .given .1))
+returns c = sym (ap (toldOf (c .before .before .before .args .place .now)) (c .enum-told .given .1))
 
 returns-2 : tie.Need-returns-2
-returns-2 c = sym (ap (toldOf (c .before .before .args .found .now)) (c .enum-told2 .given .1))
+returns-2 c = sym (ap (toldOf (c .before .before .before .args .place .now)) (c .enum-told2 .given .1))
 
 returns-3 : tie.Need-returns-3
-returns-3 c = sym (ap (toldOf (c .before .before .args .found .now)) (c .enum-told3 .given .1))
+returns-3 c = sym (ap (toldOf (c .before .before .before .args .place .now)) (c .enum-told3 .given .1))
 
 same-length : tie.Need-same-length
 same-length c = search needs
 
 returns-4 : tie.Need-returns-4
 returns-4 c =
-    let s = c .before .before .before in
-    ap (told 0) (two-set (s .args .found .now) _ _ (s .pre)) ∙ sym (ap (toldOf (s .args .found .now)) (c .before .asked .given .1))
+    let second = c .before .before in
+    let first = second .before .before .before .before in
+    let start = first .before .before .before .before .before .before in
+    ap (told 0) (second .put2 .ensures ∙ rw (first .put .ensures) (place-put (start .args .place .now) _ _ (start .pre .0)))
+    ∙ sym (ap (toldOf (start .args .place .now)) (first .before .before .before .asked .given .1))
 
 pub tell-spec : {M : Type 1} → statement M
 tell-spec =
@@ -49,8 +63,10 @@ tell-spec =
     enum-told-2
     enum-told-3
     enum-known-asked
-    slice-write-found
-    slice-write-found-2
+    cast-put
+    put-requires
+    cast-put-2
+    put-requires-2
     returns
     returns-2
     returns-3

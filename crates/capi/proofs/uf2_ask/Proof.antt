@@ -1,4 +1,5 @@
 -- `capi::uf2_ask` meets its contract. Assumes nothing.
+use Rattle.capi.proofs.Places.{ask-low}
 use Rattle.capi.proofs.Laws.{ask-short, ask-told}
 use borrow.Author.Needs.{needs}
 use Rattle.capi.proofs.uf2_ask.Statement.{statement}
@@ -7,14 +8,14 @@ use Rattle.capi.proofs.uf2_ask.Tie as tie
 returns : tie.Need-returns
 returns c = ask-short _ _ _ _ (c .if1 .taken)
 
-settings-of-requires : tie.Need-settings-of-requires
-settings-of-requires c κs = search needs
+read-settings-requires : tie.Need-read-settings-requires
+read-settings-requires c κs = search needs
 
 ask-requires : tie.Need-ask-requires
 ask-requires c κs = search needs
 
 tell-requires : tie.Need-tell-requires
-tell-requires c κs = search needs
+tell-requires c κs = (search needs, ask-low _ _ _ (c .before .ask .ensures))
 
 same-length : tie.Need-same-length
 same-length c = search needs
@@ -23,9 +24,9 @@ returns-2 : tie.Need-returns-2
 returns-2 c =
     let b = c .before .before in
     let a = b .before .before in
-    ask-told _ _ _ _ (a .before .before .if1 .left) (a .before .settings-of .ensures) (a .ask .ensures) (b .tell .ensures)
+    ask-told _ _ _ _ (a .before .before .if1 .left) (a .before .read-settings .ensures) (a .ask .ensures) (b .tell .ensures)
 
 pub uf2-ask-spec : {M : Type 1} → statement M
 uf2-ask-spec =
     tie.close
-    (tie.spec returns settings-of-requires ask-requires tell-requires same-length returns-2)
+    (tie.spec returns read-settings-requires ask-requires tell-requires same-length returns-2)

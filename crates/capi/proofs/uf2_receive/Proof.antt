@@ -1,17 +1,14 @@
 -- `capi::uf2_receive` meets its contract. Assumes nothing.
-use Rattle.capi.proofs.Laws.{receive-short, receive-ran}
+use Rattle.capi.proofs.Laws.{number-most, receive-ran}
 use borrow.Author.Needs.{needs}
 use Rattle.capi.proofs.uf2_receive.Statement.{statement}
 use Rattle.capi.proofs.uf2_receive.Tie as tie
 
-returns : tie.Need-returns
-returns c = receive-short _ _ _ _ _ _ (c .if1 .taken)
+read-settings-requires : tie.Need-read-settings-requires
+read-settings-requires c κs = search needs
 
-settings-of-requires : tie.Need-settings-of-requires
-settings-of-requires c κs = search needs
-
-transfer-of-requires : tie.Need-transfer-of-requires
-transfer-of-requires c κs = search needs
+read-transfer-requires : tie.Need-read-transfer-requires
+read-transfer-requires c κs = search needs
 
 receive-requires : tie.Need-receive-requires
 receive-requires c κs = search needs
@@ -26,7 +23,10 @@ keep-requires : tie.Need-keep-requires
 keep-requires c κs = search needs
 
 report-requires : tie.Need-report-requires
-report-requires c κs = search needs
+report-requires c κs = rw (c .before .before .before .before .before .number .ensures) (number-most (c .before .before .before .before .before .before .before .before .before .before .before .before .before .receive .result .answer))
+
+cast-result : tie.Need-cast-result
+cast-result c = search needs
 
 same-length : tie.Need-same-length
 same-length c = search needs
@@ -40,29 +40,28 @@ same-length-3 c = search needs
 same-length-4 : tie.Need-same-length-4
 same-length-4 c = search needs
 
-returns-2 : tie.Need-returns-2
-returns-2 c =
+returns : tie.Need-returns
+returns c =
     let kept = c .before .before .before in
     let number = kept .before .before .before in
     let got = number .before .before .before .before .before .before .before .before in
     let read = got .before .before .before .before in
-    let tested = read .before .before .before in
-    receive-ran _ _ _ _ _ _ (tested .if1 .left) (read .before .before .settings-of .ensures) (read .transfer-of .ensures) (got .receive .ensures) (number .number .ensures) (kept .before .is-taken .ensures) (kept .keep .ensures) (c .report .ensures)
+    receive-ran _ _ _ _ _ _ (read .before .before .read-settings .ensures) (read .read-transfer .ensures) (got .receive .ensures) (number .number .ensures) (kept .before .is-taken .ensures) (kept .keep .ensures) (c .report .ensures)
 
 pub uf2-receive-spec : {M : Type 1} → statement M
 uf2-receive-spec =
     tie.close
     (tie.spec
-    returns
-    settings-of-requires
-    transfer-of-requires
+    read-settings-requires
+    read-transfer-requires
     receive-requires
     number-requires
     is-taken-requires
     keep-requires
     report-requires
+    cast-result
     same-length
     same-length-2
     same-length-3
     same-length-4
-    returns-2)
+    returns)

@@ -6,7 +6,8 @@ use native.Mathlib.Omega.{arith}
 use lib.ListN.{length, drop, length-set}
 use Rattle.receiver.specs.Receiver.{world}
 use Rattle.capi.specs.Calls.{arrivalsOf, manyFrom}
-use Rattle.capi.proofs.Many.{all-start, all-more, all-short, all-ran}
+use Rattle.capi.proofs.Laws.{number-most}
+use Rattle.capi.proofs.Many.{all-start, all-more, all-ran}
 use borrow.Author.Needs.{needs}
 use Rattle.capi.proofs.uf2_receive_all.Statement.{statement}
 use Rattle.capi.proofs.uf2_receive_all.Tie as tie
@@ -24,14 +25,11 @@ abbrev μ-loop : tie.MeasureT-loop
 μ-loop settings transfer arrivals results₀ flash₀ seen₀ sectors₀ s t₀ taken₀ n i₀ results flash seen sectors t taken i =
     n - i
 
-returns : tie.Need-returns Inv-loop μ-loop
-returns c = all-short _ _ _ _ _ _ _ (c .if1 .taken)
+read-settings-requires : tie.Need-read-settings-requires Inv-loop μ-loop
+read-settings-requires c κs = search needs
 
-settings-of-requires : tie.Need-settings-of-requires Inv-loop μ-loop
-settings-of-requires c κs = search needs
-
-transfer-of-requires : tie.Need-transfer-of-requires Inv-loop μ-loop
-transfer-of-requires c κs = search needs
+read-transfer-requires : tie.Need-read-transfer-requires Inv-loop μ-loop
+read-transfer-requires c κs = search needs
 
 at-most-requires : tie.Need-at-most-requires Inv-loop μ-loop
 at-most-requires c κs = search needs
@@ -61,14 +59,7 @@ number-requires : tie.Need-number-requires Inv-loop μ-loop
 number-requires c κs = search needs
 
 report-requires : tie.Need-report-requires Inv-loop μ-loop
-report-requires c κs = search needs
-
-mul-results : tie.Need-mul-results Inv-loop μ-loop
-mul-results c =
-    let turn = c .before .before .before .before .before .before .before .before .before .before .before .before .before .before in
-    let made = turn .before .before in
-    let begin = made .before .before .before .before .before .before .before .before .before .before .before .before in
-    omega (arith, turn .loop-test .taken, made .at-most .ensures .1 .1, begin .good .1 .1 .1 .0 .1)
+report-requires c κs = rw (c .number .ensures) (number-most (c .before .before .before .before .before .before .before .before .receive .result .answer))
 
 slice-write-results : tie.Need-slice-write-results Inv-loop μ-loop
 slice-write-results c = search needs
@@ -107,13 +98,13 @@ same-length-4 c = search needs
 same-length-5 : tie.Need-same-length-5 Inv-loop μ-loop
 same-length-5 c = search needs
 
-returns-2 : tie.Need-returns-2 Inv-loop μ-loop
-returns-2 c =
+returns : tie.Need-returns Inv-loop μ-loop
+returns c =
     let kept = c .before .before in
     let out = kept .before .before in
     let made = out .before .before in
     let read = made .before in
-    all-ran _ _ _ _ _ _ _ (out .before .loop .t) (out .before .loop .taken) (read .before .before .before .if1 .left) (made .at-most .ensures .0) (read .before .before .settings-of .ensures) (read .transfer-of .ensures) (out .loop-test .left) (out .before .loop .inv .5) (kept .keep .ensures)
+    all-ran _ _ _ _ _ _ _ (out .before .loop .t) (out .before .loop .taken) (made .at-most .ensures .0) (read .before .before .read-settings .ensures) (read .read-transfer .ensures) (out .loop-test .left) (out .before .loop .inv .5) (kept .keep .ensures)
 
 pub uf2-receive-all-spec : {M : Type 1} → statement M
 uf2-receive-all-spec =
@@ -121,9 +112,8 @@ uf2-receive-all-spec =
     (tie.spec
     Inv-loop
     μ-loop
-    returns
-    settings-of-requires
-    transfer-of-requires
+    read-settings-requires
+    read-transfer-requires
     at-most-requires
     loop-holds
     mul-from
@@ -134,7 +124,6 @@ uf2-receive-all-spec =
     receive-requires
     number-requires
     report-requires
-    mul-results
     slice-write-results
     is-taken-requires
     add-i
@@ -146,4 +135,4 @@ uf2-receive-all-spec =
     same-length-3
     same-length-4
     same-length-5
-    returns-2)
+    returns)

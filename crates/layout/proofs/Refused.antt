@@ -1,0 +1,74 @@
+-- Bytes that are no settings are bad settings, and bytes that are no state a bad one. Assumes nothing.
+use Prim.Native.Nat.{ℕ, _+_, _<_, _≤_}
+use mathlib.Core.Path.{_≡_, refl, ap, _∙_}
+use mathlib.Core.Logic.{_≢_}
+use mathlib.Core.Bool.{Bool, true, false}
+use mathlib.Core.List.{List}
+use native.Mathlib.Omega.{arith}
+use lib.Dec.{leb}
+use lib.ListN.{length}
+use borrow.Author.Tests.{eq-eqb, ne-eqb, le-leb, leb-true, leb-false}
+use Rattle.sets.proofs.Tests.{split}
+use Rattle.sets.proofs.Laws.{any-hit}
+use Rattle.settings.specs.declared.Entry.{Entry}
+use Rattle.settings.specs.declared.Link.the-variants.{OwnedBy}
+use Rattle.settings.specs.Settings.{entryAt, goodSettings}
+use Rattle.settings.specs.Parts.{wrongEntry}
+use Rattle.settings.proofs.Laws.{good-over, good-wrong, wrong-link, link-up}
+use Rattle.transfer.specs.Transfer.{goodState}
+use Rattle.layout.specs.Layout.{byteAt, linkFrom, entryFrom, entryBytes, slotFrom, slotsFrom, usedOf, settingsOf, noSettings, settingsFrom, stateOf, stateFrom}
+use Rattle.layout.proofs.Table.{slots-at, slot-used}
+
+-- ---- no state
+
+pub state-length : (b : List ℕ) → length b ≢ 13 → goodState (stateFrom b) ≡ false
+unfolding stateFrom goodState
+state-length b h = rw (ne-eqb (length b) 13 h)
+
+other-kind : (kind f n c : ℕ) → 2 < kind → goodState (stateOf kind f n c) ≡ false
+unfolding stateOf goodState
+other-kind kind f n c h =
+    simp (ne-eqb kind 0 (omega arith), ne-eqb kind 1 (omega arith), ne-eqb kind 2 (omega arith))
+
+pub state-kind : (b : List ℕ) → length b ≡ 13 → 2 < byteAt b 0 → goodState (stateFrom b) ≡ false
+unfolding stateFrom
+state-kind b e h = rw (eq-eqb (length b) 13 e) (other-kind (byteAt b 0) _ _ _ h)
+
+-- ---- no settings
+
+pub settings-length : (b : List ℕ) (len : ℕ) → length b ≢ 534 → goodSettings (settingsFrom b) len ≡ false
+unfolding settingsFrom noSettings
+settings-length b len h = rw (ne-eqb (length b) 534 h) (good-over noSettings len (omega arith))
+
+-- ---- a used entry's link of another kind
+
+other-link : (kind index : ℕ) → 2 < kind → linkFrom kind index ≡ OwnedBy 255
+unfolding linkFrom
+other-link kind index h =
+    simp (ne-eqb kind 0 (omega arith), ne-eqb kind 1 (omega arith), ne-eqb kind 2 (omega arith))
+
+-- an entry that is owned by 255 is wrong by its link
+owned-wrong : (table : List Entry) (len k : ℕ) → k ≤ 255 → entryAt table k .link ≡ OwnedBy 255 → wrongEntry table len k ≡ true
+owned-wrong table len k l e =
+    wrong-link table len k (link-up table k (rw e refl) (rw e l))
+
+entry-link : (e : List ℕ) → entryFrom e .link ≡ linkFrom (byteAt e 31) (byteAt e 32)
+unfolding entryFrom
+entry-link e = refl
+
+-- settings of which entry k is used and has a link of another kind than 0, 1 and 2
+pub link-kind : (b : List ℕ) (len k : ℕ) → length b ≡ 534 → k < byteAt b 5 → 2 < byteAt (entryBytes b k) 31 → goodSettings (settingsFrom b) len ≡ false
+unfolding settingsFrom settingsOf
+link-kind b len k e used kind =
+    let n = byteAt b 5 in
+    let s = settingsOf b (slotsFrom b (usedOf n) 0 16) in
+    rw (eq-eqb (length b) 534 e)
+    (split (leb n 16)
+    (λ q.
+    let l = leb-true n 16 q in
+    let t = slotsFrom b n 0 16 in
+    let u : usedOf n ≡ n = rw q in
+    let at : entryAt t k ≡ entryFrom (entryBytes b k) = slots-at b n 0 16 k (omega arith) ∙ ap (slotFrom b n) (omega arith) ∙ slot-used b n k used in
+    let own : entryAt t k .link ≡ OwnedBy 255 = ap (λ (x : Entry). x .link) at ∙ entry-link (entryBytes b k) ∙ other-link _ _ kind in
+    good-wrong s len (rw u (any-hit (wrongEntry t len) n k used (owned-wrong t len k (omega arith) own))))
+    (λ q. good-over s len (leb-false n 16 q)))

@@ -1,0 +1,64 @@
+-- A transfer that is written: its 13 bytes, and that it is read back from them. Assumes nothing.
+use Prim.Native.Nat.{ℕ, _+_, _<_, _≤_, _^_}
+use mathlib.Core.Path.{_≡_, refl, sym, ap, _∙_}
+use mathlib.Core.List.{List, [], _∷_, _++_}
+use native.Mathlib.Omega.{arith}
+use lib.ListN.{length, set, length-set}
+use borrow.Author.Tests.{eq-eqb}
+use Rattle.sets.specs.Over.{over}
+use Rattle.sets.proofs.OverLaws.{length-over, set-over, over-next, over-whole}
+use Rattle.block.specs.Block.{fieldAt}
+use Rattle.transfer.specs.declared.State.{State}
+use Rattle.transfer.specs.declared.State.the-variants.{Idle, Running, Done}
+use Rattle.layout.specs.Bytes.{le32, putAt}
+use Rattle.layout.specs.Layout.{stateOf, stateFrom, thirteen, stateBytes, written}
+use Rattle.layout.proofs.Fields.{put-over, field-le32}
+
+-- ---- the bytes
+
+-- a field right after what is written already
+put-next : (b : List ℕ) (s : List ℕ) (k x : ℕ) → length s ≡ k → k + 4 ≤ length b → putAt (over b 0 s) k x ≡ over b 0 (s ++ le32 x)
+unfolding le32
+put-next b s k x e l =
+    let fits : 0 + length s ≤ length b = omega arith in
+    let same = length-over b 0 s fits in
+    let at : 0 + length s ≡ k = omega arith in
+    put-over (over b 0 s) k x (omega arith) ∙ over-next b 0 s k (le32 x) at l
+
+pub thirteen-put : (b : List ℕ) (kind f n c : ℕ) → length b ≡ 13 → putAt (putAt (putAt (set b 0 kind) 1 f) 5 n) 9 c ≡ thirteen kind f n c
+unfolding le32 thirteen
+thirteen-put b kind f n c e =
+    let s : List ℕ = kind ∷ [] in
+    let t : List ℕ = kind ∷ le32 f in
+    let u : List ℕ = kind ∷ (le32 f ++ le32 n) in
+    let one : set b 0 kind ≡ over b 0 s = set-over b 0 kind (omega arith) in
+    let two : putAt (over b 0 s) 1 f ≡ over b 0 t = put-next b s 1 f refl (omega arith) in
+    let three : putAt (over b 0 t) 5 n ≡ over b 0 u = put-next b t 5 n refl (omega arith) in
+    rw (one, two, three) (put-next b u 9 c refl (omega arith) ∙ over-whole b (u ++ le32 c) (sym e))
+
+-- ---- read back
+
+-- the fields are below 2 ^ 32
+abbrev pub Small : State → Type 0
+Small Idle = Unit
+Small (Running r) = (r .head .family < 2 ^ 32) × (r .head .total < 2 ^ 32) × (r .count < 2 ^ 32)
+Small (Done g) = (g .family < 2 ^ 32) × (g .total < 2 ^ 32)
+
+back : (kind f n c : ℕ) → f < 2 ^ 32 → n < 2 ^ 32 → c < 2 ^ 32 → stateFrom (thirteen kind f n c) ≡ stateOf kind f n c
+unfolding stateFrom thirteen le32
+back kind f n c hf hn hc =
+    let one : fieldAt (kind ∷ (le32 f ++ (le32 n ++ le32 c))) 1 ≡ f = field-le32 (kind ∷ []) f (le32 n ++ le32 c) hf in
+    let two : fieldAt (kind ∷ (le32 f ++ (le32 n ++ le32 c))) 5 ≡ n = field-le32 (kind ∷ le32 f) n (le32 c) hn in
+    let three : fieldAt (kind ∷ (le32 f ++ (le32 n ++ le32 c))) 9 ≡ c = field-le32 (kind ∷ (le32 f ++ le32 n)) c [] hc in
+    cc
+
+-- the transfer that is read from the bytes written for a transfer is that transfer
+pub round-trip : (t : State) → Small t → stateFrom (stateBytes t) ≡ t
+unfolding stateOf
+round-trip Idle h = back 0 0 0 0 (omega arith) (omega arith) (omega arith)
+round-trip (Running r) h = back 1 (r .head .family) (r .head .total) (r .count) (h .0) (h .1) (h .2)
+round-trip (Done g) h = back 2 (g .family) (g .total) (g .total) (h .0) (h .1) (h .1)
+
+pub written-back : (b : List ℕ) (t : State) → length b ≡ 13 → Small t → stateFrom (written b t) ≡ t
+unfolding written
+written-back b t e h = rw (eq-eqb (length b) 13 e) (round-trip t h)

@@ -1,0 +1,135 @@
+-- `layout::read_settings` meets its contract. The invariant: all but the table is read, and the first k entries of it. Assumes nothing.
+use Prim.Native.Nat.{_≤_, _-_}
+use mathlib.Core.Path.{_≡_, ap}
+use native.Mathlib.Omega.{arith}
+use lib.ListN.{length, set}
+use Rattle.layout.specs.Layout.{settingsOf, noSettings}
+use Rattle.layout.proofs.Table.{Read, read-none, entry-part, read-more, other-table, settings-read, settings-none}
+use borrow.Author.Needs.{needs}
+use Rattle.layout.proofs.read_settings.Statement.{statement}
+use Rattle.layout.proofs.read_settings.Tie as tie
+
+abbrev Inv-loop : tie.InvT-loop
+Inv-loop bytes n s₀ k₀ s k =
+    (k ≤ n) × (n ≤ 16) × (length bytes ≡ 534) × (s ≡ settingsOf bytes (s .table)) × Read bytes k (s .table)
+
+abbrev μ-loop : tie.MeasureT-loop
+μ-loop bytes n s₀ k₀ s k = n - k
+
+blank-requires : tie.Need-blank-requires Inv-loop μ-loop
+blank-requires c κs = search needs
+
+returns : tie.Need-returns Inv-loop μ-loop
+unfolding noSettings
+returns c = settings-none _ (c .if1 .taken) (c .before .blank .ensures)
+
+shared-slice-read-arch : tie.Need-shared-slice-read-arch Inv-loop μ-loop
+shared-slice-read-arch c = search needs
+
+arch-requires : tie.Need-arch-requires Inv-loop μ-loop
+arch-requires c κs = search needs
+
+shared-slice-read-used : tie.Need-shared-slice-read-used Inv-loop μ-loop
+shared-slice-read-used c = search needs
+
+used-requires : tie.Need-used-requires Inv-loop μ-loop
+used-requires c κs = search needs
+
+shared-slice-read-t15 : tie.Need-shared-slice-read-t15 Inv-loop μ-loop
+shared-slice-read-t15 c = search needs
+
+shared-slice-read-t19 : tie.Need-shared-slice-read-t19 Inv-loop μ-loop
+shared-slice-read-t19 c = search needs
+
+shared-slice-read-t22 : tie.Need-shared-slice-read-t22 Inv-loop μ-loop
+shared-slice-read-t22 c = search needs
+
+shared-slice-read-t25 : tie.Need-shared-slice-read-t25 Inv-loop μ-loop
+shared-slice-read-t25 c = search needs
+
+shared-slice-read-t28 : tie.Need-shared-slice-read-t28 Inv-loop μ-loop
+shared-slice-read-t28 c = search needs
+
+loop-holds : tie.Need-loop-holds Inv-loop μ-loop
+unfolding settingsOf
+loop-holds c =
+    let made = c .before .before .before .before .before in
+    let test = made .before .before .before .before in
+    (search needs, made .used .ensures .1, test .if1 .left, simp (made .before .before .arch .ensures), read-none _ (test .before .blank .ensures))
+
+mul-from : tie.Need-mul-from Inv-loop μ-loop
+mul-from c = search needs
+
+add-from : tie.Need-add-from Inv-loop μ-loop
+add-from c = search needs
+
+add-to : tie.Need-add-to Inv-loop μ-loop
+add-to c = search needs
+
+sub-entry : tie.Need-sub-entry Inv-loop μ-loop
+sub-entry c = search needs
+
+part-entry-start : tie.Need-part-entry-start Inv-loop μ-loop
+part-entry-start c = search needs
+
+part-entry-end : tie.Need-part-entry-end Inv-loop μ-loop
+part-entry-end c = search needs
+
+entry-requires : tie.Need-entry-requires Inv-loop μ-loop
+entry-requires c κs = search needs
+
+mul-e : tie.Need-mul-e Inv-loop μ-loop
+mul-e c = search needs
+
+element-set-from-e : tie.Need-element-set-from-e Inv-loop μ-loop
+element-set-from-e c = omega arith
+
+add-k : tie.Need-add-k Inv-loop μ-loop
+add-k c = search needs
+
+loop-less : tie.Need-loop-less Inv-loop μ-loop
+loop-less c = search needs
+
+loop-again : tie.Need-loop-again Inv-loop μ-loop
+loop-again c =
+    let at = c .before .before .before .loop in
+    (search needs, at .inv .1, at .inv .2, other-table _ _ (at .inv .3), read-more _ (at .k) (at .s .table) (omega arith) (at .inv .4) (entry-part _ (at .k) (c .entry .ensures)))
+
+returns-2 : tie.Need-returns-2 Inv-loop μ-loop
+returns-2 c =
+    let at = c .before .loop in
+    let used = c .before .before .before .before .before .before .before .used in
+    let e : at .k ≡ used .result = omega arith in
+    settings-read _ (at .inv .2) (at .inv .3) (used .ensures .0) (rw e at (at .inv .4))
+
+pub read-settings-spec : {M : Type 1} → statement M
+read-settings-spec =
+    tie.close
+    (tie.spec
+    Inv-loop
+    μ-loop
+    blank-requires
+    returns
+    shared-slice-read-arch
+    arch-requires
+    shared-slice-read-used
+    used-requires
+    shared-slice-read-t15
+    shared-slice-read-t19
+    shared-slice-read-t22
+    shared-slice-read-t25
+    shared-slice-read-t28
+    loop-holds
+    mul-from
+    add-from
+    add-to
+    sub-entry
+    part-entry-start
+    part-entry-end
+    entry-requires
+    mul-e
+    element-set-from-e
+    add-k
+    loop-less
+    loop-again
+    returns-2)

@@ -1,0 +1,147 @@
+-- Settings and transfers as bytes. Every number below is a byte, or a field of four (`fieldAt`). Assumes nothing.
+use Prim.Native.Nat.{ℕ, zero, suc, _+_, _*_}
+use mathlib.Core.Bool.{Bool, false, not, cond}
+use mathlib.Core.List.{List, [], _∷_, _++_}
+use lib.Dec.{ltb, leb, eqb}
+use lib.ListN.{length, getD, take, drop, replicate}
+use Rattle.block.specs.Block.{fieldAt}
+use Rattle.settings.specs.declared.Arch.{Arch}
+use Rattle.settings.specs.declared.Arch.the-variants.{Arm, RiscV}
+use Rattle.settings.specs.declared.Link.{Link}
+use Rattle.settings.specs.declared.Link.the-variants.{Unlinked, OwnedBy, BOf}
+use Rattle.settings.specs.declared.Entry.{Entry}
+use Rattle.settings.specs.declared.Settings.{Settings}
+use Rattle.settings.specs.Settings.{blankEntry}
+use Rattle.transfer.specs.declared.Head.{Head}
+use Rattle.transfer.specs.declared.State.{State}
+use Rattle.transfer.specs.declared.State.the-variants.{Idle, Running, Done}
+use Rattle.transfer.specs.declared.Transfer.{Transfer}
+use Rattle.transfer.specs.Transfer.{running}
+use Rattle.layout.specs.Bytes.{le32}
+
+abbrev pub byteAt : List ℕ → ℕ → ℕ
+byteAt b i = getD b i 0
+
+-- a flag is on if its byte is not 0
+abbrev pub isOn : ℕ → Bool
+isOn x = not (eqb x 0)
+
+-- ---- an entry, 33 bytes
+
+-- a kind and an index: 0 none, 1 owned by, 2 B of; any other kind is owned by 255, which makes a used entry bad (proofs/Refused.antt)
+unfoldable pub linkFrom : ℕ → ℕ → Link
+linkFrom kind index =
+    cond (eqb kind 0) Unlinked
+    (cond (eqb kind 1) (OwnedBy index)
+    (cond (eqb kind 2) (BOf index) (OwnedBy 255)))
+
+abbrev pub usersFrom : List ℕ → List ℕ
+usersFrom e = fieldAt e 8 ∷ fieldAt e 12 ∷ fieldAt e 16 ∷ fieldAt e 20 ∷ []
+
+-- 0 first sector, 4 sectors, 8 four user families, 24 data, 25 arm-s, 26 riscv, 27 arm-ns, 28 number of user families, 29 not bootable
+-- for Arm, 30 for RISC-V, 31 link kind, 32 link index
+unfoldable pub entryFrom : List ℕ → Entry
+entryFrom e =
+    record {
+      first = fieldAt e 0;
+      sectors = fieldAt e 4;
+      «data» = isOn (byteAt e 24);
+      «arm_s» = isOn (byteAt e 25);
+      riscv = isOn (byteAt e 26);
+      «arm_ns» = isOn (byteAt e 27);
+      «user_count» = byteAt e 28;
+      users = usersFrom e;
+      «not_bootable_arm» = isOn (byteAt e 29);
+      «not_bootable_riscv» = isOn (byteAt e 30);
+      link = linkFrom (byteAt e 31) (byteAt e 32);
+    }
+
+-- ---- settings, 534 bytes: 6, and 16 entries
+
+abbrev pub archFrom : ℕ → Arch
+archFrom x = cond (eqb x 0) Arm RiscV
+
+-- the bytes of entry k
+abbrev pub entryBytes : List ℕ → ℕ → List ℕ
+entryBytes b k = take 33 (drop (6 + k * 33) b)
+
+-- entry k where n are used; the others are blank, whatever their bytes
+unfoldable pub slotFrom : List ℕ → ℕ → ℕ → Entry
+slotFrom b n k = cond (ltb k n) (entryFrom (entryBytes b k)) blankEntry
+
+-- m such entries, from entry k on
+unfoldable pub slotsFrom : List ℕ → ℕ → ℕ → ℕ → List Entry
+slotsFrom b n k zero = []
+slotsFrom b n k (suc m) = slotFrom b n k ∷ slotsFrom b n (k + 1) m
+
+-- how many entries are used; with a count over 16 the settings are bad already, and none is
+abbrev pub usedOf : ℕ → ℕ
+usedOf count = cond (leb count 16) count 0
+
+-- 0 Arm enabled, 1 RISC-V enabled, 2 current architecture (0 Arm, else RISC-V), 3 auto switch, 4 absolute allowed, 5 count; the table
+unfoldable pub settingsOf : List ℕ → List Entry → Settings
+settingsOf b table =
+    record {
+      arm = isOn (byteAt b 0);
+      riscv = isOn (byteAt b 1);
+      current = archFrom (byteAt b 2);
+      «auto_switch» = isOn (byteAt b 3);
+      absolute = isOn (byteAt b 4);
+      count = byteAt b 5;
+      table = table;
+    }
+
+-- settings that are bad for every flash length (proofs/Refused.antt)
+unfoldable pub noSettings : Settings
+noSettings =
+    record {
+      arm = false;
+      riscv = false;
+      current = Arm;
+      «auto_switch» = false;
+      absolute = false;
+      count = 255;
+      table = replicate 16 blankEntry;
+    }
+
+-- bytes of any other length are no settings
+unfoldable pub settingsFrom : List ℕ → Settings
+settingsFrom b =
+    cond (eqb (length b) 534) (settingsOf b (slotsFrom b (usedOf (byteAt b 5)) 0 16)) noSettings
+
+-- ---- a transfer, 13 bytes
+
+abbrev pub headOf : ℕ → ℕ → Head
+headOf f n = record { family = f; total = n }
+
+-- a running transfer that has counted none, which row 3 refuses (proofs/Refused.antt)
+abbrev pub noState : State
+noState = running (headOf 0 0) 0
+
+-- a kind (0 Idle, 1 Running, 2 Done), family, total and count; any other kind is no state
+unfoldable pub stateOf : ℕ → ℕ → ℕ → ℕ → State
+stateOf kind f n c =
+    cond (eqb kind 0) Idle
+    (cond (eqb kind 1) (running (headOf f n) c)
+    (cond (eqb kind 2) (Done (headOf f n)) noState))
+
+-- 0 kind, 1 family, 5 total, 9 count; bytes of any other length are no state
+unfoldable pub stateFrom : List ℕ → State
+stateFrom b =
+    cond (eqb (length b) 13) (stateOf (byteAt b 0) (fieldAt b 1) (fieldAt b 5) (fieldAt b 9)) noState
+
+abbrev pub transferFrom : List ℕ → Transfer
+transferFrom b = record { state = stateFrom b }
+
+unfoldable pub thirteen : ℕ → ℕ → ℕ → ℕ → List ℕ
+thirteen kind f n c = kind ∷ (le32 f ++ (le32 n ++ le32 c))
+
+-- the bytes of a transfer; one that is done has counted its total
+abbrev pub stateBytes : State → List ℕ
+stateBytes Idle = thirteen 0 0 0 0
+stateBytes (Running r) = thirteen 1 (r .head .family) (r .head .total) (r .count)
+stateBytes (Done g) = thirteen 2 (g .family) (g .total) (g .total)
+
+-- a transfer written over bytes, where there are 13
+unfoldable pub written : List ℕ → State → List ℕ
+written b t = cond (eqb (length b) 13) (stateBytes t) b

@@ -1,0 +1,226 @@
+// Settings and transfers as bytes: how they go in, and how a transfer comes back. Every byte slice is read; include/uf2_receiver.h has
+// the layout for C.
+ghost use mathlib.Core.Path.{_≡_};
+ghost use Prim.Native.Nat.{_≤_};
+ghost use lib.ListN.{length};
+ghost use Rattle.layout.specs.Bytes.{putAt};
+ghost use Rattle.layout.specs.Layout.{
+  linkFrom,
+  usersFrom,
+  entryFrom,
+  archFrom,
+  usedOf,
+  settingsFrom,
+  noState,
+  stateOf,
+  transferFrom,
+  thirteen,
+  written,
+};
+use settings::Arch;
+use settings::Entry;
+use settings::Link;
+use settings::Settings;
+use transfer::Head;
+use transfer::Run;
+use transfer::State;
+use transfer::Transfer;
+
+// The bytes of settings, those before their table, and those of an entry.
+const SETTINGS: usize = 534;
+
+const HEAD: usize = 6;
+
+const ENTRY: usize = 33;
+
+// The bytes of a transfer.
+const TRANSFER: usize = 13;
+
+fn arch(x: u8) -> Arch
+    ensures { λ r. ⌜ r ≡ archFrom x ⌝ }
+{
+    if x == 0 { Arch::Arm } else { Arch::RiscV }
+}
+
+// Of another kind than 0, 1 and 2: a link that is bad at every index.
+fn link(kind: u8, index: u8) -> Link
+    ensures { λ r. ⌜ r ≡ linkFrom kind index ⌝ }
+{
+    if kind == 0 {
+        return Link::Unlinked;
+    }
+    if kind == 1 {
+        return Link::OwnedBy(index);
+    }
+    if kind == 2 {
+        return Link::BOf(index);
+    }
+    Link::OwnedBy(255)
+}
+
+fn users(e: &[u8]) -> [u32; 4]
+    ensures { λ r. ⌜ r ≡ usersFrom (now (e .entry)) ⌝ }
+{
+    let a = block::field(e, 8);
+    let b = block::field(e, 12);
+    let c = block::field(e, 16);
+    let d = block::field(e, 20);
+    [a, b, c, d]
+}
+
+// The entry of 33 bytes.
+fn entry(e: &[u8]) -> Entry
+    requires { ⌜ length (now e) ≡ 33 ⌝ }
+    ensures { λ r. ⌜ r ≡ entryFrom (now (e .entry)) ⌝ }
+{
+    let users = users(e);
+    let link = link(e[31], e[32]);
+    Entry {
+        first: block::field(e, 0),
+        sectors: block::field(e, 4),
+        data: e[24] != 0,
+        arm_s: e[25] != 0,
+        riscv: e[26] != 0,
+        arm_ns: e[27] != 0,
+        user_count: e[28],
+        users,
+        not_bootable_arm: e[29] != 0,
+        not_bootable_riscv: e[30] != 0,
+        link,
+    }
+}
+
+fn used(count: u8) -> usize
+    ensures { λ r. ⌜ r ≡ usedOf count ⌝ }
+    ensures low { λ r. ⌜ r ≤ 16 ⌝ }
+{
+    if count <= 16 { count as usize } else { 0 }
+}
+
+// The settings that bytes are. Only the entries that are used are read: a board with few waits for no more.
+pub fn read_settings(bytes: &[u8]) -> Settings
+    ensures { λ r. ⌜ r ≡ settingsFrom (now (bytes .entry)) ⌝ }
+{
+    let e = Entry::blank();
+    let table = [e; 16];
+    if bytes.len() != SETTINGS {
+        return Settings {
+            arm: false,
+            riscv: false,
+            current: Arch::Arm,
+            auto_switch: false,
+            absolute: false,
+            count: 255,
+            table,
+        };
+    }
+    let current = arch(bytes[2]);
+    let n = used(bytes[5]);
+    let mut s = Settings {
+        arm: bytes[0] != 0,
+        riscv: bytes[1] != 0,
+        current,
+        auto_switch: bytes[3] != 0,
+        absolute: bytes[4] != 0,
+        count: bytes[5],
+        table,
+    };
+    let mut k: usize = 0;
+    while k < n {
+        let from = HEAD + k * ENTRY;
+        let to = from + ENTRY;
+        let e = entry(&bytes[from..to]);
+        s.table[k] = e;
+        k += 1;
+    }
+    s
+}
+
+// Of another kind than 0, 1 and 2: a running transfer that is bad.
+fn state(kind: u8, head: Head, count: u32) -> State
+    ensures { λ r. ⌜ r ≡ stateOf kind (head .family) (head .total) count ⌝ }
+{
+    if kind == 0 {
+        return State::Idle;
+    }
+    if kind == 1 {
+        let run = Run { head, count };
+        return State::Running(run);
+    }
+    if kind == 2 {
+        return State::Done(head);
+    }
+    none()
+}
+
+// No state: a running transfer that has counted none.
+fn none() -> State
+    ensures { λ r. ⌜ r ≡ noState ⌝ }
+{
+    let head = Head {
+        family: 0,
+        total: 0,
+    };
+    let run = Run { head, count: 0 };
+    State::Running(run)
+}
+
+// The transfer that bytes are.
+pub fn read_transfer(bytes: &[u8]) -> Transfer
+    ensures { λ r. ⌜ r ≡ transferFrom (now (bytes .entry)) ⌝ }
+{
+    if bytes.len() != TRANSFER {
+        let state = none();
+        return Transfer { state };
+    }
+    let head = Head {
+        family: block::field(bytes, 1),
+        total: block::field(bytes, 5),
+    };
+    let state = state(bytes[0], head, block::field(bytes, 9));
+    Transfer { state }
+}
+
+// Writes a little-endian 32-bit field at an offset, and nothing where it would run past the end.
+pub fn put(bytes: &mut [u8], at: usize, x: u32)
+    ensures { λ _. ⌜ now (bytes .exit) ≡ putAt (now (bytes .entry)) at x ⌝ }
+{
+    if bytes.len() < 4 {
+        return;
+    }
+    if bytes.len() - 4 < at {
+        return;
+    }
+    bytes[at] = (x % 256) as u8;
+    bytes[at + 1] = (x / 256 % 256) as u8;
+    bytes[at + 2] = (x / 65536 % 256) as u8;
+    bytes[at + 3] = (x / 16777216 % 256) as u8;
+}
+
+fn write(bytes: &mut [u8], kind: u8, family: u32, total: u32, count: u32)
+    requires { ⌜ length (now bytes) ≡ 13 ⌝ }
+    ensures { λ _. ⌜ now (bytes .exit) ≡ thirteen kind family total count ⌝ }
+{
+    bytes[0] = kind;
+    put(bytes, 1, family);
+    put(bytes, 5, total);
+    put(bytes, 9, count);
+}
+
+// Writes a transfer, where there are bytes for it.
+pub fn write_transfer(bytes: &mut [u8], next: Transfer)
+    ensures { λ _. ⌜ now (bytes .exit) ≡ written (now (bytes .entry)) (next .state) ⌝ }
+{
+    if bytes.len() != TRANSFER {
+        return;
+    }
+    let state = next.state;
+    match state {
+        State::Idle => write(bytes, 0, 0, 0, 0),
+        State::Running(run) => {
+            let head = run.head;
+            write(bytes, 1, head.family, head.total, run.count);
+        }
+        State::Done(head) => write(bytes, 2, head.family, head.total, head.total),
+    }
+}

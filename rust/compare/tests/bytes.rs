@@ -1,0 +1,166 @@
+//! Settings and transfers as bytes of any content and length: what is no settings is answered 2, what is no state 3, each in its order,
+//! and a refusal leaves every byte that was lent.
+
+use compare::{any_settings, arm_only, page, proved_settings, proved_transfer, Random};
+use proved::{bytes, SETTINGS_BYTES, TRANSFER_BYTES};
+use reference::Transfer;
+
+const LEN: usize = 16_384;
+
+fn buffers() -> [Vec<u8>; 3] {
+    [vec![3; LEN], vec![5; 16_384], vec![6; 1024]]
+}
+
+/// The result of a block that is right but for what is handed over, by one call and by all at once.
+fn received(settings: &[u8], transfer: &[u8], arrival: &[u8]) -> u8 {
+    let (mut one, mut all) = (transfer.to_vec(), transfer.to_vec());
+    let (mut ours, mut theirs) = (buffers(), buffers());
+    let [flash, seen, sectors] = &mut ours;
+    let result = bytes::receive(settings, &mut one, arrival, flash, seen, sectors);
+    let [flash, seen, sectors] = &mut theirs;
+    let mut results = [0; 1];
+    let number = bytes::receive_all(
+        settings,
+        &mut all,
+        arrival,
+        &mut results,
+        flash,
+        seen,
+        sectors,
+    );
+    assert_eq!((number, results[0]), (1, result));
+    assert!(one == all && ours == theirs);
+    if result < 14 {
+        assert!(one == transfer && ours == buffers(), "a refusal changes");
+    }
+    result
+}
+
+fn lengths(right: usize) -> impl Iterator<Item = usize> {
+    (0..right + 20)
+        .chain([2 * right, 65_536])
+        .filter(move |&n| n != right)
+}
+
+#[test]
+fn transfers_of_every_kind() {
+    let s = proved_settings(&arm_only()).bytes();
+    let a = page(reference::ARM_S, 4, 1);
+    let running = Transfer::Running {
+        family: reference::ARM_S,
+        total: 4,
+        count: 1,
+    };
+    for kind in 0..=255 {
+        let mut t = proved_transfer(running).bytes();
+        t[0] = kind;
+        let wanted = match kind {
+            0 => 14,
+            1 => 14,
+            2 => 12,
+            _ => 3,
+        };
+        assert_eq!(received(&s, &t, &a), wanted, "kind {kind}");
+    }
+}
+
+#[test]
+fn transfers_of_every_length() {
+    let good = proved_settings(&arm_only()).bytes();
+    let bad = [0; SETTINGS_BYTES];
+    let a = page(reference::ARM_S, 4, 1);
+    for n in lengths(TRANSFER_BYTES) {
+        for fill in [0, 1, 2, 255] {
+            let t = vec![fill; n];
+            assert_eq!(received(&good, &t, &a), 3, "{n} bytes");
+            // 2 is asked before
+            assert_eq!(received(&bad, &t, &a), 2, "{n} bytes");
+        }
+    }
+}
+
+#[test]
+fn settings_of_every_length() {
+    let whole = proved_settings(&arm_only()).bytes();
+    let t = proved_transfer(Transfer::Idle).bytes();
+    let a = page(reference::ARM_S, 4, 1);
+    assert_eq!(received(&whole, &t, &a), 14);
+    for n in lengths(SETTINGS_BYTES) {
+        let mut s = whole.to_vec();
+        s.resize(n, 0);
+        assert_eq!(received(&s, &t, &a), 2, "{n} bytes");
+        // also with a transfer that is no state
+        assert_eq!(received(&s, &[], &a), 2, "{n} bytes");
+        let mut place = [9; 8];
+        let number = bytes::ask(&s, LEN, reference::ARM_S, &mut place);
+        assert_eq!((number, place), (2, [9; 8]), "{n} bytes");
+        // 1 is asked before
+        assert_eq!(bytes::ask(&s, LEN + 1, reference::ARM_S, &mut place), 1);
+    }
+}
+
+#[test]
+fn links_of_every_kind() {
+    let mut r = Random(9);
+    let mut bad = 0;
+    for _ in 0..2_000 {
+        let s = any_settings(&mut r, 40);
+        let k = r.below(16) as usize;
+        let kind = 3 + r.below(253) as u8;
+        let mut b = proved_settings(&s).bytes();
+        b[6 + 33 * k + 31] = kind;
+        let mut changed = s;
+        changed.table[k].link = reference::Link::OwnedBy(255);
+        let wanted = reference::ask_place(&changed, 40 * 4096, reference::ARM_S);
+        let mut place = [9; 8];
+        let got = bytes::ask(&b, 40 * 4096, reference::ARM_S, &mut place);
+        assert_eq!(got, wanted.err().unwrap_or(0));
+        if k < usize::from(s.count) {
+            assert_eq!(got, 2, "a used entry of link kind {kind}");
+            bad += 1;
+        }
+    }
+    assert!(bad > 200);
+}
+
+/// A flag is on if its byte is not 0, and bytes of any content get the answer of the settings that they are.
+#[test]
+fn any_bytes() {
+    let mut r = Random(10);
+    for _ in 0..20_000 {
+        let s = any_settings(&mut r, 40);
+        let mut b = proved_settings(&s).bytes();
+        let flags = (0..5).chain(
+            (0..16).flat_map(|k| (24..31).filter(|&i| i != 28).map(move |i| 6 + 33 * k + i)),
+        );
+        for i in flags {
+            if b[i] != 0 {
+                b[i] = 1 + r.below(255) as u8;
+            }
+        }
+        let family = r.of(&compare::FAMILIES);
+        let wanted = reference::ask_place(&s, 40 * 4096, family);
+        let mut place = [0; 8];
+        let got = bytes::ask(&b, 40 * 4096, family, &mut place);
+        assert_eq!(got, wanted.err().unwrap_or(0));
+        if let Ok((start, len)) = wanted {
+            let two = [start as u32, len as u32].map(u32::to_le_bytes).concat();
+            assert_eq!(place, two[..]);
+        }
+    }
+}
+
+#[test]
+fn places_of_every_length() {
+    let s = proved_settings(&arm_only()).bytes();
+    for n in lengths(8) {
+        let mut place = vec![9; n];
+        assert_eq!(bytes::ask(&s, LEN, reference::ARM_S, &mut place), 1);
+        assert!(place.iter().all(|&b| b == 9));
+    }
+}
+
+#[test]
+fn fresh_transfer() {
+    assert_eq!(proved::new_transfer(), proved::Transfer::Idle);
+}
