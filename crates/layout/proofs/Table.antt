@@ -98,6 +98,6 @@ settings-read b {s} {n} l e u h =
     rw (eq-eqb (length b) 534 l)
     (e ∙ ap (settingsOf b) (read-table b n (s .table) h ∙ ap (λ (m : ℕ). slotsFrom b m 0 16) u))
 
-pub settings-none : (b : List ℕ) {e : Entry} → length b ≢ 534 → e ≡ blankEntry → withTable noSettings (replicate 16 e) ≡ settingsFrom b
-unfolding settingsFrom noSettings
-settings-none b l q = rw (ne-eqb (length b) 534 l, q)
+pub settings-none : (b : List ℕ) {s : Settings} → length b ≢ 534 → s ≡ noSettings → s ≡ settingsFrom b
+unfolding settingsFrom
+settings-none b l e = rw (ne-eqb (length b) 534 l) e

@@ -45,12 +45,12 @@ entryFrom e =
     record {
       first = fieldAt e 0;
       sectors = fieldAt e 4;
+      users = usersFrom e;
       «data» = isOn (byteAt e 24);
       «arm_s» = isOn (byteAt e 25);
       riscv = isOn (byteAt e 26);
       «arm_ns» = isOn (byteAt e 27);
       «user_count» = byteAt e 28;
-      users = usersFrom e;
       «not_bootable_arm» = isOn (byteAt e 29);
       «not_bootable_riscv» = isOn (byteAt e 30);
       link = linkFrom (byteAt e 31) (byteAt e 32);

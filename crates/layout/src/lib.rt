@@ -10,6 +10,7 @@ ghost use Rattle.layout.specs.Layout.{
   entryFrom,
   archFrom,
   usedOf,
+  noSettings,
   settingsFrom,
   noState,
   stateOf,
@@ -78,12 +79,12 @@ fn entry(e: &[u8]) -> Entry
     Entry {
         first: block::field(e, 0),
         sectors: block::field(e, 4),
+        users,
         data: e[24] != 0,
         arm_s: e[25] != 0,
         riscv: e[26] != 0,
         arm_ns: e[27] != 0,
         user_count: e[28],
-        users,
         not_bootable_arm: e[29] != 0,
         not_bootable_riscv: e[30] != 0,
         link,
@@ -97,32 +98,46 @@ fn used(count: u8) -> usize
     if count <= 16 { count as usize } else { 0 }
 }
 
+// No settings: their count is over 16.
+fn no_settings() -> Settings
+    ensures { λ r. ⌜ r ≡ noSettings ⌝ }
+{
+    let e = Entry::blank();
+    let table = [e; 16];
+    Settings {
+        arm: false,
+        riscv: false,
+        current: Arch::Arm,
+        auto_switch: false,
+        absolute: false,
+        count: 255,
+        table,
+    }
+}
+
 // The settings that bytes are. Only the entries that are used are read: a board with few waits for no more.
 pub fn read_settings(bytes: &[u8]) -> Settings
     ensures { λ r. ⌜ r ≡ settingsFrom (now (bytes .entry)) ⌝ }
 {
+    if bytes.len() != SETTINGS {
+        return no_settings();
+    }
+    let arm = bytes[0] != 0;
+    let riscv = bytes[1] != 0;
+    let current = arch(bytes[2]);
+    let auto_switch = bytes[3] != 0;
+    let absolute = bytes[4] != 0;
+    let count = bytes[5];
+    let n = used(count);
     let e = Entry::blank();
     let table = [e; 16];
-    if bytes.len() != SETTINGS {
-        return Settings {
-            arm: false,
-            riscv: false,
-            current: Arch::Arm,
-            auto_switch: false,
-            absolute: false,
-            count: 255,
-            table,
-        };
-    }
-    let current = arch(bytes[2]);
-    let n = used(bytes[5]);
     let mut s = Settings {
-        arm: bytes[0] != 0,
-        riscv: bytes[1] != 0,
+        arm,
+        riscv,
         current,
-        auto_switch: bytes[3] != 0,
-        absolute: bytes[4] != 0,
-        count: bytes[5],
+        auto_switch,
+        absolute,
+        count,
         table,
     };
     let mut k: usize = 0;

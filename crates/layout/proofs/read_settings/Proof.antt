@@ -3,25 +3,30 @@ use Prim.Native.Nat.{_≤_, _-_}
 use mathlib.Core.Path.{_≡_, ap}
 use native.Mathlib.Omega.{arith}
 use lib.ListN.{length, set}
-use Rattle.layout.specs.Layout.{settingsOf, noSettings}
+use Rattle.layout.specs.Layout.{settingsOf}
 use Rattle.layout.proofs.Table.{Read, read-none, entry-part, read-more, other-table, settings-read, settings-none}
 use borrow.Author.Needs.{needs}
 use Rattle.layout.proofs.read_settings.Statement.{statement}
 use Rattle.layout.proofs.read_settings.Tie as tie
 
 abbrev Inv-loop : tie.InvT-loop
-Inv-loop bytes n s₀ k₀ s k =
+Inv-loop bytes arm riscv auto-switch absolute count n s₀ k₀ s k =
     (k ≤ n) × (n ≤ 16) × (length bytes ≡ 534) × (s ≡ settingsOf bytes (s .table)) × Read bytes k (s .table)
 
 abbrev μ-loop : tie.MeasureT-loop
-μ-loop bytes n s₀ k₀ s k = n - k
+μ-loop bytes arm riscv auto-switch absolute count n s₀ k₀ s k = n - k
 
-blank-requires : tie.Need-blank-requires Inv-loop μ-loop
-blank-requires c κs = search needs
+no-settings-requires : tie.Need-no-settings-requires Inv-loop μ-loop
+no-settings-requires c κs = search needs
 
 returns : tie.Need-returns Inv-loop μ-loop
-unfolding noSettings
-returns c = settings-none _ (c .if1 .taken) (c .before .blank .ensures)
+returns c = settings-none _ (c .before .if1 .taken) (c .no-settings .ensures)
+
+shared-slice-read-arm : tie.Need-shared-slice-read-arm Inv-loop μ-loop
+shared-slice-read-arm c = search needs
+
+shared-slice-read-riscv : tie.Need-shared-slice-read-riscv Inv-loop μ-loop
+shared-slice-read-riscv c = search needs
 
 shared-slice-read-arch : tie.Need-shared-slice-read-arch Inv-loop μ-loop
 shared-slice-read-arch c = search needs
@@ -29,33 +34,27 @@ shared-slice-read-arch c = search needs
 arch-requires : tie.Need-arch-requires Inv-loop μ-loop
 arch-requires c κs = search needs
 
-shared-slice-read-used : tie.Need-shared-slice-read-used Inv-loop μ-loop
-shared-slice-read-used c = search needs
+shared-slice-read-auto-switch : tie.Need-shared-slice-read-auto-switch Inv-loop μ-loop
+shared-slice-read-auto-switch c = search needs
+
+shared-slice-read-absolute : tie.Need-shared-slice-read-absolute Inv-loop μ-loop
+shared-slice-read-absolute c = search needs
+
+shared-slice-read-count : tie.Need-shared-slice-read-count Inv-loop μ-loop
+shared-slice-read-count c = search needs
 
 used-requires : tie.Need-used-requires Inv-loop μ-loop
 used-requires c κs = search needs
 
-shared-slice-read-t15 : tie.Need-shared-slice-read-t15 Inv-loop μ-loop
-shared-slice-read-t15 c = search needs
-
-shared-slice-read-t19 : tie.Need-shared-slice-read-t19 Inv-loop μ-loop
-shared-slice-read-t19 c = search needs
-
-shared-slice-read-t22 : tie.Need-shared-slice-read-t22 Inv-loop μ-loop
-shared-slice-read-t22 c = search needs
-
-shared-slice-read-t25 : tie.Need-shared-slice-read-t25 Inv-loop μ-loop
-shared-slice-read-t25 c = search needs
-
-shared-slice-read-t28 : tie.Need-shared-slice-read-t28 Inv-loop μ-loop
-shared-slice-read-t28 c = search needs
+blank-requires : tie.Need-blank-requires Inv-loop μ-loop
+blank-requires c κs = search needs
 
 loop-holds : tie.Need-loop-holds Inv-loop μ-loop
 unfolding settingsOf
 loop-holds c =
-    let made = c .before .before .before .before .before in
-    let test = made .before .before .before .before in
-    (search needs, made .used .ensures .1, test .if1 .left, simp (made .before .before .arch .ensures), read-none _ (test .before .blank .ensures))
+    let arch = c .before .before .before .before .before in
+    let test = arch .before .before .before .before in
+    (search needs, c .before .used .ensures .1, test .if1 .left, simp (arch .arch .ensures), read-none _ (c .blank .ensures))
 
 mul-from : tie.Need-mul-from Inv-loop μ-loop
 mul-from c = search needs
@@ -98,7 +97,7 @@ loop-again c =
 returns-2 : tie.Need-returns-2 Inv-loop μ-loop
 returns-2 c =
     let at = c .before .loop in
-    let used = c .before .before .before .before .before .before .before .used in
+    let used = c .before .before .before .used in
     let e : at .k ≡ used .result = omega arith in
     settings-read _ (at .inv .2) (at .inv .3) (used .ensures .0) (rw e at (at .inv .4))
 
@@ -108,17 +107,17 @@ read-settings-spec =
     (tie.spec
     Inv-loop
     μ-loop
-    blank-requires
+    no-settings-requires
     returns
+    shared-slice-read-arm
+    shared-slice-read-riscv
     shared-slice-read-arch
     arch-requires
-    shared-slice-read-used
+    shared-slice-read-auto-switch
+    shared-slice-read-absolute
+    shared-slice-read-count
     used-requires
-    shared-slice-read-t15
-    shared-slice-read-t19
-    shared-slice-read-t22
-    shared-slice-read-t25
-    shared-slice-read-t28
+    blank-requires
     loop-holds
     mul-from
     add-from
