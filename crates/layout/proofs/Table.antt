@@ -75,28 +75,11 @@ read-more b k t {e} l h q = (
 
 -- ---- the settings
 
--- settings with another table
-abbrev pub withTable : Settings → List Entry → Settings
-withTable s t =
-    record {
-      arm = s .arm;
-      riscv = s .riscv;
-      current = s .current;
-      «auto_switch» = s .«auto_switch»;
-      absolute = s .absolute;
-      count = s .count;
-      table = t;
-    }
-
-pub other-table : (b : List ℕ) {s : Settings} (t : List Entry) → s ≡ settingsOf b (s .table) → withTable s t ≡ settingsOf b t
-unfolding settingsOf
-other-table b t e = ap (λ (z : Settings). withTable z t) e
-
-pub settings-read : (b : List ℕ) {s : Settings} {n : ℕ} → length b ≡ 534 → s ≡ settingsOf b (s .table) → n ≡ usedOf (byteAt b 5) → Read b n (s .table) → s ≡ settingsFrom b
+pub settings-read : (b : List ℕ) {s : Settings} {n : ℕ} (t : List Entry) → length b ≡ 534 → n ≡ usedOf (byteAt b 5) → Read b n t → s ≡ settingsOf b t → s ≡ settingsFrom b
 unfolding settingsFrom
-settings-read b {s} {n} l e u h =
+settings-read b {n = n} t l u h e =
     rw (eq-eqb (length b) 534 l)
-    (e ∙ ap (settingsOf b) (read-table b n (s .table) h ∙ ap (λ (m : ℕ). slotsFrom b m 0 16) u))
+    (e ∙ ap (settingsOf b) (read-table b n t h ∙ ap (λ (m : ℕ). slotsFrom b m 0 16) u))
 
 pub settings-none : (b : List ℕ) {s : Settings} → length b ≢ 534 → s ≡ noSettings → s ≡ settingsFrom b
 unfolding settingsFrom

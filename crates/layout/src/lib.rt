@@ -129,9 +129,17 @@ pub fn read_settings(bytes: &[u8]) -> Settings
     let absolute = bytes[4] != 0;
     let count = bytes[5];
     let n = used(count);
-    let e = Entry::blank();
-    let table = [e; 16];
-    let mut s = Settings {
+    let blank = Entry::blank();
+    let mut table = [blank; 16];
+    let mut k: usize = 0;
+    while k < n {
+        let from = HEAD + k * ENTRY;
+        let to = from + ENTRY;
+        let e = entry(&bytes[from..to]);
+        table[k] = e;
+        k += 1;
+    }
+    Settings {
         arm,
         riscv,
         current,
@@ -139,16 +147,7 @@ pub fn read_settings(bytes: &[u8]) -> Settings
         absolute,
         count,
         table,
-    };
-    let mut k: usize = 0;
-    while k < n {
-        let from = HEAD + k * ENTRY;
-        let to = from + ENTRY;
-        let e = entry(&bytes[from..to]);
-        s.table[k] = e;
-        k += 1;
     }
-    s
 }
 
 // Of another kind than 0, 1 and 2: a running transfer that is bad.

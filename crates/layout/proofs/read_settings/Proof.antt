@@ -1,20 +1,20 @@
--- `layout::read_settings` meets its contract. The invariant: all but the table is read, and the first k entries of it. Assumes nothing.
+-- `layout::read_settings` meets its contract. The invariant: the first k entries are read. Assumes nothing.
 use Prim.Native.Nat.{_≤_, _-_}
-use mathlib.Core.Path.{_≡_, ap}
+use mathlib.Core.Path.{_≡_}
 use native.Mathlib.Omega.{arith}
-use lib.ListN.{length, set}
+use lib.ListN.{length}
 use Rattle.layout.specs.Layout.{settingsOf}
-use Rattle.layout.proofs.Table.{Read, read-none, entry-part, read-more, other-table, settings-read, settings-none}
+use Rattle.layout.proofs.Table.{Read, read-none, entry-part, read-more, settings-read, settings-none}
 use borrow.Author.Needs.{needs}
 use Rattle.layout.proofs.read_settings.Statement.{statement}
 use Rattle.layout.proofs.read_settings.Tie as tie
 
 abbrev Inv-loop : tie.InvT-loop
-Inv-loop bytes arm riscv auto-switch absolute count n s₀ k₀ s k =
-    (k ≤ n) × (n ≤ 16) × (length bytes ≡ 534) × (s ≡ settingsOf bytes (s .table)) × Read bytes k (s .table)
+Inv-loop bytes arm riscv current auto-switch absolute count n table₀ k₀ table k =
+    (k ≤ n) × (n ≤ 16) × (length bytes ≡ 534) × Read bytes k table
 
 abbrev μ-loop : tie.MeasureT-loop
-μ-loop bytes arm riscv auto-switch absolute count n s₀ k₀ s k = n - k
+μ-loop bytes arm riscv current auto-switch absolute count n table₀ k₀ table k = n - k
 
 no-settings-requires : tie.Need-no-settings-requires Inv-loop μ-loop
 no-settings-requires c κs = search needs
@@ -50,11 +50,9 @@ blank-requires : tie.Need-blank-requires Inv-loop μ-loop
 blank-requires c κs = search needs
 
 loop-holds : tie.Need-loop-holds Inv-loop μ-loop
-unfolding settingsOf
 loop-holds c =
-    let arch = c .before .before .before .before .before in
-    let test = arch .before .before .before .before in
-    (search needs, c .before .used .ensures .1, test .if1 .left, simp (arch .arch .ensures), read-none _ (c .blank .ensures))
+    let test = c .before .before .before .before .before .before .before .before .before in
+    (search needs, c .before .used .ensures .1, test .if1 .left, read-none _ (c .blank .ensures))
 
 mul-from : tie.Need-mul-from Inv-loop μ-loop
 mul-from c = search needs
@@ -77,11 +75,11 @@ part-entry-end c = search needs
 entry-requires : tie.Need-entry-requires Inv-loop μ-loop
 entry-requires c κs = search needs
 
-mul-e : tie.Need-mul-e Inv-loop μ-loop
-mul-e c = search needs
+mul-table : tie.Need-mul-table Inv-loop μ-loop
+mul-table c = search needs
 
-element-set-from-e : tie.Need-element-set-from-e Inv-loop μ-loop
-element-set-from-e c = omega arith
+array-set-from-table : tie.Need-array-set-from-table Inv-loop μ-loop
+array-set-from-table c = search needs
 
 add-k : tie.Need-add-k Inv-loop μ-loop
 add-k c = search needs
@@ -92,14 +90,15 @@ loop-less c = search needs
 loop-again : tie.Need-loop-again Inv-loop μ-loop
 loop-again c =
     let at = c .before .before .before .loop in
-    (search needs, at .inv .1, at .inv .2, other-table _ _ (at .inv .3), read-more _ (at .k) (at .s .table) (omega arith) (at .inv .4) (entry-part _ (at .k) (c .entry .ensures)))
+    (search needs, at .inv .1, at .inv .2, read-more _ (at .k) (at .table) (omega arith) (at .inv .3) (entry-part _ (at .k) (c .entry .ensures)))
 
 returns-2 : tie.Need-returns-2 Inv-loop μ-loop
+unfolding settingsOf
 returns-2 c =
     let at = c .before .loop in
     let used = c .before .before .before .used in
     let e : at .k ≡ used .result = omega arith in
-    settings-read _ (at .inv .2) (at .inv .3) (used .ensures .0) (rw e at (at .inv .4))
+    settings-read _ (at .table) (at .inv .2) (used .ensures .0) (rw e at (at .inv .3)) (simp (c .before .before .before .before .before .before .before .arch .ensures))
 
 pub read-settings-spec : {M : Type 1} → statement M
 read-settings-spec =
@@ -126,8 +125,8 @@ read-settings-spec =
     part-entry-start
     part-entry-end
     entry-requires
-    mul-e
-    element-set-from-e
+    mul-table
+    array-set-from-table
     add-k
     loop-less
     loop-again
