@@ -9,8 +9,9 @@ ghost use Rattle.layout.specs.Layout.{
   usersFrom,
   entryFrom,
   archFrom,
+  byteAt,
+  countFrom,
   usedOf,
-  noSettings,
   settingsFrom,
   noState,
   stateOf,
@@ -91,6 +92,24 @@ fn entry(e: &[u8]) -> Entry
     }
 }
 
+// The byte at i, and 0 past the end.
+fn byte(bytes: &[u8], i: usize) -> u8
+    ensures { λ r. ⌜ r ≡ byteAt (now (bytes .entry)) i ⌝ }
+{
+    if i < bytes.len() { bytes[i] } else { 0 }
+}
+
+// Of bytes that are no settings: over 16, which is bad.
+fn count(bytes: &[u8]) -> u8
+    ensures { λ r. ⌜ r ≡ countFrom (now (bytes .entry)) ⌝ }
+{
+    if bytes.len() == SETTINGS {
+        bytes[5]
+    } else {
+        255
+    }
+}
+
 fn used(count: u8) -> usize
     ensures { λ r. ⌜ r ≡ usedOf count ⌝ }
     ensures low { λ r. ⌜ r ≤ 16 ⌝ }
@@ -98,36 +117,16 @@ fn used(count: u8) -> usize
     if count <= 16 { count as usize } else { 0 }
 }
 
-// No settings: their count is over 16.
-fn no_settings() -> Settings
-    ensures { λ r. ⌜ r ≡ noSettings ⌝ }
-{
-    let e = Entry::blank();
-    let table = [e; 16];
-    Settings {
-        arm: false,
-        riscv: false,
-        current: Arch::Arm,
-        auto_switch: false,
-        absolute: false,
-        count: 255,
-        table,
-    }
-}
-
 // The settings that bytes are. Only the entries that are used are read: a board with few waits for no more.
 pub fn read_settings(bytes: &[u8]) -> Settings
     ensures { λ r. ⌜ r ≡ settingsFrom (now (bytes .entry)) ⌝ }
 {
-    if bytes.len() != SETTINGS {
-        return no_settings();
-    }
-    let arm = bytes[0] != 0;
-    let riscv = bytes[1] != 0;
-    let current = arch(bytes[2]);
-    let auto_switch = bytes[3] != 0;
-    let absolute = bytes[4] != 0;
-    let count = bytes[5];
+    let arm = byte(bytes, 0) != 0;
+    let riscv = byte(bytes, 1) != 0;
+    let current = arch(byte(bytes, 2));
+    let auto_switch = byte(bytes, 3) != 0;
+    let absolute = byte(bytes, 4) != 0;
+    let count = count(bytes);
     let n = used(count);
     let blank = Entry::blank();
     let mut table = [blank; 16];

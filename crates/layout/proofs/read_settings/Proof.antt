@@ -1,47 +1,41 @@
 -- `layout::read_settings` meets its contract. The invariant: the first k entries are read. Assumes nothing.
 use Prim.Native.Nat.{_≤_, _-_}
-use mathlib.Core.Path.{_≡_}
+use mathlib.Core.Path.{_≡_, ap, _∙_}
 use native.Mathlib.Omega.{arith}
 use lib.ListN.{length}
-use Rattle.layout.specs.Layout.{settingsOf}
-use Rattle.layout.proofs.Table.{Read, read-none, entry-part, read-more, settings-read, settings-none}
+use Rattle.layout.specs.Layout.{countFrom, usedOf, settingsOf}
+use Rattle.layout.proofs.Table.{Read, read-none, entry-part, read-more, used-whole, settings-read}
 use borrow.Author.Needs.{needs}
 use Rattle.layout.proofs.read_settings.Statement.{statement}
 use Rattle.layout.proofs.read_settings.Tie as tie
 
 abbrev Inv-loop : tie.InvT-loop
 Inv-loop bytes arm riscv current auto-switch absolute count n table₀ k₀ table k =
-    (k ≤ n) × (n ≤ 16) × (length bytes ≡ 534) × Read bytes k table
+    (k ≤ n) × (n ≤ 16) × (n ≡ usedOf (countFrom bytes)) × Read bytes k table
 
 abbrev μ-loop : tie.MeasureT-loop
 μ-loop bytes arm riscv current auto-switch absolute count n table₀ k₀ table k = n - k
 
-no-settings-requires : tie.Need-no-settings-requires Inv-loop μ-loop
-no-settings-requires c κs = search needs
+byte-requires : tie.Need-byte-requires Inv-loop μ-loop
+byte-requires c κs = search needs
 
-returns : tie.Need-returns Inv-loop μ-loop
-returns c = settings-none _ (c .before .if1 .taken) (c .no-settings .ensures)
+byte-requires-2 : tie.Need-byte-requires-2 Inv-loop μ-loop
+byte-requires-2 c κs = search needs
 
-shared-slice-read-arm : tie.Need-shared-slice-read-arm Inv-loop μ-loop
-shared-slice-read-arm c = search needs
-
-shared-slice-read-riscv : tie.Need-shared-slice-read-riscv Inv-loop μ-loop
-shared-slice-read-riscv c = search needs
-
-shared-slice-read-arch : tie.Need-shared-slice-read-arch Inv-loop μ-loop
-shared-slice-read-arch c = search needs
+byte-requires-3 : tie.Need-byte-requires-3 Inv-loop μ-loop
+byte-requires-3 c κs = search needs
 
 arch-requires : tie.Need-arch-requires Inv-loop μ-loop
 arch-requires c κs = search needs
 
-shared-slice-read-auto-switch : tie.Need-shared-slice-read-auto-switch Inv-loop μ-loop
-shared-slice-read-auto-switch c = search needs
+byte-requires-4 : tie.Need-byte-requires-4 Inv-loop μ-loop
+byte-requires-4 c κs = search needs
 
-shared-slice-read-absolute : tie.Need-shared-slice-read-absolute Inv-loop μ-loop
-shared-slice-read-absolute c = search needs
+byte-requires-5 : tie.Need-byte-requires-5 Inv-loop μ-loop
+byte-requires-5 c κs = search needs
 
-shared-slice-read-count : tie.Need-shared-slice-read-count Inv-loop μ-loop
-shared-slice-read-count c = search needs
+count-requires : tie.Need-count-requires Inv-loop μ-loop
+count-requires c κs = search needs
 
 used-requires : tie.Need-used-requires Inv-loop μ-loop
 used-requires c κs = search needs
@@ -51,8 +45,8 @@ blank-requires c κs = search needs
 
 loop-holds : tie.Need-loop-holds Inv-loop μ-loop
 loop-holds c =
-    let test = c .before .before .before .before .before .before .before .before .before in
-    (search needs, c .before .used .ensures .1, test .if1 .left, read-none _ (c .blank .ensures))
+    let used = c .before .used in
+    (search needs, used .ensures .1, used .ensures .0 ∙ ap usedOf (c .before .before .count .ensures), read-none _ (c .blank .ensures))
 
 mul-from : tie.Need-mul-from Inv-loop μ-loop
 mul-from c = search needs
@@ -70,10 +64,10 @@ part-entry-start : tie.Need-part-entry-start Inv-loop μ-loop
 part-entry-start c = search needs
 
 part-entry-end : tie.Need-part-entry-end Inv-loop μ-loop
-part-entry-end c = search needs
+part-entry-end c = let whole = used-whole (c .before .before .before .before .before .before .before .before .before .before .before .before .args .bytes .now) (c .before .loop .inv .2) (omega arith) in omega arith
 
 entry-requires : tie.Need-entry-requires Inv-loop μ-loop
-entry-requires c κs = search needs
+entry-requires c κs = let whole = used-whole (c .before .before .before .before .before .before .before .before .before .before .before .before .before .args .bytes .now) (c .before .before .loop .inv .2) (omega arith) in search needs
 
 mul-table : tie.Need-mul-table Inv-loop μ-loop
 mul-table c = search needs
@@ -92,13 +86,23 @@ loop-again c =
     let at = c .before .before .before .loop in
     (search needs, at .inv .1, at .inv .2, read-more _ (at .k) (at .table) (omega arith) (at .inv .3) (entry-part _ (at .k) (c .entry .ensures)))
 
-returns-2 : tie.Need-returns-2 Inv-loop μ-loop
+returns : tie.Need-returns Inv-loop μ-loop
 unfolding settingsOf
-returns-2 c =
+returns c =
     let at = c .before .loop in
-    let used = c .before .before .before .used in
-    let e : at .k ≡ used .result = omega arith in
-    settings-read _ (at .table) (at .inv .2) (used .ensures .0) (rw e at (at .inv .3)) (simp (c .before .before .before .before .before .before .before .arch .ensures))
+    let made = c .before .before .before in
+    let arch = made .before .before .before .before in
+    let e : at .k ≡ made .used .result = omega arith in
+    settings-read _ (at .table) (at .inv .2) (rw e at (at .inv .3))
+    (simp (
+      arch .before .before .before .byte .ensures,
+      arch .before .before .byte2 .ensures,
+      arch .before .byte3 .ensures,
+      arch .arch .ensures,
+      made .before .before .before .byte4 .ensures,
+      made .before .before .byte5 .ensures,
+      made .before .count .ensures,
+    ))
 
 pub read-settings-spec : {M : Type 1} → statement M
 read-settings-spec =
@@ -106,15 +110,13 @@ read-settings-spec =
     (tie.spec
     Inv-loop
     μ-loop
-    no-settings-requires
-    returns
-    shared-slice-read-arm
-    shared-slice-read-riscv
-    shared-slice-read-arch
+    byte-requires
+    byte-requires-2
+    byte-requires-3
     arch-requires
-    shared-slice-read-auto-switch
-    shared-slice-read-absolute
-    shared-slice-read-count
+    byte-requires-4
+    byte-requires-5
+    count-requires
     used-requires
     blank-requires
     loop-holds
@@ -130,4 +132,4 @@ read-settings-spec =
     add-k
     loop-less
     loop-again
-    returns-2)
+    returns)
