@@ -16,7 +16,7 @@ use Rattle.settings.specs.Settings.{entryAt, goodSettings}
 use Rattle.settings.specs.Parts.{wrongEntry}
 use Rattle.settings.proofs.Laws.{good-over, good-wrong, wrong-link, link-up}
 use Rattle.transfer.specs.Transfer.{goodState}
-use Rattle.layout.specs.Layout.{byteAt, linkFrom, entryFrom, entryBytes, slotFrom, slotsFrom, usedOf, settingsOf, noSettings, settingsFrom, stateOf, stateFrom}
+use Rattle.layout.specs.Layout.{byteAt, linkFrom, entryFrom, entryBytes, slotFrom, slotsFrom, countFrom, usedOf, settingsOf, settingsFrom, stateOf, stateFrom}
 use Rattle.layout.proofs.Table.{slots-at, slot-used}
 
 -- ---- no state
@@ -37,8 +37,8 @@ state-kind b e h = rw (eq-eqb (length b) 13 e) (other-kind (byteAt b 0) _ _ _ h)
 -- ---- no settings
 
 pub settings-length : (b : List ℕ) (len : ℕ) → length b ≢ 534 → goodSettings (settingsFrom b) len ≡ false
-unfolding settingsFrom noSettings
-settings-length b len h = rw (ne-eqb (length b) 534 h) (good-over noSettings len (omega arith))
+unfolding settingsFrom settingsOf
+settings-length b len h = good-over (settingsFrom b) len (rw (ne-eqb (length b) 534 h) (omega arith))
 
 -- ---- a used entry's link of another kind
 
@@ -61,14 +61,14 @@ pub link-kind : (b : List ℕ) (len k : ℕ) → length b ≡ 534 → k < byteAt
 unfolding settingsFrom settingsOf
 link-kind b len k e used kind =
     let n = byteAt b 5 in
-    let s = settingsOf b (slotsFrom b (usedOf n) 0 16) in
-    rw (eq-eqb (length b) 534 e)
+    let s = settingsFrom b in
+    let same : countFrom b ≡ n = rw (eq-eqb (length b) 534 e) refl in
     (split (leb n 16)
     (λ q.
     let l = leb-true n 16 q in
     let t = slotsFrom b n 0 16 in
-    let u : usedOf n ≡ n = rw q in
+    let u : usedOf (countFrom b) ≡ n = ap usedOf same ∙ rw q refl in
     let at : entryAt t k ≡ entryFrom (entryBytes b k) = slots-at b n 0 16 k (omega arith) ∙ ap (slotFrom b n) (omega arith) ∙ slot-used b n k used in
     let own : entryAt t k .link ≡ OwnedBy 255 = ap (λ (x : Entry). x .link) at ∙ entry-link (entryBytes b k) ∙ other-link _ _ kind in
-    good-wrong s len (rw u (any-hit (wrongEntry t len) n k used (owned-wrong t len k (omega arith) own))))
-    (λ q. good-over s len (leb-false n 16 q)))
+    good-wrong s len (rw (u, same) (any-hit (wrongEntry t len) n k used (owned-wrong t len k (omega arith) own))))
+    (λ q. good-over s len (rw same (leb-false n 16 q))))

@@ -8,12 +8,12 @@ use native.Mathlib.Omega.{arith}
 use lib.Dec.{ltb, eqb}
 use lib.ListN.{length, take, drop, set, replicate, length-set, length-replicate, getD-replicate}
 use lib.Seq.{ext-getD, getD-set-same, getD-set-other}
-use borrow.Author.Tests.{le-ltb, lt-ltb, ltb-true, ltb-false, eqb-true, eqb-false, eq-eqb, ne-eqb}
+use borrow.Author.Tests.{le-ltb, lt-ltb, ltb-true, ltb-false, eqb-true, eqb-false}
 use Rattle.sets.proofs.Tests.{split}
 use Rattle.settings.specs.declared.Entry.{Entry}
 use Rattle.settings.specs.Settings.{emptyEntry, entryAt, blankEntry}
 use Rattle.settings.specs.declared.Settings.{Settings}
-use Rattle.layout.specs.Layout.{byteAt, entryFrom, entryBytes, slotFrom, slotsFrom, usedOf, settingsOf, noSettings, settingsFrom}
+use Rattle.layout.specs.Layout.{entryFrom, entryBytes, slotFrom, slotsFrom, countFrom, usedOf, settingsOf, settingsFrom}
 
 slots-length : (b : List ℕ) (n k m : ℕ) → length (slotsFrom b n k m) ≡ m
 unfolding slotsFrom
@@ -75,29 +75,14 @@ read-more b k t {e} l h q = (
 
 -- ---- the settings
 
--- settings with another table
-abbrev pub withTable : Settings → List Entry → Settings
-withTable s t =
-    record {
-      arm = s .arm;
-      riscv = s .riscv;
-      current = s .current;
-      «auto_switch» = s .«auto_switch»;
-      absolute = s .absolute;
-      count = s .count;
-      table = t;
-    }
+-- a used entry stands in bytes that are settings
+pub used-whole : (b : List ℕ) {n : ℕ} → n ≡ usedOf (countFrom b) → 0 < n → length b ≡ 534
+used-whole b u l =
+    split (eqb (length b) 534)
+    (λ e. eqb-true (length b) 534 e)
+    (λ e. let z : usedOf (countFrom b) ≡ 0 = rw e refl in absurd (omega arith))
 
-pub other-table : (b : List ℕ) {s : Settings} (t : List Entry) → s ≡ settingsOf b (s .table) → withTable s t ≡ settingsOf b t
-unfolding settingsOf
-other-table b t e = ap (λ (z : Settings). withTable z t) e
-
-pub settings-read : (b : List ℕ) {s : Settings} {n : ℕ} → length b ≡ 534 → s ≡ settingsOf b (s .table) → n ≡ usedOf (byteAt b 5) → Read b n (s .table) → s ≡ settingsFrom b
+pub settings-read : (b : List ℕ) {s : Settings} {n : ℕ} (t : List Entry) → n ≡ usedOf (countFrom b) → Read b n t → s ≡ settingsOf b t → s ≡ settingsFrom b
 unfolding settingsFrom
-settings-read b {s} {n} l e u h =
-    rw (eq-eqb (length b) 534 l)
-    (e ∙ ap (settingsOf b) (read-table b n (s .table) h ∙ ap (λ (m : ℕ). slotsFrom b m 0 16) u))
-
-pub settings-none : (b : List ℕ) {e : Entry} → length b ≢ 534 → e ≡ blankEntry → withTable noSettings (replicate 16 e) ≡ settingsFrom b
-unfolding settingsFrom noSettings
-settings-none b l q = rw (ne-eqb (length b) 534 l, q)
+settings-read b {n = n} t u h e =
+    e ∙ ap (settingsOf b) (read-table b n t h ∙ ap (λ (m : ℕ). slotsFrom b m 0 16) u)

@@ -1,9 +1,9 @@
 -- Settings and transfers as bytes. Every number below is a byte, or a field of four (`fieldAt`). Assumes nothing.
 use Prim.Native.Nat.{ℕ, zero, suc, _+_, _*_}
-use mathlib.Core.Bool.{Bool, false, not, cond}
+use mathlib.Core.Bool.{Bool, not, cond}
 use mathlib.Core.List.{List, [], _∷_, _++_}
 use lib.Dec.{ltb, leb, eqb}
-use lib.ListN.{length, getD, take, drop, replicate}
+use lib.ListN.{length, getD, take, drop}
 use Rattle.block.specs.Block.{fieldAt}
 use Rattle.settings.specs.declared.Arch.{Arch}
 use Rattle.settings.specs.declared.Arch.the-variants.{Arm, RiscV}
@@ -45,12 +45,12 @@ entryFrom e =
     record {
       first = fieldAt e 0;
       sectors = fieldAt e 4;
+      users = usersFrom e;
       «data» = isOn (byteAt e 24);
       «arm_s» = isOn (byteAt e 25);
       riscv = isOn (byteAt e 26);
       «arm_ns» = isOn (byteAt e 27);
       «user_count» = byteAt e 28;
-      users = usersFrom e;
       «not_bootable_arm» = isOn (byteAt e 29);
       «not_bootable_riscv» = isOn (byteAt e 30);
       link = linkFrom (byteAt e 31) (byteAt e 32);
@@ -78,6 +78,10 @@ slotsFrom b n k (suc m) = slotFrom b n k ∷ slotsFrom b n (k + 1) m
 abbrev pub usedOf : ℕ → ℕ
 usedOf count = cond (leb count 16) count 0
 
+-- bytes of any other length are no settings: their count is 255, which is bad for every flash length (proofs/Refused.antt)
+abbrev pub countFrom : List ℕ → ℕ
+countFrom b = cond (eqb (length b) 534) (byteAt b 5) 255
+
 -- 0 Arm enabled, 1 RISC-V enabled, 2 current architecture (0 Arm, else RISC-V), 3 auto switch, 4 absolute allowed, 5 count; the table
 unfoldable pub settingsOf : List ℕ → List Entry → Settings
 settingsOf b table =
@@ -87,27 +91,12 @@ settingsOf b table =
       current = archFrom (byteAt b 2);
       «auto_switch» = isOn (byteAt b 3);
       absolute = isOn (byteAt b 4);
-      count = byteAt b 5;
+      count = countFrom b;
       table = table;
     }
 
--- settings that are bad for every flash length (proofs/Refused.antt)
-unfoldable pub noSettings : Settings
-noSettings =
-    record {
-      arm = false;
-      riscv = false;
-      current = Arm;
-      «auto_switch» = false;
-      absolute = false;
-      count = 255;
-      table = replicate 16 blankEntry;
-    }
-
--- bytes of any other length are no settings
 unfoldable pub settingsFrom : List ℕ → Settings
-settingsFrom b =
-    cond (eqb (length b) 534) (settingsOf b (slotsFrom b (usedOf (byteAt b 5)) 0 16)) noSettings
+settingsFrom b = settingsOf b (slotsFrom b (usedOf (countFrom b)) 0 16)
 
 -- ---- a transfer, 13 bytes
 

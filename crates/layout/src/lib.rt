@@ -9,6 +9,8 @@ ghost use Rattle.layout.specs.Layout.{
   usersFrom,
   entryFrom,
   archFrom,
+  byteAt,
+  countFrom,
   usedOf,
   settingsFrom,
   noState,
@@ -78,15 +80,33 @@ fn entry(e: &[u8]) -> Entry
     Entry {
         first: block::field(e, 0),
         sectors: block::field(e, 4),
+        users,
         data: e[24] != 0,
         arm_s: e[25] != 0,
         riscv: e[26] != 0,
         arm_ns: e[27] != 0,
         user_count: e[28],
-        users,
         not_bootable_arm: e[29] != 0,
         not_bootable_riscv: e[30] != 0,
         link,
+    }
+}
+
+// The byte at i, and 0 past the end.
+fn byte(bytes: &[u8], i: usize) -> u8
+    ensures { λ r. ⌜ r ≡ byteAt (now (bytes .entry)) i ⌝ }
+{
+    if i < bytes.len() { bytes[i] } else { 0 }
+}
+
+// Of bytes that are no settings: over 16, which is bad.
+fn count(bytes: &[u8]) -> u8
+    ensures { λ r. ⌜ r ≡ countFrom (now (bytes .entry)) ⌝ }
+{
+    if bytes.len() == SETTINGS {
+        bytes[5]
+    } else {
+        255
     }
 }
 
@@ -101,39 +121,32 @@ fn used(count: u8) -> usize
 pub fn read_settings(bytes: &[u8]) -> Settings
     ensures { λ r. ⌜ r ≡ settingsFrom (now (bytes .entry)) ⌝ }
 {
-    let e = Entry::blank();
-    let table = [e; 16];
-    if bytes.len() != SETTINGS {
-        return Settings {
-            arm: false,
-            riscv: false,
-            current: Arch::Arm,
-            auto_switch: false,
-            absolute: false,
-            count: 255,
-            table,
-        };
-    }
-    let current = arch(bytes[2]);
-    let n = used(bytes[5]);
-    let mut s = Settings {
-        arm: bytes[0] != 0,
-        riscv: bytes[1] != 0,
-        current,
-        auto_switch: bytes[3] != 0,
-        absolute: bytes[4] != 0,
-        count: bytes[5],
-        table,
-    };
+    let arm = byte(bytes, 0) != 0;
+    let riscv = byte(bytes, 1) != 0;
+    let current = arch(byte(bytes, 2));
+    let auto_switch = byte(bytes, 3) != 0;
+    let absolute = byte(bytes, 4) != 0;
+    let count = count(bytes);
+    let n = used(count);
+    let blank = Entry::blank();
+    let mut table = [blank; 16];
     let mut k: usize = 0;
     while k < n {
         let from = HEAD + k * ENTRY;
         let to = from + ENTRY;
         let e = entry(&bytes[from..to]);
-        s.table[k] = e;
+        table[k] = e;
         k += 1;
     }
-    s
+    Settings {
+        arm,
+        riscv,
+        current,
+        auto_switch,
+        absolute,
+        count,
+        table,
+    }
 }
 
 // Of another kind than 0, 1 and 2: a running transfer that is bad.

@@ -189,7 +189,6 @@ pub fn find(settings: Settings, flash_len: usize, family: u32) -> Place
     ensures low { λ r. ⌜ StartsLow r ⌝ }
 {
     let count = settings.count;
-    let table = settings.table;
     if family == Family::ABSOLUTE {
         return whole_if(settings.absolute, flash_len);
     }
@@ -200,6 +199,7 @@ pub fn find(settings: Settings, flash_len: usize, family: u32) -> Place
         return whole_if(taken_whole(settings.arm, settings.riscv, family), flash_len);
     }
     let w = want(settings, family);
+    let table = settings.table;
     match choose(table, used_count(count), w) {
         Choice::Nothing => Place::Nowhere,
         Choice::Entry(k) => {

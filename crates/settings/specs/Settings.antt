@@ -83,12 +83,12 @@ blankWith us =
     record {
       first = 0;
       sectors = 0;
+      users = us;
       «data» = false;
       «arm_s» = false;
       riscv = false;
       «arm_ns» = false;
       «user_count» = 0;
-      users = us;
       «not_bootable_arm» = false;
       «not_bootable_riscv» = false;
       link = Unlinked;

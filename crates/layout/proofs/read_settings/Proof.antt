@@ -1,61 +1,52 @@
--- `layout::read_settings` meets its contract. The invariant: all but the table is read, and the first k entries of it. Assumes nothing.
+-- `layout::read_settings` meets its contract. The invariant: the first k entries are read. Assumes nothing.
 use Prim.Native.Nat.{_≤_, _-_}
-use mathlib.Core.Path.{_≡_, ap}
+use mathlib.Core.Path.{_≡_, ap, _∙_}
 use native.Mathlib.Omega.{arith}
-use lib.ListN.{length, set}
-use Rattle.layout.specs.Layout.{settingsOf, noSettings}
-use Rattle.layout.proofs.Table.{Read, read-none, entry-part, read-more, other-table, settings-read, settings-none}
+use lib.ListN.{length}
+use Rattle.layout.specs.Layout.{countFrom, usedOf, settingsOf}
+use Rattle.layout.proofs.Table.{Read, read-none, entry-part, read-more, used-whole, settings-read}
 use borrow.Author.Needs.{needs}
 use Rattle.layout.proofs.read_settings.Statement.{statement}
 use Rattle.layout.proofs.read_settings.Tie as tie
 
 abbrev Inv-loop : tie.InvT-loop
-Inv-loop bytes n s₀ k₀ s k =
-    (k ≤ n) × (n ≤ 16) × (length bytes ≡ 534) × (s ≡ settingsOf bytes (s .table)) × Read bytes k (s .table)
+Inv-loop bytes arm riscv current auto-switch absolute count n table₀ k₀ table k =
+    (k ≤ n) × (n ≤ 16) × (n ≡ usedOf (countFrom bytes)) × Read bytes k table
 
 abbrev μ-loop : tie.MeasureT-loop
-μ-loop bytes n s₀ k₀ s k = n - k
+μ-loop bytes arm riscv current auto-switch absolute count n table₀ k₀ table k = n - k
 
-blank-requires : tie.Need-blank-requires Inv-loop μ-loop
-blank-requires c κs = search needs
+byte-requires : tie.Need-byte-requires Inv-loop μ-loop
+byte-requires c κs = search needs
 
-returns : tie.Need-returns Inv-loop μ-loop
-unfolding noSettings
-returns c = settings-none _ (c .if1 .taken) (c .before .blank .ensures)
+byte-requires-2 : tie.Need-byte-requires-2 Inv-loop μ-loop
+byte-requires-2 c κs = search needs
 
-shared-slice-read-arch : tie.Need-shared-slice-read-arch Inv-loop μ-loop
-shared-slice-read-arch c = search needs
+byte-requires-3 : tie.Need-byte-requires-3 Inv-loop μ-loop
+byte-requires-3 c κs = search needs
 
 arch-requires : tie.Need-arch-requires Inv-loop μ-loop
 arch-requires c κs = search needs
 
-shared-slice-read-used : tie.Need-shared-slice-read-used Inv-loop μ-loop
-shared-slice-read-used c = search needs
+byte-requires-4 : tie.Need-byte-requires-4 Inv-loop μ-loop
+byte-requires-4 c κs = search needs
+
+byte-requires-5 : tie.Need-byte-requires-5 Inv-loop μ-loop
+byte-requires-5 c κs = search needs
+
+count-requires : tie.Need-count-requires Inv-loop μ-loop
+count-requires c κs = search needs
 
 used-requires : tie.Need-used-requires Inv-loop μ-loop
 used-requires c κs = search needs
 
-shared-slice-read-t15 : tie.Need-shared-slice-read-t15 Inv-loop μ-loop
-shared-slice-read-t15 c = search needs
-
-shared-slice-read-t19 : tie.Need-shared-slice-read-t19 Inv-loop μ-loop
-shared-slice-read-t19 c = search needs
-
-shared-slice-read-t22 : tie.Need-shared-slice-read-t22 Inv-loop μ-loop
-shared-slice-read-t22 c = search needs
-
-shared-slice-read-t25 : tie.Need-shared-slice-read-t25 Inv-loop μ-loop
-shared-slice-read-t25 c = search needs
-
-shared-slice-read-t28 : tie.Need-shared-slice-read-t28 Inv-loop μ-loop
-shared-slice-read-t28 c = search needs
+blank-requires : tie.Need-blank-requires Inv-loop μ-loop
+blank-requires c κs = search needs
 
 loop-holds : tie.Need-loop-holds Inv-loop μ-loop
-unfolding settingsOf
 loop-holds c =
-    let made = c .before .before .before .before .before in
-    let test = made .before .before .before .before in
-    (search needs, made .used .ensures .1, test .if1 .left, simp (made .before .before .arch .ensures), read-none _ (test .before .blank .ensures))
+    let used = c .before .used in
+    (search needs, used .ensures .1, used .ensures .0 ∙ ap usedOf (c .before .before .count .ensures), read-none _ (c .blank .ensures))
 
 mul-from : tie.Need-mul-from Inv-loop μ-loop
 mul-from c = search needs
@@ -73,16 +64,16 @@ part-entry-start : tie.Need-part-entry-start Inv-loop μ-loop
 part-entry-start c = search needs
 
 part-entry-end : tie.Need-part-entry-end Inv-loop μ-loop
-part-entry-end c = search needs
+part-entry-end c = let whole = used-whole (c .before .before .before .before .before .before .before .before .before .before .before .before .args .bytes .now) (c .before .loop .inv .2) (omega arith) in omega arith
 
 entry-requires : tie.Need-entry-requires Inv-loop μ-loop
-entry-requires c κs = search needs
+entry-requires c κs = let whole = used-whole (c .before .before .before .before .before .before .before .before .before .before .before .before .before .args .bytes .now) (c .before .before .loop .inv .2) (omega arith) in search needs
 
-mul-e : tie.Need-mul-e Inv-loop μ-loop
-mul-e c = search needs
+mul-table : tie.Need-mul-table Inv-loop μ-loop
+mul-table c = search needs
 
-element-set-from-e : tie.Need-element-set-from-e Inv-loop μ-loop
-element-set-from-e c = omega arith
+array-set-from-table : tie.Need-array-set-from-table Inv-loop μ-loop
+array-set-from-table c = search needs
 
 add-k : tie.Need-add-k Inv-loop μ-loop
 add-k c = search needs
@@ -93,14 +84,25 @@ loop-less c = search needs
 loop-again : tie.Need-loop-again Inv-loop μ-loop
 loop-again c =
     let at = c .before .before .before .loop in
-    (search needs, at .inv .1, at .inv .2, other-table _ _ (at .inv .3), read-more _ (at .k) (at .s .table) (omega arith) (at .inv .4) (entry-part _ (at .k) (c .entry .ensures)))
+    (search needs, at .inv .1, at .inv .2, read-more _ (at .k) (at .table) (omega arith) (at .inv .3) (entry-part _ (at .k) (c .entry .ensures)))
 
-returns-2 : tie.Need-returns-2 Inv-loop μ-loop
-returns-2 c =
+returns : tie.Need-returns Inv-loop μ-loop
+unfolding settingsOf
+returns c =
     let at = c .before .loop in
-    let used = c .before .before .before .before .before .before .before .used in
-    let e : at .k ≡ used .result = omega arith in
-    settings-read _ (at .inv .2) (at .inv .3) (used .ensures .0) (rw e at (at .inv .4))
+    let made = c .before .before .before in
+    let arch = made .before .before .before .before in
+    let e : at .k ≡ made .used .result = omega arith in
+    settings-read _ (at .table) (at .inv .2) (rw e at (at .inv .3))
+    (simp (
+      arch .before .before .before .byte .ensures,
+      arch .before .before .byte2 .ensures,
+      arch .before .byte3 .ensures,
+      arch .arch .ensures,
+      made .before .before .before .byte4 .ensures,
+      made .before .before .byte5 .ensures,
+      made .before .count .ensures,
+    ))
 
 pub read-settings-spec : {M : Type 1} → statement M
 read-settings-spec =
@@ -108,17 +110,15 @@ read-settings-spec =
     (tie.spec
     Inv-loop
     μ-loop
-    blank-requires
-    returns
-    shared-slice-read-arch
+    byte-requires
+    byte-requires-2
+    byte-requires-3
     arch-requires
-    shared-slice-read-used
+    byte-requires-4
+    byte-requires-5
+    count-requires
     used-requires
-    shared-slice-read-t15
-    shared-slice-read-t19
-    shared-slice-read-t22
-    shared-slice-read-t25
-    shared-slice-read-t28
+    blank-requires
     loop-holds
     mul-from
     add-from
@@ -127,9 +127,9 @@ read-settings-spec =
     part-entry-start
     part-entry-end
     entry-requires
-    mul-e
-    element-set-from-e
+    mul-table
+    array-set-from-table
     add-k
     loop-less
     loop-again
-    returns-2)
+    returns)

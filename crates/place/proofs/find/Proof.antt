@@ -26,7 +26,7 @@ whole-if-requires-2 c κs = search needs
 returns-3 : tie.Need-returns-3
 returns-3 c = (
   c .whole-if2 .ensures .0
-      ∙ ap (λ (b : Bool). wholeIf b (c .before .before .before .before .before .before .args .flash-len)) (c .before .taken-whole .ensures)
+      ∙ ap (λ (b : Bool). wholeIf b (c .before .before .before .before .before .args .flash-len)) (c .before .taken-whole .ensures)
       ∙ sym (place-whole _ _ _ (c .before .before .before .before .if1 .left) (c .before .before .before .if2 .left) (c .before .before .if3 .taken)),
   c .whole-if2 .ensures .1,
 )
@@ -50,7 +50,7 @@ mul-e : tie.Need-mul-e
 mul-e c =
     let d = c .before .before .before in
     let x = d .before .before .before .before .before .before .before .args in
-    let h = chosen-is (x .settings) (x .family) _ _ (d .choose .ensures) (d .before .used-count .ensures) (d .before .before .want .ensures) in
+    let h = chosen-is (x .settings) (x .family) _ _ (d .choose .ensures) (d .before .used-count .ensures) (d .before .before .before .want .ensures) in
     let l = entry-below (x .settings) (x .family) (sym h ∙ c .before .k .given .1) in
     omega arith
 
@@ -58,7 +58,7 @@ array-copy-out-e : tie.Need-array-copy-out-e
 array-copy-out-e c =
     let d = c .before .before .before in
     let x = d .before .before .before .before .before .before .before .args in
-    let h = chosen-is (x .settings) (x .family) _ _ (d .choose .ensures) (d .before .used-count .ensures) (d .before .before .want .ensures) in
+    let h = chosen-is (x .settings) (x .family) _ _ (d .choose .ensures) (d .before .used-count .ensures) (d .before .before .before .want .ensures) in
     let l = entry-below (x .settings) (x .family) (sym h ∙ c .before .k .given .1) in
     omega arith
 
@@ -69,17 +69,17 @@ returns-4 : tie.Need-returns-4
 returns-4 c =
     let d = c .before .before in
     let x = d .before .before .before .before .before .before .before .args in
-    let h = chosen-is (x .settings) (x .family) _ _ (d .choose .ensures) (d .before .used-count .ensures) (d .before .before .want .ensures) in
+    let h = chosen-is (x .settings) (x .family) _ _ (d .choose .ensures) (d .before .used-count .ensures) (d .before .before .before .want .ensures) in
     let e = ap (placeOfChoice (x .settings .table)) (sym h ∙ c .enum-told .given .1) in
-    (sym (place-table _ _ _ (d .before .before .before .before .before .if1 .left) (d .before .before .before .before .if2 .left) (d .before .before .before .if3 .left) ∙ e), tt)
+    (sym (place-table _ _ _ (d .before .before .before .before .before .before .if1 .left) (d .before .before .before .before .before .if2 .left) (d .before .before .before .before .if3 .left) ∙ e), tt)
 
 returns-5 : tie.Need-returns-5
 returns-5 c =
     let d = c .before .before .before .before .before in
     let x = d .before .before .before .before .before .before .before .args in
-    let h = chosen-is (x .settings) (x .family) _ _ (d .choose .ensures) (d .before .used-count .ensures) (d .before .before .want .ensures) in
+    let h = chosen-is (x .settings) (x .family) _ _ (d .choose .ensures) (d .before .used-count .ensures) (d .before .before .before .want .ensures) in
     let e = ap (placeOfChoice (x .settings .table)) (sym h ∙ c .before .before .before .k .given .1) in
-    (c .bytes-of .ensures .0 ∙ sym (place-table _ _ _ (d .before .before .before .before .before .if1 .left) (d .before .before .before .before .if2 .left) (d .before .before .before .if3 .left) ∙ e), c .bytes-of .ensures .1)
+    (c .bytes-of .ensures .0 ∙ sym (place-table _ _ _ (d .before .before .before .before .before .before .if1 .left) (d .before .before .before .before .before .if2 .left) (d .before .before .before .before .if3 .left) ∙ e), c .bytes-of .ensures .1)
 
 pub find-spec : {M : Type 1} → statement M
 find-spec =
