@@ -1,16 +1,50 @@
--- The bytes that digits say, and what a loop over pairs of digits has passed. Assumes nothing.
+-- A digit as the code finds it, the bytes that digits say, and what a loop over characters has passed. Assumes nothing.
 use mathlib.Core.Path.{_≡_, refl, sym, ap, _∙_}
-use mathlib.Core.Bool.{Bool, true, false, _&&_, _||_, not}
-use mathlib.Core.List.{List, [], _∷_}
-use Prim.Native.Nat.{ℕ, zero, suc, _+_, _*_, _/_, _%_, _≤_, _<_}
+use mathlib.Core.Bool.{Bool, _&&_, not, cond, and-assoc, and-true}
+use mathlib.Core.List.{List, [], _∷_, _++_, append-nil}
+use Prim.Native.Nat.{ℕ, zero, suc, min, _+_, _*_, _/_, _%_, _≤_, _<_}
 use native.Mathlib.Numerals.{add-one}
 use native.Mathlib.Omega.{arith}
-use lib.Dec.{ltb}
-use lib.ListN.{length, getD, take, drop, set, length-set, length-take, drop-of-length-le}
-use lib.Seq.{take-suc, take-all, take-suc-set, getD-take, drop-cons}
-use borrow.Author.Tests.{lt-ltb, le-ltb, ltb-true, ltb-false}
-use Rattle.sets.proofs.Tests.{split, clash}
+use lib.Bits.{bitOr}
+use lib.Dec.{ltb, eqb}
+use lib.ListN.{length, getD, take, drop, set, length-append, length-drop, drop-of-length-le}
+use lib.Seq.{take-nil, take-all, take-at, take-suc, take-suc-set, length-take-le, drop-cons}
+use borrow.Author.Tests.{lt-ltb, le-ltb, ltb-true, ltb-false, eqb-true, not-false}
+use Rattle.sets.proofs.Tests.{split}
+use Rattle.sets.specs.Sets.{Set, any}
+use Rattle.sets.proofs.Laws.{any-all}
 use Rattle.record.specs.Record.{digitOf, isDigit, allDigits, bytesOf, Decoded}
+
+-- ---- a digit, by how far its character is past '0' and, made small, past 'a'
+
+abbrev found : ℕ → ℕ → ℕ
+found d l = cond (ltb d 10) d (cond (ltb l 6) (l + 10) 16)
+
+wrong : Set
+wrong c = not (eqb (found ((c + 208) % 256) ((bitOr c 32 + 159) % 256)) (digitOf c))
+
+-- computed, at every byte
+digit-found : (c : ℕ) → c < 256 → found ((c + 208) % 256) ((bitOr c 32 + 159) % 256) ≡ digitOf c
+unfolding wrong digitOf any
+digit-found c h = eqb-true _ _ (not-false _ (any-all wrong 256 refl c h))
+
+module _ {c d l : ℕ} (byte : c < 256) (hd : d < 256) (hl : l < 256) (decimal : (d + 48) % 256 ≡ c) (letter : (l + 97) % 256 ≡ bitOr c 32) where
+  digit-is : found d l ≡ digitOf c
+  digit-is =
+      let e : d ≡ (c + 208) % 256 = omega arith in
+      let f : l ≡ (bitOr c 32 + 159) % 256 = omega arith in
+      rw (e, f) (digit-found c byte)
+
+  pub digit-decimal : d < 10 → d ≡ digitOf c
+  digit-decimal h = rw (lt-ltb d 10 h) at digit-is
+
+  pub digit-letter : 10 ≤ d → l < 6 → l + 10 ≡ digitOf c
+  digit-letter h k = rw (le-ltb d 10 h, lt-ltb l 6 k) at digit-is
+
+  pub digit-none : 10 ≤ d → 6 ≤ l → 16 ≡ digitOf c
+  digit-none h k = rw (le-ltb d 10 h, le-ltb l 6 k) at digit-is
+
+-- ---- bytes
 
 pub length-bytes : (l : List ℕ) → length (bytesOf l) ≡ length l / 2
 unfolding bytesOf
@@ -20,7 +54,7 @@ length-bytes (c ∷ d ∷ l) = omega (arith, length-bytes l)
 
 -- the byte that two digits say
 abbrev pub pair : List ℕ → ℕ → ℕ
-pair l k = 16 * digitOf (getD l (2 * k) 0) + digitOf (getD l (2 * k + 1) 0)
+pair l k = 16 * (digitOf (getD l (2 * k) 0) % 16) + digitOf (getD l (2 * k + 1) 0) % 16
 
 pub bytes-at : (l : List ℕ) (k : ℕ) → 2 * k + 1 < length l → getD (bytesOf l) k 0 ≡ pair l k
 unfolding bytesOf
@@ -32,86 +66,67 @@ bytes-at (c ∷ d ∷ l) (suc k) h =
     let f : 2 * suc k + 1 ≡ suc (suc (2 * k + 1)) = omega arith in
     rw (f, e) (bytes-at l k (omega arith))
 
--- ---- a loop over pairs
+-- the bytes of the first k pairs
+pub bytes-take : (k : ℕ) (l : List ℕ) → bytesOf (take (2 * k) l) ≡ take k (bytesOf l)
+unfolding bytesOf
+bytes-take zero l = refl
+bytes-take (suc k) [] = ap bytesOf (take-nil (2 * suc k))
+bytes-take (suc k) (c ∷ []) =
+    let e : 2 * suc k ≡ suc (suc (2 * k)) = omega arith in
+    rw e
+bytes-take (suc k) (c ∷ d ∷ l) =
+    let e : 2 * suc k ≡ suc (suc (2 * k)) = omega arith in
+    rw (e, bytes-take k l)
 
-over-15 : (x : ℕ) → ltb 15 x ≡ not (ltb x 16)
-over-15 x =
-    split (ltb x 16)
-    (λ y. rw y (le-ltb 15 x (omega (arith, ltb-true x 16 y))))
-    (λ z. rw z (lt-ltb 15 x (omega (arith, ltb-false x 16 z))))
+-- the bytes of as many pairs as there are and `lent` has room for, put over its beginning
+pub decoded : (l lent b : List ℕ) (k : ℕ) → k ≡ min (length l / 2) (length lent) → b ≡ bytesOf (take (2 * k) l) → Decoded l (b ++ drop k lent)
+decoded l lent b k m e =
+    let w = bytesOf l in
+    let n : length w ≡ length l / 2 = length-bytes l in
+    let q : b ≡ take k w = e ∙ bytes-take k l in
+    let s : length b ≡ k = ap length q ∙ length-take-le k w (omega arith) in
+    let o : length (b ++ drop k lent) ≡ length lent = simp (length-append, length-drop) (omega arith) in
+    split (ltb (length lent) (length l / 2))
+    (λ y.
+    let h : length lent < length l / 2 = ltb-true _ _ y in
+    let f : k ≡ length lent = omega arith in
+    let z : drop k lent ≡ [] = drop-of-length-le lent {i = k} (omega arith) in
+    let g : length (b ++ drop k lent) ≤ length l / 2 = omega arith in
+    take-all _ _ g ∙ ap (λ (r : List ℕ). b ++ r) z ∙ append-nil b ∙ q ∙ ap (λ (j : ℕ). take j w) (f ∙ sym o))
+    (λ y.
+    let h : length l / 2 ≤ length lent = ltb-false _ _ y in
+    let f : length l / 2 ≡ k = omega arith in
+    let g : length w ≤ length (b ++ drop k lent) = omega arith in
+    ap (λ (j : ℕ). take j (b ++ drop k lent)) f ∙ take-at b (drop k lent) k s ∙ q ∙ take-all k w (omega arith) ∙ sym (take-all _ w g))
 
-pair-bad : (a b r : Bool) → not a || not b ≡ true → a && (b && r) ≡ false
-pair-bad false b r e = refl
-pair-bad true false r e = refl
-pair-bad true true r e = clash true refl (sym e)
+-- one byte more, as a loop stores it
+pub bytes-next : (l out : List ℕ) (i : ℕ) {v : ℕ} → length l ≡ 2 * length out → i < length out → v ≡ pair l i → take i out ≡ take i (bytesOf l)
+    → take (i + 1) (set out i v) ≡ take (i + 1) (bytesOf l)
+bytes-next l out i {v} n h e q =
+    let k : i < length (bytesOf l) = omega (arith, length-bytes l) in
+    let w : getD (bytesOf l) i 0 ≡ v = bytes-at l i (omega arith) ∙ sym e in
+    rw (add-one, take-suc-set out i v h, q, take-suc (bytesOf l) i 0 k, w)
 
-pair-good : (a b r : Bool) → not a || not b ≡ false → a && (b && r) ≡ r
-pair-good true true r e = refl
-pair-good true false r e = clash true refl e
-pair-good false b r e = clash true refl e
+-- ---- whether all characters are digits
 
-abbrev digitAt : List ℕ → ℕ → Bool
-digitAt l j = isDigit (getD l j 0)
+-- they are if the first j are, which is `good`, and the others
+abbrev pub Judged : List ℕ → ℕ → Bool → Type 0
+Judged l j good = allDigits l ≡ good && allDigits (drop j l)
 
-digits-next : (l : List ℕ) (j : ℕ) → j < length l → allDigits (drop j l) ≡ digitAt l j && allDigits (drop (j + 1) l)
+pub judged-next : (l : List ℕ) (good : Bool) {j v : ℕ} → j < length l → v ≡ digitOf (getD l j 0) → Judged l j good → Judged l (j + 1) (good && ltb v 16)
 unfolding allDigits
-digits-next l j h = rw (add-one, drop-cons l j 0)
+judged-next l good {j} {v} h e q =
+    let d : drop j l ≡ getD l j 0 ∷ drop (j + 1) l = rw add-one (drop-cons l j 0 h) in
+    q ∙ ap (λ (r : List ℕ). good && allDigits r) d ∙ rw e (sym (and-assoc good (isDigit (getD l j 0)) _))
 
--- the first i pairs of l are digits, and `out`, which was `lent`, begins with their bytes, as many as it has room for
-pub record Passed (l lent out : List ℕ) (i : ℕ) : Type 0 where
-  pub digits : allDigits l ≡ allDigits (drop (2 * i) l)
-  pub room : length out ≡ length lent
-  pub bytes : take i out ≡ take i (take (length lent) (bytesOf l))
-
-pub passed-none : (l out : List ℕ) → Passed l out out 0
-passed-none l out = record { digits = refl; room = refl; bytes = refl }
-
--- all pairs are passed
-pub passed-all : (l lent out : List ℕ) {i : ℕ} → i ≡ length l / 2 → length l % 2 ≡ 0 → Passed l lent out i → (true ≡ allDigits l) × Decoded l out
+pub judged-all : (l : List ℕ) (good : Bool) {j : ℕ} → length l ≤ j → Judged l j good → good ≡ allDigits l
 unfolding allDigits
-passed-all l lent out {i} e even p =
-    let h : length l ≤ 2 * i = omega arith in
-    let f : take (length l / 2) out ≡ take (length l / 2) (take (length lent) (bytesOf l)) = rw e at (p .bytes) in
-    let n : length (take (length lent) (bytesOf l)) ≤ length l / 2 = simp length-take (omega (arith, length-bytes l)) in
-    (sym (p .digits ∙ rw (drop-of-length-le l h)), f ∙ take-all _ _ n ∙ ap (λ (k : ℕ). take k (bytesOf l)) (sym (p .room)))
+judged-all l good {j} h q = sym (and-true good) ∙ sym (rw (drop-of-length-le l h) at q)
 
-module _ (l lent out : List ℕ) {i high low : ℕ} (inside : i < length l / 2) (hi : high ≡ digitOf (getD l (2 * i) 0)) (lo : low ≡ digitOf (getD l (2 * i + 1) 0)) (p : Passed l lent out i) where
-  test : ltb 15 high || ltb 15 low ≡ not (digitAt l (2 * i)) || not (digitAt l (2 * i + 1))
-  test = rw (hi, lo, over-15 (digitOf (getD l (2 * i) 0)), over-15 (digitOf (getD l (2 * i + 1) 0)))
-
-  digits-pair : allDigits l ≡ digitAt l (2 * i) && (digitAt l (2 * i + 1) && allDigits (drop (2 * (i + 1)) l))
-  digits-pair =
-      let e : 2 * i + 1 + 1 ≡ 2 * (i + 1) = omega arith in
-      p .digits ∙ digits-next l (2 * i) (omega arith) ∙ rw (digits-next l (2 * i + 1) (omega arith), e)
-
-  pub passed-bad : ltb 15 high || ltb 15 low ≡ true → false ≡ allDigits l
-  passed-bad e =
-      sym (digits-pair ∙ pair-bad (digitAt l (2 * i)) (digitAt l (2 * i + 1)) _ (sym test ∙ e))
-
-  module _ (good : ltb 15 high || ltb 15 low ≡ false) where
-    further : allDigits l ≡ allDigits (drop (2 * (i + 1)) l)
-    further = digits-pair ∙ pair-good (digitAt l (2 * i)) (digitAt l (2 * i + 1)) _ (sym test ∙ good)
-
-    pub passed-store : {now : List ℕ} → i < length out → now ≡ set out i (16 * high + low) → Passed l lent now (i + 1)
-    passed-store r e =
-        let b = bytesOf l in
-        let n : i < length (take (length lent) b) = simp length-take (omega (arith, length-bytes l, p .room)) in
-        let v : getD (take (length lent) b) i 0 ≡ 16 * high + low =
-        getD-take (length lent) b i 0 (omega (arith, p .room)) ∙ bytes-at l i (omega arith) ∙ rw (hi, lo) in
-        record {
-          digits = further;
-          room = ap length e ∙ length-set out i (16 * high + low) ∙ p .room;
-          bytes = rw (e, add-one, take-suc-set out i (16 * high + low) r, p .bytes, take-suc (take (length lent) b) i 0 n, v);
-        }
-
-    pub passed-full : {now : List ℕ} → length out ≤ i → now ≡ out → Passed l lent now (i + 1)
-    passed-full r e =
-        let w = take (length lent) (bytesOf l) in
-        let n : length w ≤ i = simp length-take (omega (arith, p .room)) in
-        let m : length w ≤ i + 1 = omega arith in
-        rw e
-        record {
-          digits = further;
-          room = p .room;
-          bytes = take-all (i + 1) out (omega arith) ∙ sym (take-all i out r) ∙ p .bytes ∙ take-all i w n ∙ sym (take-all (i + 1) w m);
-        }
+-- two parts, judged by themselves
+pub judged-parts : (k : ℕ) (l : List ℕ) → allDigits (take k l) && allDigits (drop k l) ≡ allDigits l
+unfolding allDigits
+judged-parts zero l = refl
+judged-parts (suc k) [] = refl
+judged-parts (suc k) (c ∷ l) =
+    and-assoc (isDigit c) (allDigits (take k l)) (allDigits (drop k l)) ∙ ap (λ (b : Bool). isDigit c && b) (judged-parts k l)

@@ -43,11 +43,12 @@ unfoldable pub allDigits : List ℕ → Bool
 allDigits [] = true
 allDigits (c ∷ l) = isDigit c && allDigits l
 
--- two digits a byte, high first
+-- two digits a byte, high first; the remainder by 16 is the digit itself, and a character that is none never gets that far: row 22
+-- refuses it first
 unfoldable pub bytesOf : List ℕ → List ℕ
 bytesOf [] = []
 bytesOf (c ∷ []) = []
-bytesOf (c ∷ d ∷ l) = (16 * digitOf c + digitOf d) ∷ bytesOf l
+bytesOf (c ∷ d ∷ l) = (16 * (digitOf c % 16) + digitOf d % 16) ∷ bytesOf l
 
 -- `out` begins with the bytes that the digits l say, as many as it has room for
 abbrev pub Decoded : List ℕ → List ℕ → Type 0

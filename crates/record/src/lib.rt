@@ -1,9 +1,8 @@
 // One line of Intel Hex: its ending dropped, its checks, and the record that it says.
 ghost use mathlib.Core.Path.{_≡_};
-ghost use mathlib.Core.Bool.{true};
-ghost use Prim.Native.Nat.{_+_, _*_, _/_, _%_, _<_, _≤_};
+ghost use Prim.Native.Nat.{_+_, _*_, _/_, _%_, _<_, _≤_, min};
 ghost use lib.ListN.{length, take};
-ghost use Rattle.record.specs.Record.{digitOf, textLen, total, allDigits, Decoded, lenOf, good, refused, lineBytes, lineText, readOf, parsedNumber};
+ghost use Rattle.record.specs.Record.{digitOf, textLen, total, allDigits, bytesOf, Decoded, lenOf, good, refused, lineBytes, lineText, readOf, parsedNumber};
 
 // A good record: its type, its address field, and how many bytes of data it has.
 pub struct Record {
@@ -54,18 +53,19 @@ impl Parsed {
     }
 }
 
-// The value of a hex digit, or 16 where the character is none.
+// The value of a hex digit, or 16 where the character is none. Both differences are taken before the tests, so that the compiler
+// selects and does not branch: random digits would make a branch a costly guess.
 pub fn digit(c: u8) -> u8
     ensures { λ r. ⌜ r ≡ digitOf c ⌝ }
 {
-    if (48 <= c) & (c <= 57) {
-        return c - 48;
+    let decimal = std::num::wrapping_sub_u8(c, 48);
+    // the bit of 32 makes a capital small
+    let letter = std::num::wrapping_sub_u8(c | 32, 97);
+    if decimal < 10 {
+        return decimal;
     }
-    if (65 <= c) & (c <= 70) {
-        return c - 55;
-    }
-    if (97 <= c) & (c <= 102) {
-        return c - 87;
+    if letter < 6 {
+        return letter + 10;
     }
     16
 }
@@ -104,26 +104,55 @@ fn sum(bytes: &[u8]) -> u8
     s
 }
 
-// Are the characters digits? Their bytes, two digits each, go to `out` as far as it has room.
-fn decode(digits: &[u8], out: &mut [u8]) -> bool
-    requires { ⌜ length (now digits) % 2 ≡ 0 ⌝ }
-    ensures { λ r. ⌜ r ≡ allDigits (now (digits .entry)) ⌝ }
-    ensures bytes { λ r. ⌜ (r ≡ true → Decoded (now (digits .entry)) (now (out .exit))) ⌝ }
+// Are the characters digits? No loop leaves at a character that is none: what it has met is judged once, at the end.
+fn all_digits(chars: &[u8]) -> bool
+    ensures { λ r. ⌜ r ≡ allDigits (now (chars .entry)) ⌝ }
 {
-    let pairs = digits.len() / 2;
+    let mut good = true;
     let mut i = 0;
-    while i < pairs {
-        let high = digit(digits[2 * i]);
-        let low = digit(digits[2 * i + 1]);
-        if (15 < high) | (15 < low) {
-            return false;
-        }
-        if i < out.len() {
-            out[i] = 16 * high + low;
-        }
+    while i < chars.len() {
+        let value = digit(chars[i]);
+        good = good & (value < 16);
         i += 1;
     }
-    true
+    good
+}
+
+// Are the characters digits? Their bytes, two characters each, fill `out`.
+fn pairs(chars: &[u8], out: &mut [u8]) -> bool
+    requires { ⌜ length (now chars) ≡ 2 * length (now out) ⌝ }
+    ensures { λ r. ⌜ r ≡ allDigits (now (chars .entry)) ⌝ }
+    ensures bytes { λ _. ⌜ now (out .exit) ≡ bytesOf (now (chars .entry)) ⌝ }
+{
+    let mut good = true;
+    let mut i = 0;
+    while i < out.len() {
+        let high = digit(chars[2 * i]);
+        let low = digit(chars[2 * i + 1]);
+        good = good & (high < 16) & (low < 16);
+        out[i] = 16 * (high % 16) + low % 16;
+        i += 1;
+    }
+    good
+}
+
+// The lesser of two numbers.
+fn least(a: usize, b: usize) -> usize
+    ensures { λ r. ⌜ r ≡ min a b ⌝ }
+{
+    if a < b { a } else { b }
+}
+
+// Are the characters digits? Their bytes go to `out` as far as it has room.
+fn decode(chars: &[u8], out: &mut [u8]) -> bool
+    requires { ⌜ length (now chars) % 2 ≡ 0 ⌝ }
+    ensures { λ r. ⌜ r ≡ allDigits (now (chars .entry)) ⌝ }
+    ensures bytes { λ _. ⌜ Decoded (now (chars .entry)) (now (out .exit)) ⌝ }
+{
+    let room = least(chars.len() / 2, out.len());
+    let e = 2 * room;
+    let good = pairs(&chars[..e], &mut out[..room]);
+    good & all_digits(&chars[e..])
 }
 
 // Two bytes as a number, high first.

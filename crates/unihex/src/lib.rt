@@ -210,9 +210,9 @@ impl Reader {
     }
 
     // A good record of a line that ends at an offset.
-    fn take(self, rec: Record, data: [u8; Record::MOST], end: u32, image: &mut [u8]) -> Read
-        requires { ⌜ rec .len ≤ 32 ⌝ }
-        ensures { λ r. ⌜ outcome (r .reader) (r .answer) (now (image .exit)) ≡ takenOf self rec «data» end (now (image .entry)) ⌝ }
+    fn take(self, rec: Record, data: &[u8], end: u32, image: &mut [u8]) -> Read
+        requires { ⌜ (rec .len ≤ 32) × (length (now «data») ≡ 32) ⌝ }
+        ensures { λ r. ⌜ outcome (r .reader) (r .answer) (now (image .exit)) ≡ takenOf self rec (now («data» .entry)) end (now (image .entry)) ⌝ }
     {
         let stand = self.stand;
         let kind = rec.kind;
@@ -235,9 +235,9 @@ impl Reader {
     }
 
     // Own data, of a line that ends at an offset.
-    fn store(self, rec: Record, data: [u8; Record::MOST], end: u32, image: &mut [u8]) -> Read
-        requires { ⌜ rec .len ≤ 32 ⌝ }
-        ensures { λ r. ⌜ outcome (r .reader) (r .answer) (now (image .exit)) ≡ storing self rec «data» end (now (image .entry)) ⌝ }
+    fn store(self, rec: Record, data: &[u8], end: u32, image: &mut [u8]) -> Read
+        requires { ⌜ (rec .len ≤ 32) × (length (now «data») ≡ 32) ⌝ }
+        ensures { λ r. ⌜ outcome (r .reader) (r .answer) (now (image .exit)) ≡ storing self rec (now («data» .entry)) end (now (image .entry)) ⌝ }
     {
         let n = rec.len as usize;
         let at = Reader::REACH * (self.upper as usize) + rec.address as usize;
@@ -267,7 +267,6 @@ impl Reader {
         let end = (offset + line.len()) as u32;
         let read = record::read(line);
         let parsed = read.parsed;
-        let data = read.data;
         match parsed {
             Parsed::NoColon => self.failing(Answer::NoColon),
             Parsed::BadShape => self.failing(Answer::BadShape),
@@ -275,7 +274,7 @@ impl Reader {
             Parsed::TooLong => self.failing(Answer::TooLong),
             Parsed::BadLength => self.failing(Answer::BadLength),
             Parsed::BadSum => self.failing(Answer::BadSum),
-            Parsed::Good(rec) => self.take(rec, data, end, image),
+            Parsed::Good(rec) => self.take(rec, &read.data, end, image),
         }
     }
 
@@ -317,10 +316,10 @@ impl Reader {
 }
 
 // The first n bytes, over the image from an address on.
-fn lay(bytes: [u8; Record::MOST], n: usize, at: usize, image: &mut [u8])
-    requires { ⌜ n ≤ 32 ⌝ }
+fn lay(bytes: &[u8], n: usize, at: usize, image: &mut [u8])
+    requires { ⌜ n ≤ length (now bytes) ⌝ }
     requires { ⌜ at + n ≤ length (now image) ⌝ }
-    ensures { λ _. ⌜ now (image .exit) ≡ over (now (image .entry)) at (take n bytes) ⌝ }
+    ensures { λ _. ⌜ now (image .exit) ≡ over (now (image .entry)) at (take n (now (bytes .entry))) ⌝ }
 {
     let e = at + n;
     bytes::copy(&bytes[..n], &mut image[at..e]);

@@ -77,7 +77,7 @@ returns-5 c =
     let t = s .before .before .before .before .before .args .t .now in
     let yes : d .decode .result ≡ true = not-false _ (c .before .before .if4 .left) in
     let e : allDigits (drop 1 t) ≡ true = sym (ap allDigits (rest 1 t)) ∙ sym (d .decode .ensures .0) ∙ yes in
-    c .read-bytes .ensures ∙ is-decoded t (s .before .before .before .if1 .left) (s .before .if2 .left) (s .if3 .left) _ e (d .decode .kept .1 .0) (rw (rest 1 t) at (d .decode .ensures .1 yes))
+    c .read-bytes .ensures ∙ is-decoded t (s .before .before .before .if1 .left) (s .before .if2 .left) (s .if3 .left) _ e (d .decode .kept .1 .0) (rw (rest 1 t) at (d .decode .ensures .1))
 
 pub read-text-spec : {M : Type 1} → statement M
 read-text-spec =

@@ -11,9 +11,6 @@ use Rattle.unihex.proofs.lay.Tie as tie
 add-e : tie.Need-add-e
 add-e c = search needs
 
-array-share-prefix-bytes : tie.Need-array-share-prefix-bytes
-array-share-prefix-bytes c = search needs
-
 slice-aggregate-copy : tie.Need-slice-aggregate-copy
 slice-aggregate-copy c = sym (length-take-le _ _ (omega arith))
 
@@ -33,14 +30,13 @@ same-length : tie.Need-same-length
 same-length c = search needs
 
 returns : tie.Need-returns
-returns c = copied-over _ _ _ _ _ (length-take-le _ _ (omega arith)) (c .before .before .before .before .before .before .pre .1) (c .before .before .copy .ensures .1)
+returns c = copied-over _ _ _ _ _ (length-take-le _ _ (omega arith)) (c .before .before .before .before .before .before .before .pre .1) (c .before .before .copy .ensures .1)
 
 pub lay-spec : {M : Type 1} → statement M
 lay-spec =
     tie.close
     (tie.spec
     add-e
-    array-share-prefix-bytes
     slice-aggregate-copy
     sub-copy
     part-copy-start

@@ -70,38 +70,41 @@ enum-known-parsed : tie.Need-enum-known-parsed
 enum-known-parsed c = search needs
 
 take-requires : tie.Need-take-requires
-take-requires c κs = good-len _ _ (ap (λ (x : Line). x .parsed) (sym (c .before .before .before .before .before .read .ensures)) ∙ c .before .before .parsed .given .1)
+take-requires c κs =
+    let p = c .before .before .before .before .before in
+    let r = p .before .before .read .ensures in
+    (good-len _ _ (ap (λ (x : Line). x .parsed) (sym r) ∙ p .parsed .given .1), search needs)
 
 returns-2 : tie.Need-returns-2
 unfolding parsedLine
-returns-2 c = live-by _ _ _ _ _ _ (omega arith) (c .before .before .before .before .read .ensures) (c .before .enum-told .given .1) (line-fails _ _ _ _ (c .failing2 .ensures))
+returns-2 c = live-by _ _ _ _ _ _ (omega arith) (c .before .before .before .read .ensures) (c .before .enum-told .given .1) (line-fails _ _ _ _ (c .failing2 .ensures))
 
 returns-3 : tie.Need-returns-3
 unfolding parsedLine
-returns-3 c = live-by _ _ _ _ _ _ (omega arith) (c .before .before .before .before .read .ensures) (c .before .enum-told2 .given .1) (line-fails _ _ _ _ (c .failing3 .ensures))
+returns-3 c = live-by _ _ _ _ _ _ (omega arith) (c .before .before .before .read .ensures) (c .before .enum-told2 .given .1) (line-fails _ _ _ _ (c .failing3 .ensures))
 
 returns-4 : tie.Need-returns-4
 unfolding parsedLine
-returns-4 c = live-by _ _ _ _ _ _ (omega arith) (c .before .before .before .before .read .ensures) (c .before .enum-told3 .given .1) (line-fails _ _ _ _ (c .failing4 .ensures))
+returns-4 c = live-by _ _ _ _ _ _ (omega arith) (c .before .before .before .read .ensures) (c .before .enum-told3 .given .1) (line-fails _ _ _ _ (c .failing4 .ensures))
 
 returns-5 : tie.Need-returns-5
 unfolding parsedLine
-returns-5 c = live-by _ _ _ _ _ _ (omega arith) (c .before .before .before .before .read .ensures) (c .before .enum-told4 .given .1) (line-fails _ _ _ _ (c .failing5 .ensures))
+returns-5 c = live-by _ _ _ _ _ _ (omega arith) (c .before .before .before .read .ensures) (c .before .enum-told4 .given .1) (line-fails _ _ _ _ (c .failing5 .ensures))
 
 returns-6 : tie.Need-returns-6
 unfolding parsedLine
-returns-6 c = live-by _ _ _ _ _ _ (omega arith) (c .before .before .before .before .read .ensures) (c .before .enum-told5 .given .1) (line-fails _ _ _ _ (c .failing6 .ensures))
+returns-6 c = live-by _ _ _ _ _ _ (omega arith) (c .before .before .before .read .ensures) (c .before .enum-told5 .given .1) (line-fails _ _ _ _ (c .failing6 .ensures))
 
 returns-7 : tie.Need-returns-7
 unfolding parsedLine
-returns-7 c = live-by _ _ _ _ _ _ (omega arith) (c .before .before .before .before .read .ensures) (c .before .enum-told6 .given .1) (line-fails _ _ _ _ (c .failing7 .ensures))
+returns-7 c = live-by _ _ _ _ _ _ (omega arith) (c .before .before .before .read .ensures) (c .before .enum-told6 .given .1) (line-fails _ _ _ _ (c .failing7 .ensures))
 
 same-length : tie.Need-same-length
 same-length c = search needs
 
 returns-8 : tie.Need-returns-8
 unfolding parsedLine
-returns-8 c = live-by _ _ _ _ _ _ (omega arith) (c .before .before .before .before .before .before .before .before .read .ensures) (c .before .before .before .before .before .parsed .given .1) (c .before .before .take .ensures)
+returns-8 c = live-by _ _ _ _ _ _ (omega arith) (c .before .before .before .before .before .before .before .before .before .before .read .ensures) (c .before .before .before .before .before .before .before .before .parsed .given .1) (c .before .before .take .ensures)
 
 pub live-spec : {M : Type 1} → statement M
 live-spec =

@@ -4,11 +4,11 @@ use borrow.Author.Needs.{needs}
 use Rattle.unihex.proofs.Reader.take.Statement.{statement}
 use Rattle.unihex.proofs.Reader.take.Tie as tie
 
-array-read-word : tie.Need-array-read-word
-array-read-word c = search needs
+shared-slice-read-word : tie.Need-shared-slice-read-word
+shared-slice-read-word c = search needs
 
-array-read-word-2 : tie.Need-array-read-word-2
-array-read-word-2 c = search needs
+shared-slice-read-word-2 : tie.Need-shared-slice-read-word-2
+shared-slice-read-word-2 c = search needs
 
 word-requires : tie.Need-word-requires
 word-requires c κs = search needs
@@ -62,8 +62,8 @@ pub take-spec : {M : Type 1} → statement M
 take-spec =
     tie.close
     (tie.spec
-    array-read-word
-    array-read-word-2
+    shared-slice-read-word
+    shared-slice-read-word-2
     word-requires
     role-at-requires
     step-requires
