@@ -156,7 +156,7 @@ fn decode(chars: &[u8], out: &mut [u8]) -> bool
 }
 
 // Two bytes as a number, high first.
-fn word(high: u8, low: u8) -> u16
+pub fn word(high: u8, low: u8) -> u16
     ensures { λ r. ⌜ r ≡ 256 * high + low ⌝ }
 {
     256 * (high as u16) + (low as u16)

@@ -218,7 +218,7 @@ impl Reader {
         let kind = rec.kind;
         let len = rec.len;
         let address = rec.address;
-        let word = word(data[0], data[1]);
+        let word = record::word(data[0], data[1]);
         let step = self.step(grammar::role_at(stand, kind, len), address, len, word);
         match step {
             Step::Fails(answer) => self.failing(answer),
@@ -340,11 +340,4 @@ fn bad_failure(stand: Stand) -> bool
             !answer.is_failure()
         }
     }
-}
-
-// Two bytes as a number, high first.
-fn word(high: u8, low: u8) -> u16
-    ensures { λ r. ⌜ r ≡ 256 * high + low ⌝ }
-{
-    256 * (high as u16) + low as u16
 }
