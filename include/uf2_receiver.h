@@ -130,6 +130,72 @@ size_t uf2_receive_all(const uint8_t *settings, size_t settings_len, uint8_t *tr
                        const uint8_t *arrivals, size_t arrivals_len, uint8_t *results, size_t results_len, uint8_t *flash,
                        size_t flash_len, uint8_t *seen, size_t seen_len, uint8_t *sectors, size_t sectors_len);
 
+/* ---- Universal Hex, a line at a time, for one board. Numbers of 16 bits stand as two bytes, the lowest first. */
+static inline void uhex_put16(uint8_t *at, uint16_t x) {
+    at[0] = (uint8_t)(x & 255u);
+    at[1] = (uint8_t)(x >> 8);
+}
+
+static inline uint16_t uhex_get16(const uint8_t *at) {
+    return (uint16_t)((unsigned)at[0] | (unsigned)at[1] << 8);
+}
+
+/* The two boards that a file must serve. An image has from one to UHEX_IMAGE_MOST bytes, a file at most UHEX_FILE_MOST. */
+#define UHEX_V1 0x9900u
+#define UHEX_V2 0x9903u
+#define UHEX_IMAGE_MOST 1048576
+#define UHEX_FILE_MOST 4194304
+
+/* A reader, by the offsets of its bytes: made by uhex_new, handed back by uhex_line. A flag is on if its byte is not 0. A slice of
+ * another length is no reader, and is answered UHEX_BAD_READER. */
+#define UHEX_READER 16
+#define UHEX_READER_OWN 0      /* 16 bits: its own board, UHEX_V1 or UHEX_V2; any other is answered UHEX_BAD_READER */
+#define UHEX_READER_UPPER 2    /* 16 bits: the two bytes of the latest record 04 */
+#define UHEX_READER_OFFSET 4   /* 32 bits: bytes of the file read so far; over UHEX_FILE_MOST: UHEX_BAD_READER */
+#define UHEX_READER_STAND 8    /* where it stands: UHEX_BETWEEN to UHEX_FAILED; any other is no reader either */
+#define UHEX_READER_FAILURE 9  /* the answer that it failed by, 20 to 30 or 36 (any other: UHEX_BAD_READER); 0 where it did not fail */
+#define UHEX_READER_BOARD 10   /* 16 bits: the board of the section; 0 where it stands in none */
+#define UHEX_READER_CAME_V1 12 /* flags: the section of a board has come */
+#define UHEX_READER_CAME_V2 13
+#define UHEX_READER_GAVE_V1 14 /* flags: the section of a board gave a data byte */
+#define UHEX_READER_GAVE_V2 15
+
+#define UHEX_BETWEEN 0 /* before a section, or before the end */
+#define UHEX_OPENED 1  /* after the record 04 that opens a section */
+#define UHEX_INSIDE 2  /* in a section */
+#define UHEX_PADDED 3  /* in a section, after its first record 0C */
+#define UHEX_ENDED 4   /* after the record 01 */
+#define UHEX_FAILED 5
+
+/* Answers to a line. 20 to 30 and 36 make the reader failed, and a failed reader repeats its answer; 32 to 35 move it on. Only 33 stores
+ * in the image. 18, 19, 31 and the answer of a reader that had failed before change nothing that is lent. */
+#define UHEX_BAD_READER 18
+#define UHEX_BAD_IMAGE 19     /* the image's length */
+#define UHEX_NO_COLON 20      /* empty, or does not begin with ':' */
+#define UHEX_BAD_SHAPE 21     /* under 11, over 521 or an even number of characters */
+#define UHEX_BAD_DIGIT 22
+#define UHEX_TOO_LONG 23      /* the length field is over 32 */
+#define UHEX_BAD_LENGTH 24    /* the characters are not 11 and two for each data byte */
+#define UHEX_BAD_SUM 25
+#define UHEX_OUT_OF_PLACE 26  /* type or length not allowed there */
+#define UHEX_UNALIGNED 27     /* a section begins at an offset that is no multiple of 512 */
+#define UHEX_REPEATED 28      /* a second section of V1 or V2 */
+#define UHEX_CROSSES 29       /* data past the 65,536 bytes that one record 04 reaches */
+#define UHEX_MISSING_BOARD 30 /* the end before V1 and V2 each gave a data byte */
+#define UHEX_AFTER_END 31
+#define UHEX_OUTSIDE 32       /* own data that is not wholly in the image: not stored */
+#define UHEX_STORED 33        /* own data, stored */
+#define UHEX_PASSED 34        /* any other good record */
+#define UHEX_FILE_ENDED 35    /* the record 01: the file is whole */
+#define UHEX_FILE_TOO_LONG 36 /* the file with this line is over UHEX_FILE_MOST bytes */
+
+/* Writes a fresh reader of a board, where there are UHEX_READER bytes; else changes nothing. */
+void uhex_new(uint16_t own, uint8_t *reader, size_t reader_len);
+
+/* One line as it stands in the file, with its LF or CR LF: the answer, 18 to 36. The reader's bytes are written by 32 to 35, and by 20 to
+ * 30 and 36 where it had not failed before; every other answer leaves them as they were lent. */
+uint32_t uhex_line(uint8_t *reader, size_t reader_len, const uint8_t *line, size_t line_len, uint8_t *image, size_t image_len);
+
 #ifdef __cplusplus
 }
 #endif

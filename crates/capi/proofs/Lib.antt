@@ -2,3 +2,4 @@
 pub mod Places
 pub mod Laws
 pub mod Many
+pub mod HexLaws

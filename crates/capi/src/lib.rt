@@ -22,6 +22,8 @@ use block::Block;
 use place::Asked;
 use transfer::Transfer;
 
+mod hex;
+
 // The bytes of a place: its start and its length.
 const PLACE: usize = 8;
 

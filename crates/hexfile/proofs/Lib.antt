@@ -1,5 +1,5 @@
 -- The proofs of the claims.
-mod Lined
+pub mod Lined
 pub mod Facts
 pub mod Claims
 pub mod Instance

@@ -2,6 +2,8 @@
 //!
 //! Nothing has to be checked before a call: every settings, transfer and length gets an answer, and nothing panics.
 
+pub mod hex;
+
 pub const ENTRIES: usize = 16;
 const SETTINGS_HEAD: usize = 6;
 const ENTRY_BYTES: usize = 33;

@@ -1,0 +1,58 @@
+-- The calls for Universal Hex by cases. Assumes nothing.
+use Prim.Native.Nat.{ℕ}
+use mathlib.Core.Path.{_≡_, refl, ap, _∙_}
+use mathlib.Core.Bool.{Bool, true, false, _&&_, or-true}
+use mathlib.Core.List.{List}
+use lib.Dec.{leb}
+use lib.ListN.{length}
+use Rattle.sets.proofs.Tests.{split, clash}
+use Rattle.grammar.specs.Answers.{numberOf}
+use Rattle.grammar.specs.declared.Failure.{Failure}
+use Rattle.grammar.specs.declared.Stand.{Stand}
+use Rattle.grammar.specs.declared.Stand.the-variants.{Between, Opened, Inside, Padded, Ended, Failed}
+use Rattle.unihex.specs.declared.Read.{Read}
+use Rattle.unihex.specs.declared.Reader.{Reader}
+use Rattle.unihex.specs.Reader.{badReader}
+use Rattle.unihex.specs.Line.{Outcome, outcome, badImage, standLine, lineOf}
+use Rattle.hexfile.proofs.Lined.{Lined, bad, past, again, failed, out, stored, passed, ended}
+use Rattle.hexfile.proofs.Lined as every
+use Rattle.readers.specs.Readers.{readerFrom}
+use Rattle.capi.specs.HexCalls.{lined, hasFailed, changes, keptReader, linedOf, lineBytes}
+
+module _ (t l img : List ℕ) where
+  pub line-lined : {r : Reader} {x : Read} {g v : List ℕ} {f b : Bool} {n : ℕ} → r ≡ readerFrom t → outcome (x .reader) (x .answer) g ≡ lineOf r l img → f ≡ hasFailed (r .stand) → b ≡ changes f (x .answer) → v ≡ keptReader t b (x .reader) → n ≡ numberOf (x .answer) → lined n v g ≡ lineBytes t l img
+  unfolding lineBytes
+  line-lined {r} hr ho hf hb hv hn =
+      rw (hn, hv, hb, hf) (ap (linedOf t r) ho ∙ ap (λ (q : Reader). linedOf t q (lineOf q l img)) hr)
+
+-- ---- the reader stays as it was where its bytes are left
+
+module _ (r : Reader) (l img : List ℕ) where
+  -- by an answer to a reader that had not failed
+  same-by : {o : Outcome} → Lined r l img o → changes false (o .answer) ≡ false → o .reader ≡ r
+  same-by (bad a h w) e = refl
+  same-by (past h) e = refl
+  same-by (again f h k) e = refl
+  same-by (failed a h) e =
+      clash (changes false a) (rw h (or-true (leb 32 (numberOf a) && leb (numberOf a) 35))) e
+  same-by (out rec q p o m) e = clash true refl e
+  same-by (stored rec q d o m) e = clash true refl e
+  same-by (passed rec q p o m) e = clash true refl e
+  same-by (ended rec p o b m) e = clash true refl e
+
+  -- by any answer to a failed one
+  failed-same : (f : Failure) → r .stand ≡ Failed f → lineOf r l img .reader ≡ r
+  unfolding lineOf standLine
+  failed-same f q =
+      split (badImage (length img)) (λ y. rw y) (λ z. split (badReader r) (λ y. rw (z, y)) (λ n. rw (z, n, q)))
+
+  same-at : (s : Stand) → r .stand ≡ s → changes (hasFailed s) (lineOf r l img .answer) ≡ false → lineOf r l img .reader ≡ r
+  same-at Between q e = same-by (every.lined r l img) e
+  same-at Opened q e = same-by (every.lined r l img) e
+  same-at (Inside b) q e = same-by (every.lined r l img) e
+  same-at (Padded b) q e = same-by (every.lined r l img) e
+  same-at Ended q e = same-by (every.lined r l img) e
+  same-at (Failed f) q e = failed-same f q
+
+  pub line-same : changes (hasFailed (r .stand)) (lineOf r l img .answer) ≡ false → lineOf r l img .reader ≡ r
+  line-same e = same-at (r .stand) refl e

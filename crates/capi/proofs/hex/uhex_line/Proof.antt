@@ -1,0 +1,55 @@
+-- `capi::hex::uhex_line` meets its contract. Assumes nothing.
+use Rattle.capi.proofs.HexLaws.{line-lined}
+use borrow.Author.Needs.{needs}
+use Rattle.capi.proofs.hex.uhex_line.Statement.{statement}
+use Rattle.capi.proofs.hex.uhex_line.Tie as tie
+
+read-reader-requires : tie.Need-read-reader-requires
+read-reader-requires c κs = search needs
+
+line-requires : tie.Need-line-requires
+line-requires c κs = search needs
+
+has-failed-requires : tie.Need-has-failed-requires
+has-failed-requires c κs = search needs
+
+changes-requires : tie.Need-changes-requires
+changes-requires c κs = search needs
+
+keep-reader-requires : tie.Need-keep-reader-requires
+keep-reader-requires c κs = search needs
+
+number-requires : tie.Need-number-requires
+number-requires c κs = search needs
+
+cast-result : tie.Need-cast-result
+cast-result c = search needs
+
+same-length : tie.Need-same-length
+same-length c = search needs
+
+same-length-2 : tie.Need-same-length-2
+same-length-2 c = search needs
+
+returns : tie.Need-returns
+returns c =
+    let kept = c .before .before .before in
+    let changed = kept .before in
+    let failed = changed .before in
+    let read = failed .before .before .before .before .before in
+    line-lined _ _ _ (read .before .before .read-reader .ensures) (read .line .ensures) (failed .has-failed .ensures) (changed .changes .ensures) (kept .keep-reader .ensures) (c .number .ensures)
+
+pub uhex-line-spec : {M : Type 1} → statement M
+uhex-line-spec =
+    tie.close
+    (tie.spec
+    read-reader-requires
+    line-requires
+    has-failed-requires
+    changes-requires
+    keep-reader-requires
+    number-requires
+    cast-result
+    same-length
+    same-length-2
+    returns)

@@ -1,0 +1,125 @@
+-- Hex readers as bytes. Every number below is a byte, or a field of two or of four (`fieldAt`). Assumes nothing.
+use Prim.Native.Nat.{ℕ, _+_, _-_, _*_, _/_, _%_}
+use mathlib.Core.Bool.{Bool, cond}
+use mathlib.Core.List.{List, [], _∷_, _++_}
+use lib.Dec.{leb, eqb}
+use lib.ListN.{length, getD}
+use Rattle.block.specs.Block.{fieldAt}
+use Rattle.layout.specs.Bytes.{le32}
+use Rattle.layout.specs.Layout.{byteAt, isOn}
+use Rattle.grammar.specs.Answers.{numberOf}
+use Rattle.grammar.specs.declared.Answer.{Answer}
+use Rattle.grammar.specs.declared.Answer.the-variants.{BadReader, BadImage, NoColon, BadShape, BadDigit, TooLong, BadLength, BadSum, OutOfPlace, Unaligned, Repeated, Crosses, MissingBoard, AfterEnd, Outside, Stored, Passed, Ended, FileTooLong}
+use Rattle.grammar.specs.declared.Boards.{Boards}
+use Rattle.grammar.specs.declared.Stand.{Stand}
+use Rattle.grammar.specs.declared.Stand.the-variants as stand
+use Rattle.unihex.specs.Reader.{freshOf}
+use Rattle.unihex.specs.declared.Reader.{Reader}
+use Rattle.readers.specs.declared.Tag.{Tag}
+
+-- ---- read
+
+-- a little-endian 16-bit field
+abbrev pub halfAt : List ℕ → ℕ → ℕ
+halfAt b at = byteAt b at + 256 * byteAt b (at + 1)
+
+-- the answers from 18 to 36
+unfoldable pub allAnswers : List Answer
+allAnswers =
+    BadReader
+    ∷ BadImage
+    ∷ NoColon
+    ∷ BadShape
+    ∷ BadDigit
+    ∷ TooLong
+    ∷ BadLength
+    ∷ BadSum
+    ∷ OutOfPlace
+    ∷ Unaligned
+    ∷ Repeated
+    ∷ Crosses
+    ∷ MissingBoard
+    ∷ AfterEnd
+    ∷ Outside
+    ∷ Stored
+    ∷ Passed
+    ∷ Ended
+    ∷ FileTooLong
+    ∷ []
+
+-- the answer of a number; a number that is no answer is read as 18, which row 18 refuses in a failure (proofs/Refused.antt)
+unfoldable pub answerFrom : ℕ → Answer
+answerFrom n = getD allAnswers (n - 18) BadReader
+
+-- where a reader stands (0 Between, 1 Opened, 2 Inside, 3 Padded, 4 Ended, 5 Failed), the remembered failure and the section's board
+unfoldable pub standOf : ℕ → ℕ → ℕ → Stand
+standOf kind failure board =
+    cond (eqb kind 0) stand.Between
+    (cond (eqb kind 1) stand.Opened
+    (cond (eqb kind 2) (stand.Inside board)
+    (cond (eqb kind 3) (stand.Padded board)
+    (cond (eqb kind 4) stand.Ended
+    (stand.Failed (record { answer = answerFrom failure }))))))
+
+abbrev pub boardsFrom : ℕ → ℕ → Boards
+boardsFrom a b = record { v1 = isOn a; v2 = isOn b }
+
+-- 0 own board, 2 upper address, 4 offset, 8 where it stands, 9 the remembered failure, 10 board of the section, 12 V1's section came,
+-- 13 V2's, 14 V1 gave a data byte, 15 V2 did
+unfoldable pub fieldsFrom : List ℕ → Reader
+fieldsFrom b =
+    record {
+      own = halfAt b 0;
+      offset = fieldAt b 4;
+      stand = standOf (byteAt b 8) (byteAt b 9) (halfAt b 10);
+      upper = halfAt b 2;
+      came = boardsFrom (byteAt b 12) (byteAt b 13);
+      gave = boardsFrom (byteAt b 14) (byteAt b 15);
+    }
+
+-- a reader of no board, which row 18 refuses (proofs/Refused.antt)
+abbrev pub noReader : Reader
+noReader = freshOf 0
+
+-- bytes of any other length are no reader, and neither is one that stands over 5
+unfoldable pub readerFrom : List ℕ → Reader
+readerFrom b = cond (eqb (length b) 16) (cond (leb (byteAt b 8) 5) (fieldsFrom b) noReader) noReader
+
+-- ---- written
+
+-- the two bytes of x, the lowest first
+unfoldable pub le16 : ℕ → List ℕ
+le16 x = x % 256 ∷ x / 256 % 256 ∷ []
+
+abbrev pub tagged : ℕ → ℕ → ℕ → Tag
+tagged kind failure board = record { kind = kind; failure = failure; board = board }
+
+-- a failure's number only where failed, a board only where in a section
+abbrev pub tagOf : Stand → Tag
+tagOf stand.Between = tagged 0 0 0
+tagOf stand.Opened = tagged 1 0 0
+tagOf (stand.Inside b) = tagged 2 0 b
+tagOf (stand.Padded b) = tagged 3 0 b
+tagOf stand.Ended = tagged 4 0 0
+tagOf (stand.Failed f) = tagged 5 (numberOf (f .answer)) 0
+
+abbrev pub flagOf : Bool → ℕ
+flagOf on = cond on 1 0
+
+abbrev pub boardsBytes : Boards → List ℕ
+boardsBytes s = flagOf (s .v1) ∷ flagOf (s .v2) ∷ []
+
+unfoldable pub tagBytes : Tag → List ℕ
+tagBytes t = t .kind ∷ t .failure ∷ le16 (t .board)
+
+-- the bytes of a reader
+unfoldable pub readerBytes : Reader → List ℕ
+readerBytes r =
+    le16 (r .own)
+    ++ (le16 (r .upper)
+    ++ (le32 (r .offset)
+    ++ (tagBytes (tagOf (r .stand)) ++ (boardsBytes (r .came) ++ boardsBytes (r .gave)))))
+
+-- a reader written over bytes, where there are 16
+unfoldable pub written : List ℕ → Reader → List ℕ
+written b r = cond (eqb (length b) 16) (readerBytes r) b
