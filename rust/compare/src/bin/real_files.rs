@@ -1,0 +1,277 @@
+//! Real files through the proved receiver and reader and through the reference, side by side: the UF2 files of Debian's package `snek` and
+//! the Intel Hex file of `firmware-microbit-micropython`, where they are installed. `REAL_FILES` names another place than /usr/share.
+
+use std::error::Error;
+use std::fs;
+use std::path::{Path, PathBuf};
+
+use compare::{proved_settings, Random};
+use reference::{hex, Arch, Entry, Settings, ARM_S, MAX_ENTRIES, SECTORS_LEN, SEEN_LEN};
+
+type Done = Result<(), Box<dyn Error>>;
+
+const WINDOW: u32 = 0x1000_0000;
+const FLASH_LEN: usize = 1 << 20;
+const IMAGE_LEN: usize = 262_144;
+
+const SETTINGS: Settings = Settings {
+    arm: true,
+    riscv: false,
+    current: Arch::Arm,
+    auto_switch: false,
+    absolute: false,
+    count: 0,
+    table: [Entry::EMPTY; MAX_ENTRIES],
+};
+
+fn main() -> Done {
+    let root = std::env::var("REAL_FILES").unwrap_or_else(|_| "/usr/share".into());
+    let root = Path::new(&root);
+    let uf2 = files(&root.join("snek"), "uf2");
+    if uf2.is_empty() {
+        println!("no UF2 file of snek in {}: left out", root.display());
+    }
+    for path in &uf2 {
+        println!("{}: {}", name(path), uf2_file(&fs::read(path)?)?);
+    }
+    let plain = files(&root.join("firmware-microbit-micropython"), "hex");
+    if plain.is_empty() {
+        println!(
+            "no Intel Hex file of firmware-microbit-micropython in {}: left out",
+            root.display()
+        );
+    }
+    for path in &plain {
+        println!("{}: {}", name(path), hex_file(&fs::read(path)?)?);
+    }
+    Ok(())
+}
+
+fn files(folder: &Path, extension: &str) -> Vec<PathBuf> {
+    let Ok(entries) = fs::read_dir(folder) else {
+        return Vec::new();
+    };
+    let mut found: Vec<PathBuf> = entries.flatten().map(|e| e.path()).collect();
+    found.retain(|p| p.extension().is_some_and(|e| e == extension));
+    found.sort();
+    found
+}
+
+fn name(path: &Path) -> String {
+    path.file_name()
+        .unwrap_or_default()
+        .to_string_lossy()
+        .into_owned()
+}
+
+fn check(holds: bool, what: &str) -> Done {
+    if holds {
+        Ok(())
+    } else {
+        Err(what.into())
+    }
+}
+
+/// The file as it is, which has no family, and with one put in, in several orders.
+fn uf2_file(file: &[u8]) -> Result<String, Box<dyn Error>> {
+    let blocks: Vec<&[u8]> = file.chunks(512).collect();
+    let (answers, _) = deliver(&blocks)?;
+    check(
+        answers.iter().all(|&a| a == 7),
+        "a block without a family is not answered 7",
+    )?;
+    let given: Vec<Vec<u8>> = blocks.iter().map(|b| with_family(b)).collect();
+    let mut order: Vec<&[u8]> = given.iter().map(Vec::as_slice).collect();
+    let mut random = Random(20);
+    for turn in 0..4 {
+        let (answers, flash) = deliver(&order)?;
+        check(
+            answers.iter().filter(|&&a| a == 15).count() == 1,
+            "not completed once",
+        )?;
+        check(
+            answers.last() == Some(&15) || turn == 3,
+            "not completed by the last block",
+        )?;
+        for block in &given {
+            let at = (field(block, 12) - WINDOW) as usize;
+            check(
+                flash[at..at + 256] == block[32..288],
+                "a payload is not at its address",
+            )?;
+        }
+        match turn {
+            0 => order.reverse(),
+            1 => random.shuffle(&mut order),
+            // every block twice
+            _ => {
+                let again = order.clone();
+                order.extend(again);
+                random.shuffle(&mut order);
+            }
+        }
+    }
+    Ok(format!(
+        "{} blocks, each answered 7; with a family and the window's addresses taken in order, reversed, shuffled and repeated",
+        blocks.len()
+    ))
+}
+
+fn field(block: &[u8], at: usize) -> u32 {
+    u32::from_le_bytes([block[at], block[at + 1], block[at + 2], block[at + 3]])
+}
+
+/// The block with the family arm-s, and its address counted from the window's start.
+fn with_family(block: &[u8]) -> Vec<u8> {
+    let mut given = block.to_vec();
+    let mut put = |at: usize, x: u32| given[at..at + 4].copy_from_slice(&x.to_le_bytes());
+    put(8, field(block, 8) | 0x2000);
+    put(12, field(block, 12) + WINDOW);
+    put(28, ARM_S);
+    given
+}
+
+/// The answers to arrivals from Idle, and the flash afterwards, the same on both sides.
+fn deliver(arrivals: &[&[u8]]) -> Result<(Vec<u8>, Vec<u8>), Box<dyn Error>> {
+    let settings = proved_settings(&SETTINGS);
+    let (mut p, mut r) = (proved::Transfer::Idle, reference::Transfer::Idle);
+    let (mut flash, mut seen, mut sectors) =
+        (vec![0; FLASH_LEN], vec![0; SEEN_LEN], vec![0; SECTORS_LEN]);
+    let (mut flash_r, mut seen_r, mut sectors_r) = (flash.clone(), seen.clone(), sectors.clone());
+    let mut answers = Vec::new();
+    for arrival in arrivals {
+        let ours = proved::receive(
+            &settings,
+            &mut p,
+            arrival,
+            &mut flash,
+            &mut seen,
+            &mut sectors,
+        );
+        let theirs = reference::receive(
+            &SETTINGS,
+            r,
+            arrival,
+            &mut flash_r,
+            &mut seen_r,
+            &mut sectors_r,
+        );
+        r = theirs.transfer;
+        check(ours.answer.number() == theirs.answer, "the answers differ")?;
+        answers.push(theirs.answer);
+    }
+    check(
+        (&flash, &seen, &sectors) == (&flash_r, &seen_r, &sectors_r),
+        "the buffers differ",
+    )?;
+    Ok((answers, flash))
+}
+
+/// The file as it is, which has no sections, and as the V1 section of a file for both boards.
+fn hex_file(file: &[u8]) -> Result<String, Box<dyn Error>> {
+    let plain: Vec<&[u8]> = file.split_inclusive(|&c| c == b'\n').collect();
+    let (answers, _) = read(hex::V1, &plain)?;
+    let refused = answers.iter().position(|&a| a == 26);
+    check(
+        refused == Some(1),
+        "a plain file is not refused at its second line",
+    )?;
+    let (lines, wanted) = universal(&plain);
+    let lines: Vec<&[u8]> = lines.iter().map(Vec::as_slice).collect();
+    let (answers, image) = read(hex::V1, &lines)?;
+    check(answers.last() == Some(&35), "the file does not end")?;
+    check(image == wanted, "the image is not what the plain file says")?;
+    let stored = answers.iter().filter(|&&a| a == 33).count();
+    let outside = answers.iter().filter(|&&a| a == 32).count();
+    let (answers, image) = read(hex::V2, &lines)?;
+    check(
+        answers.last() == Some(&35),
+        "the other board's file does not end",
+    )?;
+    check(
+        image[..2] == [1, 2] && image[2..].iter().all(|&b| b == 0xFF),
+        "the other board's image",
+    )?;
+    Ok(format!(
+        "{} lines, refused with 26 at the second; as a section of V1: {stored} records stored, {outside} outside the image, ended",
+        plain.len()
+    ))
+}
+
+/// The answers to lines from a fresh reader, and the image afterwards, the same on both sides.
+fn read(own: u16, lines: &[&[u8]]) -> Result<(Vec<u8>, Vec<u8>), Box<dyn Error>> {
+    let (mut p, mut r) = (proved::hex::Reader::new(own), hex::fresh(own));
+    let (mut image, mut image_r) = (vec![0xFF; IMAGE_LEN], vec![0xFF; IMAGE_LEN]);
+    let mut answers = Vec::new();
+    for line in lines {
+        let ours = proved::hex::line(&mut p, line, &mut image);
+        let (next, theirs) = hex::line(r, line, &mut image_r);
+        r = next;
+        check(ours.number() == theirs, "the answers differ")?;
+        answers.push(theirs);
+    }
+    check(image == image_r, "the images differ")?;
+    Ok((answers, image))
+}
+
+fn record(kind: u8, address: u16, data: &[u8]) -> Vec<u8> {
+    let mut bytes = vec![data.len() as u8, (address >> 8) as u8, address as u8, kind];
+    bytes.extend(data);
+    let sum = bytes.iter().fold(0u8, |s, b| s.wrapping_add(*b));
+    bytes.push(sum.wrapping_neg());
+    let digits: String = bytes.iter().map(|b| format!("{b:02X}")).collect();
+    format!(":{digits}\n").into_bytes()
+}
+
+fn digits(line: &[u8], from: usize, n: usize) -> usize {
+    let text = std::str::from_utf8(&line[from..from + n]).unwrap_or("0");
+    usize::from_str_radix(text, 16).unwrap_or(0)
+}
+
+/// The lines of a plain file with a small second board, and the image that the plain file gives.
+fn universal(plain: &[&[u8]]) -> (Vec<Vec<u8>>, Vec<u8>) {
+    let mut lines = vec![record(4, 0, &[0, 0]), record(10, 0, &[0x99, 0x00])];
+    let mut image = vec![0xFF; IMAGE_LEN];
+    let mut upper = 0;
+    for line in plain {
+        match digits(line, 7, 2) {
+            4 => upper = digits(line, 9, 4),
+            0 => {
+                let at = upper << 16 | digits(line, 3, 4);
+                for i in 0..digits(line, 1, 2) {
+                    if let Some(byte) = image.get_mut(at + i) {
+                        *byte = digits(line, 9 + 2 * i, 2) as u8;
+                    }
+                }
+            }
+            // 05 and 01 are no part of a section
+            _ => continue,
+        }
+        lines.push(line.to_vec());
+    }
+    pad(&mut lines);
+    lines.extend([
+        record(4, 0, &[0, 0]),
+        record(10, 0, &[0x99, 0x03]),
+        record(13, 0, &[1, 2]),
+    ]);
+    pad(&mut lines);
+    lines.push(record(1, 0, &[]));
+    (lines, image)
+}
+
+/// Ends a section at a multiple of 512: an empty 0C has 12 characters with its ending, each byte two more, and the 0B takes the rest.
+fn pad(lines: &mut Vec<Vec<u8>>) {
+    loop {
+        let length: usize = lines.iter().map(Vec::len).sum();
+        let missing = (1024 - length % 512 - 12) % 512;
+        if missing % 2 == 0 && missing <= 64 {
+            return lines.push(record(11, 0, &vec![0xFF; missing / 2]));
+        }
+        // an odd number is mended by a line without one of its two endings; plain files of one kind never need it
+        if missing % 2 == 1 {
+            return;
+        }
+        lines.push(record(12, 0, &vec![0xFF; (missing - 12).min(64) / 2]));
+    }
+}
