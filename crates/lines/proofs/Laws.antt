@@ -16,7 +16,7 @@ use Rattle.io.specs.Digits.{glyph, digits, Fewest}
 use Rattle.grammar.specs.Answers.{numberOf}
 use Rattle.grammar.specs.declared.Stand.{Stand}
 use Rattle.grammar.specs.declared.Stand.the-variants.{Between, Opened, Inside, Padded, Ended, Failed}
-use Rattle.lines.specs.HexLines.{failedText, standText}
+use Rattle.lines.specs.HexLines.{hexAnswerLine, failedText, standText}
 use Rattle.lines.specs.Lines.{digit, decimalBy, decimalOf, pairText}
 
 -- ---- a text that grows
@@ -100,6 +100,10 @@ decimal-is n k l f e = e ∙ digits-by 20 k n (digits-short n k l f) f
 
 pub pair-short : (index answer : ℕ) → length (pairText index answer) ≤ 41
 pair-short index answer = simp length-append (omega (arith, decimal-short index, decimal-short answer))
+
+pub hex-answer-short : (index answer : ℕ) → length (hexAnswerLine index answer) ≤ 42
+unfolding hexAnswerLine
+hex-answer-short index answer = simp length-append (omega (arith, decimal-short index, decimal-short answer))
 
 pub stand-short : (s : Stand) → length (standText s) ≤ 33
 unfolding standText failedText
