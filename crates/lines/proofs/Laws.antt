@@ -13,7 +13,11 @@ use Rattle.sets.specs.Over.{over}
 use Rattle.sets.proofs.Tests.{split}
 use Rattle.io.specs.Counts.{Counts}
 use Rattle.io.specs.Digits.{glyph, digits, Fewest}
-use Rattle.lines.specs.Lines.{digit, decimalBy, decimalOf}
+use Rattle.grammar.specs.Answers.{numberOf}
+use Rattle.grammar.specs.declared.Stand.{Stand}
+use Rattle.grammar.specs.declared.Stand.the-variants.{Between, Opened, Inside, Padded, Ended, Failed}
+use Rattle.lines.specs.HexLines.{hexAnswerLine, failedText, standText}
+use Rattle.lines.specs.Lines.{digit, decimalBy, decimalOf, pairText}
 
 -- ---- a text that grows
 
@@ -91,3 +95,21 @@ digits-short n k l f =
 pub decimal-is : (n k : ℕ) {t : List ℕ} → n < 2 ^ 64 → Fewest 10 1 n k → t ≡ digits 10 k n → t ≡ decimalOf n
 unfolding decimalOf
 decimal-is n k l f e = e ∙ digits-by 20 k n (digits-short n k l f) f
+
+-- ---- how long the parts of a line are
+
+pub pair-short : (index answer : ℕ) → length (pairText index answer) ≤ 41
+pair-short index answer = simp length-append (omega (arith, decimal-short index, decimal-short answer))
+
+pub hex-answer-short : (index answer : ℕ) → length (hexAnswerLine index answer) ≤ 42
+unfolding hexAnswerLine
+hex-answer-short index answer = simp length-append (omega (arith, decimal-short index, decimal-short answer))
+
+pub stand-short : (s : Stand) → length (standText s) ≤ 33
+unfolding standText failedText
+stand-short Between = omega arith
+stand-short Opened = omega arith
+stand-short (Inside b) = omega arith
+stand-short (Padded b) = omega arith
+stand-short Ended = omega arith
+stand-short (Failed f) = simp length-append (omega (arith, decimal-short (numberOf (f .answer))))

@@ -1,4 +1,4 @@
--- The program's lines of text (01, "Examples to compute with"), in ASCII. Assumes nothing.
+-- The lines of text of the program for UF2 arrivals (01, "Examples to compute with"), in ASCII. Assumes nothing.
 use Prim.Native.Nat.{ℕ, zero, suc, _+_, _/_, _%_}
 use mathlib.Core.Bool.{Bool, cond}
 use mathlib.Core.List.{List, [], _∷_, _++_}
@@ -19,13 +19,17 @@ decimalBy (suc most) n = cond (ltb n 10) (digit n ∷ []) (decimalBy most (n / 1
 unfoldable pub decimalOf : ℕ → List ℕ
 decimalOf n = decimalBy 20 n
 
+-- two numbers, with a space between: "0 14"
+abbrev pub pairText : ℕ → ℕ → List ℕ
+pairText index answer = decimalOf index ++ (32 ∷ []) ++ decimalOf answer
+
 -- ---- the line of an answer: "0 14 0"
 
 abbrev pub flagText : Bool → List ℕ
 flagText b = 32 ∷ cond b 49 48 ∷ 10 ∷ []
 
 unfoldable pub answerLine : ℕ → ℕ → Bool → List ℕ
-answerLine index answer discarded = decimalOf index ++ (32 ∷ []) ++ decimalOf answer ++ flagText discarded
+answerLine index answer discarded = pairText index answer ++ flagText discarded
 
 -- ---- the last line: "state done total 2 seen 2"
 

@@ -1,13 +1,17 @@
-// The program's lines of text, put at the start of a lent array.
+// The programs' lines of text, put at the start of a lent array.
 ghost use mathlib.Core.Path.{_≡_};
 ghost use Prim.Native.Nat.{_+_, _≤_};
 ghost use mathlib.Core.Bool.{cond};
 ghost use lib.ListN.{length};
 ghost use Rattle.io.specs.Counts.{Counts};
-ghost use Rattle.lines.specs.Lines.{decimalOf, answerLine, countsLine, stateLine};
+ghost use Rattle.lines.specs.HexLines.{hexAnswerLine, failedText, standText, hexStateLine};
+ghost use Rattle.lines.specs.Lines.{decimalOf, pairText, answerLine, countsLine, stateLine};
 ghost use Rattle.sets.specs.Over.{over};
+use grammar::Answer;
+use grammar::Stand;
 use transfer::State;
 use transfer::Transfer;
+use unihex::Reader;
 
 // Puts a part at an index, and answers the index after it.
 fn put(out: &mut [u8], at: usize, part: &[u8]) -> usize
@@ -36,6 +40,16 @@ fn flag(b: bool) -> u8
     if b { 49 } else { 48 }
 }
 
+// An index and an answer, with a space between.
+fn put_pair(out: &mut [u8; 80], index: u64, answer: u8) -> usize
+    ensures { λ r. ⌜ r ≡ length (pairText index answer) ⌝ }
+    ensures { λ _. ⌜ now (out .exit) ≡ over (now (out .entry)) 0 (pairText index answer) ⌝ }
+{
+    let a = put_decimal(out, 0, index);
+    let b = put(out, a, b" ");
+    put_decimal(out, b, answer as u64)
+}
+
 // The line of an answer.
 pub fn answer_line(out: &mut [u8; 80], index: u64, answer: u8, discarded: bool) -> usize
     ensures { λ r. ⌜ r ≡ length (answerLine index answer discarded) ⌝ }
@@ -43,10 +57,8 @@ pub fn answer_line(out: &mut [u8; 80], index: u64, answer: u8, discarded: bool) 
     ensures { λ r. ⌜ Counts r (now (out .exit)) ⌝ }
 {
     let text = [b' ', flag(discarded), b'\n'];
-    let a = put_decimal(out, 0, index);
-    let b = put(out, a, b" ");
-    let c = put_decimal(out, b, answer as u64);
-    put(out, c, &text)
+    let a = put_pair(out, index, answer);
+    put(out, a, &text)
 }
 
 // The last line, by the state's name and its two numbers.
@@ -76,4 +88,69 @@ pub fn state_line(out: &mut [u8; 80], transfer: Transfer) -> usize
         State::Running(run) => counts_line(out, b"state running", run.head.total, run.count),
         State::Done(head) => counts_line(out, b"state done", head.total, head.total),
     }
+}
+
+// The line of an answer to a line of Universal Hex.
+pub fn hex_answer_line(out: &mut [u8; 80], index: u64, answer: u8) -> usize
+    ensures { λ r. ⌜ r ≡ length (hexAnswerLine index answer) ⌝ }
+    ensures { λ _. ⌜ now (out .exit) ≡ over (now (out .entry)) 0 (hexAnswerLine index answer) ⌝ }
+    ensures { λ r. ⌜ Counts r (now (out .exit)) ⌝ }
+{
+    let a = put_pair(out, index, answer);
+    put(out, a, b"\n")
+}
+
+// A failed reader, with the number that it remembers.
+fn put_failed(out: &mut [u8; 80], answer: Answer) -> usize
+    ensures { λ r. ⌜ r ≡ length (failedText answer) ⌝ }
+    ensures { λ _. ⌜ now (out .exit) ≡ over (now (out .entry)) 0 (failedText answer) ⌝ }
+{
+    let a = put(out, 0, b"state failed ");
+    put_decimal(out, a, answer.number() as u64)
+}
+
+// Where a reader stands.
+fn put_stand(out: &mut [u8; 80], stand: Stand) -> usize
+    ensures { λ r. ⌜ r ≡ length (standText stand) ⌝ }
+    ensures { λ _. ⌜ now (out .exit) ≡ over (now (out .entry)) 0 (standText stand) ⌝ }
+{
+    match stand {
+        Stand::Between => put(out, 0, b"state between"),
+        Stand::Opened => put(out, 0, b"state opened"),
+        Stand::Inside(_) => put(out, 0, b"state inside"),
+        Stand::Padded(_) => put(out, 0, b"state padded"),
+        Stand::Ended => put(out, 0, b"state ended"),
+        Stand::Failed(failure) => {
+            let answer = failure.answer;
+            put_failed(out, answer)
+        }
+    }
+}
+
+// The last line for a reader of Universal Hex.
+pub fn hex_state_line(out: &mut [u8; 80], reader: Reader) -> usize
+    ensures { λ r. ⌜ r ≡ length (hexStateLine reader) ⌝ }
+    ensures { λ _. ⌜ now (out .exit) ≡ over (now (out .entry)) 0 (hexStateLine reader) ⌝ }
+    ensures { λ r. ⌜ Counts r (now (out .exit)) ⌝ }
+{
+    let stand = reader.stand;
+    let v1 = flag(reader.gave.v1);
+    let v2 = flag(reader.gave.v2);
+    let text = [
+        b' ',
+        b'v',
+        b'1',
+        b' ',
+        v1,
+        b' ',
+        b'v',
+        b'2',
+        b' ',
+        v2,
+        b'\n',
+    ];
+    let a = put_stand(out, stand);
+    let b = put(out, a, b" offset ");
+    let c = put_decimal(out, b, reader.offset as u64);
+    put(out, c, &text)
 }
