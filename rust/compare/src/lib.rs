@@ -1,5 +1,7 @@
 //! Inputs for both receivers, from a seed, and the settings of one as the other takes them.
 
+pub mod hex;
+
 use reference::{Arch, Entry, Link, Settings, Transfer};
 
 /// A small generator (splitmix64): the same numbers on every machine.

@@ -1,9 +1,16 @@
-//! Lists of arrivals: after each, answer, transfer and every lent byte are the same.
+//! Lists of arrivals: after each, answer, transfer and every lent byte are the same. COMPARE_ARRIVALS sets how many arrivals are
+//! compared, at least.
 
 use compare::{
     any_arrival, any_settings, arm_only, page, proved_settings, proved_transfer, Random, FAMILIES,
 };
 use reference::{Settings, Transfer};
+
+/// The number of arrivals that a run compares.
+fn number() -> usize {
+    let asked = std::env::var("COMPARE_ARRIVALS").ok();
+    asked.and_then(|n| n.parse().ok()).unwrap_or(1_000_000)
+}
 
 /// Both receivers, each with buffers of its own.
 struct Pair {
@@ -65,7 +72,7 @@ fn any_transfer(r: &mut Random, pages: u64) -> Transfer {
 fn arrivals_agree() {
     let mut r = Random(2);
     let mut answers = [0u32; 16];
-    for _ in 0..3_000 {
+    for _ in 0..number().div_ceil(40) {
         let sectors = r.of(&[1, 2, 5, 16]);
         let settings = any_settings(&mut r, sectors);
         let transfer = any_transfer(&mut r, sectors * 16);
