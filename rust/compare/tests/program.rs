@@ -1,44 +1,41 @@
-//! The proved program beside the reference, on input of many lengths: the same text.
+//! The proved programs beside the reference's, each as a process of its own: the same text on input of many kinds and lengths.
 
-use std::fmt::Write as _;
 use std::io::Write as _;
+use std::path::PathBuf;
 use std::process::{Command, Stdio};
 
-use compare::{any_arrival, arm_only, page, Random};
-use reference::Transfer;
+use compare::hex::{any_file, damage, FILE};
+use compare::{any_arrival, page, Random};
 
-fn wanted(input: &[u8]) -> String {
-    let settings = arm_only();
-    let (mut flash, mut seen, mut sectors) = (vec![0; 32_768], vec![0; 16_384], vec![0; 1024]);
-    let mut t = Transfer::Idle;
-    let mut text = String::from("arrival answer discarded\n");
-    for (i, a) in input.chunks(512).enumerate() {
-        let o = reference::receive(&settings, t, a, &mut flash, &mut seen, &mut sectors);
-        t = o.transfer;
-        writeln!(text, "{i} {} {}", o.answer, u8::from(o.discarded)).expect("a string grows");
-    }
-    let (state, total, count) = match t {
-        Transfer::Idle => ("idle", 0, 0),
-        Transfer::Running { total, count, .. } => ("running", total, count),
-        Transfer::Done { total, .. } => ("done", total, total),
-    };
-    writeln!(text, "state {state} total {total} seen {count}").expect("a string grows");
-    text
+/// A program that `rt check` has made.
+fn proved(name: &str) -> PathBuf {
+    PathBuf::from(concat!(env!("CARGO_MANIFEST_DIR"), "/../../target/bin")).join(name)
 }
 
-fn printed(input: &[u8]) -> String {
-    let program = concat!(env!("CARGO_MANIFEST_DIR"), "/../../target/bin/receive");
-    let mut child = Command::new(program)
+/// A program of the reference, which stands beside the folder of this test.
+fn plain(name: &str) -> PathBuf {
+    let test = std::env::current_exe().expect("a test has a file");
+    test.ancestors()
+        .nth(2)
+        .expect("it stands in target/PROFILE/deps")
+        .join(name)
+}
+
+fn printed(program: PathBuf, args: &[&str], input: &[u8]) -> String {
+    let mut child = Command::new(&program)
+        .args(args)
         .stdin(Stdio::piped())
         .stdout(Stdio::piped())
         .spawn()
-        .expect("rt check receive has made it");
+        .unwrap_or_else(|e| panic!("{}: {e}", program.display()));
     let mut pipe = child.stdin.take().expect("it is piped");
     let bytes = input.to_vec();
-    // written in pieces that are no multiple of 512, so that reads come short
+    // written in pieces that are no multiple of 512, so that reads come short; a program may leave the rest unread
     let writer = std::thread::spawn(move || {
-        for piece in bytes.chunks(777) {
-            pipe.write_all(piece).expect("the program reads on");
+        for piece in bytes.chunks(77_777) {
+            if pipe.write_all(piece).is_err() {
+                return;
+            }
         }
     });
     let output = child.wait_with_output().expect("the program ends");
@@ -46,18 +43,26 @@ fn printed(input: &[u8]) -> String {
     String::from_utf8(output.stdout).expect("plain text")
 }
 
+fn receive_both(input: &[u8]) -> String {
+    let text = printed(proved("receive"), &[], input);
+    assert_eq!(text, printed(plain("reference"), &[], input));
+    text
+}
+
+fn hexlines_both(args: &[&str], input: &[u8]) -> String {
+    let text = printed(proved("hexlines"), args, input);
+    assert_eq!(text, printed(plain("reference-hexlines"), args, input));
+    text
+}
+
 #[test]
-fn programs_agree() {
+fn receive_programs_agree() {
     let mut r = Random(6);
     for n in [0, 1, 2, 3, 10, 300] {
         for cut in [0, 1, 511] {
             let mut input: Vec<u8> = (0..n).flat_map(|_| any_arrival(&mut r, 128)).collect();
             input.truncate(input.len().saturating_sub(cut));
-            assert_eq!(
-                printed(&input),
-                wanted(&input),
-                "{n} arrivals less {cut} bytes"
-            );
+            receive_both(&input);
         }
     }
 }
@@ -66,6 +71,41 @@ fn programs_agree() {
 fn the_papers_example() {
     let file = [0, 0, 1].map(|k| page(reference::ARM_S, 2, k)).concat();
     let text = "arrival answer discarded\n0 14 0\n1 13 0\n2 15 0\nstate done total 2 seen 2\n";
-    assert_eq!(printed(&file), text);
-    assert_eq!(wanted(&file), text);
+    assert_eq!(receive_both(&file), text);
+}
+
+#[test]
+fn hexlines_programs_agree() {
+    let mut r = Random(7);
+    for args in [
+        &[][..],
+        &["V1"],
+        &["V2"],
+        &["V3"],
+        &["v1"],
+        &[""],
+        &["V1", "V2"],
+    ] {
+        for _ in 0..40 {
+            let mut lines = any_file(&mut r, 262_144);
+            if r.one_in(2) {
+                damage(&mut r, &mut lines);
+            }
+            hexlines_both(args, &lines.concat());
+        }
+    }
+}
+
+#[test]
+fn hexlines_programs_agree_at_the_limit() {
+    let limit = FILE as usize;
+    for n in [limit - 1, limit, limit + 1, limit + 100_000] {
+        // one line, lines of one character, and lines that end in the middle of the last byte that counts
+        hexlines_both(&[], &vec![b':'; n]);
+        hexlines_both(&[], &[b":\n".repeat(n / 2), vec![b':'; n % 2]].concat());
+        hexlines_both(
+            &[],
+            &[vec![b':'; limit], vec![b'\n'; n - limit.min(n)]].concat(),
+        );
+    }
 }

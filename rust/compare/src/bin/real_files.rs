@@ -5,6 +5,7 @@ use std::error::Error;
 use std::fs;
 use std::path::{Path, PathBuf};
 
+use compare::hex::{record, Text};
 use compare::{proved_settings, Random};
 use reference::{hex, Arch, Entry, Settings, ARM_S, MAX_ENTRIES, SECTORS_LEN, SEEN_LEN};
 
@@ -214,23 +215,15 @@ fn read(own: u16, lines: &[&[u8]]) -> Result<(Vec<u8>, Vec<u8>), Box<dyn Error>>
     Ok((answers, image))
 }
 
-fn record(kind: u8, address: u16, data: &[u8]) -> Vec<u8> {
-    let mut bytes = vec![data.len() as u8, (address >> 8) as u8, address as u8, kind];
-    bytes.extend(data);
-    let sum = bytes.iter().fold(0u8, |s, b| s.wrapping_add(*b));
-    bytes.push(sum.wrapping_neg());
-    let digits: String = bytes.iter().map(|b| format!("{b:02X}")).collect();
-    format!(":{digits}\n").into_bytes()
-}
-
 fn digits(line: &[u8], from: usize, n: usize) -> usize {
     let text = std::str::from_utf8(&line[from..from + n]).unwrap_or("0");
     usize::from_str_radix(text, 16).unwrap_or(0)
 }
 
-/// The lines of a plain file with a small second board, and the image that the plain file gives.
+/// The lines of a plain file as V1's section with a small one of V2, and the image that the plain file gives.
 fn universal(plain: &[&[u8]]) -> (Vec<Vec<u8>>, Vec<u8>) {
-    let mut lines = vec![record(4, 0, &[0, 0]), record(10, 0, &[0x99, 0x00])];
+    let mut text = Text::new(b"\n");
+    text.open(0, hex::V1, &[]);
     let mut image = vec![0xFF; IMAGE_LEN];
     let mut upper = 0;
     for line in plain {
@@ -247,31 +240,12 @@ fn universal(plain: &[&[u8]]) -> (Vec<Vec<u8>>, Vec<u8>) {
             // 05 and 01 are no part of a section
             _ => continue,
         }
-        lines.push(line.to_vec());
+        text.put(line.trim_ascii_end().to_vec());
     }
-    pad(&mut lines);
-    lines.extend([
-        record(4, 0, &[0, 0]),
-        record(10, 0, &[0x99, 0x03]),
-        record(13, 0, &[1, 2]),
-    ]);
-    pad(&mut lines);
-    lines.push(record(1, 0, &[]));
-    (lines, image)
-}
-
-/// Ends a section at a multiple of 512: an empty 0C has 12 characters with its ending, each byte two more, and the 0B takes the rest.
-fn pad(lines: &mut Vec<Vec<u8>>) {
-    loop {
-        let length: usize = lines.iter().map(Vec::len).sum();
-        let missing = (1024 - length % 512 - 12) % 512;
-        if missing % 2 == 0 && missing <= 64 {
-            return lines.push(record(11, 0, &vec![0xFF; missing / 2]));
-        }
-        // an odd number is mended by a line without one of its two endings; plain files of one kind never need it
-        if missing % 2 == 1 {
-            return;
-        }
-        lines.push(record(12, 0, &vec![0xFF; (missing - 12).min(64) / 2]));
-    }
+    text.close(&[]);
+    text.open(0, hex::V2, &[]);
+    text.put(record(13, 0, &[1, 2]));
+    text.close(&[]);
+    text.end();
+    (text.lines, image)
 }
