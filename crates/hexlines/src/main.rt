@@ -6,8 +6,8 @@ use libc::STDIN_FILENO;
 use libc::STDOUT_FILENO;
 use unihex::Reader;
 
-// The bytes of the input that count, one more than a file may have: what comes after them lies behind a line that is answered 36, or
-// behind an earlier failure.
+// The bytes of the input that count, one more than a file may have: what comes after them lies behind a line that is answered 36, behind
+// an earlier failure, or behind the 01.
 const INPUT: usize = Reader::FILE + 1;
 
 // The bytes of the board image, and of the text that waits to be written.
