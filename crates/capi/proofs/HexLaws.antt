@@ -1,6 +1,6 @@
 -- The calls for Universal Hex by cases. Assumes nothing.
 use Prim.Native.Nat.{ℕ}
-use mathlib.Core.Path.{_≡_, refl, ap, _∙_}
+use mathlib.Core.Path.{_≡_, refl, sym, ap, _∙_}
 use mathlib.Core.Bool.{Bool, true, false, _&&_, or-true}
 use mathlib.Core.List.{List}
 use lib.Dec.{leb}
@@ -17,6 +17,7 @@ use Rattle.unihex.specs.Line.{Outcome, outcome, badImage, standLine, lineOf}
 use Rattle.hexfile.proofs.Lined.{Lined, bad, past, again, failed, out, stored, passed, ended}
 use Rattle.hexfile.proofs.Lined as every
 use Rattle.readers.specs.Readers.{readerFrom}
+use Rattle.readers.proofs.Written.{Small, written-back}
 use Rattle.capi.specs.HexCalls.{lined, hasFailed, changes, keptReader, linedOf, lineBytes}
 
 module _ (t l img : List ℕ) where
@@ -56,3 +57,16 @@ module _ (r : Reader) (l img : List ℕ) where
 
   pub line-same : changes (hasFailed (r .stand)) (lineOf r l img .answer) ≡ false → lineOf r l img .reader ≡ r
   line-same e = same-at (r .stand) refl e
+
+-- ---- the reader that comes back
+
+-- the bytes are read as the next reader, written or left: lines handed one after the other are read as by one reader
+pub line-next : (t l img : List ℕ) → length t ≡ 16 → Small (lineOf (readerFrom t) l img .reader)
+    → readerFrom (lineBytes t l img .reader) ≡ lineOf (readerFrom t) l img .reader
+unfolding lineBytes
+line-next t l img e s =
+    let r = readerFrom t in
+    let o = lineOf r l img in
+    split (changes (hasFailed (r .stand)) (o .answer))
+    (λ y. rw y (written-back t (o .reader) e s))
+    (λ n. rw n (sym (line-same r l img n)))

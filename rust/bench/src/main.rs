@@ -2,6 +2,8 @@
 //! asked for, both read them at each call; where a file is received, the plain side reads them once, and the proved side once
 //! (`uf2_receive_all`) or, one call an arrival (`uf2_receive`), each time.
 
+mod hex;
+
 use std::hint::black_box;
 use std::time::Instant;
 
@@ -202,4 +204,5 @@ fn main() {
             }
         }
     }
+    hex::row(ROUNDS);
 }
