@@ -85,42 +85,70 @@ fn read(bytes: &[u8]) -> Settings {
     }
 }
 
-/// The best of several rounds of each, in turn, in nanoseconds a call.
-fn pair(name: &str, calls: usize, mut ours: impl FnMut() -> u64, mut plain: impl FnMut() -> u64) {
+/// The time of some work in nanoseconds, and what it gives.
+fn timed(work: impl FnOnce() -> u64) -> (f64, u64) {
+    let start = Instant::now();
+    let sum = work();
+    (start.elapsed().as_nanos() as f64, sum)
+}
+
+/// How many calls a round has, and how many bytes go through them.
+struct Work {
+    calls: usize,
+    bytes: Option<usize>,
+}
+
+impl Work {
+    fn told(&self, time: f64) -> String {
+        let call = format!("{:.0} ns", time / self.calls as f64);
+        match self.bytes {
+            Some(n) => format!("{call}, {:.0} MB/s", n as f64 / time * 1000.0),
+            None => call,
+        }
+    }
+}
+
+/// The best of several rounds of each, in turn. A round clears what it is lent before its time begins.
+fn pair(
+    name: &str,
+    work: Work,
+    mut ours: impl FnMut() -> (f64, u64),
+    mut plain: impl FnMut() -> (f64, u64),
+) {
     let (mut a, mut b) = (f64::MAX, f64::MAX);
     for _ in 0..ROUNDS {
-        let start = Instant::now();
-        let x = ours();
-        a = a.min(start.elapsed().as_nanos() as f64 / calls as f64);
-        let start = Instant::now();
-        let y = plain();
-        b = b.min(start.elapsed().as_nanos() as f64 / calls as f64);
+        let (time, x) = ours();
+        a = a.min(time);
+        let (time, y) = plain();
+        b = b.min(time);
         assert_eq!(x, y, "{name}: the two say the same");
     }
-    println!("| {name} | {a:.0} ns | {b:.0} ns | {:.2} : 1 |", a / b);
+    let (ours, plain) = (work.told(a), work.told(b));
+    println!("| {name} | {ours} | {plain} | {:.2} : 1 |", a / b);
 }
 
 fn places(name: &str, s: &Settings) {
     let p = proved_settings(s).bytes();
     let families = [reference::ARM_S, 18, 99];
     let calls = 30_000;
+    let bytes = None;
     pair(
         name,
-        calls,
+        Work { calls, bytes },
         || {
             let ask = |i: usize| {
                 let mut place = [0; 8];
                 proved::bytes::ask(black_box(&p), FLASH, families[i % 3], &mut place);
                 u64::from(place[0]) + 256 * u64::from(place[1])
             };
-            (0..calls).map(ask).sum()
+            timed(|| (0..calls).map(ask).sum())
         },
         || {
             let ask = |i: usize| {
                 reference::ask_place(&read(black_box(&p)), FLASH, families[i % 3])
                     .map_or(0, |x| x.0 as u64 % 65_536)
             };
-            (0..calls).map(ask).sum()
+            timed(|| (0..calls).map(ask).sum())
         },
     );
 }
@@ -131,6 +159,22 @@ struct Sent {
     blocks: u32,
     shuffled: bool,
     refused: bool,
+}
+
+/// Flash, seen map and sector map.
+struct Lent(Vec<u8>, Vec<u8>, Vec<u8>);
+
+impl Lent {
+    fn new() -> Lent {
+        Lent(vec![0; FLASH], vec![0; 16_384], vec![0; 1024])
+    }
+
+    fn cleared(&mut self) -> &mut Lent {
+        self.0.fill(0);
+        self.1.fill(0);
+        self.2.fill(0);
+        self
+    }
 }
 
 fn file(name: &str, s: &Settings, sent: Sent, at_once: bool) {
@@ -148,34 +192,49 @@ fn file(name: &str, s: &Settings, sent: Sent, at_once: bool) {
         // 257 bytes of payload: settings, header and place are asked, and nothing is stored
         file.iter_mut().skip(16).step_by(512).for_each(|b| *b = 1);
     }
-    let mut ours = (vec![0; FLASH], vec![0; 16_384], vec![0; 1024]);
-    let mut theirs = ours.clone();
+    let mut ours = Lent::new();
+    let mut theirs = Lent::new();
     let (mut results, mut plain) = (vec![0; order.len()], vec![0; order.len()]);
     pair(
         name,
-        blocks as usize,
-        || {
-            let (flash, seen, sectors) = &mut ours;
-            let mut t = proved::Transfer::Idle.bytes();
-            if at_once {
-                proved::bytes::receive_all(&p, &mut t, &file, &mut results, flash, seen, sectors);
-            } else {
-                for (a, r) in file.chunks_exact(512).zip(&mut results) {
-                    *r = proved::bytes::receive(black_box(&p), &mut t, a, flash, seen, sectors);
-                }
-            }
-            results.iter().map(|&r| u64::from(r)).sum()
+        Work {
+            calls: blocks as usize,
+            bytes: Some(file.len()),
         },
         || {
-            let (flash, seen, sectors) = &mut theirs;
+            let Lent(flash, seen, sectors) = ours.cleared();
+            let mut t = proved::Transfer::Idle.bytes();
+            timed(|| {
+                if at_once {
+                    proved::bytes::receive_all(
+                        &p,
+                        &mut t,
+                        &file,
+                        &mut results,
+                        flash,
+                        seen,
+                        sectors,
+                    );
+                } else {
+                    for (a, r) in file.chunks_exact(512).zip(&mut results) {
+                        *r = proved::bytes::receive(black_box(&p), &mut t, a, flash, seen, sectors);
+                    }
+                }
+                results.iter().map(|&r| u64::from(r)).sum()
+            })
+        },
+        || {
+            let Lent(flash, seen, sectors) = theirs.cleared();
             let mut t = reference::Transfer::Idle;
-            let s = read(black_box(&p));
-            for (a, r) in file.chunks_exact(512).zip(&mut plain) {
-                let o = reference::receive(&s, t, a, flash, seen, sectors);
-                t = o.transfer;
-                *r = o.answer + 128 * u8::from(o.discarded);
-            }
-            plain.iter().map(|&r| u64::from(r)).sum()
+            timed(|| {
+                let s = read(black_box(&p));
+                for (a, r) in file.chunks_exact(512).zip(&mut plain) {
+                    let o = reference::receive(&s, t, a, flash, seen, sectors);
+                    t = o.transfer;
+                    *r = o.answer + 128 * u8::from(o.discarded);
+                }
+                plain.iter().map(|&r| u64::from(r)).sum()
+            })
         },
     );
 }
@@ -204,5 +263,5 @@ fn main() {
             }
         }
     }
-    hex::row(ROUNDS);
+    hex::row();
 }
