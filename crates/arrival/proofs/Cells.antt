@@ -7,10 +7,10 @@ use Prim.Native.Nat.{ℕ, _<_, _/_}
 use lib.Dec.{eqb}
 use lib.ListN.{length, getD}
 use borrow.Author.Tests.{eqb-true}
-use Rattle.sets.specs.Sets.{Set, none, add, any, pick}
+use Rattle.sets.specs.Sets.{Set, none, add, any}
 use Rattle.sets.specs.Tab.{tab}
 use Rattle.sets.proofs.Tests.{split, clash, eqb-same, and-left, and-right}
-use Rattle.sets.proofs.Laws.{any-add, any-none, any-hit, pick-none, pick-hit, pick-cong}
+use Rattle.sets.proofs.Laws.{pick, any-add, any-none, any-hit, pick-none, pick-hit, pick-cong}
 use Rattle.sets.proofs.TabLaws.{length-tab, getD-tab, is-tab}
 
 -- Of block k: whether it holds byte j, whether it touches sector q, and its value for byte j

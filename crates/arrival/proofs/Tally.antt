@@ -7,9 +7,9 @@ use native.Mathlib.Omega.{arith}
 use lib.Dec.{ltb}
 use lib.ListN.{length}
 use borrow.Author.Tests.{ltb-false, le-leb, lt-leb}
-use Rattle.sets.specs.Sets.{Set, none, add, size, Within}
+use Rattle.sets.specs.Sets.{Set, none, add, size}
 use Rattle.sets.proofs.Tests.{split, clash}
-use Rattle.sets.proofs.Laws.{size-none, size-le, size-add, size-within, within-none, within-add}
+use Rattle.sets.proofs.Laws.{Within, size-none, size-le, size-add, size-within, within-none, within-add}
 use Rattle.bitmap.specs.Bitmap.{markedIn, withMark, mapOf, marks}
 use Rattle.bitmap.proofs.MapLaws.{map-none, marked-map, mark-map, marks-map}
 use Rattle.block.specs.Block.{fieldAt}

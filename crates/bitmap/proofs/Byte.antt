@@ -53,10 +53,6 @@ with-other b i j hi hj n =
     (λ y. rw y)
     (λ z. rw z (ap (λ (x : ℕ). eqb x 1) (bit-other b (7 - i) (7 - j) (omega arith) (eqb-false _ _ z))))
 
-pub with-idle : (b i : ℕ) → bit b i ≡ true → withBit b i ≡ b
-unfolding withBit
-with-idle b i h = rw h
-
 -- ---- bits by masks
 
 and-bit : (b p : ℕ) → bitAnd b (2 ^ p) ≡ b / 2 ^ p % 2 * 2 ^ p

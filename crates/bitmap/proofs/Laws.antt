@@ -1,24 +1,23 @@
 -- The laws of marks, for a map of any length. Assumes nothing.
-use mathlib.Core.Path.{_≡_, _∙_, fun-ext}
+use mathlib.Core.Path.{_≡_, fun-ext}
 use mathlib.Core.Bool.{true, false, not}
 use mathlib.Core.List.{List}
 use mathlib.Core.Logic.{_≢_}
-use Prim.Native.Nat.{ℕ, suc, _*_, _/_, _%_, _^_, _-_, _<_, _≤_}
+use Prim.Native.Nat.{ℕ, _/_, _%_, _^_, _-_, _<_, _≤_}
 use native.Mathlib.Nat.{zero-div}
 use native.Mathlib.Decide.{decLt, ℕ-discrete}
 use native.Mathlib.Omega.{arith}
 use lib.ListN.{length, getD, set, length-set, List·getD-eq-default}
-use lib.Seq.{getD-set-same, getD-set-other, set-out, set-getD}
+use lib.Seq.{getD-set-same, getD-set-other, set-out}
 use lib.Bits.{bitAnd, bitOr}
 use lib.Dec.{eqb, ltb}
 use borrow.Author.Tests.{eqb-true, eqb-false, ltb-true, ltb-false}
 use Rattle.fill.specs.Many.{many}
 use Rattle.fill.proofs.Laws.{length-many, getD-many}
-use Rattle.sets.specs.Sets.{none, add}
+use Rattle.sets.specs.Sets.{add}
 use Rattle.sets.proofs.Tests.{split}
-use Rattle.sets.proofs.Laws.{size-add, size-none, size-cong}
-use Rattle.bitmap.specs.Bitmap.{bit, markedIn, withMark, unmarked, marks}
-use Rattle.bitmap.proofs.Byte.{with-same, with-other, with-idle, or-mask, and-mask}
+use Rattle.bitmap.specs.Bitmap.{bit, markedIn, withMark, unmarked}
+use Rattle.bitmap.proofs.Byte.{with-same, with-other, or-mask, and-mask}
 
 pub length-mark : (m : List ℕ) (k : ℕ) → length (withMark m k) ≡ length m
 unfolding withMark
@@ -71,11 +70,6 @@ marked-after m k l =
     (λ e. rw (e, eqb-true j k e) (marked-same m k l))
     (λ e. rw e (marked-other m k j (eqb-false j k e))))
 
--- a mark that is there already changes nothing
-pub mark-again : (m : List ℕ) (k : ℕ) → markedIn m k ≡ true → withMark m k ≡ m
-unfolding markedIn withMark
-mark-again m k h = rw (with-idle (getD m (k / 8) 0) (k % 8) h) (set-getD m (k / 8) 0)
-
 -- ---- after clear
 
 zeros : (n i : ℕ) → getD (many n 0) i 0 ≡ 0
@@ -87,20 +81,6 @@ zeros n i =
 pub marked-unmarked : (n k : ℕ) → markedIn (unmarked n) k ≡ false
 unfolding markedIn unmarked
 marked-unmarked n k = rw (zeros n (k / 8)) (bit-zero (k % 8))
-
--- ---- how many
-
--- a new mark raises the number by one
-pub marks-more : (m : List ℕ) (k : ℕ) → k / 8 < length m → markedIn m k ≡ false → marks (withMark m k) ≡ suc (marks m)
-unfolding marks
-marks-more m k l h =
-    rw (length-mark m k, marked-after m k l) (size-add (length m * 8) (markedIn m) k (omega arith) h)
-
-pub marks-unmarked : (n : ℕ) → marks (unmarked n) ≡ 0
-unfolding marks
-marks-unmarked n =
-    size-cong (length (unmarked n) * 8) (markedIn (unmarked n)) none (λ j l. marked-unmarked n j)
-    ∙ size-none (length (unmarked n) * 8)
 
 -- ---- as the code tests and sets them
 

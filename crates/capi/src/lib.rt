@@ -2,7 +2,7 @@
 ghost use mathlib.Core.Path.{_≡_};
 ghost use Prim.Native.Nat.{_≤_};
 ghost use lib.ListN.{length};
-ghost use Rattle.transfer.specs.Transfer.{numberOf, fresh};
+ghost use Rattle.transfer.specs.Transfer.{fresh};
 ghost use Rattle.layout.specs.Layout.{written};
 ghost use Rattle.capi.specs.Calls.{
   Low,

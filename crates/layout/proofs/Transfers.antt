@@ -1,9 +1,9 @@
 -- A transfer that is written: its 13 bytes, and that it is read back from them. Assumes nothing.
 use Prim.Native.Nat.{ℕ, _+_, _<_, _≤_, _^_}
-use mathlib.Core.Path.{_≡_, refl, sym, ap, _∙_}
+use mathlib.Core.Path.{_≡_, refl, sym, _∙_}
 use mathlib.Core.List.{List, [], _∷_, _++_}
 use native.Mathlib.Omega.{arith}
-use lib.ListN.{length, set, length-set}
+use lib.ListN.{length, set}
 use borrow.Author.Tests.{eq-eqb}
 use Rattle.sets.specs.Over.{over}
 use Rattle.sets.proofs.OverLaws.{length-over, set-over, over-next, over-whole}

@@ -1,14 +1,14 @@
 -- The laws of sets of numbers. Assumes nothing.
 use mathlib.Core.Path.{_≡_, refl, sym, ap, _∙_, fun-ext}
 use mathlib.Core.Logic.{_≢_}
-use mathlib.Core.Bool.{Bool, true, false, _||_, _&&_, or-true, and-false}
+use mathlib.Core.Bool.{Bool, true, false, cond, _||_, _&&_, or-true, and-false}
 use Prim.Native.Nat.{ℕ, zero, suc, _+_, _<_, _≤_}
 use native.Mathlib.Nat.{not-suc-le-zero, suc-add, zero-add}
 use native.Mathlib.Numerals.{add-one}
 use native.Mathlib.Omega.{arith}
 use lib.Dec.{eqb}
 use borrow.Author.Tests.{eqb-true, eqb-false, ne-eqb}
-use Rattle.sets.specs.Sets.{Set, none, add, one, size, Within, any, pick}
+use Rattle.sets.specs.Sets.{Set, none, add, one, size, any}
 use Rattle.sets.proofs.Tests.{split, clash, is-false, eqb-same, or-idle}
 
 pub add-idle : (k : ℕ) (S : Set) → S k ≡ true → add k S ≡ S
@@ -67,9 +67,6 @@ size-some (suc n) S k h e =
     (λ q. let f : S n ≡ true = ap S (sym (eqb-true k n q)) ∙ e in rw f (omega arith))
     (λ q. let d : k ≢ n = eqb-false k n q in omega (arith, size-some n S k (omega arith) e))
 
-pub size-zero : (n : ℕ) (S : Set) (k : ℕ) → size n S ≡ 0 → k < n → S k ≡ false
-size-zero n S k e h = split (S k) (λ y. absurd (omega (arith, size-some n S k h y))) (λ z. z)
-
 pub size-full : (n : ℕ) (S : Set) (k : ℕ) → n ≤ size n S → k < n → S k ≡ true
 size-full n S k e h = split (S k) (λ y. y) (λ z. absurd (omega (arith, size-lt n S k h z)))
 
@@ -77,6 +74,10 @@ pub size-cong : (n : ℕ) (S R : Set) → ((j : ℕ) → j < n → S j ≡ R j) 
 unfolding size
 size-cong zero S R h = refl
 size-cong (suc n) S R h = rw (h n (omega arith), size-cong n S R (λ j l. h j (omega arith)))
+
+-- S has numbers below n alone
+unfoldable pub Within : ℕ → Set → Type 0
+Within n S = (j : ℕ) → S j ≡ true → j < n
 
 -- a set that has none from t on counts the same below any greater number
 pub size-within : (t r : ℕ) (S : Set) → Within t S → size (r + t) S ≡ size t S
@@ -95,11 +96,6 @@ within-none n j e = clash false e refl
 pub within-add : (n k : ℕ) (S : Set) → k < n → Within n S → Within n (add k S)
 unfolding Within
 within-add n k S h wi j e = split (eqb j k) (λ q. omega (arith, eqb-true j k q)) (λ q. wi j (rw q at e))
-
--- such a set with none below n has none
-pub empty : (n : ℕ) (S : Set) → Within n S → size n S ≡ 0 → S ≡ none
-unfolding Within
-empty n S wi e = fun-ext (λ j. split (S j) (λ y. clash (S j) y (size-zero n S j e (wi j y))) (λ z. z))
 
 -- ---- whether one passes
 
@@ -156,6 +152,11 @@ any-add n Q S k h =
         (λ e. rw e)
 
 -- ---- the value of the one that passes
+
+-- the value of the number below n that passes the test, and d where none does
+unfoldable pub pick : ℕ → Set → (ℕ → ℕ) → ℕ → ℕ
+pick zero P v d = d
+pick (suc n) P v d = cond (P n) (v n) (pick n P v d)
 
 module _ (P : Set) (v : ℕ → ℕ) (d : ℕ) where
   pub pick-none : (n : ℕ) → ((j : ℕ) → j < n → P j ≡ false) → pick n P v d ≡ d

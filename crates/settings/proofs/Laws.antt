@@ -6,7 +6,7 @@ use mathlib.Core.Bool.{Bool, true, false, _||_, not, or-true, or-assoc, or-comm}
 use mathlib.Core.List.{List}
 use native.Mathlib.Omega.{arith}
 use lib.Dec.{ltb, leb, eqb}
-use borrow.Author.Tests.{le-leb, lt-leb, le-ltb, lt-ltb, ltb-true, ltb-false, eqb-false, ne-eqb, not-true, not-false}
+use borrow.Author.Tests.{le-leb, lt-leb, le-ltb, lt-ltb, ltb-true, ltb-false, eqb-false, ne-eqb, not-true}
 use Rattle.sets.proofs.Tests.{split, clash, is-false, or-left, or-right}
 use Rattle.sets.specs.Sets.{any}
 use Rattle.sets.proofs.Laws.{any-zero, any-hit, any-none, any-all, any-found}
@@ -155,11 +155,6 @@ module _ (s : Settings) (len : ℕ) (good : goodSettings s len ≡ true) where
   parts : not (enabled s (s .current)) || countOver s || any (s .count) (badEntry (s .table) (s .count) len) ≡ false
   unfolding goodSettings
   parts = not-true _ good
-
-  pub good-enabled : enabled s (s .current) ≡ true
-  good-enabled =
-      not-false _
-      (or-left _ (countOver s) (or-left _ (any (s .count) (badEntry (s .table) (s .count) len)) parts))
 
   pub good-count : s .count ≤ 16
   good-count =

@@ -2,7 +2,6 @@
 use Prim.Native.Nat.{_≤_, _-_, _*_}
 use mathlib.Core.Path.{_≡_, refl, _∙_}
 use mathlib.Core.Bool.{false}
-use native.Mathlib.Omega.{arith}
 use lib.ListN.{length, drop, length-set}
 use Rattle.receiver.specs.Receiver.{world}
 use Rattle.capi.specs.Calls.{arrivalsOf, manyFrom}

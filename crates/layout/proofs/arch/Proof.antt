@@ -1,6 +1,5 @@
 -- `layout::arch` meets its contract. Assumes nothing.
 use borrow.Author.Tests.{eq-eqb, ne-eqb}
-use borrow.Author.Needs.{needs}
 use Rattle.layout.proofs.arch.Statement.{statement}
 use Rattle.layout.proofs.arch.Tie as tie
 

@@ -1,7 +1,6 @@
 -- `layout::link` meets its contract. Assumes nothing.
 use borrow.Author.Tests.{eq-eqb, ne-eqb}
 use Rattle.layout.specs.Layout.{linkFrom}
-use borrow.Author.Needs.{needs}
 use Rattle.layout.proofs.link.Statement.{statement}
 use Rattle.layout.proofs.link.Tie as tie
 

@@ -2,7 +2,6 @@
 use Prim.Native.Nat.{_≤_, _-_}
 use mathlib.Core.Path.{_≡_, ap, _∙_}
 use native.Mathlib.Omega.{arith}
-use lib.ListN.{length}
 use Rattle.layout.specs.Layout.{countFrom, usedOf, settingsOf}
 use Rattle.layout.proofs.Table.{Read, read-none, entry-part, read-more, used-whole, settings-read}
 use borrow.Author.Needs.{needs}

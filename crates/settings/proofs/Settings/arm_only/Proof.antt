@@ -1,9 +1,6 @@
 use borrow.Author.Needs.{needs}
 use Rattle.settings.proofs.Settings.arm_only.Statement.{statement}
 use Rattle.settings.proofs.Settings.arm_only.Tie as tie
-use Rattle.settings.proofs.Settings.arm_only.Reads as reads
-use Rattle.settings.proofs.Settings.arm_only.Lts as lts
-use Rattle.settings.proofs.Entry.blank.Reads as blank-reads
 
 -- src/lib.rt:84:13
 blank-requires : tie.Need-blank-requires
