@@ -13,7 +13,7 @@ use Rattle.grammar.specs.declared.Stand.the-variants.{Between, Opened, Inside, 
 use Rattle.unihex.specs.declared.Read.{Read}
 use Rattle.unihex.specs.declared.Reader.{Reader}
 use Rattle.unihex.specs.Reader.{badReader}
-use Rattle.unihex.specs.Line.{Outcome, outcome, badImage, standLine, lineOf}
+use Rattle.unihex.specs.Line.{Outcome, outcome, badImage, haltLine, lineOf}
 use Rattle.hexfile.proofs.Lined.{Lined, bad, past, again, failed, out, stored, passed, ended}
 use Rattle.hexfile.proofs.Lined as every
 use Rattle.readers.specs.Readers.{readerFrom}
@@ -43,7 +43,7 @@ module _ (r : Reader) (l img : List ℕ) where
 
   -- by any answer to a failed one
   failed-same : (f : Failure) → r .stand ≡ Failed f → lineOf r l img .reader ≡ r
-  unfolding lineOf standLine
+  unfolding lineOf haltLine
   failed-same f q =
       split (badImage (length img)) (λ y. rw y) (λ z. split (badReader r) (λ y. rw (z, y)) (λ n. rw (z, n, q)))
 

@@ -25,7 +25,7 @@ use Rattle.grammar.specs.declared.Stand.the-variants.{Between, Inside, Ended}
 use Rattle.unihex.specs.declared.Reader.{Reader}
 use Rattle.unihex.specs.declared.Step.the-variants.{Stores}
 use Rattle.unihex.specs.Reader.{badFailure, badReader, standing, withData, movedTo, givenOf, stepOf}
-use Rattle.unihex.specs.Line.{Outcome, outcome, failedBy, failing, wordOf, addressOf, storing, stepped, takenOf, parsedLine, liveLine, standLine, badImage, lineOf}
+use Rattle.unihex.specs.Line.{Outcome, outcome, failedBy, failing, wordOf, addressOf, storing, stepped, takenOf, parsedLine, liveLine, haltOf, haltLine, badImage, lineOf}
 use Rattle.hexfile.specs.Facts.{Only-33-stores, Length-kept, Ready, Bad-changes-nothing, Bad-exactly, Failed-repeats, After-end, Failures-fail, isTaken, moveOf, Offset-moves, Own-kept, Stays-good, End-ends, End-or-missing, OwnData, StoredIn, Stores-own-data, Own-data-is-stored, Elsewhere-unchanged, Other-board-unchanged}
 use Rattle.record.proofs.Good.{good-len, length-data}
 use Rattle.hexfile.proofs.Lined.{Onward, Lined, bad, past, again, failed, out, stored, passed, ended, good-stand, lined, 04-no-data}
@@ -245,11 +245,11 @@ bad-exactly r l img = (
 )
 
 pub failed-repeats : Failed-repeats
-unfolding Failed-repeats lineOf standLine
+unfolding Failed-repeats lineOf haltLine
 failed-repeats r l img f y e = rw (y .image, y .reader, e)
 
 pub after-end : After-end
-unfolding After-end lineOf standLine
+unfolding After-end lineOf haltLine
 after-end r l img y e = rw (y .image, y .reader, e)
 
 pub failures-fail : Failures-fail
@@ -296,13 +296,13 @@ live-good r l img rec m p = rw (le-ltb 4194304 (r .offset + length l) m, p)
 
 -- at a stand s that reads on
 good-line : (r : Reader) (l img : List ℕ) (rec : Record) (s : Stand) → Ready r img → r .offset + length l ≤ 4194304 → readOf l .parsed ≡ Good rec
-    → r .stand ≡ s → standLine r l img s ≡ liveLine r l img
+    → r .stand ≡ s → haltLine r l img (haltOf s) ≡ liveLine r l img
     → lineOf r l img
     ≡ stepped r rec (readOf l .«data») (r .offset + length l) img (stepOf r (roleOf s (rec .kind) (rec .len)) (rec .address) (rec .len) (wordOf (readOf l .«data»)))
 unfolding lineOf takenOf
 good-line r l img rec s y m p e live =
     rw (y .image, y .reader)
-    (ap (standLine r l img) e ∙ live ∙ live-good r l img rec m p
+    (ap (λ (s : Stand). haltLine r l img (haltOf s)) e ∙ live ∙ live-good r l img rec m p
     ∙ ap (λ (s : Stand). stepped r rec (readOf l .«data») (r .offset + length l) img (stepOf r (roleOf s (rec .kind) (rec .len)) (rec .address) (rec .len) (wordOf (readOf l .«data»)))) e)
 
 own-step : {r : Reader} {l img : List ℕ} (rec : Record) → OwnData r l img rec
@@ -319,12 +319,12 @@ pub own-data-is-stored : Own-data-is-stored
 unfolding Own-data-is-stored
 own-data-is-stored r l img rec y m d =
     ap (λ (o : Outcome). o .answer)
-    (good-line r l img rec (Inside (r .own)) y m (d .says) (d .section) (unfold standLine in refl)
+    (good-line r l img rec (Inside (r .own)) y m (d .says) (d .section) (unfold haltLine in refl)
     ∙ ap (stepped r rec (readOf l .«data») (r .offset + length l) img) (own-step rec d))
     ∙ unfold stepped storing withData in rw (le-ltb (length img) (addressOf r rec + rec .len) (d .fits))
 
 pub end-or-missing : End-or-missing
 unfolding End-or-missing
 end-or-missing r l img rec y m p s k n =
-    ap (λ (o : Outcome). o .answer) (good-line r l img rec Between y m p s (unfold standLine in refl))
+    ap (λ (o : Outcome). o .answer) (good-line r l img rec Between y m p s (unfold haltLine in refl))
     ∙ unfold stepped roleOf stepOf in rw (k, n) (split (bothBoards (r .gave)) (λ b. rw b) (λ b. rw b))

@@ -28,7 +28,7 @@ use Rattle.unihex.specs.declared.Reader.{Reader}
 use Rattle.unihex.specs.declared.Step.{Step}
 use Rattle.unihex.specs.declared.Step.the-variants.{Fails, Passes, Stores, Ends}
 use Rattle.unihex.specs.Reader.{badFailure, badReader, standing, withUpper, withSection, withData, movedTo, givenOf, stepOf}
-use Rattle.unihex.specs.Line.{Outcome, outcome, failing, wordOf, addressOf, outside, storing, stepped, takenOf, parsedLine, liveLine, standLine, badImage, lineOf}
+use Rattle.unihex.specs.Line.{Outcome, outcome, failing, wordOf, addressOf, outside, storing, stepped, takenOf, parsedLine, liveLine, haltOf, haltLine, badImage, lineOf}
 use Rattle.hexfile.specs.Facts.{Ready, OwnData}
 use Rattle.hexfile.specs.Lines.{isInside, saysData}
 
@@ -254,8 +254,8 @@ module _ (r : Reader) (l img : List ℕ) where
       (λ y. rw y (failed answer.FileTooLong refl))
       (λ z. rw z (parsed-lined (readOf l .parsed) refl (ltb-false 4194304 (endOf r l) z)))
 
-  stand-lined : (s : Stand) → r .stand ≡ s → badFailure s ≡ false → Lined r l img (standLine r l img s)
-  unfolding standLine badFailure
+  stand-lined : (s : Stand) → r .stand ≡ s → badFailure s ≡ false → Lined r l img (haltLine r l img (haltOf s))
+  unfolding haltLine badFailure
   stand-lined Between e n = live-lined
   stand-lined Opened e n = live-lined
   stand-lined (Inside b) e n = live-lined

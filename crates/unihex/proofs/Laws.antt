@@ -1,15 +1,21 @@
 -- Laws of a good record, one for each way that the code leaves. Assumes nothing.
 use Prim.Native.Nat.{ℕ, _+_, _%_, _≤_, _<_}
-use mathlib.Core.Path.{_≡_, ap, sym, _∙_}
+use mathlib.Core.Path.{_≡_, refl, ap, sym, _∙_}
+use mathlib.Core.Logic.{⊎-elim}
+use types.Run.{OneOf}
+use denote.Enum.Declared.{tagOf}
+use native.Mathlib.Omega.{arith}
 use mathlib.Core.Bool.{Bool, true, false, _||_, not}
-use mathlib.Core.List.{List}
+use mathlib.Core.List.{List, [], _∷_}
 use lib.ListN.{length, take}
 use lib.Dec.{ltb}
 use borrow.Author.Tests.{ltb-false, lt-ltb, le-ltb, eq-eqb}
 use Rattle.sets.specs.Over.{over}
 use Rattle.sets.proofs.Tests.{or-left, or-right}
 use Rattle.record.specs.declared.Record.{Record}
+use Rattle.record.proofs.Parsed.{the-type}
 use Rattle.record.specs.declared.Parsed.{Parsed}
+use Rattle.record.specs.declared.Parsed.the-variants as parsed
 use Rattle.record.specs.declared.Line.{Line}
 use Rattle.record.specs.Record.{readOf}
 use Rattle.grammar.specs.Grammar.{roleOf}
@@ -17,16 +23,16 @@ use Rattle.grammar.specs.Boards.{isV1, isV2, hasBoard, bothBoards}
 use Rattle.grammar.specs.declared.Answer.{Answer}
 use Rattle.grammar.specs.declared.Answer.the-variants as answer
 use Rattle.grammar.specs.declared.Answer.the-variants.{BadReader, BadImage, Repeated, MissingBoard, Outside, Stored, Passed, FileTooLong}
-use Rattle.grammar.specs.declared.Stand.{Stand}
 use Rattle.grammar.specs.declared.Stand.the-variants.{Opened, Inside, Ended}
 use Rattle.grammar.specs.declared.Role.{Role}
 use Rattle.grammar.specs.declared.Role.the-variants.{Opening, Naming, Ending}
 use Rattle.unihex.specs.declared.Reader.{Reader}
+use Rattle.unihex.specs.declared.Halt.{Halt}
 use Rattle.unihex.specs.declared.Read.{Read}
 use Rattle.unihex.specs.declared.Step.{Step}
 use Rattle.unihex.specs.declared.Step.the-variants.{Fails, Passes, Stores, Ends}
 use Rattle.unihex.specs.Reader.{badFailure, badReader, standing, withUpper, withSection, movedTo, stepOf}
-use Rattle.unihex.specs.Line.{Outcome, outcome, read, failedBy, failing, addressOf, wordOf, storing, stepped, takenOf, parsedLine, liveLine, standLine, badImage, lineOf}
+use Rattle.unihex.specs.Line.{Outcome, outcome, read, failedBy, failing, addressOf, wordOf, storing, stepped, takenOf, refusalOf, parsedLine, liveLine, haltOf, haltLine, badImage, lineOf}
 
 pub opening-passes : (r q s : Reader) (w : ℕ) → r .offset % 512 ≡ 0 → q ≡ withUpper r w → s ≡ standing q Opened → Passes s ≡ stepOf r Opening 0 0 w
 unfolding stepOf
@@ -93,6 +99,21 @@ taken-by r rec d e img role word s t o a b k f g =
 pub line-fails : (r : Reader) (img : List ℕ) (a : Answer) (x : Read) → x ≡ read (failedBy a r) a → outcome (x .reader) (x .answer) img ≡ failing r a img
 line-fails r img a x h = ap (λ (y : Read). outcome (y .reader) (y .answer) img) h
 
+parsed-refused : (r : Reader) (d : List ℕ) (e : ℕ) (img : List ℕ) (p : Parsed) → OneOf (1 ∷ 2 ∷ 3 ∷ 4 ∷ 5 ∷ 6 ∷ []) (tagOf the-type p)
+    → failing r (refusalOf p) img ≡ parsedLine r d e img p
+unfolding parsedLine
+parsed-refused r d e img (parsed.Good rec) t =
+    absurd
+    (⊎-elim (λ x. omega arith)
+    (⊎-elim (λ x. omega arith) (⊎-elim (λ x. omega arith) (⊎-elim (λ x. omega arith) (⊎-elim (λ x. omega arith) (λ x. omega arith)))))
+    t)
+parsed-refused r d e img parsed.NoColon t = refl
+parsed-refused r d e img parsed.BadShape t = refl
+parsed-refused r d e img parsed.BadDigit t = refl
+parsed-refused r d e img parsed.TooLong t = refl
+parsed-refused r d e img parsed.BadLength t = refl
+parsed-refused r d e img parsed.BadSum t = refl
+
 pub live-too-long : (r : Reader) (l img : List ℕ) (o : Outcome) → 4194304 < r .offset + length l → o ≡ failing r FileTooLong img → o ≡ liveLine r l img
 unfolding liveLine
 live-too-long r l img o p h = simp (lt-ltb _ _ p) h
@@ -105,6 +126,13 @@ live-by r l img x p o q h k f =
     (f
     ∙ ap (parsedLine r (x .«data») (r .offset + length l) img) (sym k)
     ∙ ap (λ (y : Line). parsedLine r (y .«data») (r .offset + length l) img (y .parsed)) h)
+
+-- what is read is no record, by its tag
+pub live-refused : (r : Reader) (l img : List ℕ) (x : Line) (a : Answer) (o : Outcome) → r .offset + length l ≤ 4194304 → x ≡ readOf l
+    → OneOf (1 ∷ 2 ∷ 3 ∷ 4 ∷ 5 ∷ 6 ∷ []) (tagOf the-type (x .parsed)) → a ≡ refusalOf (x .parsed) → o ≡ failing r a img → o ≡ liveLine r l img
+live-refused r l img x a o q h t k f =
+    live-by r l img x (x .parsed) o q h refl
+    (f ∙ ap (λ (y : Answer). failing r y img) k ∙ parsed-refused r (x .«data») (r .offset + length l) img (x .parsed) t)
 
 -- ---- any line
 
@@ -123,7 +151,7 @@ pub bad-reader : (r : Reader) (l img : List ℕ) (b : Bool) → badImage (length
 unfolding lineOf
 bad-reader r l img b g e h = simp (g, sym e ∙ h)
 
-pub line-by : (r : Reader) (l img : List ℕ) (b : Bool) (s : Stand) (o : Outcome) → badImage (length img) ≡ false → b ≡ badReader r → b ≡ false → r .stand ≡ s
-    → o ≡ standLine r l img s → o ≡ lineOf r l img
+pub line-by : (r : Reader) (l img : List ℕ) (b : Bool) (x y : Halt) (o : Outcome) → badImage (length img) ≡ false → b ≡ badReader r → b ≡ false
+    → x ≡ haltOf (r .stand) → x ≡ y → o ≡ haltLine r l img y → o ≡ lineOf r l img
 unfolding lineOf
-line-by r l img b s o g e h k f = simp (g, sym e ∙ h) (f ∙ ap (standLine r l img) (sym k))
+line-by r l img b x y o g e h k q f = simp (g, sym e ∙ h) (f ∙ ap (haltLine r l img) (sym q ∙ k))

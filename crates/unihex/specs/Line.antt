@@ -15,6 +15,8 @@ use Rattle.grammar.specs.declared.Answer.the-variants as answer
 use Rattle.grammar.specs.declared.Stand.{Stand}
 use Rattle.grammar.specs.declared.Stand.the-variants.{Between, Opened, Inside, Padded, Ended, Failed}
 use Rattle.unihex.specs.declared.Reader.{Reader}
+use Rattle.unihex.specs.declared.Halt.{Halt}
+use Rattle.unihex.specs.declared.Halt.the-variants.{No, By}
 use Rattle.unihex.specs.declared.Read.{Read}
 use Rattle.unihex.specs.declared.Step.{Step}
 use Rattle.unihex.specs.declared.Step.the-variants.{Fails, Passes, Stores, Ends}
@@ -73,6 +75,16 @@ takenOf r rec d e img =
 
 -- ---- a line
 
+-- the answers of rows 20 to 25; a good record gets none of them, and nothing asks for its
+abbrev pub refusalOf : Parsed → Answer
+refusalOf parsed.NoColon = answer.NoColon
+refusalOf parsed.BadShape = answer.BadShape
+refusalOf parsed.BadDigit = answer.BadDigit
+refusalOf parsed.TooLong = answer.TooLong
+refusalOf parsed.BadLength = answer.BadLength
+refusalOf parsed.BadSum = answer.BadSum
+refusalOf (parsed.Good rec) = answer.NoColon
+
 -- rows 20 to 25, then the record
 unfoldable pub parsedLine : Reader → List ℕ → ℕ → List ℕ → Parsed → Outcome
 parsedLine r d e img (parsed.Good rec) = takenOf r rec d e img
@@ -90,13 +102,17 @@ liveLine r l img =
     (parsedLine r (readOf l .«data») (r .offset + length l) img (readOf l .parsed))
 
 -- "A failed reader repeats its number and changes nothing. After the end: 31 AfterEnd, nothing changes."
-unfoldable pub standLine : Reader → List ℕ → List ℕ → Stand → Outcome
-standLine r l img Between = liveLine r l img
-standLine r l img Opened = liveLine r l img
-standLine r l img (Inside b) = liveLine r l img
-standLine r l img (Padded b) = liveLine r l img
-standLine r l img Ended = outcome r answer.AfterEnd img
-standLine r l img (Failed f) = outcome r (f .answer) img
+abbrev pub haltOf : Stand → Halt
+haltOf Between = No
+haltOf Opened = No
+haltOf (Inside b) = No
+haltOf (Padded b) = No
+haltOf Ended = By answer.AfterEnd
+haltOf (Failed f) = By (f .answer)
+
+unfoldable pub haltLine : Reader → List ℕ → List ℕ → Halt → Outcome
+haltLine r l img No = liveLine r l img
+haltLine r l img (By a) = outcome r a img
 
 -- row 19: a board image has "1 to 1,048,576 bytes"
 abbrev pub badImage : ℕ → Bool
@@ -106,4 +122,4 @@ badImage n = ltb n 1 || ltb 1048576 n
 unfoldable pub lineOf : Reader → List ℕ → List ℕ → Outcome
 lineOf r l img =
     cond (badImage (length img)) (outcome r answer.BadImage img)
-    (cond (badReader r) (outcome r answer.BadReader img) (standLine r l img (r .stand)))
+    (cond (badReader r) (outcome r answer.BadReader img) (haltLine r l img (haltOf (r .stand))))

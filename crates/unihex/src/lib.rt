@@ -16,7 +16,7 @@ ghost use Rattle.unihex.specs.Reader.{
   givenOf,
   stepOf,
 };
-ghost use Rattle.unihex.specs.Line.{outcome, read, failedBy, storing, takenOf, liveLine, lineOf};
+ghost use Rattle.unihex.specs.Line.{outcome, read, failedBy, storing, takenOf, refusalOf, liveLine, haltOf, lineOf};
 use grammar::Answer;
 use grammar::Boards;
 use grammar::Failure;
@@ -48,6 +48,12 @@ pub enum Step {
     Passes(Reader),
     Stores(Reader),
     Ends(Reader),
+}
+
+// Whether a reader reads on, by where it stands: a failed one repeats its answer, and after the end there is one.
+enum Halt {
+    No,
+    By(Answer),
 }
 
 impl Reader {
@@ -267,15 +273,10 @@ impl Reader {
         let end = (offset + line.len()) as u32;
         let read = record::read(line);
         let parsed = read.parsed;
-        match parsed {
-            Parsed::NoColon => self.failing(Answer::NoColon),
-            Parsed::BadShape => self.failing(Answer::BadShape),
-            Parsed::BadDigit => self.failing(Answer::BadDigit),
-            Parsed::TooLong => self.failing(Answer::TooLong),
-            Parsed::BadLength => self.failing(Answer::BadLength),
-            Parsed::BadSum => self.failing(Answer::BadSum),
-            Parsed::Good(rec) => self.take(rec, &read.data, end, image),
-        }
+        let Parsed::Good(rec) = parsed else {
+            return self.failing(refusal(parsed));
+        };
+        self.take(rec, &read.data, end, image)
     }
 
     // Reads one line as it is handed, its ending included.
@@ -295,22 +296,12 @@ impl Reader {
             };
         }
         let stand = self.stand;
-        match stand {
-            Stand::Between => self.live(line, image),
-            Stand::Opened => self.live(line, image),
-            Stand::Inside(_) => self.live(line, image),
-            Stand::Padded(_) => self.live(line, image),
-            Stand::Ended => Read {
+        match halted(stand) {
+            Halt::No => self.live(line, image),
+            Halt::By(answer) => Read {
                 reader: self,
-                answer: Answer::AfterEnd,
+                answer,
             },
-            Stand::Failed(failure) => {
-                let answer = failure.answer;
-                Read {
-                    reader: self,
-                    answer,
-                }
-            }
         }
     }
 }
@@ -323,6 +314,37 @@ fn lay(bytes: &[u8], n: usize, at: usize, image: &mut [u8])
 {
     let e = at + n;
     bytes::copy(&bytes[..n], &mut image[at..e]);
+}
+
+// The answer of a line's text that is refused.
+fn refusal(parsed: Parsed) -> Answer
+    ensures { λ r. ⌜ r ≡ refusalOf parsed ⌝ }
+{
+    match parsed {
+        Parsed::Good(_) => Answer::NoColon,
+        Parsed::NoColon => Answer::NoColon,
+        Parsed::BadShape => Answer::BadShape,
+        Parsed::BadDigit => Answer::BadDigit,
+        Parsed::TooLong => Answer::TooLong,
+        Parsed::BadLength => Answer::BadLength,
+        Parsed::BadSum => Answer::BadSum,
+    }
+}
+
+fn halted(stand: Stand) -> Halt
+    ensures { λ r. ⌜ r ≡ haltOf stand ⌝ }
+{
+    match stand {
+        Stand::Between => Halt::No,
+        Stand::Opened => Halt::No,
+        Stand::Inside(_) => Halt::No,
+        Stand::Padded(_) => Halt::No,
+        Stand::Ended => Halt::By(Answer::AfterEnd),
+        Stand::Failed(failure) => {
+            let answer = failure.answer;
+            Halt::By(answer)
+        }
+    }
 }
 
 // A remembered failure that cannot be.
