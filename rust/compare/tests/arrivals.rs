@@ -146,6 +146,36 @@ fn shuffled_files_agree() {
     }
 }
 
+/// Two files that differ in family or total, their blocks in turn: each discards what the other began, until one is left alone and whole.
+#[test]
+fn two_files_in_turn_agree() {
+    let mut r = Random(8);
+    for _ in 0..400 {
+        let n = 2 + r.below(40) as u32;
+        let other = r.of(&[(reference::ARM_S, n + 1), (reference::DATA, n)]);
+        let files = [(reference::ARM_S, n), other];
+        let mut pair = Pair::new(arm_only(), Transfer::Idle, any_buffers(&mut r, 8));
+        for i in 0..2 * n {
+            let (family, total) = files[i as usize % 2];
+            let block = page(family, total, r.below(u64::from(total)) as u32);
+            assert_eq!(pair.take(&block), 14, "the first of its file again");
+            let Transfer::Running { count, .. } = pair.transfer else {
+                panic!("no file is whole");
+            };
+            assert_eq!(count, 1);
+        }
+        let (family, total) = files[r.below(2) as usize];
+        let mut order: Vec<u32> = (0..total).collect();
+        r.shuffle(&mut order);
+        let last: Vec<u8> = order
+            .iter()
+            .map(|&k| pair.take(&page(family, total, k)))
+            .collect();
+        assert!(last.contains(&15));
+        assert_eq!(pair.transfer, Transfer::Done { family, total });
+    }
+}
+
 /// Arrivals handed over at once are received as one by one.
 #[test]
 fn all_at_once_agrees() {
