@@ -32,14 +32,15 @@ pub struct Entry {
     pub link: Link,
 }
 
+// The table stands first, so that nothing unused stands before it and settings are copied as one piece.
 pub struct Settings {
+    pub table: [Entry; Settings::ENTRIES],
     pub arm: bool,
     pub riscv: bool,
     pub current: Arch,
     pub auto_switch: bool,
     pub absolute: bool,
     pub count: u8,
-    pub table: [Entry; Settings::ENTRIES],
 }
 
 impl Entry {

@@ -11,7 +11,9 @@ use compare::{page, proved_settings, Random};
 use reference::{Arch, Entry, Link, Settings};
 
 const FLASH: usize = 33_554_432;
-const ROUNDS: usize = 15;
+/// The rounds of a whole file, and those of 30,000 calls, which are shorter.
+const FILES: usize = 15;
+const CALLS: usize = 100;
 
 fn settings(count: u8, table: [Entry; 16]) -> Settings {
     Settings {
@@ -92,8 +94,9 @@ fn timed(work: impl FnOnce() -> u64) -> (f64, u64) {
     (start.elapsed().as_nanos() as f64, sum)
 }
 
-/// How many calls a round has, and how many bytes go through them.
+/// How many rounds there are, how many calls a round has, and how many bytes go through them.
 struct Work {
+    rounds: usize,
     calls: usize,
     bytes: Option<usize>,
 }
@@ -116,7 +119,7 @@ fn pair(
     mut plain: impl FnMut() -> (f64, u64),
 ) {
     let (mut a, mut b) = (f64::MAX, f64::MAX);
-    for _ in 0..ROUNDS {
+    for _ in 0..work.rounds {
         let (time, x) = ours();
         a = a.min(time);
         let (time, y) = plain();
@@ -131,10 +134,13 @@ fn places(name: &str, s: &Settings) {
     let p = proved_settings(s).bytes();
     let families = [reference::ARM_S, 18, 99];
     let calls = 30_000;
-    let bytes = None;
     pair(
         name,
-        Work { calls, bytes },
+        Work {
+            rounds: CALLS,
+            calls,
+            bytes: None,
+        },
         || {
             let ask = |i: usize| {
                 let mut place = [0; 8];
@@ -198,6 +204,7 @@ fn file(name: &str, s: &Settings, sent: Sent, at_once: bool) {
     pair(
         name,
         Work {
+            rounds: FILES,
             calls: blocks as usize,
             bytes: Some(file.len()),
         },
