@@ -199,10 +199,11 @@ pub fn find(settings: Settings, flash_len: usize, family: u32) -> Place
         return whole_if(taken_whole(settings.arm, settings.riscv, family), flash_len);
     }
     let w = want(settings, family);
-    match choose(settings.table, used_count(count), w) {
+    let table = settings.table;
+    match choose(table, used_count(count), w) {
         Choice::Nothing => Place::Nowhere,
         Choice::Entry(k) => {
-            let e = settings.table[k];
+            let e = table[k];
             bytes_of(e)
         }
     }

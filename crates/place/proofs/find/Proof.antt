@@ -38,7 +38,7 @@ used-count-requires : tie.Need-used-count-requires
 used-count-requires c κs = search needs
 
 choose-requires : tie.Need-choose-requires
-choose-requires c κs = omega (arith, c .used-count .ensures, used-most (c .before .before .before .before .before .before .args .t1 .count))
+choose-requires c κs = omega (arith, c .used-count .ensures, used-most (c .before .before .before .before .before .before .args .settings .count))
 
 enum-told : tie.Need-enum-told
 enum-told c = search needs
@@ -50,16 +50,16 @@ mul-e : tie.Need-mul-e
 mul-e c =
     let d = c .before .before .before in
     let x = d .before .before .before .before .before .before .before .args in
-    let h = chosen-is (x .t1) (x .family) _ _ (d .choose .ensures) (d .before .used-count .ensures) (d .before .before .before .want .ensures) in
-    let l = entry-below (x .t1) (x .family) (sym h ∙ c .before .k .given .1) in
+    let h = chosen-is (x .settings) (x .family) _ _ (d .choose .ensures) (d .before .used-count .ensures) (d .before .before .before .want .ensures) in
+    let l = entry-below (x .settings) (x .family) (sym h ∙ c .before .k .given .1) in
     omega arith
 
-element-copy-out-e : tie.Need-element-copy-out-e
-element-copy-out-e c =
+array-copy-out-e : tie.Need-array-copy-out-e
+array-copy-out-e c =
     let d = c .before .before .before in
     let x = d .before .before .before .before .before .before .before .args in
-    let h = chosen-is (x .t1) (x .family) _ _ (d .choose .ensures) (d .before .used-count .ensures) (d .before .before .before .want .ensures) in
-    let l = entry-below (x .t1) (x .family) (sym h ∙ c .before .k .given .1) in
+    let h = chosen-is (x .settings) (x .family) _ _ (d .choose .ensures) (d .before .used-count .ensures) (d .before .before .before .want .ensures) in
+    let l = entry-below (x .settings) (x .family) (sym h ∙ c .before .k .given .1) in
     omega arith
 
 bytes-of-requires : tie.Need-bytes-of-requires
@@ -69,16 +69,16 @@ returns-4 : tie.Need-returns-4
 returns-4 c =
     let d = c .before .before in
     let x = d .before .before .before .before .before .before .before .args in
-    let h = chosen-is (x .t1) (x .family) _ _ (d .choose .ensures) (d .before .used-count .ensures) (d .before .before .before .want .ensures) in
-    let e = ap (placeOfChoice (x .t1 .table)) (sym h ∙ c .enum-told .given .1) in
+    let h = chosen-is (x .settings) (x .family) _ _ (d .choose .ensures) (d .before .used-count .ensures) (d .before .before .before .want .ensures) in
+    let e = ap (placeOfChoice (x .settings .table)) (sym h ∙ c .enum-told .given .1) in
     (sym (place-table _ _ _ (d .before .before .before .before .before .before .if1 .left) (d .before .before .before .before .before .if2 .left) (d .before .before .before .before .if3 .left) ∙ e), tt)
 
 returns-5 : tie.Need-returns-5
 returns-5 c =
     let d = c .before .before .before .before .before in
     let x = d .before .before .before .before .before .before .before .args in
-    let h = chosen-is (x .t1) (x .family) _ _ (d .choose .ensures) (d .before .used-count .ensures) (d .before .before .before .want .ensures) in
-    let e = ap (placeOfChoice (x .t1 .table)) (sym h ∙ c .before .before .before .k .given .1) in
+    let h = chosen-is (x .settings) (x .family) _ _ (d .choose .ensures) (d .before .used-count .ensures) (d .before .before .before .want .ensures) in
+    let e = ap (placeOfChoice (x .settings .table)) (sym h ∙ c .before .before .before .k .given .1) in
     (c .bytes-of .ensures .0 ∙ sym (place-table _ _ _ (d .before .before .before .before .before .before .if1 .left) (d .before .before .before .before .before .if2 .left) (d .before .before .before .before .if3 .left) ∙ e), c .bytes-of .ensures .1)
 
 pub find-spec : {M : Type 1} → statement M
@@ -97,7 +97,7 @@ find-spec =
     enum-told
     enum-known-k
     mul-e
-    element-copy-out-e
+    array-copy-out-e
     bytes-of-requires
     returns-4
     returns-5)
