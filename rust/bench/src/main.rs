@@ -1,6 +1,6 @@
 //! Times the proved receiver and the plain Rust reference in one run, on the same inputs. Both get the settings as bytes. Where a place is
-//! asked for, both read them at each call; where a file is received, the plain side reads them once, and the proved side once
-//! (`uf2_receive_all`) or, one call an arrival (`uf2_receive`), each time.
+//! asked for, both read them at each call; where a file is received, both read them once (`uf2_receive_all`), or the proved side at each
+//! arrival (`uf2_receive`) and the plain side at each or once.
 
 mod hex;
 
@@ -183,7 +183,18 @@ impl Lent {
     }
 }
 
-fn file(name: &str, s: &Settings, sent: Sent, at_once: bool) {
+/// How often the settings' bytes are read in a file.
+#[derive(Clone, Copy, PartialEq)]
+enum Reads {
+    /// Once by both, in one call.
+    Once,
+    /// At each arrival by both.
+    Each,
+    /// At each arrival by ours, once by the plain side.
+    EachByOurs,
+}
+
+fn file(name: &str, s: &Settings, sent: Sent, reads: Reads) {
     let p = proved_settings(s).bytes();
     let blocks = sent.blocks;
     let mut order: Vec<u32> = (0..blocks).collect();
@@ -212,7 +223,7 @@ fn file(name: &str, s: &Settings, sent: Sent, at_once: bool) {
             let Lent(flash, seen, sectors) = ours.cleared();
             let mut t = proved::Transfer::Idle.bytes();
             timed(|| {
-                if at_once {
+                if reads == Reads::Once {
                     proved::bytes::receive_all(
                         &p,
                         &mut t,
@@ -234,8 +245,11 @@ fn file(name: &str, s: &Settings, sent: Sent, at_once: bool) {
             let Lent(flash, seen, sectors) = theirs.cleared();
             let mut t = reference::Transfer::Idle;
             timed(|| {
-                let s = read(black_box(&p));
+                let mut s = read(black_box(&p));
                 for (a, r) in file.chunks_exact(512).zip(&mut plain) {
+                    if reads == Reads::Each {
+                        s = read(black_box(&p));
+                    }
                     let o = reference::receive(&s, t, a, flash, seen, sectors);
                     t = o.transfer;
                     *r = o.answer + 128 * u8::from(o.discarded);
@@ -262,11 +276,15 @@ fn main() {
         };
         let checks =
             format!("settings, header and place of an arrival that row 9 refuses, {table}");
-        file(&checks, s, sent(false, true), true);
-        for (how, at_once) in [("all in one call", true), ("one call each", false)] {
+        file(&checks, s, sent(false, true), Reads::Once);
+        for (how, reads) in [
+            ("all in one call", Reads::Once),
+            ("one call each", Reads::Each),
+            ("one call each, plain settings read once", Reads::EachByOurs),
+        ] {
             for (order, shuffled) in [("in order", false), ("shuffled", true)] {
                 let name = format!("an arrival of {blocks} {order}, {table}, {how}");
-                file(&name, s, sent(shuffled, false), at_once);
+                file(&name, s, sent(shuffled, false), reads);
             }
         }
     }
