@@ -12,7 +12,7 @@ use Rattle.bitmap.specs.Bitmap.{markedIn}
 use Rattle.flash.specs.Flash.{flashLength}
 use Rattle.settings.specs.declared.Settings.{Settings}
 use Rattle.settings.specs.Settings.{goodSettings}
-use Rattle.transfer.specs.Transfer.{numberOf, goodState, sameHead, counted, raised, taken, stepOf}
+use Rattle.transfer.specs.Transfer.{numberOf, countOf, goodState, sameHead, counted, raised, taken, stepOf}
 use Rattle.transfer.specs.declared.Head.{Head}
 use Rattle.transfer.specs.declared.Run.{Run}
 use Rattle.transfer.specs.declared.State.{State}
@@ -27,7 +27,7 @@ use Rattle.screen.specs.declared.Page.{Page}
 use Rattle.screen.specs.declared.Screened.{Screened}
 use Rattle.screen.specs.declared.Screened.the-variants.{Refused, Passed}
 use Rattle.arrival.specs.Arrive.{World, Decision, stays, takes, rightLengths, stepped, looked, decide}
-use Rattle.arrival.specs.Tally.{clears, countOf}
+use Rattle.arrival.specs.Tally.{clears}
 use Rattle.arrival.proofs.Heads.{head-same}
 use Rattle.arrival.proofs.Screened.{Passing, Good, screen-good}
 

@@ -8,7 +8,7 @@ use lib.ListN.{length}
 use Rattle.flash.specs.Flash.{flashLength, payloadOf}
 use Rattle.settings.specs.declared.Settings.{Settings}
 use Rattle.settings.specs.Settings.{goodSettings}
-use Rattle.transfer.specs.Transfer.{goodState, taken}
+use Rattle.transfer.specs.Transfer.{countOf, goodState, taken}
 use Rattle.transfer.specs.declared.Head.{Head}
 use Rattle.transfer.specs.declared.Answer.{Answer}
 use Rattle.screen.specs.Screen.{screenOf}
@@ -17,7 +17,7 @@ use Rattle.screen.specs.declared.Screened.the-variants.{Refused, Passed}
 use Rattle.arrival.specs.Arrive.{World, Decision, looked, tookOf, done, receiveOf}
 use Rattle.arrival.specs.Facts.{Arrivals-keep-lengths}
 use Rattle.arrival.specs.Lists.{receiveAll, answersOf}
-use Rattle.arrival.specs.Tally.{clears, countOf}
+use Rattle.arrival.specs.Tally.{clears}
 use Rattle.arrival.proofs.Items.{Item, brought, arrive, run, answers}
 use Rattle.arrival.proofs.Screened.{passing-few}
 use Rattle.arrival.proofs.Decided.{flashOf, Board, board-decides, Decided, kept, took, decided, counted-good}

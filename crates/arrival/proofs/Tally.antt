@@ -15,14 +15,14 @@ use Rattle.bitmap.proofs.MapLaws.{map-none, marked-map, mark-map, marks-map}
 use Rattle.block.specs.Block.{fieldAt}
 use Rattle.flash.specs.Flash.{payloadOf}
 use Rattle.settings.specs.declared.Settings.{Settings}
-use Rattle.transfer.specs.Transfer.{numberOf, counted, taken}
+use Rattle.transfer.specs.Transfer.{numberOf, countOf, counted, taken}
 use Rattle.transfer.specs.declared.Head.{Head}
 use Rattle.transfer.specs.declared.State.{State}
 use Rattle.transfer.specs.declared.State.the-variants.{Idle, Running, Done}
 use Rattle.transfer.specs.declared.Taken.{Taken}
 use Rattle.arrival.specs.Arrive.{World, Outcome, Decision, clearedIf, tookOf, done, receiveOf}
 use Rattle.arrival.specs.Lists.{receiveAll}
-use Rattle.arrival.specs.Tally.{isAccepted, headOf, clears, acceptedBy, acceptedOf, anyAccepted, countOf, Count-is-marks}
+use Rattle.arrival.specs.Tally.{isAccepted, headOf, clears, acceptedBy, acceptedOf, anyAccepted, Count-is-marks}
 use Rattle.arrival.proofs.Screened.{passing-few}
 use Rattle.arrival.proofs.Decided.{flashOf, Took, took-number, Decided, kept, took, decided}
 

@@ -39,6 +39,7 @@ pub record Outcome : Type 0 where
 
 -- ---- what decides: settings, lengths, transfer, seen map and arrival; no flash byte and no sector map
 
+-- what an arrival comes to, before anything is written
 pub data Decision : Type 0 where
   stays : Answer → Decision  -- answers 1 to 13: nothing changes
   takes : Page → Taken → Decision  -- answers 14 and 15
@@ -47,6 +48,7 @@ pub data Decision : Type 0 where
 unfoldable pub rightLengths : ℕ → ℕ → ℕ → ℕ → Bool
 rightLengths a f m k = eqb a 512 && flashLength f && eqb m 16384 && eqb k 1024
 
+-- a block that passed the screening stays unstored, by 12 or 13, or is taken with its page
 abbrev pub stepped : Page → Step → Decision
 stepped p (Stays x) = stays x
 stepped p (Takes t) = takes p t
@@ -70,6 +72,7 @@ decide s f k t seen a =
 unfoldable pub clearedIf : Bool → List ℕ → List ℕ
 clearedIf clears m = cond clears (unmarked (length m)) m
 
+-- of flash and sector map: "Flash keeps what the discarded transfer wrote."
 unfoldable pub wipedIf : Bool → Held → Held
 wipedIf clears h = record { flash = h .flash; sectors = clearedIf clears (h .sectors) }
 
@@ -95,6 +98,7 @@ tookOf w payload p t =
 abbrev pub unchanged : World → Answer → Outcome
 unchanged w x = record { world = w; answer = x; discarded = false }
 
+-- "Answers 1 to 13 change nothing"; for 14 and 15 the page is stored
 unfoldable pub done : World → List ℕ → Decision → Outcome
 done w payload (stays x) = unchanged w x
 done w payload (takes p t) = record { world = tookOf w payload p t; answer = t .answer; discarded = t .discarded }

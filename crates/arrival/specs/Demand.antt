@@ -88,6 +88,7 @@ abbrev pub storageIn : Place → ℕ → ℕ
 storageIn Nowhere address = 0
 storageIn (At start size) address = start + (address - 0x10000000)
 
+-- the storage address of an arrival, by the place of its family in the flash that is lent
 abbrev pub storageOf : Settings → World → List ℕ → ℕ
 storageOf s w a = storageIn (placeOf s (length (w .held .flash)) (fieldAt a 28)) (fieldAt a 12)
 
@@ -113,12 +114,14 @@ replyTo s w F S a =
 unfoldable pub withArrival : Settings → World → Set → List ℕ → Set
 withArrival s w S a = cond (leb (earns s w a) 11) S (add (fieldAt a 20) S)
 
+-- the answer to each arrival of a list, S having come before it
 unfoldable pub repliesTo : Settings → World → File → Set → List (List ℕ) → List Answer
 repliesTo s w F S [] = []
 repliesTo s w F S (a ∷ l) = replyTo s w F S a ∷ repliesTo s w F (withArrival s w S a) l
 
 -- ---- the end of the list
 
+-- "Running (family, n, m)", "Done (family, n)": the family and the n
 abbrev pub headIn : File → Head
 headIn F = record { family = F .family; total = F .total }
 
@@ -158,6 +161,7 @@ List-ends = EveryList (λ s w F l. Ends s w F (seenOf F l) (receiveAll s w l))
 unfoldable pub List-answers : Type 0
 List-answers = EveryList (λ s w F l. answersOf s w l ≡ repliesTo s w F none l)
 
+-- "Completed" is answer 15
 abbrev pub isCompleted : Answer → Bool
 isCompleted x = eqb (numberOf x) 15
 

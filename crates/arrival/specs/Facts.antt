@@ -39,6 +39,7 @@ pub record Lengths-kept (v w : World) : Type 0 where
   pub seen : length (v .seen) ≡ length (w .seen)
   pub sectors : length (v .held .sectors) ≡ length (w .held .sectors)
 
+-- so the next arrival's buffers are as right as this one's were
 unfoldable pub Arrivals-keep-lengths : Type 0
 Arrivals-keep-lengths = (s : Settings) (w : World) (a : List ℕ) → Lengths-kept (receiveOf s w a .world) w
 

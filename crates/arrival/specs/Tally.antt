@@ -10,7 +10,7 @@ use Rattle.sets.specs.Sets.{Set, none, add, size}
 use Rattle.bitmap.specs.Bitmap.{marks}
 use Rattle.block.specs.Block.{fieldAt}
 use Rattle.settings.specs.declared.Settings.{Settings}
-use Rattle.transfer.specs.Transfer.{numberOf, sameHead}
+use Rattle.transfer.specs.Transfer.{numberOf, sameHead, countOf}
 use Rattle.transfer.specs.declared.Head.{Head}
 use Rattle.transfer.specs.declared.State.{State}
 use Rattle.transfer.specs.declared.State.the-variants.{Idle, Running, Done}
@@ -22,6 +22,7 @@ use Rattle.arrival.specs.Lists.{receiveAll}
 abbrev pub isAccepted : Answer → Bool
 isAccepted x = leb 14 (numberOf x)
 
+-- "28 family", "24 total" of an arrival
 abbrev pub headOf : List ℕ → Head
 headOf a = record { family = fieldAt a 28; total = fieldAt a 24 }
 
@@ -36,6 +37,7 @@ abbrev pub acceptedBy : Settings → World → List ℕ → Set → Set
 acceptedBy s w a A =
     cond (isAccepted (receiveOf s w a .answer)) (add (fieldAt a 20) (cond (clears (w .transfer) (headOf a)) none A)) A
 
+-- "different numbers accepted since the last clearing", over a list, A being those before it
 unfoldable pub acceptedOf : Settings → World → List (List ℕ) → Set → Set
 acceptedOf s w [] A = A
 acceptedOf s w (a ∷ l) A = acceptedOf s (receiveOf s w a .world) l (acceptedBy s w a A)
@@ -45,12 +47,8 @@ unfoldable pub anyAccepted : Settings → World → List (List ℕ) → Bool
 anyAccepted s w [] = false
 anyAccepted s w (a ∷ l) = isAccepted (receiveOf s w a .answer) || anyAccepted s (receiveOf s w a .world) l
 
--- "count (the total, when Done)"
-abbrev pub countOf : State → ℕ
-countOf Idle = 0
-countOf (Running r) = r .count
-countOf (Done g) = g .total
-
+-- "once a block has been accepted, count (the total, when Done) = marks set = different numbers accepted since the last clearing"; until
+-- then the transfer is Idle
 pub record Tallied (s : Settings) (w : World) (l : List (List ℕ)) : Type 0 where
   pub idle : (receiveAll s w l .transfer ≡ Idle) ↔ (anyAccepted s w l ≡ false)
   pub marked : anyAccepted s w l ≡ true → countOf (receiveAll s w l .transfer) ≡ marks (receiveAll s w l .seen)

@@ -24,6 +24,7 @@ pub record Told : Type 0 where
   pub result : ℕ
   pub place : List ℕ
 
+-- both as one value, which the contract names
 abbrev pub told : ℕ → List ℕ → Told
 told n l = record { result = n; place = l }
 
@@ -55,6 +56,7 @@ pub record Ran : Type 0 where
   pub seen : List ℕ
   pub sectors : List ℕ
 
+-- all of them as one value, which the contract names
 abbrev pub ran : ℕ → List ℕ → List ℕ → List ℕ → List ℕ → Ran
 ran n t f m k = record { result = n; transfer = t; flash = f; seen = m; sectors = k }
 
@@ -70,6 +72,7 @@ isTaken n = leb 14 n
 abbrev pub kept : List ℕ → Bool → State → List ℕ
 kept t taken next = cond taken (written t next) t
 
+-- what a call returns and leaves of an arrival that comes to o; t is the transfer's bytes as they were lent
 abbrev pub ranOf : List ℕ → Outcome → Ran
 ranOf t o =
     ran (resultOf (numberOf (o .answer)) (o .discarded))
@@ -114,6 +117,7 @@ pub record Many : Type 0 where
   pub seen : List ℕ
   pub sectors : List ℕ
 
+-- all of them as one value, which the contract names
 abbrev pub many : ℕ → List ℕ → List ℕ → List ℕ → List ℕ → List ℕ → Many
 many n t r f m k = record { number = n; transfer = t; results = r; flash = f; seen = m; sectors = k }
 

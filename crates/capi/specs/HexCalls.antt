@@ -17,9 +17,11 @@ pub record Lined : Type 0 where
   pub reader : List ℕ
   pub image : List ℕ
 
+-- all of them as one value, which the contract names
 abbrev pub lined : ℕ → List ℕ → List ℕ → Lined
 lined n t img = record { result = n; reader = t; image = img }
 
+-- the reader is "a failed reader"
 abbrev pub hasFailed : Stand → Bool
 hasFailed Between = false
 hasFailed Opened = false
@@ -36,6 +38,7 @@ changes failed a = leb 32 (numberOf a) && leb (numberOf a) 35 || isFailure a && 
 abbrev pub keptReader : List ℕ → Bool → Reader → List ℕ
 keptReader t changed next = cond changed (written t next) t
 
+-- what a call returns and leaves of a line to reader r that comes to o; t is the reader's bytes as they were lent
 abbrev pub linedOf : List ℕ → Reader → Outcome → Lined
 linedOf t r o =
     lined (numberOf (o .answer)) (keptReader t (changes (hasFailed (r .stand)) (o .answer)) (o .reader)) (o .image)

@@ -12,6 +12,7 @@ use Rattle.transfer.specs.declared.Head.{Head}
 use Rattle.transfer.specs.declared.State.{State}
 use Rattle.arrival.specs.Arrive.{World}
 
+-- "Little-endian 32-bit fields"
 abbrev pub bytes4 : ℕ → List ℕ
 bytes4 n = n % 256 ∷ n / 256 % 256 ∷ n / 65536 % 256 ∷ n / 16777216 % 256 ∷ []
 
@@ -72,6 +73,7 @@ fourth = armWith 1 (entryOf 4 2 false ∷ replicate 15 (entryOf 0 0 false))
 abbrev pub pair : ℕ → Settings
 pair n = armWith n (entryOf 0 2 true ∷ entryOf 2 2 false ∷ replicate 14 (entryOf 0 0 false))
 
+-- the head of a transfer of arm-s
 abbrev pub armS : ℕ → Head
 armS total = record { family = familyArmS; total = total }
 

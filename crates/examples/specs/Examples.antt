@@ -28,15 +28,18 @@ pub data Result : Type 0 where
   ran : List ℕ → List Bool → State → List ℕ → Result
   placed : Choice → Place → Result
 
+-- what the meaning gives
 abbrev pub found : Question → Result
 found (arriving s t l) =
     ran (map numberOf (answersOf s (lentTo t) l)) (discardsOf s (lentTo t) l) (receiveAll s (lentTo t) l .transfer) (receiveAll s (lentTo t) l .held .flash)
 found (placing s) = placed (chosenEntry s familyArmS) (placeOf s 65536 familyArmS)
 
+-- a question with what 01 wants of it
 pub record Example : Type 0 where
   pub asked : Question
   pub wanted : Result
 
+-- a row of the table
 abbrev case : Question → Result → Example
 case q r = record { asked = q; wanted = r }
 
@@ -57,6 +60,7 @@ page before i v after =
 abbrev pub third : ℕ → List ℕ
 third k = arrivalOf (0x10000000 + k * 256) k 3 k
 
+-- 01's rows that are marked P, in its order
 unfoldable pub examples : List Example
 examples =
     -- "flash 65,536, no table, Arm, arm-s: total 256 passes, 257 gives 10;"

@@ -13,6 +13,7 @@ use Rattle.examples.specs.Examples.{third}
 abbrev pub file : File
 file = record { total = 3; family = familyArmS; block = third }
 
+-- "an Idle transfer, and flash and maps of any content"
 abbrev pub start : World
 start = lentTo Idle
 
@@ -20,5 +21,6 @@ start = lentTo Idle
 abbrev pub arrivals : List (List ℕ)
 arrivals = third 2 ∷ third 0 ∷ third 2 ∷ arrivalOf 0x10010000 0 3 1 ∷ third 1 ∷ third 0 ∷ []
 
+-- the file is valid, and the list is one of its blocks and foreign arrivals
 unfoldable pub Hypotheses-are-met : Type 0
 Hypotheses-are-met = ValidFile plain start file × Sent plain start file arrivals

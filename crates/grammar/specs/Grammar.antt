@@ -14,6 +14,7 @@ use Rattle.grammar.specs.declared.Role.the-variants.{Opening, Naming, Ad
 abbrev pub is04 : ℕ → ℕ → Bool
 is04 kind len = eqb kind 4 && eqb len 2
 
+-- "01 none"
 abbrev pub is01 : ℕ → ℕ → Bool
 is01 kind len = eqb kind 1 && eqb len 0
 

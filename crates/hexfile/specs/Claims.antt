@@ -15,10 +15,12 @@ use Rattle.hexfile.specs.Lines.{Held, start, turn, next, readAll, answer
 -- ---- the image, over any lines from any reader, a fresh one too: it differs from what was lent only where own data was stored, and
 -- holds the latest such byte there
 
+-- each byte is the latest that was stored there, or as lent
 unfoldable pub Image-is-latest : Type 0
 Image-is-latest =
     (h : Held) (ls : List (List ℕ)) (j : ℕ) → getD (readAll h ls .image) j 0 ≡ latest j (storesOf h ls) (getD (h .image) j 0)
 
+-- and the image keeps its length
 unfoldable pub Image-length-kept : Type 0
 Image-length-kept = (h : Held) (ls : List (List ℕ)) → length (readAll h ls .image) ≡ length (h .image)
 

@@ -72,6 +72,7 @@ isTaken a = leb 32 (numberOf a) && leb (numberOf a) 35
 abbrev pub moveOf : Answer → List ℕ → ℕ
 moveOf a l = cond (isTaken a) (length l) 0
 
+-- by any line, from any reader
 unfoldable pub Offset-moves : Type 0
 Offset-moves = EveryLine (λ r l img o. o .reader .offset ≡ r .offset + moveOf (o .answer) l)
 

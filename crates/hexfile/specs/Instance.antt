@@ -23,6 +23,7 @@ sectionV1 =
     ∷ line 12 0 (replicate 13 255)
     ∷ replicate 5 (line 12 0 (replicate 32 255)) ++ (line 11 0 [] ∷ [])
 
+-- the section's data: two bytes at 1
 unfoldable pub sectionV2 : List (List ℕ)
 sectionV2 =
     line 4 0 (0 ∷ 0 ∷ [])
@@ -41,9 +42,11 @@ pub record Reads (own : ℕ) (answers : List ℕ) (stores : List Store) (image :
   pub stored : storesOf (start own (replicate 8 0)) file ≡ stores
   pub left : readAll (start own (replicate 8 0)) file .image ≡ image
 
+-- bytes that were stored, from an address on
 abbrev pub at : ℕ → List ℕ → Store
 at address bytes = record { address = address; bytes = bytes }
 
+-- by V1 and by V2: the other board's data is passed over, the data at 7 is outside the image, the latest byte at 3 stands
 unfoldable pub File-reads : Type 0
 File-reads =
     Reads 0x9900

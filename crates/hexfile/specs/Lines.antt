@@ -4,9 +4,8 @@ use mathlib.Core.Bool.{Bool, false, cond, _&&_, _||_}
 use mathlib.Core.List.{List, [], _∷_, _++_}
 use lib.Dec.{leb, ltb, eqb}
 use lib.ListN.{length, getD, take}
-use Rattle.record.specs.Record.{readOf}
+use Rattle.record.specs.Record.{onRecord, readOf}
 use Rattle.record.specs.declared.Parsed.{Parsed}
-use Rattle.record.specs.declared.Parsed.the-variants.{Good, NoColon, BadShape, BadDigit, TooLong, BadLength, BadSum}
 use Rattle.grammar.specs.Answers.{numberOf}
 use Rattle.grammar.specs.Grammar.{dataKind}
 use Rattle.grammar.specs.declared.Answer.{Answer}
@@ -26,9 +25,11 @@ pub record Held : Type 0 where
 abbrev pub start : ℕ → List ℕ → Held
 start own img = record { reader = freshOf own; image = img }
 
+-- a line to the reader and the image that are held
 abbrev pub turn : Held → List ℕ → Outcome
 turn h l = lineOf (h .reader) l (h .image)
 
+-- and what is held after it
 abbrev pub next : Held → List ℕ → Held
 next h l = record { reader = turn h l .reader; image = turn h l .image }
 
@@ -51,14 +52,9 @@ pub record Store : Type 0 where
 
 -- the record's data at its address
 abbrev pub storeOf : Reader → List ℕ → Parsed → List Store
-storeOf r d (Good rec) = record { address = addressOf r rec; bytes = take (rec .len) d } ∷ []
-storeOf r d NoColon = []
-storeOf r d BadShape = []
-storeOf r d BadDigit = []
-storeOf r d TooLong = []
-storeOf r d BadLength = []
-storeOf r d BadSum = []
+storeOf r d p = onRecord [] (λ rec. record { address = addressOf r rec; bytes = take (rec .len) d } ∷ []) p
 
+-- "33 Stored"
 abbrev pub isStored : Answer → Bool
 isStored a = eqb (numberOf a) 33
 
@@ -71,9 +67,11 @@ storesOf h (l ∷ ls) = cond (isStored (turn h l .answer)) (storeOf (h .reader) 
 abbrev pub covers : Store → ℕ → Bool
 covers s j = leb (s .address) j && ltb j (s .address + length (s .bytes))
 
+-- byte j of the image, of a store that has it
 abbrev pub byteOf : Store → ℕ → ℕ
 byteOf s j = getD (s .bytes) (j - s .address) 0
 
+-- one of the stores has it
 unfoldable pub anyCovers : List Store → ℕ → Bool
 anyCovers [] j = false
 anyCovers (s ∷ ss) j = covers s j || anyCovers ss j
@@ -101,13 +99,7 @@ isInside (Failed f) b = false
 
 -- a line says a data record of a board, of at least one byte
 abbrev pub saysData : Parsed → ℕ → Bool
-saysData (Good rec) b = eqb (rec .kind) (dataKind b) && leb 1 (rec .len)
-saysData NoColon b = false
-saysData BadShape b = false
-saysData BadDigit b = false
-saysData TooLong b = false
-saysData BadLength b = false
-saysData BadSum b = false
+saysData p b = onRecord false (λ rec. eqb (rec .kind) (dataKind b) && leb 1 (rec .len)) p
 
 -- "gave a data byte, stored or not": a line taken as data of at least one byte in the section of board b
 abbrev pub gives : Reader → List ℕ → Answer → ℕ → Bool

@@ -19,6 +19,7 @@ use Rattle.transfer.specs.declared.Transfer.{Transfer}
 use Rattle.transfer.specs.Transfer.{running}
 use Rattle.layout.specs.Bytes.{le32}
 
+-- the byte at an index, and 0 past the end
 abbrev pub byteAt : List ℕ → ℕ → ℕ
 byteAt b i = getD b i 0
 
@@ -35,6 +36,7 @@ linkFrom kind index =
     (cond (eqb kind 1) (OwnedBy index)
     (cond (eqb kind 2) (BOf index) (OwnedBy 255)))
 
+-- "0 to 4 user families": four fields from 8 on
 abbrev pub usersFrom : List ℕ → List ℕ
 usersFrom e = fieldAt e 8 ∷ fieldAt e 12 ∷ fieldAt e 16 ∷ fieldAt e 20 ∷ []
 
@@ -58,6 +60,7 @@ entryFrom e =
 
 -- ---- settings, 534 bytes: 6, and 16 entries
 
+-- "current architecture": 0 Arm, any other byte RISC-V
 abbrev pub archFrom : ℕ → Arch
 archFrom x = cond (eqb x 0) Arm RiscV
 
@@ -95,11 +98,13 @@ settingsOf b table =
       table = table;
     }
 
+-- the settings that bytes are: every byte string is some, and those of a wrong length are bad
 unfoldable pub settingsFrom : List ℕ → Settings
 settingsFrom b = settingsOf b (slotsFrom b (usedOf (countFrom b)) 0 16)
 
 -- ---- a transfer, 13 bytes
 
+-- "(family, total)" of a transfer
 abbrev pub headOf : ℕ → ℕ → Head
 headOf f n = record { family = f; total = n }
 
@@ -119,9 +124,11 @@ unfoldable pub stateFrom : List ℕ → State
 stateFrom b =
     cond (eqb (length b) 13) (stateOf (byteAt b 0) (fieldAt b 1) (fieldAt b 5) (fieldAt b 9)) noState
 
+-- the transfer that bytes are
 abbrev pub transferFrom : List ℕ → Transfer
 transferFrom b = record { state = stateFrom b }
 
+-- the bytes of a kind, a family, a total and a count
 unfoldable pub thirteen : ℕ → ℕ → ℕ → ℕ → List ℕ
 thirteen kind f n c = kind ∷ (le32 f ++ (le32 n ++ le32 c))
 

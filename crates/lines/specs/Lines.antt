@@ -3,6 +3,7 @@ use Prim.Native.Nat.{ℕ, zero, suc, _+_, _/_, _%_}
 use mathlib.Core.Bool.{Bool, cond}
 use mathlib.Core.List.{List, [], _∷_, _++_}
 use lib.Dec.{ltb}
+use Rattle.transfer.specs.Transfer.{countOf}
 use Rattle.transfer.specs.declared.State.{State}
 use Rattle.transfer.specs.declared.State.the-variants.{Idle, Running, Done}
 
@@ -25,9 +26,11 @@ pairText index answer = decimalOf index ++ (32 ∷ []) ++ decimalOf answer
 
 -- ---- the line of an answer: "0 14 0"
 
+-- " 0" or " 1", and the line's end
 abbrev pub flagText : Bool → List ℕ
 flagText b = 32 ∷ cond b 49 48 ∷ 10 ∷ []
 
+-- the arrival's index, its answer's number and its "discarded"
 unfoldable pub answerLine : ℕ → ℕ → Bool → List ℕ
 answerLine index answer discarded = pairText index answer ++ flagText discarded
 
@@ -39,15 +42,11 @@ stateName Idle = 115 ∷ 116 ∷ 97 ∷ 116 ∷ 101 ∷ 32 ∷ 105 ∷ 100 ∷ 1
 stateName (Running r) = 115 ∷ 116 ∷ 97 ∷ 116 ∷ 101 ∷ 32 ∷ 114 ∷ 117 ∷ 110 ∷ 110 ∷ 105 ∷ 110 ∷ 103 ∷ []
 stateName (Done g) = 115 ∷ 116 ∷ 97 ∷ 116 ∷ 101 ∷ 32 ∷ 100 ∷ 111 ∷ 110 ∷ 101 ∷ []
 
+-- its total; "state idle total 0"
 abbrev pub stateTotal : State → ℕ
 stateTotal Idle = 0
 stateTotal (Running r) = r .head .total
 stateTotal (Done g) = g .total
-
-abbrev pub stateSeen : State → ℕ
-stateSeen Idle = 0
-stateSeen (Running r) = r .count
-stateSeen (Done g) = g .total
 
 -- the name, " total ", the total, " seen ", the count, and the line's end
 unfoldable pub countsLine : List ℕ → ℕ → ℕ → List ℕ
@@ -59,5 +58,6 @@ countsLine name total seen =
     ++ decimalOf seen
     ++ (10 ∷ [])
 
+-- "state idle total 0 seen 0"; "state running total", its total, "seen", its count; "state done total 2 seen 2"
 unfoldable pub stateLine : State → List ℕ
-stateLine s = countsLine (stateName s) (stateTotal s) (stateSeen s)
+stateLine s = countsLine (stateName s) (stateTotal s) (countOf s)

@@ -18,6 +18,7 @@ use Rattle.place.specs.declared.Place.the-variants.{Nowhere, At}
 use Rattle.place.specs.declared.Asked.{Asked}
 use Rattle.place.specs.declared.Asked.the-variants.{BadBuffers, BadSettings, NoPlace, Found}
 
+-- "the other architecture"
 abbrev pub otherArch : Arch → Arch
 otherArch Arm = RiscV
 otherArch RiscV = Arm
@@ -62,6 +63,7 @@ passTakes w pass e = isA e && accepts e (w .family) && passAllows w pass e
 
 -- ---- the first match
 
+-- the first of two that is an entry
 abbrev pub orElse : Choice → Choice → Choice
 orElse choice.Nothing c = c
 orElse (choice.Entry k) c = choice.Entry k
@@ -105,6 +107,7 @@ wholeIf b len = cond b (At 0 len) Nowhere
 abbrev pub bytesOf : Entry → Place
 bytesOf e = At (e .first * 4096) (e .sectors * 4096)
 
+-- the place of the chosen entry, and no place where none is
 abbrev pub placeOfChoice : List Entry → Choice → Place
 placeOfChoice table choice.Nothing = Nowhere
 placeOfChoice table (choice.Entry k) = bytesOf (entryAt table k)
@@ -124,6 +127,7 @@ placeOf s len f =
 
 -- ---- a place asked for alone
 
+-- "refused by .. 8" where there is no place
 abbrev pub foundAt : Place → Asked
 foundAt Nowhere = NoPlace
 foundAt (At a n) = Found a n

@@ -61,6 +61,7 @@ standOf kind failure board =
     (cond (eqb kind 4) stand.Ended
     (stand.Failed (record { answer = answerFrom failure }))))))
 
+-- of V1 and of V2, each a flag
 abbrev pub boardsFrom : ℕ → ℕ → Boards
 boardsFrom a b = record { v1 = isOn a; v2 = isOn b }
 
@@ -91,6 +92,7 @@ readerFrom b = cond (eqb (length b) 16) (cond (leb (byteAt b 8) 5) (fieldsFrom b
 unfoldable pub le16 : ℕ → List ℕ
 le16 x = x % 256 ∷ x / 256 % 256 ∷ []
 
+-- the kind of a stand, with the remembered failure and the section's board
 abbrev pub tagged : ℕ → ℕ → ℕ → Tag
 tagged kind failure board = record { kind = kind; failure = failure; board = board }
 
@@ -103,12 +105,15 @@ tagOf (stand.Padded b) = tagged 3 0 b
 tagOf stand.Ended = tagged 4 0 0
 tagOf (stand.Failed f) = tagged 5 (numberOf (f .answer)) 0
 
+-- a flag as a byte
 abbrev pub flagOf : Bool → ℕ
 flagOf on = cond on 1 0
 
+-- of V1, then of V2
 abbrev pub boardsBytes : Boards → List ℕ
 boardsBytes s = flagOf (s .v1) ∷ flagOf (s .v2) ∷ []
 
+-- 8 kind, 9 failure, 10 board
 unfoldable pub tagBytes : Tag → List ℕ
 tagBytes t = t .kind ∷ t .failure ∷ le16 (t .board)
 

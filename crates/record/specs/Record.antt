@@ -24,6 +24,7 @@ textLen l =
     (cond (endsIn 13 l (length l - 1)) (length l - 2) (length l - 1))
     (length l)
 
+-- and those characters
 unfoldable pub textOf : List ℕ → List ℕ
 textOf l = take (textLen l) l
 
@@ -36,9 +37,11 @@ digitOf c =
     (cond (leb 65 c && leb c 70) (c - 55)
     (cond (leb 97 c && leb c 102) (c - 87) 16))
 
+-- the character is a hex digit
 abbrev pub isDigit : ℕ → Bool
 isDigit c = ltb (digitOf c) 16
 
+-- row 22 is passed: every character is one
 unfoldable pub allDigits : List ℕ → Bool
 allDigits [] = true
 allDigits (c ∷ l) = isDigit c && allDigits l
@@ -56,9 +59,11 @@ Decoded l out = take (length l / 2) out ≡ take (length out) (bytesOf l)
 
 -- ---- the fields of a record, by its bytes: length, address (two, high first), type, data, checksum
 
+-- "the length field"
 abbrev pub lenOf : List ℕ → ℕ
 lenOf b = getD b 0 0
 
+-- as many data bytes as the length field says
 abbrev pub dataOf : List ℕ → List ℕ
 dataOf b = take (lenOf b) (drop 4 b)
 
@@ -66,6 +71,7 @@ dataOf b = take (lenOf b) (drop 4 b)
 unfoldable pub held : List ℕ → List ℕ
 held d = tab 32 (λ i. getD d i 0)
 
+-- type, address field and length field
 abbrev pub recordOf : List ℕ → Record
 recordOf b = record { kind = getD b 3 0; address = 256 * getD b 1 0 + getD b 2 0; len = lenOf b }
 
@@ -73,8 +79,19 @@ recordOf b = record { kind = getD b 3 0; address = 256 * getD b 1 0 + getD b 2 0
 abbrev pub good : List ℕ → Line
 good b = record { parsed = Good (recordOf b); «data» = held (dataOf b) }
 
+-- of a line that says no record
 abbrev pub refused : Parsed → Line
 refused p = record { parsed = p; «data» = held [] }
+
+-- what f makes of the record that a line says, and d where it says none
+abbrev pub onRecord : {A : Type 0} → A → (Record → A) → Parsed → A
+onRecord d f (Good rec) = f rec
+onRecord d f NoColon = d
+onRecord d f BadShape = d
+onRecord d f BadDigit = d
+onRecord d f TooLong = d
+onRecord d f BadLength = d
+onRecord d f BadSum = d
 
 -- the sum of bytes; row 25 keeps it to eight bits, which is its remainder by 256
 unfoldable pub total : List ℕ → ℕ

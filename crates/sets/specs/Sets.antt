@@ -3,9 +3,11 @@ use mathlib.Core.Bool.{Bool, true, false, _||_}
 use Prim.Native.Nat.{ℕ, zero, suc, _+_}
 use lib.Dec.{eqb}
 
+-- the numbers that pass a test
 abbrev pub Set : Type 0
 Set = ℕ → Bool
 
+-- the empty set
 abbrev pub none : Set
 none j = false
 
@@ -13,6 +15,7 @@ none j = false
 abbrev pub add : ℕ → Set → Set
 add k S j = eqb j k || S j
 
+-- 1 for what is in a set
 abbrev pub one : Bool → ℕ
 one true = 1
 one false = 0

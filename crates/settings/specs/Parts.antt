@@ -10,6 +10,7 @@ use Rattle.settings.specs.Settings.{entryAt, noSectors, runsPast, overla
 unfoldable pub aloneBad : ℕ → Entry → Bool
 aloneBad len e = noSectors e || runsPast len e || manyUsers e || reservedUser e
 
+-- what is wrong with its link: "links to an index not below its own or to an entry that is "B of""
 unfoldable pub linkBad : List Entry → ℕ → Bool
 linkBad table k = linksUp table k || linksToB table k
 

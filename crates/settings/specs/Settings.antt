@@ -39,6 +39,7 @@ linkIsB Unlinked = false
 linkIsB (OwnedBy k) = false
 linkIsB (BOf k) = true
 
+-- "link none"
 abbrev pub linkIsNone : Link → Bool
 linkIsNone Unlinked = true
 linkIsNone (OwnedBy k) = false
@@ -98,6 +99,7 @@ blankWith us =
 abbrev pub emptyEntry : Entry
 emptyEntry = blankWith []
 
+-- entry k of the table
 abbrev pub entryAt : List Entry → ℕ → Entry
 entryAt table k = getD table k emptyEntry
 

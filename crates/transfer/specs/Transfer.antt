@@ -34,8 +34,15 @@ numberOf Completed = 15
 abbrev pub fresh : Transfer
 fresh = record { state = Idle }
 
+-- "Running (family, total, count)"
 abbrev pub running : Head → ℕ → State
 running g c = Running (record { head = g; count = c })
+
+-- "count (the total, when Done)"
+abbrev pub countOf : State → ℕ
+countOf Idle = 0
+countOf (Running r) = r .count
+countOf (Done g) = g .total
 
 -- row 3 is passed: "Running without 1 <= count < total <= 131,072; Done without 1 <= total <= 131,072" is bad
 unfoldable pub goodState : State → Bool

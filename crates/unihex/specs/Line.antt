@@ -5,7 +5,7 @@ use mathlib.Core.List.{List}
 use lib.Dec.{ltb}
 use lib.ListN.{length, getD, take}
 use Rattle.sets.specs.Over.{over}
-use Rattle.record.specs.Record.{readOf}
+use Rattle.record.specs.Record.{onRecord, readOf}
 use Rattle.record.specs.declared.Record.{Record}
 use Rattle.record.specs.declared.Parsed.{Parsed}
 use Rattle.record.specs.declared.Parsed.the-variants as parsed
@@ -26,11 +26,13 @@ use Rattle.unihex.specs.Reader.{badReader, standing, movedTo, stepOf}
 abbrev pub read : Reader → Answer → Read
 read r a = record { reader = r; answer = a }
 
+-- what a line leaves, with its answer
 pub record Outcome : Type 0 where
   pub reader : Reader
   pub answer : Answer
   pub image : List ℕ
 
+-- all of it as one value
 abbrev pub outcome : Reader → Answer → List ℕ → Outcome
 outcome r a img = record { reader = r; answer = a; image = img }
 
@@ -38,6 +40,7 @@ outcome r a img = record { reader = r; answer = a; image = img }
 abbrev pub failedBy : Answer → Reader → Reader
 failedBy a r = standing r (Failed (record { answer = a }))
 
+-- a line with one of these answers
 abbrev pub failing : Reader → Answer → List ℕ → Outcome
 failing r a img = outcome (failedBy a r) a img
 
@@ -87,13 +90,7 @@ refusalOf (parsed.Good rec) = answer.NoColon
 
 -- rows 20 to 25, then the record
 unfoldable pub parsedLine : Reader → List ℕ → ℕ → List ℕ → Parsed → Outcome
-parsedLine r d e img (parsed.Good rec) = takenOf r rec d e img
-parsedLine r d e img parsed.NoColon = failing r answer.NoColon img
-parsedLine r d e img parsed.BadShape = failing r answer.BadShape img
-parsedLine r d e img parsed.BadDigit = failing r answer.BadDigit img
-parsedLine r d e img parsed.TooLong = failing r answer.TooLong img
-parsedLine r d e img parsed.BadLength = failing r answer.BadLength img
-parsedLine r d e img parsed.BadSum = failing r answer.BadSum img
+parsedLine r d e img p = onRecord (failing r (refusalOf p) img) (λ rec. takenOf r rec d e img) p
 
 -- row 36: "offset with this line passes the limit"
 unfoldable pub liveLine : Reader → List ℕ → List ℕ → Outcome
@@ -110,6 +107,7 @@ haltOf (Padded b) = No
 haltOf Ended = By answer.AfterEnd
 haltOf (Failed f) = By (f .answer)
 
+-- a line to a reader that reads no further, or to one that does
 unfoldable pub haltLine : Reader → List ℕ → List ℕ → Halt → Outcome
 haltLine r l img No = liveLine r l img
 haltLine r l img (By a) = outcome r a img

@@ -20,6 +20,7 @@ freshOf own =
 
 -- ---- row 18: "own board neither of these, offset over the limit, or a remembered failure that isn't 20 to 30 or 36"
 
+-- "a remembered failure that isn't 20 to 30 or 36"
 unfoldable pub badFailure : Stand → Bool
 badFailure Between = false
 badFailure Opened = false
@@ -28,11 +29,13 @@ badFailure (Padded b) = false
 badFailure Ended = false
 badFailure (Failed f) = not (isFailure (f .answer))
 
+-- the three of them; the own board is "V1 0x9900 or V2 0x9903", the limit 4,194,304
 unfoldable pub badReader : Reader → Bool
 badReader r = not (isV1 (r .own) || isV2 (r .own)) || ltb 4194304 (r .offset) || badFailure (r .stand)
 
 -- ---- a reader with one thing changed
 
+-- where it stands in the grammar
 unfoldable pub standing : Reader → Stand → Reader
 standing r s =
     record { own = r .own; offset = r .offset; stand = s; upper = r .upper; came = r .came; gave = r .gave }
@@ -52,6 +55,7 @@ unfoldable pub withData : Reader → ℕ → Reader
 withData r b =
     record { own = r .own; offset = r .offset; stand = r .stand; upper = r .upper; came = r .came; gave = withBoard (r .gave) b }
 
+-- its offset: the bytes of the lines that were taken
 unfoldable pub movedTo : Reader → ℕ → Reader
 movedTo r e =
     record { own = r .own; offset = e; stand = r .stand; upper = r .upper; came = r .came; gave = r .gave }
