@@ -17,7 +17,7 @@ fn file() -> Vec<Vec<u8>> {
         if at % 65_536 == 0 && at > 0 {
             text.put(record(4, 0, &((at >> 16) as u16).to_be_bytes()));
         }
-        let data: Vec<u8> = (0..32).map(|_| r.next() as u8).collect();
+        let data: Vec<u8> = (0..32).map(|_| r.draw() as u8).collect();
         text.put(record(0, at as u16, &data));
     }
     text.close(&[]);

@@ -87,7 +87,7 @@ pub fn proved_reader(reader: Reader) -> proved::hex::Reader {
 
 /// Bytes of a reader of any content, of 16 bytes.
 pub fn any_reader(r: &mut Random) -> [u8; 16] {
-    let number = r.next();
+    let number = r.draw();
     let mut bytes = bytes_of(Reader {
         own: any_own(r),
         offset: any_offset(r),
@@ -124,8 +124,8 @@ fn any_offset(r: &mut Random) -> u32 {
         0 => r.of(&[FILE + 1, u32::MAX, FILE, FILE - 1]),
         1 | 2 => FILE - r.below(90) as u32,
         3 | 4 => r.of(&[1, 511, 513, 256]),
-        5 => r.next() as u32 % FILE,
-        _ => 512 * (r.next() as u32 % 8192),
+        5 => r.draw() as u32 % FILE,
+        _ => 512 * (r.draw() as u32 % 8192),
     }
 }
 
@@ -148,7 +148,7 @@ fn boards(bits: u64) -> Boards {
 }
 
 fn any_board(r: &mut Random) -> u16 {
-    let number = r.next() as u16;
+    let number = r.draw() as u16;
     r.of(&[V1, V1, V2, V2, V1 + 1, V2 + 1, 0, 0xFFFF, 0x0099, number])
 }
 
@@ -176,7 +176,7 @@ pub fn record(kind: u8, address: u16, data: &[u8]) -> Vec<u8> {
 }
 
 fn any_data(r: &mut Random, n: usize) -> Vec<u8> {
-    (0..n).map(|_| r.next() as u8).collect()
+    (0..n).map(|_| r.draw() as u8).collect()
 }
 
 /// An address that data of n bytes may have, often near the end of the image, or of what one 04 reaches.
@@ -207,7 +207,7 @@ pub fn any_text(r: &mut Random) -> Vec<u8> {
     let mut line: Vec<u8> = (0..n)
         .map(|_| {
             if r.one_in(odd) {
-                r.next() as u8
+                r.draw() as u8
             } else {
                 r.of(b"0123456789ABCDEFabcdef")
             }
@@ -301,7 +301,9 @@ impl Text {
         let mut room = (512 - (self.len + last.len() + self.ending.len()) % 512) % 512;
         // as many lines as can fill the room, with up to 32 data bytes each
         let fills = |room: usize, k: usize| {
-            k * least <= room && (room - k * least) % 2 == 0 && (room - k * least) / 2 <= 32 * k
+            k * least <= room
+                && (room - k * least).is_multiple_of(2)
+                && (room - k * least) / 2 <= 32 * k
         };
         let lines = loop {
             match (0..64).find(|&k| fills(room, k)) {
@@ -446,7 +448,7 @@ fn respell(r: &mut Random, line: &mut Vec<u8>) {
             bytes[1..3].copy_from_slice(&address.to_be_bytes());
         }
         5 => bytes.truncate(4 + r.below(u64::from(n) + 1) as usize),
-        6 if bytes.len() < 250 => bytes.push(r.next() as u8),
+        6 if bytes.len() < 250 => bytes.push(r.draw() as u8),
         _ => {}
     }
     if bytes.len() <= 36 && !r.one_in(3) {

@@ -8,7 +8,7 @@ use reference::{Arch, Entry, Link, Settings, Transfer};
 pub struct Random(pub u64);
 
 impl Random {
-    pub fn next(&mut self) -> u64 {
+    pub fn draw(&mut self) -> u64 {
         self.0 = self.0.wrapping_add(0x9E37_79B9_7F4A_7C15);
         let mut z = self.0;
         z = (z ^ (z >> 30)).wrapping_mul(0xBF58_476D_1CE4_E5B9);
@@ -17,7 +17,7 @@ impl Random {
     }
 
     pub fn below(&mut self, n: u64) -> u64 {
-        self.next() % n
+        self.draw() % n
     }
 
     pub fn one_in(&mut self, n: u64) -> bool {
@@ -140,7 +140,7 @@ fn any_entry(r: &mut Random, k: u64, from: u64, sectors: u64) -> Entry {
         riscv: r.one_in(2),
         arm_ns: r.one_in(3),
         user_count: r.below(5) as u8,
-        users: [USER, r.next() as u32 % 8, 0xe48b_ff55, 0xe48b_ff5c],
+        users: [USER, r.draw() as u32 % 8, 0xe48b_ff55, 0xe48b_ff5c],
         not_bootable_arm: r.one_in(3),
         not_bootable_riscv: r.one_in(3),
         link,
@@ -204,7 +204,7 @@ pub fn arrival(f: Fields, seed: u64) -> Vec<u8> {
     put(508, 0x0AB1_6F30);
     let mut r = Random(seed);
     for b in &mut a[32..508] {
-        *b = r.next() as u8;
+        *b = r.draw() as u8;
     }
     a
 }
@@ -259,7 +259,7 @@ pub fn any_arrival(r: &mut Random, pages: u64) -> Vec<u8> {
         total,
         family: r.of(&FAMILIES),
     };
-    let mut a = arrival(fields, r.next());
+    let mut a = arrival(fields, r.draw());
     if r.one_in(12) {
         let at = r.of(&[0, 3, 4, 7, 508, 511]);
         a[at] ^= 1 << r.below(8);

@@ -50,7 +50,7 @@ impl Pair {
 }
 
 fn any_buffers(r: &mut Random, sectors: u64) -> [Vec<u8>; 3] {
-    let mut bytes = |n: usize| -> Vec<u8> { (0..n).map(|_| r.next() as u8).collect() };
+    let mut bytes = |n: usize| -> Vec<u8> { (0..n).map(|_| r.draw() as u8).collect() };
     [bytes(sectors as usize * 4096), bytes(16_384), bytes(1024)]
 }
 

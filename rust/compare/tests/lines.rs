@@ -56,7 +56,7 @@ impl Pair {
 
 fn any_image(r: &mut Random) -> Vec<u8> {
     let n = r.of(&[1, 2, 31, 32, 33, 64, 100, 255, 256, 1000, 2048]);
-    vec![r.next() as u8; n]
+    vec![r.draw() as u8; n]
 }
 
 /// Adds up how often each answer came.
@@ -145,7 +145,7 @@ fn readers_of_every_length() {
     for n in (0..80).chain([255, 256, 4096]).filter(|&n| n != 16) {
         for _ in 0..50 {
             let mut reader = bytes_of(fresh(V1)).to_vec();
-            reader.resize(n, r.next() as u8);
+            reader.resize(n, r.draw() as u8);
             let line = any_record(&mut r, 100);
             assert_eq!(Pair::new(vec![1; 100]).take(&mut reader, &line), 18);
             assert_eq!(Pair::new(vec![]).take(&mut reader, &line), 19);
