@@ -94,7 +94,7 @@ pub record Took (t : State) (g : Head) (marked : Bool) (k : Taken) : Type 0 wher
   pub going : clears t g ≡ false → (r : Run) × (t ≡ Running r) × (r .head ≡ g) × (marked ≡ false)
 
 abbrev Told : State → Head → Bool → Step → Type 0
-Told t g m (Stays x) = numberOf x ≤ 13
+Told t g m (Stays x) = numberOf (x .answer) ≤ 13
 Told t g m (Takes k) = Took t g m k
 
 step-told : (t : State) (g : Head) (m : Bool) → Told t g m (stepOf t g m)
@@ -131,7 +131,7 @@ decided s w a = go (rows s w a)
   where
     steps : Board s w → length a ≡ 512 → (g : Page) → Passing s (flashOf w) a g → (st : Step)
         → Told (w .transfer) (g .head) (markedIn (w .seen) (g .number)) st → Decided s w a (stepped g st)
-    steps B l g p (Stays x) h = kept x h
+    steps B l g p (Stays x) h = kept (x .answer) h
     steps B l g p (Takes k) h = took g k B l p h
 
     look : Board s w → length a ≡ 512 → (x : Screened) → Good s (flashOf w) a x → Decided s w a (looked (w .transfer) (w .seen) x)

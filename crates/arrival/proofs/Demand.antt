@@ -144,6 +144,7 @@ module _ (s : Settings) (w : World) (F : File) (idle : w .transfer ≡ Idle) (ok
         seen-map = seen-map P w (Same P (w .held)) S v a;
         sector-map = sectors-are P w sound S v a;
         payloads = payload-stands P w sound S v a;
+        inside = λ k h. sound .fits k h .within;
         erased = rest-erased P w sound S v a;
         others = others-kept P w sound S v a;
         flash-length = same-length P w sound S v a;

@@ -6,24 +6,26 @@ use mathlib.Core.Bool.{Bool, true, false}
 use mathlib.Core.List.{List}
 use native.Mathlib.Omega.{arith}
 use lib.Dec.{eqb}
-use lib.ListN.{length, getD}
+use lib.ListN.{length, getD, length-set}
 use borrow.Author.Tests.{ne-eqb}
 use Rattle.sets.proofs.Tests.{split, is-false}
 use Rattle.bitmap.proofs.Laws.{length-mark, length-unmarked}
 use Rattle.block.specs.Block.{fieldAt}
-use Rattle.block.proofs.Laws.{header-marked}
+use Rattle.block.proofs.Laws.{header-flags}
 use Rattle.flash.specs.Flash.{payloadOf, spans, roomAt}
-use Rattle.flash.proofs.Laws.{getD-store}
+use Rattle.flash.proofs.Laws.{length-right, payload-set, getD-store}
 use Rattle.settings.specs.declared.Settings.{Settings}
 use Rattle.place.specs.Place.{placeOf}
 use Rattle.place.specs.declared.Place.{Place}
 use Rattle.transfer.specs.Transfer.{numberOf}
 use Rattle.screen.specs.Screen.{screenOf}
-use Rattle.arrival.specs.Arrive.{Held, World, Decision, stays, takes, decide, clearedIf, wipedIf, preparedAt, pagedAt, tookOf, unchanged, done, receiveOf}
-use Rattle.arrival.specs.Facts.{Refusals-change-nothing, Answers-read-no-flash, Lengths-kept, Arrivals-keep-lengths, Outside, Outside-kept, Flags-ignored}
+use Rattle.screen.specs.declared.Screened.{Screened}
+use Rattle.screen.specs.declared.Screened.the-variants.{Refused, Passed}
+use Rattle.arrival.specs.Arrive.{Held, World, Decision, stays, takes, looked, decide, clearedIf, wipedIf, preparedAt, pagedAt, tookOf, unchanged, done, receiveOf}
+use Rattle.arrival.specs.Facts.{Refusals-change-nothing, Answers-read-no-flash, Lengths-kept, Arrivals-keep-lengths, Outside, Outside-kept, Window-kept, Flags-ignored}
 use Rattle.arrival.proofs.Effect.{length-paged, sectors-paged, getD-prepared, spans-true}
-use Rattle.arrival.proofs.Screened.{passing-inside}
-use Rattle.arrival.proofs.Decided.{flashOf, decisionOf, Decided, kept, took, decided, took-number}
+use Rattle.arrival.proofs.Screened.{Good, screen-good, passing-inside}
+use Rattle.arrival.proofs.Decided.{flashOf, decisionOf, Board, board-decides, Rows, stopped, through, rows, Decided, kept, took, decided, took-number}
 
 -- ---- answers 1 to 13
 
@@ -101,10 +103,29 @@ pub outside-kept : Outside-kept
 unfolding Outside-kept receiveOf
 outside-kept s w a j o = outside-done s w a j (decided s w a) o
 
+-- ---- the address window
+
+pub window-kept : Window-kept
+unfolding Window-kept receiveOf done looked
+window-kept s w a n = go (rows s w a)
+  where
+    passed : Board s w → (x : Screened) → Good s (flashOf w) a x
+        → 12 ≤ numberOf (done w (payloadOf a) (looked (w .transfer) (w .seen) x) .answer)
+        → (0x10000000 ≤ fieldAt a 12) × (fieldAt a 12 + 256 ≤ 0x12000000)
+    passed B (Refused x) h m = absurd (omega (arith, m, h .1))
+    passed B (Passed g) h m =
+        let i = passing-inside s (flashOf w) a g h (B .flash) (B .good) in
+        (h .low, omega (arith, i .2, h .ends, h .low, length-right (flashOf w) (B .flash) .most))
+
+    go : Rows s w a → (0x10000000 ≤ fieldAt a 12) × (fieldAt a 12 + 256 ≤ 0x12000000)
+    go (stopped x h e) = let m : 12 ≤ numberOf x = rw e at n in absurd (omega (arith, m, h))
+    go (through B l) =
+        passed B (screenOf s (flashOf w) a) (screen-good s (flashOf w) a) (rw (board-decides s w a B l) at n)
+
 -- ---- flags 0x4000 and 0x8000
 
 pub flags-ignored : Flags-ignored
 unfolding Flags-ignored receiveOf decide screenOf
-flags-ignored s w x a b f =
-    let m : x % 0x4000 ≡ 0 = ⊎-elim (λ e. omega arith) (λ o. ⊎-elim (λ e. omega arith) (λ e. omega arith) o) (f .which) in
-    rw (f .payload, f .size, header-marked x a b (record { which = m; flags = f .flags; others = f .others }))
+flags-ignored s w a x f =
+    let m : x % 0x40 ≡ 0 = ⊎-elim (λ e. omega arith) (λ o. ⊎-elim (λ e. omega arith) (λ e. omega arith) o) f in
+    rw (payload-set a 9 (getD a 9 0 + x) (omega arith), length-set a 9 (getD a 9 0 + x), header-flags a x m)

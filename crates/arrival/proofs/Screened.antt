@@ -116,7 +116,7 @@ module _ (s : Settings) (len : ℕ) (a : List ℕ) where
 module _ (s : Settings) (len : ℕ) (a : List ℕ) (g : Page) (p : Passing s len a g) (right : flashLength len ≡ true) (good : goodSettings s len ≡ true) where
   pub passing-fits : length a ≡ 512 → Fits len (g .at) (payloadOf a)
   passing-fits l =
-      let i = place-inside s len (fieldAt a 28) right good (p .place) in
+      let i = place-inside s len (fieldAt a 28) right good _ _ (p .place) in
       record {
         aligned = omega (arith, i, p .at, p .aligned, p .low);
         within = omega (arith, i, p .at, p .ends);
@@ -126,11 +126,11 @@ module _ (s : Settings) (len : ℕ) (a : List ℕ) (g : Page) (p : Passing s len
   -- its total has room in the seen map
   pub passing-few : fieldAt a 24 ≤ 131072
   passing-few =
-      let i = place-inside s len (fieldAt a 28) right good (p .place) in
+      let i = place-inside s len (fieldAt a 28) right good _ _ (p .place) in
       omega (arith, i, p .room, length-right len right .most)
 
   -- the page and its sector lie in the place
   pub passing-inside : (p .start % 4096 ≡ 0) × (p .size % 4096 ≡ 0) × (p .start + p .size ≤ len) × (p .start ≤ g .at) × (g .at + 256 ≤ p .start + p .size)
   passing-inside =
-      let i = place-inside s len (fieldAt a 28) right good (p .place) in
+      let i = place-inside s len (fieldAt a 28) right good _ _ (p .place) in
       (i .0, i .1, i .2, omega (arith, p .at), omega (arith, p .at, p .ends))

@@ -21,7 +21,7 @@ use Rattle.transfer.specs.declared.State.{State}
 use Rattle.transfer.specs.declared.State.the-variants.{Idle, Running, Done}
 use Rattle.transfer.specs.declared.Taken.{Taken}
 use Rattle.arrival.specs.Arrive.{World, Outcome, Decision, clearedIf, tookOf, done, receiveOf}
-use Rattle.arrival.specs.Lists.{receiveAll}
+use Rattle.arrival.specs.Lists.{Turn, playAll}
 use Rattle.arrival.specs.Tally.{isAccepted, headOf, clears, acceptedBy, acceptedOf, anyAccepted, Count-is-marks}
 use Rattle.arrival.proofs.Screened.{passing-few}
 use Rattle.arrival.proofs.Decided.{flashOf, Took, took-number, Decided, kept, took, decided}
@@ -120,32 +120,36 @@ keeping s w a A (took g k B l q t) e =
     plus true = omega arith
     plus false = refl
 
--- ---- a list
+-- ---- turns
 
-module _ (s : Settings) where
-  step : (w : World) (a : List ℕ) (A : Set) → Kept (w .transfer) (w .seen) A → Keeping s w a A (receiveOf s w a)
-  step w a A e = unfold receiveOf in keeping s w a A (decided s w a) e
+step : (s : Settings) (w : World) (a : List ℕ) (A : Set) → Kept (w .transfer) (w .seen) A → Keeping s w a A (receiveOf s w a)
+step s w a A e = unfold receiveOf in keeping s w a A (decided s w a) e
 
-  pub kept-all : (l : List (List ℕ)) (w : World) (A : Set) → Kept (w .transfer) (w .seen) A
-      → Kept (receiveAll s w l .transfer) (receiveAll s w l .seen) (acceptedOf s w l A)
-  unfolding receiveAll acceptedOf
-  kept-all [] w A e = e
-  kept-all (a ∷ l) w A e = kept-all l (receiveOf s w a .world) (acceptedBy s w a A) (step w a A e .held)
+kept-all : (l : List Turn) (w : World) (A : Set) → Kept (w .transfer) (w .seen) A
+    → Kept (playAll w l .transfer) (playAll w l .seen) (acceptedOf w l A)
+unfolding playAll acceptedOf
+kept-all [] w A e = e
+kept-all (t ∷ l) w A e =
+    let s = t .settings in
+    let a = t .arrival in
+    kept-all l (receiveOf s w a .world) (acceptedBy s w a A) (step s w a A e .held)
 
-  pub idle-all : (l : List (List ℕ)) (w : World) (A : Set) → Kept (w .transfer) (w .seen) A
-      → isIdle (receiveAll s w l .transfer) ≡ not (anyAccepted s w l) && isIdle (w .transfer)
-  unfolding receiveAll anyAccepted acceptedOf
-  idle-all [] w A e = refl
-  idle-all (a ∷ l) w A e =
-      let k = step w a A e in
-      idle-all l (receiveOf s w a .world) (acceptedBy s w a A) (k .held)
-      ∙ ap (λ (b : Bool). not (anyAccepted s (receiveOf s w a .world) l) && b) (k .busy)
-      ∙ both (isAccepted (receiveOf s w a .answer)) (anyAccepted s (receiveOf s w a .world) l) (isIdle (w .transfer))
-    where
-      both : (x y z : Bool) → not y && (not x && z) ≡ not (x || y) && z
-      both true true z = refl
-      both true false z = refl
-      both false y z = refl
+idle-all : (l : List Turn) (w : World) (A : Set) → Kept (w .transfer) (w .seen) A
+    → isIdle (playAll w l .transfer) ≡ not (anyAccepted w l) && isIdle (w .transfer)
+unfolding playAll anyAccepted acceptedOf
+idle-all [] w A e = refl
+idle-all (t ∷ l) w A e =
+    let s = t .settings in
+    let a = t .arrival in
+    let k = step s w a A e in
+    idle-all l (receiveOf s w a .world) (acceptedBy s w a A) (k .held)
+    ∙ ap (λ (b : Bool). not (anyAccepted (receiveOf s w a .world) l) && b) (k .busy)
+    ∙ both (isAccepted (receiveOf s w a .answer)) (anyAccepted (receiveOf s w a .world) l) (isIdle (w .transfer))
+  where
+    both : (x y z : Bool) → not y && (not x && z) ≡ not (x || y) && z
+    both true true z = refl
+    both true false z = refl
+    both false y z = refl
 
 -- ---- the claim
 
@@ -168,20 +172,34 @@ counts-of Idle seen A e z = clash true refl z
 counts-of (Running r) seen A e z = counts (r .head) seen A (r .count) e
 counts-of (Done g) seen A e z = counts g seen A (g .total) e
 
+-- each number has room
+rooms : (g : Head) (seen : List ℕ) (A : Set) (c : ℕ) → Counted g seen A c → (k : ℕ) → A k ≡ true → k < 131072
+unfolding Within
+rooms g seen A c e k y = omega (arith, e .within k y, e .few)
+
+rooms-of : (t : State) (seen : List ℕ) (A : Set) → Kept t seen A → isIdle t ≡ false → (k : ℕ) → A k ≡ true → k < 131072
+rooms-of Idle seen A e z = clash true refl z
+rooms-of (Running r) seen A e z = rooms (r .head) seen A (r .count) e
+rooms-of (Done g) seen A e z = rooms g seen A (g .total) e
+
 pub count-is-marks : Count-is-marks
 unfolding Count-is-marks
-count-is-marks s w idle l =
+count-is-marks w idle l =
     let e : Kept (w .transfer) (w .seen) none = subst (λ (t : State). Kept t (w .seen) none) (sym idle) tt in
-    let i : isIdle (receiveAll s w l .transfer) ≡ not (anyAccepted s w l) && true =
-    idle-all s l w none e ∙ ap (λ (t : State). not (anyAccepted s w l) && isIdle t) idle in
-    let k = kept-all s l w none e in
+    let i : isIdle (playAll w l .transfer) ≡ not (anyAccepted w l) && true =
+    idle-all l w none e ∙ ap (λ (t : State). not (anyAccepted w l) && isIdle t) idle in
+    let k = kept-all l w none e in
+    let t = playAll w l .transfer in
+    let m = playAll w l .seen in
+    let A = acceptedOf w l none in
     record {
       idle = (
-        λ p. split (anyAccepted s w l)
+        λ p. split (anyAccepted w l)
             (λ y. clash true refl (ap isIdle (sym p) ∙ i ∙ rw y))
             (λ z. z),
-        λ z. idle-true (receiveAll s w l .transfer) (i ∙ rw z),
+        λ z. idle-true t (i ∙ rw z),
       );
-      marked = λ y. counts-of (receiveAll s w l .transfer) (receiveAll s w l .seen) (acceptedOf s w l none) k (i ∙ rw y) .0;
-      different = λ y. counts-of (receiveAll s w l .transfer) (receiveAll s w l .seen) (acceptedOf s w l none) k (i ∙ rw y) .1;
+      marked = λ y. counts-of t m A k (i ∙ rw y) .0;
+      different = λ y. counts-of t m A k (i ∙ rw y) .1;
+      room = λ y. rooms-of t m A k (i ∙ rw y);
     }

@@ -50,7 +50,7 @@ rightLengths a f m k = eqb a 512 && flashLength f && eqb m 16384 && eqb k 1024
 
 -- a block that passed the screening stays unstored, by 12 or 13, or is taken with its page
 abbrev pub stepped : Page → Step → Decision
-stepped p (Stays x) = stays x
+stepped p (Stays x) = stays (x .answer)
 stepped p (Takes t) = takes p t
 
 -- rows 12 to 15, of what the screening gives

@@ -138,6 +138,8 @@ pub record Ends (s : Settings) (w : World) (F : File) (S : Set) (v : World) : Ty
   -- "each seen payload at its storage address,"
   pub payloads : (k : ℕ) → k < F .total → S k ≡ true → (i : ℕ) → i < 256
       → getD (v .held .flash) (storageOf s w (F .block k) + i) 0 ≡ getD (payloadOf (F .block k)) i 0
+  -- which lies in the flash
+  pub inside : (k : ℕ) → k < F .total → storageOf s w (F .block k) + 256 ≤ length (w .held .flash)
   -- "0xFF in the rest of each touched sector,"
   pub erased : (j : ℕ) → j < length (w .held .flash) → touchedBy s w F S (j / 4096) ≡ true
       → ((k : ℕ) → k < F .total → S k ≡ true → holds s w F k j ≡ false) → getD (v .held .flash) j 0 ≡ 255

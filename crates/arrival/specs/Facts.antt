@@ -4,9 +4,8 @@ use Prim.Native.Nat.{ℕ, _+_, _≤_, _<_}
 use mathlib.Core.Path.{_≡_}
 use mathlib.Core.Logic.{_⊎_}
 use mathlib.Core.List.{List}
-use lib.ListN.{length, getD}
+use lib.ListN.{length, getD, set}
 use Rattle.block.specs.Block.{fieldAt}
-use Rattle.flash.specs.Flash.{payloadOf}
 use Rattle.settings.specs.declared.Settings.{Settings}
 use Rattle.place.specs.Place.{placeOf}
 use Rattle.place.specs.declared.Place.{Place}
@@ -54,14 +53,18 @@ Outside-kept =
     (s : Settings) (w : World) (a : List ℕ) (j : ℕ) → Outside (placeOf s (length (w .held .flash)) (fieldAt a 28)) j
     → getD (receiveOf s w a .world .held .flash) j 0 ≡ getD (w .held .flash) j 0
 
--- b is a but for the flags, of which x more are set: 0x4000, 0x8000 or both
-pub record Flagged (x : ℕ) (a b : List ℕ) : Type 0 where
-  pub which : (x ≡ 0x4000) ⊎ ((x ≡ 0x8000) ⊎ (x ≡ 0xC000))
-  pub flags : fieldAt b 8 ≡ fieldAt a 8 + x
-  pub others : (at : ℕ) → (at ≡ 8 → ⊥) → fieldAt b at ≡ fieldAt a at
-  pub size : length b ≡ length a
-  pub payload : payloadOf b ≡ payloadOf a
+-- "0x10000000 up to, not including, 0x12000000": the payload of a block that rows 1 to 11 let through lies in the address window
+unfoldable pub Window-kept : Type 0
+Window-kept =
+    (s : Settings) (w : World) (a : List ℕ) → 12 ≤ numberOf (receiveOf s w a .answer)
+    → (0x10000000 ≤ fieldAt a 12) × (fieldAt a 12 + 256 ≤ 0x12000000)
 
--- "Flags 0x4000 and 0x8000 don't change an answer."
+-- x more in the second byte of an arrival's flags, where 0x40 is the flag 0x4000 and 0x80 is 0x8000
+abbrev pub flagged : ℕ → List ℕ → List ℕ
+flagged x a = set a 9 (getD a 9 0 + x)
+
+-- "Flags 0x4000 and 0x8000 don't change an answer": either of them or both
 unfoldable pub Flags-ignored : Type 0
-Flags-ignored = (s : Settings) (w : World) (x : ℕ) (a b : List ℕ) → Flagged x a b → receiveOf s w b ≡ receiveOf s w a
+Flags-ignored =
+    (s : Settings) (w : World) (a : List ℕ) (x : ℕ) → (x ≡ 0x40) ⊎ ((x ≡ 0x80) ⊎ (x ≡ 0xC0))
+    → receiveOf s w (flagged x a) ≡ receiveOf s w a

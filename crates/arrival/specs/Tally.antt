@@ -1,6 +1,6 @@
 -- The count (01, "One arrival"): "over any sequence from Idle with everything handed back, once a block has been accepted, count (the total,
 -- when Done) = marks set = different numbers accepted since the last clearing". Proved in proofs/Tally.antt. Assumes nothing.
-use Prim.Native.Nat.{ℕ}
+use Prim.Native.Nat.{ℕ, _<_}
 use mathlib.Core.Path.{_≡_}
 use mathlib.Core.Logic.{_↔_}
 use mathlib.Core.Bool.{Bool, true, false, not, cond, _||_}
@@ -16,7 +16,7 @@ use Rattle.transfer.specs.declared.State.{State}
 use Rattle.transfer.specs.declared.State.the-variants.{Idle, Running, Done}
 use Rattle.transfer.specs.declared.Answer.{Answer}
 use Rattle.arrival.specs.Arrive.{World, receiveOf}
-use Rattle.arrival.specs.Lists.{receiveAll}
+use Rattle.arrival.specs.Lists.{Turn, playAll}
 
 -- a block is accepted: answer 14 or 15
 abbrev pub isAccepted : Answer → Bool
@@ -37,23 +37,26 @@ abbrev pub acceptedBy : Settings → World → List ℕ → Set → Set
 acceptedBy s w a A =
     cond (isAccepted (receiveOf s w a .answer)) (add (fieldAt a 20) (cond (clears (w .transfer) (headOf a)) none A)) A
 
--- "different numbers accepted since the last clearing", over a list, A being those before it
-unfoldable pub acceptedOf : Settings → World → List (List ℕ) → Set → Set
-acceptedOf s w [] A = A
-acceptedOf s w (a ∷ l) A = acceptedOf s (receiveOf s w a .world) l (acceptedBy s w a A)
+-- "different numbers accepted since the last clearing", over turns, A being those before them
+unfoldable pub acceptedOf : World → List Turn → Set → Set
+acceptedOf w [] A = A
+acceptedOf w (t ∷ l) A =
+    acceptedOf (receiveOf (t .settings) w (t .arrival) .world) l (acceptedBy (t .settings) w (t .arrival) A)
 
--- some block of the list was accepted
-unfoldable pub anyAccepted : Settings → World → List (List ℕ) → Bool
-anyAccepted s w [] = false
-anyAccepted s w (a ∷ l) = isAccepted (receiveOf s w a .answer) || anyAccepted s (receiveOf s w a .world) l
+-- some block was accepted
+unfoldable pub anyAccepted : World → List Turn → Bool
+anyAccepted w [] = false
+anyAccepted w (t ∷ l) =
+    isAccepted (receiveOf (t .settings) w (t .arrival) .answer) || anyAccepted (receiveOf (t .settings) w (t .arrival) .world) l
 
--- "once a block has been accepted, count (the total, when Done) = marks set = different numbers accepted since the last clearing"; until
--- then the transfer is Idle
-pub record Tallied (s : Settings) (w : World) (l : List (List ℕ)) : Type 0 where
-  pub idle : (receiveAll s w l .transfer ≡ Idle) ↔ (anyAccepted s w l ≡ false)
-  pub marked : anyAccepted s w l ≡ true → countOf (receiveAll s w l .transfer) ≡ marks (receiveAll s w l .seen)
-  pub different : anyAccepted s w l ≡ true → countOf (receiveAll s w l .transfer) ≡ size 131072 (acceptedOf s w l none)
+-- "once a block has been accepted, count (the total, when Done) = marks set = different numbers accepted since the last clearing", of
+-- which each is one that the map has room for; until then the transfer is Idle
+pub record Tallied (w : World) (l : List Turn) : Type 0 where
+  pub idle : (playAll w l .transfer ≡ Idle) ↔ (anyAccepted w l ≡ false)
+  pub marked : anyAccepted w l ≡ true → countOf (playAll w l .transfer) ≡ marks (playAll w l .seen)
+  pub different : anyAccepted w l ≡ true → countOf (playAll w l .transfer) ≡ size 131072 (acceptedOf w l none)
+  pub room : anyAccepted w l ≡ true → (k : ℕ) → acceptedOf w l none k ≡ true → k < 131072
 
--- over any list of arrivals
+-- over any turns, from Idle
 unfoldable pub Count-is-marks : Type 0
-Count-is-marks = (s : Settings) (w : World) → w .transfer ≡ Idle → (l : List (List ℕ)) → Tallied s w l
+Count-is-marks = (w : World) → w .transfer ≡ Idle → (l : List Turn) → Tallied w l

@@ -1,11 +1,15 @@
 -- The laws of a block's fields, and each case of its header. Assumes nothing.
 use mathlib.Core.Path.{_≡_, refl}
+use mathlib.Core.Logic.{_⊎_, inl, inr, ⊎-elim}
 use mathlib.Core.List.{List}
 use Prim.Native.Nat.{ℕ, _+_, _*_, _/_, _%_, _<_, _≤_}
 use native.Mathlib.Nat.{add-mul-div-left, add-mul-mod-self-left}
 use native.Mathlib.Omega.{arith}
-use lib.ListN.{length, getD}
-use borrow.Author.Tests.{le-leb, lt-leb, eq-eqb, ne-eqb}
+use lib.Dec.{leb}
+use lib.ListN.{length, getD, set, length-set}
+use lib.Seq.{getD-set-same, getD-set-other}
+use borrow.Author.Tests.{le-leb, lt-leb, leb-true, leb-false, eq-eqb, ne-eqb}
+use Rattle.sets.proofs.Tests.{split}
 use Rattle.block.specs.declared.Block.{Block}
 use Rattle.block.specs.declared.Header.the-variants.{NotBlock, Container, Comment, NoFamily, Found}
 use Rattle.block.specs.Block.{fieldAt, fieldsOf, flaggedOf, headerOf}
@@ -64,17 +68,32 @@ module _ (a : List ℕ) where
 
 -- ---- "Flags 0x4000 and 0x8000 don't change an answer"
 
--- b has the fields of a but for the flags 0x4000 and 0x8000, of which x more are set
-pub record Marked (x : ℕ) (a b : List ℕ) : Type 0 where
-  pub which : x % 0x4000 ≡ 0
-  pub flags : fieldAt b 8 ≡ fieldAt a 8 + x
-  pub others : (at : ℕ) → (at ≡ 8 → ⊥) → fieldAt b at ≡ fieldAt a at
+-- a field in which byte j does not lie
+field-set : (a : List ℕ) (j v at : ℕ) → (at + 4 ≤ j) ⊎ (j < at) → fieldAt (set a j v) at ≡ fieldAt a at
+unfolding fieldAt
+field-set a j v at o =
+    rw (
+      length-set a j v,
+      getD-set-other a j at v 0 (λ e. apart 0 (omega arith) (omega (arith, e))),
+      getD-set-other a j (at + 1) v 0 (λ e. apart 1 (omega arith) e),
+      getD-set-other a j (at + 2) v 0 (λ e. apart 2 (omega arith) e),
+      getD-set-other a j (at + 3) v 0 (λ e. apart 3 (omega arith) e),
+    )
+  where
+    apart : (i : ℕ) → i < 4 → at + i ≡ j → ⊥
+    apart i l e = ⊎-elim (λ h. omega arith) (λ h. omega arith) o
+
+-- b has the fields of a but for the flags, which are x more, a multiple of 0x4000
+record Marked (x : ℕ) (a b : List ℕ) : Type 0 where
+  which : x % 0x4000 ≡ 0
+  flags : fieldAt b 8 ≡ fieldAt a 8 + x
+  others : (at : ℕ) → (at + 4 ≤ 9) ⊎ (9 < at) → fieldAt b at ≡ fieldAt a at
 
 -- the flag of weight f does not see twice f, or a multiple of that
 flag-kept : (n f z x : ℕ) → 0 < f → x ≡ f * (2 * z) → (n + x) / f % 2 ≡ n / f % 2
 flag-kept n f z x pos e = rw (e, add-mul-div-left n (2 * z) pos) (add-mul-mod-self-left (n / f) 2 z)
 
-pub header-marked : (x : ℕ) (a b : List ℕ) → Marked x a b → headerOf b ≡ headerOf a
+header-marked : (x : ℕ) (a b : List ℕ) → Marked x a b → headerOf b ≡ headerOf a
 unfolding headerOf flaggedOf fieldsOf
 header-marked x a b m =
     let y : ℕ = x / 0x4000 in
@@ -87,12 +106,40 @@ header-marked x a b m =
       e1,
       e2,
       e3,
-      m .others 0 (λ e. omega (arith, e)),
-      m .others 4 (λ e. omega (arith, e)),
-      m .others 508 (λ e. omega (arith, e)),
-      m .others 12 (λ e. omega (arith, e)),
-      m .others 16 (λ e. omega (arith, e)),
-      m .others 20 (λ e. omega (arith, e)),
-      m .others 24 (λ e. omega (arith, e)),
-      m .others 28 (λ e. omega (arith, e)),
+      m .others 0 (inl (omega arith)),
+      m .others 4 (inl (omega arith)),
+      m .others 508 (inr (omega arith)),
+      m .others 12 (inr (omega arith)),
+      m .others 16 (inr (omega arith)),
+      m .others 20 (inr (omega arith)),
+      m .others 24 (inr (omega arith)),
+      m .others 28 (inr (omega arith)),
     )
+
+-- x more in the second byte of the flags, a multiple of 0x40
+pub header-flags : (a : List ℕ) (x : ℕ) → x % 0x40 ≡ 0 → headerOf (set a 9 (getD a 9 0 + x)) ≡ headerOf a
+header-flags a x h =
+    let v = getD a 9 0 + x in
+    let b = set a 9 v in
+    let n = length-set a 9 v in
+    split (leb 12 (length a))
+    (λ y.
+    let l = leb-true 12 (length a) y in
+    let same : getD b 9 0 ≡ v = getD-set-same a 9 v 0 (omega arith) in
+    let low : getD b 8 0 ≡ getD a 8 0 = getD-set-other a 9 8 v 0 (λ e. omega (arith, e)) in
+    let high : getD b 10 0 ≡ getD a 10 0 = getD-set-other a 9 10 v 0 (λ e. omega (arith, e)) in
+    let top : getD b 11 0 ≡ getD a 11 0 = getD-set-other a 9 11 v 0 (λ e. omega (arith, e)) in
+    header-marked (256 * x) a b
+    (record {
+      which = omega arith;
+      flags = omega (arith, field-in a 8 (omega arith), field-in b 8 (omega arith), same, low, high, top);
+      others = field-set a 9 v;
+    }))
+    (λ z.
+    let l = leb-false 12 (length a) z in
+    header-marked 0 a b
+    (record {
+      which = omega arith;
+      flags = omega (arith, field-past a 8 (omega arith), field-past b 8 (omega arith));
+      others = field-set a 9 v;
+    }))

@@ -1,9 +1,11 @@
 -- Calls by cases. Assumes nothing.
 use Prim.Native.Nat.{ℕ, _≤_}
-use mathlib.Core.Path.{_≡_, ap, _∙_}
-use mathlib.Core.Logic.{_≢_}
+use mathlib.Core.Path.{_≡_, refl, ap, _∙_}
+use mathlib.Core.Logic.{_≢_, ⊎-elim}
 use mathlib.Core.Bool.{Bool}
-use mathlib.Core.List.{List}
+use mathlib.Core.List.{List, [], _∷_, _++_}
+use types.Run.{OneOf}
+use denote.Enum.Declared.{tagOf}
 use native.Mathlib.Omega.{arith}
 use lib.ListN.{length}
 use borrow.Author.Tests.{eq-eqb, ne-eqb}
@@ -13,10 +15,13 @@ use Rattle.transfer.specs.declared.Answer.{Answer}
 use Rattle.transfer.specs.declared.Answer.the-variants.{BadBuffers, BadSettings, BadState, NotBlock, Container, Comment, NoFamily, NoPlace, BadPayload, BadNumbers, BadAddress, Finished, Again, Written, Completed}
 use Rattle.transfer.specs.Transfer.{numberOf}
 use Rattle.place.specs.declared.Asked.{Asked}
-use Rattle.place.specs.Place.{askOf}
+use Rattle.place.specs.declared.Asked.the-variants as asked
+use Rattle.place.specs.Place.{askOf, askedNumber}
+use Rattle.place.proofs.Asked.{the-type}
 use Rattle.arrival.specs.Arrive.{receiveOf}
 use Rattle.receiver.specs.declared.Received.{Received}
 use Rattle.receiver.specs.Receiver.{world, outcome}
+use Rattle.layout.specs.Bytes.{le32}
 use Rattle.layout.specs.Layout.{settingsFrom, transferFrom}
 use Rattle.capi.specs.Calls.{Told, told, toldOf, askBytes, ran, resultOf, isTaken, kept, ranOf, receiveBytes}
 
@@ -37,6 +42,22 @@ number-most Finished = omega arith
 number-most Again = omega arith
 number-most Written = omega arith
 number-most Completed = omega arith
+
+-- ---- a place asked for alone
+
+-- the answer is none but a refusal, by its tag
+pub refused-told : (l : List ℕ) (x : Asked) {n : ℕ} → OneOf (0 ∷ 1 ∷ 2 ∷ []) (tagOf the-type x) → n ≡ askedNumber x → told n l ≡ toldOf l x
+refused-told l asked.BadBuffers h e = ap (λ (n : ℕ). told n l) e
+refused-told l asked.BadSettings h e = ap (λ (n : ℕ). told n l) e
+refused-told l asked.NoPlace h e = ap (λ (n : ℕ). told n l) e
+refused-told l (asked.Found a n) h e = absurd (⊎-elim (λ x. omega arith) (⊎-elim (λ x. omega arith) (λ x. omega arith)) h)
+
+pub found-told : (l b : List ℕ) (x : Asked) {n start len : ℕ} → x ≡ asked.Found start len → n ≡ askedNumber x → b ≡ le32 start ++ le32 len → told n b ≡ toldOf l x
+found-told l b x q e h = rw (e, h, q)
+
+-- its refusals are answers to an arrival too, with the same numbers
+pub asked-numbers : (askedNumber asked.BadBuffers ≡ numberOf BadBuffers) × (askedNumber asked.BadSettings ≡ numberOf BadSettings) × (askedNumber asked.NoPlace ≡ numberOf NoPlace)
+asked-numbers = (refl, refl, refl)
 
 module _ (s : List ℕ) (len f : ℕ) (l : List ℕ) where
   pub ask-short : length l ≢ 8 → told 1 l ≡ askBytes s len f l

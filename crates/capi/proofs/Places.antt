@@ -29,7 +29,7 @@ module _ (s : Settings) (len f : ℕ) where
   found-low : flashLength len ≡ true → goodSettings s len ≡ true → (p : Place) → placeOf s len f ≡ p → Low (foundAt p)
   found-low right good Nowhere e = tt
   found-low right good (At a n) e =
-      let inside = place-inside s len f right good e .2 in
+      let inside = place-inside s len f right good a n e .2 in
       let most = length-right len right .most in
       (omega arith, omega arith)
 

@@ -4,7 +4,7 @@ use mathlib.Core.Bool.{Bool, false, _||_, cond}
 use mathlib.Core.List.{List, [], _∷_, _++_}
 use lib.Dec.{leb, eqb}
 use lib.ListN.{length, take, drop, set}
-use Rattle.place.specs.Place.{askOf}
+use Rattle.place.specs.Place.{askOf, askedNumber}
 use Rattle.place.specs.declared.Asked.{Asked}
 use Rattle.place.specs.declared.Asked.the-variants.{BadBuffers, BadSettings, NoPlace, Found}
 use Rattle.transfer.specs.Transfer.{numberOf}
@@ -29,11 +29,15 @@ abbrev pub told : ℕ → List ℕ → Told
 told n l = record { result = n; place = l }
 
 -- start and length of a place, written over `place`; a refusal leaves it (proofs/Places.antt: the two are read back from it)
+abbrev pub placeBytes : List ℕ → Asked → List ℕ
+placeBytes l BadBuffers = l
+placeBytes l BadSettings = l
+placeBytes l NoPlace = l
+placeBytes l (Found a n) = le32 a ++ le32 n
+
+-- the refusal's number, and 0 for a place that is found
 abbrev pub toldOf : List ℕ → Asked → Told
-toldOf l BadBuffers = told 1 l
-toldOf l BadSettings = told 2 l
-toldOf l NoPlace = told 8 l
-toldOf l (Found a n) = told 0 (le32 a ++ le32 n)
+toldOf l x = told (askedNumber x) (placeBytes l x)
 
 -- start and length fit 32 bits, as those of every place that is found do (proofs/Places.antt)
 abbrev pub Low : Asked → Type 0

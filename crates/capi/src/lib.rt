@@ -41,16 +41,13 @@ fn tell(asked: Asked, place: &mut [u8]) -> u32
     requires low { ⌜ Low asked ⌝ }
     ensures { λ r. ⌜ told r (now (place .exit)) ≡ toldOf (now (place .entry)) asked ⌝ }
 {
-    match asked {
-        Asked::BadBuffers => 1,
-        Asked::BadSettings => 2,
-        Asked::NoPlace => 8,
-        Asked::Found { start, len } => {
-            layout::put(place, 0, start as u32);
-            layout::put(place, 4, len as u32);
-            0
-        }
-    }
+    let n = place::number(asked) as u32;
+    let Asked::Found { start, len } = asked else {
+        return n;
+    };
+    layout::put(place, 0, start as u32);
+    layout::put(place, 4, len as u32);
+    n
 }
 
 // A place asked for alone: 0 and its start and length in `place`, or 1, 2 or 8.

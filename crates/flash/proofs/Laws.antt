@@ -3,10 +3,11 @@
 use mathlib.Core.Path.{_≡_, refl, sym, ap, _∙_}
 use mathlib.Core.Bool.{true, false, _&&_, cond, and-false}
 use mathlib.Core.Logic.{_≢_}
-use mathlib.Core.List.{List, _++_}
-use Prim.Native.Nat.{ℕ, _+_, _-_, _*_, _/_, _%_, _<_, _≤_}
+use mathlib.Core.List.{List, [], _∷_, _++_}
+use Prim.Native.Nat.{ℕ, zero, suc, _+_, _-_, _*_, _/_, _%_, _<_, _≤_}
 use native.Mathlib.Omega.{arith}
-use lib.ListN.{length, getD, take, drop, length-take, length-drop}
+use native.Mathlib.Nat.{le-of-suc-le-suc, not-suc-le-zero}
+use lib.ListN.{length, getD, take, drop, set, length-take, length-drop}
 use lib.Seq.{getD-take, getD-drop}
 use lib.Dec.{eqb, ltb, leb}
 use borrow.Rule.Slice.PartMut.{putMid}
@@ -98,6 +99,17 @@ unfolding payloadOf
 short-payload a h = simp (length-take, length-drop) (omega arith)
 
 -- byte i of the payload is byte 32 + i of the arrival
+drop-set : (n : ℕ) (l : List ℕ) (j v : ℕ) → j < n → drop n (set l j v) ≡ drop n l
+drop-set zero l j v h = absurd (not-suc-le-zero h)
+drop-set (suc n) [] j v h = refl
+drop-set (suc n) (x ∷ l) zero v h = refl
+drop-set (suc n) (x ∷ l) (suc j) v h = drop-set n l j v (le-of-suc-le-suc h)
+
+-- a byte of the header is none of the payload
+pub payload-set : (a : List ℕ) (j v : ℕ) → j < 32 → payloadOf (set a j v) ≡ payloadOf a
+unfolding payloadOf
+payload-set a j v h = ap (take 256) (drop-set 32 a j v h)
+
 pub getD-payload : (a : List ℕ) (i : ℕ) → i < 256 → getD (payloadOf a) i 0 ≡ getD a (32 + i) 0
 unfolding payloadOf
 getD-payload a i l = getD-take 256 (drop 32 a) i 0 l ∙ getD-drop 32 a i 0

@@ -114,7 +114,8 @@ fn used(count: u8) -> usize
     ensures { λ r. ⌜ r ≡ usedOf count ⌝ }
     ensures low { λ r. ⌜ r ≤ 16 ⌝ }
 {
-    if count <= 16 { count as usize } else { 0 }
+    let n = count as usize;
+    if n <= Settings::ENTRIES { n } else { 0 }
 }
 
 // The settings that bytes are. Only the entries that are used are read: a board with few waits for no more.
@@ -129,7 +130,7 @@ pub fn read_settings(bytes: &[u8]) -> Settings
     let count = count(bytes);
     let n = used(count);
     let blank = Entry::blank();
-    let mut table = [blank; 16];
+    let mut table = [blank; Settings::ENTRIES];
     let mut k: usize = 0;
     while k < n {
         let from = HEAD + k * ENTRY;

@@ -1,7 +1,6 @@
 -- When a family has no place, and where a place lies. Assumes nothing.
 use Prim.Native.Nat.{ℕ, _*_, _%_, _≤_, _<_}
 use mathlib.Core.Path.{_≡_, refl, sym, ap, _∙_}
-use mathlib.Core.Logic.{_↔_, _≢_}
 use mathlib.Core.Bool.{Bool, true, false, _&&_}
 use mathlib.Core.List.{List}
 use native.Mathlib.Omega.{arith}
@@ -13,7 +12,7 @@ use Rattle.settings.specs.declared.Entry as settings
 use Rattle.settings.specs.declared.Settings.{Settings}
 use Rattle.settings.specs.Settings.{familyRp2040, familyAbsolute, entryAt, isA, accepts, goodSettings}
 use Rattle.settings.proofs.Laws.{good-count, good-fits}
-use Rattle.place.specs.Place.{passAllows, passTakes, inPass, chosen, usedCount, wantedOf, chosenEntry, takenWhole, wholeIf, placeOfChoice, placeOf, Accepting, Inside}
+use Rattle.place.specs.Place.{passAllows, passTakes, inPass, chosen, usedCount, wantedOf, chosenEntry, takenWhole, wholeIf, placeOfChoice, placeOf, Accepting, Inside, No-place, Place-inside}
 use Rattle.place.specs.declared.Wanted.{Wanted}
 use Rattle.place.specs.declared.Choice.{Choice}
 use Rattle.place.specs.declared.Choice.the-variants.{Nothing, Entry}
@@ -73,8 +72,7 @@ choice-none : (table : List settings.Entry) (c : Choice) → placeOfChoice table
 choice-none table Nothing e = refl
 choice-none table (Entry k) e = let z : _≡_ {A = ℕ} 0 1 = cc in absurd (omega arith)
 
--- With good settings and a table, a family other than absolute and rp2040 has no place exactly if no used A entry accepts it.
-pub no-place : (s : Settings) (len f : ℕ) → goodSettings s len ≡ true → s .count ≢ 0 → f ≢ familyAbsolute → f ≢ familyRp2040 → (placeOf s len f ≡ Nowhere) ↔ ((k : ℕ) → Accepting s f k → ⊥)
+pub no-place : No-place
 no-place s len f good table na nr =
     let placed = place-table s len f na nr table in (
       λ e. chosen-none s f (good-count s len good) (choice-none (s .table) (chosenEntry s f) (sym placed ∙ e)),
@@ -101,9 +99,8 @@ module _ (s : Settings) (len f : ℕ) (right : flashLength len ≡ true) (good :
       let y : entryAt (s .table) k .sectors * 4096 ≡ n = cc in
       (omega arith, omega arith, omega (arith, good-fits s len good k (chosen-accepts s f q .0)))
 
-  -- With good settings and a right flash length a place lies in the flash, and starts and ends at a sector.
-  pub place-inside : {a n : ℕ} → placeOf s len f ≡ At a n → Inside len a n
-  place-inside {a} {n} e =
+  inside : {a n : ℕ} → placeOf s len f ≡ At a n → Inside len a n
+  inside {a} {n} e =
       split (eqb f familyAbsolute)
       (λ p. whole (s .absolute) (sym (place-absolute s len f (eqb-true f familyAbsolute p)) ∙ e))
       (λ p.
@@ -118,3 +115,6 @@ module _ (s : Settings) (len f : ℕ) (right : flashLength len ≡ true) (good :
       split (eqb (s .count) 0)
       (λ r. whole (takenWhole (s .arm) (s .riscv) f) (sym (place-whole s len f na nr (eqb-true (s .count) 0 r)) ∙ e))
       (λ r. entry (chosenEntry s f) refl (sym (place-table s len f na nr (eqb-false (s .count) 0 r)) ∙ e))))
+
+pub place-inside : Place-inside
+place-inside s len f right good a n e = inside s len f right good e

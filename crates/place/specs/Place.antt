@@ -1,6 +1,7 @@
 -- The place of a family (01, "Settings and the place of a family"). Numbers are natural, so nothing wraps. Assumes nothing.
 use Prim.Native.Nat.{ℕ, zero, suc, _+_, _*_, _%_, _<_, _≤_}
 use mathlib.Core.Path.{_≡_}
+use mathlib.Core.Logic.{_↔_, _≢_}
 use mathlib.Core.Bool.{Bool, true, _&&_, _||_, cond, not}
 use mathlib.Core.List.{List}
 use lib.Dec.{leb, eqb}
@@ -155,3 +156,18 @@ Accepting s f k = (k < s .count) × (isA (entryAt (s .table) k) ≡ true) × (ac
 -- n bytes from a on lie in a flash of len bytes, and start and end at a sector
 abbrev pub Inside : ℕ → ℕ → ℕ → Type 0
 Inside len a n = (a % 4096 ≡ 0) × (n % 4096 ≡ 0) × (a + n ≤ len)
+
+-- ---- the claims, proved in proofs/Theorems.antt
+
+-- "With good settings and a partition table, a family other than absolute and rp2040 has no place exactly when no A partition accepts
+-- it." (demand 2)
+abbrev pub No-place : Type 0
+No-place =
+    (s : Settings) (len f : ℕ) → goodSettings s len ≡ true → s .count ≢ 0 → f ≢ familyAbsolute → f ≢ familyRp2040
+    → (placeOf s len f ≡ Nowhere) ↔ ((k : ℕ) → Accepting s f k → ⊥)
+
+-- with good settings and a right flash length a place lies in the flash, and starts and ends at a sector
+abbrev pub Place-inside : Type 0
+Place-inside =
+    (s : Settings) (len f : ℕ) → flashLength len ≡ true → goodSettings s len ≡ true → (a n : ℕ) → placeOf s len f ≡ At a n
+    → Inside len a n

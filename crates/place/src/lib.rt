@@ -134,7 +134,12 @@ fn choose(table: [Entry; Settings::ENTRIES], n: usize, w: Wanted) -> Choice
 fn used_count(count: u8) -> usize
     ensures { λ r. ⌜ r ≡ usedCount count ⌝ }
 {
-    if count <= 16 { count as usize } else { 16 }
+    let n = count as usize;
+    if n <= Settings::ENTRIES {
+        n
+    } else {
+        Settings::ENTRIES
+    }
 }
 
 fn want(settings: Settings, family: u32) -> Wanted

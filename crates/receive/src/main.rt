@@ -1,7 +1,9 @@
 // Reads arrivals of 512 bytes from standard input and prints the answer to each: a flash of 32,768 bytes, no partition table, Arm alone,
 // absolute allowed.
+use block::Block;
 use libc::STDIN_FILENO;
 use libc::STDOUT_FILENO;
+use receiver::Received;
 use settings::Settings;
 use transfer::Transfer;
 
@@ -33,7 +35,7 @@ fn turn(
     seen: &mut [u8],
     sectors: &mut [u8],
 ) -> Turned {
-    let mut arrival = [0u8; 512];
+    let mut arrival = [0u8; Block::ARRIVAL];
     let n = io::read_full(STDIN_FILENO, &mut arrival);
     if n == 0 {
         return Turned {
@@ -47,7 +49,7 @@ fn turn(
     print_answer(index, answer.number(), received.discarded);
     Turned {
         transfer: next,
-        more: n == 512,
+        more: n == Block::ARRIVAL,
     }
 }
 
@@ -71,8 +73,8 @@ fn run(flash: &mut [u8], seen: &mut [u8], sectors: &mut [u8]) -> Transfer {
 fn main() {
     // no answer depends on a byte of the flash; it starts erased
     let mut flash = [0xFFu8; 32768];
-    let mut seen = [0u8; 16384];
-    let mut sectors = [0u8; 1024];
+    let mut seen = [0u8; Received::SEEN];
+    let mut sectors = [0u8; Received::SECTORS];
     io::write_all(STDOUT_FILENO, b"arrival answer discarded\n");
     print_state(run(&mut flash, &mut seen, &mut sectors));
 }

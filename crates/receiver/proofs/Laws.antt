@@ -9,7 +9,9 @@ use Rattle.flash.specs.Flash.{eraseAt, payloadOf, storeAt}
 use Rattle.settings.specs.Settings.{goodSettings}
 use Rattle.settings.specs.declared.Settings.{Settings}
 use Rattle.transfer.specs.Transfer.{goodState, stepOf}
+use Rattle.transfer.proofs.Laws.{stays-same}
 use Rattle.transfer.specs.declared.Transfer.{Transfer}
+use Rattle.transfer.specs.declared.Stayed.{Stayed}
 use Rattle.transfer.specs.declared.Taken.{Taken}
 use Rattle.transfer.specs.declared.Step.{Step}
 use Rattle.transfer.specs.declared.Step.the-variants.{Stays, Takes}
@@ -49,9 +51,11 @@ module _ (t : Transfer) (p : Page) (a f m k : List ℕ) {known : Bool} {s : Step
   step-is : stepOf (t .state) (p .head) (markedIn m (p .number)) ≡ s
   step-is = rw (sym e) (sym h)
 
-  pub look-stays : {r : Received} {x : Answer} → s ≡ Stays x → r ≡ refusal t x → outcome r f m k ≡ done (world t f m k) (payloadOf a) (stepped p (stepOf (t .state) (p .head) (markedIn m (p .number))))
+  pub look-stays : {r : Received} {x : Stayed} → s ≡ Stays x → r ≡ refusal (x .transfer) (x .answer) → outcome r f m k ≡ done (world t f m k) (payloadOf a) (stepped p (stepOf (t .state) (p .head) (markedIn m (p .number))))
   unfolding done
-  look-stays q y = let z = step-is ∙ q in rw z (ap (λ (r : Received). outcome r f m k) y)
+  look-stays q y =
+      let z = step-is ∙ q in
+      rw z (ap (λ (r : Received). outcome r f m k) y ∙ rw (stays-same (t .state) (p .head) (markedIn m (p .number)) z))
 
   -- what is taken does not look at the transfer that was
   pub look-takes : {o : Outcome} {y : Taken} (u : Transfer) → s ≡ Takes y → o ≡ done (world u f m k) (payloadOf a) (takes p y) → o ≡ done (world t f m k) (payloadOf a) (stepped p (stepOf (t .state) (p .head) (markedIn m (p .number))))

@@ -129,7 +129,11 @@ fn look(
     let marked = bitmap::marked(seen, number);
     let step = transfer.step(head, marked);
     match step {
-        Step::Stays(answer) => refuse(transfer, answer),
+        Step::Stays(stayed) => {
+            let same = stayed.transfer;
+            let answer = stayed.answer;
+            refuse(same, answer)
+        }
         Step::Takes(taken) => take(page, taken, arrival, flash, seen, sectors),
     }
 }

@@ -5,6 +5,7 @@ ghost use Rattle.place.specs.declared.Place.the-variants.{At};
 ghost use Rattle.screen.specs.Screen.{headerRefusal, placed, screenOf};
 use block::Block;
 use block::Header;
+use flash::Flash;
 use place::Place;
 use settings::Settings;
 use transfer::Answer;
@@ -45,13 +46,13 @@ fn fits_place(b: Block, start: usize, size: usize) -> Screened
     requires { ⌜ start < 0x100000000000 ⌝ }
     ensures { λ r. ⌜ r ≡ placed (At start size) b ⌝ }
 {
-    if b.size != 256 {
+    if b.size as usize != Flash::PAYLOAD {
         return Screened::Refused(Answer::BadPayload);
     }
     if b.total == 0 {
         return Screened::Refused(Answer::BadNumbers);
     }
-    if size < b.total as usize * 256 {
+    if size < b.total as usize * Flash::PAYLOAD {
         return Screened::Refused(Answer::BadNumbers);
     }
     if b.total <= b.number {
@@ -61,10 +62,10 @@ fn fits_place(b: Block, start: usize, size: usize) -> Screened
     if address < Page::WINDOW {
         return Screened::Refused(Answer::BadAddress);
     }
-    if address % 256 != 0 {
+    if address % Flash::PAYLOAD != 0 {
         return Screened::Refused(Answer::BadAddress);
     }
-    let past = address + 256;
+    let past = address + Flash::PAYLOAD;
     if size < past - Page::WINDOW {
         return Screened::Refused(Answer::BadAddress);
     }

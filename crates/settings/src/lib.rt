@@ -83,7 +83,7 @@ impl Settings {
         ensures { λ r. ⌜ r ≡ armOnly absolute ⌝ }
     {
         let e = Entry::blank();
-        let table = [e; 16];
+        let table = [e; Settings::ENTRIES];
         Self {
             arm: true,
             riscv: false,

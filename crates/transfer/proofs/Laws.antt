@@ -1,16 +1,19 @@
 -- A taken block and a step of a transfer by cases. Assumes nothing.
-use mathlib.Core.Path.{_≡_}
+use mathlib.Core.Path.{_≡_, refl}
 use mathlib.Core.Bool.{Bool, true, false}
 use Prim.Native.Nat.{ℕ, _+_, _<_, _≤_}
 use borrow.Author.Tests.{lt-ltb, le-ltb}
-use Rattle.transfer.specs.Transfer.{running, sameHead, counted, raised, taken, stepOf}
+use Rattle.sets.proofs.Tests.{split}
+use Rattle.transfer.specs.Transfer.{running, sameHead, counted, raised, stayed, taken, stepOf}
 use Rattle.transfer.specs.declared.Head.{Head}
 use Rattle.transfer.specs.declared.Run.{Run}
 use Rattle.transfer.specs.declared.State.{State}
-use Rattle.transfer.specs.declared.State.the-variants.{Running, Done}
+use Rattle.transfer.specs.declared.State.the-variants.{Idle, Running, Done}
+use Rattle.transfer.specs.declared.Stayed.{Stayed}
 use Rattle.transfer.specs.declared.Taken.{Taken}
 use Rattle.transfer.specs.declared.Answer.{Answer}
 use Rattle.transfer.specs.declared.Answer.the-variants.{Again, Written, Completed}
+use Rattle.transfer.specs.declared.Step.{Step}
 use Rattle.transfer.specs.declared.Step.the-variants.{Stays, Takes}
 
 -- ---- a block that is taken
@@ -35,10 +38,25 @@ module _ (r : Run) (g : Head) (m : Bool) where
   step-other h = simp h
 
   module _ (h : sameHead (r .head) g ≡ true) where
-    pub step-again : m ≡ true → stepOf (Running r) g m ≡ Stays Again
+    pub step-again : m ≡ true → stepOf (Running r) g m ≡ Stays (stayed (Running r) Again)
     unfolding stepOf
     step-again k = simp (h, k)
 
     pub step-more : m ≡ false → stepOf (Running r) g m ≡ Takes (taken false false g (r .count + 1))
     unfolding stepOf
     step-more k = simp (h, k)
+
+-- a step that stays hands back the transfer that was
+abbrev Handed : State → Step → Type 0
+Handed t (Stays x) = x .transfer .state ≡ t
+Handed t (Takes k) = Unit {0}
+
+handed : (t : State) (g : Head) (m : Bool) → Handed t (stepOf t g m)
+unfolding stepOf
+handed Idle g m = tt
+handed (Running r) g m =
+    split (sameHead (r .head) g) (λ q. split m (λ y. rw (q, y) refl) (λ z. rw (q, z) tt)) (λ q. rw q tt)
+handed (Done h) g m = refl
+
+pub stays-same : (t : State) (g : Head) (m : Bool) {x : Stayed} → stepOf t g m ≡ Stays x → x .transfer .state ≡ t
+stays-same t g m q = rw q at (handed t g m)

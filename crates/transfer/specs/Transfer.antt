@@ -6,6 +6,7 @@ use Rattle.transfer.specs.declared.Head.{Head}
 use Rattle.transfer.specs.declared.State.{State}
 use Rattle.transfer.specs.declared.State.the-variants.{Idle, Running, Done}
 use Rattle.transfer.specs.declared.Transfer.{Transfer}
+use Rattle.transfer.specs.declared.Stayed.{Stayed}
 use Rattle.transfer.specs.declared.Taken.{Taken}
 use Rattle.transfer.specs.declared.Step.{Step}
 use Rattle.transfer.specs.declared.Step.the-variants.{Stays, Takes}
@@ -62,6 +63,10 @@ counted g c = cond (ltb c (g .total)) (running g c) (Done g)
 unfoldable pub raised : Head → ℕ → Answer
 raised g c = cond (ltb c (g .total)) Written Completed
 
+-- the transfer as it was, with an answer
+abbrev pub stayed : State → Answer → Stayed
+stayed t x = record { transfer = record { state = t }; answer = x }
+
 -- a block of head g is taken, and c is the raised count
 unfoldable pub taken : Bool → Bool → Head → ℕ → Taken
 taken clears discards g c =
@@ -77,6 +82,6 @@ unfoldable pub stepOf : State → Head → Bool → Step
 stepOf Idle g marked = Takes (taken true false g 1)
 stepOf (Running r) g marked =
     cond (sameHead (r .head) g)
-    (cond marked (Stays Again) (Takes (taken false false g (r .count + 1))))
+    (cond marked (Stays (stayed (Running r) Again)) (Takes (taken false false g (r .count + 1))))
     (Takes (taken true true g 1))
-stepOf (Done h) g marked = Stays Finished
+stepOf (Done h) g marked = Stays (stayed (Done h) Finished)

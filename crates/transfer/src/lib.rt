@@ -44,6 +44,12 @@ pub enum Answer {
     Completed,
 }
 
+// A block that changes nothing: the next transfer, which is the one that was, and the answer.
+pub struct Stayed {
+    pub transfer: Transfer,
+    pub answer: Answer,
+}
+
 // A block that is taken: the next transfer and the answer, whether a running transfer was discarded, whether the maps are cleared first.
 pub struct Taken {
     pub transfer: Transfer,
@@ -52,9 +58,9 @@ pub struct Taken {
     pub fresh: bool,
 }
 
-// What a block does to a transfer: an answer that leaves it as it is, or a block that is taken.
+// What a block does to a transfer, with the next transfer and the answer in both cases.
 pub enum Step {
-    Stays(Answer),
+    Stays(Stayed),
     Takes(Taken),
 }
 
@@ -148,7 +154,10 @@ impl Transfer {
         match state {
             State::Idle => Step::Takes(take(head, 0, true, false)),
             State::Running(run) => go_on(run, head, marked),
-            State::Done(_) => Step::Stays(Answer::Finished),
+            State::Done(_) => Step::Stays(Stayed {
+                transfer: self,
+                answer: Answer::Finished,
+            }),
         }
     }
 }
@@ -162,7 +171,12 @@ fn go_on(run: Run, head: Head, marked: bool) -> Step
         return Step::Takes(take(head, 0, true, true));
     }
     if marked {
-        return Step::Stays(Answer::Again);
+        let state = State::Running(run);
+        let transfer = Transfer { state };
+        return Step::Stays(Stayed {
+            transfer,
+            answer: Answer::Again,
+        });
     }
     Step::Takes(take(head, run.count, false, false))
 }

@@ -30,8 +30,8 @@ same-length c = search needs
 
 returns : tie.Need-returns
 returns c =
-    let d = c .before .before .before .before in
-    look-stays _ _ _ _ _ _ (d .before .marked .ensures) (d .step .ensures) (c .before .before .step2 .given .1) (c .refuse .ensures)
+    let d = c .before .before .before .before .before in
+    look-stays _ _ _ _ _ _ (d .before .marked .ensures) (d .step .ensures) (c .before .before .before .step2 .given .1) (c .refuse .ensures)
 
 same-length-2 : tie.Need-same-length-2
 same-length-2 c = search needs

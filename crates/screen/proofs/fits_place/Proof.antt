@@ -6,6 +6,9 @@ use borrow.Author.Needs.{needs}
 use Rattle.screen.proofs.fits_place.Statement.{statement}
 use Rattle.screen.proofs.fits_place.Tie as tie
 
+cast-if1 : tie.Need-cast-if1
+cast-if1 c = search needs
+
 returns : tie.Need-returns
 returns c = sym (placed-payload _ _ _ (omega arith))
 
@@ -52,6 +55,7 @@ pub fits-place-spec : {M : Type 1} → statement M
 fits-place-spec =
     tie.close
     (tie.spec
+    cast-if1
     returns
     returns-2
     cast-if3
