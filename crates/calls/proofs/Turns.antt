@@ -22,15 +22,17 @@ use Rattle.arrival.specs.Arrive.{World, Outcome, Decision, tookOf, done, receiv
 use Rattle.arrival.specs.Lists.{receiveAll, answersOf, discardsOf}
 use Rattle.arrival.specs.Facts.{Refusals-change-nothing}
 use Rattle.arrival.specs.Tally.{headOf}
+use Rattle.arrival.specs.Demand.{seenOf, Ends, List-ends}
 use Rattle.arrival.proofs.Decided.{Took, Decided, kept, took, took-number, decided}
 use Rattle.arrival.proofs.Facts.{refusals-change-nothing}
+use Rattle.arrival.proofs.Demand.{list-ends}
 use Rattle.layout.specs.Bytes.{le32}
 use Rattle.layout.specs.Layout.{stateFrom, settingsFrom, thirteen, stateBytes, written}
 use Rattle.layout.proofs.Refused.{state-length}
 use Rattle.layout.proofs.Transfers.{Small, written-back}
 use Rattle.capi.specs.Calls as capi
 use Rattle.capi.specs.Calls.{receiveBytes, isTaken, arrivalsOf, resultsOf, anyTaken, laid, manyFrom, fewer, receiveMany}
-use Rattle.calls.specs.Turns.{Lent, call, leftBy, callAll, returnsOf, worldOf, AllBytes, Calls-are-arrivals, Calls-are-one-call}
+use Rattle.calls.specs.Turns.{Lent, call, leftBy, callAll, returnsOf, worldOf, AllBytes, Calls-are-arrivals, Calls-end, Calls-are-one-call}
 
 -- ---- a field of bytes
 
@@ -109,6 +111,12 @@ calls-results s h (a ∷ l) b =
 pub calls-are-arrivals : Calls-are-arrivals
 unfolding Calls-are-arrivals
 calls-are-arrivals s h l b = (calls-world s h l b, calls-results s h l b)
+
+pub calls-end : Calls-end
+unfolding Calls-end List-ends
+calls-end s h F i v l t b =
+    let z = settingsFrom s in
+    subst (Ends z (worldOf h) F (seenOf F l)) (sym (calls-world s h l b)) (list-ends z (worldOf h) F i v l t)
 
 -- ---- one call of many
 

@@ -32,14 +32,15 @@ module _ (b c : List ℕ) (n : ℕ) (e : take n b ≡ take n c) where
 
 -- ---- the table
 
-module _ (b c : List ℕ) (u : ℕ) (e : take (6 + 33 * u) b ≡ take (6 + 33 * u) c) where
+-- u entries are used
+module _ (b c : List ℕ) (n u : ℕ) (fits : 6 + 33 * u ≤ n) (e : take n b ≡ take n c) where
   same-slot : (k : ℕ) → slotFrom b u k ≡ slotFrom c u k
   unfolding slotFrom
   same-slot k =
       split (ltb k u)
       (λ y.
       let l = ltb-true k u y in
-      rw y (ap entryFrom (same-part b c (6 + 33 * u) e (6 + k * 33) 33 (omega arith))))
+      rw y (ap entryFrom (same-part b c n e (6 + k * 33) 33 (omega arith))))
       (λ z. rw z)
 
   same-slots : (k m : ℕ) → slotsFrom b u k m ≡ slotsFrom c u k m
@@ -55,7 +56,7 @@ unused-change-nothing b c h =
     let byte : (i : ℕ) → i < 6 → byteAt b i ≡ byteAt c i = λ i l. same-byte b c (usedBytes b) (h .front) i (omega arith) in
     let count : countFrom b ≡ countFrom c = rw (h .size, byte 5 (omega arith)) in
     let table : slotsFrom b (usedOf (countFrom b)) 0 16 ≡ slotsFrom c (usedOf (countFrom c)) 0 16 =
-    same-slots b c (usedOf (countFrom b)) (h .front) 0 16 ∙ ap (λ (n : ℕ). slotsFrom c (usedOf n) 0 16) count in
+    same-slots b c (usedBytes b) (usedOf (countFrom b)) (omega arith) (h .front) 0 16 ∙ ap (λ (n : ℕ). slotsFrom c (usedOf n) 0 16) count in
     cc (byte 0 (omega arith), byte 1 (omega arith), byte 2 (omega arith), byte 3 (omega arith), byte 4 (omega arith))
 
 pub unused-change-no-call : Unused-change-no-call

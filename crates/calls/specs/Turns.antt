@@ -4,8 +4,10 @@ use mathlib.Core.Path.{_≡_}
 use mathlib.Core.List.{List, [], _∷_}
 use lib.ListN.{length}
 use Rattle.record.specs.Write.{Bytes}
+use Rattle.transfer.specs.declared.State.the-variants.{Idle}
 use Rattle.arrival.specs.Arrive.{World}
 use Rattle.arrival.specs.Lists.{receiveAll, answersOf, discardsOf}
+use Rattle.arrival.specs.Demand.{File, ValidFile, Sent, seenOf, Ends}
 use Rattle.receiver.specs.Receiver.{world}
 use Rattle.layout.specs.Layout.{settingsFrom, transferFrom}
 use Rattle.capi.specs.Calls.{Ran, Many, receiveBytes, arrivalsOf, resultsOf, laid, receiveMany}
@@ -54,6 +56,14 @@ Calls-are-arrivals =
     (s : List ℕ) (h : Lent) (l : List (List ℕ)) → AllBytes l → let z = settingsFrom s in
     (worldOf (callAll s h l) ≡ receiveAll z (worldOf h) l)
     × (returnsOf s h l ≡ resultsOf (answersOf z (worldOf h) l) (discardsOf z (worldOf h) l))
+
+-- so demand 3 holds of the calls: from an Idle transfer, for a valid file and a list of its blocks mixed with arrivals answered 4 to 11, what
+-- was lent and the set of blocks seen decide flash, maps and transfer
+unfoldable pub Calls-end : Type 0
+Calls-end =
+    (s : List ℕ) (h : Lent) (F : File) → let z = settingsFrom s in
+    worldOf h .transfer ≡ Idle → ValidFile z (worldOf h) F → (l : List (List ℕ)) → Sent z (worldOf h) F l → AllBytes l
+    → Ends z (worldOf h) F (seenOf F l) (worldOf (callAll s h l))
 
 -- ---- they are one call of `uf2_receive_all`
 
