@@ -3,8 +3,8 @@ mod Items
 mod Count
 mod Cells
 mod Effect
-mod Screened
-mod Decided
+pub mod Screened
+pub mod Decided
 pub mod Facts
 mod Lists
 mod Files

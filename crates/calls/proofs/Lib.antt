@@ -1,0 +1,4 @@
+-- The proofs of the claims.
+pub mod Turns
+pub mod HexTurns
+pub mod Unused

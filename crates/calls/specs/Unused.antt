@@ -1,0 +1,30 @@
+-- Settings as bytes: those of entries past the count change nothing. Proved in proofs/Unused.antt. Assumes nothing.
+use Prim.Native.Nat.{ℕ, _+_, _*_}
+use mathlib.Core.Path.{_≡_}
+use mathlib.Core.List.{List}
+use lib.ListN.{length, take}
+use Rattle.layout.specs.Layout.{countFrom, usedOf, settingsFrom}
+use Rattle.capi.specs.Calls.{askBytes, receiveBytes, receiveMany}
+
+-- how many bytes of settings are read: the first 6, and 33 for each used entry
+abbrev pub usedBytes : List ℕ → ℕ
+usedBytes b = 6 + 33 * usedOf (countFrom b)
+
+-- two strings of one length that agree in the bytes that are read
+pub record Alike (b c : List ℕ) : Type 0 where
+  pub size : length b ≡ length c
+  pub front : take (usedBytes b) b ≡ take (usedBytes b) c
+
+-- they are the same settings
+unfoldable pub Unused-change-nothing : Type 0
+Unused-change-nothing = (b c : List ℕ) → Alike b c → settingsFrom b ≡ settingsFrom c
+
+-- every call answers and leaves the same with the one as with the other
+pub record Same-calls (b c : List ℕ) : Type 0 where
+  pub ask : (len f : ℕ) (l : List ℕ) → askBytes b len f l ≡ askBytes c len f l
+  pub receive : (t a f m k : List ℕ) → receiveBytes b t a f m k ≡ receiveBytes c t a f m k
+  pub receive-all : (t a r f m k : List ℕ) → receiveMany b t a r f m k ≡ receiveMany c t a r f m k
+
+-- so they change no call
+unfoldable pub Unused-change-no-call : Type 0
+Unused-change-no-call = (b c : List ℕ) → Alike b c → Same-calls b c
