@@ -16,15 +16,15 @@ use Rattle.record.specs.declared.Parsed.the-variants.{Good}
 use Rattle.grammar.specs.Answers.{numberOf, isFailure}
 use Rattle.grammar.specs.Boards.{isV1, isV2, hasBoard}
 use Rattle.grammar.specs.declared.Answer.{Answer}
-use Rattle.grammar.specs.declared.Answer.the-variants.{AfterEnd}
+use Rattle.grammar.specs.declared.Answer.the-variants.{Repeated, AfterEnd, Passed}
 use Rattle.unihex.specs.declared.Reader.{Reader}
 use Rattle.unihex.specs.Reader.{badFailure, badReader, standing, movedTo}
-use Rattle.unihex.specs.Line.{Outcome, outcome, addressOf, badImage}
-use Rattle.hexfile.specs.Facts.{Ready, Length-kept, Bad-exactly, Failed-repeats, After-end, Failures-fail, isTaken, moveOf, Offset-moves, Own-kept, Stays-good, End-ends, Stores-own-data}
-use Rattle.hexfile.specs.Lines.{Held, start, turn, next, readAll, answersOf, Store, storeOf, isStored, storesOf, covers, byteOf, anyCovers, latest, bytesTaken, isInside, saysData, gives, anyGives}
-use Rattle.hexfile.specs.Claims.{Image-is-latest, Image-length-kept, Others-as-lent, Last-store-stands, Stores-are-own, Never-bad, Failure-stays, End-stays, Offset-is-sum, Fresh-offset-is-sum, Gave-is-given, End-after-both}
-use Rattle.hexfile.proofs.Lined.{Onward, Lined, bad, past, again, failed, out, stored, passed, ended, lined}
-use Rattle.hexfile.proofs.Facts.{failure-from, failure-not-taken, fits, length-kept, bad-exactly, failed-repeats, after-end, failures-fail, offset-moves, own-kept, stays-good, end-ends, stores-own-data}
+use Rattle.unihex.specs.Line.{Outcome, outcome, wordOf, addressOf, badImage}
+use Rattle.hexfile.specs.Facts.{Ready, Length-kept, Bad-exactly, Failed-repeats, After-end, Failures-fail, isTaken, moveOf, Offset-moves, Own-kept, Stays-good, End-ends, Passed-or-repeated, Stores-own-data}
+use Rattle.hexfile.specs.Lines.{Held, start, turn, next, readAll, answersOf, Store, storeOf, isStored, storesOf, covers, byteOf, anyCovers, latest, bytesTaken, isInside, saysData, gives, anyGives, isOpened, saysName, names, anyNames, has04, says04, sets04, latest04}
+use Rattle.hexfile.specs.Claims.{Image-is-latest, Image-length-kept, Others-as-lent, Last-store-stands, Stores-are-own, Never-bad, Failure-stays, End-stays, Offset-is-sum, Fresh-offset-is-sum, Gave-is-given, End-after-both, Came-is-named, Second-is-repeated, Upper-is-latest}
+use Rattle.hexfile.proofs.Lined.{After, Lined, bad, past, again, failed, out, stored, passed, ended, lined}
+use Rattle.hexfile.proofs.Facts.{failure-from, failure-not-taken, fits, length-kept, bad-exactly, failed-repeats, after-end, failures-fail, offset-moves, own-kept, stays-good, end-ends, passed-or-repeated, stores-own-data}
 
 -- ---- the latest byte
 
@@ -78,7 +78,7 @@ module _ (r : Reader) (l img : List ℕ) where
   byte-next j (passed rec q p w m) = refl
   byte-next j (ended rec p w b m) = refl
 
-  gave-onward : {rec : Record} {q : Reader} (b : ℕ) → isV1 b || isV2 b ≡ true → readOf l .parsed ≡ Good rec → Onward r rec q
+  gave-onward : {rec : Record} {q : Reader} (b : ℕ) → isV1 b || isV2 b ≡ true → readOf l .parsed ≡ Good rec → After r l rec q
       → hasBoard (q .gave) b ≡ hasBoard (r .gave) b || isInside (r .stand) b && saysData (readOf l .parsed) b
   gave-onward b v p w = rw p (w .gave b v)
 
@@ -93,6 +93,37 @@ module _ (r : Reader) (l img : List ℕ) where
   gave-next b v (stored rec q d w m) = gave-onward b v (d .says) w
   gave-next b v (passed rec q p w m) = gave-onward b v p w
   gave-next b v (ended rec p w c m) = gave-onward b v p w
+
+  came-onward : {rec : Record} {q : Reader} (b : ℕ) → isV1 b || isV2 b ≡ true → readOf l .parsed ≡ Good rec → After r l rec q
+      → hasBoard (q .came) b ≡ hasBoard (r .came) b || isOpened (r .stand) && saysName (readOf l) b
+  came-onward b v p w = rw p (w .came b v)
+
+  came-next : (b : ℕ) → isV1 b || isV2 b ≡ true → {o : Outcome} → Lined r l img o
+      → hasBoard (o .reader .came) b ≡ hasBoard (r .came) b || names r l (o .answer) b
+  unfolding standing movedTo
+  came-next b v (bad a n x) = rw (lt-leb 32 (numberOf a) (omega arith)) (sym (or-false (hasBoard (r .came) b)))
+  came-next b v (past e) = sym (or-false (hasBoard (r .came) b))
+  came-next b v (again f e g) = rw (failure-not-taken (f .answer) g) (sym (or-false (hasBoard (r .came) b)))
+  came-next b v (failed a f) = rw (failure-not-taken a f) (sym (or-false (hasBoard (r .came) b)))
+  came-next b v (out rec q p w m) = came-onward b v p w
+  came-next b v (stored rec q d w m) = came-onward b v (d .says) w
+  came-next b v (passed rec q p w m) = came-onward b v p w
+  came-next b v (ended rec p w c m) = came-onward b v p w
+
+  upper-onward : {rec : Record} {q : Reader} → readOf l .parsed ≡ Good rec → After r l rec q
+      → q .upper ≡ cond (has04 (r .stand) && says04 (readOf l .parsed)) (wordOf (readOf l .«data»)) (r .upper)
+  upper-onward p w = rw p (w .upper)
+
+  upper-next : {o : Outcome} → Lined r l img o → o .reader .upper ≡ cond (sets04 r l (o .answer)) (wordOf (readOf l .«data»)) (r .upper)
+  unfolding standing movedTo
+  upper-next (bad a n x) = rw (lt-leb 32 (numberOf a) (omega arith))
+  upper-next (past e) = refl
+  upper-next (again f e g) = rw (failure-not-taken (f .answer) g)
+  upper-next (failed a f) = rw (failure-not-taken a f)
+  upper-next (out rec q p w m) = upper-onward p w
+  upper-next (stored rec q d w m) = upper-onward (d .says) w
+  upper-next (passed rec q p w m) = upper-onward p w
+  upper-next (ended rec p w c m) = upper-onward p w
 
 -- ---- lists
 
@@ -136,6 +167,21 @@ gave-all b v h (l ∷ ls) =
     gave-all b v (next h l) ls
     ∙ ap (λ (x : Bool). x || anyGives (next h l) ls b) (gave-next (h .reader) l (h .image) b v (lined (h .reader) l (h .image)))
     ∙ or-assoc (hasBoard (h .reader .gave) b) (gives (h .reader) l (turn h l .answer) b) (anyGives (next h l) ls b)
+
+came-all : (b : ℕ) → isV1 b || isV2 b ≡ true → (h : Held) (ls : List (List ℕ))
+    → hasBoard (readAll h ls .reader .came) b ≡ hasBoard (h .reader .came) b || anyNames h ls b
+unfolding readAll anyNames
+came-all b v h [] = sym (or-false (hasBoard (h .reader .came) b))
+came-all b v h (l ∷ ls) =
+    came-all b v (next h l) ls
+    ∙ ap (λ (x : Bool). x || anyNames (next h l) ls b) (came-next (h .reader) l (h .image) b v (lined (h .reader) l (h .image)))
+    ∙ or-assoc (hasBoard (h .reader .came) b) (names (h .reader) l (turn h l .answer) b) (anyNames (next h l) ls b)
+
+upper-all : (h : Held) (ls : List (List ℕ)) → readAll h ls .reader .upper ≡ latest04 h ls (h .reader .upper)
+unfolding readAll latest04
+upper-all h [] = refl
+upper-all h (l ∷ ls) =
+    upper-all (next h l) ls ∙ ap (latest04 (next h l) ls) (upper-next (h .reader) l (h .image) (lined (h .reader) l (h .image)))
 
 own-all : (h : Held) (ls : List (List ℕ)) → readAll h ls .reader .own ≡ h .reader .own
 unfolding readAll
@@ -239,3 +285,19 @@ end-after-both own img ls l e =
       sym (gave-is-given own img ls 0x9900 refl) ∙ rw (and-left (g .v1) (g .v2) b),
       sym (gave-is-given own img ls 0x9903 refl) ∙ and-right (g .v1) (g .v2) b,
     )
+
+pub came-is-named : Came-is-named
+unfolding Came-is-named
+came-is-named own img ls b v =
+    came-all b v (start own img) ls ∙ rw (and-false (isV1 b), and-false (isV2 b))
+
+pub second-is-repeated : Second-is-repeated
+unfolding Second-is-repeated Came-is-named Passed-or-repeated
+second-is-repeated own img ls l rec b o e v m d =
+    let h = readAll (start own img) ls in
+    passed-or-repeated (h .reader) l (h .image) rec b (ready-all (start own img) ls (ready-start own img o e)) m d
+    ∙ ap (λ (x : Bool). cond x Repeated Passed) (came-is-named own img ls b v)
+
+pub upper-is-latest : Upper-is-latest
+unfolding Upper-is-latest
+upper-is-latest own img ls = upper-all (start own img) ls

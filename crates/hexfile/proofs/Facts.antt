@@ -8,7 +8,7 @@ use native.Mathlib.Omega.{arith}
 use lib.Dec.{ltb, leb, eqb}
 use lib.ListN.{length, take}
 use lib.Seq.{length-take-le, getD-take}
-use borrow.Author.Tests.{leb-true, eqb-true, le-ltb, lt-leb, eq-eqb, ne-eqb}
+use borrow.Author.Tests.{leb-true, eqb-true, le-ltb, le-leb, lt-leb, eq-eqb, ne-eqb}
 use Rattle.sets.specs.Over.{over}
 use Rattle.sets.proofs.Tests.{split, clash, is-false, eqb-same, or-left, or-right, and-left, and-right}
 use Rattle.sets.proofs.OverLaws.{length-over, over-inside, over-before, over-after}
@@ -16,19 +16,19 @@ use Rattle.record.specs.Record.{readOf}
 use Rattle.record.specs.declared.Record.{Record}
 use Rattle.record.specs.declared.Parsed.the-variants.{Good}
 use Rattle.grammar.specs.Answers.{numberOf, isFailure}
-use Rattle.grammar.specs.Boards.{isV1, isV2, bothBoards}
+use Rattle.grammar.specs.Boards.{isV1, isV2, hasBoard, bothBoards}
 use Rattle.grammar.specs.Grammar.{is04, dataKind, roleOf}
 use Rattle.grammar.specs.declared.Answer.{Answer}
 use Rattle.grammar.specs.declared.Answer.the-variants as answer
 use Rattle.grammar.specs.declared.Stand.{Stand}
-use Rattle.grammar.specs.declared.Stand.the-variants.{Between, Inside, Ended}
+use Rattle.grammar.specs.declared.Stand.the-variants.{Between, Opened, Inside, Ended}
 use Rattle.unihex.specs.declared.Reader.{Reader}
 use Rattle.unihex.specs.declared.Step.the-variants.{Stores}
 use Rattle.unihex.specs.Reader.{badFailure, badReader, standing, withData, movedTo, givenOf, stepOf}
 use Rattle.unihex.specs.Line.{Outcome, outcome, failedBy, failing, wordOf, addressOf, storing, stepped, takenOf, parsedLine, liveLine, haltOf, haltLine, badImage, lineOf}
-use Rattle.hexfile.specs.Facts.{Only-33-stores, Length-kept, Ready, Bad-changes-nothing, Bad-exactly, Failed-repeats, After-end, Failures-fail, isTaken, moveOf, Offset-moves, Own-kept, Stays-good, End-ends, End-or-missing, OwnData, StoredIn, Stores-own-data, Own-data-is-stored, Elsewhere-unchanged, Other-board-unchanged}
+use Rattle.hexfile.specs.Facts.{Only-33-stores, Length-kept, Ready, Bad-changes-nothing, Bad-exactly, Failed-repeats, After-end, Failures-fail, isTaken, moveOf, Offset-moves, Own-kept, Stays-good, End-ends, End-or-missing, Passed-or-repeated, OwnData, StoredIn, Stores-own-data, Own-data-is-stored, Elsewhere-unchanged, Other-board-unchanged}
 use Rattle.record.proofs.Good.{good-len, length-data}
-use Rattle.hexfile.proofs.Lined.{Onward, Lined, bad, past, again, failed, out, stored, passed, ended, good-stand, lined, 04-no-data}
+use Rattle.hexfile.proofs.Lined.{After, Lined, bad, past, again, failed, out, stored, passed, ended, good-stand, lined, 04-no-data}
 
 -- ---- the numbers of failures
 
@@ -168,7 +168,7 @@ module _ (r : Reader) (l img : List ℕ) where
   unfolding badReader
   good-next q o e s n = rw (o, e, s, good-own n)
 
-  good-onward : {rec : Record} {q : Reader} → Onward r rec q → r .offset + length l ≤ 4194304 → badReader r ≡ false
+  good-onward : {rec : Record} {q : Reader} → After r l rec q → r .offset + length l ≤ 4194304 → badReader r ≡ false
       → badReader (movedTo q (r .offset + length l)) ≡ false
   unfolding movedTo
   good-onward {q = q} w m h =
@@ -328,3 +328,10 @@ unfolding End-or-missing
 end-or-missing r l img rec y m p s k n =
     ap (λ (o : Outcome). o .answer) (good-line r l img rec Between y m p s (unfold haltLine in refl))
     ∙ unfold stepped roleOf stepOf in rw (k, n) (split (bothBoards (r .gave)) (λ b. rw b) (λ b. rw b))
+
+pub passed-or-repeated : Passed-or-repeated
+unfolding Passed-or-repeated
+passed-or-repeated r l img rec b y m d =
+    ap (λ (o : Outcome). o .answer) (good-line r l img rec Opened y m (d .says) (d .opened) (unfold haltLine in refl))
+    ∙ unfold stepped roleOf stepOf in
+    rw (d .kind, le-leb 2 (rec .len) (d .some), d .board) (split (hasBoard (r .came) b) (λ c. rw c) (λ c. rw c))

@@ -1,16 +1,16 @@
 -- What is claimed of lists of lines. Proved in proofs/Claims.antt. Assumes nothing.
 use Prim.Native.Nat.{ℕ, _+_, _≤_}
 use mathlib.Core.Path.{_≡_}
-use mathlib.Core.Bool.{true, false, _||_}
+use mathlib.Core.Bool.{true, false, _||_, cond}
 use mathlib.Core.List.{List, _∷_, _++_}
 use lib.ListN.{length, getD, replicate}
 use Rattle.record.specs.declared.Record.{Record}
 use Rattle.grammar.specs.Answers.{numberOf, isFailure}
 use Rattle.grammar.specs.Boards.{isV1, isV2, hasBoard}
-use Rattle.grammar.specs.declared.Answer.the-variants.{Stored, AfterEnd, Ended}
+use Rattle.grammar.specs.declared.Answer.the-variants.{Repeated, AfterEnd, Stored, Passed, Ended}
 use Rattle.unihex.specs.Line.{badImage}
-use Rattle.hexfile.specs.Facts.{OwnData}
-use Rattle.hexfile.specs.Lines.{Held, start, turn, next, readAll, answersOf, Store, storesOf, covers, byteOf, anyCovers, latest, bytesTaken, anyGives}
+use Rattle.hexfile.specs.Facts.{OwnData, NamesBoard}
+use Rattle.hexfile.specs.Lines.{Held, start, turn, next, readAll, answersOf, Store, storesOf, covers, byteOf, anyCovers, latest, bytesTaken, anyGives, anyNames, latest04}
 
 -- ---- the image, over any lines from any reader, a fresh one too: it differs from what was lent only where own data was stored, and
 -- holds the latest such byte there
@@ -83,3 +83,22 @@ unfoldable pub End-after-both : Type 0
 End-after-both =
     (own : ℕ) (img : List ℕ) (ls : List (List ℕ)) (l : List ℕ) → turn (readAll (start own img) ls) l .answer ≡ Ended
     → (anyGives (start own img) ls 0x9900 ≡ true) × (anyGives (start own img) ls 0x9903 ≡ true)
+
+-- and whether a section of V1 or of V2 came: a line was taken as the 0A that names it
+unfoldable pub Came-is-named : Type 0
+Came-is-named =
+    (own : ℕ) (img : List ℕ) (ls : List (List ℕ)) (b : ℕ) → isV1 b || isV2 b ≡ true
+    → hasBoard (readAll (start own img) ls .reader .came) b ≡ anyNames (start own img) ls b
+
+-- "28 Repeated: a second V1 or V2 section": an 0A in its place, within the limit, is answered so exactly if an earlier one named its board
+unfoldable pub Second-is-repeated : Type 0
+Second-is-repeated =
+    (own : ℕ) (img : List ℕ) (ls : List (List ℕ)) (l : List ℕ) (rec : Record) (b : ℕ) → isV1 own || isV2 own ≡ true → badImage (length img) ≡ false
+    → isV1 b || isV2 b ≡ true → let h = readAll (start own img) ls in
+    h .reader .offset + length l ≤ 4194304 → NamesBoard (h .reader) l rec b
+    → turn h l .answer ≡ cond (anyNames (start own img) ls b) Repeated Passed
+
+-- for the addresses of data it keeps "the latest 04's two bytes, high first", and 0 before any 04
+unfoldable pub Upper-is-latest : Type 0
+Upper-is-latest =
+    (own : ℕ) (img : List ℕ) (ls : List (List ℕ)) → readAll (start own img) ls .reader .upper ≡ latest04 (start own img) ls 0

@@ -12,15 +12,15 @@ use Rattle.record.specs.Record.{readOf}
 use Rattle.record.specs.declared.Record.{Record}
 use Rattle.record.specs.declared.Parsed.the-variants.{Good}
 use Rattle.grammar.specs.Answers.{numberOf, isFailure}
-use Rattle.grammar.specs.Boards.{bothBoards}
+use Rattle.grammar.specs.Boards.{hasBoard, bothBoards}
 use Rattle.grammar.specs.Grammar.{dataKind}
 use Rattle.grammar.specs.declared.Answer.{Answer}
 use Rattle.grammar.specs.declared.Answer.the-variants as answer
 use Rattle.grammar.specs.declared.Failure.{Failure}
-use Rattle.grammar.specs.declared.Stand.the-variants.{Between, Inside, Padded, Ended, Failed}
+use Rattle.grammar.specs.declared.Stand.the-variants.{Between, Opened, Inside, Padded, Ended, Failed}
 use Rattle.unihex.specs.declared.Reader.{Reader}
 use Rattle.unihex.specs.Reader.{badReader}
-use Rattle.unihex.specs.Line.{Outcome, outcome, failing, addressOf, badImage, lineOf}
+use Rattle.unihex.specs.Line.{Outcome, outcome, failing, wordOf, addressOf, badImage, lineOf}
 
 -- what holds of every reader, line and image, and of what the line comes to
 abbrev pub EveryLine : (Reader → List ℕ → List ℕ → Outcome → Type 0) → Type 0
@@ -95,6 +95,22 @@ End-or-missing =
     (λ r l img o.
     (rec : Record) → Ready r img → r .offset + length l ≤ 4194304 → readOf l .parsed ≡ Good rec → r .stand ≡ Between → rec .kind ≡ 1
     → rec .len ≡ 0 → o .answer ≡ cond (bothBoards (r .gave)) answer.Ended answer.MissingBoard)
+
+-- a line's record is, after a section's opening 04, an "0A with at least 2 data bytes, the first two naming the board" b
+pub record NamesBoard (r : Reader) (l : List ℕ) (rec : Record) (b : ℕ) : Type 0 where
+  pub says : readOf l .parsed ≡ Good rec
+  pub opened : r .stand ≡ Opened
+  pub kind : rec .kind ≡ 10
+  pub some : 2 ≤ rec .len
+  pub board : wordOf (readOf l .«data») ≡ b
+
+-- "28 Repeated: a second V1 or V2 section": of such a line within the limit, where the board's section came
+unfoldable pub Passed-or-repeated : Type 0
+Passed-or-repeated =
+    EveryLine
+    (λ r l img o.
+    (rec : Record) (b : ℕ) → Ready r img → r .offset + length l ≤ 4194304 → NamesBoard r l rec b
+    → o .answer ≡ cond (hasBoard (r .came) b) answer.Repeated answer.Passed)
 
 -- ---- what is stored
 

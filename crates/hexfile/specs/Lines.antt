@@ -1,19 +1,20 @@
 -- Lists of lines: each line gets the reader that the last one handed back, and the image as that one left it. Assumes nothing.
 use Prim.Native.Nat.{ℕ, _+_, _-_}
-use mathlib.Core.Bool.{Bool, false, cond, _&&_, _||_}
+use mathlib.Core.Bool.{Bool, true, false, cond, _&&_, _||_}
 use mathlib.Core.List.{List, [], _∷_, _++_}
 use lib.Dec.{leb, ltb, eqb}
 use lib.ListN.{length, getD, take}
 use Rattle.record.specs.Record.{onRecord, readOf}
+use Rattle.record.specs.declared.Line.{Line}
 use Rattle.record.specs.declared.Parsed.{Parsed}
 use Rattle.grammar.specs.Answers.{numberOf}
-use Rattle.grammar.specs.Grammar.{dataKind}
+use Rattle.grammar.specs.Grammar.{is04, is0A, dataKind}
 use Rattle.grammar.specs.declared.Answer.{Answer}
 use Rattle.grammar.specs.declared.Stand.{Stand}
 use Rattle.grammar.specs.declared.Stand.the-variants.{Between, Opened, Inside, Padded, Ended, Failed}
 use Rattle.unihex.specs.declared.Reader.{Reader}
 use Rattle.unihex.specs.Reader.{freshOf}
-use Rattle.unihex.specs.Line.{Outcome, addressOf, lineOf}
+use Rattle.unihex.specs.Line.{Outcome, wordOf, addressOf, lineOf}
 use Rattle.hexfile.specs.Facts.{isTaken, moveOf}
 
 -- what the caller holds between two lines
@@ -109,3 +110,47 @@ gives r l a b = isTaken a && (isInside (r .stand) b && saysData (readOf l .parse
 unfoldable pub anyGives : Held → List (List ℕ) → ℕ → Bool
 anyGives h [] b = false
 anyGives h (l ∷ ls) b = gives (h .reader) l (turn h l .answer) b || anyGives (next h l) ls b
+
+-- the reader is after a section's opening 04
+abbrev pub isOpened : Stand → Bool
+isOpened Between = false
+isOpened Opened = true
+isOpened (Inside c) = false
+isOpened (Padded c) = false
+isOpened Ended = false
+isOpened (Failed f) = false
+
+-- a line says an "0A with at least 2 data bytes, the first two naming the board" b
+abbrev pub saysName : Line → ℕ → Bool
+saysName x b = onRecord false (λ rec. is0A (rec .kind) (rec .len) && eqb (wordOf (x .«data»)) b) (x .parsed)
+
+-- a line taken as the 0A of a section of board b
+abbrev pub names : Reader → List ℕ → Answer → ℕ → Bool
+names r l a b = isTaken a && (isOpened (r .stand) && saysName (readOf l) b)
+
+-- some line was
+unfoldable pub anyNames : Held → List (List ℕ) → ℕ → Bool
+anyNames h [] b = false
+anyNames h (l ∷ ls) b = names (h .reader) l (turn h l .answer) b || anyNames (next h l) ls b
+
+-- an 04 has its place here: it opens a section, or stands in one before its first 0C
+abbrev pub has04 : Stand → Bool
+has04 Between = true
+has04 Opened = false
+has04 (Inside c) = true
+has04 (Padded c) = false
+has04 Ended = false
+has04 (Failed f) = false
+
+-- a line says an 04: "04 carries 2 bytes"
+abbrev pub says04 : Parsed → Bool
+says04 p = onRecord false (λ rec. is04 (rec .kind) (rec .len)) p
+
+-- a line taken as an 04
+abbrev pub sets04 : Reader → List ℕ → Answer → Bool
+sets04 r l a = isTaken a && (has04 (r .stand) && says04 (readOf l .parsed))
+
+-- "the latest 04's two bytes, high first", and where none was taken, u
+unfoldable pub latest04 : Held → List (List ℕ) → ℕ → ℕ
+latest04 h [] u = u
+latest04 h (l ∷ ls) u = latest04 (next h l) ls (cond (sets04 (h .reader) l (turn h l .answer)) (wordOf (readOf l .«data»)) u)

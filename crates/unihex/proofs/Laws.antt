@@ -1,7 +1,7 @@
 -- Laws of a good record, one for each way that the code leaves. Assumes nothing.
 use Prim.Native.Nat.{ℕ, _+_, _%_, _≤_, _<_}
 use mathlib.Core.Path.{_≡_, refl, ap, sym, _∙_}
-use mathlib.Core.Logic.{⊎-elim}
+use mathlib.Core.Logic.{_≢_, ⊎-elim}
 use types.Run.{OneOf}
 use denote.Enum.Declared.{tagOf}
 use native.Mathlib.Omega.{arith}
@@ -17,7 +17,8 @@ use Rattle.record.proofs.Parsed.{the-type}
 use Rattle.record.specs.declared.Parsed.{Parsed}
 use Rattle.record.specs.declared.Parsed.the-variants as parsed
 use Rattle.record.specs.declared.Line.{Line}
-use Rattle.record.specs.Record.{readOf}
+use Rattle.record.specs.Record.{readOf, parsedNumber}
+use Rattle.grammar.specs.Answers.{numberOf}
 use Rattle.grammar.specs.Grammar.{roleOf}
 use Rattle.grammar.specs.Boards.{isV1, isV2, hasBoard, bothBoards}
 use Rattle.grammar.specs.declared.Answer.{Answer}
@@ -155,3 +156,14 @@ pub line-by : (r : Reader) (l img : List ℕ) (b : Bool) (x y : Halt) (o : Outco
     → x ≡ haltOf (r .stand) → x ≡ y → o ≡ haltLine r l img y → o ≡ lineOf r l img
 unfolding lineOf
 line-by r l img b x y o g e h k q f = simp (g, sym e ∙ h) (f ∙ ap (haltLine r l img) (sym q ∙ k))
+
+-- ---- the numbers of a line's refusals are the answers'
+
+pub refusal-number : (p : Parsed) → parsedNumber p ≢ 0 → numberOf (refusalOf p) ≡ parsedNumber p
+refusal-number parsed.NoColon n = refl
+refusal-number parsed.BadShape n = refl
+refusal-number parsed.BadDigit n = refl
+refusal-number parsed.TooLong n = refl
+refusal-number parsed.BadLength n = refl
+refusal-number parsed.BadSum n = refl
+refusal-number (parsed.Good rec) n = absurd (n refl)
