@@ -13,7 +13,7 @@
 extern "C" {
 #endif
 
-/* Sizes of what is lent, in bytes. A flash is whole sectors, from one to UF2_FLASH_MOST bytes. */
+/* Sizes of what is lent, in bytes. A flash is whole sectors, from one sector to UF2_FLASH_MOST bytes. */
 #define UF2_ARRIVAL 512
 #define UF2_SEEN 16384
 #define UF2_SECTORS 1024
@@ -125,7 +125,8 @@ uint32_t uf2_receive(const uint8_t *settings, size_t settings_len, uint8_t *tran
 
 /* Arrivals one after the other, each UF2_ARRIVAL bytes: as many whole ones as there are bytes in `results`, which get what
  * uf2_receive would return; the number of them. Settings are read once. The transfer's bytes stay as they were lent where no
- * arrival is answered UF2_WRITTEN or UF2_COMPLETED. */
+ * arrival is answered UF2_WRITTEN or UF2_COMPLETED. What follows the last whole arrival, or the last that has room for its result, is
+ * not read: a short last piece is for uf2_receive, which answers it UF2_BAD_BUFFERS. */
 size_t uf2_receive_all(const uint8_t *settings, size_t settings_len, uint8_t *transfer, size_t transfer_len,
                        const uint8_t *arrivals, size_t arrivals_len, uint8_t *results, size_t results_len, uint8_t *flash,
                        size_t flash_len, uint8_t *seen, size_t seen_len, uint8_t *sectors, size_t sectors_len);
