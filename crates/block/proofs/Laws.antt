@@ -1,21 +1,27 @@
 -- The laws of a block's fields, and each case of its header. Assumes nothing.
-use mathlib.Core.Path.{_≡_, refl}
+use mathlib.Core.Path.{_≡_, refl, _∙_}
 use mathlib.Core.List.{List}
 use Prim.Native.Nat.{ℕ, _+_, _*_, _/_, _%_, _<_, _≤_}
 use native.Mathlib.Nat.{add-mul-div-left, add-mul-mod-self-left}
 use native.Mathlib.Omega.{arith}
 use lib.ListN.{length, getD}
 use borrow.Author.Tests.{le-leb, lt-leb, eq-eqb, ne-eqb}
+use Rattle.sets.specs.Bytes.{numberIn}
+use Rattle.sets.proofs.BytesLaws.{number-four}
 use Rattle.block.specs.declared.Block.{Block}
 use Rattle.block.specs.declared.Header.the-variants.{NotBlock, Container, Comment, NoFamily, Found}
 use Rattle.block.specs.Block.{fieldAt, fieldsOf, flaggedOf, headerOf}
 
 -- ---- one field, at any offset
 
+pub field-number : (a : List ℕ) (at : ℕ) → at + 4 ≤ length a → fieldAt a at ≡ numberIn 4 a at
+unfolding fieldAt
+field-number a at h = rw (le-leb (at + 4) (length a) h) refl
+
+-- by the weight of each byte, as the code has it
 pub field-in : (a : List ℕ) (at : ℕ) → at + 4 ≤ length a
     → fieldAt a at ≡ getD a at 0 + 256 * getD a (at + 1) 0 + 65536 * getD a (at + 2) 0 + 16777216 * getD a (at + 3) 0
-unfolding fieldAt
-field-in a at h = rw (le-leb (at + 4) (length a) h) refl
+field-in a at h = field-number a at h ∙ number-four a at
 
 pub field-past : (a : List ℕ) (at : ℕ) → length a < at + 4 → fieldAt a at ≡ 0
 unfolding fieldAt

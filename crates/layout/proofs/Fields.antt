@@ -6,10 +6,10 @@ use native.Mathlib.Omega.{arith}
 use lib.ListN.{length, set, length-append}
 use borrow.Author.Tests.{le-leb, lt-leb}
 use Rattle.sets.specs.Over.{over}
-use Rattle.sets.proofs.BytesLaws.{length-low, number-back, number-four, low-four}
+use Rattle.sets.proofs.BytesLaws.{length-low, number-back, low-four}
 use Rattle.sets.proofs.OverLaws.{length-over, set-over, over-next}
 use Rattle.block.specs.Block.{fieldAt}
-use Rattle.block.proofs.Laws.{field-in}
+use Rattle.block.proofs.Laws.{field-number}
 use Rattle.layout.specs.Bytes.{le32, putAt}
 
 -- ---- written
@@ -46,4 +46,4 @@ pub field-le32 : (p : List ℕ) (x : ℕ) (s : List ℕ) → x < 2 ^ 32 → fiel
 field-le32 p x s h =
     let b = le32 x ++ s in
     let fits : length p + 4 ≤ length (p ++ b) = omega (arith, length-append p b, length-append (le32 x) s, length-low 4 x) in
-    field-in (p ++ b) (length p) fits ∙ sym (number-four (p ++ b) (length p)) ∙ number-back 4 x p s h
+    field-number (p ++ b) (length p) fits ∙ number-back 4 x p s h
