@@ -1,5 +1,5 @@
 -- The laws of a block's fields, and each case of its header. Assumes nothing.
-use mathlib.Core.Path.{_≡_, refl}
+use mathlib.Core.Path.{_≡_, refl, _∙_}
 use mathlib.Core.Logic.{_⊎_, inl, inr, ⊎-elim}
 use mathlib.Core.List.{List}
 use Prim.Native.Nat.{ℕ, _+_, _*_, _/_, _%_, _<_, _≤_}
@@ -10,16 +10,22 @@ use lib.ListN.{length, getD, set, length-set}
 use lib.Seq.{getD-set-same, getD-set-other}
 use borrow.Author.Tests.{le-leb, lt-leb, leb-true, leb-false, eq-eqb, ne-eqb}
 use Rattle.sets.proofs.Tests.{split}
+use Rattle.sets.specs.Bytes.{numberIn}
+use Rattle.sets.proofs.BytesLaws.{number-four}
 use Rattle.block.specs.declared.Block.{Block}
 use Rattle.block.specs.declared.Header.the-variants.{NotBlock, Container, Comment, NoFamily, Found}
 use Rattle.block.specs.Block.{fieldAt, fieldsOf, flaggedOf, headerOf}
 
 -- ---- one field, at any offset
 
+pub field-number : (a : List ℕ) (at : ℕ) → at + 4 ≤ length a → fieldAt a at ≡ numberIn 4 a at
+unfolding fieldAt
+field-number a at h = rw (le-leb (at + 4) (length a) h) refl
+
+-- by the weight of each byte, as the code has it
 pub field-in : (a : List ℕ) (at : ℕ) → at + 4 ≤ length a
     → fieldAt a at ≡ getD a at 0 + 256 * getD a (at + 1) 0 + 65536 * getD a (at + 2) 0 + 16777216 * getD a (at + 3) 0
-unfolding fieldAt
-field-in a at h = rw (le-leb (at + 4) (length a) h) refl
+field-in a at h = field-number a at h ∙ number-four a at
 
 pub field-past : (a : List ℕ) (at : ℕ) → length a < at + 4 → fieldAt a at ≡ 0
 unfolding fieldAt
@@ -74,6 +80,8 @@ unfolding fieldAt
 field-set a j v at o =
     rw (
       length-set a j v,
+      number-four (set a j v) at,
+      number-four a at,
       getD-set-other a j at v 0 (λ e. apart 0 (omega arith) (omega (arith, e))),
       getD-set-other a j (at + 1) v 0 (λ e. apart 1 (omega arith) e),
       getD-set-other a j (at + 2) v 0 (λ e. apart 2 (omega arith) e),

@@ -1,19 +1,17 @@
 -- A UF2 block (01, "A UF2 block"): its fields, and what its header says. Assumes nothing.
-use Prim.Native.Nat.{ℕ, _+_, _*_, _/_, _%_}
+use Prim.Native.Nat.{ℕ, _+_, _/_, _%_}
 use mathlib.Core.Bool.{Bool, not, cond}
 use mathlib.Core.List.{List}
-use lib.ListN.{length, getD}
+use lib.ListN.{length}
 use lib.Dec.{eqb, leb}
+use Rattle.sets.specs.Bytes.{numberIn}
 use Rattle.block.specs.declared.Block.{Block}
 use Rattle.block.specs.declared.Header.{Header}
 use Rattle.block.specs.declared.Header.the-variants.{NotBlock, Container, Comment, NoFamily, Found}
 
 -- "Little-endian 32-bit fields": the field at an offset, or 0 where it runs past the end
 unfoldable pub fieldAt : List ℕ → ℕ → ℕ
-fieldAt a at =
-    cond (leb (at + 4) (length a))
-    (getD a at 0 + 256 * getD a (at + 1) 0 + 65536 * getD a (at + 2) 0 + 16777216 * getD a (at + 3) 0)
-    0
+fieldAt a at = cond (leb (at + 4) (length a)) (numberIn 4 a at) 0
 
 -- "8 flags": is the flag of weight f set?
 abbrev pub hasFlag : List ℕ → ℕ → Bool

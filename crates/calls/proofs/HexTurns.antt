@@ -38,7 +38,7 @@ use Rattle.layout.specs.Layout.{byteAt}
 use Rattle.capi.specs.HexCalls.{lineBytes}
 use Rattle.capi.proofs.HexLaws.{line-next}
 use Rattle.calls.specs.HexTurns.{Lent, call, leftBy, callAll, returnsOf, heldOf, Calls-are-lines}
-use Rattle.calls.proofs.Turns.{byte-low}
+use Rattle.calls.proofs.Turns.{byte-low, number-low}
 
 -- ---- by cases of a test
 
@@ -169,7 +169,7 @@ module _ (r : Reader) (h : Narrow r) where
 from-narrow : (b : List ℕ) → Bytes b → Narrow (readerFrom b)
 unfolding readerFrom fieldsFrom standOf
 from-narrow b h =
-    let half : (i : ℕ) → halfAt b i < 2 ^ 16 = λ i. omega (arith, byte-low b h i, byte-low b h (i + 1)) in
+    let half : (i : ℕ) → halfAt b i < 2 ^ 16 = number-low 2 b h in
     let k = byteAt b 8 in
     either Narrow (eqb (length b) 16)
     (either Narrow (leb k 5) (

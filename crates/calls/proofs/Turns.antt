@@ -3,12 +3,14 @@ use Prim.Native.Nat.{ℕ, zero, suc, _+_, _/_, _<_, _^_}
 use mathlib.Core.Path.{_≡_, refl, sym, ap, subst, _∙_}
 use mathlib.Core.Bool.{Bool, true, false, _||_}
 use mathlib.Core.List.{List, [], _∷_}
+use native.Mathlib.Nat.{pow-suc}
 use native.Mathlib.Omega.{arith}
 use lib.Dec.{ltb, leb, eqb}
 use lib.ListN.{length, getD, drop, length-take, length-drop}
 use lib.Seq.{getD-take, getD-drop}
 use borrow.Author.Tests.{ltb-true, le-leb, lt-leb, leb-false, eqb-true, eqb-false, eq-eqb}
 use Rattle.sets.proofs.Tests.{split, clash, or-left, or-right}
+use Rattle.sets.specs.Bytes.{lowFirst, numberIn}
 use Rattle.block.specs.Block.{fieldAt}
 use Rattle.record.specs.Write.{Bytes}
 use Rattle.settings.specs.declared.Settings.{Settings}
@@ -26,7 +28,6 @@ use Rattle.arrival.specs.Demand.{seenOf, Ends, List-ends}
 use Rattle.arrival.proofs.Decided.{Took, Decided, kept, took, took-number, decided}
 use Rattle.arrival.proofs.Facts.{refusals-change-nothing}
 use Rattle.arrival.proofs.Demand.{list-ends}
-use Rattle.layout.specs.Bytes.{le32}
 use Rattle.layout.specs.Layout.{stateFrom, settingsFrom, thirteen, stateBytes, written}
 use Rattle.layout.proofs.Refused.{state-length}
 use Rattle.layout.proofs.Transfers.{Small, written-back}
@@ -41,11 +42,17 @@ byte-low [] h i = omega arith
 byte-low (x ∷ b) h zero = h zero (omega arith)
 byte-low (x ∷ b) h (suc i) = byte-low b (λ j l. h (suc j) (omega arith)) i
 
+-- n bytes are a number below 256 ^ n
+pub number-low : (n : ℕ) (b : List ℕ) → Bytes b → (at : ℕ) → numberIn n b at < 256 ^ n
+unfolding numberIn
+number-low zero b h at = omega arith
+number-low (suc n) b h at = omega (arith, byte-low b h at, number-low n b h (at + 1), pow-suc 256 n)
+
 field-low : (a : List ℕ) → Bytes a → (at : ℕ) → fieldAt a at < 2 ^ 32
 unfolding fieldAt
 field-low a h at =
     split (leb (at + 4) (length a))
-    (λ y. rw y (omega (arith, byte-low a h at, byte-low a h (at + 1), byte-low a h (at + 2), byte-low a h (at + 3))))
+    (λ y. rw y (number-low 4 a h at))
     (λ z. rw z (omega arith))
 
 -- ---- the transfer of a block that was taken fits its bytes
@@ -127,9 +134,9 @@ written-again t x y =
     split (eqb (length t) 13) (λ e. rw (e, eq-eqb (length (stateBytes x)) 13 (state-size x))) (λ n. rw (n, n))
   where
     state-size : (x : State) → length (stateBytes x) ≡ 13
-    state-size Idle = unfold thirteen le32 in refl
-    state-size (Running r) = unfold thirteen le32 in refl
-    state-size (Done g) = unfold thirteen le32 in refl
+    state-size Idle = unfold thirteen lowFirst in refl
+    state-size (Running r) = unfold thirteen lowFirst in refl
+    state-size (Done g) = unfold thirteen lowFirst in refl
 
 -- where no block is taken the transfer stays
 none-taken : (z : Settings) (w : World) (l : List (List ℕ)) → anyTaken (answersOf z w l) ≡ false → receiveAll z w l .transfer ≡ w .transfer

@@ -6,6 +6,7 @@ use mathlib.Core.List.{List, [], _++_}
 use native.Mathlib.Omega.{arith}
 use lib.ListN.{length}
 use Rattle.sets.proofs.Tests.{split}
+use Rattle.sets.specs.Bytes.{lowFirst}
 use Rattle.sets.specs.Over.{over}
 use Rattle.sets.proofs.OverLaws.{length-over, over-next, over-whole}
 use Rattle.block.specs.Block.{fieldAt}
@@ -46,7 +47,7 @@ module _ (s : Settings) (len f : ℕ) where
 -- ---- it is written
 
 pub place-put : (b : List ℕ) (a n : ℕ) → length b ≡ 8 → putAt (putAt b 0 a) 4 n ≡ le32 a ++ le32 n
-unfolding le32
+unfolding lowFirst
 place-put b a n e =
     let fits : 0 + length (le32 a) ≤ length b = omega arith in
     let same = length-over b 0 (le32 a) fits in
@@ -56,5 +57,5 @@ place-put b a n e =
 -- ---- it is read back
 
 pub place-back : (a n : ℕ) → a < 2 ^ 32 → n < 2 ^ 32 → (fieldAt (le32 a ++ le32 n) 0 ≡ a) × (fieldAt (le32 a ++ le32 n) 4 ≡ n)
-unfolding le32
+unfolding lowFirst
 place-back a n p q = (field-le32 [] a (le32 n) p, field-le32 (le32 a) n [] q)

@@ -1,6 +1,7 @@
 -- Every example of the table holds: one equation, computed. Assumes nothing.
 use mathlib.Core.Path.{refl}
 use Rattle.fill.specs.Many.{many}
+use Rattle.sets.specs.Bytes.{lowFirst, numberIn}
 use Rattle.sets.specs.Over.{over}
 use Rattle.sets.specs.Sets.{any}
 use Rattle.bitmap.specs.Bitmap.{bit, withBit, markedIn, withMark, unmarked}
@@ -15,5 +16,5 @@ use Rattle.arrival.specs.Lists.{receiveAll, answersOf, discardsOf}
 use Rattle.examples.specs.Examples.{examples, Examples-hold}
 
 pub examples-hold : Examples-hold
-unfolding Examples-hold examples many any bit withBit markedIn withMark unmarked flashLength over eraseAt payloadOf storeAt fieldAt fieldsOf flaggedOf headerOf hasUser accepts overlap overlapAt sharesSector reservedUser badEntry goodSettings wantedOf passAllows passTakes firstOf entryIf inPass chosen chosenEntry placeOf goodState sameHead counted raised taken stepOf placed headed screenOf rightLengths looked decide clearedIf wipedIf preparedAt pagedAt tookOf done receiveOf receiveAll answersOf discardsOf
+unfolding Examples-hold examples many any bit withBit markedIn withMark unmarked flashLength over eraseAt payloadOf storeAt lowFirst numberIn fieldAt fieldsOf flaggedOf headerOf hasUser accepts overlap overlapAt sharesSector reservedUser badEntry goodSettings wantedOf passAllows passTakes firstOf entryIf inPass chosen chosenEntry placeOf goodState sameHead counted raised taken stepOf placed headed screenOf rightLengths looked decide clearedIf wipedIf preparedAt pagedAt tookOf done receiveOf receiveAll answersOf discardsOf
 examples-hold = refl

@@ -3,6 +3,7 @@ use Prim.Native.Nat.{ℕ, zero, suc, _+_, _*_, _<_}
 use mathlib.Core.Path.{_≡_, refl}
 use native.Mathlib.Omega.{arith}
 use Rattle.fill.specs.Many.{many}
+use Rattle.sets.specs.Bytes.{lowFirst, numberIn}
 use Rattle.sets.specs.Sets.{any, size}
 use Rattle.flash.specs.Flash.{flashLength, payloadOf}
 use Rattle.block.specs.Block.{fieldAt, fieldsOf, flaggedOf, headerOf}
@@ -27,25 +28,25 @@ three P a b c (suc (suc zero)) h = c
 three P a b c (suc (suc (suc k))) h = absurd (omega arith)
 
 address : (k : ℕ) → k < 3 → fieldAt (third k) 12 ≡ 0x10000000 + k * 256
-unfolding fieldAt
+unfolding lowFirst numberIn fieldAt
 address = three (λ k. fieldAt (third k) 12 ≡ 0x10000000 + k * 256) refl refl refl
 
 -- the answers at the start
 earned : (k : ℕ) → k < 3 → earns plain start (third k) ≡ 14
-unfolding many any flashLength payloadOf fieldAt fieldsOf flaggedOf headerOf goodSettings placeOf goodState counted raised taken stepOf placed headed screenOf rightLengths looked decide done receiveOf
+unfolding many any flashLength payloadOf lowFirst numberIn fieldAt fieldsOf flaggedOf headerOf goodSettings placeOf goodState counted raised taken stepOf placed headed screenOf rightLengths looked decide done receiveOf
 earned = three (λ k. earns plain start (third k) ≡ 14) refl refl refl
 
 beyond : earns plain start (arrivalOf 0x10010000 0 3 1) ≡ 11
-unfolding many any flashLength payloadOf fieldAt fieldsOf flaggedOf headerOf goodSettings placeOf goodState counted raised taken stepOf placed headed screenOf rightLengths looked decide done receiveOf
+unfolding many any flashLength payloadOf lowFirst numberIn fieldAt fieldsOf flaggedOf headerOf goodSettings placeOf goodState counted raised taken stepOf placed headed screenOf rightLengths looked decide done receiveOf
 beyond = refl
 
 valid : ValidFile plain start file
 valid =
     record {
       some = omega arith;
-      numbers = unfold fieldAt in three (λ k. fieldAt (third k) 20 ≡ k) refl refl refl;
-      families = unfold fieldAt in three (λ k. fieldAt (third k) 28 ≡ familyArmS) refl refl refl;
-      totals = unfold fieldAt in three (λ k. fieldAt (third k) 24 ≡ 3) refl refl refl;
+      numbers = unfold lowFirst numberIn fieldAt in three (λ k. fieldAt (third k) 20 ≡ k) refl refl refl;
+      families = unfold lowFirst numberIn fieldAt in three (λ k. fieldAt (third k) 28 ≡ familyArmS) refl refl refl;
+      totals = unfold lowFirst numberIn fieldAt in three (λ k. fieldAt (third k) 24 ≡ 3) refl refl refl;
       addresses = λ i k hi hk e. omega (arith, address i hi, address k hk);
       passes = λ k h. omega (arith, earned k h);
     }
@@ -62,4 +63,4 @@ pub ends-done : receiveAll plain start arrivals .transfer ≡ Done (armS 3)
 ends-done = unfold Hypotheses-are-met List-ends in list-ends plain start file refl valid arrivals (hypotheses-are-met .1) .whole whole
   where
     whole : howMany file (seenOf file arrivals) ≡ 3
-    whole = unfold size among sameBytes in refl
+    whole = unfold lowFirst size among sameBytes in refl

@@ -1,8 +1,9 @@
 -- Arrivals, settings and lent buffers of real sizes to compute with. Assumes nothing.
-use Prim.Native.Nat.{ℕ, _+_, _/_, _%_}
+use Prim.Native.Nat.{ℕ}
 use mathlib.Core.Bool.{Bool, true, false}
-use mathlib.Core.List.{List, [], _∷_, _++_}
+use mathlib.Core.List.{List, _∷_, _++_}
 use lib.ListN.{replicate}
+use Rattle.sets.specs.Bytes.{lowFirst}
 use Rattle.settings.specs.Settings.{familyArmS}
 use Rattle.settings.specs.declared.Settings.{Settings}
 use Rattle.settings.specs.declared.Entry.{Entry}
@@ -12,24 +13,20 @@ use Rattle.transfer.specs.declared.Head.{Head}
 use Rattle.transfer.specs.declared.State.{State}
 use Rattle.arrival.specs.Arrive.{World}
 
--- "Little-endian 32-bit fields"
-abbrev pub bytes4 : ℕ → List ℕ
-bytes4 n = n % 256 ∷ n / 256 % 256 ∷ n / 65536 % 256 ∷ n / 16777216 % 256 ∷ []
-
--- a block of family arm-s: address, number, total, and the byte that fills its payload
+-- a block of family arm-s, "little-endian 32-bit fields": address, number, total, and the byte that fills its payload
 abbrev pub arrivalOf : ℕ → ℕ → ℕ → ℕ → List ℕ
 arrivalOf address number total fill =
-    bytes4 0x0A324655
-    ++ bytes4 0x9E5D5157
-    ++ bytes4 0x2000
-    ++ bytes4 address
-    ++ bytes4 256
-    ++ bytes4 number
-    ++ bytes4 total
-    ++ bytes4 familyArmS
+    lowFirst 4 0x0A324655
+    ++ lowFirst 4 0x9E5D5157
+    ++ lowFirst 4 0x2000
+    ++ lowFirst 4 address
+    ++ lowFirst 4 256
+    ++ lowFirst 4 number
+    ++ lowFirst 4 total
+    ++ lowFirst 4 familyArmS
     ++ replicate 256 fill
     ++ replicate 220 0
-    ++ bytes4 0x0AB16F30
+    ++ lowFirst 4 0x0AB16F30
 
 -- an unowned entry that accepts arm-s: its first sector, how many, and whether it is not bootable for Arm
 abbrev pub entryOf : ℕ → ℕ → Bool → Entry

@@ -1,16 +1,15 @@
 -- Fields that are written, and read back. Assumes nothing.
-use Prim.Native.Nat.{ℕ, _+_, _*_, _/_, _%_, _<_, _≤_, _^_}
-use mathlib.Core.Path.{_≡_, refl, sym, _∙_}
+use Prim.Native.Nat.{ℕ, _+_, _/_, _%_, _<_, _≤_, _^_}
+use mathlib.Core.Path.{_≡_, refl, sym, ap, _∙_}
 use mathlib.Core.List.{List, [], _∷_, _++_}
-use native.Mathlib.Nat.{div-div-eq-div-mul}
 use native.Mathlib.Omega.{arith}
 use lib.ListN.{length, set, length-append}
-use lib.Seq.{getD-append-add, getD-append-seam}
 use borrow.Author.Tests.{le-leb, lt-leb}
 use Rattle.sets.specs.Over.{over}
+use Rattle.sets.proofs.BytesLaws.{length-low, number-back, low-four}
 use Rattle.sets.proofs.OverLaws.{length-over, set-over, over-next}
 use Rattle.block.specs.Block.{fieldAt}
-use Rattle.block.proofs.Laws.{field-in}
+use Rattle.block.proofs.Laws.{field-number}
 use Rattle.layout.specs.Bytes.{le32, putAt}
 
 -- ---- written
@@ -38,31 +37,13 @@ four-set b at p q r s l =
     rw (one, two, three) (set-next b at (p ∷ q ∷ r ∷ []) (at + 3) s refl (omega arith))
 
 pub put-set : (b : List ℕ) (at x : ℕ) → at + 4 ≤ length b → set (set (set (set b at (x % 256)) (at + 1) (x / 256 % 256)) (at + 2) (x / 65536 % 256)) (at + 3) (x / 16777216 % 256) ≡ putAt b at x
-unfolding le32
-put-set b at x l = four-set b at _ _ _ _ l ∙ sym (put-over b at x l)
+put-set b at x l = four-set b at _ _ _ _ l ∙ ap (over b at) (sym (low-four x)) ∙ sym (put-over b at x l)
 
 -- ---- read back
 
-four-digits : (x y z w a b c d : ℕ) → x ≡ 256 * y + a → y ≡ 256 * z + b → z ≡ 256 * w + c → w ≡ d → a + 256 * b + 65536 * c + 16777216 * d ≡ x
-four-digits x y z w a b c d p q r s = omega arith
-
-four-back : (x : ℕ) → x < 2 ^ 32 → x % 256 + 256 * (x / 256 % 256) + 65536 * (x / 65536 % 256) + 16777216 * (x / 16777216 % 256) ≡ x
-four-back x h =
-    let two : x / 256 / 256 ≡ x / 65536 = div-div-eq-div-mul x 256 256 in
-    let three : x / 65536 / 256 ≡ x / 16777216 = div-div-eq-div-mul x 65536 256 in
-    four-digits x (x / 256) (x / 65536) (x / 16777216) _ _ _ _ (omega arith) (omega arith) (omega arith) (omega arith)
-
 -- four bytes of a number, wherever they stand, are read as it
 pub field-le32 : (p : List ℕ) (x : ℕ) (s : List ℕ) → x < 2 ^ 32 → fieldAt (p ++ (le32 x ++ s)) (length p) ≡ x
-unfolding le32
 field-le32 p x s h =
     let b = le32 x ++ s in
-    let fits : length p + 4 ≤ length (p ++ b) = omega (arith, length-append p b) in
-    field-in (p ++ b) (length p) fits
-    ∙ rw (
-      getD-append-seam p (x % 256) (x / 256 % 256 ∷ x / 65536 % 256 ∷ x / 16777216 % 256 ∷ s) 0,
-      getD-append-add p b 1 0,
-      getD-append-add p b 2 0,
-      getD-append-add p b 3 0,
-    )
-    (four-back x h)
+    let fits : length p + 4 ≤ length (p ++ b) = omega (arith, length-append p b, length-append (le32 x) s, length-low 4 x) in
+    field-number (p ++ b) (length p) fits ∙ number-back 4 x p s h

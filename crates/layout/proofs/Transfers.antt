@@ -5,7 +5,9 @@ use mathlib.Core.List.{List, [], _∷_, _++_}
 use native.Mathlib.Omega.{arith}
 use lib.ListN.{length, set}
 use borrow.Author.Tests.{eq-eqb}
+use Rattle.sets.specs.Bytes.{lowFirst}
 use Rattle.sets.specs.Over.{over}
+use Rattle.sets.proofs.BytesLaws.{length-low}
 use Rattle.sets.proofs.OverLaws.{length-over, set-over, over-next, over-whole}
 use Rattle.block.specs.Block.{fieldAt}
 use Rattle.transfer.specs.declared.State.{State}
@@ -18,15 +20,14 @@ use Rattle.layout.proofs.Fields.{put-over, field-le32}
 
 -- a field right after what is written already
 put-next : (b : List ℕ) (s : List ℕ) (k x : ℕ) → length s ≡ k → k + 4 ≤ length b → putAt (over b 0 s) k x ≡ over b 0 (s ++ le32 x)
-unfolding le32
 put-next b s k x e l =
     let fits : 0 + length s ≤ length b = omega arith in
     let same = length-over b 0 s fits in
     let at : 0 + length s ≡ k = omega arith in
-    put-over (over b 0 s) k x (omega arith) ∙ over-next b 0 s k (le32 x) at l
+    put-over (over b 0 s) k x (omega arith) ∙ over-next b 0 s k (le32 x) at (omega (arith, length-low 4 x))
 
 pub thirteen-put : (b : List ℕ) (kind f n c : ℕ) → length b ≡ 13 → putAt (putAt (putAt (set b 0 kind) 1 f) 5 n) 9 c ≡ thirteen kind f n c
-unfolding le32 thirteen
+unfolding lowFirst thirteen
 thirteen-put b kind f n c e =
     let s : List ℕ = kind ∷ [] in
     let t : List ℕ = kind ∷ le32 f in
@@ -45,7 +46,7 @@ Small (Running r) = (r .head .family < 2 ^ 32) × (r .head .total < 2 ^ 32) × (
 Small (Done g) = (g .family < 2 ^ 32) × (g .total < 2 ^ 32)
 
 back : (kind f n c : ℕ) → f < 2 ^ 32 → n < 2 ^ 32 → c < 2 ^ 32 → stateFrom (thirteen kind f n c) ≡ stateOf kind f n c
-unfolding stateFrom thirteen le32
+unfolding stateFrom thirteen lowFirst
 back kind f n c hf hn hc =
     let one : fieldAt (kind ∷ (le32 f ++ (le32 n ++ le32 c))) 1 ≡ f = field-le32 (kind ∷ []) f (le32 n ++ le32 c) hf in
     let two : fieldAt (kind ∷ (le32 f ++ (le32 n ++ le32 c))) 5 ≡ n = field-le32 (kind ∷ le32 f) n (le32 c) hn in

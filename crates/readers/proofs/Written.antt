@@ -1,13 +1,15 @@
 -- A reader that is written: its 16 bytes, and that it is read back from them. Assumes nothing.
-use Prim.Native.Nat.{ℕ, _+_, _*_, _/_, _%_, _<_, _≤_, _^_}
-use mathlib.Core.Path.{_≡_, refl, _∙_}
+use Prim.Native.Nat.{ℕ, _<_, _≤_, _^_}
+use mathlib.Core.Path.{_≡_, refl, ap, _∙_}
 use mathlib.Core.Bool.{Bool, true, false}
-use mathlib.Core.List.{List, _++_, append-nil}
+use mathlib.Core.List.{List, [], _∷_, _++_, append-nil}
 use native.Mathlib.Omega.{arith}
 use lib.Dec.{leb}
 use lib.ListN.{length, take, drop, drop-of-length-le}
 use lib.Seq.{take-length}
 use borrow.Author.Tests.{eq-eqb}
+use Rattle.sets.specs.Bytes.{lowFirst}
+use Rattle.sets.proofs.BytesLaws.{number-back}
 use Rattle.block.specs.Block.{fieldAt}
 use Rattle.layout.specs.Bytes.{le32}
 use Rattle.layout.specs.Layout.{isOn}
@@ -16,14 +18,14 @@ use Rattle.grammar.specs.declared.Boards.{Boards}
 use Rattle.grammar.specs.declared.Stand.{Stand}
 use Rattle.grammar.specs.declared.Stand.the-variants.{Between, Opened, Inside, Padded, Ended, Failed}
 use Rattle.unihex.specs.declared.Reader.{Reader}
-use Rattle.readers.specs.Readers.{standOf, boardsFrom, fieldsFrom, readerFrom, le16, tagOf, flagOf, tagBytes, boardsBytes, readerBytes, written}
+use Rattle.readers.specs.Readers.{halfAt, standOf, boardsFrom, fieldsFrom, readerFrom, le16, tagOf, flagOf, tagBytes, boardsBytes, readerBytes, written}
 use Rattle.readers.proofs.Answers.{answer-back}
 use Rattle.readers.proofs.Read.{same-reader}
 
 -- ---- written
 
 bytes-length : (r : Reader) → length (readerBytes r) ≡ 16
-unfolding readerBytes tagBytes le16 le32
+unfolding readerBytes tagBytes lowFirst
 bytes-length r = refl
 
 pub written-copied : (b : List ℕ) (r : Reader) {s d : List ℕ} → length b ≡ 16 → s ≡ readerBytes r → d ≡ take (length s) s ++ drop (length s) b → d ≡ written b r
@@ -51,8 +53,9 @@ pub record Small (r : Reader) : Type 0 where
   pub offset : r .offset < 2 ^ 32
   pub stand : SmallStand (r .stand)
 
-half-back : (x : ℕ) → x < 2 ^ 16 → x % 256 + 256 * (x / 256 % 256) ≡ x
-half-back x h = omega arith
+-- two bytes of a number, wherever they stand, are read as it
+half-back : (p : List ℕ) (x : ℕ) (s : List ℕ) → x < 2 ^ 16 → halfAt (p ++ (le16 x ++ s)) (length p) ≡ x
+half-back p x s h = number-back 2 x p s h
 
 flag-back : (b : Bool) → isOn (flagOf b) ≡ b
 flag-back true = refl
@@ -66,34 +69,68 @@ kind-most (Padded b) = refl
 kind-most Ended = refl
 kind-most (Failed f) = refl
 
-abbrev boardOf : ℕ → ℕ
-boardOf x = x % 256 + 256 * (x / 256 % 256)
+board-most : (s : Stand) → SmallStand s → tagOf s .board < 2 ^ 16
+board-most Between h = omega arith
+board-most Opened h = omega arith
+board-most (Inside b) h = h
+board-most (Padded b) h = h
+board-most Ended h = omega arith
+board-most (Failed f) h = omega arith
 
-stand-back : (s : Stand) → SmallStand s → standOf (tagOf s .kind) (tagOf s .failure) (boardOf (tagOf s .board)) ≡ s
+stand-back : (s : Stand) → standOf (tagOf s .kind) (tagOf s .failure) (tagOf s .board) ≡ s
 unfolding standOf
-stand-back Between h = refl
-stand-back Opened h = refl
-stand-back (Inside b) h = rw (half-back b h)
-stand-back (Padded b) h = rw (half-back b h)
-stand-back Ended h = refl
-stand-back (Failed f) h = rw (answer-back (f .answer))
+stand-back Between = refl
+stand-back Opened = refl
+stand-back (Inside b) = refl
+stand-back (Padded b) = refl
+stand-back Ended = refl
+stand-back (Failed f) = rw (answer-back (f .answer))
 
 boards-back : (s : Boards) → boardsFrom (flagOf (s .v1)) (flagOf (s .v2)) ≡ s
 boards-back s = rw (flag-back (s .v1), flag-back (s .v2))
 
-offset-back : (r : Reader) → r .offset < 2 ^ 32 → fieldAt (readerBytes r) 4 ≡ r .offset
-unfolding readerBytes le16
-offset-back r h =
-    field-le32 (le16 (r .own) ++ le16 (r .upper)) (r .offset) (tagBytes (tagOf (r .stand)) ++ (boardsBytes (r .came) ++ boardsBytes (r .gave))) h
+-- each field of its bytes
+module _ (r : Reader) (h : Small r) where
+  abbrev own : List ℕ
+  own = le16 (r .own)
 
-fields-back : (r : Reader) → Small r → fieldsFrom (readerBytes r) ≡ r
-unfolding fieldsFrom readerBytes tagBytes le16 le32
-fields-back r h =
-    same-reader (half-back (r .own) (h .own)) (offset-back r (h .offset)) (stand-back (r .stand) (h .stand)) (half-back (r .upper) (h .upper)) (boards-back (r .came)) (boards-back (r .gave))
+  abbrev upper : List ℕ
+  upper = le16 (r .upper)
+
+  abbrev offset : List ℕ
+  offset = le32 (r .offset)
+
+  abbrev tag : List ℕ
+  tag = tagBytes (tagOf (r .stand))
+
+  abbrev sections : List ℕ
+  sections = boardsBytes (r .came) ++ boardsBytes (r .gave)
+
+  own-back : halfAt (readerBytes r) 0 ≡ r .own
+  unfolding readerBytes
+  own-back = half-back [] (r .own) (upper ++ (offset ++ (tag ++ sections))) (h .own)
+
+  upper-back : halfAt (readerBytes r) 2 ≡ r .upper
+  unfolding readerBytes lowFirst
+  upper-back = half-back own (r .upper) (offset ++ (tag ++ sections)) (h .upper)
+
+  offset-back : fieldAt (readerBytes r) 4 ≡ r .offset
+  unfolding readerBytes lowFirst
+  offset-back = field-le32 (own ++ upper) (r .offset) (tag ++ sections) (h .offset)
+
+  board-back : halfAt (readerBytes r) 10 ≡ tagOf (r .stand) .board
+  unfolding readerBytes tagBytes lowFirst
+  board-back =
+      half-back (own ++ (upper ++ (offset ++ (tagOf (r .stand) .kind ∷ tagOf (r .stand) .failure ∷ [])))) (tagOf (r .stand) .board) sections (board-most (r .stand) (h .stand))
+
+  fields-back : fieldsFrom (readerBytes r) ≡ r
+  unfolding fieldsFrom readerBytes tagBytes lowFirst
+  fields-back =
+      same-reader own-back offset-back (ap (standOf _ _) board-back ∙ stand-back (r .stand)) upper-back (boards-back (r .came)) (boards-back (r .gave))
 
 -- the reader that is read from the bytes written for a reader is that reader
 pub round-trip : (r : Reader) → Small r → readerFrom (readerBytes r) ≡ r
-unfolding readerFrom readerBytes tagBytes le16 le32
+unfolding readerFrom readerBytes tagBytes lowFirst
 round-trip r h = rw (kind-most (r .stand)) (fields-back r h)
 
 pub written-back : (b : List ℕ) (r : Reader) → length b ≡ 16 → Small r → readerFrom (written b r) ≡ r

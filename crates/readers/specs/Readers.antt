@@ -1,9 +1,10 @@
 -- Hex readers as bytes. Every number below is a byte, or a field of two or of four (`fieldAt`). Assumes nothing.
-use Prim.Native.Nat.{ℕ, _+_, _-_, _*_, _/_, _%_}
+use Prim.Native.Nat.{ℕ, _-_}
 use mathlib.Core.Bool.{Bool, cond}
 use mathlib.Core.List.{List, [], _∷_, _++_}
 use lib.Dec.{leb, eqb}
 use lib.ListN.{length, getD}
+use Rattle.sets.specs.Bytes.{lowFirst, numberIn}
 use Rattle.block.specs.Block.{fieldAt}
 use Rattle.layout.specs.Bytes.{le32}
 use Rattle.layout.specs.Layout.{byteAt, isOn}
@@ -21,7 +22,7 @@ use Rattle.readers.specs.declared.Tag.{Tag}
 
 -- a little-endian 16-bit field
 abbrev pub halfAt : List ℕ → ℕ → ℕ
-halfAt b at = byteAt b at + 256 * byteAt b (at + 1)
+halfAt b at = numberIn 2 b at
 
 -- the answers from 18 to 36
 unfoldable pub allAnswers : List Answer
@@ -89,8 +90,8 @@ readerFrom b = cond (eqb (length b) 16) (cond (leb (byteAt b 8) 5) (fieldsFrom b
 -- ---- written
 
 -- the two bytes of x, the lowest first
-unfoldable pub le16 : ℕ → List ℕ
-le16 x = x % 256 ∷ x / 256 % 256 ∷ []
+abbrev pub le16 : ℕ → List ℕ
+le16 x = lowFirst 2 x
 
 -- the kind of a stand, with the remembered failure and the section's board
 abbrev pub tagged : ℕ → ℕ → ℕ → Tag

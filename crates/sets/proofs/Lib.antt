@@ -3,3 +3,4 @@ pub mod Tests
 pub mod Laws
 pub mod TabLaws
 pub mod OverLaws
+pub mod BytesLaws

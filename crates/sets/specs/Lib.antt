@@ -1,3 +1,4 @@
 pub mod Sets
 pub mod Tab
 pub mod Over
+pub mod Bytes

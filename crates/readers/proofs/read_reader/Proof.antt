@@ -1,5 +1,7 @@
 -- `readers::read_reader` meets its contract. Assumes nothing.
+use mathlib.Core.Path.{sym, _∙_}
 use borrow.Author.Tests.{eq-eqb, ne-eqb, lt-leb}
+use Rattle.sets.proofs.BytesLaws.{number-two}
 use Rattle.readers.specs.Readers.{readerFrom}
 use Rattle.readers.proofs.Read.{read-fields}
 use borrow.Author.Needs.{needs}
@@ -80,7 +82,7 @@ returns-3 c =
     let s = f .before .before .before .before .before .before .before .before in
     let j = s .before .before .before in
     let t = j .before .before .before in
-    read-fields _ (t .before .before .if1 .left) (t .if2 .left) (f .before .joined2 .ensures) (f .field .ensures) (j .joined .ensures) (s .stand .ensures) (c .joined3 .ensures)
+    read-fields _ (t .before .before .if1 .left) (t .if2 .left) (f .before .joined2 .ensures ∙ sym (number-two _ 0)) (f .field .ensures) (j .joined .ensures ∙ sym (number-two _ 10)) (s .stand .ensures) (c .joined3 .ensures ∙ sym (number-two _ 2))
 
 pub read-reader-spec : {M : Type 1} → statement M
 read-reader-spec =

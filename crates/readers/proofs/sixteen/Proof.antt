@@ -1,6 +1,6 @@
 -- `readers::sixteen` meets its contract. Assumes nothing.
-use Rattle.layout.specs.Bytes.{le32}
-use Rattle.readers.specs.Readers.{le16, tagBytes, readerBytes}
+use Rattle.sets.proofs.BytesLaws.{low-two, low-four}
+use Rattle.readers.specs.Readers.{tagBytes, readerBytes}
 use borrow.Author.Needs.{needs}
 use Rattle.readers.proofs.sixteen.Statement.{statement}
 use Rattle.readers.proofs.sixteen.Tie as tie
@@ -51,8 +51,8 @@ flag-requires-4 : tie.Need-flag-requires-4
 flag-requires-4 c κs = search needs
 
 returns : tie.Need-returns
-unfolding readerBytes tagBytes le16 le32
-returns c = simp (c .before .before .before .before .tag-of .ensures, c .before .before .before .flag .ensures, c .before .before .flag2 .ensures, c .before .flag3 .ensures, c .flag4 .ensures)
+unfolding readerBytes tagBytes
+returns c = simp (low-two, low-four, c .before .before .before .before .tag-of .ensures, c .before .before .before .flag .ensures, c .before .before .flag2 .ensures, c .before .flag3 .ensures, c .flag4 .ensures)
 
 pub sixteen-spec : {M : Type 1} → statement M
 sixteen-spec =
