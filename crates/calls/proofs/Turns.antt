@@ -37,7 +37,7 @@ use Rattle.calls.specs.Turns.{Lent, call, leftBy, callAll, returnsOf, wo
 
 -- ---- a field of bytes
 
-pub byte-low : (b : List ℕ) → Bytes b → (i : ℕ) → getD b i 0 < 256
+byte-low : (b : List ℕ) → Bytes b → (i : ℕ) → getD b i 0 < 256
 byte-low [] h i = omega arith
 byte-low (x ∷ b) h zero = h zero (omega arith)
 byte-low (x ∷ b) h (suc i) = byte-low b (λ j l. h (suc j) (omega arith)) i
