@@ -1,1 +1,1 @@
-// Sets of numbers, for the specifications of the crates above. No code: the definitions are in specs/, their laws in proofs/.
+// Sets of numbers, lists by index and numbers as bytes: definitions and laws alone.
