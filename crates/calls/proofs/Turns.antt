@@ -1,14 +1,14 @@
 -- The claims of specs/Turns.antt hold. Assumes nothing.
-use Prim.Native.Nat.{ℕ, zero, suc, _+_, _/_, _<_, _^_}
+use Prim.Native.Nat.{ℕ, zero, suc, _+_, _/_, _%_, _<_, _^_}
 use mathlib.Core.Path.{_≡_, refl, sym, ap, subst, _∙_}
 use mathlib.Core.Bool.{Bool, true, false, _||_}
-use mathlib.Core.List.{List, [], _∷_}
+use mathlib.Core.List.{List, [], _∷_, _++_}
 use native.Mathlib.Nat.{pow-suc}
 use native.Mathlib.Omega.{arith}
 use lib.Dec.{ltb, leb, eqb}
 use lib.ListN.{length, getD, drop, length-take, length-drop}
 use lib.Seq.{getD-take, getD-drop}
-use borrow.Author.Tests.{ltb-true, le-leb, lt-leb, leb-false, eqb-true, eqb-false, eq-eqb}
+use borrow.Author.Tests.{ltb-true, le-leb, lt-leb, leb-true, leb-false, eqb-true, eqb-false, eq-eqb}
 use Rattle.sets.proofs.Tests.{split, clash, or-left, or-right}
 use Rattle.sets.specs.Bytes.{lowFirst, numberIn}
 use Rattle.block.specs.Block.{fieldAt}
@@ -19,21 +19,23 @@ use Rattle.transfer.specs.declared.Head.{Head}
 use Rattle.transfer.specs.declared.State.{State}
 use Rattle.transfer.specs.declared.State.the-variants.{Idle, Running, Done}
 use Rattle.transfer.specs.declared.Taken.{Taken}
+use Rattle.transfer.specs.declared.Answer.{Answer}
 use Rattle.flash.specs.Flash.{payloadOf}
 use Rattle.arrival.specs.Arrive.{World, Outcome, Decision, tookOf, done, receiveOf}
 use Rattle.arrival.specs.Lists.{receiveAll, answersOf, discardsOf}
 use Rattle.arrival.specs.Facts.{Refusals-change-nothing}
 use Rattle.arrival.specs.Tally.{headOf}
-use Rattle.arrival.specs.Demand.{seenOf, Ends, List-ends}
+use Rattle.arrival.specs.Demand.{seenOf, Ends, List-ends, Completed-exactly, Same-set-same-end, Either-first}
 use Rattle.arrival.proofs.Decided.{Took, Decided, kept, took, took-number, decided}
 use Rattle.arrival.proofs.Facts.{refusals-change-nothing}
-use Rattle.arrival.proofs.Demand.{list-ends}
+use Rattle.arrival.proofs.Demand.{list-ends, completed-exactly, same-set-same-end, either-first}
 use Rattle.layout.specs.Layout.{stateFrom, settingsFrom, thirteen, stateBytes, written}
 use Rattle.layout.proofs.Refused.{state-length}
 use Rattle.layout.proofs.Transfers.{Small, written-back}
 use Rattle.capi.specs.Calls as capi
 use Rattle.capi.specs.Calls.{receiveBytes, isTaken, arrivalsOf, resultsOf, anyTaken, laid, manyFrom, fewer, receiveMany}
-use Rattle.calls.specs.Turns.{Lent, call, leftBy, callAll, returnsOf, worldOf, AllBytes, Calls-are-arrivals, Calls-end, Calls-are-one-call}
+use Rattle.capi.proofs.Laws.{number-most}
+use Rattle.calls.specs.Turns.{Lent, call, leftBy, callAll, returnsOf, worldOf, AllBytes, Calls-are-arrivals, Calls-end, Calls-completed, Calls-same-set, Calls-either-first, Calls-are-one-call}
 
 -- ---- a field of bytes
 
@@ -119,11 +121,43 @@ pub calls-are-arrivals : Calls-are-arrivals
 unfolding Calls-are-arrivals
 calls-are-arrivals s h l b = (calls-world s h l b, calls-results s h l b)
 
+-- ---- demand 3
+
 pub calls-end : Calls-end
 unfolding Calls-end List-ends
 calls-end s h F i v l t b =
     let z = settingsFrom s in
     subst (Ends z (worldOf h) F (seenOf F l)) (sym (calls-world s h l b)) (list-ends z (worldOf h) F i v l t)
+
+-- the answer's number in a result
+result-number : (x : Answer) (d : Bool) → capi.resultOf (numberOf x) d % 128 ≡ numberOf x
+result-number x true = omega (arith, number-most x)
+result-number x false = omega (arith, number-most x)
+
+pub calls-completed : Calls-completed
+unfolding Calls-completed Completed-exactly receiveBytes
+calls-completed s h F i v l t b a u =
+    let z = settingsFrom s in
+    let o = receiveOf z (worldOf (callAll s h l)) a in
+    ap (λ (n : ℕ). eqb n 15) (result-number (o .answer) (o .discarded))
+    ∙ ap (λ (w : World). eqb (numberOf (receiveOf z w a .answer)) 15) (calls-world s h l b)
+    ∙ completed-exactly z (worldOf h) F i v l a u
+
+pub calls-same-set : Calls-same-set
+unfolding Calls-same-set Same-set-same-end
+calls-same-set s h F i v l t b m u c e =
+    calls-world s h l b ∙ same-set-same-end (settingsFrom s) (worldOf h) F i v l t m u e ∙ sym (calls-world s h m c)
+
+all-append : (l m : List (List ℕ)) → AllBytes l → AllBytes m → AllBytes (l ++ m)
+all-append [] m b c = c
+all-append (a ∷ l) m b c = (b .0, all-append l m (b .1) c)
+
+pub calls-either-first : Calls-either-first
+unfolding Calls-either-first Either-first
+calls-either-first s h F i v l t b m u c =
+    calls-world s h (l ++ m) (all-append l m b c)
+    ∙ either-first (settingsFrom s) (worldOf h) F i v l t m u
+    ∙ sym (calls-world s h (m ++ l) (all-append m l c b))
 
 -- ---- one call of many
 
@@ -193,4 +227,5 @@ calls-are-one-call s h a r b =
           ∙ ap (lentWith (callAll s h l .transfer)) (sym (calls-world s h l c));
       results = ap (laid r 0) (sym (calls-results s h l c));
       all = λ e. rw (le-leb (length a / 512) (length r) e);
+      few = λ e. split (leb (length a / 512) (length r)) (λ y. rw y (omega (arith, leb-true (length a / 512) (length r) y))) (λ z. rw z);
     }

@@ -4,7 +4,7 @@ use mathlib.Core.Bool.{Bool, true, false}
 use mathlib.Core.List.{List, _∷_, _++_}
 use lib.ListN.{replicate}
 use Rattle.sets.specs.Bytes.{lowFirst}
-use Rattle.settings.specs.Settings.{familyArmS}
+use Rattle.settings.specs.Settings.{familyArmS, armOnly}
 use Rattle.settings.specs.declared.Settings.{Settings}
 use Rattle.settings.specs.declared.Entry.{Entry}
 use Rattle.settings.specs.declared.Arch.the-variants.{Arm}
@@ -58,9 +58,9 @@ armWith n table =
       table = table;
     }
 
--- no table
+-- no table, as the program has it
 abbrev pub plain : Settings
-plain = armWith 0 (replicate 16 (entryOf 0 0 false))
+plain = armOnly true
 
 -- one partition, two sectors from sector 4
 abbrev pub fourth : Settings

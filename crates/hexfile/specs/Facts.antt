@@ -104,7 +104,7 @@ pub record NamesBoard (r : Reader) (l : List ℕ) (rec : Record) (b : ℕ) : Typ
   pub some : 2 ≤ rec .len
   pub board : wordOf (readOf l .«data») ≡ b
 
--- "28 Repeated: a second V1 or V2 section": of such a line within the limit, where the board's section came
+-- "28 Repeated: a second V1 or V2 section": such a line within the limit is answered 28 where the board's section came, and 34 where not
 unfoldable pub Passed-or-repeated : Type 0
 Passed-or-repeated =
     EveryLine
