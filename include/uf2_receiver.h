@@ -41,7 +41,7 @@ static inline uint32_t uf2_get32(const uint8_t *at) {
 #define UF2_SETTINGS_AUTO_SWITCH 3 /* flag */
 #define UF2_SETTINGS_ABSOLUTE 4    /* flag: the family absolute is allowed */
 #define UF2_SETTINGS_COUNT 5       /* used entries, at most 16; 0: no partition table */
-#define UF2_SETTINGS_TABLE 6       /* 16 entries of UF2_ENTRY bytes; those past the count are not read */
+#define UF2_SETTINGS_TABLE 6       /* 16 entries of UF2_ENTRY bytes; those past the count are not read, and none where it is over 16 */
 
 /* The bytes of an entry; entry k begins at UF2_ENTRY_AT(k). */
 #define UF2_ENTRIES 16
@@ -89,7 +89,7 @@ static inline uint32_t uf2_get32(const uint8_t *at) {
 #define UF2_FAMILY_RISCV 0xe48bff5au
 #define UF2_FAMILY_ARM_NS 0xe48bff5bu
 
-/* ---- Answers. 1 to 13 change nothing that is lent; 14 and 15 took the block. */
+/* ---- Answers, asked in the order of their numbers. 1 to 13 change nothing that is lent; 14 and 15 took the block. */
 #define UF2_FOUND 0 /* of uf2_ask alone */
 #define UF2_BAD_BUFFERS 1
 #define UF2_BAD_SETTINGS 2
@@ -124,7 +124,7 @@ uint32_t uf2_receive(const uint8_t *settings, size_t settings_len, uint8_t *tran
                      size_t sectors_len);
 
 /* Arrivals one after the other, each UF2_ARRIVAL bytes: as many whole ones as there are bytes in `results`, which get what
- * uf2_receive would return; the number of them. Settings are read once. The transfer's bytes stay as they were lent where no
+ * uf2_receive would return, while the others stay as they were lent; the number of them. Settings are read once. The transfer's bytes stay as they were lent where no
  * arrival is answered UF2_WRITTEN or UF2_COMPLETED. What follows the last whole arrival, or the last that has room for its result, is
  * not read: a short last piece is for uf2_receive, which answers it UF2_BAD_BUFFERS. */
 size_t uf2_receive_all(const uint8_t *settings, size_t settings_len, uint8_t *transfer, size_t transfer_len,
@@ -154,8 +154,8 @@ static inline uint16_t uhex_get16(const uint8_t *at) {
 #define UHEX_READER_UPPER 2    /* 16 bits: the two bytes of the latest record 04 */
 #define UHEX_READER_OFFSET 4   /* 32 bits: bytes of the file read so far; over UHEX_FILE_MOST: UHEX_BAD_READER */
 #define UHEX_READER_STAND 8    /* where it stands: UHEX_BETWEEN to UHEX_FAILED; any other is no reader either */
-#define UHEX_READER_FAILURE 9  /* the answer that it failed by, 20 to 30 or 36 (any other: UHEX_BAD_READER); 0 where it did not fail */
-#define UHEX_READER_BOARD 10   /* 16 bits: the board of the section; 0 where it stands in none */
+#define UHEX_READER_FAILURE 9  /* read only where it stands UHEX_FAILED: the answer that it failed by, 20 to 30 or 36 (any other: UHEX_BAD_READER) */
+#define UHEX_READER_BOARD 10   /* 16 bits, read only in a section: its board */
 #define UHEX_READER_CAME_V1 12 /* flags: the section of a board has come */
 #define UHEX_READER_CAME_V2 13
 #define UHEX_READER_GAVE_V1 14 /* flags: the section of a board gave a data byte */
@@ -168,7 +168,7 @@ static inline uint16_t uhex_get16(const uint8_t *at) {
 #define UHEX_ENDED 4   /* after the record 01 */
 #define UHEX_FAILED 5
 
-/* Answers to a line. 20 to 30 and 36 make the reader failed, and a failed reader repeats its answer; 32 to 35 move it on. Only 33 stores
+/* Answers to a line, asked in this order: 19, 18, a failed reader's own, 31, 36, then 20 and on by number. 20 to 30 and 36 make the reader failed, and a failed reader repeats its answer; 32 to 35 move it on. Only 33 stores
  * in the image. 18, 19, 31 and the answer of a reader that had failed before change nothing that is lent. */
 #define UHEX_BAD_READER 18
 #define UHEX_BAD_IMAGE 19     /* the image's length */
@@ -176,7 +176,7 @@ static inline uint16_t uhex_get16(const uint8_t *at) {
 #define UHEX_BAD_SHAPE 21     /* under 11, over 521 or an even number of characters */
 #define UHEX_BAD_DIGIT 22
 #define UHEX_TOO_LONG 23      /* the length field is over 32 */
-#define UHEX_BAD_LENGTH 24    /* the characters are not 11 and two for each data byte */
+#define UHEX_BAD_LENGTH 24    /* the characters are not 11 and two for each byte that the length field says */
 #define UHEX_BAD_SUM 25
 #define UHEX_OUT_OF_PLACE 26  /* type or length not allowed there */
 #define UHEX_UNALIGNED 27     /* a section begins at an offset that is no multiple of 512 */
