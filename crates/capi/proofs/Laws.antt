@@ -21,7 +21,7 @@ use Rattle.place.proofs.Asked.{the-type}
 use Rattle.arrival.specs.Arrive.{receiveOf}
 use Rattle.receiver.specs.declared.Received.{Received}
 use Rattle.receiver.specs.Receiver.{world, outcome}
-use Rattle.layout.specs.Bytes.{le32}
+use Rattle.block.specs.Write.{le32}
 use Rattle.layout.specs.Layout.{settingsFrom, transferFrom}
 use Rattle.capi.specs.Calls.{Told, told, toldOf, askBytes, ran, resultOf, isTaken, kept, ranOf, receiveBytes}
 
