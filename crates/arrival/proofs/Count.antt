@@ -13,14 +13,14 @@ use Rattle.sets.proofs.Tests.{split, eqb-same}
 use Rattle.sets.proofs.Laws.{add-idle, size-none, size-lt, size-add, size-some}
 use Rattle.bitmap.specs.Bitmap.{markedIn, withMark, mapOf}
 use Rattle.bitmap.proofs.MapLaws.{map-none, marked-map, mark-map}
-use Rattle.transfer.specs.Transfer.{running, counted, raised, taken, stepOf}
+use Rattle.transfer.specs.Transfer.{running, counted, raised, accepted, stepOf}
 use Rattle.transfer.specs.declared.Head.{Head}
 use Rattle.transfer.specs.declared.State.the-variants.{Done}
-use Rattle.transfer.specs.declared.Step.the-variants.{Takes}
+use Rattle.transfer.specs.declared.Step.the-variants.{Accepts}
 use Rattle.transfer.specs.declared.Answer.{Answer}
 use Rattle.transfer.specs.declared.Answer.the-variants.{Finished, Again}
 use Rattle.screen.specs.declared.Page.{Page}
-use Rattle.arrival.specs.Arrive.{Held, World, Outcome, takes, stepped, clearedIf, wipedIf, pagedAt, tookOf, done}
+use Rattle.arrival.specs.Arrive.{Held, World, Outcome, accepts, stepped, clearedIf, wipedIf, pagedAt, acceptOf, done}
 use Rattle.arrival.proofs.Heads.{same-head}
 use Rattle.arrival.proofs.Items.{Item, refused, block, arrive, run, answers}
 
@@ -76,7 +76,7 @@ pub record Keeps (F : Pages) (start : Held) (Inv : Set → Held → Type 0) : Ty
 -- each block of the file, coming first, opens a transfer (and discards one, or not)
 pub record Opens (F : Pages) (w : World) (d : Bool) : Type 0 where
   pub sized : length (w .seen) ≡ 16384
-  pub opens : (marked : Bool) → stepOf (w .transfer) (F .head) marked ≡ Takes (taken true d (F .head) 1)
+  pub opens : (marked : Bool) → stepOf (w .transfer) (F .head) marked ≡ Accepts (accepted true d (F .head) 1)
 
 -- the world v, once the blocks of S have come to w
 pub data After (F : Pages) (w : World) (Inv : Set → Held → Type 0) (S : Set) (v : World) : Type 0 where
@@ -101,12 +101,12 @@ module _ (F : Pages) (w : World) (Inv : Set → Held → Type 0) (K : Keeps F (w
   some-now : (S : Set) → 1 ≤ size (count F) (add k S)
   some-now S = size-some (count F) (add k S) k h (rw (eqb-same k))
 
-  -- a new block is taken, over the seen map of S and flash and sector map x
+  -- a new block is accepted, over the seen map of S and flash and sector map x
   took : (v : World) (S : Set) (x : Held) (clears discards : Bool) → S k ≡ false → clearedIf clears (v .seen) ≡ mapOf 16384 S
       → wipedIf clears (v .held) ≡ x
-      → done v (F .payload k) (takes (pageOf F k) (taken clears discards (F .head) (size (count F) S + 1)))
+      → done v (F .payload k) (accepts (pageOf F k) (accepted clears discards (F .head) (size (count F) S + 1)))
       ≡ record { world = reached F (add k S) (apply F k x); answer = raised (F .head) (size (count F) S + 1); discarded = discards }
-  unfolding done tookOf taken
+  unfolding done acceptOf accepted
   took v S x clears discards new p q =
       outcome-is _ _ (ap (counted (F .head)) (omega (arith, size-add (count F) S k h new)))
       (ap (λ (m : List ℕ). withMark m k) p ∙ mark-map 16384 S k (omega (arith, K .few))) (ap (apply F k) q)
@@ -116,7 +116,7 @@ module _ (F : Pages) (w : World) (Inv : Set → Held → Type 0) (K : Keeps F (w
   unfolding arrive
   first =
       ap (λ st. done w (F .payload k) (stepped (pageOf F k) st)) (o .opens (markedIn (w .seen) k))
-      ∙ ap (λ (c : ℕ). done w (F .payload k) (takes (pageOf F k) (taken true d (F .head) c))) one-more
+      ∙ ap (λ (c : ℕ). done w (F .payload k) (accepts (pageOf F k) (accepted true d (F .head) c))) one-more
       ∙ took w none (wipe (w .held)) true d refl cleared refl
       ∙ ap (λ (x : Answer). record { world = reached F (add k none) (apply F k (wipe (w .held))); answer = x; discarded = d }) told
     where
@@ -140,7 +140,7 @@ module _ (F : Pages) (w : World) (Inv : Set → Held → Type 0) (K : Keeps F (w
       let m : markedIn (mapOf 16384 S) k ≡ S k = marked-map 16384 S k (omega (arith, K .few)) in
       split (ltb (size (count F) S) (count F)) (λ q. rw (q, same-head (F .head), m, y)) (λ q. rw q)
 
-  -- a new block is taken
+  -- a new block is accepted
   newly : (S : Set) (x : Held) → S k ≡ false
       → arrive (reached F S x) (itemOf F k) ≡ record { world = reached F (add k S) (apply F k x); answer = verdict F S k; discarded = false }
   unfolding arrive stepOf verdict

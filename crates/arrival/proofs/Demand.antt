@@ -18,12 +18,12 @@ use Rattle.transfer.specs.declared.State.the-variants.{Idle}
 use Rattle.transfer.specs.declared.Answer.{Answer}
 use Rattle.arrival.specs.Arrive.{Held, World, Outcome, receiveOf}
 use Rattle.arrival.specs.Lists.{receiveAll, answersOf}
-use Rattle.arrival.specs.Demand.{File, earns, ValidFile, Foreign, Sent, nothing, own, other, among, seenOf, isWhole, replyTo, withArrival, repliesTo, Ends, List-ends, List-answers, isCompleted, Completed-exactly, Same-set-same-end, Either-first}
+use Rattle.arrival.specs.Demand.{File, answerNumber, ValidFile, Foreign, Sent, nothing, own, other, among, seenOf, isWhole, replyTo, withArrival, repliesTo, Ends, List-ends, List-answers, isCompleted, Completed-exactly, Same-set-same-end, Either-first}
 use Rattle.arrival.proofs.Items.{block, arrive, run}
 use Rattle.arrival.proofs.Count.{Pages, count, Keeps, After, untouched, begun, verdict, verdicts, block-step, run-after, told-after, nothing-seen, some-seen, still-running, whole-done, seen-map, keeps-of, after, after-is}
 use Rattle.arrival.proofs.Cells.{cell, cell-none, cell-owned, cell-free, getD-buffer}
 use Rattle.arrival.proofs.Effect.{spans-is, Valid, layout, sectorsOf, apart-of, effect, length-effect, grows}
-use Rattle.arrival.proofs.Decided.{flashOf}
+use Rattle.arrival.proofs.DecisionFacts.{flashOf}
 use Rattle.arrival.proofs.Lists.{asked, receive-is, all-is, answers-are, board-after}
 use Rattle.arrival.proofs.Files.{pagesOf, board, valid, opens, asked-block, asked-foreign, block-size, sent-append, sent-split, sent-sized, sent-parts, seen-own, seen-other, seen-append, seen-is}
 
@@ -162,7 +162,7 @@ module _ (s : Settings) (w : World) (F : File) (idle : w .transfer ≡ Idle) (ok
   reply-own : (S : Set) (k : ℕ) → k < F .total → verdict P S k ≡ replyTo s w F S (F .block k)
   unfolding verdict raised replyTo
   reply-own S k h =
-      rw (lt-leb (earns s w (F .block k)) 11 (omega (arith, ok .passes k h)), ok .numbers k h)
+      rw (lt-leb (answerNumber s w (F .block k)) 11 (omega (arith, ok .passes k h)), ok .numbers k h)
       (split (ltb (size (F .total) S) (F .total))
       (λ y. rw (y, ne-eqb (size (F .total) S) (F .total) (omega (arith, ltb-true (size (F .total) S) (F .total) y))))
       (λ z.
@@ -170,15 +170,15 @@ module _ (s : Settings) (w : World) (F : File) (idle : w .transfer ≡ Idle) (ok
 
   grow-own : (S : Set) (k : ℕ) → k < F .total → add k S ≡ withArrival s w S (F .block k)
   unfolding withArrival
-  grow-own S k h = rw (lt-leb (earns s w (F .block k)) 11 (omega (arith, ok .passes k h)), ok .numbers k h)
+  grow-own S k h = rw (lt-leb (answerNumber s w (F .block k)) 11 (omega (arith, ok .passes k h)), ok .numbers k h)
 
   reply-other : (S : Set) (a : List ℕ) → Foreign s w a → replyTo s w F S a ≡ receiveOf s w a .answer
   unfolding replyTo
-  reply-other S a f = rw (le-leb (earns s w a) 11 (f .1))
+  reply-other S a f = rw (le-leb (answerNumber s w a) 11 (f .1))
 
   grow-other : (S : Set) (a : List ℕ) → Foreign s w a → withArrival s w S a ≡ S
   unfolding withArrival
-  grow-other S a f = rw (le-leb (earns s w a) 11 (f .1))
+  grow-other S a f = rw (le-leb (answerNumber s w a) 11 (f .1))
 
   replies-are : {l : List (List ℕ)} → Sent s w F l → (S : Set) → verdicts P S (map (asked s (flashOf w)) l) ≡ repliesTo s w F S l
   unfolding verdicts repliesTo
@@ -236,7 +236,7 @@ module _ (s : Settings) (w : World) (F : File) (idle : w .transfer ≡ Idle) (ok
   exactly-other : {l : List (List ℕ)} → Sent s w F l → (a : List ℕ) → Foreign s w a → Exactly l a
   exactly-other {l} sent a f =
       ap (λ (o : Outcome). isCompleted (o .answer)) (next-is sent a (asked-foreign s w F idle ok a f .1) ∙ ap (arrive (receiveAll s w l)) (asked-foreign s w F idle ok a f .0))
-      ∙ unfold arrive in ne-eqb (earns s w a) 15 (λ e. omega (arith, f .1))
+      ∙ unfold arrive in ne-eqb (answerNumber s w a) 15 (λ e. omega (arith, f .1))
       ∙ sym (not-and-self (isWhole F (seenOf F l)))
       ∙ sym (ap (λ (R : Set). not (isWhole F (seenOf F l)) && isWhole F R) same)
     where

@@ -17,24 +17,24 @@ use Rattle.settings.specs.declared.Settings.{Settings}
 use Rattle.place.specs.Place.{placeOf}
 use Rattle.place.specs.declared.Place.{Place}
 use Rattle.place.specs.declared.Place.the-variants.{At}
-use Rattle.transfer.specs.Transfer.{numberOf, taken, stepOf}
+use Rattle.transfer.specs.Transfer.{numberOf, accepted, stepOf}
 use Rattle.transfer.specs.declared.State.the-variants.{Idle}
 use Rattle.screen.specs.Screen.{screenOf}
 use Rattle.screen.specs.declared.Page.{Page}
-use Rattle.screen.specs.declared.Screened.{Screened}
-use Rattle.screen.specs.declared.Screened.the-variants.{Refused, Passed}
+use Rattle.screen.specs.declared.Screening.{Screening}
+use Rattle.screen.specs.declared.Screening.the-variants.{Refused, Passed}
 use Rattle.arrival.specs.Arrive.{World, Outcome, done, receiveOf}
-use Rattle.arrival.specs.Demand.{File, earns, ValidFile, Foreign, Sent, nothing, own, other, sameBytes, among, seenOf, storageIn, storageOf, headIn}
+use Rattle.arrival.specs.Demand.{File, answerNumber, ValidFile, Foreign, Sent, nothing, own, other, sameBytes, among, seenOf, storageIn, storageOf, headIn}
 use Rattle.arrival.proofs.Items.{Item, refused, block, brought, arrive}
 use Rattle.arrival.proofs.Count.{Pages, pageOf, itemOf, Parts, end, ours, foreign, seeing, seenBy, Opens}
 use Rattle.arrival.proofs.Effect.{Fits, Valid}
-use Rattle.arrival.proofs.Screened.{Passing, Good, screen-good, passing-fits, passing-few}
-use Rattle.arrival.proofs.Decided.{flashOf, Board, Rows, stopped, through, rows, raised-number}
+use Rattle.arrival.proofs.Screening.{Passing, Good, screen-good, passing-fits, passing-few}
+use Rattle.arrival.proofs.DecisionFacts.{flashOf, Board, Rows, stopped, through, rows, raised-number}
 use Rattle.arrival.proofs.Lists.{asked, receive-is, Sized, no-more, sized}
 
 -- ---- an arrival that earns 4 or more has passed rows 1 to 3
 
-pub earned : (s : Settings) (w : World) (a : List ℕ) → 4 ≤ earns s w a → Board s w × (length a ≡ 512)
+pub earned : (s : Settings) (w : World) (a : List ℕ) → 4 ≤ answerNumber s w a → Board s w × (length a ≡ 512)
 earned s w a h = go (rows s w a)
   where
     go : Rows s w a → Board s w × (length a ≡ 512)
@@ -98,16 +98,16 @@ module _ (s : Settings) (w : World) (F : File) (idle : w .transfer ≡ Idle) (ok
   board = earned s w (F .block 0) (omega (arith, ok .passes 0 (ok .some))) .0
 
   -- the answer to an arrival at the start, by what it is screened to
-  abbrev Earned : List ℕ → Screened → Type 0
+  abbrev Earned : List ℕ → Screening → Type 0
   Earned a (Refused x) = receiveOf s w a .answer ≡ x
-  Earned a (Passed g) = 14 ≤ earns s w a
+  Earned a (Passed g) = 14 ≤ answerNumber s w a
 
-  first : (a : List ℕ) → length a ≡ 512 → (x : Screened) → screenOf s (flashOf w) a ≡ x → Earned a x
+  first : (a : List ℕ) → length a ≡ 512 → (x : Screening) → screenOf s (flashOf w) a ≡ x → Earned a x
   first a l (Refused x) e =
-      ap (λ (o : Outcome). o .answer) (receive-is s w a board l ∙ ap (λ (y : Screened). arrive w (brought y (payloadOf a))) e) ∙ unfold arrive in refl
+      ap (λ (o : Outcome). o .answer) (receive-is s w a board l ∙ ap (λ (y : Screening). arrive w (brought y (payloadOf a))) e) ∙ unfold arrive in refl
   first a l (Passed g) e =
-      let f : receiveOf s w a ≡ arrive w (block g (payloadOf a)) = receive-is s w a board l ∙ ap (λ (y : Screened). arrive w (brought y (payloadOf a))) e in
-      rw f (unfold arrive stepOf done taken in rw idle (raised-number (g .head) 1))
+      let f : receiveOf s w a ≡ arrive w (block g (payloadOf a)) = receive-is s w a board l ∙ ap (λ (y : Screening). arrive w (brought y (payloadOf a))) e in
+      rw f (unfold arrive stepOf done accepted in rw idle (raised-number (g .head) 1))
 
   -- a block of the file passes
   passed : (k : ℕ) → k < F .total → (g : Page) × (screenOf s (flashOf w) (F .block k) ≡ Passed g) × Passing s (flashOf w) (F .block k) g
@@ -119,7 +119,7 @@ module _ (s : Settings) (w : World) (F : File) (idle : w .transfer ≡ Idle) (ok
       l : length a ≡ 512
       l = earned s w a (omega (arith, ok .passes k h)) .1
 
-      go : (x : Screened) → screenOf s (flashOf w) a ≡ x → Good s (flashOf w) a x
+      go : (x : Screening) → screenOf s (flashOf w) a ≡ x → Good s (flashOf w) a x
           → (g : Page) × (screenOf s (flashOf w) a ≡ Passed g) × Passing s (flashOf w) a g
       go (Refused x) e n = absurd (omega (arith, n, ok .passes k h, ap numberOf (first a l (Refused x) e)))
       go (Passed g) e n = (g, e, n)
@@ -142,7 +142,7 @@ module _ (s : Settings) (w : World) (F : File) (idle : w .transfer ≡ Idle) (ok
 
   pub asked-block : (k : ℕ) → k < F .total → asked s (flashOf w) (F .block k) ≡ itemOf (pagesOf s w F) k
   asked-block k h =
-      ap (λ (x : Screened). brought x (payloadOf (F .block k))) (passed k h .1)
+      ap (λ (x : Screening). brought x (payloadOf (F .block k))) (passed k h .1)
       ∙ ap (λ (g : Page). block g (payloadOf (F .block k))) (page-is k h)
 
   pub valid : Valid (pagesOf s w F) (w .held)
@@ -186,8 +186,8 @@ module _ (s : Settings) (w : World) (F : File) (idle : w .transfer ≡ Idle) (ok
       l : length a ≡ 512
       l = earned s w a (f .0) .1
 
-      go : (x : Screened) → screenOf s (flashOf w) a ≡ x → asked s (flashOf w) a ≡ refused (receiveOf s w a .answer)
-      go (Refused x) e = ap (λ (x : Screened). brought x (payloadOf a)) e ∙ ap refused (sym (first a l (Refused x) e))
+      go : (x : Screening) → screenOf s (flashOf w) a ≡ x → asked s (flashOf w) a ≡ refused (receiveOf s w a .answer)
+      go (Refused x) e = ap (λ (x : Screening). brought x (payloadOf a)) e ∙ ap refused (sym (first a l (Refused x) e))
       go (Passed g) e = absurd (omega (arith, f .1, first a l (Passed g) e))
 
   -- ---- a list
@@ -224,7 +224,7 @@ module _ (s : Settings) (w : World) (F : File) (idle : w .transfer ≡ Idle) (ok
       (λ t.
       let l = ltb-true j (F .total) (and-left (ltb j (F .total)) (sameBytes (F .block j) a) t) in
       let b : F .block j ≡ a = same-true (F .block j) a (and-right (ltb j (F .total)) (sameBytes (F .block j) a) t) in
-      omega (arith, f, ok .passes j l, ap (earns s w) b))
+      omega (arith, f, ok .passes j l, ap (answerNumber s w) b))
 
   pub seen-own : (k : ℕ) (l : List (List ℕ)) → k < F .total → seenOf F (F .block k ∷ l) ≡ add k (seenOf F l)
   unfolding among

@@ -5,8 +5,8 @@ use Rattle.bitmap.specs.Bitmap.{markedIn}
 use Rattle.transfer.specs.Transfer.{stepOf}
 use Rattle.transfer.specs.declared.Answer.{Answer}
 use Rattle.screen.specs.declared.Page.{Page}
-use Rattle.screen.specs.declared.Screened.{Screened}
-use Rattle.screen.specs.declared.Screened.the-variants.{Refused, Passed}
+use Rattle.screen.specs.declared.Screening.{Screening}
+use Rattle.screen.specs.declared.Screening.the-variants.{Refused, Passed}
 use Rattle.arrival.specs.Arrive.{World, Outcome, Decision, stepped, unchanged, done}
 
 -- a refusal, or a page with its payload
@@ -14,7 +14,7 @@ pub data Item : Type 0 where
   refused : Answer → Item
   block : Page → List ℕ → Item
 
-abbrev pub brought : Screened → List ℕ → Item
+abbrev pub brought : Screening → List ℕ → Item
 brought (Refused x) p = refused x
 brought (Passed g) p = block g p
 

@@ -8,39 +8,39 @@ use lib.ListN.{length}
 use Rattle.flash.specs.Flash.{flashLength, payloadOf}
 use Rattle.settings.specs.declared.Settings.{Settings}
 use Rattle.settings.specs.Settings.{goodSettings}
-use Rattle.transfer.specs.Transfer.{countOf, goodState, taken}
+use Rattle.transfer.specs.Transfer.{countOf, goodState, accepted}
 use Rattle.transfer.specs.declared.Head.{Head}
 use Rattle.transfer.specs.declared.Answer.{Answer}
 use Rattle.screen.specs.Screen.{screenOf}
-use Rattle.screen.specs.declared.Screened.{Screened}
-use Rattle.screen.specs.declared.Screened.the-variants.{Refused, Passed}
-use Rattle.arrival.specs.Arrive.{World, Decision, looked, tookOf, done, receiveOf}
+use Rattle.screen.specs.declared.Screening.{Screening}
+use Rattle.screen.specs.declared.Screening.the-variants.{Refused, Passed}
+use Rattle.arrival.specs.Arrive.{World, Decision, afterScreening, acceptOf, done, receiveOf}
 use Rattle.arrival.specs.Facts.{Arrivals-keep-lengths}
 use Rattle.arrival.specs.Lists.{receiveAll, answersOf}
 use Rattle.arrival.specs.Tally.{clears}
 use Rattle.arrival.proofs.Items.{Item, brought, arrive, run, answers}
-use Rattle.arrival.proofs.Screened.{passing-few}
-use Rattle.arrival.proofs.Decided.{flashOf, Board, board-decides, Decided, kept, took, decided, counted-good}
+use Rattle.arrival.proofs.Screening.{passing-few}
+use Rattle.arrival.proofs.DecisionFacts.{flashOf, Board, board-decides, DecisionFacts, kept, took, decided, counted-good}
 use Rattle.arrival.proofs.Facts.{arrivals-keep-lengths}
 
 -- what an arrival is screened to, for a flash of n bytes
 abbrev pub asked : Settings → ℕ → List ℕ → Item
 asked s n a = brought (screenOf s n a) (payloadOf a)
 
-looked-is : (w : World) (p : List ℕ) (x : Screened) → done w p (looked (w .transfer) (w .seen) x) ≡ arrive w (brought x p)
-unfolding looked arrive done
-looked-is w p (Refused x) = refl
-looked-is w p (Passed g) = refl
+afterScreening-is : (w : World) (p : List ℕ) (x : Screening) → done w p (afterScreening (w .transfer) (w .seen) x) ≡ arrive w (brought x p)
+unfolding afterScreening arrive done
+afterScreening-is w p (Refused x) = refl
+afterScreening-is w p (Passed g) = refl
 
 pub receive-is : (s : Settings) (w : World) (a : List ℕ) → Board s w → length a ≡ 512 → receiveOf s w a ≡ arrive w (asked s (flashOf w) a)
 unfolding receiveOf
-receive-is s w a B l = ap (done w (payloadOf a)) (board-decides s w a B l) ∙ looked-is w (payloadOf a) (screenOf s (flashOf w) a)
+receive-is s w a B l = ap (done w (payloadOf a)) (board-decides s w a B l) ∙ afterScreening-is w (payloadOf a) (screenOf s (flashOf w) a)
 
 -- ---- rows 1 to 3 stay passed
 
-state-next : (s : Settings) (w : World) (a : List ℕ) {d : Decision} → Decided s w a d → goodState (w .transfer) ≡ true
+state-next : (s : Settings) (w : World) (a : List ℕ) {d : Decision} → DecisionFacts s w a d → goodState (w .transfer) ≡ true
     → goodState (done w (payloadOf a) d .world .transfer) ≡ true
-unfolding done tookOf taken
+unfolding done acceptOf accepted
 state-next s w a (kept x h) e = e
 state-next s w a (took g k B l q t) e =
     rw (t .is)
