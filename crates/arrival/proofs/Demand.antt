@@ -18,14 +18,14 @@ use Rattle.transfer.specs.declared.State.the-variants.{Idle}
 use Rattle.transfer.specs.declared.Answer.{Answer}
 use Rattle.arrival.specs.Arrive.{Held, World, Outcome, receiveOf}
 use Rattle.arrival.specs.Lists.{receiveAll, answersOf}
-use Rattle.arrival.specs.Demand.{File, earns, ValidFile, Foreign, Sent, nothing, own, other, among, seenOf, isWhole, replyTo, withArrival, repliesTo, Ends, List-ends, List-answers, isCompleted, Completed-exactly, Same-set-same-end, Either-first}
+use Rattle.arrival.specs.Demand.{File, earns, ValidFile, Foreign, Mixed, Sent, nothing, own, other, among, seenOf, isWhole, replyTo, withArrival, repliesTo, Ends, List-ends, List-answers, isCompleted, Completed-exactly, Same-set-same-end, Either-first}
 use Rattle.arrival.proofs.Items.{block, arrive, run}
 use Rattle.arrival.proofs.Count.{Pages, count, Keeps, After, untouched, begun, verdict, verdicts, block-step, run-after, told-after, nothing-seen, some-seen, still-running, whole-done, seen-map, keeps-of, after, after-is}
 use Rattle.arrival.proofs.Cells.{cell, cell-none, cell-owned, cell-free, getD-buffer}
-use Rattle.arrival.proofs.Effect.{spans-is, Valid, layout, sectorsOf, apart-of, effect, length-effect, grows}
+use Rattle.arrival.proofs.Effect.{spans-is, Valid, layout, sectorsOf, owned-touches, apart-of, effect, length-effect, grows}
 use Rattle.arrival.proofs.Decided.{flashOf}
 use Rattle.arrival.proofs.Lists.{asked, receive-is, all-is, answers-are, board-after}
-use Rattle.arrival.proofs.Files.{pagesOf, board, valid, opens, asked-block, asked-foreign, block-size, sent-append, sent-split, sent-sized, sent-parts, seen-own, seen-other, seen-append, seen-is}
+use Rattle.arrival.proofs.Files.{pagesOf, board, valid, opens, asked-block, asked-foreign, block-size, mixed-append, mixed-split, sent-sized, sent-parts, seen-own, seen-other, seen-append, seen-is}
 
 -- ---- the flash by its cells, read in the paper's words
 
@@ -85,7 +85,7 @@ module _ (F : Pages) (w : World) (ok : Valid F (w .held)) (S : Set) (v : World) 
           is-false _
           (λ o.
           clash (sectorsOf F S (j / 4096))
-          (any-hit (λ i. S i && eqb (j / 4096) (F .at i / 4096)) (count F) k h (rw s (apart-of F (w .held) ok .inside k j h o))) t)
+          (any-hit (λ i. S i && eqb (j / 4096) (F .at i / 4096)) (count F) k h (rw s (owned-touches F (w .held) ok k j h o))) t)
 
 -- ---- Completed exactly where the set becomes whole
 
@@ -138,16 +138,22 @@ module _ (s : Settings) (w : World) (F : File) (idle : w .transfer ≡ Idle) (ok
       let v = receiveAll s w l in
       let a = after-list sent in
       record {
-        untouched = nothing-seen P w (Same P (w .held)) S v a;
-        going = still-running P w (Same P (w .held)) S v a;
-        whole = whole-done P w (Same P (w .held)) S v a (ok .some);
-        seen-map = seen-map P w (Same P (w .held)) S v a;
+        counts =
+            record {
+              untouched = nothing-seen P w (Same P (w .held)) S v a;
+              going = still-running P w (Same P (w .held)) S v a;
+              whole = whole-done P w (Same P (w .held)) S v a (ok .some);
+              seen-map = seen-map P w (Same P (w .held)) S v a;
+            };
         sector-map = sectors-are P w sound S v a;
-        payloads = payload-stands P w sound S v a;
-        inside = λ k h. sound .fits k h .within;
-        erased = rest-erased P w sound S v a;
-        others = others-kept P w sound S v a;
-        flash-length = same-length P w sound S v a;
+        contents =
+            record {
+              payloads = payload-stands P w sound S v a;
+              inside = λ k h. sound .fits k h .within;
+              erased = rest-erased P w sound S v a;
+              others = others-kept P w sound S v a;
+              flash-length = same-length P w sound S v a;
+            };
       }
 
   -- one world by the set
@@ -250,7 +256,7 @@ module _ (s : Settings) (w : World) (F : File) (idle : w .transfer ≡ Idle) (ok
           ∙ or-comm (seenOf F l j) false)
 
   pub exactly : (l : List (List ℕ)) (a : List ℕ) → Sent s w F (l ++ (a ∷ [])) → Exactly l a
-  exactly l a sent = let q = sent-split s w F l (a ∷ []) sent in last l (q .0) refl (q .1)
+  exactly l a sent = let q = mixed-split F (Foreign s w) l (a ∷ []) sent in last l (q .0) refl (q .1)
     where
       last : (l : List (List ℕ)) {a : List ℕ} → Sent s w F l → {m : List (List ℕ)} → m ≡ a ∷ [] → Sent s w F m → Exactly l a
       last l p e nothing = absurd (omega (arith, ap length e))
@@ -282,5 +288,5 @@ same-set-same-end s w F idle ok l p m q e = same-set s w F idle ok p q (fun-ext 
 pub either-first : Either-first
 unfolding Either-first
 either-first s w F idle ok l p m q =
-    same-set s w F idle ok (sent-append p q) (sent-append q p)
+    same-set s w F idle ok (mixed-append p q) (mixed-append q p)
     (fun-ext (λ k. seen-append s w F idle ok l m k ∙ or-comm (seenOf F l k) (seenOf F m k) ∙ sym (seen-append s w F idle ok m l k)))

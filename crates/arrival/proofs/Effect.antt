@@ -104,13 +104,17 @@ layout F =
 abbrev pub sectorsOf : Pages → Set → Set
 sectorsOf F S = touched (count F) (layout F) S
 
+-- a page touches the sector of each byte that it holds
+pub owned-touches : (F : Pages) (x : Held) → Valid F x → (i j : ℕ) → i < count F → spans (F .at i) j ≡ true → eqb (j / 4096) (F .at i / 4096) ≡ true
+owned-touches F x ok i j h o = eq-eqb (j / 4096) (F .at i / 4096) (omega (arith, spans-true (F .at i) j o, ok .fits i h .aligned))
+
 pub apart-of : (F : Pages) (x : Held) → Valid F x → Apart (count F) (layout F)
 apart-of F x ok =
     record {
       alone = λ i k j hi hk o q.
           let e : F .at i ≡ F .at k = omega (arith, spans-true (F .at i) j o, spans-true (F .at k) j q, ok .fits i hi .aligned, ok .fits k hk .aligned) in
           ok .apart i k hi hk e;
-      inside = λ i j hi o. eq-eqb (j / 4096) (F .at i / 4096) (omega (arith, spans-true (F .at i) j o, ok .fits i hi .aligned));
+      inside = λ i k j hi hk o q. owned-touches F x ok i j hi o;
     }
 
 -- flash and sector map, once the blocks of S have come

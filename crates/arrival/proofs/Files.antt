@@ -24,7 +24,7 @@ use Rattle.screen.specs.declared.Page.{Page}
 use Rattle.screen.specs.declared.Screened.{Screened}
 use Rattle.screen.specs.declared.Screened.the-variants.{Refused, Passed}
 use Rattle.arrival.specs.Arrive.{World, Outcome, done, receiveOf}
-use Rattle.arrival.specs.Demand.{File, earns, ValidFile, Foreign, Sent, nothing, own, other, sameBytes, among, seenOf, storageIn, storageOf, headIn}
+use Rattle.arrival.specs.Demand.{File, earns, ValidFile, Foreign, Mixed, Sent, nothing, own, other, sameBytes, among, seenOf, storageIn, storageOf, headIn}
 use Rattle.arrival.proofs.Items.{Item, refused, block, brought, arrive}
 use Rattle.arrival.proofs.Count.{Pages, pageOf, itemOf, Parts, end, ours, foreign, seeing, seenBy, Opens}
 use Rattle.arrival.proofs.Effect.{Fits, Valid}
@@ -64,28 +64,30 @@ unfolding among
 among-append a [] m = refl
 among-append a (b ∷ l) m = rw (among-append a l m) (sym (or-assoc (sameBytes a b) (among a l) (among a m)))
 
-pub sent-append : {s : Settings} {w : World} {F : File} {l m : List (List ℕ)} → Sent s w F l → Sent s w F m → Sent s w F (l ++ m)
-sent-append nothing q = q
-sent-append (own k h p) q = own k h (sent-append p q)
-sent-append (other a f p) q = other a f (sent-append p q)
+-- ---- lists of a file's blocks, mixed with arrivals of which P holds
 
--- the two parts of a list of blocks and foreign arrivals are such lists
-pub sent-split : (s : Settings) (w : World) (F : File) (l m : List (List ℕ)) → Sent s w F (l ++ m) → Sent s w F l × Sent s w F m
-sent-split s w F [] m p = (nothing, p)
-sent-split s w F (a ∷ l) m p = go (λ r. sent-split s w F l m r) refl p
+pub mixed-append : {F : File} {P : List ℕ → Type 0} {l m : List (List ℕ)} → Mixed F P l → Mixed F P m → Mixed F P (l ++ m)
+mixed-append nothing q = q
+mixed-append (own k h p) q = own k h (mixed-append p q)
+mixed-append (other a f p) q = other a f (mixed-append p q)
+
+-- the two parts of such a list are such lists
+pub mixed-split : (F : File) (P : List ℕ → Type 0) (l m : List (List ℕ)) → Mixed F P (l ++ m) → Mixed F P l × Mixed F P m
+mixed-split F P [] m p = (nothing, p)
+mixed-split F P (a ∷ l) m p = go (λ r. mixed-split F P l m r) refl p
   where
-    go : (Sent s w F (l ++ m) → Sent s w F l × Sent s w F m) → {n : List (List ℕ)} → n ≡ a ∷ (l ++ m) → Sent s w F n → Sent s w F (a ∷ l) × Sent s w F m
+    go : (Mixed F P (l ++ m) → Mixed F P l × Mixed F P m) → {n : List (List ℕ)} → n ≡ a ∷ (l ++ m) → Mixed F P n → Mixed F P (a ∷ l) × Mixed F P m
     go f e nothing = absurd (omega (arith, ap length e))
     go f e (own {l = n} k h r) =
         let x : F .block k ≡ a = cc in
         let y : n ≡ l ++ m = cc in
-        let q = f (subst (Sent s w F) y r) in
-        (subst (λ (b : List ℕ). Sent s w F (b ∷ l)) x (own k h (q .0)), q .1)
+        let q = f (subst (Mixed F P) y r) in
+        (subst (λ (b : List ℕ). Mixed F P (b ∷ l)) x (own k h (q .0)), q .1)
     go f e (other {l = n} b g r) =
         let x : b ≡ a = cc in
         let y : n ≡ l ++ m = cc in
-        let q = f (subst (Sent s w F) y r) in
-        (subst (λ (b : List ℕ). Sent s w F (b ∷ l)) x (other b g (q .0)), q .1)
+        let q = f (subst (Mixed F P) y r) in
+        (subst (λ (b : List ℕ). Mixed F P (b ∷ l)) x (other b g (q .0)), q .1)
 
 -- ---- a valid file
 
