@@ -14,14 +14,14 @@ use Rattle.sets.proofs.Laws.{add-idle, size-none, size-lt, size-add, size-some}
 use Rattle.bitmap.specs.Bitmap.{markedIn, withMark, mapOf}
 use Rattle.bitmap.proofs.MapLaws.{map-none, marked-map, mark-map}
 use Rattle.flash.specs.Flash.{payloadOf}
-use Rattle.transfer.specs.Transfer.{running, counted, raised, taken, stepOf}
+use Rattle.transfer.specs.Transfer.{running, counted, raised, accepted, stepOf}
 use Rattle.transfer.specs.declared.Head.{Head}
 use Rattle.transfer.specs.declared.State.the-variants.{Done}
-use Rattle.transfer.specs.declared.Step.the-variants.{Takes}
+use Rattle.transfer.specs.declared.Step.the-variants.{Accepts}
 use Rattle.transfer.specs.declared.Answer.{Answer}
 use Rattle.transfer.specs.declared.Answer.the-variants.{Finished, Again}
 use Rattle.screen.specs.declared.Page.{Page}
-use Rattle.arrival.specs.Arrive.{Held, World, Outcome, takes, stepped, clearedIf, wipedIf, tookOf, done}
+use Rattle.arrival.specs.Arrive.{Held, World, Outcome, accepts, stepped, clearedIf, wipedIf, acceptOf, done}
 use Rattle.arrival.specs.Demand.{File, headIn}
 use Rattle.arrival.proofs.Heads.{same-head}
 use Rattle.arrival.proofs.Pages.{arrive, apply, took-held}
@@ -70,7 +70,7 @@ pub record Keeps (F : Blocks) (start : Held) (Inv : Set → Held → Type 0) : T
 -- each block of the file, coming first, opens a transfer (and discards one, or not)
 pub record Opens (F : Blocks) (w : World) (d : Bool) : Type 0 where
   pub sized : length (w .seen) ≡ 16384
-  pub opens : (marked : Bool) → stepOf (w .transfer) (headBy F) marked ≡ Takes (taken true d (headBy F) 1)
+  pub opens : (marked : Bool) → stepOf (w .transfer) (headBy F) marked ≡ Accepts (accepted true d (headBy F) 1)
 
 -- the world v, once the blocks of S have come to w
 pub data After (F : Blocks) (w : World) (Inv : Set → Held → Type 0) (S : Set) (v : World) : Type 0 where
@@ -95,23 +95,23 @@ module _ (F : Blocks) (w : World) (Inv : Set → Held → Type 0) (K : Keeps F (
   some-now : (S : Set) → 1 ≤ size (count F) (add k S)
   some-now S = size-some (count F) (add k S) k h (rw (eqb-same k))
 
-  -- a new block is taken, over the seen map of S and flash and sector map x
+  -- a new block is accepted, over the seen map of S and flash and sector map x
   took : (v : World) (S : Set) (x : Held) (clears discards : Bool) → S k ≡ false → clearedIf clears (v .seen) ≡ mapOf 16384 S
       → wipedIf clears (v .held) ≡ x
-      → done v (payloadOf (bytesOf F k)) (takes (pageOf F k) (taken clears discards (headBy F) (size (count F) S + 1)))
+      → done v (payloadOf (bytesOf F k)) (accepts (pageOf F k) (accepted clears discards (headBy F) (size (count F) S + 1)))
       ≡ record { world = reached F (add k S) (applied F k x); answer = raised (headBy F) (size (count F) S + 1); discarded = discards }
-  unfolding done tookOf taken
+  unfolding done acceptOf accepted
   took v S x clears discards new p q =
       outcome-is _ _ (ap (counted (headBy F)) (omega (arith, size-add (count F) S k h new)))
       (ap (λ (m : List ℕ). withMark m k) p ∙ mark-map 16384 S k (omega (arith, K .few)))
-      (took-held v (bytesOf F k) (pageOf F k) (taken clears discards (headBy F) (size (count F) S + 1)) ∙ ap (applied F k) q)
+      (took-held v (bytesOf F k) (pageOf F k) (accepted clears discards (headBy F) (size (count F) S + 1)) ∙ ap (applied F k) q)
       refl refl
 
   first : coming F w k ≡ record { world = reached F (add k none) (applied F k (wipe (w .held))); answer = verdict F none k; discarded = d }
   unfolding arrive
   first =
       ap (λ st. done w (payloadOf (bytesOf F k)) (stepped (pageOf F k) st)) (o .opens (markedIn (w .seen) k))
-      ∙ ap (λ (c : ℕ). done w (payloadOf (bytesOf F k)) (takes (pageOf F k) (taken true d (headBy F) c))) one-more
+      ∙ ap (λ (c : ℕ). done w (payloadOf (bytesOf F k)) (accepts (pageOf F k) (accepted true d (headBy F) c))) one-more
       ∙ took w none (wipe (w .held)) true d refl cleared refl
       ∙ ap (λ (x : Answer). record { world = reached F (add k none) (applied F k (wipe (w .held))); answer = x; discarded = d }) told
     where
@@ -135,7 +135,7 @@ module _ (F : Blocks) (w : World) (Inv : Set → Held → Type 0) (K : Keeps F (
       let m : markedIn (mapOf 16384 S) k ≡ S k = marked-map 16384 S k (omega (arith, K .few)) in
       split (ltb (size (count F) S) (count F)) (λ q. rw (q, same-head (headBy F), m, y)) (λ q. rw q)
 
-  -- a new block is taken
+  -- a new block is accepted
   newly : (S : Set) (x : Held) → S k ≡ false
       → coming F (reached F S x) k ≡ record { world = reached F (add k S) (applied F k x); answer = verdict F S k; discarded = false }
   unfolding arrive stepOf verdict

@@ -18,7 +18,7 @@ use Rattle.transfer.specs.declared.State.the-variants.{Idle}
 use Rattle.transfer.specs.declared.Answer.{Answer}
 use Rattle.arrival.specs.Arrive.{Held, World, Outcome, receiveOf}
 use Rattle.arrival.specs.Lists.{receiveAll, answersOf}
-use Rattle.arrival.specs.Demand.{File, earns, ValidFile, Foreign, Mixed, Sent, nothing, own, other, among, seenOf, isWhole, replyTo, withArrival, repliesTo, Ends, List-ends, List-answers, isCompleted, Completed-exactly, Same-set-same-end, Either-first}
+use Rattle.arrival.specs.Demand.{File, answerNumber, ValidFile, Foreign, Mixed, Sent, nothing, own, other, among, seenOf, isWhole, replyTo, withArrival, repliesTo, Ends, List-ends, List-answers, isCompleted, Completed-exactly, Same-set-same-end, Either-first}
 use Rattle.arrival.proofs.Count.{Blocks, count, Keeps, After, untouched, begun, verdict, Stepped, nothing-seen, some-seen, still-running, whole-done, seen-map, keeps-of, after, after-is}
 use Rattle.arrival.proofs.Cells.{cell, cell-none, cell-owned, cell-free, getD-buffer}
 use Rattle.arrival.proofs.Effect.{payloadIn, spans-is, Valid, layout, sectorsOf, owned-touches, apart-of, effect, length-effect, grows}
@@ -167,7 +167,7 @@ module _ (s : Settings) (w : World) (F : File) (idle : w .transfer ≡ Idle) (ok
   reply-own : (S : Set) (k : ℕ) → k < F .total → verdict P S k ≡ replyTo s w F S (F .block k)
   unfolding verdict raised replyTo
   reply-own S k h =
-      rw (lt-leb (earns s w (F .block k)) 11 (omega (arith, ok .passes k h)), ok .numbers k h)
+      rw (lt-leb (answerNumber s w (F .block k)) 11 (omega (arith, ok .passes k h)), ok .numbers k h)
       (split (ltb (size (F .total) S) (F .total))
       (λ y. rw (y, ne-eqb (size (F .total) S) (F .total) (omega (arith, ltb-true (size (F .total) S) (F .total) y))))
       (λ z.
@@ -175,15 +175,15 @@ module _ (s : Settings) (w : World) (F : File) (idle : w .transfer ≡ Idle) (ok
 
   grow-own : (S : Set) (k : ℕ) → k < F .total → add k S ≡ withArrival s w S (F .block k)
   unfolding withArrival
-  grow-own S k h = rw (lt-leb (earns s w (F .block k)) 11 (omega (arith, ok .passes k h)), ok .numbers k h)
+  grow-own S k h = rw (lt-leb (answerNumber s w (F .block k)) 11 (omega (arith, ok .passes k h)), ok .numbers k h)
 
   reply-other : (S : Set) (a : List ℕ) → Foreign s w a → replyTo s w F S a ≡ receiveOf s w a .answer
   unfolding replyTo
-  reply-other S a f = rw (le-leb (earns s w a) 11 (f .1))
+  reply-other S a f = rw (le-leb (answerNumber s w a) 11 (f .1))
 
   grow-other : (S : Set) (a : List ℕ) → Foreign s w a → withArrival s w S a ≡ S
   unfolding withArrival
-  grow-other S a f = rw (le-leb (earns s w a) 11 (f .1))
+  grow-other S a f = rw (le-leb (answerNumber s w a) 11 (f .1))
 
   own-told : (k : ℕ) → k < F .total → (S : Set) (v : World) → Met s w v → After P w (Same P (w .held)) S v
       → Stepped P w (Same P (w .held)) false S k (receiveOf s v (F .block k))
@@ -243,7 +243,7 @@ module _ (s : Settings) (w : World) (F : File) (idle : w .transfer ≡ Idle) (ok
   exactly-other : {l : List (List ℕ)} → Sent s w F l → (a : List ℕ) → Foreign s w a → Exactly l a
   exactly-other {l} sent a f =
       ap (λ (o : Outcome). isCompleted (o .answer)) (steady s w F idle ok .foreign (receiveAll s w l) (met-list l) a f)
-      ∙ ne-eqb (earns s w a) 15 (λ e. omega (arith, f .1))
+      ∙ ne-eqb (answerNumber s w a) 15 (λ e. omega (arith, f .1))
       ∙ sym (not-and-self (isWhole F (seenOf F l)))
       ∙ sym (ap (λ (R : Set). not (isWhole F (seenOf F l)) && isWhole F R) same)
     where

@@ -17,25 +17,25 @@ use Rattle.settings.specs.declared.Settings.{Settings}
 use Rattle.place.specs.Place.{placeOf}
 use Rattle.place.specs.declared.Place.{Place}
 use Rattle.place.specs.declared.Place.the-variants.{At}
-use Rattle.transfer.specs.Transfer.{numberOf, taken, stepOf}
+use Rattle.transfer.specs.Transfer.{numberOf, accepted, stepOf}
 use Rattle.transfer.specs.declared.State.the-variants.{Idle}
 use Rattle.screen.specs.Screen.{screenOf}
 use Rattle.screen.specs.declared.Page.{Page}
-use Rattle.screen.specs.declared.Screened.{Screened}
-use Rattle.screen.specs.declared.Screened.the-variants.{Refused, Passed}
+use Rattle.screen.specs.declared.Screening.{Screening}
+use Rattle.screen.specs.declared.Screening.the-variants.{Refused, Passed}
 use Rattle.arrival.specs.Arrive.{World, Outcome, done, receiveOf}
-use Rattle.arrival.specs.Demand.{File, earns, ValidFile, Foreign, Mixed, Sent, nothing, own, other, sameBytes, among, seenOf, storageIn, storageOf, headIn}
+use Rattle.arrival.specs.Demand.{File, answerNumber, ValidFile, Foreign, Mixed, Sent, nothing, own, other, sameBytes, among, seenOf, storageIn, storageOf, headIn}
 use Rattle.arrival.proofs.Pages.{arrive}
 use Rattle.arrival.proofs.Count.{Blocks, pageOf, Opens}
 use Rattle.arrival.proofs.Effect.{Fits, Valid}
-use Rattle.arrival.proofs.Screened.{Passing, Good, screen-good, passing-fits, passing-few}
-use Rattle.arrival.proofs.Decided.{flashOf, Board, Rows, stopped, through, rows, raised-number}
+use Rattle.arrival.proofs.Screening.{Passing, Good, screen-good, passing-fits, passing-few}
+use Rattle.arrival.proofs.DecisionFacts.{flashOf, Board, Rows, stopped, through, rows, raised-number}
 use Rattle.arrival.proofs.Lists.{receive-refused, receive-passed}
 use Rattle.arrival.proofs.Runs.{Steady}
 
 -- ---- an arrival that earns 4 or more has passed rows 1 to 3
 
-pub earned : (s : Settings) (w : World) (a : List ℕ) → 4 ≤ earns s w a → Board s w × (length a ≡ 512)
+pub earned : (s : Settings) (w : World) (a : List ℕ) → 4 ≤ answerNumber s w a → Board s w × (length a ≡ 512)
 earned s w a h = go (rows s w a)
   where
     go : Rows s w a → Board s w × (length a ≡ 512)
@@ -54,13 +54,13 @@ module _ (s : Settings) (w : World) (F : File) (idle : w .transfer ≡ Idle) (ok
   board = earned s w (F .block 0) (omega (arith, ok .passes 0 (ok .some))) .0
 
   -- the answer to an arrival at the start, by what it is screened to
-  abbrev Earned : List ℕ → Screened → Type 0
+  abbrev Earned : List ℕ → Screening → Type 0
   Earned a (Refused x) = receiveOf s w a .answer ≡ x
-  Earned a (Passed g) = 14 ≤ earns s w a
+  Earned a (Passed g) = 14 ≤ answerNumber s w a
 
-  first : (a : List ℕ) → length a ≡ 512 → (x : Screened) → screenOf s (flashOf w) a ≡ x → Earned a x
+  first : (a : List ℕ) → length a ≡ 512 → (x : Screening) → screenOf s (flashOf w) a ≡ x → Earned a x
   first a l (Refused x) e = ap (λ (o : Outcome). o .answer) (receive-refused s w a board l x e)
-  first a l (Passed g) e = rw (receive-passed s w a board l g e) (unfold arrive stepOf done taken in rw idle (raised-number (g .head) 1))
+  first a l (Passed g) e = rw (receive-passed s w a board l g e) (unfold arrive stepOf done accepted in rw idle (raised-number (g .head) 1))
 
   -- a block of the file passes
   passed : (k : ℕ) → k < F .total → (g : Page) × (screenOf s (flashOf w) (F .block k) ≡ Passed g) × Passing s (flashOf w) (F .block k) g
@@ -72,7 +72,7 @@ module _ (s : Settings) (w : World) (F : File) (idle : w .transfer ≡ Idle) (ok
       l : length a ≡ 512
       l = earned s w a (omega (arith, ok .passes k h)) .1
 
-      go : (x : Screened) → screenOf s (flashOf w) a ≡ x → Good s (flashOf w) a x
+      go : (x : Screening) → screenOf s (flashOf w) a ≡ x → Good s (flashOf w) a x
           → (g : Page) × (screenOf s (flashOf w) a ≡ Passed g) × Passing s (flashOf w) a g
       go (Refused x) e n = absurd (omega (arith, n, ok .passes k h, ap numberOf (first a l (Refused x) e)))
       go (Passed g) e n = (g, e, n)
@@ -137,7 +137,7 @@ module _ (s : Settings) (w : World) (F : File) (idle : w .transfer ≡ Idle) (ok
       l : length a ≡ 512
       l = earned s w a (f .0) .1
 
-      go : (x : Screened) → screenOf s (flashOf w) a ≡ x → screenOf s (flashOf w) a ≡ Refused (receiveOf s w a .answer)
+      go : (x : Screening) → screenOf s (flashOf w) a ≡ x → screenOf s (flashOf w) a ≡ Refused (receiveOf s w a .answer)
       go (Refused x) e = e ∙ ap Refused (sym (first a l (Refused x) e))
       go (Passed g) e = absurd (omega (arith, f .1, first a l (Passed g) e))
 

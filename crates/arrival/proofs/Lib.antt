@@ -3,8 +3,8 @@ mod Pages
 mod Count
 mod Cells
 mod Effect
-pub mod Screened
-pub mod Decided
+pub mod Screening
+pub mod DecisionFacts
 pub mod Facts
 mod Lists
 mod Runs

@@ -8,19 +8,19 @@ use lib.ListN.{length}
 use Rattle.flash.specs.Flash.{flashLength, payloadOf}
 use Rattle.settings.specs.declared.Settings.{Settings}
 use Rattle.settings.specs.Settings.{goodSettings}
-use Rattle.transfer.specs.Transfer.{countOf, goodState, taken}
+use Rattle.transfer.specs.Transfer.{countOf, goodState, accepted}
 use Rattle.transfer.specs.declared.Head.{Head}
 use Rattle.transfer.specs.declared.Answer.{Answer}
 use Rattle.screen.specs.Screen.{screenOf}
 use Rattle.screen.specs.declared.Page.{Page}
-use Rattle.screen.specs.declared.Screened.the-variants.{Refused, Passed}
-use Rattle.arrival.specs.Arrive.{World, Decision, looked, tookOf, unchanged, done, receiveOf}
+use Rattle.screen.specs.declared.Screening.the-variants.{Refused, Passed}
+use Rattle.arrival.specs.Arrive.{World, Decision, afterScreening, acceptOf, unchanged, done, receiveOf}
 use Rattle.arrival.specs.Facts.{Arrivals-keep-lengths}
 use Rattle.arrival.specs.Lists.{receiveAll}
 use Rattle.arrival.specs.Tally.{clears}
 use Rattle.arrival.proofs.Pages.{arrive}
-use Rattle.arrival.proofs.Screened.{passing-few}
-use Rattle.arrival.proofs.Decided.{flashOf, Board, board-decides, Decided, kept, took, decided, counted-good}
+use Rattle.arrival.proofs.Screening.{passing-few}
+use Rattle.arrival.proofs.DecisionFacts.{flashOf, Board, board-decides, DecisionFacts, kept, took, decided, counted-good}
 use Rattle.arrival.proofs.Facts.{arrivals-keep-lengths}
 
 -- ---- an arrival that has passed rows 1 to 3, by what it is screened to
@@ -29,18 +29,18 @@ module _ (s : Settings) (w : World) (a : List ℕ) (B : Board s w) (l : length a
   pub receive-refused : (x : Answer) → screenOf s (flashOf w) a ≡ Refused x → receiveOf s w a ≡ unchanged w x
   unfolding receiveOf
   receive-refused x e =
-      ap (done w (payloadOf a)) (board-decides s w a B l ∙ ap (looked (w .transfer) (w .seen)) e) ∙ unfold looked done in refl
+      ap (done w (payloadOf a)) (board-decides s w a B l ∙ ap (afterScreening (w .transfer) (w .seen)) e) ∙ unfold afterScreening done in refl
 
   pub receive-passed : (p : Page) → screenOf s (flashOf w) a ≡ Passed p → receiveOf s w a ≡ arrive w p a
   unfolding receiveOf
   receive-passed p e =
-      ap (done w (payloadOf a)) (board-decides s w a B l ∙ ap (looked (w .transfer) (w .seen)) e) ∙ unfold looked arrive in refl
+      ap (done w (payloadOf a)) (board-decides s w a B l ∙ ap (afterScreening (w .transfer) (w .seen)) e) ∙ unfold afterScreening arrive in refl
 
 -- ---- rows 1 to 3 stay passed
 
-state-next : (s : Settings) (w : World) (a : List ℕ) {d : Decision} → Decided s w a d → goodState (w .transfer) ≡ true
+state-next : (s : Settings) (w : World) (a : List ℕ) {d : Decision} → DecisionFacts s w a d → goodState (w .transfer) ≡ true
     → goodState (done w (payloadOf a) d .world .transfer) ≡ true
-unfolding done tookOf taken
+unfolding done acceptOf accepted
 state-next s w a (kept x h) e = e
 state-next s w a (took g k B l q t) e =
     rw (t .is)

@@ -1,13 +1,13 @@
--- An arrival that has passed rows 1 to 11 with its page: what it comes to, and what its page does once it is taken. Assumes nothing.
+-- An arrival that has passed rows 1 to 11 with its page: what it comes to, and what its page does once it is accepted. Assumes nothing.
 use Prim.Native.Nat.{ℕ}
 use mathlib.Core.Path.{_≡_, refl}
 use mathlib.Core.List.{List}
 use Rattle.bitmap.specs.Bitmap.{markedIn}
 use Rattle.flash.specs.Flash.{payloadOf}
 use Rattle.transfer.specs.Transfer.{stepOf}
-use Rattle.transfer.specs.declared.Taken.{Taken}
+use Rattle.transfer.specs.declared.Accepted.{Accepted}
 use Rattle.screen.specs.declared.Page.{Page}
-use Rattle.arrival.specs.Arrive.{Held, World, Outcome, stepped, wipedIf, pagedAt, tookOf, done}
+use Rattle.arrival.specs.Arrive.{Held, World, Outcome, stepped, wipedIf, pagedAt, acceptOf, done}
 
 -- rows 12 to 15 of the arrival a with its page
 unfoldable pub arrive : World → Page → List ℕ → Outcome
@@ -17,6 +17,6 @@ arrive w p a = done w (payloadOf a) (stepped p (stepOf (w .transfer) (p .head) (
 unfoldable pub apply : Page → List ℕ → Held → Held
 apply p a h = pagedAt (p .at) (payloadOf a) h
 
-pub took-held : (w : World) (a : List ℕ) (p : Page) (t : Taken) → tookOf w (payloadOf a) p t .held ≡ apply p a (wipedIf (t .fresh) (w .held))
-unfolding tookOf apply
+pub took-held : (w : World) (a : List ℕ) (p : Page) (t : Accepted) → acceptOf w (payloadOf a) p t .held ≡ apply p a (wipedIf (t .clears) (w .held))
+unfolding acceptOf apply
 took-held w a p t = refl

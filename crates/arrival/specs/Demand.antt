@@ -31,8 +31,8 @@ pub record File : Type 0 where
   pub block : ℕ → List ℕ
 
 -- "Whether a block earns 1 to 11 is asked with the fixed settings and what is lent at the start."
-abbrev pub earns : Settings → World → List ℕ → ℕ
-earns s w a = numberOf (receiveOf s w a .answer)
+abbrev pub answerNumber : Settings → World → List ℕ → ℕ
+answerNumber s w a = numberOf (receiveOf s w a .answer)
 
 -- "numbers 0 to n-1 once each, n at least 1, one family, the total n in every block, different addresses, no block earning answers 1 to 11"
 pub record ValidFile (s : Settings) (w : World) (F : File) : Type 0 where
@@ -41,13 +41,13 @@ pub record ValidFile (s : Settings) (w : World) (F : File) : Type 0 where
   pub families : (k : ℕ) → k < F .total → fieldAt (F .block k) 28 ≡ F .family
   pub totals : (k : ℕ) → k < F .total → fieldAt (F .block k) 24 ≡ F .total
   pub addresses : (i k : ℕ) → i < F .total → k < F .total → fieldAt (F .block i) 12 ≡ fieldAt (F .block k) 12 → i ≡ k
-  pub passes : (k : ℕ) → k < F .total → 12 ≤ earns s w (F .block k)
+  pub passes : (k : ℕ) → k < F .total → 12 ≤ answerNumber s w (F .block k)
 
 -- ---- a list of its blocks
 
 -- "Arrivals answered 4 to 11 are the foreign ones."
 abbrev pub Foreign : Settings → World → List ℕ → Type 0
-Foreign s w a = (4 ≤ earns s w a) × (earns s w a ≤ 11)
+Foreign s w a = (4 ≤ answerNumber s w a) × (answerNumber s w a ≤ 11)
 
 -- "every list of its blocks, in any order, any number of times or not at all, mixed with" arrivals of which P holds
 pub data Mixed (F : File) (P : List ℕ → Type 0) : List (List ℕ) → Type 0 where
@@ -109,14 +109,14 @@ touchedBy s w F S q = any (F .total) (λ k. S k && eqb q (storageOf s w (F .bloc
 -- the answer to the arrival a, once the blocks of S have come
 unfoldable pub replyTo : Settings → World → File → Set → List ℕ → Answer
 replyTo s w F S a =
-    cond (leb (earns s w a) 11) (receiveOf s w a .answer)
+    cond (leb (answerNumber s w a) 11) (receiveOf s w a .answer)
     (cond (isWhole F S) Finished
     (cond (S (fieldAt a 20)) Again
     (cond (ltb (howMany F S + 1) (F .total)) Written Completed)))
 
 -- S, once the arrival a has come
 unfoldable pub withArrival : Settings → World → Set → List ℕ → Set
-withArrival s w S a = cond (leb (earns s w a) 11) S (add (fieldAt a 20) S)
+withArrival s w S a = cond (leb (answerNumber s w a) 11) S (add (fieldAt a 20) S)
 
 -- the answer to each arrival of a list, S having come before it
 unfoldable pub repliesTo : Settings → World → File → Set → List (List ℕ) → List Answer

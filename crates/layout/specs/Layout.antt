@@ -129,15 +129,15 @@ abbrev pub transferFrom : List ℕ → Transfer
 transferFrom b = record { state = stateFrom b }
 
 -- the bytes of a kind, a family, a total and a count
-unfoldable pub thirteen : ℕ → ℕ → ℕ → ℕ → List ℕ
-thirteen kind f n c = kind ∷ (le32 f ++ (le32 n ++ le32 c))
+unfoldable pub transferBytes : ℕ → ℕ → ℕ → ℕ → List ℕ
+transferBytes kind f n c = kind ∷ (le32 f ++ (le32 n ++ le32 c))
 
 -- the bytes of a transfer; one that is done has counted its total
 abbrev pub stateBytes : State → List ℕ
-stateBytes Idle = thirteen 0 0 0 0
-stateBytes (Running r) = thirteen 1 (r .head .family) (r .head .total) (r .count)
-stateBytes (Done g) = thirteen 2 (g .family) (g .total) (g .total)
+stateBytes Idle = transferBytes 0 0 0 0
+stateBytes (Running r) = transferBytes 1 (r .head .family) (r .head .total) (r .count)
+stateBytes (Done g) = transferBytes 2 (g .family) (g .total) (g .total)
 
 -- a transfer written over bytes, where there are 13
-unfoldable pub written : List ℕ → State → List ℕ
-written b t = cond (eqb (length b) 13) (stateBytes t) b
+unfoldable pub withTransfer : List ℕ → State → List ℕ
+withTransfer b t = cond (eqb (length b) 13) (stateBytes t) b

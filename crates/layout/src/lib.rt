@@ -16,8 +16,8 @@ ghost use Rattle.layout.specs.Layout.{
   noState,
   stateOf,
   transferFrom,
-  thirteen,
-  written,
+  transferBytes,
+  withTransfer,
 };
 use settings::Arch;
 use settings::Entry;
@@ -213,7 +213,7 @@ pub fn put(bytes: &mut [u8], at: usize, x: u32)
 
 fn write(bytes: &mut [u8], kind: u8, family: u32, total: u32, count: u32)
     requires { ⌜ length (now bytes) ≡ 13 ⌝ }
-    ensures { λ _. ⌜ now (bytes .exit) ≡ thirteen kind family total count ⌝ }
+    ensures { λ _. ⌜ now (bytes .exit) ≡ transferBytes kind family total count ⌝ }
 {
     bytes[0] = kind;
     put(bytes, 1, family);
@@ -223,7 +223,7 @@ fn write(bytes: &mut [u8], kind: u8, family: u32, total: u32, count: u32)
 
 // Writes a transfer, where there are bytes for it.
 pub fn write_transfer(bytes: &mut [u8], next: Transfer)
-    ensures { λ _. ⌜ now (bytes .exit) ≡ written (now (bytes .entry)) (next .state) ⌝ }
+    ensures { λ _. ⌜ now (bytes .exit) ≡ withTransfer (now (bytes .entry)) (next .state) ⌝ }
 {
     if bytes.len() != TRANSFER {
         return;
