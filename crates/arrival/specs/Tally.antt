@@ -37,7 +37,7 @@ abbrev pub acceptedBy : Settings → World → List ℕ → Set → Set
 acceptedBy s w a A =
     cond (isAccepted (receiveOf s w a .answer)) (add (fieldAt a 20) (cond (clears (w .transfer) (headOf a)) none A)) A
 
--- "different numbers accepted since the last clearing", over turns, A being those before them
+-- "different numbers accepted since the last clearing", over deliveries, A being those before them
 unfoldable pub acceptedOf : World → List Delivery → Set → Set
 acceptedOf w [] A = A
 acceptedOf w (t ∷ l) A =
@@ -57,6 +57,6 @@ pub record CountFacts (w : World) (l : List Delivery) : Type 0 where
   pub different : anyAccepted w l ≡ true → countOf (playAll w l .transfer) ≡ size 131072 (acceptedOf w l none)
   pub room : anyAccepted w l ≡ true → (k : ℕ) → acceptedOf w l none k ≡ true → k < 131072
 
--- over any turns, from Idle
+-- over any deliveries, from Idle
 unfoldable pub Count-is-marks : Type 0
 Count-is-marks = (w : World) → w .transfer ≡ Idle → (l : List Delivery) → CountFacts w l

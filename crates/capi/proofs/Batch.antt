@@ -1,4 +1,4 @@
--- Arrivals one after the other: a turn of the loop, and its end. Assumes nothing.
+-- Arrivals one after the other: a round of the loop, and its end. Assumes nothing.
 use Prim.Native.Nat.{ℕ, suc, _+_, _-_, _*_, _/_, _<_, _≤_}
 use mathlib.Core.Path.{_≡_, sym, ap, _∙_}
 use mathlib.Core.Bool.{Bool, false, _||_, or-false, or-assoc}
@@ -49,7 +49,7 @@ module _ (n : ℕ) (s : Settings) (t : List ℕ) (accepted : Bool) (r : List ℕ
   many-end u f m k = simp (or-false accepted)
 
   module _ (u : Transfer) (a f m k : List ℕ) where
-    -- a turn of the loop
+    -- a round of the loop
     pub all-more : {g q j : List ℕ} {o : Receipt} {x y : ℕ} {b : Bool} → i < n → outcome o g q j ≡ receiveOf s (world u f m k) (take (i * 512 + 512 - i * 512) (drop (i * 512) a)) → x ≡ numberOf (o .answer) → y ≡ resultOf x (o .discarded) → b ≡ isAcceptance x → batchFrom n s t (world (o .transfer) g q j) (accepted || b) (set r i y) (i + 1) (arrivalsOf (n - (i + 1)) (drop ((i + 1) * 512) a)) ≡ batchFrom n s t (world u f m k) accepted r i (arrivalsOf (n - i) (drop (i * 512) a))
     all-more h ho hx hy hb =
         let l = arrivalsOf (n - (i + 1)) (drop ((i + 1) * 512) a) in

@@ -7,7 +7,7 @@ use receiver::Receipt;
 use settings::Settings;
 use transfer::Transfer;
 
-// One turn: the transfer after it, and whether the input may hold more.
+// How far the program is after a piece: the transfer, and whether the input may hold more.
 struct Progress {
     transfer: Transfer,
     more: bool,
@@ -27,7 +27,7 @@ fn print_state(transfer: Transfer) {
 
 // Reads one piece and answers it. A short piece is answered as an arrival of a wrong length, and is the last: `read_full` stops short only
 // where the input ends or a read fails.
-fn turn(
+fn answer_piece(
     settings: Settings,
     transfer: Transfer,
     index: u64,
@@ -60,9 +60,9 @@ fn run(flash: &mut [u8], seen: &mut [u8], sectors: &mut [u8]) -> Transfer {
     let mut transfer = Transfer::new();
     let mut index: u64 = 0;
     while index < u64::MAX {
-        let t = turn(settings, transfer, index, flash, seen, sectors);
-        transfer = t.transfer;
-        if !t.more {
+        let progress = answer_piece(settings, transfer, index, flash, seen, sectors);
+        transfer = progress.transfer;
+        if !progress.more {
             break;
         }
         index += 1;

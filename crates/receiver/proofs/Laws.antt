@@ -39,7 +39,7 @@ module _ (q : ℕ) (f k : List ℕ) where
 
 pub stored : (at : ℕ) (clears : Bool) (a f k : List ℕ) {k1 f1 f2 k2 : List ℕ} → k1 ≡ clearedIf clears k → f1 ≡ preparedAt (at / 4096) (held f k1) → f2 ≡ storeAt f1 at (payloadOf a) → k2 ≡ withMark k1 (at / 4096) → held f2 k2 ≡ pagedAt at (payloadOf a) (wipedIf clears (held f k))
 unfolding pagedAt wipedIf
-stored at clears a f k cleared erased laid marked = rw (marked, laid, erased, cleared)
+stored at clears a f k cleared erased put marked = rw (marked, put, erased, cleared)
 
 pub took : (p : Page) (t : Accepted) (a f m k : List ℕ) {g n1 n2 j : List ℕ} → held g j ≡ pagedAt (p .at) (payloadOf a) (wipedIf (t .clears) (held f k)) → n1 ≡ clearedIf (t .clears) m → n2 ≡ withMark n1 (p .number) → outcome (record { transfer = t .transfer; answer = t .answer; discarded = t .discarded }) g n2 j ≡ done (world (t .transfer) f m k) (payloadOf a) (accepts p t)
 unfolding done acceptOf

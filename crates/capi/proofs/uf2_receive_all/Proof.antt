@@ -75,9 +75,9 @@ loop-less c = search needs
 loop-again : tie.Need-loop-again Inv-loop μ-loop
 loop-again c =
     let got = c .before .before .before .before .before .before .before .before .before .before in
-    let turn = got .before .before .before .before .before in
-    let at = turn .before .loop in
-    (search needs, simp length-set (at .inv .1), search needs, search needs, search needs, all-more _ _ _ _ _ _ _ _ _ _ _ (turn .loop-test .taken) (got .receive .ensures) (c .before .before .number .ensures) (c .before .report .ensures) (c .is-acceptance .ensures) ∙ at .inv .5)
+    let round = got .before .before .before .before .before in
+    let at = round .before .loop in
+    (search needs, simp length-set (at .inv .1), search needs, search needs, search needs, all-more _ _ _ _ _ _ _ _ _ _ _ (round .loop-test .taken) (got .receive .ensures) (c .before .before .number .ensures) (c .before .report .ensures) (c .is-acceptance .ensures) ∙ at .inv .5)
 
 keep-requires : tie.Need-keep-requires Inv-loop μ-loop
 keep-requires c κs = search needs
@@ -103,7 +103,7 @@ returns c =
     let out = kept .before .before in
     let made = out .before .before in
     let read = made .before in
-    all-ran _ _ _ _ _ _ _ (out .before .loop .t) (out .before .loop .taken) (made .at-most .ensures .0) (read .before .before .read-settings .ensures) (read .read-transfer .ensures) (out .loop-test .left) (out .before .loop .inv .5) (kept .keep .ensures)
+    all-ran _ _ _ _ _ _ _ (out .before .loop .t) (out .before .loop .accepted) (made .at-most .ensures .0) (read .before .before .read-settings .ensures) (read .read-transfer .ensures) (out .loop-test .left) (out .before .loop .inv .5) (kept .keep .ensures)
 
 pub uf2-receive-all-spec : {M : Type 1} → statement M
 uf2-receive-all-spec =
