@@ -87,6 +87,84 @@ pub fn proved_transfer(t: Transfer) -> proved::Transfer {
     }
 }
 
+/// What is lent with each arrival, as one side owns it.
+#[derive(Clone, PartialEq, Eq)]
+pub struct Buffers {
+    pub flash: Vec<u8>,
+    pub seen: Vec<u8>,
+    pub sectors: Vec<u8>,
+}
+
+impl Buffers {
+    /// A flash of a length and maps of the right ones, each byte of all three the same.
+    pub fn filled(flash_len: usize, byte: u8) -> Buffers {
+        Buffers {
+            flash: vec![byte; flash_len],
+            seen: vec![byte; reference::SEEN_LEN],
+            sectors: vec![byte; reference::SECTORS_LEN],
+        }
+    }
+
+    /// A flash of whole sectors and maps of the right lengths, of any content.
+    pub fn any(r: &mut Random, sectors: u64) -> Buffers {
+        let mut buffers = Buffers::filled(sectors as usize * reference::SECTOR_LEN, 0);
+        for buffer in buffers.each() {
+            buffer.fill_with(|| r.draw() as u8);
+        }
+        buffers
+    }
+
+    /// Every buffer, for what is done to each alike.
+    pub fn each(&mut self) -> [&mut Vec<u8>; 3] {
+        [&mut self.flash, &mut self.seen, &mut self.sectors]
+    }
+
+    /// Lent to the proved receiver.
+    pub fn lend(&mut self) -> proved::Lent<'_> {
+        proved::Lent {
+            flash: &mut self.flash,
+            seen: &mut self.seen,
+            sectors: &mut self.sectors,
+        }
+    }
+
+    /// One arrival to the reference, with these.
+    pub fn reference(&mut self, s: &Settings, t: Transfer, arrival: &[u8]) -> reference::Outcome {
+        let Buffers {
+            flash,
+            seen,
+            sectors,
+        } = self;
+        reference::receive(s, t, arrival, flash, seen, sectors)
+    }
+
+    /// One arrival to the proved receiver as bytes, with these: the result.
+    pub fn proved(&mut self, settings: &[u8], transfer: &mut [u8], arrival: &[u8]) -> u32 {
+        let Buffers {
+            flash,
+            seen,
+            sectors,
+        } = self;
+        proved::bytes::receive(settings, transfer, arrival, flash, seen, sectors)
+    }
+
+    /// Many arrivals to the proved receiver as bytes, with these: their number.
+    pub fn proved_all(
+        &mut self,
+        settings: &[u8],
+        transfer: &mut [u8],
+        arrivals: &[u8],
+        results: &mut [u8],
+    ) -> usize {
+        let Buffers {
+            flash,
+            seen,
+            sectors,
+        } = self;
+        proved::bytes::receive_all(settings, transfer, arrivals, results, flash, seen, sectors)
+    }
+}
+
 /// Arm alone, absolute allowed, no table: the program's settings.
 pub fn arm_only() -> Settings {
     Settings {
