@@ -1,8 +1,8 @@
--- `receiver::take` meets its contract. Assumes nothing.
+-- `receiver::accept` meets its contract. Assumes nothing.
 use Rattle.receiver.proofs.Laws.{took}
 use borrow.Author.Needs.{needs}
-use Rattle.receiver.proofs.take.Statement.{statement}
-use Rattle.receiver.proofs.take.Tie as tie
+use Rattle.receiver.proofs.accept.Statement.{statement}
+use Rattle.receiver.proofs.accept.Tie as tie
 
 cast-number : tie.Need-cast-number
 cast-number c = search needs
@@ -32,8 +32,8 @@ returns c =
     let paged = cleared .before .before .before .before .before .before in
     took _ _ _ _ _ _ (paged .store .ensures) (cleared .clear-if .ensures) (marked .mark .ensures)
 
-pub take-spec : {M : Type 1} → statement M
-take-spec =
+pub accept-spec : {M : Type 1} → statement M
+accept-spec =
     tie.close
     (tie.spec
     cast-number

@@ -1,4 +1,4 @@
--- What has been decided of an arrival: an answer up to 13, or a page that passed rows 1 to 11 and a step that takes it. Assumes nothing.
+-- What has been decided of an arrival: an answer up to 13, or a page that passed rows 1 to 11 and a step that accepts it. Assumes nothing.
 use Prim.Native.Nat.{ℕ, _+_, _≤_, _<_}
 use mathlib.Core.Path.{_≡_, refl, sym, subst}
 use mathlib.Core.Bool.{Bool, true, false, cond, _&&_}
@@ -12,24 +12,24 @@ use Rattle.bitmap.specs.Bitmap.{markedIn}
 use Rattle.flash.specs.Flash.{flashLength}
 use Rattle.settings.specs.declared.Settings.{Settings}
 use Rattle.settings.specs.Settings.{goodSettings}
-use Rattle.transfer.specs.Transfer.{numberOf, countOf, goodState, sameHead, counted, raised, taken, stepOf}
+use Rattle.transfer.specs.Transfer.{numberOf, countOf, goodState, sameHead, counted, raised, accepted, stepOf}
 use Rattle.transfer.specs.declared.Head.{Head}
 use Rattle.transfer.specs.declared.Run.{Run}
 use Rattle.transfer.specs.declared.State.{State}
 use Rattle.transfer.specs.declared.State.the-variants.{Idle, Running, Done}
-use Rattle.transfer.specs.declared.Taken.{Taken}
+use Rattle.transfer.specs.declared.Accepted.{Accepted}
 use Rattle.transfer.specs.declared.Step.{Step}
-use Rattle.transfer.specs.declared.Step.the-variants.{Stays, Takes}
+use Rattle.transfer.specs.declared.Step.the-variants.{Stays, Accepts}
 use Rattle.transfer.specs.declared.Answer.{Answer}
 use Rattle.transfer.specs.declared.Answer.the-variants.{BadBuffers, BadSettings, BadState}
 use Rattle.screen.specs.Screen.{screenOf}
 use Rattle.screen.specs.declared.Page.{Page}
-use Rattle.screen.specs.declared.Screened.{Screened}
-use Rattle.screen.specs.declared.Screened.the-variants.{Refused, Passed}
-use Rattle.arrival.specs.Arrive.{World, Decision, stays, takes, rightLengths, stepped, looked, decide}
+use Rattle.screen.specs.declared.Screening.{Screening}
+use Rattle.screen.specs.declared.Screening.the-variants.{Refused, Passed}
+use Rattle.arrival.specs.Arrive.{World, Decision, stays, accepts, rightLengths, stepped, afterScreening, decide}
 use Rattle.arrival.specs.Tally.{clears}
 use Rattle.arrival.proofs.Heads.{head-same}
-use Rattle.arrival.proofs.Screened.{Passing, Good, screen-good}
+use Rattle.arrival.proofs.Screening.{Passing, Good, screen-good}
 
 -- ---- rows 1 to 3
 
@@ -48,7 +48,7 @@ pub record Board (s : Settings) (w : World) : Type 0 where
   pub state : goodState (w .transfer) ≡ true
 
 pub board-decides : (s : Settings) (w : World) (a : List ℕ) → Board s w → length a ≡ 512
-    → decisionOf s w a ≡ looked (w .transfer) (w .seen) (screenOf s (flashOf w) a)
+    → decisionOf s w a ≡ afterScreening (w .transfer) (w .seen) (screenOf s (flashOf w) a)
 unfolding decide rightLengths
 board-decides s w a B l = rw (l, B .flash, B .seen, B .sectors, B .good, B .state)
 
@@ -87,17 +87,17 @@ pub raised-number : (g : Head) (c : ℕ) → 14 ≤ numberOf (raised g c)
 unfolding raised
 raised-number g c = split (ltb c (g .total)) (λ y. rw y (omega arith)) (λ z. rw z (omega arith))
 
--- a step that takes a block of head g to a transfer t, where its number is marked or not
-pub record Took (t : State) (g : Head) (marked : Bool) (k : Taken) : Type 0 where
+-- a step that accepts a block of head g to a transfer t, where its number is marked or not
+pub record AcceptFacts (t : State) (g : Head) (marked : Bool) (k : Accepted) : Type 0 where
   pub discards : Bool
-  pub is : k ≡ taken (clears t g) discards g (cond (clears t g) 1 (countOf t + 1))
+  pub is : k ≡ accepted (clears t g) discards g (cond (clears t g) 1 (countOf t + 1))
   pub going : clears t g ≡ false → (r : Run) × (t ≡ Running r) × (r .head ≡ g) × (marked ≡ false)
 
-abbrev Told : State → Head → Bool → Step → Type 0
-Told t g m (Stays x) = numberOf (x .answer) ≤ 13
-Told t g m (Takes k) = Took t g m k
+abbrev StepFacts : State → Head → Bool → Step → Type 0
+StepFacts t g m (Stays x) = numberOf (x .answer) ≤ 13
+StepFacts t g m (Accepts k) = AcceptFacts t g m k
 
-step-told : (t : State) (g : Head) (m : Bool) → Told t g m (stepOf t g m)
+step-told : (t : State) (g : Head) (m : Bool) → StepFacts t g m (stepOf t g m)
 unfolding stepOf
 step-told Idle g m = record { discards = false; is = refl; going = λ e. let z : _≡_ {A = ℕ} 0 1 = cc in absurd (omega arith) }
 step-told (Running r) g m =
@@ -115,34 +115,34 @@ step-told (Running r) g m =
     }))
 step-told (Done h) g m = omega arith
 
-pub took-number : {t : State} {g : Head} {m : Bool} {k : Taken} → Took t g m k → 14 ≤ numberOf (k .answer)
-unfolding taken
+pub took-number : {t : State} {g : Head} {m : Bool} {k : Accepted} → AcceptFacts t g m k → 14 ≤ numberOf (k .answer)
+unfolding accepted
 took-number {t} {g} {m} {k} q = rw (q .is) (raised-number g (cond (clears t g) 1 (countOf t + 1)))
 
 -- ---- rows 1 to 15
 
-pub data Decided (s : Settings) (w : World) (a : List ℕ) : Decision → Type 0 where
-  kept : (x : Answer) → numberOf x ≤ 13 → Decided s w a (stays x)
-  took : (g : Page) (k : Taken) → Board s w → length a ≡ 512 → Passing s (flashOf w) a g
-      → Took (w .transfer) (g .head) (markedIn (w .seen) (g .number)) k → Decided s w a (takes g k)
+pub data DecisionFacts (s : Settings) (w : World) (a : List ℕ) : Decision → Type 0 where
+  kept : (x : Answer) → numberOf x ≤ 13 → DecisionFacts s w a (stays x)
+  took : (g : Page) (k : Accepted) → Board s w → length a ≡ 512 → Passing s (flashOf w) a g
+      → AcceptFacts (w .transfer) (g .head) (markedIn (w .seen) (g .number)) k → DecisionFacts s w a (accepts g k)
 
-pub decided : (s : Settings) (w : World) (a : List ℕ) → Decided s w a (decisionOf s w a)
+pub decided : (s : Settings) (w : World) (a : List ℕ) → DecisionFacts s w a (decisionOf s w a)
 decided s w a = go (rows s w a)
   where
     steps : Board s w → length a ≡ 512 → (g : Page) → Passing s (flashOf w) a g → (st : Step)
-        → Told (w .transfer) (g .head) (markedIn (w .seen) (g .number)) st → Decided s w a (stepped g st)
+        → StepFacts (w .transfer) (g .head) (markedIn (w .seen) (g .number)) st → DecisionFacts s w a (stepped g st)
     steps B l g p (Stays x) h = kept (x .answer) h
-    steps B l g p (Takes k) h = took g k B l p h
+    steps B l g p (Accepts k) h = took g k B l p h
 
-    look : Board s w → length a ≡ 512 → (x : Screened) → Good s (flashOf w) a x → Decided s w a (looked (w .transfer) (w .seen) x)
-    look B l (Refused x) h = unfold looked in kept x (omega (arith, h))
+    look : Board s w → length a ≡ 512 → (x : Screening) → Good s (flashOf w) a x → DecisionFacts s w a (afterScreening (w .transfer) (w .seen) x)
+    look B l (Refused x) h = unfold afterScreening in kept x (omega (arith, h))
     look B l (Passed g) h =
-        unfold looked in steps B l g h (stepOf (w .transfer) (g .head) (markedIn (w .seen) (g .number)))
+        unfold afterScreening in steps B l g h (stepOf (w .transfer) (g .head) (markedIn (w .seen) (g .number)))
         (step-told (w .transfer) (g .head) (markedIn (w .seen) (g .number)))
 
-    go : Rows s w a → Decided s w a (decisionOf s w a)
-    go (stopped x h e) = subst (Decided s w a) (sym e) (kept x (omega arith))
-    go (through B l) = subst (Decided s w a) (sym (board-decides s w a B l)) (look B l (screenOf s (flashOf w) a) (screen-good s (flashOf w) a))
+    go : Rows s w a → DecisionFacts s w a (decisionOf s w a)
+    go (stopped x h e) = subst (DecisionFacts s w a) (sym e) (kept x (omega arith))
+    go (through B l) = subst (DecisionFacts s w a) (sym (board-decides s w a B l)) (look B l (screenOf s (flashOf w) a) (screen-good s (flashOf w) a))
 
 -- ---- the transfer that comes back passes row 3
 

@@ -23,8 +23,8 @@ use Rattle.transfer.specs.Transfer.{numberOf}
 use Rattle.screen.specs.Screen.{badNumbers, badAddress, placed, headed, screenOf}
 use Rattle.screen.proofs.Laws.{numbers-false, address-false}
 use Rattle.screen.specs.declared.Page.{Page}
-use Rattle.screen.specs.declared.Screened.{Screened}
-use Rattle.screen.specs.declared.Screened.the-variants.{Refused, Passed}
+use Rattle.screen.specs.declared.Screening.{Screening}
+use Rattle.screen.specs.declared.Screening.the-variants.{Refused, Passed}
 use Rattle.arrival.specs.Tally.{headOf}
 use Rattle.arrival.proofs.Effect.{Fits}
 
@@ -63,12 +63,12 @@ pub record Passing (s : Settings) (len : ℕ) (a : List ℕ) (g : Page) : Type 0
   pub below : fieldAt a 20 < fieldAt a 24
   pub room : fieldAt a 24 * 256 ≤ size
 
-abbrev pub Good : Settings → ℕ → List ℕ → Screened → Type 0
+abbrev pub Good : Settings → ℕ → List ℕ → Screening → Type 0
 Good s len a (Refused x) = (4 ≤ numberOf x) × (numberOf x ≤ 11)
 Good s len a (Passed g) = Passing s len a g
 
 module _ (s : Settings) (len : ℕ) (a : List ℕ) where
-  good-cond : (b : Bool) (x y : Screened) → Good s len a x → (b ≡ false → Good s len a y) → Good s len a (cond b x y)
+  good-cond : (b : Bool) (x y : Screening) → Good s len a x → (b ≡ false → Good s len a y) → Good s len a (cond b x y)
   good-cond true x y p q = p
   good-cond false x y p q = q refl
 

@@ -1,4 +1,4 @@
--- The claims of specs/Turns.antt hold. Assumes nothing.
+-- The claims of specs/CallLists.antt hold. Assumes nothing.
 use Prim.Native.Nat.{ℕ, zero, suc, _+_, _/_, _%_, _<_, _^_}
 use mathlib.Core.Path.{_≡_, refl, sym, ap, subst, _∙_}
 use mathlib.Core.Bool.{Bool, true, false, _||_}
@@ -14,28 +14,28 @@ use Rattle.sets.specs.Bytes.{lowFirst, numberIn}
 use Rattle.block.specs.Block.{fieldAt}
 use Rattle.record.specs.Write.{Bytes}
 use Rattle.settings.specs.declared.Settings.{Settings}
-use Rattle.transfer.specs.Transfer.{numberOf, goodState, counted, taken}
+use Rattle.transfer.specs.Transfer.{numberOf, goodState, counted, accepted}
 use Rattle.transfer.specs.declared.Head.{Head}
 use Rattle.transfer.specs.declared.State.{State}
 use Rattle.transfer.specs.declared.State.the-variants.{Idle, Running, Done}
-use Rattle.transfer.specs.declared.Taken.{Taken}
+use Rattle.transfer.specs.declared.Accepted.{Accepted}
 use Rattle.transfer.specs.declared.Answer.{Answer}
 use Rattle.flash.specs.Flash.{payloadOf}
-use Rattle.arrival.specs.Arrive.{World, Outcome, Decision, tookOf, done, receiveOf}
+use Rattle.arrival.specs.Arrive.{World, Outcome, Decision, acceptOf, done, receiveOf}
 use Rattle.arrival.specs.Lists.{receiveAll, answersOf, discardsOf}
 use Rattle.arrival.specs.Facts.{Refusals-change-nothing}
 use Rattle.arrival.specs.Tally.{headOf}
 use Rattle.arrival.specs.Demand.{seenOf, Ends, List-ends, Completed-exactly, Same-set-same-end, Either-first}
-use Rattle.arrival.proofs.Decided.{Took, Decided, kept, took, took-number, decided}
+use Rattle.arrival.proofs.DecisionFacts.{AcceptFacts, DecisionFacts, kept, took, took-number, decided}
 use Rattle.arrival.proofs.Facts.{refusals-change-nothing}
 use Rattle.arrival.proofs.Demand.{list-ends, completed-exactly, same-set-same-end, either-first}
-use Rattle.layout.specs.Layout.{stateFrom, settingsFrom, thirteen, stateBytes, written}
+use Rattle.layout.specs.Layout.{stateFrom, settingsFrom, transferBytes, stateBytes, withTransfer}
 use Rattle.layout.proofs.Refused.{state-length}
 use Rattle.layout.proofs.Transfers.{Small, written-back}
 use Rattle.capi.specs.Calls as capi
-use Rattle.capi.specs.Calls.{receiveBytes, isTaken, arrivalsOf, resultsOf, anyTaken, laid, manyFrom, fewer, receiveMany}
+use Rattle.capi.specs.Calls.{receiveBytes, isAcceptance, arrivalsOf, resultsOf, anyAcceptance, storedFrom, batchFrom, fewer, receiveBatch}
 use Rattle.capi.proofs.Laws.{number-most}
-use Rattle.calls.specs.Turns.{Lent, call, leftBy, callAll, returnsOf, worldOf, AllBytes, Calls-are-arrivals, Calls-end, Calls-completed, Calls-same-set, Calls-either-first, Calls-are-one-call}
+use Rattle.calls.specs.CallLists.{Lent, call, leftBy, callAll, returnsOf, worldOf, AllBytes, Calls-are-arrivals, Calls-end, Calls-completed, Calls-same-set, Calls-either-first, Calls-are-one-call}
 
 -- ---- a field of bytes
 
@@ -57,17 +57,17 @@ field-low a h at =
     (λ y. rw y (number-low 4 a h at))
     (λ z. rw z (omega arith))
 
--- ---- the transfer of a block that was taken fits its bytes
+-- ---- the transfer of a block that was accepted fits its bytes
 
 counted-small : (g : Head) (c : ℕ) → g .family < 2 ^ 32 → g .total < 2 ^ 32 → Small (counted g c)
 unfolding counted
 counted-small g c hf ht =
     split (ltb c (g .total)) (λ y. let l = ltb-true c (g .total) y in rw y (hf, ht, omega arith)) (λ z. rw z (hf, ht))
 
-took-small : {t : State} {g : Head} {m : Bool} {k : Taken} (a : List ℕ) → Bytes a → g ≡ headOf a → Took t g m k → Small (k .transfer .state)
-unfolding taken
+took-small : {t : State} {g : Head} {m : Bool} {k : Accepted} (a : List ℕ) → Bytes a → g ≡ headOf a → AcceptFacts t g m k → Small (k .transfer .state)
+unfolding accepted
 took-small {g = g} a h e q =
-    subst (λ (k : Taken). Small (k .transfer .state)) (sym (q .is))
+    subst (λ (k : Accepted). Small (k .transfer .state)) (sym (q .is))
     (counted-small g _ (rw e (field-low a h 28)) (rw e (field-low a h 24)))
 
 -- bytes of a good state are 13
@@ -80,9 +80,9 @@ good-size t g =
 -- ---- one call
 
 -- the bytes that are left are read as the next transfer
-next-state : (s : Settings) (w : World) (a p t : List ℕ) → w .transfer ≡ stateFrom t → Bytes a → {d : Decision} → Decided s w a d
-    → stateFrom (capi.kept t (isTaken (numberOf (done w p d .answer))) (done w p d .world .transfer)) ≡ done w p d .world .transfer
-unfolding done tookOf
+next-state : (s : Settings) (w : World) (a p t : List ℕ) → w .transfer ≡ stateFrom t → Bytes a → {d : Decision} → DecisionFacts s w a d
+    → stateFrom (capi.keptTransfer t (isAcceptance (numberOf (done w p d .answer))) (done w p d .world .transfer)) ≡ done w p d .world .transfer
+unfolding done acceptOf
 next-state s w a p t e h (kept x n) = rw (lt-leb 14 (numberOf x) (omega arith)) (sym e)
 next-state s w a p t e h (took g k B l q m) =
     rw (le-leb 14 (numberOf (k .answer)) (took-number m))
@@ -162,44 +162,44 @@ calls-either-first s h F i v l t b m u c =
 -- ---- one call of many
 
 -- a transfer written over a written one
-written-again : (t : List ℕ) (x y : State) → written (written t x) y ≡ written t y
-unfolding written
+written-again : (t : List ℕ) (x y : State) → withTransfer (withTransfer t x) y ≡ withTransfer t y
+unfolding withTransfer
 written-again t x y =
     split (eqb (length t) 13) (λ e. rw (e, eq-eqb (length (stateBytes x)) 13 (state-size x))) (λ n. rw (n, n))
   where
     state-size : (x : State) → length (stateBytes x) ≡ 13
-    state-size Idle = unfold thirteen lowFirst in refl
-    state-size (Running r) = unfold thirteen lowFirst in refl
-    state-size (Done g) = unfold thirteen lowFirst in refl
+    state-size Idle = unfold transferBytes lowFirst in refl
+    state-size (Running r) = unfold transferBytes lowFirst in refl
+    state-size (Done g) = unfold transferBytes lowFirst in refl
 
--- where no block is taken the transfer stays
-none-taken : (z : Settings) (w : World) (l : List (List ℕ)) → anyTaken (answersOf z w l) ≡ false → receiveAll z w l .transfer ≡ w .transfer
-unfolding anyTaken answersOf receiveAll Refusals-change-nothing
+-- where no block is accepted the transfer stays
+none-taken : (z : Settings) (w : World) (l : List (List ℕ)) → anyAcceptance (answersOf z w l) ≡ false → receiveAll z w l .transfer ≡ w .transfer
+unfolding anyAcceptance answersOf receiveAll Refusals-change-nothing
 none-taken z w [] e = refl
 none-taken z w (a ∷ l) e =
     let o = receiveOf z w a in
-    let n = leb-false 14 (numberOf (o .answer)) (or-left (isTaken (numberOf (o .answer))) (anyTaken (answersOf z (o .world) l)) e) in
-    none-taken z (o .world) l (or-right (isTaken (numberOf (o .answer))) (anyTaken (answersOf z (o .world) l)) e)
+    let n = leb-false 14 (numberOf (o .answer)) (or-left (isAcceptance (numberOf (o .answer))) (anyAcceptance (answersOf z (o .world) l)) e) in
+    none-taken z (o .world) l (or-right (isAcceptance (numberOf (o .answer))) (anyAcceptance (answersOf z (o .world) l)) e)
     ∙ ap (λ (x : Outcome). x .world .transfer) (refusals-change-nothing z w a (omega arith))
 
 -- a call and then others: x for the call, y for a block that one of the others took
 kept-twice : (t : List ℕ) (x y : Bool) (next last : State) → (y ≡ false → last ≡ next)
-    → capi.kept (capi.kept t x next) y last ≡ capi.kept t (x || y) last
+    → capi.keptTransfer (capi.keptTransfer t x next) y last ≡ capi.keptTransfer t (x || y) last
 kept-twice t true true next last e = written-again t next last
-kept-twice t true false next last e = ap (written t) (sym (e refl))
+kept-twice t true false next last e = ap (withTransfer t) (sym (e refl))
 kept-twice t false y next last e = refl
 
 -- the calls leave the bytes of the last transfer where one of them took a block, and else what was lent
 calls-transfer : (s : List ℕ) (h : Lent) (l : List (List ℕ)) → AllBytes l → let z = settingsFrom s in
-    callAll s h l .transfer ≡ capi.kept (h .transfer) (anyTaken (answersOf z (worldOf h) l)) (receiveAll z (worldOf h) l .transfer)
-unfolding callAll receiveAll answersOf anyTaken receiveBytes
+    callAll s h l .transfer ≡ capi.keptTransfer (h .transfer) (anyAcceptance (answersOf z (worldOf h) l)) (receiveAll z (worldOf h) l .transfer)
+unfolding callAll receiveAll answersOf anyAcceptance receiveBytes
 calls-transfer s h [] b = refl
 calls-transfer s h (a ∷ l) b =
     let z = settingsFrom s in
     let o = receiveOf z (worldOf h) a in
     calls-transfer s (leftBy (call s h a)) l (b .1)
-    ∙ ap (λ (w : World). capi.kept (call s h a .transfer) (anyTaken (answersOf z w l)) (receiveAll z w l .transfer)) (next-world s h a (b .0))
-    ∙ kept-twice (h .transfer) (isTaken (numberOf (o .answer))) _ _ _ (none-taken z (o .world) l)
+    ∙ ap (λ (w : World). capi.keptTransfer (call s h a .transfer) (anyAcceptance (answersOf z w l)) (receiveAll z w l .transfer)) (next-world s h a (b .0))
+    ∙ kept-twice (h .transfer) (isAcceptance (numberOf (o .answer))) _ _ _ (none-taken z (o .world) l)
 
 -- arrivals that stand one after the other in bytes
 arrivals-bytes : (n : ℕ) (a : List ℕ) → Bytes a → AllBytes (arrivalsOf n a)
@@ -216,7 +216,7 @@ abbrev lentWith : List ℕ → World → Lent
 lentWith t w = record { transfer = t; flash = w .held .flash; seen = w .seen; sectors = w .held .sectors }
 
 pub calls-are-one-call : Calls-are-one-call
-unfolding Calls-are-one-call receiveMany manyFrom
+unfolding Calls-are-one-call receiveBatch batchFrom
 calls-are-one-call s h a r b =
     let n = fewer (length a / 512) (length r) in
     let l = arrivalsOf n a in
@@ -225,7 +225,7 @@ calls-are-one-call s h a r b =
       left =
           ap (λ (t : List ℕ). lentWith t (receiveAll (settingsFrom s) (worldOf h) l)) (sym (calls-transfer s h l c))
           ∙ ap (lentWith (callAll s h l .transfer)) (sym (calls-world s h l c));
-      results = ap (laid r 0) (sym (calls-results s h l c));
+      results = ap (storedFrom r 0) (sym (calls-results s h l c));
       all = λ e. rw (le-leb (length a / 512) (length r) e);
       few = λ e. split (leb (length a / 512) (length r)) (λ y. rw y (omega (arith, leb-true (length a / 512) (length r) y))) (λ z. rw z);
     }

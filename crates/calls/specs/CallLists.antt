@@ -1,4 +1,4 @@
--- Calls of `uf2_receive`, one after the other: the transfer travels between them as bytes. Proved in proofs/Turns.antt. Assumes nothing.
+-- Calls of `uf2_receive`, one after the other: the transfer travels between them as bytes. Proved in proofs/CallLists.antt. Assumes nothing.
 use Prim.Native.Nat.{ℕ, _/_, _%_, _≤_, _<_}
 use mathlib.Core.Path.{_≡_}
 use mathlib.Core.Bool.{not, _&&_}
@@ -12,7 +12,7 @@ use Rattle.arrival.specs.Lists.{receiveAll, answersOf, discardsOf}
 use Rattle.arrival.specs.Demand.{File, ValidFile, Sent, seenOf, isWhole, Ends}
 use Rattle.receiver.specs.Receiver.{world}
 use Rattle.layout.specs.Layout.{settingsFrom, transferFrom}
-use Rattle.capi.specs.Calls.{Ran, Many, receiveBytes, arrivalsOf, resultsOf, laid, receiveMany}
+use Rattle.capi.specs.Calls.{ArrivalCall, BatchCall, receiveBytes, arrivalsOf, resultsOf, storedFrom, receiveBatch}
 
 -- ---- one call after the other
 
@@ -24,11 +24,11 @@ pub record Lent : Type 0 where
   pub sectors : List ℕ
 
 -- the call for an arrival, with bytes of settings
-abbrev pub call : List ℕ → Lent → List ℕ → Ran
+abbrev pub call : List ℕ → Lent → List ℕ → ArrivalCall
 call s h a = receiveBytes s (h .transfer) a (h .flash) (h .seen) (h .sectors)
 
 -- what a call leaves
-abbrev pub leftBy : Ran → Lent
+abbrev pub leftBy : ArrivalCall → Lent
 leftBy r = record { transfer = r .transfer; flash = r .flash; seen = r .seen; sectors = r .sectors }
 
 -- what a call for each arrival leaves, where each is handed what the last one left
@@ -98,13 +98,13 @@ Calls-either-first =
 -- ---- they are one call of `uf2_receive_all`
 
 -- what such a call leaves
-abbrev pub leftByMany : Many → Lent
+abbrev pub leftByMany : BatchCall → Lent
 leftByMany o = record { transfer = o .transfer; flash = o .flash; seen = o .seen; sectors = o .sectors }
 
 -- one call for arrivals a with room r for results is a call for each of the arrivals that it counts
-pub record Same (s : List ℕ) (h : Lent) (a r : List ℕ) (o : Many) : Type 0 where
+pub record Same (s : List ℕ) (h : Lent) (a r : List ℕ) (o : BatchCall) : Type 0 where
   pub left : leftByMany o ≡ callAll s h (arrivalsOf (o .number) a)
-  pub results : o .results ≡ laid r 0 (returnsOf s h (arrivalsOf (o .number) a))
+  pub results : o .results ≡ storedFrom r 0 (returnsOf s h (arrivalsOf (o .number) a))
   pub all : length a / 512 ≤ length r → o .number ≡ length a / 512
   pub few : length r ≤ length a / 512 → o .number ≡ length r
 
@@ -112,4 +112,4 @@ pub record Same (s : List ℕ) (h : Lent) (a r : List ℕ) (o : Many) : Type 0 w
 unfoldable pub Calls-are-one-call : Type 0
 Calls-are-one-call =
     (s : List ℕ) (h : Lent) (a r : List ℕ) → Bytes a
-    → Same s h a r (receiveMany s (h .transfer) a r (h .flash) (h .seen) (h .sectors))
+    → Same s h a r (receiveBatch s (h .transfer) a r (h .flash) (h .seen) (h .sectors))

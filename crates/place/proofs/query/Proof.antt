@@ -1,8 +1,8 @@
--- `place::want` meets its contract. Assumes nothing.
-use Rattle.place.specs.Place.{wantedOf}
+-- `place::query` meets its contract. Assumes nothing.
+use Rattle.place.specs.Place.{passQueryOf}
 use borrow.Author.Needs.{needs}
-use Rattle.place.proofs.want.Statement.{statement}
-use Rattle.place.proofs.want.Tie as tie
+use Rattle.place.proofs.query.Statement.{statement}
+use Rattle.place.proofs.query.Tie as tie
 
 other-requires : tie.Need-other-requires
 other-requires c κs = search needs
@@ -17,11 +17,11 @@ image-requires-2 : tie.Need-image-requires-2
 image-requires-2 c κs = search needs
 
 returns : tie.Need-returns
-unfolding wantedOf
+unfolding passQueryOf
 returns c =
     let o = c .before .before .before .before .other .ensures in
     simp (c .image2 .ensures, c .before .before .image .ensures, c .before .before .before .is-enabled .ensures, o)
 
-pub want-spec : {M : Type 1} → statement M
-want-spec =
+pub query-spec : {M : Type 1} → statement M
+query-spec =
     tie.close (tie.spec other-requires is-enabled-requires image-requires image-requires-2 returns)
