@@ -9,6 +9,7 @@ pub mod hex;
 pub mod make;
 pub mod md5;
 mod place;
+pub mod store;
 pub mod tags;
 
 #[cfg(test)]
