@@ -89,3 +89,8 @@ stepOf (Running r) g marked =
     (cond marked (Stays (keptState (Running r) Again)) (Accepts (accepted false false g (r .count + 1))))
     (Accepts (accepted true true g 1))
 stepOf (Done h) g marked = Stays (keptState (Done h) Finished)
+
+-- the number of a step's answer
+abbrev pub stepNumber : Step → ℕ
+stepNumber (Stays x) = numberOf (x .answer)
+stepNumber (Accepts k) = numberOf (k .answer)
