@@ -4,4 +4,8 @@ pub mod Laws
 pub mod TabLaws
 pub mod OverLaws
 pub mod BytesLaws
+<<<<<<< HEAD
 pub mod Numbered
+=======
+pub mod RowsLaws
+>>>>>>> main
