@@ -4,8 +4,5 @@ pub mod Laws
 pub mod TabLaws
 pub mod OverLaws
 pub mod BytesLaws
-<<<<<<< HEAD
-pub mod Numbered
-=======
 pub mod RowsLaws
->>>>>>> main
+pub mod Numbered
