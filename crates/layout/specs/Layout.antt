@@ -15,13 +15,8 @@ use Rattle.settings.specs.Settings.{blankEntry}
 use Rattle.transfer.specs.declared.State.{State}
 use Rattle.transfer.specs.declared.State.the-variants.{Idle, Running, Done}
 use Rattle.transfer.specs.declared.Transfer.{Transfer}
-<<<<<<< HEAD
 use Rattle.transfer.specs.Transfer.{headWith, running}
-use Rattle.layout.specs.Bytes.{le32}
-=======
-use Rattle.transfer.specs.Transfer.{running}
 use Rattle.block.specs.Write.{le32}
->>>>>>> main
 
 -- the byte at an index, and 0 past the end
 abbrev pub byteAt : List ℕ → ℕ → ℕ
