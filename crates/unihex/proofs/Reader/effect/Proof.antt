@@ -1,10 +1,10 @@
--- `unihex::Reader::step` meets its contract. Assumes nothing.
-use Rattle.unihex.specs.Reader.{stepOf}
+-- `unihex::Reader::effect` meets its contract. Assumes nothing.
+use Rattle.unihex.specs.Reader.{effectOf}
 use mathlib.Core.Path.{ap}
-use Rattle.unihex.specs.declared.Step.the-variants.{Passes}
+use Rattle.unihex.specs.declared.Effect.the-variants.{Passes}
 use borrow.Author.Needs.{needs}
-use Rattle.unihex.proofs.Reader.step.Statement.{statement}
-use Rattle.unihex.proofs.Reader.step.Tie as tie
+use Rattle.unihex.proofs.Reader.effect.Statement.{statement}
+use Rattle.unihex.proofs.Reader.effect.Tie as tie
 
 enum-told : tie.Need-enum-told
 enum-told c = search needs
@@ -33,8 +33,8 @@ data-requires c κs = search needs
 enum-known-role-2 : tie.Need-enum-known-role-2
 enum-known-role-2 c = search needs
 
-standing-requires : tie.Need-standing-requires
-standing-requires c κs = search needs
+with-state-requires : tie.Need-with-state-requires
+with-state-requires c κs = search needs
 
 enum-told-4 : tie.Need-enum-told-4
 enum-told-4 c = search needs
@@ -42,8 +42,8 @@ enum-told-4 c = search needs
 enum-told-5 : tie.Need-enum-told-5
 enum-told-5 c = search needs
 
-standing-requires-2 : tie.Need-standing-requires-2
-standing-requires-2 c κs = search needs
+with-state-requires-2 : tie.Need-with-state-requires-2
+with-state-requires-2 c κs = search needs
 
 enum-told-6 : tie.Need-enum-told-6
 enum-told-6 c = search needs
@@ -55,43 +55,43 @@ enum-told-7 : tie.Need-enum-told-7
 enum-told-7 c = search needs
 
 returns : tie.Need-returns
-unfolding stepOf
+unfolding effectOf
 returns c = rw (c .before .enum-told .given .1) (c .opening .ensures)
 
 returns-2 : tie.Need-returns-2
-unfolding stepOf
+unfolding effectOf
 returns-2 c = rw (c .before .enum-told2 .given .1) (c .naming .ensures)
 
 returns-3 : tie.Need-returns-3
-unfolding stepOf
+unfolding effectOf
 returns-3 c = rw (c .before .enum-told3 .given .1) (ap Passes (c .with-upper .ensures))
 
 returns-4 : tie.Need-returns-4
-unfolding stepOf
+unfolding effectOf
 returns-4 c = rw (c .before .before .role .given .1) (c .«data» .ensures)
 
 returns-5 : tie.Need-returns-5
-unfolding stepOf
-returns-5 c = rw (c .before .before .role2 .given .1) (ap Passes (c .standing .ensures))
+unfolding effectOf
+returns-5 c = rw (c .before .before .role2 .given .1) (ap Passes (c .with-state .ensures))
 
 returns-6 : tie.Need-returns-6
-unfolding stepOf
+unfolding effectOf
 returns-6 c = rw (c .enum-told4 .given .1)
 
 returns-7 : tie.Need-returns-7
-unfolding stepOf
-returns-7 c = rw (c .before .enum-told5 .given .1) (ap Passes (c .standing2 .ensures))
+unfolding effectOf
+returns-7 c = rw (c .before .enum-told5 .given .1) (ap Passes (c .with-state2 .ensures))
 
 returns-8 : tie.Need-returns-8
-unfolding stepOf
+unfolding effectOf
 returns-8 c = rw (c .before .enum-told6 .given .1) (c .ending .ensures)
 
 returns-9 : tie.Need-returns-9
-unfolding stepOf
+unfolding effectOf
 returns-9 c = rw (c .enum-told7 .given .1)
 
-pub step-spec : {M : Type 1} → statement M
-step-spec =
+pub effect-spec : {M : Type 1} → statement M
+effect-spec =
     tie.close
     (tie.spec
     enum-told
@@ -103,10 +103,10 @@ step-spec =
     enum-known-role
     data-requires
     enum-known-role-2
-    standing-requires
+    with-state-requires
     enum-told-4
     enum-told-5
-    standing-requires-2
+    with-state-requires-2
     enum-told-6
     ending-requires
     enum-told-7

@@ -1,7 +1,7 @@
--- `readers::tag_of` meets its contract. Assumes nothing.
+-- `readers::state_code` meets its contract. Assumes nothing.
 use borrow.Author.Needs.{needs}
-use Rattle.readers.proofs.tag_of.Statement.{statement}
-use Rattle.readers.proofs.tag_of.Tie as tie
+use Rattle.readers.proofs.state_code.Statement.{statement}
+use Rattle.readers.proofs.state_code.Tie as tie
 
 enum-told : tie.Need-enum-told
 enum-told c = search needs
@@ -9,17 +9,17 @@ enum-told c = search needs
 enum-told-2 : tie.Need-enum-told-2
 enum-told-2 c = search needs
 
-enum-known-stand : tie.Need-enum-known-stand
-enum-known-stand c = search needs
+enum-known-state : tie.Need-enum-known-state
+enum-known-state c = search needs
 
-enum-known-stand-2 : tie.Need-enum-known-stand-2
-enum-known-stand-2 c = search needs
+enum-known-state-2 : tie.Need-enum-known-state-2
+enum-known-state-2 c = search needs
 
 enum-told-3 : tie.Need-enum-told-3
 enum-told-3 c = search needs
 
-enum-known-stand-3 : tie.Need-enum-known-stand-3
-enum-known-stand-3 c = search needs
+enum-known-state-3 : tie.Need-enum-known-state-3
+enum-known-state-3 c = search needs
 
 number-requires : tie.Need-number-requires
 number-requires c κs = search needs
@@ -31,27 +31,27 @@ returns-2 : tie.Need-returns-2
 returns-2 c = rw (c .enum-told2 .given .1)
 
 returns-3 : tie.Need-returns-3
-returns-3 c = rw (c .before .stand .given .1)
+returns-3 c = rw (c .before .state .given .1)
 
 returns-4 : tie.Need-returns-4
-returns-4 c = rw (c .before .stand2 .given .1)
+returns-4 c = rw (c .before .state2 .given .1)
 
 returns-5 : tie.Need-returns-5
 returns-5 c = rw (c .enum-told3 .given .1)
 
 returns-6 : tie.Need-returns-6
-returns-6 c = rw (c .before .before .stand3 .given .1, c .number .ensures)
+returns-6 c = rw (c .before .before .state3 .given .1, c .number .ensures)
 
-pub tag-of-spec : {M : Type 1} → statement M
-tag-of-spec =
+pub state-code-spec : {M : Type 1} → statement M
+state-code-spec =
     tie.close
     (tie.spec
     enum-told
     enum-told-2
-    enum-known-stand
-    enum-known-stand-2
+    enum-known-state
+    enum-known-state-2
     enum-told-3
-    enum-known-stand-3
+    enum-known-state-3
     number-requires
     returns
     returns-2

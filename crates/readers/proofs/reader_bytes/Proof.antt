@@ -1,12 +1,12 @@
--- `readers::sixteen` meets its contract. Assumes nothing.
+-- `readers::reader_bytes` meets its contract. Assumes nothing.
 use Rattle.sets.proofs.BytesLaws.{low-two, low-four}
-use Rattle.readers.specs.Readers.{tagBytes, readerBytes}
+use Rattle.readers.specs.Readers.{stateCodeBytes, readerBytes}
 use borrow.Author.Needs.{needs}
-use Rattle.readers.proofs.sixteen.Statement.{statement}
-use Rattle.readers.proofs.sixteen.Tie as tie
+use Rattle.readers.proofs.reader_bytes.Statement.{statement}
+use Rattle.readers.proofs.reader_bytes.Tie as tie
 
-tag-of-requires : tie.Need-tag-of-requires
-tag-of-requires c κs = search needs
+state-code-requires : tie.Need-state-code-requires
+state-code-requires c κs = search needs
 
 cast-t11 : tie.Need-cast-t11
 cast-t11 c = search needs
@@ -51,14 +51,14 @@ flag-requires-4 : tie.Need-flag-requires-4
 flag-requires-4 c κs = search needs
 
 returns : tie.Need-returns
-unfolding readerBytes tagBytes
-returns c = simp (low-two, low-four, c .before .before .before .before .tag-of .ensures, c .before .before .before .flag .ensures, c .before .before .flag2 .ensures, c .before .flag3 .ensures, c .flag4 .ensures)
+unfolding readerBytes stateCodeBytes
+returns c = simp (low-two, low-four, c .before .before .before .before .state-code .ensures, c .before .before .before .flag .ensures, c .before .before .flag2 .ensures, c .before .flag3 .ensures, c .flag4 .ensures)
 
-pub sixteen-spec : {M : Type 1} → statement M
-sixteen-spec =
+pub reader-bytes-spec : {M : Type 1} → statement M
+reader-bytes-spec =
     tie.close
     (tie.spec
-    tag-of-requires
+    state-code-requires
     cast-t11
     cast-t14
     cast-t16

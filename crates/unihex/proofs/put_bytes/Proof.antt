@@ -1,12 +1,12 @@
--- `unihex::lay` meets its contract. Assumes nothing.
+-- `unihex::put_bytes` meets its contract. Assumes nothing.
 use mathlib.Core.Path.{sym}
 use lib.Seq.{length-take-le}
 use lib.ListN.{length-take, length-drop}
 use native.Mathlib.Omega.{arith}
 use Rattle.sets.proofs.OverLaws.{copied-over}
 use borrow.Author.Needs.{needs}
-use Rattle.unihex.proofs.lay.Statement.{statement}
-use Rattle.unihex.proofs.lay.Tie as tie
+use Rattle.unihex.proofs.put_bytes.Statement.{statement}
+use Rattle.unihex.proofs.put_bytes.Tie as tie
 
 add-e : tie.Need-add-e
 add-e c = search needs
@@ -32,8 +32,8 @@ same-length c = search needs
 returns : tie.Need-returns
 returns c = copied-over _ _ _ _ _ (length-take-le _ _ (omega arith)) (c .before .before .before .before .before .before .before .pre .1) (c .before .before .copy .ensures .1)
 
-pub lay-spec : {M : Type 1} → statement M
-lay-spec =
+pub put-bytes-spec : {M : Type 1} → statement M
+put-bytes-spec =
     tie.close
     (tie.spec
     add-e

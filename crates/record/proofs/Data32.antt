@@ -9,27 +9,27 @@ use lib.Seq.{ext-getD, length-take-le, take-length, getD-take, getD-drop, getD-a
 use borrow.Author.Tests.{ltb-true, ltb-false}
 use Rattle.sets.proofs.Tests.{split}
 use Rattle.sets.proofs.TabLaws.{length-tab, getD-tab, is-tab}
-use Rattle.record.specs.Record.{lenOf, dataOf, held}
+use Rattle.record.specs.Record.{lenOf, dataOf, data32}
 
-pub length-held : (d : List ℕ) → length (held d) ≡ 32
-unfolding held
-length-held d = length-tab 32 (λ i. getD d i 0)
+pub length-data32 : (d : List ℕ) → length (data32 d) ≡ 32
+unfolding data32
+length-data32 d = length-tab 32 (λ i. getD d i 0)
 
-pub getD-held : (d : List ℕ) (j : ℕ) → j < 32 → getD (held d) j 0 ≡ getD d j 0
-unfolding held
-getD-held d j h = getD-tab 32 (λ i. getD d i 0) j h
+pub getD-data32 : (d : List ℕ) (j : ℕ) → j < 32 → getD (data32 d) j 0 ≡ getD d j 0
+unfolding data32
+getD-data32 d j h = getD-tab 32 (λ i. getD d i 0) j h
 
 -- the used part of the 32 bytes
-pub held-take : (d : List ℕ) → length d ≤ 32 → take (length d) (held d) ≡ d
-held-take d h =
-    let n : length (take (length d) (held d)) ≡ length d = length-take-le (length d) (held d) (omega (arith, length-held d)) in
-    ext-getD 0 (take (length d) (held d)) d n
-    (λ j l. let k : j < length d = omega arith in getD-take (length d) (held d) j 0 k ∙ getD-held d j (omega arith))
+pub data32-take : (d : List ℕ) → length d ≤ 32 → take (length d) (data32 d) ≡ d
+data32-take d h =
+    let n : length (take (length d) (data32 d)) ≡ length d = length-take-le (length d) (data32 d) (omega (arith, length-data32 d)) in
+    ext-getD 0 (take (length d) (data32 d)) d n
+    (λ j l. let k : j < length d = omega arith in getD-take (length d) (data32 d) j 0 k ∙ getD-data32 d j (omega arith))
 
 -- bytes, and zeros up to 32
-held-append : (d z : List ℕ) → length d + length z ≡ 32 → ((i : ℕ) → i < length z → getD z i 0 ≡ 0) → d ++ z ≡ held d
-unfolding held
-held-append d z e h =
+data32-append : (d z : List ℕ) → length d + length z ≡ 32 → ((i : ℕ) → i < length z → getD z i 0 ≡ 0) → d ++ z ≡ data32 d
+unfolding data32
+data32-append d z e h =
     is-tab (d ++ z) 32 (λ i. getD d i 0) (simp length-append e)
     (λ j l.
     split (ltb j (length d))
@@ -41,19 +41,19 @@ held-append d z e h =
     g ∙ h (j - length d) (omega arith) ∙ sym (List·getD-eq-default d 0 n)))
 
 -- bytes that were copied to 32 zeros
-held-copied : (d : List ℕ) → length d ≤ 32 → take (length d) d ++ drop (length d) (replicate 32 0) ≡ held d
-held-copied d h =
+data32-copied : (d : List ℕ) → length d ≤ 32 → take (length d) d ++ drop (length d) (replicate 32 0) ≡ data32 d
+data32-copied d h =
     let z : List ℕ = drop (length d) (replicate 32 0) in
     let n : length z ≡ 32 - length d = length-drop (length d) (replicate 32 0) in
     rw (take-length d)
-    (held-append d z (omega arith)
+    (data32-append d z (omega arith)
     (λ i l. getD-drop (length d) (replicate 32 0) i 0 ∙ getD-replicate 32 (length d + i) 0 0 (omega arith)))
 
 -- the data of a record's bytes, as the code copies it
-pub held-data : (b : List ℕ) (used : ℕ) {d : List ℕ} → used ≡ lenOf b → used ≤ 32 → used + 5 ≤ length b
+pub data32-data : (b : List ℕ) (used : ℕ) {d : List ℕ} → used ≡ lenOf b → used ≤ 32 → used + 5 ≤ length b
     → d ≡ take (length (take (used + 4 - 4) (drop 4 b))) (take (used + 4 - 4) (drop 4 b)) ++ drop (length (take (used + 4 - 4) (drop 4 b))) (replicate 32 0)
-    → d ≡ held (dataOf b)
-held-data b used e h n q =
+    → d ≡ data32 (dataOf b)
+data32-data b used e h n q =
     let f : used + 4 - 4 ≡ lenOf b = omega arith in
     let g : length (dataOf b) ≤ 32 = simp (length-take, length-drop) (omega arith) in
-    rw f at q ∙ held-copied (dataOf b) g
+    rw f at q ∙ data32-copied (dataOf b) g

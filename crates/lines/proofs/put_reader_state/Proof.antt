@@ -1,8 +1,8 @@
--- `lines::put_stand` meets its contract. Assumes nothing.
-use Rattle.lines.specs.HexLines.{standText}
+-- `lines::put_reader_state` meets its contract. Assumes nothing.
+use Rattle.lines.specs.HexLines.{readerStateText}
 use borrow.Author.Needs.{needs}
-use Rattle.lines.proofs.put_stand.Statement.{statement}
-use Rattle.lines.proofs.put_stand.Tie as tie
+use Rattle.lines.proofs.put_reader_state.Statement.{statement}
+use Rattle.lines.proofs.put_reader_state.Tie as tie
 
 enum-told : tie.Need-enum-told
 enum-told c = search needs
@@ -49,38 +49,38 @@ slice-aggregate-put-5 c = search needs
 put-requires-5 : tie.Need-put-requires-5
 put-requires-5 c κs = search needs
 
-enum-known-stand : tie.Need-enum-known-stand
-enum-known-stand c = search needs
+enum-known-state : tie.Need-enum-known-state
+enum-known-state c = search needs
 
 put-failed-requires : tie.Need-put-failed-requires
 put-failed-requires c κs = search needs
 
 returns : tie.Need-returns
-unfolding standText
+unfolding readerStateText
 returns c = rw (c .before .before .before .enum-told .given .1) (c .put .ensures)
 
 returns-2 : tie.Need-returns-2
-unfolding standText
+unfolding readerStateText
 returns-2 c = rw (c .before .before .before .enum-told2 .given .1) (c .put2 .ensures)
 
 returns-3 : tie.Need-returns-3
-unfolding standText
+unfolding readerStateText
 returns-3 c = rw (c .before .before .before .enum-told3 .given .1) (c .put3 .ensures)
 
 returns-4 : tie.Need-returns-4
-unfolding standText
+unfolding readerStateText
 returns-4 c = rw (c .before .before .before .enum-told4 .given .1) (c .put4 .ensures)
 
 returns-5 : tie.Need-returns-5
-unfolding standText
+unfolding readerStateText
 returns-5 c = rw (c .before .before .before .enum-told5 .given .1) (c .put5 .ensures)
 
 returns-6 : tie.Need-returns-6
-unfolding standText
-returns-6 c = rw (c .before .before .before .stand .given .1) (c .put-failed .ensures)
+unfolding readerStateText
+returns-6 c = rw (c .before .before .before .state .given .1) (c .put-failed .ensures)
 
-pub put-stand-spec : {M : Type 1} → statement M
-put-stand-spec =
+pub put-reader-state-spec : {M : Type 1} → statement M
+put-reader-state-spec =
     tie.close
     (tie.spec
     enum-told
@@ -98,7 +98,7 @@ put-stand-spec =
     enum-told-5
     slice-aggregate-put-5
     put-requires-5
-    enum-known-stand
+    enum-known-state
     put-failed-requires
     returns
     returns-2
