@@ -38,7 +38,7 @@ use Rattle.layout.specs.Layout.{byteAt}
 use Rattle.capi.specs.HexCalls.{lineCallOf}
 use Rattle.capi.proofs.HexLaws.{line-next}
 use Rattle.calls.specs.HexTurns.{LentSession, callLine, leftByLine, callLines, lineReturns, sessionOf, Calls-are-lines}
-use Rattle.calls.proofs.Turns.{number-low}
+use Rattle.calls.proofs.CallLists.{number-low}
 
 -- ---- by cases of a test
 
