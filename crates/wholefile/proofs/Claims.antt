@@ -1,0 +1,216 @@
+-- The claims of specs/Claims.antt hold. Assumes nothing.
+use Prim.Native.Nat.{ℕ, _+_, _≤_}
+use mathlib.Core.Path.{_≡_, refl, sym, ap, subst, _∙_}
+use mathlib.Core.Logic.{_⊎_, ⊎-elim}
+use mathlib.Core.Bool.{Bool, true, false, _||_, not, cond}
+use mathlib.Core.List.{List, [], _∷_, _++_}
+use native.Mathlib.Omega.{arith}
+use lib.ListN.{length}
+use lib.Dec.{ltb, eqb}
+use borrow.Author.Tests.{le-ltb, eqb-true}
+use Rattle.sets.proofs.Tests.{split, clash}
+use Rattle.record.specs.Record.{readOf}
+use Rattle.record.specs.declared.Record.{Record}
+use Rattle.record.specs.declared.Parsed.the-variants.{Good}
+use Rattle.grammar.specs.Answers.{numberOf, isFailure}
+use Rattle.grammar.specs.Boards.{isV1, isV2}
+use Rattle.grammar.specs.declared.Answer.{Answer}
+use Rattle.grammar.specs.declared.Answer.the-variants as answer
+use Rattle.grammar.specs.declared.Stand.the-variants as stand
+use Rattle.unihex.specs.Reader.{badFailure, badReader, standing, movedTo}
+use Rattle.unihex.specs.Line.{Outcome, outcome, badImage, lineOf}
+use Rattle.hexfile.specs.Facts.{Ready}
+use Rattle.hexfile.specs.Lines.{Held, start, turn, next, readAll, answersOf}
+use Rattle.wholefile.specs.Items.{Item, itemOf, Says, none, line, sizeOf}
+use Rattle.wholefile.specs.Whole.{Section, Sections, allItems, howMany, File}
+use Rattle.wholefile.specs.State.{between, State, begin, after, stateAfter, answersFor, imageFor, readerOf}
+use Rattle.wholefile.specs.Claims.{Setup, FileEnd, File-ends, Ended-is-file, Acceptance, Agreement, Taken-is-known}
+use Rattle.wholefile.proofs.Step.{line-goes, line-ends, answer-most}
+use Rattle.wholefile.proofs.Runs.{Runs, Once, isV, size-append, size-after, sections-run, gave-all}
+use Rattle.wholefile.proofs.Parse.{parsed}
+use Rattle.wholefile.proofs.Lists.{held, run-reads, LineCase, refused, went, last, viewed, RecordsOf, taken-run, last-run}
+
+-- ---- lists
+
+read-append : (h : Held) (ks ls : List (List ℕ)) → readAll h (ks ++ ls) ≡ readAll (readAll h ks) ls
+unfolding readAll
+read-append h [] ls = refl
+read-append h (k ∷ ks) ls = read-append (next h k) ks ls
+
+answers-append : (h : Held) (ks ls : List (List ℕ)) → answersOf h (ks ++ ls) ≡ answersOf h ks ++ answersOf (readAll h ks) ls
+unfolding readAll answersOf
+answers-append h [] ls = refl
+answers-append h (k ∷ ks) ls = ap (λ (z : List Answer). turn h k .answer ∷ z) (answers-append (next h k) ks ls)
+
+says-append : {ks ls : List (List ℕ)} {xs ys : List Item} → Says ks xs → Says ls ys → Says (ks ++ ls) (xs ++ ys)
+says-append none t = t
+says-append (line rec p s) t = line rec p (says-append s t)
+
+-- lines that say records and one more
+record LastLine (ls : List (List ℕ)) (ys : List Item) (x : Item) : Type 0 where
+  pub before : List (List ℕ)
+  pub final : List ℕ
+  pub rec : Record
+  pub whole : ls ≡ before ++ (final ∷ [])
+  pub says : Says before ys
+  pub good : readOf final .parsed ≡ Good rec
+  pub item : x ≡ itemOf final rec
+
+parted : (ys : List Item) (x : Item) {ls : List (List ℕ)} {xs : List Item} → xs ≡ ys ++ (x ∷ []) → Says ls xs → LastLine ls ys x
+parted [] x e none = absurd (let z : _≡_ {A = ℕ} 0 1 = cc in omega arith)
+parted (y ∷ ys) x e none = absurd (let z : _≡_ {A = ℕ} 0 1 = cc in omega arith)
+parted [] x e (line {l} rec p none) =
+    record { before = []; final = l; rec = rec; whole = refl; says = none; good = p; item = cc }
+parted [] x e (line rec p (line rec′ p′ t)) = absurd (let z : _≡_ {A = ℕ} 0 1 = cc in omega arith)
+parted (y ∷ ys) x e (line {l} {ls} {xs} rec p t) =
+    let f : xs ≡ ys ++ (x ∷ []) = cc in
+    let g : itemOf l rec ≡ y = cc in
+    let r = parted ys x f t in
+    record {
+      before = l ∷ r .before;
+      final = r .final;
+      rec = r .rec;
+      whole = ap (λ (z : List (List ℕ)). l ∷ z) (r .whole);
+      says = subst (λ (z : Item). Says (l ∷ r .before) (z ∷ ys)) g (line rec p (r .says));
+      good = r .good;
+      item = r .item;
+    }
+
+-- ---- a fresh reader
+
+ready-set : (own : ℕ) (img : List ℕ) → Setup own img → Ready (readerOf own begin) img
+ready-set own img g =
+    record {
+      image = rw (le-ltb (length img) 1 (g .some), le-ltb 1048576 (length img) (g .most));
+      reader = unfold badReader badFailure in own-good (g .board);
+    }
+  where
+    own-good : (own ≡ 0x9900) ⊎ (own ≡ 0x9903) → (not (isV1 own || isV2 own) || ltb 4194304 0) || false ≡ false
+    own-good b = ⊎-elim (λ (e : own ≡ 0x9900). rw e) (λ (e : own ≡ 0x9903). rw e) b
+
+-- ---- a file
+
+once-begin : (ss : List Section) → howMany 0x9900 ss ≤ 1 → howMany 0x9903 ss ≤ 1 → Once begin ss
+unfolding Once
+once-begin ss a b c v =
+    split (eqb c 0x9900)
+    (λ y. subst (λ (k : ℕ). 0 + howMany k ss ≤ 1) (sym (eqb-true c 0x9900 y)) (omega arith))
+    (λ n.
+    let y : eqb c 0x9903 ≡ true = rw n at v in
+    subst (λ (k : ℕ). 0 + howMany k ss ≤ 1) (sym (eqb-true c 0x9903 y)) (omega arith))
+
+module _ (own : ℕ) (img : List ℕ) (g : Setup own img) (xs : List Item) (f : File xs) where
+  abbrev items : List Item
+  items = allItems (f .sections)
+
+  abbrev before-end : State
+  before-end = stateAfter begin items
+
+  file-size : sizeOf items + f .ending .size ≤ 4194304
+  unfolding sizeOf
+  file-size =
+      let e : sizeOf xs ≡ sizeOf items + (f .ending .size + 0) = ap sizeOf (f .whole) ∙ size-append items (f .ending ∷ []) in
+      omega (arith, f .short)
+
+  file-runs : Runs begin items
+  file-runs =
+      sections-run (f .ordered) begin refl refl (once-begin (f .sections) (f .once-v1) (f .once-v2)) (omega (arith, file-size))
+
+  module _ (ls : List (List ℕ)) (p : LastLine ls items (f .ending)) where
+    reads : (readAll (start own img) (p .before) ≡ held own before-end (imageFor own begin items img))
+        × (answersOf (start own img) (p .before) ≡ answersFor own (length img) begin items)
+        × Ready (readerOf own before-end) (imageFor own begin items img)
+    reads = run-reads own (p .says) begin img (ready-set own img g) file-runs
+
+    last-line : lineOf (readerOf own before-end) (p .final) (imageFor own begin items img)
+        ≡ outcome (movedTo (standing (readerOf own before-end) stand.Ended) (before-end .size + length (p .final))) answer.Ended (imageFor own begin items img)
+    last-line =
+        let i : f .ending .size ≡ length (p .final) = ap (λ (x : Item). x .size) (p .item) in
+        line-ends (p .final) (p .rec) (p .good) own before-end (imageFor own begin items img) (reads .2)
+        (omega (arith, size-after begin items, file-size)) (gave-all 0x9900 (f .ordered) begin refl .0)
+        (sym (ap (λ (x : Item). x .kind) (p .item)) ∙ f .ends)
+        (sym (ap (λ (x : Item). length (x .bytes)) (p .item)) ∙ f .empty)
+        (gave-all 0x9900 (f .ordered) begin refl .1 ∙ f .gave-v1)
+        (gave-all 0x9903 (f .ordered) begin refl .1 ∙ f .gave-v2)
+
+    all-read : readAll (start own img) ls ≡ next (held own before-end (imageFor own begin items img)) (p .final)
+    unfolding readAll
+    all-read =
+        ap (readAll (start own img)) (p .whole)
+        ∙ read-append (start own img) (p .before) (p .final ∷ [])
+        ∙ ap (λ (h : Held). next h (p .final)) (reads .0)
+
+    file-end : FileEnd own img ls items
+    unfolding answersOf movedTo standing
+    file-end =
+        record {
+          answers =
+              ap (answersOf (start own img)) (p .whole)
+              ∙ answers-append (start own img) (p .before) (p .final ∷ [])
+              ∙ ap (λ (z : List Answer). z ++ answersOf (readAll (start own img) (p .before)) (p .final ∷ [])) (reads .1)
+              ∙ ap (λ (h : Held). answersFor own (length img) begin items ++ (turn h (p .final) .answer ∷ [])) (reads .0)
+              ∙ ap (λ (o : Outcome). answersFor own (length img) begin items ++ (o .answer ∷ [])) last-line;
+          image = ap (λ (h : Held). h .image) all-read ∙ ap (λ (o : Outcome). o .image) last-line;
+          ended = ap (λ (h : Held). h .reader .stand) all-read ∙ ap (λ (o : Outcome). o .reader .stand) last-line;
+        }
+
+pub file-ends : File-ends
+unfolding File-ends
+file-ends own img ls xs g s f = file-end own img g xs f ls (parted (allItems (f .sections)) (f .ending) (f .whole) s)
+
+-- ---- and back
+
+a-file : (xs : List Item) (l : List ℕ) (rec : Record) → Runs begin xs → let t = stateAfter begin xs in
+    t .size + length l ≤ 4194304 → t .place ≡ between → rec .kind ≡ 1 → length (itemOf l rec .bytes) ≡ 0 → t .gave 0x9900 ≡ true → t .gave 0x9903 ≡ true
+    → File (xs ++ (itemOf l rec ∷ []))
+unfolding Once sizeOf
+a-file xs l rec r m e k n a b =
+    let p = parsed r refl e in
+    let ss = p .0 in
+    let gave : (c : ℕ) → stateAfter begin xs .gave c ≡ true → Rattle.wholefile.specs.Whole.anyGives c ss ≡ true =
+    λ c h. sym (gave-all c (p .2) begin refl .1) ∙ ap (λ (z : List Item). stateAfter begin z .gave c) (sym (p .1)) ∙ h in
+    let sum : sizeOf (xs ++ (itemOf l rec ∷ [])) ≡ sizeOf xs + (length l + 0) = size-append xs (itemOf l rec ∷ []) in
+    record {
+      sections = ss;
+      ending = itemOf l rec;
+      whole = ap (λ (z : List Item). z ++ (itemOf l rec ∷ [])) (p .1);
+      ordered = p .2;
+      ends = k;
+      empty = n;
+      once-v1 = omega (arith, p .3 0x9900 refl);
+      once-v2 = omega (arith, p .3 0x9903 refl);
+      gave-v1 = gave 0x9900 a;
+      gave-v2 = gave 0x9903 b;
+      short = omega (arith, size-after begin xs);
+    }
+
+pub ended-is-file : Ended-is-file
+unfolding Ended-is-file
+ended-is-file own img ls l g a =
+    let h : 32 ≤ numberOf (turn (readAll (start own img) ls) l .answer) = omega (arith, ap numberOf a) in
+    let k : numberOf (turn (readAll (start own img) ls) l .answer) ≤ 35 = omega (arith, ap numberOf a) in
+    let y = ready-set own img g in
+    let r = last-run own ls l begin img y h k in
+    let w = run-reads own (r .1) begin img y (r .2) in
+    let i = imageFor own begin (r .0) img in
+    file-of (r .0) (r .1) (r .2) i (w .2) (viewed own (stateAfter begin (r .0)) l i (w .2)) (sym (ap (λ (h : Held). turn h l .answer) (w .0)) ∙ a)
+  where
+    file-of : (xs : List Item) → Says ls xs → Runs begin xs → (i : List ℕ) → Ready (readerOf own (stateAfter begin xs)) i
+        → LineCase own (stateAfter begin xs) l i (lineOf (readerOf own (stateAfter begin xs)) l i)
+        → lineOf (readerOf own (stateAfter begin xs)) l i .answer ≡ answer.Ended
+        → (zs : List Item) × Says (ls ++ (l ∷ [])) zs × File zs
+    file-of xs s r i y (refused f) e = clash false (sym (ap isFailure e) ∙ f) refl
+    file-of xs s r i y (went rec p m q) e =
+        let t = stateAfter begin xs in
+        let w = ap (λ (o : Outcome). o .answer) (line-goes l rec p own t i y m refl q) in
+        absurd (omega (arith, ap numberOf (sym w ∙ e), answer-most own (length i) t (itemOf l rec)))
+    file-of xs s r i y (last rec p m q k n a b z) e =
+        (xs ++ (itemOf l rec ∷ []), says-append s (line rec p none), a-file xs l rec r m q k n a b)
+
+pub taken-is-known : Taken-is-known
+unfolding Taken-is-known
+taken-is-known own img ls g t =
+    let y = ready-set own img g in
+    let r = taken-run own ls begin img y t in
+    let w = run-reads own (r .1) begin img y (r .2) in
+    (r .0, r .1, record { reader = ap (λ (h : Held). h .reader) (w .0); answers = w .1; image = ap (λ (h : Held). h .image) (w .0) })

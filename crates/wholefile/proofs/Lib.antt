@@ -1,0 +1,6 @@
+-- The proofs of the claims.
+pub mod Step
+pub mod Runs
+pub mod Parse
+pub mod Lists
+pub mod Claims

@@ -1,0 +1,189 @@
+-- Lines that say records: those that go on are read as their records say, and lines that are taken say such records. Assumes nothing.
+use Prim.Native.Nat.{ℕ, _+_, _≤_}
+use mathlib.Core.Path.{_≡_, refl, sym, ap, subst, _∙_}
+use mathlib.Core.Logic.{_⊎_, ⊎-elim}
+use mathlib.Core.Bool.{Bool, true, false, _||_, cond}
+use mathlib.Core.List.{List, [], _∷_, _++_}
+use native.Mathlib.Omega.{arith}
+use lib.ListN.{length, replicate}
+use lib.Dec.{ltb, leb, eqb}
+use borrow.Author.Tests.{le-leb, le-ltb}
+use Rattle.sets.proofs.Tests.{split, clash, both}
+use Rattle.record.specs.Record.{readOf}
+use Rattle.record.specs.declared.Record.{Record}
+use Rattle.record.specs.declared.Parsed.the-variants.{Good}
+use Rattle.grammar.specs.Answers.{numberOf, isFailure}
+use Rattle.grammar.specs.declared.Answer.{Answer}
+use Rattle.grammar.specs.declared.Answer.the-variants as answer
+use Rattle.grammar.specs.declared.Failure.{Failure}
+use Rattle.grammar.specs.declared.Stand.{Stand}
+use Rattle.grammar.specs.declared.Stand.the-variants as stand
+use Rattle.unihex.specs.declared.Reader.{Reader}
+use Rattle.unihex.specs.Reader.{badFailure, badReader, standing, movedTo}
+use Rattle.unihex.specs.declared.Step.{Step}
+use Rattle.unihex.specs.Line as unihex
+use Rattle.unihex.specs.Line.{Outcome, outcome, failing, badImage, stepped, lineOf}
+use Rattle.hexfile.specs.Facts.{Ready, isTaken, Length-kept, Stays-good}
+use Rattle.hexfile.specs.Lines.{Held, turn, next, readAll, answersOf}
+use Rattle.hexfile.specs.Claims.{Failure-stays, End-stays}
+use Rattle.hexfile.proofs.Lined.{Lined, bad, past, again, failed, out, stored, passed, ended, lined}
+use Rattle.hexfile.proofs.Facts.{failure-not-taken, length-kept, stays-good}
+use Rattle.hexfile.proofs.Claims.{failure-stays, end-stays}
+use Rattle.wholefile.specs.Items.{Item, itemOf, Says, none, line}
+use Rattle.wholefile.specs.State.{Place, between, opened, body, padded, State, after, stateAfter, answerFor, answersFor, imageWith, imageFor, standOf, readerOf}
+use Rattle.wholefile.specs.Claims as claims
+use Rattle.wholefile.specs.Claims.{Acceptance}
+use Rattle.wholefile.proofs.Step.{Goes, StepCase, fails, goes, ends, steps, made, word-item, line-made, line-goes}
+use Rattle.wholefile.proofs.Runs.{Runs, stop, step}
+
+-- a reader that knows what records say, and an image
+abbrev pub held : ℕ → State → List ℕ → Held
+held own s img = record { reader = readerOf own s; image = img }
+
+abbrev heldBy : Outcome → Held
+heldBy o = record { reader = o .reader; image = o .image }
+
+ready-next : (r : Reader) (l img : List ℕ) → Ready r img → Ready (lineOf r l img .reader) (lineOf r l img .image)
+unfolding Length-kept Stays-good
+ready-next r l img y =
+    record { image = ap badImage (length-kept r l img) ∙ y .image; reader = stays-good r l img (y .reader) }
+
+-- ---- records that go on are read as they say
+
+module _ (own : ℕ) where
+  abbrev onward : State → Item → List ℕ → Outcome
+  onward s x img = outcome (readerOf own (after s x)) (answerFor own (length img) s x) (imageWith own s x img)
+
+  module _ (s : State) (l img : List ℕ) (x : Item) (e : lineOf (readerOf own s) l img ≡ onward s x img) where
+    next-is : next (held own s img) l ≡ held own (after s x) (imageWith own s x img)
+    next-is = ap heldBy e
+
+    ready-on : Ready (readerOf own s) img → Ready (readerOf own (after s x)) (imageWith own s x img)
+    ready-on y = subst (λ (o : Outcome). Ready (o .reader) (o .image)) e (ready-next (readerOf own s) l img y)
+
+    length-on : length (imageWith own s x img) ≡ length img
+    unfolding Length-kept
+    length-on = sym (ap (λ (o : Outcome). length (o .image)) e) ∙ length-kept (readerOf own s) l img
+
+  pub run-reads : {ls : List (List ℕ)} {xs : List Item} → Says ls xs → (s : State) (img : List ℕ) → Ready (readerOf own s) img → Runs s xs
+      → (readAll (held own s img) ls ≡ held own (stateAfter s xs) (imageFor own s xs img))
+      × (answersOf (held own s img) ls ≡ answersFor own (length img) s xs)
+      × Ready (readerOf own (stateAfter s xs)) (imageFor own s xs img)
+  unfolding readAll answersOf stateAfter imageFor answersFor
+  run-reads none s img y r = (refl, refl, y)
+  run-reads (line {l} {ls} {xs} rec p t) s img y (step _ _ q e g m r) =
+      let x = itemOf l rec in
+      let w = line-goes l rec p own s img y m e g in
+      let n = next-is s l img x w in
+      let h = run-reads t (after s x) (imageWith own s x img) (ready-on s l img x w y) r in (
+        ap (λ (k : Held). readAll k ls) n ∙ h .0,
+        ap (λ (o : Outcome). o .answer ∷ answersOf (heldBy o) ls) w
+            ∙ ap (λ (k : List Answer). answerFor own (length img) s x ∷ k)
+            (h .1 ∙ ap (λ (k : ℕ). answersFor own k (after s x) xs) (length-on s l img x w)),
+        h .2,
+      )
+
+-- ---- every line after records that go on
+
+pub data LineCase (own : ℕ) (s : State) (l img : List ℕ) : Outcome → Type 0 where
+  refused : {o : Outcome} → isFailure (o .answer) ≡ true → LineCase own s l img o
+  went : {o : Outcome} (rec : Record) → readOf l .parsed ≡ Good rec → s .size + length l ≤ 4194304 → Goes s (itemOf l rec) (s .place) → LineCase own s l img o
+  last : {o : Outcome} (rec : Record) → readOf l .parsed ≡ Good rec → s .size + length l ≤ 4194304 → s .place ≡ between → rec .kind ≡ 1
+      → length (itemOf l rec .bytes) ≡ 0 → s .gave 0x9900 ≡ true → s .gave 0x9903 ≡ true → o .answer ≡ answer.Ended → LineCase own s l img o
+
+not-ended : (p : Place) → standOf p ≡ stand.Ended → ⊥
+not-ended between e = let z : _≡_ {A = ℕ} 0 1 = cc in omega arith
+not-ended opened e = let z : _≡_ {A = ℕ} 0 1 = cc in omega arith
+not-ended (body b) e = let z : _≡_ {A = ℕ} 0 1 = cc in omega arith
+not-ended (padded b) e = let z : _≡_ {A = ℕ} 0 1 = cc in omega arith
+
+not-failed : (p : Place) (f : Failure) → standOf p ≡ stand.Failed f → ⊥
+not-failed between f e = let z : _≡_ {A = ℕ} 0 1 = cc in omega arith
+not-failed opened f e = let z : _≡_ {A = ℕ} 0 1 = cc in omega arith
+not-failed (body b) f e = let z : _≡_ {A = ℕ} 0 1 = cc in omega arith
+not-failed (padded b) f e = let z : _≡_ {A = ℕ} 0 1 = cc in omega arith
+
+module _ (own : ℕ) (s : State) (l img : List ℕ) (y : Ready (readerOf own s) img) where
+  stepped-viewed : (rec : Record) → readOf l .parsed ≡ Good rec → s .size + length l ≤ 4194304 → {t : Step} → StepCase s (itemOf l rec) (s .place) t
+      → LineCase own s l img (stepped (readerOf own s) rec (readOf l .«data») (s .size + length l) img t)
+  unfolding stepped
+  stepped-viewed rec p m (fails a f) = refused f
+  stepped-viewed rec p m (goes g) = went rec p m g
+  stepped-viewed rec p m (ends q e k n a b) = last rec p m e k n a b refl
+
+  record-viewed : (rec : Record) → readOf l .parsed ≡ Good rec → s .size + length l ≤ 4194304 → LineCase own s l img (lineOf (readerOf own s) l img)
+  record-viewed rec p m =
+      rw (line-made l rec p own s img y m (s .place) refl)
+      (stepped-viewed rec p m (steps own s (itemOf l rec) (unihex.wordOf (readOf l .«data»)) (word-item l rec p) (s .place)))
+
+  lined-viewed : {o : Outcome} → Lined (readerOf own s) l img o → lineOf (readerOf own s) l img ≡ o → LineCase own s l img o
+  lined-viewed (bad a n x) e = absurd (x y)
+  lined-viewed (past f) e = absurd (not-ended (s .place) f)
+  lined-viewed (again f g h) e = absurd (not-failed (s .place) f g)
+  lined-viewed (failed a f) e = refused f
+  lined-viewed (out rec q p w m) e = subst (LineCase own s l img) e (record-viewed rec p m)
+  lined-viewed (stored rec q d w m) e = subst (LineCase own s l img) e (record-viewed rec (d .says) m)
+  lined-viewed (passed rec q p w m) e = subst (LineCase own s l img) e (record-viewed rec p m)
+  lined-viewed (ended rec p w b m) e = subst (LineCase own s l img) e (record-viewed rec p m)
+
+  pub viewed : LineCase own s l img (lineOf (readerOf own s) l img)
+  viewed = lined-viewed (lined (readerOf own s) l img) refl
+
+-- ---- lines that are taken say records that go on
+
+fails-not : {A : Type 0} (a : Answer) → isFailure a ≡ true → 32 ≤ numberOf a → numberOf a ≤ 35 → A
+fails-not a f h k = clash (isTaken a) (both (le-leb 32 (numberOf a) h) (le-leb (numberOf a) 35 k)) (failure-not-taken a f)
+
+-- the records of some lines
+abbrev pub RecordsOf : State → List (List ℕ) → Type 0
+RecordsOf s ls = (xs : List Item) × Says ls xs × Runs s xs
+
+module _ (own : ℕ) where
+  one-more : (s : State) (l img : List ℕ) (ls : List (List ℕ)) (rec : Record) (p : readOf l .parsed ≡ Good rec) (m : s .size + length l ≤ 4194304)
+      (g : Goes s (itemOf l rec) (s .place)) → RecordsOf (after s (itemOf l rec)) ls → RecordsOf s (l ∷ ls)
+  one-more s l img ls rec p m g r = (itemOf l rec ∷ r .0, line rec p (r .1), step s (itemOf l rec) (s .place) refl g m (r .2))
+
+  pub taken-run : (ls : List (List ℕ)) (s : State) (img : List ℕ) → Ready (readerOf own s) img → Acceptance (answersOf (held own s img) ls) → RecordsOf s ls
+  unfolding answersOf
+  taken-run [] s img y t = ([], none, stop)
+  taken-run (l ∷ ls) s img y (claims.next h k t) = first (viewed own s l img y) (λ x e. taken-run ls (after s x) (imageWith own s x img) (ready-on own s l img x e y) (subst (λ (h : Held). Acceptance (answersOf h ls)) (next-is own s l img x e) t))
+    where
+      first : LineCase own s l img (lineOf (readerOf own s) l img)
+          → ((x : Item) → lineOf (readerOf own s) l img ≡ onward own s x img → RecordsOf (after s x) ls) → RecordsOf s (l ∷ ls)
+      first (refused f) r = fails-not (turn (held own s img) l .answer) f h (omega arith)
+      first (went rec p m g) r = one-more s l img ls rec p m g (r (itemOf l rec) (line-goes l rec p own s img y m refl g))
+      first (last rec p m e n z a b q) r = absurd (omega (arith, ap numberOf q))
+
+  -- an answer 32 to 35 comes only after such lines
+  pub last-run : (ls : List (List ℕ)) (l : List ℕ) (s : State) (img : List ℕ) → Ready (readerOf own s) img
+      → 32 ≤ numberOf (turn (readAll (held own s img) ls) l .answer) → numberOf (turn (readAll (held own s img) ls) l .answer) ≤ 35 → RecordsOf s ls
+  unfolding readAll answersOf Failure-stays End-stays
+  last-run [] l s img y h k = ([], none, stop)
+  last-run (f ∷ ls) l s img y h k =
+      first (viewed own s f img y)
+      (λ x e.
+      let n = next-is own s f img x e in
+      last-run ls l (after s x) (imageWith own s x img) (ready-on own s f img x e y)
+      (subst (λ (q : Held). 32 ≤ numberOf (turn (readAll q ls) l .answer)) n h)
+      (subst (λ (q : Held). numberOf (turn (readAll q ls) l .answer) ≤ 35) n k))
+    where
+      after-first : Held
+      after-first = next (held own s img) f
+
+      stays : (a : Answer) → (readAll after-first ls ≡ after-first) → (answersOf after-first (l ∷ []) ≡ a ∷ []) → turn (readAll after-first ls) l .answer ≡ a
+      stays a e g = ap (λ (q : Held). turn q l .answer) e ∙ ap (λ (z : List Answer). headOf z) g
+        where
+          headOf : List Answer → Answer
+          headOf [] = a
+          headOf (b ∷ z) = b
+
+      first : LineCase own s f img (lineOf (readerOf own s) f img)
+          → ((x : Item) → lineOf (readerOf own s) f img ≡ onward own s x img → RecordsOf (after s x) ls) → RecordsOf s (f ∷ ls)
+      first (refused w) r =
+          let a = turn (held own s img) f .answer in
+          let e = stays a (failure-stays (held own s img) f ls w .0) (failure-stays (held own s img) f (l ∷ []) w .1) in
+          fails-not a w (subst (λ (b : Answer). 32 ≤ numberOf b) e h) (subst (λ (b : Answer). numberOf b ≤ 35) e k)
+      first (went rec p m g) r = one-more s f img ls rec p m g (r (itemOf f rec) (line-goes f rec p own s img y m refl g))
+      first (last rec p m e n z a b q) r =
+          let w = stays answer.AfterEnd (end-stays (held own s img) f ls q .0) (end-stays (held own s img) f (l ∷ []) q .1) in
+          absurd (omega (arith, ap numberOf w))

@@ -1,0 +1,4 @@
+pub mod Items
+pub mod Whole
+pub mod State
+pub mod Claims
