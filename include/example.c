@@ -1,5 +1,6 @@
 /* A file of two blocks from C, block 0 sent twice: prints the answers 14, 13 and 15. Then a small Universal Hex file, a line at a time,
- * for a board V1: prints 33 for its own data, 35 for the end and 34 for every other line.
+ * for a board V1: prints 33 for its own data, 35 for the end and 34 for every other line, and that the image is whole. Then the same
+ * file into an image that is too small for the data: 32 instead of 33, the same end, and the image is not whole.
  *
  *     rt staticlib capi
  *     gcc -std=c99 -Iinclude include/example.c target/staticlib/libcapi.a -o example
@@ -30,11 +31,11 @@ static const char *const file[] = {
     ":00000001FF\n",
 };
 
-static uint8_t flash[32768], seen[UF2_SEEN], sectors[UF2_SECTORS];
+static uint8_t flash[32768], seen[UF2_SEEN_MAP_SIZE], sectors[UF2_SECTOR_MAP_SIZE];
 
 /* Block k of two, its payload filled with k + 1. */
 static void block(uint8_t *arrival, uint32_t k) {
-    memset(arrival, 0, UF2_ARRIVAL);
+    memset(arrival, 0, UF2_ARRIVAL_SIZE);
     uf2_put32(arrival, 0x0A324655u);
     uf2_put32(arrival + 4, 0x9E5D5157u);
     uf2_put32(arrival + 8, 0x2000u);
@@ -47,42 +48,59 @@ static void block(uint8_t *arrival, uint32_t k) {
     uf2_put32(arrival + 508, 0x0AB16F30u);
 }
 
+/* Whether all went as it should. */
 static int blocks(void) {
     static const uint32_t order[] = {0, 0, 1};
-    uint8_t settings[UF2_SETTINGS] = {0}, transfer[UF2_TRANSFER], arrival[UF2_ARRIVAL], place[UF2_PLACE];
-    uint32_t number;
-    int i;
-
-    settings[UF2_SETTINGS_ARM] = 1; /* Arm alone, no partition table */
-    uf2_new(transfer, UF2_TRANSFER);
-    number = uf2_ask(settings, UF2_SETTINGS, sizeof flash, UF2_FAMILY_ARM_S, place, UF2_PLACE);
-    if (number != UF2_FOUND || uf2_get32(place + UF2_PLACE_LENGTH) != sizeof flash)
-        return 1;
-    for (i = 0; i < 3; i++) {
-        block(arrival, order[i]);
-        number = uf2_receive(settings, UF2_SETTINGS, transfer, UF2_TRANSFER, arrival, UF2_ARRIVAL, flash, sizeof flash, seen,
-                             UF2_SEEN, sectors, UF2_SECTORS);
-        printf("%u\n", (unsigned)UF2_ANSWER(number));
-    }
-    return transfer[UF2_TRANSFER_KIND] == UF2_DONE && uf2_get32(transfer + UF2_TRANSFER_TOTAL) == 2 && flash[0] == 1 &&
-                   flash[256] == 2 && flash[512] == 0xFF
-               ? 0
-               : 1;
-}
-
-static int lines(void) {
-    uint8_t reader[UHEX_READER], image[64];
+    uint8_t settings[UF2_SETTINGS_SIZE] = {0}, transfer[UF2_TRANSFER_SIZE], arrival[UF2_ARRIVAL_SIZE], place[UF2_PLACE_SIZE];
+    uint32_t answer, result;
     size_t i;
 
-    memset(image, 0xEE, sizeof image);
-    uhex_new(UHEX_V1, reader, UHEX_READER);
-    for (i = 0; i < sizeof file / sizeof file[0]; i++) {
-        uint32_t number = uhex_line(reader, UHEX_READER, (const uint8_t *)file[i], strlen(file[i]), image, sizeof image);
-        printf("%u\n", (unsigned)number);
+    settings[UF2_SETTINGS_ARM_AT] = 1; /* Arm alone, no partition table */
+    uf2_new(transfer, sizeof transfer);
+    answer = uf2_ask(settings, sizeof settings, sizeof flash, UF2_FAMILY_ARM_S, place, sizeof place);
+    if (answer != UF2_ANSWER_FOUND || uf2_get32(place + UF2_PLACE_LENGTH_AT) != sizeof flash)
+        return 0;
+    for (i = 0; i < sizeof order / sizeof order[0]; i++) {
+        block(arrival, order[i]);
+        result = uf2_receive(settings, sizeof settings, transfer, sizeof transfer, arrival, sizeof arrival, flash, sizeof flash, seen,
+                             sizeof seen, sectors, sizeof sectors);
+        printf("%u\n", (unsigned)UF2_RESULT_ANSWER(result));
     }
-    return reader[UHEX_READER_STAND] == UHEX_ENDED && image[0] == 0 && image[15] == 15 && image[16] == 0xEE ? 0 : 1;
+    return transfer[UF2_TRANSFER_STATE_AT] == UF2_STATE_DONE && uf2_get32(transfer + UF2_TRANSFER_TOTAL_AT) == 2 && flash[0] == 1 &&
+           flash[256] == 2 && flash[512] == 0xFF;
+}
+
+/* Reads the file into an image. Whether the image is whole: the last line ended the file, and no own data was left out of the image.
+ * The reader does not remember the second, so it is counted here. */
+static int lines(uint8_t *image, size_t image_len) {
+    uint8_t reader[UHEX_READER_SIZE];
+    uint32_t answer = 0;
+    size_t i, outside = 0;
+
+    uhex_new(UHEX_BOARD_V1, reader, sizeof reader);
+    for (i = 0; i < sizeof file / sizeof file[0]; i++) {
+        answer = uhex_line(reader, sizeof reader, (const uint8_t *)file[i], strlen(file[i]), image, image_len);
+        printf("%u\n", (unsigned)answer);
+        if (UHEX_ANSWER_IS_FAILURE(answer))
+            break; /* nothing that follows can be read */
+        if (answer == UHEX_ANSWER_OUTSIDE)
+            outside++;
+    }
+    return UHEX_IMAGE_IS_WHOLE(answer, outside);
 }
 
 int main(void) {
-    return blocks() || lines();
+    uint8_t image[64];
+    int good = blocks(), whole;
+
+    memset(image, 0xEE, sizeof image);
+    whole = lines(image, sizeof image);
+    printf("image %s\n", whole ? "whole" : "not whole");
+    good = good && whole && image[0] == 0 && image[15] == 15 && image[16] == 0xEE;
+
+    memset(image, 0xEE, sizeof image);
+    whole = lines(image, 15); /* the file's own data has 16 bytes */
+    printf("image %s\n", whole ? "whole" : "not whole");
+    good = good && !whole && image[0] == 0xEE;
+    return good ? 0 : 1;
 }

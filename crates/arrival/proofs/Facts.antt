@@ -19,17 +19,17 @@ use Rattle.place.specs.Place.{placeOf}
 use Rattle.place.specs.declared.Place.{Place}
 use Rattle.transfer.specs.Transfer.{numberOf}
 use Rattle.screen.specs.Screen.{screenOf}
-use Rattle.screen.specs.declared.Screened.{Screened}
-use Rattle.screen.specs.declared.Screened.the-variants.{Refused, Passed}
-use Rattle.arrival.specs.Arrive.{Held, World, Decision, stays, takes, looked, decide, clearedIf, wipedIf, preparedAt, pagedAt, tookOf, unchanged, done, receiveOf}
+use Rattle.screen.specs.declared.Screening.{Screening}
+use Rattle.screen.specs.declared.Screening.the-variants.{Refused, Passed}
+use Rattle.arrival.specs.Arrive.{Held, World, Decision, stays, accepts, afterScreening, decide, clearedIf, wipedIf, preparedAt, pagedAt, acceptOf, unchanged, done, receiveOf}
 use Rattle.arrival.specs.Facts.{Refusals-change-nothing, Answers-read-no-flash, Lengths-kept, Arrivals-keep-lengths, Outside, Outside-kept, Window-kept, Flags-ignored}
 use Rattle.arrival.proofs.Effect.{length-paged, sectors-paged, getD-prepared, spans-true}
-use Rattle.arrival.proofs.Screened.{Good, screen-good, passing-inside}
-use Rattle.arrival.proofs.Decided.{flashOf, decisionOf, Board, board-decides, Rows, stopped, through, rows, Decided, kept, took, decided, took-number}
+use Rattle.arrival.proofs.Screening.{Good, screen-good, passing-inside}
+use Rattle.arrival.proofs.DecisionFacts.{flashOf, decisionOf, Board, board-decides, Rows, stopped, through, rows, DecisionFacts, kept, took, decided, took-number}
 
 -- ---- answers 1 to 13
 
-stayed : (s : Settings) (w : World) (a : List ℕ) (p : List ℕ) {d : Decision} → Decided s w a d → numberOf (done w p d .answer) ≤ 13
+stayed : (s : Settings) (w : World) (a : List ℕ) (p : List ℕ) {d : Decision} → DecisionFacts s w a d → numberOf (done w p d .answer) ≤ 13
     → done w p d ≡ unchanged w (done w p d .answer)
 unfolding done
 stayed s w a p (kept x h) n = refl
@@ -44,7 +44,7 @@ refusals-change-nothing s w a n = stayed s w a (payloadOf a) (decided s w a) n
 told : (v w : World) (p : List ℕ) (d : Decision) → (done v p d .answer ≡ done w p d .answer) × (done v p d .discarded ≡ done w p d .discarded)
 unfolding done
 told v w p (stays x) = (refl, refl)
-told v w p (takes g k) = (refl, refl)
+told v w p (accepts g k) = (refl, refl)
 
 pub answers-read-no-flash : Answers-read-no-flash
 unfolding Answers-read-no-flash receiveOf
@@ -58,13 +58,13 @@ length-cleared true m = length-unmarked (length m)
 length-cleared false m = refl
 
 kept-lengths : (w : World) (p : List ℕ) (d : Decision) → Lengths-kept (done w p d .world) w
-unfolding done tookOf
+unfolding done acceptOf
 kept-lengths w p (stays x) = record { flash = refl; seen = refl; sectors = refl }
-kept-lengths w p (takes g k) =
+kept-lengths w p (accepts g k) =
     record {
-      flash = length-paged (g .at) p (wipedIf (k .fresh) (w .held)) ∙ unfold wipedIf in refl;
-      seen = length-mark (clearedIf (k .fresh) (w .seen)) (g .number) ∙ length-cleared (k .fresh) (w .seen);
-      sectors = sectors-paged (g .at) p (wipedIf (k .fresh) (w .held)) ∙ wiped (k .fresh);
+      flash = length-paged (g .at) p (wipedIf (k .clears) (w .held)) ∙ unfold wipedIf in refl;
+      seen = length-mark (clearedIf (k .clears) (w .seen)) (g .number) ∙ length-cleared (k .clears) (w .seen);
+      sectors = sectors-paged (g .at) p (wipedIf (k .clears) (w .held)) ∙ wiped (k .clears);
     }
   where
     wiped : (b : Bool) → length (wipedIf b (w .held) .sectors) ≡ length (w .held .sectors)
@@ -89,13 +89,13 @@ outside-page start size at p x j e f l h o =
     (λ y. rw (y, away) (getD-prepared (at / 4096) x j ∙ rw far))
     (λ z. rw z (getD-prepared (at / 4096) x j ∙ rw far))
 
-outside-done : (s : Settings) (w : World) (a : List ℕ) (j : ℕ) {d : Decision} → Decided s w a d → Outside (placeOf s (flashOf w) (fieldAt a 28)) j
+outside-done : (s : Settings) (w : World) (a : List ℕ) (j : ℕ) {d : Decision} → DecisionFacts s w a d → Outside (placeOf s (flashOf w) (fieldAt a 28)) j
     → getD (done w (payloadOf a) d .world .held .flash) j 0 ≡ getD (w .held .flash) j 0
-unfolding done tookOf
+unfolding done acceptOf
 outside-done s w a j (kept x h) o = refl
 outside-done s w a j (took g k B l q t) o =
     let i = passing-inside s (flashOf w) a g q (B .flash) (B .good) in
-    outside-page (q .start) (q .size) (g .at) (payloadOf a) (wipedIf (k .fresh) (w .held)) j (i .0) (i .1) (i .3) (i .4)
+    outside-page (q .start) (q .size) (g .at) (payloadOf a) (wipedIf (k .clears) (w .held)) j (i .0) (i .1) (i .3) (i .4)
     (subst (λ (p : Place). Outside p j) (q .place) o)
     ∙ unfold wipedIf in refl
 
@@ -106,11 +106,11 @@ outside-kept s w a j o = outside-done s w a j (decided s w a) o
 -- ---- the address window
 
 pub window-kept : Window-kept
-unfolding Window-kept receiveOf done looked
+unfolding Window-kept receiveOf done afterScreening
 window-kept s w a n = go (rows s w a)
   where
-    passed : Board s w → (x : Screened) → Good s (flashOf w) a x
-        → 12 ≤ numberOf (done w (payloadOf a) (looked (w .transfer) (w .seen) x) .answer)
+    passed : Board s w → (x : Screening) → Good s (flashOf w) a x
+        → 12 ≤ numberOf (done w (payloadOf a) (afterScreening (w .transfer) (w .seen) x) .answer)
         → (0x10000000 ≤ fieldAt a 12) × (fieldAt a 12 + 256 ≤ 0x12000000)
     passed B (Refused x) h m = absurd (omega (arith, m, h .1))
     passed B (Passed g) h m =

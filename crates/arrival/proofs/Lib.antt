@@ -1,12 +1,13 @@
 mod Heads
-mod Items
+mod Pages
 mod Count
 mod Cells
 mod Effect
-pub mod Screened
-pub mod Decided
+pub mod Screening
+pub mod DecisionFacts
 pub mod Facts
 mod Lists
+mod Runs
 mod Files
 pub mod Demand
 pub mod Tally

@@ -15,16 +15,16 @@ use Rattle.bitmap.proofs.MapLaws.{map-none, marked-map, mark-map, marks-map}
 use Rattle.block.specs.Block.{fieldAt}
 use Rattle.flash.specs.Flash.{payloadOf}
 use Rattle.settings.specs.declared.Settings.{Settings}
-use Rattle.transfer.specs.Transfer.{numberOf, countOf, counted, taken}
+use Rattle.transfer.specs.Transfer.{numberOf, countOf, counted, accepted}
 use Rattle.transfer.specs.declared.Head.{Head}
 use Rattle.transfer.specs.declared.State.{State}
 use Rattle.transfer.specs.declared.State.the-variants.{Idle, Running, Done}
-use Rattle.transfer.specs.declared.Taken.{Taken}
-use Rattle.arrival.specs.Arrive.{World, Outcome, Decision, clearedIf, tookOf, done, receiveOf}
-use Rattle.arrival.specs.Lists.{Turn, playAll}
+use Rattle.transfer.specs.declared.Accepted.{Accepted}
+use Rattle.arrival.specs.Arrive.{World, Outcome, Decision, clearedIf, acceptOf, done, receiveOf}
+use Rattle.arrival.specs.Lists.{Delivery, playAll}
 use Rattle.arrival.specs.Tally.{isAccepted, headOf, clears, acceptedBy, acceptedOf, anyAccepted, Count-is-marks}
-use Rattle.arrival.proofs.Screened.{passing-few}
-use Rattle.arrival.proofs.Decided.{flashOf, Took, took-number, Decided, kept, took, decided}
+use Rattle.arrival.proofs.Screening.{passing-few}
+use Rattle.arrival.proofs.DecisionFacts.{flashOf, AcceptFacts, took-number, DecisionFacts, kept, took, decided}
 
 -- ---- the transfer and the seen map, A being what was accepted since the last clearing
 
@@ -59,9 +59,9 @@ counted-more g n A m c h e new =
       few = e .few;
     }))
 
--- before the block that is taken: no mark where the maps are cleared, else what the running transfer has
-ready : (t : State) (seen : List ℕ) (A : Set) (g : Head) (n : ℕ) (k : Taken) → length seen ≡ 16384 → g .total ≤ 131072 → n < g .total
-    → Took t g (markedIn seen n) k → Kept t seen A → (b : Bool) → clears t g ≡ b
+-- before the block that is accepted: no mark where the maps are cleared, else what the running transfer has
+ready : (t : State) (seen : List ℕ) (A : Set) (g : Head) (n : ℕ) (k : Accepted) → length seen ≡ 16384 → g .total ≤ 131072 → n < g .total
+    → AcceptFacts t g (markedIn seen n) k → Kept t seen A → (b : Bool) → clears t g ≡ b
     → Counted g (clearedIf b seen) (cond b none A) (cond b 0 (countOf t)) × (cond b none A n ≡ false)
 unfolding clearedIf
 ready t seen A g n k l few h q e true y = (
@@ -93,9 +93,9 @@ pub record Keeping (s : Settings) (w : World) (a : List ℕ) (A : Set) (o : Outc
       (cond (isAccepted (o .answer)) (add (fieldAt a 20) (cond (clears (w .transfer) (headOf a)) none A)) A)
   pub busy : isIdle (o .world .transfer) ≡ not (isAccepted (o .answer)) && isIdle (w .transfer)
 
-keeping : (s : Settings) (w : World) (a : List ℕ) (A : Set) {d : Decision} → Decided s w a d → Kept (w .transfer) (w .seen) A
+keeping : (s : Settings) (w : World) (a : List ℕ) (A : Set) {d : Decision} → DecisionFacts s w a d → Kept (w .transfer) (w .seen) A
     → Keeping s w a A (done w (payloadOf a) d)
-unfolding done tookOf taken
+unfolding done acceptOf accepted
 keeping s w a A (kept x h) e =
     record { held = rw (lt-leb 14 (numberOf x) (omega arith)) e; busy = rw (lt-leb 14 (numberOf x) (omega arith)) }
 keeping s w a A (took g k B l q t) e =
@@ -107,8 +107,8 @@ keeping s w a A (took g k B l q t) e =
     let r = ready (w .transfer) (w .seen) A (g .head) (g .number) k (B .seen) few below t e b refl in
     let c : cond b 0 (countOf (w .transfer)) + 1 ≡ cond b 1 (countOf (w .transfer) + 1) = plus b in
     let f : k .transfer .state ≡ counted (g .head) (cond b 0 (countOf (w .transfer)) + 1) =
-    ap (λ (x : Taken). x .transfer .state) (t .is) ∙ ap (counted (g .head)) (sym c) in
-    let m : k .fresh ≡ b = ap (λ (x : Taken). x .fresh) (t .is) in
+    ap (λ (x : Accepted). x .transfer .state) (t .is) ∙ ap (counted (g .head)) (sym c) in
+    let m : k .clears ≡ b = ap (λ (x : Accepted). x .clears) (t .is) in
     record {
       held =
           rw (y, f, m, ← q .head, ← q .number)
@@ -125,7 +125,7 @@ keeping s w a A (took g k B l q t) e =
 step : (s : Settings) (w : World) (a : List ℕ) (A : Set) → Kept (w .transfer) (w .seen) A → Keeping s w a A (receiveOf s w a)
 step s w a A e = unfold receiveOf in keeping s w a A (decided s w a) e
 
-kept-all : (l : List Turn) (w : World) (A : Set) → Kept (w .transfer) (w .seen) A
+kept-all : (l : List Delivery) (w : World) (A : Set) → Kept (w .transfer) (w .seen) A
     → Kept (playAll w l .transfer) (playAll w l .seen) (acceptedOf w l A)
 unfolding playAll acceptedOf
 kept-all [] w A e = e
@@ -134,7 +134,7 @@ kept-all (t ∷ l) w A e =
     let a = t .arrival in
     kept-all l (receiveOf s w a .world) (acceptedBy s w a A) (step s w a A e .held)
 
-idle-all : (l : List Turn) (w : World) (A : Set) → Kept (w .transfer) (w .seen) A
+idle-all : (l : List Delivery) (w : World) (A : Set) → Kept (w .transfer) (w .seen) A
     → isIdle (playAll w l .transfer) ≡ not (anyAccepted w l) && isIdle (w .transfer)
 unfolding playAll anyAccepted acceptedOf
 idle-all [] w A e = refl

@@ -10,15 +10,15 @@ use Rattle.settings.specs.Settings.{goodSettings}
 use Rattle.settings.specs.declared.Settings.{Settings}
 use Rattle.transfer.specs.Transfer.{goodState, stepOf}
 use Rattle.transfer.specs.declared.State.{State}
-use Rattle.transfer.specs.declared.Taken.{Taken}
+use Rattle.transfer.specs.declared.Accepted.{Accepted}
 use Rattle.transfer.specs.declared.Step.{Step}
-use Rattle.transfer.specs.declared.Step.the-variants.{Stays, Takes}
+use Rattle.transfer.specs.declared.Step.the-variants.{Stays, Accepts}
 use Rattle.transfer.specs.declared.Answer.{Answer}
 use Rattle.transfer.specs.declared.Answer.the-variants.{BadBuffers, BadSettings, BadState}
 use Rattle.screen.specs.Screen.{screenOf}
 use Rattle.screen.specs.declared.Page.{Page}
-use Rattle.screen.specs.declared.Screened.{Screened}
-use Rattle.screen.specs.declared.Screened.the-variants.{Refused, Passed}
+use Rattle.screen.specs.declared.Screening.{Screening}
+use Rattle.screen.specs.declared.Screening.the-variants.{Refused, Passed}
 
 -- what a stored page changes: the flash and the sector map
 pub record Held : Type 0 where
@@ -42,21 +42,21 @@ pub record Outcome : Type 0 where
 -- what an arrival comes to, before anything is written
 pub data Decision : Type 0 where
   stays : Answer → Decision  -- answers 1 to 13: nothing changes
-  takes : Page → Taken → Decision  -- answers 14 and 15
+  accepts : Page → Accepted → Decision  -- answers 14 and 15
 
 -- row 1 is passed: the lengths of arrival, flash, seen map and sector map
 unfoldable pub rightLengths : ℕ → ℕ → ℕ → ℕ → Bool
 rightLengths a f m k = eqb a 512 && flashLength f && eqb m 16384 && eqb k 1024
 
--- a block that passed the screening stays unstored, by 12 or 13, or is taken with its page
+-- a block that passed the screening stays unstored, by 12 or 13, or is accepted with its page
 abbrev pub stepped : Page → Step → Decision
 stepped p (Stays x) = stays (x .answer)
-stepped p (Takes t) = takes p t
+stepped p (Accepts t) = accepts p t
 
 -- rows 12 to 15, of what the screening gives
-unfoldable pub looked : State → List ℕ → Screened → Decision
-looked t seen (Refused x) = stays x
-looked t seen (Passed p) = stepped p (stepOf t (p .head) (markedIn seen (p .number)))
+unfoldable pub afterScreening : State → List ℕ → Screening → Decision
+afterScreening t seen (Refused x) = stays x
+afterScreening t seen (Passed p) = stepped p (stepOf t (p .head) (markedIn seen (p .number)))
 
 -- rows 1 to 15, for a flash of f bytes and a sector map of k
 unfoldable pub decide : Settings → ℕ → ℕ → State → List ℕ → List ℕ → Decision
@@ -64,7 +64,7 @@ decide s f k t seen a =
     cond (not (rightLengths (length a) f (length seen) k)) (stays BadBuffers)
     (cond (not (goodSettings s f)) (stays BadSettings)
     (cond (not (goodState t)) (stays BadState)
-    (looked t seen (screenOf s f a))))
+    (afterScreening t seen (screenOf s f a))))
 
 -- ---- what is done
 
@@ -86,12 +86,12 @@ pagedAt at payload h =
     record { flash = storeAt (preparedAt (at / 4096) h) at payload; sectors = withMark (h .sectors) (at / 4096) }
 
 -- "the number marked, the count raised", of a page with its payload
-unfoldable pub tookOf : World → List ℕ → Page → Taken → World
-tookOf w payload p t =
+unfoldable pub acceptOf : World → List ℕ → Page → Accepted → World
+acceptOf w payload p t =
     record {
       transfer = t .transfer .state;
-      seen = withMark (clearedIf (t .fresh) (w .seen)) (p .number);
-      held = pagedAt (p .at) payload (wipedIf (t .fresh) (w .held));
+      seen = withMark (clearedIf (t .clears) (w .seen)) (p .number);
+      held = pagedAt (p .at) payload (wipedIf (t .clears) (w .held));
     }
 
 -- "Answers 1 to 13 change nothing, "discarded" is no."
@@ -101,7 +101,7 @@ unchanged w x = record { world = w; answer = x; discarded = false }
 -- "Answers 1 to 13 change nothing"; for 14 and 15 the page is stored
 unfoldable pub done : World → List ℕ → Decision → Outcome
 done w payload (stays x) = unchanged w x
-done w payload (takes p t) = record { world = tookOf w payload p t; answer = t .answer; discarded = t .discarded }
+done w payload (accepts p t) = record { world = acceptOf w payload p t; answer = t .answer; discarded = t .discarded }
 
 -- one arrival
 unfoldable pub receiveOf : Settings → World → List ℕ → Outcome

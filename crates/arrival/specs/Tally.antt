@@ -16,7 +16,7 @@ use Rattle.transfer.specs.declared.State.{State}
 use Rattle.transfer.specs.declared.State.the-variants.{Idle, Running, Done}
 use Rattle.transfer.specs.declared.Answer.{Answer}
 use Rattle.arrival.specs.Arrive.{World, receiveOf}
-use Rattle.arrival.specs.Lists.{Turn, playAll}
+use Rattle.arrival.specs.Lists.{Delivery, playAll}
 
 -- a block is accepted: answer 14 or 15
 abbrev pub isAccepted : Answer → Bool
@@ -37,26 +37,26 @@ abbrev pub acceptedBy : Settings → World → List ℕ → Set → Set
 acceptedBy s w a A =
     cond (isAccepted (receiveOf s w a .answer)) (add (fieldAt a 20) (cond (clears (w .transfer) (headOf a)) none A)) A
 
--- "different numbers accepted since the last clearing", over turns, A being those before them
-unfoldable pub acceptedOf : World → List Turn → Set → Set
+-- "different numbers accepted since the last clearing", over deliveries, A being those before them
+unfoldable pub acceptedOf : World → List Delivery → Set → Set
 acceptedOf w [] A = A
 acceptedOf w (t ∷ l) A =
     acceptedOf (receiveOf (t .settings) w (t .arrival) .world) l (acceptedBy (t .settings) w (t .arrival) A)
 
 -- some block was accepted
-unfoldable pub anyAccepted : World → List Turn → Bool
+unfoldable pub anyAccepted : World → List Delivery → Bool
 anyAccepted w [] = false
 anyAccepted w (t ∷ l) =
     isAccepted (receiveOf (t .settings) w (t .arrival) .answer) || anyAccepted (receiveOf (t .settings) w (t .arrival) .world) l
 
 -- "once a block has been accepted, count (the total, when Done) = marks set = different numbers accepted since the last clearing", of
 -- which each is one that the map has room for; until then the transfer is Idle
-pub record Tallied (w : World) (l : List Turn) : Type 0 where
+pub record CountFacts (w : World) (l : List Delivery) : Type 0 where
   pub idle : (playAll w l .transfer ≡ Idle) ↔ (anyAccepted w l ≡ false)
   pub marked : anyAccepted w l ≡ true → countOf (playAll w l .transfer) ≡ marks (playAll w l .seen)
   pub different : anyAccepted w l ≡ true → countOf (playAll w l .transfer) ≡ size 131072 (acceptedOf w l none)
   pub room : anyAccepted w l ≡ true → (k : ℕ) → acceptedOf w l none k ≡ true → k < 131072
 
--- over any turns, from Idle
+-- over any deliveries, from Idle
 unfoldable pub Count-is-marks : Type 0
-Count-is-marks = (w : World) → w .transfer ≡ Idle → (l : List Turn) → Tallied w l
+Count-is-marks = (w : World) → w .transfer ≡ Idle → (l : List Delivery) → CountFacts w l

@@ -1,11 +1,12 @@
 -- The laws of a block's fields, and each case of its header. Assumes nothing.
-use mathlib.Core.Path.{_≡_, refl, _∙_}
+use mathlib.Core.Path.{_≡_, refl, sym, ap, _∙_}
+use mathlib.Core.Bool.{Bool, true, false, not, cond, _&&_}
 use mathlib.Core.Logic.{_⊎_, inl, inr, ⊎-elim}
 use mathlib.Core.List.{List}
 use Prim.Native.Nat.{ℕ, _+_, _*_, _/_, _%_, _<_, _≤_}
 use native.Mathlib.Nat.{add-mul-div-left, add-mul-mod-self-left}
 use native.Mathlib.Omega.{arith}
-use lib.Dec.{leb}
+use lib.Dec.{leb, eqb}
 use lib.ListN.{length, getD, set, length-set}
 use lib.Seq.{getD-set-same, getD-set-other}
 use borrow.Author.Tests.{le-leb, lt-leb, leb-true, leb-false, eq-eqb, ne-eqb}
@@ -13,8 +14,9 @@ use Rattle.sets.proofs.Tests.{split}
 use Rattle.sets.specs.Bytes.{numberIn}
 use Rattle.sets.proofs.BytesLaws.{number-four}
 use Rattle.block.specs.declared.Block.{Block}
+use Rattle.block.specs.declared.Header.{Header}
 use Rattle.block.specs.declared.Header.the-variants.{NotBlock, Container, Comment, NoFamily, Found}
-use Rattle.block.specs.Block.{fieldAt, fieldsOf, flaggedOf, headerOf}
+use Rattle.block.specs.Block.{fieldAt, fieldsOf, hasFlag, flaggedOf, isBlock, headerOf, headerNumber}
 
 -- ---- one field, at any offset
 
@@ -71,6 +73,30 @@ module _ (a : List ℕ) where
       pub header-flagged : fieldAt a 508 ≡ 0x0AB16F30 → headerOf a ≡ flaggedOf a
       unfolding headerOf
       header-flagged r = rw (eq-eqb (fieldAt a 0) 0x0A324655 p, eq-eqb (fieldAt a 4) 0x9E5D5157 q, eq-eqb (fieldAt a 508) 0x0AB16F30 r) refl
+
+-- ---- row 4 alone
+
+-- the three tests in a row, over the header that follows them
+tests : (p q r : Bool) (h : Header) → cond (not p) NotBlock (cond (not q) NotBlock (cond (not r) NotBlock h)) ≡ cond (p && q && r) h NotBlock
+tests true true true h = refl
+tests true true false h = refl
+tests true false r h = refl
+tests false q r h = refl
+
+pub header-is-block : (a : List ℕ) → headerOf a ≡ cond (isBlock a) (flaggedOf a) NotBlock
+unfolding headerOf isBlock
+header-is-block a = tests (eqb (fieldAt a 0) 0x0A324655) (eqb (fieldAt a 4) 0x9E5D5157) (eqb (fieldAt a 508) 0x0AB16F30) (flaggedOf a)
+
+flags-other : (p q r : Bool) (f : Block) → headerNumber (cond p Container (cond q Comment (cond (not r) NoFamily (Found f)))) ≡ 4 → ⊥
+flags-other true q r f e = omega arith
+flags-other false true r f e = omega arith
+flags-other false false true f e = omega arith
+flags-other false false false f e = omega arith
+
+-- the flags give no answer 4
+pub flagged-other : (a : List ℕ) → flaggedOf a ≡ NotBlock → ⊥
+unfolding flaggedOf
+flagged-other a e = flags-other (hasFlag a 0x1000) (hasFlag a 0x1) (hasFlag a 0x2000) (fieldsOf a) (ap headerNumber e)
 
 -- ---- "Flags 0x4000 and 0x8000 don't change an answer"
 

@@ -1,6 +1,6 @@
 -- A UF2 block (01, "A UF2 block"): its fields, and what its header says. Assumes nothing.
 use Prim.Native.Nat.{ℕ, _+_, _/_, _%_}
-use mathlib.Core.Bool.{Bool, not, cond}
+use mathlib.Core.Bool.{Bool, not, cond, _&&_}
 use mathlib.Core.List.{List}
 use lib.ListN.{length}
 use lib.Dec.{eqb, leb}
@@ -35,6 +35,10 @@ flaggedOf a =
     (cond (hasFlag a 0x1) Comment
     (cond (not (hasFlag a 0x2000)) NoFamily
     (Found (fieldsOf a))))
+
+-- row 4 alone, for those who ask no later row: "0 magic 0x0A324655, 4 magic 0x9E5D5157, .. 508 magic 0x0AB16F30"
+unfoldable pub isBlock : List ℕ → Bool
+isBlock a = eqb (fieldAt a 0) 0x0A324655 && eqb (fieldAt a 4) 0x9E5D5157 && eqb (fieldAt a 508) 0x0AB16F30
 
 -- "Read the header first; if that yields no block, no other field counts": "0 magic 0x0A324655, 4 magic 0x9E5D5157, .. 508 magic 0x0AB16F30"
 unfoldable pub headerOf : List ℕ → Header

@@ -1,7 +1,7 @@
 // A UF2 block: its little-endian fields, and the answer of its header.
 ghost use mathlib.Core.Path.{_≡_};
 ghost use Prim.Native.Nat.{_+_, _*_};
-ghost use Rattle.block.specs.Block.{fieldAt, fieldsOf, flaggedOf, headerOf, headerNumber};
+ghost use Rattle.block.specs.Block.{fieldAt, fieldsOf, flaggedOf, isBlock, headerOf, headerNumber};
 
 // The fields of a block that a header leaves to the checks after it.
 pub struct Block {
@@ -35,6 +35,10 @@ impl Block {
     pub const FLAG_CONTAINER: u32 = 0x1000;
 
     pub const FLAG_FAMILY: u32 = 0x2000;
+
+    pub const FLAG_MD5: u32 = 0x4000;
+
+    pub const FLAG_TAGS: u32 = 0x8000;
 }
 
 // The number of four bytes, the lowest first.
@@ -55,6 +59,15 @@ pub fn field(bytes: &[u8], at: usize) -> u32
         return 0;
     }
     joined(bytes[at], bytes[at + 1], bytes[at + 2], bytes[at + 3])
+}
+
+// Are all three magic numbers right?
+pub fn is_block(arrival: &[u8]) -> bool
+    ensures { λ r. ⌜ r ≡ isBlock (now (arrival .entry)) ⌝ }
+{
+    (field(arrival, 0) == Block::MAGIC_FIRST)
+        & (field(arrival, 4) == Block::MAGIC_SECOND)
+        & (field(arrival, 508) == Block::MAGIC_LAST)
 }
 
 // The fields of a block.

@@ -38,7 +38,7 @@ use Rattle.layout.specs.Layout.{byteAt}
 use Rattle.capi.specs.HexCalls.{lineBytes}
 use Rattle.capi.proofs.HexLaws.{line-next}
 use Rattle.calls.specs.HexTurns.{Lent, call, leftBy, callAll, returnsOf, heldOf, Calls-are-lines}
-use Rattle.calls.proofs.Turns.{number-low}
+use Rattle.calls.proofs.CallLists.{number-low}
 
 -- ---- by cases of a test
 

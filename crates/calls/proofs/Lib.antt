@@ -1,4 +1,4 @@
 -- The proofs of the claims.
-pub mod Turns
+pub mod CallLists
 pub mod HexTurns
 pub mod Unused

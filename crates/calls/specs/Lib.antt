@@ -1,3 +1,3 @@
-pub mod Turns
+pub mod CallLists
 pub mod HexTurns
 pub mod Unused

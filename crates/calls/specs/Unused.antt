@@ -4,7 +4,7 @@ use mathlib.Core.Path.{_≡_}
 use mathlib.Core.List.{List}
 use lib.ListN.{length, take}
 use Rattle.layout.specs.Layout.{countFrom, usedOf, settingsFrom}
-use Rattle.capi.specs.Calls.{askBytes, receiveBytes, receiveMany}
+use Rattle.capi.specs.Calls.{askBytes, receiveBytes, receiveBatch}
 
 -- how many bytes of settings are read: the first 6, and 33 for each used entry
 abbrev pub usedBytes : List ℕ → ℕ
@@ -23,7 +23,7 @@ Unused-change-nothing = (b c : List ℕ) → Alike b c → settingsFrom b ≡ se
 pub record Same-calls (b c : List ℕ) : Type 0 where
   pub ask : (len f : ℕ) (l : List ℕ) → askBytes b len f l ≡ askBytes c len f l
   pub receive : (t a f m k : List ℕ) → receiveBytes b t a f m k ≡ receiveBytes c t a f m k
-  pub receive-all : (t a r f m k : List ℕ) → receiveMany b t a r f m k ≡ receiveMany c t a r f m k
+  pub receive-all : (t a r f m k : List ℕ) → receiveBatch b t a r f m k ≡ receiveBatch c t a r f m k
 
 -- so they change no call
 unfoldable pub Unused-change-no-call : Type 0

@@ -14,16 +14,16 @@ use Rattle.transfer.specs.declared.Transfer.{Transfer}
 use Rattle.transfer.specs.declared.Answer.{Answer}
 use Rattle.transfer.specs.declared.Answer.the-variants.{BadBuffers, BadSettings, BadState, NotBlock, Container, Comment, NoFamily, NoPlace, BadPayload, BadNumbers, BadAddress, Finished, Again, Written, Completed}
 use Rattle.transfer.specs.Transfer.{numberOf}
-use Rattle.place.specs.declared.Asked.{Asked}
-use Rattle.place.specs.declared.Asked.the-variants as asked
-use Rattle.place.specs.Place.{askOf, askedNumber}
-use Rattle.place.proofs.Asked.{the-type}
+use Rattle.place.specs.declared.PlaceAnswer.{PlaceAnswer}
+use Rattle.place.specs.declared.PlaceAnswer.the-variants as asked
+use Rattle.place.specs.Place.{askOf, placeAnswerNumber}
+use Rattle.place.proofs.PlaceAnswer.{the-type}
 use Rattle.arrival.specs.Arrive.{receiveOf}
-use Rattle.receiver.specs.declared.Received.{Received}
+use Rattle.receiver.specs.declared.Receipt.{Receipt}
 use Rattle.receiver.specs.Receiver.{world, outcome}
 use Rattle.layout.specs.Bytes.{le32}
 use Rattle.layout.specs.Layout.{settingsFrom, transferFrom}
-use Rattle.capi.specs.Calls.{Told, told, toldOf, askBytes, ran, resultOf, isTaken, kept, ranOf, receiveBytes}
+use Rattle.capi.specs.Calls.{PlaceCall, placeCall, placeCallOf, askBytes, arrivalCall, resultOf, isAcceptance, keptTransfer, arrivalCallOf, receiveBytes}
 
 -- the numbers leave room for 128 more in a byte
 pub number-most : (a : Answer) → numberOf a ≤ 15
@@ -46,34 +46,34 @@ number-most Completed = omega arith
 -- ---- a place asked for alone
 
 -- the answer is none but a refusal, by its tag
-pub refused-told : (l : List ℕ) (x : Asked) {n : ℕ} → OneOf (0 ∷ 1 ∷ 2 ∷ []) (tagOf the-type x) → n ≡ askedNumber x → told n l ≡ toldOf l x
-refused-told l asked.BadBuffers h e = ap (λ (n : ℕ). told n l) e
-refused-told l asked.BadSettings h e = ap (λ (n : ℕ). told n l) e
-refused-told l asked.NoPlace h e = ap (λ (n : ℕ). told n l) e
+pub refused-told : (l : List ℕ) (x : PlaceAnswer) {n : ℕ} → OneOf (0 ∷ 1 ∷ 2 ∷ []) (tagOf the-type x) → n ≡ placeAnswerNumber x → placeCall n l ≡ placeCallOf l x
+refused-told l asked.BadBuffers h e = ap (λ (n : ℕ). placeCall n l) e
+refused-told l asked.BadSettings h e = ap (λ (n : ℕ). placeCall n l) e
+refused-told l asked.NoPlace h e = ap (λ (n : ℕ). placeCall n l) e
 refused-told l (asked.Found a n) h e = absurd (⊎-elim (λ x. omega arith) (⊎-elim (λ x. omega arith) (λ x. omega arith)) h)
 
-pub found-told : (l b : List ℕ) (x : Asked) {n start len : ℕ} → x ≡ asked.Found start len → n ≡ askedNumber x → b ≡ le32 start ++ le32 len → told n b ≡ toldOf l x
+pub found-told : (l b : List ℕ) (x : PlaceAnswer) {n start len : ℕ} → x ≡ asked.Found start len → n ≡ placeAnswerNumber x → b ≡ le32 start ++ le32 len → placeCall n b ≡ placeCallOf l x
 found-told l b x q e h = rw (e, h, q)
 
 -- its refusals are answers to an arrival too, with the same numbers
-pub asked-numbers : (askedNumber asked.BadBuffers ≡ numberOf BadBuffers) × (askedNumber asked.BadSettings ≡ numberOf BadSettings) × (askedNumber asked.NoPlace ≡ numberOf NoPlace)
+pub asked-numbers : (placeAnswerNumber asked.BadBuffers ≡ numberOf BadBuffers) × (placeAnswerNumber asked.BadSettings ≡ numberOf BadSettings) × (placeAnswerNumber asked.NoPlace ≡ numberOf NoPlace)
 asked-numbers = (refl, refl, refl)
 
 module _ (s : List ℕ) (len f : ℕ) (l : List ℕ) where
-  pub ask-short : length l ≢ 8 → told 1 l ≡ askBytes s len f l
+  pub ask-short : length l ≢ 8 → placeCall 1 l ≡ askBytes s len f l
   unfolding askBytes
   ask-short h = simp (ne-eqb (length l) 8 h)
 
-  pub ask-told : {z : Settings} {x : Asked} {o : Told} → length l ≡ 8 → z ≡ settingsFrom s → x ≡ askOf z len f → o ≡ toldOf l x → o ≡ askBytes s len f l
+  pub ask-told : {z : Settings} {x : PlaceAnswer} {o : PlaceCall} → length l ≡ 8 → z ≡ settingsFrom s → x ≡ askOf z len f → o ≡ placeCallOf l x → o ≡ askBytes s len f l
   unfolding askBytes
-  ask-told n hz hx ho = simp (eq-eqb (length l) 8 n) (ho ∙ ap (toldOf l) (hx ∙ ap (λ (z : Settings). askOf z len f) hz))
+  ask-told n hz hx ho = simp (eq-eqb (length l) 8 n) (ho ∙ ap (placeCallOf l) (hx ∙ ap (λ (z : Settings). askOf z len f) hz))
 
 module _ (s t a f m k : List ℕ) where
-  pub receive-ran : {z : Settings} {u : Transfer} {r : Received} {g n j v : List ℕ} {x y : ℕ} {b : Bool} → z ≡ settingsFrom s → u ≡ transferFrom t → outcome r g n j ≡ receiveOf z (world u f m k) a → x ≡ numberOf (r .answer) → b ≡ isTaken x → v ≡ kept t b (r .transfer .state) → y ≡ resultOf x (r .discarded) → ran y v g n j ≡ receiveBytes s t a f m k
+  pub receive-ran : {z : Settings} {u : Transfer} {r : Receipt} {g n j v : List ℕ} {x y : ℕ} {b : Bool} → z ≡ settingsFrom s → u ≡ transferFrom t → outcome r g n j ≡ receiveOf z (world u f m k) a → x ≡ numberOf (r .answer) → b ≡ isAcceptance x → v ≡ keptTransfer t b (r .transfer .state) → y ≡ resultOf x (r .discarded) → arrivalCall y v g n j ≡ receiveBytes s t a f m k
   unfolding receiveBytes
   receive-ran {u = u} hz hu ho hx hb hv hy =
       let p =
       ho
       ∙ ap (λ (z : Settings). receiveOf z (world u f m k) a) hz
       ∙ ap (λ (u : Transfer). receiveOf (settingsFrom s) (world u f m k) a) hu in
-      rw (hy, hv, hb, hx) (ap (ranOf t) p)
+      rw (hy, hv, hb, hx) (ap (arrivalCallOf t) p)

@@ -1,5 +1,5 @@
 -- The laws of `specs/`.
 pub mod Places
 pub mod Laws
-pub mod Many
+pub mod Batch
 pub mod HexLaws

@@ -16,7 +16,7 @@ use Rattle.settings.specs.declared.Settings.{Settings}
 use Rattle.settings.specs.Settings.{goodSettings}
 use Rattle.place.specs.declared.Place.{Place}
 use Rattle.place.specs.declared.Place.the-variants.{Nowhere, At}
-use Rattle.place.specs.declared.Asked.{Asked}
+use Rattle.place.specs.declared.PlaceAnswer.{PlaceAnswer}
 use Rattle.place.specs.Place.{foundAt, placeOf, askOf}
 use Rattle.place.proofs.Laws.{ask-length, ask-settings, ask-place}
 use Rattle.place.proofs.Theorems.{place-inside}
@@ -34,7 +34,7 @@ module _ (s : Settings) (len f : ℕ) where
       let most = length-right len right .most in
       (omega arith, omega arith)
 
-  pub ask-low : {x : Asked} → x ≡ askOf s len f → Low x
+  pub ask-low : {x : PlaceAnswer} → x ≡ askOf s len f → Low x
   ask-low e =
       subst Low (sym e)
       (split (flashLength len)

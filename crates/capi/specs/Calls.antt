@@ -4,9 +4,9 @@ use mathlib.Core.Bool.{Bool, false, _||_, cond}
 use mathlib.Core.List.{List, [], _∷_, _++_}
 use lib.Dec.{leb, eqb}
 use lib.ListN.{length, take, drop, set}
-use Rattle.place.specs.Place.{askOf, askedNumber}
-use Rattle.place.specs.declared.Asked.{Asked}
-use Rattle.place.specs.declared.Asked.the-variants.{BadBuffers, BadSettings, NoPlace, Found}
+use Rattle.place.specs.Place.{askOf, placeAnswerNumber}
+use Rattle.place.specs.declared.PlaceAnswer.{PlaceAnswer}
+use Rattle.place.specs.declared.PlaceAnswer.the-variants.{BadBuffers, BadSettings, NoPlace, Found}
 use Rattle.transfer.specs.Transfer.{numberOf}
 use Rattle.transfer.specs.declared.Answer.{Answer}
 use Rattle.transfer.specs.declared.State.{State}
@@ -15,45 +15,45 @@ use Rattle.arrival.specs.Arrive.{World, Outcome, receiveOf}
 use Rattle.arrival.specs.Lists.{receiveAll, answersOf, discardsOf}
 use Rattle.receiver.specs.Receiver.{world}
 use Rattle.layout.specs.Bytes.{le32}
-use Rattle.layout.specs.Layout.{settingsFrom, transferFrom, written}
+use Rattle.layout.specs.Layout.{settingsFrom, transferFrom, withTransfer}
 
 -- ---- a place asked for alone
 
 -- what is returned, and what the 8 bytes of `place` hold
-pub record Told : Type 0 where
+pub record PlaceCall : Type 0 where
   pub result : ℕ
   pub place : List ℕ
 
 -- both as one value, which the contract names
-abbrev pub told : ℕ → List ℕ → Told
-told n l = record { result = n; place = l }
+abbrev pub placeCall : ℕ → List ℕ → PlaceCall
+placeCall n l = record { result = n; place = l }
 
 -- start and length of a place, written over `place`; a refusal leaves it (proofs/Places.antt: the two are read back from it)
-abbrev pub placeBytes : List ℕ → Asked → List ℕ
+abbrev pub placeBytes : List ℕ → PlaceAnswer → List ℕ
 placeBytes l BadBuffers = l
 placeBytes l BadSettings = l
 placeBytes l NoPlace = l
 placeBytes l (Found a n) = le32 a ++ le32 n
 
 -- the refusal's number, and 0 for a place that is found
-abbrev pub toldOf : List ℕ → Asked → Told
-toldOf l x = told (askedNumber x) (placeBytes l x)
+abbrev pub placeCallOf : List ℕ → PlaceAnswer → PlaceCall
+placeCallOf l x = placeCall (placeAnswerNumber x) (placeBytes l x)
 
 -- start and length fit 32 bits, as those of every place that is found do (proofs/Places.antt)
-abbrev pub Low : Asked → Type 0
+abbrev pub Low : PlaceAnswer → Type 0
 Low BadBuffers = Unit
 Low BadSettings = Unit
 Low NoPlace = Unit
 Low (Found a n) = (a < 2 ^ 32) × (n < 2 ^ 32)
 
 -- 1 too where `place` has not 8 bytes
-unfoldable pub askBytes : List ℕ → ℕ → ℕ → List ℕ → Told
-askBytes s len f l = cond (eqb (length l) 8) (toldOf l (askOf (settingsFrom s) len f)) (told 1 l)
+unfoldable pub askBytes : List ℕ → ℕ → ℕ → List ℕ → PlaceCall
+askBytes s len f l = cond (eqb (length l) 8) (placeCallOf l (askOf (settingsFrom s) len f)) (placeCall 1 l)
 
 -- ---- one arrival
 
 -- what is returned, and what the lent buffers hold
-pub record Ran : Type 0 where
+pub record ArrivalCall : Type 0 where
   pub result : ℕ
   pub transfer : List ℕ
   pub flash : List ℕ
@@ -61,33 +61,33 @@ pub record Ran : Type 0 where
   pub sectors : List ℕ
 
 -- all of them as one value, which the contract names
-abbrev pub ran : ℕ → List ℕ → List ℕ → List ℕ → List ℕ → Ran
-ran n t f m k = record { result = n; transfer = t; flash = f; seen = m; sectors = k }
+abbrev pub arrivalCall : ℕ → List ℕ → List ℕ → List ℕ → List ℕ → ArrivalCall
+arrivalCall n t f m k = record { result = n; transfer = t; flash = f; seen = m; sectors = k }
 
 -- the answer's number, and 128 more where a running transfer was discarded
 abbrev pub resultOf : ℕ → Bool → ℕ
 resultOf n discarded = cond discarded (n + 128) n
 
 -- answers 14 and 15 take the block
-abbrev pub isTaken : ℕ → Bool
-isTaken n = leb 14 n
+abbrev pub isAcceptance : ℕ → Bool
+isAcceptance n = leb 14 n
 
--- the bytes of the next transfer where a block was taken; answers 1 to 13 leave them as they were lent
-abbrev pub kept : List ℕ → Bool → State → List ℕ
-kept t taken next = cond taken (written t next) t
+-- the bytes of the next transfer where a block was accepted; answers 1 to 13 leave them as they were lent
+abbrev pub keptTransfer : List ℕ → Bool → State → List ℕ
+keptTransfer t accepted next = cond accepted (withTransfer t next) t
 
 -- what a call returns and leaves of an arrival that comes to o; t is the transfer's bytes as they were lent
-abbrev pub ranOf : List ℕ → Outcome → Ran
-ranOf t o =
-    ran (resultOf (numberOf (o .answer)) (o .discarded))
-    (kept t (isTaken (numberOf (o .answer))) (o .world .transfer))
+abbrev pub arrivalCallOf : List ℕ → Outcome → ArrivalCall
+arrivalCallOf t o =
+    arrivalCall (resultOf (numberOf (o .answer)) (o .discarded))
+    (keptTransfer t (isAcceptance (numberOf (o .answer))) (o .world .transfer))
     (o .world .held .flash)
     (o .world .seen)
     (o .world .held .sectors)
 
 -- bytes of settings and transfer, arrival, flash, seen map and sector map
-unfoldable pub receiveBytes : List ℕ → List ℕ → List ℕ → List ℕ → List ℕ → List ℕ → Ran
-receiveBytes s t a f m k = ranOf t (receiveOf (settingsFrom s) (world (transferFrom t) f m k) a)
+unfoldable pub receiveBytes : List ℕ → List ℕ → List ℕ → List ℕ → List ℕ → List ℕ → ArrivalCall
+receiveBytes s t a f m k = arrivalCallOf t (receiveOf (settingsFrom s) (world (transferFrom t) f m k) a)
 
 -- ---- arrivals one after the other
 
@@ -102,18 +102,18 @@ resultsOf (x ∷ l) (d ∷ m) = resultOf (numberOf x) d ∷ resultsOf l m
 resultsOf [] m = []
 resultsOf (x ∷ l) [] = []
 
--- a block was taken
-unfoldable pub anyTaken : List Answer → Bool
-anyTaken [] = false
-anyTaken (x ∷ l) = isTaken (numberOf x) || anyTaken l
+-- a block was accepted
+unfoldable pub anyAcceptance : List Answer → Bool
+anyAcceptance [] = false
+anyAcceptance (x ∷ l) = isAcceptance (numberOf x) || anyAcceptance l
 
 -- numbers written over a list from index i on
-unfoldable pub laid : List ℕ → ℕ → List ℕ → List ℕ
-laid l i [] = l
-laid l i (x ∷ xs) = laid (set l i x) (i + 1) xs
+unfoldable pub storedFrom : List ℕ → ℕ → List ℕ → List ℕ
+storedFrom l i [] = l
+storedFrom l i (x ∷ xs) = storedFrom (set l i x) (i + 1) xs
 
 -- how many were received, and what the lent buffers hold
-pub record Many : Type 0 where
+pub record BatchCall : Type 0 where
   pub number : ℕ
   pub transfer : List ℕ
   pub results : List ℕ
@@ -122,15 +122,15 @@ pub record Many : Type 0 where
   pub sectors : List ℕ
 
 -- all of them as one value, which the contract names
-abbrev pub many : ℕ → List ℕ → List ℕ → List ℕ → List ℕ → List ℕ → Many
-many n t r f m k = record { number = n; transfer = t; results = r; flash = f; seen = m; sectors = k }
+abbrev pub batchCall : ℕ → List ℕ → List ℕ → List ℕ → List ℕ → List ℕ → BatchCall
+batchCall n t r f m k = record { number = n; transfer = t; results = r; flash = f; seen = m; sectors = k }
 
--- of n arrivals, those of l are left: what stands then in transfer t, a block taken or not, and in results from index i on
-unfoldable pub manyFrom : ℕ → Settings → List ℕ → World → Bool → List ℕ → ℕ → List (List ℕ) → Many
-manyFrom n s t w taken r i l =
-    many n
-    (kept t (taken || anyTaken (answersOf s w l)) (receiveAll s w l .transfer))
-    (laid r i (resultsOf (answersOf s w l) (discardsOf s w l)))
+-- of n arrivals, those of l are left: what stands then in transfer t, a block accepted or not, and in results from index i on
+unfoldable pub batchFrom : ℕ → Settings → List ℕ → World → Bool → List ℕ → ℕ → List (List ℕ) → BatchCall
+batchFrom n s t w accepted r i l =
+    batchCall n
+    (keptTransfer t (accepted || anyAcceptance (answersOf s w l)) (receiveAll s w l .transfer))
+    (storedFrom r i (resultsOf (answersOf s w l) (discardsOf s w l)))
     (receiveAll s w l .held .flash)
     (receiveAll s w l .seen)
     (receiveAll s w l .held .sectors)
@@ -140,7 +140,7 @@ abbrev pub fewer : ℕ → ℕ → ℕ
 fewer a b = cond (leb a b) a b
 
 -- bytes of settings and transfer, arrivals, results, flash, seen map and sector map
-unfoldable pub receiveMany : List ℕ → List ℕ → List ℕ → List ℕ → List ℕ → List ℕ → List ℕ → Many
-receiveMany s t a r f m k =
+unfoldable pub receiveBatch : List ℕ → List ℕ → List ℕ → List ℕ → List ℕ → List ℕ → List ℕ → BatchCall
+receiveBatch s t a r f m k =
     let n = fewer (length a / 512) (length r) in
-    manyFrom n (settingsFrom s) t (world (transferFrom t) f m k) false r 0 (arrivalsOf n a)
+    batchFrom n (settingsFrom s) t (world (transferFrom t) f m k) false r 0 (arrivalsOf n a)

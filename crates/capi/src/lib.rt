@@ -3,23 +3,23 @@ ghost use mathlib.Core.Path.{_≡_};
 ghost use Prim.Native.Nat.{_≤_};
 ghost use lib.ListN.{length};
 ghost use Rattle.transfer.specs.Transfer.{fresh};
-ghost use Rattle.layout.specs.Layout.{written};
+ghost use Rattle.layout.specs.Layout.{withTransfer};
 ghost use Rattle.capi.specs.Calls.{
   Low,
-  told,
-  toldOf,
+  placeCall,
+  placeCallOf,
   askBytes,
-  ran,
+  arrivalCall,
   resultOf,
-  isTaken,
-  kept,
+  isAcceptance,
+  keptTransfer,
   receiveBytes,
   fewer,
-  many,
-  receiveMany,
+  batchCall,
+  receiveBatch,
 };
 use block::Block;
-use place::Asked;
+use place::PlaceAnswer;
 use transfer::Transfer;
 
 mod hex;
@@ -30,19 +30,19 @@ const PLACE: usize = 8;
 // A fresh transfer, where there are bytes for it.
 #[no_mangle]
 pub extern "C" fn uf2_new(transfer: &mut [u8])
-    ensures { λ _. ⌜ now (transfer .exit) ≡ written (now (transfer .entry)) (fresh .state) ⌝ }
+    ensures { λ _. ⌜ now (transfer .exit) ≡ withTransfer (now (transfer .entry)) (fresh .state) ⌝ }
 {
     layout::write_transfer(transfer, Transfer::new());
 }
 
 // Writes the place that was found.
-fn tell(asked: Asked, place: &mut [u8]) -> u32
+fn tell(asked: PlaceAnswer, place: &mut [u8]) -> u32
     requires { ⌜ length (now place) ≡ 8 ⌝ }
     requires low { ⌜ Low asked ⌝ }
-    ensures { λ r. ⌜ told r (now (place .exit)) ≡ toldOf (now (place .entry)) asked ⌝ }
+    ensures { λ r. ⌜ placeCall r (now (place .exit)) ≡ placeCallOf (now (place .entry)) asked ⌝ }
 {
     let n = place::number(asked) as u32;
-    let Asked::Found { start, len } = asked else {
+    let PlaceAnswer::Found { start, len } = asked else {
         return n;
     };
     layout::put(place, 0, start as u32);
@@ -53,7 +53,7 @@ fn tell(asked: Asked, place: &mut [u8]) -> u32
 // A place asked for alone: 0 and its start and length in `place`, or 1, 2 or 8.
 #[no_mangle]
 pub extern "C" fn uf2_ask(settings: &[u8], flash_len: usize, family: u32, place: &mut [u8]) -> u32
-    ensures { λ r. ⌜ told r (now (place .exit)) ≡ askBytes (now (settings .entry)) «flash_len» family (now (place .entry)) ⌝ }
+    ensures { λ r. ⌜ placeCall r (now (place .exit)) ≡ askBytes (now (settings .entry)) «flash_len» family (now (place .entry)) ⌝ }
 {
     if place.len() != PLACE {
         return 1;
@@ -62,17 +62,17 @@ pub extern "C" fn uf2_ask(settings: &[u8], flash_len: usize, family: u32, place:
     tell(place::ask(s, flash_len, family), place)
 }
 
-fn is_taken(answer: u8) -> bool
-    ensures { λ r. ⌜ r ≡ isTaken answer ⌝ }
+fn is_acceptance(answer: u8) -> bool
+    ensures { λ r. ⌜ r ≡ isAcceptance answer ⌝ }
 {
     14 <= answer
 }
 
-// The next transfer, where a block was taken.
-fn keep(transfer: &mut [u8], taken: bool, next: Transfer)
-    ensures { λ _. ⌜ now (transfer .exit) ≡ kept (now (transfer .entry)) taken (next .state) ⌝ }
+// The next transfer, where a block was accepted.
+fn keep(transfer: &mut [u8], accepted: bool, next: Transfer)
+    ensures { λ _. ⌜ now (transfer .exit) ≡ keptTransfer (now (transfer .entry)) accepted (next .state) ⌝ }
 {
-    if taken {
+    if accepted {
         layout::write_transfer(transfer, next);
     }
 }
@@ -94,7 +94,7 @@ pub extern "C" fn uf2_receive(
     seen: &mut [u8],
     sectors: &mut [u8],
 ) -> u32
-    ensures { λ r. ⌜ ran r (now (transfer .exit)) (now (flash .exit)) (now (seen .exit)) (now (sectors .exit)) ≡ receiveBytes (now (settings .entry)) (now (transfer .entry)) (now (arrival .entry)) (now (flash .entry)) (now (seen .entry)) (now (sectors .entry)) ⌝ }
+    ensures { λ r. ⌜ arrivalCall r (now (transfer .exit)) (now (flash .exit)) (now (seen .exit)) (now (sectors .exit)) ≡ receiveBytes (now (settings .entry)) (now (transfer .entry)) (now (arrival .entry)) (now (flash .entry)) (now (seen .entry)) (now (sectors .entry)) ⌝ }
 {
     let s = layout::read_settings(settings);
     let t = layout::read_transfer(transfer);
@@ -102,7 +102,7 @@ pub extern "C" fn uf2_receive(
     let answer = r.answer;
     let next = r.transfer;
     let n = answer.number();
-    keep(transfer, is_taken(n), next);
+    keep(transfer, is_acceptance(n), next);
     report(n, r.discarded) as u32
 }
 
@@ -124,11 +124,11 @@ pub extern "C" fn uf2_receive_all(
     seen: &mut [u8],
     sectors: &mut [u8],
 ) -> usize
-    ensures { λ r. ⌜ many r (now (transfer .exit)) (now (results .exit)) (now (flash .exit)) (now (seen .exit)) (now (sectors .exit)) ≡ receiveMany (now (settings .entry)) (now (transfer .entry)) (now (arrivals .entry)) (now (results .entry)) (now (flash .entry)) (now (seen .entry)) (now (sectors .entry)) ⌝ }
+    ensures { λ r. ⌜ batchCall r (now (transfer .exit)) (now (results .exit)) (now (flash .exit)) (now (seen .exit)) (now (sectors .exit)) ≡ receiveBatch (now (settings .entry)) (now (transfer .entry)) (now (arrivals .entry)) (now (results .entry)) (now (flash .entry)) (now (seen .entry)) (now (sectors .entry)) ⌝ }
 {
     let s = layout::read_settings(settings);
     let mut t = layout::read_transfer(transfer);
-    let mut taken = false;
+    let mut accepted = false;
     let n = at_most(arrivals.len() / Block::ARRIVAL, results.len());
     let mut i: usize = 0;
     while i < n {
@@ -139,10 +139,10 @@ pub extern "C" fn uf2_receive_all(
         let next = r.transfer;
         let number = answer.number();
         results[i] = report(number, r.discarded);
-        taken = taken | is_taken(number);
+        accepted = accepted | is_acceptance(number);
         t = next;
         i += 1;
     }
-    keep(transfer, taken, t);
+    keep(transfer, accepted, t);
     n
 }

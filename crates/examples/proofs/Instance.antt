@@ -9,15 +9,15 @@ use Rattle.flash.specs.Flash.{flashLength, payloadOf}
 use Rattle.block.specs.Block.{fieldAt, fieldsOf, flaggedOf, headerOf}
 use Rattle.settings.specs.Settings.{familyArmS, goodSettings}
 use Rattle.place.specs.Place.{placeOf}
-use Rattle.transfer.specs.Transfer.{goodState, counted, raised, taken, stepOf}
+use Rattle.transfer.specs.Transfer.{goodState, counted, raised, accepted, stepOf}
 use Rattle.transfer.specs.declared.State.the-variants.{Done}
 use Rattle.screen.specs.Screen.{placed, headed, screenOf}
-use Rattle.arrival.specs.Arrive.{rightLengths, looked, decide, done, receiveOf}
+use Rattle.arrival.specs.Arrive.{rightLengths, afterScreening, decide, done, receiveOf}
 use Rattle.arrival.specs.Lists.{receiveAll}
-use Rattle.arrival.specs.Demand.{ValidFile, nothing, own, other, earns, sameBytes, among, seenOf, howMany, List-ends}
+use Rattle.arrival.specs.Demand.{ValidFile, nothing, own, other, answerNumber, sameBytes, among, seenOf, howMany, List-ends}
 use Rattle.arrival.proofs.Demand.{list-ends}
-use Rattle.examples.specs.Boards.{arrivalOf, plain, armS}
-use Rattle.examples.specs.Examples.{third}
+use Rattle.examples.specs.Boards.{arrivalOf, plain, armHead}
+use Rattle.examples.specs.Examples.{blockOfThree}
 use Rattle.examples.specs.Instance.{file, start, arrivals, Hypotheses-are-met}
 
 -- what holds of 0, 1 and 2 holds below 3
@@ -27,26 +27,26 @@ three P a b c (suc zero) h = b
 three P a b c (suc (suc zero)) h = c
 three P a b c (suc (suc (suc k))) h = absurd (omega arith)
 
-address : (k : ℕ) → k < 3 → fieldAt (third k) 12 ≡ 0x10000000 + k * 256
+address : (k : ℕ) → k < 3 → fieldAt (blockOfThree k) 12 ≡ 0x10000000 + k * 256
 unfolding lowFirst numberIn fieldAt
-address = three (λ k. fieldAt (third k) 12 ≡ 0x10000000 + k * 256) refl refl refl
+address = three (λ k. fieldAt (blockOfThree k) 12 ≡ 0x10000000 + k * 256) refl refl refl
 
 -- the answers at the start
-earned : (k : ℕ) → k < 3 → earns plain start (third k) ≡ 14
-unfolding many any flashLength payloadOf lowFirst numberIn fieldAt fieldsOf flaggedOf headerOf goodSettings placeOf goodState counted raised taken stepOf placed headed screenOf rightLengths looked decide done receiveOf
-earned = three (λ k. earns plain start (third k) ≡ 14) refl refl refl
+earned : (k : ℕ) → k < 3 → answerNumber plain start (blockOfThree k) ≡ 14
+unfolding many any flashLength payloadOf lowFirst numberIn fieldAt fieldsOf flaggedOf headerOf goodSettings placeOf goodState counted raised accepted stepOf placed headed screenOf rightLengths afterScreening decide done receiveOf
+earned = three (λ k. answerNumber plain start (blockOfThree k) ≡ 14) refl refl refl
 
-beyond : earns plain start (arrivalOf 0x10010000 0 3 1) ≡ 11
-unfolding many any flashLength payloadOf lowFirst numberIn fieldAt fieldsOf flaggedOf headerOf goodSettings placeOf goodState counted raised taken stepOf placed headed screenOf rightLengths looked decide done receiveOf
+beyond : answerNumber plain start (arrivalOf 0x10010000 0 3 1) ≡ 11
+unfolding many any flashLength payloadOf lowFirst numberIn fieldAt fieldsOf flaggedOf headerOf goodSettings placeOf goodState counted raised accepted stepOf placed headed screenOf rightLengths afterScreening decide done receiveOf
 beyond = refl
 
 valid : ValidFile plain start file
 valid =
     record {
       some = omega arith;
-      numbers = unfold lowFirst numberIn fieldAt in three (λ k. fieldAt (third k) 20 ≡ k) refl refl refl;
-      families = unfold lowFirst numberIn fieldAt in three (λ k. fieldAt (third k) 28 ≡ familyArmS) refl refl refl;
-      totals = unfold lowFirst numberIn fieldAt in three (λ k. fieldAt (third k) 24 ≡ 3) refl refl refl;
+      numbers = unfold lowFirst numberIn fieldAt in three (λ k. fieldAt (blockOfThree k) 20 ≡ k) refl refl refl;
+      families = unfold lowFirst numberIn fieldAt in three (λ k. fieldAt (blockOfThree k) 28 ≡ familyArmS) refl refl refl;
+      totals = unfold lowFirst numberIn fieldAt in three (λ k. fieldAt (blockOfThree k) 24 ≡ 3) refl refl refl;
       addresses = λ i k hi hk e. omega (arith, address i hi, address k hk);
       passes = λ k h. omega (arith, earned k h);
     }
@@ -59,8 +59,8 @@ hypotheses-are-met = (
 )
 
 -- so the theorem gives its end
-pub ends-done : receiveAll plain start arrivals .transfer ≡ Done (armS 3)
-ends-done = unfold Hypotheses-are-met List-ends in list-ends plain start file refl valid arrivals (hypotheses-are-met .1) .whole whole
+pub ends-done : receiveAll plain start arrivals .transfer ≡ Done (armHead 3)
+ends-done = unfold Hypotheses-are-met List-ends in list-ends plain start file refl valid arrivals (hypotheses-are-met .1) .counts .whole whole
   where
     whole : howMany file (seenOf file arrivals) ≡ 3
     whole = unfold lowFirst size among sameBytes in refl

@@ -63,16 +63,16 @@ abbrev pub plain : Settings
 plain = armOnly true
 
 -- one partition, two sectors from sector 4
-abbrev pub fourth : Settings
-fourth = armWith 1 (entryOf 4 2 false ∷ replicate 15 (entryOf 0 0 false))
+abbrev pub partitioned : Settings
+partitioned = armWith 1 (entryOf 4 2 false ∷ replicate 15 (entryOf 0 0 false))
 
 -- entries 0 and 1, of which 0 is not bootable for Arm; so many are used
-abbrev pub pair : ℕ → Settings
-pair n = armWith n (entryOf 0 2 true ∷ entryOf 2 2 false ∷ replicate 14 (entryOf 0 0 false))
+abbrev pub twoEntries : ℕ → Settings
+twoEntries n = armWith n (entryOf 0 2 true ∷ entryOf 2 2 false ∷ replicate 14 (entryOf 0 0 false))
 
 -- the head of a transfer of arm-s
-abbrev pub armS : ℕ → Head
-armS total = record { family = familyArmS; total = total }
+abbrev pub armHead : ℕ → Head
+armHead total = record { family = familyArmS; total = total }
 
 -- a flash of 65,536 bytes, all 7, and maps of any content
 abbrev pub lentTo : State → World

@@ -16,7 +16,7 @@ use Rattle.transfer.specs.Transfer.{numberOf, running}
 use Rattle.transfer.specs.declared.State.{State}
 use Rattle.transfer.specs.declared.State.the-variants.{Idle, Done}
 use Rattle.arrival.specs.Lists.{receiveAll, answersOf, discardsOf}
-use Rattle.examples.specs.Boards.{arrivalOf, plain, fourth, pair, armS, lentTo}
+use Rattle.examples.specs.Boards.{arrivalOf, plain, partitioned, twoEntries, armHead, lentTo}
 
 -- what is asked: a list of arrivals from a transfer, or the place of arm-s
 pub data Question : Type 0 where
@@ -36,12 +36,12 @@ found (placing s) = placed (chosenEntry s familyArmS) (placeOf s 65536 familyArm
 
 -- a question with what 01 wants of it
 pub record Example : Type 0 where
-  pub asked : Question
-  pub wanted : Result
+  pub question : Question
+  pub expected : Result
 
 -- a row of the table
 abbrev case : Question → Result → Example
-case q r = record { asked = q; wanted = r }
+case q r = record { question = q; expected = r }
 
 -- one arrival to an Idle transfer
 abbrev one : Settings → List ℕ → ℕ → State → List ℕ → Example
@@ -57,39 +57,39 @@ page before i v after =
     replicate before 7 ++ (replicate (i * 256) 255 ++ (replicate 256 v ++ (replicate ((15 - i) * 256) 255 ++ replicate after 7)))
 
 -- arrival k of a file of three
-abbrev pub third : ℕ → List ℕ
-third k = arrivalOf (0x10000000 + k * 256) k 3 k
+abbrev pub blockOfThree : ℕ → List ℕ
+blockOfThree k = arrivalOf (0x10000000 + k * 256) k 3 k
 
 -- 01's rows that are marked P, in its order
 unfoldable pub examples : List Example
 examples =
     -- "flash 65,536, no table, Arm, arm-s: total 256 passes, 257 gives 10;"
-    one plain (arrivalOf 0x10000000 0 256 1) 14 (running (armS 256) 1) (page 0 0 1 61440)
+    one plain (arrivalOf 0x10000000 0 256 1) 14 (running (armHead 256) 1) (page 0 0 1 61440)
     ∷ one plain (arrivalOf 0x10000000 0 257 1) 10 Idle lent
     -- "address 0x1000FF00 passes, 0x10010000 gives 11; number = total gives 10."
-    ∷ one plain (arrivalOf 0x1000FF00 0 256 1) 14 (running (armS 256) 1) (page 61440 15 1 0)
+    ∷ one plain (arrivalOf 0x1000FF00 0 256 1) 14 (running (armHead 256) 1) (page 61440 15 1 0)
     ∷ one plain (arrivalOf 0x10010000 0 256 1) 11 Idle lent
     ∷ one plain (arrivalOf 0x10000000 3 3 1) 10 Idle lent
     -- "place from sector 4, two sectors: 0x10000100 is stored at 16,640;"
-    ∷ one fourth (arrivalOf 0x10000100 0 3 1) 14 (running (armS 3) 1) (page 16384 1 1 45056)
+    ∷ one partitioned (arrivalOf 0x10000100 0 3 1) 14 (running (armHead 3) 1) (page 16384 1 1 45056)
     -- "0x10001F00 passes, 0x10002000 gives 11; total 33 gives 10."
-    ∷ one fourth (arrivalOf 0x10001F00 0 32 1) 14 (running (armS 32) 1) (page 20480 15 1 40960)
-    ∷ one fourth (arrivalOf 0x10002000 0 32 1) 11 Idle lent
-    ∷ one fourth (arrivalOf 0x10000000 0 33 1) 10 Idle lent
+    ∷ one partitioned (arrivalOf 0x10001F00 0 32 1) 14 (running (armHead 32) 1) (page 20480 15 1 40960)
+    ∷ one partitioned (arrivalOf 0x10002000 0 32 1) 11 Idle lent
+    ∷ one partitioned (arrivalOf 0x10000000 0 33 1) 10 Idle lent
     -- "n = 3, arrivals 2, 0, 2, 1, 0: answers 14, 14, 13, 15, 12."
-    ∷ case (arriving plain Idle (third 2 ∷ third 0 ∷ third 2 ∷ third 1 ∷ third 0 ∷ []))
-    (ran (14 ∷ 14 ∷ 13 ∷ 15 ∷ 12 ∷ []) (replicate 5 false) (Done (armS 3))
+    ∷ case (arriving plain Idle (blockOfThree 2 ∷ blockOfThree 0 ∷ blockOfThree 2 ∷ blockOfThree 1 ∷ blockOfThree 0 ∷ []))
+    (ran (14 ∷ 14 ∷ 13 ∷ 15 ∷ 12 ∷ []) (replicate 5 false) (Done (armHead 3))
     (replicate 256 0 ++ (replicate 256 1 ++ (replicate 256 2 ++ (replicate 3328 255 ++ replicate 61440 7)))))
     -- "total 1: 15 at once, 3,840 bytes of 0xFF beside the payload."
-    ∷ one plain (arrivalOf 0x10000000 0 1 3) 15 (Done (armS 1)) (replicate 256 3 ++ (replicate 3840 255 ++ replicate 61440 7))
+    ∷ one plain (arrivalOf 0x10000000 0 1 3) 15 (Done (armHead 1)) (replicate 256 3 ++ (replicate 3840 255 ++ replicate 61440 7))
     -- "Running with total 3, same family with total 4: 14, discarded, count 1."
-    ∷ case (arriving plain (running (armS 3) 2) (arrivalOf 0x10000000 0 4 1 ∷ []))
-    (ran (14 ∷ []) (true ∷ []) (running (armS 4) 1) (page 0 0 1 61440))
+    ∷ case (arriving plain (running (armHead 3) 2) (arrivalOf 0x10000000 0 4 1 ∷ []))
+    (ran (14 ∷ []) (true ∷ []) (running (armHead 4) 1) (page 0 0 1 61440))
     -- "unowned entries 0 and 1 accept arm-s, 0 not bootable for Arm, Arm current: place 1; entry 1 gone: place 0."
-    ∷ case (placing (pair 2)) (placed (Entry 1) (At 8192 8192))
-    ∷ case (placing (pair 1)) (placed (Entry 0) (At 0 8192))
+    ∷ case (placing (twoEntries 2)) (placed (Entry 1) (At 8192 8192))
+    ∷ case (placing (twoEntries 1)) (placed (Entry 0) (At 0 8192))
     ∷ []
 
--- every question gives what is wanted
+-- every question gives what is expected
 unfoldable pub Examples-hold : Type 0
-Examples-hold = map (λ e. found (e .asked)) examples ≡ map (λ e. e .wanted) examples
+Examples-hold = map (λ e. found (e .question)) examples ≡ map (λ e. e .expected) examples

@@ -12,9 +12,9 @@ impl Flash {
 
     pub const PAYLOAD: usize = 256;
 
-    pub const LEAST: usize = 4096;
+    pub const MIN: usize = 4096;
 
-    pub const MOST: usize = 33554432;
+    pub const MAX: usize = 33554432;
 
     // The bytes of an arrival that are its payload.
     pub const FROM: usize = 32;
@@ -26,7 +26,7 @@ impl Flash {
 pub fn right_length(len: usize) -> bool
     ensures { λ r. ⌜ r ≡ flashLength len ⌝ }
 {
-    (len % Flash::SECTOR == 0) & (Flash::LEAST <= len) & (len <= Flash::MOST)
+    (len % Flash::SECTOR == 0) & (Flash::MIN <= len) & (len <= Flash::MAX)
 }
 
 // Sets the bytes of a sector to 0xFF. A sector past the end changes nothing.

@@ -25,14 +25,14 @@ pub state-length : (b : List ℕ) → length b ≢ 13 → goodState (stateFrom b
 unfolding stateFrom goodState
 state-length b h = rw (ne-eqb (length b) 13 h)
 
-other-kind : (kind f n c : ℕ) → 2 < kind → goodState (stateOf kind f n c) ≡ false
+other-tag : (tag f n c : ℕ) → 2 < tag → goodState (stateOf tag f n c) ≡ false
 unfolding stateOf goodState
-other-kind kind f n c h =
-    simp (ne-eqb kind 0 (omega arith), ne-eqb kind 1 (omega arith), ne-eqb kind 2 (omega arith))
+other-tag tag f n c h =
+    simp (ne-eqb tag 0 (omega arith), ne-eqb tag 1 (omega arith), ne-eqb tag 2 (omega arith))
 
-pub state-kind : (b : List ℕ) → length b ≡ 13 → 2 < byteAt b 0 → goodState (stateFrom b) ≡ false
+pub state-tag : (b : List ℕ) → length b ≡ 13 → 2 < byteAt b 0 → goodState (stateFrom b) ≡ false
 unfolding stateFrom
-state-kind b e h = rw (eq-eqb (length b) 13 e) (other-kind (byteAt b 0) _ _ _ h)
+state-tag b e h = rw (eq-eqb (length b) 13 e) (other-tag (byteAt b 0) _ _ _ h)
 
 -- ---- no settings
 

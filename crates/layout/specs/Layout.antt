@@ -112,14 +112,14 @@ headOf f n = record { family = f; total = n }
 abbrev pub noState : State
 noState = running (headOf 0 0) 0
 
--- a kind (0 Idle, 1 Running, 2 Done), family, total and count; any other kind is no state
+-- a tag (0 Idle, 1 Running, 2 Done), family, total and count; any other tag is no state
 unfoldable pub stateOf : ℕ → ℕ → ℕ → ℕ → State
-stateOf kind f n c =
-    cond (eqb kind 0) Idle
-    (cond (eqb kind 1) (running (headOf f n) c)
-    (cond (eqb kind 2) (Done (headOf f n)) noState))
+stateOf tag f n c =
+    cond (eqb tag 0) Idle
+    (cond (eqb tag 1) (running (headOf f n) c)
+    (cond (eqb tag 2) (Done (headOf f n)) noState))
 
--- 0 kind, 1 family, 5 total, 9 count; bytes of any other length are no state
+-- 0 tag, 1 family, 5 total, 9 count; bytes of any other length are no state
 unfoldable pub stateFrom : List ℕ → State
 stateFrom b =
     cond (eqb (length b) 13) (stateOf (byteAt b 0) (fieldAt b 1) (fieldAt b 5) (fieldAt b 9)) noState
@@ -128,16 +128,16 @@ stateFrom b =
 abbrev pub transferFrom : List ℕ → Transfer
 transferFrom b = record { state = stateFrom b }
 
--- the bytes of a kind, a family, a total and a count
-unfoldable pub thirteen : ℕ → ℕ → ℕ → ℕ → List ℕ
-thirteen kind f n c = kind ∷ (le32 f ++ (le32 n ++ le32 c))
+-- the bytes of a tag, a family, a total and a count
+unfoldable pub transferBytes : ℕ → ℕ → ℕ → ℕ → List ℕ
+transferBytes tag f n c = tag ∷ (le32 f ++ (le32 n ++ le32 c))
 
 -- the bytes of a transfer; one that is done has counted its total
 abbrev pub stateBytes : State → List ℕ
-stateBytes Idle = thirteen 0 0 0 0
-stateBytes (Running r) = thirteen 1 (r .head .family) (r .head .total) (r .count)
-stateBytes (Done g) = thirteen 2 (g .family) (g .total) (g .total)
+stateBytes Idle = transferBytes 0 0 0 0
+stateBytes (Running r) = transferBytes 1 (r .head .family) (r .head .total) (r .count)
+stateBytes (Done g) = transferBytes 2 (g .family) (g .total) (g .total)
 
 -- a transfer written over bytes, where there are 13
-unfoldable pub written : List ℕ → State → List ℕ
-written b t = cond (eqb (length b) 13) (stateBytes t) b
+unfoldable pub withTransfer : List ℕ → State → List ℕ
+withTransfer b t = cond (eqb (length b) 13) (stateBytes t) b

@@ -16,8 +16,8 @@ ghost use Rattle.layout.specs.Layout.{
   noState,
   stateOf,
   transferFrom,
-  thirteen,
-  written,
+  transferBytes,
+  withTransfer,
 };
 use settings::Arch;
 use settings::Entry;
@@ -150,18 +150,18 @@ pub fn read_settings(bytes: &[u8]) -> Settings
     }
 }
 
-// Of another kind than 0, 1 and 2: a running transfer that is bad.
-fn state(kind: u8, head: Head, count: u32) -> State
-    ensures { λ r. ⌜ r ≡ stateOf kind (head .family) (head .total) count ⌝ }
+// Of another tag than 0, 1 and 2: a running transfer that is bad.
+fn state(tag: u8, head: Head, count: u32) -> State
+    ensures { λ r. ⌜ r ≡ stateOf tag (head .family) (head .total) count ⌝ }
 {
-    if kind == 0 {
+    if tag == 0 {
         return State::Idle;
     }
-    if kind == 1 {
+    if tag == 1 {
         let run = Run { head, count };
         return State::Running(run);
     }
-    if kind == 2 {
+    if tag == 2 {
         return State::Done(head);
     }
     none()
@@ -211,11 +211,11 @@ pub fn put(bytes: &mut [u8], at: usize, x: u32)
     bytes[at + 3] = (x / 16777216 % 256) as u8;
 }
 
-fn write(bytes: &mut [u8], kind: u8, family: u32, total: u32, count: u32)
+fn write(bytes: &mut [u8], tag: u8, family: u32, total: u32, count: u32)
     requires { ⌜ length (now bytes) ≡ 13 ⌝ }
-    ensures { λ _. ⌜ now (bytes .exit) ≡ thirteen kind family total count ⌝ }
+    ensures { λ _. ⌜ now (bytes .exit) ≡ transferBytes tag family total count ⌝ }
 {
-    bytes[0] = kind;
+    bytes[0] = tag;
     put(bytes, 1, family);
     put(bytes, 5, total);
     put(bytes, 9, count);
@@ -223,7 +223,7 @@ fn write(bytes: &mut [u8], kind: u8, family: u32, total: u32, count: u32)
 
 // Writes a transfer, where there are bytes for it.
 pub fn write_transfer(bytes: &mut [u8], next: Transfer)
-    ensures { λ _. ⌜ now (bytes .exit) ≡ written (now (bytes .entry)) (next .state) ⌝ }
+    ensures { λ _. ⌜ now (bytes .exit) ≡ withTransfer (now (bytes .entry)) (next .state) ⌝ }
 {
     if bytes.len() != TRANSFER {
         return;

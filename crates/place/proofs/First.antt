@@ -10,7 +10,7 @@ use native.Mathlib.Omega.{arith}
 use Rattle.settings.specs.declared.Entry as settings
 use Rattle.settings.specs.Settings.{entryAt}
 use Rattle.place.specs.Place.{orElse, firstOf, passTakes, entryIf}
-use Rattle.place.specs.declared.Wanted.{Wanted}
+use Rattle.place.specs.declared.PassQuery.{PassQuery}
 use Rattle.place.specs.declared.Choice.{Choice}
 use Rattle.place.specs.declared.Choice.the-variants.{Nothing, Entry}
 
@@ -67,7 +67,7 @@ module _ (g : ℕ → Choice) where
   first-none zero h = refl
   first-none (suc n) h = rw (first-none n (λ i l. h i (le-step l)), h n (le-refl (suc n)))
 
-module _ (table : List settings.Entry) (w : Wanted) (pass k : ℕ) where
+module _ (table : List settings.Entry) (w : PassQuery) (pass k : ℕ) where
   pub if-taken : passTakes w pass (entryAt table k) ≡ true → entryIf table w pass k ≡ Entry k
   unfolding entryIf
   if-taken h = rw h

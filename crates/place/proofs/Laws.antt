@@ -12,12 +12,12 @@ use Rattle.flash.specs.Flash.{flashLength}
 use Rattle.settings.specs.declared.Entry as settings
 use Rattle.settings.specs.declared.Settings.{Settings}
 use Rattle.settings.specs.Settings.{familyRp2040, familyAbsolute, entryAt, goodSettings}
-use Rattle.place.specs.Place.{passTakes, entryIf, inPass, chosen, usedCount, wantedOf, chosenEntry, takenWhole, wholeIf, placeOfChoice, placeOf, foundAt, askOf}
-use Rattle.place.specs.declared.Wanted.{Wanted}
+use Rattle.place.specs.Place.{passTakes, entryIf, inPass, chosen, usedCount, passQueryOf, chosenEntry, getsWhole, wholeIf, placeOfChoice, placeOf, foundAt, askOf}
+use Rattle.place.specs.declared.PassQuery.{PassQuery}
 use Rattle.place.specs.declared.Choice.{Choice}
 use Rattle.place.specs.declared.Choice.the-variants.{Nothing, Entry}
 use Rattle.place.specs.declared.Place.the-variants.{Nowhere}
-use Rattle.place.specs.declared.Asked.the-variants.{BadBuffers, BadSettings}
+use Rattle.place.specs.declared.PlaceAnswer.the-variants.{BadBuffers, BadSettings}
 use Rattle.place.proofs.First.{first-found}
 
 -- ---- the place by cases
@@ -35,7 +35,7 @@ module _ (s : Settings) (len f : ℕ) where
       simp (y, z)
 
   module _ (na : f ≢ familyAbsolute) (nr : f ≢ familyRp2040) where
-    pub place-whole : s .count ≡ 0 → placeOf s len f ≡ wholeIf (takenWhole (s .arm) (s .riscv) f) len
+    pub place-whole : s .count ≡ 0 → placeOf s len f ≡ wholeIf (getsWhole (s .arm) (s .riscv) f) len
     unfolding placeOf
     place-whole h = let z = eq-eqb (s .count) 0 h in simp (ne-eqb f familyAbsolute na, ne-eqb f familyRp2040 nr, z)
 
@@ -56,11 +56,11 @@ used-whole n l = split (leb n 16) (λ h. rw h (omega arith)) (λ h. absurd (omeg
 
 -- ---- the chosen entry
 
-pub chosen-is : (s : Settings) (f n : ℕ) (w : Wanted) {r : Choice} → r ≡ chosen (s .table) n w → n ≡ usedCount (s .count) → w ≡ wantedOf s f → r ≡ chosenEntry s f
+pub chosen-is : (s : Settings) (f n : ℕ) (w : PassQuery) {r : Choice} → r ≡ chosen (s .table) n w → n ≡ usedCount (s .count) → w ≡ passQueryOf s f → r ≡ chosenEntry s f
 unfolding chosenEntry
 chosen-is s f n w h p q = h ∙ rw (p, q)
 
-if-found : (table : List settings.Entry) (w : Wanted) (pass i k : ℕ) → entryIf table w pass i ≡ Entry k → (i ≡ k) × (passTakes w pass (entryAt table i) ≡ true)
+if-found : (table : List settings.Entry) (w : PassQuery) (pass i k : ℕ) → entryIf table w pass i ≡ Entry k → (i ≡ k) × (passTakes w pass (entryAt table i) ≡ true)
 unfolding entryIf
 if-found table w pass i k h =
     split (passTakes w pass (entryAt table i))
@@ -68,7 +68,7 @@ if-found table w pass i k h =
     (λ t. let e : Nothing ≡ Entry k = rw t at h in let z : _≡_ {A = ℕ} 0 1 = cc in absurd (omega arith))
 
 -- it is one of those looked at, and some pass takes it
-pub chosen-taken : (table : List settings.Entry) (n : ℕ) (w : Wanted) {k : ℕ} → chosen table n w ≡ Entry k → (pass : ℕ) × (k < n) × (passTakes w pass (entryAt table k) ≡ true)
+pub chosen-taken : (table : List settings.Entry) (n : ℕ) (w : PassQuery) {k : ℕ} → chosen table n w ≡ Entry k → (pass : ℕ) × (k < n) × (passTakes w pass (entryAt table k) ≡ true)
 unfolding chosen inPass
 chosen-taken table n w {k} h =
     let q = first-found _ 4 h in
@@ -80,7 +80,7 @@ chosen-taken table n w {k} h =
 pub entry-below : (s : Settings) (f : ℕ) {k : ℕ} → chosenEntry s f ≡ Entry k → k < 16
 unfolding chosenEntry
 entry-below s f h =
-    omega (arith, chosen-taken (s .table) (usedCount (s .count)) (wantedOf s f) h .1, used-most (s .count))
+    omega (arith, chosen-taken (s .table) (usedCount (s .count)) (passQueryOf s f) h .1, used-most (s .count))
 
 -- ---- a place asked for alone, by cases
 

@@ -12,8 +12,8 @@ use Rattle.settings.specs.declared.Entry as settings
 use Rattle.settings.specs.declared.Settings.{Settings}
 use Rattle.settings.specs.Settings.{familyRp2040, familyAbsolute, entryAt, isA, accepts, goodSettings}
 use Rattle.settings.proofs.Laws.{good-count, good-fits}
-use Rattle.place.specs.Place.{passAllows, passTakes, inPass, chosen, usedCount, wantedOf, chosenEntry, takenWhole, wholeIf, placeOfChoice, placeOf, Accepting, Inside, No-place, Place-inside}
-use Rattle.place.specs.declared.Wanted.{Wanted}
+use Rattle.place.specs.Place.{passAllows, passTakes, inPass, chosen, usedCount, passQueryOf, chosenEntry, getsWhole, wholeIf, placeOfChoice, placeOf, Accepting, Inside, No-place, Place-inside}
+use Rattle.place.specs.declared.PassQuery.{PassQuery}
 use Rattle.place.specs.declared.Choice.{Choice}
 use Rattle.place.specs.declared.Choice.the-variants.{Nothing, Entry}
 use Rattle.place.specs.declared.Place.the-variants.{Nowhere, At}
@@ -23,11 +23,11 @@ use Rattle.place.proofs.Laws.{place-absolute, place-rp2040, place-whole
 -- ---- what the passes take
 
 -- the last pass takes every A entry that accepts the family, and no pass takes another
-last-takes : (w : Wanted) (e : settings.Entry) → isA e ≡ true → accepts e (w .family) ≡ true → passTakes w 3 e ≡ true
+last-takes : (w : PassQuery) (e : settings.Entry) → isA e ≡ true → accepts e (w .family) ≡ true → passTakes w 3 e ≡ true
 unfolding passTakes passAllows
 last-takes w e a h = rw (a, h)
 
-takes-tells : (w : Wanted) (pass : ℕ) (e : settings.Entry) → passTakes w pass e ≡ true → (isA e ≡ true) × (accepts e (w .family) ≡ true)
+takes-tells : (w : PassQuery) (pass : ℕ) (e : settings.Entry) → passTakes w pass e ≡ true → (isA e ≡ true) × (accepts e (w .family) ≡ true)
 unfolding passTakes
 takes-tells w pass e h =
     let l = and-left (isA e && accepts e (w .family)) (passAllows w pass e) h in
@@ -36,29 +36,29 @@ takes-tells w pass e h =
 module _ (s : Settings) (f : ℕ) where
   -- the chosen entry is used, is an A entry and accepts the family
   pub chosen-accepts : {k : ℕ} → chosenEntry s f ≡ Entry k → Accepting s f k
-  unfolding chosenEntry wantedOf
+  unfolding chosenEntry passQueryOf
   chosen-accepts {k} h =
-      let q = chosen-taken (s .table) (usedCount (s .count)) (wantedOf s f) h in
-      let t = takes-tells (wantedOf s f) (q .0) (entryAt (s .table) k) (q .2) in
+      let q = chosen-taken (s .table) (usedCount (s .count)) (passQueryOf s f) h in
+      let t = takes-tells (passQueryOf s f) (q .0) (entryAt (s .table) k) (q .2) in
       (omega (arith, q .1, used-least (s .count)), t .0, t .1)
 
   none-chosen : ((k : ℕ) → Accepting s f k → ⊥) → chosenEntry s f ≡ Nothing
-  unfolding chosenEntry chosen inPass wantedOf
+  unfolding chosenEntry chosen inPass passQueryOf
   none-chosen h =
       first-none _ 4
       (λ pass l.
       first-none _ (usedCount (s .count))
       (λ k b.
-      if-passed (s .table) (wantedOf s f) pass k
+      if-passed (s .table) (passQueryOf s f) pass k
       (is-false _
       (λ t.
-      let a = takes-tells (wantedOf s f) pass (entryAt (s .table) k) t in
+      let a = takes-tells (passQueryOf s f) pass (entryAt (s .table) k) t in
       h k (omega (arith, used-least (s .count)), a .0, a .1)))))
 
   chosen-none : s .count ≤ 16 → chosenEntry s f ≡ Nothing → (k : ℕ) → Accepting s f k → ⊥
-  unfolding chosenEntry chosen inPass wantedOf
+  unfolding chosenEntry chosen inPass passQueryOf
   chosen-none n e k h =
-      let w = wantedOf s f in
+      let w = passQueryOf s f in
       let l : k < usedCount (s .count) = omega (arith, h .0, used-whole (s .count) n) in
       let p = first-all _ (usedCount (s .count)) (first-all _ 4 e 3 (omega arith)) k l in
       let q = if-taken (s .table) w 3 k (last-takes w (entryAt (s .table) k) (h .1) (h .2)) in
@@ -113,7 +113,7 @@ module _ (s : Settings) (len f : ℕ) (right : flashLength len ≡ true) (good :
       (λ q.
       let nr = eqb-false f familyRp2040 q in
       split (eqb (s .count) 0)
-      (λ r. whole (takenWhole (s .arm) (s .riscv) f) (sym (place-whole s len f na nr (eqb-true (s .count) 0 r)) ∙ e))
+      (λ r. whole (getsWhole (s .arm) (s .riscv) f) (sym (place-whole s len f na nr (eqb-true (s .count) 0 r)) ∙ e))
       (λ r. entry (chosenEntry s f) refl (sym (place-table s len f na nr (eqb-false (s .count) 0 r)) ∙ e))))
 
 pub place-inside : Place-inside

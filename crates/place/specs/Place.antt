@@ -11,13 +11,13 @@ use Rattle.settings.specs.declared.Entry.{Entry}
 use Rattle.settings.specs.declared.Arch.{Arch}
 use Rattle.settings.specs.declared.Arch.the-variants.{Arm, RiscV}
 use Rattle.flash.specs.Flash.{flashLength}
-use Rattle.place.specs.declared.Wanted.{Wanted}
+use Rattle.place.specs.declared.PassQuery.{PassQuery}
 use Rattle.place.specs.declared.Choice.{Choice}
 use Rattle.place.specs.declared.Choice.the-variants as choice
 use Rattle.place.specs.declared.Place.{Place}
 use Rattle.place.specs.declared.Place.the-variants.{Nowhere, At}
-use Rattle.place.specs.declared.Asked.{Asked}
-use Rattle.place.specs.declared.Asked.the-variants.{BadBuffers, BadSettings, NoPlace, Found}
+use Rattle.place.specs.declared.PlaceAnswer.{PlaceAnswer}
+use Rattle.place.specs.declared.PlaceAnswer.the-variants.{BadBuffers, BadSettings, NoPlace, Found}
 
 -- "the other architecture"
 abbrev pub otherArch : Arch → Arch
@@ -47,19 +47,19 @@ abbrev pub forOther : Settings → ℕ → Bool
 forOther s f = s .«auto_switch» && enabled s (otherArch (s .current)) && eqb f (imageOf (otherArch (s .current)))
 
 -- what the passes have to know of the settings
-unfoldable pub wantedOf : Settings → ℕ → Wanted
-wantedOf s f =
+unfoldable pub passQueryOf : Settings → ℕ → PassQuery
+passQueryOf s f =
     record { family = f; current = s .current; «for_current» = forCurrent s f; «for_other» = forOther s f }
 
 -- what a pass asks of an A entry that accepts the family; 01's passes 1 to 4 are counted from 0
-unfoldable pub passAllows : Wanted → ℕ → Entry → Bool
+unfoldable pub passAllows : PassQuery → ℕ → Entry → Bool
 passAllows w pass e =
     cond (eqb pass 0) (w .«for_current» && isBootable e (w .current))
     (cond (eqb pass 1) (w .«for_other» && isBootable e (otherArch (w .current)))
     (cond (eqb pass 2) (isUnowned e) true))
 
 -- "each looks only at A entries that accept the family"
-unfoldable pub passTakes : Wanted → ℕ → Entry → Bool
+unfoldable pub passTakes : PassQuery → ℕ → Entry → Bool
 passTakes w pass e = isA e && accepts e (w .family) && passAllows w pass e
 
 -- ---- the first match
@@ -75,15 +75,15 @@ firstOf g zero = choice.Nothing
 firstOf g (suc n) = orElse (firstOf g n) (g n)
 
 -- entry k where the pass takes it
-unfoldable pub entryIf : List Entry → Wanted → ℕ → ℕ → Choice
+unfoldable pub entryIf : List Entry → PassQuery → ℕ → ℕ → Choice
 entryIf table w pass k = cond (passTakes w pass (entryAt table k)) (choice.Entry k) choice.Nothing
 
 -- one pass over n entries, first to last, ending at the first match
-unfoldable pub inPass : List Entry → ℕ → Wanted → ℕ → Choice
+unfoldable pub inPass : List Entry → ℕ → PassQuery → ℕ → Choice
 inPass table n w pass = firstOf (entryIf table w pass) n
 
 -- "four passes over the table, first to last, ending at the first match"
-unfoldable pub chosen : List Entry → ℕ → Wanted → Choice
+unfoldable pub chosen : List Entry → ℕ → PassQuery → Choice
 chosen table n w = firstOf (inPass table n w) 4
 
 -- ---- the place
@@ -94,11 +94,11 @@ usedCount n = cond (leb n 16) n 16
 
 -- the entry that the passes choose
 unfoldable pub chosenEntry : Settings → ℕ → Choice
-chosenEntry s f = chosen (s .table) (usedCount (s .count)) (wantedOf s f)
+chosenEntry s f = chosen (s .table) (usedCount (s .count)) (passQueryOf s f)
 
 -- "data, arm-s (Arm enabled) and riscv (RISC-V enabled) get the whole flash"
-abbrev pub takenWhole : Bool → Bool → ℕ → Bool
-takenWhole arm riscv f = eqb f familyData || eqb f familyArmS && arm || eqb f familyRiscV && riscv
+abbrev pub getsWhole : Bool → Bool → ℕ → Bool
+getsWhole arm riscv f = eqb f familyData || eqb f familyArmS && arm || eqb f familyRiscV && riscv
 
 -- the whole flash, or no place
 abbrev pub wholeIf : Bool → ℕ → Place
@@ -123,29 +123,29 @@ unfoldable pub placeOf : Settings → ℕ → ℕ → Place
 placeOf s len f =
     cond (eqb f familyAbsolute) (wholeIf (s .absolute) len)
     (cond (eqb f familyRp2040) Nowhere
-    (cond (eqb (s .count) 0) (wholeIf (takenWhole (s .arm) (s .riscv) f) len)
+    (cond (eqb (s .count) 0) (wholeIf (getsWhole (s .arm) (s .riscv) f) len)
     (placeOfChoice (s .table) (chosenEntry s f))))
 
 -- ---- a place asked for alone
 
 -- "refused by .. 8" where there is no place
-abbrev pub foundAt : Place → Asked
+abbrev pub foundAt : Place → PlaceAnswer
 foundAt Nowhere = NoPlace
 foundAt (At a n) = Found a n
 
 -- "A place asked for alone, with settings and a flash length, is refused by 1, 2 or 8, in that order."
-unfoldable pub askOf : Settings → ℕ → ℕ → Asked
+unfoldable pub askOf : Settings → ℕ → ℕ → PlaceAnswer
 askOf s len f =
     cond (not (flashLength len)) BadBuffers
     (cond (not (goodSettings s len)) BadSettings
     (foundAt (placeOf s len f)))
 
 -- the refusals' numbers; a place that is found is no refusal, and has 0
-abbrev pub askedNumber : Asked → ℕ
-askedNumber BadBuffers = 1
-askedNumber BadSettings = 2
-askedNumber NoPlace = 8
-askedNumber (Found a n) = 0
+abbrev pub placeAnswerNumber : PlaceAnswer → ℕ
+placeAnswerNumber BadBuffers = 1
+placeAnswerNumber BadSettings = 2
+placeAnswerNumber NoPlace = 8
+placeAnswerNumber (Found a n) = 0
 
 -- ---- what is claimed of places
 

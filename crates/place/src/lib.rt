@@ -10,14 +10,14 @@ ghost use Rattle.place.specs.Place.{
   passTakes,
   chosen,
   usedCount,
-  wantedOf,
-  takenWhole,
+  passQueryOf,
+  getsWhole,
   wholeIf,
   bytesOf,
   StartsLow,
   placeOf,
   askOf,
-  askedNumber,
+  placeAnswerNumber,
 };
 use flash::Flash;
 use settings::Arch;
@@ -38,7 +38,7 @@ pub enum Choice {
 }
 
 // The answer to a place asked for alone.
-pub enum Asked {
+pub enum PlaceAnswer {
     BadBuffers,
     BadSettings,
     NoPlace,
@@ -47,7 +47,7 @@ pub enum Asked {
 
 // What the passes have to know of the settings: the family, the current architecture, and whether the family is its image
 // or, where switching is on, the other's.
-struct Wanted {
+struct PassQuery {
     family: u32,
     current: Arch,
     for_current: bool,
@@ -89,7 +89,7 @@ fn bootable(e: Entry, a: Arch) -> bool
 }
 
 // What a pass asks besides; 01's passes 1 to 4 are counted from 0.
-fn allows(w: Wanted, pass: usize, e: Entry) -> bool
+fn allows(w: PassQuery, pass: usize, e: Entry) -> bool
     ensures { λ r. ⌜ r ≡ passAllows w pass e ⌝ }
 {
     let current = w.current;
@@ -101,14 +101,14 @@ fn allows(w: Wanted, pass: usize, e: Entry) -> bool
     }
 }
 
-fn takes(w: Wanted, pass: usize, e: Entry) -> bool
+fn takes(w: PassQuery, pass: usize, e: Entry) -> bool
     ensures { λ r. ⌜ r ≡ passTakes w pass e ⌝ }
 {
     settings::is_a(e) & settings::accepts_family(e, w.family) & allows(w, pass, e)
 }
 
 // Four passes over n entries, first to last, ending at the first match.
-fn choose(table: [Entry; Settings::ENTRIES], n: usize, w: Wanted) -> Choice
+fn choose(table: [Entry; Settings::ENTRIES], n: usize, w: PassQuery) -> Choice
     requires { ⌜ n ≤ 16 ⌝ }
     ensures { λ r. ⌜ r ≡ chosen table n w ⌝ }
 {
@@ -142,13 +142,13 @@ fn used_count(count: u8) -> usize
     }
 }
 
-fn want(settings: Settings, family: u32) -> Wanted
-    ensures { λ r. ⌜ r ≡ wantedOf settings family ⌝ }
+fn query(settings: Settings, family: u32) -> PassQuery
+    ensures { λ r. ⌜ r ≡ passQueryOf settings family ⌝ }
 {
     let current = settings.current;
     let o = other(current);
     let on = settings::is_enabled(settings, o);
-    Wanted {
+    PassQuery {
         family,
         current,
         for_current: family == image(current),
@@ -157,8 +157,8 @@ fn want(settings: Settings, family: u32) -> Wanted
 }
 
 // The families that get the whole flash where there is no table.
-fn taken_whole(arm: bool, riscv: bool, family: u32) -> bool
-    ensures { λ r. ⌜ r ≡ takenWhole arm riscv family ⌝ }
+fn gets_whole(arm: bool, riscv: bool, family: u32) -> bool
+    ensures { λ r. ⌜ r ≡ getsWhole arm riscv family ⌝ }
 {
     (family == Family::DATA)
         | ((family == Family::ARM_S) & arm)
@@ -201,9 +201,9 @@ pub fn find(settings: Settings, flash_len: usize, family: u32) -> Place
         return Place::Nowhere;
     }
     if count == 0 {
-        return whole_if(taken_whole(settings.arm, settings.riscv, family), flash_len);
+        return whole_if(gets_whole(settings.arm, settings.riscv, family), flash_len);
     }
-    let w = want(settings, family);
+    let w = query(settings, family);
     let table = settings.table;
     match choose(table, used_count(count), w) {
         Choice::Nothing => Place::Nowhere,
@@ -215,29 +215,29 @@ pub fn find(settings: Settings, flash_len: usize, family: u32) -> Place
 }
 
 // A place asked for alone.
-pub fn ask(settings: Settings, flash_len: usize, family: u32) -> Asked
+pub fn ask(settings: Settings, flash_len: usize, family: u32) -> PlaceAnswer
     ensures { λ r. ⌜ r ≡ askOf settings «flash_len» family ⌝ }
 {
     if !flash::right_length(flash_len) {
-        return Asked::BadBuffers;
+        return PlaceAnswer::BadBuffers;
     }
     if !settings::good(settings, flash_len) {
-        return Asked::BadSettings;
+        return PlaceAnswer::BadSettings;
     }
     match find(settings, flash_len, family) {
-        Place::Nowhere => Asked::NoPlace,
-        Place::At { start, len } => Asked::Found { start, len },
+        Place::Nowhere => PlaceAnswer::NoPlace,
+        Place::At { start, len } => PlaceAnswer::Found { start, len },
     }
 }
 
 // The number of a refusal, and 0 for a place that is found.
-pub fn number(a: Asked) -> u8
-    ensures { λ r. ⌜ r ≡ askedNumber a ⌝ }
+pub fn number(a: PlaceAnswer) -> u8
+    ensures { λ r. ⌜ r ≡ placeAnswerNumber a ⌝ }
 {
     match a {
-        Asked::BadBuffers => 1,
-        Asked::BadSettings => 2,
-        Asked::NoPlace => 8,
-        Asked::Found { start: _, len: _ } => 0,
+        PlaceAnswer::BadBuffers => 1,
+        PlaceAnswer::BadSettings => 2,
+        PlaceAnswer::NoPlace => 8,
+        PlaceAnswer::Found { start: _, len: _ } => 0,
     }
 }

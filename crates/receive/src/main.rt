@@ -3,12 +3,12 @@
 use block::Block;
 use libc::STDIN_FILENO;
 use libc::STDOUT_FILENO;
-use receiver::Received;
+use receiver::Receipt;
 use settings::Settings;
 use transfer::Transfer;
 
-// One turn: the transfer after it, and whether the input may hold more.
-struct Turned {
+// How far the program is after a piece: the transfer, and whether the input may hold more.
+struct Progress {
     transfer: Transfer,
     more: bool,
 }
@@ -27,18 +27,18 @@ fn print_state(transfer: Transfer) {
 
 // Reads one piece and answers it. A short piece is answered as an arrival of a wrong length, and is the last: `read_full` stops short only
 // where the input ends or a read fails.
-fn turn(
+fn answer_piece(
     settings: Settings,
     transfer: Transfer,
     index: u64,
     flash: &mut [u8],
     seen: &mut [u8],
     sectors: &mut [u8],
-) -> Turned {
+) -> Progress {
     let mut arrival = [0u8; Block::ARRIVAL];
     let n = io::read_full(STDIN_FILENO, &mut arrival);
     if n == 0 {
-        return Turned {
+        return Progress {
             transfer,
             more: false,
         };
@@ -47,7 +47,7 @@ fn turn(
     let answer = received.answer;
     let next = received.transfer;
     print_answer(index, answer.number(), received.discarded);
-    Turned {
+    Progress {
         transfer: next,
         more: n == Block::ARRIVAL,
     }
@@ -60,9 +60,9 @@ fn run(flash: &mut [u8], seen: &mut [u8], sectors: &mut [u8]) -> Transfer {
     let mut transfer = Transfer::new();
     let mut index: u64 = 0;
     while index < u64::MAX {
-        let t = turn(settings, transfer, index, flash, seen, sectors);
-        transfer = t.transfer;
-        if !t.more {
+        let progress = answer_piece(settings, transfer, index, flash, seen, sectors);
+        transfer = progress.transfer;
+        if !progress.more {
             break;
         }
         index += 1;
@@ -73,8 +73,8 @@ fn run(flash: &mut [u8], seen: &mut [u8], sectors: &mut [u8]) -> Transfer {
 fn main() {
     // no answer depends on a byte of the flash; it starts erased
     let mut flash = [0xFFu8; 32768];
-    let mut seen = [0u8; Received::SEEN];
-    let mut sectors = [0u8; Received::SECTORS];
+    let mut seen = [0u8; Receipt::SEEN];
+    let mut sectors = [0u8; Receipt::SECTORS];
     io::write_all(STDOUT_FILENO, b"arrival answer discarded\n");
     print_state(run(&mut flash, &mut seen, &mut sectors));
 }

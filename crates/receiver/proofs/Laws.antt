@@ -11,18 +11,18 @@ use Rattle.settings.specs.declared.Settings.{Settings}
 use Rattle.transfer.specs.Transfer.{goodState, stepOf}
 use Rattle.transfer.proofs.Laws.{stays-same}
 use Rattle.transfer.specs.declared.Transfer.{Transfer}
-use Rattle.transfer.specs.declared.Stayed.{Stayed}
-use Rattle.transfer.specs.declared.Taken.{Taken}
+use Rattle.transfer.specs.declared.Unchanged.{Unchanged}
+use Rattle.transfer.specs.declared.Accepted.{Accepted}
 use Rattle.transfer.specs.declared.Step.{Step}
-use Rattle.transfer.specs.declared.Step.the-variants.{Stays, Takes}
+use Rattle.transfer.specs.declared.Step.the-variants.{Stays, Accepts}
 use Rattle.transfer.specs.declared.Answer.{Answer}
 use Rattle.transfer.specs.declared.Answer.the-variants.{BadBuffers, BadSettings, BadState}
 use Rattle.screen.specs.Screen.{screenOf}
 use Rattle.screen.specs.declared.Page.{Page}
-use Rattle.screen.specs.declared.Screened.the-variants.{Refused, Passed}
-use Rattle.arrival.specs.Arrive.{Outcome, rightLengths, stepped, looked, decide, clearedIf, wipedIf, preparedAt, pagedAt, tookOf, takes, done, receiveOf}
+use Rattle.screen.specs.declared.Screening.the-variants.{Refused, Passed}
+use Rattle.arrival.specs.Arrive.{Outcome, rightLengths, stepped, afterScreening, decide, clearedIf, wipedIf, preparedAt, pagedAt, acceptOf, accepts, done, receiveOf}
 use Rattle.receiver.specs.Receiver.{held, world, refusal, outcome}
-use Rattle.receiver.specs.declared.Received.{Received}
+use Rattle.receiver.specs.declared.Receipt.{Receipt}
 
 -- ---- a sector before a page is stored in it
 
@@ -39,10 +39,10 @@ module _ (q : ℕ) (f k : List ℕ) where
 
 pub stored : (at : ℕ) (clears : Bool) (a f k : List ℕ) {k1 f1 f2 k2 : List ℕ} → k1 ≡ clearedIf clears k → f1 ≡ preparedAt (at / 4096) (held f k1) → f2 ≡ storeAt f1 at (payloadOf a) → k2 ≡ withMark k1 (at / 4096) → held f2 k2 ≡ pagedAt at (payloadOf a) (wipedIf clears (held f k))
 unfolding pagedAt wipedIf
-stored at clears a f k cleared erased laid marked = rw (marked, laid, erased, cleared)
+stored at clears a f k cleared erased put marked = rw (marked, put, erased, cleared)
 
-pub took : (p : Page) (t : Taken) (a f m k : List ℕ) {g n1 n2 j : List ℕ} → held g j ≡ pagedAt (p .at) (payloadOf a) (wipedIf (t .fresh) (held f k)) → n1 ≡ clearedIf (t .fresh) m → n2 ≡ withMark n1 (p .number) → outcome (record { transfer = t .transfer; answer = t .answer; discarded = t .discarded }) g n2 j ≡ done (world (t .transfer) f m k) (payloadOf a) (takes p t)
-unfolding done tookOf
+pub took : (p : Page) (t : Accepted) (a f m k : List ℕ) {g n1 n2 j : List ℕ} → held g j ≡ pagedAt (p .at) (payloadOf a) (wipedIf (t .clears) (held f k)) → n1 ≡ clearedIf (t .clears) m → n2 ≡ withMark n1 (p .number) → outcome (record { transfer = t .transfer; answer = t .answer; discarded = t .discarded }) g n2 j ≡ done (world (t .transfer) f m k) (payloadOf a) (accepts p t)
+unfolding done acceptOf
 took p t a f m k paged cleared marked = cc
 
 -- ---- rows 12 to 15
@@ -51,39 +51,39 @@ module _ (t : Transfer) (p : Page) (a f m k : List ℕ) {known : Bool} {s : Step
   step-is : stepOf (t .state) (p .head) (markedIn m (p .number)) ≡ s
   step-is = rw (sym e) (sym h)
 
-  pub look-stays : {r : Received} {x : Stayed} → s ≡ Stays x → r ≡ refusal (x .transfer) (x .answer) → outcome r f m k ≡ done (world t f m k) (payloadOf a) (stepped p (stepOf (t .state) (p .head) (markedIn m (p .number))))
+  pub look-stays : {r : Receipt} {x : Unchanged} → s ≡ Stays x → r ≡ refusal (x .transfer) (x .answer) → outcome r f m k ≡ done (world t f m k) (payloadOf a) (stepped p (stepOf (t .state) (p .head) (markedIn m (p .number))))
   unfolding done
   look-stays q y =
       let z = step-is ∙ q in
-      rw z (ap (λ (r : Received). outcome r f m k) y ∙ rw (stays-same (t .state) (p .head) (markedIn m (p .number)) z))
+      rw z (ap (λ (r : Receipt). outcome r f m k) y ∙ rw (stays-same (t .state) (p .head) (markedIn m (p .number)) z))
 
-  -- what is taken does not look at the transfer that was
-  pub look-takes : {o : Outcome} {y : Taken} (u : Transfer) → s ≡ Takes y → o ≡ done (world u f m k) (payloadOf a) (takes p y) → o ≡ done (world t f m k) (payloadOf a) (stepped p (stepOf (t .state) (p .head) (markedIn m (p .number))))
-  unfolding done tookOf
+  -- what is accepted does not look at the transfer that was
+  pub look-takes : {o : Outcome} {y : Accepted} (u : Transfer) → s ≡ Accepts y → o ≡ done (world u f m k) (payloadOf a) (accepts p y) → o ≡ done (world t f m k) (payloadOf a) (stepped p (stepOf (t .state) (p .head) (markedIn m (p .number))))
+  unfolding done acceptOf
   look-takes u q y = let z = step-is ∙ q in rw z y
 
 -- ---- rows 1 to 15
 
 module _ (s : Settings) (t : Transfer) (a f m k : List ℕ) where
-  pub receive-lengths : {r : Received} → rightLengths (length a) (length f) (length m) (length k) ≡ false → r ≡ refusal t BadBuffers → outcome r f m k ≡ receiveOf s (world t f m k) a
+  pub receive-lengths : {r : Receipt} → rightLengths (length a) (length f) (length m) (length k) ≡ false → r ≡ refusal t BadBuffers → outcome r f m k ≡ receiveOf s (world t f m k) a
   unfolding receiveOf decide done
-  receive-lengths l y = rw l (ap (λ (r : Received). outcome r f m k) y)
+  receive-lengths l y = rw l (ap (λ (r : Receipt). outcome r f m k) y)
 
   module _ (l : rightLengths (length a) (length f) (length m) (length k) ≡ true) where
-    pub receive-settings : {r : Received} → goodSettings s (length f) ≡ false → r ≡ refusal t BadSettings → outcome r f m k ≡ receiveOf s (world t f m k) a
+    pub receive-settings : {r : Receipt} → goodSettings s (length f) ≡ false → r ≡ refusal t BadSettings → outcome r f m k ≡ receiveOf s (world t f m k) a
     unfolding receiveOf decide done
-    receive-settings g y = rw (l, g) (ap (λ (r : Received). outcome r f m k) y)
+    receive-settings g y = rw (l, g) (ap (λ (r : Receipt). outcome r f m k) y)
 
     module _ (g : goodSettings s (length f) ≡ true) where
-      pub receive-state : {r : Received} → goodState (t .state) ≡ false → r ≡ refusal t BadState → outcome r f m k ≡ receiveOf s (world t f m k) a
+      pub receive-state : {r : Receipt} → goodState (t .state) ≡ false → r ≡ refusal t BadState → outcome r f m k ≡ receiveOf s (world t f m k) a
       unfolding receiveOf decide done
-      receive-state n y = rw (l, g, n) (ap (λ (r : Received). outcome r f m k) y)
+      receive-state n y = rw (l, g, n) (ap (λ (r : Receipt). outcome r f m k) y)
 
       module _ (n : goodState (t .state) ≡ true) where
-        pub receive-refused : {r : Received} {x : Answer} → screenOf s (length f) a ≡ Refused x → r ≡ refusal t x → outcome r f m k ≡ receiveOf s (world t f m k) a
-        unfolding receiveOf decide looked done
-        receive-refused q y = rw (l, g, n, q) (ap (λ (r : Received). outcome r f m k) y)
+        pub receive-refused : {r : Receipt} {x : Answer} → screenOf s (length f) a ≡ Refused x → r ≡ refusal t x → outcome r f m k ≡ receiveOf s (world t f m k) a
+        unfolding receiveOf decide afterScreening done
+        receive-refused q y = rw (l, g, n, q) (ap (λ (r : Receipt). outcome r f m k) y)
 
         pub receive-passed : {o : Outcome} {p : Page} → screenOf s (length f) a ≡ Passed p → o ≡ done (world t f m k) (payloadOf a) (stepped p (stepOf (t .state) (p .head) (markedIn m (p .number)))) → o ≡ receiveOf s (world t f m k) a
-        unfolding receiveOf decide looked
+        unfolding receiveOf decide afterScreening
         receive-passed q y = rw (l, g, n, q) y

@@ -10,7 +10,7 @@ ghost use Rattle.arrival.specs.Arrive.{
   wipedIf,
   preparedAt,
   pagedAt,
-  takes,
+  accepts,
   done,
   receiveOf,
 };
@@ -18,21 +18,21 @@ ghost use Rattle.receiver.specs.Receiver.{held, world, refusal, outcome}
 use block::Block;
 use flash::Flash;
 use screen::Page;
-use screen::Screened;
+use screen::Screening;
 use settings::Settings;
+use transfer::Accepted;
 use transfer::Answer;
 use transfer::Step;
-use transfer::Taken;
 use transfer::Transfer;
 
 // What an arrival hands back: the next transfer, the answer, and whether a running transfer was discarded.
-pub struct Received {
+pub struct Receipt {
     pub transfer: Transfer,
     pub answer: Answer,
     pub discarded: bool,
 }
 
-impl Received {
+impl Receipt {
     // The bytes of the seen map and of the sector map.
     pub const SEEN: usize = 16384;
 
@@ -43,17 +43,14 @@ impl Received {
 fn lengths_right(a: usize, f: usize, m: usize, k: usize) -> bool
     ensures { λ r. ⌜ r ≡ rightLengths a f m k ⌝ }
 {
-    (a == Block::ARRIVAL)
-        & flash::right_length(f)
-        & (m == Received::SEEN)
-        & (k == Received::SECTORS)
+    (a == Block::ARRIVAL) & flash::right_length(f) & (m == Receipt::SEEN) & (k == Receipt::SECTORS)
 }
 
 // Nothing changes, and this is the answer.
-fn refuse(transfer: Transfer, answer: Answer) -> Received
+fn refuse(transfer: Transfer, answer: Answer) -> Receipt
     ensures { λ r. ⌜ r ≡ refusal transfer answer ⌝ }
 {
-    Received {
+    Receipt {
         transfer,
         answer,
         discarded: false,
@@ -89,27 +86,27 @@ fn store(at: usize, clears: bool, arrival: &[u8], flash: &mut [u8], sectors: &mu
     bitmap::mark(sectors, sector);
 }
 
-// A block that is taken.
-fn take(
+// A block that is accepted.
+fn accept(
     page: Page,
-    taken: Taken,
+    accepted: Accepted,
     arrival: &[u8],
     flash: &mut [u8],
     seen: &mut [u8],
     sectors: &mut [u8],
-) -> Received
-    ensures { λ r. ⌜ outcome r (now (flash .exit)) (now (seen .exit)) (now (sectors .exit)) ≡ done (world (taken .transfer) (now (flash .entry)) (now (seen .entry)) (now (sectors .entry))) (payloadOf (now (arrival .entry))) (takes page taken) ⌝ }
+) -> Receipt
+    ensures { λ r. ⌜ outcome r (now (flash .exit)) (now (seen .exit)) (now (sectors .exit)) ≡ done (world (accepted .transfer) (now (flash .entry)) (now (seen .entry)) (now (sectors .entry))) (payloadOf (now (arrival .entry))) (accepts page accepted) ⌝ }
 {
-    let next = taken.transfer;
-    let given = taken.answer;
+    let next = accepted.transfer;
+    let given = accepted.answer;
     let number = page.number as usize;
-    store(page.at, taken.fresh, arrival, flash, sectors);
-    clear_if(taken.fresh, seen);
+    store(page.at, accepted.clears, arrival, flash, sectors);
+    clear_if(accepted.clears, seen);
     bitmap::mark(seen, number);
-    Received {
+    Receipt {
         transfer: next,
         answer: given,
-        discarded: taken.discarded,
+        discarded: accepted.discarded,
     }
 }
 
@@ -121,7 +118,7 @@ fn look(
     flash: &mut [u8],
     seen: &mut [u8],
     sectors: &mut [u8],
-) -> Received
+) -> Receipt
     ensures { λ r. ⌜ outcome r (now (flash .exit)) (now (seen .exit)) (now (sectors .exit)) ≡ done (world transfer (now (flash .entry)) (now (seen .entry)) (now (sectors .entry))) (payloadOf (now (arrival .entry))) (stepped page (stepOf (transfer .state) (page .head) (markedIn (now (seen .entry)) (page .number)))) ⌝ }
 {
     let head = page.head;
@@ -129,12 +126,12 @@ fn look(
     let marked = bitmap::marked(seen, number);
     let step = transfer.step(head, marked);
     match step {
-        Step::Stays(stayed) => {
-            let same = stayed.transfer;
-            let answer = stayed.answer;
+        Step::Stays(unchanged) => {
+            let same = unchanged.transfer;
+            let answer = unchanged.answer;
             refuse(same, answer)
         }
-        Step::Takes(taken) => take(page, taken, arrival, flash, seen, sectors),
+        Step::Accepts(accepted) => accept(page, accepted, arrival, flash, seen, sectors),
     }
 }
 
@@ -146,7 +143,7 @@ pub fn receive(
     flash: &mut [u8],
     seen: &mut [u8],
     sectors: &mut [u8],
-) -> Received
+) -> Receipt
     ensures { λ r. ⌜ outcome r (now (flash .exit)) (now (seen .exit)) (now (sectors .exit)) ≡ receiveOf settings (world transfer (now (flash .entry)) (now (seen .entry)) (now (sectors .entry))) (now (arrival .entry)) ⌝ }
 {
     let len = flash.len();
@@ -161,7 +158,7 @@ pub fn receive(
     }
     let screened = screen::screen(settings, len, arrival);
     match screened {
-        Screened::Refused(answer) => refuse(transfer, answer),
-        Screened::Passed(page) => look(transfer, page, arrival, flash, seen, sectors),
+        Screening::Refused(answer) => refuse(transfer, answer),
+        Screening::Passed(page) => look(transfer, page, arrival, flash, seen, sectors),
     }
 }

@@ -25,15 +25,15 @@ pub enum Parsed {
 // What a line says. A record's data is the first `len` bytes; the rest are 0.
 pub struct Line {
     pub parsed: Parsed,
-    pub data: [u8; Record::MOST],
+    pub data: [u8; Record::MAX],
 }
 
 impl Record {
     // the most data bytes of a record
-    pub const MOST: usize = 32;
+    pub const MAX: usize = 32;
 
     // the most bytes of a record: length, address, type, data, checksum
-    const BYTES: usize = Record::MOST + 5;
+    const BYTES: usize = Record::MAX + 5;
 }
 
 impl Parsed {
@@ -171,7 +171,7 @@ fn good_line(bytes: &[u8], used: usize) -> Line
     let kind = bytes[3];
     let address = word(bytes[1], bytes[2]);
     let e = used + 4;
-    let mut data = [0u8; Record::MOST];
+    let mut data = [0u8; Record::MAX];
     bytes::copy(&bytes[4..e], &mut data);
     Line {
         parsed: Parsed::Good(Record { kind, address, len }),
@@ -185,7 +185,7 @@ fn refusal(parsed: Parsed) -> Line
 {
     Line {
         parsed,
-        data: [0u8; Record::MOST],
+        data: [0u8; Record::MAX],
     }
 }
 
@@ -195,7 +195,7 @@ fn read_bytes(n: usize, bytes: &[u8]) -> Line
     ensures { λ r. ⌜ r ≡ lineBytes n (take (n / 2) (now (bytes .entry))) ⌝ }
 {
     let used = bytes[0] as usize;
-    if Record::MOST < used {
+    if Record::MAX < used {
         return refusal(Parsed::TooLong);
     }
     if n != 11 + 2 * used {

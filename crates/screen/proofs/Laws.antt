@@ -22,7 +22,7 @@ use Rattle.place.specs.declared.Place.the-variants.{At}
 use Rattle.transfer.specs.Transfer.{numberOf}
 use Rattle.transfer.specs.declared.Answer.the-variants.{BadPayload, BadNumbers, BadAddress}
 use Rattle.screen.specs.Screen.{badNumbers, badAddress, pageAt, placed, headerRefusal, headed, screenOf}
-use Rattle.screen.specs.declared.Screened.the-variants.{Refused, Passed}
+use Rattle.screen.specs.declared.Screening.the-variants.{Refused, Passed}
 
 -- ---- what rows 10 and 11 leave
 

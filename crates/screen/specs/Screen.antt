@@ -14,8 +14,8 @@ use Rattle.place.specs.declared.Place.the-variants.{Nowhere, At}
 use Rattle.transfer.specs.declared.Answer.{Answer}
 use Rattle.transfer.specs.declared.Answer.the-variants.{NotBlock, Container, Comment, NoFamily, NoPlace, BadPayload, BadNumbers, BadAddress}
 use Rattle.screen.specs.declared.Page.{Page}
-use Rattle.screen.specs.declared.Screened.{Screened}
-use Rattle.screen.specs.declared.Screened.the-variants.{Refused, Passed}
+use Rattle.screen.specs.declared.Screening.{Screening}
+use Rattle.screen.specs.declared.Screening.the-variants.{Refused, Passed}
 
 -- row 10: "total 0, total x 256 over the place, or number >= total"
 abbrev pub badNumbers : ℕ → Block → Bool
@@ -35,7 +35,7 @@ pageAt start b =
     }
 
 -- rows 8 to 11, of a block by its family's place
-unfoldable pub placed : Place → Block → Screened
+unfoldable pub placed : Place → Block → Screening
 placed Nowhere b = Refused NoPlace
 placed (At start size) b =
     cond (not (eqb (b .size) 256)) (Refused BadPayload)
@@ -52,7 +52,7 @@ headerRefusal header.NoFamily = NoFamily
 headerRefusal (header.Found b) = NotBlock
 
 -- rows 4 to 7: "Read the header first; if that yields no block, no other field counts"
-unfoldable pub headed : Settings → ℕ → Header → Screened
+unfoldable pub headed : Settings → ℕ → Header → Screening
 headed s len header.NotBlock = Refused NotBlock
 headed s len header.Container = Refused Container
 headed s len header.Comment = Refused Comment
@@ -60,5 +60,5 @@ headed s len header.NoFamily = Refused NoFamily
 headed s len (header.Found b) = placed (placeOf s len (b .family)) b
 
 -- rows 4 to 11, for a flash of len bytes
-unfoldable pub screenOf : Settings → ℕ → List ℕ → Screened
+unfoldable pub screenOf : Settings → ℕ → List ℕ → Screening
 screenOf s len a = headed s len (headerOf a)

@@ -18,7 +18,7 @@ pub struct Page {
     pub at: usize,
 }
 
-pub enum Screened {
+pub enum Screening {
     Refused(Answer),
     Passed(Page),
 }
@@ -42,38 +42,38 @@ fn header_answer(h: Header) -> Answer
 }
 
 // A block beside its place. Sums and products are of 64 bits, since each may pass 32.
-fn fits_place(b: Block, start: usize, size: usize) -> Screened
+fn fits_place(b: Block, start: usize, size: usize) -> Screening
     requires { ⌜ start < 0x100000000000 ⌝ }
     ensures { λ r. ⌜ r ≡ placed (At start size) b ⌝ }
 {
     if b.size as usize != Flash::PAYLOAD {
-        return Screened::Refused(Answer::BadPayload);
+        return Screening::Refused(Answer::BadPayload);
     }
     if b.total == 0 {
-        return Screened::Refused(Answer::BadNumbers);
+        return Screening::Refused(Answer::BadNumbers);
     }
     if size < b.total as usize * Flash::PAYLOAD {
-        return Screened::Refused(Answer::BadNumbers);
+        return Screening::Refused(Answer::BadNumbers);
     }
     if b.total <= b.number {
-        return Screened::Refused(Answer::BadNumbers);
+        return Screening::Refused(Answer::BadNumbers);
     }
     let address = b.address as usize;
     if address < Page::WINDOW {
-        return Screened::Refused(Answer::BadAddress);
+        return Screening::Refused(Answer::BadAddress);
     }
     if address % Flash::PAYLOAD != 0 {
-        return Screened::Refused(Answer::BadAddress);
+        return Screening::Refused(Answer::BadAddress);
     }
     let past = address + Flash::PAYLOAD;
     if size < past - Page::WINDOW {
-        return Screened::Refused(Answer::BadAddress);
+        return Screening::Refused(Answer::BadAddress);
     }
     let head = Head {
         family: b.family,
         total: b.total,
     };
-    Screened::Passed(Page {
+    Screening::Passed(Page {
         head,
         number: b.number,
         at: start + (address - Page::WINDOW),
@@ -81,16 +81,16 @@ fn fits_place(b: Block, start: usize, size: usize) -> Screened
 }
 
 // Rows 4 to 11: the first that refuses the arrival, or its page.
-pub fn screen(settings: Settings, flash_len: usize, arrival: &[u8]) -> Screened
+pub fn screen(settings: Settings, flash_len: usize, arrival: &[u8]) -> Screening
     ensures { λ r. ⌜ r ≡ screenOf settings «flash_len» (now (arrival .entry)) ⌝ }
 {
     let h = block::read(arrival);
     let Header::Found(b) = h else {
-        return Screened::Refused(header_answer(h));
+        return Screening::Refused(header_answer(h));
     };
     let p = place::find(settings, flash_len, b.family);
     match p {
-        Place::Nowhere => Screened::Refused(Answer::NoPlace),
+        Place::Nowhere => Screening::Refused(Answer::NoPlace),
         Place::At { start, len } => fits_place(b, start, len),
     }
 }

@@ -6,10 +6,10 @@ use Rattle.transfer.specs.declared.Head.{Head}
 use Rattle.transfer.specs.declared.State.{State}
 use Rattle.transfer.specs.declared.State.the-variants.{Idle, Running, Done}
 use Rattle.transfer.specs.declared.Transfer.{Transfer}
-use Rattle.transfer.specs.declared.Stayed.{Stayed}
-use Rattle.transfer.specs.declared.Taken.{Taken}
+use Rattle.transfer.specs.declared.Unchanged.{Unchanged}
+use Rattle.transfer.specs.declared.Accepted.{Accepted}
 use Rattle.transfer.specs.declared.Step.{Step}
-use Rattle.transfer.specs.declared.Step.the-variants.{Stays, Takes}
+use Rattle.transfer.specs.declared.Step.the-variants.{Stays, Accepts}
 use Rattle.transfer.specs.declared.Answer.{Answer}
 use Rattle.transfer.specs.declared.Answer.the-variants.{BadBuffers, BadSettings, BadState, NotBlock, Container, Comment, NoFamily, NoPlace, BadPayload, BadNumbers, BadAddress, Finished, Again, Written, Completed}
 
@@ -64,24 +64,24 @@ unfoldable pub raised : Head → ℕ → Answer
 raised g c = cond (ltb c (g .total)) Written Completed
 
 -- the transfer as it was, with an answer
-abbrev pub stayed : State → Answer → Stayed
-stayed t x = record { transfer = record { state = t }; answer = x }
+abbrev pub keptState : State → Answer → Unchanged
+keptState t x = record { transfer = record { state = t }; answer = x }
 
--- a block of head g is taken, and c is the raised count
-unfoldable pub taken : Bool → Bool → Head → ℕ → Taken
-taken clears discards g c =
+-- a block of head g is accepted, and c is the raised count
+unfoldable pub accepted : Bool → Bool → Head → ℕ → Accepted
+accepted clears discards g c =
     record {
       transfer = record { state = counted g c };
       answer = raised g c;
       discarded = discards;
-      fresh = clears;
+      clears = clears;
     }
 
 -- rows 12 to 15, of a block of head g whose number is marked or not
 unfoldable pub stepOf : State → Head → Bool → Step
-stepOf Idle g marked = Takes (taken true false g 1)
+stepOf Idle g marked = Accepts (accepted true false g 1)
 stepOf (Running r) g marked =
     cond (sameHead (r .head) g)
-    (cond marked (Stays (stayed (Running r) Again)) (Takes (taken false false g (r .count + 1))))
-    (Takes (taken true true g 1))
-stepOf (Done h) g marked = Stays (stayed (Done h) Finished)
+    (cond marked (Stays (keptState (Running r) Again)) (Accepts (accepted false false g (r .count + 1))))
+    (Accepts (accepted true true g 1))
+stepOf (Done h) g marked = Stays (keptState (Done h) Finished)

@@ -1,7 +1,7 @@
 // The transfer: its state, the answers to an arrival, and one step of it.
 ghost use mathlib.Core.Path.{_≡_};
 ghost use Prim.Native.Nat.{_+_};
-ghost use Rattle.transfer.specs.Transfer.{numberOf, fresh, goodState, sameHead, taken, stepOf};
+ghost use Rattle.transfer.specs.Transfer.{numberOf, fresh, goodState, sameHead, accepted, stepOf};
 
 // What makes two blocks one transfer.
 pub struct Head {
@@ -45,23 +45,23 @@ pub enum Answer {
 }
 
 // A block that changes nothing: the next transfer, which is the one that was, and the answer.
-pub struct Stayed {
+pub struct Unchanged {
     pub transfer: Transfer,
     pub answer: Answer,
 }
 
-// A block that is taken: the next transfer and the answer, whether a running transfer was discarded, whether the maps are cleared first.
-pub struct Taken {
+// A block that is accepted: the next transfer and the answer, whether a running transfer was discarded, whether the maps are cleared first.
+pub struct Accepted {
     pub transfer: Transfer,
     pub answer: Answer,
     pub discarded: bool,
-    pub fresh: bool,
+    pub clears: bool,
 }
 
 // What a block does to a transfer, with the next transfer and the answer in both cases.
 pub enum Step {
-    Stays(Stayed),
-    Takes(Taken),
+    Stays(Unchanged),
+    Accepts(Accepted),
 }
 
 impl Answer {
@@ -94,9 +94,9 @@ fn same_head(g: Head, h: Head) -> bool
     (g.family == h.family) & (g.total == h.total)
 }
 
-// A block is taken after `before` others. The raised count may not fit 32 bits, so it is compared in 64.
-fn take(head: Head, before: u32, clears: bool, discarded: bool) -> Taken
-    ensures { λ r. ⌜ r ≡ taken clears discarded head (before + 1) ⌝ }
+// A block is accepted after `before` others. The raised count may not fit 32 bits, so it is compared in 64.
+fn accept(head: Head, before: u32, clears: bool, discarded: bool) -> Accepted
+    ensures { λ r. ⌜ r ≡ accepted clears discarded head (before + 1) ⌝ }
 {
     let raised = before as u64 + 1;
     if raised < head.total as u64 {
@@ -104,20 +104,20 @@ fn take(head: Head, before: u32, clears: bool, discarded: bool) -> Taken
         let run = Run { head, count };
         let state = State::Running(run);
         let transfer = Transfer { state };
-        return Taken {
+        return Accepted {
             transfer,
             answer: Answer::Written,
             discarded,
-            fresh: clears,
+            clears,
         };
     }
     let state = State::Done(head);
     let transfer = Transfer { state };
-    Taken {
+    Accepted {
         transfer,
         answer: Answer::Completed,
         discarded,
-        fresh: clears,
+        clears,
     }
 }
 
@@ -152,9 +152,9 @@ impl Transfer {
     {
         let state = self.state;
         match state {
-            State::Idle => Step::Takes(take(head, 0, true, false)),
+            State::Idle => Step::Accepts(accept(head, 0, true, false)),
             State::Running(run) => go_on(run, head, marked),
-            State::Done(_) => Step::Stays(Stayed {
+            State::Done(_) => Step::Stays(Unchanged {
                 transfer: self,
                 answer: Answer::Finished,
             }),
@@ -168,15 +168,15 @@ fn go_on(run: Run, head: Head, marked: bool) -> Step
 {
     let current = run.head;
     if !same_head(current, head) {
-        return Step::Takes(take(head, 0, true, true));
+        return Step::Accepts(accept(head, 0, true, true));
     }
     if marked {
         let state = State::Running(run);
         let transfer = Transfer { state };
-        return Step::Stays(Stayed {
+        return Step::Stays(Unchanged {
             transfer,
             answer: Answer::Again,
         });
     }
-    Step::Takes(take(head, run.count, false, false))
+    Step::Accepts(accept(head, run.count, false, false))
 }

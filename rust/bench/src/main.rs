@@ -7,7 +7,7 @@ mod hex;
 use std::hint::black_box;
 use std::time::Instant;
 
-use compare::{page, proved_settings, Random};
+use compare::{page, proved_settings, Buffers, Random};
 use reference::{Arch, Entry, Link, Settings};
 
 const FLASH: usize = 33_554_432;
@@ -167,20 +167,10 @@ struct Sent {
     refused: bool,
 }
 
-/// Flash, seen map and sector map.
-struct Lent(Vec<u8>, Vec<u8>, Vec<u8>);
-
-impl Lent {
-    fn new() -> Lent {
-        Lent(vec![0; FLASH], vec![0; 16_384], vec![0; 1024])
-    }
-
-    fn cleared(&mut self) -> &mut Lent {
-        self.0.fill(0);
-        self.1.fill(0);
-        self.2.fill(0);
-        self
-    }
+/// Every buffer set to zeros, and handed on.
+fn cleared(buffers: &mut Buffers) -> &mut Buffers {
+    buffers.each().into_iter().for_each(|b| b.fill(0));
+    buffers
 }
 
 /// How often the settings' bytes are read in a file.
@@ -209,8 +199,8 @@ fn file(name: &str, s: &Settings, sent: Sent, reads: Reads) {
         // 257 bytes of payload: settings, header and place are asked, and nothing is stored
         file.iter_mut().skip(16).step_by(512).for_each(|b| *b = 1);
     }
-    let mut ours = Lent::new();
-    let mut theirs = Lent::new();
+    let mut ours = Buffers::filled(FLASH, 0);
+    let mut theirs = ours.clone();
     let (mut results, mut plain) = (vec![0; order.len()], vec![0; order.len()]);
     pair(
         name,
@@ -220,29 +210,21 @@ fn file(name: &str, s: &Settings, sent: Sent, reads: Reads) {
             bytes: Some(file.len()),
         },
         || {
-            let Lent(flash, seen, sectors) = ours.cleared();
+            let lent = cleared(&mut ours);
             let mut t = proved::Transfer::Idle.bytes();
             timed(|| {
                 if reads == Reads::Once {
-                    proved::bytes::receive_all(
-                        &p,
-                        &mut t,
-                        &file,
-                        &mut results,
-                        flash,
-                        seen,
-                        sectors,
-                    );
+                    lent.proved_all(&p, &mut t, &file, &mut results);
                 } else {
                     for (a, r) in file.chunks_exact(512).zip(&mut results) {
-                        *r = proved::bytes::receive(black_box(&p), &mut t, a, flash, seen, sectors);
+                        *r = lent.proved(black_box(&p), &mut t, a) as u8;
                     }
                 }
                 results.iter().map(|&r| u64::from(r)).sum()
             })
         },
         || {
-            let Lent(flash, seen, sectors) = theirs.cleared();
+            let lent = cleared(&mut theirs);
             let mut t = reference::Transfer::Idle;
             timed(|| {
                 let mut s = read(black_box(&p));
@@ -250,7 +232,7 @@ fn file(name: &str, s: &Settings, sent: Sent, reads: Reads) {
                     if reads == Reads::Each {
                         s = read(black_box(&p));
                     }
-                    let o = reference::receive(&s, t, a, flash, seen, sectors);
+                    let o = lent.reference(&s, t, a);
                     t = o.transfer;
                     *r = o.answer + 128 * u8::from(o.discarded);
                 }

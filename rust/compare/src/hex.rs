@@ -66,23 +66,26 @@ pub fn reader_of(bytes: &[u8]) -> Reader {
     }
 }
 
-pub fn proved_reader(reader: Reader) -> proved::hex::Reader {
+/// The reader as a value of the proved side; none where it has no such value, as a reader of a board that is neither V1 nor V2.
+pub fn proved_reader(reader: Reader) -> Option<proved::hex::Reader> {
     let boards = |b: Boards| proved::hex::Boards { v1: b.v1, v2: b.v2 };
-    proved::hex::Reader {
-        own: reader.own,
+    Some(proved::hex::Reader {
+        own: proved::hex::Board::from_number(reader.own)?,
         offset: reader.offset,
-        stand: match reader.stand {
-            Stand::Between => proved::hex::Stand::Between,
-            Stand::Opened => proved::hex::Stand::Opened,
-            Stand::Inside(b) => proved::hex::Stand::Inside(b),
-            Stand::Padded(b) => proved::hex::Stand::Padded(b),
-            Stand::Ended => proved::hex::Stand::Ended,
-            Stand::Failed(n) => proved::hex::Stand::Failed(n),
+        state: match reader.stand {
+            Stand::Between => proved::hex::State::Between,
+            Stand::Opened => proved::hex::State::Opened,
+            Stand::Inside(b) => proved::hex::State::Inside(b),
+            Stand::Padded(b) => proved::hex::State::Padded(b),
+            Stand::Ended => proved::hex::State::Ended,
+            Stand::Failed(n) => {
+                proved::hex::State::Failed(proved::hex::HexAnswer::from_number(n.into())?)
+            }
         },
         upper: reader.upper,
-        came: boards(reader.came),
-        gave: boards(reader.gave),
-    }
+        sections: boards(reader.came),
+        data: boards(reader.gave),
+    })
 }
 
 /// Bytes of a reader of any content, of 16 bytes.
@@ -334,7 +337,12 @@ fn any_item(r: &mut Random, board: u16, image: usize) -> Vec<u8> {
         1 => record(14, 0, &data),
         _ => {
             let kind = if board == V1 { 0 } else { 13 };
-            record(kind, any_address(r, image, n), &data)
+            // one byte too far, now and then
+            let address = match (n, r.one_in(60)) {
+                (2.., true) => (65_536 - n + 1) as u16,
+                _ => any_address(r, image, n),
+            };
+            record(kind, address, &data)
         }
     }
 }

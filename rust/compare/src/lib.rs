@@ -1,5 +1,6 @@
 //! Inputs for both receivers, from a seed, and the settings of one as the other takes them.
 
+pub mod fence;
 pub mod hex;
 
 use reference::{Arch, Entry, Link, Settings, Transfer};
@@ -84,6 +85,84 @@ pub fn proved_transfer(t: Transfer) -> proved::Transfer {
             count,
         },
         Transfer::Done { family, total } => proved::Transfer::Done { family, total },
+    }
+}
+
+/// What is lent with each arrival, as one side owns it.
+#[derive(Clone, PartialEq, Eq)]
+pub struct Buffers {
+    pub flash: Vec<u8>,
+    pub seen: Vec<u8>,
+    pub sectors: Vec<u8>,
+}
+
+impl Buffers {
+    /// A flash of a length and maps of the right ones, each byte of all three the same.
+    pub fn filled(flash_len: usize, byte: u8) -> Buffers {
+        Buffers {
+            flash: vec![byte; flash_len],
+            seen: vec![byte; reference::SEEN_LEN],
+            sectors: vec![byte; reference::SECTORS_LEN],
+        }
+    }
+
+    /// A flash of whole sectors and maps of the right lengths, of any content.
+    pub fn any(r: &mut Random, sectors: u64) -> Buffers {
+        let mut buffers = Buffers::filled(sectors as usize * reference::SECTOR_LEN, 0);
+        for buffer in buffers.each() {
+            buffer.fill_with(|| r.draw() as u8);
+        }
+        buffers
+    }
+
+    /// Every buffer, for what is done to each alike.
+    pub fn each(&mut self) -> [&mut Vec<u8>; 3] {
+        [&mut self.flash, &mut self.seen, &mut self.sectors]
+    }
+
+    /// Lent to the proved receiver.
+    pub fn lend(&mut self) -> proved::Lent<'_> {
+        proved::Lent {
+            flash: &mut self.flash,
+            seen: &mut self.seen,
+            sectors: &mut self.sectors,
+        }
+    }
+
+    /// One arrival to the reference, with these.
+    pub fn reference(&mut self, s: &Settings, t: Transfer, arrival: &[u8]) -> reference::Outcome {
+        let Buffers {
+            flash,
+            seen,
+            sectors,
+        } = self;
+        reference::receive(s, t, arrival, flash, seen, sectors)
+    }
+
+    /// One arrival to the proved receiver as bytes, with these: the result.
+    pub fn proved(&mut self, settings: &[u8], transfer: &mut [u8], arrival: &[u8]) -> u32 {
+        let Buffers {
+            flash,
+            seen,
+            sectors,
+        } = self;
+        proved::bytes::receive(settings, transfer, arrival, flash, seen, sectors)
+    }
+
+    /// Many arrivals to the proved receiver as bytes, with these: their number.
+    pub fn proved_all(
+        &mut self,
+        settings: &[u8],
+        transfer: &mut [u8],
+        arrivals: &[u8],
+        results: &mut [u8],
+    ) -> usize {
+        let Buffers {
+            flash,
+            seen,
+            sectors,
+        } = self;
+        proved::bytes::receive_all(settings, transfer, arrivals, results, flash, seen, sectors)
     }
 }
 
@@ -179,6 +258,30 @@ pub const FAMILIES: [u32; 9] = [
     3,
 ];
 
+/// A transfer of any kind, most of them good.
+pub fn any_transfer(r: &mut Random, pages: u64) -> Transfer {
+    let (mut family, mut total) = (reference::ARM_S, r.of(&[2, 3, 16]));
+    if r.one_in(2) {
+        family = r.of(&FAMILIES);
+        total = r.of(&[0, 1, 2, pages as u32, 131_072, 131_073]);
+    }
+    let right = 1 + r.below(u64::from(total).max(2) - 1) as u32;
+    match r.below(8) {
+        0..=2 => Transfer::Idle,
+        3 => Transfer::Done { family, total },
+        4 => Transfer::Running {
+            family,
+            total,
+            count: r.of(&[0, 1, total.wrapping_sub(1), total, u32::MAX]),
+        },
+        _ => Transfer::Running {
+            family,
+            total,
+            count: right,
+        },
+    }
+}
+
 /// A block's fields; the payload is filled from the seed.
 #[derive(Clone, Copy)]
 pub struct Fields {
@@ -222,8 +325,25 @@ pub fn page(family: u32, total: u32, k: u32) -> Vec<u8> {
     arrival(fields, u64::from(k) + 1)
 }
 
-/// An arrival of any kind: near a bound, damaged, or plain.
+/// A block that passes wherever its family has a place of so many pages.
+fn right_arrival(r: &mut Random, pages: u64) -> Vec<u8> {
+    let total = r.of(&[1, 2, 3, 16, pages as u32]);
+    let fields = Fields {
+        flags: r.of(&[0x2000, 0x2000, 0xE000]),
+        address: 0x1000_0000 + 256 * r.below(pages) as u32,
+        size: 256,
+        number: r.below(u64::from(total)) as u32,
+        total,
+        family: r.of(&[reference::ARM_S, reference::ARM_S, reference::DATA, USER]),
+    };
+    arrival(fields, r.draw())
+}
+
+/// An arrival of any kind: right, near a bound, or damaged.
 pub fn any_arrival(r: &mut Random, pages: u64) -> Vec<u8> {
+    if r.one_in(2) {
+        return right_arrival(r, pages);
+    }
     let total = r.of(&[1, 2, 3, 16, pages as u32, pages as u32 + 1, 0, 0x0100_0000]);
     let number = match r.below(4) {
         0 => total,

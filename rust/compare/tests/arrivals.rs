@@ -2,7 +2,8 @@
 //! compared, at least.
 
 use compare::{
-    any_arrival, any_settings, arm_only, page, proved_settings, proved_transfer, Random, FAMILIES,
+    any_arrival, any_settings, any_transfer, arm_only, page, proved_settings, proved_transfer,
+    Buffers, Random,
 };
 use reference::{Settings, Transfer};
 
@@ -17,12 +18,12 @@ struct Pair {
     settings: Settings,
     proved: proved::Settings,
     transfer: Transfer,
-    ours: [Vec<u8>; 3],
-    theirs: [Vec<u8>; 3],
+    ours: Buffers,
+    theirs: Buffers,
 }
 
 impl Pair {
-    fn new(settings: Settings, transfer: Transfer, buffers: [Vec<u8>; 3]) -> Pair {
+    fn new(settings: Settings, transfer: Transfer, buffers: Buffers) -> Pair {
         Pair {
             proved: proved_settings(&settings),
             settings,
@@ -34,12 +35,11 @@ impl Pair {
 
     /// Hands both the arrival, and says what both answered.
     fn take(&mut self, arrival: &[u8]) -> u8 {
-        let [flash, seen, sectors] = &mut self.theirs;
-        let wanted =
-            reference::receive(&self.settings, self.transfer, arrival, flash, seen, sectors);
-        let [flash, seen, sectors] = &mut self.ours;
+        let wanted = self
+            .theirs
+            .reference(&self.settings, self.transfer, arrival);
         let mut t = proved_transfer(self.transfer);
-        let got = proved::receive(&self.proved, &mut t, arrival, flash, seen, sectors);
+        let got = proved::receive(&self.proved, &mut t, arrival, &mut self.ours.lend());
         assert_eq!(got.answer.number(), wanted.answer, "answer");
         assert_eq!(got.discarded, wanted.discarded, "discarded");
         assert_eq!(t, proved_transfer(wanted.transfer), "transfer");
@@ -49,34 +49,15 @@ impl Pair {
     }
 }
 
-fn any_buffers(r: &mut Random, sectors: u64) -> [Vec<u8>; 3] {
-    let mut bytes = |n: usize| -> Vec<u8> { (0..n).map(|_| r.draw() as u8).collect() };
-    [bytes(sectors as usize * 4096), bytes(16_384), bytes(1024)]
-}
-
-fn any_transfer(r: &mut Random, pages: u64) -> Transfer {
-    let family = r.of(&FAMILIES);
-    let total = r.of(&[0, 1, 2, 3, 16, pages as u32, 131_072, 131_073]);
-    match r.below(4) {
-        0 | 1 => Transfer::Idle,
-        2 => Transfer::Done { family, total },
-        _ => Transfer::Running {
-            family,
-            total,
-            count: r.of(&[0, 1, 2, total.wrapping_sub(1), total, u32::MAX]),
-        },
-    }
-}
-
 #[test]
 fn arrivals_agree() {
     let mut r = Random(2);
-    let mut answers = [0u32; 16];
+    let mut answers = [0; 16];
     for _ in 0..number().div_ceil(40) {
         let sectors = r.of(&[1, 2, 5, 16]);
         let settings = any_settings(&mut r, sectors);
         let transfer = any_transfer(&mut r, sectors * 16);
-        let buffers = any_buffers(&mut r, sectors);
+        let buffers = Buffers::any(&mut r, sectors);
         let mut pair = Pair::new(settings, transfer, buffers);
         let mut sent: Vec<Vec<u8>> = Vec::new();
         for _ in 0..40 {
@@ -89,8 +70,9 @@ fn arrivals_agree() {
             sent.push(a);
         }
     }
-    // every answer but 1 came
-    assert!(answers[2..].iter().all(|&n| n > 50), "{answers:?}");
+    // every answer but 1 came, and often
+    let often = number() / 500;
+    assert!(answers[2..].iter().all(|&n| n > often), "{answers:?}");
 }
 
 #[test]
@@ -98,7 +80,7 @@ fn wrong_lengths_agree() {
     let mut r = Random(3);
     for _ in 0..2_000 {
         let settings = any_settings(&mut r, 4);
-        let mut buffers = any_buffers(&mut r, 4);
+        let mut buffers = Buffers::any(&mut r, 4);
         let mut a = page(reference::ARM_S, 4, 1);
         let change = |r: &mut Random, v: &mut Vec<u8>| {
             let n = r.of(&[0, 1, v.len() - 1, v.len() + 1, v.len() / 2, v.len() + 4096]);
@@ -106,7 +88,7 @@ fn wrong_lengths_agree() {
         };
         match r.below(4) {
             0 => change(&mut r, &mut a),
-            k => change(&mut r, &mut buffers[k as usize - 1]),
+            k => change(&mut r, buffers.each()[k as usize - 1]),
         }
         Pair::new(settings, Transfer::Idle, buffers).take(&a);
     }
@@ -126,7 +108,7 @@ fn shuffled_files_agree() {
             order.push(r.below(u64::from(n)) as usize);
         }
         r.shuffle(&mut order);
-        let mut pair = Pair::new(arm_only(), Transfer::Idle, any_buffers(&mut r, sectors));
+        let mut pair = Pair::new(arm_only(), Transfer::Idle, Buffers::any(&mut r, sectors));
         let mut seen = vec![false; n as usize];
         for k in order {
             if r.one_in(5) {
@@ -141,7 +123,7 @@ fn shuffled_files_agree() {
             assert_eq!(pair.take(&file[k]) == 15, completes);
         }
         for (k, a) in file.iter().enumerate() {
-            assert_eq!(pair.ours[0][k * 256..][..256], a[32..288]);
+            assert_eq!(pair.ours.flash[k * 256..][..256], a[32..288]);
         }
     }
 }
@@ -154,7 +136,7 @@ fn two_files_in_turn_agree() {
         let n = 2 + r.below(40) as u32;
         let other = r.of(&[(reference::ARM_S, n + 1), (reference::DATA, n)]);
         let files = [(reference::ARM_S, n), other];
-        let mut pair = Pair::new(arm_only(), Transfer::Idle, any_buffers(&mut r, 8));
+        let mut pair = Pair::new(arm_only(), Transfer::Idle, Buffers::any(&mut r, 8));
         for i in 0..2 * n {
             let (family, total) = files[i as usize % 2];
             let block = page(family, total, r.below(u64::from(total)) as u32);
@@ -184,7 +166,7 @@ fn all_at_once_agrees() {
         let sectors = r.of(&[1, 2, 5, 16]);
         let settings = any_settings(&mut r, sectors);
         let transfer = any_transfer(&mut r, sectors * 16);
-        let buffers = any_buffers(&mut r, sectors);
+        let buffers = Buffers::any(&mut r, sectors);
         let mut one = Pair::new(settings, transfer, buffers.clone());
         let n = r.below(20) as usize;
         let mut file: Vec<u8> = (0..n)
@@ -193,24 +175,17 @@ fn all_at_once_agrees() {
         // a last piece that is no whole arrival, and room for fewer results, or for more
         file.resize(file.len() + r.below(512) as usize, 1);
         let mut results = vec![77; r.below(25) as usize];
-        let [mut flash, mut seen, mut map] = buffers;
+        let mut all = buffers;
         let mut end = proved_transfer(transfer);
-        let number = proved::receive_all(
-            &one.proved,
-            &mut end,
-            &file,
-            &mut results,
-            &mut flash,
-            &mut seen,
-            &mut map,
-        );
+        let number =
+            proved::receive_all(&one.proved, &mut end, &file, &mut results, &mut all.lend());
         assert_eq!(number, n.min(results.len()));
         for (i, a) in file.chunks_exact(512).take(number).enumerate() {
             assert_eq!(results[i] % 128, one.take(a));
         }
         assert!(results[number..].iter().all(|&x| x == 77));
         assert_eq!(end, proved_transfer(one.transfer));
-        assert!([flash, seen, map] == one.ours);
+        assert!(all == one.ours);
     }
 }
 
@@ -222,18 +197,18 @@ fn longest_file_agrees() {
     let mut order: Vec<u32> = (0..n).collect();
     r.shuffle(&mut order);
     let p = proved_settings(&arm_only());
-    let mut buffers = [vec![7; 33_554_432], vec![9; 16_384], vec![9; 1024]];
-    let mut transfer = proved::Transfer::Idle;
+    let mut buffers = Buffers::filled(33_554_432, 9);
+    let mut transfer = proved::Transfer::new();
     for (i, &k) in order.iter().enumerate() {
-        let [flash, seen, sectors] = &mut buffers;
         let a = page(reference::DATA, n, k);
-        let got = proved::receive(&p, &mut transfer, &a, flash, seen, sectors);
+        let got = proved::receive(&p, &mut transfer, &a, &mut buffers.lend());
         let last = i + 1 == n as usize;
         assert_eq!(got.answer.number(), if last { 15 } else { 14 });
     }
-    assert!(buffers[1].iter().chain(&buffers[2]).all(|&b| b == 0xFF));
+    let maps = buffers.seen.iter().chain(&buffers.sectors);
+    assert!(maps.copied().all(|b| b == 0xFF));
     for k in 0..n {
         let a = page(reference::DATA, n, k);
-        assert!(buffers[0][k as usize * 256..][..256] == a[32..288]);
+        assert!(buffers.flash[k as usize * 256..][..256] == a[32..288]);
     }
 }

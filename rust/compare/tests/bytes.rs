@@ -1,34 +1,24 @@
 //! Settings and transfers as bytes of any content and length: what is no settings is answered 2, what is no state 3, each in its order,
 //! and a refusal leaves every byte that was lent.
 
-use compare::{any_settings, arm_only, page, proved_settings, proved_transfer, Random};
+use compare::{any_settings, arm_only, page, proved_settings, proved_transfer, Buffers, Random};
 use proved::{bytes, SETTINGS_BYTES, TRANSFER_BYTES};
 use reference::Transfer;
 
 const LEN: usize = 16_384;
 
-fn buffers() -> [Vec<u8>; 3] {
-    [vec![3; LEN], vec![5; 16_384], vec![6; 1024]]
+fn buffers() -> Buffers {
+    Buffers::filled(LEN, 5)
 }
 
 /// The result of a block that is right but for what is handed over, by one call and by all at once.
-fn received(settings: &[u8], transfer: &[u8], arrival: &[u8]) -> u8 {
+fn received(settings: &[u8], transfer: &[u8], arrival: &[u8]) -> u32 {
     let (mut one, mut all) = (transfer.to_vec(), transfer.to_vec());
     let (mut ours, mut theirs) = (buffers(), buffers());
-    let [flash, seen, sectors] = &mut ours;
-    let result = bytes::receive(settings, &mut one, arrival, flash, seen, sectors);
-    let [flash, seen, sectors] = &mut theirs;
+    let result = ours.proved(settings, &mut one, arrival);
     let mut results = [0; 1];
-    let number = bytes::receive_all(
-        settings,
-        &mut all,
-        arrival,
-        &mut results,
-        flash,
-        seen,
-        sectors,
-    );
-    assert_eq!((number, results[0]), (1, result));
+    let number = theirs.proved_all(settings, &mut all, arrival, &mut results);
+    assert_eq!((number, results[0].into()), (1, result));
     assert!(one == all && ours == theirs);
     if result < 14 {
         assert!(one == transfer && ours == buffers(), "a refusal changes");
@@ -114,7 +104,7 @@ fn links_of_every_kind() {
         let wanted = reference::ask_place(&changed, 40 * 4096, reference::ARM_S);
         let mut place = [9; 8];
         let got = bytes::ask(&b, 40 * 4096, reference::ARM_S, &mut place);
-        assert_eq!(got, wanted.err().unwrap_or(0));
+        assert_eq!(got, wanted.err().unwrap_or(0).into());
         if k < usize::from(s.count) {
             assert_eq!(got, 2, "a used entry of link kind {kind}");
             bad += 1;
@@ -142,7 +132,7 @@ fn any_bytes() {
         let wanted = reference::ask_place(&s, 40 * 4096, family);
         let mut place = [0; 8];
         let got = bytes::ask(&b, 40 * 4096, family, &mut place);
-        assert_eq!(got, wanted.err().unwrap_or(0));
+        assert_eq!(got, wanted.err().unwrap_or(0).into());
         if let Ok((start, len)) = wanted {
             let two = [start as u32, len as u32].map(u32::to_le_bytes).concat();
             assert_eq!(place, two[..]);
@@ -162,5 +152,10 @@ fn places_of_every_length() {
 
 #[test]
 fn fresh_transfer() {
-    assert_eq!(proved::new_transfer(), proved::Transfer::Idle);
+    assert_eq!(proved::Transfer::new(), proved::Transfer::Idle);
+    for n in lengths(TRANSFER_BYTES) {
+        let mut transfer = vec![9; n];
+        bytes::new(&mut transfer);
+        assert!(transfer.iter().all(|&b| b == 9));
+    }
 }

@@ -5,6 +5,7 @@ use compare::hex::{
     any_file, any_reader, any_record, any_text, bytes_of, damage, proved_reader, reader_of, ENDINGS,
 };
 use compare::Random;
+use proved::hex::{Board, Reader};
 use reference::hex::{fresh, Stand, V1, V2};
 
 /// The number of lines that a run compares.
@@ -35,7 +36,7 @@ impl Pair {
         let was = reader_of(reader);
         let (next, wanted) = reference::hex::line(was, line, &mut self.theirs);
         let got = proved::hex::bytes::line(reader, line, &mut self.ours);
-        assert_eq!(got, wanted, "answer to {line:?} of {was:?}");
+        assert_eq!(got, wanted.into(), "answer to {line:?} of {was:?}");
         let failed = matches!(was.stand, Stand::Failed(_));
         let changed = match wanted {
             32..=35 => true,
@@ -97,7 +98,8 @@ fn files_agree() {
         tell(&mut answers, &pair);
     }
     // every answer that a file can come to, but 36
-    assert!(answers[20..36].iter().all(|&n| n > 500), "{answers:?}");
+    let often = number() / 6_000;
+    assert!(answers[20..36].iter().all(|&n| n > often), "{answers:?}");
 }
 
 /// Readers of any content, and lines of any.
@@ -120,8 +122,9 @@ fn any_lines_agree() {
         lines += 64;
         tell(&mut answers, &pair);
     }
-    assert!(answers[20..].iter().all(|&n| n > 500), "{answers:?}");
-    assert!(answers[18] > 500);
+    let often = number() / 6_000;
+    assert!(answers[20..].iter().all(|&n| n > often), "{answers:?}");
+    assert!(answers[18] > often);
 }
 
 /// Every byte for where a reader stands, with every byte for the failure.
@@ -194,24 +197,37 @@ fn lines_of_every_length() {
 #[test]
 fn values_agree() {
     let mut r = Random(15);
+    let mut values = 0;
     for _ in 0..number() / 12 {
         let was = reader_of(&any_reader(&mut r));
         let mut theirs = any_image(&mut r);
         let mut ours = theirs.clone();
         let line = any_record(&mut r, ours.len());
         let (next, wanted) = reference::hex::line(was, &line, &mut theirs);
-        let mut reader = proved_reader(was);
-        let got = proved::hex::line(&mut reader, &line, &mut ours);
-        assert_eq!((got.number(), reader), (wanted, proved_reader(next)));
+        // a reader that is bad in a way that has no value is handed over as bytes alone
+        let Some(mut reader) = proved_reader(was) else {
+            assert_eq!(wanted, 18);
+            continue;
+        };
+        values += 1;
+        let got = reader.line(&line, &mut ours);
+        assert_eq!((got.number(), Some(reader)), (wanted, proved_reader(next)));
         assert!(ours == theirs);
     }
+    assert!(values > number() / 16);
 }
 
 /// A fresh reader of every board, and nothing where there are not 16 bytes.
 #[test]
 fn fresh_readers() {
     for own in 0..=u16::MAX {
-        assert_eq!(proved::hex::Reader::new(own), proved_reader(fresh(own)));
+        let mut reader = [9; 16];
+        proved::hex::bytes::new(own, &mut reader);
+        assert_eq!(reader, bytes_of(fresh(own)));
+    }
+    for board in [Board::V1, Board::V2] {
+        let wanted = proved_reader(fresh(board.number()));
+        assert_eq!(Some(Reader::new(board)), wanted);
     }
     for n in (0..40).filter(|&n| n != 16) {
         let mut reader = vec![9; n];

@@ -1,366 +1,141 @@
 //! The proved receiver for Rust: safe calls of its C interface (include/uf2_receiver.h).
 //!
-//! Nothing has to be checked before a call: every settings, transfer and length gets an answer, and nothing panics.
+//! UF2 blocks go through [`receive`], lines of Universal Hex through [`hex::Reader::line`]. Nothing has to be checked before a call: every
+//! settings, transfer, reader and length gets an answer, and nothing is allocated or kept between calls. It links
+//! `target/staticlib/libcapi.a`, which `rt staticlib capi` writes: code for x86-64 Linux.
+//!
+//! Flash is memory that can be stored to. Where flash needs a driver, lend a copy of it in memory and write it back afterwards.
+//!
+//! ```
+//! use proved::{Answer, Lent, Settings, Transfer};
+//!
+//! # let block = [0; proved::ARRIVAL_BYTES];
+//! let mut transfer = Transfer::new();
+//! let (mut flash, mut seen, mut sectors) =
+//!     (vec![0; 32_768], vec![0; proved::SEEN_MAP_BYTES], vec![0; proved::SECTOR_MAP_BYTES]);
+//! let mut lent = Lent { flash: &mut flash, seen: &mut seen, sectors: &mut sectors };
+//! let outcome = proved::receive(&Settings::ARM, &mut transfer, &block, &mut lent);
+//! assert_eq!(outcome.answer, Answer::NotBlock); // this block is all zeros
+//! ```
+//!
+//! # A number that is none of the answers
+//!
+//! That the library returns only the numbers of its answers is proved. A call that gets another one, or bytes that are no transfer or no
+//! reader, is linked with a library that is not the proved one of this version, and panics: it does not invent an answer. The calls
+//! of the modules [`bytes`] and [`hex::bytes`] hand on what the library returns, and never panic.
 
+#![no_std]
+#![deny(missing_docs)]
+
+pub mod bytes;
+mod ffi;
 pub mod hex;
+mod settings;
+mod transfer;
 
-pub const ENTRIES: usize = 16;
-const SETTINGS_HEAD: usize = 6;
-const ENTRY_BYTES: usize = 33;
+pub use settings::{Arch, Entry, Link, Settings, ENTRIES, SETTINGS_BYTES};
+pub use transfer::{Answer, Outcome, Transfer, TRANSFER_BYTES};
 
-/// The bytes of settings and of a transfer, as the C interface takes them.
-pub const SETTINGS_BYTES: usize = SETTINGS_HEAD + ENTRIES * ENTRY_BYTES;
-pub const TRANSFER_BYTES: usize = 13;
-const PLACE_BYTES: usize = 8;
+/// The bytes of an arrival: a UF2 block.
+pub const ARRIVAL_BYTES: usize = 512;
+/// The bytes of a seen map: a bit for each block number.
+pub const SEEN_MAP_BYTES: usize = 16_384;
+/// The bytes of a sector map: a bit for each sector.
+pub const SECTOR_MAP_BYTES: usize = 1024;
+/// The bytes of a sector. A flash is whole sectors, at least one.
+pub const SECTOR_BYTES: usize = 4096;
+/// The most bytes of a flash.
+pub const FLASH_MAX_BYTES: usize = 33_554_432;
 
-#[derive(Clone, Copy, PartialEq, Eq, Debug)]
-pub enum Link {
-    Unlinked,
-    OwnedBy(u8),
-    BOf(u8),
+/// The numbers of the families that have a meaning of their own; any other is a user family.
+pub mod family {
+    /// RP2040: it has no place.
+    pub const RP2040: u32 = 0xe48b_ff56;
+    /// Addresses of the whole flash, where the settings allow it.
+    pub const ABSOLUTE: u32 = 0xe48b_ff57;
+    /// Data.
+    pub const DATA: u32 = 0xe48b_ff58;
+    /// A secure image for Arm.
+    pub const ARM_S: u32 = 0xe48b_ff59;
+    /// An image for RISC-V.
+    pub const RISCV: u32 = 0xe48b_ff5a;
+    /// A non-secure image for Arm.
+    pub const ARM_NS: u32 = 0xe48b_ff5b;
 }
 
-#[derive(Clone, Copy, PartialEq, Eq, Debug)]
-pub enum Arch {
-    Arm,
-    RiscV,
-}
-
-#[derive(Clone, Copy, PartialEq, Eq, Debug)]
-pub struct Entry {
-    pub first: u32,
-    pub sectors: u32,
-    pub data: bool,
-    pub arm_s: bool,
-    pub riscv: bool,
-    pub arm_ns: bool,
-    pub user_count: u8,
-    pub users: [u32; 4],
-    pub not_bootable_arm: bool,
-    pub not_bootable_riscv: bool,
-    pub link: Link,
-}
-
-#[derive(Clone, PartialEq, Eq, Debug)]
-pub struct Settings {
-    pub arm: bool,
-    pub riscv: bool,
-    pub current: Arch,
-    pub auto_switch: bool,
-    pub absolute: bool,
-    /// The used entries of the table; 0 is no table.
-    pub count: u8,
-    pub table: [Entry; ENTRIES],
-}
-
-#[derive(Clone, Copy, PartialEq, Eq, Debug, Default)]
-pub enum Transfer {
-    #[default]
-    Idle,
-    Running {
-        family: u32,
-        total: u32,
-        count: u32,
-    },
-    Done {
-        family: u32,
-        total: u32,
-    },
-}
-
-/// The answers to an arrival, by their numbers. A place asked for alone is refused by the first, the second or `NoPlace`.
-#[derive(Clone, Copy, PartialEq, Eq, Debug)]
-#[repr(u8)]
-pub enum Answer {
-    BadBuffers = 1,
-    BadSettings = 2,
-    BadState = 3,
-    NotBlock = 4,
-    Container = 5,
-    Comment = 6,
-    NoFamily = 7,
-    NoPlace = 8,
-    BadPayload = 9,
-    BadNumbers = 10,
-    BadAddress = 11,
-    Finished = 12,
-    Again = 13,
-    Written = 14,
-    Completed = 15,
-}
-
-/// What one arrival was answered, and whether its block discarded a running transfer.
-#[derive(Clone, Copy, PartialEq, Eq, Debug)]
-pub struct Outcome {
-    pub answer: Answer,
-    pub discarded: bool,
+/// What is lent with each arrival; nobody else writes it between the arrivals of a transfer.
+pub struct Lent<'a> {
+    /// The flash: whole sectors, at most [`FLASH_MAX_BYTES`].
+    pub flash: &'a mut [u8],
+    /// The seen map, [`SEEN_MAP_BYTES`] long.
+    pub seen: &'a mut [u8],
+    /// The sector map, [`SECTOR_MAP_BYTES`] long.
+    pub sectors: &'a mut [u8],
 }
 
 /// A place in the flash, in bytes.
 #[derive(Clone, Copy, PartialEq, Eq, Debug)]
 pub struct Place {
+    /// The offset of its first byte in the flash.
     pub start: u32,
+    /// How many bytes it has.
     pub len: u32,
 }
 
-// A slice is a pointer and then a length.
-extern "C" {
-    fn uf2_new(transfer: *mut u8, transfer_len: usize);
-
-    fn uf2_ask(
-        settings: *const u8,
-        settings_len: usize,
-        flash_len: usize,
-        family: u32,
-        place: *mut u8,
-        place_len: usize,
-    ) -> u32;
-
-    fn uf2_receive(
-        settings: *const u8,
-        settings_len: usize,
-        transfer: *mut u8,
-        transfer_len: usize,
-        arrival: *const u8,
-        arrival_len: usize,
-        flash: *mut u8,
-        flash_len: usize,
-        seen: *mut u8,
-        seen_len: usize,
-        sectors: *mut u8,
-        sectors_len: usize,
-    ) -> u32;
-
-    fn uf2_receive_all(
-        settings: *const u8,
-        settings_len: usize,
-        transfer: *mut u8,
-        transfer_len: usize,
-        arrivals: *const u8,
-        arrivals_len: usize,
-        results: *mut u8,
-        results_len: usize,
-        flash: *mut u8,
-        flash_len: usize,
-        seen: *mut u8,
-        seen_len: usize,
-        sectors: *mut u8,
-        sectors_len: usize,
-    ) -> usize;
-}
-
-impl Entry {
-    /// No sectors, and nothing that it accepts.
-    pub const BLANK: Entry = Entry {
-        first: 0,
-        sectors: 0,
-        data: false,
-        arm_s: false,
-        riscv: false,
-        arm_ns: false,
-        user_count: 0,
-        users: [0; 4],
-        not_bootable_arm: false,
-        not_bootable_riscv: false,
-        link: Link::Unlinked,
-    };
-
-    fn bytes(&self) -> [u8; ENTRY_BYTES] {
-        let (kind, index) = match self.link {
-            Link::Unlinked => (0, 0),
-            Link::OwnedBy(k) => (1, k),
-            Link::BOf(k) => (2, k),
-        };
-        let mut bytes = [0; ENTRY_BYTES];
-        let [a, b, c, d] = self.users;
-        for (part, field) in bytes
-            .chunks_exact_mut(4)
-            .zip([self.first, self.sectors, a, b, c, d])
-        {
-            part.copy_from_slice(&field.to_le_bytes());
-        }
-        bytes[24..].copy_from_slice(&[
-            self.data.into(),
-            self.arm_s.into(),
-            self.riscv.into(),
-            self.arm_ns.into(),
-            self.user_count,
-            self.not_bootable_arm.into(),
-            self.not_bootable_riscv.into(),
-            kind,
-            index,
-        ]);
-        bytes
-    }
-}
-
-impl Settings {
-    /// Arm alone, no table, the family absolute not allowed.
-    pub const ARM: Settings = Settings {
-        arm: true,
-        riscv: false,
-        current: Arch::Arm,
-        auto_switch: false,
-        absolute: false,
-        count: 0,
-        table: [Entry::BLANK; ENTRIES],
-    };
-
-    /// The bytes of the settings, as the C interface has them.
-    pub fn bytes(&self) -> [u8; SETTINGS_BYTES] {
-        let mut bytes = [0; SETTINGS_BYTES];
-        bytes[..SETTINGS_HEAD].copy_from_slice(&[
-            self.arm.into(),
-            self.riscv.into(),
-            (self.current == Arch::RiscV).into(),
-            self.auto_switch.into(),
-            self.absolute.into(),
-            self.count,
-        ]);
-        for (part, entry) in bytes[SETTINGS_HEAD..]
-            .chunks_exact_mut(ENTRY_BYTES)
-            .zip(&self.table)
-        {
-            part.copy_from_slice(&entry.bytes());
-        }
-        bytes
-    }
-}
-
-impl Transfer {
-    /// The bytes of the transfer, as the C interface has them.
-    pub fn bytes(self) -> [u8; TRANSFER_BYTES] {
-        let (kind, family, total, count) = match self {
-            Transfer::Idle => (0, 0, 0, 0),
-            Transfer::Running {
-                family,
-                total,
-                count,
-            } => (1, family, total, count),
-            Transfer::Done { family, total } => (2, family, total, total),
-        };
-        let mut bytes = [0; TRANSFER_BYTES];
-        bytes[0] = kind;
-        bytes[1..5].copy_from_slice(&family.to_le_bytes());
-        bytes[5..9].copy_from_slice(&total.to_le_bytes());
-        bytes[9..].copy_from_slice(&count.to_le_bytes());
-        bytes
-    }
-
-    /// The transfer that bytes are; none where they are no state.
-    pub fn from_bytes(bytes: &[u8; TRANSFER_BYTES]) -> Option<Transfer> {
-        let (family, total) = (field(bytes, 1), field(bytes, 5));
-        match bytes[0] {
-            0 => Some(Transfer::Idle),
-            1 => Some(Transfer::Running {
-                family,
-                total,
-                count: field(bytes, 9),
-            }),
-            2 => Some(Transfer::Done { family, total }),
-            _ => None,
-        }
-    }
-}
-
-impl Answer {
-    const ALL: [Answer; 15] = [
-        Answer::BadBuffers,
-        Answer::BadSettings,
-        Answer::BadState,
-        Answer::NotBlock,
-        Answer::Container,
-        Answer::Comment,
-        Answer::NoFamily,
-        Answer::NoPlace,
-        Answer::BadPayload,
-        Answer::BadNumbers,
-        Answer::BadAddress,
-        Answer::Finished,
-        Answer::Again,
-        Answer::Written,
-        Answer::Completed,
-    ];
-
-    pub fn number(self) -> u8 {
-        self as u8
-    }
-
-    /// The answer of a number from 1 to 15, the only ones that are proved to come back.
-    pub fn from_number(number: u8) -> Option<Answer> {
-        Answer::ALL
-            .get(usize::from(number).wrapping_sub(1))
-            .copied()
-    }
-}
-
-impl Outcome {
-    /// What a result says: the answer's number, and 128 more where a running transfer was discarded.
-    pub fn from_result(result: u8) -> Option<Outcome> {
-        Some(Outcome {
-            answer: Answer::from_number(result % 128)?,
-            discarded: result >= 128,
-        })
-    }
-
-    pub fn result(self) -> u8 {
-        self.answer.number() + if self.discarded { 128 } else { 0 }
-    }
-}
-
-fn field(bytes: &[u8], at: usize) -> u32 {
-    match bytes.get(at..).and_then(|rest| rest.first_chunk()) {
-        Some(four) => u32::from_le_bytes(*four),
-        None => 0,
-    }
-}
-
-/// A fresh transfer.
-pub fn new_transfer() -> Transfer {
-    let mut bytes = [0xFF; TRANSFER_BYTES];
-    unsafe { uf2_new(bytes.as_mut_ptr(), bytes.len()) };
-    Transfer::from_bytes(&bytes).unwrap_or_default()
-}
-
-/// A place asked for alone, or `BadBuffers`, `BadSettings` or `NoPlace`.
+/// The place of a family, or `BadBuffers` (the flash's length is wrong), `BadSettings` or `NoPlace`.
+///
+/// # Panics
+///
+/// Where the library returns a number that is none of these (see the crate's page).
 pub fn ask(settings: &Settings, flash_len: usize, family: u32) -> Result<Place, Answer> {
-    let mut place = [0; PLACE_BYTES];
-    match bytes::ask(&settings.bytes(), flash_len, family, &mut place) {
+    let mut place = [0; bytes::PLACE_BYTES];
+    let number = bytes::ask(&settings.bytes(), flash_len, family, &mut place);
+    let [a, b, c, d, e, f, g, h] = place;
+    match number {
         0 => Ok(Place {
-            start: field(&place, 0),
-            len: field(&place, 4),
+            start: u32::from_le_bytes([a, b, c, d]),
+            len: u32::from_le_bytes([e, f, g, h]),
         }),
-        number => Err(Answer::from_number(number).unwrap_or(Answer::BadBuffers)),
+        _ => Err(Answer::from_number(number).unwrap_or_else(|| unknown(number))),
     }
 }
 
 /// One arrival. The transfer goes in and comes back.
+///
+/// # Panics
+///
+/// Where the library returns a number that is none of the answers (see the crate's page).
 pub fn receive(
     settings: &Settings,
     transfer: &mut Transfer,
     arrival: &[u8],
-    flash: &mut [u8],
-    seen: &mut [u8],
-    sectors: &mut [u8],
+    lent: &mut Lent,
 ) -> Outcome {
     let mut state = transfer.bytes();
-    let result = bytes::receive(&settings.bytes(), &mut state, arrival, flash, seen, sectors);
-    *transfer = Transfer::from_bytes(&state).unwrap_or(*transfer);
-    Outcome::from_result(result).unwrap_or(Outcome {
-        answer: Answer::BadBuffers,
-        discarded: false,
-    })
+    let result = bytes::receive(
+        &settings.bytes(),
+        &mut state,
+        arrival,
+        lent.flash,
+        lent.seen,
+        lent.sectors,
+    );
+    *transfer = Transfer::handed_back(&state);
+    Outcome::from_result(result).unwrap_or_else(|| unknown(result))
 }
 
-/// Whole arrivals one after the other, as many as there are results for; their number. `Outcome::from_result` says what each result is.
+/// Whole arrivals one after the other, as many as there are results for; their number. [`Outcome::from_result`] says what a result is.
+/// What follows the last whole arrival is not read: a short last piece is for [`receive`], which answers it `BadBuffers`.
+///
+/// # Panics
+///
+/// Where the library hands back bytes that are no transfer (see the crate's page).
 pub fn receive_all(
     settings: &Settings,
     transfer: &mut Transfer,
     arrivals: &[u8],
     results: &mut [u8],
-    flash: &mut [u8],
-    seen: &mut [u8],
-    sectors: &mut [u8],
+    lent: &mut Lent,
 ) -> usize {
     let mut state = transfer.bytes();
     let number = bytes::receive_all(
@@ -368,85 +143,16 @@ pub fn receive_all(
         &mut state,
         arrivals,
         results,
-        flash,
-        seen,
-        sectors,
+        lent.flash,
+        lent.seen,
+        lent.sectors,
     );
-    *transfer = Transfer::from_bytes(&state).unwrap_or(*transfer);
+    *transfer = Transfer::handed_back(&state);
     number
 }
 
-/// The calls as they are, for settings and transfers that are bytes already, of any length and content.
-pub mod bytes {
-    /// 0 and a place in the 8 bytes of `place`, start and length; or the number of a refusal.
-    pub fn ask(settings: &[u8], flash_len: usize, family: u32, place: &mut [u8]) -> u8 {
-        let number = unsafe {
-            super::uf2_ask(
-                settings.as_ptr(),
-                settings.len(),
-                flash_len,
-                family,
-                place.as_mut_ptr(),
-                place.len(),
-            )
-        };
-        number as u8
-    }
-
-    /// The answer's number, and 128 more where a running transfer was discarded.
-    pub fn receive(
-        settings: &[u8],
-        transfer: &mut [u8],
-        arrival: &[u8],
-        flash: &mut [u8],
-        seen: &mut [u8],
-        sectors: &mut [u8],
-    ) -> u8 {
-        let result = unsafe {
-            super::uf2_receive(
-                settings.as_ptr(),
-                settings.len(),
-                transfer.as_mut_ptr(),
-                transfer.len(),
-                arrival.as_ptr(),
-                arrival.len(),
-                flash.as_mut_ptr(),
-                flash.len(),
-                seen.as_mut_ptr(),
-                seen.len(),
-                sectors.as_mut_ptr(),
-                sectors.len(),
-            )
-        };
-        result as u8
-    }
-
-    pub fn receive_all(
-        settings: &[u8],
-        transfer: &mut [u8],
-        arrivals: &[u8],
-        results: &mut [u8],
-        flash: &mut [u8],
-        seen: &mut [u8],
-        sectors: &mut [u8],
-    ) -> usize {
-        unsafe {
-            super::uf2_receive_all(
-                settings.as_ptr(),
-                settings.len(),
-                transfer.as_mut_ptr(),
-                transfer.len(),
-                arrivals.as_ptr(),
-                arrivals.len(),
-                results.as_mut_ptr(),
-                results.len(),
-                flash.as_mut_ptr(),
-                flash.len(),
-                seen.as_mut_ptr(),
-                seen.len(),
-                sectors.as_mut_ptr(),
-                sectors.len(),
-            )
-        }
-    }
+/// The library returned what is proved not to be returned.
+#[cold]
+fn unknown(number: u32) -> ! {
+    panic!("libcapi.a returned {number}, none of its answers: it is not the proved library of this version");
 }

@@ -16,8 +16,8 @@ receive-requires c κs = search needs
 number-requires : tie.Need-number-requires
 number-requires c κs = search needs
 
-is-taken-requires : tie.Need-is-taken-requires
-is-taken-requires c κs = search needs
+is-acceptance-requires : tie.Need-is-acceptance-requires
+is-acceptance-requires c κs = search needs
 
 keep-requires : tie.Need-keep-requires
 keep-requires c κs = search needs
@@ -46,7 +46,7 @@ returns c =
     let number = kept .before .before .before in
     let got = number .before .before .before .before .before .before .before .before in
     let read = got .before .before .before .before in
-    receive-ran _ _ _ _ _ _ (read .before .before .read-settings .ensures) (read .read-transfer .ensures) (got .receive .ensures) (number .number .ensures) (kept .before .is-taken .ensures) (kept .keep .ensures) (c .report .ensures)
+    receive-ran _ _ _ _ _ _ (read .before .before .read-settings .ensures) (read .read-transfer .ensures) (got .receive .ensures) (number .number .ensures) (kept .before .is-acceptance .ensures) (kept .keep .ensures) (c .report .ensures)
 
 pub uf2-receive-spec : {M : Type 1} → statement M
 uf2-receive-spec =
@@ -56,7 +56,7 @@ uf2-receive-spec =
     read-transfer-requires
     receive-requires
     number-requires
-    is-taken-requires
+    is-acceptance-requires
     keep-requires
     report-requires
     cast-result

@@ -4,24 +4,24 @@ use mathlib.Core.Path.{_≡_, refl, _∙_}
 use mathlib.Core.Bool.{false}
 use lib.ListN.{length, drop, length-set}
 use Rattle.receiver.specs.Receiver.{world}
-use Rattle.capi.specs.Calls.{arrivalsOf, manyFrom}
+use Rattle.capi.specs.Calls.{arrivalsOf, batchFrom}
 use Rattle.capi.proofs.Laws.{number-most}
-use Rattle.capi.proofs.Many.{all-start, all-more, all-ran}
+use Rattle.capi.proofs.Batch.{all-start, all-more, all-ran}
 use borrow.Author.Needs.{needs}
 use Rattle.capi.proofs.uf2_receive_all.Statement.{statement}
 use Rattle.capi.proofs.uf2_receive_all.Tie as tie
 
 abbrev Inv-loop : tie.InvT-loop
-Inv-loop settings transfer arrivals results₀ flash₀ seen₀ sectors₀ s t₀ taken₀ n i₀ results flash seen sectors t taken i =
+Inv-loop settings transfer arrivals results₀ flash₀ seen₀ sectors₀ s t₀ accepted₀ n i₀ results flash seen sectors t accepted i =
     (i ≤ n)
     × (length results ≡ length results₀)
     × (length flash ≡ length flash₀)
     × (length seen ≡ length seen₀)
     × (length sectors ≡ length sectors₀)
-    × (manyFrom n s transfer (world t flash seen sectors) taken results i (arrivalsOf (n - i) (drop (i * 512) arrivals)) ≡ manyFrom n s transfer (world t₀ flash₀ seen₀ sectors₀) false results₀ 0 (arrivalsOf n arrivals))
+    × (batchFrom n s transfer (world t flash seen sectors) accepted results i (arrivalsOf (n - i) (drop (i * 512) arrivals)) ≡ batchFrom n s transfer (world t₀ flash₀ seen₀ sectors₀) false results₀ 0 (arrivalsOf n arrivals))
 
 abbrev μ-loop : tie.MeasureT-loop
-μ-loop settings transfer arrivals results₀ flash₀ seen₀ sectors₀ s t₀ taken₀ n i₀ results flash seen sectors t taken i =
+μ-loop settings transfer arrivals results₀ flash₀ seen₀ sectors₀ s t₀ accepted₀ n i₀ results flash seen sectors t accepted i =
     n - i
 
 read-settings-requires : tie.Need-read-settings-requires Inv-loop μ-loop
@@ -63,8 +63,8 @@ report-requires c κs = rw (c .number .ensures) (number-most (c .before .before 
 slice-write-results : tie.Need-slice-write-results Inv-loop μ-loop
 slice-write-results c = search needs
 
-is-taken-requires : tie.Need-is-taken-requires Inv-loop μ-loop
-is-taken-requires c κs = search needs
+is-acceptance-requires : tie.Need-is-acceptance-requires Inv-loop μ-loop
+is-acceptance-requires c κs = search needs
 
 add-i : tie.Need-add-i Inv-loop μ-loop
 add-i c = search needs
@@ -75,9 +75,9 @@ loop-less c = search needs
 loop-again : tie.Need-loop-again Inv-loop μ-loop
 loop-again c =
     let got = c .before .before .before .before .before .before .before .before .before .before in
-    let turn = got .before .before .before .before .before in
-    let at = turn .before .loop in
-    (search needs, simp length-set (at .inv .1), search needs, search needs, search needs, all-more _ _ _ _ _ _ _ _ _ _ _ (turn .loop-test .taken) (got .receive .ensures) (c .before .before .number .ensures) (c .before .report .ensures) (c .is-taken .ensures) ∙ at .inv .5)
+    let round = got .before .before .before .before .before in
+    let at = round .before .loop in
+    (search needs, simp length-set (at .inv .1), search needs, search needs, search needs, all-more _ _ _ _ _ _ _ _ _ _ _ (round .loop-test .taken) (got .receive .ensures) (c .before .before .number .ensures) (c .before .report .ensures) (c .is-acceptance .ensures) ∙ at .inv .5)
 
 keep-requires : tie.Need-keep-requires Inv-loop μ-loop
 keep-requires c κs = search needs
@@ -103,7 +103,7 @@ returns c =
     let out = kept .before .before in
     let made = out .before .before in
     let read = made .before in
-    all-ran _ _ _ _ _ _ _ (out .before .loop .t) (out .before .loop .taken) (made .at-most .ensures .0) (read .before .before .read-settings .ensures) (read .read-transfer .ensures) (out .loop-test .left) (out .before .loop .inv .5) (kept .keep .ensures)
+    all-ran _ _ _ _ _ _ _ (out .before .loop .t) (out .before .loop .accepted) (made .at-most .ensures .0) (read .before .before .read-settings .ensures) (read .read-transfer .ensures) (out .loop-test .left) (out .before .loop .inv .5) (kept .keep .ensures)
 
 pub uf2-receive-all-spec : {M : Type 1} → statement M
 uf2-receive-all-spec =
@@ -124,7 +124,7 @@ uf2-receive-all-spec =
     number-requires
     report-requires
     slice-write-results
-    is-taken-requires
+    is-acceptance-requires
     add-i
     loop-less
     loop-again

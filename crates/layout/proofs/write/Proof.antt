@@ -1,7 +1,7 @@
 -- `layout::write` meets its contract. Assumes nothing.
 use mathlib.Core.Path.{_∙_}
 use lib.ListN.{length-set}
-use Rattle.layout.proofs.Transfers.{thirteen-put}
+use Rattle.layout.proofs.Transfers.{transferBytes-put}
 use borrow.Author.Needs.{needs}
 use Rattle.layout.proofs.write.Statement.{statement}
 use Rattle.layout.proofs.write.Tie as tie
@@ -31,7 +31,7 @@ returns c =
     let second = third .before .before .before .before in
     let first = second .before .before .before .before in
     let start = first .before .before .before in
-    rw (third .put3 .ensures, second .put2 .ensures, first .put .ensures) (thirteen-put (start .args .bytes .now) _ _ _ _ (start .pre))
+    rw (third .put3 .ensures, second .put2 .ensures, first .put .ensures) (transferBytes-put (start .args .bytes .now) _ _ _ _ (start .pre))
 
 pub write-spec : {M : Type 1} → statement M
 write-spec =

@@ -1,13 +1,13 @@
 -- `layout::write_transfer` meets its contract. Assumes nothing.
 use mathlib.Core.Path.{sym, ap, _∙_}
 use borrow.Author.Tests.{eq-eqb, ne-eqb}
-use Rattle.layout.specs.Layout.{stateBytes, written}
+use Rattle.layout.specs.Layout.{stateBytes, withTransfer}
 use borrow.Author.Needs.{needs}
 use Rattle.layout.proofs.write_transfer.Statement.{statement}
 use Rattle.layout.proofs.write_transfer.Tie as tie
 
 returns : tie.Need-returns
-unfolding written
+unfolding withTransfer
 returns c = simp (ne-eqb _ _ (c .if1 .taken))
 
 enum-told : tie.Need-enum-told
@@ -32,7 +32,7 @@ same-length : tie.Need-same-length
 same-length c = search needs
 
 returns-2 : tie.Need-returns-2
-unfolding written
+unfolding withTransfer
 returns-2 c =
     let b = c .before .before in
     simp (eq-eqb _ _ (b .before .before .before .before .if1 .left)) (b .write .ensures ∙ sym (ap stateBytes (b .before .before .enum-told .given .1)))
@@ -41,7 +41,7 @@ same-length-2 : tie.Need-same-length-2
 same-length-2 c = search needs
 
 returns-3 : tie.Need-returns-3
-unfolding written
+unfolding withTransfer
 returns-3 c =
     let b = c .before .before in
     simp (eq-eqb _ _ (b .before .before .before .before .before .before .if1 .left)) (b .write2 .ensures ∙ sym (ap stateBytes (b .before .before .before .before .state .given .1)))
@@ -50,7 +50,7 @@ same-length-3 : tie.Need-same-length-3
 same-length-3 c = search needs
 
 returns-4 : tie.Need-returns-4
-unfolding written
+unfolding withTransfer
 returns-4 c =
     let b = c .before .before in
     simp (eq-eqb _ _ (b .before .before .before .before .before .if1 .left)) (b .write3 .ensures ∙ sym (ap stateBytes (b .before .before .before .state2 .given .1)))

@@ -17,8 +17,8 @@ returns c = (c .whole-if .ensures .0 ∙ sym (place-absolute _ _ _ (c .before .i
 returns-2 : tie.Need-returns-2
 returns-2 c = (sym (place-rp2040 _ _ _ (c .if2 .taken)), tt)
 
-taken-whole-requires : tie.Need-taken-whole-requires
-taken-whole-requires c κs = search needs
+gets-whole-requires : tie.Need-gets-whole-requires
+gets-whole-requires c κs = search needs
 
 whole-if-requires-2 : tie.Need-whole-if-requires-2
 whole-if-requires-2 c κs = search needs
@@ -26,13 +26,13 @@ whole-if-requires-2 c κs = search needs
 returns-3 : tie.Need-returns-3
 returns-3 c = (
   c .whole-if2 .ensures .0
-      ∙ ap (λ (b : Bool). wholeIf b (c .before .before .before .before .before .args .flash-len)) (c .before .taken-whole .ensures)
+      ∙ ap (λ (b : Bool). wholeIf b (c .before .before .before .before .before .args .flash-len)) (c .before .gets-whole .ensures)
       ∙ sym (place-whole _ _ _ (c .before .before .before .before .if1 .left) (c .before .before .before .if2 .left) (c .before .before .if3 .taken)),
   c .whole-if2 .ensures .1,
 )
 
-want-requires : tie.Need-want-requires
-want-requires c κs = search needs
+query-requires : tie.Need-query-requires
+query-requires c κs = search needs
 
 used-count-requires : tie.Need-used-count-requires
 used-count-requires c κs = search needs
@@ -50,7 +50,7 @@ mul-e : tie.Need-mul-e
 mul-e c =
     let d = c .before .before .before in
     let x = d .before .before .before .before .before .before .before .args in
-    let h = chosen-is (x .settings) (x .family) _ _ (d .choose .ensures) (d .before .used-count .ensures) (d .before .before .before .want .ensures) in
+    let h = chosen-is (x .settings) (x .family) _ _ (d .choose .ensures) (d .before .used-count .ensures) (d .before .before .before .query .ensures) in
     let l = entry-below (x .settings) (x .family) (sym h ∙ c .before .k .given .1) in
     omega arith
 
@@ -58,7 +58,7 @@ array-copy-out-e : tie.Need-array-copy-out-e
 array-copy-out-e c =
     let d = c .before .before .before in
     let x = d .before .before .before .before .before .before .before .args in
-    let h = chosen-is (x .settings) (x .family) _ _ (d .choose .ensures) (d .before .used-count .ensures) (d .before .before .before .want .ensures) in
+    let h = chosen-is (x .settings) (x .family) _ _ (d .choose .ensures) (d .before .used-count .ensures) (d .before .before .before .query .ensures) in
     let l = entry-below (x .settings) (x .family) (sym h ∙ c .before .k .given .1) in
     omega arith
 
@@ -69,7 +69,7 @@ returns-4 : tie.Need-returns-4
 returns-4 c =
     let d = c .before .before in
     let x = d .before .before .before .before .before .before .before .args in
-    let h = chosen-is (x .settings) (x .family) _ _ (d .choose .ensures) (d .before .used-count .ensures) (d .before .before .before .want .ensures) in
+    let h = chosen-is (x .settings) (x .family) _ _ (d .choose .ensures) (d .before .used-count .ensures) (d .before .before .before .query .ensures) in
     let e = ap (placeOfChoice (x .settings .table)) (sym h ∙ c .enum-told .given .1) in
     (sym (place-table _ _ _ (d .before .before .before .before .before .before .if1 .left) (d .before .before .before .before .before .if2 .left) (d .before .before .before .before .if3 .left) ∙ e), tt)
 
@@ -77,7 +77,7 @@ returns-5 : tie.Need-returns-5
 returns-5 c =
     let d = c .before .before .before .before .before in
     let x = d .before .before .before .before .before .before .before .args in
-    let h = chosen-is (x .settings) (x .family) _ _ (d .choose .ensures) (d .before .used-count .ensures) (d .before .before .before .want .ensures) in
+    let h = chosen-is (x .settings) (x .family) _ _ (d .choose .ensures) (d .before .used-count .ensures) (d .before .before .before .query .ensures) in
     let e = ap (placeOfChoice (x .settings .table)) (sym h ∙ c .before .before .before .k .given .1) in
     (c .bytes-of .ensures .0 ∙ sym (place-table _ _ _ (d .before .before .before .before .before .before .if1 .left) (d .before .before .before .before .before .if2 .left) (d .before .before .before .before .if3 .left) ∙ e), c .bytes-of .ensures .1)
 
@@ -88,10 +88,10 @@ find-spec =
     whole-if-requires
     returns
     returns-2
-    taken-whole-requires
+    gets-whole-requires
     whole-if-requires-2
     returns-3
-    want-requires
+    query-requires
     used-count-requires
     choose-requires
     enum-told

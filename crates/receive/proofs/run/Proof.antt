@@ -22,8 +22,8 @@ new-requires c κs = search needs
 loop-holds : tie.Need-loop-holds Inv-loop μ-loop
 loop-holds c = omega arith
 
-turn-requires : tie.Need-turn-requires Inv-loop μ-loop
-turn-requires c κs = search needs
+answer-piece-requires : tie.Need-answer-piece-requires Inv-loop μ-loop
+answer-piece-requires c κs = search needs
 
 add-index : tie.Need-add-index Inv-loop μ-loop
 add-index c = search needs
@@ -67,7 +67,7 @@ run-spec =
     arm-only-requires
     new-requires
     loop-holds
-    turn-requires
+    answer-piece-requires
     add-index
     loop-less
     loop-again

@@ -22,8 +22,8 @@ refuse-requires c κs = search needs
 enum-known-step-2 : tie.Need-enum-known-step-2
 enum-known-step-2 c = search needs
 
-take-requires : tie.Need-take-requires
-take-requires c κs = search needs
+accept-requires : tie.Need-accept-requires
+accept-requires c κs = search needs
 
 same-length : tie.Need-same-length
 same-length c = search needs
@@ -47,7 +47,7 @@ returns-2 c =
     let b = c .before .before .before .before .before .before in
     let e = b .before .before .before .before .before in
     let d = e .before .before in
-    look-takes _ _ _ _ _ _ (d .before .marked .ensures) (d .step .ensures) _ (e .step3 .given .1) (b .take .ensures)
+    look-takes _ _ _ _ _ _ (d .before .marked .ensures) (d .step .ensures) _ (e .step3 .given .1) (b .accept .ensures)
 
 pub look-spec : {M : Type 1} → statement M
 look-spec =
@@ -59,7 +59,7 @@ look-spec =
     enum-known-step
     refuse-requires
     enum-known-step-2
-    take-requires
+    accept-requires
     same-length
     returns
     same-length-2

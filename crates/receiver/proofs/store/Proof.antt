@@ -25,10 +25,10 @@ same-length-2 c = search needs
 returns : tie.Need-returns
 returns c =
     let marked = c .before .before in
-    let laid = marked .before .before .before .before in
-    let erased = laid .before .before .before .before in
+    let put = marked .before .before .before .before in
+    let erased = put .before .before .before .before in
     let cleared = erased .before .before .before .before .before in
-    stored _ _ _ _ _ (cleared .clear-if .ensures) (erased .erase-new .ensures) (laid .store .ensures) (marked .mark .ensures)
+    stored _ _ _ _ _ (cleared .clear-if .ensures) (erased .erase-new .ensures) (put .store .ensures) (marked .mark .ensures)
 
 pub store-spec : {M : Type 1} → statement M
 store-spec =

@@ -2,7 +2,7 @@
 use mathlib.Core.Path.{sym, ap, _∙_}
 use Rattle.screen.proofs.Laws.{screen-refused, screen-placed}
 use Rattle.screen.specs.Screen.{placed}
-use Rattle.screen.specs.declared.Screened.the-variants.{Refused}
+use Rattle.screen.specs.declared.Screening.the-variants.{Refused}
 use borrow.Author.Needs.{needs}
 use Rattle.screen.proofs.screen.Statement.{statement}
 use Rattle.screen.proofs.screen.Tie as tie

@@ -6,8 +6,9 @@ use std::fs;
 use std::path::{Path, PathBuf};
 
 use compare::hex::{record, Text};
-use compare::{proved_settings, Random};
-use reference::{hex, Arch, Entry, Settings, ARM_S, MAX_ENTRIES, SECTORS_LEN, SEEN_LEN};
+use compare::{proved_settings, Buffers, Random};
+use proved::hex::{Board, Reader};
+use reference::{hex, Arch, Entry, Settings, ARM_S, MAX_ENTRIES};
 
 type Done = Result<(), Box<dyn Error>>;
 
@@ -135,43 +136,25 @@ fn with_family(block: &[u8]) -> Vec<u8> {
 /// The answers to arrivals from Idle, and the flash afterwards, the same on both sides.
 fn deliver(arrivals: &[&[u8]]) -> Result<(Vec<u8>, Vec<u8>), Box<dyn Error>> {
     let settings = proved_settings(&SETTINGS);
-    let (mut p, mut r) = (proved::Transfer::Idle, reference::Transfer::Idle);
-    let (mut flash, mut seen, mut sectors) =
-        (vec![0; FLASH_LEN], vec![0; SEEN_LEN], vec![0; SECTORS_LEN]);
-    let (mut flash_r, mut seen_r, mut sectors_r) = (flash.clone(), seen.clone(), sectors.clone());
+    let (mut p, mut r) = (proved::Transfer::new(), reference::Transfer::Idle);
+    let mut ours = Buffers::filled(FLASH_LEN, 0);
+    let mut theirs = ours.clone();
     let mut answers = Vec::new();
     for arrival in arrivals {
-        let ours = proved::receive(
-            &settings,
-            &mut p,
-            arrival,
-            &mut flash,
-            &mut seen,
-            &mut sectors,
-        );
-        let theirs = reference::receive(
-            &SETTINGS,
-            r,
-            arrival,
-            &mut flash_r,
-            &mut seen_r,
-            &mut sectors_r,
-        );
-        r = theirs.transfer;
-        check(ours.answer.number() == theirs.answer, "the answers differ")?;
-        answers.push(theirs.answer);
+        let got = proved::receive(&settings, &mut p, arrival, &mut ours.lend());
+        let wanted = theirs.reference(&SETTINGS, r, arrival);
+        r = wanted.transfer;
+        check(got.answer.number() == wanted.answer, "the answers differ")?;
+        answers.push(wanted.answer);
     }
-    check(
-        (&flash, &seen, &sectors) == (&flash_r, &seen_r, &sectors_r),
-        "the buffers differ",
-    )?;
-    Ok((answers, flash))
+    check(ours == theirs, "the buffers differ")?;
+    Ok((answers, ours.flash))
 }
 
 /// The file as it is, which has no sections, and as the V1 section of a file for both boards.
 fn hex_file(file: &[u8]) -> Result<String, Box<dyn Error>> {
     let plain: Vec<&[u8]> = file.split_inclusive(|&c| c == b'\n').collect();
-    let (answers, _) = read(hex::V1, &plain)?;
+    let (answers, _) = read(Board::V1, &plain)?;
     let refused = answers.iter().position(|&a| a == 26);
     check(
         refused == Some(1),
@@ -179,12 +162,12 @@ fn hex_file(file: &[u8]) -> Result<String, Box<dyn Error>> {
     )?;
     let (lines, wanted) = universal(&plain);
     let lines: Vec<&[u8]> = lines.iter().map(Vec::as_slice).collect();
-    let (answers, image) = read(hex::V1, &lines)?;
+    let (answers, image) = read(Board::V1, &lines)?;
     check(answers.last() == Some(&35), "the file does not end")?;
     check(image == wanted, "the image is not what the plain file says")?;
     let stored = answers.iter().filter(|&&a| a == 33).count();
     let outside = answers.iter().filter(|&&a| a == 32).count();
-    let (answers, image) = read(hex::V2, &lines)?;
+    let (answers, image) = read(Board::V2, &lines)?;
     check(
         answers.last() == Some(&35),
         "the other board's file does not end",
@@ -200,12 +183,12 @@ fn hex_file(file: &[u8]) -> Result<String, Box<dyn Error>> {
 }
 
 /// The answers to lines from a fresh reader, and the image afterwards, the same on both sides.
-fn read(own: u16, lines: &[&[u8]]) -> Result<(Vec<u8>, Vec<u8>), Box<dyn Error>> {
-    let (mut p, mut r) = (proved::hex::Reader::new(own), hex::fresh(own));
+fn read(own: Board, lines: &[&[u8]]) -> Result<(Vec<u8>, Vec<u8>), Box<dyn Error>> {
+    let (mut p, mut r) = (Reader::new(own), hex::fresh(own.number()));
     let (mut image, mut image_r) = (vec![0xFF; IMAGE_LEN], vec![0xFF; IMAGE_LEN]);
     let mut answers = Vec::new();
     for line in lines {
-        let ours = proved::hex::line(&mut p, line, &mut image);
+        let ours = p.line(line, &mut image);
         let (next, theirs) = hex::line(r, line, &mut image_r);
         r = next;
         check(ours.number() == theirs, "the answers differ")?;

@@ -1,7 +1,7 @@
 -- `transfer::Transfer::step` meets its contract. Assumes nothing.
 use Rattle.transfer.specs.Transfer.{stepOf}
 use mathlib.Core.Path.{ap}
-use Rattle.transfer.specs.declared.Step.the-variants.{Takes}
+use Rattle.transfer.specs.declared.Step.the-variants.{Accepts}
 use borrow.Author.Needs.{needs}
 use Rattle.transfer.proofs.Transfer.step.Statement.{statement}
 use Rattle.transfer.proofs.Transfer.step.Tie as tie
@@ -9,8 +9,8 @@ use Rattle.transfer.proofs.Transfer.step.Tie as tie
 enum-told : tie.Need-enum-told
 enum-told c = search needs
 
-take-requires : tie.Need-take-requires
-take-requires c κs = search needs
+accept-requires : tie.Need-accept-requires
+accept-requires c κs = search needs
 
 enum-known-state : tie.Need-enum-known-state
 enum-known-state c = search needs
@@ -23,7 +23,7 @@ enum-told-2 c = search needs
 
 returns : tie.Need-returns
 unfolding stepOf
-returns c = rw (c .before .enum-told .given .1) (ap Takes (c .take .ensures))
+returns c = rw (c .before .enum-told .given .1) (ap Accepts (c .accept .ensures))
 
 returns-2 : tie.Need-returns-2
 unfolding stepOf
@@ -38,7 +38,7 @@ step-spec =
     tie.close
     (tie.spec
     enum-told
-    take-requires
+    accept-requires
     enum-known-state
     go-on-requires
     enum-told-2

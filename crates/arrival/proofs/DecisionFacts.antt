@@ -1,0 +1,154 @@
+-- What has been decided of an arrival: an answer up to 13, or a page that passed rows 1 to 11 and a step that accepts it. Assumes nothing.
+use Prim.Native.Nat.{ℕ, _+_, _≤_, _<_}
+use mathlib.Core.Path.{_≡_, refl, sym, subst}
+use mathlib.Core.Bool.{Bool, true, false, cond, _&&_}
+use mathlib.Core.List.{List}
+use native.Mathlib.Omega.{arith}
+use lib.Dec.{eqb, ltb}
+use lib.ListN.{length}
+use borrow.Author.Tests.{eqb-true, le-leb}
+use Rattle.sets.proofs.Tests.{split, and-left, and-right}
+use Rattle.bitmap.specs.Bitmap.{markedIn}
+use Rattle.flash.specs.Flash.{flashLength}
+use Rattle.settings.specs.declared.Settings.{Settings}
+use Rattle.settings.specs.Settings.{goodSettings}
+use Rattle.transfer.specs.Transfer.{numberOf, countOf, goodState, sameHead, counted, raised, accepted, stepOf}
+use Rattle.transfer.specs.declared.Head.{Head}
+use Rattle.transfer.specs.declared.Run.{Run}
+use Rattle.transfer.specs.declared.State.{State}
+use Rattle.transfer.specs.declared.State.the-variants.{Idle, Running, Done}
+use Rattle.transfer.specs.declared.Accepted.{Accepted}
+use Rattle.transfer.specs.declared.Step.{Step}
+use Rattle.transfer.specs.declared.Step.the-variants.{Stays, Accepts}
+use Rattle.transfer.specs.declared.Answer.{Answer}
+use Rattle.transfer.specs.declared.Answer.the-variants.{BadBuffers, BadSettings, BadState}
+use Rattle.screen.specs.Screen.{screenOf}
+use Rattle.screen.specs.declared.Page.{Page}
+use Rattle.screen.specs.declared.Screening.{Screening}
+use Rattle.screen.specs.declared.Screening.the-variants.{Refused, Passed}
+use Rattle.arrival.specs.Arrive.{World, Decision, stays, accepts, rightLengths, stepped, afterScreening, decide}
+use Rattle.arrival.specs.Tally.{clears}
+use Rattle.arrival.proofs.Heads.{head-same}
+use Rattle.arrival.proofs.Screening.{Passing, Good, screen-good}
+
+-- ---- rows 1 to 3
+
+abbrev pub flashOf : World → ℕ
+flashOf w = length (w .held .flash)
+
+abbrev pub decisionOf : Settings → World → List ℕ → Decision
+decisionOf s w a = decide s (flashOf w) (length (w .held .sectors)) (w .transfer) (w .seen) a
+
+-- settings, buffers and transfer that pass rows 1 to 3
+pub record Board (s : Settings) (w : World) : Type 0 where
+  pub flash : flashLength (flashOf w) ≡ true
+  pub seen : length (w .seen) ≡ 16384
+  pub sectors : length (w .held .sectors) ≡ 1024
+  pub good : goodSettings s (flashOf w) ≡ true
+  pub state : goodState (w .transfer) ≡ true
+
+pub board-decides : (s : Settings) (w : World) (a : List ℕ) → Board s w → length a ≡ 512
+    → decisionOf s w a ≡ afterScreening (w .transfer) (w .seen) (screenOf s (flashOf w) a)
+unfolding decide rightLengths
+board-decides s w a B l = rw (l, B .flash, B .seen, B .sectors, B .good, B .state)
+
+right-true : (a f m k : ℕ) → rightLengths a f m k ≡ true → (a ≡ 512) × (flashLength f ≡ true) × (m ≡ 16384) × (k ≡ 1024)
+unfolding rightLengths
+right-true a f m k e =
+    let p = and-left (eqb a 512 && flashLength f && eqb m 16384) (eqb k 1024) e in
+    let q = and-left (eqb a 512 && flashLength f) (eqb m 16384) p in (
+      eqb-true a 512 (and-left (eqb a 512) (flashLength f) q),
+      and-right (eqb a 512) (flashLength f) q,
+      eqb-true m 16384 (and-right (eqb a 512 && flashLength f) (eqb m 16384) p),
+      eqb-true k 1024 (and-right (eqb a 512 && flashLength f && eqb m 16384) (eqb k 1024) e),
+    )
+
+pub data Rows (s : Settings) (w : World) (a : List ℕ) : Type 0 where
+  stopped : (x : Answer) → numberOf x ≤ 3 → decisionOf s w a ≡ stays x → Rows s w a
+  through : Board s w → length a ≡ 512 → Rows s w a
+
+pub rows : (s : Settings) (w : World) (a : List ℕ) → Rows s w a
+rows s w a =
+    split (rightLengths (length a) (flashOf w) (length (w .seen)) (length (w .held .sectors)))
+    (λ y.
+    split (goodSettings s (flashOf w))
+    (λ g.
+    split (goodState (w .transfer))
+    (λ t.
+    let r = right-true (length a) (flashOf w) (length (w .seen)) (length (w .held .sectors)) y in
+    through (record { flash = r .1; seen = r .2; sectors = r .3; good = g; state = t }) (r .0))
+    (λ t. stopped BadState (omega arith) (unfold decide in rw (y, g, t))))
+    (λ g. stopped BadSettings (omega arith) (unfold decide in rw (y, g))))
+    (λ y. stopped BadBuffers (omega arith) (unfold decide in rw y))
+
+-- ---- rows 12 to 15
+
+pub raised-number : (g : Head) (c : ℕ) → 14 ≤ numberOf (raised g c)
+unfolding raised
+raised-number g c = split (ltb c (g .total)) (λ y. rw y (omega arith)) (λ z. rw z (omega arith))
+
+-- a step that accepts a block of head g to a transfer t, where its number is marked or not
+pub record AcceptFacts (t : State) (g : Head) (marked : Bool) (k : Accepted) : Type 0 where
+  pub discards : Bool
+  pub is : k ≡ accepted (clears t g) discards g (cond (clears t g) 1 (countOf t + 1))
+  pub going : clears t g ≡ false → (r : Run) × (t ≡ Running r) × (r .head ≡ g) × (marked ≡ false)
+
+abbrev StepFacts : State → Head → Bool → Step → Type 0
+StepFacts t g m (Stays x) = numberOf (x .answer) ≤ 13
+StepFacts t g m (Accepts k) = AcceptFacts t g m k
+
+step-told : (t : State) (g : Head) (m : Bool) → StepFacts t g m (stepOf t g m)
+unfolding stepOf
+step-told Idle g m = record { discards = false; is = refl; going = λ e. let z : _≡_ {A = ℕ} 0 1 = cc in absurd (omega arith) }
+step-told (Running r) g m =
+    split (sameHead (r .head) g)
+    (λ q.
+    split m
+    (λ y. rw (q, y) (omega arith))
+    (λ z. rw (q, z) (record { discards = false; is = rw q; going = λ e. (r, refl, head-same (r .head) g q, refl) })))
+    (λ q.
+    rw q
+    (record {
+      discards = true;
+      is = rw q;
+      going = λ e. let f : true ≡ false = rw q at e in let z : _≡_ {A = ℕ} 0 1 = cc in absurd (omega arith);
+    }))
+step-told (Done h) g m = omega arith
+
+pub took-number : {t : State} {g : Head} {m : Bool} {k : Accepted} → AcceptFacts t g m k → 14 ≤ numberOf (k .answer)
+unfolding accepted
+took-number {t} {g} {m} {k} q = rw (q .is) (raised-number g (cond (clears t g) 1 (countOf t + 1)))
+
+-- ---- rows 1 to 15
+
+pub data DecisionFacts (s : Settings) (w : World) (a : List ℕ) : Decision → Type 0 where
+  kept : (x : Answer) → numberOf x ≤ 13 → DecisionFacts s w a (stays x)
+  took : (g : Page) (k : Accepted) → Board s w → length a ≡ 512 → Passing s (flashOf w) a g
+      → AcceptFacts (w .transfer) (g .head) (markedIn (w .seen) (g .number)) k → DecisionFacts s w a (accepts g k)
+
+pub decided : (s : Settings) (w : World) (a : List ℕ) → DecisionFacts s w a (decisionOf s w a)
+decided s w a = go (rows s w a)
+  where
+    steps : Board s w → length a ≡ 512 → (g : Page) → Passing s (flashOf w) a g → (st : Step)
+        → StepFacts (w .transfer) (g .head) (markedIn (w .seen) (g .number)) st → DecisionFacts s w a (stepped g st)
+    steps B l g p (Stays x) h = kept (x .answer) h
+    steps B l g p (Accepts k) h = took g k B l p h
+
+    look : Board s w → length a ≡ 512 → (x : Screening) → Good s (flashOf w) a x → DecisionFacts s w a (afterScreening (w .transfer) (w .seen) x)
+    look B l (Refused x) h = unfold afterScreening in kept x (omega (arith, h))
+    look B l (Passed g) h =
+        unfold afterScreening in steps B l g h (stepOf (w .transfer) (g .head) (markedIn (w .seen) (g .number)))
+        (step-told (w .transfer) (g .head) (markedIn (w .seen) (g .number)))
+
+    go : Rows s w a → DecisionFacts s w a (decisionOf s w a)
+    go (stopped x h e) = subst (DecisionFacts s w a) (sym e) (kept x (omega arith))
+    go (through B l) = subst (DecisionFacts s w a) (sym (board-decides s w a B l)) (look B l (screenOf s (flashOf w) a) (screen-good s (flashOf w) a))
+
+-- ---- the transfer that comes back passes row 3
+
+pub counted-good : (g : Head) (n c : ℕ) → 1 ≤ c → n < g .total → g .total ≤ 131072 → goodState (counted g c) ≡ true
+unfolding goodState counted
+counted-good g n c h b t =
+    split (ltb c (g .total))
+    (λ q. rw (q, le-leb 1 c h, q, le-leb (g .total) 131072 t))
+    (λ q. rw (q, le-leb 1 (g .total) (omega arith), le-leb (g .total) 131072 t))

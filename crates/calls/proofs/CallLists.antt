@@ -1,0 +1,231 @@
+-- The claims of specs/CallLists.antt hold. Assumes nothing.
+use Prim.Native.Nat.{ℕ, zero, suc, _+_, _/_, _%_, _<_, _^_}
+use mathlib.Core.Path.{_≡_, refl, sym, ap, subst, _∙_}
+use mathlib.Core.Bool.{Bool, true, false, _||_}
+use mathlib.Core.List.{List, [], _∷_, _++_}
+use native.Mathlib.Nat.{pow-suc}
+use native.Mathlib.Omega.{arith}
+use lib.Dec.{ltb, leb, eqb}
+use lib.ListN.{length, getD, drop, length-take, length-drop}
+use lib.Seq.{getD-take, getD-drop}
+use borrow.Author.Tests.{ltb-true, le-leb, lt-leb, leb-true, leb-false, eqb-true, eqb-false, eq-eqb}
+use Rattle.sets.proofs.Tests.{split, clash, or-left, or-right}
+use Rattle.sets.specs.Bytes.{lowFirst, numberIn}
+use Rattle.block.specs.Block.{fieldAt}
+use Rattle.record.specs.Write.{Bytes}
+use Rattle.settings.specs.declared.Settings.{Settings}
+use Rattle.transfer.specs.Transfer.{numberOf, goodState, counted, accepted}
+use Rattle.transfer.specs.declared.Head.{Head}
+use Rattle.transfer.specs.declared.State.{State}
+use Rattle.transfer.specs.declared.State.the-variants.{Idle, Running, Done}
+use Rattle.transfer.specs.declared.Accepted.{Accepted}
+use Rattle.transfer.specs.declared.Answer.{Answer}
+use Rattle.flash.specs.Flash.{payloadOf}
+use Rattle.arrival.specs.Arrive.{World, Outcome, Decision, acceptOf, done, receiveOf}
+use Rattle.arrival.specs.Lists.{receiveAll, answersOf, discardsOf}
+use Rattle.arrival.specs.Facts.{Refusals-change-nothing}
+use Rattle.arrival.specs.Tally.{headOf}
+use Rattle.arrival.specs.Demand.{seenOf, Ends, List-ends, Completed-exactly, Same-set-same-end, Either-first}
+use Rattle.arrival.proofs.DecisionFacts.{AcceptFacts, DecisionFacts, kept, took, took-number, decided}
+use Rattle.arrival.proofs.Facts.{refusals-change-nothing}
+use Rattle.arrival.proofs.Demand.{list-ends, completed-exactly, same-set-same-end, either-first}
+use Rattle.layout.specs.Layout.{stateFrom, settingsFrom, transferBytes, stateBytes, withTransfer}
+use Rattle.layout.proofs.Refused.{state-length}
+use Rattle.layout.proofs.Transfers.{Small, written-back}
+use Rattle.capi.specs.Calls as capi
+use Rattle.capi.specs.Calls.{receiveBytes, isAcceptance, arrivalsOf, resultsOf, anyAcceptance, storedFrom, batchFrom, fewer, receiveBatch}
+use Rattle.capi.proofs.Laws.{number-most}
+use Rattle.calls.specs.CallLists.{Lent, call, leftBy, callAll, returnsOf, worldOf, AllBytes, Calls-are-arrivals, Calls-end, Calls-completed, Calls-same-set, Calls-either-first, Calls-are-one-call}
+
+-- ---- a field of bytes
+
+byte-low : (b : List ℕ) → Bytes b → (i : ℕ) → getD b i 0 < 256
+byte-low [] h i = omega arith
+byte-low (x ∷ b) h zero = h zero (omega arith)
+byte-low (x ∷ b) h (suc i) = byte-low b (λ j l. h (suc j) (omega arith)) i
+
+-- n bytes are a number below 256 ^ n
+pub number-low : (n : ℕ) (b : List ℕ) → Bytes b → (at : ℕ) → numberIn n b at < 256 ^ n
+unfolding numberIn
+number-low zero b h at = omega arith
+number-low (suc n) b h at = omega (arith, byte-low b h at, number-low n b h (at + 1), pow-suc 256 n)
+
+field-low : (a : List ℕ) → Bytes a → (at : ℕ) → fieldAt a at < 2 ^ 32
+unfolding fieldAt
+field-low a h at =
+    split (leb (at + 4) (length a))
+    (λ y. rw y (number-low 4 a h at))
+    (λ z. rw z (omega arith))
+
+-- ---- the transfer of a block that was accepted fits its bytes
+
+counted-small : (g : Head) (c : ℕ) → g .family < 2 ^ 32 → g .total < 2 ^ 32 → Small (counted g c)
+unfolding counted
+counted-small g c hf ht =
+    split (ltb c (g .total)) (λ y. let l = ltb-true c (g .total) y in rw y (hf, ht, omega arith)) (λ z. rw z (hf, ht))
+
+took-small : {t : State} {g : Head} {m : Bool} {k : Accepted} (a : List ℕ) → Bytes a → g ≡ headOf a → AcceptFacts t g m k → Small (k .transfer .state)
+unfolding accepted
+took-small {g = g} a h e q =
+    subst (λ (k : Accepted). Small (k .transfer .state)) (sym (q .is))
+    (counted-small g _ (rw e (field-low a h 28)) (rw e (field-low a h 24)))
+
+-- bytes of a good state are 13
+good-size : (t : List ℕ) → goodState (stateFrom t) ≡ true → length t ≡ 13
+good-size t g =
+    split (eqb (length t) 13)
+    (λ y. eqb-true (length t) 13 y)
+    (λ z. clash (goodState (stateFrom t)) g (state-length t (eqb-false (length t) 13 z)))
+
+-- ---- one call
+
+-- the bytes that are left are read as the next transfer
+next-state : (s : Settings) (w : World) (a p t : List ℕ) → w .transfer ≡ stateFrom t → Bytes a → {d : Decision} → DecisionFacts s w a d
+    → stateFrom (capi.keptTransfer t (isAcceptance (numberOf (done w p d .answer))) (done w p d .world .transfer)) ≡ done w p d .world .transfer
+unfolding done acceptOf
+next-state s w a p t e h (kept x n) = rw (lt-leb 14 (numberOf x) (omega arith)) (sym e)
+next-state s w a p t e h (took g k B l q m) =
+    rw (le-leb 14 (numberOf (k .answer)) (took-number m))
+    (written-back t (k .transfer .state) (good-size t (rw e at (B .state))) (took-small a h (q .head) m))
+
+-- so the call leaves what the arrival leaves
+next-world : (s : List ℕ) (h : Lent) (a : List ℕ) → Bytes a
+    → worldOf (leftBy (call s h a)) ≡ receiveOf (settingsFrom s) (worldOf h) a .world
+unfolding receiveBytes receiveOf
+next-world s h a b =
+    let z = settingsFrom s in
+    let w = worldOf h in
+    ap (λ (x : State). record { transfer = x; seen = receiveOf z w a .world .seen; held = receiveOf z w a .world .held })
+    (next-state z w a (payloadOf a) (h .transfer) refl b (decided z w a))
+
+-- ---- a list of calls
+
+calls-world : (s : List ℕ) (h : Lent) (l : List (List ℕ)) → AllBytes l → worldOf (callAll s h l) ≡ receiveAll (settingsFrom s) (worldOf h) l
+unfolding callAll receiveAll
+calls-world s h [] b = refl
+calls-world s h (a ∷ l) b =
+    calls-world s (leftBy (call s h a)) l (b .1) ∙ ap (λ (w : World). receiveAll (settingsFrom s) w l) (next-world s h a (b .0))
+
+-- the results of a list of arrivals
+abbrev resultsAt : Settings → World → List (List ℕ) → List ℕ
+resultsAt z w l = resultsOf (answersOf z w l) (discardsOf z w l)
+
+calls-results : (s : List ℕ) (h : Lent) (l : List (List ℕ)) → AllBytes l → returnsOf s h l ≡ resultsAt (settingsFrom s) (worldOf h) l
+unfolding returnsOf answersOf discardsOf resultsOf receiveBytes
+calls-results s h [] b = refl
+calls-results s h (a ∷ l) b =
+    ap (λ (r : List ℕ). call s h a .result ∷ r)
+    (calls-results s (leftBy (call s h a)) l (b .1) ∙ ap (λ (w : World). resultsAt (settingsFrom s) w l) (next-world s h a (b .0)))
+
+pub calls-are-arrivals : Calls-are-arrivals
+unfolding Calls-are-arrivals
+calls-are-arrivals s h l b = (calls-world s h l b, calls-results s h l b)
+
+-- ---- demand 3
+
+pub calls-end : Calls-end
+unfolding Calls-end List-ends
+calls-end s h F i v l t b =
+    let z = settingsFrom s in
+    subst (Ends z (worldOf h) F (seenOf F l)) (sym (calls-world s h l b)) (list-ends z (worldOf h) F i v l t)
+
+-- the answer's number in a result
+result-number : (x : Answer) (d : Bool) → capi.resultOf (numberOf x) d % 128 ≡ numberOf x
+result-number x true = omega (arith, number-most x)
+result-number x false = omega (arith, number-most x)
+
+pub calls-completed : Calls-completed
+unfolding Calls-completed Completed-exactly receiveBytes
+calls-completed s h F i v l t b a u =
+    let z = settingsFrom s in
+    let o = receiveOf z (worldOf (callAll s h l)) a in
+    ap (λ (n : ℕ). eqb n 15) (result-number (o .answer) (o .discarded))
+    ∙ ap (λ (w : World). eqb (numberOf (receiveOf z w a .answer)) 15) (calls-world s h l b)
+    ∙ completed-exactly z (worldOf h) F i v l a u
+
+pub calls-same-set : Calls-same-set
+unfolding Calls-same-set Same-set-same-end
+calls-same-set s h F i v l t b m u c e =
+    calls-world s h l b ∙ same-set-same-end (settingsFrom s) (worldOf h) F i v l t m u e ∙ sym (calls-world s h m c)
+
+all-append : (l m : List (List ℕ)) → AllBytes l → AllBytes m → AllBytes (l ++ m)
+all-append [] m b c = c
+all-append (a ∷ l) m b c = (b .0, all-append l m (b .1) c)
+
+pub calls-either-first : Calls-either-first
+unfolding Calls-either-first Either-first
+calls-either-first s h F i v l t b m u c =
+    calls-world s h (l ++ m) (all-append l m b c)
+    ∙ either-first (settingsFrom s) (worldOf h) F i v l t m u
+    ∙ sym (calls-world s h (m ++ l) (all-append m l c b))
+
+-- ---- one call of many
+
+-- a transfer written over a written one
+written-again : (t : List ℕ) (x y : State) → withTransfer (withTransfer t x) y ≡ withTransfer t y
+unfolding withTransfer
+written-again t x y =
+    split (eqb (length t) 13) (λ e. rw (e, eq-eqb (length (stateBytes x)) 13 (state-size x))) (λ n. rw (n, n))
+  where
+    state-size : (x : State) → length (stateBytes x) ≡ 13
+    state-size Idle = unfold transferBytes lowFirst in refl
+    state-size (Running r) = unfold transferBytes lowFirst in refl
+    state-size (Done g) = unfold transferBytes lowFirst in refl
+
+-- where no block is accepted the transfer stays
+none-taken : (z : Settings) (w : World) (l : List (List ℕ)) → anyAcceptance (answersOf z w l) ≡ false → receiveAll z w l .transfer ≡ w .transfer
+unfolding anyAcceptance answersOf receiveAll Refusals-change-nothing
+none-taken z w [] e = refl
+none-taken z w (a ∷ l) e =
+    let o = receiveOf z w a in
+    let n = leb-false 14 (numberOf (o .answer)) (or-left (isAcceptance (numberOf (o .answer))) (anyAcceptance (answersOf z (o .world) l)) e) in
+    none-taken z (o .world) l (or-right (isAcceptance (numberOf (o .answer))) (anyAcceptance (answersOf z (o .world) l)) e)
+    ∙ ap (λ (x : Outcome). x .world .transfer) (refusals-change-nothing z w a (omega arith))
+
+-- a call and then others: x for the call, y for a block that one of the others took
+kept-twice : (t : List ℕ) (x y : Bool) (next last : State) → (y ≡ false → last ≡ next)
+    → capi.keptTransfer (capi.keptTransfer t x next) y last ≡ capi.keptTransfer t (x || y) last
+kept-twice t true true next last e = written-again t next last
+kept-twice t true false next last e = ap (withTransfer t) (sym (e refl))
+kept-twice t false y next last e = refl
+
+-- the calls leave the bytes of the last transfer where one of them took a block, and else what was lent
+calls-transfer : (s : List ℕ) (h : Lent) (l : List (List ℕ)) → AllBytes l → let z = settingsFrom s in
+    callAll s h l .transfer ≡ capi.keptTransfer (h .transfer) (anyAcceptance (answersOf z (worldOf h) l)) (receiveAll z (worldOf h) l .transfer)
+unfolding callAll receiveAll answersOf anyAcceptance receiveBytes
+calls-transfer s h [] b = refl
+calls-transfer s h (a ∷ l) b =
+    let z = settingsFrom s in
+    let o = receiveOf z (worldOf h) a in
+    calls-transfer s (leftBy (call s h a)) l (b .1)
+    ∙ ap (λ (w : World). capi.keptTransfer (call s h a .transfer) (anyAcceptance (answersOf z w l)) (receiveAll z w l .transfer)) (next-world s h a (b .0))
+    ∙ kept-twice (h .transfer) (isAcceptance (numberOf (o .answer))) _ _ _ (none-taken z (o .world) l)
+
+-- arrivals that stand one after the other in bytes
+arrivals-bytes : (n : ℕ) (a : List ℕ) → Bytes a → AllBytes (arrivalsOf n a)
+unfolding arrivalsOf
+arrivals-bytes zero a b = tt
+arrivals-bytes (suc n) a b = (
+  λ i l.
+      let k = length-take 512 a in
+      rw (getD-take 512 a i 0 (omega arith)) (b i (omega arith)),
+  arrivals-bytes n (drop 512 a) (λ i l. let k = length-drop 512 a in rw (getD-drop 512 a i 0) (b (512 + i) (omega arith))),
+)
+
+abbrev lentWith : List ℕ → World → Lent
+lentWith t w = record { transfer = t; flash = w .held .flash; seen = w .seen; sectors = w .held .sectors }
+
+pub calls-are-one-call : Calls-are-one-call
+unfolding Calls-are-one-call receiveBatch batchFrom
+calls-are-one-call s h a r b =
+    let n = fewer (length a / 512) (length r) in
+    let l = arrivalsOf n a in
+    let c = arrivals-bytes n a b in
+    record {
+      left =
+          ap (λ (t : List ℕ). lentWith t (receiveAll (settingsFrom s) (worldOf h) l)) (sym (calls-transfer s h l c))
+          ∙ ap (lentWith (callAll s h l .transfer)) (sym (calls-world s h l c));
+      results = ap (storedFrom r 0) (sym (calls-results s h l c));
+      all = λ e. rw (le-leb (length a / 512) (length r) e);
+      few = λ e. split (leb (length a / 512) (length r)) (λ y. rw y (omega (arith, leb-true (length a / 512) (length r) y))) (λ z. rw z);
+    }

@@ -1,0 +1,115 @@
+-- Calls of `uf2_receive`, one after the other: the transfer travels between them as bytes. Proved in proofs/CallLists.antt. Assumes nothing.
+use Prim.Native.Nat.{ℕ, _/_, _%_, _≤_, _<_}
+use mathlib.Core.Path.{_≡_}
+use mathlib.Core.Bool.{not, _&&_}
+use mathlib.Core.List.{List, [], _∷_, _++_}
+use lib.Dec.{eqb}
+use lib.ListN.{length}
+use Rattle.record.specs.Write.{Bytes}
+use Rattle.transfer.specs.declared.State.the-variants.{Idle}
+use Rattle.arrival.specs.Arrive.{World}
+use Rattle.arrival.specs.Lists.{receiveAll, answersOf, discardsOf}
+use Rattle.arrival.specs.Demand.{File, ValidFile, Sent, seenOf, isWhole, Ends}
+use Rattle.receiver.specs.Receiver.{world}
+use Rattle.layout.specs.Layout.{settingsFrom, transferFrom}
+use Rattle.capi.specs.Calls.{ArrivalCall, BatchCall, receiveBytes, arrivalsOf, resultsOf, storedFrom, receiveBatch}
+
+-- ---- one call after the other
+
+-- what the caller holds between two calls
+pub record Lent : Type 0 where
+  pub transfer : List ℕ
+  pub flash : List ℕ
+  pub seen : List ℕ
+  pub sectors : List ℕ
+
+-- the call for an arrival, with bytes of settings
+abbrev pub call : List ℕ → Lent → List ℕ → ArrivalCall
+call s h a = receiveBytes s (h .transfer) a (h .flash) (h .seen) (h .sectors)
+
+-- what a call leaves
+abbrev pub leftBy : ArrivalCall → Lent
+leftBy r = record { transfer = r .transfer; flash = r .flash; seen = r .seen; sectors = r .sectors }
+
+-- what a call for each arrival leaves, where each is handed what the last one left
+unfoldable pub callAll : List ℕ → Lent → List (List ℕ) → Lent
+callAll s h [] = h
+callAll s h (a ∷ l) = callAll s (leftBy (call s h a)) l
+
+-- what each of them returns
+unfoldable pub returnsOf : List ℕ → Lent → List (List ℕ) → List ℕ
+returnsOf s h [] = []
+returnsOf s h (a ∷ l) = call s h a .result ∷ returnsOf s (leftBy (call s h a)) l
+
+-- ---- they are the arrivals of one receiver
+
+-- the transfer that the bytes are, and the three buffers
+abbrev pub worldOf : Lent → World
+worldOf h = world (transferFrom (h .transfer)) (h .flash) (h .seen) (h .sectors)
+
+-- every element of every arrival is a byte
+abbrev pub AllBytes : List (List ℕ) → Type 0
+AllBytes [] = Unit {0}
+AllBytes (a ∷ l) = Bytes a × AllBytes l
+
+-- whatever the settings, the transfer and the buffers, the calls leave what `receiveAll` leaves, and return its answers
+unfoldable pub Calls-are-arrivals : Type 0
+Calls-are-arrivals =
+    (s : List ℕ) (h : Lent) (l : List (List ℕ)) → AllBytes l → let z = settingsFrom s in
+    (worldOf (callAll s h l) ≡ receiveAll z (worldOf h) l)
+    × (returnsOf s h l ≡ resultsOf (answersOf z (worldOf h) l) (discardsOf z (worldOf h) l))
+
+-- ---- so demand 3 holds of the calls
+
+-- what holds of every start with an Idle transfer, every valid file and every list of its blocks mixed with arrivals answered 4 to 11
+abbrev pub EveryCalls : (List ℕ → Lent → File → List (List ℕ) → Type 0) → Type 0
+EveryCalls P =
+    (s : List ℕ) (h : Lent) (F : File) → worldOf h .transfer ≡ Idle → ValidFile (settingsFrom s) (worldOf h) F
+    → (l : List (List ℕ)) → Sent (settingsFrom s) (worldOf h) F l → AllBytes l → P s h F l
+
+-- "what was lent at the start and the set of file blocks seen decide flash, maps and transfer"
+unfoldable pub Calls-end : Type 0
+Calls-end = EveryCalls (λ s h F l. Ends (settingsFrom s) (worldOf h) F (seenOf F l) (worldOf (callAll s h l)))
+
+-- ""Completed" comes exactly when an arrival makes the set whole, and no second time", by the result of the call for a after those for l
+unfoldable pub Calls-completed : Type 0
+Calls-completed =
+    EveryCalls
+    (λ s h F l.
+    (a : List ℕ) → Sent (settingsFrom s) (worldOf h) F (l ++ (a ∷ []))
+    → eqb (call s (callAll s h l) a .result % 128) 15 ≡ not (isWhole F (seenOf F l)) && isWhole F (seenOf F (l ++ (a ∷ []))))
+
+-- "Two such lists with the same set, from the same start, end alike."
+unfoldable pub Calls-same-set : Type 0
+Calls-same-set =
+    EveryCalls
+    (λ s h F l.
+    (m : List (List ℕ)) → Sent (settingsFrom s) (worldOf h) F m → AllBytes m → ((k : ℕ) → k < F .total → seenOf F l k ≡ seenOf F m k)
+    → worldOf (callAll s h l) ≡ worldOf (callAll s h m))
+
+-- "So do two such lists of the file played one after the other, whichever goes first."
+unfoldable pub Calls-either-first : Type 0
+Calls-either-first =
+    EveryCalls
+    (λ s h F l.
+    (m : List (List ℕ)) → Sent (settingsFrom s) (worldOf h) F m → AllBytes m
+    → worldOf (callAll s h (l ++ m)) ≡ worldOf (callAll s h (m ++ l)))
+
+-- ---- they are one call of `uf2_receive_all`
+
+-- what such a call leaves
+abbrev pub leftByMany : BatchCall → Lent
+leftByMany o = record { transfer = o .transfer; flash = o .flash; seen = o .seen; sectors = o .sectors }
+
+-- one call for arrivals a with room r for results is a call for each of the arrivals that it counts
+pub record Same (s : List ℕ) (h : Lent) (a r : List ℕ) (o : BatchCall) : Type 0 where
+  pub left : leftByMany o ≡ callAll s h (arrivalsOf (o .number) a)
+  pub results : o .results ≡ storedFrom r 0 (returnsOf s h (arrivalsOf (o .number) a))
+  pub all : length a / 512 ≤ length r → o .number ≡ length a / 512
+  pub few : length r ≤ length a / 512 → o .number ≡ length r
+
+-- byte for byte, in transfer, flash and both maps; it counts every arrival that has room for its result
+unfoldable pub Calls-are-one-call : Type 0
+Calls-are-one-call =
+    (s : List ℕ) (h : Lent) (a r : List ℕ) → Bytes a
+    → Same s h a r (receiveBatch s (h .transfer) a r (h .flash) (h .seen) (h .sectors))

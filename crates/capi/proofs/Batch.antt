@@ -1,0 +1,78 @@
+-- Arrivals one after the other: a round of the loop, and its end. Assumes nothing.
+use Prim.Native.Nat.{ℕ, suc, _+_, _-_, _*_, _/_, _<_, _≤_}
+use mathlib.Core.Path.{_≡_, sym, ap, _∙_}
+use mathlib.Core.Bool.{Bool, false, _||_, or-false, or-assoc}
+use mathlib.Core.List.{List, [], _∷_}
+use native.Mathlib.Omega.{arith}
+use lib.ListN.{length, take, drop, set}
+use lib.Seq.{drop-drop}
+use Rattle.settings.specs.declared.Settings.{Settings}
+use Rattle.transfer.specs.declared.Transfer.{Transfer}
+use Rattle.transfer.specs.Transfer.{numberOf}
+use Rattle.arrival.specs.Arrive.{World, Outcome, receiveOf}
+use Rattle.arrival.specs.Lists.{receiveAll, answersOf, discardsOf}
+use Rattle.receiver.specs.declared.Receipt.{Receipt}
+use Rattle.receiver.specs.Receiver.{world, outcome}
+use Rattle.layout.specs.Layout.{settingsFrom, transferFrom}
+use Rattle.capi.specs.Calls.{resultOf, isAcceptance, keptTransfer, arrivalsOf, resultsOf, anyAcceptance, storedFrom, BatchCall, batchCall, batchFrom, fewer, receiveBatch}
+
+-- ---- the arrivals that are left
+
+arrivals-none : (n i : ℕ) (a : List ℕ) → n ≤ i → arrivalsOf (n - i) a ≡ []
+unfolding arrivalsOf
+arrivals-none n i a h = let z : n - i ≡ 0 = omega arith in rw z
+
+arrivals-next : (n i : ℕ) (a : List ℕ) → i < n → arrivalsOf (n - i) (drop (i * 512) a) ≡ take 512 (drop (i * 512) a) ∷ arrivalsOf (n - (i + 1)) (drop ((i + 1) * 512) a)
+unfolding arrivalsOf
+arrivals-next n i a h =
+    let z : n - i ≡ suc (n - (i + 1)) = omega arith in
+    let w : i * 512 + 512 ≡ (i + 1) * 512 = omega arith in
+    rw z (ap (λ (l : List ℕ). take 512 (drop (i * 512) a) ∷ arrivalsOf (n - (i + 1)) l) (drop-drop 512 (i * 512) a ∙ ap (λ (j : ℕ). drop j a) w))
+
+-- ---- one of them
+
+module _ (n : ℕ) (s : Settings) (t : List ℕ) (accepted : Bool) (r : List ℕ) (i : ℕ) where
+  -- what follows an outcome, where the arrivals of l are left
+  abbrev after : List (List ℕ) → Outcome → BatchCall
+  after l o =
+      batchFrom n s t (o .world) (accepted || isAcceptance (numberOf (o .answer))) (set r i (resultOf (numberOf (o .answer)) (o .discarded))) (i + 1) l
+
+  many-next : (w : World) (a : List ℕ) (l : List (List ℕ)) → batchFrom n s t w accepted r i (a ∷ l) ≡ after l (receiveOf s w a)
+  unfolding batchFrom receiveAll answersOf discardsOf resultsOf anyAcceptance storedFrom
+  many-next w a l = simp or-assoc
+
+  pub all-start : (w : World) (a : List ℕ) → batchFrom n s t w accepted r i (arrivalsOf (n - 0) (drop (0 * 512) a)) ≡ batchFrom n s t w accepted r i (arrivalsOf n a)
+  all-start w a = ap (λ (j : ℕ). batchFrom n s t w accepted r i (arrivalsOf j a)) (omega arith)
+
+  many-end : (u : Transfer) (f m k : List ℕ) → batchFrom n s t (world u f m k) accepted r i [] ≡ batchCall n (keptTransfer t accepted (u .state)) r f m k
+  unfolding batchFrom receiveAll answersOf discardsOf resultsOf anyAcceptance storedFrom
+  many-end u f m k = simp (or-false accepted)
+
+  module _ (u : Transfer) (a f m k : List ℕ) where
+    -- a round of the loop
+    pub all-more : {g q j : List ℕ} {o : Receipt} {x y : ℕ} {b : Bool} → i < n → outcome o g q j ≡ receiveOf s (world u f m k) (take (i * 512 + 512 - i * 512) (drop (i * 512) a)) → x ≡ numberOf (o .answer) → y ≡ resultOf x (o .discarded) → b ≡ isAcceptance x → batchFrom n s t (world (o .transfer) g q j) (accepted || b) (set r i y) (i + 1) (arrivalsOf (n - (i + 1)) (drop ((i + 1) * 512) a)) ≡ batchFrom n s t (world u f m k) accepted r i (arrivalsOf (n - i) (drop (i * 512) a))
+    all-more h ho hx hy hb =
+        let l = arrivalsOf (n - (i + 1)) (drop ((i + 1) * 512) a) in
+        let w = world u f m k in
+        let size : i * 512 + 512 - i * 512 ≡ 512 = omega arith in
+        rw (hb, hy, hx)
+        (ap (after l) (ho ∙ ap (λ (j : ℕ). receiveOf s w (take j (drop (i * 512) a))) size)
+        ∙ sym (many-next w (take 512 (drop (i * 512) a)) l)
+        ∙ ap (batchFrom n s t w accepted r i) (sym (arrivals-next n i a h)))
+
+-- ---- all of them
+
+module _ (sw t a r₀ f₀ m₀ k₀ : List ℕ) where
+  pub all-ran : {n i : ℕ} {s : Settings} {u₀ : Transfer} (u : Transfer) (accepted : Bool) {v r f m k : List ℕ} → n ≡ fewer (length a / 512) (length r₀) → s ≡ settingsFrom sw → u₀ ≡ transferFrom t → n ≤ i → batchFrom n s t (world u f m k) accepted r i (arrivalsOf (n - i) (drop (i * 512) a)) ≡ batchFrom n s t (world u₀ f₀ m₀ k₀) false r₀ 0 (arrivalsOf n a) → v ≡ keptTransfer t accepted (u .state) → batchCall n v r f m k ≡ receiveBatch sw t a r₀ f₀ m₀ k₀
+  unfolding receiveBatch
+  all-ran {n} {i} {s} {u₀} u accepted {r = r} {f} {m} {k} hn hs hu l e hv =
+      let start : Settings → Transfer → ℕ → BatchCall = λ z y n. batchFrom n z t (world y f₀ m₀ k₀) false r₀ 0 (arrivalsOf n a) in
+      let ended =
+      ap (batchFrom n s t (world u f m k) accepted r i) (arrivals-none n i (drop (i * 512) a) l)
+      ∙ many-end n s t accepted r i u f m k in
+      rw hv
+      (sym ended
+      ∙ e
+      ∙ ap (λ (z : Settings). start z u₀ n) hs
+      ∙ ap (λ (y : Transfer). start (settingsFrom sw) y n) hu
+      ∙ ap (λ (n : ℕ). start (settingsFrom sw) (transferFrom t) n) hn)

@@ -1,0 +1,22 @@
+-- `md5::rotate_left` meets its contract. Assumes nothing.
+use mathlib.Core.Path.{refl}
+use Rattle.md5.specs.Md5.{rotateLeft}
+use borrow.Author.Needs.{needs}
+use Rattle.md5.proofs.rotate_left.Statement.{statement}
+use Rattle.md5.proofs.rotate_left.Tie as tie
+
+shl-result : tie.Need-shl-result
+shl-result c = search needs
+
+sub-result : tie.Need-sub-result
+sub-result c = search needs
+
+shr-result : tie.Need-shr-result
+shr-result c = search needs
+
+returns : tie.Need-returns
+unfolding rotateLeft
+returns c = refl
+
+pub rotate-left-spec : {M : Type 1} → statement M
+rotate-left-spec = tie.close (tie.spec shl-result sub-result shr-result returns)

@@ -1,0 +1,46 @@
+-- `receiver::accept` meets its contract. Assumes nothing.
+use Rattle.receiver.proofs.Laws.{took}
+use borrow.Author.Needs.{needs}
+use Rattle.receiver.proofs.accept.Statement.{statement}
+use Rattle.receiver.proofs.accept.Tie as tie
+
+cast-number : tie.Need-cast-number
+cast-number c = search needs
+
+store-requires : tie.Need-store-requires
+store-requires c κs = search needs
+
+clear-if-requires : tie.Need-clear-if-requires
+clear-if-requires c κs = search needs
+
+mark-requires : tie.Need-mark-requires
+mark-requires c κs = search needs
+
+same-length : tie.Need-same-length
+same-length c = search needs
+
+same-length-2 : tie.Need-same-length-2
+same-length-2 c = search needs
+
+same-length-3 : tie.Need-same-length-3
+same-length-3 c = search needs
+
+returns : tie.Need-returns
+returns c =
+    let marked = c .before .before in
+    let cleared = marked .before .before .before .before in
+    let paged = cleared .before .before .before .before .before .before in
+    took _ _ _ _ _ _ (paged .store .ensures) (cleared .clear-if .ensures) (marked .mark .ensures)
+
+pub accept-spec : {M : Type 1} → statement M
+accept-spec =
+    tie.close
+    (tie.spec
+    cast-number
+    store-requires
+    clear-if-requires
+    mark-requires
+    same-length
+    same-length-2
+    same-length-3
+    returns)

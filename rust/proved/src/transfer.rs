@@ -1,0 +1,184 @@
+//! The transfer, its bytes, and the answers to an arrival.
+
+/// The bytes of a transfer, as the C interface takes them.
+pub const TRANSFER_BYTES: usize = 13;
+
+/// How far a file is. It goes in and comes back with each arrival; [`Transfer::new`] makes a fresh one.
+#[derive(Clone, Copy, PartialEq, Eq, Debug, Default)]
+pub enum Transfer {
+    /// No file has begun.
+    #[default]
+    Idle,
+    /// Some blocks of a file have come.
+    Running {
+        /// The family of its blocks.
+        family: u32,
+        /// How many blocks the file has.
+        total: u32,
+        /// How many different ones have come: from 1 to below the total.
+        count: u32,
+    },
+    /// Every block of a file has come.
+    Done {
+        /// The family of its blocks.
+        family: u32,
+        /// How many blocks the file has.
+        total: u32,
+    },
+}
+
+/// The answers to an arrival, by their numbers. They are asked in this order, and the first that fits is given. All but `Written` and
+/// `Completed` leave the transfer and everything that is lent as it was.
+#[derive(Clone, Copy, PartialEq, Eq, Debug)]
+#[repr(u8)]
+pub enum Answer {
+    /// Arrival, flash or a map has a wrong length.
+    BadBuffers = 1,
+    /// The settings are bad for a flash of this length.
+    BadSettings = 2,
+    /// The transfer's numbers fit no transfer.
+    BadState = 3,
+    /// A magic number differs.
+    NotBlock = 4,
+    /// Flag 0x1000: a file container.
+    Container = 5,
+    /// Flag 0x1: not for the main flash.
+    Comment = 6,
+    /// Flag 0x2000 is clear: no family.
+    NoFamily = 7,
+    /// The settings have no place for the family.
+    NoPlace = 8,
+    /// The payload's size is not 256.
+    BadPayload = 9,
+    /// Total 0 or more than the place holds, or a number that is not below the total.
+    BadNumbers = 10,
+    /// Outside the window or the place, or no multiple of 256.
+    BadAddress = 11,
+    /// The transfer is done.
+    Finished = 12,
+    /// This block has come before.
+    Again = 13,
+    /// Stored, and others are missing.
+    Written = 14,
+    /// Stored, and the file is whole.
+    Completed = 15,
+}
+
+/// What one arrival was answered.
+#[derive(Clone, Copy, PartialEq, Eq, Debug)]
+pub struct Outcome {
+    /// The answer.
+    pub answer: Answer,
+    /// Whether its block discarded a running transfer of another file.
+    pub discarded: bool,
+}
+
+impl Transfer {
+    /// A fresh transfer, as the library makes it: `Idle`.
+    ///
+    /// # Panics
+    ///
+    /// Where the library makes bytes that are no transfer (see the crate's page).
+    pub fn new() -> Transfer {
+        let mut bytes = [0xFF; TRANSFER_BYTES];
+        crate::bytes::new(&mut bytes);
+        Transfer::handed_back(&bytes)
+    }
+
+    /// The bytes of the transfer, as the C interface has them.
+    pub fn bytes(self) -> [u8; TRANSFER_BYTES] {
+        let (state, family, total, count) = match self {
+            Transfer::Idle => (0, 0, 0, 0),
+            Transfer::Running {
+                family,
+                total,
+                count,
+            } => (1, family, total, count),
+            Transfer::Done { family, total } => (2, family, total, total),
+        };
+        let mut bytes = [0; TRANSFER_BYTES];
+        bytes[0] = state;
+        bytes[1..5].copy_from_slice(&family.to_le_bytes());
+        bytes[5..9].copy_from_slice(&total.to_le_bytes());
+        bytes[9..].copy_from_slice(&count.to_le_bytes());
+        bytes
+    }
+
+    /// The transfer that bytes are; none where they are no transfer.
+    pub fn from_bytes(bytes: &[u8; TRANSFER_BYTES]) -> Option<Transfer> {
+        let [state, a, b, c, d, e, f, g, h, i, j, k, l] = *bytes;
+        let family = u32::from_le_bytes([a, b, c, d]);
+        let total = u32::from_le_bytes([e, f, g, h]);
+        let count = u32::from_le_bytes([i, j, k, l]);
+        match state {
+            0 => Some(Transfer::Idle),
+            1 => Some(Transfer::Running {
+                family,
+                total,
+                count,
+            }),
+            2 => Some(Transfer::Done { family, total }),
+            _ => None,
+        }
+    }
+
+    /// The transfer that the library handed back.
+    pub(crate) fn handed_back(bytes: &[u8; TRANSFER_BYTES]) -> Transfer {
+        Transfer::from_bytes(bytes).unwrap_or_else(|| crate::unknown(bytes[0].into()))
+    }
+}
+
+impl Answer {
+    const ALL: [Answer; 15] = [
+        Answer::BadBuffers,
+        Answer::BadSettings,
+        Answer::BadState,
+        Answer::NotBlock,
+        Answer::Container,
+        Answer::Comment,
+        Answer::NoFamily,
+        Answer::NoPlace,
+        Answer::BadPayload,
+        Answer::BadNumbers,
+        Answer::BadAddress,
+        Answer::Finished,
+        Answer::Again,
+        Answer::Written,
+        Answer::Completed,
+    ];
+
+    /// The answer's number.
+    pub fn number(self) -> u8 {
+        self as u8
+    }
+
+    /// The answer of a number; none where the number is no answer's.
+    pub fn from_number(number: u32) -> Option<Answer> {
+        Answer::ALL
+            .into_iter()
+            .find(|answer| u32::from(answer.number()) == number)
+    }
+
+    /// Whether the block was accepted: whether it is in flash and counted now.
+    pub fn is_accepted(self) -> bool {
+        matches!(self, Answer::Written | Answer::Completed)
+    }
+}
+
+impl Outcome {
+    /// What a result says: the answer's number, and 128 more where a running transfer was discarded. None where it says no answer.
+    pub fn from_result(result: impl Into<u32>) -> Option<Outcome> {
+        let result = result.into();
+        let discarded = (128..256).contains(&result);
+        let number = if discarded { result - 128 } else { result };
+        Some(Outcome {
+            answer: Answer::from_number(number)?,
+            discarded,
+        })
+    }
+
+    /// The result that says this.
+    pub fn result(self) -> u8 {
+        self.answer.number() + if self.discarded { 128 } else { 0 }
+    }
+}

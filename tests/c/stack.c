@@ -1,0 +1,155 @@
+/* The stack that each call of the C interface needs: every call is run on a stack of its own whose bytes were painted before, and what
+ * is no longer painted was used. What an empty call uses is taken off. Prints the bytes of each call, and fails where one needs more
+ * than the header says. Linked so that memcpy and memset are found at the start: else the first call of each also runs the dynamic
+ * linker, on the same stack.
+ *
+ *     gcc -std=c99 -Wl,-z,now -Iinclude tests/c/stack.c target/staticlib/libcapi.a -o stack
+ */
+#define _XOPEN_SOURCE 700
+#include "uf2_receiver.h"
+
+#include <stdio.h>
+#include <string.h>
+#include <ucontext.h>
+
+#define PAINT 0xA5
+#define STACK_SIZE 65536
+
+static uint8_t stack[STACK_SIZE];
+static ucontext_t here, there;
+
+static uint8_t settings[UF2_SETTINGS_SIZE], transfer[UF2_TRANSFER_SIZE], place[UF2_PLACE_SIZE], arrivals[3 * UF2_ARRIVAL_SIZE], results[3];
+static uint8_t flash[64 * UF2_SECTOR_SIZE], seen[UF2_SEEN_MAP_SIZE], sectors[UF2_SECTOR_MAP_SIZE];
+static uint8_t reader[UHEX_READER_SIZE], image[64];
+
+/* ---- what is measured */
+
+static void nothing(void) {}
+
+static void call_new(void) {
+    uf2_new(transfer, sizeof transfer);
+}
+
+static void call_ask(void) {
+    uf2_ask(settings, sizeof settings, sizeof flash, UF2_FAMILY_ARM_S, place, sizeof place);
+}
+
+static void call_receive(void) {
+    uf2_receive(settings, sizeof settings, transfer, sizeof transfer, arrivals, UF2_ARRIVAL_SIZE, flash, sizeof flash, seen, sizeof seen,
+                sectors, sizeof sectors);
+}
+
+static void call_receive_all(void) {
+    uf2_receive_all(settings, sizeof settings, transfer, sizeof transfer, arrivals, sizeof arrivals, results, sizeof results, flash,
+                    sizeof flash, seen, sizeof seen, sectors, sizeof sectors);
+}
+
+static void call_hex_new(void) {
+    uhex_new(UHEX_BOARD_V1, reader, sizeof reader);
+}
+
+static const char *line;
+
+static void call_line(void) {
+    uhex_line(reader, sizeof reader, (const uint8_t *)line, strlen(line), image, sizeof image);
+}
+
+/* ---- how */
+
+static size_t used(void (*call)(void)) {
+    size_t low = 0;
+    memset(stack, PAINT, sizeof stack);
+    getcontext(&there);
+    there.uc_stack.ss_sp = stack;
+    there.uc_stack.ss_size = sizeof stack;
+    there.uc_link = &here;
+    makecontext(&there, call, 0);
+    swapcontext(&here, &there);
+    while (low < sizeof stack && stack[low] == PAINT)
+        low++;
+    return sizeof stack - low;
+}
+
+static size_t empty, worst;
+
+static void tell(const char *name, size_t most) {
+    printf("%s %lu\n", name, (unsigned long)most);
+    if (most > worst)
+        worst = most;
+}
+
+static size_t larger(size_t a, size_t b) {
+    return a > b ? a : b;
+}
+
+static void block(uint8_t *at, uint32_t k) {
+    uf2_put32(at, 0x0A324655u);
+    uf2_put32(at + 4, 0x9E5D5157u);
+    uf2_put32(at + 8, 0x2000u);
+    uf2_put32(at + 12, 0x10000000u + 256u * k);
+    uf2_put32(at + 16, 256u);
+    uf2_put32(at + 20, k);
+    uf2_put32(at + 24, 3u);
+    uf2_put32(at + 28, UF2_FAMILY_ARM_S);
+    memset(at + 32, (int)k + 1, 476);
+    uf2_put32(at + 508, 0x0AB16F30u);
+}
+
+/* Sixteen entries of four sectors each, or no table. The last entry alone accepts arm-s, so that every entry is looked at. */
+static void table(uint8_t count) {
+    uint32_t k;
+    memset(settings, 0, sizeof settings);
+    settings[UF2_SETTINGS_ARM_AT] = settings[UF2_SETTINGS_RISCV_AT] = settings[UF2_SETTINGS_AUTO_SWITCH_AT] = 1;
+    settings[UF2_SETTINGS_COUNT_AT] = count;
+    for (k = 0; k < UF2_MAX_ENTRIES; k++) {
+        uint8_t *entry = settings + UF2_SETTINGS_ENTRY_AT(k);
+        uf2_put32(entry + UF2_ENTRY_FIRST_AT, 4 * k);
+        uf2_put32(entry + UF2_ENTRY_SECTORS_AT, 4);
+        entry[UF2_ENTRY_USER_COUNT_AT] = 4;
+        entry[UF2_ENTRY_ARM_S_AT] = k == 15;
+        entry[UF2_ENTRY_LINK_AT] = k == 0 ? UF2_LINK_NONE : UF2_LINK_OWNED_BY;
+    }
+}
+
+int main(void) {
+    static const char *const file[] = {":020000040000FA\n", ":0400000A9900C0DEBB\n", ":040000001122334452\r\n",
+                                       ":10000000000102030405060708090A0B0C0D0E0F78\n", "x"};
+    size_t ask = 0, one = 0, all = 0, hex = 0, i;
+    uint8_t counts[] = {0, 16, 17}, k;
+
+    empty = used(nothing);
+    tell("uf2_new", used(call_new) - empty);
+    for (k = 0; k < sizeof counts; k++) {
+        table(counts[k]);
+        uf2_new(transfer, sizeof transfer);
+        for (i = 0; i < 3; i++)
+            block(arrivals + i * UF2_ARRIVAL_SIZE, (uint32_t)i);
+        ask = larger(ask, used(call_ask) - empty);
+        /* written, the same again, refused by its address, no block */
+        one = larger(one, used(call_receive) - empty);
+        one = larger(one, used(call_receive) - empty);
+        arrivals[12]++;
+        one = larger(one, used(call_receive) - empty);
+        arrivals[12]--;
+        arrivals[0]++;
+        one = larger(one, used(call_receive) - empty);
+        arrivals[0]--;
+        /* again, written, completed; then finished */
+        all = larger(all, used(call_receive_all) - empty);
+        all = larger(all, used(call_receive_all) - empty);
+        if (k < 2 && transfer[UF2_TRANSFER_STATE_AT] != UF2_STATE_DONE)
+            return 1;
+    }
+    tell("uf2_ask", ask);
+    tell("uf2_receive", one);
+    tell("uf2_receive_all", all);
+    tell("uhex_new", used(call_hex_new) - empty);
+    for (i = 0; i < sizeof file / sizeof file[0]; i++) {
+        line = file[i];
+        hex = larger(hex, used(call_line) - empty);
+    }
+    if (image[15] != 15)
+        return 1;
+    tell("uhex_line", hex);
+    return worst <= UF2_STACK_SIZE ? 0 : 1;
+}
