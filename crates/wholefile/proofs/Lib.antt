@@ -4,3 +4,4 @@ pub mod Runs
 pub mod Parse
 pub mod Lists
 pub mod Claims
+pub mod Exact

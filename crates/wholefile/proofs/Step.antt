@@ -60,7 +60,7 @@ not-data kind b z t = split (eqb b 0x9900) (λ v. rw v (ne-eqb kind 0 z)) (λ v.
 pub data-not : (kind b n : ℕ) → n ≢ 0 → n ≢ 13 → kind ≡ dataType b → kind ≢ n
 data-not kind b n z t k e = clash (eqb n (dataType b)) (eq-eqb n (dataType b) (sym e ∙ k)) (not-data n b z t)
 
-data-kind : (b : ℕ) → dataKind b ≡ dataType b
+pub data-kind : (b : ℕ) → dataKind b ≡ dataType b
 unfolding dataKind dataType
 data-kind b = refl
 
@@ -162,11 +162,11 @@ chosen : {A : Type 0} (b : Bool) (y z : A) → b ≡ true → y ≡ cond b y z
 chosen b y z e = rw e
 
 -- a type that is none of data and 0A
-role-plain : (b len kind : ℕ) → kind ≢ 4 → kind ≢ 0 → kind ≢ 13 → roleOf (Inside b) kind len ≡ afterPadding b kind
+pub role-plain : (b len kind : ℕ) → kind ≢ 4 → kind ≢ 0 → kind ≢ 13 → roleOf (Inside b) kind len ≡ afterPadding b kind
 unfolding roleOf
 role-plain b len kind f z t = rw (ne-eqb kind 4 f, data-kind b, not-data kind b z t)
 
-role-data : (b len kind : ℕ) → kind ≡ dataType b → roleOf (Inside b) kind len ≡ Rattle.grammar.specs.declared.Role.the-variants.Data b
+pub role-data : (b len kind : ℕ) → kind ≡ dataType b → roleOf (Inside b) kind len ≡ Rattle.grammar.specs.declared.Role.the-variants.Data b
 unfolding roleOf
 role-data b len kind k =
     rw (ne-eqb kind 4 (data-not kind b 4 (λ f. omega arith) (λ f. omega arith) k), data-kind b, eq-eqb kind (dataType b) k)
@@ -395,6 +395,17 @@ live-good : (r : Reader) (l img : List ℕ) (rec : Record) → r .offset + lengt
 unfolding liveLine parsedLine
 live-good r l img rec m p = rw (le-ltb 4194304 (r .offset + length l) m, p)
 
+-- at a stand at which the reader reads on
+pub line-at : (r : Reader) (l img : List ℕ) (rec : Record) (t : Stand) → Ready r img → r .offset + length l ≤ 4194304 → readOf l .parsed ≡ parsed.Good rec
+    → r .stand ≡ t → haltLine r l img (haltOf t) ≡ liveLine r l img
+    → lineOf r l img
+    ≡ stepped r rec (readOf l .«data») (r .offset + length l) img (stepOf r (roleOf t (rec .kind) (rec .len)) (rec .address) (rec .len) (unihex.wordOf (readOf l .«data»)))
+unfolding lineOf takenOf
+line-at r l img rec t y m p e on =
+    rw (y .image, y .reader)
+    (ap (λ (q : Stand). haltLine r l img (haltOf q)) e ∙ on ∙ live-good r l img rec m p
+    ∙ ap (λ (q : Stand). stepped r rec (readOf l .«data») (r .offset + length l) img (stepOf r (roleOf q (rec .kind) (rec .len)) (rec .address) (rec .len) (unihex.wordOf (readOf l .«data»)))) e)
+
 module _ (l : List ℕ) (rec : Record) (says : readOf l .parsed ≡ parsed.Good rec) where
   pub len-item : length (itemOf l rec .bytes) ≡ rec .len
   len-item = length-take-le (rec .len) (readOf l .«data») (omega (arith, good-len l rec says, length-data l))
@@ -408,14 +419,11 @@ module _ (l : List ℕ) (rec : Record) (says : readOf l .parsed ≡ parsed.Good 
     pub line-made : (p : Place) → s .place ≡ p
         → lineOf (readerOf own s) l img
         ≡ stepped (readerOf own s) rec (readOf l .«data») (s .size + length l) img (made own s (itemOf l rec) (unihex.wordOf (readOf l .«data»)) p)
-    unfolding lineOf takenOf
     line-made p e =
         let r = readerOf own s in
         let d = readOf l .«data» in
-        rw (ready .image, ready .reader)
-        (ap (λ (q : Place). haltLine r l img (haltOf (standOf q))) e ∙ live r l img p ∙ live-good r l img rec m says
-        ∙ ap (λ (q : Place). stepped r rec d (s .size + length l) img (stepOf r (roleOf (standOf q) (rec .kind) (rec .len)) (rec .address) (rec .len) (unihex.wordOf d))) e
-        ∙ ap (λ (k : ℕ). stepped r rec d (s .size + length l) img (stepOf r (roleOf (standOf p) (rec .kind) k) (rec .address) k (unihex.wordOf d))) (sym len-item))
+        line-at r l img rec (standOf p) ready m says (ap standOf e) (live r l img p)
+        ∙ ap (λ (k : ℕ). stepped r rec d (s .size + length l) img (stepOf r (roleOf (standOf p) (rec .kind) k) (rec .address) k (unihex.wordOf d))) (sym len-item)
 
     -- own data that goes on, by its address
     own-address : givesFor (s .place) (itemOf l rec) own ≡ true → unihex.addressOf (nextOf own s (itemOf l rec)) rec ≡ addressOf s (itemOf l rec)

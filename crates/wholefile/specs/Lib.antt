@@ -2,3 +2,4 @@ pub mod Items
 pub mod Whole
 pub mod State
 pub mod Claims
+pub mod Exact
