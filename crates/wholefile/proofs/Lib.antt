@@ -5,3 +5,4 @@ pub mod Parse
 pub mod Lists
 pub mod Claims
 pub mod Exact
+pub mod Instance

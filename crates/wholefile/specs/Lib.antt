@@ -3,3 +3,4 @@ pub mod Whole
 pub mod State
 pub mod Claims
 pub mod Exact
+pub mod Instance
