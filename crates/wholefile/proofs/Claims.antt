@@ -1,14 +1,14 @@
 -- The claims of specs/Claims.antt hold. Assumes nothing.
 use Prim.Native.Nat.{ℕ, _+_, _≤_}
 use mathlib.Core.Path.{_≡_, refl, sym, ap, subst, _∙_}
-use mathlib.Core.Logic.{_⊎_, ⊎-elim}
-use mathlib.Core.Bool.{Bool, true, false, _||_, not, cond}
+use mathlib.Core.Logic.{_⊎_, _≢_, inl, inr, ⊎-elim}
+use mathlib.Core.Bool.{Bool, true, false, _&&_, _||_, not, cond}
 use mathlib.Core.List.{List, [], _∷_, _++_}
 use native.Mathlib.Omega.{arith}
 use lib.ListN.{length}
-use lib.Dec.{ltb, eqb}
-use borrow.Author.Tests.{le-ltb, eqb-true}
-use Rattle.sets.proofs.Tests.{split, clash}
+use lib.Dec.{ltb, leb, eqb}
+use borrow.Author.Tests.{le-ltb, eqb-true, leb-true}
+use Rattle.sets.proofs.Tests.{split, clash, and-left, and-right}
 use Rattle.record.specs.Record.{readOf}
 use Rattle.record.specs.declared.Record.{Record}
 use Rattle.record.specs.declared.Parsed.the-variants.{Good}
@@ -17,18 +17,22 @@ use Rattle.grammar.specs.Boards.{isV1, isV2}
 use Rattle.grammar.specs.declared.Answer.{Answer}
 use Rattle.grammar.specs.declared.Answer.the-variants as answer
 use Rattle.grammar.specs.declared.Stand.the-variants as stand
+use Rattle.unihex.specs.declared.Reader.{Reader}
 use Rattle.unihex.specs.Reader.{badFailure, badReader, standing, movedTo}
 use Rattle.unihex.specs.Line.{Outcome, outcome, badImage, lineOf}
-use Rattle.hexfile.specs.Facts.{Ready}
+use Rattle.hexfile.specs.Facts.{Ready, Other-board-unchanged}
+use Rattle.hexfile.specs.Claims.{Image-length-kept}
+use Rattle.hexfile.proofs.Facts.{other-board-unchanged}
+use Rattle.hexfile.proofs.Claims.{image-length-kept}
 use Rattle.hexfile.specs.Lines.{Held, start, turn, next, readAll, answersOf}
 use Rattle.wholefile.specs.Items.{Item, itemOf, Says, none, line, sizeOf}
-use Rattle.wholefile.specs.Whole.{Section, Sections, allItems, howMany, File}
-use Rattle.wholefile.specs.State.{between, State, begin, after, stateAfter, answersFor, imageFor, readerOf}
-use Rattle.wholefile.specs.Claims.{Setup, FileEnd, File-ends, Ended-is-file, Acceptance, Agreement, Taken-is-known}
-use Rattle.wholefile.proofs.Step.{line-goes, line-ends, answer-most}
+use Rattle.wholefile.specs.Whole.{dataType, Section, Sections, allItems, howMany, File}
+use Rattle.wholefile.specs.State.{Place, between, opened, body, padded, isIn, givesFor, State, begin, stateAfter, answerFor, answersFor, imageFor, standOf, readerOf}
+use Rattle.wholefile.specs.Claims.{Setup, FileEnd, File-ends, Ended-is-file, Acceptance, Agreement, Taken-is-known, Memory, Memory-is-records, OwnStore, Stored-is-own, Other-board-untouched}
+use Rattle.wholefile.proofs.Step.{line-goes, line-ends, answer-most, answer-stored}
 use Rattle.wholefile.proofs.Runs.{Runs, Once, isV, size-append, size-after, sections-run, gave-all}
 use Rattle.wholefile.proofs.Parse.{parsed}
-use Rattle.wholefile.proofs.Lists.{held, run-reads, LineCase, refused, went, last, viewed, RecordsOf, taken-run, last-run}
+use Rattle.wholefile.proofs.Lists.{held, run-reads, LineCase, refused, went, last, viewed, RecordsOf, taken-run, last-run, run-accepted, recall}
 
 -- ---- lists
 
@@ -214,3 +218,81 @@ taken-is-known own img ls g t =
     let r = taken-run own ls begin img y t in
     let w = run-reads own (r .1) begin img y (r .2) in
     (r .0, r .1, record { reader = ap (λ (h : Held). h .reader) (w .0); answers = w .1; image = ap (λ (h : Held). h .image) (w .0) })
+
+-- ---- any lines
+
+pub memory-is-records : Memory-is-records
+unfolding Memory-is-records
+memory-is-records own img ls g =
+    let y = ready-set own img g in
+    let k = recall own ls begin img y in (
+      k .before,
+      k .rest,
+      k .items,
+      k .whole,
+      k .says,
+      run-accepted own (k .says) begin img y (k .runs),
+      record { upper = k .upper; came = k .came; gave = k .gave; image = k .image },
+    )
+
+-- lines say one list of records
+says-one : {ls : List (List ℕ)} {xs ys : List Item} → Says ls xs → Says ls ys → xs ≡ ys
+says-one none none = refl
+says-one (line {l} {ls} {xs} rec p s) (line rec′ q t) =
+    let e : rec ≡ rec′ = cc in
+    ap (λ (r : Record). itemOf l r ∷ xs) e ∙ ap (λ (z : List Item). itemOf l rec′ ∷ z) (says-one s t)
+
+is-body : (p : Place) (own : ℕ) → isIn p own ≡ true → p ≡ body own
+is-body between own e = clash false e refl
+is-body opened own e = clash false e refl
+is-body (body b) own e = ap body (eqb-true b own e)
+is-body (padded b) own e = clash false e refl
+
+own-store : (own n : ℕ) (s : State) (x : Item) → answerFor own n s x ≡ answer.Stored → OwnStore own n s x
+unfolding givesFor
+own-store own n s x a =
+    let h = answer-stored own n s x a in
+    let d = eqb (x .kind) (dataType own) && leb 1 (length (x .bytes)) in
+    let k : d ≡ true = and-right (isIn (s .place) own) d (h .0) in
+    record {
+      section = is-body (s .place) own (and-left (isIn (s .place) own) d (h .0));
+      kind = eqb-true (x .kind) (dataType own) (and-left (eqb (x .kind) (dataType own)) (leb 1 (length (x .bytes))) k);
+      some = leb-true 1 (length (x .bytes)) (and-right (eqb (x .kind) (dataType own)) (leb 1 (length (x .bytes))) k);
+      fits = h .1;
+    }
+
+pub stored-is-own : Stored-is-own
+unfolding Stored-is-own Image-length-kept
+stored-is-own own img ls l g a =
+    let y = ready-set own img g in
+    let r = last-run own ls l begin img y (omega (arith, ap numberOf a)) (omega (arith, ap numberOf a)) in
+    let w = run-reads own (r .1) begin img y (r .2) in
+    let i = imageFor own begin (r .0) img in
+    let n : length i ≡ length img = sym (ap (λ (h : Held). length (h .image)) (w .0)) ∙ image-length-kept (start own img) ls in
+    store-of (r .0) (r .1) i n (w .2) (viewed own (stateAfter begin (r .0)) l i (w .2)) (sym (ap (λ (h : Held). turn h l .answer) (w .0)) ∙ a)
+  where
+    store-of : (xs : List Item) → Says ls xs → (i : List ℕ) → length i ≡ length img → Ready (readerOf own (stateAfter begin xs)) i
+        → LineCase own (stateAfter begin xs) l i (lineOf (readerOf own (stateAfter begin xs)) l i)
+        → lineOf (readerOf own (stateAfter begin xs)) l i .answer ≡ answer.Stored
+        → (zs : List Item) × (x : Item) × Says ls zs × Says (l ∷ []) (x ∷ []) × OwnStore own (length img) (stateAfter begin zs) x
+    store-of xs s i n y (refused f) e = clash false (sym (ap isFailure e) ∙ f) refl
+    store-of xs s i n y (went rec p m q) e =
+        let t = stateAfter begin xs in
+        let x = itemOf l rec in
+        let w = ap (λ (o : Outcome). o .answer) (line-goes l rec p own t i y m refl q) in
+        (xs, x, s, line rec p none, subst (λ (k : ℕ). OwnStore own k t x) n (own-store own (length i) t x (sym w ∙ e)))
+    store-of xs s i n y (last rec p m q k v a b z) e = absurd (omega (arith, ap numberOf (sym z ∙ e)))
+
+pub other-board-untouched : Other-board-untouched
+unfolding Other-board-untouched Taken-is-known Other-board-unchanged
+other-board-untouched own img ls l xs b g t s n i =
+    let k = taken-is-known own img ls g t in
+    let h = readAll (start own img) ls in
+    let e : h .reader ≡ readerOf own (stateAfter begin xs) =
+    k .2 .reader ∙ ap (λ (z : List Item). readerOf own (stateAfter begin z)) (says-one (k .1) s) in
+    let o : b ≢ h .reader .own = λ f. n (f ∙ ap (λ (r : Reader). r .own) e) in
+    other-board-unchanged (h .reader) l (h .image) b o
+    (⊎-elim
+    (λ (q : stateAfter begin xs .place ≡ body b). inl (ap (λ (r : Reader). r .stand) e ∙ ap standOf q))
+    (λ (q : stateAfter begin xs .place ≡ padded b). inr (ap (λ (r : Reader). r .stand) e ∙ ap standOf q))
+    i)

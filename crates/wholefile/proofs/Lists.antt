@@ -15,6 +15,7 @@ use Rattle.record.specs.declared.Parsed.the-variants.{Good}
 use Rattle.grammar.specs.Answers.{numberOf, isFailure}
 use Rattle.grammar.specs.declared.Answer.{Answer}
 use Rattle.grammar.specs.declared.Answer.the-variants as answer
+use Rattle.grammar.specs.declared.Boards.{Boards}
 use Rattle.grammar.specs.declared.Failure.{Failure}
 use Rattle.grammar.specs.declared.Stand.{Stand}
 use Rattle.grammar.specs.declared.Stand.the-variants as stand
@@ -23,17 +24,17 @@ use Rattle.unihex.specs.Reader.{badFailure, badReader, standing, movedTo}
 use Rattle.unihex.specs.declared.Step.{Step}
 use Rattle.unihex.specs.Line as unihex
 use Rattle.unihex.specs.Line.{Outcome, outcome, failing, badImage, stepped, lineOf}
-use Rattle.hexfile.specs.Facts.{Ready, isTaken, Length-kept, Stays-good}
+use Rattle.hexfile.specs.Facts.{Ready, isTaken, Length-kept, Stays-good, Failures-fail}
 use Rattle.hexfile.specs.Lines.{Held, turn, next, readAll, answersOf}
 use Rattle.hexfile.specs.Claims.{Failure-stays, End-stays}
 use Rattle.hexfile.proofs.Lined.{Lined, bad, past, again, failed, out, stored, passed, ended, lined}
-use Rattle.hexfile.proofs.Facts.{failure-not-taken, length-kept, stays-good}
+use Rattle.hexfile.proofs.Facts.{failure-not-taken, length-kept, stays-good, failures-fail}
 use Rattle.hexfile.proofs.Claims.{failure-stays, end-stays}
 use Rattle.wholefile.specs.Items.{Item, itemOf, Says, none, line}
 use Rattle.wholefile.specs.State.{Place, between, opened, body, padded, State, after, stateAfter, answerFor, answersFor, imageWith, imageFor, standOf, readerOf}
 use Rattle.wholefile.specs.Claims as claims
 use Rattle.wholefile.specs.Claims.{Acceptance}
-use Rattle.wholefile.proofs.Step.{Goes, StepCase, fails, goes, ends, steps, made, word-item, line-made, line-goes}
+use Rattle.wholefile.proofs.Step.{Goes, StepCase, fails, goes, ends, steps, made, word-item, line-made, line-goes, line-ends, answer-most, answer-least}
 use Rattle.wholefile.proofs.Runs.{Runs, stop, step}
 
 -- a reader that knows what records say, and an image
@@ -187,3 +188,83 @@ module _ (own : ℕ) where
       first (last rec p m e n z a b q) r =
           let w = stays answer.AfterEnd (end-stays (held own s img) f ls q .0) (end-stays (held own s img) f (l ∷ []) q .1) in
           absurd (omega (arith, ap numberOf w))
+
+  accepts : (k : ℕ) (s : State) (xs : List Item) → Acceptance (answersFor own k s xs)
+  unfolding answersFor
+  accepts k s [] = claims.none
+  accepts k s (x ∷ xs) = claims.next (answer-least own k s x) (answer-most own k s x) (accepts k (after s x) xs)
+
+  pub run-accepted : {ls : List (List ℕ)} {xs : List Item} → Says ls xs → (s : State) (img : List ℕ) → Ready (readerOf own s) img → Runs s xs
+      → Acceptance (answersOf (held own s img) ls)
+  run-accepted {ls} {xs} t s img y r = rw (run-reads own t s img y r .1) (accepts (length img) s xs)
+
+  -- ---- any lines: the records of those before the first that is refused or ends
+
+  abbrev cameOf : State → Boards
+  cameOf s = record { v1 = s .named 0x9900; v2 = s .named 0x9903 }
+
+  abbrev gaveOf : State → Boards
+  gaveOf s = record { v1 = s .gave 0x9900; v2 = s .gave 0x9903 }
+
+  pub record Recall (s : State) (img : List ℕ) (ls : List (List ℕ)) : Type 0 where
+    pub before : List (List ℕ)
+    pub rest : List (List ℕ)
+    pub items : List Item
+    pub whole : ls ≡ before ++ rest
+    pub says : Says before items
+    pub runs : Runs s items
+    pub upper : readAll (held own s img) ls .reader .upper ≡ stateAfter s items .upper
+    pub came : readAll (held own s img) ls .reader .came ≡ cameOf (stateAfter s items)
+    pub gave : readAll (held own s img) ls .reader .gave ≡ gaveOf (stateAfter s items)
+    pub image : readAll (held own s img) ls .image ≡ imageFor own s items img
+
+  -- a reader that went no further
+  nothing-more : (s : State) (img : List ℕ) (ls : List (List ℕ)) (t : Stand) (e : ℕ)
+      → readAll (held own s img) ls ≡ record { reader = movedTo (standing (readerOf own s) t) e; image = img } → Recall s img ls
+  unfolding stateAfter imageFor movedTo standing
+  nothing-more s img ls t e h =
+      record {
+        before = [];
+        rest = ls;
+        items = [];
+        whole = refl;
+        says = none;
+        runs = stop;
+        upper = ap (λ (k : Held). k .reader .upper) h;
+        came = ap (λ (k : Held). k .reader .came) h;
+        gave = ap (λ (k : Held). k .reader .gave) h;
+        image = ap (λ (k : Held). k .image) h;
+      }
+
+  pub recall : (ls : List (List ℕ)) (s : State) (img : List ℕ) → Ready (readerOf own s) img → Recall s img ls
+  unfolding readAll stateAfter imageFor movedTo standing Failure-stays End-stays Failures-fail
+  recall [] s img y = nothing-more s img [] (standOf (s .place)) (s .size) refl
+  recall (l ∷ ls) s img y =
+      first (viewed own s l img y) (λ x e. recall ls (after s x) (imageWith own s x img) (ready-on own s l img x e y))
+    where
+      first : LineCase own s l img (lineOf (readerOf own s) l img)
+          → ((x : Item) → lineOf (readerOf own s) l img ≡ onward own s x img → Recall (after s x) (imageWith own s x img) ls) → Recall s img (l ∷ ls)
+      first (refused f) r =
+          let a = turn (held own s img) l .answer in
+          nothing-more s img (l ∷ ls) (stand.Failed (record { answer = a })) (s .size)
+          (failure-stays (held own s img) l ls f .0 ∙ ap heldBy (failures-fail (readerOf own s) l img f))
+      first (went rec p m g) r =
+          let x = itemOf l rec in
+          let e = line-goes l rec p own s img y m refl g in
+          let n = next-is own s l img x e in
+          let k = r x e in
+          record {
+            before = l ∷ k .before;
+            rest = k .rest;
+            items = x ∷ k .items;
+            whole = ap (λ (z : List (List ℕ)). l ∷ z) (k .whole);
+            says = line rec p (k .says);
+            runs = step s x (s .place) refl g m (k .runs);
+            upper = ap (λ (h : Held). readAll h ls .reader .upper) n ∙ k .upper;
+            came = ap (λ (h : Held). readAll h ls .reader .came) n ∙ k .came;
+            gave = ap (λ (h : Held). readAll h ls .reader .gave) n ∙ k .gave;
+            image = ap (λ (h : Held). readAll h ls .image) n ∙ k .image;
+          }
+      first (last rec p m e k n a b q) r =
+          nothing-more s img (l ∷ ls) stand.Ended (s .size + length l)
+          (end-stays (held own s img) l ls q .0 ∙ ap heldBy (line-ends l rec p own s img y m e k n a b))

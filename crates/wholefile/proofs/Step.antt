@@ -481,3 +481,22 @@ answer-most own k s x =
     split (givesFor (s .place) x own)
     (λ y. rw y (split (fitsIn k s x) (λ z. rw z (omega arith)) (λ z. rw z (omega arith))))
     (λ z. rw z (omega arith))
+
+pub answer-least : (own k : ℕ) (s : State) (x : Item) → 32 ≤ numberOf (answerFor own k s x)
+unfolding answerFor
+answer-least own k s x =
+    split (givesFor (s .place) x own)
+    (λ y. rw y (split (fitsIn k s x) (λ z. rw z (omega arith)) (λ z. rw z (omega arith))))
+    (λ z. rw z (omega arith))
+
+-- what is answered 33
+pub answer-stored : (own k : ℕ) (s : State) (x : Item) → answerFor own k s x ≡ answer.Stored
+    → (givesFor (s .place) x own ≡ true) × (addressOf s x + length (x .bytes) ≤ k)
+unfolding answerFor
+answer-stored own k s x a =
+    split (givesFor (s .place) x own)
+    (λ y.
+    split (fitsIn k s x)
+    (λ z. (y, leb-true (addressOf s x + length (x .bytes)) k z))
+    (λ z. let f : answer.Outside ≡ answer.Stored = rw (y, z) at a in absurd (omega (arith, ap numberOf f))))
+    (λ z. let f : answer.Passed ≡ answer.Stored = rw z at a in absurd (omega (arith, ap numberOf f)))

@@ -1,7 +1,7 @@
 -- What is claimed of whole files, and of any lines that are answered 32 to 34. Proved in proofs/Claims.antt. Assumes nothing.
-use Prim.Native.Nat.{ℕ, _≤_}
+use Prim.Native.Nat.{ℕ, _+_, _≤_}
 use mathlib.Core.Path.{_≡_}
-use mathlib.Core.Logic.{_⊎_}
+use mathlib.Core.Logic.{_⊎_, _≢_}
 use mathlib.Core.List.{List, [], _∷_, _++_}
 use lib.ListN.{length}
 use Rattle.grammar.specs.Answers.{numberOf}
@@ -10,8 +10,8 @@ use Rattle.grammar.specs.declared.Answer.the-variants as answer
 use Rattle.grammar.specs.declared.Stand.the-variants as stand
 use Rattle.hexfile.specs.Lines.{start, turn, readAll, answersOf}
 use Rattle.wholefile.specs.Items.{Item, Says}
-use Rattle.wholefile.specs.Whole.{allItems, File}
-use Rattle.wholefile.specs.State.{begin, stateAfter, answersFor, imageFor, readerOf}
+use Rattle.wholefile.specs.Whole.{dataType, allItems, File}
+use Rattle.wholefile.specs.State.{body, padded, State, begin, stateAfter, addressOf, answersFor, imageFor, readerOf}
 
 -- a fresh reader of V1 or V2, and an image of 1 to 1,048,576 bytes
 pub record Setup (own : ℕ) (img : List ℕ) : Type 0 where
@@ -57,3 +57,37 @@ unfoldable pub Taken-is-known : Type 0
 Taken-is-known =
     (own : ℕ) (img : List ℕ) (ls : List (List ℕ)) → Setup own img → Acceptance (answersOf (start own img) ls)
     → (xs : List Item) × Says ls xs × Agreement own img ls xs
+
+-- what the reader keeps of records: the latest 04, the boards that were named and those that gave a data byte; and the image
+pub record Memory (own : ℕ) (img : List ℕ) (ls : List (List ℕ)) (xs : List Item) : Type 0 where
+  pub upper : readAll (start own img) ls .reader .upper ≡ stateAfter begin xs .upper
+  pub came : readAll (start own img) ls .reader .came ≡ record { v1 = stateAfter begin xs .named 0x9900; v2 = stateAfter begin xs .named 0x9903 }
+  pub gave : readAll (start own img) ls .reader .gave ≡ record { v1 = stateAfter begin xs .gave 0x9900; v2 = stateAfter begin xs .gave 0x9903 }
+  pub image : readAll (start own img) ls .image ≡ imageFor own begin xs img
+
+-- after any lines, failures and the end among them, it is what the lines before the first such one say
+unfoldable pub Memory-is-records : Type 0
+Memory-is-records =
+    (own : ℕ) (img : List ℕ) (ls : List (List ℕ)) → Setup own img
+    → (ks : List (List ℕ)) × (rest : List (List ℕ)) × (xs : List Item) × (ls ≡ ks ++ rest) × Says ks xs × Acceptance (answersOf (start own img) ks)
+    × Memory own img ls xs
+
+-- data of the own board's section, of at least one byte, that lies wholly in an image of n bytes, by the records before it
+pub record OwnStore (own n : ℕ) (s : State) (x : Item) : Type 0 where
+  pub section : s .place ≡ body own
+  pub kind : x .kind ≡ dataType own
+  pub some : 1 ≤ length (x .bytes)
+  pub fits : addressOf s x + length (x .bytes) ≤ n
+
+-- "33 Stored": a line that stores, after any lines, is that
+unfoldable pub Stored-is-own : Type 0
+Stored-is-own =
+    (own : ℕ) (img : List ℕ) (ls : List (List ℕ)) (l : List ℕ) → Setup own img → turn (readAll (start own img) ls) l .answer ≡ answer.Stored
+    → (xs : List Item) × (x : Item) × Says ls xs × Says (l ∷ []) (x ∷ []) × OwnStore own (length img) (stateAfter begin xs) x
+
+-- the wrong board's section: no line in the section of a board that is not the own one changes the image
+unfoldable pub Other-board-untouched : Type 0
+Other-board-untouched =
+    (own : ℕ) (img : List ℕ) (ls : List (List ℕ)) (l : List ℕ) (xs : List Item) (b : ℕ) → Setup own img → Acceptance (answersOf (start own img) ls)
+    → Says ls xs → b ≢ own → (stateAfter begin xs .place ≡ body b) ⊎ (stateAfter begin xs .place ≡ padded b)
+    → turn (readAll (start own img) ls) l .image ≡ readAll (start own img) ls .image
