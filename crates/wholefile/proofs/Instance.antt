@@ -74,7 +74,7 @@ unfolding sizeOf
 in-order =
     section refl (a-section 0x00 bodyV1 body-v1)
     (section refl (a-section 0x04 bodyOther body-other)
-    (section refl (a-section 0x03 bodyV2 body-v2) (section refl (a-section 0x04 [] body-ends) no-section)))
+    (section refl (a-section 0x03 bodyV2 body-v2) (section refl (a-section _ [] body-ends) no-section)))
 
 is-file : File items
 unfolding items allItems sizeOf howMany anyData anyGives dataType
