@@ -13,7 +13,7 @@ use borrow.Author.Tests.{lt-ltb, le-ltb, ltb-true, ltb-false, eqb-true, not-fals
 use Rattle.sets.proofs.Tests.{split}
 use Rattle.sets.specs.Sets.{Set, any}
 use Rattle.sets.proofs.Laws.{any-all}
-use Rattle.record.specs.Record.{digitOf, isDigit, allDigits, bytesOf, Decoded}
+use Rattle.record.specs.Record.{digitOf, isDigit, allDigits, bytesOf, Decoding}
 
 -- ---- a digit, by how far its character is past '0' and, made small, past 'a'
 
@@ -79,7 +79,7 @@ bytes-take (suc k) (c ∷ d ∷ l) =
     rw (e, bytes-take k l)
 
 -- the bytes of as many pairs as there are and `lent` has room for, put over its beginning
-pub decoded : (l lent b : List ℕ) (k : ℕ) → k ≡ min (length l / 2) (length lent) → b ≡ bytesOf (take (2 * k) l) → Decoded l (b ++ drop k lent)
+pub decoded : (l lent b : List ℕ) (k : ℕ) → k ≡ min (length l / 2) (length lent) → b ≡ bytesOf (take (2 * k) l) → Decoding l (b ++ drop k lent)
 decoded l lent b k m e =
     let w = bytesOf l in
     let n : length w ≡ length l / 2 = length-bytes l in
@@ -110,23 +110,23 @@ bytes-next l out i {v} n h e q =
 -- ---- whether all characters are digits
 
 -- they are if the first j are, which is `good`, and the others
-abbrev pub Judged : List ℕ → ℕ → Bool → Type 0
-Judged l j good = allDigits l ≡ good && allDigits (drop j l)
+abbrev pub Verdict : List ℕ → ℕ → Bool → Type 0
+Verdict l j good = allDigits l ≡ good && allDigits (drop j l)
 
-pub judged-next : (l : List ℕ) (good : Bool) {j v : ℕ} → j < length l → v ≡ digitOf (getD l j 0) → Judged l j good → Judged l (j + 1) (good && ltb v 16)
+pub verdict-next : (l : List ℕ) (good : Bool) {j v : ℕ} → j < length l → v ≡ digitOf (getD l j 0) → Verdict l j good → Verdict l (j + 1) (good && ltb v 16)
 unfolding allDigits
-judged-next l good {j} {v} h e q =
+verdict-next l good {j} {v} h e q =
     let d : drop j l ≡ getD l j 0 ∷ drop (j + 1) l = rw add-one (drop-cons l j 0 h) in
     q ∙ ap (λ (r : List ℕ). good && allDigits r) d ∙ rw e (sym (and-assoc good (isDigit (getD l j 0)) _))
 
-pub judged-all : (l : List ℕ) (good : Bool) {j : ℕ} → length l ≤ j → Judged l j good → good ≡ allDigits l
+pub verdict-all : (l : List ℕ) (good : Bool) {j : ℕ} → length l ≤ j → Verdict l j good → good ≡ allDigits l
 unfolding allDigits
-judged-all l good {j} h q = sym (and-true good) ∙ sym (rw (drop-of-length-le l h) at q)
+verdict-all l good {j} h q = sym (and-true good) ∙ sym (rw (drop-of-length-le l h) at q)
 
 -- two parts, judged by themselves
-pub judged-parts : (k : ℕ) (l : List ℕ) → allDigits (take k l) && allDigits (drop k l) ≡ allDigits l
+pub verdict-parts : (k : ℕ) (l : List ℕ) → allDigits (take k l) && allDigits (drop k l) ≡ allDigits l
 unfolding allDigits
-judged-parts zero l = refl
-judged-parts (suc k) [] = refl
-judged-parts (suc k) (c ∷ l) =
-    and-assoc (isDigit c) (allDigits (take k l)) (allDigits (drop k l)) ∙ ap (λ (b : Bool). isDigit c && b) (judged-parts k l)
+verdict-parts zero l = refl
+verdict-parts (suc k) [] = refl
+verdict-parts (suc k) (c ∷ l) =
+    and-assoc (isDigit c) (allDigits (take k l)) (allDigits (drop k l)) ∙ ap (λ (b : Bool). isDigit c && b) (verdict-parts k l)

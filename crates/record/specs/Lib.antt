@@ -1,2 +1,3 @@
+pub mod Types
 pub mod Record
 pub mod Write

@@ -2,7 +2,7 @@
 ghost use mathlib.Core.Path.{_≡_};
 ghost use Prim.Native.Nat.{_+_, _*_, _/_, _%_, _<_, _≤_, min};
 ghost use lib.ListN.{length, take};
-ghost use Rattle.record.specs.Record.{digitOf, textLen, total, allDigits, bytesOf, Decoded, lenOf, good, refused, lineBytes, lineText, readOf, parsedNumber};
+ghost use Rattle.record.specs.Record.{digitOf, textLen, total, allDigits, bytesOf, Decoding, lenOf, wordFrom, good, refused, lineOfBytes, lineOfText, readOf, parsedNumber, rowOf};
 
 // A good record: its type, its address field, and how many bytes of data it has.
 pub struct Record {
@@ -12,7 +12,7 @@ pub struct Record {
 }
 
 // A record, or the first check that a line fails.
-pub enum Parsed {
+pub enum ParseResult {
     Good(Record),
     NoColon,
     BadShape,
@@ -24,11 +24,29 @@ pub enum Parsed {
 
 // What a line says. A record's data is the first `len` bytes; the rest are 0.
 pub struct Line {
-    pub parsed: Parsed,
+    pub parsed: ParseResult,
     pub data: [u8; Record::MAX],
 }
 
 impl Record {
+    // the types, named as in Intel Hex and in 002: data, end of file, extended linear address, block start, block end, padded data,
+    // custom data, other data
+    pub const DATA: u8 = 0;
+
+    pub const END_OF_FILE: u8 = 1;
+
+    pub const EXTENDED_LINEAR: u8 = 4;
+
+    pub const BLOCK_START: u8 = 10;
+
+    pub const BLOCK_END: u8 = 11;
+
+    pub const PADDED_DATA: u8 = 12;
+
+    pub const CUSTOM_DATA: u8 = 13;
+
+    pub const OTHER_DATA: u8 = 14;
+
     // the most data bytes of a record
     pub const MAX: usize = 32;
 
@@ -36,19 +54,19 @@ impl Record {
     const BYTES: usize = Record::MAX + 5;
 }
 
-impl Parsed {
+impl ParseResult {
     // 01's number of a refusal, or 0 for a good record.
     pub fn number(self) -> u8
         ensures { λ r. ⌜ r ≡ parsedNumber self ⌝ }
     {
         match self {
-            Parsed::Good(_) => 0,
-            Parsed::NoColon => 20,
-            Parsed::BadShape => 21,
-            Parsed::BadDigit => 22,
-            Parsed::TooLong => 23,
-            Parsed::BadLength => 24,
-            Parsed::BadSum => 25,
+            ParseResult::Good(_) => 0,
+            ParseResult::NoColon => 20,
+            ParseResult::BadShape => 21,
+            ParseResult::BadDigit => 22,
+            ParseResult::TooLong => 23,
+            ParseResult::BadLength => 24,
+            ParseResult::BadSum => 25,
         }
     }
 }
@@ -147,7 +165,7 @@ fn least(a: usize, b: usize) -> usize
 fn decode(chars: &[u8], out: &mut [u8]) -> bool
     requires { ⌜ length (now chars) % 2 ≡ 0 ⌝ }
     ensures { λ r. ⌜ r ≡ allDigits (now (chars .entry)) ⌝ }
-    ensures bytes { λ _. ⌜ Decoded (now (chars .entry)) (now (out .exit)) ⌝ }
+    ensures bytes { λ _. ⌜ Decoding (now (chars .entry)) (now (out .exit)) ⌝ }
 {
     let room = least(chars.len() / 2, out.len());
     let e = 2 * room;
@@ -157,7 +175,7 @@ fn decode(chars: &[u8], out: &mut [u8]) -> bool
 
 // Two bytes as a number, high first.
 pub fn word(high: u8, low: u8) -> u16
-    ensures { λ r. ⌜ r ≡ 256 * high + low ⌝ }
+    ensures { λ r. ⌜ r ≡ wordFrom high low ⌝ }
 {
     256 * (high as u16) + (low as u16)
 }
@@ -174,13 +192,13 @@ fn good_line(bytes: &[u8], used: usize) -> Line
     let mut data = [0u8; Record::MAX];
     bytes::copy(&bytes[4..e], &mut data);
     Line {
-        parsed: Parsed::Good(Record { kind, address, len }),
+        parsed: ParseResult::Good(Record { kind, address, len }),
         data,
     }
 }
 
 // The line of a refusal.
-fn refusal(parsed: Parsed) -> Line
+fn refusal(parsed: ParseResult) -> Line
     ensures { λ r. ⌜ r ≡ refused parsed ⌝ }
 {
     Line {
@@ -192,40 +210,40 @@ fn refusal(parsed: Parsed) -> Line
 // Rows 23 to 25 of n characters, whose bytes these are.
 fn read_bytes(n: usize, bytes: &[u8]) -> Line
     requires { ⌜ (10 < n) × (length (now bytes) ≡ 37) ⌝ }
-    ensures { λ r. ⌜ r ≡ lineBytes n (take (n / 2) (now (bytes .entry))) ⌝ }
+    ensures { λ r. ⌜ r ≡ lineOfBytes n (take (n / 2) (now (bytes .entry))) ⌝ }
 {
     let used = bytes[0] as usize;
     if Record::MAX < used {
-        return refusal(Parsed::TooLong);
+        return refusal(ParseResult::TooLong);
     }
     if n != 11 + 2 * used {
-        return refusal(Parsed::BadLength);
+        return refusal(ParseResult::BadLength);
     }
     let e = used + 5;
     let all = &bytes[..e];
     if sum(all) != 0 {
-        return refusal(Parsed::BadSum);
+        return refusal(ParseResult::BadSum);
     }
     good_line(all, used)
 }
 
 // Rows 20 to 25 of a text, which has no ending.
 fn read_text(t: &[u8]) -> Line
-    ensures { λ r. ⌜ r ≡ lineText (now (t .entry)) ⌝ }
+    ensures { λ r. ⌜ r ≡ lineOfText (now (t .entry)) ⌝ }
 {
     let n = t.len();
     if n == 0 {
-        return refusal(Parsed::NoColon);
+        return refusal(ParseResult::NoColon);
     }
     if t[0] != 58 {
-        return refusal(Parsed::NoColon);
+        return refusal(ParseResult::NoColon);
     }
     if (n < 11) | (521 < n) | (n % 2 == 0) {
-        return refusal(Parsed::BadShape);
+        return refusal(ParseResult::BadShape);
     }
     let mut bytes = [0u8; Record::BYTES];
     if !decode(&t[1..], &mut bytes) {
-        return refusal(Parsed::BadDigit);
+        return refusal(ParseResult::BadDigit);
     }
     read_bytes(n, &bytes)
 }
@@ -233,6 +251,7 @@ fn read_text(t: &[u8]) -> Line
 // A line as it is handed, its ending included.
 pub fn read(line: &[u8]) -> Line
     ensures { λ r. ⌜ r ≡ readOf (now (line .entry)) ⌝ }
+    ensures number { λ r. ⌜ parsedNumber (r .parsed) ≡ rowOf (now (line .entry)) ⌝ }
 {
     let n = text_len(line);
     read_text(&line[..n])

@@ -11,40 +11,40 @@ use borrow.Author.Tests.{le-ltb, eqb-true, leb-true}
 use Rattle.sets.proofs.Tests.{split, clash, and-left, and-right}
 use Rattle.record.specs.Record.{readOf}
 use Rattle.record.specs.declared.Record.{Record}
-use Rattle.record.specs.declared.Parsed.the-variants.{Good}
+use Rattle.record.specs.declared.ParseResult.the-variants.{Good}
 use Rattle.grammar.specs.Answers.{numberOf, isFailure}
 use Rattle.grammar.specs.Boards.{isV1, isV2}
 use Rattle.grammar.specs.declared.Answer.{Answer}
 use Rattle.grammar.specs.declared.Answer.the-variants as answer
-use Rattle.grammar.specs.declared.Stand.the-variants as stand
+use Rattle.grammar.specs.declared.ReaderState.the-variants as state
 use Rattle.unihex.specs.declared.Reader.{Reader}
-use Rattle.unihex.specs.Reader.{badFailure, badReader, standing, movedTo}
-use Rattle.unihex.specs.Line.{Outcome, outcome, badImage, lineOf}
+use Rattle.unihex.specs.Reader.{badFailure, badReader, withState, movedTo}
+use Rattle.unihex.specs.Line.{LineOutcome, lineOutcome, badImage, lineOf}
 use Rattle.hexfile.specs.Facts.{Ready, Other-board-unchanged}
 use Rattle.hexfile.specs.Claims.{Image-length-kept}
 use Rattle.hexfile.proofs.Facts.{other-board-unchanged}
 use Rattle.hexfile.proofs.Claims.{image-length-kept}
-use Rattle.hexfile.specs.Lines.{Held, start, turn, next, readAll, answersOf}
+use Rattle.hexfile.specs.Lines.{Session, freshSession, readLine, next, readAll, lineAnswers}
 use Rattle.wholefile.specs.Items.{Item, itemOf, Says, none, line, sizeOf}
-use Rattle.wholefile.specs.Whole.{dataType, Section, Sections, allItems, howMany, File}
-use Rattle.wholefile.specs.State.{Place, between, opened, body, padded, isIn, givesFor, State, begin, stateAfter, answerFor, answersFor, imageFor, standOf, readerOf}
+use Rattle.wholefile.specs.Whole.{dataTypeOf, Section, Sections, allItems, howMany, File}
+use Rattle.wholefile.specs.State.{Place, between, opened, body, padded, isIn, givesFor, State, begin, stateAfter, answerFor, answersFor, imageFor, readerStateOf, readerOf}
 use Rattle.wholefile.specs.Claims.{Setup, FileEnd, File-ends, Ended-is-file, Acceptance, Agreement, Taken-is-known, Memory, Memory-is-records, OwnStore, Stored-is-own, Other-board-untouched}
-use Rattle.wholefile.proofs.Step.{line-goes, line-ends, answer-most, answer-stored}
-use Rattle.wholefile.proofs.Runs.{Runs, Once, isV, size-append, size-after, sections-run, gave-all}
+use Rattle.wholefile.proofs.OneRecord.{line-goes, line-ends, answer-most, answer-stored}
+use Rattle.wholefile.proofs.Runs.{Runs, Once, isV, size-append, size-after, sections-run, data-all}
 use Rattle.wholefile.proofs.Parse.{parsed}
-use Rattle.wholefile.proofs.Lists.{held, run-reads, LineCase, refused, went, last, viewed, RecordsOf, taken-run, last-run, run-accepted, recall}
+use Rattle.wholefile.proofs.Lists.{session, run-reads, AfterRecords, refused, went, last, viewed, RecordsOf, taken-run, last-run, run-accepted, recall}
 
 -- ---- lists
 
-read-append : (h : Held) (ks ls : List (List ℕ)) → readAll h (ks ++ ls) ≡ readAll (readAll h ks) ls
+read-append : (h : Session) (ks ls : List (List ℕ)) → readAll h (ks ++ ls) ≡ readAll (readAll h ks) ls
 unfolding readAll
 read-append h [] ls = refl
 read-append h (k ∷ ks) ls = read-append (next h k) ks ls
 
-answers-append : (h : Held) (ks ls : List (List ℕ)) → answersOf h (ks ++ ls) ≡ answersOf h ks ++ answersOf (readAll h ks) ls
-unfolding readAll answersOf
+answers-append : (h : Session) (ks ls : List (List ℕ)) → lineAnswers h (ks ++ ls) ≡ lineAnswers h ks ++ lineAnswers (readAll h ks) ls
+unfolding readAll lineAnswers
 answers-append h [] ls = refl
-answers-append h (k ∷ ks) ls = ap (λ (z : List Answer). turn h k .answer ∷ z) (answers-append (next h k) ks ls)
+answers-append h (k ∷ ks) ls = ap (λ (z : List Answer). readLine h k .answer ∷ z) (answers-append (next h k) ks ls)
 
 says-append : {ks ls : List (List ℕ)} {xs ys : List Item} → Says ks xs → Says ls ys → Says (ks ++ ls) (xs ++ ys)
 says-append none t = t
@@ -121,41 +121,41 @@ module _ (own : ℕ) (img : List ℕ) (g : Setup own img) (xs : List Item) (f : 
       sections-run (f .ordered) begin refl refl (once-begin (f .sections) (f .once-v1) (f .once-v2)) (omega (arith, file-size))
 
   module _ (ls : List (List ℕ)) (p : LastLine ls items (f .ending)) where
-    reads : (readAll (start own img) (p .before) ≡ held own before-end (imageFor own begin items img))
-        × (answersOf (start own img) (p .before) ≡ answersFor own (length img) begin items)
+    reads : (readAll (freshSession own img) (p .before) ≡ session own before-end (imageFor own begin items img))
+        × (lineAnswers (freshSession own img) (p .before) ≡ answersFor own (length img) begin items)
         × Ready (readerOf own before-end) (imageFor own begin items img)
     reads = run-reads own (p .says) begin img (ready-set own img g) file-runs
 
     last-line : lineOf (readerOf own before-end) (p .final) (imageFor own begin items img)
-        ≡ outcome (movedTo (standing (readerOf own before-end) stand.Ended) (before-end .size + length (p .final))) answer.Ended (imageFor own begin items img)
+        ≡ lineOutcome (movedTo (withState (readerOf own before-end) state.Ended) (before-end .size + length (p .final))) answer.Ended (imageFor own begin items img)
     last-line =
         let i : f .ending .size ≡ length (p .final) = ap (λ (x : Item). x .size) (p .item) in
         line-ends (p .final) (p .rec) (p .good) own before-end (imageFor own begin items img) (reads .2)
-        (omega (arith, size-after begin items, file-size)) (gave-all 0x9900 (f .ordered) begin refl .0)
+        (omega (arith, size-after begin items, file-size)) (data-all 0x9900 (f .ordered) begin refl .0)
         (sym (ap (λ (x : Item). x .kind) (p .item)) ∙ f .ends)
         (sym (ap (λ (x : Item). length (x .bytes)) (p .item)) ∙ f .empty)
-        (gave-all 0x9900 (f .ordered) begin refl .1 ∙ f .gave-v1)
-        (gave-all 0x9903 (f .ordered) begin refl .1 ∙ f .gave-v2)
+        (data-all 0x9900 (f .ordered) begin refl .1 ∙ f .data-v1)
+        (data-all 0x9903 (f .ordered) begin refl .1 ∙ f .data-v2)
 
-    all-read : readAll (start own img) ls ≡ next (held own before-end (imageFor own begin items img)) (p .final)
+    all-read : readAll (freshSession own img) ls ≡ next (session own before-end (imageFor own begin items img)) (p .final)
     unfolding readAll
     all-read =
-        ap (readAll (start own img)) (p .whole)
-        ∙ read-append (start own img) (p .before) (p .final ∷ [])
-        ∙ ap (λ (h : Held). next h (p .final)) (reads .0)
+        ap (readAll (freshSession own img)) (p .whole)
+        ∙ read-append (freshSession own img) (p .before) (p .final ∷ [])
+        ∙ ap (λ (h : Session). next h (p .final)) (reads .0)
 
     file-end : FileEnd own img ls items
-    unfolding answersOf movedTo standing
+    unfolding lineAnswers movedTo withState
     file-end =
         record {
           answers =
-              ap (answersOf (start own img)) (p .whole)
-              ∙ answers-append (start own img) (p .before) (p .final ∷ [])
-              ∙ ap (λ (z : List Answer). z ++ answersOf (readAll (start own img) (p .before)) (p .final ∷ [])) (reads .1)
-              ∙ ap (λ (h : Held). answersFor own (length img) begin items ++ (turn h (p .final) .answer ∷ [])) (reads .0)
-              ∙ ap (λ (o : Outcome). answersFor own (length img) begin items ++ (o .answer ∷ [])) last-line;
-          image = ap (λ (h : Held). h .image) all-read ∙ ap (λ (o : Outcome). o .image) last-line;
-          ended = ap (λ (h : Held). h .reader .stand) all-read ∙ ap (λ (o : Outcome). o .reader .stand) last-line;
+              ap (lineAnswers (freshSession own img)) (p .whole)
+              ∙ answers-append (freshSession own img) (p .before) (p .final ∷ [])
+              ∙ ap (λ (z : List Answer). z ++ lineAnswers (readAll (freshSession own img) (p .before)) (p .final ∷ [])) (reads .1)
+              ∙ ap (λ (h : Session). answersFor own (length img) begin items ++ (readLine h (p .final) .answer ∷ [])) (reads .0)
+              ∙ ap (λ (o : LineOutcome). answersFor own (length img) begin items ++ (o .answer ∷ [])) last-line;
+          image = ap (λ (h : Session). h .image) all-read ∙ ap (λ (o : LineOutcome). o .image) last-line;
+          ended = ap (λ (h : Session). h .reader .state) all-read ∙ ap (λ (o : LineOutcome). o .reader .state) last-line;
         }
 
 pub file-ends : File-ends
@@ -165,14 +165,14 @@ file-ends own img ls xs g s f = file-end own img g xs f ls (parted (allItems (f 
 -- ---- and back
 
 a-file : (xs : List Item) (l : List ℕ) (rec : Record) → Runs begin xs → let t = stateAfter begin xs in
-    t .size + length l ≤ 4194304 → t .place ≡ between → rec .kind ≡ 1 → length (itemOf l rec .bytes) ≡ 0 → t .gave 0x9900 ≡ true → t .gave 0x9903 ≡ true
+    t .size + length l ≤ 4194304 → t .place ≡ between → rec .kind ≡ 1 → length (itemOf l rec .bytes) ≡ 0 → t .dataSeen 0x9900 ≡ true → t .dataSeen 0x9903 ≡ true
     → File (xs ++ (itemOf l rec ∷ []))
 unfolding Once sizeOf
 a-file xs l rec r m e k n a b =
     let p = parsed r refl e in
     let ss = p .0 in
-    let gave : (c : ℕ) → stateAfter begin xs .gave c ≡ true → Rattle.wholefile.specs.Whole.anyGives c ss ≡ true =
-    λ c h. sym (gave-all c (p .2) begin refl .1) ∙ ap (λ (z : List Item). stateAfter begin z .gave c) (sym (p .1)) ∙ h in
+    let dataSeen : (c : ℕ) → stateAfter begin xs .dataSeen c ≡ true → Rattle.wholefile.specs.Whole.anyGives c ss ≡ true =
+    λ c h. sym (data-all c (p .2) begin refl .1) ∙ ap (λ (z : List Item). stateAfter begin z .dataSeen c) (sym (p .1)) ∙ h in
     let sum : sizeOf (xs ++ (itemOf l rec ∷ [])) ≡ sizeOf xs + (length l + 0) = size-append xs (itemOf l rec ∷ []) in
     record {
       sections = ss;
@@ -183,30 +183,30 @@ a-file xs l rec r m e k n a b =
       empty = n;
       once-v1 = omega (arith, p .3 0x9900 refl);
       once-v2 = omega (arith, p .3 0x9903 refl);
-      gave-v1 = gave 0x9900 a;
-      gave-v2 = gave 0x9903 b;
+      data-v1 = dataSeen 0x9900 a;
+      data-v2 = dataSeen 0x9903 b;
       short = omega (arith, size-after begin xs);
     }
 
 pub ended-is-file : Ended-is-file
 unfolding Ended-is-file
 ended-is-file own img ls l g a =
-    let h : 32 ≤ numberOf (turn (readAll (start own img) ls) l .answer) = omega (arith, ap numberOf a) in
-    let k : numberOf (turn (readAll (start own img) ls) l .answer) ≤ 35 = omega (arith, ap numberOf a) in
+    let h : 32 ≤ numberOf (readLine (readAll (freshSession own img) ls) l .answer) = omega (arith, ap numberOf a) in
+    let k : numberOf (readLine (readAll (freshSession own img) ls) l .answer) ≤ 35 = omega (arith, ap numberOf a) in
     let y = ready-set own img g in
     let r = last-run own ls l begin img y h k in
     let w = run-reads own (r .1) begin img y (r .2) in
     let i = imageFor own begin (r .0) img in
-    file-of (r .0) (r .1) (r .2) i (w .2) (viewed own (stateAfter begin (r .0)) l i (w .2)) (sym (ap (λ (h : Held). turn h l .answer) (w .0)) ∙ a)
+    file-of (r .0) (r .1) (r .2) i (w .2) (viewed own (stateAfter begin (r .0)) l i (w .2)) (sym (ap (λ (h : Session). readLine h l .answer) (w .0)) ∙ a)
   where
     file-of : (xs : List Item) → Says ls xs → Runs begin xs → (i : List ℕ) → Ready (readerOf own (stateAfter begin xs)) i
-        → LineCase own (stateAfter begin xs) l i (lineOf (readerOf own (stateAfter begin xs)) l i)
+        → AfterRecords own (stateAfter begin xs) l i (lineOf (readerOf own (stateAfter begin xs)) l i)
         → lineOf (readerOf own (stateAfter begin xs)) l i .answer ≡ answer.Ended
         → (zs : List Item) × Says (ls ++ (l ∷ [])) zs × File zs
     file-of xs s r i y (refused f) e = clash false (sym (ap isFailure e) ∙ f) refl
     file-of xs s r i y (went rec p m q) e =
         let t = stateAfter begin xs in
-        let w = ap (λ (o : Outcome). o .answer) (line-goes l rec p own t i y m refl q) in
+        let w = ap (λ (o : LineOutcome). o .answer) (line-goes l rec p own t i y m refl q) in
         absurd (omega (arith, ap numberOf (sym w ∙ e), answer-most own (length i) t (itemOf l rec)))
     file-of xs s r i y (last rec p m q k n a b z) e =
         (xs ++ (itemOf l rec ∷ []), says-append s (line rec p none), a-file xs l rec r m q k n a b)
@@ -217,7 +217,7 @@ taken-is-known own img ls g t =
     let y = ready-set own img g in
     let r = taken-run own ls begin img y t in
     let w = run-reads own (r .1) begin img y (r .2) in
-    (r .0, r .1, record { reader = ap (λ (h : Held). h .reader) (w .0); answers = w .1; image = ap (λ (h : Held). h .image) (w .0) })
+    (r .0, r .1, record { reader = ap (λ (h : Session). h .reader) (w .0); answers = w .1; image = ap (λ (h : Session). h .image) (w .0) })
 
 -- ---- any lines
 
@@ -232,7 +232,7 @@ memory-is-records own img ls g =
       k .whole,
       k .says,
       run-accepted own (k .says) begin img y (k .runs),
-      record { upper = k .upper; came = k .came; gave = k .gave; image = k .image },
+      record { upper = k .upper; sections = k .sections; given = k .given; image = k .image },
     )
 
 -- lines say one list of records
@@ -252,12 +252,12 @@ own-store : (own n : ℕ) (s : State) (x : Item) → answerFor own n s x ≡ ans
 unfolding givesFor
 own-store own n s x a =
     let h = answer-stored own n s x a in
-    let d = eqb (x .kind) (dataType own) && leb 1 (length (x .bytes)) in
+    let d = eqb (x .kind) (dataTypeOf own) && leb 1 (length (x .bytes)) in
     let k : d ≡ true = and-right (isIn (s .place) own) d (h .0) in
     record {
       section = is-body (s .place) own (and-left (isIn (s .place) own) d (h .0));
-      kind = eqb-true (x .kind) (dataType own) (and-left (eqb (x .kind) (dataType own)) (leb 1 (length (x .bytes))) k);
-      some = leb-true 1 (length (x .bytes)) (and-right (eqb (x .kind) (dataType own)) (leb 1 (length (x .bytes))) k);
+      kind = eqb-true (x .kind) (dataTypeOf own) (and-left (eqb (x .kind) (dataTypeOf own)) (leb 1 (length (x .bytes))) k);
+      some = leb-true 1 (length (x .bytes)) (and-right (eqb (x .kind) (dataTypeOf own)) (leb 1 (length (x .bytes))) k);
       fits = h .1;
     }
 
@@ -268,18 +268,18 @@ stored-is-own own img ls l g a =
     let r = last-run own ls l begin img y (omega (arith, ap numberOf a)) (omega (arith, ap numberOf a)) in
     let w = run-reads own (r .1) begin img y (r .2) in
     let i = imageFor own begin (r .0) img in
-    let n : length i ≡ length img = sym (ap (λ (h : Held). length (h .image)) (w .0)) ∙ image-length-kept (start own img) ls in
-    store-of (r .0) (r .1) i n (w .2) (viewed own (stateAfter begin (r .0)) l i (w .2)) (sym (ap (λ (h : Held). turn h l .answer) (w .0)) ∙ a)
+    let n : length i ≡ length img = sym (ap (λ (h : Session). length (h .image)) (w .0)) ∙ image-length-kept (freshSession own img) ls in
+    store-of (r .0) (r .1) i n (w .2) (viewed own (stateAfter begin (r .0)) l i (w .2)) (sym (ap (λ (h : Session). readLine h l .answer) (w .0)) ∙ a)
   where
     store-of : (xs : List Item) → Says ls xs → (i : List ℕ) → length i ≡ length img → Ready (readerOf own (stateAfter begin xs)) i
-        → LineCase own (stateAfter begin xs) l i (lineOf (readerOf own (stateAfter begin xs)) l i)
+        → AfterRecords own (stateAfter begin xs) l i (lineOf (readerOf own (stateAfter begin xs)) l i)
         → lineOf (readerOf own (stateAfter begin xs)) l i .answer ≡ answer.Stored
         → (zs : List Item) × (x : Item) × Says ls zs × Says (l ∷ []) (x ∷ []) × OwnStore own (length img) (stateAfter begin zs) x
     store-of xs s i n y (refused f) e = clash false (sym (ap isFailure e) ∙ f) refl
     store-of xs s i n y (went rec p m q) e =
         let t = stateAfter begin xs in
         let x = itemOf l rec in
-        let w = ap (λ (o : Outcome). o .answer) (line-goes l rec p own t i y m refl q) in
+        let w = ap (λ (o : LineOutcome). o .answer) (line-goes l rec p own t i y m refl q) in
         (xs, x, s, line rec p none, subst (λ (k : ℕ). OwnStore own k t x) n (own-store own (length i) t x (sym w ∙ e)))
     store-of xs s i n y (last rec p m q k v a b z) e = absurd (omega (arith, ap numberOf (sym z ∙ e)))
 
@@ -287,12 +287,12 @@ pub other-board-untouched : Other-board-untouched
 unfolding Other-board-untouched Taken-is-known Other-board-unchanged
 other-board-untouched own img ls l xs b g t s n i =
     let k = taken-is-known own img ls g t in
-    let h = readAll (start own img) ls in
+    let h = readAll (freshSession own img) ls in
     let e : h .reader ≡ readerOf own (stateAfter begin xs) =
     k .2 .reader ∙ ap (λ (z : List Item). readerOf own (stateAfter begin z)) (says-one (k .1) s) in
     let o : b ≢ h .reader .own = λ f. n (f ∙ ap (λ (r : Reader). r .own) e) in
     other-board-unchanged (h .reader) l (h .image) b o
     (⊎-elim
-    (λ (q : stateAfter begin xs .place ≡ body b). inl (ap (λ (r : Reader). r .stand) e ∙ ap standOf q))
-    (λ (q : stateAfter begin xs .place ≡ padded b). inr (ap (λ (r : Reader). r .stand) e ∙ ap standOf q))
+    (λ (q : stateAfter begin xs .place ≡ body b). inl (ap (λ (r : Reader). r .state) e ∙ ap readerStateOf q))
+    (λ (q : stateAfter begin xs .place ≡ padded b). inr (ap (λ (r : Reader). r .state) e ∙ ap readerStateOf q))
     i)

@@ -6,13 +6,13 @@ use mathlib.Core.List.{List, [], _∷_, map}
 use native.Mathlib.Omega.{arith}
 use Rattle.sets.proofs.Tests.{clash}
 use Rattle.sets.specs.Tab.{from, tab}
-use Rattle.record.specs.Record.{textLen, textOf, digitOf, allDigits, bytesOf, held, total, lineBytes, lineText, readOf, onRecord}
+use Rattle.record.specs.Record.{textLen, textOf, digitOf, allDigits, bytesOf, data32, total, lineOfBytes, lineOfText, readOf, onRecord}
 use Rattle.record.specs.Write.{bytesText, recordText}
 use Rattle.record.specs.declared.Record.{Record}
-use Rattle.record.specs.declared.Parsed.{Parsed}
-use Rattle.record.specs.declared.Parsed.the-variants as parsed
+use Rattle.record.specs.declared.ParseResult.{ParseResult}
+use Rattle.record.specs.declared.ParseResult.the-variants as parsed
 use Rattle.wholefile.specs.Items.{Item, itemOf, Says, none, line, sizeOf}
-use Rattle.wholefile.specs.Whole.{dataType, tail-ends, tail-0C, body-ends, body-data, body-0E, body-0C, Tail, Body, IsSection, Sections, no-section, section, allItems, howMany, anyData, anyGives, File}
+use Rattle.wholefile.specs.Whole.{dataTypeOf, tail-ends, tail-0C, body-ends, body-data, body-0E, body-0C, Tail, Body, IsSection, Sections, no-section, section, allItems, howMany, anyData, anyGives, File}
 use Rattle.wholefile.specs.Instance.{item, lineFor, padding, sectionOf, bodyV1, bodyOther, bodyV2, sections, items, Items-are-file}
 
 -- what lines say, where each says a record
@@ -29,7 +29,7 @@ unfolding allGood itemsOf
 said [] g = none
 said (l ∷ ls) g = first (readOf l .parsed) refl g (said ls)
   where
-    first : (p : Parsed) → readOf l .parsed ≡ p → onRecord false (λ rec. allGood ls) p ≡ true → (allGood ls ≡ true → Says ls (itemsOf ls))
+    first : (p : ParseResult) → readOf l .parsed ≡ p → onRecord false (λ rec. allGood ls) p ≡ true → (allGood ls ≡ true → Says ls (itemsOf ls))
         → Says (l ∷ ls) (onRecord [] (λ rec. itemOf l rec ∷ itemsOf ls) p)
     first (parsed.Good rec) e g s = line rec e (s g)
     first parsed.NoColon e g s = clash false g refl
@@ -40,7 +40,7 @@ said (l ∷ ls) g = first (readOf l .parsed) refl g (said ls)
     first parsed.BadSum e g s = clash false g refl
 
 says-items : Says (map lineFor items) items
-unfolding items allItems allGood itemsOf from tab textLen textOf allDigits bytesOf held total lineBytes lineText readOf digitOf bytesText recordText
+unfolding items allItems allGood itemsOf from tab textLen textOf allDigits bytesOf data32 total lineOfBytes lineOfText readOf digitOf bytesText recordText
 says-items = subst (λ (xs : List Item). Says (map lineFor items) xs) same (said (map lineFor items) refl)
   where
     same : itemsOf (map lineFor items) ≡ items
@@ -53,20 +53,20 @@ a-section : (nn : ℕ) (xs : List Item) → Body (256 * 0x99 + nn) xs → IsSect
 a-section nn xs b = record { opens = refl; upper = refl; names = refl; board = omega arith; body = b; closes = refl }
 
 -- two data bytes before some records
-two-bytes : (b kind address v w : ℕ) (xs : List Item) → kind ≡ dataType b → address + 2 ≤ 65536 → Body b xs
+two-bytes : (b kind address v w : ℕ) (xs : List Item) → kind ≡ dataTypeOf b → address + 2 ≤ 65536 → Body b xs
     → Body b (item kind address (v ∷ w ∷ []) ∷ xs)
 two-bytes b kind address v w xs k m t = body-data k m t
 
 body-v1 : Body 0x9900 bodyV1
-unfolding dataType
+unfolding dataTypeOf
 body-v1 = two-bytes 0x9900 0x00 2 0xAA 0xBB _ refl (omega arith) (body-0E refl (padded-body 0x9900 21))
 
 body-other : Body 0x9904 bodyOther
-unfolding dataType
+unfolding dataTypeOf
 body-other = two-bytes 0x9904 0x0D 4 0xCC 0xDD _ refl (omega arith) (padded-body 0x9904 28)
 
 body-v2 : Body 0x9903 bodyV2
-unfolding dataType
+unfolding dataTypeOf
 body-v2 = two-bytes 0x9903 0x0D 1 0x11 0x22 _ refl (omega arith) (padded-body 0x9903 28)
 
 in-order : Sections 0 sections
@@ -77,7 +77,7 @@ in-order =
     (section refl (a-section 0x03 bodyV2 body-v2) (section refl (a-section _ [] body-ends) no-section)))
 
 is-file : File items
-unfolding items allItems sizeOf howMany anyData anyGives dataType
+unfolding items allItems sizeOf howMany anyData anyGives dataTypeOf
 is-file =
     record {
       sections = sections;
@@ -88,8 +88,8 @@ is-file =
       empty = refl;
       once-v1 = omega arith;
       once-v2 = omega arith;
-      gave-v1 = refl;
-      gave-v2 = refl;
+      data-v1 = refl;
+      data-v2 = refl;
       short = omega arith;
     }
 

@@ -1,5 +1,5 @@
 -- The proofs of the claims.
-pub mod Step
+pub mod OneRecord
 pub mod Runs
 pub mod Parse
 pub mod Lists

@@ -10,10 +10,10 @@ use lib.ListN.{length}
 use borrow.Author.Tests.{eqb-true, ne-eqb}
 use Rattle.sets.proofs.Tests.{split, clash, eqb-same, both}
 use Rattle.wholefile.specs.Items.{Item, sizeOf, wordOf}
-use Rattle.wholefile.specs.Whole.{dataType, Tail, tail-ends, tail-0C, tail-0E, Body, body-ends, body-04, body-data, body-0E, body-0C, Section, sectionItems, boardOf, IsSection, Sections, no-section, section, allItems, howMany}
+use Rattle.wholefile.specs.Whole.{dataTypeOf, Tail, tail-ends, tail-0C, tail-0E, Body, body-ends, body-04, body-data, body-0E, body-0C, Section, sectionItems, boardOf, IsSection, Sections, no-section, section, allItems, howMany}
 use Rattle.wholefile.specs.State.{Place, between, opened, body, padded, placeAfter, State, after, stateAfter}
-use Rattle.wholefile.proofs.Step.{second, Goes, opening, naming, upper, given, other, padding, closing, tail-other, tail-padding, tail-closing, data-not, a-name}
-use Rattle.wholefile.proofs.Runs.{Runs, stop, step, Once, isV, same-named, stays-body, size-append}
+use Rattle.wholefile.proofs.OneRecord.{second, Goes, opening, naming, upper, given, other, padding, closing, tail-other, tail-padding, tail-closing, data-not, a-name}
+use Rattle.wholefile.proofs.Runs.{Runs, stop, step, Once, isV, same-sections, stays-body, size-append}
 
 -- ---- what is left, by the place where it begins
 
@@ -35,7 +35,7 @@ record Opened-rest (s : State) (xs : List Item) : Type 0 where
   pub inside : Body (wordOf naming) inner
   pub closes : closing .kind ≡ 11
   pub ordered : Sections (s .size + (naming .size + (sizeOf inner + closing .size))) sections
-  pub once : (c : ℕ) → isV c ≡ true → cond (s .named c || eqb (wordOf naming) c) 1 0 + howMany c sections ≤ 1
+  pub once : (c : ℕ) → isV c ≡ true → cond (s .sectionSeen c || eqb (wordOf naming) c) 1 0 + howMany c sections ≤ 1
 
 record Inner-rest (P : List Item → Type 0) (s : State) (xs : List Item) : Type 0 where
   pub inner : List Item
@@ -55,7 +55,7 @@ Rest (padded b) s xs = Inner-rest Tail s xs
 
 once-same : (s : State) (x : Item) (ss : List Section) → x .kind ≢ 10 → Once (after s x) ss → Once s ss
 unfolding Once
-once-same s x ss n o c v = rw (same-named s x n c) at (o c v)
+once-same s x ss n o c v = rw (same-sections s x n c) at (o c v)
 
 -- ---- one record before what is left
 
@@ -107,16 +107,16 @@ names-it s x xs k n f r =
       once = λ c v. rw (a-name x k c) at (r .once c v);
     }
 
-counted : (s : State) (w c k : ℕ) → isV c ≡ true → second s w ≡ false → cond (s .named c || eqb w c) 1 0 + k ≤ 1
-    → cond (s .named c) 1 0 + (cond (eqb w c) 1 0 + k) ≤ 1
+counted : (s : State) (w c k : ℕ) → isV c ≡ true → second s w ≡ false → cond (s .sectionSeen c || eqb w c) 1 0 + k ≤ 1
+    → cond (s .sectionSeen c) 1 0 + (cond (eqb w c) 1 0 + k) ≤ 1
 counted s w c k v f h =
     split (eqb w c)
     (λ y.
-    let g : isV c && s .named c ≡ false = subst (λ (b : ℕ). second s b ≡ false) (eqb-true w c y) f in
-    let n : s .named c ≡ false = rw v at g in
+    let g : isV c && s .sectionSeen c ≡ false = subst (λ (b : ℕ). second s b ≡ false) (eqb-true w c y) f in
+    let n : s .sectionSeen c ≡ false = rw v at g in
     let j : 1 + k ≤ 1 = rw (n, y) at h in
     rw (n, y) (omega arith))
-    (λ z. let j : cond (s .named c) 1 0 + k ≤ 1 = rw (z, or-false (s .named c)) at h in rw z (omega arith))
+    (λ z. let j : cond (s .sectionSeen c) 1 0 + k ≤ 1 = rw (z, or-false (s .sectionSeen c)) at h in rw z (omega arith))
 
 opens-it : (s : State) (x : Item) (xs : List Item) → x .kind ≡ 4 → length (x .bytes) ≡ 2 → s .size % 512 ≡ 0 → Opened-rest (after s x) xs → Between-rest s (x ∷ xs)
 unfolding allItems Once howMany sizeOf
@@ -124,7 +124,7 @@ opens-it s x xs k n a r =
     let sec : Section = record { opening = x; naming = r .naming; body = r .inner; closing = r .closing } in
     let w = wordOf (r .naming) in
     let sum : sizeOf (r .inner ++ (r .closing ∷ [])) ≡ sizeOf (r .inner) + (r .closing .size + 0) = size-append (r .inner) (r .closing ∷ []) in
-    let same : (c : ℕ) → after s x .named c ≡ s .named c = same-named s x (λ f. omega arith) in
+    let same : (c : ℕ) → after s x .sectionSeen c ≡ s .sectionSeen c = same-sections s x (λ f. omega arith) in
     record {
       sections = sec ∷ r .sections;
       whole =
@@ -173,7 +173,7 @@ at-most false = omega arith
 
 none-left : (s : State) → Between-rest s []
 unfolding allItems Once howMany
-none-left s = record { sections = []; whole = refl; ordered = no-section; once = λ c v. at-most (s .named c) }
+none-left s = record { sections = []; whole = refl; ordered = no-section; once = λ c v. at-most (s .sectionSeen c) }
 
 rest : {s : State} {xs : List Item} → Runs s xs → stateAfter s xs .place ≡ between → Rest (s .place) s xs
 unfolding stateAfter Rest

@@ -11,9 +11,9 @@ use lib.ListN.{length}
 use borrow.Author.Tests.{eqb-true, ne-eqb}
 use Rattle.sets.proofs.Tests.{split, is-false, eqb-same, and-left, and-right}
 use Rattle.wholefile.specs.Items.{Item, sizeOf, wordOf}
-use Rattle.wholefile.specs.Whole.{dataType, Tail, tail-ends, tail-0C, tail-0E, Body, body-ends, body-04, body-data, body-0E, body-0C, Section, sectionItems, boardOf, IsSection, Sections, no-section, section, allItems, howMany, anyData, anyGives}
+use Rattle.wholefile.specs.Whole.{dataTypeOf, Tail, tail-ends, tail-0C, tail-0E, Body, body-ends, body-04, body-data, body-0E, body-0C, Section, sectionItems, boardOf, IsSection, Sections, no-section, section, allItems, howMany, anyData, anyGives}
 use Rattle.wholefile.specs.State.{Place, between, opened, body, padded, placeAfter, isIn, givesFor, namesFor, State, after, stateAfter}
-use Rattle.wholefile.proofs.Step.{second, Goes, opening, naming, upper, given, other, padding, closing, tail-other, tail-padding, tail-closing, not-data, data-not, no-name, a-name, no-gift, no-gift-at}
+use Rattle.wholefile.proofs.OneRecord.{second, Goes, opening, naming, upper, given, other, padding, closing, tail-other, tail-padding, tail-closing, not-data, data-not, no-name, a-name, no-gift, no-gift-at}
 
 pub data Runs : State → List Item → Type 0 where
   stop : {s : State} → Runs s []
@@ -44,11 +44,11 @@ size-after s (x ∷ xs) = omega (arith, size-after (after s x) xs)
 
 -- the boards that were named stay, and board b gave what the records have
 record BodyEffect (s : State) (b : ℕ) (xs : List Item) : Type 0 where
-  pub named : (c : ℕ) → stateAfter s xs .named c ≡ s .named c
-  pub gave : (c : ℕ) → stateAfter s xs .gave c ≡ s .gave c || eqb b c && anyData c xs
+  pub sectionSeen : (c : ℕ) → stateAfter s xs .sectionSeen c ≡ s .sectionSeen c
+  pub dataSeen : (c : ℕ) → stateAfter s xs .dataSeen c ≡ s .dataSeen c || eqb b c && anyData c xs
 
-pub same-named : (s : State) (x : Item) → x .kind ≢ 10 → (c : ℕ) → after s x .named c ≡ s .named c
-same-named s x n c = rw (no-name x n c) (or-false (s .named c))
+pub same-sections : (s : State) (x : Item) → x .kind ≢ 10 → (c : ℕ) → after s x .sectionSeen c ≡ s .sectionSeen c
+same-sections s x n c = rw (no-name x n c) (or-false (s .sectionSeen c))
 
 no-data : (c : ℕ) {xs : List Item} → Tail xs → anyData c xs ≡ false
 unfolding anyData
@@ -63,23 +63,23 @@ dist false false d a = refl
 
 -- one record more
 kept-more : (s : State) (b : ℕ) (x : Item) (xs : List Item) → x .kind ≢ 10
-    → ((c : ℕ) → givesFor (s .place) x c ≡ eqb b c && (eqb (x .kind) (dataType c) && leb 1 (length (x .bytes)))) → BodyEffect (after s x) b xs
+    → ((c : ℕ) → givesFor (s .place) x c ≡ eqb b c && (eqb (x .kind) (dataTypeOf c) && leb 1 (length (x .bytes)))) → BodyEffect (after s x) b xs
     → BodyEffect s b (x ∷ xs)
 unfolding stateAfter anyData
 kept-more s b x xs n h k =
     record {
-      named = λ c. k .named c ∙ same-named s x n c;
-      gave = λ c. k .gave c
-          ∙ ap (λ (y : Bool). (s .gave c || y) || eqb b c && anyData c xs) (h c)
-          ∙ dist (s .gave c) (eqb b c) (eqb (x .kind) (dataType c) && leb 1 (length (x .bytes))) (anyData c xs);
+      sectionSeen = λ c. k .sectionSeen c ∙ same-sections s x n c;
+      dataSeen = λ c. k .dataSeen c
+          ∙ ap (λ (y : Bool). (s .dataSeen c || y) || eqb b c && anyData c xs) (h c)
+          ∙ dist (s .dataSeen c) (eqb b c) (eqb (x .kind) (dataTypeOf c) && leb 1 (length (x .bytes))) (anyData c xs);
     }
 
 kept-none : (s : State) (b : ℕ) → BodyEffect s b []
 unfolding stateAfter anyData
-kept-none s b = record { named = λ c. refl; gave = λ c. rw (and-false (eqb b c)) (sym (or-false (s .gave c))) }
+kept-none s b = record { sectionSeen = λ c. refl; dataSeen = λ c. rw (and-false (eqb b c)) (sym (or-false (s .dataSeen c))) }
 
 quiet : (s : State) (b : ℕ) (x : Item) → x .kind ≢ 0 → x .kind ≢ 13 → (c : ℕ)
-    → givesFor (s .place) x c ≡ eqb b c && (eqb (x .kind) (dataType c) && leb 1 (length (x .bytes)))
+    → givesFor (s .place) x c ≡ eqb b c && (eqb (x .kind) (dataTypeOf c) && leb 1 (length (x .bytes)))
 quiet s b x z t c = rw (no-gift x z t (s .place) c, not-data (x .kind) c z t) (sym (and-false (eqb b c)))
 
 tail-kept : (b : ℕ) {xs : List Item} → Tail xs → (s : State) → s .place ≡ padded b → (stateAfter s xs .place ≡ padded b) × BodyEffect s b xs
@@ -101,7 +101,7 @@ unfolding placeAfter
 stays-body s b x e n m = rw (e, ne-eqb (x .kind) 11 n, ne-eqb (x .kind) 12 m)
 
 in-body : (s : State) (b : ℕ) (x : Item) → s .place ≡ body b → (c : ℕ)
-    → givesFor (s .place) x c ≡ eqb b c && (eqb (x .kind) (dataType c) && leb 1 (length (x .bytes)))
+    → givesFor (s .place) x c ≡ eqb b c && (eqb (x .kind) (dataTypeOf c) && leb 1 (length (x .bytes)))
 unfolding givesFor
 in-body s b x e c = rw e
 
@@ -126,14 +126,14 @@ closed : (s : State) (b : ℕ) (x : Item) → In b (s .place) → x .kind ≡ 11
 unfolding In placeAfter
 closed s b x i k = ⊎-elim (λ (e : s .place ≡ body b). rw (e, k)) (λ (e : s .place ≡ padded b). rw (e, k)) i
 
-same-gave : (s : State) (x : Item) → x .kind ≢ 0 → x .kind ≢ 13 → (c : ℕ) → after s x .gave c ≡ s .gave c
-same-gave s x z t c = rw (no-gift x z t (s .place) c) (or-false (s .gave c))
+same-data : (s : State) (x : Item) → x .kind ≢ 0 → x .kind ≢ 13 → (c : ℕ) → after s x .dataSeen c ≡ s .dataSeen c
+same-data s x z t c = rw (no-gift x z t (s .place) c) (or-false (s .dataSeen c))
 
 -- a section leaves off between sections, its board named
 record SectionEffect (s : State) (sec : Section) : Type 0 where
   pub place : stateAfter s (sectionItems sec) .place ≡ between
-  pub named : (c : ℕ) → stateAfter s (sectionItems sec) .named c ≡ s .named c || eqb (boardOf sec) c
-  pub gave : (c : ℕ) → stateAfter s (sectionItems sec) .gave c ≡ s .gave c || eqb (boardOf sec) c && anyData c (sec .body)
+  pub sectionSeen : (c : ℕ) → stateAfter s (sectionItems sec) .sectionSeen c ≡ s .sectionSeen c || eqb (boardOf sec) c
+  pub dataSeen : (c : ℕ) → stateAfter s (sectionItems sec) .dataSeen c ≡ s .dataSeen c || eqb (boardOf sec) c && anyData c (sec .body)
 
 module _ (s : State) (sec : Section) (e : s .place ≡ between) (i : IsSection sec) where
   abbrev s1 : State
@@ -167,34 +167,34 @@ module _ (s : State) (sec : Section) (e : s .place ≡ between) (i : IsSection s
       let z : sec .closing .kind ≡ 11 = i .closes in
       record {
         place = rw whole (closed s3 (boardOf sec) (sec .closing) (kept .0) z);
-        named = λ c.
-            ap (λ (t : State). t .named c) whole
-            ∙ same-named s3 (sec .closing) (λ f. omega arith) c
-            ∙ kept .1 .named c
-            ∙ ap (λ (y : Bool). s1 .named c || y) (a-name (sec .naming) n c)
-            ∙ ap (λ (y : Bool). y || eqb (boardOf sec) c) (same-named s (sec .opening) (λ f. omega arith) c);
-        gave = λ c.
-            ap (λ (t : State). t .gave c) whole
-            ∙ same-gave s3 (sec .closing) (λ f. omega arith) (λ f. omega arith) c
-            ∙ kept .1 .gave c
+        sectionSeen = λ c.
+            ap (λ (t : State). t .sectionSeen c) whole
+            ∙ same-sections s3 (sec .closing) (λ f. omega arith) c
+            ∙ kept .1 .sectionSeen c
+            ∙ ap (λ (y : Bool). s1 .sectionSeen c || y) (a-name (sec .naming) n c)
+            ∙ ap (λ (y : Bool). y || eqb (boardOf sec) c) (same-sections s (sec .opening) (λ f. omega arith) c);
+        dataSeen = λ c.
+            ap (λ (t : State). t .dataSeen c) whole
+            ∙ same-data s3 (sec .closing) (λ f. omega arith) (λ f. omega arith) c
+            ∙ kept .1 .dataSeen c
             ∙ ap (λ (y : Bool). y || eqb (boardOf sec) c && anyData c (sec .body))
-            (same-gave s1 (sec .naming) (λ f. omega arith) (λ f. omega arith) c ∙ same-gave s (sec .opening) (λ f. omega arith) (λ f. omega arith) c);
+            (same-data s1 (sec .naming) (λ f. omega arith) (λ f. omega arith) c ∙ same-data s (sec .opening) (λ f. omega arith) (λ f. omega arith) c);
       }
 
 -- and so do sections
-pub gave-all : (c : ℕ) {at : ℕ} {ss : List Section} → Sections at ss → (s : State) → s .place ≡ between
-    → (stateAfter s (allItems ss) .place ≡ between) × (stateAfter s (allItems ss) .gave c ≡ s .gave c || anyGives c ss)
+pub data-all : (c : ℕ) {at : ℕ} {ss : List Section} → Sections at ss → (s : State) → s .place ≡ between
+    → (stateAfter s (allItems ss) .place ≡ between) × (stateAfter s (allItems ss) .dataSeen c ≡ s .dataSeen c || anyGives c ss)
 unfolding stateAfter allItems anyGives
-gave-all c no-section s e = (e, sym (or-false (s .gave c)))
-gave-all c (section {s = sec} {ss = ss} a i t) s e =
+data-all c no-section s e = (e, sym (or-false (s .dataSeen c)))
+data-all c (section {s = sec} {ss = ss} a i t) s e =
     let l = left s sec e i in
-    let r = gave-all c t (stateAfter s (sectionItems sec)) (l .place) in
+    let r = data-all c t (stateAfter s (sectionItems sec)) (l .place) in
     let w = after-append s (sectionItems sec) (allItems ss) in (
       ap (λ (q : State). q .place) w ∙ r .0,
-      ap (λ (q : State). q .gave c) w
+      ap (λ (q : State). q .dataSeen c) w
           ∙ r .1
-          ∙ ap (λ (y : Bool). y || anyGives c ss) (l .gave c)
-          ∙ or-assoc (s .gave c) (eqb (boardOf sec) c && anyData c (sec .body)) (anyGives c ss),
+          ∙ ap (λ (y : Bool). y || anyGives c ss) (l .dataSeen c)
+          ∙ or-assoc (s .dataSeen c) (eqb (boardOf sec) c && anyData c (sec .body)) (anyGives c ss),
     )
 
 -- ---- a file's sections go on
@@ -236,7 +236,7 @@ section-runs s sec e i a f m =
     let sum : sizeOf (sec .body ++ (sec .closing ∷ [])) ≡ sizeOf (sec .body) + (sec .closing .size + 0) = size-append (sec .body) (sec .closing ∷ []) in
     let o : sec .opening .kind ≡ 4 = i .opens in
     let g : second (s1 s sec e i) (boardOf sec) ≡ false =
-    ap (λ (y : Bool). (eqb (boardOf sec) 0x9900 || eqb (boardOf sec) 0x9903) && y) (same-named s (sec .opening) (λ f. omega arith) (boardOf sec)) ∙ f in
+    ap (λ (y : Bool). (eqb (boardOf sec) 0x9900 || eqb (boardOf sec) 0x9903) && y) (same-sections s (sec .opening) (λ f. omega arith) (boardOf sec)) ∙ f in
     step s (sec .opening) between e (opening (i .opens) (i .upper) a) (omega arith)
     (step (s1 s sec e i) (sec .naming) opened (at-opened s sec e i) (naming (i .names) (i .board) g) (omega arith)
     (runs-append (sec .closing ∷ []) (body-runs (boardOf sec) (i .body) t2 (at-body s sec e i) (omega arith))
@@ -248,7 +248,7 @@ abbrev pub isV : ℕ → Bool
 isV b = eqb b 0x9900 || eqb b 0x9903
 
 unfoldable pub Once : State → List Section → Type 0
-Once s ss = (c : ℕ) → isV c ≡ true → cond (s .named c) 1 0 + howMany c ss ≤ 1
+Once s ss = (c : ℕ) → isV c ≡ true → cond (s .sectionSeen c) 1 0 + howMany c ss ≤ 1
 
 -- so the first of them is none
 once-first : (s : State) (sec : Section) (ss : List Section) → Once s (sec ∷ ss) → second s (boardOf sec) ≡ false
@@ -257,21 +257,21 @@ once-first s sec ss o =
     is-false (second s (boardOf sec))
     (λ y.
     let b = boardOf sec in
-    let v : isV b ≡ true = and-left (isV b) (s .named b) y in
-    let n : s .named b ≡ true = and-right (isV b) (s .named b) y in
+    let v : isV b ≡ true = and-left (isV b) (s .sectionSeen b) y in
+    let n : s .sectionSeen b ≡ true = and-right (isV b) (s .sectionSeen b) y in
     let h : 1 + (cond (eqb b b) 1 0 + howMany b ss) ≤ 1 = rw n at (o b v) in
     let k : 1 + (1 + howMany b ss) ≤ 1 = rw (eqb-same b) at h in
     omega arith)
 
-once-next : (s t : State) (sec : Section) (ss : List Section) → ((c : ℕ) → t .named c ≡ s .named c || eqb (boardOf sec) c) → Once s (sec ∷ ss) → Once t ss
+once-next : (s t : State) (sec : Section) (ss : List Section) → ((c : ℕ) → t .sectionSeen c ≡ s .sectionSeen c || eqb (boardOf sec) c) → Once s (sec ∷ ss) → Once t ss
 unfolding Once howMany
 once-next s t sec ss n o c v =
     rw (n c)
     (split (eqb (boardOf sec) c)
-    (λ y. let h : cond (s .named c) 1 0 + (1 + howMany c ss) ≤ 1 = rw y at (o c v) in rw y (either (s .named c) (howMany c ss) h))
+    (λ y. let h : cond (s .sectionSeen c) 1 0 + (1 + howMany c ss) ≤ 1 = rw y at (o c v) in rw y (either (s .sectionSeen c) (howMany c ss) h))
     (λ z.
-    let h : cond (s .named c) 1 0 + (0 + howMany c ss) ≤ 1 = rw z at (o c v) in
-    rw (z, or-false (s .named c)) (omega arith)))
+    let h : cond (s .sectionSeen c) 1 0 + (0 + howMany c ss) ≤ 1 = rw z at (o c v) in
+    rw (z, or-false (s .sectionSeen c)) (omega arith)))
   where
     either : (a : Bool) (k : ℕ) → cond a 1 0 + (1 + k) ≤ 1 → cond (a || true) 1 0 + k ≤ 1
     either true k h = omega arith
@@ -288,4 +288,4 @@ sections-run (section {s = sec} {ss = ss} a i t) s z e o m =
     let g = size-after s (sectionItems sec) in
     runs-append (allItems ss)
     (section-runs s sec e i (ap (λ (k : ℕ). k % 512) (sym z) ∙ a) (once-first s sec ss o) (omega arith))
-    (sections-run t n (ap (λ (k : ℕ). k + sizeOf (sectionItems sec)) z ∙ sym g) (l .place) (once-next s n sec ss (l .named) o) (omega arith))
+    (sections-run t n (ap (λ (k : ℕ). k + sizeOf (sectionItems sec)) z ∙ sym g) (l .place) (once-next s n sec ss (l .sectionSeen) o) (omega arith))

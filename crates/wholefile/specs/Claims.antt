@@ -7,10 +7,10 @@ use lib.ListN.{length}
 use Rattle.grammar.specs.Answers.{numberOf}
 use Rattle.grammar.specs.declared.Answer.{Answer}
 use Rattle.grammar.specs.declared.Answer.the-variants as answer
-use Rattle.grammar.specs.declared.Stand.the-variants as stand
-use Rattle.hexfile.specs.Lines.{start, turn, readAll, answersOf}
+use Rattle.grammar.specs.declared.ReaderState.the-variants as state
+use Rattle.hexfile.specs.Lines.{freshSession, readLine, readAll, lineAnswers}
 use Rattle.wholefile.specs.Items.{Item, Says}
-use Rattle.wholefile.specs.Whole.{dataType, allItems, File}
+use Rattle.wholefile.specs.Whole.{dataTypeOf, allItems, File}
 use Rattle.wholefile.specs.State.{body, padded, State, begin, stateAfter, addressOf, answersFor, imageFor, readerOf}
 
 -- a fresh reader of V1 or V2, and an image of 1 to 1,048,576 bytes
@@ -24,9 +24,9 @@ pub record Setup (own : ℕ) (img : List ℕ) : Type 0 where
 -- its lines are answered 32 to 34, each by its record, the board of its section, the latest 04 and the image's length, and the last 35;
 -- the image is what was lent with the data of the own board's section, and the reader is after the end
 pub record FileEnd (own : ℕ) (img : List ℕ) (ls : List (List ℕ)) (xs : List Item) : Type 0 where
-  pub answers : answersOf (start own img) ls ≡ answersFor own (length img) begin xs ++ (answer.Ended ∷ [])
-  pub image : readAll (start own img) ls .image ≡ imageFor own begin xs img
-  pub ended : readAll (start own img) ls .reader .stand ≡ stand.Ended
+  pub answers : lineAnswers (freshSession own img) ls ≡ answersFor own (length img) begin xs ++ (answer.Ended ∷ [])
+  pub image : readAll (freshSession own img) ls .image ≡ imageFor own begin xs img
+  pub ended : readAll (freshSession own img) ls .reader .state ≡ state.Ended
 
 -- so are the lines of every file
 unfoldable pub File-ends : Type 0
@@ -36,7 +36,7 @@ File-ends =
 -- and no others: lines of which the last is answered 35 are a file
 unfoldable pub Ended-is-file : Type 0
 Ended-is-file =
-    (own : ℕ) (img : List ℕ) (ls : List (List ℕ)) (l : List ℕ) → Setup own img → turn (readAll (start own img) ls) l .answer ≡ answer.Ended
+    (own : ℕ) (img : List ℕ) (ls : List (List ℕ)) (l : List ℕ) → Setup own img → readLine (readAll (freshSession own img) ls) l .answer ≡ answer.Ended
     → (xs : List Item) × Says (ls ++ (l ∷ [])) xs × File xs
 
 -- ---- any lines
@@ -48,46 +48,46 @@ pub data Acceptance : List Answer → Type 0 where
 
 -- the reader, the answers and the image are what the records say
 pub record Agreement (own : ℕ) (img : List ℕ) (ls : List (List ℕ)) (xs : List Item) : Type 0 where
-  pub reader : readAll (start own img) ls .reader ≡ readerOf own (stateAfter begin xs)
-  pub answers : answersOf (start own img) ls ≡ answersFor own (length img) begin xs
-  pub image : readAll (start own img) ls .image ≡ imageFor own begin xs img
+  pub reader : readAll (freshSession own img) ls .reader ≡ readerOf own (stateAfter begin xs)
+  pub answers : lineAnswers (freshSession own img) ls ≡ answersFor own (length img) begin xs
+  pub image : readAll (freshSession own img) ls .image ≡ imageFor own begin xs img
 
 -- after any such lines
 unfoldable pub Taken-is-known : Type 0
 Taken-is-known =
-    (own : ℕ) (img : List ℕ) (ls : List (List ℕ)) → Setup own img → Acceptance (answersOf (start own img) ls)
+    (own : ℕ) (img : List ℕ) (ls : List (List ℕ)) → Setup own img → Acceptance (lineAnswers (freshSession own img) ls)
     → (xs : List Item) × Says ls xs × Agreement own img ls xs
 
 -- what the reader keeps of records: the latest 04, the boards that were named and those that gave a data byte; and the image
 pub record Memory (own : ℕ) (img : List ℕ) (ls : List (List ℕ)) (xs : List Item) : Type 0 where
-  pub upper : readAll (start own img) ls .reader .upper ≡ stateAfter begin xs .upper
-  pub came : readAll (start own img) ls .reader .came ≡ record { v1 = stateAfter begin xs .named 0x9900; v2 = stateAfter begin xs .named 0x9903 }
-  pub gave : readAll (start own img) ls .reader .gave ≡ record { v1 = stateAfter begin xs .gave 0x9900; v2 = stateAfter begin xs .gave 0x9903 }
-  pub image : readAll (start own img) ls .image ≡ imageFor own begin xs img
+  pub upper : readAll (freshSession own img) ls .reader .upper ≡ stateAfter begin xs .upper
+  pub sections : readAll (freshSession own img) ls .reader .«sections_seen» ≡ record { v1 = stateAfter begin xs .sectionSeen 0x9900; v2 = stateAfter begin xs .sectionSeen 0x9903 }
+  pub given : readAll (freshSession own img) ls .reader .«data_seen» ≡ record { v1 = stateAfter begin xs .dataSeen 0x9900; v2 = stateAfter begin xs .dataSeen 0x9903 }
+  pub image : readAll (freshSession own img) ls .image ≡ imageFor own begin xs img
 
 -- after any lines, failures and the end among them, it is what the lines before the first such one say
 unfoldable pub Memory-is-records : Type 0
 Memory-is-records =
     (own : ℕ) (img : List ℕ) (ls : List (List ℕ)) → Setup own img
-    → (ks : List (List ℕ)) × (rest : List (List ℕ)) × (xs : List Item) × (ls ≡ ks ++ rest) × Says ks xs × Acceptance (answersOf (start own img) ks)
+    → (ks : List (List ℕ)) × (rest : List (List ℕ)) × (xs : List Item) × (ls ≡ ks ++ rest) × Says ks xs × Acceptance (lineAnswers (freshSession own img) ks)
     × Memory own img ls xs
 
 -- data of the own board's section, of at least one byte, that lies wholly in an image of n bytes, by the records before it
 pub record OwnStore (own n : ℕ) (s : State) (x : Item) : Type 0 where
   pub section : s .place ≡ body own
-  pub kind : x .kind ≡ dataType own
+  pub kind : x .kind ≡ dataTypeOf own
   pub some : 1 ≤ length (x .bytes)
   pub fits : addressOf s x + length (x .bytes) ≤ n
 
 -- "33 Stored": a line that stores, after any lines, is that
 unfoldable pub Stored-is-own : Type 0
 Stored-is-own =
-    (own : ℕ) (img : List ℕ) (ls : List (List ℕ)) (l : List ℕ) → Setup own img → turn (readAll (start own img) ls) l .answer ≡ answer.Stored
+    (own : ℕ) (img : List ℕ) (ls : List (List ℕ)) (l : List ℕ) → Setup own img → readLine (readAll (freshSession own img) ls) l .answer ≡ answer.Stored
     → (xs : List Item) × (x : Item) × Says ls xs × Says (l ∷ []) (x ∷ []) × OwnStore own (length img) (stateAfter begin xs) x
 
 -- the wrong board's section: no line in the section of a board that is not the own one changes the image
 unfoldable pub Other-board-untouched : Type 0
 Other-board-untouched =
-    (own : ℕ) (img : List ℕ) (ls : List (List ℕ)) (l : List ℕ) (xs : List Item) (b : ℕ) → Setup own img → Acceptance (answersOf (start own img) ls)
+    (own : ℕ) (img : List ℕ) (ls : List (List ℕ)) (l : List ℕ) (xs : List Item) (b : ℕ) → Setup own img → Acceptance (lineAnswers (freshSession own img) ls)
     → Says ls xs → b ≢ own → (stateAfter begin xs .place ≡ body b) ⊎ (stateAfter begin xs .place ≡ padded b)
-    → turn (readAll (start own img) ls) l .image ≡ readAll (start own img) ls .image
+    → readLine (readAll (freshSession own img) ls) l .image ≡ readAll (freshSession own img) ls .image

@@ -5,7 +5,7 @@ use mathlib.Core.List.{List, [], _∷_}
 use lib.ListN.{length, getD, take}
 use Rattle.record.specs.Record.{readOf}
 use Rattle.record.specs.declared.Record.{Record}
-use Rattle.record.specs.declared.Parsed.the-variants.{Good}
+use Rattle.record.specs.declared.ParseResult.the-variants.{Good}
 
 -- a record with its data, and the bytes of its line "as handed, ending included"
 pub record Item : Type 0 where

@@ -8,11 +8,11 @@ use lib.ListN.{length}
 use Rattle.sets.specs.Over.{over}
 use Rattle.grammar.specs.declared.Answer.{Answer}
 use Rattle.grammar.specs.declared.Answer.the-variants.{Outside, Stored, Passed}
-use Rattle.grammar.specs.declared.Stand.{Stand}
-use Rattle.grammar.specs.declared.Stand.the-variants.{Between, Opened, Inside, Padded}
+use Rattle.grammar.specs.declared.ReaderState.{ReaderState}
+use Rattle.grammar.specs.declared.ReaderState.the-variants.{Between, Opened, Inside, Padded}
 use Rattle.unihex.specs.declared.Reader.{Reader}
 use Rattle.wholefile.specs.Items.{Item, wordOf}
-use Rattle.wholefile.specs.Whole.{dataType}
+use Rattle.wholefile.specs.Whole.{dataTypeOf}
 
 -- where the records leave off: before a section, after its opening 04, after the 0A that names a board, after the first 0C there
 pub data Place : Type 0 where
@@ -37,7 +37,7 @@ isIn (padded c) b = false
 
 -- it is data of board b, of at least one byte, in the board's own section
 unfoldable pub givesFor : Place → Item → ℕ → Bool
-givesFor p x b = isIn p b && (eqb (x .kind) (dataType b) && leb 1 (length (x .bytes)))
+givesFor p x b = isIn p b && (eqb (x .kind) (dataTypeOf b) && leb 1 (length (x .bytes)))
 
 -- it is the 0A that names board b
 unfoldable pub namesFor : Item → ℕ → Bool
@@ -50,12 +50,12 @@ pub record State : Type 0 where
   pub upper : ℕ
   pub size : ℕ
   -- whether a board was named, and whether it gave a data byte
-  pub named : ℕ → Bool
-  pub gave : ℕ → Bool
+  pub sectionSeen : ℕ → Bool
+  pub dataSeen : ℕ → Bool
 
 -- before the first record
 abbrev pub begin : State
-begin = record { place = between; upper = 0; size = 0; named = λ b. false; gave = λ b. false }
+begin = record { place = between; upper = 0; size = 0; sectionSeen = λ b. false; dataSeen = λ b. false }
 
 -- after one more
 abbrev pub after : State → Item → State
@@ -64,8 +64,8 @@ after s x =
       place = placeAfter (s .place) x;
       upper = cond (eqb (x .kind) 0x04) (wordOf x) (s .upper);
       size = s .size + x .size;
-      named = λ b. s .named b || namesFor x b;
-      gave = λ b. s .gave b || givesFor (s .place) x b;
+      sectionSeen = λ b. s .sectionSeen b || namesFor x b;
+      dataSeen = λ b. s .dataSeen b || givesFor (s .place) x b;
     }
 
 -- after all of them
@@ -104,11 +104,11 @@ imageFor own s (x ∷ xs) img = imageFor own (after s x) xs (imageWith own s x i
 -- ---- the reader
 
 -- where it stands
-abbrev pub standOf : Place → Stand
-standOf between = Between
-standOf opened = Opened
-standOf (body b) = Inside b
-standOf (padded b) = Padded b
+abbrev pub readerStateOf : Place → ReaderState
+readerStateOf between = Between
+readerStateOf opened = Opened
+readerStateOf (body b) = Inside b
+readerStateOf (padded b) = Padded b
 
 -- a reader of the own board that knows this and nothing else
 abbrev pub readerOf : ℕ → State → Reader
@@ -116,8 +116,8 @@ readerOf own s =
     record {
       own = own;
       offset = s .size;
-      stand = standOf (s .place);
+      state = readerStateOf (s .place);
       upper = s .upper;
-      came = record { v1 = s .named 0x9900; v2 = s .named 0x9903 };
-      gave = record { v1 = s .gave 0x9900; v2 = s .gave 0x9903 };
+      «sections_seen» = record { v1 = s .sectionSeen 0x9900; v2 = s .sectionSeen 0x9903 };
+      «data_seen» = record { v1 = s .dataSeen 0x9900; v2 = s .dataSeen 0x9903 };
     }

@@ -12,8 +12,8 @@ use Rattle.wholefile.specs.Items.{Item, sizeOf, wordOf}
 -- ---- a section
 
 -- "Data is type 00 in V1, 0D in any other"
-unfoldable pub dataType : ℕ → ℕ
-dataType b = cond (eqb b 0x9900) 0x00 0x0D
+unfoldable pub dataTypeOf : ℕ → ℕ
+dataTypeOf b = cond (eqb b 0x9900) 0x00 0x0D
 
 -- "After the first 0C only 0C, 0E or 0B": what stands between a section's first 0C and its 0B
 pub data Tail : List Item → Type 0 where
@@ -26,7 +26,7 @@ pub data Tail : List Item → Type 0 where
 pub data Body (b : ℕ) : List Item → Type 0 where
   body-ends : Body b []
   body-04 : {x : Item} {xs : List Item} → x .kind ≡ 0x04 → length (x .bytes) ≡ 2 → Body b xs → Body b (x ∷ xs)
-  body-data : {x : Item} {xs : List Item} → x .kind ≡ dataType b → x .address + length (x .bytes) ≤ 65536 → Body b xs → Body b (x ∷ xs)
+  body-data : {x : Item} {xs : List Item} → x .kind ≡ dataTypeOf b → x .address + length (x .bytes) ≤ 65536 → Body b xs → Body b (x ∷ xs)
   body-0E : {x : Item} {xs : List Item} → x .kind ≡ 0x0E → Body b xs → Body b (x ∷ xs)
   body-0C : {x : Item} {xs : List Item} → x .kind ≡ 0x0C → Tail xs → Body b (x ∷ xs)
 
@@ -75,7 +75,7 @@ howMany b (s ∷ ss) = cond (eqb (boardOf s) b) 1 0 + howMany b ss
 -- one of the records is data of board b, of at least one byte
 unfoldable pub anyData : ℕ → List Item → Bool
 anyData b [] = false
-anyData b (x ∷ xs) = eqb (x .kind) (dataType b) && leb 1 (length (x .bytes)) || anyData b xs
+anyData b (x ∷ xs) = eqb (x .kind) (dataTypeOf b) && leb 1 (length (x .bytes)) || anyData b xs
 
 -- board b "gave a data byte"
 unfoldable pub anyGives : ℕ → List Section → Bool
@@ -96,7 +96,7 @@ pub record File (xs : List Item) : Type 0 where
   pub once-v1 : howMany 0x9900 sections ≤ 1
   pub once-v2 : howMany 0x9903 sections ≤ 1
   -- row 30: "V1 and V2 each gave a data byte"
-  pub gave-v1 : anyGives 0x9900 sections ≡ true
-  pub gave-v2 : anyGives 0x9903 sections ≡ true
+  pub data-v1 : anyGives 0x9900 sections ≡ true
+  pub data-v2 : anyGives 0x9903 sections ≡ true
   -- row 36: "Hex file: at most 4,194,304 bytes"
   pub short : sizeOf xs ≤ 4194304

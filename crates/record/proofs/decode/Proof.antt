@@ -3,7 +3,7 @@ use mathlib.Core.Path.{sym}
 use Prim.Native.Nat.{_*_}
 use native.Mathlib.Omega.{arith}
 use lib.Seq.{length-take-le}
-use Rattle.record.proofs.Digits.{decoded, judged-parts}
+use Rattle.record.proofs.Digits.{decoded, verdict-parts}
 use Rattle.record.proofs.Checks.{rest}
 use borrow.Author.Needs.{needs}
 use Rattle.record.proofs.decode.Statement.{statement}
@@ -52,7 +52,7 @@ returns c =
     let s = n .before .before .before .args in
     let l = s .chars .now in
     let k = n .least .result in (
-      rw (p .pairs .ensures .0, c .all-digits .ensures, rest (2 * k) l) (judged-parts (2 * k) l),
+      rw (p .pairs .ensures .0, c .all-digits .ensures, rest (2 * k) l) (verdict-parts (2 * k) l),
       decoded l (s .out .now) _ k (n .least .ensures) (p .pairs .ensures .1),
     )
 
