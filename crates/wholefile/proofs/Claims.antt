@@ -232,6 +232,7 @@ memory-is-records own img ls g =
       k .whole,
       k .says,
       run-accepted own (k .says) begin img y (k .runs),
+      k .stops,
       record { upper = k .upper; sections = k .sections; given = k .given; image = k .image },
     )
 

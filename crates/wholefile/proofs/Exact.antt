@@ -118,7 +118,7 @@ too-long-exactly r l img o = (
 -- ---- the record
 
 module _ (r : Reader) (l img : List ℕ) (rec : Record) (o : Reading r l img rec) where
-  -- what the line comes to, at a stand
+  -- what the line comes to, in a state
   read-at : (s : ReaderState) → r .state ≡ s
       → lineOf r l img .answer
       ≡ effectOutcome r rec (readOf l .«data») (r .offset + length l) img (effectOf r (roleOf s (rec .kind) (rec .len)) (rec .address) (rec .len) (wordOf (readOf l .«data»))) .answer

@@ -1,13 +1,13 @@
 -- Lines that say records: those that go on are read as their records say, and lines that are taken say such records. Assumes nothing.
-use Prim.Native.Nat.{ℕ, _+_, _≤_}
+use Prim.Native.Nat.{ℕ, _+_, _≤_, _<_}
 use mathlib.Core.Path.{_≡_, refl, sym, ap, subst, _∙_}
-use mathlib.Core.Logic.{_⊎_, ⊎-elim}
+use mathlib.Core.Logic.{_⊎_, inl, inr}
 use mathlib.Core.Bool.{Bool, true, false, _||_, cond}
 use mathlib.Core.List.{List, [], _∷_, _++_}
 use native.Mathlib.Omega.{arith}
 use lib.ListN.{length, replicate}
 use lib.Dec.{ltb, leb, eqb}
-use borrow.Author.Tests.{le-leb, le-ltb}
+use borrow.Author.Tests.{le-leb, ltb-true, ltb-false}
 use Rattle.sets.proofs.Tests.{split, clash, both}
 use Rattle.record.specs.Record.{readOf, wordOf as wordAt}
 use Rattle.record.specs.declared.Record.{Record}
@@ -15,7 +15,6 @@ use Rattle.record.specs.declared.ParseResult.the-variants.{Good}
 use Rattle.grammar.specs.Answers.{numberOf, isFailure}
 use Rattle.grammar.specs.declared.Answer.{Answer}
 use Rattle.grammar.specs.declared.Answer.the-variants as answer
-use Rattle.grammar.specs.declared.Boards.{Boards}
 use Rattle.grammar.specs.declared.Failure.{Failure}
 use Rattle.grammar.specs.declared.ReaderState.{ReaderState}
 use Rattle.grammar.specs.declared.ReaderState.the-variants as state
@@ -30,9 +29,9 @@ use Rattle.hexfile.proofs.LineCase.{LineCase, bad, past, again, failed, out, st
 use Rattle.hexfile.proofs.Facts.{failure-not-moves, length-kept, stays-good, failures-fail}
 use Rattle.hexfile.proofs.Claims.{failure-stays, end-stays}
 use Rattle.wholefile.specs.Items.{Item, itemOf, Says, none, line}
-use Rattle.wholefile.specs.State.{Place, between, opened, body, padded, State, after, stateAfter, answerFor, answersFor, imageWith, imageFor, readerStateOf, readerOf}
+use Rattle.wholefile.specs.State.{Place, between, opened, body, padded, State, after, stateAfter, answerFor, answersFor, imageWith, imageFor, readerStateOf, bothOf, readerOf}
 use Rattle.wholefile.specs.Claims as claims
-use Rattle.wholefile.specs.Claims.{Acceptance}
+use Rattle.wholefile.specs.Claims.{Acceptance, Stop}
 use Rattle.wholefile.proofs.OneRecord.{Goes, EffectCase, fails, goes, ends, steps, made, word-item, line-made, line-goes, line-ends, answer-most, answer-least}
 use Rattle.wholefile.proofs.Runs.{Runs, stop, step}
 
@@ -134,6 +133,15 @@ module _ (own : ℕ) (s : State) (l img : List ℕ) (y : Ready (readerOf own s) 
 fails-not : {A : Type 0} (a : Answer) → isFailure a ≡ true → 32 ≤ numberOf a → numberOf a ≤ 35 → A
 fails-not a f h k = clash (movesOffset a) (both (le-leb 32 (numberOf a) h) (le-leb (numberOf a) 35 k)) (failure-not-moves a f)
 
+failure-number : (a : Answer) → isFailure a ≡ true → (numberOf a < 32) ⊎ (34 < numberOf a)
+failure-number a f =
+    split (ltb (numberOf a) 32)
+    (λ y. inl (ltb-true (numberOf a) 32 y))
+    (λ n.
+    split (ltb 34 (numberOf a))
+    (λ y. inr (ltb-true 34 (numberOf a) y))
+    (λ m. fails-not a f (ltb-false (numberOf a) 32 n) (omega (arith, ltb-false 34 (numberOf a) m))))
+
 -- the records of some lines
 abbrev pub RecordsOf : State → List (List ℕ) → Type 0
 RecordsOf s ls = (xs : List Item) × Says ls xs × Runs s xs
@@ -199,12 +207,6 @@ module _ (own : ℕ) where
 
   -- ---- any lines: the records of those before the first that is refused or ends
 
-  abbrev sectionsOf : State → Boards
-  sectionsOf s = record { v1 = s .sectionSeen 0x9900; v2 = s .sectionSeen 0x9903 }
-
-  abbrev dataOf : State → Boards
-  dataOf s = record { v1 = s .dataSeen 0x9900; v2 = s .dataSeen 0x9903 }
-
   pub record Recall (s : State) (img : List ℕ) (ls : List (List ℕ)) : Type 0 where
     pub before : List (List ℕ)
     pub rest : List (List ℕ)
@@ -212,16 +214,17 @@ module _ (own : ℕ) where
     pub whole : ls ≡ before ++ rest
     pub says : Says before items
     pub runs : Runs s items
+    pub stops : Stop (readAll (session own s img) before) rest
     pub upper : readAll (session own s img) ls .reader .upper ≡ stateAfter s items .upper
-    pub sections : readAll (session own s img) ls .reader .«sections_seen» ≡ sectionsOf (stateAfter s items)
-    pub given : readAll (session own s img) ls .reader .«data_seen» ≡ dataOf (stateAfter s items)
+    pub sections : readAll (session own s img) ls .reader .«sections_seen» ≡ bothOf (stateAfter s items .sectionSeen)
+    pub given : readAll (session own s img) ls .reader .«data_seen» ≡ bothOf (stateAfter s items .dataSeen)
     pub image : readAll (session own s img) ls .image ≡ imageFor own s items img
 
   -- a reader that went no further
   nothing-more : (s : State) (img : List ℕ) (ls : List (List ℕ)) (t : ReaderState) (e : ℕ)
-      → readAll (session own s img) ls ≡ record { reader = movedTo (withState (readerOf own s) t) e; image = img } → Recall s img ls
-  unfolding stateAfter imageFor movedTo withState
-  nothing-more s img ls t e h =
+      → Stop (session own s img) ls → readAll (session own s img) ls ≡ record { reader = movedTo (withState (readerOf own s) t) e; image = img } → Recall s img ls
+  unfolding readAll stateAfter imageFor movedTo withState
+  nothing-more s img ls t e q h =
       record {
         before = [];
         rest = ls;
@@ -229,6 +232,7 @@ module _ (own : ℕ) where
         whole = refl;
         says = none;
         runs = stop;
+        stops = q;
         upper = ap (λ (k : Session). k .reader .upper) h;
         sections = ap (λ (k : Session). k .reader .«sections_seen») h;
         given = ap (λ (k : Session). k .reader .«data_seen») h;
@@ -237,7 +241,7 @@ module _ (own : ℕ) where
 
   pub recall : (ls : List (List ℕ)) (s : State) (img : List ℕ) → Ready (readerOf own s) img → Recall s img ls
   unfolding readAll stateAfter imageFor movedTo withState Failure-stays End-stays Failures-fail
-  recall [] s img y = nothing-more s img [] (readerStateOf (s .place)) (s .size) refl
+  recall [] s img y = nothing-more s img [] (readerStateOf (s .place)) (s .size) claims.no-line refl
   recall (l ∷ ls) s img y =
       first (viewed own s l img y) (λ x e. recall ls (after s x) (imageWith own s x img) (ready-on own s l img x e y))
     where
@@ -245,7 +249,7 @@ module _ (own : ℕ) where
           → ((x : Item) → lineOf (readerOf own s) l img ≡ onward own s x img → Recall (after s x) (imageWith own s x img) ls) → Recall s img (l ∷ ls)
       first (refused f) r =
           let a = readLine (session own s img) l .answer in
-          nothing-more s img (l ∷ ls) (state.Failed (record { answer = a })) (s .size)
+          nothing-more s img (l ∷ ls) (state.Failed (record { answer = a })) (s .size) (claims.other-answer (failure-number a f))
           (failure-stays (session own s img) l ls f .0 ∙ ap sessionOf (failures-fail (readerOf own s) l img f))
       first (went rec p m g) r =
           let x = itemOf l rec in
@@ -259,11 +263,12 @@ module _ (own : ℕ) where
             whole = ap (λ (z : List (List ℕ)). l ∷ z) (k .whole);
             says = line rec p (k .says);
             runs = step s x (s .place) refl g m (k .runs);
+            stops = subst (λ (h : Session). Stop (readAll h (k .before)) (k .rest)) (sym n) (k .stops);
             upper = ap (λ (h : Session). readAll h ls .reader .upper) n ∙ k .upper;
             sections = ap (λ (h : Session). readAll h ls .reader .«sections_seen») n ∙ k .sections;
             given = ap (λ (h : Session). readAll h ls .reader .«data_seen») n ∙ k .given;
             image = ap (λ (h : Session). readAll h ls .image) n ∙ k .image;
           }
       first (last rec p m e k n a b q) r =
-          nothing-more s img (l ∷ ls) state.Ended (s .size + length l)
+          nothing-more s img (l ∷ ls) state.Ended (s .size + length l) (claims.other-answer (inr (omega (arith, ap numberOf q))))
           (end-stays (session own s img) l ls q .0 ∙ ap sessionOf (line-ends l rec p own s img y m e k n a b))

@@ -152,7 +152,7 @@ effectFor own s x = cond (givesFor (s .place) x own) (Stores (nextOf own s x)) (
 abbrev pub made : ℕ → State → Item → ℕ → Place → Effect
 made own s x w p = effectOf (readerOf own s) (roleOf (readerStateOf p) (x .kind) (length (x .bytes))) (x .address) (length (x .bytes)) w
 
--- the reader, at another stand, with another upper half
+-- the reader, in another state, with another upper half
 abbrev moved : ℕ → State → ReaderState → ℕ → Reader
 moved own s t u = rd own (s .size) t u (s .sectionSeen 0x9900) (s .sectionSeen 0x9903) (s .dataSeen 0x9900) (s .dataSeen 0x9903)
 

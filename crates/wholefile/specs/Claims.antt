@@ -1,5 +1,5 @@
 -- What is claimed of whole files, and of any lines that are answered 32 to 34. Proved in proofs/Claims.antt. Assumes nothing.
-use Prim.Native.Nat.{ℕ, _+_, _≤_}
+use Prim.Native.Nat.{ℕ, _+_, _≤_, _<_}
 use mathlib.Core.Path.{_≡_}
 use mathlib.Core.Logic.{_⊎_, _≢_}
 use mathlib.Core.List.{List, [], _∷_, _++_}
@@ -8,10 +8,10 @@ use Rattle.grammar.specs.Answers.{numberOf}
 use Rattle.grammar.specs.declared.Answer.{Answer}
 use Rattle.grammar.specs.declared.Answer.the-variants as answer
 use Rattle.grammar.specs.declared.ReaderState.the-variants as state
-use Rattle.hexfile.specs.Lines.{freshSession, readLine, readAll, lineAnswers}
+use Rattle.hexfile.specs.Lines.{Session, freshSession, readLine, readAll, lineAnswers}
 use Rattle.wholefile.specs.Items.{Item, Says}
 use Rattle.wholefile.specs.Whole.{dataTypeOf, allItems, File}
-use Rattle.wholefile.specs.State.{body, padded, State, begin, stateAfter, addressOf, answersFor, imageFor, readerOf}
+use Rattle.wholefile.specs.State.{body, padded, State, begin, stateAfter, addressOf, answersFor, imageFor, bothOf, readerOf}
 
 -- a fresh reader of V1 or V2, and an image of 1 to 1,048,576 bytes
 pub record Setup (own : ℕ) (img : List ℕ) : Type 0 where
@@ -61,16 +61,21 @@ Taken-is-known =
 -- what the reader keeps of records: the latest 04, the boards that were named and those that gave a data byte; and the image
 pub record Memory (own : ℕ) (img : List ℕ) (ls : List (List ℕ)) (xs : List Item) : Type 0 where
   pub upper : readAll (freshSession own img) ls .reader .upper ≡ stateAfter begin xs .upper
-  pub sections : readAll (freshSession own img) ls .reader .«sections_seen» ≡ record { v1 = stateAfter begin xs .sectionSeen 0x9900; v2 = stateAfter begin xs .sectionSeen 0x9903 }
-  pub given : readAll (freshSession own img) ls .reader .«data_seen» ≡ record { v1 = stateAfter begin xs .dataSeen 0x9900; v2 = stateAfter begin xs .dataSeen 0x9903 }
+  pub sections : readAll (freshSession own img) ls .reader .«sections_seen» ≡ bothOf (stateAfter begin xs .sectionSeen)
+  pub given : readAll (freshSession own img) ls .reader .«data_seen» ≡ bothOf (stateAfter begin xs .dataSeen)
   pub image : readAll (freshSession own img) ls .image ≡ imageFor own begin xs img
+
+-- lines of which none is taken by 32 to 34: there is none, or the first is answered otherwise
+pub data Stop (s : Session) : List (List ℕ) → Type 0 where
+  no-line : Stop s []
+  other-answer : {l : List ℕ} {ls : List (List ℕ)} → (numberOf (readLine s l .answer) < 32) ⊎ (34 < numberOf (readLine s l .answer)) → Stop s (l ∷ ls)
 
 -- after any lines, failures and the end among them, it is what the lines before the first such one say
 unfoldable pub Memory-is-records : Type 0
 Memory-is-records =
     (own : ℕ) (img : List ℕ) (ls : List (List ℕ)) → Setup own img
     → (ks : List (List ℕ)) × (rest : List (List ℕ)) × (xs : List Item) × (ls ≡ ks ++ rest) × Says ks xs × Acceptance (lineAnswers (freshSession own img) ks)
-    × Memory own img ls xs
+    × Stop (readAll (freshSession own img) ks) rest × Memory own img ls xs
 
 -- data of the own board's section, of at least one byte, that lies wholly in an image of n bytes, by the records before it
 pub record OwnStore (own n : ℕ) (s : State) (x : Item) : Type 0 where

@@ -52,7 +52,7 @@ pub record Reading (r : Reader) (l img : List ℕ) (rec : Record) : Type 0 where
 abbrev pub EveryRecord : (Reader → ℕ → Record → Rattle.grammar.specs.declared.Answer.Answer → Type 0) → Type 0
 EveryRecord P = EveryLine (λ r l img o. (rec : Record) → Reading r l img rec → P r (length img) rec (o .answer))
 
--- the types and numbers of data bytes that have a place where a reader stands
+-- the types and numbers of data bytes that have a place in a state of the reader
 pub data Allowed : ReaderState → ℕ → ℕ → Type 0 where
   opening-04 : Allowed Between 0x04 2
   ending-01 : Allowed Between 0x01 0

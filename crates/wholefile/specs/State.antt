@@ -8,6 +8,7 @@ use lib.ListN.{length}
 use Rattle.sets.specs.Over.{over}
 use Rattle.grammar.specs.declared.Answer.{Answer}
 use Rattle.grammar.specs.declared.Answer.the-variants.{Outside, Stored, Passed}
+use Rattle.grammar.specs.declared.Boards.{Boards}
 use Rattle.grammar.specs.declared.ReaderState.{ReaderState}
 use Rattle.grammar.specs.declared.ReaderState.the-variants.{Between, Opened, Inside, Padded}
 use Rattle.unihex.specs.declared.Reader.{Reader}
@@ -103,12 +104,16 @@ imageFor own s (x ∷ xs) img = imageFor own (after s x) xs (imageWith own s x i
 
 -- ---- the reader
 
--- where it stands
+-- its state
 abbrev pub readerStateOf : Place → ReaderState
 readerStateOf between = Between
 readerStateOf opened = Opened
 readerStateOf (body b) = Inside b
 readerStateOf (padded b) = Padded b
+
+-- V1 and V2, of what is known of any board
+abbrev pub bothOf : (ℕ → Bool) → Boards
+bothOf f = record { v1 = f 0x9900; v2 = f 0x9903 }
 
 -- a reader of the own board that knows this and nothing else
 abbrev pub readerOf : ℕ → State → Reader
@@ -118,6 +123,6 @@ readerOf own s =
       offset = s .size;
       state = readerStateOf (s .place);
       upper = s .upper;
-      «sections_seen» = record { v1 = s .sectionSeen 0x9900; v2 = s .sectionSeen 0x9903 };
-      «data_seen» = record { v1 = s .dataSeen 0x9900; v2 = s .dataSeen 0x9903 };
+      «sections_seen» = bothOf (s .sectionSeen);
+      «data_seen» = bothOf (s .dataSeen);
     }
