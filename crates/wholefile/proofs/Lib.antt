@@ -4,5 +4,6 @@ pub mod Runs
 pub mod Parse
 pub mod Lists
 pub mod Claims
+pub mod Others
 pub mod Exact
 pub mod Instance

@@ -136,20 +136,20 @@ record SectionEffect (s : State) (sec : Section) : Type 0 where
   pub dataSeen : (c : ℕ) → stateAfter s (sectionItems sec) .dataSeen c ≡ s .dataSeen c || eqb (boardOf sec) c && anyData c (sec .body)
 
 module _ (s : State) (sec : Section) (e : s .place ≡ between) (i : IsSection sec) where
-  abbrev s1 : State
+  abbrev pub s1 : State
   s1 = after s (sec .opening)
 
-  abbrev s2 : State
+  abbrev pub s2 : State
   s2 = after s1 (sec .naming)
 
   abbrev s3 : State
   s3 = stateAfter s2 (sec .body)
 
-  at-opened : s1 .place ≡ opened
+  pub at-opened : s1 .place ≡ opened
   unfolding placeAfter
   at-opened = rw e
 
-  at-body : s2 .place ≡ body (boardOf sec)
+  pub at-body : s2 .place ≡ body (boardOf sec)
   unfolding placeAfter
   at-body = rw e
 

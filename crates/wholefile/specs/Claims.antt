@@ -3,15 +3,15 @@ use Prim.Native.Nat.{ℕ, _+_, _≤_, _<_}
 use mathlib.Core.Path.{_≡_}
 use mathlib.Core.Logic.{_⊎_, _≢_}
 use mathlib.Core.List.{List, [], _∷_, _++_}
-use lib.ListN.{length}
+use lib.ListN.{length, replicate}
 use Rattle.grammar.specs.Answers.{numberOf}
 use Rattle.grammar.specs.declared.Answer.{Answer}
 use Rattle.grammar.specs.declared.Answer.the-variants as answer
 use Rattle.grammar.specs.declared.ReaderState.the-variants as state
 use Rattle.hexfile.specs.Lines.{Session, freshSession, readLine, readAll, lineAnswers}
 use Rattle.wholefile.specs.Items.{Item, Says}
-use Rattle.wholefile.specs.Whole.{dataTypeOf, allItems, File}
-use Rattle.wholefile.specs.State.{body, padded, State, begin, stateAfter, addressOf, answersFor, imageFor, bothOf, readerOf}
+use Rattle.wholefile.specs.Whole.{dataTypeOf, Section, sectionItems, boardOf, IsSection, allItems, File}
+use Rattle.wholefile.specs.State.{between, body, padded, State, begin, stateAfter, addressOf, answersFor, imageFor, bothOf, readerOf}
 
 -- a fresh reader of V1 or V2, and an image of 1 to 1,048,576 bytes
 pub record Setup (own : ℕ) (img : List ℕ) : Type 0 where
@@ -32,6 +32,13 @@ pub record FileEnd (own : ℕ) (img : List ℕ) (ls : List (List ℕ)) (xs : Lis
 unfoldable pub File-ends : Type 0
 File-ends =
     (own : ℕ) (img : List ℕ) (ls : List (List ℕ)) (xs : List Item) → Setup own img → Says ls xs → (f : File xs) → FileEnd own img ls (allItems (f .sections))
+
+-- of this every section of another board is passed over: it leaves the image, and each of its lines is answered 34
+unfoldable pub Other-sections-pass : Type 0
+Other-sections-pass =
+    (own : ℕ) (s : State) (sec : Section) → s .place ≡ between → IsSection sec → boardOf sec ≢ own
+    → ((img : List ℕ) → imageFor own s (sectionItems sec) img ≡ img)
+    × ((n : ℕ) → answersFor own n s (sectionItems sec) ≡ replicate (length (sectionItems sec)) answer.Passed)
 
 -- and no others: lines of which the last is answered 35 are a file
 unfoldable pub Ended-is-file : Type 0
