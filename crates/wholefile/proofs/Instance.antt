@@ -5,6 +5,7 @@ use mathlib.Core.Bool.{Bool, true, false}
 use mathlib.Core.List.{List, [], _∷_, map}
 use native.Mathlib.Omega.{arith}
 use Rattle.sets.proofs.Tests.{clash}
+use Rattle.sets.specs.Over.{over}
 use Rattle.sets.specs.Tab.{from, tab}
 use Rattle.record.specs.Record.{textLen, textOf, digitOf, allDigits, bytesOf, data32, total, lineOfBytes, lineOfText, readOf, onRecord}
 use Rattle.record.specs.Write.{bytesText, recordText}
@@ -13,7 +14,8 @@ use Rattle.record.specs.declared.ParseResult.{ParseResult}
 use Rattle.record.specs.declared.ParseResult.the-variants as parsed
 use Rattle.wholefile.specs.Items.{Item, itemOf, Says, none, line, sizeOf}
 use Rattle.wholefile.specs.Whole.{dataTypeOf, tail-ends, tail-0C, body-ends, body-data, body-0E, body-0C, Tail, Body, IsSection, Sections, no-section, section, allItems, howMany, anyData, anyGives, File}
-use Rattle.wholefile.specs.Instance.{item, lineFor, padding, sectionOf, bodyV1, bodyOther, bodyV2, sections, items, Items-are-file}
+use Rattle.wholefile.specs.State.{placeAfter, givesFor, namesFor, answerFor, answersFor, imageWith, imageFor}
+use Rattle.wholefile.specs.Instance.{item, lineFor, padding, sectionOf, bodyV1, bodyOther, bodyV2, sections, items, Items-are-file, Items-read}
 
 -- what lines say, where each says a record
 unfoldable itemsOf : List (List ℕ) → List Item
@@ -96,3 +98,7 @@ is-file =
 pub items-are-file : Items-are-file
 unfolding Items-are-file
 items-are-file = (says-items, is-file)
+
+pub items-read : Items-read
+unfolding Items-read allItems dataTypeOf placeAfter givesFor namesFor answerFor answersFor imageWith imageFor over
+items-read = (record { answers = refl; left = refl }, record { answers = refl; left = refl })

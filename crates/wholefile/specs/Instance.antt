@@ -1,11 +1,14 @@
 -- A file of four sections, so that the definition is not empty: V1, a third board, V2, and the third board again with nothing in its section.
 -- Checked in proofs/Instance.antt. Assumes nothing.
 use Prim.Native.Nat.{ℕ, _+_, _*_}
+use mathlib.Core.Path.{_≡_}
 use mathlib.Core.List.{List, [], _∷_, _++_, map}
 use lib.ListN.{length, replicate}
 use Rattle.record.specs.Write.{recordText}
+use Rattle.grammar.specs.Answers.{numberOf}
 use Rattle.wholefile.specs.Items.{Item, Says}
 use Rattle.wholefile.specs.Whole.{Section, allItems, File}
+use Rattle.wholefile.specs.State.{begin, answersFor, imageFor}
 
 -- a record whose line ends in LF: 11 characters, two for each data byte, and the LF
 abbrev pub item : ℕ → ℕ → List ℕ → Item
@@ -47,3 +50,14 @@ items = allItems sections ++ (item 0x01 0 [] ∷ [])
 -- it is a file
 unfoldable pub Items-are-file : Type 0
 Items-are-file = Says (map lineFor items) items × File items
+
+-- what a reader of a board with an image of eight bytes 0 answers to a section's records, and what its image is then
+pub record Reads (own : ℕ) (v1 other v2 : List ℕ) (image : List ℕ) : Type 0 where
+  pub answers : map numberOf (answersFor own 8 begin (allItems sections)) ≡ v1 ++ (other ++ (v2 ++ replicate 3 34))
+  pub left : imageFor own begin (allItems sections) (replicate 8 0) ≡ image
+
+-- by V1 and by V2, as `File-ends` has it: the third board's data is passed over, though it would fit
+unfoldable pub Items-read : Type 0
+Items-read =
+    Reads 0x9900 (34 ∷ 34 ∷ 33 ∷ replicate 8 34) (replicate 10 34) (replicate 10 34) (0 ∷ 0 ∷ 0xAA ∷ 0xBB ∷ 0 ∷ 0 ∷ 0 ∷ 0 ∷ [])
+    × Reads 0x9903 (replicate 11 34) (replicate 10 34) (34 ∷ 34 ∷ 33 ∷ replicate 7 34) (0 ∷ 0x11 ∷ 0x22 ∷ 0 ∷ 0 ∷ 0 ∷ 0 ∷ 0 ∷ [])
