@@ -1,48 +1,16 @@
--- A digit as the code finds it, the bytes that digits say, and what a loop over characters has passed. Assumes nothing.
+-- The bytes that digits say, and what a loop over characters has passed. Assumes nothing.
 use mathlib.Core.Path.{_≡_, refl, sym, ap, _∙_}
-use mathlib.Core.Bool.{Bool, _&&_, not, cond, and-assoc, and-true}
+use mathlib.Core.Bool.{Bool, _&&_, and-assoc, and-true}
 use mathlib.Core.List.{List, [], _∷_, _++_, append-nil}
 use Prim.Native.Nat.{ℕ, zero, suc, min, _+_, _*_, _/_, _%_, _≤_, _<_}
 use native.Mathlib.Numerals.{add-one}
 use native.Mathlib.Omega.{arith}
-use lib.Bits.{bitOr}
-use lib.Dec.{ltb, eqb}
+use lib.Dec.{ltb}
 use lib.ListN.{length, getD, take, drop, set, length-append, length-drop, drop-of-length-le}
 use lib.Seq.{take-nil, take-all, take-at, take-suc, take-suc-set, length-take-le, drop-cons}
-use borrow.Author.Tests.{lt-ltb, le-ltb, ltb-true, ltb-false, eqb-true, not-false}
+use borrow.Author.Tests.{ltb-true, ltb-false}
 use Rattle.sets.proofs.Tests.{split}
-use Rattle.sets.specs.Sets.{Set, any}
-use Rattle.sets.proofs.Laws.{any-all}
 use Rattle.record.specs.Record.{digitOf, isDigit, allDigits, bytesOf, Decoding}
-
--- ---- a digit, by how far its character is past '0' and, made small, past 'a'
-
-abbrev found : ℕ → ℕ → ℕ
-found d l = cond (ltb d 10) d (cond (ltb l 6) (l + 10) 16)
-
-wrong : Set
-wrong c = not (eqb (found ((c + 208) % 256) ((bitOr c 32 + 159) % 256)) (digitOf c))
-
--- computed, at every byte
-digit-found : (c : ℕ) → c < 256 → found ((c + 208) % 256) ((bitOr c 32 + 159) % 256) ≡ digitOf c
-unfolding wrong digitOf any
-digit-found c h = eqb-true _ _ (not-false _ (any-all wrong 256 refl c h))
-
-module _ {c d l : ℕ} (byte : c < 256) (hd : d < 256) (hl : l < 256) (decimal : (d + 48) % 256 ≡ c) (letter : (l + 97) % 256 ≡ bitOr c 32) where
-  digit-is : found d l ≡ digitOf c
-  digit-is =
-      let e : d ≡ (c + 208) % 256 = omega arith in
-      let f : l ≡ (bitOr c 32 + 159) % 256 = omega arith in
-      rw (e, f) (digit-found c byte)
-
-  pub digit-decimal : d < 10 → d ≡ digitOf c
-  digit-decimal h = rw (lt-ltb d 10 h) at digit-is
-
-  pub digit-letter : 10 ≤ d → l < 6 → l + 10 ≡ digitOf c
-  digit-letter h k = rw (le-ltb d 10 h, lt-ltb l 6 k) at digit-is
-
-  pub digit-none : 10 ≤ d → 6 ≤ l → 16 ≡ digitOf c
-  digit-none h k = rw (le-ltb d 10 h, le-ltb l 6 k) at digit-is
 
 -- ---- bytes
 

@@ -2,6 +2,7 @@
 ghost use mathlib.Core.Path.{_≡_};
 ghost use Prim.Native.Nat.{_+_, _*_, _/_, _%_, _<_, _≤_, min};
 ghost use lib.ListN.{length, take};
+ghost use Rattle.record.specs.Table.{TellsDigits};
 ghost use Rattle.record.specs.Record.{digitOf, textLen, total, allDigits, bytesOf, Decoding, lenOf, wordFrom, good, refused, lineOfBytes, lineOfText, readOf, parsedNumber, rowOf};
 
 // A good record: its type, its address field, and how many bytes of data it has.
@@ -71,21 +72,34 @@ impl ParseResult {
     }
 }
 
-// The value of a hex digit, or 16 where the character is none. Both differences are taken before the tests, so that the compiler
-// selects and does not branch: random digits would make a branch a costly guess.
-pub fn digit(c: u8) -> u8
+// The value of each byte as a hex digit, 16 where it is none: sixteen bytes a row.
+const DIGITS: [u8; 256] = *b"\
+    \x10\x10\x10\x10\x10\x10\x10\x10\x10\x10\x10\x10\x10\x10\x10\x10\
+    \x10\x10\x10\x10\x10\x10\x10\x10\x10\x10\x10\x10\x10\x10\x10\x10\
+    \x10\x10\x10\x10\x10\x10\x10\x10\x10\x10\x10\x10\x10\x10\x10\x10\
+    \x00\x01\x02\x03\x04\x05\x06\x07\x08\x09\x10\x10\x10\x10\x10\x10\
+    \x10\x0a\x0b\x0c\x0d\x0e\x0f\x10\x10\x10\x10\x10\x10\x10\x10\x10\
+    \x10\x10\x10\x10\x10\x10\x10\x10\x10\x10\x10\x10\x10\x10\x10\x10\
+    \x10\x0a\x0b\x0c\x0d\x0e\x0f\x10\x10\x10\x10\x10\x10\x10\x10\x10\
+    \x10\x10\x10\x10\x10\x10\x10\x10\x10\x10\x10\x10\x10\x10\x10\x10\
+    \x10\x10\x10\x10\x10\x10\x10\x10\x10\x10\x10\x10\x10\x10\x10\x10\
+    \x10\x10\x10\x10\x10\x10\x10\x10\x10\x10\x10\x10\x10\x10\x10\x10\
+    \x10\x10\x10\x10\x10\x10\x10\x10\x10\x10\x10\x10\x10\x10\x10\x10\
+    \x10\x10\x10\x10\x10\x10\x10\x10\x10\x10\x10\x10\x10\x10\x10\x10\
+    \x10\x10\x10\x10\x10\x10\x10\x10\x10\x10\x10\x10\x10\x10\x10\x10\
+    \x10\x10\x10\x10\x10\x10\x10\x10\x10\x10\x10\x10\x10\x10\x10\x10\
+    \x10\x10\x10\x10\x10\x10\x10\x10\x10\x10\x10\x10\x10\x10\x10\x10\
+    \x10\x10\x10\x10\x10\x10\x10\x10\x10\x10\x10\x10\x10\x10\x10\x10\
+    ";
+
+// The value of a hex digit, or 16 where the character is none. The table is lent: a constant that is indexed in a loop is built anew at
+// each turn.
+fn digit(table: &[u8; 256], c: u8) -> u8
+    requires { ⌜ TellsDigits (now table) ⌝ }
     ensures { λ r. ⌜ r ≡ digitOf c ⌝ }
 {
-    let decimal = std::num::wrapping_sub_u8(c, 48);
-    // the bit of 32 makes a capital small
-    let letter = std::num::wrapping_sub_u8(c | 32, 97);
-    if decimal < 10 {
-        return decimal;
-    }
-    if letter < 6 {
-        return letter + 10;
-    }
-    16
+    let k = c as usize;
+    table[k]
 }
 
 // How many characters are left when the ending is dropped.
@@ -122,36 +136,37 @@ fn sum(bytes: &[u8]) -> u8
     s
 }
 
-// Are the characters digits? No loop leaves at a character that is none: what it has met is judged once, at the end.
-fn all_digits(chars: &[u8]) -> bool
+// Are the characters digits? No loop leaves at a character that is none: the values met are or-ed, and judged once, at the end.
+fn all_digits(table: &[u8; 256], chars: &[u8]) -> bool
+    requires { ⌜ TellsDigits (now table) ⌝ }
     ensures { λ r. ⌜ r ≡ allDigits (now (chars .entry)) ⌝ }
 {
-    let mut good = true;
+    let mut met: u8 = 0;
     let mut i = 0;
     while i < chars.len() {
-        let value = digit(chars[i]);
-        good = good & (value < 16);
+        let value = digit(table, chars[i]);
+        met = met | value;
         i += 1;
     }
-    good
+    met < 16
 }
 
 // Are the characters digits? Their bytes, two characters each, fill `out`.
-fn pairs(chars: &[u8], out: &mut [u8]) -> bool
-    requires { ⌜ length (now chars) ≡ 2 * length (now out) ⌝ }
+fn pairs(table: &[u8; 256], chars: &[u8], out: &mut [u8]) -> bool
+    requires { ⌜ TellsDigits (now table) × (length (now chars) ≡ 2 * length (now out)) ⌝ }
     ensures { λ r. ⌜ r ≡ allDigits (now (chars .entry)) ⌝ }
     ensures bytes { λ _. ⌜ now (out .exit) ≡ bytesOf (now (chars .entry)) ⌝ }
 {
-    let mut good = true;
+    let mut found: u8 = 0;
     let mut i = 0;
     while i < out.len() {
-        let high = digit(chars[2 * i]);
-        let low = digit(chars[2 * i + 1]);
-        good = good & (high < 16) & (low < 16);
+        let high = digit(table, chars[2 * i]);
+        let low = digit(table, chars[2 * i + 1]);
+        found = found | high | low;
         out[i] = 16 * (high % 16) + low % 16;
         i += 1;
     }
-    good
+    found < 16
 }
 
 // The lesser of two numbers.
@@ -162,15 +177,25 @@ fn least(a: usize, b: usize) -> usize
 }
 
 // Are the characters digits? Their bytes go to `out` as far as it has room.
-fn decode(chars: &[u8], out: &mut [u8]) -> bool
-    requires { ⌜ length (now chars) % 2 ≡ 0 ⌝ }
+fn decode(table: &[u8; 256], chars: &[u8], out: &mut [u8]) -> bool
+    requires { ⌜ TellsDigits (now table) × (length (now chars) % 2 ≡ 0) ⌝ }
     ensures { λ r. ⌜ r ≡ allDigits (now (chars .entry)) ⌝ }
     ensures bytes { λ _. ⌜ Decoding (now (chars .entry)) (now (out .exit)) ⌝ }
 {
     let room = least(chars.len() / 2, out.len());
     let e = 2 * room;
-    let good = pairs(&chars[..e], &mut out[..room]);
-    good & all_digits(&chars[e..])
+    let good = pairs(table, &chars[..e], &mut out[..room]);
+    good & all_digits(table, &chars[e..])
+}
+
+// The same by the table, of which this function alone makes a copy: once a line.
+fn digits_of(chars: &[u8], out: &mut [u8]) -> bool
+    requires { ⌜ length (now chars) % 2 ≡ 0 ⌝ }
+    ensures { λ r. ⌜ r ≡ allDigits (now (chars .entry)) ⌝ }
+    ensures bytes { λ _. ⌜ Decoding (now (chars .entry)) (now (out .exit)) ⌝ }
+{
+    let table = DIGITS;
+    decode(&table, chars, out)
 }
 
 // Two bytes as a number, high first.
@@ -242,7 +267,7 @@ fn read_text(t: &[u8]) -> Line
         return refusal(ParseResult::BadShape);
     }
     let mut bytes = [0u8; Record::BYTES];
-    if !decode(&t[1..], &mut bytes) {
+    if !digits_of(&t[1..], &mut bytes) {
         return refusal(ParseResult::BadDigit);
     }
     read_bytes(n, &bytes)

@@ -3,6 +3,7 @@
 //! arrival (`uf2_receive`) and the plain side at each or once.
 
 mod hex;
+mod table;
 
 use std::hint::black_box;
 use std::time::Instant;
@@ -246,6 +247,11 @@ fn main() {
     let none = settings(0, [Entry::EMPTY; 16]);
     let full = sixteen();
     println!("| work | proved | plain Rust | ratio |\n|---|---|---|---|");
+    // `bench hex` prints the rows of Universal Hex alone
+    if std::env::args().nth(1).is_some_and(|what| what == "hex") {
+        hex::rows();
+        return;
+    }
     places("settings good and place, no table", &none);
     places("settings good and place, 16 entries", &full);
     // the last entry has room for so many
@@ -270,5 +276,5 @@ fn main() {
             }
         }
     }
-    hex::row();
+    hex::rows();
 }

@@ -26,9 +26,10 @@ slice-aggregate-pairs-2 c = sym (length-take-le _ _ (omega arith))
 
 pairs-requires : tie.Need-pairs-requires
 pairs-requires c κs =
-    let s = c .before .before .before .before .before .args in
+    let b = c .before .before .before .before .before in
+    let s = b .args in
     let k = c .before .before .least .result in
-    omega (arith, length-take-le (2 * k) (s .chars .now) (omega arith), length-take-le k (s .out .now) (omega arith))
+    (b .pre .0, omega (arith, length-take-le (2 * k) (s .chars .now) (omega arith), length-take-le k (s .out .now) (omega arith)))
 
 sub-all-digits : tie.Need-sub-all-digits
 sub-all-digits c = search needs
@@ -40,7 +41,7 @@ part-all-digits-end : tie.Need-part-all-digits-end
 part-all-digits-end c = search needs
 
 all-digits-requires : tie.Need-all-digits-requires
-all-digits-requires c κs = search needs
+all-digits-requires c κs = c .before .before .before .before .before .before .before .before .before .pre .0
 
 same-length : tie.Need-same-length
 same-length c = search needs
