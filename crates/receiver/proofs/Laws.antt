@@ -19,8 +19,8 @@ use Rattle.transfer.specs.declared.Answer.the-variants.{BadBuffers, BadSettings
 use Rattle.screen.specs.Screen.{screenOf}
 use Rattle.screen.specs.declared.Page.{Page}
 use Rattle.screen.specs.declared.Screening.the-variants.{Refused, Passed}
-use Rattle.arrival.specs.Arrive.{Lent, Outcome, Decision, rightLengths, stepped, afterScreening, decide, clearedIf, wipedIf, preparedAt, pagedAt, acceptOf, stays, accepts, done, receiveOf, forecast, lookOf}
-use Rattle.receiver.specs.Receiver.{held, lent, world, refusal, outcome}
+use Rattle.arrival.specs.Arrive.{Lent, Outcome, Decision, rightLengths, stepped, afterScreening, decide, clearedIf, wipedIf, preparedAt, pagedAt, acceptOf, stays, accepts, done, receiveOf, forecast, forecastOf, lookOf}
+use Rattle.receiver.specs.Receiver.{held, lent, world, refusal, outcome, decisionIn}
 use Rattle.receiver.specs.declared.Receipt.{Receipt}
 
 -- ---- a sector before a page is stored in it
@@ -62,48 +62,44 @@ module _ (s : Settings) (t : Transfer) (a : List ℕ) (h : Lent) where
   abbrev lengths : Bool
   lengths = rightLengths (length a) (length (h .flash)) (length (h .seen)) (length (h .sectors))
 
-  abbrev decided : Decision
-  decided = decide s (length (h .flash)) (length (h .sectors)) (t .state) (h .seen) a
-
-  pub judge-lengths : lengths ≡ false → stays BadBuffers ≡ decided
-  unfolding decide
+  pub judge-lengths : lengths ≡ false → stays BadBuffers ≡ decisionIn s (world t h) a
+  unfolding decisionIn decide
   judge-lengths l = rw l
 
   module _ (l : lengths ≡ true) where
-    pub judge-settings : goodSettings s (length (h .flash)) ≡ false → stays BadSettings ≡ decided
-    unfolding decide
+    pub judge-settings : goodSettings s (length (h .flash)) ≡ false → stays BadSettings ≡ decisionIn s (world t h) a
+    unfolding decisionIn decide
     judge-settings g = rw (l, g)
 
     module _ (g : goodSettings s (length (h .flash)) ≡ true) where
-      pub judge-state : goodState (t .state) ≡ false → stays BadState ≡ decided
-      unfolding decide
+      pub judge-state : goodState (t .state) ≡ false → stays BadState ≡ decisionIn s (world t h) a
+      unfolding decisionIn decide
       judge-state n = rw (l, g, n)
 
       module _ (n : goodState (t .state) ≡ true) where
-        pub judge-refused : {x : Answer} → screenOf s (length (h .flash)) a ≡ Refused x → stays x ≡ decided
-        unfolding decide afterScreening
+        pub judge-refused : {x : Answer} → screenOf s (length (h .flash)) a ≡ Refused x → stays x ≡ decisionIn s (world t h) a
+        unfolding decisionIn decide afterScreening
         judge-refused q = rw (l, g, n, q)
 
-        pub judge-passed : {d : Decision} {p : Page} → screenOf s (length (h .flash)) a ≡ Passed p → d ≡ stepped p (stepOf (t .state) (p .head) (markedIn (h .seen) (p .number))) → d ≡ decided
-        unfolding decide afterScreening
+        pub judge-passed : {d : Decision} {p : Page} → screenOf s (length (h .flash)) a ≡ Passed p → d ≡ stepped p (stepOf (t .state) (p .head) (markedIn (h .seen) (p .number))) → d ≡ decisionIn s (world t h) a
+        unfolding decisionIn decide afterScreening
         judge-passed q y = rw (l, g, n, q) y
 
-  -- ---- what is said and what is done
-
-  module _ {d : Decision} (k : d ≡ decided) where
+  -- what is said and what is done
+  module _ {d : Decision} (k : d ≡ decisionIn s (world t h) a) where
     pub look-stays : {x : Answer} → d ≡ stays x → forecast x false ≡ lookOf s (world t h) a
-    unfolding lookOf
-    look-stays e = rw (sym k, e) refl
+    unfolding decisionIn lookOf
+    look-stays e = ap forecastOf (sym e ∙ k)
 
     pub look-accepts : {p : Page} {y : Accepted} → d ≡ accepts p y → forecast (y .answer) (y .discarded) ≡ lookOf s (world t h) a
-    unfolding lookOf
-    look-accepts e = rw (sym k, e) refl
+    unfolding decisionIn lookOf
+    look-accepts e = ap forecastOf (sym e ∙ k)
 
     pub take-stays : {r : Receipt} {x : Answer} → d ≡ stays x → r ≡ refusal t x → outcome r h ≡ receiveOf s (world t h) a
-    unfolding receiveOf done
-    take-stays e y = rw (sym k, e) (ap (λ (r : Receipt). outcome r h) y)
+    unfolding decisionIn receiveOf done
+    take-stays e y = ap (λ (r : Receipt). outcome r h) y ∙ ap (done (world t h) (payloadOf a)) (sym e ∙ k)
 
     -- what is accepted does not look at the transfer that was
     pub take-accepts : {o : Outcome} {p : Page} {y : Accepted} (u : Transfer) → d ≡ accepts p y → o ≡ done (world u h) (payloadOf a) (accepts p y) → o ≡ receiveOf s (world t h) a
-    unfolding receiveOf done acceptOf
-    take-accepts u e y = rw (sym k, e) y
+    unfolding decisionIn receiveOf done acceptOf
+    take-accepts u e y = y ∙ ap (done (world t h) (payloadOf a)) (sym e ∙ k)

@@ -2,11 +2,13 @@
 use Prim.Native.Nat.{ℕ}
 use mathlib.Core.Bool.{false}
 use mathlib.Core.List.{List}
+use lib.ListN.{length}
 use denote.Ref.{RefT, now}
 use denote.Triple.Both.{Both}
+use Rattle.settings.specs.declared.Settings.{Settings}
 use Rattle.transfer.specs.declared.Answer.{Answer}
 use Rattle.transfer.specs.declared.Transfer.{Transfer}
-use Rattle.arrival.specs.Arrive.{Held, Lent, World, Outcome, Decision, stays, accepts, Forecast, forecast}
+use Rattle.arrival.specs.Arrive.{Held, Lent, World, Outcome, Decision, stays, accepts, decide, Forecast, forecast}
 use Rattle.receiver.specs.declared.Receipt.{Receipt}
 use Rattle.receiver.specs.declared.Preview.{Preview}
 use Rattle.receiver.specs.declared.Verdict.{Verdict}
@@ -52,6 +54,10 @@ outcome r h = record { world = world (r .transfer) h; answer = r .answer; discar
 abbrev pub decision : Verdict → Decision
 decision (Leaves x) = stays x
 decision (Accepts k) = accepts (k .page) (k .accepted)
+
+-- what the checks decide of an arrival, for a transfer and the buffers that are lent
+unfoldable pub decisionIn : Settings → World → List ℕ → Decision
+decisionIn s w a = decide s (length (w .held .flash)) (length (w .held .sectors)) (w .transfer) (w .seen) a
 
 -- what a look returns
 abbrev pub previewed : Preview → Forecast

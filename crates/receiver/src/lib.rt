@@ -1,6 +1,5 @@
 // One arrival: the checks in their order, the step of the transfer, and what is written to the lent buffers.
 ghost use mathlib.Core.Path.{_≡_};
-ghost use lib.ListN.{length};
 ghost use Rattle.sets.specs.Numbered.{numbered};
 ghost use Rattle.bitmap.specs.Bitmap.{markedIn};
 ghost use Rattle.flash.specs.Flash.{payloadOf};
@@ -15,12 +14,11 @@ ghost use Rattle.arrival.specs.Arrive.{
   pagedAt,
   accepts,
   done,
-  decide,
   receiveOf,
   forecastNumber,
   lookOf,
 };
-ghost use Rattle.receiver.specs.Receiver.{held, lentAt, leftAt, world, refusal, outcome, decision, previewed};
+ghost use Rattle.receiver.specs.Receiver.{held, lentAt, leftAt, world, refusal, outcome, decision, decisionIn, previewed};
 use block::Block;
 use flash::Flash;
 use screen::Page;
@@ -160,7 +158,7 @@ fn judge(
     seen: &[u8],
     sectors: &[u8],
 ) -> Verdict
-    ensures { λ r. ⌜ decision r ≡ decide settings (length (now (flash .entry))) (length (now (sectors .entry))) (transfer .state) (now (seen .entry)) (now (arrival .entry)) ⌝ }
+    ensures { λ r. ⌜ decision r ≡ decisionIn settings (world transfer (lentAt flash seen sectors)) (now (arrival .entry)) ⌝ }
 {
     let len = flash.len();
     if !lengths_right(arrival.len(), len, seen.len(), sectors.len()) {
