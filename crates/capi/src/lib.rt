@@ -100,10 +100,10 @@ pub extern "C" fn uf2_look(
 {
     let s = layout::read_settings(settings);
     let t = layout::read_transfer(transfer);
-    let r = receiver::look(s, t, arrival, flash, seen, sectors);
-    let answer = r.answer;
+    let p = receiver::look(s, t, arrival, flash, seen, sectors);
+    let answer = p.answer;
     let n = answer.number();
-    report(n, r.discarded) as u32
+    report(n, p.discarded) as u32
 }
 
 // One arrival is taken: the answer's number, and 128 more where a running transfer was discarded.

@@ -18,13 +18,17 @@ number-requires : tie.Need-number-requires
 number-requires c κs = search needs
 
 report-requires : tie.Need-report-requires
-report-requires c κs = search needs
+report-requires c κs = rw (c .number .ensures) (number-most (c .before .look .result .answer))
 
 cast-result : tie.Need-cast-result
 cast-result c = search needs
 
 returns : tie.Need-returns
-returns c = search needs
+returns c =
+    let n = c .before in
+    let l = n .before in
+    let t = l .before in
+    look-ran _ _ _ _ (t .before .read-settings .ensures) (t .read-transfer .ensures) (answer-is (l .look .ensures)) (n .number .ensures) (c .report .ensures)
 
 pub uf2-look-spec : {M : Type 1} → statement M
 uf2-look-spec =
