@@ -1,7 +1,7 @@
 // The transfer: its state, the answers to an arrival, and one step of it.
 ghost use mathlib.Core.Path.{_≡_};
 ghost use Prim.Native.Nat.{_+_};
-ghost use Rattle.transfer.specs.Transfer.{numberOf, fresh, goodState, sameHead, accepted, stepOf};
+ghost use Rattle.transfer.specs.Transfer.{numberOf, fresh, goodState, sameHead, deedAnswer, accepted, stepOf};
 
 // What makes two blocks one transfer.
 pub struct Head {
@@ -25,6 +25,12 @@ pub struct Transfer {
     pub state: State,
 }
 
+// What a block does once it is accepted: it stores a page, or it is a comment, which is noted and stores nothing.
+pub enum Deed {
+    Stores,
+    Notes,
+}
+
 // The answers to an arrival, in the order of the checks.
 pub enum Answer {
     BadBuffers,
@@ -32,7 +38,6 @@ pub enum Answer {
     BadState,
     NotBlock,
     Container,
-    Comment,
     NoFamily,
     NoPlace,
     BadPayload,
@@ -42,6 +47,7 @@ pub enum Answer {
     Again,
     Written,
     Completed,
+    Noted,
 }
 
 // A block that changes nothing: the next transfer, which is the one that was, and the answer.
@@ -74,7 +80,6 @@ impl Answer {
             Answer::BadState => 3,
             Answer::NotBlock => 4,
             Answer::Container => 5,
-            Answer::Comment => 6,
             Answer::NoFamily => 7,
             Answer::NoPlace => 8,
             Answer::BadPayload => 9,
@@ -84,6 +89,7 @@ impl Answer {
             Answer::Again => 13,
             Answer::Written => 14,
             Answer::Completed => 15,
+            Answer::Noted => 16,
         }
     }
 }
@@ -94,9 +100,19 @@ fn same_head(g: Head, h: Head) -> bool
     (g.family == h.family) & (g.total == h.total)
 }
 
+// The answer to a block that does not complete its transfer.
+fn deed_answer(deed: Deed) -> Answer
+    ensures { λ r. ⌜ r ≡ deedAnswer deed ⌝ }
+{
+    match deed {
+        Deed::Stores => Answer::Written,
+        Deed::Notes => Answer::Noted,
+    }
+}
+
 // A block is accepted after `before` others. The raised count may not fit 32 bits, so it is compared in 64.
-fn accept(head: Head, before: u32, clears: bool, discarded: bool) -> Accepted
-    ensures { λ r. ⌜ r ≡ accepted clears discarded head (before + 1) ⌝ }
+fn accept(deed: Deed, head: Head, before: u32, clears: bool, discarded: bool) -> Accepted
+    ensures { λ r. ⌜ r ≡ accepted deed clears discarded head (before + 1) ⌝ }
 {
     let raised = before as u64 + 1;
     if raised < head.total as u64 {
@@ -106,7 +122,7 @@ fn accept(head: Head, before: u32, clears: bool, discarded: bool) -> Accepted
         let transfer = Transfer { state };
         return Accepted {
             transfer,
-            answer: Answer::Written,
+            answer: deed_answer(deed),
             discarded,
             clears,
         };
@@ -146,14 +162,14 @@ impl Transfer {
         }
     }
 
-    // What a block of this head does, whose number is marked or not.
-    pub fn step(self, head: Head, marked: bool) -> Step
-        ensures { λ r. ⌜ r ≡ stepOf (self .state) head marked ⌝ }
+    // What a block of this head does, whose number is marked or not, and which does `deed` once it is accepted.
+    pub fn step(self, head: Head, marked: bool, deed: Deed) -> Step
+        ensures { λ r. ⌜ r ≡ stepOf (self .state) head marked deed ⌝ }
     {
         let state = self.state;
         match state {
-            State::Idle => Step::Accepts(accept(head, 0, true, false)),
-            State::Running(run) => go_on(run, head, marked),
+            State::Idle => Step::Accepts(accept(deed, head, 0, true, false)),
+            State::Running(run) => go_on(run, head, marked, deed),
             State::Done(_) => Step::Stays(Unchanged {
                 transfer: self,
                 answer: Answer::Finished,
@@ -163,12 +179,12 @@ impl Transfer {
 }
 
 // What a block of this head does to a running transfer.
-fn go_on(run: Run, head: Head, marked: bool) -> Step
-    ensures { λ r. ⌜ r ≡ stepOf (State.Running run) head marked ⌝ }
+fn go_on(run: Run, head: Head, marked: bool, deed: Deed) -> Step
+    ensures { λ r. ⌜ r ≡ stepOf (State.Running run) head marked deed ⌝ }
 {
     let current = run.head;
     if !same_head(current, head) {
-        return Step::Accepts(accept(head, 0, true, true));
+        return Step::Accepts(accept(deed, head, 0, true, true));
     }
     if marked {
         let state = State::Running(run);
@@ -178,5 +194,5 @@ fn go_on(run: Run, head: Head, marked: bool) -> Step
             answer: Answer::Again,
         });
     }
-    Step::Accepts(accept(head, run.count, false, false))
+    Step::Accepts(accept(deed, head, run.count, false, false))
 }
