@@ -14,7 +14,7 @@ use Rattle.settings.specs.declared.Settings.{Settings}
 use Rattle.place.specs.Place.{placeOf}
 use Rattle.place.specs.declared.Place.{Place}
 use Rattle.place.specs.declared.Place.the-variants.{Nowhere, At}
-use Rattle.transfer.specs.Transfer.{numberOf, running}
+use Rattle.transfer.specs.Transfer.{headWith, numberOf, running}
 use Rattle.transfer.specs.declared.Head.{Head}
 use Rattle.transfer.specs.declared.State.the-variants.{Idle, Done}
 use Rattle.transfer.specs.declared.Answer.{Answer}
@@ -127,7 +127,7 @@ repliesTo s w F S (a ∷ l) = replyTo s w F S a ∷ repliesTo s w F (withArrival
 
 -- "Running (family, n, m)", "Done (family, n)": the family and the n
 abbrev pub headIn : File → Head
-headIn F = record { family = F .family; total = F .total }
+headIn F = headWith (F .family) (F .total)
 
 -- The four bullets of 01, with S the set of blocks seen and v the world after the list: of transfer and seen map, of the sector map, of the
 -- flash.

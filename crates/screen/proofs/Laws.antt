@@ -19,9 +19,10 @@ use Rattle.settings.specs.declared.Settings.{Settings}
 use Rattle.place.specs.Place.{placeOf}
 use Rattle.place.specs.declared.Place.{Place}
 use Rattle.place.specs.declared.Place.the-variants.{At}
-use Rattle.transfer.specs.Transfer.{numberOf}
+use Rattle.transfer.specs.Transfer.{headWith, numberOf}
+use Rattle.transfer.specs.declared.Head.{Head}
 use Rattle.transfer.specs.declared.Answer.the-variants.{BadPayload, BadNumbers, BadAddress}
-use Rattle.screen.specs.Screen.{badNumbers, badAddress, pageAt, placed, headerRefusal, headed, screenOf}
+use Rattle.screen.specs.Screen.{badNumbers, badAddress, placed, headerRefusal, headed, screenOf}
 use Rattle.screen.specs.declared.Screening.the-variants.{Refused, Passed}
 
 -- ---- what rows 10 and 11 leave
@@ -93,9 +94,10 @@ module _ (start size : ℕ) (b : Block) where
       pub placed-address : (Address size b → ⊥) → placed (At start size) b ≡ Refused BadAddress
       placed-address a = split (badAddress size b) address-true (λ h. absurd (a (address-false size b h)))
 
-      pub placed-passed : Address size b → placed (At start size) b ≡ Passed (pageAt start b)
+      pub placed-passed : Address size b → {g : Head} → g ≡ headWith (b .family) (b .total)
+          → Passed (record { head = g; number = b .number; at = start + (b .address - 0x10000000) }) ≡ placed (At start size) b
       unfolding placed
-      placed-passed a = rw (eq-eqb (b .size) 256 p, numbers-right size b n, address-right size b a)
+      placed-passed a e = rw (eq-eqb (b .size) 256 p, numbers-right size b n, address-right size b a, e)
 
 -- ---- an arrival
 

@@ -11,6 +11,7 @@ use Rattle.settings.specs.declared.Settings.{Settings}
 use Rattle.place.specs.Place.{placeOf}
 use Rattle.place.specs.declared.Place.{Place}
 use Rattle.place.specs.declared.Place.the-variants.{Nowhere, At}
+use Rattle.transfer.specs.Transfer.{headWith}
 use Rattle.transfer.specs.declared.Answer.{Answer}
 use Rattle.transfer.specs.declared.Answer.the-variants.{NotBlock, Container, Comment, NoFamily, NoPlace, BadPayload, BadNumbers, BadAddress}
 use Rattle.screen.specs.declared.Page.{Page}
@@ -29,7 +30,7 @@ badAddress size b = ltb (b .address) 0x10000000 || not (eqb (b .address % 256) 0
 abbrev pub pageAt : ℕ → Block → Page
 pageAt start b =
     record {
-      head = record { family = b .family; total = b .total };
+      head = headWith (b .family) (b .total);
       number = b .number;
       at = start + (b .address - 0x10000000);
     }

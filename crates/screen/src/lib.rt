@@ -69,10 +69,7 @@ fn fits_place(b: Block, start: usize, size: usize) -> Screening
     if size < past - Page::WINDOW {
         return Screening::Refused(Answer::BadAddress);
     }
-    let head = Head {
-        family: b.family,
-        total: b.total,
-    };
+    let head = Head::new(b.family, b.total);
     Screening::Passed(Page {
         head,
         number: b.number,

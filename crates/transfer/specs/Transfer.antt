@@ -37,6 +37,10 @@ numberOf Noted = 16
 abbrev pub fresh : Transfer
 fresh = record { state = Idle }
 
+-- "(family, total)", which make two blocks one transfer
+abbrev pub headWith : ℕ → ℕ → Head
+headWith f n = record { family = f; total = n }
+
 -- "Running (family, total, count)"
 abbrev pub running : Head → ℕ → State
 running g c = Running (record { head = g; count = c })

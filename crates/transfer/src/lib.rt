@@ -1,12 +1,20 @@
 // The transfer: its state, the answers to an arrival, and one step of it.
 ghost use mathlib.Core.Path.{_≡_};
 ghost use Prim.Native.Nat.{_+_};
-ghost use Rattle.transfer.specs.Transfer.{numberOf, fresh, goodState, sameHead, deedAnswer, accepted, stepOf};
+ghost use Rattle.transfer.specs.Transfer.{headWith, numberOf, fresh, goodState, sameHead, deedAnswer, accepted, stepOf};
 
 // What makes two blocks one transfer.
 pub struct Head {
     pub family: u32,
     pub total: u32,
+}
+
+impl Head {
+    pub fn new(family: u32, total: u32) -> Self
+        ensures { λ r. ⌜ r ≡ headWith family total ⌝ }
+    {
+        Self { family, total }
+    }
 }
 
 // A transfer under way: so many different blocks have been counted.
