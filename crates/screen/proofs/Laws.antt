@@ -22,7 +22,8 @@ use Rattle.place.specs.declared.Place.the-variants.{At}
 use Rattle.transfer.specs.Transfer.{headWith, numberOf}
 use Rattle.transfer.specs.declared.Head.{Head}
 use Rattle.transfer.specs.declared.Answer.the-variants.{BadPayload, BadNumbers, BadAddress}
-use Rattle.screen.specs.Screen.{badNumbers, badAddress, placed, headerRefusal, headed, screenOf}
+use Rattle.screen.specs.Screen.{badNumbers, badAddress, placed, noted, found, headerRefusal, headed, screenOf}
+use Rattle.screen.specs.declared.Body.the-variants.{Page, Note}
 use Rattle.screen.specs.declared.Screening.the-variants.{Refused, Passed}
 
 -- ---- what rows 10 and 11 leave
@@ -71,55 +72,80 @@ module _ (size : ℕ) (b : Block) where
         inside = ltb-false _ _ (or-right (w || m) i h);
       }
 
--- ---- a block beside its place
+  -- row 10 by cases, as the code asks it
+  pub numbers-wrong : (Numbers size b → ⊥) → true ≡ badNumbers size b
+  numbers-wrong n = split (badNumbers size b) sym (λ h. absurd (n (numbers-false h)))
+
+  pub numbers-last : b .total ≢ 0 → b .total * 256 ≤ size → leb (b .total) (b .number) ≡ badNumbers size b
+  numbers-last n m = rw (ne-eqb (b .total) 0 n, le-ltb size (b .total * 256) m)
+
+-- ---- a data block beside its place
 
 module _ (start size : ℕ) (b : Block) where
-  pub placed-payload : b .size ≢ 256 → placed (At start size) b ≡ Refused BadPayload
+  pub placed-payload : b .size ≢ 256 → placed start size b ≡ Refused BadPayload
   unfolding placed
   placed-payload n = rw (ne-eqb (b .size) 256 n)
 
   module _ (p : b .size ≡ 256) where
-    numbers-true : badNumbers size b ≡ true → placed (At start size) b ≡ Refused BadNumbers
+    pub placed-numbers : badNumbers size b ≡ true → placed start size b ≡ Refused BadNumbers
     unfolding placed
-    numbers-true h = rw (eq-eqb (b .size) 256 p, h)
+    placed-numbers h = rw (eq-eqb (b .size) 256 p, h)
 
-    pub placed-numbers : (Numbers size b → ⊥) → placed (At start size) b ≡ Refused BadNumbers
-    placed-numbers n = split (badNumbers size b) numbers-true (λ h. absurd (n (numbers-false size b h)))
-
-    module _ (n : Numbers size b) where
-      address-true : badAddress size b ≡ true → placed (At start size) b ≡ Refused BadAddress
+    module _ (n : badNumbers size b ≡ false) where
+      address-true : badAddress size b ≡ true → placed start size b ≡ Refused BadAddress
       unfolding placed
-      address-true h = rw (eq-eqb (b .size) 256 p, numbers-right size b n, h)
+      address-true h = rw (eq-eqb (b .size) 256 p, n, h)
 
-      pub placed-address : (Address size b → ⊥) → placed (At start size) b ≡ Refused BadAddress
+      pub placed-address : (Address size b → ⊥) → placed start size b ≡ Refused BadAddress
       placed-address a = split (badAddress size b) address-true (λ h. absurd (a (address-false size b h)))
 
       pub placed-passed : Address size b → {g : Head} → g ≡ headWith (b .family) (b .total)
-          → Passed (record { head = g; number = b .number; at = start + (b .address - 0x10000000) }) ≡ placed (At start size) b
+          → Passed (record { head = g; number = b .number; body = Page (start + (b .address - 0x10000000)) }) ≡ placed start size b
       unfolding placed
-      placed-passed a e = rw (eq-eqb (b .size) 256 p, numbers-right size b n, address-right size b a, e)
+      placed-passed a e = rw (eq-eqb (b .size) 256 p, n, address-right size b a, e)
+
+-- ---- a comment beside its place
+
+module _ (size : ℕ) (b : Block) where
+  pub noted-numbers : badNumbers size b ≡ true → noted size b ≡ Refused BadNumbers
+  unfolding noted
+  noted-numbers h = rw h
+
+  pub noted-passed : badNumbers size b ≡ false → {g : Head} → g ≡ headWith (b .family) (b .total)
+      → Passed (record { head = g; number = b .number; body = Note }) ≡ noted size b
+  unfolding noted
+  noted-passed h e = rw (h, e)
+
+-- ---- a block whose family has a place
+
+module _ (start size : ℕ) (b : Block) where
+  pub found-comment : b .comment ≡ true → found (At start size) b ≡ noted size b
+  unfolding found
+  found-comment h = rw h
+
+  pub found-data : b .comment ≡ false → found (At start size) b ≡ placed start size b
+  unfolding found
+  found-data h = rw h
 
 -- ---- an arrival
 
 module _ (s : Settings) (len : ℕ) (a : List ℕ) where
   -- the header is none of those before `Found`, by its tag
-  pub screen-refused : (h : Header) → h ≡ headerOf a → OneOf (0 ∷ 1 ∷ 2 ∷ 3 ∷ []) (tagOf the-type h) → screenOf s len a ≡ Refused (headerRefusal h)
+  pub screen-refused : (h : Header) → h ≡ headerOf a → OneOf (0 ∷ 1 ∷ 2 ∷ []) (tagOf the-type h) → screenOf s len a ≡ Refused (headerRefusal h)
   unfolding screenOf headed
   screen-refused header.NotBlock e n = rw (sym e)
   screen-refused header.Container e n = rw (sym e)
-  screen-refused header.Comment e n = rw (sym e)
   screen-refused header.NoFamily e n = rw (sym e)
-  screen-refused (header.Found b) e n = absurd (⊎-elim (λ x. omega arith) (⊎-elim (λ x. omega arith) (⊎-elim (λ x. omega arith) (λ x. omega arith))) n)
+  screen-refused (header.Found b) e n = absurd (⊎-elim (λ x. omega arith) (⊎-elim (λ x. omega arith) (λ x. omega arith)) n)
 
-  pub screen-placed : (b : Block) (p : Place) → headerOf a ≡ header.Found b → placeOf s len (b .family) ≡ p → screenOf s len a ≡ placed p b
+  pub screen-found : (b : Block) (p : Place) → headerOf a ≡ header.Found b → placeOf s len (b .family) ≡ p → screenOf s len a ≡ found p b
   unfolding screenOf headed
-  screen-placed b p e q = rw (e, q)
+  screen-found b p e q = rw (e, q)
 
 -- ---- the numbers of the header's refusals are the answers'
 
 pub refusal-number : (h : Header) → headerNumber h ≢ 0 → numberOf (headerRefusal h) ≡ headerNumber h
 refusal-number header.NotBlock n = refl
 refusal-number header.Container n = refl
-refusal-number header.Comment n = refl
 refusal-number header.NoFamily n = refl
 refusal-number (header.Found b) n = absurd (n refl)

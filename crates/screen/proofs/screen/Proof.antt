@@ -1,7 +1,7 @@
 -- `screen::screen` meets its contract. Assumes nothing.
 use mathlib.Core.Path.{sym, ap, _∙_}
-use Rattle.screen.proofs.Laws.{screen-refused, screen-placed}
-use Rattle.screen.specs.Screen.{placed}
+use Rattle.screen.proofs.Laws.{screen-refused, screen-found}
+use Rattle.screen.specs.Screen.{found}
 use Rattle.screen.specs.declared.Screening.the-variants.{Refused}
 use borrow.Author.Needs.{needs}
 use Rattle.screen.proofs.screen.Statement.{statement}
@@ -28,15 +28,15 @@ enum-told c = search needs
 enum-known-p : tie.Need-enum-known-p
 enum-known-p c = search needs
 
-fits-place-requires : tie.Need-fits-place-requires
-fits-place-requires c κs = let h = c .before .before .before .find .ensures .1 in rw (c .before .p .given .1) at h
+check-requires : tie.Need-check-requires
+check-requires c κs = let h = c .before .before .before .find .ensures .1 in rw (c .before .p .given .1) at h
 
 returns-2 : tie.Need-returns-2
-unfolding placed
-returns-2 c = let d = c .before .before in sym (screen-placed _ _ _ _ _ (sym (d .before .before .before .before .read .ensures) ∙ d .before .before .h .given .1) (sym (d .find .ensures .0) ∙ c .enum-told .given .1))
+unfolding found
+returns-2 c = let d = c .before .before in sym (screen-found _ _ _ _ _ (sym (d .before .before .before .before .read .ensures) ∙ d .before .before .h .given .1) (sym (d .find .ensures .0) ∙ c .enum-told .given .1))
 
 returns-3 : tie.Need-returns-3
-returns-3 c = let d = c .before .before .before .before in c .fits-place .ensures ∙ sym (screen-placed _ _ _ _ _ (sym (d .before .before .before .before .read .ensures) ∙ d .before .before .h .given .1) (sym (d .find .ensures .0) ∙ c .before .before .p .given .1))
+returns-3 c = let d = c .before .before .before .before in c .check .ensures ∙ sym (screen-found _ _ _ _ _ (sym (d .before .before .before .before .read .ensures) ∙ d .before .before .h .given .1) (sym (d .find .ensures .0) ∙ c .before .before .p .given .1))
 
 pub screen-spec : {M : Type 1} → statement M
 screen-spec =
@@ -49,6 +49,6 @@ screen-spec =
     find-requires
     enum-told
     enum-known-p
-    fits-place-requires
+    check-requires
     returns-2
     returns-3)
