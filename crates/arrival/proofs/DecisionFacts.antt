@@ -1,6 +1,6 @@
 -- What has been decided of an arrival: an answer up to 13, or a block that passed rows 1 to 11 and a step that accepts it. Assumes nothing.
 use Prim.Native.Nat.{ℕ, _+_, _≤_, _<_}
-use mathlib.Core.Path.{_≡_, refl, sym, subst}
+use mathlib.Core.Path.{_≡_, refl, sym, ap, subst}
 use mathlib.Core.Logic.{_⊎_, inl, inr}
 use mathlib.Core.Bool.{Bool, true, false, cond, _&&_}
 use mathlib.Core.List.{List}
@@ -124,6 +124,27 @@ step-facts (Done h) g m d = omega arith
 pub took-number : {t : State} {g : Head} {m : Bool} {d : Deed} {k : Accepted} → AcceptFacts t g m d k → 14 ≤ numberOf (k .answer)
 unfolding accepted
 took-number {t} {g} {m} {d} {k} q = rw (q .is) (raised-number d g (cond (clears t g) 1 (countOf t + 1)))
+
+-- what such a step hands back
+module _ {t : State} {g : Head} {m : Bool} {d : Deed} {k : Accepted} (q : AcceptFacts t g m d k) where
+  abbrev pub raisedCount : ℕ
+  raisedCount = cond (clears t g) 1 (countOf t + 1)
+
+  pub took-state : k .transfer .state ≡ counted g raisedCount
+  unfolding accepted
+  took-state = ap (λ (x : Accepted). x .transfer .state) (q .is)
+
+  pub took-answer : k .answer ≡ raised d g raisedCount
+  unfolding accepted
+  took-answer = ap (λ (x : Accepted). x .answer) (q .is)
+
+  pub took-clears : k .clears ≡ clears t g
+  unfolding accepted
+  took-clears = ap (λ (x : Accepted). x .clears) (q .is)
+
+  pub took-discarded : k .discarded ≡ q .discards
+  unfolding accepted
+  took-discarded = ap (λ (x : Accepted). x .discarded) (q .is)
 
 -- ---- every row
 

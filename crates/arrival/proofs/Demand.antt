@@ -1,7 +1,7 @@
 -- The claims of specs/Demand.antt hold. Assumes nothing.
-use Prim.Native.Nat.{ℕ, _+_, _-_, _/_, _≤_, _<_}
+use Prim.Native.Nat.{ℕ, _+_, _/_, _≤_, _<_}
 use mathlib.Core.Path.{_≡_, refl, sym, ap, subst, _∙_, fun-ext}
-use mathlib.Core.Bool.{Bool, true, false, not, _&&_, _||_, or-comm, and-false, not-and-self}
+use mathlib.Core.Bool.{Bool, true, false, not, _&&_, _||_, or-comm, not-and-self}
 use mathlib.Core.List.{List, [], _∷_, _++_}
 use native.Mathlib.Omega.{arith}
 use lib.Dec.{eqb, ltb}
@@ -11,17 +11,15 @@ use Rattle.sets.specs.Sets.{Set, none, add, size}
 use Rattle.sets.proofs.Tests.{split, clash, is-false}
 use Rattle.sets.proofs.Laws.{add-idle, size-le, size-add, size-full, any-hit}
 use Rattle.bitmap.specs.Bitmap.{mapOf}
-use Rattle.flash.specs.Flash.{spans}
 use Rattle.settings.specs.declared.Settings.{Settings}
 use Rattle.block.specs.Block.{hasFlag}
 use Rattle.transfer.specs.Transfer.{deedAnswer, raised}
 use Rattle.transfer.specs.declared.Deed.{Deed}
 use Rattle.transfer.specs.declared.Deed.the-variants.{Stores, Notes}
 use Rattle.transfer.specs.declared.State.the-variants.{Idle}
-use Rattle.transfer.specs.declared.Answer.{Answer}
 use Rattle.arrival.specs.Arrive.{Held, World, Outcome, receiveOf}
 use Rattle.arrival.specs.Lists.{receiveAll, answersOf}
-use Rattle.arrival.specs.Demand.{File, answerNumber, isData, ValidFile, Foreign, Mixed, Sent, nothing, own, other, among, seenOf, isWhole, unfinished, replyTo, withArrival, repliesTo, Ends, List-ends, List-answers, isCompleted, Completed-exactly, Same-set-same-end, Either-first}
+use Rattle.arrival.specs.Demand.{File, answerNumber, isData, ValidFile, Foreign, Sent, nothing, own, other, seenOf, isWhole, unfinished, replyTo, withArrival, repliesTo, Ends, List-ends, List-answers, isCompleted, Completed-exactly, Same-set-same-end, Either-first}
 use Rattle.arrival.proofs.Count.{Blocks, count, deedBy, Keeps, After, untouched, begun, verdict, Stepped, nothing-seen, some-seen, still-running, whole-done, seen-map, keeps-of, after, after-is}
 use Rattle.arrival.proofs.Cells.{cell, cell-none, cell-owned, cell-free, getD-buffer}
 use Rattle.arrival.proofs.Effect.{payloadIn, spans-is, Valid, layout, sectorsOf, owned-touches, apart-of, effect, length-effect, grows}

@@ -54,7 +54,7 @@ answers-read-no-flash s v w a e = rw (e .transfer, e .seen, e .flash-length, e .
 
 -- ---- lengths
 
-length-cleared : (b : Bool) (m : List ℕ) → length (clearedIf b m) ≡ length m
+pub length-cleared : (b : Bool) (m : List ℕ) → length (clearedIf b m) ≡ length m
 unfolding clearedIf
 length-cleared true m = length-unmarked (length m)
 length-cleared false m = refl

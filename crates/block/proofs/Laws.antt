@@ -1,5 +1,5 @@
 -- The laws of a block's fields, and each case of its header. Assumes nothing.
-use mathlib.Core.Path.{_≡_, refl, sym, ap, _∙_}
+use mathlib.Core.Path.{_≡_, refl, ap, _∙_}
 use mathlib.Core.Bool.{Bool, true, false, not, cond, _&&_}
 use mathlib.Core.Logic.{_⊎_, inl, inr, ⊎-elim}
 use mathlib.Core.List.{List}
@@ -95,7 +95,7 @@ flagged-other a e = flags-other (hasFlag a 0x1000) (hasFlag a 0x2000) (fieldsOf 
 -- ---- "Flags 0x4000 and 0x8000 don't change an answer"
 
 -- a field in which byte j does not lie
-field-set : (a : List ℕ) (j v at : ℕ) → (at + 4 ≤ j) ⊎ (j < at) → fieldAt (set a j v) at ≡ fieldAt a at
+pub field-set : (a : List ℕ) (j v at : ℕ) → (at + 4 ≤ j) ⊎ (j < at) → fieldAt (set a j v) at ≡ fieldAt a at
 unfolding fieldAt
 field-set a j v at o =
     rw (
