@@ -29,11 +29,21 @@ pub record Held : Type 0 where
   pub flash : List ℕ
   pub sectors : List ℕ
 
+-- the buffers that a caller lends
+pub record Lent : Type 0 where
+  pub flash : List ℕ
+  pub seen : List ℕ
+  pub sectors : List ℕ
+
 -- what one arrival is handed and hands back: the transfer and the three lent buffers
 pub record World : Type 0 where
   pub transfer : State
   pub seen : List ℕ
   pub held : Held
+
+-- the buffers of it
+abbrev pub lentOf : World → Lent
+lentOf w = record { flash = w .held .flash; seen = w .seen; sectors = w .held .sectors }
 
 -- what an arrival leaves, with "a number, the answer, and a yes/no "discarded""
 pub record Outcome : Type 0 where

@@ -14,7 +14,7 @@ ghost use Rattle.arrival.specs.Arrive.{
   done,
   receiveOf,
 };
-ghost use Rattle.receiver.specs.Receiver.{held, world, refusal, outcome};
+ghost use Rattle.receiver.specs.Receiver.{held, lentAt, leftAt, world, refusal, outcome};
 use block::Block;
 use flash::Flash;
 use screen::Page;
@@ -95,7 +95,7 @@ fn accept(
     seen: &mut [u8],
     sectors: &mut [u8],
 ) -> Receipt
-    ensures { λ r. ⌜ outcome r (now (flash .exit)) (now (seen .exit)) (now (sectors .exit)) ≡ done (world (accepted .transfer) (now (flash .entry)) (now (seen .entry)) (now (sectors .entry))) (payloadOf (now (arrival .entry))) (accepts page accepted) ⌝ }
+    ensures { λ r. ⌜ outcome r (leftAt flash seen sectors) ≡ done (world (accepted .transfer) (lentAt flash seen sectors)) (payloadOf (now (arrival .entry))) (accepts page accepted) ⌝ }
 {
     let next = accepted.transfer;
     let given = accepted.answer;
@@ -119,7 +119,7 @@ fn look(
     seen: &mut [u8],
     sectors: &mut [u8],
 ) -> Receipt
-    ensures { λ r. ⌜ outcome r (now (flash .exit)) (now (seen .exit)) (now (sectors .exit)) ≡ done (world transfer (now (flash .entry)) (now (seen .entry)) (now (sectors .entry))) (payloadOf (now (arrival .entry))) (stepped page (stepOf (transfer .state) (page .head) (markedIn (now (seen .entry)) (page .number)))) ⌝ }
+    ensures { λ r. ⌜ outcome r (leftAt flash seen sectors) ≡ done (world transfer (lentAt flash seen sectors)) (payloadOf (now (arrival .entry))) (stepped page (stepOf (transfer .state) (page .head) (markedIn (now (seen .entry)) (page .number)))) ⌝ }
 {
     let head = page.head;
     let number = page.number as usize;
@@ -144,7 +144,7 @@ pub fn receive(
     seen: &mut [u8],
     sectors: &mut [u8],
 ) -> Receipt
-    ensures { λ r. ⌜ outcome r (now (flash .exit)) (now (seen .exit)) (now (sectors .exit)) ≡ receiveOf settings (world transfer (now (flash .entry)) (now (seen .entry)) (now (sectors .entry))) (now (arrival .entry)) ⌝ }
+    ensures { λ r. ⌜ outcome r (leftAt flash seen sectors) ≡ receiveOf settings (world transfer (lentAt flash seen sectors)) (now (arrival .entry)) ⌝ }
 {
     let len = flash.len();
     if !lengths_right(arrival.len(), len, seen.len(), sectors.len()) {

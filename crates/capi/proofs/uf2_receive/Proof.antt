@@ -46,7 +46,7 @@ returns c =
     let number = kept .before .before .before in
     let got = number .before .before .before .before .before .before .before .before in
     let read = got .before .before .before .before in
-    receive-ran _ _ _ _ _ _ (read .before .before .read-settings .ensures) (read .read-transfer .ensures) (got .receive .ensures) (number .number .ensures) (kept .before .is-acceptance .ensures) (kept .keep .ensures) (c .report .ensures)
+    receive-ran _ _ _ _ (read .before .before .read-settings .ensures) (read .read-transfer .ensures) (got .receive .ensures) (number .number .ensures) (kept .before .is-acceptance .ensures) (kept .keep .ensures) (c .report .ensures)
 
 pub uf2-receive-spec : {M : Type 1} → statement M
 uf2-receive-spec =
