@@ -94,7 +94,8 @@ fn fits_place(b: Block, start: usize, size: usize) -> Screening
 fn note(b: Block, size: usize) -> Screening
     ensures { λ r. ⌜ r ≡ noted size b ⌝ }
 {
-    if bad_numbers(b, size) {
+    let bad = bad_numbers(b, size);
+    if bad {
         return Screening::Refused(Answer::BadNumbers);
     }
     let head = Head::new(b.family, b.total);
