@@ -34,7 +34,7 @@ use Rattle.screen.specs.declared.Body.the-variants.{Note}
 use Rattle.arrival.specs.Arrive.{Held, World, Decision, accepts, deedOf, decide, decided, clearedIf, wipedIf, atOf, doneTo, acceptOf, done, receiveOf}
 use Rattle.arrival.specs.Lists.{receiveAll}
 use Rattle.arrival.specs.Tally.{headOf, clears}
-use Rattle.arrival.specs.Comments.{Comments-note, Nothing-stored, Noting, Comments-store-nothing, Comments-unread, anyDiscard, First-stands}
+use Rattle.arrival.specs.Comments.{Comments-note, Nothing-stored, Noting, Comments-store-nothing, Unread, Comments-unread, anyDiscard, First-stands}
 use Rattle.arrival.proofs.Heads.{same-head}
 use Rattle.arrival.proofs.Screening.{passing-few, passing-note, passing-deed}
 use Rattle.arrival.proofs.DecisionFacts.{flashOf, AcceptFacts, DecisionFacts, raisedCount, took-state, took-answer, took-clears, took-discarded, kept, took, decision-facts}
@@ -102,10 +102,6 @@ unfolding Comments-store-nothing receiveOf
 comments-store-nothing s w a y n = noting s w a (decision-facts s w a) y n
 
 -- ---- what of a comment is not read
-
--- byte i is one of its address, its payload size or its data
-abbrev Unread : ℕ → Type 0
-Unread i = ((12 ≤ i) × (i < 20)) ⊎ ((32 ≤ i) × (i < 508))
 
 module _ (s : Settings) (len : ℕ) (a : List ℕ) (i x : ℕ) (y : hasFlag a 0x1 ≡ true) (o : Unread i) where
   abbrev b : List ℕ

@@ -48,11 +48,15 @@ Comments-store-nothing =
     (s : Settings) (w : World) (a : List ℕ) → hasFlag a 0x1 ≡ true → 14 ≤ numberOf (receiveOf s w a .answer)
     → Noting w a (receiveOf s w a)
 
--- "and skips 9 and 11": with other bytes in its address, its payload size or its data, a comment does the same
+-- byte i of an arrival is one of its address, its payload size or its data
+abbrev pub Unread : ℕ → Type 0
+Unread i = ((12 ≤ i) × (i < 20)) ⊎ ((32 ≤ i) × (i < 508))
+
+-- "and skips 9 and 11": with another byte there, a comment does the same
 unfoldable pub Comments-unread : Type 0
 Comments-unread =
-    (s : Settings) (w : World) (a : List ℕ) (i x : ℕ) → hasFlag a 0x1 ≡ true
-    → ((12 ≤ i) × (i < 20)) ⊎ ((32 ≤ i) × (i < 508)) → receiveOf s w (set a i x) ≡ receiveOf s w a
+    (s : Settings) (w : World) (a : List ℕ) (i x : ℕ) → hasFlag a 0x1 ≡ true → Unread i
+    → receiveOf s w (set a i x) ≡ receiveOf s w a
 
 -- ---- of two arrivals
 
