@@ -28,7 +28,8 @@ use Rattle.transfer.specs.declared.State.the-variants.{Idle, Running, Done}
 use Rattle.transfer.specs.declared.Deed.{Deed}
 use Rattle.transfer.specs.declared.Deed.the-variants.{Stores, Notes}
 use Rattle.transfer.specs.declared.Accepted.{Accepted}
-use Rattle.screen.specs.Screen.{noted, found, headed, screenOf}
+use Rattle.screen.specs.Screen.{noted, found, afterHeader, placedIn, screenOf}
+use Rattle.screen.specs.declared.Screening.{Screening}
 use Rattle.screen.specs.declared.Body.{Body}
 use Rattle.screen.specs.declared.Body.the-variants.{Note}
 use Rattle.arrival.specs.Arrive.{Held, World, Decision, accepts, deedOf, decide, decided, clearedIf, wipedIf, atOf, doneTo, acceptOf, done, receiveOf}
@@ -124,13 +125,16 @@ module _ (s : Settings) (len : ℕ) (a : List ℕ) (i x : ℕ) (y : hasFlag a 0x
       let f : hasFlag b 0x1 ≡ true = ap (λ (n : ℕ). eqb (n / 0x1 % 2) 1) (low 8 (omega arith)) ∙ y in
       rw (f, y, between 20 (omega arith) (omega arith), between 24 (omega arith) (omega arith), between 28 (omega arith) (omega arith))
 
-  found-same : headed s len (header.Found (fieldsOf b)) ≡ headed s len (header.Found (fieldsOf a))
-  unfolding headed
+  found-same : placedIn s len (fieldsOf b) ≡ placedIn s len (fieldsOf a)
+  unfolding placedIn
   found-same =
       beside (placeOf s len (fieldsOf b .family))
       ∙ ap (λ (n : ℕ). found (placeOf s len n) (fieldsOf a)) (unfold fieldsOf in between 28 (omega arith) (omega arith))
 
-  pass : (t : Bool) (h f g : Header) → headed s len f ≡ headed s len g → headed s len (cond t h f) ≡ headed s len (cond t h g)
+  abbrev after : Header → Screening
+  after h = afterHeader h (placedIn s len)
+
+  pass : (t : Bool) (h f g : Header) → after f ≡ after g → after (cond t h f) ≡ after (cond t h g)
   pass true h f g e = refl
   pass false h f g e = e
 

@@ -20,7 +20,7 @@ use Rattle.place.specs.declared.Place.{Place}
 use Rattle.place.specs.declared.Place.the-variants.{Nowhere, At}
 use Rattle.place.proofs.Theorems.{place-inside}
 use Rattle.transfer.specs.Transfer.{numberOf}
-use Rattle.screen.specs.Screen.{badNumbers, badAddress, placed, noted, found, headed, screenOf}
+use Rattle.screen.specs.Screen.{badNumbers, badAddress, placed, noted, found, afterHeader, placedIn, screenOf}
 use Rattle.screen.proofs.Laws.{numbers-false, address-false, found-comment, found-data}
 use Rattle.transfer.specs.declared.Deed.the-variants.{Stores, Notes}
 use Rattle.screen.specs.declared.Body.the-variants.{Page, Note}
@@ -131,8 +131,8 @@ module _ (s : Settings) (len : ℕ) (a : List ℕ) where
       (λ y. subst (Good s len a) (sym (found-comment start size (fieldsOf a) (comment-is a ∙ y))) (noted-good start size e y))
       (λ z. subst (Good s len a) (sym (found-data start size (fieldsOf a) (comment-is a ∙ z))) (placed-good start size e z))
 
-  header-good : (h : Header) → Fielded a h → Good s len a (headed s len h)
-  unfolding headed
+  header-good : (h : Header) → Fielded a h → Good s len a (afterHeader h (placedIn s len))
+  unfolding placedIn
   header-good header.NotBlock f = (omega arith, omega arith)
   header-good header.Container f = (omega arith, omega arith)
   header-good header.NoFamily f = (omega arith, omega arith)

@@ -8,7 +8,7 @@ use Rattle.bitmap.specs.Bitmap.{markedIn, withMark, unmarked}
 use Rattle.flash.specs.Flash.{flashLength, eraseAt, payloadOf, storeAt}
 use Rattle.settings.specs.Settings.{goodSettings}
 use Rattle.settings.specs.declared.Settings.{Settings}
-use Rattle.transfer.specs.Transfer.{goodState, stepOf}
+use Rattle.transfer.specs.Transfer.{numberOf, goodState, stepOf}
 use Rattle.transfer.specs.declared.State.{State}
 use Rattle.transfer.specs.declared.Deed.{Deed}
 use Rattle.transfer.specs.declared.Deed.the-variants.{Stores, Notes}
@@ -50,6 +50,10 @@ pub record Outcome : Type 0 where
   pub world : World
   pub answer : Answer
   pub discarded : Bool
+
+-- the number of its answer
+abbrev pub outcomeNumber : Outcome → ℕ
+outcomeNumber o = numberOf (o .answer)
 
 -- ---- what decides: settings, lengths, transfer, seen map and arrival; no flash byte and no sector map
 

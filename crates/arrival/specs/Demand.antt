@@ -19,7 +19,7 @@ use Rattle.transfer.specs.declared.Head.{Head}
 use Rattle.transfer.specs.declared.State.the-variants.{Idle, Done}
 use Rattle.transfer.specs.declared.Answer.{Answer}
 use Rattle.transfer.specs.declared.Answer.the-variants.{Finished, Again, Written, Completed, Noted}
-use Rattle.arrival.specs.Arrive.{World, receiveOf}
+use Rattle.arrival.specs.Arrive.{World, outcomeNumber, receiveOf}
 use Rattle.arrival.specs.Lists.{receiveAll, answersOf}
 
 -- ---- a valid file
@@ -32,7 +32,7 @@ pub record File : Type 0 where
 
 -- "Whether a block earns 1 to 11 is asked with the fixed settings and what is lent at the start."
 abbrev pub answerNumber : Settings → World → List ℕ → ℕ
-answerNumber s w a = numberOf (receiveOf s w a .answer)
+answerNumber s w a = outcomeNumber (receiveOf s w a)
 
 -- "blocks are data or comments" (02, L3): block k is data, its flag 0x1 being clear
 abbrev pub isData : File → ℕ → Bool

@@ -14,7 +14,7 @@ use Rattle.settings.specs.Settings.{familyArmS, goodSettings}
 use Rattle.place.specs.Place.{placeOf}
 use Rattle.transfer.specs.Transfer.{goodState, counted, raised, accepted, stepOf}
 use Rattle.transfer.specs.declared.State.the-variants.{Done}
-use Rattle.screen.specs.Screen.{placed, noted, found, headed, screenOf}
+use Rattle.screen.specs.Screen.{placed, noted, found, placedIn, screenOf}
 use Rattle.arrival.specs.Arrive.{rightLengths, afterScreening, decide, done, receiveOf}
 use Rattle.arrival.specs.Lists.{receiveAll}
 use Rattle.arrival.specs.Demand.{ValidFile, nothing, own, other, answerNumber, isData, sameBytes, among, seenOf, howMany, List-ends}
@@ -36,11 +36,11 @@ address = three (λ k. fieldAt (blockOfThree k) 12 ≡ 0x10000000 + k * 256) ref
 
 -- the answers at the start
 earned : (k : ℕ) → k < 3 → answerNumber plain start (blockOfThree k) ≡ 14
-unfolding many any flashLength payloadOf lowFirst numberIn fieldAt fieldsOf flaggedOf headerOf goodSettings placeOf goodState counted raised accepted stepOf placed noted found headed screenOf rightLengths afterScreening decide done receiveOf
+unfolding many any flashLength payloadOf lowFirst numberIn fieldAt fieldsOf flaggedOf headerOf goodSettings placeOf goodState counted raised accepted stepOf placed noted found placedIn screenOf rightLengths afterScreening decide done receiveOf
 earned = three (λ k. answerNumber plain start (blockOfThree k) ≡ 14) refl refl refl
 
 beyond : answerNumber plain start (arrivalOf 0x10010000 0 3 1) ≡ 11
-unfolding many any flashLength payloadOf lowFirst numberIn fieldAt fieldsOf flaggedOf headerOf goodSettings placeOf goodState counted raised accepted stepOf placed noted found headed screenOf rightLengths afterScreening decide done receiveOf
+unfolding many any flashLength payloadOf lowFirst numberIn fieldAt fieldsOf flaggedOf headerOf goodSettings placeOf goodState counted raised accepted stepOf placed noted found placedIn screenOf rightLengths afterScreening decide done receiveOf
 beyond = refl
 
 valid : ValidFile plain start file
@@ -71,7 +71,7 @@ ends-done = unfold Hypotheses-are-met List-ends in list-ends plain start file re
 -- ---- with a comment
 
 annotated-number : (k : ℕ) → k < 3 → answerNumber plain start (annotated .block k) ≡ cond (eqb k 1) 16 14
-unfolding many any flashLength payloadOf lowFirst numberIn fieldAt fieldsOf flaggedOf headerOf goodSettings placeOf goodState counted raised accepted stepOf placed noted found headed screenOf rightLengths afterScreening decide done receiveOf
+unfolding many any flashLength payloadOf lowFirst numberIn fieldAt fieldsOf flaggedOf headerOf goodSettings placeOf goodState counted raised accepted stepOf placed noted found placedIn screenOf rightLengths afterScreening decide done receiveOf
 annotated-number = three (λ k. answerNumber plain start (annotated .block k) ≡ cond (eqb k 1) 16 14) refl refl refl
 
 -- a comment has no address that counts
@@ -86,7 +86,7 @@ annotated-address =
     (λ y. refl) (λ y. clash false y refl) (λ y. refl)
 
 beyond-total : answerNumber plain start (commentOf 3 3) ≡ 10
-unfolding many any flashLength payloadOf lowFirst numberIn fieldAt fieldsOf flaggedOf headerOf goodSettings placeOf goodState counted raised accepted stepOf placed noted found headed screenOf rightLengths afterScreening decide done receiveOf
+unfolding many any flashLength payloadOf lowFirst numberIn fieldAt fieldsOf flaggedOf headerOf goodSettings placeOf goodState counted raised accepted stepOf placed noted found placedIn screenOf rightLengths afterScreening decide done receiveOf
 beyond-total = refl
 
 annotated-valid : ValidFile plain start annotated
@@ -128,7 +128,7 @@ two P a b (suc zero) h = b
 two P a b (suc (suc k)) h = absurd (omega arith)
 
 remarks-number : (k : ℕ) → k < 2 → answerNumber plain start (commentOf k 2) ≡ 16
-unfolding many any flashLength payloadOf lowFirst numberIn fieldAt fieldsOf flaggedOf headerOf goodSettings placeOf goodState counted raised accepted stepOf placed noted found headed screenOf rightLengths afterScreening decide done receiveOf
+unfolding many any flashLength payloadOf lowFirst numberIn fieldAt fieldsOf flaggedOf headerOf goodSettings placeOf goodState counted raised accepted stepOf placed noted found placedIn screenOf rightLengths afterScreening decide done receiveOf
 remarks-number = two (λ k. answerNumber plain start (commentOf k 2) ≡ 16) refl refl
 
 remarks-valid : ValidFile plain start remarks

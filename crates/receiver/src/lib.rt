@@ -1,9 +1,11 @@
 // One arrival: the checks in their order, the step of the transfer, and what is written to the lent buffers.
 ghost use mathlib.Core.Path.{_≡_};
+ghost use Rattle.sets.specs.Numbered.{numbered};
 ghost use Rattle.bitmap.specs.Bitmap.{markedIn};
 ghost use Rattle.flash.specs.Flash.{payloadOf};
 ghost use Rattle.transfer.specs.Transfer.{stepOf};
 ghost use Rattle.arrival.specs.Arrive.{
+  outcomeNumber,
   rightLengths,
   stepped,
   clearedIf,
@@ -144,7 +146,7 @@ pub fn receive(
     seen: &mut [u8],
     sectors: &mut [u8],
 ) -> Receipt
-    ensures { λ r. ⌜ outcome r (leftAt flash seen sectors) ≡ receiveOf settings (world transfer (lentAt flash seen sectors)) (now (arrival .entry)) ⌝ }
+    ensures { λ r. ⌜ numbered outcomeNumber (outcome r (leftAt flash seen sectors)) ≡ numbered outcomeNumber (receiveOf settings (world transfer (lentAt flash seen sectors)) (now (arrival .entry))) ⌝ }
 {
     let len = flash.len();
     if !lengths_right(arrival.len(), len, seen.len(), sectors.len()) {

@@ -2,7 +2,10 @@
 ghost use mathlib.Core.Path.{_≡_};
 ghost use Prim.Native.Nat.{_<_};
 ghost use Rattle.place.specs.declared.Place.the-variants.{At};
-ghost use Rattle.screen.specs.Screen.{badNumbers, placed, noted, found, headerRefusal, screenOf};
+ghost use mathlib.Core.Logic.{_≢_};
+ghost use Rattle.sets.specs.Numbered.{numbered};
+ghost use Rattle.block.specs.Block.{headerNumber};
+ghost use Rattle.screen.specs.Screen.{HeaderAnswer, badNumbers, placed, noted, found, screenOf, screeningNumber};
 use block::Block;
 use block::Header;
 use flash::Flash;
@@ -34,9 +37,10 @@ impl Placed {
     pub const WINDOW: usize = 0x10000000;
 }
 
-// The answer to a header that yields no block.
+// The answer to a header that yields no block, whatever the rows after it would say. A match has to name `Found` too; nothing calls it so.
 fn header_answer(h: Header) -> Answer
-    ensures { λ r. ⌜ r ≡ headerRefusal h ⌝ }
+    requires { ⌜ headerNumber h ≢ 0 ⌝ }
+    ensures { λ r. ⌜ HeaderAnswer h r ⌝ }
 {
     match h {
         Header::NotBlock => Answer::NotBlock,
@@ -119,7 +123,7 @@ fn check(b: Block, start: usize, size: usize) -> Screening
 
 // Rows 4 to 11: the first that refuses the arrival, or what it holds.
 pub fn screen(settings: Settings, flash_len: usize, arrival: &[u8]) -> Screening
-    ensures { λ r. ⌜ r ≡ screenOf settings «flash_len» (now (arrival .entry)) ⌝ }
+    ensures { λ r. ⌜ numbered screeningNumber r ≡ numbered screeningNumber (screenOf settings «flash_len» (now (arrival .entry))) ⌝ }
 {
     let h = block::read(arrival);
     let Header::Found(b) = h else {

@@ -96,3 +96,8 @@ stepOf (Running r) g marked d =
     (cond marked (Stays (keptState (Running r) Again)) (Accepts (accepted d false false g (r .count + 1))))
     (Accepts (accepted d true true g 1))
 stepOf (Done h) g marked d = Stays (keptState (Done h) Finished)
+
+-- the number of a step's answer
+abbrev pub stepNumber : Step → ℕ
+stepNumber (Stays x) = numberOf (x .answer)
+stepNumber (Accepts k) = numberOf (k .answer)

@@ -1,7 +1,8 @@
 // The transfer: its state, the answers to an arrival, and one step of it.
 ghost use mathlib.Core.Path.{_≡_};
 ghost use Prim.Native.Nat.{_+_};
-ghost use Rattle.transfer.specs.Transfer.{headWith, numberOf, fresh, goodState, sameHead, deedAnswer, accepted, stepOf};
+ghost use Rattle.sets.specs.Numbered.{numbered};
+ghost use Rattle.transfer.specs.Transfer.{headWith, numberOf, fresh, goodState, sameHead, deedAnswer, accepted, stepOf, stepNumber};
 
 // What makes two blocks one transfer.
 pub struct Head {
@@ -172,7 +173,7 @@ impl Transfer {
 
     // What a block of this head does, whose number is marked or not, and which does `deed` once it is accepted.
     pub fn step(self, head: Head, marked: bool, deed: Deed) -> Step
-        ensures { λ r. ⌜ r ≡ stepOf (self .state) head marked deed ⌝ }
+        ensures { λ r. ⌜ numbered stepNumber r ≡ numbered stepNumber (stepOf (self .state) head marked deed) ⌝ }
     {
         let state = self.state;
         match state {

@@ -1,5 +1,6 @@
 //! Inputs for both receivers, from a seed, and the settings of one as the other takes them.
 
+pub mod fence;
 pub mod hex;
 
 use reference::{Arch, Entry, Link, Settings, Transfer};
@@ -257,6 +258,30 @@ pub const FAMILIES: [u32; 9] = [
     3,
 ];
 
+/// A transfer of any kind, most of them good.
+pub fn any_transfer(r: &mut Random, pages: u64) -> Transfer {
+    let (mut family, mut total) = (reference::ARM_S, r.of(&[2, 3, 16]));
+    if r.one_in(2) {
+        family = r.of(&FAMILIES);
+        total = r.of(&[0, 1, 2, pages as u32, 131_072, 131_073]);
+    }
+    let right = 1 + r.below(u64::from(total).max(2) - 1) as u32;
+    match r.below(8) {
+        0..=2 => Transfer::Idle,
+        3 => Transfer::Done { family, total },
+        4 => Transfer::Running {
+            family,
+            total,
+            count: r.of(&[0, 1, total.wrapping_sub(1), total, u32::MAX]),
+        },
+        _ => Transfer::Running {
+            family,
+            total,
+            count: right,
+        },
+    }
+}
+
 /// A block's fields; the payload is filled from the seed.
 #[derive(Clone, Copy)]
 pub struct Fields {
@@ -300,8 +325,25 @@ pub fn page(family: u32, total: u32, k: u32) -> Vec<u8> {
     arrival(fields, u64::from(k) + 1)
 }
 
-/// An arrival of any kind: near a bound, damaged, or plain.
+/// A block that passes wherever its family has a place of so many pages.
+fn right_arrival(r: &mut Random, pages: u64) -> Vec<u8> {
+    let total = r.of(&[1, 2, 3, 16, pages as u32]);
+    let fields = Fields {
+        flags: r.of(&[0x2000, 0x2000, 0xE000]),
+        address: 0x1000_0000 + 256 * r.below(pages) as u32,
+        size: 256,
+        number: r.below(u64::from(total)) as u32,
+        total,
+        family: r.of(&[reference::ARM_S, reference::ARM_S, reference::DATA, USER]),
+    };
+    arrival(fields, r.draw())
+}
+
+/// An arrival of any kind: right, near a bound, or damaged.
 pub fn any_arrival(r: &mut Random, pages: u64) -> Vec<u8> {
+    if r.one_in(2) {
+        return right_arrival(r, pages);
+    }
     let total = r.of(&[1, 2, 3, 16, pages as u32, pages as u32 + 1, 0, 0x0100_0000]);
     let number = match r.below(4) {
         0 => total,

@@ -2,8 +2,8 @@
 //! compared, at least.
 
 use compare::{
-    any_arrival, any_settings, arm_only, page, proved_settings, proved_transfer, Buffers, Random,
-    FAMILIES,
+    any_arrival, any_settings, any_transfer, arm_only, page, proved_settings, proved_transfer,
+    Buffers, Random,
 };
 use reference::{Settings, Transfer};
 
@@ -49,20 +49,6 @@ impl Pair {
     }
 }
 
-fn any_transfer(r: &mut Random, pages: u64) -> Transfer {
-    let family = r.of(&FAMILIES);
-    let total = r.of(&[0, 1, 2, 3, 16, pages as u32, 131_072, 131_073]);
-    match r.below(4) {
-        0 | 1 => Transfer::Idle,
-        2 => Transfer::Done { family, total },
-        _ => Transfer::Running {
-            family,
-            total,
-            count: r.of(&[0, 1, 2, total.wrapping_sub(1), total, u32::MAX]),
-        },
-    }
-}
-
 #[test]
 fn arrivals_agree() {
     let mut r = Random(2);
@@ -85,7 +71,7 @@ fn arrivals_agree() {
         }
     }
     // every answer but 1 came, and often
-    let often = number() / 2_000;
+    let often = number() / 500;
     assert!(answers[2..].iter().all(|&n| n > often), "{answers:?}");
 }
 

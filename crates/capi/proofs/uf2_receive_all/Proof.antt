@@ -4,6 +4,7 @@ use mathlib.Core.Path.{_≡_, refl, _∙_}
 use mathlib.Core.Bool.{false}
 use lib.ListN.{length, drop, length-set}
 use Rattle.receiver.specs.Receiver.{lent, world}
+use Rattle.sets.proofs.Numbered.{answer-is}
 use Rattle.capi.specs.Calls.{arrivalsOf, batchFrom}
 use Rattle.capi.proofs.Laws.{number-most}
 use Rattle.capi.proofs.Batch.{all-start, all-more, all-ran}
@@ -77,7 +78,7 @@ loop-again c =
     let got = c .before .before .before .before .before .before .before .before .before .before in
     let round = got .before .before .before .before .before in
     let at = round .before .loop in
-    (search needs, simp length-set (at .inv .1), search needs, search needs, search needs, all-more _ _ _ _ _ _ _ _ _ (round .loop-test .taken) (got .receive .ensures) (c .before .before .number .ensures) (c .before .report .ensures) (c .is-acceptance .ensures) ∙ at .inv .5)
+    (search needs, simp length-set (at .inv .1), search needs, search needs, search needs, all-more _ _ _ _ _ _ _ _ _ (round .loop-test .taken) (answer-is (got .receive .ensures)) (c .before .before .number .ensures) (c .before .report .ensures) (c .is-acceptance .ensures) ∙ at .inv .5)
 
 keep-requires : tie.Need-keep-requires Inv-loop μ-loop
 keep-requires c κs = search needs

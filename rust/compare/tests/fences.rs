@@ -1,0 +1,303 @@
+//! Every buffer of every call lies against a page that may not be touched, at its end or at its start, with lengths and contents of every
+//! kind: a read or write out of bounds ends the test, and so does a write to what is only read. Beside that, each call answers and leaves
+//! what it does in plain memory. The proofs end where the compiler's back end begins; this runs what it made. COMPARE_ARRIVALS sets how
+//! many calls are made.
+
+use std::os::unix::process::ExitStatusExt as _;
+use std::process::Command;
+
+use compare::fence::{Fenced, Side};
+use compare::hex::{any_reader, any_record, any_text};
+use compare::{any_arrival, any_settings, any_transfer, Buffers, Random, FAMILIES};
+use compare::{proved_settings, proved_transfer};
+use proved::bytes;
+
+/// The number of calls of each test.
+fn number() -> usize {
+    let asked = std::env::var("COMPARE_ARRIVALS").ok();
+    asked.and_then(|n| n.parse().ok()).unwrap_or(1_000_000) / 50
+}
+
+/// Bytes beside a fence, and the same bytes in plain memory.
+struct Twin {
+    fenced: Fenced,
+    plain: Vec<u8>,
+}
+
+impl Twin {
+    fn written(r: &mut Random, plain: Vec<u8>) -> Twin {
+        Twin::new(r, plain, false)
+    }
+
+    fn read(r: &mut Random, plain: Vec<u8>) -> Twin {
+        Twin::new(r, plain, true)
+    }
+
+    fn new(r: &mut Random, plain: Vec<u8>, read_only: bool) -> Twin {
+        let side = r.of(&[Side::Start, Side::End]);
+        let fenced = Fenced::new(&plain, side, read_only);
+        Twin { fenced, plain }
+    }
+
+    fn check(&self, name: &str) {
+        assert!(self.fenced.bytes() == self.plain, "{name}");
+        assert!(self.fenced.rest_is_kept(), "beside {name}");
+    }
+}
+
+/// Some bytes, mostly as they are, else cut or lengthened, by one byte or to any length.
+fn any_length(r: &mut Random, mut bytes: Vec<u8>) -> Vec<u8> {
+    if r.one_in(24) {
+        let n = bytes.len();
+        let any = r.below(2 * n as u64 + 2) as usize;
+        let n = r.of(&[0, n.saturating_sub(1), n + 1, any]);
+        let fill = r.draw() as u8;
+        bytes.resize(n, fill);
+    }
+    bytes
+}
+
+fn any_settings_bytes(r: &mut Random, sectors: u64) -> Vec<u8> {
+    let mut bytes = proved_settings(&any_settings(r, sectors)).bytes().to_vec();
+    if r.one_in(12) {
+        bytes.fill_with(|| r.draw() as u8);
+        bytes[5] = r.of(&[0, 1, 15, 16, 17, 255]);
+    }
+    any_length(r, bytes)
+}
+
+fn any_transfer_bytes(r: &mut Random, pages: u64) -> Vec<u8> {
+    let mut bytes = proved_transfer(any_transfer(r, pages)).bytes().to_vec();
+    if r.one_in(12) {
+        bytes[0] = r.draw() as u8;
+    }
+    any_length(r, bytes)
+}
+
+/// What a call is lent, each part beside a fence.
+struct Call {
+    settings: Twin,
+    transfer: Twin,
+    arrival: Twin,
+    flash: Twin,
+    seen: Twin,
+    sectors: Twin,
+}
+
+impl Call {
+    fn any(r: &mut Random, arrivals: u64) -> Call {
+        let sectors = r.of(&[1, 2, 5]);
+        let pages = sectors * 16;
+        let sent = (0..arrivals)
+            .flat_map(|_| any_arrival(r, pages))
+            .collect::<Vec<u8>>();
+        let settings = any_settings_bytes(r, sectors);
+        let transfer = any_transfer_bytes(r, pages);
+        let sent = any_length(r, sent);
+        let mut lent = Buffers::any(r, sectors);
+        for buffer in lent.each() {
+            *buffer = any_length(r, std::mem::take(buffer));
+        }
+        Call {
+            settings: Twin::read(r, settings),
+            transfer: Twin::written(r, transfer),
+            arrival: Twin::read(r, sent),
+            flash: Twin::written(r, lent.flash),
+            seen: Twin::written(r, lent.seen),
+            sectors: Twin::written(r, lent.sectors),
+        }
+    }
+
+    fn check(&self) {
+        self.settings.check("settings");
+        self.transfer.check("transfer");
+        self.arrival.check("arrival");
+        self.flash.check("flash");
+        self.seen.check("seen map");
+        self.sectors.check("sector map");
+    }
+}
+
+#[test]
+fn arrivals_keep_their_bounds() {
+    let mut r = Random(31);
+    let mut answers = [0; 16];
+    for _ in 0..number() {
+        let mut c = Call::any(&mut r, 1);
+        let fenced = bytes::receive(
+            c.settings.fenced.bytes(),
+            c.transfer.fenced.bytes_mut(),
+            c.arrival.fenced.bytes(),
+            c.flash.fenced.bytes_mut(),
+            c.seen.fenced.bytes_mut(),
+            c.sectors.fenced.bytes_mut(),
+        );
+        let plain = bytes::receive(
+            &c.settings.plain,
+            &mut c.transfer.plain,
+            &c.arrival.plain,
+            &mut c.flash.plain,
+            &mut c.seen.plain,
+            &mut c.sectors.plain,
+        );
+        assert_eq!(fenced, plain);
+        c.check();
+        answers[plain as usize % 128] += 1;
+    }
+    let often = number() / 4_000;
+    assert!(answers[1..].iter().all(|&n| n >= often), "{answers:?}");
+}
+
+#[test]
+fn many_arrivals_keep_their_bounds() {
+    let mut r = Random(32);
+    let mut accepted = 0;
+    for _ in 0..number() / 4 {
+        let n = r.below(12);
+        let mut c = Call::any(&mut r, n);
+        let room = r.below(14) as usize;
+        let mut results = Twin::written(&mut r, vec![77; room]);
+        let fenced = bytes::receive_all(
+            c.settings.fenced.bytes(),
+            c.transfer.fenced.bytes_mut(),
+            c.arrival.fenced.bytes(),
+            results.fenced.bytes_mut(),
+            c.flash.fenced.bytes_mut(),
+            c.seen.fenced.bytes_mut(),
+            c.sectors.fenced.bytes_mut(),
+        );
+        let plain = bytes::receive_all(
+            &c.settings.plain,
+            &mut c.transfer.plain,
+            &c.arrival.plain,
+            &mut results.plain,
+            &mut c.flash.plain,
+            &mut c.seen.plain,
+            &mut c.sectors.plain,
+        );
+        assert_eq!(fenced, plain);
+        c.check();
+        results.check("results");
+        let results = &results.plain[..plain];
+        accepted += results.iter().filter(|&&x| x % 128 >= 14).count();
+    }
+    assert!(accepted > number() / 20, "{accepted}");
+}
+
+#[test]
+fn places_keep_their_bounds() {
+    let mut r = Random(33);
+    let mut found = 0;
+    for _ in 0..number() {
+        let sectors = r.of(&[1, 2, 40]);
+        let settings = any_settings_bytes(&mut r, sectors);
+        let settings = Twin::read(&mut r, settings);
+        let place = any_length(&mut r, vec![9; 8]);
+        let mut place = Twin::written(&mut r, place);
+        let (len, family) = (sectors as usize * 4096, r.of(&FAMILIES));
+        let fenced = bytes::ask(
+            settings.fenced.bytes(),
+            len,
+            family,
+            place.fenced.bytes_mut(),
+        );
+        let plain = bytes::ask(&settings.plain, len, family, &mut place.plain);
+        assert_eq!(fenced, plain);
+        settings.check("settings");
+        place.check("place");
+        found += usize::from(plain == 0);
+
+        let transfer = any_length(&mut r, vec![9; 13]);
+        let mut transfer = Twin::written(&mut r, transfer);
+        bytes::new(transfer.fenced.bytes_mut());
+        bytes::new(&mut transfer.plain);
+        transfer.check("transfer");
+    }
+    assert!(found > number() / 10, "{found}");
+}
+
+#[test]
+fn lines_keep_their_bounds() {
+    let mut r = Random(34);
+    let mut answers = [0; 37];
+    for _ in 0..number() {
+        let reader = any_reader(&mut r).to_vec();
+        let reader = any_length(&mut r, reader);
+        let mut reader = Twin::written(&mut r, reader);
+        let any = r.below(5000) as usize;
+        let n = r.of(&[0, 1, 2, 31, 32, 33, 64, 256, 2048, any]);
+        let mut image = Twin::written(&mut r, vec![7; n]);
+        let line = if r.one_in(4) {
+            any_text(&mut r)
+        } else {
+            any_record(&mut r, n)
+        };
+        let line = any_length(&mut r, line);
+        let line = Twin::read(&mut r, line);
+        let fenced = proved::hex::bytes::line(
+            reader.fenced.bytes_mut(),
+            line.fenced.bytes(),
+            image.fenced.bytes_mut(),
+        );
+        let plain = proved::hex::bytes::line(&mut reader.plain, &line.plain, &mut image.plain);
+        assert_eq!(fenced, plain);
+        reader.check("reader");
+        line.check("line");
+        image.check("image");
+        answers[plain as usize] += 1;
+
+        let fresh = any_length(&mut r, vec![9; 16]);
+        let mut fresh = Twin::written(&mut r, fresh);
+        let own = r.draw() as u16;
+        proved::hex::bytes::new(own, fresh.fenced.bytes_mut());
+        proved::hex::bytes::new(own, &mut fresh.plain);
+        fresh.check("fresh reader");
+    }
+    let often = number() / 4_000;
+    assert!(answers[18..].iter().all(|&n| n >= often), "{answers:?}");
+}
+
+// ---- the fence itself
+
+const TOUCH: &str = "FENCE_TOUCH";
+
+/// Touches what the variable says.
+#[test]
+#[ignore = "run by the test below, in a process of its own"]
+fn touched() {
+    let what = std::env::var(TOUCH).expect("the test below sets it");
+    let side = if what == "before" {
+        Side::Start
+    } else {
+        Side::End
+    };
+    let mut fenced = Fenced::new(&[1; 100], side, what == "read-only");
+    let at = fenced.bytes_mut().as_mut_ptr();
+    unsafe {
+        match what.as_str() {
+            "inside" => at.write_volatile(at.add(99).read_volatile()),
+            "before" => drop(at.sub(1).read_volatile()),
+            "after" => drop(at.add(100).read_volatile()),
+            _ => at.write_volatile(1),
+        }
+    }
+}
+
+/// A byte before, a byte after and a write to what is only read end the process by SIGSEGV, and nothing else does.
+#[test]
+fn the_fence_holds() {
+    let this = std::env::current_exe().expect("a test has a file");
+    for (what, signal) in [
+        ("inside", None),
+        ("before", Some(11)),
+        ("after", Some(11)),
+        ("read-only", Some(11)),
+    ] {
+        let output = Command::new(&this)
+            .args(["--ignored", "--exact", "touched"])
+            .env(TOUCH, what)
+            .output()
+            .expect("the test runs");
+        assert_eq!(output.status.signal(), signal, "{what}");
+    }
+}
