@@ -12,15 +12,16 @@ use Rattle.transfer.specs.Transfer.{goodState, stepOf}
 use Rattle.transfer.proofs.Laws.{stays-same}
 use Rattle.transfer.specs.declared.Transfer.{Transfer}
 use Rattle.transfer.specs.declared.Unchanged.{Unchanged}
+use Rattle.transfer.specs.declared.Deed.{Deed}
 use Rattle.transfer.specs.declared.Accepted.{Accepted}
 use Rattle.transfer.specs.declared.Step.{Step}
 use Rattle.transfer.specs.declared.Step.the-variants.{Stays, Accepts}
 use Rattle.transfer.specs.declared.Answer.{Answer}
 use Rattle.transfer.specs.declared.Answer.the-variants.{BadBuffers, BadSettings, BadState}
 use Rattle.screen.specs.Screen.{screenOf}
-use Rattle.screen.specs.declared.Page.{Page}
+use Rattle.screen.specs.declared.Placed.{Placed}
 use Rattle.screen.specs.declared.Screening.the-variants.{Refused, Passed}
-use Rattle.arrival.specs.Arrive.{Lent, Outcome, rightLengths, stepped, afterScreening, decide, clearedIf, wipedIf, preparedAt, pagedAt, acceptOf, accepts, done, receiveOf}
+use Rattle.arrival.specs.Arrive.{Lent, Outcome, rightLengths, deedOf, stepped, afterScreening, decide, clearedIf, wipedIf, preparedAt, pagedAt, atOf, doneTo, acceptOf, accepts, done, receiveOf}
 use Rattle.receiver.specs.Receiver.{held, lent, world, refusal, outcome}
 use Rattle.receiver.specs.declared.Receipt.{Receipt}
 
@@ -41,28 +42,33 @@ pub stored : (at : ℕ) (clears : Bool) (a f k : List ℕ) {k1 f1 f2 k2 : List �
 unfolding pagedAt wipedIf
 stored at clears a f k cleared erased put marked = rw (marked, put, erased, cleared)
 
-pub took : (p : Page) (t : Accepted) (a : List ℕ) (h : Lent) {g n1 n2 j : List ℕ} → held g j ≡ pagedAt (p .at) (payloadOf a) (wipedIf (t .clears) (held (h .flash) (h .sectors))) → n1 ≡ clearedIf (t .clears) (h .seen) → n2 ≡ withMark n1 (p .number) → outcome (record { transfer = t .transfer; answer = t .answer; discarded = t .discarded }) (lent g n2 j) ≡ done (world (t .transfer) h) (payloadOf a) (accepts p t)
+-- a comment that is noted
+pub noted-only : (clears : Bool) (f k : List ℕ) {k1 : List ℕ} → k1 ≡ clearedIf clears k → held f k1 ≡ wipedIf clears (held f k)
+unfolding wipedIf
+noted-only clears f k cleared = rw cleared
+
+pub took : (p : Placed) (d : Deed) (t : Accepted) (a : List ℕ) (h : Lent) {at : ℕ} {g n1 n2 j : List ℕ} → at ≡ atOf (p .body) → held g j ≡ doneTo d at (payloadOf a) (wipedIf (t .clears) (held (h .flash) (h .sectors))) → n1 ≡ clearedIf (t .clears) (h .seen) → n2 ≡ withMark n1 (p .number) → outcome (record { transfer = t .transfer; answer = t .answer; discarded = t .discarded }) (lent g n2 j) ≡ done (world (t .transfer) h) (payloadOf a) (accepts p d t)
 unfolding done acceptOf
-took p t a h paged cleared marked = cc
+took p d t a h at paged cleared marked = cc
 
--- ---- rows 12 to 15
+-- ---- rows 12 to 16
 
-module _ (t : Transfer) (p : Page) (a : List ℕ) (h : Lent) {known : Bool} {s : Step} (e : known ≡ markedIn (h .seen) (p .number)) (q : s ≡ stepOf (t .state) (p .head) known) where
-  step-is : stepOf (t .state) (p .head) (markedIn (h .seen) (p .number)) ≡ s
-  step-is = rw (sym e) (sym q)
+module _ (t : Transfer) (p : Placed) (a : List ℕ) (h : Lent) {known : Bool} {d : Deed} {s : Step} (e : known ≡ markedIn (h .seen) (p .number)) (f : d ≡ deedOf (p .body)) (q : s ≡ stepOf (t .state) (p .head) known d) where
+  step-is : stepOf (t .state) (p .head) (markedIn (h .seen) (p .number)) (deedOf (p .body)) ≡ s
+  step-is = rw (sym e, sym f) (sym q)
 
-  pub look-stays : {r : Receipt} {x : Unchanged} → s ≡ Stays x → r ≡ refusal (x .transfer) (x .answer) → outcome r h ≡ done (world t h) (payloadOf a) (stepped p (stepOf (t .state) (p .head) (markedIn (h .seen) (p .number))))
+  pub look-stays : {r : Receipt} {x : Unchanged} → s ≡ Stays x → r ≡ refusal (x .transfer) (x .answer) → outcome r h ≡ done (world t h) (payloadOf a) (stepped p (deedOf (p .body)) (stepOf (t .state) (p .head) (markedIn (h .seen) (p .number)) (deedOf (p .body))))
   unfolding done
   look-stays w y =
       let z = step-is ∙ w in
-      rw z (ap (λ (r : Receipt). outcome r h) y ∙ rw (stays-same (t .state) (p .head) (markedIn (h .seen) (p .number)) z))
+      rw z (ap (λ (r : Receipt). outcome r h) y ∙ rw (stays-same (t .state) (p .head) (markedIn (h .seen) (p .number)) (deedOf (p .body)) z))
 
   -- what is accepted does not look at the transfer that was
-  pub look-accepts : {o : Outcome} {y : Accepted} (u : Transfer) → s ≡ Accepts y → o ≡ done (world u h) (payloadOf a) (accepts p y) → o ≡ done (world t h) (payloadOf a) (stepped p (stepOf (t .state) (p .head) (markedIn (h .seen) (p .number))))
+  pub look-accepts : {o : Outcome} {y : Accepted} (u : Transfer) → s ≡ Accepts y → o ≡ done (world u h) (payloadOf a) (accepts p d y) → o ≡ done (world t h) (payloadOf a) (stepped p (deedOf (p .body)) (stepOf (t .state) (p .head) (markedIn (h .seen) (p .number)) (deedOf (p .body))))
   unfolding done acceptOf
-  look-accepts u w y = let z = step-is ∙ w in rw z y
+  look-accepts u w y = let z = step-is ∙ w in rw (z, sym f) y
 
--- ---- rows 1 to 15
+-- ---- every row
 
 module _ (s : Settings) (t : Transfer) (a : List ℕ) (h : Lent) where
   abbrev lengths : Bool
@@ -87,6 +93,6 @@ module _ (s : Settings) (t : Transfer) (a : List ℕ) (h : Lent) where
         unfolding receiveOf decide afterScreening done
         receive-refused q y = rw (l, g, n, q) (ap (λ (r : Receipt). outcome r h) y)
 
-        pub receive-passed : {o : Outcome} {p : Page} → screenOf s (length (h .flash)) a ≡ Passed p → o ≡ done (world t h) (payloadOf a) (stepped p (stepOf (t .state) (p .head) (markedIn (h .seen) (p .number)))) → o ≡ receiveOf s (world t h) a
+        pub receive-passed : {o : Outcome} {p : Placed} → screenOf s (length (h .flash)) a ≡ Passed p → o ≡ done (world t h) (payloadOf a) (stepped p (deedOf (p .body)) (stepOf (t .state) (p .head) (markedIn (h .seen) (p .number)) (deedOf (p .body)))) → o ≡ receiveOf s (world t h) a
         unfolding receiveOf decide afterScreening
         receive-passed q y = rw (l, g, n, q) y

@@ -7,11 +7,14 @@ ghost use Rattle.transfer.specs.Transfer.{stepOf};
 ghost use Rattle.arrival.specs.Arrive.{
   outcomeNumber,
   rightLengths,
+  deedOf,
   stepped,
   clearedIf,
   wipedIf,
   preparedAt,
   pagedAt,
+  atOf,
+  doneTo,
   accepts,
   done,
   receiveOf,
@@ -19,11 +22,13 @@ ghost use Rattle.arrival.specs.Arrive.{
 ghost use Rattle.receiver.specs.Receiver.{held, lentAt, leftAt, world, refusal, outcome};
 use block::Block;
 use flash::Flash;
-use screen::Page;
+use screen::Body;
+use screen::Placed;
 use screen::Screening;
 use settings::Settings;
 use transfer::Accepted;
 use transfer::Answer;
+use transfer::Deed;
 use transfer::Step;
 use transfer::Transfer;
 
@@ -88,21 +93,54 @@ fn store(at: usize, clears: bool, arrival: &[u8], flash: &mut [u8], sectors: &mu
     bitmap::mark(sectors, sector);
 }
 
+// What a block does once it is accepted.
+fn deed_of(body: Body) -> Deed
+    ensures { λ r. ⌜ r ≡ deedOf body ⌝ }
+{
+    match body {
+        Body::Page(_) => Deed::Stores,
+        Body::Note => Deed::Notes,
+    }
+}
+
+// The storage address of a page. A comment has none, and nothing asks for its.
+fn page_at(body: Body) -> usize
+    ensures { λ r. ⌜ r ≡ atOf body ⌝ }
+{
+    match body {
+        Body::Page(at) => at,
+        Body::Note => 0,
+    }
+}
+
+// Stores a page, or only clears the sector map where a comment begins a transfer.
+fn write(deed: Deed, at: usize, clears: bool, arrival: &[u8], flash: &mut [u8], sectors: &mut [u8])
+    ensures { λ _. ⌜ held (now (flash .exit)) (now (sectors .exit)) ≡ doneTo deed at (payloadOf (now (arrival .entry))) (wipedIf clears (held (now (flash .entry)) (now (sectors .entry)))) ⌝ }
+{
+    match deed {
+        Deed::Stores => store(at, clears, arrival, flash, sectors),
+        Deed::Notes => clear_if(clears, sectors),
+    }
+}
+
 // A block that is accepted.
 fn accept(
-    page: Page,
+    placed: Placed,
+    deed: Deed,
     accepted: Accepted,
     arrival: &[u8],
     flash: &mut [u8],
     seen: &mut [u8],
     sectors: &mut [u8],
 ) -> Receipt
-    ensures { λ r. ⌜ outcome r (leftAt flash seen sectors) ≡ done (world (accepted .transfer) (lentAt flash seen sectors)) (payloadOf (now (arrival .entry))) (accepts page accepted) ⌝ }
+    ensures { λ r. ⌜ outcome r (leftAt flash seen sectors) ≡ done (world (accepted .transfer) (lentAt flash seen sectors)) (payloadOf (now (arrival .entry))) (accepts placed deed accepted) ⌝ }
 {
     let next = accepted.transfer;
     let given = accepted.answer;
-    let number = page.number as usize;
-    store(page.at, accepted.clears, arrival, flash, sectors);
+    let number = placed.number as usize;
+    let body = placed.body;
+    let at = page_at(body);
+    write(deed, at, accepted.clears, arrival, flash, sectors);
     clear_if(accepted.clears, seen);
     bitmap::mark(seen, number);
     Receipt {
@@ -115,25 +153,27 @@ fn accept(
 // A block that has passed the screening.
 fn look(
     transfer: Transfer,
-    page: Page,
+    placed: Placed,
     arrival: &[u8],
     flash: &mut [u8],
     seen: &mut [u8],
     sectors: &mut [u8],
 ) -> Receipt
-    ensures { λ r. ⌜ outcome r (leftAt flash seen sectors) ≡ done (world transfer (lentAt flash seen sectors)) (payloadOf (now (arrival .entry))) (stepped page (stepOf (transfer .state) (page .head) (markedIn (now (seen .entry)) (page .number)))) ⌝ }
+    ensures { λ r. ⌜ outcome r (leftAt flash seen sectors) ≡ done (world transfer (lentAt flash seen sectors)) (payloadOf (now (arrival .entry))) (stepped placed (deedOf (placed .body)) (stepOf (transfer .state) (placed .head) (markedIn (now (seen .entry)) (placed .number)) (deedOf (placed .body)))) ⌝ }
 {
-    let head = page.head;
-    let number = page.number as usize;
+    let head = placed.head;
+    let number = placed.number as usize;
     let marked = bitmap::marked(seen, number);
-    let step = transfer.step(head, marked);
+    let body = placed.body;
+    let deed = deed_of(body);
+    let step = transfer.step(head, marked, deed);
     match step {
         Step::Stays(unchanged) => {
             let same = unchanged.transfer;
             let answer = unchanged.answer;
             refuse(same, answer)
         }
-        Step::Accepts(accepted) => accept(page, accepted, arrival, flash, seen, sectors),
+        Step::Accepts(accepted) => accept(placed, deed, accepted, arrival, flash, seen, sectors),
     }
 }
 
@@ -161,6 +201,6 @@ pub fn receive(
     let screened = screen::screen(settings, len, arrival);
     match screened {
         Screening::Refused(answer) => refuse(transfer, answer),
-        Screening::Passed(page) => look(transfer, page, arrival, flash, seen, sectors),
+        Screening::Passed(placed) => look(transfer, placed, arrival, flash, seen, sectors),
     }
 }

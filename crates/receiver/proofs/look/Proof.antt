@@ -11,6 +11,9 @@ cast-number c = search needs
 marked-requires : tie.Need-marked-requires
 marked-requires c κs = search needs
 
+deed-of-requires : tie.Need-deed-of-requires
+deed-of-requires c κs = search needs
+
 step-requires : tie.Need-step-requires
 step-requires c κs = search needs
 
@@ -32,7 +35,8 @@ same-length c = search needs
 returns : tie.Need-returns
 returns c =
     let d = c .before .before .before .before .before in
-    look-stays _ _ _ _ (d .before .marked .ensures) (answer-is (d .step .ensures)) (c .before .before .before .step2 .given .1) (c .refuse .ensures)
+    let start = d .before .before .before .before .before .before .before .before .before .before in
+    look-stays _ (start .args .placed) _ _ (d .before .before .marked .ensures) (d .before .deed-of .ensures) (answer-is (d .step .ensures)) (c .before .before .before .step2 .given .1) (c .refuse .ensures)
 
 same-length-2 : tie.Need-same-length-2
 same-length-2 c = search needs
@@ -48,7 +52,7 @@ returns-2 c =
     let b = c .before .before .before .before .before .before in
     let e = b .before .before .before .before .before in
     let d = e .before .before in
-    look-accepts _ _ _ _ (d .before .marked .ensures) (answer-is (d .step .ensures)) _ (e .step3 .given .1) (b .accept .ensures)
+    look-accepts _ _ _ _ (d .before .before .marked .ensures) (d .before .deed-of .ensures) (answer-is (d .step .ensures)) _ (e .step3 .given .1) (b .accept .ensures)
 
 pub look-spec : {M : Type 1} → statement M
 look-spec =
@@ -56,6 +60,7 @@ look-spec =
     (tie.spec
     cast-number
     marked-requires
+    deed-of-requires
     step-requires
     enum-known-step
     refuse-requires
