@@ -66,7 +66,7 @@ arrivalCall n t h = record { result = n; transfer = t; lent = h }
 abbrev pub resultOf : ℕ → Bool → ℕ
 resultOf n discarded = cond discarded (n + 128) n
 
--- answers 14 and 15 take the block
+-- answers 14 and more take the block
 abbrev pub isAcceptance : ℕ → Bool
 isAcceptance n = leb 14 n
 

@@ -1,4 +1,4 @@
--- The transfer (01, "One arrival, checks in this order"): its answers' numbers, row 3, and rows 12 to 15. Assumes nothing.
+-- The transfer (01, "One arrival, checks in this order"): its answers' numbers, row 3, and rows 12 to 15 with 02's 16. Assumes nothing.
 use Prim.Native.Nat.{ℕ, _+_}
 use mathlib.Core.Bool.{Bool, true, false, _&&_, cond}
 use lib.Dec.{ltb, leb, eqb}
