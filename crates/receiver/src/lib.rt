@@ -18,8 +18,10 @@ ghost use Rattle.arrival.specs.Arrive.{
   accepts,
   done,
   receiveOf,
+  forecastNumber,
+  lookOf,
 };
-ghost use Rattle.receiver.specs.Receiver.{held, lentAt, leftAt, world, refusal, outcome};
+ghost use Rattle.receiver.specs.Receiver.{held, lentAt, leftAt, world, refusal, outcome, decision, decisionIn, previewed};
 use block::Block;
 use flash::Flash;
 use screen::Body;
@@ -44,6 +46,25 @@ impl Receipt {
     pub const SEEN: usize = 16384;
 
     pub const SECTORS: usize = 1024;
+}
+
+// What a look says: the answer, and whether a running transfer would be discarded.
+pub struct Preview {
+    pub answer: Answer,
+    pub discarded: bool,
+}
+
+// A block that is accepted: its number and what it holds, what is done with that, and what the block does to the transfer.
+pub struct Acceptance {
+    pub placed: Placed,
+    pub deed: Deed,
+    pub accepted: Accepted,
+}
+
+// What an arrival comes to, before anything is written.
+pub enum Verdict {
+    Leaves(Answer),
+    Accepts(Acceptance),
 }
 
 // Are the lengths of arrival, flash, seen map and sector map right?
@@ -123,7 +144,7 @@ fn write(deed: Deed, at: usize, clears: bool, arrival: &[u8], flash: &mut [u8], 
     }
 }
 
-// A block that is accepted.
+// Writes a block that is accepted.
 fn accept(
     placed: Placed,
     deed: Deed,
@@ -150,35 +171,87 @@ fn accept(
     }
 }
 
-// A block that has passed the screening.
-fn look(
-    transfer: Transfer,
-    placed: Placed,
-    arrival: &[u8],
-    flash: &mut [u8],
-    seen: &mut [u8],
-    sectors: &mut [u8],
-) -> Receipt
-    ensures { λ r. ⌜ outcome r (leftAt flash seen sectors) ≡ done (world transfer (lentAt flash seen sectors)) (payloadOf (now (arrival .entry))) (stepped placed (deedOf (placed .body)) (stepOf (transfer .state) (placed .head) (markedIn (now (seen .entry)) (placed .number)) (deedOf (placed .body)))) ⌝ }
+// Rows 12 to 16, of a block that has passed the screening.
+fn settle(transfer: Transfer, placed: Placed, seen: &[u8]) -> Verdict
+    ensures { λ r. ⌜ decision r ≡ stepped placed (deedOf (placed .body)) (stepOf (transfer .state) (placed .head) (markedIn (now (seen .entry)) (placed .number)) (deedOf (placed .body))) ⌝ }
 {
     let head = placed.head;
     let number = placed.number as usize;
-    let marked = bitmap::marked(seen, number);
     let body = placed.body;
+    let marked = bitmap::marked(seen, number);
     let deed = deed_of(body);
     let step = transfer.step(head, marked, deed);
     match step {
         Step::Stays(unchanged) => {
-            let same = unchanged.transfer;
             let answer = unchanged.answer;
-            refuse(same, answer)
+            Verdict::Leaves(answer)
         }
-        Step::Accepts(accepted) => accept(placed, deed, accepted, arrival, flash, seen, sectors),
+        Step::Accepts(accepted) => Verdict::Accepts(Acceptance {
+            placed,
+            deed,
+            accepted,
+        }),
     }
 }
 
-// One arrival: the next transfer and the answer, and what it writes.
-pub fn receive(
+// Every check, in its order.
+fn judge(
+    settings: Settings,
+    transfer: Transfer,
+    arrival: &[u8],
+    flash: &[u8],
+    seen: &[u8],
+    sectors: &[u8],
+) -> Verdict
+    ensures { λ r. ⌜ decision r ≡ decisionIn settings (world transfer (lentAt flash seen sectors)) (now (arrival .entry)) ⌝ }
+{
+    let len = flash.len();
+    if !lengths_right(arrival.len(), len, seen.len(), sectors.len()) {
+        return Verdict::Leaves(Answer::BadBuffers);
+    }
+    if !settings::good(settings, len) {
+        return Verdict::Leaves(Answer::BadSettings);
+    }
+    if !transfer.sound() {
+        return Verdict::Leaves(Answer::BadState);
+    }
+    let screening = screen::screen(settings, len, arrival);
+    match screening {
+        Screening::Refused(answer) => Verdict::Leaves(answer),
+        Screening::Passed(placed) => settle(transfer, placed, seen),
+    }
+}
+
+// What would happen. Nothing changes.
+pub fn look(
+    settings: Settings,
+    transfer: Transfer,
+    arrival: &[u8],
+    flash: &[u8],
+    seen: &[u8],
+    sectors: &[u8],
+) -> Preview
+    ensures { λ r. ⌜ numbered forecastNumber (previewed r) ≡ numbered forecastNumber (lookOf settings (world transfer (lentAt flash seen sectors)) (now (arrival .entry))) ⌝ }
+{
+    let verdict = judge(settings, transfer, arrival, flash, seen, sectors);
+    match verdict {
+        Verdict::Leaves(answer) => Preview {
+            answer,
+            discarded: false,
+        },
+        Verdict::Accepts(acceptance) => {
+            let accepted = acceptance.accepted;
+            let answer = accepted.answer;
+            Preview {
+                answer,
+                discarded: accepted.discarded,
+            }
+        }
+    }
+}
+
+// One arrival: the next transfer and the answer, and what it writes. It gets nothing from a look, and repeats every check.
+pub fn take(
     settings: Settings,
     transfer: Transfer,
     arrival: &[u8],
@@ -188,19 +261,14 @@ pub fn receive(
 ) -> Receipt
     ensures { λ r. ⌜ numbered outcomeNumber (outcome r (leftAt flash seen sectors)) ≡ numbered outcomeNumber (receiveOf settings (world transfer (lentAt flash seen sectors)) (now (arrival .entry))) ⌝ }
 {
-    let len = flash.len();
-    if !lengths_right(arrival.len(), len, seen.len(), sectors.len()) {
-        return refuse(transfer, Answer::BadBuffers);
-    }
-    if !settings::good(settings, len) {
-        return refuse(transfer, Answer::BadSettings);
-    }
-    if !transfer.sound() {
-        return refuse(transfer, Answer::BadState);
-    }
-    let screened = screen::screen(settings, len, arrival);
-    match screened {
-        Screening::Refused(answer) => refuse(transfer, answer),
-        Screening::Passed(placed) => look(transfer, placed, arrival, flash, seen, sectors),
+    let verdict = judge(settings, transfer, arrival, flash, seen, sectors);
+    match verdict {
+        Verdict::Leaves(answer) => refuse(transfer, answer),
+        Verdict::Accepts(acceptance) => {
+            let placed = acceptance.placed;
+            let deed = acceptance.deed;
+            let accepted = acceptance.accepted;
+            accept(placed, deed, accepted, arrival, flash, seen, sectors)
+        }
     }
 }
