@@ -1,7 +1,9 @@
-// A UF2 block: its little-endian fields, and the answer of its header.
+// A UF2 block: its little-endian fields, read and written, and the answer of its header.
 ghost use mathlib.Core.Path.{_≡_};
 ghost use Prim.Native.Nat.{_+_, _*_};
+ghost use Rattle.sets.specs.Numbered.{numbered};
 ghost use Rattle.block.specs.Block.{fieldAt, fieldsOf, flaggedOf, isBlock, headerOf, headerNumber};
+ghost use Rattle.block.specs.Write.{putAt};
 
 // The fields of a block that a header leaves to the checks after it.
 pub struct Block {
@@ -70,6 +72,22 @@ pub fn is_block(arrival: &[u8]) -> bool
         & (field(arrival, 508) == Block::MAGIC_LAST)
 }
 
+// Writes a little-endian 32-bit field at an offset, and nothing where it would run past the end.
+pub fn put(bytes: &mut [u8], at: usize, x: u32)
+    ensures { λ _. ⌜ now (bytes .exit) ≡ putAt (now (bytes .entry)) at x ⌝ }
+{
+    if bytes.len() < 4 {
+        return;
+    }
+    if bytes.len() - 4 < at {
+        return;
+    }
+    bytes[at] = (x % 256) as u8;
+    bytes[at + 1] = (x / 256 % 256) as u8;
+    bytes[at + 2] = (x / 65536 % 256) as u8;
+    bytes[at + 3] = (x / 16777216 % 256) as u8;
+}
+
 // The fields of a block.
 fn fields(arrival: &[u8]) -> Block
     ensures { λ r. ⌜ r ≡ fieldsOf (now (arrival .entry)) ⌝ }
@@ -102,7 +120,7 @@ fn flagged(arrival: &[u8]) -> Header
 
 // The header of an arrival.
 pub fn read(arrival: &[u8]) -> Header
-    ensures { λ r. ⌜ r ≡ headerOf (now (arrival .entry)) ⌝ }
+    ensures { λ r. ⌜ numbered headerNumber r ≡ numbered headerNumber (headerOf (now (arrival .entry))) ⌝ }
 {
     if field(arrival, 0) != Block::MAGIC_FIRST {
         return Header::NotBlock;
@@ -114,19 +132,4 @@ pub fn read(arrival: &[u8]) -> Header
         return Header::NotBlock;
     }
     flagged(arrival)
-}
-
-impl Header {
-    // The number of a refusal, and 0 for a block.
-    pub fn number(self) -> u8
-        ensures { λ r. ⌜ r ≡ headerNumber self ⌝ }
-    {
-        match self {
-            Header::NotBlock => 4,
-            Header::Container => 5,
-            Header::Comment => 6,
-            Header::NoFamily => 7,
-            Header::Found(_) => 0,
-        }
-    }
 }

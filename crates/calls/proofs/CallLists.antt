@@ -21,7 +21,7 @@ use Rattle.transfer.specs.declared.State.the-variants.{Idle, Running, Done}
 use Rattle.transfer.specs.declared.Accepted.{Accepted}
 use Rattle.transfer.specs.declared.Answer.{Answer}
 use Rattle.flash.specs.Flash.{payloadOf}
-use Rattle.arrival.specs.Arrive.{World, Outcome, Decision, acceptOf, done, receiveOf}
+use Rattle.arrival.specs.Arrive.{World, lentOf, Outcome, Decision, acceptOf, done, receiveOf}
 use Rattle.arrival.specs.Lists.{receiveAll, answersOf, discardsOf}
 use Rattle.arrival.specs.Facts.{Refusals-change-nothing}
 use Rattle.arrival.specs.Tally.{headOf}
@@ -35,7 +35,7 @@ use Rattle.layout.proofs.Transfers.{Small, written-back}
 use Rattle.capi.specs.Calls as capi
 use Rattle.capi.specs.Calls.{receiveBytes, isAcceptance, arrivalsOf, resultsOf, anyAcceptance, storedFrom, batchFrom, fewer, receiveBatch}
 use Rattle.capi.proofs.Laws.{number-most}
-use Rattle.calls.specs.CallLists.{Lent, call, leftBy, callAll, returnsOf, worldOf, AllBytes, Calls-are-arrivals, Calls-end, Calls-completed, Calls-same-set, Calls-either-first, Calls-are-one-call}
+use Rattle.calls.specs.CallLists.{CallerState, call, leftBy, callAll, returnsOf, worldOf, AllBytes, Calls-are-arrivals, Calls-end, Calls-completed, Calls-same-set, Calls-either-first, Calls-are-one-call}
 
 -- ---- a field of bytes
 
@@ -89,7 +89,7 @@ next-state s w a p t e h (took g k B l q m) =
     (written-back t (k .transfer .state) (good-size t (rw e at (B .state))) (took-small a h (q .head) m))
 
 -- so the call leaves what the arrival leaves
-next-world : (s : List ℕ) (h : Lent) (a : List ℕ) → Bytes a
+next-world : (s : List ℕ) (h : CallerState) (a : List ℕ) → Bytes a
     → worldOf (leftBy (call s h a)) ≡ receiveOf (settingsFrom s) (worldOf h) a .world
 unfolding receiveBytes receiveOf
 next-world s h a b =
@@ -100,7 +100,7 @@ next-world s h a b =
 
 -- ---- a list of calls
 
-calls-world : (s : List ℕ) (h : Lent) (l : List (List ℕ)) → AllBytes l → worldOf (callAll s h l) ≡ receiveAll (settingsFrom s) (worldOf h) l
+calls-world : (s : List ℕ) (h : CallerState) (l : List (List ℕ)) → AllBytes l → worldOf (callAll s h l) ≡ receiveAll (settingsFrom s) (worldOf h) l
 unfolding callAll receiveAll
 calls-world s h [] b = refl
 calls-world s h (a ∷ l) b =
@@ -110,7 +110,7 @@ calls-world s h (a ∷ l) b =
 abbrev resultsAt : Settings → World → List (List ℕ) → List ℕ
 resultsAt z w l = resultsOf (answersOf z w l) (discardsOf z w l)
 
-calls-results : (s : List ℕ) (h : Lent) (l : List (List ℕ)) → AllBytes l → returnsOf s h l ≡ resultsAt (settingsFrom s) (worldOf h) l
+calls-results : (s : List ℕ) (h : CallerState) (l : List (List ℕ)) → AllBytes l → returnsOf s h l ≡ resultsAt (settingsFrom s) (worldOf h) l
 unfolding returnsOf answersOf discardsOf resultsOf receiveBytes
 calls-results s h [] b = refl
 calls-results s h (a ∷ l) b =
@@ -190,7 +190,7 @@ kept-twice t true false next last e = ap (withTransfer t) (sym (e refl))
 kept-twice t false y next last e = refl
 
 -- the calls leave the bytes of the last transfer where one of them took a block, and else what was lent
-calls-transfer : (s : List ℕ) (h : Lent) (l : List (List ℕ)) → AllBytes l → let z = settingsFrom s in
+calls-transfer : (s : List ℕ) (h : CallerState) (l : List (List ℕ)) → AllBytes l → let z = settingsFrom s in
     callAll s h l .transfer ≡ capi.keptTransfer (h .transfer) (anyAcceptance (answersOf z (worldOf h) l)) (receiveAll z (worldOf h) l .transfer)
 unfolding callAll receiveAll answersOf anyAcceptance receiveBytes
 calls-transfer s h [] b = refl
@@ -212,8 +212,8 @@ arrivals-bytes (suc n) a b = (
   arrivals-bytes n (drop 512 a) (λ i l. let k = length-drop 512 a in rw (getD-drop 512 a i 0) (b (512 + i) (omega arith))),
 )
 
-abbrev lentWith : List ℕ → World → Lent
-lentWith t w = record { transfer = t; flash = w .held .flash; seen = w .seen; sectors = w .held .sectors }
+abbrev stateWith : List ℕ → World → CallerState
+stateWith t w = record { transfer = t; lent = lentOf w }
 
 pub calls-are-one-call : Calls-are-one-call
 unfolding Calls-are-one-call receiveBatch batchFrom
@@ -223,8 +223,8 @@ calls-are-one-call s h a r b =
     let c = arrivals-bytes n a b in
     record {
       left =
-          ap (λ (t : List ℕ). lentWith t (receiveAll (settingsFrom s) (worldOf h) l)) (sym (calls-transfer s h l c))
-          ∙ ap (lentWith (callAll s h l .transfer)) (sym (calls-world s h l c));
+          ap (λ (t : List ℕ). stateWith t (receiveAll (settingsFrom s) (worldOf h) l)) (sym (calls-transfer s h l c))
+          ∙ ap (stateWith (callAll s h l .transfer)) (sym (calls-world s h l c));
       results = ap (storedFrom r 0) (sym (calls-results s h l c));
       all = λ e. rw (le-leb (length a / 512) (length r) e);
       few = λ e. split (leb (length a / 512) (length r)) (λ y. rw y (omega (arith, leb-true (length a / 512) (length r) y))) (λ z. rw z);

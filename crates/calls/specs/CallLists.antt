@@ -7,7 +7,7 @@ use lib.Dec.{eqb}
 use lib.ListN.{length}
 use Rattle.record.specs.Write.{Bytes}
 use Rattle.transfer.specs.declared.State.the-variants.{Idle}
-use Rattle.arrival.specs.Arrive.{World}
+use Rattle.arrival.specs.Arrive.{Lent, World}
 use Rattle.arrival.specs.Lists.{receiveAll, answersOf, discardsOf}
 use Rattle.arrival.specs.Demand.{File, ValidFile, Sent, seenOf, isWhole, Ends}
 use Rattle.receiver.specs.Receiver.{world}
@@ -17,35 +17,33 @@ use Rattle.capi.specs.Calls.{ArrivalCall, BatchCall, receiveBytes, arrivalsOf, 
 -- ---- one call after the other
 
 -- what the caller holds between two calls
-pub record Lent : Type 0 where
+pub record CallerState : Type 0 where
   pub transfer : List ℕ
-  pub flash : List ℕ
-  pub seen : List ℕ
-  pub sectors : List ℕ
+  pub lent : Lent
 
 -- the call for an arrival, with bytes of settings
-abbrev pub call : List ℕ → Lent → List ℕ → ArrivalCall
-call s h a = receiveBytes s (h .transfer) a (h .flash) (h .seen) (h .sectors)
+abbrev pub call : List ℕ → CallerState → List ℕ → ArrivalCall
+call s h a = receiveBytes s (h .transfer) a (h .lent)
 
 -- what a call leaves
-abbrev pub leftBy : ArrivalCall → Lent
-leftBy r = record { transfer = r .transfer; flash = r .flash; seen = r .seen; sectors = r .sectors }
+abbrev pub leftBy : ArrivalCall → CallerState
+leftBy r = record { transfer = r .transfer; lent = r .lent }
 
 -- what a call for each arrival leaves, where each is handed what the last one left
-unfoldable pub callAll : List ℕ → Lent → List (List ℕ) → Lent
+unfoldable pub callAll : List ℕ → CallerState → List (List ℕ) → CallerState
 callAll s h [] = h
 callAll s h (a ∷ l) = callAll s (leftBy (call s h a)) l
 
 -- what each of them returns
-unfoldable pub returnsOf : List ℕ → Lent → List (List ℕ) → List ℕ
+unfoldable pub returnsOf : List ℕ → CallerState → List (List ℕ) → List ℕ
 returnsOf s h [] = []
 returnsOf s h (a ∷ l) = call s h a .result ∷ returnsOf s (leftBy (call s h a)) l
 
 -- ---- they are the arrivals of one receiver
 
--- the transfer that the bytes are, and the three buffers
-abbrev pub worldOf : Lent → World
-worldOf h = world (transferFrom (h .transfer)) (h .flash) (h .seen) (h .sectors)
+-- the transfer that the bytes are, and the buffers
+abbrev pub worldOf : CallerState → World
+worldOf h = world (transferFrom (h .transfer)) (h .lent)
 
 -- every element of every arrival is a byte
 abbrev pub AllBytes : List (List ℕ) → Type 0
@@ -55,16 +53,16 @@ AllBytes (a ∷ l) = Bytes a × AllBytes l
 -- whatever the settings, the transfer and the buffers, the calls leave what `receiveAll` leaves, and return its answers
 unfoldable pub Calls-are-arrivals : Type 0
 Calls-are-arrivals =
-    (s : List ℕ) (h : Lent) (l : List (List ℕ)) → AllBytes l → let z = settingsFrom s in
+    (s : List ℕ) (h : CallerState) (l : List (List ℕ)) → AllBytes l → let z = settingsFrom s in
     (worldOf (callAll s h l) ≡ receiveAll z (worldOf h) l)
     × (returnsOf s h l ≡ resultsOf (answersOf z (worldOf h) l) (discardsOf z (worldOf h) l))
 
 -- ---- so demand 3 holds of the calls
 
 -- what holds of every start with an Idle transfer, every valid file and every list of its blocks mixed with arrivals answered 4 to 11
-abbrev pub EveryCalls : (List ℕ → Lent → File → List (List ℕ) → Type 0) → Type 0
+abbrev pub EveryCalls : (List ℕ → CallerState → File → List (List ℕ) → Type 0) → Type 0
 EveryCalls P =
-    (s : List ℕ) (h : Lent) (F : File) → worldOf h .transfer ≡ Idle → ValidFile (settingsFrom s) (worldOf h) F
+    (s : List ℕ) (h : CallerState) (F : File) → worldOf h .transfer ≡ Idle → ValidFile (settingsFrom s) (worldOf h) F
     → (l : List (List ℕ)) → Sent (settingsFrom s) (worldOf h) F l → AllBytes l → P s h F l
 
 -- "what was lent at the start and the set of file blocks seen decide flash, maps and transfer"
@@ -98,12 +96,12 @@ Calls-either-first =
 -- ---- they are one call of `uf2_receive_all`
 
 -- what such a call leaves
-abbrev pub leftByMany : BatchCall → Lent
-leftByMany o = record { transfer = o .transfer; flash = o .flash; seen = o .seen; sectors = o .sectors }
+abbrev pub leftByBatch : BatchCall → CallerState
+leftByBatch o = record { transfer = o .transfer; lent = o .lent }
 
 -- one call for arrivals a with room r for results is a call for each of the arrivals that it counts
-pub record Same (s : List ℕ) (h : Lent) (a r : List ℕ) (o : BatchCall) : Type 0 where
-  pub left : leftByMany o ≡ callAll s h (arrivalsOf (o .number) a)
+pub record Same (s : List ℕ) (h : CallerState) (a r : List ℕ) (o : BatchCall) : Type 0 where
+  pub left : leftByBatch o ≡ callAll s h (arrivalsOf (o .number) a)
   pub results : o .results ≡ storedFrom r 0 (returnsOf s h (arrivalsOf (o .number) a))
   pub all : length a / 512 ≤ length r → o .number ≡ length a / 512
   pub few : length r ≤ length a / 512 → o .number ≡ length r
@@ -111,5 +109,5 @@ pub record Same (s : List ℕ) (h : Lent) (a r : List ℕ) (o : BatchCall) : Typ
 -- byte for byte, in transfer, flash and both maps; it counts every arrival that has room for its result
 unfoldable pub Calls-are-one-call : Type 0
 Calls-are-one-call =
-    (s : List ℕ) (h : Lent) (a r : List ℕ) → Bytes a
-    → Same s h a r (receiveBatch s (h .transfer) a r (h .flash) (h .seen) (h .sectors))
+    (s : List ℕ) (h : CallerState) (a r : List ℕ) → Bytes a
+    → Same s h a r (receiveBatch s (h .transfer) a r (h .lent))

@@ -4,3 +4,5 @@ pub mod Laws
 pub mod TabLaws
 pub mod OverLaws
 pub mod BytesLaws
+pub mod RowsLaws
+pub mod Numbered
