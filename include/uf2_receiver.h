@@ -21,7 +21,7 @@
 extern "C" {
 #endif
 
-#define UF2_STACK_SIZE 4096
+#define UF2_STACK_SIZE 8192
 
 /* ---- What is lent for arrivals. A flash is whole sectors, from one to UF2_FLASH_MAX_SIZE bytes. */
 #define UF2_ARRIVAL_SIZE 512

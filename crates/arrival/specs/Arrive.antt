@@ -122,3 +122,28 @@ unfoldable pub receiveOf : Settings → World → List ℕ → Outcome
 receiveOf s w a =
     done w (payloadOf a)
     (decide s (length (w .held .flash)) (length (w .held .sectors)) (w .transfer) (w .seen) a)
+
+-- ---- a look (02, L7): it "changes nothing and says what would happen"
+
+-- what it says
+pub record Forecast : Type 0 where
+  pub answer : Answer
+  pub discarded : Bool
+
+-- both as one value
+abbrev pub forecast : Answer → Bool → Forecast
+forecast x d = record { answer = x; discarded = d }
+
+-- the number of its answer
+abbrev pub forecastNumber : Forecast → ℕ
+forecastNumber o = numberOf (o .answer)
+
+-- what a decision would come to
+abbrev pub forecastOf : Decision → Forecast
+forecastOf (stays x) = forecast x false
+forecastOf (accepts p t) = forecast (t .answer) (t .discarded)
+
+-- a look at one arrival
+unfoldable pub lookOf : Settings → World → List ℕ → Forecast
+lookOf s w a =
+    forecastOf (decide s (length (w .held .flash)) (length (w .held .sectors)) (w .transfer) (w .seen) a)

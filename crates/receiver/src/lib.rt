@@ -15,8 +15,10 @@ ghost use Rattle.arrival.specs.Arrive.{
   accepts,
   done,
   receiveOf,
+  forecastNumber,
+  lookOf,
 };
-ghost use Rattle.receiver.specs.Receiver.{held, lentAt, leftAt, world, refusal, outcome};
+ghost use Rattle.receiver.specs.Receiver.{held, lentAt, leftAt, world, refusal, outcome, decision, decisionIn, previewed};
 use block::Block;
 use flash::Flash;
 use screen::Page;
@@ -39,6 +41,24 @@ impl Receipt {
     pub const SEEN: usize = 16384;
 
     pub const SECTORS: usize = 1024;
+}
+
+// What a look says: the answer, and whether a running transfer would be discarded.
+pub struct Preview {
+    pub answer: Answer,
+    pub discarded: bool,
+}
+
+// A block that is accepted: its page, and what it does to the transfer.
+pub struct Acceptance {
+    pub page: Page,
+    pub accepted: Accepted,
+}
+
+// What an arrival comes to, before anything is written.
+pub enum Verdict {
+    Leaves(Answer),
+    Accepts(Acceptance),
 }
 
 // Are the lengths of arrival, flash, seen map and sector map right?
@@ -88,7 +108,7 @@ fn store(at: usize, clears: bool, arrival: &[u8], flash: &mut [u8], sectors: &mu
     bitmap::mark(sectors, sector);
 }
 
-// A block that is accepted.
+// Writes a block that is accepted.
 fn accept(
     page: Page,
     accepted: Accepted,
@@ -112,16 +132,9 @@ fn accept(
     }
 }
 
-// A block that has passed the screening.
-fn look(
-    transfer: Transfer,
-    page: Page,
-    arrival: &[u8],
-    flash: &mut [u8],
-    seen: &mut [u8],
-    sectors: &mut [u8],
-) -> Receipt
-    ensures { λ r. ⌜ outcome r (leftAt flash seen sectors) ≡ done (world transfer (lentAt flash seen sectors)) (payloadOf (now (arrival .entry))) (stepped page (stepOf (transfer .state) (page .head) (markedIn (now (seen .entry)) (page .number)))) ⌝ }
+// Rows 12 to 15, of a block that has passed the screening.
+fn settle(transfer: Transfer, page: Page, seen: &[u8]) -> Verdict
+    ensures { λ r. ⌜ decision r ≡ stepped page (stepOf (transfer .state) (page .head) (markedIn (now (seen .entry)) (page .number))) ⌝ }
 {
     let head = page.head;
     let number = page.number as usize;
@@ -129,16 +142,71 @@ fn look(
     let step = transfer.step(head, marked);
     match step {
         Step::Stays(unchanged) => {
-            let same = unchanged.transfer;
             let answer = unchanged.answer;
-            refuse(same, answer)
+            Verdict::Leaves(answer)
         }
-        Step::Accepts(accepted) => accept(page, accepted, arrival, flash, seen, sectors),
+        Step::Accepts(accepted) => Verdict::Accepts(Acceptance { page, accepted }),
     }
 }
 
-// One arrival: the next transfer and the answer, and what it writes.
-pub fn receive(
+// Every check, in its order.
+fn judge(
+    settings: Settings,
+    transfer: Transfer,
+    arrival: &[u8],
+    flash: &[u8],
+    seen: &[u8],
+    sectors: &[u8],
+) -> Verdict
+    ensures { λ r. ⌜ decision r ≡ decisionIn settings (world transfer (lentAt flash seen sectors)) (now (arrival .entry)) ⌝ }
+{
+    let len = flash.len();
+    if !lengths_right(arrival.len(), len, seen.len(), sectors.len()) {
+        return Verdict::Leaves(Answer::BadBuffers);
+    }
+    if !settings::good(settings, len) {
+        return Verdict::Leaves(Answer::BadSettings);
+    }
+    if !transfer.sound() {
+        return Verdict::Leaves(Answer::BadState);
+    }
+    let screening = screen::screen(settings, len, arrival);
+    match screening {
+        Screening::Refused(answer) => Verdict::Leaves(answer),
+        Screening::Passed(page) => settle(transfer, page, seen),
+    }
+}
+
+// What would happen. Nothing changes.
+pub fn look(
+    settings: Settings,
+    transfer: Transfer,
+    arrival: &[u8],
+    flash: &[u8],
+    seen: &[u8],
+    sectors: &[u8],
+) -> Preview
+    ensures { λ r. ⌜ numbered forecastNumber (previewed r) ≡ numbered forecastNumber (lookOf settings (world transfer (lentAt flash seen sectors)) (now (arrival .entry))) ⌝ }
+{
+    let verdict = judge(settings, transfer, arrival, flash, seen, sectors);
+    match verdict {
+        Verdict::Leaves(answer) => Preview {
+            answer,
+            discarded: false,
+        },
+        Verdict::Accepts(acceptance) => {
+            let accepted = acceptance.accepted;
+            let answer = accepted.answer;
+            Preview {
+                answer,
+                discarded: accepted.discarded,
+            }
+        }
+    }
+}
+
+// One arrival: the next transfer and the answer, and what it writes. It gets nothing from a look, and repeats every check.
+pub fn take(
     settings: Settings,
     transfer: Transfer,
     arrival: &[u8],
@@ -148,19 +216,13 @@ pub fn receive(
 ) -> Receipt
     ensures { λ r. ⌜ numbered outcomeNumber (outcome r (leftAt flash seen sectors)) ≡ numbered outcomeNumber (receiveOf settings (world transfer (lentAt flash seen sectors)) (now (arrival .entry))) ⌝ }
 {
-    let len = flash.len();
-    if !lengths_right(arrival.len(), len, seen.len(), sectors.len()) {
-        return refuse(transfer, Answer::BadBuffers);
-    }
-    if !settings::good(settings, len) {
-        return refuse(transfer, Answer::BadSettings);
-    }
-    if !transfer.sound() {
-        return refuse(transfer, Answer::BadState);
-    }
-    let screened = screen::screen(settings, len, arrival);
-    match screened {
-        Screening::Refused(answer) => refuse(transfer, answer),
-        Screening::Passed(page) => look(transfer, page, arrival, flash, seen, sectors),
+    let verdict = judge(settings, transfer, arrival, flash, seen, sectors);
+    match verdict {
+        Verdict::Leaves(answer) => refuse(transfer, answer),
+        Verdict::Accepts(acceptance) => {
+            let page = acceptance.page;
+            let accepted = acceptance.accepted;
+            accept(page, accepted, arrival, flash, seen, sectors)
+        }
     }
 }

@@ -73,11 +73,12 @@ fn fits_place(b: Block, start: usize, size: usize) -> Screening
     if size < past - Page::WINDOW {
         return Screening::Refused(Answer::BadAddress);
     }
+    let at = start + (address - Page::WINDOW);
     let head = Head::new(b.family, b.total);
     Screening::Passed(Page {
         head,
         number: b.number,
-        at: start + (address - Page::WINDOW),
+        at,
     })
 }
 
