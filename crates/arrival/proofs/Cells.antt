@@ -21,7 +21,8 @@ pub record Layout : Type 0 where
 
 pub record Apart (n : ℕ) (L : Layout) : Type 0 where
   pub alone : (i k j : ℕ) → i < n → k < n → L .owns i j ≡ true → L .owns k j ≡ true → i ≡ k
-  pub inside : (i j : ℕ) → i < n → L .owns i j ≡ true → L .touches i (j / 4096) ≡ true
+  -- a block that holds a byte touches its sector, if any block does
+  pub inside : (i k j : ℕ) → i < n → k < n → L .owns i j ≡ true → L .touches k (j / 4096) ≡ true → L .touches i (j / 4096) ≡ true
 
 -- a block of S touches sector q
 abbrev pub touched : ℕ → Layout → Set → ℕ → Bool
@@ -57,7 +58,7 @@ module _ (n : ℕ) (L : Layout) (A : Apart n L) (lent : ℕ → ℕ) (S : Set) (
       ∙ rw (any-add n (λ i. L .touches i (j / 4096)) S k h)
       (settle (L .touches k (j / 4096)) (touched n L S (j / 4096))
       (λ d. pick n (λ i. S i && L .owns i j) (λ i. L .value i j) d) (lent j)
-      (λ t u. pick-none (λ i. S i && L .owns i j) (λ i. L .value i j) 255 n (λ i l. split (S i && L .owns i j) (λ e. hidden u i l e) (λ e. e))))
+      (λ t u. pick-none (λ i. S i && L .owns i j) (λ i. L .value i j) 255 n (λ i l. split (S i && L .owns i j) (λ e. hidden t u i l e) (λ e. e))))
     where
       same : (i : ℕ) → i < n → add k S i && L .owns i j ≡ S i && L .owns i j
       same i l =
@@ -67,10 +68,10 @@ module _ (n : ℕ) (L : Layout) (A : Apart n L) (lent : ℕ → ℕ) (S : Set) (
           rw (z, and-false (add k S i), and-false (S i)))
           (λ e. rw e)
 
-      -- a block of S that holds byte j has touched its sector
-      hidden : touched n L S (j / 4096) ≡ false → (i : ℕ) → i < n → S i && L .owns i j ≡ true → S i && L .owns i j ≡ false
-      hidden u i l e =
-          let w : L .touches i (j / 4096) ≡ true = A .inside i j l (and-right (S i) (L .owns i j) e) in
+      -- where block k touches the sector of byte j, a block of S that holds the byte has touched it
+      hidden : L .touches k (j / 4096) ≡ true → touched n L S (j / 4096) ≡ false → (i : ℕ) → i < n → S i && L .owns i j ≡ true → S i && L .owns i j ≡ false
+      hidden t u i l e =
+          let w : L .touches i (j / 4096) ≡ true = A .inside i k j l h (and-right (S i) (L .owns i j) e) t in
           clash (touched n L S (j / 4096))
           (any-hit (λ i. S i && L .touches i (j / 4096)) n i l (rw (and-left (S i) (L .owns i j) e) w)) u
 

@@ -2,7 +2,7 @@
 use Prim.Native.Nat.{ℕ, _+_, _-_, _/_, _≤_, _<_}
 use mathlib.Core.Path.{_≡_, refl, sym, ap, subst, _∙_, fun-ext}
 use mathlib.Core.Bool.{Bool, true, false, not, _&&_, _||_, or-comm, and-false, not-and-self}
-use mathlib.Core.List.{List, [], _∷_, _++_, map}
+use mathlib.Core.List.{List, [], _∷_, _++_}
 use native.Mathlib.Omega.{arith}
 use lib.Dec.{eqb, ltb}
 use lib.ListN.{length, getD, List·getD-eq-default}
@@ -18,25 +18,24 @@ use Rattle.transfer.specs.declared.State.the-variants.{Idle}
 use Rattle.transfer.specs.declared.Answer.{Answer}
 use Rattle.arrival.specs.Arrive.{Held, World, Outcome, receiveOf}
 use Rattle.arrival.specs.Lists.{receiveAll, answersOf}
-use Rattle.arrival.specs.Demand.{File, answerNumber, ValidFile, Foreign, Sent, nothing, own, other, among, seenOf, isWhole, replyTo, withArrival, repliesTo, Ends, List-ends, List-answers, isCompleted, Completed-exactly, Same-set-same-end, Either-first}
-use Rattle.arrival.proofs.Items.{block, arrive, run}
-use Rattle.arrival.proofs.Count.{Pages, count, Keeps, After, untouched, begun, verdict, verdicts, block-step, run-after, told-after, nothing-seen, some-seen, still-running, whole-done, seen-map, keeps-of, after, after-is}
+use Rattle.arrival.specs.Demand.{File, answerNumber, ValidFile, Foreign, Mixed, Sent, nothing, own, other, among, seenOf, isWhole, replyTo, withArrival, repliesTo, Ends, List-ends, List-answers, isCompleted, Completed-exactly, Same-set-same-end, Either-first}
+use Rattle.arrival.proofs.Count.{Blocks, count, Keeps, After, untouched, begun, verdict, Stepped, nothing-seen, some-seen, still-running, whole-done, seen-map, keeps-of, after, after-is}
 use Rattle.arrival.proofs.Cells.{cell, cell-none, cell-owned, cell-free, getD-buffer}
-use Rattle.arrival.proofs.Effect.{spans-is, Valid, layout, sectorsOf, apart-of, effect, length-effect, grows}
-use Rattle.arrival.proofs.DecisionFacts.{flashOf}
-use Rattle.arrival.proofs.Lists.{asked, receive-is, all-is, answers-are, board-after}
-use Rattle.arrival.proofs.Files.{pagesOf, board, valid, opens, asked-block, asked-foreign, block-size, sent-append, sent-split, sent-sized, sent-parts, seen-own, seen-other, seen-append, seen-is}
+use Rattle.arrival.proofs.Effect.{payloadIn, spans-is, Valid, layout, sectorsOf, owned-touches, apart-of, effect, length-effect, grows}
+use Rattle.arrival.proofs.Lists.{Met, met-next, met-after}
+use Rattle.arrival.proofs.Runs.{mixed-append, mixed-split, seen-nothing, seen-append, seen-own, seen-other, own-step, other-step, run-after}
+use Rattle.arrival.proofs.Files.{blocksOf, board, valid, opens, steady}
 
 -- ---- the flash by its cells, read in the paper's words
 
 -- every byte of v's flash is the cell that S gives
-abbrev As : Pages → Held → Set → Held → Type 0
+abbrev As : Blocks → Held → Set → Held → Type 0
 As F x S y = (j : ℕ) → j < length (x .flash) → getD (y .flash) j 0 ≡ cell (count F) (layout F) (λ j. getD (x .flash) j 0) S j
 
-abbrev Same : Pages → Held → Set → Held → Type 0
+abbrev Same : Blocks → Held → Set → Held → Type 0
 Same F x S y = y ≡ effect F x S
 
-module _ (F : Pages) (w : World) (ok : Valid F (w .held)) (S : Set) (v : World) (a : After F w (Same F (w .held)) S v) where
+module _ (F : Blocks) (w : World) (ok : Valid F (w .held)) (S : Set) (v : World) (a : After F w (Same F (w .held)) S v) where
   there : As F (w .held) S (v .held)
   there j h = go a
     where
@@ -60,12 +59,12 @@ module _ (F : Pages) (w : World) (ok : Valid F (w .held)) (S : Set) (v : World) 
       let r = some-seen F w (Same F (w .held)) S v a s in
       ap (λ (u : World). u .held .sectors) (r .2) ∙ ap (λ (x : Held). x .sectors) (r .1) ∙ unfold effect in refl
 
-  payload-stands : (k : ℕ) → k < count F → S k ≡ true → (i : ℕ) → i < 256 → getD (v .held .flash) (F .at k + i) 0 ≡ getD (F .payload k) i 0
+  payload-stands : (k : ℕ) → k < count F → S k ≡ true → (i : ℕ) → i < 256 → getD (v .held .flash) (F .at k + i) 0 ≡ getD (payloadIn F k) i 0
   payload-stands k h s i l =
       there (F .at k + i) (omega (arith, ok .fits k h .within))
       ∙ cell-owned (count F) (layout F) (λ j. getD (w .held .flash) j 0) S (F .at k + i) (apart-of F (w .held) ok) k h s
       (spans-is (F .at k) (F .at k + i) (omega arith) (omega arith))
-      ∙ ap (λ (x : ℕ). getD (F .payload k) x 0) (omega arith)
+      ∙ ap (λ (x : ℕ). getD (payloadIn F k) x 0) (omega arith)
 
   rest-erased : (j : ℕ) → j < length (w .held .flash) → sectorsOf F S (j / 4096) ≡ true
       → ((k : ℕ) → k < count F → S k ≡ true → spans (F .at k) j ≡ false) → getD (v .held .flash) j 0 ≡ 255
@@ -85,11 +84,11 @@ module _ (F : Pages) (w : World) (ok : Valid F (w .held)) (S : Set) (v : World) 
           is-false _
           (λ o.
           clash (sectorsOf F S (j / 4096))
-          (any-hit (λ i. S i && eqb (j / 4096) (F .at i / 4096)) (count F) k h (rw s (apart-of F (w .held) ok .inside k j h o))) t)
+          (any-hit (λ i. S i && eqb (j / 4096) (F .at i / 4096)) (count F) k h (rw s (owned-touches F (w .held) ok k j h o))) t)
 
 -- ---- Completed exactly where the set becomes whole
 
-completes : (F : Pages) (S : Set) (k : ℕ) → k < count F → isCompleted (verdict F S k) ≡ not (eqb (size (count F) S) (count F)) && eqb (size (count F) (add k S)) (count F)
+completes : (F : Blocks) (S : Set) (k : ℕ) → k < count F → isCompleted (verdict F S k) ≡ not (eqb (size (count F) S) (count F)) && eqb (size (count F) (add k S)) (count F)
 unfolding verdict raised
 completes F S k h =
     split (ltb m n)
@@ -116,8 +115,8 @@ completes F S k h =
 -- ---- a valid file from Idle
 
 module _ (s : Settings) (w : World) (F : File) (idle : w .transfer ≡ Idle) (ok : ValidFile s w F) where
-  abbrev P : Pages
-  P = pagesOf s w F
+  abbrev P : Blocks
+  P = blocksOf s w F
 
   sound : Valid P (w .held)
   sound = valid s w F idle ok
@@ -125,12 +124,12 @@ module _ (s : Settings) (w : World) (F : File) (idle : w .transfer ≡ Idle) (ok
   K : Keeps P (w .held) (Same P (w .held))
   K = keeps-of P (w .held) (effect P (w .held)) (grows P (w .held) sound)
 
+  met-start : Met s w w
+  met-start = record { board = board s w F idle ok; flash = refl }
+
   -- what is left after a list, by the blocks seen
   pub after-list : {l : List (List ℕ)} → Sent s w F l → After P w (Same P (w .held)) (seenOf F l) (receiveAll s w l)
-  after-list {l} sent =
-      rw (all-is s (flashOf w) (sent-sized s w F idle ok sent) w (board s w F idle ok) refl)
-      (subst (λ (S : Set). After P w (Same P (w .held)) S (run w (map (asked s (flashOf w)) l))) (seen-is s w F idle ok sent)
-      (run-after P w (Same P (w .held)) K false (opens s w F idle ok) (sent-parts s w F idle ok sent) none w (untouched refl refl)))
+  after-list sent = run-after s w P (Foreign s w) (steady s w F idle ok) (Same P (w .held)) K false (opens s w F idle ok) sent none w met-start (untouched refl refl)
 
   pub ends : {l : List (List ℕ)} → Sent s w F l → Ends s w F (seenOf F l) (receiveAll s w l)
   ends {l} sent =
@@ -138,16 +137,22 @@ module _ (s : Settings) (w : World) (F : File) (idle : w .transfer ≡ Idle) (ok
       let v = receiveAll s w l in
       let a = after-list sent in
       record {
-        untouched = nothing-seen P w (Same P (w .held)) S v a;
-        going = still-running P w (Same P (w .held)) S v a;
-        whole = whole-done P w (Same P (w .held)) S v a (ok .some);
-        seen-map = seen-map P w (Same P (w .held)) S v a;
+        counts =
+            record {
+              untouched = nothing-seen P w (Same P (w .held)) S v a;
+              going = still-running P w (Same P (w .held)) S v a;
+              whole = whole-done P w (Same P (w .held)) S v a (ok .some);
+              seen-map = seen-map P w (Same P (w .held)) S v a;
+            };
         sector-map = sectors-are P w sound S v a;
-        payloads = payload-stands P w sound S v a;
-        inside = λ k h. sound .fits k h .within;
-        erased = rest-erased P w sound S v a;
-        others = others-kept P w sound S v a;
-        flash-length = same-length P w sound S v a;
+        contents =
+            record {
+              payloads = payload-stands P w sound S v a;
+              inside = λ k h. sound .fits k h .within;
+              erased = rest-erased P w sound S v a;
+              others = others-kept P w sound S v a;
+              flash-length = same-length P w sound S v a;
+            };
       }
 
   -- one world by the set
@@ -180,63 +185,65 @@ module _ (s : Settings) (w : World) (F : File) (idle : w .transfer ≡ Idle) (ok
   unfolding withArrival
   grow-other S a f = rw (le-leb (answerNumber s w a) 11 (f .1))
 
-  replies-are : {l : List (List ℕ)} → Sent s w F l → (S : Set) → verdicts P S (map (asked s (flashOf w)) l) ≡ repliesTo s w F S l
-  unfolding verdicts repliesTo
-  replies-are nothing S = refl
-  replies-are (own {l = l} k h r) S =
-      rw (asked-block s w F idle ok k h, reply-own S k h, grow-own S k h)
-      (ap (λ (x : List Answer). replyTo s w F S (F .block k) ∷ x) (replies-are r (withArrival s w S (F .block k))))
-  replies-are (other {l = l} a f r) S =
-      rw (asked-foreign s w F idle ok a f .0, reply-other S a f, grow-other S a f)
-      (ap (λ (x : List Answer). receiveOf s w a .answer ∷ x) (replies-are r S))
+  own-told : (k : ℕ) → k < F .total → (S : Set) (v : World) → Met s w v → After P w (Same P (w .held)) S v
+      → Stepped P w (Same P (w .held)) false S k (receiveOf s v (F .block k))
+  own-told = own-step s w P (Foreign s w) (steady s w F idle ok) (Same P (w .held)) K false (opens s w F idle ok)
+
+  told-after : {l : List (List ℕ)} → Sent s w F l → (S : Set) (v : World) → Met s w v → After P w (Same P (w .held)) S v
+      → answersOf s v l ≡ repliesTo s w F S l
+  unfolding answersOf repliesTo
+  told-after nothing S v m a = refl
+  told-after (own {l = l} k h r) S v m a =
+      let t = own-told k h S v m a in
+      let x : receiveOf s v (F .block k) .answer ≡ replyTo s w F S (F .block k) = t .told ∙ reply-own S k h in
+      let y : answersOf s (receiveOf s v (F .block k) .world) l ≡ repliesTo s w F (withArrival s w S (F .block k)) l =
+      told-after r (add k S) (receiveOf s v (F .block k) .world) (met-next s w v (F .block k) m) (t .next)
+      ∙ ap (λ (T : Set). repliesTo s w F T l) (grow-own S k h) in
+      λ i. x i ∷ y i
+  told-after (other {l = l} a f r) S v m u =
+      let e = steady s w F idle ok .foreign v m a f in
+      let x : receiveOf s v a .answer ≡ replyTo s w F S a = ap (λ (o : Outcome). o .answer) e ∙ sym (reply-other S a f) in
+      let y : answersOf s (receiveOf s v a .world) l ≡ repliesTo s w F (withArrival s w S a) l =
+      told-after r S (receiveOf s v a .world) (met-next s w v a m)
+      (other-step s w P (Foreign s w) (steady s w F idle ok) (Same P (w .held)) K false (opens s w F idle ok) a f S v m u)
+      ∙ ap (λ (T : Set). repliesTo s w F T l) (sym (grow-other S a f)) in
+      λ i. x i ∷ y i
 
   pub answered : {l : List (List ℕ)} → Sent s w F l → answersOf s w l ≡ repliesTo s w F none l
-  answered sent =
-      answers-are s (flashOf w) (sent-sized s w F idle ok sent) w (board s w F idle ok) refl
-      ∙ told-after P w (Same P (w .held)) K false (opens s w F idle ok) (sent-parts s w F idle ok sent) none w (untouched refl refl)
-      ∙ replies-are sent none
+  answered sent = told-after sent none w met-start (untouched refl refl)
 
   -- ---- Completed
-
-  none-seen : (j : ℕ) → seenOf F [] j ≡ false
-  unfolding among
-  none-seen j = and-false (ltb j (F .total))
 
   abbrev Exactly : List (List ℕ) → List ℕ → Type 0
   Exactly l a =
       isCompleted (receiveOf s (receiveAll s w l) a .answer) ≡ not (isWhole F (seenOf F l)) && isWhole F (seenOf F (l ++ (a ∷ [])))
 
-  -- the arrival after the list, by what it is screened to
-  next-is : {l : List (List ℕ)} → Sent s w F l → (a : List ℕ) → length a ≡ 512
-      → receiveOf s (receiveAll s w l) a ≡ arrive (receiveAll s w l) (asked s (flashOf w) a)
-  next-is {l} sent a h =
-      let b = board-after s (flashOf w) l w (board s w F idle ok) refl in
-      receive-is s (receiveAll s w l) a (b .0) h ∙ ap (λ (n : ℕ). arrive (receiveAll s w l) (asked s n a)) (b .1)
+  -- the worlds after the list
+  met-list : (l : List (List ℕ)) → Met s w (receiveAll s w l)
+  met-list l = met-after s w l w met-start
 
   exactly-own : {l : List (List ℕ)} → Sent s w F l → (k : ℕ) → k < F .total → Exactly l (F .block k)
   exactly-own {l} sent k h =
       let S = seenOf F l in
-      let t = block-step P w (Same P (w .held)) K false (opens s w F idle ok) k h S (receiveAll s w l) (after-list sent) in
-      let e : seenOf F (l ++ (F .block k ∷ [])) ≡ add k S = more in
-      ap (λ (o : Outcome). isCompleted (o .answer)) (next-is sent (F .block k) (block-size s w F idle ok k h) ∙ ap (arrive (receiveAll s w l)) (asked-block s w F idle ok k h))
-      ∙ ap isCompleted (t .told)
+      let t = own-told k h S (receiveAll s w l) (met-list l) (after-list sent) in
+      ap isCompleted (t .told)
       ∙ completes P S k h
-      ∙ sym (ap (λ (R : Set). not (isWhole F S) && isWhole F R) e)
+      ∙ sym (ap (λ (R : Set). not (isWhole F S) && isWhole F R) more)
     where
       more : seenOf F (l ++ (F .block k ∷ [])) ≡ add k (seenOf F l)
       more =
           fun-ext
           (λ j.
-          seen-append s w F idle ok l (F .block k ∷ []) j
-          ∙ ap (λ (R : Set). seenOf F l j || R j) (seen-own s w F idle ok k [] h)
-          ∙ ap (λ (b : Bool). seenOf F l j || (eqb j k || b)) (none-seen j)
+          seen-append F l (F .block k ∷ []) j
+          ∙ ap (λ (R : Set). seenOf F l j || R j) (seen-own s w P (Foreign s w) (steady s w F idle ok) k [] h)
+          ∙ ap (λ (b : Bool). seenOf F l j || (eqb j k || b)) (seen-nothing F j)
           ∙ ap (λ (b : Bool). seenOf F l j || b) (or-comm (eqb j k) false)
           ∙ or-comm (seenOf F l j) (eqb j k))
 
   exactly-other : {l : List (List ℕ)} → Sent s w F l → (a : List ℕ) → Foreign s w a → Exactly l a
   exactly-other {l} sent a f =
-      ap (λ (o : Outcome). isCompleted (o .answer)) (next-is sent a (asked-foreign s w F idle ok a f .1) ∙ ap (arrive (receiveAll s w l)) (asked-foreign s w F idle ok a f .0))
-      ∙ unfold arrive in ne-eqb (answerNumber s w a) 15 (λ e. omega (arith, f .1))
+      ap (λ (o : Outcome). isCompleted (o .answer)) (steady s w F idle ok .foreign (receiveAll s w l) (met-list l) a f)
+      ∙ ne-eqb (answerNumber s w a) 15 (λ e. omega (arith, f .1))
       ∙ sym (not-and-self (isWhole F (seenOf F l)))
       ∙ sym (ap (λ (R : Set). not (isWhole F (seenOf F l)) && isWhole F R) same)
     where
@@ -244,13 +251,13 @@ module _ (s : Settings) (w : World) (F : File) (idle : w .transfer ≡ Idle) (ok
       same =
           fun-ext
           (λ j.
-          seen-append s w F idle ok l (a ∷ []) j
-          ∙ ap (λ (R : Set). seenOf F l j || R j) (seen-other s w F idle ok a [] f)
-          ∙ ap (λ (b : Bool). seenOf F l j || b) (none-seen j)
+          seen-append F l (a ∷ []) j
+          ∙ ap (λ (R : Set). seenOf F l j || R j) (seen-other s w P (Foreign s w) (steady s w F idle ok) a [] f)
+          ∙ ap (λ (b : Bool). seenOf F l j || b) (seen-nothing F j)
           ∙ or-comm (seenOf F l j) false)
 
   pub exactly : (l : List (List ℕ)) (a : List ℕ) → Sent s w F (l ++ (a ∷ [])) → Exactly l a
-  exactly l a sent = let q = sent-split s w F l (a ∷ []) sent in last l (q .0) refl (q .1)
+  exactly l a sent = let q = mixed-split F (Foreign s w) l (a ∷ []) sent in last l (q .0) refl (q .1)
     where
       last : (l : List (List ℕ)) {a : List ℕ} → Sent s w F l → {m : List (List ℕ)} → m ≡ a ∷ [] → Sent s w F m → Exactly l a
       last l p e nothing = absurd (omega (arith, ap length e))
@@ -282,5 +289,5 @@ same-set-same-end s w F idle ok l p m q e = same-set s w F idle ok p q (fun-ext 
 pub either-first : Either-first
 unfolding Either-first
 either-first s w F idle ok l p m q =
-    same-set s w F idle ok (sent-append p q) (sent-append q p)
-    (fun-ext (λ k. seen-append s w F idle ok l m k ∙ or-comm (seenOf F l k) (seenOf F m k) ∙ sym (seen-append s w F idle ok m l k)))
+    same-set s w F idle ok (mixed-append p q) (mixed-append q p)
+    (fun-ext (λ k. seen-append F l m k ∙ or-comm (seenOf F l k) (seenOf F m k) ∙ sym (seen-append F m l k)))

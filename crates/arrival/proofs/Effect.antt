@@ -12,11 +12,12 @@ use Rattle.sets.proofs.Tests.{split, and-left, and-right}
 use Rattle.bitmap.specs.Bitmap.{markedIn, withMark, mapOf}
 use Rattle.bitmap.proofs.Laws.{length-mark}
 use Rattle.bitmap.proofs.MapLaws.{map-none, marked-map, mark-map}
-use Rattle.flash.specs.Flash.{spans}
+use Rattle.flash.specs.Flash.{payloadOf, spans}
 use Rattle.flash.proofs.Laws.{length-erase, getD-erase, room-yes, length-store, getD-store}
 use Rattle.arrival.specs.Arrive.{Held, clearedIf, wipedIf, preparedAt, pagedAt}
 use Rattle.arrival.proofs.Cells.{Layout, Apart, touched, touched-add, touched-none, Leaves, buffer, length-buffer, buffer-none, buffer-add}
-use Rattle.arrival.proofs.Count.{Pages, count, apply, wipe, Grows}
+use Rattle.arrival.proofs.Pages.{apply}
+use Rattle.arrival.proofs.Count.{Blocks, count, bytesOf, applied, wipe, Grows}
 
 -- ---- a stored page
 
@@ -77,14 +78,17 @@ module _ (at : ℕ) (payload : List ℕ) (x : Held) (T : Set) (marks : x .sector
 
 -- ---- the pages of a file
 
+abbrev pub payloadIn : Blocks → ℕ → List ℕ
+payloadIn F k = payloadOf (bytesOf F k)
+
 -- none of its pages is refused, and no two have one address
-pub record Valid (F : Pages) (x : Held) : Type 0 where
+pub record Valid (F : Blocks) (x : Held) : Type 0 where
   pub some : 1 ≤ count F
   pub few : count F ≤ 131072
   pub whole : length (x .flash) % 4096 ≡ 0
   pub most : length (x .flash) ≤ 33554432
   pub sectors : length (x .sectors) ≡ 1024
-  pub fits : (k : ℕ) → k < count F → Fits (length (x .flash)) (F .at k) (F .payload k)
+  pub fits : (k : ℕ) → k < count F → Fits (length (x .flash)) (F .at k) (payloadIn F k)
   pub apart : (i k : ℕ) → i < count F → k < count F → F .at i ≡ F .at k → i ≡ k
 
 pub spans-true : (at j : ℕ) → spans at j ≡ true → (at ≤ j) × (j < at + 256)
@@ -93,31 +97,35 @@ spans-true at j e = (leb-true at j (and-left (leb at j) (ltb j (at + 256)) e), l
 pub spans-is : (at j : ℕ) → at ≤ j → j < at + 256 → spans at j ≡ true
 spans-is at j p q = rw (le-leb at j p, lt-ltb j (at + 256) q)
 
-abbrev pub layout : Pages → Layout
+abbrev pub layout : Blocks → Layout
 layout F =
     record {
       owns = λ k j. spans (F .at k) j;
       touches = λ k q. eqb q (F .at k / 4096);
-      value = λ k j. getD (F .payload k) (j - F .at k) 0;
+      value = λ k j. getD (payloadIn F k) (j - F .at k) 0;
     }
 
-abbrev pub sectorsOf : Pages → Set → Set
+abbrev pub sectorsOf : Blocks → Set → Set
 sectorsOf F S = touched (count F) (layout F) S
 
-pub apart-of : (F : Pages) (x : Held) → Valid F x → Apart (count F) (layout F)
+-- a page touches the sector of each byte that it holds
+pub owned-touches : (F : Blocks) (x : Held) → Valid F x → (i j : ℕ) → i < count F → spans (F .at i) j ≡ true → eqb (j / 4096) (F .at i / 4096) ≡ true
+owned-touches F x ok i j h o = eq-eqb (j / 4096) (F .at i / 4096) (omega (arith, spans-true (F .at i) j o, ok .fits i h .aligned))
+
+pub apart-of : (F : Blocks) (x : Held) → Valid F x → Apart (count F) (layout F)
 apart-of F x ok =
     record {
       alone = λ i k j hi hk o q.
           let e : F .at i ≡ F .at k = omega (arith, spans-true (F .at i) j o, spans-true (F .at k) j q, ok .fits i hi .aligned, ok .fits k hk .aligned) in
           ok .apart i k hi hk e;
-      inside = λ i j hi o. eq-eqb (j / 4096) (F .at i / 4096) (omega (arith, spans-true (F .at i) j o, ok .fits i hi .aligned));
+      inside = λ i k j hi hk o q. owned-touches F x ok i j hi o;
     }
 
 -- flash and sector map, once the blocks of S have come
-unfoldable pub effect : Pages → Held → Set → Held
+unfoldable pub effect : Blocks → Held → Set → Held
 effect F x S = record { flash = buffer (count F) (layout F) (x .flash) S; sectors = mapOf 1024 (sectorsOf F S) }
 
-pub length-effect : (F : Pages) (x : Held) (S : Set) → length (effect F x S .flash) ≡ length (x .flash)
+pub length-effect : (F : Blocks) (x : Held) (S : Set) → length (effect F x S .flash) ≡ length (x .flash)
 unfolding effect
 length-effect F x S = length-buffer (count F) (layout F) (x .flash) S
 
@@ -125,15 +133,15 @@ held-is : (g h : Held) → g .flash ≡ h .flash → g .sectors ≡ h .sectors �
 held-is g h p q = λ i. record { flash = p i; sectors = q i }
 
 -- one page more
-module _ (F : Pages) (x : Held) (ok : Valid F x) (S : Set) (k : ℕ) (h : k < count F) where
+module _ (F : Blocks) (x : Held) (ok : Valid F x) (S : Set) (k : ℕ) (h : k < count F) where
   abbrev there : Held
   there = effect F x S
 
   marks : there .sectors ≡ mapOf 1024 (sectorsOf F S)
   marks = unfold effect in refl
 
-  fits : Fits (length (there .flash)) (F .at k) (F .payload k)
-  fits = subst (λ (n : ℕ). Fits n (F .at k) (F .payload k)) (sym (length-effect F x S)) (ok .fits k h)
+  fits : Fits (length (there .flash)) (F .at k) (payloadIn F k)
+  fits = subst (λ (n : ℕ). Fits n (F .at k) (payloadIn F k)) (sym (length-effect F x S)) (ok .fits k h)
 
   whole : length (there .flash) % 4096 ≡ 0
   whole = rw (length-effect F x S) (ok .whole)
@@ -141,31 +149,37 @@ module _ (F : Pages) (x : Held) (ok : Valid F x) (S : Set) (k : ℕ) (h : k < co
   most : length (there .flash) ≤ 33554432
   most = rw (length-effect F x S) (ok .most)
 
-  leaves : Leaves (layout F) k (sectorsOf F S) (there .flash) (apply F k there .flash)
+  paged : applied F k there ≡ pagedAt (F .at k) (payloadIn F k) there
+  paged = unfold apply in refl
+
+  leaves : Leaves (layout F) k (sectorsOf F S) (there .flash) (pagedAt (F .at k) (payloadIn F k) there .flash)
   leaves = (
-    length-paged (F .at k) (F .payload k) there,
-    getD-paged (F .at k) (F .payload k) there (sectorsOf F S) marks whole most fits,
+    length-paged (F .at k) (payloadIn F k) there,
+    getD-paged (F .at k) (payloadIn F k) there (sectorsOf F S) marks whole most fits,
   )
 
-  flash-more : apply F k there .flash ≡ effect F x (add k S) .flash
+  flash-more : applied F k there .flash ≡ effect F x (add k S) .flash
   unfolding effect
-  flash-more = buffer-add (count F) (layout F) (apart-of F x ok) (x .flash) S k h (apply F k there .flash) leaves
+  flash-more =
+      ap (λ (y : Held). y .flash) paged
+      ∙ buffer-add (count F) (layout F) (apart-of F x ok) (x .flash) S k h (pagedAt (F .at k) (payloadIn F k) there .flash) leaves
 
-  sectors-more : apply F k there .sectors ≡ effect F x (add k S) .sectors
+  sectors-more : applied F k there .sectors ≡ effect F x (add k S) .sectors
   unfolding effect
   sectors-more =
-      paged-map (F .at k) (F .payload k) there (sectorsOf F S) marks whole most fits
+      ap (λ (y : Held). y .sectors) paged
+      ∙ paged-map (F .at k) (payloadIn F k) there (sectorsOf F S) marks whole most fits
       ∙ ap (mapOf 1024) (fun-ext (λ q. sym (touched-add (count F) (layout F) S k q h)))
 
-  pub one-more : apply F k there ≡ effect F x (add k S)
-  one-more = held-is (apply F k there) (effect F x (add k S)) flash-more sectors-more
+  pub one-more : applied F k there ≡ effect F x (add k S)
+  one-more = held-is (applied F k there) (effect F x (add k S)) flash-more sectors-more
 
-pub none-yet : (F : Pages) (x : Held) → length (x .sectors) ≡ 1024 → wipe x ≡ effect F x none
+pub none-yet : (F : Blocks) (x : Held) → length (x .sectors) ≡ 1024 → wipe x ≡ effect F x none
 unfolding effect wipedIf clearedIf
 none-yet F x n =
     held-is (wipe x) (effect F x none)
     (buffer-none (count F) (layout F) (x .flash))
     (rw n (map-none 1024) ∙ ap (mapOf 1024) (fun-ext (λ q. sym (touched-none (count F) (layout F) q))))
 
-pub grows : (F : Pages) (x : Held) → Valid F x → Grows F x (effect F x)
+pub grows : (F : Blocks) (x : Held) → Valid F x → Grows F x (effect F x)
 grows F x ok = record { few = ok .few; none-yet = none-yet F x (ok .sectors); one-more = λ S k h. one-more F x ok S k h }

@@ -1,5 +1,5 @@
 mod Heads
-mod Items
+mod Pages
 mod Count
 mod Cells
 mod Effect
@@ -7,6 +7,7 @@ pub mod Screening
 pub mod DecisionFacts
 pub mod Facts
 mod Lists
+mod Runs
 mod Files
 pub mod Demand
 pub mod Tally

@@ -1,8 +1,8 @@
--- Rows 1 to 3 stay passed, so that a list of arrivals runs as the list of what they are screened to. Assumes nothing.
+-- An arrival by what it is screened to, and that rows 1 to 3 stay passed. Assumes nothing.
 use Prim.Native.Nat.{ℕ, _+_, _≤_}
 use mathlib.Core.Path.{_≡_, refl, ap, _∙_}
 use mathlib.Core.Bool.{Bool, true, false, cond}
-use mathlib.Core.List.{List, [], _∷_, map}
+use mathlib.Core.List.{List, [], _∷_}
 use native.Mathlib.Omega.{arith}
 use lib.ListN.{length}
 use Rattle.flash.specs.Flash.{flashLength, payloadOf}
@@ -12,29 +12,29 @@ use Rattle.transfer.specs.Transfer.{countOf, goodState, accepted}
 use Rattle.transfer.specs.declared.Head.{Head}
 use Rattle.transfer.specs.declared.Answer.{Answer}
 use Rattle.screen.specs.Screen.{screenOf}
-use Rattle.screen.specs.declared.Screening.{Screening}
+use Rattle.screen.specs.declared.Page.{Page}
 use Rattle.screen.specs.declared.Screening.the-variants.{Refused, Passed}
-use Rattle.arrival.specs.Arrive.{World, Decision, afterScreening, acceptOf, done, receiveOf}
+use Rattle.arrival.specs.Arrive.{World, Decision, afterScreening, acceptOf, unchanged, done, receiveOf}
 use Rattle.arrival.specs.Facts.{Arrivals-keep-lengths}
-use Rattle.arrival.specs.Lists.{receiveAll, answersOf}
+use Rattle.arrival.specs.Lists.{receiveAll}
 use Rattle.arrival.specs.Tally.{clears}
-use Rattle.arrival.proofs.Items.{Item, brought, arrive, run, answers}
+use Rattle.arrival.proofs.Pages.{arrive}
 use Rattle.arrival.proofs.Screening.{passing-few}
 use Rattle.arrival.proofs.DecisionFacts.{flashOf, Board, board-decides, DecisionFacts, kept, took, decided, counted-good}
 use Rattle.arrival.proofs.Facts.{arrivals-keep-lengths}
 
--- what an arrival is screened to, for a flash of n bytes
-abbrev pub asked : Settings → ℕ → List ℕ → Item
-asked s n a = brought (screenOf s n a) (payloadOf a)
+-- ---- an arrival that has passed rows 1 to 3, by what it is screened to
 
-afterScreening-is : (w : World) (p : List ℕ) (x : Screening) → done w p (afterScreening (w .transfer) (w .seen) x) ≡ arrive w (brought x p)
-unfolding afterScreening arrive done
-afterScreening-is w p (Refused x) = refl
-afterScreening-is w p (Passed g) = refl
+module _ (s : Settings) (w : World) (a : List ℕ) (B : Board s w) (l : length a ≡ 512) where
+  pub receive-refused : (x : Answer) → screenOf s (flashOf w) a ≡ Refused x → receiveOf s w a ≡ unchanged w x
+  unfolding receiveOf
+  receive-refused x e =
+      ap (done w (payloadOf a)) (board-decides s w a B l ∙ ap (afterScreening (w .transfer) (w .seen)) e) ∙ unfold afterScreening done in refl
 
-pub receive-is : (s : Settings) (w : World) (a : List ℕ) → Board s w → length a ≡ 512 → receiveOf s w a ≡ arrive w (asked s (flashOf w) a)
-unfolding receiveOf
-receive-is s w a B l = ap (done w (payloadOf a)) (board-decides s w a B l) ∙ afterScreening-is w (payloadOf a) (screenOf s (flashOf w) a)
+  pub receive-passed : (p : Page) → screenOf s (flashOf w) a ≡ Passed p → receiveOf s w a ≡ arrive w p a
+  unfolding receiveOf
+  receive-passed p e =
+      ap (done w (payloadOf a)) (board-decides s w a B l ∙ ap (afterScreening (w .transfer) (w .seen)) e) ∙ unfold afterScreening arrive in refl
 
 -- ---- rows 1 to 3 stay passed
 
@@ -65,32 +65,17 @@ board-next s w a B =
       state = unfold receiveOf in state-next s w a (decided s w a) (B .state);
     }
 
--- ---- a list of whole arrivals
+-- ---- the worlds that a list from w on meets
 
-pub data Sized : List (List ℕ) → Type 0 where
-  no-more : Sized []
-  sized : {a : List ℕ} {l : List (List ℕ)} → length a ≡ 512 → Sized l → Sized (a ∷ l)
+-- rows 1 to 3 are passed, and the flash has w's length
+pub record Met (s : Settings) (w v : World) : Type 0 where
+  pub board : Board s v
+  pub flash : flashOf v ≡ flashOf w
 
-module _ (s : Settings) (n : ℕ) where
-  step-is : (w : World) (a : List ℕ) → Board s w → flashOf w ≡ n → length a ≡ 512 → receiveOf s w a ≡ arrive w (asked s n a)
-  step-is w a B e l = receive-is s w a B l ∙ ap (λ (m : ℕ). arrive w (asked s m a)) e
+pub met-next : (s : Settings) (w v : World) (a : List ℕ) → Met s w v → Met s w (receiveOf s v a .world)
+met-next s w v a m = record { board = board-next s v a (m .board); flash = flash-next s v a ∙ m .flash }
 
-  pub all-is : {l : List (List ℕ)} → Sized l → (w : World) → Board s w → flashOf w ≡ n → receiveAll s w l ≡ run w (map (asked s n) l)
-  unfolding receiveAll run
-  all-is no-more w B e = refl
-  all-is (sized {a = a} {l = l} h r) w B e =
-      all-is r (receiveOf s w a .world) (board-next s w a B) (flash-next s w a ∙ e)
-      ∙ ap (λ o. run (o .world) (map (asked s n) l)) (step-is w a B e h)
-
-  pub answers-are : {l : List (List ℕ)} → Sized l → (w : World) → Board s w → flashOf w ≡ n → answersOf s w l ≡ answers w (map (asked s n) l)
-  unfolding answersOf answers
-  answers-are no-more w B e = refl
-  answers-are (sized {a = a} {l = l} h r) w B e =
-      ap (λ (x : List Answer). receiveOf s w a .answer ∷ x) (answers-are r (receiveOf s w a .world) (board-next s w a B) (flash-next s w a ∙ e))
-      ∙ ap (λ o. o .answer ∷ answers (o .world) (map (asked s n) l)) (step-is w a B e h)
-
-  -- the board after a list
-  pub board-after : (l : List (List ℕ)) (w : World) → Board s w → flashOf w ≡ n → Board s (receiveAll s w l) × (flashOf (receiveAll s w l) ≡ n)
-  unfolding receiveAll
-  board-after [] w B e = (B, e)
-  board-after (a ∷ l) w B e = board-after l (receiveOf s w a .world) (board-next s w a B) (flash-next s w a ∙ e)
+pub met-after : (s : Settings) (w : World) (l : List (List ℕ)) (v : World) → Met s w v → Met s w (receiveAll s v l)
+unfolding receiveAll
+met-after s w [] v m = m
+met-after s w (a ∷ l) v m = met-after s w l (receiveOf s v a .world) (met-next s w v a m)

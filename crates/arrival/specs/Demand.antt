@@ -49,11 +49,15 @@ pub record ValidFile (s : Settings) (w : World) (F : File) : Type 0 where
 abbrev pub Foreign : Settings → World → List ℕ → Type 0
 Foreign s w a = (4 ≤ answerNumber s w a) × (answerNumber s w a ≤ 11)
 
--- "every list of its blocks, in any order, any number of times or not at all, mixed with arrivals answered 4 to 11"
-pub data Sent (s : Settings) (w : World) (F : File) : List (List ℕ) → Type 0 where
-  nothing : Sent s w F []
-  own : {l : List (List ℕ)} (k : ℕ) → k < F .total → Sent s w F l → Sent s w F (F .block k ∷ l)
-  other : {l : List (List ℕ)} (a : List ℕ) → Foreign s w a → Sent s w F l → Sent s w F (a ∷ l)
+-- "every list of its blocks, in any order, any number of times or not at all, mixed with" arrivals of which P holds
+pub data Mixed (F : File) (P : List ℕ → Type 0) : List (List ℕ) → Type 0 where
+  nothing : Mixed F P []
+  own : {l : List (List ℕ)} (k : ℕ) → k < F .total → Mixed F P l → Mixed F P (F .block k ∷ l)
+  other : {l : List (List ℕ)} (a : List ℕ) → P a → Mixed F P l → Mixed F P (a ∷ l)
+
+-- "mixed with arrivals answered 4 to 11"
+abbrev pub Sent : Settings → World → File → List (List ℕ) → Type 0
+Sent s w F l = Mixed F (Foreign s w) l
 
 -- ---- what is seen
 
@@ -125,16 +129,19 @@ repliesTo s w F S (a ∷ l) = replyTo s w F S a ∷ repliesTo s w F (withArrival
 abbrev pub headIn : File → Head
 headIn F = record { family = F .family; total = F .total }
 
--- The four bullets of 01, with S the set of blocks seen and v the world after the list.
-pub record Ends (s : Settings) (w : World) (F : File) (S : Set) (v : World) : Type 0 where
+-- The four bullets of 01, with S the set of blocks seen and v the world after the list: of transfer and seen map, of the sector map, of the
+-- flash.
+
+pub record Counts (w : World) (F : File) (S : Set) (v : World) : Type 0 where
   -- "m = 0: transfer, flash and maps are as lent."
   pub untouched : howMany F S ≡ 0 → v ≡ w
   -- "m from 1 to n-1: Running (family, n, m). m = n, the set is whole: Done (family, n)."
   pub going : 1 ≤ howMany F S → howMany F S < F .total → v .transfer ≡ running (headIn F) (howMany F S)
   pub whole : howMany F S ≡ F .total → v .transfer ≡ Done (headIn F)
-  -- "the seen map marks exactly the numbers of the seen blocks, the sector map exactly the touched sectors; every other bit is 0."
+  -- "the seen map marks exactly the numbers of the seen blocks, .. every other bit is 0."
   pub seen-map : 1 ≤ howMany F S → v .seen ≡ mapOf 16384 S
-  pub sector-map : 1 ≤ howMany F S → v .held .sectors ≡ mapOf 1024 (touchedBy s w F S)
+
+pub record Contents (s : Settings) (w : World) (F : File) (S : Set) (v : World) : Type 0 where
   -- "each seen payload at its storage address,"
   pub payloads : (k : ℕ) → k < F .total → S k ≡ true → (i : ℕ) → i < 256
       → getD (v .held .flash) (storageOf s w (F .block k) + i) 0 ≡ getD (payloadOf (F .block k)) i 0
@@ -146,6 +153,12 @@ pub record Ends (s : Settings) (w : World) (F : File) (S : Set) (v : World) : Ty
   -- "every other byte as lent."
   pub others : (j : ℕ) → touchedBy s w F S (j / 4096) ≡ false → getD (v .held .flash) j 0 ≡ getD (w .held .flash) j 0
   pub flash-length : length (v .held .flash) ≡ length (w .held .flash)
+
+pub record Ends (s : Settings) (w : World) (F : File) (S : Set) (v : World) : Type 0 where
+  pub counts : Counts w F S v
+  -- ".. the sector map exactly the touched sectors; every other bit is 0."
+  pub sector-map : 1 ≤ howMany F S → v .held .sectors ≡ mapOf 1024 (touchedBy s w F S)
+  pub contents : Contents s w F S v
 
 -- ---- the claims, of every valid file and every list, the empty one too, from an Idle transfer with buffers of any content
 

@@ -60,7 +60,7 @@ hypotheses-are-met = (
 
 -- so the theorem gives its end
 pub ends-done : receiveAll plain start arrivals .transfer ≡ Done (armHead 3)
-ends-done = unfold Hypotheses-are-met List-ends in list-ends plain start file refl valid arrivals (hypotheses-are-met .1) .whole whole
+ends-done = unfold Hypotheses-are-met List-ends in list-ends plain start file refl valid arrivals (hypotheses-are-met .1) .counts .whole whole
   where
     whole : howMany file (seenOf file arrivals) ≡ 3
     whole = unfold lowFirst size among sameBytes in refl
