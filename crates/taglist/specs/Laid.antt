@@ -20,10 +20,10 @@ pub record Item : Type 0 where
   pub bytes : List ℕ
   pub fill : List ℕ
 
--- its size and its type fit their bytes: a type below 2^24, 0 to 251 bytes of contents
+-- what may be laid out. The size is a byte of the block, so that contents of more than 251 bytes stand in no block, and nothing is asked of their number
 pub record Proper (i : Item) : Type 0 where
+  -- the type fits its three bytes
   pub kind-fits : i .kind < 16777216
-  pub bytes-fit : length (i .bytes) ≤ 251
   -- "Every tag starts at 4 byte boundary"
   pub step : (length (i .bytes) + length (i .fill)) % 4 ≡ 0
   pub least : length (i .fill) < 4

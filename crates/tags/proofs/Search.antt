@@ -5,7 +5,7 @@ use mathlib.Core.List.{List}
 use Prim.Native.Nat.{ℕ, zero, suc, _+_, _-_, _*_, _/_, _%_, _<_, _≤_}
 use native.Mathlib.Omega.{arith}
 use lib.ListN.{getD}
-use Rattle.sets.proofs.Tests.{clash}
+use Rattle.sets.proofs.Tests.{clash, split}
 use Rattle.tags.specs.declared.Tag.{Tag}
 use Rattle.tags.specs.declared.Move.{Move}
 use Rattle.tags.specs.declared.Answer.{Answer}
@@ -113,3 +113,18 @@ module _ (b : List ℕ) (kind at : ℕ) (g : Going b kind at) where
         let t = moves b at (going-on kind (tagAt b at) (answered n)) in
         let next : m .next ≡ nextPlace at (tagAt b at) = ap (λ (x : Move). x .next) e in
         omega (arith, next, t .up, t .within, room-end b .high)
+
+-- what a search finds stands at a place
+pub find-at : (b : List ℕ) (kind : ℕ) → (at : ℕ) × (findOf b kind ≡ tagAt b at)
+unfolding findOf seek
+find-at b kind = from 119 (firstPlace b)
+  where
+    from : (n at : ℕ) → (k : ℕ) × (seek n b kind at ≡ tagAt b k)
+    from zero at = (at, refl)
+    from (suc n) at =
+        let next = nextPlace at (tagAt b at) in
+        split (stops kind (tagAt b at))
+        (λ y. (at, ap (λ (x : Bool). cond x (tagAt b at) (seek n b kind next)) y))
+        (λ f.
+        let r = from n next in
+        (r .0, ap (λ (x : Bool). cond x (tagAt b at) (seek n b kind next)) f ∙ r .1))

@@ -1,0 +1,109 @@
+-- The calls about tags by cases; a tag fits its 16 bytes, and is read back from them. Assumes nothing.
+use Prim.Native.Nat.{ℕ, _+_, _-_, _*_, _/_, _≤_, _<_, _^_}
+use mathlib.Core.Path.{_≡_, refl, sym, ap, _∙_, subst}
+use mathlib.Core.Logic.{_≢_, ⊎-elim}
+use mathlib.Core.List.{List, [], _∷_, _++_}
+use types.Run.{OneOf}
+use denote.Enum.Declared.{tagOf as caseOf}
+use native.Mathlib.Omega.{arith}
+use lib.ListN.{length, getD}
+use borrow.Author.Tests.{eq-eqb, ne-eqb}
+use Rattle.sets.specs.Bytes.{lowFirst}
+use Rattle.sets.specs.Over.{over}
+use Rattle.sets.proofs.OverLaws.{length-over, over-next, over-whole}
+use Rattle.block.specs.Block.{fieldAt}
+use Rattle.layout.specs.Bytes.{le32, putAt}
+use Rattle.layout.proofs.Fields.{put-over, field-le32}
+use Rattle.tags.specs.declared.Tag.{Tag}
+use Rattle.tags.specs.declared.Answer.{Answer}
+use Rattle.tags.specs.declared.Answer.the-variants.{Tag as a-tag, End, BadLength, BadPlace, NotBlock, BadPayload, ShortTag, TypedEnd, PastRoom, NoRoom}
+use Rattle.tags.specs.Tag.{tagOf, tagAt, findOf, answerNumber}
+use Rattle.tags.proofs.Answer.{the-type}
+use Rattle.tags.proofs.Laws.{tag-here, room-end}
+use Rattle.tags.proofs.Search.{find-at}
+use Rattle.tagsapi.specs.Calls.{TagCall, tagCall, tagBytes, tagCallOf, Low, tagAtCall, tagFindCall}
+
+-- ---- a tag is low
+
+pub tag-low : (b : List ℕ) (at : ℕ) → Low (tagAt b at)
+unfolding tagOf
+tag-low b at t e =
+    let h = tag-here b at t e in
+    let s : at + 4 ≡ t .start = ap (λ (x : Tag). x .start) (h .tag) in
+    let l : getD b at 0 - 4 ≡ t .len = ap (λ (x : Tag). x .len) (h .tag) in
+    let n : at + (getD b at 0 + 3) / 4 * 4 ≡ t .next = ap (λ (x : Tag). x .next) (h .tag) in
+    let r = room-end b .high in
+    (omega (arith, s, h .room), omega (arith, l, h .fits), omega (arith, n, h .fits))
+
+pub find-low : (b : List ℕ) (kind : ℕ) → Low (findOf b kind)
+find-low b kind t e = let f = find-at b kind in tag-low b (f .0) t (sym (f .1) ∙ e)
+
+-- ---- it is written
+
+-- one more field after those that stand
+put-next : (d s : List ℕ) (k x : ℕ) → length s ≡ k → k + 4 ≤ length d → putAt (over d 0 s) k x ≡ over d 0 (s ++ le32 x)
+unfolding lowFirst
+put-next d s k x e h =
+    let same = length-over d 0 s (omega arith) in
+    put-over (over d 0 s) k x (omega arith) ∙ over-next d 0 s k (le32 x) (omega arith) (omega arith)
+
+pub tag-put : (b : List ℕ) (kind start len next : ℕ) → length b ≡ 16 → putAt (putAt (putAt (putAt b 0 kind) 4 start) 8 len) 12 next ≡ tagBytes kind start len next
+unfolding lowFirst
+tag-put b kind start len next e =
+    rw (
+      put-over b 0 kind (omega arith),
+      put-next b (le32 kind) 4 start refl (omega arith),
+      put-next b (le32 kind ++ le32 start) 8 len refl (omega arith),
+      put-next b (le32 kind ++ le32 start ++ le32 len) 12 next refl (omega arith),
+    )
+    (over-whole b (tagBytes kind start len next) (sym e))
+
+-- ---- it is read back
+
+pub tag-back : (kind start len next : ℕ) → kind < 2 ^ 32 → start < 2 ^ 32 → len < 2 ^ 32 → next < 2 ^ 32
+    → let b = tagBytes kind start len next in (fieldAt b 0 ≡ kind) × (fieldAt b 4 ≡ start) × (fieldAt b 8 ≡ len) × (fieldAt b 12 ≡ next)
+unfolding lowFirst
+tag-back kind start len next p q r s = (
+  field-le32 [] kind (le32 start ++ le32 len ++ le32 next) p,
+  field-le32 (le32 kind) start (le32 len ++ le32 next) q,
+  field-le32 (le32 kind ++ le32 start) len (le32 next) r,
+  field-le32 (le32 kind ++ le32 start ++ le32 len) next [] s,
+)
+
+-- ---- a call, by cases
+
+-- the answer is any but a tag, by its case
+pub other-told : (l : List ℕ) (a : Answer) {n : ℕ} → OneOf (1 ∷ 2 ∷ 3 ∷ 4 ∷ 5 ∷ 6 ∷ 7 ∷ 8 ∷ 9 ∷ []) (caseOf the-type a) → n ≡ answerNumber a → tagCall n l ≡ tagCallOf l a
+other-told l (a-tag t) h e = let none : ⊥ = no-tag h in absurd none
+  where
+    no-tag : OneOf (1 ∷ 2 ∷ 3 ∷ 4 ∷ 5 ∷ 6 ∷ 7 ∷ 8 ∷ 9 ∷ []) 0 → ⊥
+    no-tag x = ⊎-elim (λ y. omega arith) (⊎-elim (λ y. omega arith) (⊎-elim (λ y. omega arith) (⊎-elim (λ y. omega arith) (⊎-elim (λ y. omega arith) (⊎-elim (λ y. omega arith) (⊎-elim (λ y. omega arith) (⊎-elim (λ y. omega arith) (λ y. omega arith)))))))) x
+other-told l End h e = ap (λ (n : ℕ). tagCall n l) e
+other-told l BadLength h e = ap (λ (n : ℕ). tagCall n l) e
+other-told l BadPlace h e = ap (λ (n : ℕ). tagCall n l) e
+other-told l NotBlock h e = ap (λ (n : ℕ). tagCall n l) e
+other-told l BadPayload h e = ap (λ (n : ℕ). tagCall n l) e
+other-told l ShortTag h e = ap (λ (n : ℕ). tagCall n l) e
+other-told l TypedEnd h e = ap (λ (n : ℕ). tagCall n l) e
+other-told l PastRoom h e = ap (λ (n : ℕ). tagCall n l) e
+other-told l NoRoom h e = ap (λ (n : ℕ). tagCall n l) e
+
+pub tag-told : (l b : List ℕ) (a : Answer) (t : Tag) {n : ℕ} → b ≡ tagBytes (t .kind) (t .start) (t .len) (t .next) → a ≡ a-tag t → n ≡ answerNumber a → tagCall n b ≡ tagCallOf l a
+tag-told l b a t q e h = rw (h, q, e)
+
+module _ (b : List ℕ) (n : ℕ) (l : List ℕ) where
+  pub tag-short : length l ≢ 16 → tagCall 1 l ≡ tagAtCall b n l
+  unfolding tagAtCall
+  tag-short h = simp (ne-eqb (length l) 16 h)
+
+  pub find-short : length l ≢ 16 → tagCall 1 l ≡ tagFindCall b n l
+  unfolding tagFindCall
+  find-short h = simp (ne-eqb (length l) 16 h)
+
+  pub tag-call : {a : Answer} {o : TagCall} → length l ≡ 16 → a ≡ tagAt b n → o ≡ tagCallOf l a → o ≡ tagAtCall b n l
+  unfolding tagAtCall
+  tag-call h e f = simp (eq-eqb (length l) 16 h) (f ∙ ap (tagCallOf l) e)
+
+  pub find-call : {a : Answer} {o : TagCall} → length l ≡ 16 → a ≡ findOf b n → o ≡ tagCallOf l a → o ≡ tagFindCall b n l
+  unfolding tagFindCall
+  find-call h e f = simp (eq-eqb (length l) 16 h) (f ∙ ap (tagCallOf l) e)
