@@ -13,44 +13,44 @@ const BAD_READER: u8 = 18;
 const BAD_IMAGE: u8 = 19;
 const NO_COLON: u8 = 20;
 const BAD_SHAPE: u8 = 21;
-const BAD_DIGIT: u8 = 22;
+pub(crate) const BAD_DIGIT: u8 = 22;
 const TOO_LONG: u8 = 23;
 const BAD_LENGTH: u8 = 24;
 const BAD_SUM: u8 = 25;
-const OUT_OF_PLACE: u8 = 26;
+pub(crate) const OUT_OF_PLACE: u8 = 26;
 const UNALIGNED: u8 = 27;
 const REPEATED: u8 = 28;
-const CROSSES: u8 = 29;
-const MISSING_BOARD: u8 = 30;
-const AFTER_END: u8 = 31;
+pub(crate) const CROSSES: u8 = 29;
+pub(crate) const MISSING_BOARD: u8 = 30;
+pub(crate) const AFTER_END: u8 = 31;
 const OUTSIDE: u8 = 32;
 const STORED: u8 = 33;
 const PASSED: u8 = 34;
 const ENDED: u8 = 35;
-const FILE_TOO_LONG: u8 = 36;
+pub(crate) const FILE_TOO_LONG: u8 = 36;
 
 const MAX_IMAGE_LEN: usize = 1_048_576;
-const MAX_FILE_LEN: u32 = 4_194_304;
+pub(crate) const MAX_FILE_LEN: u32 = 4_194_304;
 /// A section begins at a multiple of this offset.
-const SECTION_LEN: u32 = 512;
+pub(crate) const SECTION_LEN: u32 = 512;
 /// The characters of the shortest and of the longest line, without its ending.
-const MIN_CHARS: usize = 11;
+pub(crate) const MIN_CHARS: usize = 11;
 const MAX_CHARS: usize = 521;
 /// The data bytes of the longest record.
-const MAX_DATA: usize = 32;
+pub(crate) const MAX_DATA: usize = 32;
 /// A record's bytes before its data: length, address (two), type.
 const HEAD: usize = 4;
 /// All bytes of the longest record, its sum included.
 const MAX_RECORD: usize = HEAD + MAX_DATA + 1;
 /// What a record's address field and length may reach together.
-const SEGMENT_LEN: usize = 65_536;
+pub(crate) const SEGMENT_LEN: usize = 65_536;
 
-const DATA: u8 = 0x00;
-const END_OF_FILE: u8 = 0x01;
-const UPPER_ADDRESS: u8 = 0x04;
-const SECTION_START: u8 = 0x0A;
-const SECTION_END: u8 = 0x0B;
-const PADDING: u8 = 0x0C;
+pub(crate) const DATA: u8 = 0x00;
+pub(crate) const END_OF_FILE: u8 = 0x01;
+pub(crate) const UPPER_ADDRESS: u8 = 0x04;
+pub(crate) const SECTION_START: u8 = 0x0A;
+pub(crate) const SECTION_END: u8 = 0x0B;
+pub(crate) const PADDING: u8 = 0x0C;
 const CUSTOM_DATA: u8 = 0x0D;
 const OTHER_DATA: u8 = 0x0E;
 
@@ -118,21 +118,21 @@ pub struct Reader {
 }
 
 /// A record whose digits, length and sum are right.
-struct Record {
+pub(crate) struct Record {
     bytes: [u8; MAX_RECORD],
     len: usize,
 }
 
 impl Record {
-    fn address(&self) -> u16 {
+    pub(crate) fn address(&self) -> u16 {
         u16::from_be_bytes([self.bytes[1], self.bytes[2]])
     }
 
-    fn kind(&self) -> u8 {
+    pub(crate) fn kind(&self) -> u8 {
         self.bytes[3]
     }
 
-    fn data(&self) -> &[u8] {
+    pub(crate) fn data(&self) -> &[u8] {
         &self.bytes[HEAD..HEAD + self.len]
     }
 }
@@ -193,7 +193,7 @@ fn offset_after(offset: u32, line: &[u8]) -> Option<u32> {
 }
 
 /// Drops one LF and one CR before it; a CR alone is no ending.
-fn without_ending(line: &[u8]) -> &[u8] {
+pub(crate) fn without_ending(line: &[u8]) -> &[u8] {
     match line {
         [text @ .., b'\r', b'\n'] | [text @ .., b'\n'] => text,
         text => text,
@@ -201,7 +201,7 @@ fn without_ending(line: &[u8]) -> &[u8] {
 }
 
 /// The line's own checks, 20 to 25.
-fn read(text: &[u8]) -> Result<Record, u8> {
+pub(crate) fn read(text: &[u8]) -> Result<Record, u8> {
     let [b':', digits @ ..] = text else {
         return Err(NO_COLON);
     };
@@ -311,7 +311,7 @@ fn follow(reader: Reader, record: &Record, image: &mut [u8]) -> Result<(Reader, 
 }
 
 /// The type that data has in the board's section.
-fn data_kind(board: u16) -> u8 {
+pub(crate) fn data_kind(board: u16) -> u8 {
     if board == V1 {
         DATA
     } else {
