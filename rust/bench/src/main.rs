@@ -3,6 +3,7 @@
 //! arrival (`uf2_receive`) and the plain side at each or once.
 
 mod hex;
+mod tags;
 
 use std::hint::black_box;
 use std::time::Instant;
@@ -271,4 +272,5 @@ fn main() {
         }
     }
     hex::row();
+    tags::row();
 }
