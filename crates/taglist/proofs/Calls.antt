@@ -22,9 +22,9 @@ use Rattle.tags.specs.declared.Answer.the-variants.{Tag as a-tag, End, BadLengt
 use Rattle.tags.specs.Tag.{firstPlace, kindAt, tagOf, contentsOf, roomEnd, badPayload, badPlace, sized, tagAt, answerNumber, isTag, nextPlace, stops, seek, findOf}
 use Rattle.tags.specs.Reader.{started, stepped}
 use Rattle.tags.proofs.Laws.{TagHere, tag-here, room-end, at-other, not-false}
-use Rattle.tags.proofs.Search.{moves, going-on, the-tag}
+use Rattle.tags.proofs.Search.{stays, moves, going-on, the-tag}
 use Rattle.taglist.specs.Calls.{answerOf, after, Repeats, Lies, Tag-lies, Never-3, Ends-by, Four-is-row-4, Other, Stopping, FirstOf, Find-first}
-use Rattle.taglist.proofs.Places.{placeIn, reader, after-place, stays, place-stays, place-far, tag-room, place-fine}
+use Rattle.taglist.proofs.Places.{placeIn, reader, after-place, place-stays, place-far, tag-room, place-fine}
 
 -- the answer after n calls, by the place
 answer-in : (n : ℕ) (b : RefT (List ℕ)) (at : ℕ) → answerOf (after n (reader b at)) ≡ tagAt (now b) (placeIn n (now b) at)

@@ -7,13 +7,11 @@ use native.Mathlib.Omega.{arith}
 use denote.Ref.{RefT, now}
 use Rattle.sets.proofs.Tests.{split, clash}
 use Rattle.tags.specs.declared.Tags.{Tags}
-use Rattle.tags.specs.declared.Answer.{Answer}
-use Rattle.tags.specs.declared.Answer.the-variants.{Tag as a-tag, End, BadLength, BadPlace, NotBlock, BadPayload, ShortTag, TypedEnd, PastRoom, NoRoom}
 use borrow.Author.Tests.{le-ltb, eq-eqb}
 use Rattle.tags.specs.Tag.{badPayload, badPlace, tagAt, isTag, nextPlace}
 use Rattle.tags.specs.Reader.{stepped}
 use Rattle.tags.proofs.Laws.{room-end}
-use Rattle.tags.proofs.Search.{Moves, moves}
+use Rattle.tags.proofs.Search.{stays, moves}
 use Rattle.taglist.specs.Calls.{after}
 
 -- the place after n calls from a place
@@ -28,19 +26,6 @@ pub after-place : (n : ℕ) (b : RefT (List ℕ)) (at : ℕ) → after n (reader
 unfolding after placeIn
 after-place zero b at = refl
 after-place (suc n) b at = after-place n b (nextPlace at (tagAt (now b) at))
-
--- what is no tag leaves the place
-pub stays : (at : ℕ) (a : Answer) → isTag a ≡ false → nextPlace at a ≡ at
-stays at (a-tag t) e = clash true refl e
-stays at End e = refl
-stays at BadLength e = refl
-stays at BadPlace e = refl
-stays at NotBlock e = refl
-stays at BadPayload e = refl
-stays at ShortTag e = refl
-stays at TypedEnd e = refl
-stays at PastRoom e = refl
-stays at NoRoom e = refl
 
 pub place-stays : (n : ℕ) (b : List ℕ) (at : ℕ) → isTag (tagAt b at) ≡ false → placeIn n b at ≡ at
 unfolding placeIn

@@ -7,6 +7,7 @@ use Rattle.tags.specs.declared.Tag.{Tag}
 use Rattle.tags.specs.declared.Answer.{Answer}
 use Rattle.tags.specs.declared.Answer.the-variants.{Tag as a-tag, End}
 use Rattle.tags.specs.Tag.{firstPlace, tagAt, contentsOf, findOf}
+use Rattle.taglist.specs.Laid.{Item, AllProper, Holds}
 
 -- the magic numbers, flags 0x8000 and 0x2000, the payload's size; the payload; 000's three lines; the room's rest and the last magic number
 unfoldable pub acme : List ℕ
@@ -29,3 +30,18 @@ Acme-reads =
     × (findOf acme 0x9fc7bc ∷ findOf acme 0x659d9d ∷ findOf acme 0x650d9d ∷ [] ≡ a-tag version ∷ a-tag device ∷ End ∷ [])
     -- "0.1.2"
     × (contentsOf acme version ≡ 0x30 ∷ 0x2e ∷ 0x31 ∷ 0x2e ∷ 0x32 ∷ [])
+
+-- the two as tags to be laid out, "0.1.2" filled up by three bytes
+unfoldable pub items : List Item
+items =
+    record { kind = 0x9fc7bc; bytes = 0x30 ∷ 0x2e ∷ 0x31 ∷ 0x2e ∷ 0x32 ∷ []; fill = 0 ∷ 0 ∷ 0 ∷ [] }
+    ∷ record {
+      kind = 0x659d9d;
+      bytes = 0x41 ∷ 0x43 ∷ 0x4d ∷ 0x45 ∷ 0x20 ∷ 0x54 ∷ 0x6f ∷ 0x61 ∷ 0x73 ∷ 0x74 ∷ 0x65 ∷ 0x72 ∷ 0x20 ∷ 0x6d ∷ 0x6b ∷ 0x33 ∷ [];
+      fill = [];
+    }
+    ∷ []
+
+-- so that `Tags-read-back` is not empty: the example meets what it asks
+unfoldable pub Acme-holds : Type 0
+Acme-holds = AllProper items × Holds acme items

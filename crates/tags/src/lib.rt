@@ -217,18 +217,10 @@ pub fn tag_at(block: &[u8], at: usize) -> Answer
 fn place_after(at: usize, answer: Answer) -> usize
     ensures { λ r. ⌜ r ≡ nextPlace at answer ⌝ }
 {
-    match answer {
-        Answer::Tag(tag) => tag.next,
-        Answer::End => at,
-        Answer::BadLength => at,
-        Answer::BadPlace => at,
-        Answer::NotBlock => at,
-        Answer::BadPayload => at,
-        Answer::ShortTag => at,
-        Answer::TypedEnd => at,
-        Answer::PastRoom => at,
-        Answer::NoRoom => at,
-    }
+    let Answer::Tag(tag) = answer else {
+        return at;
+    };
+    tag.next
 }
 
 // What a call answers at a place, and the place after it.
@@ -277,18 +269,10 @@ pub fn first(block: &[u8]) -> Answer
 fn stops_at(kind: u32, answer: Answer) -> bool
     ensures { λ r. ⌜ r ≡ stops kind answer ⌝ }
 {
-    match answer {
-        Answer::Tag(tag) => tag.kind == kind,
-        Answer::End => true,
-        Answer::BadLength => true,
-        Answer::BadPlace => true,
-        Answer::NotBlock => true,
-        Answer::BadPayload => true,
-        Answer::ShortTag => true,
-        Answer::TypedEnd => true,
-        Answer::PastRoom => true,
-        Answer::NoRoom => true,
-    }
+    let Answer::Tag(tag) = answer else {
+        return true;
+    };
+    tag.kind == kind
 }
 
 // The first tag of a type, or the end or the refusal before any.

@@ -1,10 +1,9 @@
 -- The calls about tags by cases; a tag fits its 16 bytes, and is read back from them. Assumes nothing.
 use Prim.Native.Nat.{ℕ, _+_, _-_, _*_, _/_, _≤_, _<_, _^_}
 use mathlib.Core.Path.{_≡_, refl, sym, ap, _∙_, subst}
-use mathlib.Core.Logic.{_≢_, ⊎-elim}
+use mathlib.Core.Logic.{_≢_}
+use mathlib.Core.Bool.{false}
 use mathlib.Core.List.{List, [], _∷_, _++_}
-use types.Run.{OneOf}
-use denote.Enum.Declared.{tagOf as caseOf}
 use native.Mathlib.Omega.{arith}
 use lib.ListN.{length, getD}
 use borrow.Author.Tests.{eq-eqb, ne-eqb}
@@ -16,11 +15,10 @@ use Rattle.layout.specs.Bytes.{le32, putAt}
 use Rattle.layout.proofs.Fields.{put-over, field-le32}
 use Rattle.tags.specs.declared.Tag.{Tag}
 use Rattle.tags.specs.declared.Answer.{Answer}
-use Rattle.tags.specs.declared.Answer.the-variants.{Tag as a-tag, End, BadLength, BadPlace, NotBlock, BadPayload, ShortTag, TypedEnd, PastRoom, NoRoom}
-use Rattle.tags.specs.Tag.{tagOf, tagAt, findOf, answerNumber}
-use Rattle.tags.proofs.Answer.{the-type}
+use Rattle.tags.specs.declared.Answer.the-variants.{Tag as a-tag}
+use Rattle.tags.specs.Tag.{tagOf, tagAt, findOf, answerNumber, isTag}
 use Rattle.tags.proofs.Laws.{tag-here, room-end}
-use Rattle.tags.proofs.Search.{find-at}
+use Rattle.tags.proofs.Search.{on-other, find-at}
 use Rattle.tagsapi.specs.Calls.{TagCall, tagCall, tagBytes, tagCallOf, Low, tagAtCall, tagFindCall}
 
 -- ---- a tag is low
@@ -72,21 +70,8 @@ tag-back kind start len next p q r s = (
 
 -- ---- a call, by cases
 
--- the answer is any but a tag, by its case
-pub other-told : (l : List ℕ) (a : Answer) {n : ℕ} → OneOf (1 ∷ 2 ∷ 3 ∷ 4 ∷ 5 ∷ 6 ∷ 7 ∷ 8 ∷ 9 ∷ []) (caseOf the-type a) → n ≡ answerNumber a → tagCall n l ≡ tagCallOf l a
-other-told l (a-tag t) h e = let none : ⊥ = no-tag h in absurd none
-  where
-    no-tag : OneOf (1 ∷ 2 ∷ 3 ∷ 4 ∷ 5 ∷ 6 ∷ 7 ∷ 8 ∷ 9 ∷ []) 0 → ⊥
-    no-tag x = ⊎-elim (λ y. omega arith) (⊎-elim (λ y. omega arith) (⊎-elim (λ y. omega arith) (⊎-elim (λ y. omega arith) (⊎-elim (λ y. omega arith) (⊎-elim (λ y. omega arith) (⊎-elim (λ y. omega arith) (⊎-elim (λ y. omega arith) (λ y. omega arith)))))))) x
-other-told l End h e = ap (λ (n : ℕ). tagCall n l) e
-other-told l BadLength h e = ap (λ (n : ℕ). tagCall n l) e
-other-told l BadPlace h e = ap (λ (n : ℕ). tagCall n l) e
-other-told l NotBlock h e = ap (λ (n : ℕ). tagCall n l) e
-other-told l BadPayload h e = ap (λ (n : ℕ). tagCall n l) e
-other-told l ShortTag h e = ap (λ (n : ℕ). tagCall n l) e
-other-told l TypedEnd h e = ap (λ (n : ℕ). tagCall n l) e
-other-told l PastRoom h e = ap (λ (n : ℕ). tagCall n l) e
-other-told l NoRoom h e = ap (λ (n : ℕ). tagCall n l) e
+pub other-told : (l : List ℕ) (a : Answer) {n : ℕ} → isTag a ≡ false → n ≡ answerNumber a → tagCall n l ≡ tagCallOf l a
+other-told l a h e = rw (e, on-other l (λ (t : Tag). tagBytes (t .kind) (t .start) (t .len) (t .next)) a h)
 
 pub tag-told : (l b : List ℕ) (a : Answer) (t : Tag) {n : ℕ} → b ≡ tagBytes (t .kind) (t .start) (t .len) (t .next) → a ≡ a-tag t → n ≡ answerNumber a → tagCall n b ≡ tagCallOf l a
 tag-told l b a t q e h = rw (h, q, e)

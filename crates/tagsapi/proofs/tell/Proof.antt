@@ -1,5 +1,6 @@
 -- `tagsapi::tell` meets its contract. Assumes nothing.
 use native.Mathlib.Omega.{arith}
+use Rattle.tags.proofs.Search.{not-tag}
 use Rattle.tagsapi.proofs.Laws.{other-told, tag-told}
 use borrow.Author.Needs.{needs}
 use Rattle.tagsapi.proofs.tell.Statement.{statement}
@@ -15,7 +16,7 @@ enum-known-answer : tie.Need-enum-known-answer
 enum-known-answer c = search needs
 
 returns : tie.Need-returns
-returns c = other-told _ (c .before .before .before .args .answer) (c .match .keys2) (c .before .number .ensures)
+returns c = other-told _ (c .before .before .before .args .answer) (not-tag (c .before .before .before .args .answer) (c .match .keys2)) (c .before .number .ensures)
 
 cast-write : tie.Need-cast-write
 cast-write c =
