@@ -8,11 +8,10 @@ use native.Mathlib.Omega.{arith}
 use lib.ListN.{length, getD}
 use borrow.Author.Tests.{eq-eqb, ne-eqb}
 use Rattle.sets.specs.Bytes.{lowFirst}
-use Rattle.sets.specs.Over.{over}
-use Rattle.sets.proofs.OverLaws.{length-over, over-next, over-whole}
+use Rattle.sets.proofs.OverLaws.{over-whole}
 use Rattle.block.specs.Block.{fieldAt}
-use Rattle.layout.specs.Bytes.{le32, putAt}
-use Rattle.layout.proofs.Fields.{put-over, field-le32}
+use Rattle.block.specs.Write.{le32, putAt}
+use Rattle.block.proofs.WriteLaws.{put-over, put-after, field-le32}
 use Rattle.tags.specs.declared.Tag.{Tag}
 use Rattle.tags.specs.declared.Answer.{Answer}
 use Rattle.tags.specs.declared.Answer.the-variants.{Tag as a-tag}
@@ -38,21 +37,14 @@ find-low b kind t e = let f = find-at b kind in tag-low b (f .0) t (sym (f .1) �
 
 -- ---- it is written
 
--- one more field after those that stand
-put-next : (d s : List ℕ) (k x : ℕ) → length s ≡ k → k + 4 ≤ length d → putAt (over d 0 s) k x ≡ over d 0 (s ++ le32 x)
-unfolding lowFirst
-put-next d s k x e h =
-    let same = length-over d 0 s (omega arith) in
-    put-over (over d 0 s) k x (omega arith) ∙ over-next d 0 s k (le32 x) (omega arith) (omega arith)
-
 pub tag-put : (b : List ℕ) (kind start len next : ℕ) → length b ≡ 16 → putAt (putAt (putAt (putAt b 0 kind) 4 start) 8 len) 12 next ≡ tagBytes kind start len next
 unfolding lowFirst
 tag-put b kind start len next e =
     rw (
       put-over b 0 kind (omega arith),
-      put-next b (le32 kind) 4 start refl (omega arith),
-      put-next b (le32 kind ++ le32 start) 8 len refl (omega arith),
-      put-next b (le32 kind ++ le32 start ++ le32 len) 12 next refl (omega arith),
+      put-after b (le32 kind) 4 start refl (omega arith),
+      put-after b (le32 kind ++ le32 start) 8 len refl (omega arith),
+      put-after b (le32 kind ++ le32 start ++ le32 len) 12 next refl (omega arith),
     )
     (over-whole b (tagBytes kind start len next) (sym e))
 

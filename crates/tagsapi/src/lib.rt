@@ -13,10 +13,10 @@ fn write(bytes: &mut [u8], kind: u32, start: u32, len: u32, next: u32)
     requires { ⌜ length (now bytes) ≡ 16 ⌝ }
     ensures { λ _. ⌜ now (bytes .exit) ≡ tagBytes kind start len next ⌝ }
 {
-    layout::put(bytes, 0, kind);
-    layout::put(bytes, 4, start);
-    layout::put(bytes, 8, len);
-    layout::put(bytes, 12, next);
+    block::put(bytes, 0, kind);
+    block::put(bytes, 4, start);
+    block::put(bytes, 8, len);
+    block::put(bytes, 12, next);
 }
 
 // Writes the tag that was found.
