@@ -10,6 +10,7 @@ use borrow.Author.Tests.{lt-ltb, le-ltb, le-leb, lt-leb, eq-eqb, ne-eqb, eqb-tru
 use Rattle.sets.proofs.Tests.{or-left, or-right, clash, split}
 use Rattle.sets.specs.Bytes.{numberIn}
 use Rattle.block.specs.Block.{fieldAt, hasFlag, isBlock}
+use Rattle.block.proofs.Laws.{field-in}
 use Rattle.tags.specs.declared.Tag.{Tag}
 use Rattle.tags.specs.declared.Answer.{Answer}
 use Rattle.tags.specs.declared.Answer.the-variants.{Tag as a-tag, End, BadLength, BadPlace, NotBlock, BadPayload, ShortTag, TypedEnd, PastRoom, NoRoom}
@@ -25,13 +26,27 @@ not-false false e = sym e
 
 -- ---- the parts of a call
 
--- by the weight of each byte, as the code has it
-pub kind-three : (b : List ℕ) (at : ℕ) → getD b (at + 1) 0 + 256 * getD b (at + 2) 0 + 65536 * getD b (at + 3) 0 ≡ kindAt b at
-unfolding kindAt numberIn
-kind-three b at =
+number-three : (b : List ℕ) (at : ℕ) → numberIn 3 b at ≡ getD b at 0 + 256 * getD b (at + 1) 0 + 65536 * getD b (at + 2) 0
+unfolding numberIn
+number-three b at =
     let two : at + 1 + 1 ≡ at + 2 = omega arith in
-    let three : at + 2 + 1 ≡ at + 3 = omega arith in
-    rw (two, three) (omega arith)
+    rw two (omega arith)
+
+-- by the weight of each byte
+kind-three : (b : List ℕ) (at : ℕ) → kindAt b at ≡ getD b (at + 1) 0 + 256 * getD b (at + 2) 0 + 65536 * getD b (at + 3) 0
+unfolding kindAt
+kind-three b at =
+    let two : getD b (at + 1 + 1) 0 ≡ getD b (at + 2) 0 = ap (λ (i : ℕ). getD b i 0) (omega arith) in
+    let three : getD b (at + 1 + 2) 0 ≡ getD b (at + 3) 0 = ap (λ (i : ℕ). getD b i 0) (omega arith) in
+    omega (arith, number-three b (at + 1), two, three)
+
+-- the four bytes of a tag's head as one field, as the code reads them
+module _ (b : List ℕ) (at : ℕ) (h : at + 4 ≤ length b) (low : getD b at 0 < 256) where
+  pub head-size : fieldAt b at % 256 ≡ getD b at 0
+  head-size = omega (arith, field-in b at h)
+
+  pub head-kind : fieldAt b at / 256 ≡ kindAt b at
+  head-kind = omega (arith, field-in b at h, kind-three b at)
 
 module _ (b : List ℕ) where
   pub room-md5 : fieldAt b 8 / 0x4000 % 2 ≡ 1 → 484 ≡ roomEnd b
@@ -78,8 +93,8 @@ module _ (size kind at end : ℕ) where
       unfolding sized
       sized-tag h = rw (ne-eqb size 0 p, le-leb 1 size (omega arith), lt-leb size 3 (omega arith), le-ltb end (at + size) h) refl
 
-pub sized-same : (size kind k at end : ℕ) → kind ≡ k → sized size kind at end ≡ sized size k at end
-sized-same size kind k at end e = ap (λ (n : ℕ). sized size n at end) e
+pub sized-same : {size s kind k : ℕ} (at end : ℕ) → size ≡ s → kind ≡ k → sized size kind at end ≡ sized s k at end
+sized-same at end e f = rw (e, f)
 
 -- ---- a call, by the check that decides
 

@@ -1,6 +1,6 @@
 // The extension tags of a UF2 block (02, L4): a reader that keeps hold of the block it reads and its place, giving tag after tag.
 ghost use mathlib.Core.Path.{_≡_};
-ghost use Prim.Native.Nat.{_+_, _*_, _≤_, min};
+ghost use Prim.Native.Nat.{_+_, _≤_, min};
 ghost use lib.ListN.{length, getD};
 ghost use Rattle.tags.specs.Tag.{
   badPayload,
@@ -24,7 +24,7 @@ use block::Block;
 pub struct Tag {
     pub kind: u32,
     pub start: usize,
-    pub len: usize,
+    pub len: u8,
     pub next: usize,
 }
 
@@ -133,21 +133,6 @@ fn room_end(block: &[u8]) -> usize
     Tag::ROOM
 }
 
-// The number of three bytes, the lowest first.
-fn joined(a: u8, b: u8, c: u8) -> u32
-    ensures { λ r. ⌜ r ≡ a + 256 * b + 65536 * c ⌝ }
-{
-    (a as u32) + 256 * (b as u32) + 65536 * (c as u32)
-}
-
-// A tag's type.
-fn kind_at(block: &[u8], at: usize) -> u32
-    requires { ⌜ at + 4 ≤ length (now block) ⌝ }
-    ensures { λ r. ⌜ r ≡ kindAt (now (block .entry)) at ⌝ }
-{
-    joined(block[at + 1], block[at + 2], block[at + 3])
-}
-
 // What a size and a type at a place say, in a room that ends at `end`.
 fn tag_sized(size: usize, kind: u32, at: usize, end: usize) -> Answer
     requires { ⌜ (size ≤ 255) × (at + 4 ≤ end) × (end ≤ 508) ⌝ }
@@ -166,7 +151,7 @@ fn tag_sized(size: usize, kind: u32, at: usize, end: usize) -> Answer
         return Answer::PastRoom;
     }
     let start = at + 4;
-    let len = size - 4;
+    let len = (size - 4) as u8;
     let next = at + (size + 3) / 4 * 4;
     Answer::Tag(Tag {
         kind,
@@ -181,8 +166,10 @@ fn tag_in(block: &[u8], at: usize, end: usize) -> Answer
     requires { ⌜ (length (now block) ≡ 512) × (at + 4 ≤ end) × (end ≤ 508) ⌝ }
     ensures { λ r. ⌜ r ≡ sized (getD (now (block .entry)) at 0) (kindAt (now (block .entry)) at) at end ⌝ }
 {
-    let size = block[at] as usize;
-    let kind = kind_at(block, at);
+    // the size byte, and above it the three bytes of the type
+    let head = block::field(block, at);
+    let size = (head % 256) as usize;
+    let kind = head / 256;
     tag_sized(size, kind, at, end)
 }
 
@@ -301,7 +288,7 @@ pub fn contents(block: &[u8], tag: Tag) -> &[u8]
     ensures { λ r. ⌜ now r ≡ contentsOf (now (block .entry)) tag ⌝ }
 {
     let from = least(tag.start, block.len());
-    let len = least(tag.len, block.len() - from);
+    let len = least(tag.len as usize, block.len() - from);
     let end = from + len;
     &block[from..end]
 }

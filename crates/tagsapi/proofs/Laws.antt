@@ -1,5 +1,5 @@
 -- The calls about tags by cases; a tag fits its 16 bytes, and is read back from them. Assumes nothing.
-use Prim.Native.Nat.{ℕ, _+_, _-_, _*_, _/_, _≤_, _<_, _^_}
+use Prim.Native.Nat.{ℕ, _+_, _*_, _/_, _≤_, _<_, _^_}
 use mathlib.Core.Path.{_≡_, refl, sym, ap, _∙_, subst}
 use mathlib.Core.Logic.{_≢_}
 use mathlib.Core.Bool.{false}
@@ -27,10 +27,9 @@ unfolding tagOf
 tag-low b at t e =
     let h = tag-here b at t e in
     let s : at + 4 ≡ t .start = ap (λ (x : Tag). x .start) (h .tag) in
-    let l : getD b at 0 - 4 ≡ t .len = ap (λ (x : Tag). x .len) (h .tag) in
     let n : at + (getD b at 0 + 3) / 4 * 4 ≡ t .next = ap (λ (x : Tag). x .next) (h .tag) in
     let r = room-end b .high in
-    (omega (arith, s, h .room), omega (arith, l, h .fits), omega (arith, n, h .fits))
+    (omega (arith, s, h .room), omega (arith, n, h .fits))
 
 pub find-low : (b : List ℕ) (kind : ℕ) → Low (findOf b kind)
 find-low b kind t e = let f = find-at b kind in tag-low b (f .0) t (sym (f .1) ∙ e)

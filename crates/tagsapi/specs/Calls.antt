@@ -28,9 +28,9 @@ tagBytes kind start len next = le32 kind ++ le32 start ++ le32 len ++ le32 next
 abbrev pub tagCallOf : List ℕ → Answer → TagCall
 tagCallOf l a = tagCall (answerNumber a) (onTag l (λ (t : Tag). tagBytes (t .kind) (t .start) (t .len) (t .next)) a)
 
--- places and length of a tag fit 32 bits, as those of every tag that is found do (proofs/Laws.antt)
+-- the places of a tag fit 32 bits, as those of every tag that is found do (proofs/Laws.antt)
 abbrev pub Low : Answer → Type 0
-Low a = (t : Tag) → a ≡ a-tag t → (t .start < 2 ^ 32) × (t .len < 2 ^ 32) × (t .next < 2 ^ 32)
+Low a = (t : Tag) → a ≡ a-tag t → (t .start < 2 ^ 32) × (t .next < 2 ^ 32)
 
 -- 1 too where `tag` has not 16 bytes
 unfoldable pub tagAtCall : List ℕ → ℕ → List ℕ → TagCall

@@ -7,6 +7,9 @@ use Rattle.tags.proofs.contents.Tie as tie
 least-requires : tie.Need-least-requires
 least-requires c κs = search needs
 
+cast-least : tie.Need-cast-least
+cast-least c = search needs
+
 sub-least : tie.Need-sub-least
 sub-least c = search needs
 
@@ -26,13 +29,14 @@ part-result-end : tie.Need-part-result-end
 part-result-end c = search needs
 
 returns : tie.Need-returns
-returns c = clamped _ _ _ _ (c .before .before .least .ensures) (c .before .least2 .ensures)
+returns c = clamped _ _ _ _ (c .before .before .before .least .ensures) (c .before .least2 .ensures)
 
 pub contents-spec : {M : Type 1} → statement M
 contents-spec =
     tie.close
     (tie.spec
     least-requires
+    cast-least
     sub-least
     least-requires-2
     add-end

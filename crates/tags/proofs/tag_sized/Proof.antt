@@ -24,6 +24,9 @@ returns-4 c = sized-past _ _ _ _ (omega arith) (omega arith) (omega arith)
 add-start : tie.Need-add-start
 add-start c = search needs
 
+cast-len : tie.Need-cast-len
+cast-len c = search needs
+
 add-next : tie.Need-add-next
 add-next c = search needs
 
@@ -47,6 +50,7 @@ tag-sized-spec =
     sub-if4
     returns-4
     add-start
+    cast-len
     add-next
     mul-next
     add-next-2

@@ -24,14 +24,12 @@ cast-write c =
     omega (arith, low .0)
 
 cast-write-2 : tie.Need-cast-write-2
-cast-write-2 c =
-    let low = c .before .before .before .before .before .before .before .before .pre .1 _ (c .before .before .before .before .answer .given .1) in
-    omega (arith, low .1)
+cast-write-2 c = search needs
 
 cast-write-3 : tie.Need-cast-write-3
 cast-write-3 c =
     let low = c .before .before .before .before .before .before .before .before .before .pre .1 _ (c .before .before .before .before .before .answer .given .1) in
-    omega (arith, low .2)
+    omega (arith, low .1)
 
 write-requires : tie.Need-write-requires
 write-requires c κs = search needs
