@@ -8,7 +8,7 @@ use Rattle.bitmap.specs.Bitmap.{markedIn, withMark, unmarked}
 use Rattle.flash.specs.Flash.{flashLength, eraseAt, payloadOf, storeAt}
 use Rattle.settings.specs.Settings.{goodSettings}
 use Rattle.settings.specs.declared.Settings.{Settings}
-use Rattle.transfer.specs.Transfer.{goodState, stepOf}
+use Rattle.transfer.specs.Transfer.{numberOf, goodState, stepOf}
 use Rattle.transfer.specs.declared.State.{State}
 use Rattle.transfer.specs.declared.Accepted.{Accepted}
 use Rattle.transfer.specs.declared.Step.{Step}
@@ -25,17 +25,31 @@ pub record Held : Type 0 where
   pub flash : List ℕ
   pub sectors : List ℕ
 
+-- the buffers that a caller lends
+pub record Lent : Type 0 where
+  pub flash : List ℕ
+  pub seen : List ℕ
+  pub sectors : List ℕ
+
 -- what one arrival is handed and hands back: the transfer and the three lent buffers
 pub record World : Type 0 where
   pub transfer : State
   pub seen : List ℕ
   pub held : Held
 
+-- the buffers of it
+abbrev pub lentOf : World → Lent
+lentOf w = record { flash = w .held .flash; seen = w .seen; sectors = w .held .sectors }
+
 -- what an arrival leaves, with "a number, the answer, and a yes/no "discarded""
 pub record Outcome : Type 0 where
   pub world : World
   pub answer : Answer
   pub discarded : Bool
+
+-- the number of its answer
+abbrev pub outcomeNumber : Outcome → ℕ
+outcomeNumber o = numberOf (o .answer)
 
 -- ---- what decides: settings, lengths, transfer, seen map and arrival; no flash byte and no sector map
 

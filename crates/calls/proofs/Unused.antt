@@ -63,4 +63,4 @@ pub unused-change-no-call : Unused-change-no-call
 unfolding Unused-change-no-call Unused-change-nothing askBytes receiveBytes receiveBatch
 unused-change-no-call b c h =
     let e = unused-change-nothing b c h in
-    record { ask = λ len f l. rw e; receive = λ t a f m k. rw e; receive-all = λ t a r f m k. rw e }
+    record { ask = λ len f l. rw e; receive = λ t a h. rw e; receive-all = λ t a r h. rw e }

@@ -3,6 +3,7 @@ ghost use mathlib.Core.Path.{_≡_};
 ghost use Prim.Native.Nat.{_≤_};
 ghost use lib.ListN.{length};
 ghost use Rattle.transfer.specs.Transfer.{fresh};
+ghost use Rattle.receiver.specs.Receiver.{lentAt, leftAt};
 ghost use Rattle.layout.specs.Layout.{withTransfer};
 ghost use Rattle.capi.specs.Calls.{
   Low,
@@ -78,7 +79,7 @@ fn keep(transfer: &mut [u8], accepted: bool, next: Transfer)
 }
 
 fn report(answer: u8, discarded: bool) -> u8
-    requires { ⌜ answer ≤ 15 ⌝ }
+    requires { ⌜ answer ≤ 31 ⌝ }
     ensures { λ r. ⌜ r ≡ resultOf answer discarded ⌝ }
 {
     if discarded { answer + 128 } else { answer }
@@ -94,7 +95,7 @@ pub extern "C" fn uf2_receive(
     seen: &mut [u8],
     sectors: &mut [u8],
 ) -> u32
-    ensures { λ r. ⌜ arrivalCall r (now (transfer .exit)) (now (flash .exit)) (now (seen .exit)) (now (sectors .exit)) ≡ receiveBytes (now (settings .entry)) (now (transfer .entry)) (now (arrival .entry)) (now (flash .entry)) (now (seen .entry)) (now (sectors .entry)) ⌝ }
+    ensures { λ r. ⌜ arrivalCall r (now (transfer .exit)) (leftAt flash seen sectors) ≡ receiveBytes (now (settings .entry)) (now (transfer .entry)) (now (arrival .entry)) (lentAt flash seen sectors) ⌝ }
 {
     let s = layout::read_settings(settings);
     let t = layout::read_transfer(transfer);
@@ -124,7 +125,7 @@ pub extern "C" fn uf2_receive_all(
     seen: &mut [u8],
     sectors: &mut [u8],
 ) -> usize
-    ensures { λ r. ⌜ batchCall r (now (transfer .exit)) (now (results .exit)) (now (flash .exit)) (now (seen .exit)) (now (sectors .exit)) ≡ receiveBatch (now (settings .entry)) (now (transfer .entry)) (now (arrivals .entry)) (now (results .entry)) (now (flash .entry)) (now (seen .entry)) (now (sectors .entry)) ⌝ }
+    ensures { λ r. ⌜ batchCall r (now (transfer .exit)) (now (results .exit)) (leftAt flash seen sectors) ≡ receiveBatch (now (settings .entry)) (now (transfer .entry)) (now (arrivals .entry)) (now (results .entry)) (lentAt flash seen sectors) ⌝ }
 {
     let s = layout::read_settings(settings);
     let mut t = layout::read_transfer(transfer);

@@ -20,8 +20,8 @@ use Rattle.transfer.specs.declared.Answer.the-variants.{BadBuffers, BadSettings
 use Rattle.screen.specs.Screen.{screenOf}
 use Rattle.screen.specs.declared.Page.{Page}
 use Rattle.screen.specs.declared.Screening.the-variants.{Refused, Passed}
-use Rattle.arrival.specs.Arrive.{Outcome, rightLengths, stepped, afterScreening, decide, clearedIf, wipedIf, preparedAt, pagedAt, acceptOf, accepts, done, receiveOf}
-use Rattle.receiver.specs.Receiver.{held, world, refusal, outcome}
+use Rattle.arrival.specs.Arrive.{Lent, Outcome, rightLengths, stepped, afterScreening, decide, clearedIf, wipedIf, preparedAt, pagedAt, acceptOf, accepts, done, receiveOf}
+use Rattle.receiver.specs.Receiver.{held, lent, world, refusal, outcome}
 use Rattle.receiver.specs.declared.Receipt.{Receipt}
 
 -- ---- a sector before a page is stored in it
@@ -41,49 +41,52 @@ pub stored : (at : ℕ) (clears : Bool) (a f k : List ℕ) {k1 f1 f2 k2 : List �
 unfolding pagedAt wipedIf
 stored at clears a f k cleared erased put marked = rw (marked, put, erased, cleared)
 
-pub took : (p : Page) (t : Accepted) (a f m k : List ℕ) {g n1 n2 j : List ℕ} → held g j ≡ pagedAt (p .at) (payloadOf a) (wipedIf (t .clears) (held f k)) → n1 ≡ clearedIf (t .clears) m → n2 ≡ withMark n1 (p .number) → outcome (record { transfer = t .transfer; answer = t .answer; discarded = t .discarded }) g n2 j ≡ done (world (t .transfer) f m k) (payloadOf a) (accepts p t)
+pub took : (p : Page) (t : Accepted) (a : List ℕ) (h : Lent) {g n1 n2 j : List ℕ} → held g j ≡ pagedAt (p .at) (payloadOf a) (wipedIf (t .clears) (held (h .flash) (h .sectors))) → n1 ≡ clearedIf (t .clears) (h .seen) → n2 ≡ withMark n1 (p .number) → outcome (record { transfer = t .transfer; answer = t .answer; discarded = t .discarded }) (lent g n2 j) ≡ done (world (t .transfer) h) (payloadOf a) (accepts p t)
 unfolding done acceptOf
-took p t a f m k paged cleared marked = cc
+took p t a h paged cleared marked = cc
 
 -- ---- rows 12 to 15
 
-module _ (t : Transfer) (p : Page) (a f m k : List ℕ) {known : Bool} {s : Step} (e : known ≡ markedIn m (p .number)) (h : s ≡ stepOf (t .state) (p .head) known) where
-  step-is : stepOf (t .state) (p .head) (markedIn m (p .number)) ≡ s
-  step-is = rw (sym e) (sym h)
+module _ (t : Transfer) (p : Page) (a : List ℕ) (h : Lent) {known : Bool} {s : Step} (e : known ≡ markedIn (h .seen) (p .number)) (q : s ≡ stepOf (t .state) (p .head) known) where
+  step-is : stepOf (t .state) (p .head) (markedIn (h .seen) (p .number)) ≡ s
+  step-is = rw (sym e) (sym q)
 
-  pub look-stays : {r : Receipt} {x : Unchanged} → s ≡ Stays x → r ≡ refusal (x .transfer) (x .answer) → outcome r f m k ≡ done (world t f m k) (payloadOf a) (stepped p (stepOf (t .state) (p .head) (markedIn m (p .number))))
+  pub look-stays : {r : Receipt} {x : Unchanged} → s ≡ Stays x → r ≡ refusal (x .transfer) (x .answer) → outcome r h ≡ done (world t h) (payloadOf a) (stepped p (stepOf (t .state) (p .head) (markedIn (h .seen) (p .number))))
   unfolding done
-  look-stays q y =
-      let z = step-is ∙ q in
-      rw z (ap (λ (r : Receipt). outcome r f m k) y ∙ rw (stays-same (t .state) (p .head) (markedIn m (p .number)) z))
+  look-stays w y =
+      let z = step-is ∙ w in
+      rw z (ap (λ (r : Receipt). outcome r h) y ∙ rw (stays-same (t .state) (p .head) (markedIn (h .seen) (p .number)) z))
 
   -- what is accepted does not look at the transfer that was
-  pub look-takes : {o : Outcome} {y : Accepted} (u : Transfer) → s ≡ Accepts y → o ≡ done (world u f m k) (payloadOf a) (accepts p y) → o ≡ done (world t f m k) (payloadOf a) (stepped p (stepOf (t .state) (p .head) (markedIn m (p .number))))
+  pub look-accepts : {o : Outcome} {y : Accepted} (u : Transfer) → s ≡ Accepts y → o ≡ done (world u h) (payloadOf a) (accepts p y) → o ≡ done (world t h) (payloadOf a) (stepped p (stepOf (t .state) (p .head) (markedIn (h .seen) (p .number))))
   unfolding done acceptOf
-  look-takes u q y = let z = step-is ∙ q in rw z y
+  look-accepts u w y = let z = step-is ∙ w in rw z y
 
 -- ---- rows 1 to 15
 
-module _ (s : Settings) (t : Transfer) (a f m k : List ℕ) where
-  pub receive-lengths : {r : Receipt} → rightLengths (length a) (length f) (length m) (length k) ≡ false → r ≡ refusal t BadBuffers → outcome r f m k ≡ receiveOf s (world t f m k) a
+module _ (s : Settings) (t : Transfer) (a : List ℕ) (h : Lent) where
+  abbrev lengths : Bool
+  lengths = rightLengths (length a) (length (h .flash)) (length (h .seen)) (length (h .sectors))
+
+  pub receive-lengths : {r : Receipt} → lengths ≡ false → r ≡ refusal t BadBuffers → outcome r h ≡ receiveOf s (world t h) a
   unfolding receiveOf decide done
-  receive-lengths l y = rw l (ap (λ (r : Receipt). outcome r f m k) y)
+  receive-lengths l y = rw l (ap (λ (r : Receipt). outcome r h) y)
 
-  module _ (l : rightLengths (length a) (length f) (length m) (length k) ≡ true) where
-    pub receive-settings : {r : Receipt} → goodSettings s (length f) ≡ false → r ≡ refusal t BadSettings → outcome r f m k ≡ receiveOf s (world t f m k) a
+  module _ (l : lengths ≡ true) where
+    pub receive-settings : {r : Receipt} → goodSettings s (length (h .flash)) ≡ false → r ≡ refusal t BadSettings → outcome r h ≡ receiveOf s (world t h) a
     unfolding receiveOf decide done
-    receive-settings g y = rw (l, g) (ap (λ (r : Receipt). outcome r f m k) y)
+    receive-settings g y = rw (l, g) (ap (λ (r : Receipt). outcome r h) y)
 
-    module _ (g : goodSettings s (length f) ≡ true) where
-      pub receive-state : {r : Receipt} → goodState (t .state) ≡ false → r ≡ refusal t BadState → outcome r f m k ≡ receiveOf s (world t f m k) a
+    module _ (g : goodSettings s (length (h .flash)) ≡ true) where
+      pub receive-state : {r : Receipt} → goodState (t .state) ≡ false → r ≡ refusal t BadState → outcome r h ≡ receiveOf s (world t h) a
       unfolding receiveOf decide done
-      receive-state n y = rw (l, g, n) (ap (λ (r : Receipt). outcome r f m k) y)
+      receive-state n y = rw (l, g, n) (ap (λ (r : Receipt). outcome r h) y)
 
       module _ (n : goodState (t .state) ≡ true) where
-        pub receive-refused : {r : Receipt} {x : Answer} → screenOf s (length f) a ≡ Refused x → r ≡ refusal t x → outcome r f m k ≡ receiveOf s (world t f m k) a
+        pub receive-refused : {r : Receipt} {x : Answer} → screenOf s (length (h .flash)) a ≡ Refused x → r ≡ refusal t x → outcome r h ≡ receiveOf s (world t h) a
         unfolding receiveOf decide afterScreening done
-        receive-refused q y = rw (l, g, n, q) (ap (λ (r : Receipt). outcome r f m k) y)
+        receive-refused q y = rw (l, g, n, q) (ap (λ (r : Receipt). outcome r h) y)
 
-        pub receive-passed : {o : Outcome} {p : Page} → screenOf s (length f) a ≡ Passed p → o ≡ done (world t f m k) (payloadOf a) (stepped p (stepOf (t .state) (p .head) (markedIn m (p .number)))) → o ≡ receiveOf s (world t f m k) a
+        pub receive-passed : {o : Outcome} {p : Page} → screenOf s (length (h .flash)) a ≡ Passed p → o ≡ done (world t h) (payloadOf a) (stepped p (stepOf (t .state) (p .head) (markedIn (h .seen) (p .number)))) → o ≡ receiveOf s (world t h) a
         unfolding receiveOf decide afterScreening
         receive-passed q y = rw (l, g, n, q) y

@@ -1,24 +1,46 @@
--- What `receive` is lent and hands back, as the meaning has it. Assumes nothing.
+-- What a call is lent and hands back, as the meaning has it. Assumes nothing.
 use Prim.Native.Nat.{ℕ}
 use mathlib.Core.Bool.{false}
 use mathlib.Core.List.{List}
+use denote.Ref.{RefT, now}
+use denote.Triple.Both.{Both}
 use Rattle.transfer.specs.declared.Answer.{Answer}
 use Rattle.transfer.specs.declared.Transfer.{Transfer}
-use Rattle.arrival.specs.Arrive.{Held, World, Outcome}
+use Rattle.arrival.specs.Arrive.{Held, Lent, World, Outcome}
 use Rattle.receiver.specs.declared.Receipt.{Receipt}
 
 -- flash and sector map
 abbrev pub held : List ℕ → List ℕ → Held
 held f k = record { flash = f; sectors = k }
 
--- transfer, flash, seen map and sector map
-abbrev pub world : Transfer → List ℕ → List ℕ → List ℕ → World
-world t f m k = record { transfer = t .state; seen = m; held = held f k }
+-- ---- the lent buffers as one value
+
+-- flash, seen map and sector map
+abbrev pub lent : List ℕ → List ℕ → List ℕ → Lent
+lent f m k = record { flash = f; seen = m; sectors = k }
+
+-- a lent slice of bytes, as a contract names it: at a call's entry and at its exit
+abbrev pub Slice : Type 0
+Slice = Both (RefT (List ℕ)) (RefT (List ℕ))
+
+-- the buffers as they are lent
+abbrev pub lentAt : Slice → Slice → Slice → Lent
+lentAt f m k = lent (now (f .entry)) (now (m .entry)) (now (k .entry))
+
+-- the buffers as they are left
+abbrev pub leftAt : Slice → Slice → Slice → Lent
+leftAt f m k = lent (now (f .exit)) (now (m .exit)) (now (k .exit))
+
+-- ---- what goes in and comes out
+
+-- a transfer and the lent buffers
+abbrev pub world : Transfer → Lent → World
+world t h = record { transfer = t .state; seen = h .seen; held = held (h .flash) (h .sectors) }
 
 -- "Answers 1 to 13 change nothing, "discarded" is no."
 abbrev pub refusal : Transfer → Answer → Receipt
 refusal t a = record { transfer = t; answer = a; discarded = false }
 
--- what is returned, with the buffers as they are left: flash, seen map, sector map
-abbrev pub outcome : Receipt → List ℕ → List ℕ → List ℕ → Outcome
-outcome r f m k = record { world = world (r .transfer) f m k; answer = r .answer; discarded = r .discarded }
+-- what is returned, with the buffers as they are left
+abbrev pub outcome : Receipt → Lent → Outcome
+outcome r h = record { world = world (r .transfer) h; answer = r .answer; discarded = r .discarded }

@@ -1,9 +1,11 @@
 // One arrival: the checks in their order, the step of the transfer, and what is written to the lent buffers.
 ghost use mathlib.Core.Path.{_≡_};
+ghost use Rattle.sets.specs.Numbered.{numbered};
 ghost use Rattle.bitmap.specs.Bitmap.{markedIn};
 ghost use Rattle.flash.specs.Flash.{payloadOf};
 ghost use Rattle.transfer.specs.Transfer.{stepOf};
 ghost use Rattle.arrival.specs.Arrive.{
+  outcomeNumber,
   rightLengths,
   stepped,
   clearedIf,
@@ -14,7 +16,7 @@ ghost use Rattle.arrival.specs.Arrive.{
   done,
   receiveOf,
 };
-ghost use Rattle.receiver.specs.Receiver.{held, world, refusal, outcome};
+ghost use Rattle.receiver.specs.Receiver.{held, lentAt, leftAt, world, refusal, outcome};
 use block::Block;
 use flash::Flash;
 use screen::Page;
@@ -95,7 +97,7 @@ fn accept(
     seen: &mut [u8],
     sectors: &mut [u8],
 ) -> Receipt
-    ensures { λ r. ⌜ outcome r (now (flash .exit)) (now (seen .exit)) (now (sectors .exit)) ≡ done (world (accepted .transfer) (now (flash .entry)) (now (seen .entry)) (now (sectors .entry))) (payloadOf (now (arrival .entry))) (accepts page accepted) ⌝ }
+    ensures { λ r. ⌜ outcome r (leftAt flash seen sectors) ≡ done (world (accepted .transfer) (lentAt flash seen sectors)) (payloadOf (now (arrival .entry))) (accepts page accepted) ⌝ }
 {
     let next = accepted.transfer;
     let given = accepted.answer;
@@ -119,7 +121,7 @@ fn look(
     seen: &mut [u8],
     sectors: &mut [u8],
 ) -> Receipt
-    ensures { λ r. ⌜ outcome r (now (flash .exit)) (now (seen .exit)) (now (sectors .exit)) ≡ done (world transfer (now (flash .entry)) (now (seen .entry)) (now (sectors .entry))) (payloadOf (now (arrival .entry))) (stepped page (stepOf (transfer .state) (page .head) (markedIn (now (seen .entry)) (page .number)))) ⌝ }
+    ensures { λ r. ⌜ outcome r (leftAt flash seen sectors) ≡ done (world transfer (lentAt flash seen sectors)) (payloadOf (now (arrival .entry))) (stepped page (stepOf (transfer .state) (page .head) (markedIn (now (seen .entry)) (page .number)))) ⌝ }
 {
     let head = page.head;
     let number = page.number as usize;
@@ -144,7 +146,7 @@ pub fn receive(
     seen: &mut [u8],
     sectors: &mut [u8],
 ) -> Receipt
-    ensures { λ r. ⌜ outcome r (now (flash .exit)) (now (seen .exit)) (now (sectors .exit)) ≡ receiveOf settings (world transfer (now (flash .entry)) (now (seen .entry)) (now (sectors .entry))) (now (arrival .entry)) ⌝ }
+    ensures { λ r. ⌜ numbered outcomeNumber (outcome r (leftAt flash seen sectors)) ≡ numbered outcomeNumber (receiveOf settings (world transfer (lentAt flash seen sectors)) (now (arrival .entry))) ⌝ }
 {
     let len = flash.len();
     if !lengths_right(arrival.len(), len, seen.len(), sectors.len()) {

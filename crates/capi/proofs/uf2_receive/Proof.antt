@@ -1,4 +1,5 @@
 -- `capi::uf2_receive` meets its contract. Assumes nothing.
+use Rattle.sets.proofs.Numbered.{answer-is}
 use Rattle.capi.proofs.Laws.{number-most, receive-ran}
 use borrow.Author.Needs.{needs}
 use Rattle.capi.proofs.uf2_receive.Statement.{statement}
@@ -46,7 +47,7 @@ returns c =
     let number = kept .before .before .before in
     let got = number .before .before .before .before .before .before .before .before in
     let read = got .before .before .before .before in
-    receive-ran _ _ _ _ _ _ (read .before .before .read-settings .ensures) (read .read-transfer .ensures) (got .receive .ensures) (number .number .ensures) (kept .before .is-acceptance .ensures) (kept .keep .ensures) (c .report .ensures)
+    receive-ran _ _ _ _ (read .before .before .read-settings .ensures) (read .read-transfer .ensures) (answer-is (got .receive .ensures)) (number .number .ensures) (kept .before .is-acceptance .ensures) (kept .keep .ensures) (c .report .ensures)
 
 pub uf2-receive-spec : {M : Type 1} → statement M
 uf2-receive-spec =

@@ -3,7 +3,8 @@ use Prim.Native.Nat.{_≤_, _-_, _*_}
 use mathlib.Core.Path.{_≡_, refl, _∙_}
 use mathlib.Core.Bool.{false}
 use lib.ListN.{length, drop, length-set}
-use Rattle.receiver.specs.Receiver.{world}
+use Rattle.receiver.specs.Receiver.{lent, world}
+use Rattle.sets.proofs.Numbered.{answer-is}
 use Rattle.capi.specs.Calls.{arrivalsOf, batchFrom}
 use Rattle.capi.proofs.Laws.{number-most}
 use Rattle.capi.proofs.Batch.{all-start, all-more, all-ran}
@@ -18,7 +19,7 @@ Inv-loop settings transfer arrivals results₀ flash₀ seen₀ sectors₀ s t�
     × (length flash ≡ length flash₀)
     × (length seen ≡ length seen₀)
     × (length sectors ≡ length sectors₀)
-    × (batchFrom n s transfer (world t flash seen sectors) accepted results i (arrivalsOf (n - i) (drop (i * 512) arrivals)) ≡ batchFrom n s transfer (world t₀ flash₀ seen₀ sectors₀) false results₀ 0 (arrivalsOf n arrivals))
+    × (batchFrom n s transfer (world t (lent flash seen sectors)) accepted results i (arrivalsOf (n - i) (drop (i * 512) arrivals)) ≡ batchFrom n s transfer (world t₀ (lent flash₀ seen₀ sectors₀)) false results₀ 0 (arrivalsOf n arrivals))
 
 abbrev μ-loop : tie.MeasureT-loop
 μ-loop settings transfer arrivals results₀ flash₀ seen₀ sectors₀ s t₀ accepted₀ n i₀ results flash seen sectors t accepted i =
@@ -77,7 +78,7 @@ loop-again c =
     let got = c .before .before .before .before .before .before .before .before .before .before in
     let round = got .before .before .before .before .before in
     let at = round .before .loop in
-    (search needs, simp length-set (at .inv .1), search needs, search needs, search needs, all-more _ _ _ _ _ _ _ _ _ _ _ (round .loop-test .taken) (got .receive .ensures) (c .before .before .number .ensures) (c .before .report .ensures) (c .is-acceptance .ensures) ∙ at .inv .5)
+    (search needs, simp length-set (at .inv .1), search needs, search needs, search needs, all-more _ _ _ _ _ _ _ _ _ (round .loop-test .taken) (answer-is (got .receive .ensures)) (c .before .before .number .ensures) (c .before .report .ensures) (c .is-acceptance .ensures) ∙ at .inv .5)
 
 keep-requires : tie.Need-keep-requires Inv-loop μ-loop
 keep-requires c κs = search needs
@@ -103,7 +104,7 @@ returns c =
     let out = kept .before .before in
     let made = out .before .before in
     let read = made .before in
-    all-ran _ _ _ _ _ _ _ (out .before .loop .t) (out .before .loop .accepted) (made .at-most .ensures .0) (read .before .before .read-settings .ensures) (read .read-transfer .ensures) (out .loop-test .left) (out .before .loop .inv .5) (kept .keep .ensures)
+    all-ran _ _ _ _ _ (out .before .loop .t) (out .before .loop .accepted) (made .at-most .ensures .0) (read .before .before .read-settings .ensures) (read .read-transfer .ensures) (out .loop-test .left) (out .before .loop .inv .5) (kept .keep .ensures)
 
 pub uf2-receive-all-spec : {M : Type 1} → statement M
 uf2-receive-all-spec =

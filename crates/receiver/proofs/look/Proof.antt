@@ -1,5 +1,6 @@
 -- `receiver::look` meets its contract. Assumes nothing.
-use Rattle.receiver.proofs.Laws.{look-stays, look-takes}
+use Rattle.sets.proofs.Numbered.{answer-is}
+use Rattle.receiver.proofs.Laws.{look-stays, look-accepts}
 use borrow.Author.Needs.{needs}
 use Rattle.receiver.proofs.look.Statement.{statement}
 use Rattle.receiver.proofs.look.Tie as tie
@@ -31,7 +32,7 @@ same-length c = search needs
 returns : tie.Need-returns
 returns c =
     let d = c .before .before .before .before .before in
-    look-stays _ _ _ _ _ _ (d .before .marked .ensures) (d .step .ensures) (c .before .before .before .step2 .given .1) (c .refuse .ensures)
+    look-stays _ _ _ _ (d .before .marked .ensures) (answer-is (d .step .ensures)) (c .before .before .before .step2 .given .1) (c .refuse .ensures)
 
 same-length-2 : tie.Need-same-length-2
 same-length-2 c = search needs
@@ -47,7 +48,7 @@ returns-2 c =
     let b = c .before .before .before .before .before .before in
     let e = b .before .before .before .before .before in
     let d = e .before .before in
-    look-takes _ _ _ _ _ _ (d .before .marked .ensures) (d .step .ensures) _ (e .step3 .given .1) (b .accept .ensures)
+    look-accepts _ _ _ _ (d .before .marked .ensures) (answer-is (d .step .ensures)) _ (e .step3 .given .1) (b .accept .ensures)
 
 pub look-spec : {M : Type 1} → statement M
 look-spec =

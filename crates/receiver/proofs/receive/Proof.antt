@@ -1,6 +1,9 @@
 -- `receiver::receive` meets its contract. Assumes nothing.
-use mathlib.Core.Path.{sym, _∙_}
+use mathlib.Core.Path.{sym, ap, _∙_}
 use borrow.Author.Tests.{not-true, not-false}
+use Rattle.sets.specs.Numbered.{numbered}
+use Rattle.sets.proofs.Numbered.{answer-is}
+use Rattle.arrival.specs.Arrive.{outcomeNumber}
 use Rattle.receiver.proofs.Laws.{receive-lengths, receive-settings, receive-state, receive-refused, receive-passed}
 use borrow.Author.Needs.{needs}
 use Rattle.receiver.proofs.receive.Statement.{statement}
@@ -13,7 +16,7 @@ refuse-requires : tie.Need-refuse-requires
 refuse-requires c κs = search needs
 
 returns : tie.Need-returns
-returns c = receive-lengths _ _ _ _ _ _ (sym (c .before .before .lengths-right .ensures) ∙ not-true _ (c .before .if1 .taken)) (c .refuse .ensures)
+returns c = ap (numbered outcomeNumber) (receive-lengths _ _ _ _ (sym (c .before .before .lengths-right .ensures) ∙ not-true _ (c .before .if1 .taken)) (c .refuse .ensures))
 
 good-requires : tie.Need-good-requires
 good-requires c κs = search needs
@@ -25,7 +28,7 @@ returns-2 : tie.Need-returns-2
 returns-2 c =
     let d = c .before .before .before in
     let l = sym (d .before .lengths-right .ensures) ∙ not-false _ (d .if1 .left) in
-    receive-settings _ _ _ _ _ _ l (sym (c .before .before .good2 .ensures) ∙ not-true _ (c .before .if2 .taken)) (c .refuse2 .ensures)
+    ap (numbered outcomeNumber) (receive-settings _ _ _ _ l (sym (c .before .before .good2 .ensures) ∙ not-true _ (c .before .if2 .taken)) (c .refuse2 .ensures))
 
 sound-requires : tie.Need-sound-requires
 sound-requires c κs = search needs
@@ -39,7 +42,7 @@ returns-3 c =
     let d = e .before .before in
     let l = sym (d .before .lengths-right .ensures) ∙ not-false _ (d .if1 .left) in
     let g = sym (e .before .good2 .ensures) ∙ not-false _ (e .if2 .left) in
-    receive-state _ _ _ _ _ _ l g (sym (c .before .before .sound .ensures) ∙ not-true _ (c .before .if3 .taken)) (c .refuse3 .ensures)
+    ap (numbered outcomeNumber) (receive-state _ _ _ _ l g (sym (c .before .before .sound .ensures) ∙ not-true _ (c .before .if3 .taken)) (c .refuse3 .ensures))
 
 screen-requires : tie.Need-screen-requires
 screen-requires c κs = search needs
@@ -64,7 +67,7 @@ returns-4 c =
     let l = sym (d .before .lengths-right .ensures) ∙ not-false _ (d .if1 .left) in
     let g = sym (e .before .good2 .ensures) ∙ not-false _ (e .if2 .left) in
     let n = sym (i .before .sound .ensures) ∙ not-false _ (i .if3 .left) in
-    receive-refused _ _ _ _ _ _ l g n (sym (c .before .before .before .before .screen .ensures) ∙ c .before .before .screened .given .1) (c .refuse4 .ensures)
+    ap (numbered outcomeNumber) (receive-refused _ _ _ _ l g n (sym (answer-is (c .before .before .before .before .screen .ensures)) ∙ c .before .before .screened .given .1) (c .refuse4 .ensures))
 
 same-length : tie.Need-same-length
 same-length c = search needs
@@ -85,7 +88,7 @@ returns-5 c =
     let l = sym (d .before .lengths-right .ensures) ∙ not-false _ (d .if1 .left) in
     let g = sym (e .before .good2 .ensures) ∙ not-false _ (e .if2 .left) in
     let n = sym (i .before .sound .ensures) ∙ not-false _ (i .if3 .left) in
-    receive-passed _ _ _ _ _ _ l g n (sym (x .before .before .screen .ensures) ∙ x .screened2 .given .1) (b .look .ensures)
+    ap (numbered outcomeNumber) (receive-passed _ _ _ _ l g n (sym (answer-is (x .before .before .screen .ensures)) ∙ x .screened2 .given .1) (b .look .ensures))
 
 pub receive-spec : {M : Type 1} → statement M
 receive-spec =
