@@ -4,7 +4,7 @@ use mathlib.Core.List.{List}
 use denote.Ref.{RefT, now}
 use Rattle.tags.specs.declared.Tags.{Tags}
 use Rattle.tags.specs.declared.Step.{Step}
-use Rattle.tags.specs.Tag.{firstPlace, stepAt}
+use Rattle.tags.specs.Tag.{firstPlace, stepAt, answerNumber}
 
 -- a fresh reader of a block stands at the first place
 abbrev pub started : RefT (List ℕ) → Tags
@@ -17,3 +17,6 @@ stepped r =
       reader = record { block = r .block; at = stepAt (now (r .block)) (r .at) .next };
       answer = stepAt (now (r .block)) (r .at) .answer;
     }
+
+abbrev pub stepNumber : Step → ℕ
+stepNumber s = answerNumber (s .answer)

@@ -97,6 +97,9 @@ nextPlace at a = onTag at (λ (t : Tag). t .next) a
 abbrev pub stepAt : List ℕ → ℕ → Move
 stepAt b at = record { answer = tagAt b at; next = nextPlace at (tagAt b at) }
 
+abbrev pub moveNumber : Move → ℕ
+moveNumber m = answerNumber (m .answer)
+
 -- does a search for a type end at this answer? At a tag of it, and at all that is no tag
 abbrev pub stops : ℕ → Answer → Bool
 stops kind a = onTag true (λ (t : Tag). eqb (t .kind) kind) a

@@ -2,6 +2,7 @@
 ghost use mathlib.Core.Path.{_≡_};
 ghost use Prim.Native.Nat.{_+_, _≤_, min};
 ghost use lib.ListN.{length, getD};
+ghost use Rattle.sets.specs.Numbered.{numbered};
 ghost use Rattle.tags.specs.Tag.{
   badPayload,
   badPlace,
@@ -12,12 +13,13 @@ ghost use Rattle.tags.specs.Tag.{
   firstPlace,
   nextPlace,
   stepAt,
+  moveNumber,
   contentsOf,
   stops,
   findOf,
   answerNumber,
 };
-ghost use Rattle.tags.specs.Reader.{started, stepped};
+ghost use Rattle.tags.specs.Reader.{started, stepped, stepNumber};
 use block::Block;
 
 // A tag: its type, where its contents stand in the block and how many bytes they have, and the place after it.
@@ -175,7 +177,7 @@ fn tag_in(block: &[u8], at: usize, end: usize) -> Answer
 
 // What a call answers at a place of a block.
 pub fn tag_at(block: &[u8], at: usize) -> Answer
-    ensures { λ r. ⌜ r ≡ tagAt (now (block .entry)) at ⌝ }
+    ensures { λ r. ⌜ numbered answerNumber r ≡ numbered answerNumber (tagAt (now (block .entry)) at) ⌝ }
 {
     if block.len() != Block::ARRIVAL {
         return Answer::BadLength;
@@ -212,7 +214,7 @@ fn place_after(at: usize, answer: Answer) -> usize
 
 // What a call answers at a place, and the place after it.
 pub fn step_at(block: &[u8], at: usize) -> Move
-    ensures { λ r. ⌜ r ≡ stepAt (now (block .entry)) at ⌝ }
+    ensures { λ r. ⌜ numbered moveNumber r ≡ numbered moveNumber (stepAt (now (block .entry)) at) ⌝ }
 {
     let answer = tag_at(block, at);
     let next = place_after(at, answer);
@@ -230,7 +232,7 @@ impl<'a> Tags<'a> {
     }
 
     pub fn next(self) -> Step<'a>
-        ensures { λ s. ⌜ s ≡ stepped (self .entry) ⌝ }
+        ensures { λ s. ⌜ numbered stepNumber s ≡ numbered stepNumber (stepped (self .entry)) ⌝ }
     {
         let m = step_at(self.block, self.at);
         let answer = m.answer;
@@ -246,7 +248,7 @@ impl<'a> Tags<'a> {
 
 // What the first call of a fresh reader answers. Who calls this holds no reader.
 pub fn first(block: &[u8]) -> Answer
-    ensures { λ r. ⌜ r ≡ tagAt (now (block .entry)) (firstPlace (now (block .entry))) ⌝ }
+    ensures { λ r. ⌜ numbered answerNumber r ≡ numbered answerNumber (tagAt (now (block .entry)) (firstPlace (now (block .entry)))) ⌝ }
 {
     let s = Tags::new(block).next();
     s.answer
@@ -264,7 +266,7 @@ fn stops_at(kind: u32, answer: Answer) -> bool
 
 // The first tag of a type, or the end or the refusal before any.
 pub fn find(block: &[u8], kind: u32) -> Answer
-    ensures { λ r. ⌜ r ≡ findOf (now (block .entry)) kind ⌝ }
+    ensures { λ r. ⌜ numbered answerNumber r ≡ numbered answerNumber (findOf (now (block .entry)) kind) ⌝ }
 {
     let mut at = first_place(block);
     loop {

@@ -1,5 +1,8 @@
 -- `tags::find` meets its contract. Assumes nothing.
-use mathlib.Core.Path.{sym, _∙_}
+use mathlib.Core.Path.{sym, ap, _∙_}
+use Rattle.sets.specs.Numbered.{numbered}
+use Rattle.sets.proofs.Numbered.{answer-is}
+use Rattle.tags.specs.Tag.{answerNumber}
 use Prim.Native.Nat.{_-_}
 use Rattle.tags.proofs.Search.{Going, go-first, step-stop, step-on, step-less}
 use borrow.Author.Needs.{needs}
@@ -25,13 +28,13 @@ stops-at-requires : tie.Need-stops-at-requires Inv-loop μ-loop
 stops-at-requires c κs = search needs
 
 returns : tie.Need-returns Inv-loop μ-loop
-returns c = step-stop _ _ _ (c .before .before .before .loop .inv) _ (c .before .before .step-at .ensures) (sym (c .before .stops-at .ensures) ∙ c .if1 .taken)
+returns c = ap (numbered answerNumber) (step-stop _ _ _ (c .before .before .before .loop .inv) _ (answer-is (c .before .before .step-at .ensures)) (sym (c .before .stops-at .ensures) ∙ c .if1 .taken))
 
 loop-less : tie.Need-loop-less Inv-loop μ-loop
-loop-less c = step-less _ _ _ (c .before .before .before .loop .inv) _ (c .before .before .step-at .ensures) (sym (c .before .stops-at .ensures) ∙ c .if1 .left)
+loop-less c = step-less _ _ _ (c .before .before .before .loop .inv) _ (answer-is (c .before .before .step-at .ensures)) (sym (c .before .stops-at .ensures) ∙ c .if1 .left)
 
 loop-again : tie.Need-loop-again Inv-loop μ-loop
-loop-again c = step-on _ _ _ (c .before .before .before .loop .inv) _ (c .before .before .step-at .ensures) (sym (c .before .stops-at .ensures) ∙ c .if1 .left)
+loop-again c = step-on _ _ _ (c .before .before .before .loop .inv) _ (answer-is (c .before .before .step-at .ensures)) (sym (c .before .stops-at .ensures) ∙ c .if1 .left)
 
 pub find-spec : {M : Type 1} → statement M
 find-spec =

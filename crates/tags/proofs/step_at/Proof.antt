@@ -1,4 +1,5 @@
 -- `tags::step_at` meets its contract. Assumes nothing.
+use Rattle.sets.proofs.Numbered.{answer-is}
 use borrow.Author.Needs.{needs}
 use Rattle.tags.proofs.step_at.Statement.{statement}
 use Rattle.tags.proofs.step_at.Tie as tie
@@ -10,7 +11,7 @@ place-after-requires : tie.Need-place-after-requires
 place-after-requires c κs = search needs
 
 returns : tie.Need-returns
-returns c = simp (c .place-after .ensures, c .before .tag-at .ensures)
+returns c = simp (c .place-after .ensures, answer-is (c .before .tag-at .ensures))
 
 pub step-at-spec : {M : Type 1} → statement M
 step-at-spec = tie.close (tie.spec tag-at-requires place-after-requires returns)
