@@ -1,29 +1,27 @@
 -- The claims of specs/Calls.antt. Assumes nothing.
 use mathlib.Core.Path.{_≡_, refl, sym, ap, _∙_}
-use mathlib.Core.Bool.{Bool, true, false, cond, not, _&&_, _||_}
-use mathlib.Core.Logic.{_⊎_, inl, inr}
+use mathlib.Core.Bool.{Bool, true, false, cond, not, _&&_}
+use mathlib.Core.Logic.{inl, inr}
 use mathlib.Core.List.{List}
 use Prim.Native.Nat.{ℕ, zero, suc, _+_, _-_, _*_, _/_, _%_, _<_, _≤_}
 use native.Mathlib.Omega.{arith}
-use lib.ListN.{length, getD, take, drop, length-drop}
+use lib.ListN.{length, getD, drop, length-drop}
 use lib.Seq.{length-take-le, getD-take, getD-drop}
 use lib.Dec.{ltb, leb, eqb}
 use denote.Ref.{RefT, now}
-use borrow.Author.Tests.{le-ltb, eq-eqb, ltb-false, eqb-true, eqb-false}
-use Rattle.sets.proofs.Tests.{split, clash, or-left, or-right}
+use borrow.Author.Tests.{eqb-true, eqb-false}
+use Rattle.sets.proofs.Tests.{split, or-right}
 use Rattle.block.specs.Block.{fieldAt, hasFlag, flaggedOf, isBlock, headerOf}
-use Rattle.block.specs.declared.Header.{Header}
 use Rattle.block.specs.declared.Header.the-variants.{NotBlock as no-header}
 use Rattle.block.proofs.Laws.{header-is-block, flagged-other}
 use Rattle.tags.specs.declared.Tag.{Tag}
-use Rattle.tags.specs.declared.Tags.{Tags}
 use Rattle.tags.specs.declared.Answer.{Answer}
-use Rattle.tags.specs.declared.Answer.the-variants.{Tag as a-tag, End, BadLength, BadPlace, NotBlock, BadPayload, ShortTag, TypedEnd, PastRoom, NoRoom}
+use Rattle.tags.specs.declared.Answer.the-variants.{End, BadLength, BadPlace, NotBlock, BadPayload, ShortTag, TypedEnd, PastRoom, NoRoom}
 use Rattle.tags.specs.Tag.{firstPlace, kindAt, tagOf, contentsOf, roomEnd, badPayload, badPlace, sized, tagAt, answerNumber, isTag, nextPlace, stops, seek, findOf}
-use Rattle.tags.specs.Reader.{started, stepped}
-use Rattle.tags.proofs.Laws.{TagHere, tag-here, room-end, at-other, not-false}
+use Rattle.tags.specs.Reader.{started}
+use Rattle.tags.proofs.Laws.{tag-here, room-end, at-other, not-false}
 use Rattle.tags.proofs.Search.{stays, moves, going-on, the-tag}
-use Rattle.taglist.specs.Calls.{answerOf, after, Repeats, Lies, Tag-lies, Never-3, Ends-by, Four-is-row-4, Other, Stopping, FirstOf, Find-first}
+use Rattle.taglist.specs.Calls.{answerOf, after, Repeats, Tag-lies, Never-3, Ends-by, Four-is-row-4, Other, Stopping, Find-first}
 use Rattle.taglist.proofs.Places.{placeIn, reader, after-place, place-stays, place-far, tag-room, place-fine}
 
 -- the answer after n calls, by the place

@@ -1,8 +1,7 @@
 -- Tags laid out as specs/Laid.antt says are read back. Assumes nothing.
 use mathlib.Core.Path.{_≡_, refl, sym, ap, _∙_, subst}
-use mathlib.Core.Bool.{Bool, true, false}
 use mathlib.Core.List.{List, [], _∷_, _++_, append-assoc}
-use Prim.Native.Nat.{ℕ, zero, suc, _+_, _-_, _*_, _/_, _%_, _<_, _≤_}
+use Prim.Native.Nat.{ℕ, _+_, _-_, _/_, _%_, _<_, _≤_}
 use native.Mathlib.Omega.{arith}
 use lib.ListN.{length, getD, take, drop, length-append}
 use lib.Seq.{getD-append-seam, drop-append-seam, take-append-seam}
@@ -13,11 +12,10 @@ use Rattle.sets.proofs.BytesLaws.{number-back, length-low}
 use Rattle.sets.proofs.Tests.{split}
 use Rattle.block.specs.Block.{fieldAt, hasFlag}
 use Rattle.tags.specs.declared.Tag.{Tag}
-use Rattle.tags.specs.declared.Answer.{Answer}
 use Rattle.tags.specs.declared.Answer.the-variants.{Tag as a-tag, End}
 use Rattle.tags.specs.Tag.{firstPlace, kindAt, tagOf, contentsOf, roomEnd, sized, tagAt, nextPlace}
 use Rattle.tags.proofs.Laws.{Carries, at-tag, sized-end, sized-tag}
-use Rattle.taglist.specs.Laid.{Item, Proper, AllProper, itemBytes, laid, Holds, Tells, Reads, Tags-read-back}
+use Rattle.taglist.specs.Laid.{Item, Proper, AllProper, itemBytes, laid, Reads, Tags-read-back}
 use Rattle.taglist.proofs.Places.{reader, payload-fine, place-fine}
 
 -- ---- the parts of a tag that stands in a list

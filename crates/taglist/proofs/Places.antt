@@ -1,15 +1,14 @@
 -- The place of a reader after a number of calls. Assumes nothing.
 use mathlib.Core.Path.{_≡_, refl, sym, ap, _∙_}
-use mathlib.Core.Bool.{Bool, true, false}
+use mathlib.Core.Bool.{true, false}
 use mathlib.Core.List.{List}
-use Prim.Native.Nat.{ℕ, zero, suc, _+_, _*_, _%_, _<_, _≤_}
+use Prim.Native.Nat.{ℕ, zero, suc, _+_, _*_, _%_, _≤_}
 use native.Mathlib.Omega.{arith}
 use denote.Ref.{RefT, now}
 use Rattle.sets.proofs.Tests.{split, clash}
 use Rattle.tags.specs.declared.Tags.{Tags}
 use borrow.Author.Tests.{le-ltb, eq-eqb}
 use Rattle.tags.specs.Tag.{badPayload, badPlace, tagAt, isTag, nextPlace}
-use Rattle.tags.specs.Reader.{stepped}
 use Rattle.tags.proofs.Laws.{room-end}
 use Rattle.tags.proofs.Search.{stays, moves}
 use Rattle.taglist.specs.Calls.{after}

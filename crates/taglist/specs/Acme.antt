@@ -4,7 +4,6 @@ use mathlib.Core.Path.{_≡_}
 use mathlib.Core.List.{List, [], _∷_, _++_}
 use lib.ListN.{replicate}
 use Rattle.tags.specs.declared.Tag.{Tag}
-use Rattle.tags.specs.declared.Answer.{Answer}
 use Rattle.tags.specs.declared.Answer.the-variants.{Tag as a-tag, End}
 use Rattle.tags.specs.Tag.{firstPlace, tagAt, contentsOf, findOf}
 use Rattle.taglist.specs.Laid.{Item, AllProper, Holds}

@@ -14,9 +14,9 @@ use Rattle.tags.specs.declared.Tag.{Tag}
 use Rattle.tags.specs.declared.Move.{Move}
 use Rattle.tags.specs.declared.Answer.{Answer}
 use Rattle.tags.specs.declared.Answer.the-variants.{Tag as a-tag, End, BadLength, BadPlace, NotBlock, BadPayload, ShortTag, TypedEnd, PastRoom, NoRoom}
-use Rattle.tags.specs.Tag.{firstPlace, kindAt, tagOf, roomEnd, tagAt, isTag, onTag, nextPlace, stepAt, stops, seek, findOf}
+use Rattle.tags.specs.Tag.{firstPlace, tagOf, roomEnd, tagAt, isTag, onTag, nextPlace, stepAt, stops, seek, findOf}
 use Rattle.tags.proofs.Answer.{the-type}
-use Rattle.tags.proofs.Laws.{TagHere, tag-here, room-end}
+use Rattle.tags.proofs.Laws.{tag-here, room-end}
 
 -- ---- answers that are no tag
 

@@ -4,7 +4,6 @@ ghost use lib.ListN.{length};
 ghost use Rattle.tags.specs.Tag.{firstPlace};
 ghost use Rattle.tagsapi.specs.Calls.{Low, tagBytes, tagCall, tagCallOf, tagAtCall, tagFindCall};
 use tags::Answer;
-use tags::Tag;
 
 // The bytes of a tag: type, start, length and next place.
 const TAG: usize = 16;
