@@ -4,6 +4,7 @@
 mod hex;
 mod once;
 mod table;
+mod tags;
 
 use std::hint::black_box;
 use std::time::Instant;
@@ -360,4 +361,5 @@ fn main() {
         }
     }
     hex::rows();
+    tags::row();
 }
