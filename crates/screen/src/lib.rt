@@ -85,8 +85,9 @@ fn fits_place(b: Block, start: usize, size: usize) -> Screening
     if size < past - Placed::WINDOW {
         return Screening::Refused(Answer::BadAddress);
     }
+    let at = start + (address - Placed::WINDOW);
     let head = Head::new(b.family, b.total);
-    let body = Body::Page(start + (address - Placed::WINDOW));
+    let body = Body::Page(at);
     Screening::Passed(Placed {
         head,
         number: b.number,

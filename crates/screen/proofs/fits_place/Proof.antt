@@ -36,11 +36,11 @@ sub-if5 c = search needs
 returns-5 : tie.Need-returns-5
 returns-5 c = let d = c .before .before .before .before in sym (placed-address _ _ _ (omega arith) (sym (d .before .bad-numbers .ensures) ∙ d .if2 .left) (λ h. omega arith))
 
+add-at : tie.Need-add-at
+add-at c = search needs
+
 new-requires : tie.Need-new-requires
 new-requires c κs = search needs
-
-add-body : tie.Need-add-t16
-add-body c = search needs
 
 returns-6 : tie.Need-returns-6
 returns-6 c = let d = c .before .before .before .before .before in placed-passed _ _ _ (omega arith) (sym (d .before .bad-numbers .ensures) ∙ d .if2 .left) (omega arith) (c .new .ensures)
@@ -59,6 +59,6 @@ fits-place-spec =
     add-past
     sub-if5
     returns-5
+    add-at
     new-requires
-    add-body
     returns-6)
