@@ -21,7 +21,7 @@
 extern "C" {
 #endif
 
-#define UF2_STACK_SIZE 4096
+#define UF2_STACK_SIZE 8192
 
 /* ---- What is lent for arrivals. A flash is whole sectors, from one to UF2_FLASH_MAX_SIZE bytes. */
 #define UF2_ARRIVAL_SIZE 512
@@ -95,7 +95,8 @@ enum uf2_state { UF2_STATE_IDLE = 0, UF2_STATE_RUNNING = 1, UF2_STATE_DONE = 2 }
 #define UF2_PLACE_START_AT 0 /* 32 bits each, in bytes of the flash */
 #define UF2_PLACE_LENGTH_AT 4
 
-/* ---- Answers to an arrival. They are asked in this order, and the first that fits is given. 1 to 13 change nothing that is lent. */
+/* ---- Answers to an arrival. They are asked in this order, and the first that fits is given. 1 to 13 change nothing that is lent. No
+ * answer has the number 6. */
 enum uf2_answer {
     UF2_ANSWER_FOUND = 0,        /* of uf2_ask alone */
     UF2_ANSWER_BAD_BUFFERS = 1,  /* arrival, flash or a map has a wrong length */
@@ -103,23 +104,23 @@ enum uf2_answer {
     UF2_ANSWER_BAD_STATE = 3,    /* the transfer's numbers fit no transfer */
     UF2_ANSWER_NOT_BLOCK = 4,    /* a magic number differs */
     UF2_ANSWER_CONTAINER = 5,    /* flag 0x1000 */
-    UF2_ANSWER_COMMENT = 6,      /* flag 0x1: not for the main flash */
     UF2_ANSWER_NO_FAMILY = 7,    /* flag 0x2000 is clear */
     UF2_ANSWER_NO_PLACE = 8,     /* the settings have no place for the family */
-    UF2_ANSWER_BAD_PAYLOAD = 9,  /* the payload's size is not 256 */
+    UF2_ANSWER_BAD_PAYLOAD = 9,  /* the payload's size is not 256; not asked of a comment */
     UF2_ANSWER_BAD_NUMBERS = 10, /* total 0 or more than the place holds, or a number that is not below the total */
-    UF2_ANSWER_BAD_ADDRESS = 11, /* outside the window or the place, or no multiple of 256 */
+    UF2_ANSWER_BAD_ADDRESS = 11, /* outside the window or the place, or no multiple of 256; not asked of a comment */
     UF2_ANSWER_FINISHED = 12,    /* the transfer is done */
-    UF2_ANSWER_AGAIN = 13,       /* this block has come before */
+    UF2_ANSWER_AGAIN = 13,       /* a block of this number has come before */
     UF2_ANSWER_WRITTEN = 14,     /* stored, and others are missing */
-    UF2_ANSWER_COMPLETED = 15    /* stored, and the file is whole */
+    UF2_ANSWER_COMPLETED = 15,   /* stored or, a comment, noted, and the file is whole */
+    UF2_ANSWER_NOTED = 16        /* a comment (flag 0x1, not for the main flash): counted and not stored, and others are missing */
 };
 
 /* A result is an answer, with UF2_RESULT_DISCARDED added where the block discarded a running transfer of another file. */
 #define UF2_RESULT_DISCARDED 128u
 #define UF2_RESULT_ANSWER(result) ((result) & 127u)
 #define UF2_RESULT_IS_DISCARDED(result) (((result) & UF2_RESULT_DISCARDED) != 0)
-/* Whether the block of an answer was accepted: whether it is in flash and counted now. */
+/* Whether a block with this answer is accepted: taken, it is counted now, and in flash unless it is a comment; looked at, it would be. */
 #define UF2_ANSWER_IS_ACCEPTED(answer) ((answer) >= UF2_ANSWER_WRITTEN)
 
 /* Writes a fresh transfer, where there are UF2_TRANSFER_SIZE bytes; else changes nothing. */
@@ -129,18 +130,24 @@ void uf2_new(uint8_t *transfer, size_t transfer_len);
  * place_len is not UF2_PLACE_SIZE), UF2_ANSWER_BAD_SETTINGS or UF2_ANSWER_NO_PLACE, with `place` unchanged. */
 uint32_t uf2_ask(const uint8_t *settings, size_t settings_len, size_t flash_len, uint32_t family, uint8_t *place, size_t place_len);
 
-/* One arrival: its result. An accepted block writes the next transfer; every other answer leaves all that is lent. */
-uint32_t uf2_receive(const uint8_t *settings, size_t settings_len, uint8_t *transfer, size_t transfer_len, const uint8_t *arrival,
-                     size_t arrival_len, uint8_t *flash, size_t flash_len, uint8_t *seen, size_t seen_len, uint8_t *sectors,
-                     size_t sectors_len);
+/* A look at an arrival: the result that uf2_take would return on the same bytes. It changes nothing. */
+uint32_t uf2_look(const uint8_t *settings, size_t settings_len, const uint8_t *transfer, size_t transfer_len, const uint8_t *arrival,
+                  size_t arrival_len, const uint8_t *flash, size_t flash_len, const uint8_t *seen, size_t seen_len,
+                  const uint8_t *sectors, size_t sectors_len);
 
-/* Arrivals one after the other, each UF2_ARRIVAL_SIZE bytes: as many whole ones as there are bytes in `results`, which get the results
- * that uf2_receive would return; the number of them. The other bytes of `results` stay as they were lent, and so does the transfer
+/* An arrival taken: its result. An accepted block writes the next transfer; every other answer leaves all that is lent. A take makes every
+ * check itself: it needs no look before it, and one that looked at something else harms nothing. */
+uint32_t uf2_take(const uint8_t *settings, size_t settings_len, uint8_t *transfer, size_t transfer_len, const uint8_t *arrival,
+                  size_t arrival_len, uint8_t *flash, size_t flash_len, uint8_t *seen, size_t seen_len, uint8_t *sectors,
+                  size_t sectors_len);
+
+/* Arrivals taken one after the other, each UF2_ARRIVAL_SIZE bytes: as many whole ones as there are bytes in `results`, which get the
+ * results that uf2_take would return; the number of them. The other bytes of `results` stay as they were lent, and so does the transfer
  * where no block is accepted. Settings are read once. What follows the last whole arrival, or the last that has room for its result,
- * is not read: a short last piece is for uf2_receive, which answers it UF2_ANSWER_BAD_BUFFERS. */
-size_t uf2_receive_all(const uint8_t *settings, size_t settings_len, uint8_t *transfer, size_t transfer_len,
-                       const uint8_t *arrivals, size_t arrivals_len, uint8_t *results, size_t results_len, uint8_t *flash,
-                       size_t flash_len, uint8_t *seen, size_t seen_len, uint8_t *sectors, size_t sectors_len);
+ * is not read: a short last piece is for uf2_take, which answers it UF2_ANSWER_BAD_BUFFERS. */
+size_t uf2_take_all(const uint8_t *settings, size_t settings_len, uint8_t *transfer, size_t transfer_len, const uint8_t *arrivals,
+                    size_t arrivals_len, uint8_t *results, size_t results_len, uint8_t *flash, size_t flash_len, uint8_t *seen,
+                    size_t seen_len, uint8_t *sectors, size_t sectors_len);
 
 /* ---- Universal Hex, a line at a time, for one board. Numbers of 16 bits stand as two bytes, the lowest first. */
 static inline void uhex_put16(uint8_t *at, uint16_t x) {

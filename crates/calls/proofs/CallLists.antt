@@ -18,25 +18,26 @@ use Rattle.transfer.specs.Transfer.{numberOf, goodState, counted, accepted}
 use Rattle.transfer.specs.declared.Head.{Head}
 use Rattle.transfer.specs.declared.State.{State}
 use Rattle.transfer.specs.declared.State.the-variants.{Idle, Running, Done}
+use Rattle.transfer.specs.declared.Deed.{Deed}
 use Rattle.transfer.specs.declared.Accepted.{Accepted}
 use Rattle.transfer.specs.declared.Answer.{Answer}
 use Rattle.flash.specs.Flash.{payloadOf}
 use Rattle.arrival.specs.Arrive.{World, lentOf, Outcome, Decision, acceptOf, done, receiveOf}
 use Rattle.arrival.specs.Lists.{receiveAll, answersOf, discardsOf, Delivery, playAll}
-use Rattle.arrival.specs.Facts.{Refusals-change-nothing}
+use Rattle.arrival.specs.Facts.{Refusals-change-nothing, Look-tells}
 use Rattle.arrival.specs.Tally.{headOf, anyAccepted, Count-is-marks}
 use Rattle.arrival.specs.Demand.{seenOf, Ends, List-ends, Completed-exactly, Same-set-same-end, Either-first}
-use Rattle.arrival.proofs.DecisionFacts.{AcceptFacts, DecisionFacts, kept, took, took-number, decided}
-use Rattle.arrival.proofs.Facts.{refusals-change-nothing}
+use Rattle.arrival.proofs.DecisionFacts.{AcceptFacts, DecisionFacts, kept, took, took-number, decision-facts}
+use Rattle.arrival.proofs.Facts.{refusals-change-nothing, look-tells}
 use Rattle.arrival.proofs.Tally.{count-is-marks}
 use Rattle.arrival.proofs.Demand.{list-ends, completed-exactly, same-set-same-end, either-first}
 use Rattle.layout.specs.Layout.{stateFrom, settingsFrom, transferBytes, stateBytes, withTransfer}
 use Rattle.layout.proofs.Refused.{state-length}
 use Rattle.layout.proofs.Transfers.{Small, written-back}
 use Rattle.capi.specs.Calls as capi
-use Rattle.capi.specs.Calls.{receiveBytes, isAcceptance, arrivalsOf, resultsOf, anyAcceptance, storedFrom, batchFrom, fewer, receiveBatch}
+use Rattle.capi.specs.Calls.{lookResult, lookBytes, takeBytes, isAcceptance, arrivalsOf, resultsOf, anyAcceptance, storedFrom, batchFrom, fewer, takeBatch}
 use Rattle.capi.proofs.Laws.{number-most}
-use Rattle.calls.specs.CallLists.{CallerState, call, leftBy, callAll, returnsOf, worldOf, AllBytes, Calls-are-arrivals, Calls-end, Calls-completed, Calls-same-set, Calls-either-first, Calls-are-one-call}
+use Rattle.calls.specs.CallLists.{CallerState, call, leftBy, callAll, returnsOf, worldOf, AllBytes, Calls-are-arrivals, Calls-end, Calls-completed, Calls-same-set, Calls-either-first, Calls-are-one-call, Look-is-take, Call, looks, takes, playCalls, takenBy, Looks-change-nothing, Look-then-take}
 
 -- ---- a field of bytes
 
@@ -65,7 +66,7 @@ unfolding counted
 counted-small g c hf ht =
     split (ltb c (g .total)) (λ y. let l = ltb-true c (g .total) y in rw y (hf, ht, omega arith)) (λ z. rw z (hf, ht))
 
-took-small : {t : State} {g : Head} {m : Bool} {k : Accepted} (a : List ℕ) → Bytes a → g ≡ headOf a → AcceptFacts t g m k → Small (k .transfer .state)
+took-small : {t : State} {g : Head} {m : Bool} {d : Deed} {k : Accepted} (a : List ℕ) → Bytes a → g ≡ headOf a → AcceptFacts t g m d k → Small (k .transfer .state)
 unfolding accepted
 took-small {g = g} a h e q =
     subst (λ (k : Accepted). Small (k .transfer .state)) (sym (q .is))
@@ -92,12 +93,12 @@ next-state s w a p t e h (took g k B l q m) =
 -- so the call leaves what the arrival leaves
 next-world : (s : List ℕ) (h : CallerState) (a : List ℕ) → Bytes a
     → worldOf (leftBy (call s h a)) ≡ receiveOf (settingsFrom s) (worldOf h) a .world
-unfolding receiveBytes receiveOf
+unfolding takeBytes receiveOf
 next-world s h a b =
     let z = settingsFrom s in
     let w = worldOf h in
     ap (λ (x : State). record { transfer = x; seen = receiveOf z w a .world .seen; held = receiveOf z w a .world .held })
-    (next-state z w a (payloadOf a) (h .transfer) refl b (decided z w a))
+    (next-state z w a (payloadOf a) (h .transfer) refl b (decision-facts z w a))
 
 -- ---- a list of calls
 
@@ -112,7 +113,7 @@ abbrev resultsAt : Settings → World → List (List ℕ) → List ℕ
 resultsAt z w l = resultsOf (answersOf z w l) (discardsOf z w l)
 
 calls-results : (s : List ℕ) (h : CallerState) (l : List (List ℕ)) → AllBytes l → returnsOf s h l ≡ resultsAt (settingsFrom s) (worldOf h) l
-unfolding returnsOf answersOf discardsOf resultsOf receiveBytes
+unfolding returnsOf answersOf discardsOf resultsOf takeBytes
 calls-results s h [] b = refl
 calls-results s h (a ∷ l) b =
     ap (λ (r : List ℕ). call s h a .result ∷ r)
@@ -155,7 +156,7 @@ kept-twice t false y next last e = refl
 -- the calls leave the bytes of the last transfer where one of them took a block, and else what was lent
 calls-transfer : (s : List ℕ) (h : CallerState) (l : List (List ℕ)) → AllBytes l → let z = settingsFrom s in
     callAll s h l .transfer ≡ capi.keptTransfer (h .transfer) (anyAcceptance (answersOf z (worldOf h) l)) (receiveAll z (worldOf h) l .transfer)
-unfolding callAll receiveAll answersOf anyAcceptance receiveBytes
+unfolding callAll receiveAll answersOf anyAcceptance takeBytes
 calls-transfer s h [] b = refl
 calls-transfer s h (a ∷ l) b =
     let z = settingsFrom s in
@@ -247,7 +248,7 @@ result-number x true = omega (arith, number-most x)
 result-number x false = omega (arith, number-most x)
 
 pub calls-completed : Calls-completed
-unfolding Calls-completed Completed-exactly receiveBytes
+unfolding Calls-completed Completed-exactly takeBytes
 calls-completed s h F i v l t b a u =
     let z = settingsFrom s in
     let o = receiveOf z (worldOf (callAll s h l)) a in
@@ -287,7 +288,7 @@ arrivals-bytes (suc n) a b = (
 )
 
 pub calls-are-one-call : Calls-are-one-call
-unfolding Calls-are-one-call receiveBatch batchFrom
+unfolding Calls-are-one-call takeBatch batchFrom
 calls-are-one-call s h a r b =
     let n = fewer (length a / 512) (length r) in
     let l = arrivalsOf n a in
@@ -300,3 +301,31 @@ calls-are-one-call s h a r b =
       all = λ e. rw (le-leb (length a / 512) (length r) e);
       few = λ e. split (leb (length a / 512) (length r)) (λ y. rw y (omega (arith, leb-true (length a / 512) (length r) y))) (λ z. rw z);
     }
+
+-- ---- looks
+
+pub look-is-take : Look-is-take
+unfolding Look-is-take Look-tells lookBytes takeBytes
+look-is-take s h a = ap lookResult (look-tells (settingsFrom s) (worldOf h) a)
+
+pub looks-change-nothing : Looks-change-nothing
+unfolding Looks-change-nothing playCalls takenBy callAll
+looks-change-nothing s h [] = refl
+looks-change-nothing s h (looks a ∷ l) = looks-change-nothing s h l
+looks-change-nothing s h (takes a ∷ l) = looks-change-nothing s (leftBy (call s h a)) l
+
+only-looks : (s : List ℕ) (h : CallerState) (m : List (List ℕ)) → playCalls s h (map looks m) ≡ h
+unfolding playCalls
+only-looks s h [] = refl
+only-looks s h (a ∷ m) = only-looks s h m
+
+then-looks : (s : List ℕ) (h : CallerState) (l : List Call) (m : List (List ℕ)) → playCalls s h (l ++ map looks m) ≡ playCalls s h l
+unfolding playCalls
+then-looks s h [] m = only-looks s h m
+then-looks s h (looks a ∷ l) m = then-looks s h l m
+then-looks s h (takes a ∷ l) m = then-looks s (leftBy (call s h a)) l m
+
+pub look-then-take : Look-then-take
+unfolding Look-then-take Look-is-take
+look-then-take s h l a m =
+    ap (λ (k : CallerState). call s k a .result) (then-looks s h l (a ∷ m)) ∙ sym (look-is-take s (playCalls s h l) a)

@@ -1,8 +1,8 @@
--- Calls of `uf2_receive`, one after the other: the transfer travels between them as bytes. Proved in proofs/CallLists.antt. Assumes nothing.
+-- Calls of `uf2_take` and `uf2_look`, one after the other: the transfer travels between them as bytes. Proved in proofs/CallLists.antt. Assumes nothing.
 use Prim.Native.Nat.{ℕ, _/_, _%_, _≤_, _<_}
 use mathlib.Core.Path.{_≡_}
 use mathlib.Core.Bool.{not, _&&_}
-use mathlib.Core.List.{List, [], _∷_, _++_}
+use mathlib.Core.List.{List, [], _∷_, _++_, map}
 use lib.Dec.{eqb}
 use lib.ListN.{length}
 use Rattle.record.specs.Write.{Bytes}
@@ -14,7 +14,7 @@ use Rattle.arrival.specs.Lists.{receiveAll, answersOf, discardsOf}
 use Rattle.arrival.specs.Demand.{File, ValidFile, Sent, seenOf, howMany, isWhole, headIn, Ends}
 use Rattle.receiver.specs.Receiver.{world}
 use Rattle.layout.specs.Layout.{settingsFrom, transferFrom, stateBytes}
-use Rattle.capi.specs.Calls.{ArrivalCall, BatchCall, receiveBytes, arrivalsOf, resultsOf, storedFrom, receiveBatch}
+use Rattle.capi.specs.Calls.{ArrivalCall, BatchCall, lookBytes, takeBytes, arrivalsOf, resultsOf, storedFrom, takeBatch}
 
 -- ---- one call after the other
 
@@ -25,7 +25,7 @@ pub record CallerState : Type 0 where
 
 -- the call for an arrival, with bytes of settings
 abbrev pub call : List ℕ → CallerState → List ℕ → ArrivalCall
-call s h a = receiveBytes s (h .transfer) a (h .lent)
+call s h a = takeBytes s (h .transfer) a (h .lent)
 
 -- what a call leaves
 abbrev pub leftBy : ArrivalCall → CallerState
@@ -104,7 +104,7 @@ Calls-either-first =
     (m : List (List ℕ)) → Sent (settingsFrom s) (worldOf h) F m → AllBytes m
     → callAll s h (l ++ m) ≡ callAll s h (m ++ l))
 
--- ---- they are one call of `uf2_receive_all`
+-- ---- they are one call of `uf2_take_all`
 
 -- what such a call leaves
 abbrev pub leftByBatch : BatchCall → CallerState
@@ -121,4 +121,41 @@ pub record Same (s : List ℕ) (h : CallerState) (a r : List ℕ) (o : BatchCall
 unfoldable pub Calls-are-one-call : Type 0
 Calls-are-one-call =
     (s : List ℕ) (h : CallerState) (a r : List ℕ) → Bytes a
-    → Same s h a r (receiveBatch s (h .transfer) a r (h .lent))
+    → Same s h a r (takeBatch s (h .transfer) a r (h .lent))
+
+-- ---- looks (02, L7): "a look, which changes nothing and says what would happen"
+
+-- what a call of `uf2_look` says of an arrival
+abbrev pub lookAt : List ℕ → CallerState → List ℕ → ℕ
+lookAt s h a = lookBytes s (h .transfer) a (h .lent)
+
+-- "On the same inputs both give the old call's answer and "discarded""
+unfoldable pub Look-is-take : Type 0
+Look-is-take = (s : List ℕ) (h : CallerState) (a : List ℕ) → lookAt s h a ≡ call s h a .result
+
+-- one of several calls
+pub data Call : Type 0 where
+  looks : List ℕ → Call
+  takes : List ℕ → Call
+
+-- what calls leave, one after the other; a look is lent nothing that it could write
+unfoldable pub playCalls : List ℕ → CallerState → List Call → CallerState
+playCalls s h [] = h
+playCalls s h (looks a ∷ l) = playCalls s h l
+playCalls s h (takes a ∷ l) = playCalls s (leftBy (call s h a)) l
+
+-- the arrivals that they take
+unfoldable pub takenBy : List Call → List (List ℕ)
+takenBy [] = []
+takenBy (looks a ∷ l) = takenBy l
+takenBy (takes a ∷ l) = a ∷ takenBy l
+
+-- looks between takes change nothing: the takes alone leave the same
+unfoldable pub Looks-change-nothing : Type 0
+Looks-change-nothing = (s : List ℕ) (h : CallerState) (l : List Call) → playCalls s h l ≡ callAll s h (takenBy l)
+
+-- what a look said after the calls of l is what the take then says, with more looks between the two
+unfoldable pub Look-then-take : Type 0
+Look-then-take =
+    (s : List ℕ) (h : CallerState) (l : List Call) (a : List ℕ) (m : List (List ℕ))
+    → call s (playCalls s h (l ++ (looks a ∷ map looks m))) a .result ≡ lookAt s (playCalls s h l) a

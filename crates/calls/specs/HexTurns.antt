@@ -4,39 +4,39 @@ use mathlib.Core.Path.{_≡_}
 use mathlib.Core.List.{List, [], _∷_, map}
 use Rattle.record.specs.Write.{Bytes}
 use Rattle.grammar.specs.Answers.{numberOf}
-use Rattle.hexfile.specs.Lines.{Held, readAll, answersOf}
+use Rattle.hexfile.specs.Lines.{Session, readAll, lineAnswers}
 use Rattle.readers.specs.Readers.{readerFrom}
-use Rattle.capi.specs.HexCalls.{Lined, lineBytes}
+use Rattle.capi.specs.HexCalls.{LineReturn, lineCallOf}
 
 -- what the caller holds between two calls
-pub record Lent : Type 0 where
+pub record LentSession : Type 0 where
   pub reader : List ℕ
   pub image : List ℕ
 
 -- the call for a line
-abbrev pub call : Lent → List ℕ → Lined
-call h l = lineBytes (h .reader) l (h .image)
+abbrev pub callLine : LentSession → List ℕ → LineReturn
+callLine h l = lineCallOf (h .reader) l (h .image)
 
 -- what a call leaves
-abbrev pub leftBy : Lined → Lent
-leftBy r = record { reader = r .reader; image = r .image }
+abbrev pub leftByLine : LineReturn → LentSession
+leftByLine r = record { reader = r .reader; image = r .image }
 
 -- what a call for each line leaves, where each is handed what the last one left
-unfoldable pub callAll : Lent → List (List ℕ) → Lent
-callAll h [] = h
-callAll h (l ∷ ls) = callAll (leftBy (call h l)) ls
+unfoldable pub callLines : LentSession → List (List ℕ) → LentSession
+callLines h [] = h
+callLines h (l ∷ ls) = callLines (leftByLine (callLine h l)) ls
 
 -- what each of them returns
-unfoldable pub returnsOf : Lent → List (List ℕ) → List ℕ
-returnsOf h [] = []
-returnsOf h (l ∷ ls) = call h l .result ∷ returnsOf (leftBy (call h l)) ls
+unfoldable pub lineReturns : LentSession → List (List ℕ) → List ℕ
+lineReturns h [] = []
+lineReturns h (l ∷ ls) = callLine h l .result ∷ lineReturns (leftByLine (callLine h l)) ls
 
 -- the reader that the bytes are, and the image
-abbrev pub heldOf : Lent → Held
-heldOf h = record { reader = readerFrom (h .reader); image = h .image }
+abbrev pub sessionOf : LentSession → Session
+sessionOf h = record { reader = readerFrom (h .reader); image = h .image }
 
 -- from any bytes of a reader, whatever the lines and the image, the calls leave what `readAll` leaves, and return its answers
 unfoldable pub Calls-are-lines : Type 0
 Calls-are-lines =
-    (h : Lent) (ls : List (List ℕ)) → Bytes (h .reader)
-    → (heldOf (callAll h ls) ≡ readAll (heldOf h) ls) × (returnsOf h ls ≡ map numberOf (answersOf (heldOf h) ls))
+    (h : LentSession) (ls : List (List ℕ)) → Bytes (h .reader)
+    → (sessionOf (callLines h ls) ≡ readAll (sessionOf h) ls) × (lineReturns h ls ≡ map numberOf (lineAnswers (sessionOf h) ls))

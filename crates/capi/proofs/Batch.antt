@@ -14,7 +14,7 @@ use Rattle.arrival.specs.Lists.{receiveAll, answersOf, discardsOf}
 use Rattle.receiver.specs.declared.Receipt.{Receipt}
 use Rattle.receiver.specs.Receiver.{world, outcome}
 use Rattle.layout.specs.Layout.{settingsFrom, transferFrom}
-use Rattle.capi.specs.Calls.{resultOf, isAcceptance, keptTransfer, arrivalsOf, resultsOf, anyAcceptance, storedFrom, BatchCall, batchCall, batchFrom, fewer, receiveBatch}
+use Rattle.capi.specs.Calls.{resultOf, isAcceptance, keptTransfer, arrivalsOf, resultsOf, anyAcceptance, storedFrom, BatchCall, batchCall, batchFrom, fewer, takeBatch}
 
 -- ---- the arrivals that are left
 
@@ -63,8 +63,8 @@ module _ (n : ℕ) (s : Settings) (t : List ℕ) (accepted : Bool) (r : List ℕ
 -- ---- all of them
 
 module _ (sw t a r₀ : List ℕ) (h₀ : Lent) where
-  pub all-ran : {n i : ℕ} {s : Settings} {u₀ : Transfer} (u : Transfer) (accepted : Bool) {v r : List ℕ} {h : Lent} → n ≡ fewer (length a / 512) (length r₀) → s ≡ settingsFrom sw → u₀ ≡ transferFrom t → n ≤ i → batchFrom n s t (world u h) accepted r i (arrivalsOf (n - i) (drop (i * 512) a)) ≡ batchFrom n s t (world u₀ h₀) false r₀ 0 (arrivalsOf n a) → v ≡ keptTransfer t accepted (u .state) → batchCall n v r h ≡ receiveBatch sw t a r₀ h₀
-  unfolding receiveBatch
+  pub all-ran : {n i : ℕ} {s : Settings} {u₀ : Transfer} (u : Transfer) (accepted : Bool) {v r : List ℕ} {h : Lent} → n ≡ fewer (length a / 512) (length r₀) → s ≡ settingsFrom sw → u₀ ≡ transferFrom t → n ≤ i → batchFrom n s t (world u h) accepted r i (arrivalsOf (n - i) (drop (i * 512) a)) ≡ batchFrom n s t (world u₀ h₀) false r₀ 0 (arrivalsOf n a) → v ≡ keptTransfer t accepted (u .state) → batchCall n v r h ≡ takeBatch sw t a r₀ h₀
+  unfolding takeBatch
   all-ran {n} {i} {s} {u₀} u accepted {r = r} {h} hn hs hu l e hv =
       let start : Settings → Transfer → ℕ → BatchCall = λ z y n. batchFrom n z t (world y h₀) false r₀ 0 (arrivalsOf n a) in
       let ended =

@@ -8,29 +8,29 @@ use lib.ListN.{length}
 use Rattle.sets.proofs.Tests.{split, clash}
 use Rattle.grammar.specs.Answers.{numberOf}
 use Rattle.grammar.specs.declared.Failure.{Failure}
-use Rattle.grammar.specs.declared.Stand.{Stand}
-use Rattle.grammar.specs.declared.Stand.the-variants.{Between, Opened, Inside, Padded, Ended, Failed}
-use Rattle.unihex.specs.declared.Read.{Read}
+use Rattle.grammar.specs.declared.ReaderState.{ReaderState}
+use Rattle.grammar.specs.declared.ReaderState.the-variants.{Between, Opened, Inside, Padded, Ended, Failed}
+use Rattle.unihex.specs.declared.Reply.{Reply}
 use Rattle.unihex.specs.declared.Reader.{Reader}
 use Rattle.unihex.specs.Reader.{badReader}
-use Rattle.unihex.specs.Line.{Outcome, outcome, badImage, haltLine, lineOf}
-use Rattle.hexfile.proofs.Lined.{Lined, bad, past, again, failed, out, stored, passed, ended}
-use Rattle.hexfile.proofs.Lined as every
+use Rattle.unihex.specs.Line.{LineOutcome, lineOutcome, badImage, haltLine, lineOf}
+use Rattle.hexfile.proofs.LineCase.{LineCase, bad, past, again, failed, out, stored, passed, ended}
+use Rattle.hexfile.proofs.LineCase as every
 use Rattle.readers.specs.Readers.{readerFrom}
 use Rattle.readers.proofs.Written.{Small, written-back}
-use Rattle.capi.specs.HexCalls.{lined, hasFailed, changes, keptReader, linedOf, lineBytes}
+use Rattle.capi.specs.HexCalls.{lineReturn, hasFailed, changes, keptReader, lineReturnOf, lineCallOf}
 
 module _ (t l img : List ℕ) where
-  pub line-lined : {r : Reader} {x : Read} {g v : List ℕ} {f b : Bool} {n : ℕ} → r ≡ readerFrom t → outcome (x .reader) (x .answer) g ≡ lineOf r l img → f ≡ hasFailed (r .stand) → b ≡ changes f (x .answer) → v ≡ keptReader t b (x .reader) → n ≡ numberOf (x .answer) → lined n v g ≡ lineBytes t l img
-  unfolding lineBytes
-  line-lined {r} hr ho hf hb hv hn =
-      rw (hn, hv, hb, hf) (ap (linedOf t r) ho ∙ ap (λ (q : Reader). linedOf t q (lineOf q l img)) hr)
+  pub line-case : {r : Reader} {x : Reply} {g v : List ℕ} {f b : Bool} {n : ℕ} → r ≡ readerFrom t → lineOutcome (x .reader) (x .answer) g ≡ lineOf r l img → f ≡ hasFailed (r .state) → b ≡ changes f (x .answer) → v ≡ keptReader t b (x .reader) → n ≡ numberOf (x .answer) → lineReturn n v g ≡ lineCallOf t l img
+  unfolding lineCallOf
+  line-case {r} hr ho hf hb hv hn =
+      rw (hn, hv, hb, hf) (ap (lineReturnOf t r) ho ∙ ap (λ (q : Reader). lineReturnOf t q (lineOf q l img)) hr)
 
 -- ---- the reader stays as it was where its bytes are left
 
 module _ (r : Reader) (l img : List ℕ) where
   -- by an answer to a reader that had not failed
-  same-by : {o : Outcome} → Lined r l img o → changes false (o .answer) ≡ false → o .reader ≡ r
+  same-by : {o : LineOutcome} → LineCase r l img o → changes false (o .answer) ≡ false → o .reader ≡ r
   same-by (bad a h w) e = refl
   same-by (past h) e = refl
   same-by (again f h k) e = refl
@@ -42,31 +42,31 @@ module _ (r : Reader) (l img : List ℕ) where
   same-by (ended rec p o b m) e = clash true refl e
 
   -- by any answer to a failed one
-  failed-same : (f : Failure) → r .stand ≡ Failed f → lineOf r l img .reader ≡ r
+  failed-same : (f : Failure) → r .state ≡ Failed f → lineOf r l img .reader ≡ r
   unfolding lineOf haltLine
   failed-same f q =
       split (badImage (length img)) (λ y. rw y) (λ z. split (badReader r) (λ y. rw (z, y)) (λ n. rw (z, n, q)))
 
-  same-at : (s : Stand) → r .stand ≡ s → changes (hasFailed s) (lineOf r l img .answer) ≡ false → lineOf r l img .reader ≡ r
-  same-at Between q e = same-by (every.lined r l img) e
-  same-at Opened q e = same-by (every.lined r l img) e
-  same-at (Inside b) q e = same-by (every.lined r l img) e
-  same-at (Padded b) q e = same-by (every.lined r l img) e
-  same-at Ended q e = same-by (every.lined r l img) e
+  same-at : (s : ReaderState) → r .state ≡ s → changes (hasFailed s) (lineOf r l img .answer) ≡ false → lineOf r l img .reader ≡ r
+  same-at Between q e = same-by (every.lineCase r l img) e
+  same-at Opened q e = same-by (every.lineCase r l img) e
+  same-at (Inside b) q e = same-by (every.lineCase r l img) e
+  same-at (Padded b) q e = same-by (every.lineCase r l img) e
+  same-at Ended q e = same-by (every.lineCase r l img) e
   same-at (Failed f) q e = failed-same f q
 
-  pub line-same : changes (hasFailed (r .stand)) (lineOf r l img .answer) ≡ false → lineOf r l img .reader ≡ r
-  line-same e = same-at (r .stand) refl e
+  pub line-same : changes (hasFailed (r .state)) (lineOf r l img .answer) ≡ false → lineOf r l img .reader ≡ r
+  line-same e = same-at (r .state) refl e
 
 -- ---- the reader that comes back
 
 -- the bytes are read as the next reader, written or left: lines handed one after the other are read as by one reader
 pub line-next : (t l img : List ℕ) → length t ≡ 16 → Small (lineOf (readerFrom t) l img .reader)
-    → readerFrom (lineBytes t l img .reader) ≡ lineOf (readerFrom t) l img .reader
-unfolding lineBytes
+    → readerFrom (lineCallOf t l img .reader) ≡ lineOf (readerFrom t) l img .reader
+unfolding lineCallOf
 line-next t l img e s =
     let r = readerFrom t in
     let o = lineOf r l img in
-    split (changes (hasFailed (r .stand)) (o .answer))
+    split (changes (hasFailed (r .state)) (o .answer))
     (λ y. rw y (written-back t (o .reader) e s))
     (λ n. rw n (sym (line-same r l img n)))

@@ -12,18 +12,19 @@ use borrow.Author.Tests.{eq-eqb, ne-eqb}
 use Rattle.settings.specs.declared.Settings.{Settings}
 use Rattle.transfer.specs.declared.Transfer.{Transfer}
 use Rattle.transfer.specs.declared.Answer.{Answer}
-use Rattle.transfer.specs.declared.Answer.the-variants.{BadBuffers, BadSettings, BadState, NotBlock, Container, Comment, NoFamily, NoPlace, BadPayload, BadNumbers, BadAddress, Finished, Again, Written, Completed}
+use Rattle.transfer.specs.declared.Answer.the-variants.{BadBuffers, BadSettings, BadState, NotBlock, Container, NoFamily, NoPlace, BadPayload, BadNumbers, BadAddress, Finished, Again, Written, Completed, Noted}
 use Rattle.transfer.specs.Transfer.{numberOf}
 use Rattle.place.specs.declared.PlaceAnswer.{PlaceAnswer}
 use Rattle.place.specs.declared.PlaceAnswer.the-variants as asked
 use Rattle.place.specs.Place.{askOf, placeAnswerNumber}
 use Rattle.place.proofs.PlaceAnswer.{the-type}
-use Rattle.arrival.specs.Arrive.{Lent, receiveOf}
+use Rattle.arrival.specs.Arrive.{Lent, receiveOf, lookOf}
 use Rattle.receiver.specs.declared.Receipt.{Receipt}
-use Rattle.receiver.specs.Receiver.{world, outcome}
+use Rattle.receiver.specs.declared.Preview.{Preview}
+use Rattle.receiver.specs.Receiver.{world, outcome, previewed}
 use Rattle.block.specs.Write.{le32}
 use Rattle.layout.specs.Layout.{settingsFrom, transferFrom}
-use Rattle.capi.specs.Calls.{PlaceCall, placeCall, placeCallOf, askBytes, arrivalCall, resultOf, isAcceptance, keptTransfer, arrivalCallOf, receiveBytes}
+use Rattle.capi.specs.Calls.{PlaceCall, placeCall, placeCallOf, askBytes, arrivalCall, resultOf, lookResult, lookBytes, isAcceptance, keptTransfer, arrivalCallOf, takeBytes}
 
 -- the numbers fit five bits, and leave room for 128 more in a byte
 pub number-most : (a : Answer) → numberOf a ≤ 31
@@ -32,7 +33,6 @@ number-most BadSettings = omega arith
 number-most BadState = omega arith
 number-most NotBlock = omega arith
 number-most Container = omega arith
-number-most Comment = omega arith
 number-most NoFamily = omega arith
 number-most NoPlace = omega arith
 number-most BadPayload = omega arith
@@ -42,6 +42,7 @@ number-most Finished = omega arith
 number-most Again = omega arith
 number-most Written = omega arith
 number-most Completed = omega arith
+number-most Noted = omega arith
 
 -- ---- a place asked for alone
 
@@ -69,9 +70,18 @@ module _ (s : List ℕ) (len f : ℕ) (l : List ℕ) where
   ask-told n hz hx ho = simp (eq-eqb (length l) 8 n) (ho ∙ ap (placeCallOf l) (hx ∙ ap (λ (z : Settings). askOf z len f) hz))
 
 module _ (s t a : List ℕ) (h : Lent) where
-  pub receive-ran : {z : Settings} {u : Transfer} {r : Receipt} {g : Lent} {v : List ℕ} {x y : ℕ} {b : Bool} → z ≡ settingsFrom s → u ≡ transferFrom t → outcome r g ≡ receiveOf z (world u h) a → x ≡ numberOf (r .answer) → b ≡ isAcceptance x → v ≡ keptTransfer t b (r .transfer .state) → y ≡ resultOf x (r .discarded) → arrivalCall y v g ≡ receiveBytes s t a h
-  unfolding receiveBytes
-  receive-ran {u = u} hz hu ho hx hb hv hy =
+  pub look-ran : {z : Settings} {u : Transfer} {r : Preview} {x y : ℕ} → z ≡ settingsFrom s → u ≡ transferFrom t → previewed r ≡ lookOf z (world u h) a → x ≡ numberOf (r .answer) → y ≡ resultOf x (r .discarded) → y ≡ lookBytes s t a h
+  unfolding lookBytes
+  look-ran {u = u} hz hu ho hx hy =
+      let p =
+      ho
+      ∙ ap (λ (z : Settings). lookOf z (world u h) a) hz
+      ∙ ap (λ (u : Transfer). lookOf (settingsFrom s) (world u h) a) hu in
+      rw (hy, hx) (ap lookResult p)
+
+  pub take-ran : {z : Settings} {u : Transfer} {r : Receipt} {g : Lent} {v : List ℕ} {x y : ℕ} {b : Bool} → z ≡ settingsFrom s → u ≡ transferFrom t → outcome r g ≡ receiveOf z (world u h) a → x ≡ numberOf (r .answer) → b ≡ isAcceptance x → v ≡ keptTransfer t b (r .transfer .state) → y ≡ resultOf x (r .discarded) → arrivalCall y v g ≡ takeBytes s t a h
+  unfolding takeBytes
+  take-ran {u = u} hz hu ho hx hb hv hy =
       let p =
       ho
       ∙ ap (λ (z : Settings). receiveOf z (world u h) a) hz

@@ -11,7 +11,7 @@ use Rattle.transfer.specs.Transfer.{numberOf}
 use Rattle.transfer.specs.declared.Answer.{Answer}
 use Rattle.transfer.specs.declared.State.{State}
 use Rattle.settings.specs.declared.Settings.{Settings}
-use Rattle.arrival.specs.Arrive.{Lent, World, lentOf, Outcome, receiveOf}
+use Rattle.arrival.specs.Arrive.{Lent, World, lentOf, Outcome, receiveOf, Forecast, lookOf}
 use Rattle.arrival.specs.Lists.{receiveAll, answersOf, discardsOf}
 use Rattle.receiver.specs.Receiver.{world}
 use Rattle.block.specs.Write.{le32}
@@ -66,7 +66,15 @@ arrivalCall n t h = record { result = n; transfer = t; lent = h }
 abbrev pub resultOf : ℕ → Bool → ℕ
 resultOf n discarded = cond discarded (n + 128) n
 
--- answers 14 and 15 take the block
+-- what a look returns of a forecast: what a take would return
+abbrev pub lookResult : Forecast → ℕ
+lookResult o = resultOf (numberOf (o .answer)) (o .discarded)
+
+-- bytes of settings and transfer, arrival, and what is lent
+unfoldable pub lookBytes : List ℕ → List ℕ → List ℕ → Lent → ℕ
+lookBytes s t a h = lookResult (lookOf (settingsFrom s) (world (transferFrom t) h) a)
+
+-- answers 14 and more accept the block
 abbrev pub isAcceptance : ℕ → Bool
 isAcceptance n = leb 14 n
 
@@ -82,8 +90,8 @@ arrivalCallOf t o =
     (lentOf (o .world))
 
 -- bytes of settings and transfer, arrival, and what is lent
-unfoldable pub receiveBytes : List ℕ → List ℕ → List ℕ → Lent → ArrivalCall
-receiveBytes s t a h = arrivalCallOf t (receiveOf (settingsFrom s) (world (transferFrom t) h) a)
+unfoldable pub takeBytes : List ℕ → List ℕ → List ℕ → Lent → ArrivalCall
+takeBytes s t a h = arrivalCallOf t (receiveOf (settingsFrom s) (world (transferFrom t) h) a)
 
 -- ---- arrivals one after the other
 
@@ -132,7 +140,7 @@ abbrev pub fewer : ℕ → ℕ → ℕ
 fewer a b = cond (leb a b) a b
 
 -- bytes of settings and transfer, arrivals, results, and what is lent
-unfoldable pub receiveBatch : List ℕ → List ℕ → List ℕ → List ℕ → Lent → BatchCall
-receiveBatch s t a r h =
+unfoldable pub takeBatch : List ℕ → List ℕ → List ℕ → List ℕ → Lent → BatchCall
+takeBatch s t a r h =
     let n = fewer (length a / 512) (length r) in
     batchFrom n (settingsFrom s) t (world (transferFrom t) h) false r 0 (arrivalsOf n a)

@@ -1,30 +1,30 @@
 // The calls for Universal Hex. A reader is bytes in the layout of `readers`.
 ghost use mathlib.Core.Path.{_≡_};
 ghost use Rattle.unihex.specs.Reader.{freshOf};
-ghost use Rattle.readers.specs.Readers.{written};
-ghost use Rattle.capi.specs.HexCalls.{hasFailed, changes, keptReader, lined, lineBytes};
+ghost use Rattle.readers.specs.Readers.{readerWritten};
+ghost use Rattle.capi.specs.HexCalls.{hasFailed, changes, keptReader, lineReturn, lineCallOf};
 use grammar::Answer;
-use grammar::Stand;
+use grammar::ReaderState;
 use unihex::Reader;
 
 // A fresh reader of a board, where there are bytes for it.
 #[no_mangle]
 pub extern "C" fn uhex_new(own: u16, reader: &mut [u8])
-    ensures { λ _. ⌜ now (reader .exit) ≡ written (now (reader .entry)) (freshOf own) ⌝ }
+    ensures { λ _. ⌜ now (reader .exit) ≡ readerWritten (now (reader .entry)) (freshOf own) ⌝ }
 {
     readers::write_reader(reader, Reader::fresh(own));
 }
 
-fn has_failed(stand: Stand) -> bool
-    ensures { λ r. ⌜ r ≡ hasFailed stand ⌝ }
+fn has_failed(state: ReaderState) -> bool
+    ensures { λ r. ⌜ r ≡ hasFailed state ⌝ }
 {
-    match stand {
-        Stand::Between => false,
-        Stand::Opened => false,
-        Stand::Inside(_) => false,
-        Stand::Padded(_) => false,
-        Stand::Ended => false,
-        Stand::Failed(_) => true,
+    match state {
+        ReaderState::Between => false,
+        ReaderState::Opened => false,
+        ReaderState::Inside(_) => false,
+        ReaderState::Padded(_) => false,
+        ReaderState::Ended => false,
+        ReaderState::Failed(_) => true,
     }
 }
 
@@ -48,13 +48,13 @@ fn keep_reader(reader: &mut [u8], changed: bool, next: Reader)
 // One line as it is handed, its ending included: the answer's number.
 #[no_mangle]
 pub extern "C" fn uhex_line(reader: &mut [u8], line: &[u8], image: &mut [u8]) -> u32
-    ensures { λ r. ⌜ lined r (now (reader .exit)) (now (image .exit)) ≡ lineBytes (now (reader .entry)) (now (line .entry)) (now (image .entry)) ⌝ }
+    ensures { λ r. ⌜ lineReturn r (now (reader .exit)) (now (image .exit)) ≡ lineCallOf (now (reader .entry)) (now (line .entry)) (now (image .entry)) ⌝ }
 {
     let was = readers::read_reader(reader);
-    let stand = was.stand;
+    let state = was.state;
     let read = was.line(line, image);
     let next = read.reader;
     let answer = read.answer;
-    keep_reader(reader, changes(has_failed(stand), answer), next);
+    keep_reader(reader, changes(has_failed(state), answer), next);
     answer.number() as u32
 }

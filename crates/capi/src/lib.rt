@@ -14,10 +14,11 @@ ghost use Rattle.capi.specs.Calls.{
   resultOf,
   isAcceptance,
   keptTransfer,
-  receiveBytes,
+  lookBytes,
+  takeBytes,
   fewer,
   batchCall,
-  receiveBatch,
+  takeBatch,
 };
 use block::Block;
 use place::PlaceAnswer;
@@ -85,9 +86,29 @@ fn report(answer: u8, discarded: bool) -> u8
     if discarded { answer + 128 } else { answer }
 }
 
-// One arrival: the answer's number, and 128 more where a running transfer was discarded.
+// A look at one arrival: what `uf2_take` would return. Nothing is written.
 #[no_mangle]
-pub extern "C" fn uf2_receive(
+pub extern "C" fn uf2_look(
+    settings: &[u8],
+    transfer: &[u8],
+    arrival: &[u8],
+    flash: &[u8],
+    seen: &[u8],
+    sectors: &[u8],
+) -> u32
+    ensures { λ r. ⌜ r ≡ lookBytes (now (settings .entry)) (now (transfer .entry)) (now (arrival .entry)) (lentAt flash seen sectors) ⌝ }
+{
+    let s = layout::read_settings(settings);
+    let t = layout::read_transfer(transfer);
+    let p = receiver::look(s, t, arrival, flash, seen, sectors);
+    let answer = p.answer;
+    let n = answer.number();
+    report(n, p.discarded) as u32
+}
+
+// One arrival is taken: the answer's number, and 128 more where a running transfer was discarded.
+#[no_mangle]
+pub extern "C" fn uf2_take(
     settings: &[u8],
     transfer: &mut [u8],
     arrival: &[u8],
@@ -95,11 +116,11 @@ pub extern "C" fn uf2_receive(
     seen: &mut [u8],
     sectors: &mut [u8],
 ) -> u32
-    ensures { λ r. ⌜ arrivalCall r (now (transfer .exit)) (leftAt flash seen sectors) ≡ receiveBytes (now (settings .entry)) (now (transfer .entry)) (now (arrival .entry)) (lentAt flash seen sectors) ⌝ }
+    ensures { λ r. ⌜ arrivalCall r (now (transfer .exit)) (leftAt flash seen sectors) ≡ takeBytes (now (settings .entry)) (now (transfer .entry)) (now (arrival .entry)) (lentAt flash seen sectors) ⌝ }
 {
     let s = layout::read_settings(settings);
     let t = layout::read_transfer(transfer);
-    let r = receiver::receive(s, t, arrival, flash, seen, sectors);
+    let r = receiver::take(s, t, arrival, flash, seen, sectors);
     let answer = r.answer;
     let next = r.transfer;
     let n = answer.number();
@@ -114,9 +135,9 @@ fn at_most(a: usize, b: usize) -> usize
     if a <= b { a } else { b }
 }
 
-// Whole arrivals one after the other, as many as there are results for: their number, and the result of each.
+// Whole arrivals are taken one after the other, as many as there are results for: their number, and the result of each.
 #[no_mangle]
-pub extern "C" fn uf2_receive_all(
+pub extern "C" fn uf2_take_all(
     settings: &[u8],
     transfer: &mut [u8],
     arrivals: &[u8],
@@ -125,7 +146,7 @@ pub extern "C" fn uf2_receive_all(
     seen: &mut [u8],
     sectors: &mut [u8],
 ) -> usize
-    ensures { λ r. ⌜ batchCall r (now (transfer .exit)) (now (results .exit)) (leftAt flash seen sectors) ≡ receiveBatch (now (settings .entry)) (now (transfer .entry)) (now (arrivals .entry)) (now (results .entry)) (lentAt flash seen sectors) ⌝ }
+    ensures { λ r. ⌜ batchCall r (now (transfer .exit)) (now (results .exit)) (leftAt flash seen sectors) ≡ takeBatch (now (settings .entry)) (now (transfer .entry)) (now (arrivals .entry)) (now (results .entry)) (lentAt flash seen sectors) ⌝ }
 {
     let s = layout::read_settings(settings);
     let mut t = layout::read_transfer(transfer);
@@ -135,7 +156,7 @@ pub extern "C" fn uf2_receive_all(
     while i < n {
         let from = i * Block::ARRIVAL;
         let to = from + Block::ARRIVAL;
-        let r = receiver::receive(s, t, &arrivals[from..to], flash, seen, sectors);
+        let r = receiver::take(s, t, &arrivals[from..to], flash, seen, sectors);
         let answer = r.answer;
         let next = r.transfer;
         let number = answer.number();

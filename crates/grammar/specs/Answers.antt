@@ -2,6 +2,8 @@
 use Prim.Native.Nat.{ℕ}
 use mathlib.Core.Bool.{Bool, _&&_, _||_}
 use lib.Dec.{leb, eqb}
+use Rattle.record.specs.declared.ParseResult.{ParseResult}
+use Rattle.record.specs.declared.ParseResult.the-variants as parsed
 use Rattle.grammar.specs.declared.Answer.{Answer}
 use Rattle.grammar.specs.declared.Answer.the-variants.{BadReader, BadImage, NoColon, BadShape, BadDigit, TooLong, BadLength, BadSum, OutOfPlace, Unaligned, Repeated, Crosses, MissingBoard, AfterEnd, Outside, Stored, Passed, Ended, FileTooLong}
 
@@ -30,3 +32,13 @@ numberOf FileTooLong = 36
 -- "20 to 30 and 36 make the reader failed"
 abbrev pub isFailure : Answer → Bool
 isFailure a = leb 20 (numberOf a) && leb (numberOf a) 30 || eqb (numberOf a) 36
+
+-- the answers of rows 20 to 25; a good record gets none of them, and nothing asks for its
+abbrev pub refusalOf : ParseResult → Answer
+refusalOf parsed.NoColon = NoColon
+refusalOf parsed.BadShape = BadShape
+refusalOf parsed.BadDigit = BadDigit
+refusalOf parsed.TooLong = TooLong
+refusalOf parsed.BadLength = BadLength
+refusalOf parsed.BadSum = BadSum
+refusalOf (parsed.Good rec) = NoColon

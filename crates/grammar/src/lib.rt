@@ -1,11 +1,13 @@
 // The grammar of Universal Hex: where a reader stands, and what a record is there.
 ghost use mathlib.Core.Path.{_≡_};
-ghost use Rattle.grammar.specs.Answers.{numberOf, isFailure};
+ghost use Rattle.grammar.specs.Answers.{numberOf, isFailure, refusalOf};
 ghost use Rattle.grammar.specs.Boards.{noBoards, hasBoard, withBoard, bothBoards};
-ghost use Rattle.grammar.specs.declared.Stand.the-variants.{Between, Opened, Inside};
+ghost use Rattle.grammar.specs.declared.ReaderState.the-variants.{Between, Opened, Inside};
 ghost use Rattle.grammar.specs.Grammar.{dataKind, afterPadding, roleOf};
+use record::ParseResult;
+use record::Record;
 
-// The answers to a line, by their numbers from 18 to 36.
+// The answers to a line, by their numbers from 18 to 36. The names are 01's.
 pub enum Answer {
     BadReader,
     BadImage,
@@ -41,7 +43,7 @@ pub struct Boards {
 
 // Where a reader stands: between sections, after a section's opening 04, in the section of a board, in it after its first 0C, after
 // the 01, or failed.
-pub enum Stand {
+pub enum ReaderState {
     Between,
     Opened,
     Inside(u16),
@@ -145,24 +147,44 @@ impl Answer {
     }
 }
 
+// The answer to a line whose text is refused.
+pub fn refusal(parsed: ParseResult) -> Answer
+    ensures { λ r. ⌜ r ≡ refusalOf parsed ⌝ }
+    ensures number { λ r. ⌜ numberOf r ≡ numberOf (refusalOf parsed) ⌝ }
+{
+    match parsed {
+        ParseResult::Good(_) => Answer::NoColon,
+        ParseResult::NoColon => Answer::NoColon,
+        ParseResult::BadShape => Answer::BadShape,
+        ParseResult::BadDigit => Answer::BadDigit,
+        ParseResult::TooLong => Answer::TooLong,
+        ParseResult::BadLength => Answer::BadLength,
+        ParseResult::BadSum => Answer::BadSum,
+    }
+}
+
 // The type of a data record in the section of a board.
 fn data_kind(board: u16) -> u8
     ensures { λ r. ⌜ r ≡ dataKind board ⌝ }
 {
-    if board == Boards::V1 { 0 } else { 13 }
+    if board == Boards::V1 {
+        Record::DATA
+    } else {
+        Record::CUSTOM_DATA
+    }
 }
 
 // The records that may follow the first 0C of a section.
 fn after_padding(board: u16, kind: u8) -> Role
     ensures { λ r. ⌜ r ≡ afterPadding board kind ⌝ }
 {
-    if kind == 12 {
+    if kind == Record::PADDED_DATA {
         return Role::Padding(board);
     }
-    if kind == 14 {
+    if kind == Record::OTHER_DATA {
         return Role::Other;
     }
-    if kind == 11 {
+    if kind == Record::BLOCK_END {
         return Role::Closing;
     }
     Role::Refused
@@ -172,10 +194,10 @@ fn after_padding(board: u16, kind: u8) -> Role
 fn between(kind: u8, len: u8) -> Role
     ensures { λ r. ⌜ r ≡ roleOf Between kind len ⌝ }
 {
-    if (kind == 4) & (len == 2) {
+    if (kind == Record::EXTENDED_LINEAR) & (len == 2) {
         return Role::Opening;
     }
-    if (kind == 1) & (len == 0) {
+    if (kind == Record::END_OF_FILE) & (len == 0) {
         return Role::Ending;
     }
     Role::Refused
@@ -185,7 +207,7 @@ fn between(kind: u8, len: u8) -> Role
 fn opened(kind: u8, len: u8) -> Role
     ensures { λ r. ⌜ r ≡ roleOf Opened kind len ⌝ }
 {
-    if (kind == 10) & (2 <= len) {
+    if (kind == Record::BLOCK_START) & (2 <= len) {
         return Role::Naming;
     }
     Role::Refused
@@ -195,7 +217,7 @@ fn opened(kind: u8, len: u8) -> Role
 fn inside(board: u16, kind: u8, len: u8) -> Role
     ensures { λ r. ⌜ r ≡ roleOf (Inside board) kind len ⌝ }
 {
-    if (kind == 4) & (len == 2) {
+    if (kind == Record::EXTENDED_LINEAR) & (len == 2) {
         return Role::Address;
     }
     if kind == data_kind(board) {
@@ -205,15 +227,15 @@ fn inside(board: u16, kind: u8, len: u8) -> Role
 }
 
 // What a record of a type and a number of data bytes is where a reader stands.
-pub fn role_at(stand: Stand, kind: u8, len: u8) -> Role
-    ensures { λ r. ⌜ r ≡ roleOf stand kind len ⌝ }
+pub fn role_at(state: ReaderState, kind: u8, len: u8) -> Role
+    ensures { λ r. ⌜ r ≡ roleOf state kind len ⌝ }
 {
-    match stand {
-        Stand::Between => between(kind, len),
-        Stand::Opened => opened(kind, len),
-        Stand::Inside(board) => inside(board, kind, len),
-        Stand::Padded(board) => after_padding(board, kind),
-        Stand::Ended => Role::Refused,
-        Stand::Failed(_) => Role::Refused,
+    match state {
+        ReaderState::Between => between(kind, len),
+        ReaderState::Opened => opened(kind, len),
+        ReaderState::Inside(board) => inside(board, kind, len),
+        ReaderState::Padded(board) => after_padding(board, kind),
+        ReaderState::Ended => Role::Refused,
+        ReaderState::Failed(_) => Role::Refused,
     }
 }

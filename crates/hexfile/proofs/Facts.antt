@@ -12,23 +12,23 @@ use borrow.Author.Tests.{leb-true, eqb-true, le-ltb, le-leb, lt-leb, eq-eqb, ne-
 use Rattle.sets.specs.Over.{over}
 use Rattle.sets.proofs.Tests.{split, clash, is-false, eqb-same, or-left, or-right, and-left, and-right}
 use Rattle.sets.proofs.OverLaws.{length-over, over-inside, over-before, over-after}
-use Rattle.record.specs.Record.{readOf}
+use Rattle.record.specs.Record.{wordOf, readOf}
 use Rattle.record.specs.declared.Record.{Record}
-use Rattle.record.specs.declared.Parsed.the-variants.{Good}
+use Rattle.record.specs.declared.ParseResult.the-variants.{Good}
 use Rattle.grammar.specs.Answers.{numberOf, isFailure}
 use Rattle.grammar.specs.Boards.{isV1, isV2, hasBoard, bothBoards}
-use Rattle.grammar.specs.Grammar.{is04, dataKind, roleOf}
+use Rattle.grammar.specs.Grammar.{isExtendedLinear, dataKind, roleOf}
 use Rattle.grammar.specs.declared.Answer.{Answer}
 use Rattle.grammar.specs.declared.Answer.the-variants as answer
-use Rattle.grammar.specs.declared.Stand.{Stand}
-use Rattle.grammar.specs.declared.Stand.the-variants.{Between, Opened, Inside, Ended}
+use Rattle.grammar.specs.declared.ReaderState.{ReaderState}
+use Rattle.grammar.specs.declared.ReaderState.the-variants.{Between, Opened, Inside, Ended}
 use Rattle.unihex.specs.declared.Reader.{Reader}
-use Rattle.unihex.specs.declared.Step.the-variants.{Stores}
-use Rattle.unihex.specs.Reader.{badFailure, badReader, standing, withData, movedTo, givenOf, stepOf}
-use Rattle.unihex.specs.Line.{Outcome, outcome, failedBy, failing, wordOf, addressOf, storing, stepped, takenOf, parsedLine, liveLine, haltOf, haltLine, badImage, lineOf}
-use Rattle.hexfile.specs.Facts.{Only-33-stores, Length-kept, Ready, Bad-changes-nothing, Bad-exactly, Failed-repeats, After-end, Failures-fail, isTaken, moveOf, Offset-moves, Own-kept, Stays-good, End-ends, End-or-missing, Passed-or-repeated, OwnData, StoredIn, Stores-own-data, Own-data-is-stored, Elsewhere-unchanged, Other-board-unchanged}
+use Rattle.unihex.specs.declared.Effect.the-variants.{Stores}
+use Rattle.unihex.specs.Reader.{badFailure, badReader, withState, withData, movedTo, givenOf, effectOf}
+use Rattle.unihex.specs.Line.{LineOutcome, lineOutcome, failedBy, failing, addressOf, storing, effectOutcome, recordOutcome, parsedLine, liveLine, haltOf, haltLine, badImage, lineOf}
+use Rattle.hexfile.specs.Facts.{Only-33-stores, Length-kept, Ready, Bad-changes-nothing, Bad-exactly, Failed-repeats, After-end, Failures-fail, movesOffset, moveOf, Offset-moves, Own-kept, Stays-good, End-ends, End-or-missing, Passed-or-repeated, OwnData, StoreIn, Stores-own-data, Own-data-is-stored, Elsewhere-unchanged, Other-board-unchanged}
 use Rattle.record.proofs.Good.{good-len, length-data}
-use Rattle.hexfile.proofs.Lined.{After, Lined, bad, past, again, failed, out, stored, passed, ended, good-stand, lined, 04-no-data}
+use Rattle.hexfile.proofs.LineCase.{After, LineCase, bad, past, again, failed, out, stored, passed, ended, good-state, lineCase, linear-no-data}
 
 -- ---- the numbers of failures
 
@@ -38,10 +38,10 @@ failure-from a e =
     (λ y. leb-true 20 (numberOf a) y)
     (λ z. let f : eqb (numberOf a) 36 ≡ true = rw z at e in omega (arith, eqb-true (numberOf a) 36 f))
 
-pub failure-not-taken : (a : Answer) → isFailure a ≡ true → isTaken a ≡ false
-failure-not-taken a e = is-false (isTaken a) (λ y. clash (isFailure a) e (taken y))
+pub failure-not-moves : (a : Answer) → isFailure a ≡ true → movesOffset a ≡ false
+failure-not-moves a e = is-false (movesOffset a) (λ y. clash (isFailure a) e (taken y))
   where
-    taken : isTaken a ≡ true → isFailure a ≡ false
+    taken : movesOffset a ≡ true → isFailure a ≡ false
     taken y =
         let n = numberOf a in
         let p : 32 ≤ n = leb-true 32 n (and-left (leb 32 n) (leb n 35) y) in
@@ -58,7 +58,7 @@ module _ (r : Reader) (l img : List ℕ) where
   pub fits : (rec : Record) → OwnData r l img rec → addressOf r rec + length (take (rec .len) (readOf l .«data»)) ≤ length img
   fits rec d = omega (arith, own-length rec d, d .fits)
 
-  stored-in : (rec : Record) → OwnData r l img rec → StoredIn r l img rec (over img (addressOf r rec) (take (rec .len) (readOf l .«data»)))
+  stored-in : (rec : Record) → OwnData r l img rec → StoreIn r l img rec (over img (addressOf r rec) (take (rec .len) (readOf l .«data»)))
   stored-in rec d =
       let at = addressOf r rec in
       let s = take (rec .len) (readOf l .«data») in
@@ -75,7 +75,7 @@ module _ (r : Reader) (l img : List ℕ) where
 
   -- ---- what changes nothing
 
-  unstored : {o : Outcome} → Lined r l img o → o .answer ≢ answer.Stored → o .image ≡ img
+  unstored : {o : LineOutcome} → LineCase r l img o → o .answer ≢ answer.Stored → o .image ≡ img
   unstored (bad a n x) h = refl
   unstored (past e) h = refl
   unstored (again f e g) h = refl
@@ -85,7 +85,7 @@ module _ (r : Reader) (l img : List ℕ) where
   unstored (passed rec q p w m) h = refl
   unstored (ended rec p w b m) h = refl
 
-  keeps-length : {o : Outcome} → Lined r l img o → length (o .image) ≡ length img
+  keeps-length : {o : LineOutcome} → LineCase r l img o → length (o .image) ≡ length img
   keeps-length (bad a n x) = refl
   keeps-length (past e) = refl
   keeps-length (again f e g) = refl
@@ -95,7 +95,7 @@ module _ (r : Reader) (l img : List ℕ) where
   keeps-length (passed rec q p w m) = refl
   keeps-length (ended rec p w b m) = refl
 
-  nothing-bad : {o : Outcome} → Lined r l img o → numberOf (o .answer) ≤ 19 → o ≡ outcome r (o .answer) img
+  nothing-bad : {o : LineOutcome} → LineCase r l img o → numberOf (o .answer) ≤ 19 → o ≡ lineOutcome r (o .answer) img
   nothing-bad (bad a n x) h = refl
   nothing-bad (past e) h = refl
   nothing-bad (again f e g) h = refl
@@ -105,7 +105,7 @@ module _ (r : Reader) (l img : List ℕ) where
   nothing-bad (passed rec q p w m) h = absurd (omega arith)
   nothing-bad (ended rec p w b m) h = absurd (omega arith)
 
-  not-bad : {o : Outcome} → Lined r l img o → Ready r img → 20 ≤ numberOf (o .answer)
+  not-bad : {o : LineOutcome} → LineCase r l img o → Ready r img → 20 ≤ numberOf (o .answer)
   not-bad (bad a n x) y = absurd (x y)
   not-bad (past e) y = omega arith
   not-bad (again f e g) y = failure-from (f .answer) g
@@ -117,30 +117,30 @@ module _ (r : Reader) (l img : List ℕ) where
 
   -- ---- what changes the reader
 
-  fails : {o : Outcome} → Lined r l img o → isFailure (o .answer) ≡ true → o ≡ failing r (o .answer) img
-  unfolding standing
+  fails : {o : LineOutcome} → LineCase r l img o → isFailure (o .answer) ≡ true → o ≡ failing r (o .answer) img
+  unfolding withState
   fails (bad a n x) h = absurd (omega (arith, failure-from a h))
   fails (past e) h = clash false h refl
-  fails (again f e g) h = ap (λ s. outcome (standing r s) (f .answer) img) e
+  fails (again f e g) h = ap (λ s. lineOutcome (withState r s) (f .answer) img) e
   fails (failed a f) h = refl
   fails (out rec q p w m) h = clash false h refl
   fails (stored rec q d w m) h = clash false h refl
   fails (passed rec q p w m) h = clash false h refl
   fails (ended rec p w b m) h = clash false h refl
 
-  moves : {o : Outcome} → Lined r l img o → o .reader .offset ≡ r .offset + moveOf (o .answer) l
-  unfolding standing movedTo
+  moves : {o : LineOutcome} → LineCase r l img o → o .reader .offset ≡ r .offset + moveOf (o .answer) l
+  unfolding withState movedTo
   moves (bad a n x) = rw (lt-leb 32 (numberOf a) (omega arith)) (omega arith)
   moves (past e) = omega arith
-  moves (again f e g) = rw (failure-not-taken (f .answer) g) (omega arith)
-  moves (failed a f) = rw (failure-not-taken a f) (omega arith)
+  moves (again f e g) = rw (failure-not-moves (f .answer) g) (omega arith)
+  moves (failed a f) = rw (failure-not-moves a f) (omega arith)
   moves (out rec q p w m) = refl
   moves (stored rec q d w m) = refl
   moves (passed rec q p w m) = refl
   moves (ended rec p w b m) = refl
 
-  keeps-own : {o : Outcome} → Lined r l img o → o .reader .own ≡ r .own
-  unfolding standing movedTo
+  keeps-own : {o : LineOutcome} → LineCase r l img o → o .reader .own ≡ r .own
+  unfolding withState movedTo
   keeps-own (bad a n x) = refl
   keeps-own (past e) = refl
   keeps-own (again f e g) = refl
@@ -154,16 +154,16 @@ module _ (r : Reader) (l img : List ℕ) where
   unfolding badReader
   good-own n =
       or-left (not (isV1 (r .own) || isV2 (r .own))) (ltb 4194304 (r .offset))
-      (or-left (not (isV1 (r .own) || isV2 (r .own)) || ltb 4194304 (r .offset)) (badFailure (r .stand)) n)
+      (or-left (not (isV1 (r .own) || isV2 (r .own)) || ltb 4194304 (r .offset)) (badFailure (r .state)) n)
 
   good-offset : badReader r ≡ false → ltb 4194304 (r .offset) ≡ false
   unfolding badReader
   good-offset n =
       or-right (not (isV1 (r .own) || isV2 (r .own))) (ltb 4194304 (r .offset))
-      (or-left (not (isV1 (r .own) || isV2 (r .own)) || ltb 4194304 (r .offset)) (badFailure (r .stand)) n)
+      (or-left (not (isV1 (r .own) || isV2 (r .own)) || ltb 4194304 (r .offset)) (badFailure (r .state)) n)
 
   -- a reader of the same board, whose offset is within the limit
-  good-next : (q : Reader) → q .own ≡ r .own → ltb 4194304 (q .offset) ≡ false → badFailure (q .stand) ≡ false → badReader r ≡ false
+  good-next : (q : Reader) → q .own ≡ r .own → ltb 4194304 (q .offset) ≡ false → badFailure (q .state) ≡ false → badReader r ≡ false
       → badReader q ≡ false
   unfolding badReader
   good-next q o e s n = rw (o, e, s, good-own n)
@@ -172,10 +172,10 @@ module _ (r : Reader) (l img : List ℕ) where
       → badReader (movedTo q (r .offset + length l)) ≡ false
   unfolding movedTo
   good-onward {q = q} w m h =
-      good-next (movedTo q (r .offset + length l)) (w .own) (le-ltb 4194304 (r .offset + length l) m) (w .stand (good-stand r h)) h
+      good-next (movedTo q (r .offset + length l)) (w .own) (le-ltb 4194304 (r .offset + length l) m) (w .state (good-state r h)) h
 
-  good-stays : {o : Outcome} → Lined r l img o → badReader r ≡ false → badReader (o .reader) ≡ false
-  unfolding standing movedTo badFailure
+  good-stays : {o : LineOutcome} → LineCase r l img o → badReader r ≡ false → badReader (o .reader) ≡ false
+  unfolding withState movedTo badFailure
   good-stays (bad a n x) h = h
   good-stays (past e) h = h
   good-stays (again f e g) h = h
@@ -183,10 +183,10 @@ module _ (r : Reader) (l img : List ℕ) where
   good-stays (out rec q p w m) h = good-onward w m h
   good-stays (stored rec q d w m) h = good-onward w m h
   good-stays (passed rec q p w m) h = good-onward w m h
-  good-stays (ended rec p w b m) h = good-next (movedTo (standing r Ended) (r .offset + length l)) refl (le-ltb 4194304 (r .offset + length l) m) refl h
+  good-stays (ended rec p w b m) h = good-next (movedTo (withState r Ended) (r .offset + length l)) refl (le-ltb 4194304 (r .offset + length l) m) refl h
 
-  ends : {o : Outcome} → Lined r l img o → o .answer ≡ answer.Ended → (bothBoards (r .gave) ≡ true) × (o .reader .stand ≡ Ended)
-  unfolding standing movedTo
+  ends : {o : LineOutcome} → LineCase r l img o → o .answer ≡ answer.Ended → (bothBoards (r .«data_seen») ≡ true) × (o .reader .state ≡ Ended)
+  unfolding withState movedTo
   ends (bad a n x) h = absurd (omega (arith, ap numberOf h))
   ends (past e) h = absurd (omega (arith, ap numberOf h))
   ends (again f e g) h = clash (isFailure (f .answer)) g (ap isFailure h)
@@ -198,7 +198,7 @@ module _ (r : Reader) (l img : List ℕ) where
 
   -- ---- what is stored
 
-  stores : {o : Outcome} → Lined r l img o → o .answer ≡ answer.Stored → (rec : Record) × OwnData r l img rec × StoredIn r l img rec (o .image)
+  stores : {o : LineOutcome} → LineCase r l img o → o .answer ≡ answer.Stored → (rec : Record) × OwnData r l img rec × StoreIn r l img rec (o .image)
   stores (bad a n x) h = absurd (omega (arith, ap numberOf h))
   stores (past e) h = absurd (omega (arith, ap numberOf h))
   stores (again f e g) h = clash (isFailure (f .answer)) g (ap isFailure h)
@@ -208,7 +208,7 @@ module _ (r : Reader) (l img : List ℕ) where
   stores (passed rec q p w m) h = absurd (omega (arith, ap numberOf h))
   stores (ended rec p w b m) h = absurd (omega (arith, ap numberOf h))
 
-  elsewhere : {o : Outcome} → Lined r l img o → r .stand ≢ Inside (r .own) → o .image ≡ img
+  elsewhere : {o : LineOutcome} → LineCase r l img o → r .state ≢ Inside (r .own) → o .image ≡ img
   elsewhere (bad a n x) h = refl
   elsewhere (past e) h = refl
   elsewhere (again f e g) h = refl
@@ -222,15 +222,15 @@ module _ (r : Reader) (l img : List ℕ) where
 
 pub only-33-stores : Only-33-stores
 unfolding Only-33-stores
-only-33-stores r l img = unstored r l img (lined r l img)
+only-33-stores r l img = unstored r l img (lineCase r l img)
 
 pub length-kept : Length-kept
 unfolding Length-kept
-length-kept r l img = keeps-length r l img (lined r l img)
+length-kept r l img = keeps-length r l img (lineCase r l img)
 
 pub bad-changes-nothing : Bad-changes-nothing
 unfolding Bad-changes-nothing
-bad-changes-nothing r l img = nothing-bad r l img (lined r l img)
+bad-changes-nothing r l img = nothing-bad r l img (lineCase r l img)
 
 pub bad-exactly : Bad-exactly
 unfolding Bad-exactly lineOf
@@ -241,7 +241,7 @@ bad-exactly r l img = (
       split (badReader r)
       (λ y. let n : 20 ≤ 18 = rw (z, y) at h in absurd (omega arith))
       (λ n. record { image = z; reader = n })),
-  not-bad r l img (lined r l img),
+  not-bad r l img (lineCase r l img),
 )
 
 pub failed-repeats : Failed-repeats
@@ -254,84 +254,84 @@ after-end r l img y e = rw (y .image, y .reader, e)
 
 pub failures-fail : Failures-fail
 unfolding Failures-fail
-failures-fail r l img = fails r l img (lined r l img)
+failures-fail r l img = fails r l img (lineCase r l img)
 
 pub offset-moves : Offset-moves
 unfolding Offset-moves
-offset-moves r l img = moves r l img (lined r l img)
+offset-moves r l img = moves r l img (lineCase r l img)
 
 pub own-kept : Own-kept
 unfolding Own-kept
-own-kept r l img = keeps-own r l img (lined r l img)
+own-kept r l img = keeps-own r l img (lineCase r l img)
 
 pub stays-good : Stays-good
 unfolding Stays-good
-stays-good r l img = good-stays r l img (lined r l img)
+stays-good r l img = good-stays r l img (lineCase r l img)
 
 pub end-ends : End-ends
 unfolding End-ends
-end-ends r l img = ends r l img (lined r l img)
+end-ends r l img = ends r l img (lineCase r l img)
 
 pub stores-own-data : Stores-own-data
 unfolding Stores-own-data
-stores-own-data r l img = stores r l img (lined r l img)
+stores-own-data r l img = stores r l img (lineCase r l img)
 
 pub elsewhere-unchanged : Elsewhere-unchanged
 unfolding Elsewhere-unchanged
-elsewhere-unchanged r l img = elsewhere r l img (lined r l img)
+elsewhere-unchanged r l img = elsewhere r l img (lineCase r l img)
 
 pub other-board-unchanged : Other-board-unchanged
 unfolding Other-board-unchanged
 other-board-unchanged r l img b n s =
-    elsewhere r l img (lined r l img)
+    elsewhere r l img (lineCase r l img)
     (λ e. ⊎-elim (λ i. let x : b ≡ r .own = cc in n x) (λ i. let z : _≡_ {A = ℕ} 0 1 = cc in omega arith) s)
 
 -- ---- what a good record comes to, by where the reader stands
 
 -- within the limit
 live-good : (r : Reader) (l img : List ℕ) (rec : Record) → r .offset + length l ≤ 4194304 → readOf l .parsed ≡ Good rec
-    → liveLine r l img ≡ takenOf r rec (readOf l .«data») (r .offset + length l) img
+    → liveLine r l img ≡ recordOutcome r rec (readOf l .«data») (r .offset + length l) img
 unfolding liveLine parsedLine
 live-good r l img rec m p = rw (le-ltb 4194304 (r .offset + length l) m, p)
 
--- at a stand s that reads on
-good-line : (r : Reader) (l img : List ℕ) (rec : Record) (s : Stand) → Ready r img → r .offset + length l ≤ 4194304 → readOf l .parsed ≡ Good rec
-    → r .stand ≡ s → haltLine r l img (haltOf s) ≡ liveLine r l img
+-- in a state s that reads on
+pub good-line : (r : Reader) (l img : List ℕ) (rec : Record) (s : ReaderState) → Ready r img → r .offset + length l ≤ 4194304 → readOf l .parsed ≡ Good rec
+    → r .state ≡ s → haltLine r l img (haltOf s) ≡ liveLine r l img
     → lineOf r l img
-    ≡ stepped r rec (readOf l .«data») (r .offset + length l) img (stepOf r (roleOf s (rec .kind) (rec .len)) (rec .address) (rec .len) (wordOf (readOf l .«data»)))
-unfolding lineOf takenOf
+    ≡ effectOutcome r rec (readOf l .«data») (r .offset + length l) img (effectOf r (roleOf s (rec .kind) (rec .len)) (rec .address) (rec .len) (wordOf (readOf l .«data»)))
+unfolding lineOf recordOutcome
 good-line r l img rec s y m p e live =
     rw (y .image, y .reader)
-    (ap (λ (s : Stand). haltLine r l img (haltOf s)) e ∙ live ∙ live-good r l img rec m p
-    ∙ ap (λ (s : Stand). stepped r rec (readOf l .«data») (r .offset + length l) img (stepOf r (roleOf s (rec .kind) (rec .len)) (rec .address) (rec .len) (wordOf (readOf l .«data»)))) e)
+    (ap (λ (s : ReaderState). haltLine r l img (haltOf s)) e ∙ live ∙ live-good r l img rec m p
+    ∙ ap (λ (s : ReaderState). effectOutcome r rec (readOf l .«data») (r .offset + length l) img (effectOf r (roleOf s (rec .kind) (rec .len)) (rec .address) (rec .len) (wordOf (readOf l .«data»)))) e)
 
 own-step : {r : Reader} {l img : List ℕ} (rec : Record) → OwnData r l img rec
-    → stepOf r (roleOf (Inside (r .own)) (rec .kind) (rec .len)) (rec .address) (rec .len) (wordOf (readOf l .«data»)) ≡ Stores (withData r (r .own))
-unfolding roleOf stepOf givenOf
+    → effectOf r (roleOf (Inside (r .own)) (rec .kind) (rec .len)) (rec .address) (rec .len) (wordOf (readOf l .«data»)) ≡ Stores (withData r (r .own))
+unfolding roleOf effectOf givenOf
 own-step {r} rec d =
     let k : eqb (rec .kind) (dataKind (r .own)) ≡ true = eq-eqb (rec .kind) (dataKind (r .own)) (d .kind) in
-    let n : is04 (rec .kind) (rec .len) ≡ false =
-    is-false (is04 (rec .kind) (rec .len))
-    (λ y. clash (eqb (rec .kind) (dataKind (r .own))) k (04-no-data (rec .kind) (rec .len) (r .own) y)) in
+    let n : isExtendedLinear (rec .kind) (rec .len) ≡ false =
+    is-false (isExtendedLinear (rec .kind) (rec .len))
+    (λ y. clash (eqb (rec .kind) (dataKind (r .own))) k (linear-no-data (rec .kind) (rec .len) (r .own) y)) in
     rw (n, k, le-ltb 65536 (rec .address + rec .len) (d .within), ne-eqb (rec .len) 0 (λ e. omega (arith, d .some)), eqb-same (r .own))
 
 pub own-data-is-stored : Own-data-is-stored
 unfolding Own-data-is-stored
 own-data-is-stored r l img rec y m d =
-    ap (λ (o : Outcome). o .answer)
+    ap (λ (o : LineOutcome). o .answer)
     (good-line r l img rec (Inside (r .own)) y m (d .says) (d .section) (unfold haltLine in refl)
-    ∙ ap (stepped r rec (readOf l .«data») (r .offset + length l) img) (own-step rec d))
-    ∙ unfold stepped storing withData in rw (le-ltb (length img) (addressOf r rec + rec .len) (d .fits))
+    ∙ ap (effectOutcome r rec (readOf l .«data») (r .offset + length l) img) (own-step rec d))
+    ∙ unfold effectOutcome storing withData in rw (le-ltb (length img) (addressOf r rec + rec .len) (d .fits))
 
 pub end-or-missing : End-or-missing
 unfolding End-or-missing
 end-or-missing r l img rec y m p s k n =
-    ap (λ (o : Outcome). o .answer) (good-line r l img rec Between y m p s (unfold haltLine in refl))
-    ∙ unfold stepped roleOf stepOf in rw (k, n) (split (bothBoards (r .gave)) (λ b. rw b) (λ b. rw b))
+    ap (λ (o : LineOutcome). o .answer) (good-line r l img rec Between y m p s (unfold haltLine in refl))
+    ∙ unfold effectOutcome roleOf effectOf in rw (k, n) (split (bothBoards (r .«data_seen»)) (λ b. rw b) (λ b. rw b))
 
 pub passed-or-repeated : Passed-or-repeated
 unfolding Passed-or-repeated
 passed-or-repeated r l img rec b y m d =
-    ap (λ (o : Outcome). o .answer) (good-line r l img rec Opened y m (d .says) (d .opened) (unfold haltLine in refl))
-    ∙ unfold stepped roleOf stepOf in
-    rw (d .kind, le-leb 2 (rec .len) (d .some), d .board) (split (hasBoard (r .came) b) (λ c. rw c) (λ c. rw c))
+    ap (λ (o : LineOutcome). o .answer) (good-line r l img rec Opened y m (d .says) (d .opened) (unfold haltLine in refl))
+    ∙ unfold effectOutcome roleOf effectOf in
+    rw (d .kind, le-leb 2 (rec .len) (d .some), d .board) (split (hasBoard (r .«sections_seen») b) (λ c. rw c) (λ c. rw c))

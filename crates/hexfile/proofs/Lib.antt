@@ -1,5 +1,5 @@
 -- The proofs of the claims.
-pub mod Lined
+pub mod LineCase
 pub mod Facts
 pub mod Claims
 pub mod Instance

@@ -8,22 +8,22 @@ use mathlib.Core.List.{List}
 use lib.Dec.{leb}
 use lib.ListN.{length, getD, take}
 use Rattle.sets.specs.Over.{over}
-use Rattle.record.specs.Record.{readOf}
+use Rattle.record.specs.Record.{wordOf, readOf}
 use Rattle.record.specs.declared.Record.{Record}
-use Rattle.record.specs.declared.Parsed.the-variants.{Good}
+use Rattle.record.specs.declared.ParseResult.the-variants.{Good}
 use Rattle.grammar.specs.Answers.{numberOf, isFailure}
 use Rattle.grammar.specs.Boards.{hasBoard, bothBoards}
 use Rattle.grammar.specs.Grammar.{dataKind}
 use Rattle.grammar.specs.declared.Answer.{Answer}
 use Rattle.grammar.specs.declared.Answer.the-variants as answer
 use Rattle.grammar.specs.declared.Failure.{Failure}
-use Rattle.grammar.specs.declared.Stand.the-variants.{Between, Opened, Inside, Padded, Ended, Failed}
+use Rattle.grammar.specs.declared.ReaderState.the-variants.{Between, Opened, Inside, Padded, Ended, Failed}
 use Rattle.unihex.specs.declared.Reader.{Reader}
 use Rattle.unihex.specs.Reader.{badReader}
-use Rattle.unihex.specs.Line.{Outcome, outcome, failing, wordOf, addressOf, badImage, lineOf}
+use Rattle.unihex.specs.Line.{LineOutcome, lineOutcome, failing, addressOf, badImage, lineOf}
 
 -- what holds of every reader, line and image, and of what the line comes to
-abbrev pub EveryLine : (Reader → List ℕ → List ℕ → Outcome → Type 0) → Type 0
+abbrev pub EveryLine : (Reader → List ℕ → List ℕ → LineOutcome → Type 0) → Type 0
 EveryLine P = (r : Reader) (l img : List ℕ) → P r l img (lineOf r l img)
 
 -- ---- what changes nothing
@@ -47,16 +47,16 @@ Bad-exactly = EveryLine (λ r l img o. (20 ≤ numberOf (o .answer)) ↔ Ready r
 
 -- 19 and 18: "both change nothing"
 unfoldable pub Bad-changes-nothing : Type 0
-Bad-changes-nothing = EveryLine (λ r l img o. numberOf (o .answer) ≤ 19 → o ≡ outcome r (o .answer) img)
+Bad-changes-nothing = EveryLine (λ r l img o. numberOf (o .answer) ≤ 19 → o ≡ lineOutcome r (o .answer) img)
 
 -- "A failed reader repeats its number and changes nothing."
 unfoldable pub Failed-repeats : Type 0
 Failed-repeats =
-    EveryLine (λ r l img o. (f : Failure) → Ready r img → r .stand ≡ Failed f → o ≡ outcome r (f .answer) img)
+    EveryLine (λ r l img o. (f : Failure) → Ready r img → r .state ≡ Failed f → o ≡ lineOutcome r (f .answer) img)
 
 -- "After the end: 31 AfterEnd, nothing changes."
 unfoldable pub After-end : Type 0
-After-end = EveryLine (λ r l img o. Ready r img → r .stand ≡ Ended → o ≡ outcome r answer.AfterEnd img)
+After-end = EveryLine (λ r l img o. Ready r img → r .state ≡ Ended → o ≡ lineOutcome r answer.AfterEnd img)
 
 -- ---- what changes the reader
 
@@ -65,12 +65,12 @@ unfoldable pub Failures-fail : Type 0
 Failures-fail = EveryLine (λ r l img o. isFailure (o .answer) ≡ true → o ≡ failing r (o .answer) img)
 
 -- 32 to 35
-abbrev pub isTaken : Answer → Bool
-isTaken a = leb 32 (numberOf a) && leb (numberOf a) 35
+abbrev pub movesOffset : Answer → Bool
+movesOffset a = leb 32 (numberOf a) && leb (numberOf a) 35
 
 -- "Only 32 to 35 move the offset, by the line as handed, ending included."
 abbrev pub moveOf : Answer → List ℕ → ℕ
-moveOf a l = cond (isTaken a) (length l) 0
+moveOf a l = cond (movesOffset a) (length l) 0
 
 -- by any line, from any reader
 unfoldable pub Offset-moves : Type 0
@@ -86,20 +86,20 @@ Stays-good = EveryLine (λ r l img o. badReader r ≡ false → badReader (o .re
 
 -- 35 comes only once "V1 and V2 each gave a data byte", and the reader stands after the end
 unfoldable pub End-ends : Type 0
-End-ends = EveryLine (λ r l img o. o .answer ≡ answer.Ended → (bothBoards (r .gave) ≡ true) × (o .reader .stand ≡ Ended))
+End-ends = EveryLine (λ r l img o. o .answer ≡ answer.Ended → (bothBoards (r .«data_seen») ≡ true) × (o .reader .state ≡ Ended))
 
 -- "30 MissingBoard: 01 before V1 and V2 each gave a data byte": a 01 between sections, within the limit
 unfoldable pub End-or-missing : Type 0
 End-or-missing =
     EveryLine
     (λ r l img o.
-    (rec : Record) → Ready r img → r .offset + length l ≤ 4194304 → readOf l .parsed ≡ Good rec → r .stand ≡ Between → rec .kind ≡ 1
-    → rec .len ≡ 0 → o .answer ≡ cond (bothBoards (r .gave)) answer.Ended answer.MissingBoard)
+    (rec : Record) → Ready r img → r .offset + length l ≤ 4194304 → readOf l .parsed ≡ Good rec → r .state ≡ Between → rec .kind ≡ 1
+    → rec .len ≡ 0 → o .answer ≡ cond (bothBoards (r .«data_seen»)) answer.Ended answer.MissingBoard)
 
 -- a line's record is, after a section's opening 04, an "0A with at least 2 data bytes, the first two naming the board" b
 pub record NamesBoard (r : Reader) (l : List ℕ) (rec : Record) (b : ℕ) : Type 0 where
   pub says : readOf l .parsed ≡ Good rec
-  pub opened : r .stand ≡ Opened
+  pub opened : r .state ≡ Opened
   pub kind : rec .kind ≡ 10
   pub some : 2 ≤ rec .len
   pub board : wordOf (readOf l .«data») ≡ b
@@ -110,21 +110,21 @@ Passed-or-repeated =
     EveryLine
     (λ r l img o.
     (rec : Record) (b : ℕ) → Ready r img → r .offset + length l ≤ 4194304 → NamesBoard r l rec b
-    → o .answer ≡ cond (hasBoard (r .came) b) answer.Repeated answer.Passed)
+    → o .answer ≡ cond (hasBoard (r .«sections_seen») b) answer.Repeated answer.Passed)
 
 -- ---- what is stored
 
 -- a line's record is own data of at least one byte, wholly in the image
 pub record OwnData (r : Reader) (l img : List ℕ) (rec : Record) : Type 0 where
   pub says : readOf l .parsed ≡ Good rec
-  pub section : r .stand ≡ Inside (r .own)
+  pub section : r .state ≡ Inside (r .own)
   pub kind : rec .kind ≡ dataKind (r .own)
   pub some : 1 ≤ rec .len
   pub within : rec .address + rec .len ≤ 65536
   pub fits : addressOf r rec + rec .len ≤ length img
 
 -- what an image is with the record's data at its address: as one list, and byte by byte
-pub record StoredIn (r : Reader) (l img : List ℕ) (rec : Record) (out : List ℕ) : Type 0 where
+pub record StoreIn (r : Reader) (l img : List ℕ) (rec : Record) (out : List ℕ) : Type 0 where
   pub whole : out ≡ over img (addressOf r rec) (take (rec .len) (readOf l .«data»))
   pub inside : (i : ℕ) → i < rec .len → getD out (addressOf r rec + i) 0 ≡ getD (readOf l .«data») i 0
   pub outside : (j : ℕ) → (j < addressOf r rec) ⊎ (addressOf r rec + rec .len ≤ j) → getD out j 0 ≡ getD img j 0
@@ -132,7 +132,7 @@ pub record StoredIn (r : Reader) (l img : List ℕ) (rec : Record) (out : List �
 -- "33 Stored": own data alone, and its bytes alone
 unfoldable pub Stores-own-data : Type 0
 Stores-own-data =
-    EveryLine (λ r l img o. o .answer ≡ answer.Stored → (rec : Record) × OwnData r l img rec × StoredIn r l img rec (o .image))
+    EveryLine (λ r l img o. o .answer ≡ answer.Stored → (rec : Record) × OwnData r l img rec × StoreIn r l img rec (o .image))
 
 -- and such data within the limit is stored
 unfoldable pub Own-data-is-stored : Type 0
@@ -142,9 +142,9 @@ Own-data-is-stored =
 
 -- a line outside the own board's section, or after its first 0C, changes no byte
 unfoldable pub Elsewhere-unchanged : Type 0
-Elsewhere-unchanged = EveryLine (λ r l img o. r .stand ≢ Inside (r .own) → o .image ≡ img)
+Elsewhere-unchanged = EveryLine (λ r l img o. r .state ≢ Inside (r .own) → o .image ≡ img)
 
 -- no line of another board's section changes the image
 unfoldable pub Other-board-unchanged : Type 0
 Other-board-unchanged =
-    EveryLine (λ r l img o. (b : ℕ) → b ≢ r .own → (r .stand ≡ Inside b) ⊎ (r .stand ≡ Padded b) → o .image ≡ img)
+    EveryLine (λ r l img o. (b : ℕ) → b ≢ r .own → (r .state ≡ Inside b) ⊎ (r .state ≡ Padded b) → o .image ≡ img)

@@ -4,43 +4,41 @@ use Prim.Native.Nat.{ℕ}
 use mathlib.Core.Path.{_≡_}
 use mathlib.Core.List.{List, [], _∷_, _++_, map}
 use lib.ListN.{replicate}
-use Rattle.record.specs.Write.{recordText}
+use Rattle.stores.specs.Stores.{Store}
+use Rattle.record.specs.Types.{dataType, endOfFile, extendedLinear, blockStart, blockEnd, paddedData, customData}
+use Rattle.record.specs.Write.{recordLine}
 use Rattle.grammar.specs.Answers.{numberOf}
-use Rattle.hexfile.specs.Lines.{Store, start, readAll, answersOf, storesOf}
-
--- a record, ended by LF
-unfoldable pub line : ℕ → ℕ → List ℕ → List ℕ
-line kind address d = recordText kind address d ++ (10 ∷ [])
+use Rattle.hexfile.specs.Lines.{freshSession, readAll, lineAnswers, storesOf}
 
 -- the section's data: two bytes at 2, one of them again at 3, and two at 7
 unfoldable pub sectionV1 : List (List ℕ)
 sectionV1 =
-    line 4 0 (0 ∷ 0 ∷ [])
-    ∷ line 10 0 (0x99 ∷ 0x00 ∷ 0xC0 ∷ 0xDE ∷ [])
-    ∷ line 0 2 (0xAA ∷ 0xBB ∷ [])
-    ∷ line 0 3 (0xCC ∷ [])
-    ∷ line 0 7 (0xDD ∷ 0xEE ∷ [])
-    ∷ line 12 0 (replicate 13 255)
-    ∷ replicate 5 (line 12 0 (replicate 32 255)) ++ (line 11 0 [] ∷ [])
+    recordLine extendedLinear 0 (0 ∷ 0 ∷ [])
+    ∷ recordLine blockStart 0 (0x99 ∷ 0x00 ∷ 0xC0 ∷ 0xDE ∷ [])
+    ∷ recordLine dataType 2 (0xAA ∷ 0xBB ∷ [])
+    ∷ recordLine dataType 3 (0xCC ∷ [])
+    ∷ recordLine dataType 7 (0xDD ∷ 0xEE ∷ [])
+    ∷ recordLine paddedData 0 (replicate 13 255)
+    ∷ replicate 5 (recordLine paddedData 0 (replicate 32 255)) ++ (recordLine blockEnd 0 [] ∷ [])
 
 -- the section's data: two bytes at 1
 unfoldable pub sectionV2 : List (List ℕ)
 sectionV2 =
-    line 4 0 (0 ∷ 0 ∷ [])
-    ∷ line 10 0 (0x99 ∷ 0x03 ∷ 0xC0 ∷ 0xDE ∷ [])
-    ∷ line 13 1 (0x11 ∷ 0x22 ∷ [])
-    ∷ line 11 0 []
+    recordLine extendedLinear 0 (0 ∷ 0 ∷ [])
+    ∷ recordLine blockStart 0 (0x99 ∷ 0x03 ∷ 0xC0 ∷ 0xDE ∷ [])
+    ∷ recordLine customData 1 (0x11 ∷ 0x22 ∷ [])
+    ∷ recordLine blockEnd 0 []
     ∷ []
 
 -- the two sections, the 01, and a line after it
 unfoldable pub file : List (List ℕ)
-file = sectionV1 ++ (sectionV2 ++ (line 1 0 [] ∷ line 1 0 [] ∷ []))
+file = sectionV1 ++ (sectionV2 ++ (recordLine endOfFile 0 [] ∷ recordLine endOfFile 0 [] ∷ []))
 
 -- what a reader of a board with an image of eight bytes 0 makes of it: the answers, the stores, and the image
 pub record Reads (own : ℕ) (answers : List ℕ) (stores : List Store) (image : List ℕ) : Type 0 where
-  pub answered : map numberOf (answersOf (start own (replicate 8 0)) file) ≡ answers
-  pub stored : storesOf (start own (replicate 8 0)) file ≡ stores
-  pub left : readAll (start own (replicate 8 0)) file .image ≡ image
+  pub answered : map numberOf (lineAnswers (freshSession own (replicate 8 0)) file) ≡ answers
+  pub stored : storesOf (freshSession own (replicate 8 0)) file ≡ stores
+  pub left : readAll (freshSession own (replicate 8 0)) file .image ≡ image
 
 -- bytes that were stored, from an address on
 abbrev pub at : ℕ → List ℕ → Store

@@ -1,5 +1,5 @@
 // Reads lines of Universal Hex from standard input for one board and prints the answer to each: a board image of 262,144 bytes.
-ghost use Prim.Native.Nat.{_+_, _<_, _≤_};
+ghost use Prim.Native.Nat.{_+_, _≤_};
 ghost use lib.ListN.{length};
 use grammar::Boards;
 use libc::STDIN_FILENO;
@@ -29,18 +29,6 @@ fn own_board() -> u16 {
         return Boards::V2;
     }
     0
-}
-
-// Where the line that begins at an index ends: after its LF, or at the end of the input.
-fn line_end(input: &[u8], at: usize) -> usize
-    requires { ⌜ at < length (now input) ⌝ }
-    ensures { λ r. ⌜ (at < r) × (r ≤ length (now (input .entry))) ⌝ }
-{
-    let found = bytes::scan::find(input, at, input.len(), b'\n');
-    if found < input.len() {
-        return found + 1;
-    }
-    found
 }
 
 // Where so many bytes more go in the text that waits to be written: behind the used ones, or at the start once these are written.
@@ -77,7 +65,7 @@ fn run(input: &[u8], own: u16, image: &mut [u8], waiting: &mut [u8]) -> Reader
     let mut at: usize = 0;
     let mut index: u64 = 0;
     while at < input.len() {
-        let e = line_end(input, at);
+        let e = textlines::line_end(input, at);
         let read = reader.line(&input[at..e], image);
         let answer = read.answer;
         reader = read.reader;
@@ -90,7 +78,7 @@ fn run(input: &[u8], own: u16, image: &mut [u8], waiting: &mut [u8]) -> Reader
 }
 
 fn print_state(reader: Reader) {
-    let mut text = [0u8; 80];
+    let mut text = [0u8; 128];
     let n = lines::hex_state_line(&mut text, reader);
     io::write_all(STDOUT_FILENO, &text[..n]);
 }

@@ -14,9 +14,9 @@ use Rattle.sets.proofs.Tests.{split}
 use Rattle.io.specs.Counts.{Counts}
 use Rattle.io.specs.Digits.{glyph, digits, Fewest}
 use Rattle.grammar.specs.Answers.{numberOf}
-use Rattle.grammar.specs.declared.Stand.{Stand}
-use Rattle.grammar.specs.declared.Stand.the-variants.{Between, Opened, Inside, Padded, Ended, Failed}
-use Rattle.lines.specs.HexLines.{hexAnswerLine, failedText, standText}
+use Rattle.grammar.specs.declared.ReaderState.{ReaderState}
+use Rattle.grammar.specs.declared.ReaderState.the-variants.{Between, Opened, Inside, Padded, Ended, Failed}
+use Rattle.lines.specs.HexLines.{hexAnswerLine, failedText, readerStateText}
 use Rattle.lines.specs.Lines.{digit, decimalBy, decimalOf, pairText}
 
 -- ---- a text that grows
@@ -105,11 +105,11 @@ pub hex-answer-short : (index answer : ℕ) → length (hexAnswerLine index answ
 unfolding hexAnswerLine
 hex-answer-short index answer = simp length-append (omega (arith, decimal-short index, decimal-short answer))
 
-pub stand-short : (s : Stand) → length (standText s) ≤ 33
-unfolding standText failedText
-stand-short Between = omega arith
-stand-short Opened = omega arith
-stand-short (Inside b) = omega arith
-stand-short (Padded b) = omega arith
-stand-short Ended = omega arith
-stand-short (Failed f) = simp length-append (omega (arith, decimal-short (numberOf (f .answer))))
+pub state-short : (s : ReaderState) → length (readerStateText s) ≤ 33
+unfolding readerStateText failedText
+state-short Between = omega arith
+state-short Opened = omega arith
+state-short (Inside b) = omega arith
+state-short (Padded b) = omega arith
+state-short Ended = omega arith
+state-short (Failed f) = simp length-append (omega (arith, decimal-short (numberOf (f .answer))))

@@ -6,6 +6,7 @@ use lib.Dec.{ltb}
 use Rattle.transfer.specs.Transfer.{countOf}
 use Rattle.transfer.specs.declared.State.{State}
 use Rattle.transfer.specs.declared.State.the-variants.{Idle, Running, Done}
+use Rattle.lines.specs.Ascii.{ascii}
 
 -- the last digit of a number
 abbrev pub digit : ℕ → ℕ
@@ -22,13 +23,17 @@ decimalOf n = decimalBy 20 n
 
 -- two numbers, with a space between: "0 14"
 abbrev pub pairText : ℕ → ℕ → List ℕ
-pairText index answer = decimalOf index ++ (32 ∷ []) ++ decimalOf answer
+pairText index answer = decimalOf index ++ ascii " " ++ decimalOf answer
 
 -- ---- the line of an answer: "0 14 0"
 
+-- 1 or 0, as a character
+abbrev pub flagDigit : Bool → ℕ
+flagDigit b = cond b 49 48
+
 -- " 0" or " 1", and the line's end
 abbrev pub flagText : Bool → List ℕ
-flagText b = 32 ∷ cond b 49 48 ∷ 10 ∷ []
+flagText b = ascii " " ++ (flagDigit b ∷ ascii "\n")
 
 -- the arrival's index, its answer's number and its "discarded"
 unfoldable pub answerLine : ℕ → ℕ → Bool → List ℕ
@@ -38,9 +43,9 @@ answerLine index answer discarded = pairText index answer ++ flagText discarded
 
 -- "state idle", "state running", "state done"
 abbrev pub stateName : State → List ℕ
-stateName Idle = 115 ∷ 116 ∷ 97 ∷ 116 ∷ 101 ∷ 32 ∷ 105 ∷ 100 ∷ 108 ∷ 101 ∷ []
-stateName (Running r) = 115 ∷ 116 ∷ 97 ∷ 116 ∷ 101 ∷ 32 ∷ 114 ∷ 117 ∷ 110 ∷ 110 ∷ 105 ∷ 110 ∷ 103 ∷ []
-stateName (Done g) = 115 ∷ 116 ∷ 97 ∷ 116 ∷ 101 ∷ 32 ∷ 100 ∷ 111 ∷ 110 ∷ 101 ∷ []
+stateName Idle = ascii "state idle"
+stateName (Running r) = ascii "state running"
+stateName (Done g) = ascii "state done"
 
 -- its total; "state idle total 0"
 abbrev pub stateTotal : State → ℕ
@@ -52,11 +57,11 @@ stateTotal (Done g) = g .total
 unfoldable pub countsLine : List ℕ → ℕ → ℕ → List ℕ
 countsLine name total seen =
     name
-    ++ (32 ∷ 116 ∷ 111 ∷ 116 ∷ 97 ∷ 108 ∷ 32 ∷ [])
+    ++ ascii " total "
     ++ decimalOf total
-    ++ (32 ∷ 115 ∷ 101 ∷ 101 ∷ 110 ∷ 32 ∷ [])
+    ++ ascii " seen "
     ++ decimalOf seen
-    ++ (10 ∷ [])
+    ++ ascii "\n"
 
 -- "state idle total 0 seen 0"; "state running total", its total, "seen", its count; "state done total 2 seen 2"
 unfoldable pub stateLine : State → List ℕ

@@ -4,11 +4,11 @@ ghost use Prim.Native.Nat.{_+_, _≤_};
 ghost use mathlib.Core.Bool.{cond};
 ghost use lib.ListN.{length};
 ghost use Rattle.io.specs.Counts.{Counts};
-ghost use Rattle.lines.specs.HexLines.{hexAnswerLine, failedText, standText, hexStateLine};
+ghost use Rattle.lines.specs.HexLines.{hexAnswerLine, failedText, readerStateText, hexStateLine};
 ghost use Rattle.lines.specs.Lines.{decimalOf, pairText, answerLine, countsLine, stateLine};
 ghost use Rattle.sets.specs.Over.{over};
 use grammar::Answer;
-use grammar::Stand;
+use grammar::ReaderState;
 use transfer::State;
 use transfer::Transfer;
 use unihex::Reader;
@@ -101,7 +101,7 @@ pub fn hex_answer_line(out: &mut [u8; 80], index: u64, answer: u8) -> usize
 }
 
 // A failed reader, with the number that it remembers.
-fn put_failed(out: &mut [u8; 80], answer: Answer) -> usize
+fn put_failed(out: &mut [u8; 128], answer: Answer) -> usize
     ensures { λ r. ⌜ r ≡ length (failedText answer) ⌝ }
     ensures { λ _. ⌜ now (out .exit) ≡ over (now (out .entry)) 0 (failedText answer) ⌝ }
 {
@@ -110,17 +110,17 @@ fn put_failed(out: &mut [u8; 80], answer: Answer) -> usize
 }
 
 // Where a reader stands.
-fn put_stand(out: &mut [u8; 80], stand: Stand) -> usize
-    ensures { λ r. ⌜ r ≡ length (standText stand) ⌝ }
-    ensures { λ _. ⌜ now (out .exit) ≡ over (now (out .entry)) 0 (standText stand) ⌝ }
+fn put_reader_state(out: &mut [u8; 128], state: ReaderState) -> usize
+    ensures { λ r. ⌜ r ≡ length (readerStateText state) ⌝ }
+    ensures { λ _. ⌜ now (out .exit) ≡ over (now (out .entry)) 0 (readerStateText state) ⌝ }
 {
-    match stand {
-        Stand::Between => put(out, 0, b"state between"),
-        Stand::Opened => put(out, 0, b"state opened"),
-        Stand::Inside(_) => put(out, 0, b"state inside"),
-        Stand::Padded(_) => put(out, 0, b"state padded"),
-        Stand::Ended => put(out, 0, b"state ended"),
-        Stand::Failed(failure) => {
+    match state {
+        ReaderState::Between => put(out, 0, b"state between"),
+        ReaderState::Opened => put(out, 0, b"state opened"),
+        ReaderState::Inside(_) => put(out, 0, b"state inside"),
+        ReaderState::Padded(_) => put(out, 0, b"state padded"),
+        ReaderState::Ended => put(out, 0, b"state ended"),
+        ReaderState::Failed(failure) => {
             let answer = failure.answer;
             put_failed(out, answer)
         }
@@ -128,14 +128,14 @@ fn put_stand(out: &mut [u8; 80], stand: Stand) -> usize
 }
 
 // The last line for a reader of Universal Hex.
-pub fn hex_state_line(out: &mut [u8; 80], reader: Reader) -> usize
+pub fn hex_state_line(out: &mut [u8; 128], reader: Reader) -> usize
     ensures { λ r. ⌜ r ≡ length (hexStateLine reader) ⌝ }
     ensures { λ _. ⌜ now (out .exit) ≡ over (now (out .entry)) 0 (hexStateLine reader) ⌝ }
     ensures { λ r. ⌜ Counts r (now (out .exit)) ⌝ }
 {
-    let stand = reader.stand;
-    let v1 = flag(reader.gave.v1);
-    let v2 = flag(reader.gave.v2);
+    let state = reader.state;
+    let v1 = flag(reader.data_seen.v1);
+    let v2 = flag(reader.data_seen.v2);
     let text = [
         b' ',
         b'v',
@@ -149,7 +149,7 @@ pub fn hex_state_line(out: &mut [u8; 80], reader: Reader) -> usize
         v2,
         b'\n',
     ];
-    let a = put_stand(out, stand);
+    let a = put_reader_state(out, state);
     let b = put(out, a, b" offset ");
     let c = put_decimal(out, b, reader.offset as u64);
     put(out, c, &text)

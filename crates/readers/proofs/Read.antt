@@ -7,15 +7,15 @@ use borrow.Author.Tests.{eq-eqb, le-leb}
 use Rattle.block.specs.Block.{fieldAt}
 use Rattle.layout.specs.Layout.{byteAt}
 use Rattle.grammar.specs.declared.Boards.{Boards}
-use Rattle.grammar.specs.declared.Stand.{Stand}
+use Rattle.grammar.specs.declared.ReaderState.{ReaderState}
 use Rattle.unihex.specs.declared.Reader.{Reader}
-use Rattle.readers.specs.Readers.{halfAt, standOf, boardsFrom, fieldsFrom, readerFrom}
+use Rattle.readers.specs.Readers.{halfAt, readerStateFrom, boardsFrom, fieldsFrom, readerFrom}
 
-abbrev readerOf : ℕ → ℕ → Stand → ℕ → Boards → Boards → Reader
-readerOf own offset s upper came gave =
-    record { own = own; offset = offset; stand = s; upper = upper; came = came; gave = gave }
+abbrev readerOf : ℕ → ℕ → ReaderState → ℕ → Boards → Boards → Reader
+readerOf own offset s upper «sections_seen» «data_seen» =
+    record { own = own; offset = offset; state = s; upper = upper; «sections_seen» = «sections_seen»; «data_seen» = «data_seen» }
 
-pub same-reader : {r : Reader} {own offset upper : ℕ} {s : Stand} {came gave : Boards} → own ≡ r .own → offset ≡ r .offset → s ≡ r .stand → upper ≡ r .upper → came ≡ r .came → gave ≡ r .gave → readerOf own offset s upper came gave ≡ r
+pub same-reader : {r : Reader} {own offset upper : ℕ} {s : ReaderState} {«sections_seen» «data_seen» : Boards} → own ≡ r .own → offset ≡ r .offset → s ≡ r .state → upper ≡ r .upper → «sections_seen» ≡ r .«sections_seen» → «data_seen» ≡ r .«data_seen» → readerOf own offset s upper «sections_seen» «data_seen» ≡ r
 same-reader a b c d e f = rw (a, b, c, d, e, f)
 
 -- 16 bytes that stand at most at 5
@@ -24,8 +24,8 @@ module _ (b : List ℕ) (l : length b ≡ 16) (k : byteAt b 8 ≤ 5) where
   unfolding readerFrom
   read-good = rw (eq-eqb (length b) 16 l, le-leb (byteAt b 8) 5 k)
 
-  pub read-fields : {own offset board upper : ℕ} {s : Stand} → own ≡ halfAt b 0 → offset ≡ fieldAt b 4 → board ≡ halfAt b 10 → s ≡ standOf (byteAt b 8) (byteAt b 9) board → upper ≡ halfAt b 2
+  pub read-fields : {own offset board upper : ℕ} {s : ReaderState} → own ≡ halfAt b 0 → offset ≡ fieldAt b 4 → board ≡ halfAt b 10 → s ≡ readerStateFrom (byteAt b 8) (byteAt b 9) board → upper ≡ halfAt b 2
       → readerOf own offset s upper (boardsFrom (byteAt b 12) (byteAt b 13)) (boardsFrom (byteAt b 14) (byteAt b 15)) ≡ readerFrom b
   unfolding fieldsFrom
   read-fields ho hf hb hs hu =
-      rw read-good (same-reader ho hf (hs ∙ ap (standOf (byteAt b 8) (byteAt b 9)) hb) hu refl refl)
+      rw read-good (same-reader ho hf (hs ∙ ap (readerStateFrom (byteAt b 8) (byteAt b 9)) hb) hu refl refl)

@@ -12,7 +12,7 @@ use Rattle.layout.specs.Layout.{byteAt}
 use Rattle.grammar.specs.Boards.{isV1, isV2}
 use Rattle.unihex.specs.declared.Reader.{Reader}
 use Rattle.unihex.specs.Reader.{badFailure, badReader}
-use Rattle.readers.specs.Readers.{halfAt, standOf, fieldsFrom, noReader, readerFrom}
+use Rattle.readers.specs.Readers.{halfAt, readerStateFrom, fieldsFrom, noReader, readerFrom}
 use Rattle.readers.proofs.Answers.{failureNumber, failure-from}
 use Rattle.readers.proofs.Read.{read-good}
 
@@ -24,18 +24,18 @@ pub length-bad : (b : List ℕ) → length b ≢ 16 → badReader (readerFrom b)
 unfolding readerFrom
 length-bad b h = rw (ne-eqb (length b) 16 h) none-bad
 
-by-failure : (r : Reader) → badFailure (r .stand) ≡ true → badReader r ≡ true
+by-failure : (r : Reader) → badFailure (r .state) ≡ true → badReader r ≡ true
 unfolding badReader
 by-failure r h = rw h (or-true (not (isV1 (r .own) || isV2 (r .own)) || ltb 4194304 (r .offset)))
 
-failed-bad : (n board : ℕ) → failureNumber n ≡ false → badFailure (standOf 5 n board) ≡ true
-unfolding standOf badFailure
+failed-bad : (n board : ℕ) → failureNumber n ≡ false → badFailure (readerStateFrom 5 n board) ≡ true
+unfolding readerStateFrom badFailure
 failed-bad n board f = ap not (failure-from n ∙ f)
 
 module _ (b : List ℕ) (e : length b ≡ 16) where
-  pub stand-bad : 5 < byteAt b 8 → badReader (readerFrom b) ≡ true
+  pub state-bad : 5 < byteAt b 8 → badReader (readerFrom b) ≡ true
   unfolding readerFrom
-  stand-bad h = rw (eq-eqb (length b) 16 e, lt-leb (byteAt b 8) 5 h) none-bad
+  state-bad h = rw (eq-eqb (length b) 16 e, lt-leb (byteAt b 8) 5 h) none-bad
 
   pub failure-bad : byteAt b 8 ≡ 5 → failureNumber (byteAt b 9) ≡ false → badReader (readerFrom b) ≡ true
   unfolding fieldsFrom

@@ -15,21 +15,21 @@ use Rattle.block.specs.Write.{le32}
 use Rattle.layout.specs.Layout.{isOn}
 use Rattle.block.proofs.WriteLaws.{field-le32}
 use Rattle.grammar.specs.declared.Boards.{Boards}
-use Rattle.grammar.specs.declared.Stand.{Stand}
-use Rattle.grammar.specs.declared.Stand.the-variants.{Between, Opened, Inside, Padded, Ended, Failed}
+use Rattle.grammar.specs.declared.ReaderState.{ReaderState}
+use Rattle.grammar.specs.declared.ReaderState.the-variants.{Between, Opened, Inside, Padded, Ended, Failed}
 use Rattle.unihex.specs.declared.Reader.{Reader}
-use Rattle.readers.specs.Readers.{halfAt, standOf, boardsFrom, fieldsFrom, readerFrom, le16, tagOf, flagOf, tagBytes, boardsBytes, readerBytes, written}
+use Rattle.readers.specs.Readers.{halfAt, readerStateFrom, boardsFrom, fieldsFrom, readerFrom, le16, stateCodeOf, flagOf, stateCodeBytes, boardsBytes, readerBytes, readerWritten}
 use Rattle.readers.proofs.Answers.{answer-back}
 use Rattle.readers.proofs.Read.{same-reader}
 
 -- ---- written
 
 bytes-length : (r : Reader) → length (readerBytes r) ≡ 16
-unfolding readerBytes tagBytes lowFirst
+unfolding readerBytes stateCodeBytes lowFirst
 bytes-length r = refl
 
-pub written-copied : (b : List ℕ) (r : Reader) {s d : List ℕ} → length b ≡ 16 → s ≡ readerBytes r → d ≡ take (length s) s ++ drop (length s) b → d ≡ written b r
-unfolding written
+pub written-copied : (b : List ℕ) (r : Reader) {s d : List ℕ} → length b ≡ 16 → s ≡ readerBytes r → d ≡ take (length s) s ++ drop (length s) b → d ≡ readerWritten b r
+unfolding readerWritten
 written-copied b r {s} l e h =
     let n : length (readerBytes r) ≡ 16 = bytes-length r in
     let past : length b ≤ length (readerBytes r) = omega arith in
@@ -38,20 +38,20 @@ written-copied b r {s} l e h =
 -- ---- read back
 
 -- the section's board fits 16 bits
-abbrev pub SmallStand : Stand → Type 0
-SmallStand Between = Unit
-SmallStand Opened = Unit
-SmallStand (Inside b) = b < 2 ^ 16
-SmallStand (Padded b) = b < 2 ^ 16
-SmallStand Ended = Unit
-SmallStand (Failed f) = Unit
+abbrev pub SmallState : ReaderState → Type 0
+SmallState Between = Unit
+SmallState Opened = Unit
+SmallState (Inside b) = b < 2 ^ 16
+SmallState (Padded b) = b < 2 ^ 16
+SmallState Ended = Unit
+SmallState (Failed f) = Unit
 
 -- the fields are in range
 pub record Small (r : Reader) : Type 0 where
   pub own : r .own < 2 ^ 16
   pub upper : r .upper < 2 ^ 16
   pub offset : r .offset < 2 ^ 32
-  pub stand : SmallStand (r .stand)
+  pub state : SmallState (r .state)
 
 -- two bytes of a number, wherever they stand, are read as it
 half-back : (p : List ℕ) (x : ℕ) (s : List ℕ) → x < 2 ^ 16 → halfAt (p ++ (le16 x ++ s)) (length p) ≡ x
@@ -61,7 +61,7 @@ flag-back : (b : Bool) → isOn (flagOf b) ≡ b
 flag-back true = refl
 flag-back false = refl
 
-kind-most : (s : Stand) → leb (tagOf s .kind) 5 ≡ true
+kind-most : (s : ReaderState) → leb (stateCodeOf s .kind) 5 ≡ true
 kind-most Between = refl
 kind-most Opened = refl
 kind-most (Inside b) = refl
@@ -69,7 +69,7 @@ kind-most (Padded b) = refl
 kind-most Ended = refl
 kind-most (Failed f) = refl
 
-board-most : (s : Stand) → SmallStand s → tagOf s .board < 2 ^ 16
+board-most : (s : ReaderState) → SmallState s → stateCodeOf s .board < 2 ^ 16
 board-most Between h = omega arith
 board-most Opened h = omega arith
 board-most (Inside b) h = h
@@ -77,14 +77,14 @@ board-most (Padded b) h = h
 board-most Ended h = omega arith
 board-most (Failed f) h = omega arith
 
-stand-back : (s : Stand) → standOf (tagOf s .kind) (tagOf s .failure) (tagOf s .board) ≡ s
-unfolding standOf
-stand-back Between = refl
-stand-back Opened = refl
-stand-back (Inside b) = refl
-stand-back (Padded b) = refl
-stand-back Ended = refl
-stand-back (Failed f) = rw (answer-back (f .answer))
+state-back : (s : ReaderState) → readerStateFrom (stateCodeOf s .kind) (stateCodeOf s .failure) (stateCodeOf s .board) ≡ s
+unfolding readerStateFrom
+state-back Between = refl
+state-back Opened = refl
+state-back (Inside b) = refl
+state-back (Padded b) = refl
+state-back Ended = refl
+state-back (Failed f) = rw (answer-back (f .answer))
 
 boards-back : (s : Boards) → boardsFrom (flagOf (s .v1)) (flagOf (s .v2)) ≡ s
 boards-back s = rw (flag-back (s .v1), flag-back (s .v2))
@@ -101,10 +101,10 @@ module _ (r : Reader) (h : Small r) where
   offset = le32 (r .offset)
 
   abbrev tag : List ℕ
-  tag = tagBytes (tagOf (r .stand))
+  tag = stateCodeBytes (stateCodeOf (r .state))
 
   abbrev sections : List ℕ
-  sections = boardsBytes (r .came) ++ boardsBytes (r .gave)
+  sections = boardsBytes (r .«sections_seen») ++ boardsBytes (r .«data_seen»)
 
   own-back : halfAt (readerBytes r) 0 ≡ r .own
   unfolding readerBytes
@@ -118,21 +118,21 @@ module _ (r : Reader) (h : Small r) where
   unfolding readerBytes lowFirst
   offset-back = field-le32 (own ++ upper) (r .offset) (tag ++ sections) (h .offset)
 
-  board-back : halfAt (readerBytes r) 10 ≡ tagOf (r .stand) .board
-  unfolding readerBytes tagBytes lowFirst
+  board-back : halfAt (readerBytes r) 10 ≡ stateCodeOf (r .state) .board
+  unfolding readerBytes stateCodeBytes lowFirst
   board-back =
-      half-back (own ++ (upper ++ (offset ++ (tagOf (r .stand) .kind ∷ tagOf (r .stand) .failure ∷ [])))) (tagOf (r .stand) .board) sections (board-most (r .stand) (h .stand))
+      half-back (own ++ (upper ++ (offset ++ (stateCodeOf (r .state) .kind ∷ stateCodeOf (r .state) .failure ∷ [])))) (stateCodeOf (r .state) .board) sections (board-most (r .state) (h .state))
 
   fields-back : fieldsFrom (readerBytes r) ≡ r
-  unfolding fieldsFrom readerBytes tagBytes lowFirst
+  unfolding fieldsFrom readerBytes stateCodeBytes lowFirst
   fields-back =
-      same-reader own-back offset-back (ap (standOf _ _) board-back ∙ stand-back (r .stand)) upper-back (boards-back (r .came)) (boards-back (r .gave))
+      same-reader own-back offset-back (ap (readerStateFrom _ _) board-back ∙ state-back (r .state)) upper-back (boards-back (r .«sections_seen»)) (boards-back (r .«data_seen»))
 
 -- the reader that is read from the bytes written for a reader is that reader
 pub round-trip : (r : Reader) → Small r → readerFrom (readerBytes r) ≡ r
-unfolding readerFrom readerBytes tagBytes lowFirst
-round-trip r h = rw (kind-most (r .stand)) (fields-back r h)
+unfolding readerFrom readerBytes stateCodeBytes lowFirst
+round-trip r h = rw (kind-most (r .state)) (fields-back r h)
 
-pub written-back : (b : List ℕ) (r : Reader) → length b ≡ 16 → Small r → readerFrom (written b r) ≡ r
-unfolding written
+pub written-back : (b : List ℕ) (r : Reader) → length b ≡ 16 → Small r → readerFrom (readerWritten b r) ≡ r
+unfolding readerWritten
 written-back b r e h = rw (eq-eqb (length b) 16 e) (round-trip r h)

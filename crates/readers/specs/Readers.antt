@@ -12,11 +12,11 @@ use Rattle.grammar.specs.Answers.{numberOf}
 use Rattle.grammar.specs.declared.Answer.{Answer}
 use Rattle.grammar.specs.declared.Answer.the-variants.{BadReader, BadImage, NoColon, BadShape, BadDigit, TooLong, BadLength, BadSum, OutOfPlace, Unaligned, Repeated, Crosses, MissingBoard, AfterEnd, Outside, Stored, Passed, Ended, FileTooLong}
 use Rattle.grammar.specs.declared.Boards.{Boards}
-use Rattle.grammar.specs.declared.Stand.{Stand}
-use Rattle.grammar.specs.declared.Stand.the-variants as stand
+use Rattle.grammar.specs.declared.ReaderState.{ReaderState}
+use Rattle.grammar.specs.declared.ReaderState.the-variants as state
 use Rattle.unihex.specs.Reader.{freshOf}
 use Rattle.unihex.specs.declared.Reader.{Reader}
-use Rattle.readers.specs.declared.Tag.{Tag}
+use Rattle.readers.specs.declared.StateCode.{StateCode}
 
 -- ---- read
 
@@ -53,14 +53,14 @@ unfoldable pub answerFrom : ℕ → Answer
 answerFrom n = getD allAnswers (n - 18) BadReader
 
 -- where a reader stands (0 Between, 1 Opened, 2 Inside, 3 Padded, 4 Ended, 5 Failed), the remembered failure and the section's board
-unfoldable pub standOf : ℕ → ℕ → ℕ → Stand
-standOf kind failure board =
-    cond (eqb kind 0) stand.Between
-    (cond (eqb kind 1) stand.Opened
-    (cond (eqb kind 2) (stand.Inside board)
-    (cond (eqb kind 3) (stand.Padded board)
-    (cond (eqb kind 4) stand.Ended
-    (stand.Failed (record { answer = answerFrom failure }))))))
+unfoldable pub readerStateFrom : ℕ → ℕ → ℕ → ReaderState
+readerStateFrom kind failure board =
+    cond (eqb kind 0) state.Between
+    (cond (eqb kind 1) state.Opened
+    (cond (eqb kind 2) (state.Inside board)
+    (cond (eqb kind 3) (state.Padded board)
+    (cond (eqb kind 4) state.Ended
+    (state.Failed (record { answer = answerFrom failure }))))))
 
 -- of V1 and of V2, each a flag
 abbrev pub boardsFrom : ℕ → ℕ → Boards
@@ -73,10 +73,10 @@ fieldsFrom b =
     record {
       own = halfAt b 0;
       offset = fieldAt b 4;
-      stand = standOf (byteAt b 8) (byteAt b 9) (halfAt b 10);
+      state = readerStateFrom (byteAt b 8) (byteAt b 9) (halfAt b 10);
       upper = halfAt b 2;
-      came = boardsFrom (byteAt b 12) (byteAt b 13);
-      gave = boardsFrom (byteAt b 14) (byteAt b 15);
+      «sections_seen» = boardsFrom (byteAt b 12) (byteAt b 13);
+      «data_seen» = boardsFrom (byteAt b 14) (byteAt b 15);
     }
 
 -- a reader of no board, which row 18 refuses (proofs/Refused.antt)
@@ -94,17 +94,17 @@ abbrev pub le16 : ℕ → List ℕ
 le16 x = lowFirst 2 x
 
 -- the kind of a stand, with the remembered failure and the section's board
-abbrev pub tagged : ℕ → ℕ → ℕ → Tag
-tagged kind failure board = record { kind = kind; failure = failure; board = board }
+abbrev pub stateCode : ℕ → ℕ → ℕ → StateCode
+stateCode kind failure board = record { kind = kind; failure = failure; board = board }
 
 -- a failure's number only where failed, a board only where in a section
-abbrev pub tagOf : Stand → Tag
-tagOf stand.Between = tagged 0 0 0
-tagOf stand.Opened = tagged 1 0 0
-tagOf (stand.Inside b) = tagged 2 0 b
-tagOf (stand.Padded b) = tagged 3 0 b
-tagOf stand.Ended = tagged 4 0 0
-tagOf (stand.Failed f) = tagged 5 (numberOf (f .answer)) 0
+abbrev pub stateCodeOf : ReaderState → StateCode
+stateCodeOf state.Between = stateCode 0 0 0
+stateCodeOf state.Opened = stateCode 1 0 0
+stateCodeOf (state.Inside b) = stateCode 2 0 b
+stateCodeOf (state.Padded b) = stateCode 3 0 b
+stateCodeOf state.Ended = stateCode 4 0 0
+stateCodeOf (state.Failed f) = stateCode 5 (numberOf (f .answer)) 0
 
 -- a flag as a byte
 abbrev pub flagOf : Bool → ℕ
@@ -115,8 +115,8 @@ abbrev pub boardsBytes : Boards → List ℕ
 boardsBytes s = flagOf (s .v1) ∷ flagOf (s .v2) ∷ []
 
 -- 8 kind, 9 failure, 10 board
-unfoldable pub tagBytes : Tag → List ℕ
-tagBytes t = t .kind ∷ t .failure ∷ le16 (t .board)
+unfoldable pub stateCodeBytes : StateCode → List ℕ
+stateCodeBytes t = t .kind ∷ t .failure ∷ le16 (t .board)
 
 -- the bytes of a reader
 unfoldable pub readerBytes : Reader → List ℕ
@@ -124,8 +124,8 @@ readerBytes r =
     le16 (r .own)
     ++ (le16 (r .upper)
     ++ (le32 (r .offset)
-    ++ (tagBytes (tagOf (r .stand)) ++ (boardsBytes (r .came) ++ boardsBytes (r .gave)))))
+    ++ (stateCodeBytes (stateCodeOf (r .state)) ++ (boardsBytes (r .«sections_seen») ++ boardsBytes (r .«data_seen»)))))
 
 -- a reader written over bytes, where there are 16
-unfoldable pub written : List ℕ → Reader → List ℕ
-written b r = cond (eqb (length b) 16) (readerBytes r) b
+unfoldable pub readerWritten : List ℕ → Reader → List ℕ
+readerWritten b r = cond (eqb (length b) 16) (readerBytes r) b

@@ -4,24 +4,24 @@ ghost use mathlib.Core.Path.{_≡_};
 ghost use Prim.Native.Nat.{_+_, _*_};
 ghost use Rattle.readers.specs.Readers.{
   answerFrom,
-  standOf,
+  readerStateFrom,
   readerFrom,
-  tagOf,
+  stateCodeOf,
   flagOf,
   readerBytes,
-  written,
+  readerWritten,
 };
 use grammar::Answer;
 use grammar::Boards;
 use grammar::Failure;
-use grammar::Stand;
+use grammar::ReaderState;
 use unihex::Reader;
 
 // The bytes of a reader.
 const READER: usize = 16;
 
 // Where a reader stands, as numbers: the kind, the failure's number and the board; 0 where there is none.
-struct Tag {
+struct StateCode {
     kind: u8,
     failure: u8,
     board: u16,
@@ -67,27 +67,27 @@ fn answer(n: u8) -> Answer
 }
 
 // Any kind over 4 is read as a failure.
-fn stand(kind: u8, failure: u8, board: u16) -> Stand
-    ensures { λ r. ⌜ r ≡ standOf kind failure board ⌝ }
+fn state_from(kind: u8, failure: u8, board: u16) -> ReaderState
+    ensures { λ r. ⌜ r ≡ readerStateFrom kind failure board ⌝ }
 {
     if kind == 0 {
-        return Stand::Between;
+        return ReaderState::Between;
     }
     if kind == 1 {
-        return Stand::Opened;
+        return ReaderState::Opened;
     }
     if kind == 2 {
-        return Stand::Inside(board);
+        return ReaderState::Inside(board);
     }
     if kind == 3 {
-        return Stand::Padded(board);
+        return ReaderState::Padded(board);
     }
     if kind == 4 {
-        return Stand::Ended;
+        return ReaderState::Ended;
     }
     let answer = answer(failure);
     let failure = Failure { answer };
-    Stand::Failed(failure)
+    ReaderState::Failed(failure)
 }
 
 // The reader that bytes are.
@@ -101,57 +101,57 @@ pub fn read_reader(bytes: &[u8]) -> Reader
         return Reader::fresh(0);
     }
     let board = joined(bytes[10], bytes[11]);
-    let stand = stand(bytes[8], bytes[9], board);
-    let came = Boards {
+    let state = state_from(bytes[8], bytes[9], board);
+    let sections_seen = Boards {
         v1: bytes[12] != 0,
         v2: bytes[13] != 0,
     };
-    let gave = Boards {
+    let data_seen = Boards {
         v1: bytes[14] != 0,
         v2: bytes[15] != 0,
     };
     Reader {
         own: joined(bytes[0], bytes[1]),
         offset: block::field(bytes, 4),
-        stand,
+        state,
         upper: joined(bytes[2], bytes[3]),
-        came,
-        gave,
+        sections_seen,
+        data_seen,
     }
 }
 
-fn tag_of(stand: Stand) -> Tag
-    ensures { λ r. ⌜ r ≡ tagOf stand ⌝ }
+fn state_code(state: ReaderState) -> StateCode
+    ensures { λ r. ⌜ r ≡ stateCodeOf state ⌝ }
 {
-    match stand {
-        Stand::Between => Tag {
+    match state {
+        ReaderState::Between => StateCode {
             kind: 0,
             failure: 0,
             board: 0,
         },
-        Stand::Opened => Tag {
+        ReaderState::Opened => StateCode {
             kind: 1,
             failure: 0,
             board: 0,
         },
-        Stand::Inside(board) => Tag {
+        ReaderState::Inside(board) => StateCode {
             kind: 2,
             failure: 0,
             board,
         },
-        Stand::Padded(board) => Tag {
+        ReaderState::Padded(board) => StateCode {
             kind: 3,
             failure: 0,
             board,
         },
-        Stand::Ended => Tag {
+        ReaderState::Ended => StateCode {
             kind: 4,
             failure: 0,
             board: 0,
         },
-        Stand::Failed(failure) => {
+        ReaderState::Failed(failure) => {
             let answer = failure.answer;
-            Tag {
+            StateCode {
                 kind: 5,
                 failure: answer.number(),
                 board: 0,
@@ -167,16 +167,16 @@ fn flag(on: bool) -> u8
 }
 
 // The bytes that a reader is.
-fn sixteen(reader: Reader) -> [u8; READER]
+fn reader_bytes(reader: Reader) -> [u8; READER]
     ensures { λ r. ⌜ r ≡ readerBytes reader ⌝ }
 {
     let own = reader.own;
     let upper = reader.upper;
     let offset = reader.offset;
-    let stand = reader.stand;
-    let came = reader.came;
-    let gave = reader.gave;
-    let tag = tag_of(stand);
+    let state = reader.state;
+    let sections_seen = reader.sections_seen;
+    let data_seen = reader.data_seen;
+    let tag = state_code(state);
     let board = tag.board;
     [
         (own % 256) as u8,
@@ -191,20 +191,20 @@ fn sixteen(reader: Reader) -> [u8; READER]
         tag.failure,
         (board % 256) as u8,
         (board / 256 % 256) as u8,
-        flag(came.v1),
-        flag(came.v2),
-        flag(gave.v1),
-        flag(gave.v2),
+        flag(sections_seen.v1),
+        flag(sections_seen.v2),
+        flag(data_seen.v1),
+        flag(data_seen.v2),
     ]
 }
 
 // Writes a reader, where there are bytes for it.
 pub fn write_reader(bytes: &mut [u8], reader: Reader)
-    ensures { λ _. ⌜ now (bytes .exit) ≡ written (now (bytes .entry)) reader ⌝ }
+    ensures { λ _. ⌜ now (bytes .exit) ≡ readerWritten (now (bytes .entry)) reader ⌝ }
 {
     if bytes.len() != READER {
         return;
     }
-    let new = sixteen(reader);
+    let new = reader_bytes(reader);
     bytes::copy(&new, bytes);
 }

@@ -2,12 +2,17 @@
 use Prim.Native.Nat.{ℕ}
 use mathlib.Core.Bool.{false}
 use mathlib.Core.List.{List}
+use lib.ListN.{length}
 use denote.Ref.{RefT, now}
 use denote.Triple.Both.{Both}
+use Rattle.settings.specs.declared.Settings.{Settings}
 use Rattle.transfer.specs.declared.Answer.{Answer}
 use Rattle.transfer.specs.declared.Transfer.{Transfer}
-use Rattle.arrival.specs.Arrive.{Held, Lent, World, Outcome}
+use Rattle.arrival.specs.Arrive.{Held, Lent, World, Outcome, Decision, stays, accepts, decided, Forecast, forecast}
 use Rattle.receiver.specs.declared.Receipt.{Receipt}
+use Rattle.receiver.specs.declared.Preview.{Preview}
+use Rattle.receiver.specs.declared.Verdict.{Verdict}
+use Rattle.receiver.specs.declared.Verdict.the-variants.{Leaves, Accepts}
 
 -- flash and sector map
 abbrev pub held : List ℕ → List ℕ → Held
@@ -44,3 +49,16 @@ refusal t a = record { transfer = t; answer = a; discarded = false }
 -- what is returned, with the buffers as they are left
 abbrev pub outcome : Receipt → Lent → Outcome
 outcome r h = record { world = world (r .transfer) h; answer = r .answer; discarded = r .discarded }
+
+-- what an arrival comes to, before anything is written
+abbrev pub decision : Verdict → Decision
+decision (Leaves x) = stays x
+decision (Accepts k) = accepts (k .placed) (k .deed) (k .accepted)
+
+-- what the checks decide of an arrival, for a transfer and the buffers that are lent
+unfoldable pub decisionIn : Settings → World → List ℕ → Decision
+decisionIn s w a = decided s w a
+
+-- what a look returns
+abbrev pub previewed : Preview → Forecast
+previewed r = forecast (r .answer) (r .discarded)

@@ -7,23 +7,30 @@ ghost use Rattle.transfer.specs.Transfer.{stepOf};
 ghost use Rattle.arrival.specs.Arrive.{
   outcomeNumber,
   rightLengths,
+  deedOf,
   stepped,
   clearedIf,
   wipedIf,
   preparedAt,
   pagedAt,
+  atOf,
+  doneTo,
   accepts,
   done,
   receiveOf,
+  forecastNumber,
+  lookOf,
 };
-ghost use Rattle.receiver.specs.Receiver.{held, lentAt, leftAt, world, refusal, outcome};
+ghost use Rattle.receiver.specs.Receiver.{held, lentAt, leftAt, world, refusal, outcome, decision, decisionIn, previewed};
 use block::Block;
 use flash::Flash;
-use screen::Page;
+use screen::Body;
+use screen::Placed;
 use screen::Screening;
 use settings::Settings;
 use transfer::Accepted;
 use transfer::Answer;
+use transfer::Deed;
 use transfer::Step;
 use transfer::Transfer;
 
@@ -39,6 +46,25 @@ impl Receipt {
     pub const SEEN: usize = 16384;
 
     pub const SECTORS: usize = 1024;
+}
+
+// What a look says: the answer, and whether a running transfer would be discarded.
+pub struct Preview {
+    pub answer: Answer,
+    pub discarded: bool,
+}
+
+// A block that is accepted: its number and what it holds, what is done with that, and what the block does to the transfer.
+pub struct Acceptance {
+    pub placed: Placed,
+    pub deed: Deed,
+    pub accepted: Accepted,
+}
+
+// What an arrival comes to, before anything is written.
+pub enum Verdict {
+    Leaves(Answer),
+    Accepts(Acceptance),
 }
 
 // Are the lengths of arrival, flash, seen map and sector map right?
@@ -88,21 +114,54 @@ fn store(at: usize, clears: bool, arrival: &[u8], flash: &mut [u8], sectors: &mu
     bitmap::mark(sectors, sector);
 }
 
-// A block that is accepted.
+// What a block does once it is accepted.
+fn deed_of(body: Body) -> Deed
+    ensures { λ r. ⌜ r ≡ deedOf body ⌝ }
+{
+    match body {
+        Body::Page(_) => Deed::Stores,
+        Body::Note => Deed::Notes,
+    }
+}
+
+// The storage address of a page. A comment has none, and nothing asks for its.
+fn page_at(body: Body) -> usize
+    ensures { λ r. ⌜ r ≡ atOf body ⌝ }
+{
+    match body {
+        Body::Page(at) => at,
+        Body::Note => 0,
+    }
+}
+
+// Stores a page, or only clears the sector map where a comment begins a transfer.
+fn write(deed: Deed, at: usize, clears: bool, arrival: &[u8], flash: &mut [u8], sectors: &mut [u8])
+    ensures { λ _. ⌜ held (now (flash .exit)) (now (sectors .exit)) ≡ doneTo deed at (payloadOf (now (arrival .entry))) (wipedIf clears (held (now (flash .entry)) (now (sectors .entry)))) ⌝ }
+{
+    match deed {
+        Deed::Stores => store(at, clears, arrival, flash, sectors),
+        Deed::Notes => clear_if(clears, sectors),
+    }
+}
+
+// Writes a block that is accepted.
 fn accept(
-    page: Page,
+    placed: Placed,
+    deed: Deed,
     accepted: Accepted,
     arrival: &[u8],
     flash: &mut [u8],
     seen: &mut [u8],
     sectors: &mut [u8],
 ) -> Receipt
-    ensures { λ r. ⌜ outcome r (leftAt flash seen sectors) ≡ done (world (accepted .transfer) (lentAt flash seen sectors)) (payloadOf (now (arrival .entry))) (accepts page accepted) ⌝ }
+    ensures { λ r. ⌜ outcome r (leftAt flash seen sectors) ≡ done (world (accepted .transfer) (lentAt flash seen sectors)) (payloadOf (now (arrival .entry))) (accepts placed deed accepted) ⌝ }
 {
     let next = accepted.transfer;
     let given = accepted.answer;
-    let number = page.number as usize;
-    store(page.at, accepted.clears, arrival, flash, sectors);
+    let number = placed.number as usize;
+    let body = placed.body;
+    let at = page_at(body);
+    write(deed, at, accepted.clears, arrival, flash, sectors);
     clear_if(accepted.clears, seen);
     bitmap::mark(seen, number);
     Receipt {
@@ -112,33 +171,87 @@ fn accept(
     }
 }
 
-// A block that has passed the screening.
-fn look(
-    transfer: Transfer,
-    page: Page,
-    arrival: &[u8],
-    flash: &mut [u8],
-    seen: &mut [u8],
-    sectors: &mut [u8],
-) -> Receipt
-    ensures { λ r. ⌜ outcome r (leftAt flash seen sectors) ≡ done (world transfer (lentAt flash seen sectors)) (payloadOf (now (arrival .entry))) (stepped page (stepOf (transfer .state) (page .head) (markedIn (now (seen .entry)) (page .number)))) ⌝ }
+// Rows 12 to 16, of a block that has passed the screening.
+fn settle(transfer: Transfer, placed: Placed, seen: &[u8]) -> Verdict
+    ensures { λ r. ⌜ decision r ≡ stepped placed (deedOf (placed .body)) (stepOf (transfer .state) (placed .head) (markedIn (now (seen .entry)) (placed .number)) (deedOf (placed .body))) ⌝ }
 {
-    let head = page.head;
-    let number = page.number as usize;
+    let head = placed.head;
+    let number = placed.number as usize;
+    let body = placed.body;
     let marked = bitmap::marked(seen, number);
-    let step = transfer.step(head, marked);
+    let deed = deed_of(body);
+    let step = transfer.step(head, marked, deed);
     match step {
         Step::Stays(unchanged) => {
-            let same = unchanged.transfer;
             let answer = unchanged.answer;
-            refuse(same, answer)
+            Verdict::Leaves(answer)
         }
-        Step::Accepts(accepted) => accept(page, accepted, arrival, flash, seen, sectors),
+        Step::Accepts(accepted) => Verdict::Accepts(Acceptance {
+            placed,
+            deed,
+            accepted,
+        }),
     }
 }
 
-// One arrival: the next transfer and the answer, and what it writes.
-pub fn receive(
+// Every check, in its order.
+fn judge(
+    settings: Settings,
+    transfer: Transfer,
+    arrival: &[u8],
+    flash: &[u8],
+    seen: &[u8],
+    sectors: &[u8],
+) -> Verdict
+    ensures { λ r. ⌜ decision r ≡ decisionIn settings (world transfer (lentAt flash seen sectors)) (now (arrival .entry)) ⌝ }
+{
+    let len = flash.len();
+    if !lengths_right(arrival.len(), len, seen.len(), sectors.len()) {
+        return Verdict::Leaves(Answer::BadBuffers);
+    }
+    if !settings::good(settings, len) {
+        return Verdict::Leaves(Answer::BadSettings);
+    }
+    if !transfer.sound() {
+        return Verdict::Leaves(Answer::BadState);
+    }
+    let screening = screen::screen(settings, len, arrival);
+    match screening {
+        Screening::Refused(answer) => Verdict::Leaves(answer),
+        Screening::Passed(placed) => settle(transfer, placed, seen),
+    }
+}
+
+// What would happen. Nothing changes.
+pub fn look(
+    settings: Settings,
+    transfer: Transfer,
+    arrival: &[u8],
+    flash: &[u8],
+    seen: &[u8],
+    sectors: &[u8],
+) -> Preview
+    ensures { λ r. ⌜ numbered forecastNumber (previewed r) ≡ numbered forecastNumber (lookOf settings (world transfer (lentAt flash seen sectors)) (now (arrival .entry))) ⌝ }
+{
+    let verdict = judge(settings, transfer, arrival, flash, seen, sectors);
+    match verdict {
+        Verdict::Leaves(answer) => Preview {
+            answer,
+            discarded: false,
+        },
+        Verdict::Accepts(acceptance) => {
+            let accepted = acceptance.accepted;
+            let answer = accepted.answer;
+            Preview {
+                answer,
+                discarded: accepted.discarded,
+            }
+        }
+    }
+}
+
+// One arrival: the next transfer and the answer, and what it writes. It gets nothing from a look, and repeats every check.
+pub fn take(
     settings: Settings,
     transfer: Transfer,
     arrival: &[u8],
@@ -148,19 +261,14 @@ pub fn receive(
 ) -> Receipt
     ensures { λ r. ⌜ numbered outcomeNumber (outcome r (leftAt flash seen sectors)) ≡ numbered outcomeNumber (receiveOf settings (world transfer (lentAt flash seen sectors)) (now (arrival .entry))) ⌝ }
 {
-    let len = flash.len();
-    if !lengths_right(arrival.len(), len, seen.len(), sectors.len()) {
-        return refuse(transfer, Answer::BadBuffers);
-    }
-    if !settings::good(settings, len) {
-        return refuse(transfer, Answer::BadSettings);
-    }
-    if !transfer.sound() {
-        return refuse(transfer, Answer::BadState);
-    }
-    let screened = screen::screen(settings, len, arrival);
-    match screened {
-        Screening::Refused(answer) => refuse(transfer, answer),
-        Screening::Passed(page) => look(transfer, page, arrival, flash, seen, sectors),
+    let verdict = judge(settings, transfer, arrival, flash, seen, sectors);
+    match verdict {
+        Verdict::Leaves(answer) => refuse(transfer, answer),
+        Verdict::Accepts(acceptance) => {
+            let placed = acceptance.placed;
+            let deed = acceptance.deed;
+            let accepted = acceptance.accepted;
+            accept(placed, deed, accepted, arrival, flash, seen, sectors)
+        }
     }
 }

@@ -9,35 +9,35 @@ use lib.ListN.{length, getD, take, drop, length-drop}
 use lib.Seq.{take-all, getD-take}
 use borrow.Author.Tests.{lt-ltb, le-ltb, eq-eqb, ne-eqb, ltb-true, ltb-false, eqb-false}
 use Rattle.sets.proofs.Tests.{split, or-left, or-right}
-use Rattle.record.specs.declared.Parsed.the-variants.{NoColon, BadShape, BadDigit, TooLong, BadLength, BadSum}
-use Rattle.record.specs.Record.{allDigits, bytesOf, Decoded, lenOf, total, badShape, good, refused, lineBytes, lineText}
+use Rattle.record.specs.declared.ParseResult.the-variants.{NoColon, BadShape, BadDigit, TooLong, BadLength, BadSum}
+use Rattle.record.specs.Record.{allDigits, bytesOf, Decoding, lenOf, total, badShape, good, refused, lineOfBytes, lineOfText}
 use Rattle.record.proofs.Digits.{length-bytes}
 
 -- ---- rows 23 to 25, of n characters and their bytes
 
 module _ (n : ℕ) (b : List ℕ) where
-  pub is-too-long : 32 < lenOf b → refused TooLong ≡ lineBytes n b
-  unfolding lineBytes
+  pub is-too-long : 32 < lenOf b → refused TooLong ≡ lineOfBytes n b
+  unfolding lineOfBytes
   is-too-long h = rw (lt-ltb 32 (lenOf b) h)
 
   module _ (fits : lenOf b ≤ 32) where
-    pub is-bad-length : (n ≡ 11 + 2 * lenOf b → ⊥) → refused BadLength ≡ lineBytes n b
-    unfolding lineBytes
+    pub is-bad-length : (n ≡ 11 + 2 * lenOf b → ⊥) → refused BadLength ≡ lineOfBytes n b
+    unfolding lineOfBytes
     is-bad-length h = rw (le-ltb 32 (lenOf b) fits, ne-eqb n (11 + 2 * lenOf b) h)
 
     module _ (long : n ≡ 11 + 2 * lenOf b) where
-      pub is-bad-sum : (total b % 256 ≡ 0 → ⊥) → refused BadSum ≡ lineBytes n b
-      unfolding lineBytes
+      pub is-bad-sum : (total b % 256 ≡ 0 → ⊥) → refused BadSum ≡ lineOfBytes n b
+      unfolding lineOfBytes
       is-bad-sum h =
           rw (le-ltb 32 (lenOf b) fits, eq-eqb n (11 + 2 * lenOf b) long, ne-eqb (total b % 256) 0 h)
 
-      pub is-good : total b % 256 ≡ 0 → good b ≡ lineBytes n b
-      unfolding lineBytes
+      pub is-good : total b % 256 ≡ 0 → good b ≡ lineOfBytes n b
+      unfolding lineOfBytes
       is-good h =
           rw (le-ltb 32 (lenOf b) fits, eq-eqb n (11 + 2 * lenOf b) long, eq-eqb (total b % 256) 0 h)
 
 -- the first 37 bytes decide
-first-37 : (n : ℕ) (b : List ℕ) → n ≡ 1 + 2 * length b → lineBytes n (take 37 b) ≡ lineBytes n b
+first-37 : (n : ℕ) (b : List ℕ) → n ≡ 1 + 2 * length b → lineOfBytes n (take 37 b) ≡ lineOfBytes n b
 first-37 n b e =
     split (ltb 37 (length b))
     (λ y.
@@ -50,7 +50,7 @@ first-37 n b e =
     (λ t.
     let g : lenOf b ≤ 32 = ltb-false 32 (lenOf b) t in
     sym (is-bad-length n (take 37 b) (rw f g) (λ q. omega arith)) ∙ is-bad-length n b g (λ q. omega arith)))
-    (λ y. ap (lineBytes n) (take-all 37 b (ltb-false 37 (length b) y)))
+    (λ y. ap (lineOfBytes n) (take-all 37 b (ltb-false 37 (length b) y)))
 
 -- the same of a list that begins with the bytes, as the code has them
 module _ (n : ℕ) (l : List ℕ) (least : 10 < n) where
@@ -60,32 +60,32 @@ module _ (n : ℕ) (l : List ℕ) (least : 10 < n) where
   len-bytes : lenOf (take (n / 2) l) ≡ used
   len-bytes = getD-take (n / 2) l 0 0 (omega arith)
 
-  pub bytes-too-long : 32 < used → refused TooLong ≡ lineBytes n (take (n / 2) l)
+  pub bytes-too-long : 32 < used → refused TooLong ≡ lineOfBytes n (take (n / 2) l)
   bytes-too-long h = is-too-long n (take (n / 2) l) (rw len-bytes h)
 
   module _ (fits : used ≤ 32) where
-    pub bytes-bad-length : (n ≡ 11 + 2 * used → ⊥) → refused BadLength ≡ lineBytes n (take (n / 2) l)
+    pub bytes-bad-length : (n ≡ 11 + 2 * used → ⊥) → refused BadLength ≡ lineOfBytes n (take (n / 2) l)
     bytes-bad-length h = is-bad-length n (take (n / 2) l) (rw len-bytes fits) (rw len-bytes h)
 
     module _ (long : n ≡ 11 + 2 * used) where
       all : n / 2 ≡ used + 5
       all = omega arith
 
-      pub bytes-bad-sum : (total (take (used + 5) l) % 256 ≡ 0 → ⊥) → refused BadSum ≡ lineBytes n (take (n / 2) l)
+      pub bytes-bad-sum : (total (take (used + 5) l) % 256 ≡ 0 → ⊥) → refused BadSum ≡ lineOfBytes n (take (n / 2) l)
       bytes-bad-sum h = is-bad-sum n (take (n / 2) l) (rw len-bytes fits) (rw len-bytes long) (rw all h)
 
-      pub bytes-good : total (take (used + 5) l) % 256 ≡ 0 → good (take (used + 5) l) ≡ lineBytes n (take (n / 2) l)
+      pub bytes-good : total (take (used + 5) l) % 256 ≡ 0 → good (take (used + 5) l) ≡ lineOfBytes n (take (n / 2) l)
       bytes-good h =
           ap good (ap (λ (k : ℕ). take k l) (sym all))
           ∙ is-good n (take (n / 2) l) (rw len-bytes fits) (rw len-bytes long) (rw all h)
 
 -- ---- rows 20 to 22, of a text
 
-pub record Shaped (n : ℕ) : Type 0 where
+pub record Shape (n : ℕ) : Type 0 where
   pub least : 10 < n
   pub odd : n % 2 ≡ 1
 
-pub shaped : (n : ℕ) → badShape n ≡ false → Shaped n
+pub shaped : (n : ℕ) → badShape n ≡ false → Shape n
 shaped n e =
     let size = ltb n 11 || ltb 521 n in
     let f : n % 2 ≡ 0 → ⊥ = eqb-false (n % 2) 0 (or-right size _ e) in
@@ -96,30 +96,30 @@ pub rest : (k : ℕ) (l : List ℕ) → take (length l - k) (drop k l) ≡ drop 
 rest k l = take-all (length l - k) (drop k l) (omega (arith, length-drop k l))
 
 module _ (t : List ℕ) where
-  pub is-empty : length t ≡ 0 → refused NoColon ≡ lineText t
-  unfolding lineText
+  pub is-empty : length t ≡ 0 → refused NoColon ≡ lineOfText t
+  unfolding lineOfText
   is-empty e = rw (eq-eqb (length t) 0 e)
 
-  pub is-no-colon : (getD t 0 0 ≡ 58 → ⊥) → refused NoColon ≡ lineText t
-  unfolding lineText
+  pub is-no-colon : (getD t 0 0 ≡ 58 → ⊥) → refused NoColon ≡ lineOfText t
+  unfolding lineOfText
   is-no-colon h = rw (ne-eqb (getD t 0 0) 58 h, or-true (eqb (length t) 0))
 
   module _ (some : length t ≡ 0 → ⊥) (colon : getD t 0 0 ≡ 58) where
-    pub is-bad-shape : badShape (length t) ≡ true → refused BadShape ≡ lineText t
-    unfolding lineText
+    pub is-bad-shape : badShape (length t) ≡ true → refused BadShape ≡ lineOfText t
+    unfolding lineOfText
     is-bad-shape e = rw (ne-eqb (length t) 0 some, eq-eqb (getD t 0 0) 58 colon, e)
 
     module _ (shape : badShape (length t) ≡ false) where
-      pub is-bad-digit : allDigits (drop 1 t) ≡ false → refused BadDigit ≡ lineText t
-      unfolding lineText
+      pub is-bad-digit : allDigits (drop 1 t) ≡ false → refused BadDigit ≡ lineOfText t
+      unfolding lineOfText
       is-bad-digit e = rw (ne-eqb (length t) 0 some, eq-eqb (getD t 0 0) 58 colon, shape, e)
 
-      pub is-bytes : allDigits (drop 1 t) ≡ true → lineBytes (length t) (bytesOf (drop 1 t)) ≡ lineText t
-      unfolding lineText
+      pub is-bytes : allDigits (drop 1 t) ≡ true → lineOfBytes (length t) (bytesOf (drop 1 t)) ≡ lineOfText t
+      unfolding lineOfText
       is-bytes e = rw (ne-eqb (length t) 0 some, eq-eqb (getD t 0 0) 58 colon, shape, e)
 
-      pub is-decoded : (out : List ℕ) → allDigits (drop 1 t) ≡ true → length out ≡ 37 → Decoded (drop 1 t) out
-          → lineBytes (length t) (take (length t / 2) out) ≡ lineText t
+      pub is-decoded : (out : List ℕ) → allDigits (drop 1 t) ≡ true → length out ≡ 37 → Decoding (drop 1 t) out
+          → lineOfBytes (length t) (take (length t / 2) out) ≡ lineOfText t
       is-decoded out e n d =
           let o : length t % 2 ≡ 1 = shaped (length t) shape .odd in
           let m : 10 < length t = shaped (length t) shape .least in

@@ -1,48 +1,16 @@
--- A digit as the code finds it, the bytes that digits say, and what a loop over characters has passed. Assumes nothing.
+-- The bytes that digits say, and what a loop over characters has passed. Assumes nothing.
 use mathlib.Core.Path.{_≡_, refl, sym, ap, _∙_}
-use mathlib.Core.Bool.{Bool, _&&_, not, cond, and-assoc, and-true}
+use mathlib.Core.Bool.{Bool, _&&_, and-assoc, and-true}
 use mathlib.Core.List.{List, [], _∷_, _++_, append-nil}
 use Prim.Native.Nat.{ℕ, zero, suc, min, _+_, _*_, _/_, _%_, _≤_, _<_}
 use native.Mathlib.Numerals.{add-one}
 use native.Mathlib.Omega.{arith}
-use lib.Bits.{bitOr}
-use lib.Dec.{ltb, eqb}
+use lib.Dec.{ltb}
 use lib.ListN.{length, getD, take, drop, set, length-append, length-drop, drop-of-length-le}
 use lib.Seq.{take-nil, take-all, take-at, take-suc, take-suc-set, length-take-le, drop-cons}
-use borrow.Author.Tests.{lt-ltb, le-ltb, ltb-true, ltb-false, eqb-true, not-false}
+use borrow.Author.Tests.{ltb-true, ltb-false}
 use Rattle.sets.proofs.Tests.{split}
-use Rattle.sets.specs.Sets.{Set, any}
-use Rattle.sets.proofs.Laws.{any-all}
-use Rattle.record.specs.Record.{digitOf, isDigit, allDigits, bytesOf, Decoded}
-
--- ---- a digit, by how far its character is past '0' and, made small, past 'a'
-
-abbrev found : ℕ → ℕ → ℕ
-found d l = cond (ltb d 10) d (cond (ltb l 6) (l + 10) 16)
-
-wrong : Set
-wrong c = not (eqb (found ((c + 208) % 256) ((bitOr c 32 + 159) % 256)) (digitOf c))
-
--- computed, at every byte
-digit-found : (c : ℕ) → c < 256 → found ((c + 208) % 256) ((bitOr c 32 + 159) % 256) ≡ digitOf c
-unfolding wrong digitOf any
-digit-found c h = eqb-true _ _ (not-false _ (any-all wrong 256 refl c h))
-
-module _ {c d l : ℕ} (byte : c < 256) (hd : d < 256) (hl : l < 256) (decimal : (d + 48) % 256 ≡ c) (letter : (l + 97) % 256 ≡ bitOr c 32) where
-  digit-is : found d l ≡ digitOf c
-  digit-is =
-      let e : d ≡ (c + 208) % 256 = omega arith in
-      let f : l ≡ (bitOr c 32 + 159) % 256 = omega arith in
-      rw (e, f) (digit-found c byte)
-
-  pub digit-decimal : d < 10 → d ≡ digitOf c
-  digit-decimal h = rw (lt-ltb d 10 h) at digit-is
-
-  pub digit-letter : 10 ≤ d → l < 6 → l + 10 ≡ digitOf c
-  digit-letter h k = rw (le-ltb d 10 h, lt-ltb l 6 k) at digit-is
-
-  pub digit-none : 10 ≤ d → 6 ≤ l → 16 ≡ digitOf c
-  digit-none h k = rw (le-ltb d 10 h, le-ltb l 6 k) at digit-is
+use Rattle.record.specs.Record.{digitOf, isDigit, allDigits, bytesOf, Decoding}
 
 -- ---- bytes
 
@@ -79,7 +47,7 @@ bytes-take (suc k) (c ∷ d ∷ l) =
     rw (e, bytes-take k l)
 
 -- the bytes of as many pairs as there are and `lent` has room for, put over its beginning
-pub decoded : (l lent b : List ℕ) (k : ℕ) → k ≡ min (length l / 2) (length lent) → b ≡ bytesOf (take (2 * k) l) → Decoded l (b ++ drop k lent)
+pub decoded : (l lent b : List ℕ) (k : ℕ) → k ≡ min (length l / 2) (length lent) → b ≡ bytesOf (take (2 * k) l) → Decoding l (b ++ drop k lent)
 decoded l lent b k m e =
     let w = bytesOf l in
     let n : length w ≡ length l / 2 = length-bytes l in
@@ -110,23 +78,23 @@ bytes-next l out i {v} n h e q =
 -- ---- whether all characters are digits
 
 -- they are if the first j are, which is `good`, and the others
-abbrev pub Judged : List ℕ → ℕ → Bool → Type 0
-Judged l j good = allDigits l ≡ good && allDigits (drop j l)
+abbrev pub Verdict : List ℕ → ℕ → Bool → Type 0
+Verdict l j good = allDigits l ≡ good && allDigits (drop j l)
 
-pub judged-next : (l : List ℕ) (good : Bool) {j v : ℕ} → j < length l → v ≡ digitOf (getD l j 0) → Judged l j good → Judged l (j + 1) (good && ltb v 16)
+pub verdict-next : (l : List ℕ) (good : Bool) {j v : ℕ} → j < length l → v ≡ digitOf (getD l j 0) → Verdict l j good → Verdict l (j + 1) (good && ltb v 16)
 unfolding allDigits
-judged-next l good {j} {v} h e q =
+verdict-next l good {j} {v} h e q =
     let d : drop j l ≡ getD l j 0 ∷ drop (j + 1) l = rw add-one (drop-cons l j 0 h) in
     q ∙ ap (λ (r : List ℕ). good && allDigits r) d ∙ rw e (sym (and-assoc good (isDigit (getD l j 0)) _))
 
-pub judged-all : (l : List ℕ) (good : Bool) {j : ℕ} → length l ≤ j → Judged l j good → good ≡ allDigits l
+pub verdict-all : (l : List ℕ) (good : Bool) {j : ℕ} → length l ≤ j → Verdict l j good → good ≡ allDigits l
 unfolding allDigits
-judged-all l good {j} h q = sym (and-true good) ∙ sym (rw (drop-of-length-le l h) at q)
+verdict-all l good {j} h q = sym (and-true good) ∙ sym (rw (drop-of-length-le l h) at q)
 
 -- two parts, judged by themselves
-pub judged-parts : (k : ℕ) (l : List ℕ) → allDigits (take k l) && allDigits (drop k l) ≡ allDigits l
+pub verdict-parts : (k : ℕ) (l : List ℕ) → allDigits (take k l) && allDigits (drop k l) ≡ allDigits l
 unfolding allDigits
-judged-parts zero l = refl
-judged-parts (suc k) [] = refl
-judged-parts (suc k) (c ∷ l) =
-    and-assoc (isDigit c) (allDigits (take k l)) (allDigits (drop k l)) ∙ ap (λ (b : Bool). isDigit c && b) (judged-parts k l)
+verdict-parts zero l = refl
+verdict-parts (suc k) [] = refl
+verdict-parts (suc k) (c ∷ l) =
+    and-assoc (isDigit c) (allDigits (take k l)) (allDigits (drop k l)) ∙ ap (λ (b : Bool). isDigit c && b) (verdict-parts k l)

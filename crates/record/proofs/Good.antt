@@ -10,15 +10,15 @@ use borrow.Author.Tests.{ltb-true, ltb-false, eqb-true, not-false}
 use Rattle.sets.proofs.Tests.{and-left, and-right}
 use Rattle.record.specs.declared.Line.{Line}
 use Rattle.record.specs.declared.Record.{Record}
-use Rattle.record.specs.declared.Parsed.{Parsed}
-use Rattle.record.specs.declared.Parsed.the-variants.{Good, NoColon, BadShape, BadDigit, TooLong, BadLength, BadSum}
-use Rattle.record.specs.Record.{textOf, digitOf, isDigit, allDigits, bytesOf, lenOf, dataOf, recordOf, total, noColon, badShape, badLength, badSum, good, refused, lineBytes, lineText, readOf, parsedNumber}
+use Rattle.record.specs.declared.ParseResult.{ParseResult}
+use Rattle.record.specs.declared.ParseResult.the-variants.{Good, NoColon, BadShape, BadDigit, TooLong, BadLength, BadSum}
+use Rattle.record.specs.Record.{textOf, digitOf, isDigit, allDigits, bytesOf, lenOf, dataOf, recordOf, total, noColon, badShape, badLength, badSum, good, refused, lineOfBytes, lineOfText, readOf, parsedNumber}
 use Rattle.record.specs.Write.{Bytes}
 use Rattle.record.proofs.Digits.{length-bytes}
-use Rattle.record.proofs.Held.{length-held, held-take}
+use Rattle.record.proofs.Data32.{length-data32, data32-take}
 
 -- a row that a good line has passed
-passed : (b : Bool) (p : Parsed) (x : Line) (r : Record) → 0 < parsedNumber p → cond b (refused p) x .parsed ≡ Good r → (b ≡ false) × (x .parsed ≡ Good r)
+passed : (b : Bool) (p : ParseResult) (x : Line) (r : Record) → 0 < parsedNumber p → cond b (refused p) x .parsed ≡ Good r → (b ≡ false) × (x .parsed ≡ Good r)
 passed true p x r h e = absurd (omega (arith, ap parsedNumber e))
 passed false p x r h e = (refl, e)
 
@@ -29,10 +29,10 @@ pub record Says (t : List ℕ) (r : Record) : Type 0 where
   pub long : length t ≡ 11 + 2 * lenOf (bytesOf (drop 1 t))
   pub sums : total (bytesOf (drop 1 t)) % 256 ≡ 0
   pub fields : r ≡ recordOf (bytesOf (drop 1 t))
-  pub whole : lineText t ≡ good (bytesOf (drop 1 t))
+  pub whole : lineOfText t ≡ good (bytesOf (drop 1 t))
 
-pub says : (t : List ℕ) (r : Record) → lineText t .parsed ≡ Good r → Says t r
-unfolding lineText lineBytes
+pub says : (t : List ℕ) (r : Record) → lineOfText t .parsed ≡ Good r → Says t r
+unfolding lineOfText lineOfBytes
 says t r e =
     let b = bytesOf (drop 1 t) in
     let k = passed (noColon t) NoColon _ r (omega arith) e in
@@ -79,7 +79,7 @@ module _ (l : List ℕ) (r : Record) (e : readOf l .parsed ≡ Good r) where
   good-data =
       let d = dataOf (bytesOf (drop 1 (textOf l))) in
       let n : length d ≤ 32 = omega (arith, good-data-length, good-len) in
-      rw (good-line, ← good-data-length) (held-take d n)
+      rw (good-line, ← good-data-length) (data32-take d n)
 
 -- the data of any line, a refusal too, has 32 bytes
 either : (b : Bool) (x y : Line) → length (x .«data») ≡ 32 → length (y .«data») ≡ 32 → length (cond b x y .«data») ≡ 32
@@ -87,17 +87,17 @@ either true x y h k = h
 either false x y h k = k
 
 pub length-data : (l : List ℕ) → length (readOf l .«data») ≡ 32
-unfolding readOf lineText lineBytes
+unfolding readOf lineOfText lineOfBytes
 length-data l =
     let t = textOf l in
     let b = bytesOf (drop 1 t) in
-    let z = length-held [] in
+    let z = length-data32 [] in
     either (noColon t) (refused NoColon) _ z
     (either (badShape (length t)) (refused BadShape) _ z
     (either (not (allDigits (drop 1 t))) (refused BadDigit) _ z
     (either (ltb 32 (lenOf b)) (refused TooLong) _ z
     (either (badLength (length t) b) (refused BadLength) _ z
-    (either (badSum b) (refused BadSum) (good b) z (length-held (dataOf b)))))))
+    (either (badSum b) (refused BadSum) (good b) z (length-data32 (dataOf b)))))))
 
 -- what two digits say is a byte
 pub bytes-small : (l : List ℕ) → allDigits l ≡ true → Bytes (bytesOf l)

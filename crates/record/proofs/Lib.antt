@@ -2,7 +2,9 @@
 pub mod Endings
 pub mod Sums
 pub mod Digits
-pub mod Held
+pub mod Table
+pub mod Data32
 pub mod Checks
 pub mod Good
+pub mod Rows
 pub mod Written

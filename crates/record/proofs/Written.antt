@@ -11,8 +11,8 @@ use borrow.Author.Tests.{lt-ltb, le-ltb, ne-eqb, eqb-true, not-false}
 use Rattle.sets.specs.Sets.{Set, any}
 use Rattle.sets.proofs.Laws.{any-all}
 use Rattle.sets.proofs.Tests.{split, both}
-use Rattle.record.specs.declared.Parsed.the-variants.{Good}
-use Rattle.record.specs.Record.{textLen, textOf, digitOf, allDigits, bytesOf, held, total, badShape, lineBytes, lineText, readOf}
+use Rattle.record.specs.declared.ParseResult.the-variants.{Good}
+use Rattle.record.specs.Record.{textLen, textOf, digitOf, allDigits, bytesOf, data32, total, badShape, lineOfBytes, lineOfText, readOf}
 use Rattle.record.specs.Write.{digitText, bytesText, fieldBytes, checksum, recordText, Ending, none, lf, crlf, Bytes, Reads-back}
 use Rattle.record.proofs.Endings.{text-whole, text-lf, text-crlf}
 use Rattle.record.proofs.Sums.{total-append, total-one}
@@ -30,12 +30,12 @@ digit-text n h = eqb-true (digitOf (digitText n)) n (not-false _ (any-all wrong 
 digit-high : (n : ℕ) → 48 ≤ digitText n
 digit-high n = split (ltb n 10) (λ y. rw y (omega arith)) (λ y. rw y (omega arith))
 
-length-text : (w : List ℕ) → length (bytesText w) ≡ 2 * length w
+pub length-text : (w : List ℕ) → length (bytesText w) ≡ 2 * length w
 unfolding bytesText
 length-text [] = refl
 length-text (b ∷ w) = omega (arith, length-text w)
 
-text-high : (w : List ℕ) (i : ℕ) → i < 2 * length w → 48 ≤ getD (bytesText w) i 0
+pub text-high : (w : List ℕ) (i : ℕ) → i < 2 * length w → 48 ≤ getD (bytesText w) i 0
 unfolding bytesText
 text-high [] i h = absurd (omega arith)
 text-high (b ∷ w) zero h = digit-high (b / 16)
@@ -87,7 +87,7 @@ bytes-cons : (b : ℕ) (l : List ℕ) → b < 256 → Bytes l → Bytes (b ∷ l
 bytes-cons b l h hs zero n = h
 bytes-cons b l h hs (suc i) n = hs i (omega arith)
 
-bytes-append : (l r : List ℕ) → Bytes l → Bytes r → Bytes (l ++ r)
+pub bytes-append : (l r : List ℕ) → Bytes l → Bytes r → Bytes (l ++ r)
 bytes-append [] r h g = g
 bytes-append (b ∷ l) r h g =
     bytes-cons b (l ++ r) (h 0 (omega arith)) (bytes-append l r (λ i n. h (suc i) (omega arith)) g)
@@ -115,7 +115,7 @@ module _ (kind address : ℕ) (d : List ℕ) (hk : kind < 256) (ha : address < 6
       (bytes-cons (address % 256) (kind ∷ d) (omega arith) (bytes-cons kind d hk hb))))
       (bytes-cons (checksum fields) [] (omega arith) (λ i n. absurd (omega arith)))
 
-  length-record : length (recordText kind address d) ≡ 11 + 2 * length d
+  pub length-record : length (recordText kind address d) ≡ 11 + 2 * length d
   unfolding recordText
   length-record = omega (arith, length-text whole, long)
 
@@ -125,7 +125,7 @@ module _ (kind address : ℕ) (d : List ℕ) (hk : kind < 256) (ha : address < 6
       let e : length (recordText kind address d) - 1 ≡ suc (9 + 2 * length d) = omega (arith, length-record) in
       rw e (text-high whole (9 + 2 * length d) (omega (arith, long)))
 
-  text-back : lineText (recordText kind address d) ≡ record { parsed = Good (record { kind = kind; address = address; len = length d }); «data» = held d }
+  text-back : lineOfText (recordText kind address d) ≡ record { parsed = Good (record { kind = kind; address = address; len = length d }); «data» = data32 d }
   unfolding recordText
   text-back =
       let t : List ℕ = 58 ∷ bytesText whole in
@@ -135,7 +135,7 @@ module _ (kind address : ℕ) (d : List ℕ) (hk : kind < 256) (ha : address < 6
       rw (le-ltb (length t) 11 (omega arith), le-ltb 521 (length t) (omega arith), ne-eqb (length t % 2) 0 (λ q. omega arith)) in
       let a : 256 * (address / 256) + address % 256 ≡ address = omega arith in
       sym (is-bytes t (λ q. omega arith) refl shape (r .digits))
-      ∙ ap (lineBytes (length t)) (r .bytes)
+      ∙ ap (lineOfBytes (length t)) (r .bytes)
       ∙ sym (is-good (length t) whole hd n (sums fields))
       ∙ rw (a, take-append-seam d (checksum fields ∷ []))
 

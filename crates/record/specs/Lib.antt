@@ -1,2 +1,4 @@
+pub mod Types
 pub mod Record
+pub mod Table
 pub mod Write

@@ -7,9 +7,9 @@ use lib.Dec.{ltb, leb, eqb}
 use lib.ListN.{length, getD, take, drop}
 use Rattle.sets.specs.Tab.{tab}
 use Rattle.record.specs.declared.Record.{Record}
-use Rattle.record.specs.declared.Parsed.{Parsed}
+use Rattle.record.specs.declared.ParseResult.{ParseResult}
 use Rattle.record.specs.declared.Line.{Line}
-use Rattle.record.specs.declared.Parsed.the-variants.{Good, NoColon, BadShape, BadDigit, TooLong, BadLength, BadSum}
+use Rattle.record.specs.declared.ParseResult.the-variants.{Good, NoColon, BadShape, BadDigit, TooLong, BadLength, BadSum}
 
 -- ---- "one LF, then one CR before it, is dropped"
 
@@ -54,8 +54,8 @@ bytesOf (c ∷ []) = []
 bytesOf (c ∷ d ∷ l) = (16 * (digitOf c % 16) + digitOf d % 16) ∷ bytesOf l
 
 -- `out` begins with the bytes that the digits l say, as many as it has room for
-abbrev pub Decoded : List ℕ → List ℕ → Type 0
-Decoded l out = take (length l / 2) out ≡ take (length out) (bytesOf l)
+abbrev pub Decoding : List ℕ → List ℕ → Type 0
+Decoding l out = take (length l / 2) out ≡ take (length out) (bytesOf l)
 
 -- ---- the fields of a record, by its bytes: length, address (two, high first), type, data, checksum
 
@@ -68,23 +68,31 @@ abbrev pub dataOf : List ℕ → List ℕ
 dataOf b = take (lenOf b) (drop 4 b)
 
 -- 32 bytes: those of d, and 0 past its end
-unfoldable pub held : List ℕ → List ℕ
-held d = tab 32 (λ i. getD d i 0)
+unfoldable pub data32 : List ℕ → List ℕ
+data32 d = tab 32 (λ i. getD d i 0)
+
+-- two bytes as a number, high first
+abbrev pub wordFrom : ℕ → ℕ → ℕ
+wordFrom high low = 256 * high + low
+
+-- the first two of a record's data bytes, high first
+abbrev pub wordOf : List ℕ → ℕ
+wordOf d = wordFrom (getD d 0 0) (getD d 1 0)
 
 -- type, address field and length field
 abbrev pub recordOf : List ℕ → Record
-recordOf b = record { kind = getD b 3 0; address = 256 * getD b 1 0 + getD b 2 0; len = lenOf b }
+recordOf b = record { kind = getD b 3 0; address = wordFrom (getD b 1 0) (getD b 2 0); len = lenOf b }
 
 -- a good record with its data, and a refusal, which has none
 abbrev pub good : List ℕ → Line
-good b = record { parsed = Good (recordOf b); «data» = held (dataOf b) }
+good b = record { parsed = Good (recordOf b); «data» = data32 (dataOf b) }
 
 -- of a line that says no record
-abbrev pub refused : Parsed → Line
-refused p = record { parsed = p; «data» = held [] }
+abbrev pub refused : ParseResult → Line
+refused p = record { parsed = p; «data» = data32 [] }
 
 -- what f makes of the record that a line says, and d where it says none
-abbrev pub onRecord : {A : Type 0} → A → (Record → A) → Parsed → A
+abbrev pub onRecord : {A : Type 0} → A → (Record → A) → ParseResult → A
 onRecord d f (Good rec) = f rec
 onRecord d f NoColon = d
 onRecord d f BadShape = d
@@ -117,25 +125,25 @@ abbrev pub badSum : List ℕ → Bool
 badSum b = not (eqb (total b % 256) 0)
 
 -- rows 23 to 25, of n characters that say the bytes b; row 23: "the length field is over 32"
-unfoldable pub lineBytes : ℕ → List ℕ → Line
-lineBytes n b =
+unfoldable pub lineOfBytes : ℕ → List ℕ → Line
+lineOfBytes n b =
     cond (ltb 32 (lenOf b)) (refused TooLong)
     (cond (badLength n b) (refused BadLength)
     (cond (badSum b) (refused BadSum) (good b)))
 
 -- rows 20 to 25, of a text; row 22: a character after the colon is no digit
-unfoldable pub lineText : List ℕ → Line
-lineText t =
+unfoldable pub lineOfText : List ℕ → Line
+lineOfText t =
     cond (noColon t) (refused NoColon)
     (cond (badShape (length t)) (refused BadShape)
-    (cond (not (allDigits (drop 1 t))) (refused BadDigit) (lineBytes (length t) (bytesOf (drop 1 t)))))
+    (cond (not (allDigits (drop 1 t))) (refused BadDigit) (lineOfBytes (length t) (bytesOf (drop 1 t)))))
 
 -- a line as it is handed, its ending included
 unfoldable pub readOf : List ℕ → Line
-readOf l = lineText (textOf l)
+readOf l = lineOfText (textOf l)
 
 -- ---- 01's numbers of the refusals; a good record has none, and 0 stands for it
-abbrev pub parsedNumber : Parsed → ℕ
+abbrev pub parsedNumber : ParseResult → ℕ
 parsedNumber NoColon = 20
 parsedNumber BadShape = 21
 parsedNumber BadDigit = 22
@@ -143,3 +151,20 @@ parsedNumber TooLong = 23
 parsedNumber BadLength = 24
 parsedNumber BadSum = 25
 parsedNumber (Good r) = 0
+
+-- ---- and the rows by these numbers: the first that a line fails, or 0 for a good record
+
+-- rows 23 to 25, of n characters that say the bytes b
+unfoldable pub bytesRow : ℕ → List ℕ → ℕ
+bytesRow n b = cond (ltb 32 (lenOf b)) 23 (cond (badLength n b) 24 (cond (badSum b) 25 0))
+
+-- rows 20 to 25, of a text
+unfoldable pub textRow : List ℕ → ℕ
+textRow t =
+    cond (noColon t) 20
+    (cond (badShape (length t)) 21
+    (cond (not (allDigits (drop 1 t))) 22 (bytesRow (length t) (bytesOf (drop 1 t)))))
+
+-- of a line as it is handed
+unfoldable pub rowOf : List ℕ → ℕ
+rowOf l = textRow (textOf l)

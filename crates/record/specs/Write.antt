@@ -5,8 +5,8 @@ use mathlib.Core.Bool.{cond}
 use mathlib.Core.List.{List, [], _∷_, _++_}
 use lib.Dec.{ltb}
 use lib.ListN.{length, getD}
-use Rattle.record.specs.Record.{held, total, readOf}
-use Rattle.record.specs.declared.Parsed.the-variants.{Good}
+use Rattle.record.specs.Record.{data32, total, readOf}
+use Rattle.record.specs.declared.ParseResult.the-variants.{Good}
 
 -- the upper-case digit of a number below 16
 abbrev pub digitText : ℕ → ℕ
@@ -30,6 +30,10 @@ unfoldable pub recordText : ℕ → ℕ → List ℕ → List ℕ
 recordText kind address d =
     58 ∷ bytesText (fieldBytes kind address d ++ (checksum (fieldBytes kind address d) ∷ []))
 
+-- and the line of a record, ended by LF
+unfoldable pub recordLine : ℕ → ℕ → List ℕ → List ℕ
+recordLine kind address d = recordText kind address d ++ (10 ∷ [])
+
 -- a line's endings
 pub data Ending : List ℕ → Type 0 where
   none : Ending []
@@ -45,4 +49,4 @@ abbrev pub Reads-back : Type 0
 Reads-back =
     (kind address : ℕ) (d e : List ℕ) → kind < 256 → address < 65536 → length d ≤ 32 → Bytes d → Ending e →
     readOf (recordText kind address d ++ e)
-    ≡ record { parsed = Good (record { kind = kind; address = address; len = length d }); «data» = held d }
+    ≡ record { parsed = Good (record { kind = kind; address = address; len = length d }); «data» = data32 d }

@@ -2,7 +2,8 @@
 ghost use mathlib.Core.Path.{_≡_};
 ghost use Prim.Native.Nat.{_+_, _*_, _/_, _%_, _<_, _≤_, min};
 ghost use lib.ListN.{length, take};
-ghost use Rattle.record.specs.Record.{digitOf, textLen, total, allDigits, bytesOf, Decoded, lenOf, good, refused, lineBytes, lineText, readOf, parsedNumber};
+ghost use Rattle.record.specs.Table.{TellsDigits};
+ghost use Rattle.record.specs.Record.{digitOf, textLen, total, allDigits, bytesOf, Decoding, lenOf, wordFrom, good, refused, lineOfBytes, lineOfText, readOf, parsedNumber, rowOf};
 
 // A good record: its type, its address field, and how many bytes of data it has.
 pub struct Record {
@@ -12,7 +13,7 @@ pub struct Record {
 }
 
 // A record, or the first check that a line fails.
-pub enum Parsed {
+pub enum ParseResult {
     Good(Record),
     NoColon,
     BadShape,
@@ -24,11 +25,29 @@ pub enum Parsed {
 
 // What a line says. A record's data is the first `len` bytes; the rest are 0.
 pub struct Line {
-    pub parsed: Parsed,
+    pub parsed: ParseResult,
     pub data: [u8; Record::MAX],
 }
 
 impl Record {
+    // the types, named as in Intel Hex and in 002: data, end of file, extended linear address, block start, block end, padded data,
+    // custom data, other data
+    pub const DATA: u8 = 0;
+
+    pub const END_OF_FILE: u8 = 1;
+
+    pub const EXTENDED_LINEAR: u8 = 4;
+
+    pub const BLOCK_START: u8 = 10;
+
+    pub const BLOCK_END: u8 = 11;
+
+    pub const PADDED_DATA: u8 = 12;
+
+    pub const CUSTOM_DATA: u8 = 13;
+
+    pub const OTHER_DATA: u8 = 14;
+
     // the most data bytes of a record
     pub const MAX: usize = 32;
 
@@ -36,38 +55,51 @@ impl Record {
     const BYTES: usize = Record::MAX + 5;
 }
 
-impl Parsed {
+impl ParseResult {
     // 01's number of a refusal, or 0 for a good record.
     pub fn number(self) -> u8
         ensures { λ r. ⌜ r ≡ parsedNumber self ⌝ }
     {
         match self {
-            Parsed::Good(_) => 0,
-            Parsed::NoColon => 20,
-            Parsed::BadShape => 21,
-            Parsed::BadDigit => 22,
-            Parsed::TooLong => 23,
-            Parsed::BadLength => 24,
-            Parsed::BadSum => 25,
+            ParseResult::Good(_) => 0,
+            ParseResult::NoColon => 20,
+            ParseResult::BadShape => 21,
+            ParseResult::BadDigit => 22,
+            ParseResult::TooLong => 23,
+            ParseResult::BadLength => 24,
+            ParseResult::BadSum => 25,
         }
     }
 }
 
-// The value of a hex digit, or 16 where the character is none. Both differences are taken before the tests, so that the compiler
-// selects and does not branch: random digits would make a branch a costly guess.
-pub fn digit(c: u8) -> u8
+// The value of each byte as a hex digit, 16 where it is none: sixteen bytes a row.
+const DIGITS: [u8; 256] = *b"\
+    \x10\x10\x10\x10\x10\x10\x10\x10\x10\x10\x10\x10\x10\x10\x10\x10\
+    \x10\x10\x10\x10\x10\x10\x10\x10\x10\x10\x10\x10\x10\x10\x10\x10\
+    \x10\x10\x10\x10\x10\x10\x10\x10\x10\x10\x10\x10\x10\x10\x10\x10\
+    \x00\x01\x02\x03\x04\x05\x06\x07\x08\x09\x10\x10\x10\x10\x10\x10\
+    \x10\x0a\x0b\x0c\x0d\x0e\x0f\x10\x10\x10\x10\x10\x10\x10\x10\x10\
+    \x10\x10\x10\x10\x10\x10\x10\x10\x10\x10\x10\x10\x10\x10\x10\x10\
+    \x10\x0a\x0b\x0c\x0d\x0e\x0f\x10\x10\x10\x10\x10\x10\x10\x10\x10\
+    \x10\x10\x10\x10\x10\x10\x10\x10\x10\x10\x10\x10\x10\x10\x10\x10\
+    \x10\x10\x10\x10\x10\x10\x10\x10\x10\x10\x10\x10\x10\x10\x10\x10\
+    \x10\x10\x10\x10\x10\x10\x10\x10\x10\x10\x10\x10\x10\x10\x10\x10\
+    \x10\x10\x10\x10\x10\x10\x10\x10\x10\x10\x10\x10\x10\x10\x10\x10\
+    \x10\x10\x10\x10\x10\x10\x10\x10\x10\x10\x10\x10\x10\x10\x10\x10\
+    \x10\x10\x10\x10\x10\x10\x10\x10\x10\x10\x10\x10\x10\x10\x10\x10\
+    \x10\x10\x10\x10\x10\x10\x10\x10\x10\x10\x10\x10\x10\x10\x10\x10\
+    \x10\x10\x10\x10\x10\x10\x10\x10\x10\x10\x10\x10\x10\x10\x10\x10\
+    \x10\x10\x10\x10\x10\x10\x10\x10\x10\x10\x10\x10\x10\x10\x10\x10\
+    ";
+
+// The value of a hex digit, or 16 where the character is none. The table is lent: a constant that is indexed in a loop is built anew at
+// each turn.
+fn digit(table: &[u8; 256], c: u8) -> u8
+    requires { ⌜ TellsDigits (now table) ⌝ }
     ensures { λ r. ⌜ r ≡ digitOf c ⌝ }
 {
-    let decimal = std::num::wrapping_sub_u8(c, 48);
-    // the bit of 32 makes a capital small
-    let letter = std::num::wrapping_sub_u8(c | 32, 97);
-    if decimal < 10 {
-        return decimal;
-    }
-    if letter < 6 {
-        return letter + 10;
-    }
-    16
+    let k = c as usize;
+    table[k]
 }
 
 // How many characters are left when the ending is dropped.
@@ -104,36 +136,37 @@ fn sum(bytes: &[u8]) -> u8
     s
 }
 
-// Are the characters digits? No loop leaves at a character that is none: what it has met is judged once, at the end.
-fn all_digits(chars: &[u8]) -> bool
+// Are the characters digits? No loop leaves at a character that is none: the values met are or-ed, and judged once, at the end.
+fn all_digits(table: &[u8; 256], chars: &[u8]) -> bool
+    requires { ⌜ TellsDigits (now table) ⌝ }
     ensures { λ r. ⌜ r ≡ allDigits (now (chars .entry)) ⌝ }
 {
-    let mut good = true;
+    let mut met: u8 = 0;
     let mut i = 0;
     while i < chars.len() {
-        let value = digit(chars[i]);
-        good = good & (value < 16);
+        let value = digit(table, chars[i]);
+        met = met | value;
         i += 1;
     }
-    good
+    met < 16
 }
 
 // Are the characters digits? Their bytes, two characters each, fill `out`.
-fn pairs(chars: &[u8], out: &mut [u8]) -> bool
-    requires { ⌜ length (now chars) ≡ 2 * length (now out) ⌝ }
+fn pairs(table: &[u8; 256], chars: &[u8], out: &mut [u8]) -> bool
+    requires { ⌜ TellsDigits (now table) × (length (now chars) ≡ 2 * length (now out)) ⌝ }
     ensures { λ r. ⌜ r ≡ allDigits (now (chars .entry)) ⌝ }
     ensures bytes { λ _. ⌜ now (out .exit) ≡ bytesOf (now (chars .entry)) ⌝ }
 {
-    let mut good = true;
+    let mut found: u8 = 0;
     let mut i = 0;
     while i < out.len() {
-        let high = digit(chars[2 * i]);
-        let low = digit(chars[2 * i + 1]);
-        good = good & (high < 16) & (low < 16);
+        let high = digit(table, chars[2 * i]);
+        let low = digit(table, chars[2 * i + 1]);
+        found = found | high | low;
         out[i] = 16 * (high % 16) + low % 16;
         i += 1;
     }
-    good
+    found < 16
 }
 
 // The lesser of two numbers.
@@ -144,20 +177,30 @@ fn least(a: usize, b: usize) -> usize
 }
 
 // Are the characters digits? Their bytes go to `out` as far as it has room.
-fn decode(chars: &[u8], out: &mut [u8]) -> bool
-    requires { ⌜ length (now chars) % 2 ≡ 0 ⌝ }
+fn decode(table: &[u8; 256], chars: &[u8], out: &mut [u8]) -> bool
+    requires { ⌜ TellsDigits (now table) × (length (now chars) % 2 ≡ 0) ⌝ }
     ensures { λ r. ⌜ r ≡ allDigits (now (chars .entry)) ⌝ }
-    ensures bytes { λ _. ⌜ Decoded (now (chars .entry)) (now (out .exit)) ⌝ }
+    ensures bytes { λ _. ⌜ Decoding (now (chars .entry)) (now (out .exit)) ⌝ }
 {
     let room = least(chars.len() / 2, out.len());
     let e = 2 * room;
-    let good = pairs(&chars[..e], &mut out[..room]);
-    good & all_digits(&chars[e..])
+    let good = pairs(table, &chars[..e], &mut out[..room]);
+    good & all_digits(table, &chars[e..])
+}
+
+// The same by the table, of which this function alone makes a copy: once a line.
+fn digits_of(chars: &[u8], out: &mut [u8]) -> bool
+    requires { ⌜ length (now chars) % 2 ≡ 0 ⌝ }
+    ensures { λ r. ⌜ r ≡ allDigits (now (chars .entry)) ⌝ }
+    ensures bytes { λ _. ⌜ Decoding (now (chars .entry)) (now (out .exit)) ⌝ }
+{
+    let table = DIGITS;
+    decode(&table, chars, out)
 }
 
 // Two bytes as a number, high first.
 pub fn word(high: u8, low: u8) -> u16
-    ensures { λ r. ⌜ r ≡ 256 * high + low ⌝ }
+    ensures { λ r. ⌜ r ≡ wordFrom high low ⌝ }
 {
     256 * (high as u16) + (low as u16)
 }
@@ -174,13 +217,13 @@ fn good_line(bytes: &[u8], used: usize) -> Line
     let mut data = [0u8; Record::MAX];
     bytes::copy(&bytes[4..e], &mut data);
     Line {
-        parsed: Parsed::Good(Record { kind, address, len }),
+        parsed: ParseResult::Good(Record { kind, address, len }),
         data,
     }
 }
 
 // The line of a refusal.
-fn refusal(parsed: Parsed) -> Line
+fn refusal(parsed: ParseResult) -> Line
     ensures { λ r. ⌜ r ≡ refused parsed ⌝ }
 {
     Line {
@@ -192,40 +235,40 @@ fn refusal(parsed: Parsed) -> Line
 // Rows 23 to 25 of n characters, whose bytes these are.
 fn read_bytes(n: usize, bytes: &[u8]) -> Line
     requires { ⌜ (10 < n) × (length (now bytes) ≡ 37) ⌝ }
-    ensures { λ r. ⌜ r ≡ lineBytes n (take (n / 2) (now (bytes .entry))) ⌝ }
+    ensures { λ r. ⌜ r ≡ lineOfBytes n (take (n / 2) (now (bytes .entry))) ⌝ }
 {
     let used = bytes[0] as usize;
     if Record::MAX < used {
-        return refusal(Parsed::TooLong);
+        return refusal(ParseResult::TooLong);
     }
     if n != 11 + 2 * used {
-        return refusal(Parsed::BadLength);
+        return refusal(ParseResult::BadLength);
     }
     let e = used + 5;
     let all = &bytes[..e];
     if sum(all) != 0 {
-        return refusal(Parsed::BadSum);
+        return refusal(ParseResult::BadSum);
     }
     good_line(all, used)
 }
 
 // Rows 20 to 25 of a text, which has no ending.
 fn read_text(t: &[u8]) -> Line
-    ensures { λ r. ⌜ r ≡ lineText (now (t .entry)) ⌝ }
+    ensures { λ r. ⌜ r ≡ lineOfText (now (t .entry)) ⌝ }
 {
     let n = t.len();
     if n == 0 {
-        return refusal(Parsed::NoColon);
+        return refusal(ParseResult::NoColon);
     }
     if t[0] != 58 {
-        return refusal(Parsed::NoColon);
+        return refusal(ParseResult::NoColon);
     }
     if (n < 11) | (521 < n) | (n % 2 == 0) {
-        return refusal(Parsed::BadShape);
+        return refusal(ParseResult::BadShape);
     }
     let mut bytes = [0u8; Record::BYTES];
-    if !decode(&t[1..], &mut bytes) {
-        return refusal(Parsed::BadDigit);
+    if !digits_of(&t[1..], &mut bytes) {
+        return refusal(ParseResult::BadDigit);
     }
     read_bytes(n, &bytes)
 }
@@ -233,6 +276,7 @@ fn read_text(t: &[u8]) -> Line
 // A line as it is handed, its ending included.
 pub fn read(line: &[u8]) -> Line
     ensures { λ r. ⌜ r ≡ readOf (now (line .entry)) ⌝ }
+    ensures number { λ r. ⌜ parsedNumber (r .parsed) ≡ rowOf (now (line .entry)) ⌝ }
 {
     let n = text_len(line);
     read_text(&line[..n])

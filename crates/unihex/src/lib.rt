@@ -8,21 +8,22 @@ ghost use Rattle.unihex.specs.Reader.{
   freshOf,
   badFailure,
   badReader,
-  standing,
+  withState,
   withUpper,
   withSection,
   withData,
   movedTo,
   givenOf,
-  stepOf,
+  effectOf,
 };
-ghost use Rattle.unihex.specs.Line.{outcome, read, failedBy, storing, takenOf, refusalOf, liveLine, haltOf, lineOf};
+ghost use Rattle.unihex.specs.Line.{lineOutcome, reply, failedBy, storing, recordOutcome, liveLine, haltOf, lineOf, lineNumber};
+ghost use Rattle.grammar.specs.Answers.{numberOf};
 use grammar::Answer;
 use grammar::Boards;
 use grammar::Failure;
+use grammar::ReaderState;
 use grammar::Role;
-use grammar::Stand;
-use record::Parsed;
+use record::ParseResult;
 use record::Record;
 
 // A reader: its own board, the bytes of the file read so far, where it stands, the latest 04's two bytes, which of V1 and V2 had a
@@ -30,20 +31,20 @@ use record::Record;
 pub struct Reader {
     pub own: u16,
     pub offset: u32,
-    pub stand: Stand,
+    pub state: ReaderState,
     pub upper: u16,
-    pub came: Boards,
-    pub gave: Boards,
+    pub sections_seen: Boards,
+    pub data_seen: Boards,
 }
 
 // The next reader, and the answer.
-pub struct Read {
+pub struct Reply {
     pub reader: Reader,
     pub answer: Answer,
 }
 
 // What a good record does: it fails, passes, is own data to store, or ends the file.
-pub enum Step {
+pub enum Effect {
     Fails(Answer),
     Passes(Reader),
     Stores(Reader),
@@ -73,25 +74,25 @@ impl Reader {
         Reader {
             own,
             offset: 0,
-            stand: Stand::Between,
+            state: ReaderState::Between,
             upper: 0,
-            came: Boards::none(),
-            gave: Boards::none(),
+            sections_seen: Boards::none(),
+            data_seen: Boards::none(),
         }
     }
 
-    fn standing(self, stand: Stand) -> Reader
-        ensures { λ r. ⌜ r ≡ standing self stand ⌝ }
+    fn with_state(self, state: ReaderState) -> Reader
+        ensures { λ r. ⌜ r ≡ withState self state ⌝ }
     {
-        let came = self.came;
-        let gave = self.gave;
+        let sections_seen = self.sections_seen;
+        let data_seen = self.data_seen;
         Reader {
             own: self.own,
             offset: self.offset,
-            stand,
+            state,
             upper: self.upper,
-            came,
-            gave,
+            sections_seen,
+            data_seen,
         }
     }
 
@@ -105,16 +106,16 @@ impl Reader {
     fn with_section(mut self, board: u16) -> Reader
         ensures { λ r. ⌜ r ≡ withSection self board ⌝ }
     {
-        let came = self.came;
-        self.came = came.with(board);
+        let sections_seen = self.sections_seen;
+        self.sections_seen = sections_seen.with(board);
         self
     }
 
     fn with_data(mut self, board: u16) -> Reader
         ensures { λ r. ⌜ r ≡ withData self board ⌝ }
     {
-        let gave = self.gave;
-        self.gave = gave.with(board);
+        let data_seen = self.data_seen;
+        self.data_seen = data_seen.with(board);
         self
     }
 
@@ -130,110 +131,113 @@ impl Reader {
         ensures { λ r. ⌜ r ≡ badReader self ⌝ }
     {
         let own = self.own;
-        let stand = self.stand;
+        let state = self.state;
         let bad_board = !((own == Boards::V1) | (own == Boards::V2));
         let past = Reader::FILE < self.offset as usize;
-        bad_board | past | bad_failure(stand)
+        bad_board | past | bad_failure(state)
     }
 
     // Data of a board.
-    fn given(self, board: u16, len: u8) -> Step
+    fn given(self, board: u16, len: u8) -> Effect
         ensures { λ r. ⌜ r ≡ givenOf self board len ⌝ }
     {
         if len == 0 {
-            return Step::Passes(self);
+            return Effect::Passes(self);
         }
         if board == self.own {
-            return Step::Stores(self.with_data(board));
+            return Effect::Stores(self.with_data(board));
         }
-        Step::Passes(self.with_data(board))
+        Effect::Passes(self.with_data(board))
     }
 
     // The 04 that opens a section.
-    fn opening(self, word: u16) -> Step
-        ensures { λ r. ⌜ r ≡ stepOf self Opening 0 0 word ⌝ }
+    fn opening(self, word: u16) -> Effect
+        ensures { λ r. ⌜ r ≡ effectOf self Opening 0 0 word ⌝ }
     {
         if self.offset % Reader::SECTION != 0 {
-            return Step::Fails(Answer::Unaligned);
+            return Effect::Fails(Answer::Unaligned);
         }
-        Step::Passes(self.with_upper(word).standing(Stand::Opened))
+        Effect::Passes(self.with_upper(word).with_state(ReaderState::Opened))
     }
 
     // The 0A that names the board of a section.
-    fn naming(self, word: u16) -> Step
-        ensures { λ r. ⌜ r ≡ stepOf self Naming 0 0 word ⌝ }
+    fn naming(self, word: u16) -> Effect
+        ensures { λ r. ⌜ r ≡ effectOf self Naming 0 0 word ⌝ }
     {
-        let came = self.came;
-        if came.has(word) {
-            return Step::Fails(Answer::Repeated);
+        let sections_seen = self.sections_seen;
+        if sections_seen.has(word) {
+            return Effect::Fails(Answer::Repeated);
         }
-        Step::Passes(self.with_section(word).standing(Stand::Inside(word)))
+        Effect::Passes(
+            self.with_section(word)
+                .with_state(ReaderState::Inside(word)),
+        )
     }
 
-    fn data(self, board: u16, address: u16, len: u8) -> Step
-        ensures { λ r. ⌜ r ≡ stepOf self (Data board) address len 0 ⌝ }
+    fn data(self, board: u16, address: u16, len: u8) -> Effect
+        ensures { λ r. ⌜ r ≡ effectOf self (Data board) address len 0 ⌝ }
     {
         if Reader::REACH < address as usize + len as usize {
-            return Step::Fails(Answer::Crosses);
+            return Effect::Fails(Answer::Crosses);
         }
         self.given(board, len)
     }
 
     // The 01.
-    fn ending(self) -> Step
-        ensures { λ r. ⌜ r ≡ stepOf self Ending 0 0 0 ⌝ }
+    fn ending(self) -> Effect
+        ensures { λ r. ⌜ r ≡ effectOf self Ending 0 0 0 ⌝ }
     {
-        let gave = self.gave;
-        if gave.both() {
-            return Step::Ends(self.standing(Stand::Ended));
+        let data_seen = self.data_seen;
+        if data_seen.both() {
+            return Effect::Ends(self.with_state(ReaderState::Ended));
         }
-        Step::Fails(Answer::MissingBoard)
+        Effect::Fails(Answer::MissingBoard)
     }
 
     // What a good record does: its role, its address field, the number of its data bytes, and the first two of them as a number.
-    pub fn step(self, role: Role, address: u16, len: u8, word: u16) -> Step
-        ensures { λ r. ⌜ r ≡ stepOf self role address len word ⌝ }
+    fn effect(self, role: Role, address: u16, len: u8, word: u16) -> Effect
+        ensures { λ r. ⌜ r ≡ effectOf self role address len word ⌝ }
     {
         match role {
             Role::Opening => self.opening(word),
             Role::Naming => self.naming(word),
-            Role::Address => Step::Passes(self.with_upper(word)),
+            Role::Address => Effect::Passes(self.with_upper(word)),
             Role::Data(board) => self.data(board, address, len),
-            Role::Padding(board) => Step::Passes(self.standing(Stand::Padded(board))),
-            Role::Other => Step::Passes(self),
-            Role::Closing => Step::Passes(self.standing(Stand::Between)),
+            Role::Padding(board) => Effect::Passes(self.with_state(ReaderState::Padded(board))),
+            Role::Other => Effect::Passes(self),
+            Role::Closing => Effect::Passes(self.with_state(ReaderState::Between)),
             Role::Ending => self.ending(),
-            Role::Refused => Step::Fails(Answer::OutOfPlace),
+            Role::Refused => Effect::Fails(Answer::OutOfPlace),
         }
     }
 
-    fn failing(self, answer: Answer) -> Read
-        ensures { λ r. ⌜ r ≡ read (failedBy answer self) answer ⌝ }
+    fn failing(self, answer: Answer) -> Reply
+        ensures { λ r. ⌜ r ≡ reply (failedBy answer self) answer ⌝ }
     {
         let failure = Failure { answer };
-        let reader = self.standing(Stand::Failed(failure));
-        Read { reader, answer }
+        let reader = self.with_state(ReaderState::Failed(failure));
+        Reply { reader, answer }
     }
 
     // A good record of a line that ends at an offset.
-    fn take(self, rec: Record, data: &[u8], end: u32, image: &mut [u8]) -> Read
+    fn apply(self, rec: Record, data: &[u8], end: u32, image: &mut [u8]) -> Reply
         requires { ⌜ (rec .len ≤ 32) × (length (now «data») ≡ 32) ⌝ }
-        ensures { λ r. ⌜ outcome (r .reader) (r .answer) (now (image .exit)) ≡ takenOf self rec (now («data» .entry)) end (now (image .entry)) ⌝ }
+        ensures { λ r. ⌜ lineOutcome (r .reader) (r .answer) (now (image .exit)) ≡ recordOutcome self rec (now («data» .entry)) end (now (image .entry)) ⌝ }
     {
-        let stand = self.stand;
+        let state = self.state;
         let kind = rec.kind;
         let len = rec.len;
         let address = rec.address;
         let word = record::word(data[0], data[1]);
-        let step = self.step(grammar::role_at(stand, kind, len), address, len, word);
-        match step {
-            Step::Fails(answer) => self.failing(answer),
-            Step::Passes(next) => Read {
+        let effect = self.effect(grammar::role_at(state, kind, len), address, len, word);
+        match effect {
+            Effect::Fails(answer) => self.failing(answer),
+            Effect::Passes(next) => Reply {
                 reader: next.moved_to(end),
                 answer: Answer::Passed,
             },
-            Step::Stores(next) => next.store(rec, data, end, image),
-            Step::Ends(next) => Read {
+            Effect::Stores(next) => next.store(rec, data, end, image),
+            Effect::Ends(next) => Reply {
                 reader: next.moved_to(end),
                 answer: Answer::Ended,
             },
@@ -241,30 +245,30 @@ impl Reader {
     }
 
     // Own data, of a line that ends at an offset.
-    fn store(self, rec: Record, data: &[u8], end: u32, image: &mut [u8]) -> Read
+    fn store(self, rec: Record, data: &[u8], end: u32, image: &mut [u8]) -> Reply
         requires { ⌜ (rec .len ≤ 32) × (length (now «data») ≡ 32) ⌝ }
-        ensures { λ r. ⌜ outcome (r .reader) (r .answer) (now (image .exit)) ≡ storing self rec (now («data» .entry)) end (now (image .entry)) ⌝ }
+        ensures { λ r. ⌜ lineOutcome (r .reader) (r .answer) (now (image .exit)) ≡ storing self rec (now («data» .entry)) end (now (image .entry)) ⌝ }
     {
         let n = rec.len as usize;
         let at = Reader::REACH * (self.upper as usize) + rec.address as usize;
         let reader = self.moved_to(end);
         if image.len() < at + n {
-            return Read {
+            return Reply {
                 reader,
                 answer: Answer::Outside,
             };
         }
-        lay(data, n, at, image);
-        Read {
+        put_bytes(data, n, at, image);
+        Reply {
             reader,
             answer: Answer::Stored,
         }
     }
 
     // A line for a reader that is neither failed nor at the end.
-    fn live(self, line: &[u8], image: &mut [u8]) -> Read
+    fn live(self, line: &[u8], image: &mut [u8]) -> Reply
         requires { ⌜ self .offset ≤ 4194304 ⌝ }
-        ensures { λ r. ⌜ outcome (r .reader) (r .answer) (now (image .exit)) ≡ liveLine self (now (line .entry)) (now (image .entry)) ⌝ }
+        ensures { λ r. ⌜ lineOutcome (r .reader) (r .answer) (now (image .exit)) ≡ liveLine self (now (line .entry)) (now (image .entry)) ⌝ }
     {
         let offset = self.offset as usize;
         if Reader::FILE - offset < line.len() {
@@ -273,32 +277,33 @@ impl Reader {
         let end = (offset + line.len()) as u32;
         let read = record::read(line);
         let parsed = read.parsed;
-        let Parsed::Good(rec) = parsed else {
-            return self.failing(refusal(parsed));
+        let ParseResult::Good(rec) = parsed else {
+            return self.failing(grammar::refusal(parsed));
         };
-        self.take(rec, &read.data, end, image)
+        self.apply(rec, &read.data, end, image)
     }
 
     // Reads one line as it is handed, its ending included.
-    pub fn line(self, line: &[u8], image: &mut [u8]) -> Read
-        ensures { λ r. ⌜ outcome (r .reader) (r .answer) (now (image .exit)) ≡ lineOf self (now (line .entry)) (now (image .entry)) ⌝ }
+    pub fn line(self, line: &[u8], image: &mut [u8]) -> Reply
+        ensures { λ r. ⌜ lineOutcome (r .reader) (r .answer) (now (image .exit)) ≡ lineOf self (now (line .entry)) (now (image .entry)) ⌝ }
+        ensures number { λ r. ⌜ numberOf (r .answer) ≡ lineNumber self (now (line .entry)) (now (image .entry)) ⌝ }
     {
         if (image.len() < 1) | (Reader::IMAGE < image.len()) {
-            return Read {
+            return Reply {
                 reader: self,
                 answer: Answer::BadImage,
             };
         }
         if self.is_bad() {
-            return Read {
+            return Reply {
                 reader: self,
                 answer: Answer::BadReader,
             };
         }
-        let stand = self.stand;
-        match halted(stand) {
+        let state = self.state;
+        match halted(state) {
             Halt::No => self.live(line, image),
-            Halt::By(answer) => Read {
+            Halt::By(answer) => Reply {
                 reader: self,
                 answer,
             },
@@ -307,7 +312,7 @@ impl Reader {
 }
 
 // The first n bytes, over the image from an address on.
-fn lay(bytes: &[u8], n: usize, at: usize, image: &mut [u8])
+fn put_bytes(bytes: &[u8], n: usize, at: usize, image: &mut [u8])
     requires { ⌜ n ≤ length (now bytes) ⌝ }
     requires { ⌜ at + n ≤ length (now image) ⌝ }
     ensures { λ _. ⌜ now (image .exit) ≡ over (now (image .entry)) at (take n (now (bytes .entry))) ⌝ }
@@ -316,31 +321,16 @@ fn lay(bytes: &[u8], n: usize, at: usize, image: &mut [u8])
     bytes::copy(&bytes[..n], &mut image[at..e]);
 }
 
-// The answer of a line's text that is refused.
-fn refusal(parsed: Parsed) -> Answer
-    ensures { λ r. ⌜ r ≡ refusalOf parsed ⌝ }
+fn halted(state: ReaderState) -> Halt
+    ensures { λ r. ⌜ r ≡ haltOf state ⌝ }
 {
-    match parsed {
-        Parsed::Good(_) => Answer::NoColon,
-        Parsed::NoColon => Answer::NoColon,
-        Parsed::BadShape => Answer::BadShape,
-        Parsed::BadDigit => Answer::BadDigit,
-        Parsed::TooLong => Answer::TooLong,
-        Parsed::BadLength => Answer::BadLength,
-        Parsed::BadSum => Answer::BadSum,
-    }
-}
-
-fn halted(stand: Stand) -> Halt
-    ensures { λ r. ⌜ r ≡ haltOf stand ⌝ }
-{
-    match stand {
-        Stand::Between => Halt::No,
-        Stand::Opened => Halt::No,
-        Stand::Inside(_) => Halt::No,
-        Stand::Padded(_) => Halt::No,
-        Stand::Ended => Halt::By(Answer::AfterEnd),
-        Stand::Failed(failure) => {
+    match state {
+        ReaderState::Between => Halt::No,
+        ReaderState::Opened => Halt::No,
+        ReaderState::Inside(_) => Halt::No,
+        ReaderState::Padded(_) => Halt::No,
+        ReaderState::Ended => Halt::By(Answer::AfterEnd),
+        ReaderState::Failed(failure) => {
             let answer = failure.answer;
             Halt::By(answer)
         }
@@ -348,16 +338,16 @@ fn halted(stand: Stand) -> Halt
 }
 
 // A remembered failure that cannot be.
-fn bad_failure(stand: Stand) -> bool
-    ensures { λ r. ⌜ r ≡ badFailure stand ⌝ }
+fn bad_failure(state: ReaderState) -> bool
+    ensures { λ r. ⌜ r ≡ badFailure state ⌝ }
 {
-    match stand {
-        Stand::Between => false,
-        Stand::Opened => false,
-        Stand::Inside(_) => false,
-        Stand::Padded(_) => false,
-        Stand::Ended => false,
-        Stand::Failed(failure) => {
+    match state {
+        ReaderState::Between => false,
+        ReaderState::Opened => false,
+        ReaderState::Inside(_) => false,
+        ReaderState::Padded(_) => false,
+        ReaderState::Ended => false,
+        ReaderState::Failed(failure) => {
             let answer = failure.answer;
             !answer.is_failure()
         }

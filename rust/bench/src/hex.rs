@@ -1,9 +1,11 @@
-//! A line of Universal Hex: 1 MiB of data in records of 32 bytes, `uhex_line` beside the plain Rust reader, with the same slices.
+//! A line of Universal Hex: 1 MiB of data in records of 32 bytes, `uhex_line` beside the plain Rust reader and beside one with a
+//! table, with the same slices.
 
 use compare::hex::{record, Text};
 use compare::Random;
 use reference::hex::{fresh, V1, V2};
 
+use crate::table::Reader;
 use crate::{pair, timed, Work};
 
 const IMAGE: usize = 1_048_576;
@@ -28,34 +30,61 @@ fn file() -> Vec<Vec<u8>> {
     text.lines
 }
 
-pub fn row() {
-    let lines = file();
-    let (mut ours, mut theirs) = (vec![0; IMAGE], vec![0; IMAGE]);
-    let work = Work {
-        rounds: crate::CALLS,
-        calls: lines.len(),
-        bytes: Some(lines.iter().map(Vec::len).sum()),
+/// The same in lower case, as some tools write it.
+fn small(lines: &[Vec<u8>]) -> Vec<Vec<u8>> {
+    lines.iter().map(|l| l.to_ascii_lowercase()).collect()
+}
+
+fn ours(lines: &[Vec<u8>], image: &mut [u8]) -> (f64, u64) {
+    image.fill(0);
+    let mut reader = [0; 16];
+    proved::hex::bytes::new(V1, &mut reader);
+    let answer = |line: &Vec<u8>| proved::hex::bytes::line(&mut reader, line, image);
+    timed(|| lines.iter().map(answer).map(u64::from).sum())
+}
+
+fn plain(lines: &[Vec<u8>], image: &mut [u8]) -> (f64, u64) {
+    image.fill(0);
+    let mut reader = fresh(V1);
+    let answer = |line: &Vec<u8>| {
+        let (next, answer) = reference::hex::line(reader, line, image);
+        reader = next;
+        u64::from(answer)
     };
-    pair(
-        &format!("a line of {}, 1 MiB of Universal Hex", lines.len()),
-        work,
-        || {
-            ours.fill(0);
-            let mut reader = [0; 16];
-            proved::hex::bytes::new(V1, &mut reader);
-            let answer = |line: &Vec<u8>| proved::hex::bytes::line(&mut reader, line, &mut ours);
-            timed(|| lines.iter().map(answer).map(u64::from).sum())
-        },
-        || {
-            theirs.fill(0);
-            let mut reader = fresh(V1);
-            let answer = |line: &Vec<u8>| {
-                let (next, answer) = reference::hex::line(reader, line, &mut theirs);
-                reader = next;
-                u64::from(answer)
-            };
-            timed(|| lines.iter().map(answer).sum())
-        },
-    );
-    assert!(ours == theirs, "the two store the same");
+    timed(|| lines.iter().map(answer).sum())
+}
+
+fn by_table(lines: &[Vec<u8>], image: &mut [u8]) -> (f64, u64) {
+    image.fill(0);
+    let mut reader = Reader::fresh(V1);
+    let answer = |line: &Vec<u8>| u64::from(reader.line(line, image));
+    timed(|| lines.iter().map(answer).sum())
+}
+
+pub fn rows() {
+    let upper = file();
+    let lower = small(&upper);
+    let (mut one, mut other) = (vec![0; IMAGE], vec![0; IMAGE]);
+    for (case, lines) in [("", &upper), (", lower case", &lower)] {
+        let name = format!("a line of {}, 1 MiB of Universal Hex{case}", lines.len());
+        let work = || Work {
+            rounds: crate::CALLS,
+            calls: lines.len(),
+            bytes: Some(lines.iter().map(Vec::len).sum()),
+        };
+        pair(
+            &name,
+            work(),
+            || ours(lines, &mut one),
+            || plain(lines, &mut other),
+        );
+        assert!(one == other, "the two store the same");
+        pair(
+            &format!("{name}, plain Rust with a table"),
+            work(),
+            || ours(lines, &mut one),
+            || by_table(lines, &mut other),
+        );
+        assert!(one == other, "the two store the same");
+    }
 }

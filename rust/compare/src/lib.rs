@@ -130,28 +130,43 @@ impl Buffers {
         }
     }
 
-    /// One arrival to the reference, with these.
-    pub fn reference(&mut self, s: &Settings, t: Transfer, arrival: &[u8]) -> reference::Outcome {
+    /// A look of the reference, with these: answer and "discarded".
+    pub fn plain_look(&self, s: &Settings, t: Transfer, arrival: &[u8]) -> (u8, bool) {
+        reference::look(s, t, arrival, &self.flash, &self.seen, &self.sectors)
+    }
+
+    /// A take of the reference, with these.
+    pub fn plain_take(&mut self, s: &Settings, t: Transfer, arrival: &[u8]) -> reference::Outcome {
         let Buffers {
             flash,
             seen,
             sectors,
         } = self;
-        reference::receive(s, t, arrival, flash, seen, sectors)
+        reference::take(s, t, arrival, flash, seen, sectors)
     }
 
-    /// One arrival to the proved receiver as bytes, with these: the result.
-    pub fn proved(&mut self, settings: &[u8], transfer: &mut [u8], arrival: &[u8]) -> u32 {
+    /// A look of the proved receiver over bytes, with these: the result.
+    pub fn look(&self, settings: &[u8], transfer: &[u8], arrival: &[u8]) -> u32 {
         let Buffers {
             flash,
             seen,
             sectors,
         } = self;
-        proved::bytes::receive(settings, transfer, arrival, flash, seen, sectors)
+        proved::bytes::look(settings, transfer, arrival, flash, seen, sectors)
     }
 
-    /// Many arrivals to the proved receiver as bytes, with these: their number.
-    pub fn proved_all(
+    /// A take of the proved receiver over bytes, with these: the result.
+    pub fn take(&mut self, settings: &[u8], transfer: &mut [u8], arrival: &[u8]) -> u32 {
+        let Buffers {
+            flash,
+            seen,
+            sectors,
+        } = self;
+        proved::bytes::take(settings, transfer, arrival, flash, seen, sectors)
+    }
+
+    /// Many takes of the proved receiver over bytes, with these: their number.
+    pub fn take_all(
         &mut self,
         settings: &[u8],
         transfer: &mut [u8],
@@ -163,7 +178,7 @@ impl Buffers {
             seen,
             sectors,
         } = self;
-        proved::bytes::receive_all(settings, transfer, arrivals, results, flash, seen, sectors)
+        proved::bytes::take_all(settings, transfer, arrivals, results, flash, seen, sectors)
     }
 }
 
@@ -340,11 +355,20 @@ fn right_arrival(r: &mut Random, pages: u64) -> Vec<u8> {
     arrival(fields, r.draw())
 }
 
-/// An arrival of any kind: right, near a bound, or damaged.
+/// An arrival of any kind: right, near a bound, or damaged; a quarter of them with flag 0x1.
 pub fn any_arrival(r: &mut Random, pages: u64) -> Vec<u8> {
-    if r.one_in(2) {
-        return right_arrival(r, pages);
-    }
+    let mut a = if r.one_in(2) {
+        right_arrival(r, pages)
+    } else {
+        near_arrival(r, pages)
+    };
+    // the lowest byte of the flags
+    a[8] = a[8] & !1 | u8::from(r.one_in(4));
+    a
+}
+
+/// An arrival with fields at their bounds, and now and then a wrong magic number.
+fn near_arrival(r: &mut Random, pages: u64) -> Vec<u8> {
     let total = r.of(&[1, 2, 3, 16, pages as u32, pages as u32 + 1, 0, 0x0100_0000]);
     let number = match r.below(4) {
         0 => total,

@@ -2,8 +2,9 @@
 //! compared with another implementation: UF2 arrivals here, lines of Universal
 //! Hex in [`hex`].
 //!
-//! Each arrival gets one of the answers 1 to 15 of document 01. Every function
-//! is total: no input makes it panic, and a refusal leaves what was lent as is.
+//! Each arrival gets one of the answers of document 01 and of the requests in
+//! 02. Every function is total: no input makes it panic, and a refusal leaves
+//! what was lent as is.
 
 pub mod hex;
 pub mod join;
@@ -37,7 +38,6 @@ pub const BAD_SETTINGS: u8 = 2;
 pub const BAD_STATE: u8 = 3;
 pub const NOT_BLOCK: u8 = 4;
 pub const CONTAINER: u8 = 5;
-pub const COMMENT: u8 = 6;
 pub const NO_FAMILY: u8 = 7;
 pub const NO_PLACE: u8 = 8;
 pub const BAD_PAYLOAD: u8 = 9;
@@ -47,6 +47,7 @@ pub const FINISHED: u8 = 12;
 pub const AGAIN: u8 = 13;
 pub const WRITTEN: u8 = 14;
 pub const COMPLETED: u8 = 15;
+pub const NOTED: u8 = 16;
 
 const MAGIC_FIRST: u32 = 0x0A32_4655;
 const MAGIC_SECOND: u32 = 0x9E5D_5157;
@@ -56,7 +57,7 @@ const FLAG_NOT_MAIN_FLASH: u32 = 0x1;
 const FLAG_CONTAINER: u32 = 0x1000;
 const FLAG_FAMILY: u32 = 0x2000;
 
-/// How far the transfer is; `count` is the number of different blocks stored.
+/// How far the transfer is; `count` is the number of different blocks accepted.
 #[derive(Clone, Copy, PartialEq, Eq, Debug)]
 pub enum Transfer {
     Idle,
@@ -83,12 +84,45 @@ struct Block<'a> {
     payload: &'a [u8],
 }
 
-type Arrival = [u8; ARRIVAL_LEN];
-type SeenMap = [u8; SEEN_LEN];
-type SectorMap = [u8; SECTORS_LEN];
+impl Block<'_> {
+    fn is_comment(&self) -> bool {
+        self.flags & FLAG_NOT_MAIN_FLASH != 0
+    }
+}
 
-/// Takes one arrival: judges it, and stores its payload if nothing refuses it.
-pub fn receive(
+type Arrival = [u8; ARRIVAL_LEN];
+
+/// What taking an arrival does, for one that no row refuses.
+struct Plan<'a> {
+    block: Block<'a>,
+    /// Where in flash the payload goes; a comment's goes nowhere.
+    storage: Option<usize>,
+    /// Whether both maps are cleared first.
+    clears: bool,
+    discarded: bool,
+    /// The raised count.
+    count: u32,
+}
+
+/// Says what taking the arrival would answer and whether it would discard, and
+/// changes nothing.
+pub fn look(
+    s: &Settings,
+    t: Transfer,
+    arrival: &[u8],
+    flash: &[u8],
+    seen: &[u8],
+    sectors: &[u8],
+) -> (u8, bool) {
+    match plan(s, t, arrival, flash, seen, sectors) {
+        Ok(plan) => (plan.answer(), plan.discarded),
+        Err(answer) => (answer, false),
+    }
+}
+
+/// Takes one arrival: judges it, with every check that a look makes, and stores
+/// its payload if nothing refuses it.
+pub fn take(
     s: &Settings,
     t: Transfer,
     arrival: &[u8],
@@ -96,42 +130,38 @@ pub fn receive(
     seen: &mut [u8],
     sectors: &mut [u8],
 ) -> Outcome {
-    let refused = |answer| Outcome {
-        transfer: t,
-        answer,
-        discarded: false,
-    };
-    if !flash_len_good(flash.len()) {
-        return refused(BAD_BUFFERS);
-    }
-    let Ok(arrival) = <&Arrival>::try_from(arrival) else {
-        return refused(BAD_BUFFERS);
-    };
-    let Ok(seen) = <&mut SeenMap>::try_from(seen) else {
-        return refused(BAD_BUFFERS);
-    };
-    let Ok(sectors) = <&mut SectorMap>::try_from(sectors) else {
-        return refused(BAD_BUFFERS);
-    };
-    match judge(s, t, arrival, flash.len(), seen) {
-        Ok((block, storage)) => accept(t, &block, storage, flash, seen, sectors),
-        Err(answer) => refused(answer),
+    match plan(s, t, arrival, flash, seen, sectors) {
+        Ok(plan) => {
+            plan.carry_out(flash, seen, sectors);
+            Outcome {
+                transfer: plan.transfer(),
+                answer: plan.answer(),
+                discarded: plan.discarded,
+            }
+        }
+        Err(answer) => Outcome {
+            transfer: t,
+            answer,
+            discarded: false,
+        },
     }
 }
 
-fn flash_len_good(flash_len: usize) -> bool {
-    (SECTOR_LEN..=MAX_FLASH_LEN).contains(&flash_len) && flash_len.is_multiple_of(SECTOR_LEN)
-}
-
-/// Rows 2 to 13 in order: the block with its storage address, or the refusal.
-fn judge<'a>(
+/// Rows 1 to 13 in order, as far as they apply: what is to be done, or the
+/// refusal.
+fn plan<'a>(
     s: &Settings,
     t: Transfer,
-    arrival: &'a Arrival,
-    flash_len: usize,
-    seen: &SeenMap,
-) -> Result<(Block<'a>, usize), u8> {
-    if !settings_good(s, flash_len) {
+    arrival: &'a [u8],
+    flash: &[u8],
+    seen: &[u8],
+    sectors: &[u8],
+) -> Result<Plan<'a>, u8> {
+    let arrival = <&Arrival>::try_from(arrival).map_err(|_| BAD_BUFFERS)?;
+    if !flash_len_good(flash.len()) || seen.len() != SEEN_LEN || sectors.len() != SECTORS_LEN {
+        return Err(BAD_BUFFERS);
+    }
+    if !settings_good(s, flash.len()) {
         return Err(BAD_SETTINGS);
     }
     if !state_good(t) {
@@ -139,16 +169,72 @@ fn judge<'a>(
     }
     let block = read_block(arrival).ok_or(NOT_BLOCK)?;
     check_flags(block.flags)?;
-    let (start, len) = place_of(s, flash_len, block.family).ok_or(NO_PLACE)?;
-    let offset = check_fit(&block, len)?;
+    let (start, len) = place_of(s, flash.len(), block.family).ok_or(NO_PLACE)?;
+    let storage = if block.is_comment() {
+        check_numbers(&block, len)?;
+        None
+    } else {
+        check_payload(&block)?;
+        check_numbers(&block, len)?;
+        Some(start + check_address(&block, len)?)
+    };
     if matches!(t, Transfer::Done { .. }) {
         return Err(FINISHED);
     }
-    let continues = counted(t, block.family, block.total).is_some();
-    if continues && marked(seen, block.number as usize) {
+    let continued = counted(t, block.family, block.total);
+    if continued.is_some() && marked(seen, block.number as usize) {
         return Err(AGAIN);
     }
-    Ok((block, start + offset))
+    Ok(Plan {
+        block,
+        storage,
+        clears: continued.is_none(),
+        discarded: continued.is_none() && matches!(t, Transfer::Running { .. }),
+        count: continued.unwrap_or(0) + 1,
+    })
+}
+
+impl Plan<'_> {
+    fn completes(&self) -> bool {
+        self.count >= self.block.total
+    }
+
+    fn answer(&self) -> u8 {
+        if self.completes() {
+            COMPLETED
+        } else if self.storage.is_some() {
+            WRITTEN
+        } else {
+            NOTED
+        }
+    }
+
+    fn transfer(&self) -> Transfer {
+        let (family, total) = (self.block.family, self.block.total);
+        if self.completes() {
+            return Transfer::Done { family, total };
+        }
+        Transfer::Running {
+            family,
+            total,
+            count: self.count,
+        }
+    }
+
+    fn carry_out(&self, flash: &mut [u8], seen: &mut [u8], sectors: &mut [u8]) {
+        if self.clears {
+            seen.fill(0);
+            sectors.fill(0);
+        }
+        if let Some(storage) = self.storage {
+            store(self.block.payload, storage, flash, sectors);
+        }
+        mark(seen, self.block.number as usize);
+    }
+}
+
+fn flash_len_good(flash_len: usize) -> bool {
+    (SECTOR_LEN..=MAX_FLASH_LEN).contains(&flash_len) && flash_len.is_multiple_of(SECTOR_LEN)
 }
 
 fn state_good(t: Transfer) -> bool {
@@ -182,12 +268,10 @@ fn read_block(arrival: &Arrival) -> Option<Block<'_>> {
     })
 }
 
-/// Rows 5 to 7. A container is one whether or not it is also a comment.
+/// Rows 5 and 7. A container is one whether or not it is also a comment.
 fn check_flags(flags: u32) -> Result<(), u8> {
     if flags & FLAG_CONTAINER != 0 {
         Err(CONTAINER)
-    } else if flags & FLAG_NOT_MAIN_FLASH != 0 {
-        Err(COMMENT)
     } else if flags & FLAG_FAMILY == 0 {
         Err(NO_FAMILY)
     } else {
@@ -195,48 +279,36 @@ fn check_flags(flags: u32) -> Result<(), u8> {
     }
 }
 
-/// Rows 9 to 11: the payload's offset in a place of `len` bytes.
-fn check_fit(block: &Block, len: usize) -> Result<usize, u8> {
-    // 64 bits, since products and sums of the fields may pass 32.
-    let len = len as u64;
-    let size = PAYLOAD_LEN as u64;
-    if u64::from(block.size) != size {
-        return Err(BAD_PAYLOAD);
+/// Row 9, which a comment skips.
+fn check_payload(block: &Block) -> Result<(), u8> {
+    if block.size as usize == PAYLOAD_LEN {
+        Ok(())
+    } else {
+        Err(BAD_PAYLOAD)
     }
-    let total = u64::from(block.total);
-    if total == 0 || total * size > len || block.number >= block.total {
+}
+
+/// Row 10, for a place of `len` bytes.
+fn check_numbers(block: &Block, len: usize) -> Result<(), u8> {
+    // 64 bits, since the product may pass 32.
+    let needed = u64::from(block.total) * PAYLOAD_LEN as u64;
+    if block.total == 0 || needed > len as u64 || block.number >= block.total {
         return Err(BAD_NUMBERS);
     }
+    Ok(())
+}
+
+/// Row 11, which a comment skips: the payload's offset in a place of `len`
+/// bytes.
+fn check_address(block: &Block, len: usize) -> Result<usize, u8> {
     let offset = block.address.checked_sub(WINDOW).ok_or(BAD_ADDRESS)?;
-    // WINDOW is itself a multiple of 256, so offset and address agree on that.
-    if u64::from(offset) % size != 0 || u64::from(offset) + size > len {
+    let size = PAYLOAD_LEN as u64;
+    // 64 bits, since the sum may pass 32. WINDOW is itself a multiple of 256,
+    // so offset and address agree on that.
+    if u64::from(offset) % size != 0 || u64::from(offset) + size > len as u64 {
         return Err(BAD_ADDRESS);
     }
     Ok(offset as usize)
-}
-
-/// Rows 14 and 15, for a block that `judge` let through.
-fn accept(
-    t: Transfer,
-    block: &Block,
-    storage: usize,
-    flash: &mut [u8],
-    seen: &mut SeenMap,
-    sectors: &mut SectorMap,
-) -> Outcome {
-    let continued = counted(t, block.family, block.total);
-    if continued.is_none() {
-        seen.fill(0);
-        sectors.fill(0);
-    }
-    store(block.payload, storage, flash, sectors);
-    mark(seen, block.number as usize);
-    let (transfer, answer) = advance(block, continued.unwrap_or(0) + 1);
-    Outcome {
-        transfer,
-        answer,
-        discarded: continued.is_none() && matches!(t, Transfer::Running { .. }),
-    }
 }
 
 /// The count of a transfer that a block of this family and total goes on with.
@@ -251,23 +323,8 @@ fn counted(t: Transfer, family: u32, total: u32) -> Option<u32> {
     }
 }
 
-/// The transfer and the answer after the block as the `count`th one stored.
-fn advance(block: &Block, count: u32) -> (Transfer, u8) {
-    let (family, total) = (block.family, block.total);
-    if count < total {
-        let running = Transfer::Running {
-            family,
-            total,
-            count,
-        };
-        (running, WRITTEN)
-    } else {
-        (Transfer::Done { family, total }, COMPLETED)
-    }
-}
-
 /// Stores the payload, erasing its sector only the first time it is touched.
-fn store(payload: &[u8], storage: usize, flash: &mut [u8], sectors: &mut SectorMap) {
+fn store(payload: &[u8], storage: usize, flash: &mut [u8], sectors: &mut [u8]) {
     let sector = storage / SECTOR_LEN;
     if !marked(sectors, sector) {
         flash[sector * SECTOR_LEN..(sector + 1) * SECTOR_LEN].fill(0xFF);

@@ -16,14 +16,14 @@ enum-told-2 c = search needs
 opened-requires : tie.Need-opened-requires
 opened-requires c κs = search needs
 
-enum-known-stand : tie.Need-enum-known-stand
-enum-known-stand c = search needs
+enum-known-state : tie.Need-enum-known-state
+enum-known-state c = search needs
 
 inside-requires : tie.Need-inside-requires
 inside-requires c κs = search needs
 
-enum-known-stand-2 : tie.Need-enum-known-stand-2
-enum-known-stand-2 c = search needs
+enum-known-state-2 : tie.Need-enum-known-state-2
+enum-known-state-2 c = search needs
 
 after-padding-requires : tie.Need-after-padding-requires
 after-padding-requires c κs = search needs
@@ -41,11 +41,11 @@ returns-2 : tie.Need-returns-2
 returns-2 c = rw (c .before .enum-told2 .given .1) (c .opened .ensures)
 
 returns-3 : tie.Need-returns-3
-returns-3 c = rw (c .before .before .stand .given .1) (c .inside .ensures)
+returns-3 c = rw (c .before .before .state .given .1) (c .inside .ensures)
 
 returns-4 : tie.Need-returns-4
 unfolding roleOf
-returns-4 c = rw (c .before .before .stand2 .given .1) (c .after-padding .ensures)
+returns-4 c = rw (c .before .before .state2 .given .1) (c .after-padding .ensures)
 
 returns-5 : tie.Need-returns-5
 unfolding roleOf
@@ -63,9 +63,9 @@ role-at-spec =
     between-requires
     enum-told-2
     opened-requires
-    enum-known-stand
+    enum-known-state
     inside-requires
-    enum-known-stand-2
+    enum-known-state-2
     after-padding-requires
     enum-told-3
     enum-told-4

@@ -34,14 +34,14 @@ shared-slice-read-joined-2 c = search needs
 joined-requires : tie.Need-joined-requires
 joined-requires c κs = search needs
 
-shared-slice-read-stand : tie.Need-shared-slice-read-stand
-shared-slice-read-stand c = search needs
+shared-slice-read-state-from : tie.Need-shared-slice-read-state-from
+shared-slice-read-state-from c = search needs
 
-shared-slice-read-stand-2 : tie.Need-shared-slice-read-stand-2
-shared-slice-read-stand-2 c = search needs
+shared-slice-read-state-from-2 : tie.Need-shared-slice-read-state-from-2
+shared-slice-read-state-from-2 c = search needs
 
-stand-requires : tie.Need-stand-requires
-stand-requires c κs = search needs
+state-from-requires : tie.Need-state-from-requires
+state-from-requires c κs = search needs
 
 shared-slice-read-t9 : tie.Need-shared-slice-read-t9
 shared-slice-read-t9 c = search needs
@@ -82,7 +82,7 @@ returns-3 c =
     let s = f .before .before .before .before .before .before .before .before in
     let j = s .before .before .before in
     let t = j .before .before .before in
-    read-fields _ (t .before .before .if1 .left) (t .if2 .left) (f .before .joined2 .ensures ∙ sym (number-two _ 0)) (f .field .ensures) (j .joined .ensures ∙ sym (number-two _ 10)) (s .stand .ensures) (c .joined3 .ensures ∙ sym (number-two _ 2))
+    read-fields _ (t .before .before .if1 .left) (t .if2 .left) (f .before .joined2 .ensures ∙ sym (number-two _ 0)) (f .field .ensures) (j .joined .ensures ∙ sym (number-two _ 10)) (s .state-from .ensures) (c .joined3 .ensures ∙ sym (number-two _ 2))
 
 pub read-reader-spec : {M : Type 1} → statement M
 read-reader-spec =
@@ -96,9 +96,9 @@ read-reader-spec =
     shared-slice-read-joined
     shared-slice-read-joined-2
     joined-requires
-    shared-slice-read-stand
-    shared-slice-read-stand-2
-    stand-requires
+    shared-slice-read-state-from
+    shared-slice-read-state-from-2
+    state-from-requires
     shared-slice-read-t9
     shared-slice-read-t12
     shared-slice-read-t9-2

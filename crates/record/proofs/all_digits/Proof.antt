@@ -1,17 +1,19 @@
--- `record::all_digits` meets its contract. The loop's invariant is `Judged`. Assumes nothing.
+-- `record::all_digits` meets its contract. The loop's invariant is `Verdict`. Assumes nothing.
 use mathlib.Core.Path.{refl}
 use Prim.Native.Nat.{_-_, _≤_}
+use lib.Dec.{ltb}
 use lib.ListN.{length}
-use Rattle.record.proofs.Digits.{Judged, judged-next, judged-all}
+use Rattle.record.proofs.Table.{met-next}
+use Rattle.record.proofs.Digits.{Verdict, verdict-next, verdict-all}
 use borrow.Author.Needs.{needs}
 use Rattle.record.proofs.all_digits.Statement.{statement}
 use Rattle.record.proofs.all_digits.Tie as tie
 
 abbrev Inv-loop : tie.InvT-loop
-Inv-loop chars good₀ i₀ good i = (i ≤ length chars) × Judged chars i good
+Inv-loop table chars met₀ i₀ met i = (i ≤ length chars) × Verdict chars i (ltb met 16)
 
 abbrev μ-loop : tie.MeasureT-loop
-μ-loop chars good₀ i₀ good i = length chars - i
+μ-loop table chars met₀ i₀ met i = length chars - i
 
 loop-holds : tie.Need-loop-holds Inv-loop μ-loop
 loop-holds c = (search needs, refl)
@@ -20,7 +22,7 @@ shared-slice-read-digit : tie.Need-shared-slice-read-digit Inv-loop μ-loop
 shared-slice-read-digit c = search needs
 
 digit-requires : tie.Need-digit-requires Inv-loop μ-loop
-digit-requires c κs = search needs
+digit-requires c κs = c .before .before .before .before .pre
 
 add-i : tie.Need-add-i Inv-loop μ-loop
 add-i c = search needs
@@ -29,10 +31,13 @@ loop-less : tie.Need-loop-less Inv-loop μ-loop
 loop-less c = search needs
 
 loop-again : tie.Need-loop-again Inv-loop μ-loop
-loop-again c = (search needs, judged-next _ (c .before .before .before .loop .good) (c .before .before .loop-test .taken) (c .digit .ensures) (c .before .before .before .loop .inv .1))
+loop-again c =
+    let n = c .before .before .before .loop in
+    let next = verdict-next _ (ltb (n .met) 16) (c .before .before .loop-test .taken) (c .digit .ensures) (n .inv .1) in
+    (search needs, rw (met-next (n .met) (c .digit .result)) next)
 
 returns : tie.Need-returns Inv-loop μ-loop
-returns c = judged-all _ _ (c .loop-test .left) (c .before .loop .inv .1)
+returns c = verdict-all _ _ (c .loop-test .left) (c .before .loop .inv .1)
 
 pub all-digits-spec : {M : Type 1} → statement M
 all-digits-spec =

@@ -1,5 +1,5 @@
 -- `record::good_line` meets its contract. Assumes nothing.
-use Rattle.record.proofs.Held.{held-data}
+use Rattle.record.proofs.Data32.{data32-data}
 use borrow.Author.Needs.{needs}
 use Rattle.record.proofs.good_line.Statement.{statement}
 use Rattle.record.proofs.good_line.Tie as tie
@@ -40,7 +40,7 @@ copy-requires c κs = search needs
 returns : tie.Need-returns
 returns c =
     let s = c .before .before .before .before .before .before .before .before .before .before in
-    let e = held-data (s .args .bytes .now) (s .args .used) (s .pre .0) (s .pre .1) (s .pre .2) (c .before .copy .ensures .1) in
+    let e = data32-data (s .args .bytes .now) (s .args .used) (s .pre .0) (s .pre .1) (s .pre .2) (c .before .copy .ensures .1) in
     rw (c .before .before .before .before .word .ensures, e)
 
 pub good-line-spec : {M : Type 1} → statement M

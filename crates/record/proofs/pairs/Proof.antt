@@ -4,20 +4,22 @@ use mathlib.Core.Path.{_≡_, refl, sym, _∙_}
 use native.Mathlib.Omega.{arith}
 use Prim.Native.Nat.{_+_, _-_, _*_, _%_, _≤_}
 use mathlib.Core.Bool.{_&&_}
+use lib.Bits.{bitOr}
 use lib.Dec.{ltb}
 use lib.ListN.{length, take, length-set}
 use lib.Seq.{take-all}
 use Rattle.record.specs.Record.{bytesOf}
-use Rattle.record.proofs.Digits.{Judged, judged-next, judged-all, length-bytes, bytes-next}
+use Rattle.record.proofs.Table.{met-next}
+use Rattle.record.proofs.Digits.{Verdict, verdict-next, verdict-all, length-bytes, bytes-next}
 use borrow.Author.Needs.{needs}
 use Rattle.record.proofs.pairs.Statement.{statement}
 use Rattle.record.proofs.pairs.Tie as tie
 
 abbrev Inv-loop : tie.InvT-loop
-Inv-loop chars out₀ good₀ i₀ out good i = (i ≤ length out) × (length out ≡ length out₀) × Judged chars (2 * i) good × (take i out ≡ take i (bytesOf chars))
+Inv-loop table chars out₀ found₀ i₀ out found i = (i ≤ length out) × (length out ≡ length out₀) × Verdict chars (2 * i) (ltb found 16) × (take i out ≡ take i (bytesOf chars))
 
 abbrev μ-loop : tie.MeasureT-loop
-μ-loop chars out₀ good₀ i₀ out good i = length out₀ - i
+μ-loop table chars out₀ found₀ i₀ out found i = length out₀ - i
 
 loop-holds : tie.Need-loop-holds Inv-loop μ-loop
 loop-holds c = (search needs, refl, refl, refl)
@@ -66,11 +68,12 @@ loop-again c =
     let pre : length l ≡ 2 * length (n .loop .out) = omega arith in
     let v = 16 * (c .before .before .digit .result % 16) + c .digit2 .result % 16 in
     let next : 2 * i + 1 + 1 ≡ 2 * (i + 1) = omega arith in
-    let high = judged-next l (n .loop .good) (omega arith) (c .before .before .digit .ensures) (n .loop .inv .2) in
-    let low = judged-next l (n .loop .good && ltb (c .before .before .digit .result) 16) (omega arith) (c .digit2 .ensures) high in (
+    let high = verdict-next l (ltb (n .loop .found) 16) (omega arith) (c .before .before .digit .ensures) (n .loop .inv .2) in
+    let low = verdict-next l (ltb (n .loop .found) 16 && ltb (c .before .before .digit .result) 16) (omega arith) (c .digit2 .ensures) high in
+    let met = met-next (bitOr (n .loop .found) (c .before .before .digit .result)) (c .digit2 .result) in (
       omega (arith, length-set (n .loop .out) i v),
       length-set (n .loop .out) i v ∙ n .loop .inv .1,
-      rw next at low,
+      rw (met, met-next (n .loop .found) (c .before .before .digit .result)) (rw next at low),
       bytes-next l (n .loop .out) i pre (omega arith) (rw (c .before .before .digit .ensures, c .digit2 .ensures)) (n .loop .inv .3),
     )
 
@@ -84,7 +87,7 @@ returns c =
     let done : length (n .out) ≤ n .i = omega arith in
     let end : length l ≤ 2 * n .i = omega arith in
     let all : length (bytesOf l) ≤ n .i = omega (arith, length-bytes l) in
-    (judged-all l (n .good) end (n .inv .2), sym (take-all _ _ done) ∙ n .inv .3 ∙ take-all _ _ all)
+    (verdict-all l (ltb (n .found) 16) end (n .inv .2), sym (take-all _ _ done) ∙ n .inv .3 ∙ take-all _ _ all)
 
 pub pairs-spec : {M : Type 1} → statement M
 pairs-spec =

@@ -1,7 +1,7 @@
 -- `record::read` meets its contract. Assumes nothing.
 use mathlib.Core.Path.{sym}
 use lib.Seq.{length-take-le}
-use Rattle.record.specs.Record.{textOf, readOf}
+use Rattle.record.proofs.Rows.{read-numbered}
 use borrow.Author.Needs.{needs}
 use Rattle.record.proofs.read.Statement.{statement}
 use Rattle.record.proofs.read.Tie as tie
@@ -16,8 +16,7 @@ read-text-requires : tie.Need-read-text-requires
 read-text-requires c κs = search needs
 
 returns : tie.Need-returns
-unfolding readOf textOf
-returns c = cc
+returns c = read-numbered _ _ _ (c .before .before .text-len .ensures .0) (c .read-text .ensures)
 
 pub read-spec : {M : Type 1} → statement M
 read-spec =

@@ -32,20 +32,20 @@ refusal-requires-3 c κs = search needs
 returns-3 : tie.Need-returns-3
 returns-3 c = c .refusal3 .ensures ∙ is-bad-shape _ (c .before .before .before .before .if1 .left) (c .before .before .if2 .left) (c .before .if3 .taken)
 
-sub-decode : tie.Need-sub-decode
-sub-decode c = search needs
+sub-digits-of : tie.Need-sub-digits-of
+sub-digits-of c = search needs
 
-part-decode-start : tie.Need-part-decode-start
-part-decode-start c = search needs
+part-digits-of-start : tie.Need-part-digits-of-start
+part-digits-of-start c = search needs
 
-part-decode-end : tie.Need-part-decode-end
-part-decode-end c = search needs
+part-digits-of-end : tie.Need-part-digits-of-end
+part-digits-of-end c = search needs
 
-slice-aggregate-decode : tie.Need-slice-aggregate-decode
-slice-aggregate-decode c = search needs
+slice-aggregate-digits-of : tie.Need-slice-aggregate-digits-of
+slice-aggregate-digits-of c = search needs
 
-decode-requires : tie.Need-decode-requires
-decode-requires c κs =
+digits-of-requires : tie.Need-digits-of-requires
+digits-of-requires c κs =
     let t = c .before .before .before .before .before .before .before .args .t .now in
     let odd : length t % 2 ≡ 1 = shaped (length t) (c .before .before .if3 .left) .odd in
     let e : length (take (length t - 1) (drop 1 t)) ≡ length t - 1 = ap length (rest 1 t) ∙ length-drop 1 t in
@@ -59,7 +59,7 @@ returns-4 c =
     let d = c .before .before .before in
     let s = d .before .before .before in
     let t = s .before .before .before .before .before .args .t .now in
-    let e : allDigits (drop 1 t) ≡ false = sym (ap allDigits (rest 1 t)) ∙ sym (d .decode .ensures .0) ∙ not-true _ (c .before .if4 .taken) in
+    let e : allDigits (drop 1 t) ≡ false = sym (ap allDigits (rest 1 t)) ∙ sym (d .digits-of .ensures .0) ∙ not-true _ (c .before .if4 .taken) in
     c .refusal4 .ensures ∙ is-bad-digit t (s .before .before .before .if1 .left) (s .before .if2 .left) (s .if3 .left) e
 
 slice-aggregate-read-bytes : tie.Need-slice-aggregate-read-bytes
@@ -68,16 +68,16 @@ slice-aggregate-read-bytes c = search needs
 read-bytes-requires : tie.Need-read-bytes-requires
 read-bytes-requires c κs =
     let d = c .before .before .before in
-    (shaped _ (d .before .before .before .if3 .left) .least, d .decode .kept .1 .0)
+    (shaped _ (d .before .before .before .if3 .left) .least, d .digits-of .kept .1 .0)
 
 returns-5 : tie.Need-returns-5
 returns-5 c =
     let d = c .before .before .before .before in
     let s = d .before .before .before in
     let t = s .before .before .before .before .before .args .t .now in
-    let yes : d .decode .result ≡ true = not-false _ (c .before .before .if4 .left) in
-    let e : allDigits (drop 1 t) ≡ true = sym (ap allDigits (rest 1 t)) ∙ sym (d .decode .ensures .0) ∙ yes in
-    c .read-bytes .ensures ∙ is-decoded t (s .before .before .before .if1 .left) (s .before .if2 .left) (s .if3 .left) _ e (d .decode .kept .1 .0) (rw (rest 1 t) at (d .decode .ensures .1))
+    let yes : d .digits-of .result ≡ true = not-false _ (c .before .before .if4 .left) in
+    let e : allDigits (drop 1 t) ≡ true = sym (ap allDigits (rest 1 t)) ∙ sym (d .digits-of .ensures .0) ∙ yes in
+    c .read-bytes .ensures ∙ is-decoded t (s .before .before .before .if1 .left) (s .before .if2 .left) (s .if3 .left) _ e (d .digits-of .kept .1 .0) (rw (rest 1 t) at (d .digits-of .ensures .1))
 
 pub read-text-spec : {M : Type 1} → statement M
 read-text-spec =
@@ -90,11 +90,11 @@ read-text-spec =
     returns-2
     refusal-requires-3
     returns-3
-    sub-decode
-    part-decode-start
-    part-decode-end
-    slice-aggregate-decode
-    decode-requires
+    sub-digits-of
+    part-digits-of-start
+    part-digits-of-end
+    slice-aggregate-digits-of
+    digits-of-requires
     refusal-requires-4
     returns-4
     slice-aggregate-read-bytes

@@ -19,8 +19,8 @@ enum-told-4 c = search needs
 enum-told-5 : tie.Need-enum-told-5
 enum-told-5 c = search needs
 
-enum-known-stand : tie.Need-enum-known-stand
-enum-known-stand c = search needs
+enum-known-state : tie.Need-enum-known-state
+enum-known-state c = search needs
 
 is-failure-requires : tie.Need-is-failure-requires
 is-failure-requires c κs = search needs
@@ -47,7 +47,7 @@ returns-5 c = rw (c .enum-told5 .given .1)
 
 returns-6 : tie.Need-returns-6
 unfolding badFailure
-returns-6 c = rw (c .before .before .stand .given .1, c .is-failure .ensures)
+returns-6 c = rw (c .before .before .state .given .1, c .is-failure .ensures)
 
 pub bad-failure-spec : {M : Type 1} → statement M
 bad-failure-spec =
@@ -58,7 +58,7 @@ bad-failure-spec =
     enum-told-3
     enum-told-4
     enum-told-5
-    enum-known-stand
+    enum-known-state
     is-failure-requires
     returns
     returns-2

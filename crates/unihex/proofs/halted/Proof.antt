@@ -18,8 +18,8 @@ enum-told-4 c = search needs
 enum-told-5 : tie.Need-enum-told-5
 enum-told-5 c = search needs
 
-enum-known-stand : tie.Need-enum-known-stand
-enum-known-stand c = search needs
+enum-known-state : tie.Need-enum-known-state
+enum-known-state c = search needs
 
 returns : tie.Need-returns
 returns c = search needs
@@ -37,7 +37,7 @@ returns-5 : tie.Need-returns-5
 returns-5 c = rw (c .enum-told5 .given .1)
 
 returns-6 : tie.Need-returns-6
-returns-6 c = rw (c .before .stand .given .1)
+returns-6 c = rw (c .before .state .given .1)
 
 pub halted-spec : {M : Type 1} → statement M
 halted-spec =
@@ -48,7 +48,7 @@ halted-spec =
     enum-told-3
     enum-told-4
     enum-told-5
-    enum-known-stand
+    enum-known-state
     returns
     returns-2
     returns-3

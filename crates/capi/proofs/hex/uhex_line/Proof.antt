@@ -1,5 +1,5 @@
 -- `capi::hex::uhex_line` meets its contract. Assumes nothing.
-use Rattle.capi.proofs.HexLaws.{line-lined}
+use Rattle.capi.proofs.HexLaws.{line-case}
 use borrow.Author.Needs.{needs}
 use Rattle.capi.proofs.hex.uhex_line.Statement.{statement}
 use Rattle.capi.proofs.hex.uhex_line.Tie as tie
@@ -37,7 +37,7 @@ returns c =
     let changed = kept .before in
     let failed = changed .before in
     let read = failed .before .before .before .before .before in
-    line-lined _ _ _ (read .before .before .read-reader .ensures) (read .line .ensures) (failed .has-failed .ensures) (changed .changes .ensures) (kept .keep-reader .ensures) (c .number .ensures)
+    line-case _ _ _ (read .before .before .read-reader .ensures) (read .line .ensures .0) (failed .has-failed .ensures) (changed .changes .ensures) (kept .keep-reader .ensures) (c .number .ensures)
 
 pub uhex-line-spec : {M : Type 1} → statement M
 uhex-line-spec =

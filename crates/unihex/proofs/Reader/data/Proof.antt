@@ -1,5 +1,5 @@
 -- `unihex::Reader::data` meets its contract. Assumes nothing.
-use Rattle.unihex.specs.Reader.{stepOf}
+use Rattle.unihex.specs.Reader.{effectOf}
 use borrow.Author.Tests.{lt-ltb, le-ltb}
 use borrow.Author.Needs.{needs}
 use Rattle.unihex.proofs.Reader.data.Statement.{statement}
@@ -9,14 +9,14 @@ add-if1 : tie.Need-add-if1
 add-if1 c = search needs
 
 returns : tie.Need-returns
-unfolding stepOf
+unfolding effectOf
 returns c = simp (lt-ltb _ _ (c .if1 .taken))
 
 given-requires : tie.Need-given-requires
 given-requires c κs = search needs
 
 returns-2 : tie.Need-returns-2
-unfolding stepOf
+unfolding effectOf
 returns-2 c = simp (le-ltb _ _ (c .before .if1 .left)) (c .given .ensures)
 
 pub data-spec : {M : Type 1} → statement M

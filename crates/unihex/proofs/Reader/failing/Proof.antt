@@ -3,11 +3,11 @@ use borrow.Author.Needs.{needs}
 use Rattle.unihex.proofs.Reader.failing.Statement.{statement}
 use Rattle.unihex.proofs.Reader.failing.Tie as tie
 
-standing-requires : tie.Need-standing-requires
-standing-requires c κs = search needs
+with-state-requires : tie.Need-with-state-requires
+with-state-requires c κs = search needs
 
 returns : tie.Need-returns
 returns c = cc
 
 pub failing-spec : {M : Type 1} → statement M
-failing-spec = tie.close (tie.spec standing-requires returns)
+failing-spec = tie.close (tie.spec with-state-requires returns)

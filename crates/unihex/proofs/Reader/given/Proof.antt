@@ -2,7 +2,7 @@
 use Rattle.unihex.specs.Reader.{givenOf}
 use borrow.Author.Tests.{eq-eqb, ne-eqb}
 use mathlib.Core.Path.{ap}
-use Rattle.unihex.specs.declared.Step.the-variants.{Passes, Stores}
+use Rattle.unihex.specs.declared.Effect.the-variants.{Passes, Stores}
 use borrow.Author.Needs.{needs}
 use Rattle.unihex.proofs.Reader.given.Statement.{statement}
 use Rattle.unihex.proofs.Reader.given.Tie as tie

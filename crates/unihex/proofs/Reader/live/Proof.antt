@@ -40,17 +40,17 @@ failing-requires-2 : tie.Need-failing-requires-2
 failing-requires-2 c κs = search needs
 
 returns-2 : tie.Need-returns-2
-returns-2 c = live-refused _ _ _ _ _ _ (omega arith) (c .before .before .before .read .ensures) (c .before .before .match .keys2) (c .before .refusal .ensures) (line-fails _ _ _ _ (c .failing2 .ensures))
+returns-2 c = live-refused _ _ _ _ _ _ (omega arith) (c .before .before .before .read .ensures .0) (c .before .before .match .keys2) (c .before .refusal .ensures .0) (line-fails _ _ _ _ (c .failing2 .ensures))
 
-take-requires : tie.Need-take-requires
-take-requires c κs = (good-len _ _ (ap (λ (x : Line). x .parsed) (sym (c .before .before .before .before .before .before .before .read .ensures)) ∙ c .before .before .before .before .before .parsed .given .1), search needs)
+apply-requires : tie.Need-apply-requires
+apply-requires c κs = (good-len _ _ (ap (λ (x : Line). x .parsed) (sym (c .before .before .before .before .before .before .before .read .ensures .0)) ∙ c .before .before .before .before .before .parsed .given .1), search needs)
 
 same-length : tie.Need-same-length
 same-length c = search needs
 
 returns-3 : tie.Need-returns-3
 unfolding parsedLine
-returns-3 c = live-by _ _ _ _ _ _ (omega arith) (c .before .before .before .before .before .before .before .before .before .before .read .ensures) (c .before .before .before .before .before .before .before .before .parsed .given .1) (c .before .before .take .ensures)
+returns-3 c = live-by _ _ _ _ _ _ (omega arith) (c .before .before .before .before .before .before .before .before .before .before .read .ensures .0) (c .before .before .before .before .before .before .before .before .parsed .given .1) (c .before .before .apply .ensures)
 
 pub live-spec : {M : Type 1} → statement M
 live-spec =
@@ -67,6 +67,6 @@ live-spec =
     refusal-requires
     failing-requires-2
     returns-2
-    take-requires
+    apply-requires
     same-length
     returns-3)

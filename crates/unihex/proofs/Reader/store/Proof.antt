@@ -29,14 +29,14 @@ add-if1 c = search needs
 returns : tie.Need-returns
 returns c = store-outside _ _ _ _ _ _ (c .before .moved-to .ensures) (omega arith)
 
-lay-requires : tie.Need-lay-requires
-lay-requires c κs = search needs
+put-bytes-requires : tie.Need-put-bytes-requires
+put-bytes-requires c κs = search needs
 
 same-length : tie.Need-same-length
 same-length c = search needs
 
 returns-2 : tie.Need-returns-2
-returns-2 c = store-inside _ _ _ _ _ _ _ (c .before .before .before .before .before .moved-to .ensures) (omega arith) (c .before .before .lay .ensures)
+returns-2 c = store-inside _ _ _ _ _ _ _ (c .before .before .before .before .before .moved-to .ensures) (omega arith) (c .before .before .put-bytes .ensures)
 
 pub store-spec : {M : Type 1} → statement M
 store-spec =
@@ -50,6 +50,6 @@ store-spec =
     moved-to-requires
     add-if1
     returns
-    lay-requires
+    put-bytes-requires
     same-length
     returns-2)

@@ -1,0 +1,1 @@
+// Bytes stored in an image, one store after the other: definitions and laws, no code.
