@@ -3,6 +3,7 @@ pub mod Endings
 pub mod Sums
 pub mod Digits
 pub mod Table
+pub mod FirstBad
 pub mod Data32
 pub mod Checks
 pub mod Good
