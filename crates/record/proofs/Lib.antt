@@ -8,4 +8,5 @@ pub mod Data32
 pub mod Checks
 pub mod Good
 pub mod Rows
+pub mod Positions
 pub mod Written
