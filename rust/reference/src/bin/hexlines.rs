@@ -49,7 +49,7 @@ fn shown(answer: Answer) -> String {
         Answer {
             number: number @ 22,
             position,
-        } => format!("{number} {position}"),
+        } => format!("{number} position {position}"),
         Answer { number, .. } => number.to_string(),
     }
 }
