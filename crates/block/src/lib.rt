@@ -1,7 +1,8 @@
-// A UF2 block: its little-endian fields, and the answer of its header.
+// A UF2 block: its little-endian fields, read and written, and the answer of its header.
 ghost use mathlib.Core.Path.{_≡_};
 ghost use Prim.Native.Nat.{_+_, _*_};
 ghost use Rattle.block.specs.Block.{fieldAt, fieldsOf, flaggedOf, isBlock, headerOf, headerNumber};
+ghost use Rattle.block.specs.Write.{putAt};
 
 // The fields of a block that a header leaves to the checks after it.
 pub struct Block {
@@ -68,6 +69,22 @@ pub fn is_block(arrival: &[u8]) -> bool
     (field(arrival, 0) == Block::MAGIC_FIRST)
         & (field(arrival, 4) == Block::MAGIC_SECOND)
         & (field(arrival, 508) == Block::MAGIC_LAST)
+}
+
+// Writes a little-endian 32-bit field at an offset, and nothing where it would run past the end.
+pub fn put(bytes: &mut [u8], at: usize, x: u32)
+    ensures { λ _. ⌜ now (bytes .exit) ≡ putAt (now (bytes .entry)) at x ⌝ }
+{
+    if bytes.len() < 4 {
+        return;
+    }
+    if bytes.len() - 4 < at {
+        return;
+    }
+    bytes[at] = (x % 256) as u8;
+    bytes[at + 1] = (x / 256 % 256) as u8;
+    bytes[at + 2] = (x / 65536 % 256) as u8;
+    bytes[at + 3] = (x / 16777216 % 256) as u8;
 }
 
 // The fields of a block.

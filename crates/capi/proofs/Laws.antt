@@ -21,7 +21,7 @@ use Rattle.place.proofs.PlaceAnswer.{the-type}
 use Rattle.arrival.specs.Arrive.{receiveOf}
 use Rattle.receiver.specs.declared.Receipt.{Receipt}
 use Rattle.receiver.specs.Receiver.{world, outcome}
-use Rattle.layout.specs.Bytes.{le32}
+use Rattle.block.specs.Write.{le32}
 use Rattle.layout.specs.Layout.{settingsFrom, transferFrom}
 use Rattle.capi.specs.Calls.{PlaceCall, placeCall, placeCallOf, askBytes, arrivalCall, resultOf, isAcceptance, keptTransfer, arrivalCallOf, receiveBytes}
 

@@ -20,8 +20,8 @@ use Rattle.place.specs.declared.PlaceAnswer.{PlaceAnswer}
 use Rattle.place.specs.Place.{foundAt, placeOf, askOf}
 use Rattle.place.proofs.Laws.{ask-length, ask-settings, ask-place}
 use Rattle.place.proofs.Theorems.{place-inside}
-use Rattle.layout.specs.Bytes.{le32, putAt}
-use Rattle.layout.proofs.Fields.{put-over, field-le32}
+use Rattle.block.specs.Write.{le32, putAt}
+use Rattle.block.proofs.WriteLaws.{put-over, field-le32}
 use Rattle.capi.specs.Calls.{Low}
 
 -- ---- it fits

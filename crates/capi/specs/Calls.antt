@@ -14,7 +14,7 @@ use Rattle.settings.specs.declared.Settings.{Settings}
 use Rattle.arrival.specs.Arrive.{World, Outcome, receiveOf}
 use Rattle.arrival.specs.Lists.{receiveAll, answersOf, discardsOf}
 use Rattle.receiver.specs.Receiver.{world}
-use Rattle.layout.specs.Bytes.{le32}
+use Rattle.block.specs.Write.{le32}
 use Rattle.layout.specs.Layout.{settingsFrom, transferFrom, withTransfer}
 
 -- ---- a place asked for alone

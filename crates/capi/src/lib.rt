@@ -45,8 +45,8 @@ fn tell(asked: PlaceAnswer, place: &mut [u8]) -> u32
     let PlaceAnswer::Found { start, len } = asked else {
         return n;
     };
-    layout::put(place, 0, start as u32);
-    layout::put(place, 4, len as u32);
+    block::put(place, 0, start as u32);
+    block::put(place, 4, len as u32);
     n
 }
 

@@ -7,24 +7,15 @@ use lib.ListN.{length, set}
 use borrow.Author.Tests.{eq-eqb}
 use Rattle.sets.specs.Bytes.{lowFirst}
 use Rattle.sets.specs.Over.{over}
-use Rattle.sets.proofs.BytesLaws.{length-low}
-use Rattle.sets.proofs.OverLaws.{length-over, set-over, over-next, over-whole}
+use Rattle.sets.proofs.OverLaws.{set-over, over-whole}
 use Rattle.block.specs.Block.{fieldAt}
 use Rattle.transfer.specs.declared.State.{State}
 use Rattle.transfer.specs.declared.State.the-variants.{Idle, Running, Done}
-use Rattle.layout.specs.Bytes.{le32, putAt}
+use Rattle.block.specs.Write.{le32, putAt}
 use Rattle.layout.specs.Layout.{stateOf, stateFrom, transferBytes, stateBytes, withTransfer}
-use Rattle.layout.proofs.Fields.{put-over, field-le32}
+use Rattle.block.proofs.WriteLaws.{put-after, field-le32}
 
 -- ---- the bytes
-
--- a field right after what is written already
-put-next : (b : List ℕ) (s : List ℕ) (k x : ℕ) → length s ≡ k → k + 4 ≤ length b → putAt (over b 0 s) k x ≡ over b 0 (s ++ le32 x)
-put-next b s k x e l =
-    let fits : 0 + length s ≤ length b = omega arith in
-    let same = length-over b 0 s fits in
-    let at : 0 + length s ≡ k = omega arith in
-    put-over (over b 0 s) k x (omega arith) ∙ over-next b 0 s k (le32 x) at (omega (arith, length-low 4 x))
 
 pub transferBytes-put : (b : List ℕ) (tag f n c : ℕ) → length b ≡ 13 → putAt (putAt (putAt (set b 0 tag) 1 f) 5 n) 9 c ≡ transferBytes tag f n c
 unfolding lowFirst transferBytes
@@ -33,9 +24,9 @@ transferBytes-put b tag f n c e =
     let t : List ℕ = tag ∷ le32 f in
     let u : List ℕ = tag ∷ (le32 f ++ le32 n) in
     let one : set b 0 tag ≡ over b 0 s = set-over b 0 tag (omega arith) in
-    let two : putAt (over b 0 s) 1 f ≡ over b 0 t = put-next b s 1 f refl (omega arith) in
-    let three : putAt (over b 0 t) 5 n ≡ over b 0 u = put-next b t 5 n refl (omega arith) in
-    rw (one, two, three) (put-next b u 9 c refl (omega arith) ∙ over-whole b (u ++ le32 c) (sym e))
+    let two : putAt (over b 0 s) 1 f ≡ over b 0 t = put-after b s 1 f refl (omega arith) in
+    let three : putAt (over b 0 t) 5 n ≡ over b 0 u = put-after b t 5 n refl (omega arith) in
+    rw (one, two, three) (put-after b u 9 c refl (omega arith) ∙ over-whole b (u ++ le32 c) (sym e))
 
 -- ---- read back
 

@@ -17,7 +17,7 @@ use Rattle.transfer.specs.declared.State.{State}
 use Rattle.transfer.specs.declared.State.the-variants.{Idle, Running, Done}
 use Rattle.transfer.specs.declared.Transfer.{Transfer}
 use Rattle.transfer.specs.Transfer.{running}
-use Rattle.layout.specs.Bytes.{le32}
+use Rattle.block.specs.Write.{le32}
 
 -- the byte at an index, and 0 past the end
 abbrev pub byteAt : List ℕ → ℕ → ℕ

@@ -3,7 +3,6 @@
 ghost use mathlib.Core.Path.{_≡_};
 ghost use Prim.Native.Nat.{_≤_};
 ghost use lib.ListN.{length};
-ghost use Rattle.layout.specs.Bytes.{putAt};
 ghost use Rattle.layout.specs.Layout.{
   linkFrom,
   usersFrom,
@@ -195,30 +194,14 @@ pub fn read_transfer(bytes: &[u8]) -> Transfer
     Transfer { state }
 }
 
-// Writes a little-endian 32-bit field at an offset, and nothing where it would run past the end.
-pub fn put(bytes: &mut [u8], at: usize, x: u32)
-    ensures { λ _. ⌜ now (bytes .exit) ≡ putAt (now (bytes .entry)) at x ⌝ }
-{
-    if bytes.len() < 4 {
-        return;
-    }
-    if bytes.len() - 4 < at {
-        return;
-    }
-    bytes[at] = (x % 256) as u8;
-    bytes[at + 1] = (x / 256 % 256) as u8;
-    bytes[at + 2] = (x / 65536 % 256) as u8;
-    bytes[at + 3] = (x / 16777216 % 256) as u8;
-}
-
 fn write(bytes: &mut [u8], tag: u8, family: u32, total: u32, count: u32)
     requires { ⌜ length (now bytes) ≡ 13 ⌝ }
     ensures { λ _. ⌜ now (bytes .exit) ≡ transferBytes tag family total count ⌝ }
 {
     bytes[0] = tag;
-    put(bytes, 1, family);
-    put(bytes, 5, total);
-    put(bytes, 9, count);
+    block::put(bytes, 1, family);
+    block::put(bytes, 5, total);
+    block::put(bytes, 9, count);
 }
 
 // Writes a transfer, where there are bytes for it.

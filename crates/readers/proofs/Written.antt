@@ -11,9 +11,9 @@ use borrow.Author.Tests.{eq-eqb}
 use Rattle.sets.specs.Bytes.{lowFirst}
 use Rattle.sets.proofs.BytesLaws.{number-back}
 use Rattle.block.specs.Block.{fieldAt}
-use Rattle.layout.specs.Bytes.{le32}
+use Rattle.block.specs.Write.{le32}
 use Rattle.layout.specs.Layout.{isOn}
-use Rattle.layout.proofs.Fields.{field-le32}
+use Rattle.block.proofs.WriteLaws.{field-le32}
 use Rattle.grammar.specs.Answers.{positionOf}
 use Rattle.grammar.specs.declared.Boards.{Boards}
 use Rattle.grammar.specs.declared.ReaderState.{ReaderState}

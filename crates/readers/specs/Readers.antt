@@ -6,7 +6,7 @@ use lib.Dec.{leb, eqb}
 use lib.ListN.{length, getD}
 use Rattle.sets.specs.Bytes.{lowFirst, numberIn}
 use Rattle.block.specs.Block.{fieldAt}
-use Rattle.layout.specs.Bytes.{le32}
+use Rattle.block.specs.Write.{le32}
 use Rattle.layout.specs.Layout.{byteAt, isOn}
 use Rattle.grammar.specs.Answers.{numberOf, positionOf}
 use Rattle.grammar.specs.declared.Answer.{Answer}

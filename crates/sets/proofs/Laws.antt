@@ -8,8 +8,8 @@ use native.Mathlib.Numerals.{add-one}
 use native.Mathlib.Omega.{arith}
 use lib.Dec.{eqb}
 use borrow.Author.Tests.{eqb-true, eqb-false, ne-eqb}
-use Rattle.sets.specs.Sets.{Set, none, add, one, size, any}
-use Rattle.sets.proofs.Tests.{split, clash, is-false, eqb-same, or-idle}
+use Rattle.sets.specs.Sets.{Set, none, add, one, size, any, least}
+use Rattle.sets.proofs.Tests.{split, clash, is-false, eqb-same, or-idle, or-left, or-right}
 
 pub add-idle : (k : ℕ) (S : Set) → S k ≡ true → add k S ≡ S
 add-idle k S h = fun-ext (λ j. or-idle (eqb j k) (S j) (λ e. ap S (eqb-true j k e) ∙ h))
@@ -138,6 +138,19 @@ unfolding any
 any-cong zero P Q h = refl
 any-cong (suc n) P Q h = rw (h n (omega arith), any-cong n P Q (λ j l. h j (omega arith)))
 
+-- one of two tests
+pub any-or : (n : ℕ) (P Q : Set) → any n (λ j. P j || Q j) ≡ any n P || any n Q
+unfolding any
+any-or zero P Q = refl
+any-or (suc n) P Q = rw (any-or n P Q) (four (any n P) (any n Q) (P n) (Q n))
+  where
+    four : (a b c d : Bool) → (a || b) || (c || d) ≡ (a || c) || (b || d)
+    four true b c d = refl
+    four false true true d = refl
+    four false true false d = refl
+    four false false true d = refl
+    four false false false d = refl
+
 -- what one number more adds to a search in a set
 pub any-add : (n : ℕ) (Q S : Set) (k : ℕ) → k < n → any n (λ i. add k S i && Q i) ≡ Q k || any n (λ i. S i && Q i)
 any-add n Q S k h =
@@ -150,6 +163,32 @@ any-add n Q S k h =
         split (eqb i k)
         (λ e. let z : Q i ≡ false = ap Q (eqb-true i k e) ∙ q in rw (z, and-false (add k S i), and-false (S i)))
         (λ e. rw e)
+
+-- ---- the least that passes
+
+module _ (P : Set) where
+  pub least-none : (n : ℕ) → any n P ≡ false → least n P ≡ n
+  unfolding least any
+  least-none zero h = refl
+  least-none (suc n) h = rw (or-left (any n P) (P n) h, or-right (any n P) (P n) h)
+
+  -- the number below which none passes, and which passes
+  pub least-is : (n k : ℕ) → k < n → any k P ≡ false → P k ≡ true → least n P ≡ k
+  unfolding least
+  least-is zero k h e t = absurd (not-suc-le-zero h)
+  least-is (suc n) k h e t =
+      split (eqb k n)
+      (λ q. let s : k ≡ n = eqb-true k n q in let a : any n P ≡ false = ap (λ (m : ℕ). any m P) (sym s) ∙ e in let b : P n ≡ true = ap P (sym s) ∙ t in rw (a, b) (sym s))
+      (λ q. let d : k ≢ n = eqb-false k n q in rw (any-hit P n k (omega arith) t) (least-is n k (omega arith) e t))
+
+  -- where one passes, the least is one that passes, and none below it does
+  pub least-below : (n : ℕ) → any n P ≡ true → (least n P < n) × (P (least n P) ≡ true) × (any (least n P) P ≡ false)
+  unfolding least any
+  least-below zero e = clash false e refl
+  least-below (suc n) e =
+      split (any n P)
+      (λ q. let r = least-below n q in rw q (omega (arith, r .0), r .1, r .2))
+      (λ q. let p : P n ≡ true = rw q at e in rw (q, p) (omega arith, p, q))
 
 -- ---- the value of the one that passes
 

@@ -4,3 +4,4 @@ pub mod Laws
 pub mod TabLaws
 pub mod OverLaws
 pub mod BytesLaws
+pub mod RowsLaws

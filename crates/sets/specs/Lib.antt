@@ -2,3 +2,4 @@ pub mod Sets
 pub mod Tab
 pub mod Over
 pub mod Bytes
+pub mod Rows

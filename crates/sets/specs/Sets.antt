@@ -1,5 +1,5 @@
--- Sets of numbers as tests: how many below n a set holds, and whether one below n passes a test. Assumes nothing.
-use mathlib.Core.Bool.{Bool, true, false, _||_}
+-- Sets of numbers as tests: how many below n a set holds, whether one below n passes a test, and which is the least. Assumes nothing.
+use mathlib.Core.Bool.{Bool, true, false, cond, _||_}
 use Prim.Native.Nat.{ℕ, zero, suc, _+_}
 use lib.Dec.{eqb}
 
@@ -29,3 +29,8 @@ size (suc n) S = one (S n) + size n S
 unfoldable pub any : ℕ → Set → Bool
 any zero P = false
 any (suc n) P = any n P || P n
+
+-- the least number below n that passes the test, and n where none does
+unfoldable pub least : ℕ → Set → ℕ
+least zero P = 0
+least (suc n) P = cond (any n P) (least n P) (cond (P n) n (suc n))

@@ -257,6 +257,39 @@ fn lines_keep_their_bounds() {
     assert!(answers[18..].iter().all(|&n| n >= often), "{answers:?}");
 }
 
+#[test]
+fn made_files_and_digests_keep_their_bounds() {
+    let mut r = Random(35);
+    let mut made = 0;
+    for _ in 0..number() {
+        let n = r.below(7) as usize;
+        let image = any_length(&mut r, vec![0x5A; n * 256]);
+        let image = Twin::read(&mut r, image);
+        let output = any_length(&mut r, vec![9; n * 512]);
+        let mut output = Twin::written(&mut r, output);
+        let family = r.of(&FAMILIES);
+        let start = r.of(&[0x1000_0000, 0x11FF_FF00, 0x1000_0001]);
+        let fenced = tools::make(
+            image.fenced.bytes(),
+            family,
+            start,
+            output.fenced.bytes_mut(),
+        );
+        let plain = tools::make(&image.plain, family, start, &mut output.plain);
+        assert_eq!(fenced, plain);
+        image.check("image");
+        output.check("output");
+        made += usize::from(plain.is_ok());
+
+        let any = r.below(300) as usize;
+        let bytes = (0..any).map(|_| r.draw() as u8).collect();
+        let bytes = Twin::read(&mut r, bytes);
+        assert_eq!(tools::md5(bytes.fenced.bytes()), tools::md5(&bytes.plain));
+        bytes.check("bytes");
+    }
+    assert!(made > number() / 10, "{made}");
+}
+
 // ---- the fence itself
 
 const TOUCH: &str = "FENCE_TOUCH";

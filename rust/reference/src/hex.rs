@@ -17,42 +17,61 @@ const BAD_DIGIT: u8 = 22;
 const TOO_LONG: u8 = 23;
 const BAD_LENGTH: u8 = 24;
 const BAD_SUM: u8 = 25;
-const OUT_OF_PLACE: u8 = 26;
+pub(crate) const OUT_OF_PLACE: u8 = 26;
 const UNALIGNED: u8 = 27;
 const REPEATED: u8 = 28;
-const CROSSES: u8 = 29;
-const MISSING_BOARD: u8 = 30;
-const AFTER_END: u8 = 31;
+pub(crate) const CROSSES: u8 = 29;
+pub(crate) const MISSING_BOARD: u8 = 30;
+pub(crate) const AFTER_END: u8 = 31;
 const OUTSIDE: u8 = 32;
 const STORED: u8 = 33;
 const PASSED: u8 = 34;
 const ENDED: u8 = 35;
-const FILE_TOO_LONG: u8 = 36;
+pub(crate) const FILE_TOO_LONG: u8 = 36;
 
 const MAX_IMAGE_LEN: usize = 1_048_576;
-const MAX_FILE_LEN: u32 = 4_194_304;
+pub(crate) const MAX_FILE_LEN: u32 = 4_194_304;
 /// A section begins at a multiple of this offset.
-const SECTION_LEN: u32 = 512;
+pub(crate) const SECTION_LEN: u32 = 512;
 /// The characters of the shortest and of the longest line, without its ending.
-const MIN_CHARS: usize = 11;
+pub(crate) const MIN_CHARS: usize = 11;
 const MAX_CHARS: usize = 521;
 /// The data bytes of the longest record.
-const MAX_DATA: usize = 32;
+pub(crate) const MAX_DATA: usize = 32;
 /// A record's bytes before its data: length, address (two), type.
 const HEAD: usize = 4;
 /// All bytes of the longest record, its sum included.
 const MAX_RECORD: usize = HEAD + MAX_DATA + 1;
 /// What a record's address field and length may reach together.
-const SEGMENT_LEN: usize = 65_536;
+pub(crate) const SEGMENT_LEN: usize = 65_536;
 
-const DATA: u8 = 0x00;
-const END_OF_FILE: u8 = 0x01;
-const UPPER_ADDRESS: u8 = 0x04;
-const SECTION_START: u8 = 0x0A;
-const SECTION_END: u8 = 0x0B;
-const PADDING: u8 = 0x0C;
+pub(crate) const DATA: u8 = 0x00;
+pub(crate) const END_OF_FILE: u8 = 0x01;
+pub(crate) const UPPER_ADDRESS: u8 = 0x04;
+pub(crate) const SECTION_START: u8 = 0x0A;
+pub(crate) const SECTION_END: u8 = 0x0B;
+pub(crate) const PADDING: u8 = 0x0C;
 const CUSTOM_DATA: u8 = 0x0D;
 const OTHER_DATA: u8 = 0x0E;
+
+/// The answer to a line.
+#[derive(Clone, Copy, PartialEq, Eq, Debug)]
+pub struct Answer {
+    /// Its number, 18 to 36.
+    pub number: u8,
+    /// Of a 22, the position of the first character that is no digit, counted
+    /// from 0 at the colon; 0 with any other number.
+    pub position: u16,
+}
+
+impl From<u8> for Answer {
+    fn from(number: u8) -> Answer {
+        Answer {
+            number,
+            position: 0,
+        }
+    }
+}
 
 /// A flag for each of the two boards that a file has to serve.
 #[derive(Clone, Copy, PartialEq, Eq, Debug)]
@@ -97,8 +116,8 @@ pub enum Stand {
     Padded(u16),
     /// After the 01.
     Ended,
-    /// The remembered failure's number.
-    Failed(u8),
+    /// The remembered failure.
+    Failed(Answer),
 }
 
 /// What is kept from one line to the next.
@@ -118,21 +137,21 @@ pub struct Reader {
 }
 
 /// A record whose digits, length and sum are right.
-struct Record {
+pub(crate) struct Record {
     bytes: [u8; MAX_RECORD],
     len: usize,
 }
 
 impl Record {
-    fn address(&self) -> u16 {
+    pub(crate) fn address(&self) -> u16 {
         u16::from_be_bytes([self.bytes[1], self.bytes[2]])
     }
 
-    fn kind(&self) -> u8 {
+    pub(crate) fn kind(&self) -> u8 {
         self.bytes[3]
     }
 
-    fn data(&self) -> &[u8] {
+    pub(crate) fn data(&self) -> &[u8] {
         &self.bytes[HEAD..HEAD + self.len]
     }
 }
@@ -150,36 +169,48 @@ pub fn fresh(own: u16) -> Reader {
 }
 
 /// Takes one line as handed, its ending included: the next reader and the
-/// answer's number, 18 to 36.
-pub fn line(reader: Reader, line: &[u8], image: &mut [u8]) -> (Reader, u8) {
+/// answer.
+pub fn line(reader: Reader, line: &[u8], image: &mut [u8]) -> (Reader, Answer) {
     if !(1..=MAX_IMAGE_LEN).contains(&image.len()) {
-        return (reader, BAD_IMAGE);
+        return (reader, BAD_IMAGE.into());
     }
     if !reader_good(&reader) {
-        return (reader, BAD_READER);
+        return (reader, BAD_READER.into());
     }
     match reader.stand {
         Stand::Failed(answer) => return (reader, answer),
-        Stand::Ended => return (reader, AFTER_END),
+        Stand::Ended => return (reader, AFTER_END.into()),
         _ => {}
     }
-    take(reader, line, image).unwrap_or_else(|answer| {
-        let stand = Stand::Failed(answer);
-        (Reader { stand, ..reader }, answer)
-    })
+    match take(reader, line, image) {
+        Ok((next, number)) => (next, number.into()),
+        Err(failure) => {
+            let stand = Stand::Failed(failure);
+            (Reader { stand, ..reader }, failure)
+        }
+    }
 }
 
 fn reader_good(reader: &Reader) -> bool {
     let stand_good = match reader.stand {
-        Stand::Failed(answer) => matches!(answer, NO_COLON..=MISSING_BOARD | FILE_TOO_LONG),
+        Stand::Failed(failure) => failure_good(failure),
         _ => true,
     };
     matches!(reader.own, V1 | V2) && reader.offset <= MAX_FILE_LEN && stand_good
 }
 
+/// "One handed in with 22 and a position outside 1 to 520 is 18." A position
+/// beside any other number is not asked for; it is repeated as it came.
+fn failure_good(failure: Answer) -> bool {
+    match failure.number {
+        BAD_DIGIT => (1..MAX_CHARS).contains(&failure.position.into()),
+        number => matches!(number, NO_COLON..=MISSING_BOARD | FILE_TOO_LONG),
+    }
+}
+
 /// A line for a reader that reads on: the next reader with one of 32 to 35, or
 /// the failure. Only a line without failure gets as far as the image.
-fn take(reader: Reader, line: &[u8], image: &mut [u8]) -> Result<(Reader, u8), u8> {
+fn take(reader: Reader, line: &[u8], image: &mut [u8]) -> Result<(Reader, u8), Answer> {
     let offset = offset_after(reader.offset, line).ok_or(FILE_TOO_LONG)?;
     let record = read(without_ending(line))?;
     let (next, answer) = follow(reader, &record, image)?;
@@ -193,7 +224,7 @@ fn offset_after(offset: u32, line: &[u8]) -> Option<u32> {
 }
 
 /// Drops one LF and one CR before it; a CR alone is no ending.
-fn without_ending(line: &[u8]) -> &[u8] {
+pub(crate) fn without_ending(line: &[u8]) -> &[u8] {
     match line {
         [text @ .., b'\r', b'\n'] | [text @ .., b'\n'] => text,
         text => text,
@@ -201,25 +232,37 @@ fn without_ending(line: &[u8]) -> &[u8] {
 }
 
 /// The line's own checks, 20 to 25.
-fn read(text: &[u8]) -> Result<Record, u8> {
+pub(crate) fn read(text: &[u8]) -> Result<Record, Answer> {
     let [b':', digits @ ..] = text else {
-        return Err(NO_COLON);
+        return Err(NO_COLON.into());
     };
     if !(MIN_CHARS..=MAX_CHARS).contains(&text.len()) || text.len().is_multiple_of(2) {
-        return Err(BAD_SHAPE);
+        return Err(BAD_SHAPE.into());
     }
-    let (bytes, sum) = decode(digits).ok_or(BAD_DIGIT)?;
+    let (bytes, sum) = decode(digits).ok_or_else(|| bad_digit(digits))?;
     let len = usize::from(bytes[0]);
     if len > MAX_DATA {
-        return Err(TOO_LONG);
+        return Err(TOO_LONG.into());
     }
     if text.len() != MIN_CHARS + 2 * len {
-        return Err(BAD_LENGTH);
+        return Err(BAD_LENGTH.into());
     }
     if sum != 0 {
-        return Err(BAD_SUM);
+        return Err(BAD_SUM.into());
     }
     Ok(Record { bytes, len })
+}
+
+/// The answer for characters of which not all are digits; the first of them
+/// stands after the colon.
+fn bad_digit(digits: &[u8]) -> Answer {
+    let good = digits
+        .iter()
+        .take_while(|&&character| digit(character) < 16);
+    Answer {
+        number: BAD_DIGIT,
+        position: 1 + good.count() as u16,
+    }
 }
 
 /// The bytes that the digits spell, with their sum, unless one is no digit. A
@@ -311,7 +354,7 @@ fn follow(reader: Reader, record: &Record, image: &mut [u8]) -> Result<(Reader, 
 }
 
 /// The type that data has in the board's section.
-fn data_kind(board: u16) -> u8 {
+pub(crate) fn data_kind(board: u16) -> u8 {
     if board == V1 {
         DATA
     } else {

@@ -6,7 +6,12 @@
 //! is total: no input makes it panic, and a refusal leaves what was lent as is.
 
 pub mod hex;
+pub mod join;
+pub mod make;
+pub mod md5;
 mod place;
+pub mod store;
+pub mod tags;
 
 #[cfg(test)]
 mod tests;

@@ -1,4 +1,4 @@
--- Little-endian 32-bit fields that are written; `fieldAt` of `block` says what is read. Assumes nothing.
+-- Little-endian 32-bit fields that are written; `fieldAt` says what is read. Assumes nothing.
 use Prim.Native.Nat.{ℕ, _+_}
 use mathlib.Core.Bool.{cond}
 use mathlib.Core.List.{List}
@@ -7,7 +7,7 @@ use lib.ListN.{length}
 use Rattle.sets.specs.Bytes.{lowFirst}
 use Rattle.sets.specs.Over.{over}
 
--- the four bytes of x, the lowest first (proofs/Fields.antt: they are read as x, where it is below 2 ^ 32)
+-- the four bytes of x, the lowest first (proofs/WriteLaws.antt: they are read as x, where it is below 2 ^ 32)
 abbrev pub le32 : ℕ → List ℕ
 le32 x = lowFirst 4 x
 

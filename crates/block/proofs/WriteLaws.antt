@@ -8,9 +8,9 @@ use borrow.Author.Tests.{le-leb, lt-leb}
 use Rattle.sets.specs.Over.{over}
 use Rattle.sets.proofs.BytesLaws.{length-low, number-back, low-four}
 use Rattle.sets.proofs.OverLaws.{length-over, set-over, over-next}
 use Rattle.block.specs.Block.{fieldAt}
+use Rattle.block.specs.Write.{le32, putAt}
 use Rattle.block.proofs.Laws.{field-number}
-use Rattle.layout.specs.Bytes.{le32, putAt}
 
 -- ---- written
 
@@ -38,6 +38,14 @@ four-set b at p q r s l =
 
 pub put-set : (b : List ℕ) (at x : ℕ) → at + 4 ≤ length b → set (set (set (set b at (x % 256)) (at + 1) (x / 256 % 256)) (at + 2) (x / 65536 % 256)) (at + 3) (x / 16777216 % 256) ≡ putAt b at x
 put-set b at x l = four-set b at _ _ _ _ l ∙ ap (over b at) (sym (low-four x)) ∙ sym (put-over b at x l)
+
+-- a field right after what is written already
+pub put-after : (b s : List ℕ) (k x : ℕ) → length s ≡ k → k + 4 ≤ length b → putAt (over b 0 s) k x ≡ over b 0 (s ++ le32 x)
+put-after b s k x e l =
+    let fits : 0 + length s ≤ length b = omega arith in
+    let same = length-over b 0 s fits in
+    let at : 0 + length s ≡ k = omega arith in
+    put-over (over b 0 s) k x (omega arith) ∙ over-next b 0 s k (le32 x) at (omega (arith, length-low 4 x))
 
 -- ---- read back
 

@@ -1,0 +1,1 @@
+// Fields of any width, packed into bytes: definitions and laws alone.

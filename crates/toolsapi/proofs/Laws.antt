@@ -1,0 +1,43 @@
+-- The laws of the calls. Assumes nothing.
+use Prim.Native.Nat.{ℕ}
+use mathlib.Core.Path.{_≡_, refl, sym, ap, _∙_}
+use mathlib.Core.Logic.{_≢_}
+use mathlib.Core.List.{List, _++_}
+use native.Mathlib.Omega.{arith}
+use lib.ListN.{length}
+use borrow.Author.Tests.{eq-eqb, ne-eqb}
+use Rattle.sets.specs.Bytes.{lowFirst}
+use Rattle.sets.proofs.OverLaws.{over-whole}
+use Rattle.block.specs.Write.{le32, putAt}
+use Rattle.block.proofs.WriteLaws.{put-over, put-after}
+use Rattle.md5.specs.declared.Digest.{Digest}
+use Rattle.md5.specs.Md5.{md5Of, digestBytes}
+use Rattle.uf2file.specs.declared.MakeAnswer.{MakeAnswer}
+use Rattle.uf2file.specs.Uf2file.{makeNumber, makeCall, makeOf}
+use Rattle.toolsapi.specs.Tools.{makeResult, resultOf, makeBytes, digestOver}
+
+pub make-told : (image : List ℕ) (family start : ℕ) (out : List ℕ) {n : ℕ} {x : MakeAnswer} {b : List ℕ}
+    → makeCall x b ≡ makeOf image family start out → n ≡ makeNumber x → makeResult n b ≡ makeBytes image family start out
+unfolding makeBytes
+make-told image family start out {n} {x} {b} e h = ap (λ (k : ℕ). makeResult k b) h ∙ ap resultOf e
+
+-- four words after each other, in 16 bytes
+pub digest-put : (out : List ℕ) (x : Digest) → length out ≡ 16 → putAt (putAt (putAt (putAt out 0 (x .a)) 4 (x .b)) 8 (x .c)) 12 (x .d) ≡ digestBytes x
+unfolding lowFirst digestBytes
+digest-put out x e =
+    rw (
+      put-over out 0 (x .a) (omega arith),
+      put-after out (le32 (x .a)) 4 (x .b) refl (omega arith),
+      put-after out (le32 (x .a) ++ le32 (x .b)) 8 (x .c) refl (omega arith),
+    )
+    (put-after out ((le32 (x .a) ++ le32 (x .b)) ++ le32 (x .c)) 12 (x .d) refl (omega arith)
+    ∙ over-whole out (((le32 (x .a) ++ le32 (x .b)) ++ le32 (x .c)) ++ le32 (x .d)) (sym e))
+
+module _ (out l : List ℕ) where
+  pub digest-other : length out ≢ 16 → out ≡ digestOver out l
+  unfolding digestOver
+  digest-other h = rw (ne-eqb (length out) 16 h)
+
+  pub digest-told : length out ≡ 16 → {b : List ℕ} {x : Digest} → b ≡ digestBytes x → x ≡ md5Of l → b ≡ digestOver out l
+  unfolding digestOver
+  digest-told h {b} {x} e k = e ∙ ap digestBytes k ∙ rw (eq-eqb (length out) 16 h)

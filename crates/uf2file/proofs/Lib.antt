@@ -1,0 +1,5 @@
+-- The laws of `specs/`, and the claims proved.
+pub mod Checks
+pub mod Blocks
+pub mod Files
+pub mod ReadBack

@@ -1,0 +1,2 @@
+pub mod Uf2file
+pub mod Claims

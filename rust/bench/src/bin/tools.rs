@@ -1,0 +1,68 @@
+//! Times the proved tools and the plain Rust reference in one run, on the same inputs: digests, and a file made of an image.
+
+use std::hint::black_box;
+use std::time::Instant;
+
+const ROUNDS: usize = 15;
+
+/// The best of several rounds of each, in turn.
+fn pair(name: &str, bytes: usize, mut ours: impl FnMut(), mut plain: impl FnMut()) {
+    let (mut a, mut b) = (f64::MAX, f64::MAX);
+    for _ in 0..ROUNDS {
+        let start = Instant::now();
+        ours();
+        a = a.min(start.elapsed().as_secs_f64());
+        let start = Instant::now();
+        plain();
+        b = b.min(start.elapsed().as_secs_f64());
+    }
+    let speed = |time: f64| bytes as f64 / time / 1e6;
+    println!(
+        "| {name} | {:.0} MB/s | {:.0} MB/s | {:.2} : 1 |",
+        speed(a),
+        speed(b),
+        a / b
+    );
+}
+
+fn digests(name: &str, n: usize) {
+    let message: Vec<u8> = (0..n).map(|i| (i * 7 + i / 256) as u8).collect();
+    assert_eq!(tools::md5(&message), reference::md5::md5(&message));
+    let times = (1 << 24) / n;
+    let repeated = |digest: fn(&[u8]) -> [u8; 16]| {
+        for _ in 0..times {
+            black_box(digest(black_box(&message)));
+        }
+    };
+    pair(
+        name,
+        times * n,
+        || repeated(tools::md5),
+        || repeated(reference::md5::md5),
+    );
+}
+
+fn file() {
+    const START: u32 = 0x1000_0000;
+    let image: Vec<u8> = (0..33_554_432).map(|i| (i * 7 + i / 256) as u8).collect();
+    let (mut ours, mut theirs) = (vec![1; 2 * image.len()], vec![2; 2 * image.len()]);
+    pair(
+        "a 32 MiB image made into a file",
+        image.len(),
+        || {
+            black_box(tools::make(&image, 7, START, &mut ours)).expect("it is made");
+        },
+        || {
+            black_box(reference::make::make(&image, 7, START, &mut theirs)).expect("it is made");
+        },
+    );
+    assert!(ours == theirs, "the two make the same");
+}
+
+fn main() {
+    println!("| work | proved | plain Rust | ratio |\n|---|---|---|---|");
+    digests("MD5 of 4 KiB", 4096);
+    digests("MD5 of 64 KiB", 65_536);
+    digests("MD5 of 1 MiB", 1_048_576);
+    file();
+}

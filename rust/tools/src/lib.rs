@@ -1,0 +1,135 @@
+//! The proved tools for Rust: safe calls of their C interface (include/uf2_tools.h).
+//!
+//! [`make`] writes the UF2 file of an image; a tool that streams asks [`check`] and writes with [`write_block`]. [`md5`] is the digest of
+//! RFC 1321. Nothing has to be checked before a call, nothing is allocated or kept between calls. It links
+//! `target/staticlib/libtoolsapi.a`, which `rt staticlib toolsapi` writes: code for x86-64 Linux.
+//!
+//! ```
+//! let image = [7; 512];
+//! let mut file = [0; 1024];
+//! assert_eq!(tools::make(&image, 0xe48b_ff59, 0x1000_0000, &mut file), Ok(2));
+//! assert_eq!(tools::make(&[], 0xe48b_ff59, 0x1000_0000, &mut file), Err(tools::MakeRefusal::BadImage));
+//! ```
+
+#![no_std]
+#![deny(missing_docs)]
+
+mod ffi;
+
+/// The bytes of a page of an image.
+pub const PAGE_BYTES: usize = 256;
+/// The bytes of a block of a file.
+pub const BLOCK_BYTES: usize = 512;
+/// The bytes of a digest.
+pub const MD5_BYTES: usize = 16;
+
+/// Why no file is made of an image. They are asked in this order.
+#[derive(Clone, Copy, PartialEq, Eq, Debug)]
+pub enum MakeRefusal {
+    /// 50: the image is empty, or no whole pages.
+    BadImage,
+    /// 51: the start is not from 0x10000000 up to, not including, 0x12000000, or no multiple of 256.
+    BadStart,
+    /// 52: the image runs past 0x12000000.
+    PastWindow,
+    /// 53: the output has under 512 bytes a page.
+    ShortOutput,
+}
+
+impl MakeRefusal {
+    /// The refusal's number.
+    pub fn number(self) -> u32 {
+        match self {
+            MakeRefusal::BadImage => 50,
+            MakeRefusal::BadStart => 51,
+            MakeRefusal::PastWindow => 52,
+            MakeRefusal::ShortOutput => 53,
+        }
+    }
+}
+
+/// The result of a number: how many blocks, or the refusal. That the library returns no other number is proved.
+fn result(number: u32, image_len: usize) -> Result<usize, MakeRefusal> {
+    match number {
+        0 => Ok(image_len / PAGE_BYTES),
+        50 => Err(MakeRefusal::BadImage),
+        51 => Err(MakeRefusal::BadStart),
+        52 => Err(MakeRefusal::PastWindow),
+        53 => Err(MakeRefusal::ShortOutput),
+        _ => panic!("the library is not the proved one of this version"),
+    }
+}
+
+/// How many blocks [`make`] would write for an image of so many bytes, or its refusal.
+pub fn check(image_len: usize, start: u32, output_len: usize) -> Result<usize, MakeRefusal> {
+    // SAFETY: the call takes numbers alone.
+    let number = unsafe { ffi::uf2_make_check(image_len, start, output_len) };
+    result(number, image_len)
+}
+
+/// Writes the UF2 blocks of an image in number order at the start of the output, and returns how many. A refusal writes nothing; what follows the
+/// last block stays.
+pub fn make(
+    image: &[u8],
+    family: u32,
+    start: u32,
+    output: &mut [u8],
+) -> Result<usize, MakeRefusal> {
+    // SAFETY: each pointer is of a slice with its length, and the output overlaps nothing, since it is borrowed alone.
+    let number = unsafe {
+        ffi::uf2_make(
+            image.as_ptr(),
+            image.len(),
+            family,
+            start,
+            output.as_mut_ptr(),
+            output.len(),
+        )
+    };
+    result(number, image.len())
+}
+
+/// What a block says beside its page.
+#[derive(Clone, Copy, PartialEq, Eq, Debug)]
+pub struct Fields {
+    /// Where the page goes.
+    pub address: u32,
+    /// The block's number, from 0.
+    pub number: u32,
+    /// How many blocks the file has.
+    pub total: u32,
+    /// The family.
+    pub family: u32,
+}
+
+/// Writes one block, with the family's flag alone and zeros after the page.
+pub fn write_block(fields: Fields, page: &[u8; PAGE_BYTES], block: &mut [u8; BLOCK_BYTES]) {
+    // SAFETY: each pointer is of an array with its length, and the block overlaps nothing, since it is borrowed alone.
+    unsafe {
+        ffi::uf2_make_block(
+            fields.address,
+            fields.number,
+            fields.total,
+            fields.family,
+            page.as_ptr(),
+            page.len(),
+            block.as_mut_ptr(),
+            block.len(),
+        );
+    }
+}
+
+/// The MD5 digest of bytes (RFC 1321), in the RFC's byte order.
+pub fn md5(bytes: &[u8]) -> [u8; MD5_BYTES] {
+    let mut digest = [0; MD5_BYTES];
+    // SAFETY: each pointer is of a slice with its length, and the digest is a local.
+    unsafe {
+        ffi::uf2_md5(
+            bytes.as_ptr(),
+            bytes.len(),
+            digest.as_mut_ptr(),
+            digest.len(),
+        );
+    }
+    digest
+}
