@@ -1,6 +1,7 @@
-/* A file of two blocks from C, block 0 sent twice: prints the answers 14, 13 and 15. Then a small Universal Hex file, a line at a time,
- * for a board V1: prints 33 for its own data, 35 for the end and 34 for every other line, and that the image is whole. Then the same
- * file into an image that is too small for the data: 32 instead of 33, the same end, and the image is not whole.
+/* A file of two blocks from C, block 0 sent twice: looks at each block, prints the answer, and takes the block where the look says that
+ * it would be accepted, 14 and 15, and not where it has come before, 13. Then a small Universal Hex file, a line at a time, for a
+ * board V1: prints 33 for its own data, 35 for the end and 34 for every other line, and that the image is whole. Then the same file into
+ * an image that is too small for the data: 32 instead of 33, the same end, and the image is not whole.
  *
  *     rt staticlib capi
  *     gcc -std=c99 -Iinclude include/example.c target/staticlib/libcapi.a -o example
@@ -48,10 +49,22 @@ static void block(uint8_t *arrival, uint32_t k) {
     uf2_put32(arrival + 508, 0x0AB16F30u);
 }
 
+static uint8_t settings[UF2_SETTINGS_SIZE], transfer[UF2_TRANSFER_SIZE], arrival[UF2_ARRIVAL_SIZE];
+
+static uint32_t look(void) {
+    return uf2_look(settings, sizeof settings, transfer, sizeof transfer, arrival, sizeof arrival, flash, sizeof flash, seen, sizeof seen,
+                    sectors, sizeof sectors);
+}
+
+static uint32_t take(void) {
+    return uf2_take(settings, sizeof settings, transfer, sizeof transfer, arrival, sizeof arrival, flash, sizeof flash, seen, sizeof seen,
+                    sectors, sizeof sectors);
+}
+
 /* Whether all went as it should. */
 static int blocks(void) {
     static const uint32_t order[] = {0, 0, 1};
-    uint8_t settings[UF2_SETTINGS_SIZE] = {0}, transfer[UF2_TRANSFER_SIZE], arrival[UF2_ARRIVAL_SIZE], place[UF2_PLACE_SIZE];
+    uint8_t place[UF2_PLACE_SIZE];
     uint32_t answer, result;
     size_t i;
 
@@ -62,9 +75,12 @@ static int blocks(void) {
         return 0;
     for (i = 0; i < sizeof order / sizeof order[0]; i++) {
         block(arrival, order[i]);
-        result = uf2_receive(settings, sizeof settings, transfer, sizeof transfer, arrival, sizeof arrival, flash, sizeof flash, seen,
-                             sizeof seen, sectors, sizeof sectors);
-        printf("%u\n", (unsigned)UF2_RESULT_ANSWER(result));
+        result = look();
+        answer = UF2_RESULT_ANSWER(result);
+        printf("%u%s\n", (unsigned)answer, UF2_ANSWER_IS_ACCEPTED(answer) ? " taken" : "");
+        /* nothing came between the look and the take, so the take says the same; had something come, it would say what is true then */
+        if (UF2_ANSWER_IS_ACCEPTED(answer) && take() != result)
+            return 0;
     }
     return transfer[UF2_TRANSFER_STATE_AT] == UF2_STATE_DONE && uf2_get32(transfer + UF2_TRANSFER_TOTAL_AT) == 2 && flash[0] == 1 &&
            flash[256] == 2 && flash[512] == 0xFF;

@@ -21,7 +21,7 @@
 extern "C" {
 #endif
 
-#define UF2_STACK_SIZE 4096
+#define UF2_STACK_SIZE 8192
 
 /* ---- What is lent for arrivals. A flash is whole sectors, from one to UF2_FLASH_MAX_SIZE bytes. */
 #define UF2_ARRIVAL_SIZE 512
@@ -119,7 +119,7 @@ enum uf2_answer {
 #define UF2_RESULT_DISCARDED 128u
 #define UF2_RESULT_ANSWER(result) ((result) & 127u)
 #define UF2_RESULT_IS_DISCARDED(result) (((result) & UF2_RESULT_DISCARDED) != 0)
-/* Whether the block of an answer was accepted: whether it is in flash and counted now. */
+/* Whether a block with this answer is accepted: taken, it is in flash and counted now; looked at, it would be. */
 #define UF2_ANSWER_IS_ACCEPTED(answer) ((answer) >= UF2_ANSWER_WRITTEN)
 
 /* Writes a fresh transfer, where there are UF2_TRANSFER_SIZE bytes; else changes nothing. */
@@ -129,18 +129,24 @@ void uf2_new(uint8_t *transfer, size_t transfer_len);
  * place_len is not UF2_PLACE_SIZE), UF2_ANSWER_BAD_SETTINGS or UF2_ANSWER_NO_PLACE, with `place` unchanged. */
 uint32_t uf2_ask(const uint8_t *settings, size_t settings_len, size_t flash_len, uint32_t family, uint8_t *place, size_t place_len);
 
-/* One arrival: its result. An accepted block writes the next transfer; every other answer leaves all that is lent. */
-uint32_t uf2_receive(const uint8_t *settings, size_t settings_len, uint8_t *transfer, size_t transfer_len, const uint8_t *arrival,
-                     size_t arrival_len, uint8_t *flash, size_t flash_len, uint8_t *seen, size_t seen_len, uint8_t *sectors,
-                     size_t sectors_len);
+/* A look at an arrival: the result that uf2_take would return on the same bytes. It changes nothing. */
+uint32_t uf2_look(const uint8_t *settings, size_t settings_len, const uint8_t *transfer, size_t transfer_len, const uint8_t *arrival,
+                  size_t arrival_len, const uint8_t *flash, size_t flash_len, const uint8_t *seen, size_t seen_len,
+                  const uint8_t *sectors, size_t sectors_len);
 
-/* Arrivals one after the other, each UF2_ARRIVAL_SIZE bytes: as many whole ones as there are bytes in `results`, which get the results
- * that uf2_receive would return; the number of them. The other bytes of `results` stay as they were lent, and so does the transfer
+/* An arrival taken: its result. An accepted block writes the next transfer; every other answer leaves all that is lent. A take makes every
+ * check itself: it needs no look before it, and one that looked at something else harms nothing. */
+uint32_t uf2_take(const uint8_t *settings, size_t settings_len, uint8_t *transfer, size_t transfer_len, const uint8_t *arrival,
+                  size_t arrival_len, uint8_t *flash, size_t flash_len, uint8_t *seen, size_t seen_len, uint8_t *sectors,
+                  size_t sectors_len);
+
+/* Arrivals taken one after the other, each UF2_ARRIVAL_SIZE bytes: as many whole ones as there are bytes in `results`, which get the
+ * results that uf2_take would return; the number of them. The other bytes of `results` stay as they were lent, and so does the transfer
  * where no block is accepted. Settings are read once. What follows the last whole arrival, or the last that has room for its result,
- * is not read: a short last piece is for uf2_receive, which answers it UF2_ANSWER_BAD_BUFFERS. */
-size_t uf2_receive_all(const uint8_t *settings, size_t settings_len, uint8_t *transfer, size_t transfer_len,
-                       const uint8_t *arrivals, size_t arrivals_len, uint8_t *results, size_t results_len, uint8_t *flash,
-                       size_t flash_len, uint8_t *seen, size_t seen_len, uint8_t *sectors, size_t sectors_len);
+ * is not read: a short last piece is for uf2_take, which answers it UF2_ANSWER_BAD_BUFFERS. */
+size_t uf2_take_all(const uint8_t *settings, size_t settings_len, uint8_t *transfer, size_t transfer_len, const uint8_t *arrivals,
+                    size_t arrivals_len, uint8_t *results, size_t results_len, uint8_t *flash, size_t flash_len, uint8_t *seen,
+                    size_t seen_len, uint8_t *sectors, size_t sectors_len);
 
 /* ---- Universal Hex, a line at a time, for one board. Numbers of 16 bits stand as two bytes, the lowest first. */
 static inline void uhex_put16(uint8_t *at, uint16_t x) {

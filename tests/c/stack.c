@@ -34,14 +34,19 @@ static void call_ask(void) {
     uf2_ask(settings, sizeof settings, sizeof flash, UF2_FAMILY_ARM_S, place, sizeof place);
 }
 
-static void call_receive(void) {
-    uf2_receive(settings, sizeof settings, transfer, sizeof transfer, arrivals, UF2_ARRIVAL_SIZE, flash, sizeof flash, seen, sizeof seen,
-                sectors, sizeof sectors);
+static void call_look(void) {
+    uf2_look(settings, sizeof settings, transfer, sizeof transfer, arrivals, UF2_ARRIVAL_SIZE, flash, sizeof flash, seen, sizeof seen,
+             sectors, sizeof sectors);
 }
 
-static void call_receive_all(void) {
-    uf2_receive_all(settings, sizeof settings, transfer, sizeof transfer, arrivals, sizeof arrivals, results, sizeof results, flash,
-                    sizeof flash, seen, sizeof seen, sectors, sizeof sectors);
+static void call_take(void) {
+    uf2_take(settings, sizeof settings, transfer, sizeof transfer, arrivals, UF2_ARRIVAL_SIZE, flash, sizeof flash, seen, sizeof seen,
+             sectors, sizeof sectors);
+}
+
+static void call_take_all(void) {
+    uf2_take_all(settings, sizeof settings, transfer, sizeof transfer, arrivals, sizeof arrivals, results, sizeof results, flash,
+                 sizeof flash, seen, sizeof seen, sectors, sizeof sectors);
 }
 
 static void call_hex_new(void) {
@@ -114,7 +119,7 @@ static void table(uint8_t count) {
 int main(void) {
     static const char *const file[] = {":020000040000FA\n", ":0400000A9900C0DEBB\n", ":040000001122334452\r\n",
                                        ":10000000000102030405060708090A0B0C0D0E0F78\n", "x"};
-    size_t ask = 0, one = 0, all = 0, hex = 0, i;
+    size_t ask = 0, look = 0, one = 0, all = 0, hex = 0, i;
     uint8_t counts[] = {0, 16, 17}, k;
 
     empty = used(nothing);
@@ -126,23 +131,23 @@ int main(void) {
             block(arrivals + i * UF2_ARRIVAL_SIZE, (uint32_t)i);
         ask = larger(ask, used(call_ask) - empty);
         /* written, the same again, refused by its address, no block */
-        one = larger(one, used(call_receive) - empty);
-        one = larger(one, used(call_receive) - empty);
-        arrivals[12]++;
-        one = larger(one, used(call_receive) - empty);
-        arrivals[12]--;
-        arrivals[0]++;
-        one = larger(one, used(call_receive) - empty);
-        arrivals[0]--;
+        for (i = 0; i < 4; i++) {
+            arrivals[12] = i == 2;
+            arrivals[0] = (uint8_t)(i == 3 ? 0 : 0x55);
+            look = larger(look, used(call_look) - empty);
+            one = larger(one, used(call_take) - empty);
+        }
+        arrivals[0] = 0x55;
         /* again, written, completed; then finished */
-        all = larger(all, used(call_receive_all) - empty);
-        all = larger(all, used(call_receive_all) - empty);
+        all = larger(all, used(call_take_all) - empty);
+        all = larger(all, used(call_take_all) - empty);
         if (k < 2 && transfer[UF2_TRANSFER_STATE_AT] != UF2_STATE_DONE)
             return 1;
     }
     tell("uf2_ask", ask);
-    tell("uf2_receive", one);
-    tell("uf2_receive_all", all);
+    tell("uf2_look", look);
+    tell("uf2_take", one);
+    tell("uf2_take_all", all);
     tell("uhex_new", used(call_hex_new) - empty);
     for (i = 0; i < sizeof file / sizeof file[0]; i++) {
         line = file[i];

@@ -21,8 +21,8 @@ use Rattle.transfer.specs.Transfer.{numberOf}
 use Rattle.screen.specs.Screen.{screenOf}
 use Rattle.screen.specs.declared.Screening.{Screening}
 use Rattle.screen.specs.declared.Screening.the-variants.{Refused, Passed}
-use Rattle.arrival.specs.Arrive.{Held, World, Decision, stays, accepts, afterScreening, decide, clearedIf, wipedIf, preparedAt, pagedAt, acceptOf, unchanged, done, receiveOf}
-use Rattle.arrival.specs.Facts.{Refusals-change-nothing, Answers-read-no-flash, Lengths-kept, Arrivals-keep-lengths, Outside, Outside-kept, Window-kept, Flags-ignored}
+use Rattle.arrival.specs.Arrive.{Held, World, Decision, stays, accepts, afterScreening, decide, clearedIf, wipedIf, preparedAt, pagedAt, acceptOf, unchanged, done, receiveOf, forecast, forecastOf, lookOf}
+use Rattle.arrival.specs.Facts.{Refusals-change-nothing, Answers-read-no-flash, Lengths-kept, Arrivals-keep-lengths, Outside, Outside-kept, Window-kept, Flags-ignored, Look-tells}
 use Rattle.arrival.proofs.Effect.{length-paged, sectors-paged, getD-prepared, spans-true}
 use Rattle.arrival.proofs.Screening.{Good, screen-good, passing-inside}
 use Rattle.arrival.proofs.DecisionFacts.{flashOf, decisionOf, Board, board-decides, Rows, stopped, through, rows, DecisionFacts, kept, took, decided, took-number}
@@ -129,3 +129,14 @@ unfolding Flags-ignored receiveOf decide screenOf
 flags-ignored s w a x f =
     let m : x % 0x40 ≡ 0 = ⊎-elim (λ e. omega arith) (λ o. ⊎-elim (λ e. omega arith) (λ e. omega arith) o) f in
     rw (payload-set a 9 (getD a 9 0 + x) (omega arith), length-set a 9 (getD a 9 0 + x), header-flags a x m)
+
+-- ---- a look
+
+told-of : (w : World) (p : List ℕ) (d : Decision) → forecastOf d ≡ forecast (done w p d .answer) (done w p d .discarded)
+unfolding done
+told-of w p (stays x) = refl
+told-of w p (accepts g k) = refl
+
+pub look-tells : Look-tells
+unfolding Look-tells lookOf receiveOf
+look-tells s w a = told-of w (payloadOf a) (decisionOf s w a)

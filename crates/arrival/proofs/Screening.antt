@@ -20,7 +20,7 @@ use Rattle.place.specs.declared.Place.{Place}
 use Rattle.place.specs.declared.Place.the-variants.{Nowhere, At}
 use Rattle.place.proofs.Theorems.{place-inside}
 use Rattle.transfer.specs.Transfer.{numberOf}
-use Rattle.screen.specs.Screen.{badNumbers, badAddress, placed, headed, screenOf}
+use Rattle.screen.specs.Screen.{badNumbers, badAddress, placed, afterHeader, placedIn, screenOf}
 use Rattle.screen.proofs.Laws.{numbers-false, address-false}
 use Rattle.screen.specs.declared.Page.{Page}
 use Rattle.screen.specs.declared.Screening.{Screening}
@@ -98,8 +98,8 @@ module _ (s : Settings) (len : ℕ) (a : List ℕ) where
         room = n .room;
       })))
 
-  header-good : (h : Header) → Fielded a h → Good s len a (headed s len h)
-  unfolding headed
+  header-good : (h : Header) → Fielded a h → Good s len a (afterHeader h (placedIn s len))
+  unfolding placedIn
   header-good header.NotBlock f = (omega arith, omega arith)
   header-good header.Container f = (omega arith, omega arith)
   header-good header.Comment f = (omega arith, omega arith)

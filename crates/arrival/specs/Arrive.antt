@@ -8,7 +8,7 @@ use Rattle.bitmap.specs.Bitmap.{markedIn, withMark, unmarked}
 use Rattle.flash.specs.Flash.{flashLength, eraseAt, payloadOf, storeAt}
 use Rattle.settings.specs.Settings.{goodSettings}
 use Rattle.settings.specs.declared.Settings.{Settings}
-use Rattle.transfer.specs.Transfer.{goodState, stepOf}
+use Rattle.transfer.specs.Transfer.{numberOf, goodState, stepOf}
 use Rattle.transfer.specs.declared.State.{State}
 use Rattle.transfer.specs.declared.Accepted.{Accepted}
 use Rattle.transfer.specs.declared.Step.{Step}
@@ -25,17 +25,31 @@ pub record Held : Type 0 where
   pub flash : List ℕ
   pub sectors : List ℕ
 
+-- the buffers that a caller lends
+pub record Lent : Type 0 where
+  pub flash : List ℕ
+  pub seen : List ℕ
+  pub sectors : List ℕ
+
 -- what one arrival is handed and hands back: the transfer and the three lent buffers
 pub record World : Type 0 where
   pub transfer : State
   pub seen : List ℕ
   pub held : Held
 
+-- the buffers of it
+abbrev pub lentOf : World → Lent
+lentOf w = record { flash = w .held .flash; seen = w .seen; sectors = w .held .sectors }
+
 -- what an arrival leaves, with "a number, the answer, and a yes/no "discarded""
 pub record Outcome : Type 0 where
   pub world : World
   pub answer : Answer
   pub discarded : Bool
+
+-- the number of its answer
+abbrev pub outcomeNumber : Outcome → ℕ
+outcomeNumber o = numberOf (o .answer)
 
 -- ---- what decides: settings, lengths, transfer, seen map and arrival; no flash byte and no sector map
 
@@ -108,3 +122,28 @@ unfoldable pub receiveOf : Settings → World → List ℕ → Outcome
 receiveOf s w a =
     done w (payloadOf a)
     (decide s (length (w .held .flash)) (length (w .held .sectors)) (w .transfer) (w .seen) a)
+
+-- ---- a look (02, L7): it "changes nothing and says what would happen"
+
+-- what it says
+pub record Forecast : Type 0 where
+  pub answer : Answer
+  pub discarded : Bool
+
+-- both as one value
+abbrev pub forecast : Answer → Bool → Forecast
+forecast x d = record { answer = x; discarded = d }
+
+-- the number of its answer
+abbrev pub forecastNumber : Forecast → ℕ
+forecastNumber o = numberOf (o .answer)
+
+-- what a decision would come to
+abbrev pub forecastOf : Decision → Forecast
+forecastOf (stays x) = forecast x false
+forecastOf (accepts p t) = forecast (t .answer) (t .discarded)
+
+-- a look at one arrival
+unfoldable pub lookOf : Settings → World → List ℕ → Forecast
+lookOf s w a =
+    forecastOf (decide s (length (w .held .flash)) (length (w .held .sectors)) (w .transfer) (w .seen) a)

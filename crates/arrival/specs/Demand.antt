@@ -14,12 +14,12 @@ use Rattle.settings.specs.declared.Settings.{Settings}
 use Rattle.place.specs.Place.{placeOf}
 use Rattle.place.specs.declared.Place.{Place}
 use Rattle.place.specs.declared.Place.the-variants.{Nowhere, At}
-use Rattle.transfer.specs.Transfer.{numberOf, running}
+use Rattle.transfer.specs.Transfer.{headWith, numberOf, running}
 use Rattle.transfer.specs.declared.Head.{Head}
 use Rattle.transfer.specs.declared.State.the-variants.{Idle, Done}
 use Rattle.transfer.specs.declared.Answer.{Answer}
 use Rattle.transfer.specs.declared.Answer.the-variants.{Finished, Again, Written, Completed}
-use Rattle.arrival.specs.Arrive.{World, receiveOf}
+use Rattle.arrival.specs.Arrive.{World, outcomeNumber, receiveOf}
 use Rattle.arrival.specs.Lists.{receiveAll, answersOf}
 
 -- ---- a valid file
@@ -32,7 +32,7 @@ pub record File : Type 0 where
 
 -- "Whether a block earns 1 to 11 is asked with the fixed settings and what is lent at the start."
 abbrev pub answerNumber : Settings → World → List ℕ → ℕ
-answerNumber s w a = numberOf (receiveOf s w a .answer)
+answerNumber s w a = outcomeNumber (receiveOf s w a)
 
 -- "numbers 0 to n-1 once each, n at least 1, one family, the total n in every block, different addresses, no block earning answers 1 to 11"
 pub record ValidFile (s : Settings) (w : World) (F : File) : Type 0 where
@@ -127,7 +127,7 @@ repliesTo s w F S (a ∷ l) = replyTo s w F S a ∷ repliesTo s w F (withArrival
 
 -- "Running (family, n, m)", "Done (family, n)": the family and the n
 abbrev pub headIn : File → Head
-headIn F = record { family = F .family; total = F .total }
+headIn F = headWith (F .family) (F .total)
 
 -- The four bullets of 01, with S the set of blocks seen and v the world after the list: of transfer and seen map, of the sector map, of the
 -- flash.

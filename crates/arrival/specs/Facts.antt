@@ -11,7 +11,7 @@ use Rattle.place.specs.Place.{placeOf}
 use Rattle.place.specs.declared.Place.{Place}
 use Rattle.place.specs.declared.Place.the-variants.{Nowhere, At}
 use Rattle.transfer.specs.Transfer.{numberOf}
-use Rattle.arrival.specs.Arrive.{World, unchanged, receiveOf}
+use Rattle.arrival.specs.Arrive.{World, unchanged, receiveOf, forecast, lookOf}
 
 -- "Answers 1 to 13 change nothing, "discarded" is no."
 unfoldable pub Refusals-change-nothing : Type 0
@@ -68,3 +68,8 @@ unfoldable pub Flags-ignored : Type 0
 Flags-ignored =
     (s : Settings) (w : World) (a : List ℕ) (x : ℕ) → (x ≡ 0x40) ⊎ ((x ≡ 0x80) ⊎ (x ≡ 0xC0))
     → receiveOf s w (flagged x a) ≡ receiveOf s w a
+
+-- 02, L7: "On the same inputs both give the old call's answer and "discarded""
+unfoldable pub Look-tells : Type 0
+Look-tells =
+    (s : Settings) (w : World) (a : List ℕ) → lookOf s w a ≡ forecast (receiveOf s w a .answer) (receiveOf s w a .discarded)

@@ -10,7 +10,7 @@ use Rattle.sets.specs.Sets.{Set, none, add, size}
 use Rattle.bitmap.specs.Bitmap.{marks}
 use Rattle.block.specs.Block.{fieldAt}
 use Rattle.settings.specs.declared.Settings.{Settings}
-use Rattle.transfer.specs.Transfer.{numberOf, sameHead, countOf}
+use Rattle.transfer.specs.Transfer.{headWith, numberOf, sameHead, countOf}
 use Rattle.transfer.specs.declared.Head.{Head}
 use Rattle.transfer.specs.declared.State.{State}
 use Rattle.transfer.specs.declared.State.the-variants.{Idle, Running, Done}
@@ -24,7 +24,7 @@ isAccepted x = leb 14 (numberOf x)
 
 -- "28 family", "24 total" of an arrival
 abbrev pub headOf : List ℕ → Head
-headOf a = record { family = fieldAt a 28; total = fieldAt a 24 }
+headOf a = headWith (fieldAt a 28) (fieldAt a 24)
 
 -- "if the transfer was Idle, or Running with another family or total, both maps are first set to zero"
 abbrev pub clears : State → Head → Bool

@@ -1,6 +1,7 @@
 // A UF2 block: its little-endian fields, read and written, and the answer of its header.
 ghost use mathlib.Core.Path.{_≡_};
 ghost use Prim.Native.Nat.{_+_, _*_};
+ghost use Rattle.sets.specs.Numbered.{numbered};
 ghost use Rattle.block.specs.Block.{fieldAt, fieldsOf, flaggedOf, isBlock, headerOf, headerNumber};
 ghost use Rattle.block.specs.Write.{putAt};
 
@@ -119,7 +120,7 @@ fn flagged(arrival: &[u8]) -> Header
 
 // The header of an arrival.
 pub fn read(arrival: &[u8]) -> Header
-    ensures { λ r. ⌜ r ≡ headerOf (now (arrival .entry)) ⌝ }
+    ensures { λ r. ⌜ numbered headerNumber r ≡ numbered headerNumber (headerOf (now (arrival .entry))) ⌝ }
 {
     if field(arrival, 0) != Block::MAGIC_FIRST {
         return Header::NotBlock;
@@ -131,19 +132,4 @@ pub fn read(arrival: &[u8]) -> Header
         return Header::NotBlock;
     }
     flagged(arrival)
-}
-
-impl Header {
-    // The number of a refusal, and 0 for a block.
-    pub fn number(self) -> u8
-        ensures { λ r. ⌜ r ≡ headerNumber self ⌝ }
-    {
-        match self {
-            Header::NotBlock => 4,
-            Header::Container => 5,
-            Header::Comment => 6,
-            Header::NoFamily => 7,
-            Header::Found(_) => 0,
-        }
-    }
 }

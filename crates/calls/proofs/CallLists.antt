@@ -1,8 +1,8 @@
 -- The claims of specs/CallLists.antt hold. Assumes nothing.
 use Prim.Native.Nat.{ℕ, zero, suc, _+_, _/_, _%_, _<_, _^_}
 use mathlib.Core.Path.{_≡_, refl, sym, ap, subst, _∙_}
-use mathlib.Core.Bool.{Bool, true, false, _||_}
-use mathlib.Core.List.{List, [], _∷_, _++_}
+use mathlib.Core.Bool.{Bool, true, false, _||_, not}
+use mathlib.Core.List.{List, [], _∷_, _++_, map}
 use native.Mathlib.Nat.{pow-suc}
 use native.Mathlib.Omega.{arith}
 use lib.Dec.{ltb, leb, eqb}
@@ -21,21 +21,22 @@ use Rattle.transfer.specs.declared.State.the-variants.{Idle, Running, Done}
 use Rattle.transfer.specs.declared.Accepted.{Accepted}
 use Rattle.transfer.specs.declared.Answer.{Answer}
 use Rattle.flash.specs.Flash.{payloadOf}
-use Rattle.arrival.specs.Arrive.{World, Outcome, Decision, acceptOf, done, receiveOf}
-use Rattle.arrival.specs.Lists.{receiveAll, answersOf, discardsOf}
-use Rattle.arrival.specs.Facts.{Refusals-change-nothing}
-use Rattle.arrival.specs.Tally.{headOf}
+use Rattle.arrival.specs.Arrive.{World, lentOf, Outcome, Decision, acceptOf, done, receiveOf}
+use Rattle.arrival.specs.Lists.{receiveAll, answersOf, discardsOf, Delivery, playAll}
+use Rattle.arrival.specs.Facts.{Refusals-change-nothing, Look-tells}
+use Rattle.arrival.specs.Tally.{headOf, anyAccepted, Count-is-marks}
 use Rattle.arrival.specs.Demand.{seenOf, Ends, List-ends, Completed-exactly, Same-set-same-end, Either-first}
 use Rattle.arrival.proofs.DecisionFacts.{AcceptFacts, DecisionFacts, kept, took, took-number, decided}
-use Rattle.arrival.proofs.Facts.{refusals-change-nothing}
+use Rattle.arrival.proofs.Facts.{refusals-change-nothing, look-tells}
+use Rattle.arrival.proofs.Tally.{count-is-marks}
 use Rattle.arrival.proofs.Demand.{list-ends, completed-exactly, same-set-same-end, either-first}
 use Rattle.layout.specs.Layout.{stateFrom, settingsFrom, transferBytes, stateBytes, withTransfer}
 use Rattle.layout.proofs.Refused.{state-length}
 use Rattle.layout.proofs.Transfers.{Small, written-back}
 use Rattle.capi.specs.Calls as capi
-use Rattle.capi.specs.Calls.{receiveBytes, isAcceptance, arrivalsOf, resultsOf, anyAcceptance, storedFrom, batchFrom, fewer, receiveBatch}
+use Rattle.capi.specs.Calls.{lookResult, lookBytes, takeBytes, isAcceptance, arrivalsOf, resultsOf, anyAcceptance, storedFrom, batchFrom, fewer, takeBatch}
 use Rattle.capi.proofs.Laws.{number-most}
-use Rattle.calls.specs.CallLists.{Lent, call, leftBy, callAll, returnsOf, worldOf, AllBytes, Calls-are-arrivals, Calls-end, Calls-completed, Calls-same-set, Calls-either-first, Calls-are-one-call}
+use Rattle.calls.specs.CallLists.{CallerState, call, leftBy, callAll, returnsOf, worldOf, AllBytes, Calls-are-arrivals, Calls-end, Calls-completed, Calls-same-set, Calls-either-first, Calls-are-one-call, Look-is-take, Call, looks, takes, playCalls, takenBy, Looks-change-nothing, Look-then-take}
 
 -- ---- a field of bytes
 
@@ -89,9 +90,9 @@ next-state s w a p t e h (took g k B l q m) =
     (written-back t (k .transfer .state) (good-size t (rw e at (B .state))) (took-small a h (q .head) m))
 
 -- so the call leaves what the arrival leaves
-next-world : (s : List ℕ) (h : Lent) (a : List ℕ) → Bytes a
+next-world : (s : List ℕ) (h : CallerState) (a : List ℕ) → Bytes a
     → worldOf (leftBy (call s h a)) ≡ receiveOf (settingsFrom s) (worldOf h) a .world
-unfolding receiveBytes receiveOf
+unfolding takeBytes receiveOf
 next-world s h a b =
     let z = settingsFrom s in
     let w = worldOf h in
@@ -100,7 +101,7 @@ next-world s h a b =
 
 -- ---- a list of calls
 
-calls-world : (s : List ℕ) (h : Lent) (l : List (List ℕ)) → AllBytes l → worldOf (callAll s h l) ≡ receiveAll (settingsFrom s) (worldOf h) l
+calls-world : (s : List ℕ) (h : CallerState) (l : List (List ℕ)) → AllBytes l → worldOf (callAll s h l) ≡ receiveAll (settingsFrom s) (worldOf h) l
 unfolding callAll receiveAll
 calls-world s h [] b = refl
 calls-world s h (a ∷ l) b =
@@ -110,8 +111,8 @@ calls-world s h (a ∷ l) b =
 abbrev resultsAt : Settings → World → List (List ℕ) → List ℕ
 resultsAt z w l = resultsOf (answersOf z w l) (discardsOf z w l)
 
-calls-results : (s : List ℕ) (h : Lent) (l : List (List ℕ)) → AllBytes l → returnsOf s h l ≡ resultsAt (settingsFrom s) (worldOf h) l
-unfolding returnsOf answersOf discardsOf resultsOf receiveBytes
+calls-results : (s : List ℕ) (h : CallerState) (l : List (List ℕ)) → AllBytes l → returnsOf s h l ≡ resultsAt (settingsFrom s) (worldOf h) l
+unfolding returnsOf answersOf discardsOf resultsOf takeBytes
 calls-results s h [] b = refl
 calls-results s h (a ∷ l) b =
     ap (λ (r : List ℕ). call s h a .result ∷ r)
@@ -121,45 +122,7 @@ pub calls-are-arrivals : Calls-are-arrivals
 unfolding Calls-are-arrivals
 calls-are-arrivals s h l b = (calls-world s h l b, calls-results s h l b)
 
--- ---- demand 3
-
-pub calls-end : Calls-end
-unfolding Calls-end List-ends
-calls-end s h F i v l t b =
-    let z = settingsFrom s in
-    subst (Ends z (worldOf h) F (seenOf F l)) (sym (calls-world s h l b)) (list-ends z (worldOf h) F i v l t)
-
--- the answer's number in a result
-result-number : (x : Answer) (d : Bool) → capi.resultOf (numberOf x) d % 128 ≡ numberOf x
-result-number x true = omega (arith, number-most x)
-result-number x false = omega (arith, number-most x)
-
-pub calls-completed : Calls-completed
-unfolding Calls-completed Completed-exactly receiveBytes
-calls-completed s h F i v l t b a u =
-    let z = settingsFrom s in
-    let o = receiveOf z (worldOf (callAll s h l)) a in
-    ap (λ (n : ℕ). eqb n 15) (result-number (o .answer) (o .discarded))
-    ∙ ap (λ (w : World). eqb (numberOf (receiveOf z w a .answer)) 15) (calls-world s h l b)
-    ∙ completed-exactly z (worldOf h) F i v l a u
-
-pub calls-same-set : Calls-same-set
-unfolding Calls-same-set Same-set-same-end
-calls-same-set s h F i v l t b m u c e =
-    calls-world s h l b ∙ same-set-same-end (settingsFrom s) (worldOf h) F i v l t m u e ∙ sym (calls-world s h m c)
-
-all-append : (l m : List (List ℕ)) → AllBytes l → AllBytes m → AllBytes (l ++ m)
-all-append [] m b c = c
-all-append (a ∷ l) m b c = (b .0, all-append l m (b .1) c)
-
-pub calls-either-first : Calls-either-first
-unfolding Calls-either-first Either-first
-calls-either-first s h F i v l t b m u c =
-    calls-world s h (l ++ m) (all-append l m b c)
-    ∙ either-first (settingsFrom s) (worldOf h) F i v l t m u
-    ∙ sym (calls-world s h (m ++ l) (all-append m l c b))
-
--- ---- one call of many
+-- ---- the transfer's bytes
 
 -- a transfer written over a written one
 written-again : (t : List ℕ) (x y : State) → withTransfer (withTransfer t x) y ≡ withTransfer t y
@@ -190,9 +153,9 @@ kept-twice t true false next last e = ap (withTransfer t) (sym (e refl))
 kept-twice t false y next last e = refl
 
 -- the calls leave the bytes of the last transfer where one of them took a block, and else what was lent
-calls-transfer : (s : List ℕ) (h : Lent) (l : List (List ℕ)) → AllBytes l → let z = settingsFrom s in
+calls-transfer : (s : List ℕ) (h : CallerState) (l : List (List ℕ)) → AllBytes l → let z = settingsFrom s in
     callAll s h l .transfer ≡ capi.keptTransfer (h .transfer) (anyAcceptance (answersOf z (worldOf h) l)) (receiveAll z (worldOf h) l .transfer)
-unfolding callAll receiveAll answersOf anyAcceptance receiveBytes
+unfolding callAll receiveAll answersOf anyAcceptance takeBytes
 calls-transfer s h [] b = refl
 calls-transfer s h (a ∷ l) b =
     let z = settingsFrom s in
@@ -200,6 +163,117 @@ calls-transfer s h (a ∷ l) b =
     calls-transfer s (leftBy (call s h a)) l (b .1)
     ∙ ap (λ (w : World). capi.keptTransfer (call s h a .transfer) (anyAcceptance (answersOf z w l)) (receiveAll z w l .transfer)) (next-world s h a (b .0))
     ∙ kept-twice (h .transfer) (isAcceptance (numberOf (o .answer))) _ _ _ (none-taken z (o .world) l)
+
+-- ---- from Idle, what a list leaves says whether a block was accepted
+
+abbrev isIdle : State → Bool
+isIdle Idle = true
+isIdle (Running r) = false
+isIdle (Done g) = false
+
+-- a list of arrivals with one settings, as deliveries
+abbrev delivered : Settings → List ℕ → Delivery
+delivered z a = record { settings = z; arrival = a }
+
+play-is : (z : Settings) (w : World) (l : List (List ℕ)) → playAll w (map (delivered z) l) ≡ receiveAll z w l
+unfolding playAll receiveAll
+play-is z w [] = refl
+play-is z w (a ∷ l) = play-is z (receiveOf z w a .world) l
+
+any-is : (z : Settings) (w : World) (l : List (List ℕ)) → anyAccepted w (map (delivered z) l) ≡ anyAcceptance (answersOf z w l)
+unfolding anyAccepted anyAcceptance answersOf
+any-is z w [] = refl
+any-is z w (a ∷ l) = ap (λ (b : Bool). isAcceptance (numberOf (receiveOf z w a .answer)) || b) (any-is z (receiveOf z w a .world) l)
+
+accepted-any : (z : Settings) (w : World) (l : List (List ℕ)) → w .transfer ≡ Idle
+    → anyAcceptance (answersOf z w l) ≡ not (isIdle (receiveAll z w l .transfer))
+unfolding Count-is-marks
+accepted-any z w l i =
+    let d = map (delivered z) l in
+    let c = count-is-marks w i d .idle in
+    sym (any-is z w l)
+    ∙ split (anyAccepted w d)
+    (λ y. y ∙ sym (ap not (busy (receiveAll z w l .transfer) (λ e. clash (anyAccepted w d) y (c .0 (ap (λ (v : World). v .transfer) (play-is z w l) ∙ e))))))
+    (λ n. n ∙ sym (ap (λ (t : State). not (isIdle t)) (sym (ap (λ (v : World). v .transfer) (play-is z w l)) ∙ c .1 n)))
+  where
+    busy : (t : State) → (t ≡ Idle → ⊥) → isIdle t ≡ false
+    busy Idle n = absurd (n refl)
+    busy (Running r) n = refl
+    busy (Done g) n = refl
+
+-- what the caller holds after a list that leaves v
+abbrev stateWith : List ℕ → World → CallerState
+stateWith t w = record { transfer = t; lent = lentOf w }
+
+abbrev leftOf : CallerState → World → CallerState
+leftOf h v = stateWith (capi.keptTransfer (h .transfer) (not (isIdle (v .transfer))) (v .transfer)) v
+
+calls-left : (s : List ℕ) (h : CallerState) (l : List (List ℕ)) → worldOf h .transfer ≡ Idle → AllBytes l
+    → callAll s h l ≡ leftOf h (receiveAll (settingsFrom s) (worldOf h) l)
+calls-left s h l i b =
+    let z = settingsFrom s in
+    let v = receiveAll z (worldOf h) l in
+    ap (stateWith (callAll s h l .transfer)) (calls-world s h l b)
+    ∙ ap (λ (t : List ℕ). stateWith t v)
+    (calls-transfer s h l b ∙ ap (λ (x : Bool). capi.keptTransfer (h .transfer) x (v .transfer)) (accepted-any z (worldOf h) l i))
+
+-- the bytes of a transfer that is not Idle
+busy-bytes : (t : List ℕ) (x : State) → length t ≡ 13 → isIdle x ≡ false → capi.keptTransfer t (not (isIdle x)) x ≡ stateBytes x
+unfolding withTransfer
+busy-bytes t x e n = rw (n, eq-eqb (length t) 13 e)
+
+-- ---- demand 3
+
+pub calls-end : Calls-end
+unfolding Calls-end List-ends
+calls-end s h F i v l t b =
+    let z = settingsFrom s in
+    let w = receiveAll z (worldOf h) l in
+    let E = list-ends z (worldOf h) F i v l t in
+    let size = good-size (h .transfer) (rw i (unfold goodState in refl)) in
+    let same = calls-left s h l i b in
+    let bytes : (x : State) → isIdle x ≡ false → w .transfer ≡ x → callAll s h l .transfer ≡ stateBytes x =
+    λ x n e. ap (λ (k : CallerState). k .transfer) same ∙ ap (λ (x : State). capi.keptTransfer (h .transfer) (not (isIdle x)) x) e ∙ busy-bytes (h .transfer) x size n in
+    record {
+      ends = subst (Ends z (worldOf h) F (seenOf F l)) (sym (calls-world s h l b)) E;
+      untouched = λ m. same ∙ ap (leftOf h) (E .counts .untouched m) ∙ rw i;
+      going = λ m n. bytes _ refl (E .counts .going m n);
+      whole = λ m. bytes _ refl (E .counts .whole m);
+    }
+
+-- the answer's number in a result
+result-number : (x : Answer) (d : Bool) → capi.resultOf (numberOf x) d % 128 ≡ numberOf x
+result-number x true = omega (arith, number-most x)
+result-number x false = omega (arith, number-most x)
+
+pub calls-completed : Calls-completed
+unfolding Calls-completed Completed-exactly takeBytes
+calls-completed s h F i v l t b a u =
+    let z = settingsFrom s in
+    let o = receiveOf z (worldOf (callAll s h l)) a in
+    ap (λ (n : ℕ). eqb n 15) (result-number (o .answer) (o .discarded))
+    ∙ ap (λ (w : World). eqb (numberOf (receiveOf z w a .answer)) 15) (calls-world s h l b)
+    ∙ completed-exactly z (worldOf h) F i v l a u
+
+pub calls-same-set : Calls-same-set
+unfolding Calls-same-set Same-set-same-end
+calls-same-set s h F i v l t b m u c e =
+    calls-left s h l i b
+    ∙ ap (leftOf h) (same-set-same-end (settingsFrom s) (worldOf h) F i v l t m u e)
+    ∙ sym (calls-left s h m i c)
+
+all-append : (l m : List (List ℕ)) → AllBytes l → AllBytes m → AllBytes (l ++ m)
+all-append [] m b c = c
+all-append (a ∷ l) m b c = (b .0, all-append l m (b .1) c)
+
+pub calls-either-first : Calls-either-first
+unfolding Calls-either-first Either-first
+calls-either-first s h F i v l t b m u c =
+    calls-left s h (l ++ m) i (all-append l m b c)
+    ∙ ap (leftOf h) (either-first (settingsFrom s) (worldOf h) F i v l t m u)
+    ∙ sym (calls-left s h (m ++ l) i (all-append m l c b))
+
+-- ---- one call of many
 
 -- arrivals that stand one after the other in bytes
 arrivals-bytes : (n : ℕ) (a : List ℕ) → Bytes a → AllBytes (arrivalsOf n a)
@@ -212,20 +286,45 @@ arrivals-bytes (suc n) a b = (
   arrivals-bytes n (drop 512 a) (λ i l. let k = length-drop 512 a in rw (getD-drop 512 a i 0) (b (512 + i) (omega arith))),
 )
 
-abbrev lentWith : List ℕ → World → Lent
-lentWith t w = record { transfer = t; flash = w .held .flash; seen = w .seen; sectors = w .held .sectors }
-
 pub calls-are-one-call : Calls-are-one-call
-unfolding Calls-are-one-call receiveBatch batchFrom
+unfolding Calls-are-one-call takeBatch batchFrom
 calls-are-one-call s h a r b =
     let n = fewer (length a / 512) (length r) in
     let l = arrivalsOf n a in
     let c = arrivals-bytes n a b in
     record {
       left =
-          ap (λ (t : List ℕ). lentWith t (receiveAll (settingsFrom s) (worldOf h) l)) (sym (calls-transfer s h l c))
-          ∙ ap (lentWith (callAll s h l .transfer)) (sym (calls-world s h l c));
+          ap (λ (t : List ℕ). stateWith t (receiveAll (settingsFrom s) (worldOf h) l)) (sym (calls-transfer s h l c))
+          ∙ ap (stateWith (callAll s h l .transfer)) (sym (calls-world s h l c));
       results = ap (storedFrom r 0) (sym (calls-results s h l c));
       all = λ e. rw (le-leb (length a / 512) (length r) e);
       few = λ e. split (leb (length a / 512) (length r)) (λ y. rw y (omega (arith, leb-true (length a / 512) (length r) y))) (λ z. rw z);
     }
+
+-- ---- looks
+
+pub look-is-take : Look-is-take
+unfolding Look-is-take Look-tells lookBytes takeBytes
+look-is-take s h a = ap lookResult (look-tells (settingsFrom s) (worldOf h) a)
+
+pub looks-change-nothing : Looks-change-nothing
+unfolding Looks-change-nothing playCalls takenBy callAll
+looks-change-nothing s h [] = refl
+looks-change-nothing s h (looks a ∷ l) = looks-change-nothing s h l
+looks-change-nothing s h (takes a ∷ l) = looks-change-nothing s (leftBy (call s h a)) l
+
+only-looks : (s : List ℕ) (h : CallerState) (m : List (List ℕ)) → playCalls s h (map looks m) ≡ h
+unfolding playCalls
+only-looks s h [] = refl
+only-looks s h (a ∷ m) = only-looks s h m
+
+then-looks : (s : List ℕ) (h : CallerState) (l : List Call) (m : List (List ℕ)) → playCalls s h (l ++ map looks m) ≡ playCalls s h l
+unfolding playCalls
+then-looks s h [] m = only-looks s h m
+then-looks s h (looks a ∷ l) m = then-looks s h l m
+then-looks s h (takes a ∷ l) m = then-looks s (leftBy (call s h a)) l m
+
+pub look-then-take : Look-then-take
+unfolding Look-then-take Look-is-take
+look-then-take s h l a m =
+    ap (λ (k : CallerState). call s k a .result) (then-looks s h l (a ∷ m)) ∙ sym (look-is-take s (playCalls s h l) a)

@@ -10,7 +10,7 @@ use lib.Seq.{take-nil, take-take, getD-take}
 use borrow.Author.Tests.{ltb-true}
 use Rattle.sets.proofs.Tests.{split}
 use Rattle.layout.specs.Layout.{byteAt, entryFrom, slotFrom, slotsFrom, countFrom, usedOf, settingsOf, settingsFrom}
-use Rattle.capi.specs.Calls.{askBytes, receiveBytes, receiveBatch}
+use Rattle.capi.specs.Calls.{askBytes, lookBytes, takeBytes, takeBatch}
 use Rattle.calls.specs.Unused.{usedBytes, Unused-change-nothing, Unused-change-no-call}
 
 -- ---- parts of the bytes that agree
@@ -60,7 +60,7 @@ unused-change-nothing b c h =
     cc (byte 0 (omega arith), byte 1 (omega arith), byte 2 (omega arith), byte 3 (omega arith), byte 4 (omega arith))
 
 pub unused-change-no-call : Unused-change-no-call
-unfolding Unused-change-no-call Unused-change-nothing askBytes receiveBytes receiveBatch
+unfolding Unused-change-no-call Unused-change-nothing askBytes lookBytes takeBytes takeBatch
 unused-change-no-call b c h =
     let e = unused-change-nothing b c h in
-    record { ask = λ len f l. rw e; receive = λ t a f m k. rw e; receive-all = λ t a r f m k. rw e }
+    record { ask = λ len f l. rw e; look = λ t a h. rw e; take = λ t a h. rw e; take-all = λ t a r h. rw e }

@@ -3,8 +3,9 @@ use Prim.Native.Nat.{ℕ, _+_, _*_}
 use mathlib.Core.Path.{_≡_}
 use mathlib.Core.List.{List}
 use lib.ListN.{length, take}
+use Rattle.arrival.specs.Arrive.{Lent}
 use Rattle.layout.specs.Layout.{countFrom, usedOf, settingsFrom}
-use Rattle.capi.specs.Calls.{askBytes, receiveBytes, receiveBatch}
+use Rattle.capi.specs.Calls.{askBytes, lookBytes, takeBytes, takeBatch}
 
 -- how many bytes of settings are read: the first 6, and 33 for each used entry
 abbrev pub usedBytes : List ℕ → ℕ
@@ -22,8 +23,9 @@ Unused-change-nothing = (b c : List ℕ) → Alike b c → settingsFrom b ≡ se
 -- every call answers and leaves the same with the one as with the other
 pub record Same-calls (b c : List ℕ) : Type 0 where
   pub ask : (len f : ℕ) (l : List ℕ) → askBytes b len f l ≡ askBytes c len f l
-  pub receive : (t a f m k : List ℕ) → receiveBytes b t a f m k ≡ receiveBytes c t a f m k
-  pub receive-all : (t a r f m k : List ℕ) → receiveBatch b t a r f m k ≡ receiveBatch c t a r f m k
+  pub look : (t a : List ℕ) (h : Lent) → lookBytes b t a h ≡ lookBytes c t a h
+  pub take : (t a : List ℕ) (h : Lent) → takeBytes b t a h ≡ takeBytes c t a h
+  pub take-all : (t a r : List ℕ) (h : Lent) → takeBatch b t a r h ≡ takeBatch c t a r h
 
 -- so they change no call
 unfoldable pub Unused-change-no-call : Type 0

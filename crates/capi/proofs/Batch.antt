@@ -9,12 +9,12 @@ use lib.Seq.{drop-drop}
 use Rattle.settings.specs.declared.Settings.{Settings}
 use Rattle.transfer.specs.declared.Transfer.{Transfer}
 use Rattle.transfer.specs.Transfer.{numberOf}
-use Rattle.arrival.specs.Arrive.{World, Outcome, receiveOf}
+use Rattle.arrival.specs.Arrive.{Lent, World, Outcome, receiveOf}
 use Rattle.arrival.specs.Lists.{receiveAll, answersOf, discardsOf}
 use Rattle.receiver.specs.declared.Receipt.{Receipt}
 use Rattle.receiver.specs.Receiver.{world, outcome}
 use Rattle.layout.specs.Layout.{settingsFrom, transferFrom}
-use Rattle.capi.specs.Calls.{resultOf, isAcceptance, keptTransfer, arrivalsOf, resultsOf, anyAcceptance, storedFrom, BatchCall, batchCall, batchFrom, fewer, receiveBatch}
+use Rattle.capi.specs.Calls.{resultOf, isAcceptance, keptTransfer, arrivalsOf, resultsOf, anyAcceptance, storedFrom, BatchCall, batchCall, batchFrom, fewer, takeBatch}
 
 -- ---- the arrivals that are left
 
@@ -37,39 +37,39 @@ module _ (n : ℕ) (s : Settings) (t : List ℕ) (accepted : Bool) (r : List ℕ
   after l o =
       batchFrom n s t (o .world) (accepted || isAcceptance (numberOf (o .answer))) (set r i (resultOf (numberOf (o .answer)) (o .discarded))) (i + 1) l
 
-  many-next : (w : World) (a : List ℕ) (l : List (List ℕ)) → batchFrom n s t w accepted r i (a ∷ l) ≡ after l (receiveOf s w a)
+  batch-next : (w : World) (a : List ℕ) (l : List (List ℕ)) → batchFrom n s t w accepted r i (a ∷ l) ≡ after l (receiveOf s w a)
   unfolding batchFrom receiveAll answersOf discardsOf resultsOf anyAcceptance storedFrom
-  many-next w a l = simp or-assoc
+  batch-next w a l = simp or-assoc
 
   pub all-start : (w : World) (a : List ℕ) → batchFrom n s t w accepted r i (arrivalsOf (n - 0) (drop (0 * 512) a)) ≡ batchFrom n s t w accepted r i (arrivalsOf n a)
   all-start w a = ap (λ (j : ℕ). batchFrom n s t w accepted r i (arrivalsOf j a)) (omega arith)
 
-  many-end : (u : Transfer) (f m k : List ℕ) → batchFrom n s t (world u f m k) accepted r i [] ≡ batchCall n (keptTransfer t accepted (u .state)) r f m k
+  batch-end : (u : Transfer) (h : Lent) → batchFrom n s t (world u h) accepted r i [] ≡ batchCall n (keptTransfer t accepted (u .state)) r h
   unfolding batchFrom receiveAll answersOf discardsOf resultsOf anyAcceptance storedFrom
-  many-end u f m k = simp (or-false accepted)
+  batch-end u h = simp (or-false accepted)
 
-  module _ (u : Transfer) (a f m k : List ℕ) where
+  module _ (u : Transfer) (a : List ℕ) (h : Lent) where
     -- a round of the loop
-    pub all-more : {g q j : List ℕ} {o : Receipt} {x y : ℕ} {b : Bool} → i < n → outcome o g q j ≡ receiveOf s (world u f m k) (take (i * 512 + 512 - i * 512) (drop (i * 512) a)) → x ≡ numberOf (o .answer) → y ≡ resultOf x (o .discarded) → b ≡ isAcceptance x → batchFrom n s t (world (o .transfer) g q j) (accepted || b) (set r i y) (i + 1) (arrivalsOf (n - (i + 1)) (drop ((i + 1) * 512) a)) ≡ batchFrom n s t (world u f m k) accepted r i (arrivalsOf (n - i) (drop (i * 512) a))
-    all-more h ho hx hy hb =
+    pub all-more : {g : Lent} {o : Receipt} {x y : ℕ} {b : Bool} → i < n → outcome o g ≡ receiveOf s (world u h) (take (i * 512 + 512 - i * 512) (drop (i * 512) a)) → x ≡ numberOf (o .answer) → y ≡ resultOf x (o .discarded) → b ≡ isAcceptance x → batchFrom n s t (world (o .transfer) g) (accepted || b) (set r i y) (i + 1) (arrivalsOf (n - (i + 1)) (drop ((i + 1) * 512) a)) ≡ batchFrom n s t (world u h) accepted r i (arrivalsOf (n - i) (drop (i * 512) a))
+    all-more lt ho hx hy hb =
         let l = arrivalsOf (n - (i + 1)) (drop ((i + 1) * 512) a) in
-        let w = world u f m k in
+        let w = world u h in
         let size : i * 512 + 512 - i * 512 ≡ 512 = omega arith in
         rw (hb, hy, hx)
         (ap (after l) (ho ∙ ap (λ (j : ℕ). receiveOf s w (take j (drop (i * 512) a))) size)
-        ∙ sym (many-next w (take 512 (drop (i * 512) a)) l)
-        ∙ ap (batchFrom n s t w accepted r i) (sym (arrivals-next n i a h)))
+        ∙ sym (batch-next w (take 512 (drop (i * 512) a)) l)
+        ∙ ap (batchFrom n s t w accepted r i) (sym (arrivals-next n i a lt)))
 
 -- ---- all of them
 
-module _ (sw t a r₀ f₀ m₀ k₀ : List ℕ) where
-  pub all-ran : {n i : ℕ} {s : Settings} {u₀ : Transfer} (u : Transfer) (accepted : Bool) {v r f m k : List ℕ} → n ≡ fewer (length a / 512) (length r₀) → s ≡ settingsFrom sw → u₀ ≡ transferFrom t → n ≤ i → batchFrom n s t (world u f m k) accepted r i (arrivalsOf (n - i) (drop (i * 512) a)) ≡ batchFrom n s t (world u₀ f₀ m₀ k₀) false r₀ 0 (arrivalsOf n a) → v ≡ keptTransfer t accepted (u .state) → batchCall n v r f m k ≡ receiveBatch sw t a r₀ f₀ m₀ k₀
-  unfolding receiveBatch
-  all-ran {n} {i} {s} {u₀} u accepted {r = r} {f} {m} {k} hn hs hu l e hv =
-      let start : Settings → Transfer → ℕ → BatchCall = λ z y n. batchFrom n z t (world y f₀ m₀ k₀) false r₀ 0 (arrivalsOf n a) in
+module _ (sw t a r₀ : List ℕ) (h₀ : Lent) where
+  pub all-ran : {n i : ℕ} {s : Settings} {u₀ : Transfer} (u : Transfer) (accepted : Bool) {v r : List ℕ} {h : Lent} → n ≡ fewer (length a / 512) (length r₀) → s ≡ settingsFrom sw → u₀ ≡ transferFrom t → n ≤ i → batchFrom n s t (world u h) accepted r i (arrivalsOf (n - i) (drop (i * 512) a)) ≡ batchFrom n s t (world u₀ h₀) false r₀ 0 (arrivalsOf n a) → v ≡ keptTransfer t accepted (u .state) → batchCall n v r h ≡ takeBatch sw t a r₀ h₀
+  unfolding takeBatch
+  all-ran {n} {i} {s} {u₀} u accepted {r = r} {h} hn hs hu l e hv =
+      let start : Settings → Transfer → ℕ → BatchCall = λ z y n. batchFrom n z t (world y h₀) false r₀ 0 (arrivalsOf n a) in
       let ended =
-      ap (batchFrom n s t (world u f m k) accepted r i) (arrivals-none n i (drop (i * 512) a) l)
-      ∙ many-end n s t accepted r i u f m k in
+      ap (batchFrom n s t (world u h) accepted r i) (arrivals-none n i (drop (i * 512) a) l)
+      ∙ batch-end n s t accepted r i u h in
       rw hv
       (sym ended
       ∙ e

@@ -18,15 +18,16 @@ use Rattle.place.specs.declared.PlaceAnswer.{PlaceAnswer}
 use Rattle.place.specs.declared.PlaceAnswer.the-variants as asked
 use Rattle.place.specs.Place.{askOf, placeAnswerNumber}
 use Rattle.place.proofs.PlaceAnswer.{the-type}
-use Rattle.arrival.specs.Arrive.{receiveOf}
+use Rattle.arrival.specs.Arrive.{Lent, receiveOf, lookOf}
 use Rattle.receiver.specs.declared.Receipt.{Receipt}
-use Rattle.receiver.specs.Receiver.{world, outcome}
+use Rattle.receiver.specs.declared.Preview.{Preview}
+use Rattle.receiver.specs.Receiver.{world, outcome, previewed}
 use Rattle.block.specs.Write.{le32}
 use Rattle.layout.specs.Layout.{settingsFrom, transferFrom}
-use Rattle.capi.specs.Calls.{PlaceCall, placeCall, placeCallOf, askBytes, arrivalCall, resultOf, isAcceptance, keptTransfer, arrivalCallOf, receiveBytes}
+use Rattle.capi.specs.Calls.{PlaceCall, placeCall, placeCallOf, askBytes, arrivalCall, resultOf, lookResult, lookBytes, isAcceptance, keptTransfer, arrivalCallOf, takeBytes}
 
--- the numbers leave room for 128 more in a byte
-pub number-most : (a : Answer) → numberOf a ≤ 15
+-- the numbers fit five bits, and leave room for 128 more in a byte
+pub number-most : (a : Answer) → numberOf a ≤ 31
 number-most BadBuffers = omega arith
 number-most BadSettings = omega arith
 number-most BadState = omega arith
@@ -68,12 +69,21 @@ module _ (s : List ℕ) (len f : ℕ) (l : List ℕ) where
   unfolding askBytes
   ask-told n hz hx ho = simp (eq-eqb (length l) 8 n) (ho ∙ ap (placeCallOf l) (hx ∙ ap (λ (z : Settings). askOf z len f) hz))
 
-module _ (s t a f m k : List ℕ) where
-  pub receive-ran : {z : Settings} {u : Transfer} {r : Receipt} {g n j v : List ℕ} {x y : ℕ} {b : Bool} → z ≡ settingsFrom s → u ≡ transferFrom t → outcome r g n j ≡ receiveOf z (world u f m k) a → x ≡ numberOf (r .answer) → b ≡ isAcceptance x → v ≡ keptTransfer t b (r .transfer .state) → y ≡ resultOf x (r .discarded) → arrivalCall y v g n j ≡ receiveBytes s t a f m k
-  unfolding receiveBytes
-  receive-ran {u = u} hz hu ho hx hb hv hy =
+module _ (s t a : List ℕ) (h : Lent) where
+  pub look-ran : {z : Settings} {u : Transfer} {r : Preview} {x y : ℕ} → z ≡ settingsFrom s → u ≡ transferFrom t → previewed r ≡ lookOf z (world u h) a → x ≡ numberOf (r .answer) → y ≡ resultOf x (r .discarded) → y ≡ lookBytes s t a h
+  unfolding lookBytes
+  look-ran {u = u} hz hu ho hx hy =
       let p =
       ho
-      ∙ ap (λ (z : Settings). receiveOf z (world u f m k) a) hz
-      ∙ ap (λ (u : Transfer). receiveOf (settingsFrom s) (world u f m k) a) hu in
+      ∙ ap (λ (z : Settings). lookOf z (world u h) a) hz
+      ∙ ap (λ (u : Transfer). lookOf (settingsFrom s) (world u h) a) hu in
+      rw (hy, hx) (ap lookResult p)
+
+  pub take-ran : {z : Settings} {u : Transfer} {r : Receipt} {g : Lent} {v : List ℕ} {x y : ℕ} {b : Bool} → z ≡ settingsFrom s → u ≡ transferFrom t → outcome r g ≡ receiveOf z (world u h) a → x ≡ numberOf (r .answer) → b ≡ isAcceptance x → v ≡ keptTransfer t b (r .transfer .state) → y ≡ resultOf x (r .discarded) → arrivalCall y v g ≡ takeBytes s t a h
+  unfolding takeBytes
+  take-ran {u = u} hz hu ho hx hb hv hy =
+      let p =
+      ho
+      ∙ ap (λ (z : Settings). receiveOf z (world u h) a) hz
+      ∙ ap (λ (u : Transfer). receiveOf (settingsFrom s) (world u h) a) hu in
       rw (hy, hv, hb, hx) (ap (arrivalCallOf t) p)

@@ -11,7 +11,7 @@ use Rattle.transfer.specs.Transfer.{numberOf}
 use Rattle.transfer.specs.declared.Answer.{Answer}
 use Rattle.transfer.specs.declared.State.{State}
 use Rattle.settings.specs.declared.Settings.{Settings}
-use Rattle.arrival.specs.Arrive.{World, Outcome, receiveOf}
+use Rattle.arrival.specs.Arrive.{Lent, World, lentOf, Outcome, receiveOf, Forecast, lookOf}
 use Rattle.arrival.specs.Lists.{receiveAll, answersOf, discardsOf}
 use Rattle.receiver.specs.Receiver.{world}
 use Rattle.block.specs.Write.{le32}
@@ -56,19 +56,25 @@ askBytes s len f l = cond (eqb (length l) 8) (placeCallOf l (askOf (settingsFrom
 pub record ArrivalCall : Type 0 where
   pub result : ℕ
   pub transfer : List ℕ
-  pub flash : List ℕ
-  pub seen : List ℕ
-  pub sectors : List ℕ
+  pub lent : Lent
 
 -- all of them as one value, which the contract names
-abbrev pub arrivalCall : ℕ → List ℕ → List ℕ → List ℕ → List ℕ → ArrivalCall
-arrivalCall n t f m k = record { result = n; transfer = t; flash = f; seen = m; sectors = k }
+abbrev pub arrivalCall : ℕ → List ℕ → Lent → ArrivalCall
+arrivalCall n t h = record { result = n; transfer = t; lent = h }
 
 -- the answer's number, and 128 more where a running transfer was discarded
 abbrev pub resultOf : ℕ → Bool → ℕ
 resultOf n discarded = cond discarded (n + 128) n
 
--- answers 14 and 15 take the block
+-- what a look returns of a forecast: what a take would return
+abbrev pub lookResult : Forecast → ℕ
+lookResult o = resultOf (numberOf (o .answer)) (o .discarded)
+
+-- bytes of settings and transfer, arrival, and what is lent
+unfoldable pub lookBytes : List ℕ → List ℕ → List ℕ → Lent → ℕ
+lookBytes s t a h = lookResult (lookOf (settingsFrom s) (world (transferFrom t) h) a)
+
+-- answers 14 and 15 accept the block
 abbrev pub isAcceptance : ℕ → Bool
 isAcceptance n = leb 14 n
 
@@ -81,13 +87,11 @@ abbrev pub arrivalCallOf : List ℕ → Outcome → ArrivalCall
 arrivalCallOf t o =
     arrivalCall (resultOf (numberOf (o .answer)) (o .discarded))
     (keptTransfer t (isAcceptance (numberOf (o .answer))) (o .world .transfer))
-    (o .world .held .flash)
-    (o .world .seen)
-    (o .world .held .sectors)
+    (lentOf (o .world))
 
--- bytes of settings and transfer, arrival, flash, seen map and sector map
-unfoldable pub receiveBytes : List ℕ → List ℕ → List ℕ → List ℕ → List ℕ → List ℕ → ArrivalCall
-receiveBytes s t a f m k = arrivalCallOf t (receiveOf (settingsFrom s) (world (transferFrom t) f m k) a)
+-- bytes of settings and transfer, arrival, and what is lent
+unfoldable pub takeBytes : List ℕ → List ℕ → List ℕ → Lent → ArrivalCall
+takeBytes s t a h = arrivalCallOf t (receiveOf (settingsFrom s) (world (transferFrom t) h) a)
 
 -- ---- arrivals one after the other
 
@@ -117,13 +121,11 @@ pub record BatchCall : Type 0 where
   pub number : ℕ
   pub transfer : List ℕ
   pub results : List ℕ
-  pub flash : List ℕ
-  pub seen : List ℕ
-  pub sectors : List ℕ
+  pub lent : Lent
 
 -- all of them as one value, which the contract names
-abbrev pub batchCall : ℕ → List ℕ → List ℕ → List ℕ → List ℕ → List ℕ → BatchCall
-batchCall n t r f m k = record { number = n; transfer = t; results = r; flash = f; seen = m; sectors = k }
+abbrev pub batchCall : ℕ → List ℕ → List ℕ → Lent → BatchCall
+batchCall n t r h = record { number = n; transfer = t; results = r; lent = h }
 
 -- of n arrivals, those of l are left: what stands then in transfer t, a block accepted or not, and in results from index i on
 unfoldable pub batchFrom : ℕ → Settings → List ℕ → World → Bool → List ℕ → ℕ → List (List ℕ) → BatchCall
@@ -131,16 +133,14 @@ batchFrom n s t w accepted r i l =
     batchCall n
     (keptTransfer t (accepted || anyAcceptance (answersOf s w l)) (receiveAll s w l .transfer))
     (storedFrom r i (resultsOf (answersOf s w l) (discardsOf s w l)))
-    (receiveAll s w l .held .flash)
-    (receiveAll s w l .seen)
-    (receiveAll s w l .held .sectors)
+    (lentOf (receiveAll s w l))
 
 -- as many as there are whole arrivals and elements for results
 abbrev pub fewer : ℕ → ℕ → ℕ
 fewer a b = cond (leb a b) a b
 
--- bytes of settings and transfer, arrivals, results, flash, seen map and sector map
-unfoldable pub receiveBatch : List ℕ → List ℕ → List ℕ → List ℕ → List ℕ → List ℕ → List ℕ → BatchCall
-receiveBatch s t a r f m k =
+-- bytes of settings and transfer, arrivals, results, and what is lent
+unfoldable pub takeBatch : List ℕ → List ℕ → List ℕ → List ℕ → Lent → BatchCall
+takeBatch s t a r h =
     let n = fewer (length a / 512) (length r) in
-    batchFrom n (settingsFrom s) t (world (transferFrom t) f m k) false r 0 (arrivalsOf n a)
+    batchFrom n (settingsFrom s) t (world (transferFrom t) h) false r 0 (arrivalsOf n a)

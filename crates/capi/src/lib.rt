@@ -3,6 +3,7 @@ ghost use mathlib.Core.Path.{_≡_};
 ghost use Prim.Native.Nat.{_≤_};
 ghost use lib.ListN.{length};
 ghost use Rattle.transfer.specs.Transfer.{fresh};
+ghost use Rattle.receiver.specs.Receiver.{lentAt, leftAt};
 ghost use Rattle.layout.specs.Layout.{withTransfer};
 ghost use Rattle.capi.specs.Calls.{
   Low,
@@ -13,10 +14,11 @@ ghost use Rattle.capi.specs.Calls.{
   resultOf,
   isAcceptance,
   keptTransfer,
-  receiveBytes,
+  lookBytes,
+  takeBytes,
   fewer,
   batchCall,
-  receiveBatch,
+  takeBatch,
 };
 use block::Block;
 use place::PlaceAnswer;
@@ -78,15 +80,35 @@ fn keep(transfer: &mut [u8], accepted: bool, next: Transfer)
 }
 
 fn report(answer: u8, discarded: bool) -> u8
-    requires { ⌜ answer ≤ 15 ⌝ }
+    requires { ⌜ answer ≤ 31 ⌝ }
     ensures { λ r. ⌜ r ≡ resultOf answer discarded ⌝ }
 {
     if discarded { answer + 128 } else { answer }
 }
 
-// One arrival: the answer's number, and 128 more where a running transfer was discarded.
+// A look at one arrival: what `uf2_take` would return. Nothing is written.
 #[no_mangle]
-pub extern "C" fn uf2_receive(
+pub extern "C" fn uf2_look(
+    settings: &[u8],
+    transfer: &[u8],
+    arrival: &[u8],
+    flash: &[u8],
+    seen: &[u8],
+    sectors: &[u8],
+) -> u32
+    ensures { λ r. ⌜ r ≡ lookBytes (now (settings .entry)) (now (transfer .entry)) (now (arrival .entry)) (lentAt flash seen sectors) ⌝ }
+{
+    let s = layout::read_settings(settings);
+    let t = layout::read_transfer(transfer);
+    let p = receiver::look(s, t, arrival, flash, seen, sectors);
+    let answer = p.answer;
+    let n = answer.number();
+    report(n, p.discarded) as u32
+}
+
+// One arrival is taken: the answer's number, and 128 more where a running transfer was discarded.
+#[no_mangle]
+pub extern "C" fn uf2_take(
     settings: &[u8],
     transfer: &mut [u8],
     arrival: &[u8],
@@ -94,11 +116,11 @@ pub extern "C" fn uf2_receive(
     seen: &mut [u8],
     sectors: &mut [u8],
 ) -> u32
-    ensures { λ r. ⌜ arrivalCall r (now (transfer .exit)) (now (flash .exit)) (now (seen .exit)) (now (sectors .exit)) ≡ receiveBytes (now (settings .entry)) (now (transfer .entry)) (now (arrival .entry)) (now (flash .entry)) (now (seen .entry)) (now (sectors .entry)) ⌝ }
+    ensures { λ r. ⌜ arrivalCall r (now (transfer .exit)) (leftAt flash seen sectors) ≡ takeBytes (now (settings .entry)) (now (transfer .entry)) (now (arrival .entry)) (lentAt flash seen sectors) ⌝ }
 {
     let s = layout::read_settings(settings);
     let t = layout::read_transfer(transfer);
-    let r = receiver::receive(s, t, arrival, flash, seen, sectors);
+    let r = receiver::take(s, t, arrival, flash, seen, sectors);
     let answer = r.answer;
     let next = r.transfer;
     let n = answer.number();
@@ -113,9 +135,9 @@ fn at_most(a: usize, b: usize) -> usize
     if a <= b { a } else { b }
 }
 
-// Whole arrivals one after the other, as many as there are results for: their number, and the result of each.
+// Whole arrivals are taken one after the other, as many as there are results for: their number, and the result of each.
 #[no_mangle]
-pub extern "C" fn uf2_receive_all(
+pub extern "C" fn uf2_take_all(
     settings: &[u8],
     transfer: &mut [u8],
     arrivals: &[u8],
@@ -124,7 +146,7 @@ pub extern "C" fn uf2_receive_all(
     seen: &mut [u8],
     sectors: &mut [u8],
 ) -> usize
-    ensures { λ r. ⌜ batchCall r (now (transfer .exit)) (now (results .exit)) (now (flash .exit)) (now (seen .exit)) (now (sectors .exit)) ≡ receiveBatch (now (settings .entry)) (now (transfer .entry)) (now (arrivals .entry)) (now (results .entry)) (now (flash .entry)) (now (seen .entry)) (now (sectors .entry)) ⌝ }
+    ensures { λ r. ⌜ batchCall r (now (transfer .exit)) (now (results .exit)) (leftAt flash seen sectors) ≡ takeBatch (now (settings .entry)) (now (transfer .entry)) (now (arrivals .entry)) (now (results .entry)) (lentAt flash seen sectors) ⌝ }
 {
     let s = layout::read_settings(settings);
     let mut t = layout::read_transfer(transfer);
@@ -134,7 +156,7 @@ pub extern "C" fn uf2_receive_all(
     while i < n {
         let from = i * Block::ARRIVAL;
         let to = from + Block::ARRIVAL;
-        let r = receiver::receive(s, t, &arrivals[from..to], flash, seen, sectors);
+        let r = receiver::take(s, t, &arrivals[from..to], flash, seen, sectors);
         let answer = r.answer;
         let next = r.transfer;
         let number = answer.number();

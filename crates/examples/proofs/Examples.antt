@@ -8,13 +8,13 @@ use Rattle.bitmap.specs.Bitmap.{bit, withBit, markedIn, withMark, unmarked}
 use Rattle.flash.specs.Flash.{flashLength, eraseAt, payloadOf, storeAt}
 use Rattle.block.specs.Block.{fieldAt, fieldsOf, flaggedOf, headerOf}
 use Rattle.settings.specs.Settings.{hasUser, accepts, overlap, overlapAt, sharesSector, reservedUser, badEntry, goodSettings}
-use Rattle.place.specs.Place.{passQueryOf, passAllows, passTakes, firstOf, entryIf, inPass, chosen, chosenEntry, placeOf}
+use Rattle.place.specs.Place.{passQueryOf, passAllows, passTakes, firstOf, entryIf, inPass, chosen, chosenEntry, placeOf, askOf}
 use Rattle.transfer.specs.Transfer.{goodState, sameHead, counted, raised, accepted, stepOf}
-use Rattle.screen.specs.Screen.{placed, headed, screenOf}
+use Rattle.screen.specs.Screen.{placed, placedIn, screenOf}
 use Rattle.arrival.specs.Arrive.{rightLengths, afterScreening, decide, clearedIf, wipedIf, preparedAt, pagedAt, acceptOf, done, receiveOf}
 use Rattle.arrival.specs.Lists.{receiveAll, answersOf, discardsOf}
 use Rattle.examples.specs.Examples.{examples, Examples-hold}
 
 pub examples-hold : Examples-hold
-unfolding Examples-hold examples many any bit withBit markedIn withMark unmarked flashLength over eraseAt payloadOf storeAt lowFirst numberIn fieldAt fieldsOf flaggedOf headerOf hasUser accepts overlap overlapAt sharesSector reservedUser badEntry goodSettings passQueryOf passAllows passTakes firstOf entryIf inPass chosen chosenEntry placeOf goodState sameHead counted raised accepted stepOf placed headed screenOf rightLengths afterScreening decide clearedIf wipedIf preparedAt pagedAt acceptOf done receiveOf receiveAll answersOf discardsOf
+unfolding Examples-hold examples many any bit withBit markedIn withMark unmarked flashLength over eraseAt payloadOf storeAt lowFirst numberIn fieldAt fieldsOf flaggedOf headerOf hasUser accepts overlap overlapAt sharesSector reservedUser badEntry goodSettings passQueryOf passAllows passTakes firstOf entryIf inPass chosen chosenEntry placeOf askOf goodState sameHead counted raised accepted stepOf placed placedIn screenOf rightLengths afterScreening decide clearedIf wipedIf preparedAt pagedAt acceptOf done receiveOf receiveAll answersOf discardsOf
 examples-hold = refl

@@ -11,7 +11,7 @@ use Rattle.settings.specs.Settings.{familyArmS, goodSettings}
 use Rattle.place.specs.Place.{placeOf}
 use Rattle.transfer.specs.Transfer.{goodState, counted, raised, accepted, stepOf}
 use Rattle.transfer.specs.declared.State.the-variants.{Done}
-use Rattle.screen.specs.Screen.{placed, headed, screenOf}
+use Rattle.screen.specs.Screen.{placed, placedIn, screenOf}
 use Rattle.arrival.specs.Arrive.{rightLengths, afterScreening, decide, done, receiveOf}
 use Rattle.arrival.specs.Lists.{receiveAll}
 use Rattle.arrival.specs.Demand.{ValidFile, nothing, own, other, answerNumber, sameBytes, among, seenOf, howMany, List-ends}
@@ -33,11 +33,11 @@ address = three (λ k. fieldAt (blockOfThree k) 12 ≡ 0x10000000 + k * 256) ref
 
 -- the answers at the start
 earned : (k : ℕ) → k < 3 → answerNumber plain start (blockOfThree k) ≡ 14
-unfolding many any flashLength payloadOf lowFirst numberIn fieldAt fieldsOf flaggedOf headerOf goodSettings placeOf goodState counted raised accepted stepOf placed headed screenOf rightLengths afterScreening decide done receiveOf
+unfolding many any flashLength payloadOf lowFirst numberIn fieldAt fieldsOf flaggedOf headerOf goodSettings placeOf goodState counted raised accepted stepOf placed placedIn screenOf rightLengths afterScreening decide done receiveOf
 earned = three (λ k. answerNumber plain start (blockOfThree k) ≡ 14) refl refl refl
 
 beyond : answerNumber plain start (arrivalOf 0x10010000 0 3 1) ≡ 11
-unfolding many any flashLength payloadOf lowFirst numberIn fieldAt fieldsOf flaggedOf headerOf goodSettings placeOf goodState counted raised accepted stepOf placed headed screenOf rightLengths afterScreening decide done receiveOf
+unfolding many any flashLength payloadOf lowFirst numberIn fieldAt fieldsOf flaggedOf headerOf goodSettings placeOf goodState counted raised accepted stepOf placed placedIn screenOf rightLengths afterScreening decide done receiveOf
 beyond = refl
 
 valid : ValidFile plain start file

@@ -9,6 +9,7 @@ use Rattle.settings.specs.declared.Settings.{Settings}
 use Rattle.settings.specs.declared.Entry.{Entry}
 use Rattle.settings.specs.declared.Arch.the-variants.{Arm}
 use Rattle.settings.specs.declared.Link.the-variants.{Unlinked}
+use Rattle.transfer.specs.Transfer.{headWith}
 use Rattle.transfer.specs.declared.Head.{Head}
 use Rattle.transfer.specs.declared.State.{State}
 use Rattle.arrival.specs.Arrive.{World}
@@ -72,7 +73,7 @@ twoEntries n = armWith n (entryOf 0 2 true ∷ entryOf 2 2 false ∷ replicate 1
 
 -- the head of a transfer of arm-s
 abbrev pub armHead : ℕ → Head
-armHead total = record { family = familyArmS; total = total }
+armHead total = headWith familyArmS total
 
 -- a flash of 65,536 bytes, all 7, and maps of any content
 abbrev pub lentTo : State → World

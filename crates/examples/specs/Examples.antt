@@ -7,14 +7,15 @@ use mathlib.Core.List.{List, [], _∷_, _++_, map}
 use lib.ListN.{replicate}
 use Rattle.settings.specs.Settings.{familyArmS}
 use Rattle.settings.specs.declared.Settings.{Settings}
-use Rattle.place.specs.Place.{chosenEntry, placeOf}
+use Rattle.place.specs.Place.{chosenEntry, askOf}
 use Rattle.place.specs.declared.Choice.{Choice}
 use Rattle.place.specs.declared.Choice.the-variants.{Entry}
-use Rattle.place.specs.declared.Place.{Place}
-use Rattle.place.specs.declared.Place.the-variants.{At}
+use Rattle.place.specs.declared.PlaceAnswer.{PlaceAnswer}
+use Rattle.place.specs.declared.PlaceAnswer.the-variants.{Found}
 use Rattle.transfer.specs.Transfer.{numberOf, running}
 use Rattle.transfer.specs.declared.State.{State}
 use Rattle.transfer.specs.declared.State.the-variants.{Idle, Done}
+use Rattle.arrival.specs.Arrive.{World}
 use Rattle.arrival.specs.Lists.{receiveAll, answersOf, discardsOf}
 use Rattle.examples.specs.Boards.{arrivalOf, plain, partitioned, twoEntries, armHead, lentTo}
 
@@ -23,16 +24,16 @@ pub data Question : Type 0 where
   arriving : Settings → State → List (List ℕ) → Question
   placing : Settings → Question
 
--- what it gives: the answers' numbers, the discards, the transfer and the flash; or the chosen entry and the place
+-- what it gives: the answers' numbers, the discards, and the transfer and all three buffers; or the chosen entry and the answer to the place
+-- asked for alone, which is none of its refusals
 pub data Result : Type 0 where
-  ran : List ℕ → List Bool → State → List ℕ → Result
-  placed : Choice → Place → Result
+  left : List ℕ → List Bool → World → Result
+  placed : Choice → PlaceAnswer → Result
 
 -- what the meaning gives
 abbrev pub found : Question → Result
-found (arriving s t l) =
-    ran (map numberOf (answersOf s (lentTo t) l)) (discardsOf s (lentTo t) l) (receiveAll s (lentTo t) l .transfer) (receiveAll s (lentTo t) l .held .flash)
-found (placing s) = placed (chosenEntry s familyArmS) (placeOf s 65536 familyArmS)
+found (arriving s t l) = left (map numberOf (answersOf s (lentTo t) l)) (discardsOf s (lentTo t) l) (receiveAll s (lentTo t) l)
+found (placing s) = placed (chosenEntry s familyArmS) (askOf s 65536 familyArmS)
 
 -- a question with what 01 wants of it
 pub record Example : Type 0 where
@@ -43,18 +44,26 @@ pub record Example : Type 0 where
 abbrev case : Question → Result → Example
 case q r = record { question = q; expected = r }
 
+-- n bytes of a map that are 0 but for one, of value v at index i: "block k is byte k/8, bit k mod 8 counted from the most significant"
+abbrev marking : ℕ → ℕ → ℕ → List ℕ
+marking n i v = replicate i 0 ++ (v ∷ replicate (n - i - 1) 0)
+
+-- a transfer; byte 0 of the seen map; byte i of the sector map, and its value; the flash
+abbrev after : State → ℕ → ℕ → ℕ → List ℕ → World
+after t m i v f = record { transfer = t; seen = marking 16384 0 m; held = record { flash = f; sectors = marking 1024 i v } }
+
 -- one arrival to an Idle transfer
-abbrev one : Settings → List ℕ → ℕ → State → List ℕ → Example
-one s a n t f = case (arriving s Idle (a ∷ [])) (ran (n ∷ []) (false ∷ []) t f)
+abbrev one : Settings → List ℕ → ℕ → World → Example
+one s a n w = case (arriving s Idle (a ∷ [])) (left (n ∷ []) (false ∷ []) w)
 
 -- what was lent
-abbrev lent : List ℕ
-lent = replicate 65536 7
+abbrev asLent : World
+asLent = lentTo Idle
 
--- a page of value v as page i of the sector at `before`, the rest of the sector erased, `after` more bytes as lent
+-- a page of value v as page i of the sector at `before`, the rest of the sector erased, `rest` more bytes as lent
 abbrev page : ℕ → ℕ → ℕ → ℕ → List ℕ
-page before i v after =
-    replicate before 7 ++ (replicate (i * 256) 255 ++ (replicate 256 v ++ (replicate ((15 - i) * 256) 255 ++ replicate after 7)))
+page before i v rest =
+    replicate before 7 ++ (replicate (i * 256) 255 ++ (replicate 256 v ++ (replicate ((15 - i) * 256) 255 ++ replicate rest 7)))
 
 -- arrival k of a file of three
 abbrev pub blockOfThree : ℕ → List ℕ
@@ -64,30 +73,32 @@ blockOfThree k = arrivalOf (0x10000000 + k * 256) k 3 k
 unfoldable pub examples : List Example
 examples =
     -- "flash 65,536, no table, Arm, arm-s: total 256 passes, 257 gives 10;"
-    one plain (arrivalOf 0x10000000 0 256 1) 14 (running (armHead 256) 1) (page 0 0 1 61440)
-    ∷ one plain (arrivalOf 0x10000000 0 257 1) 10 Idle lent
+    one plain (arrivalOf 0x10000000 0 256 1) 14 (after (running (armHead 256) 1) 128 0 128 (page 0 0 1 61440))
+    ∷ one plain (arrivalOf 0x10000000 0 257 1) 10 asLent
     -- "address 0x1000FF00 passes, 0x10010000 gives 11; number = total gives 10."
-    ∷ one plain (arrivalOf 0x1000FF00 0 256 1) 14 (running (armHead 256) 1) (page 61440 15 1 0)
-    ∷ one plain (arrivalOf 0x10010000 0 256 1) 11 Idle lent
-    ∷ one plain (arrivalOf 0x10000000 3 3 1) 10 Idle lent
+    ∷ one plain (arrivalOf 0x1000FF00 0 256 1) 14 (after (running (armHead 256) 1) 128 1 1 (page 61440 15 1 0))
+    ∷ one plain (arrivalOf 0x10010000 0 256 1) 11 asLent
+    ∷ one plain (arrivalOf 0x10000000 3 3 1) 10 asLent
     -- "place from sector 4, two sectors: 0x10000100 is stored at 16,640;"
-    ∷ one partitioned (arrivalOf 0x10000100 0 3 1) 14 (running (armHead 3) 1) (page 16384 1 1 45056)
+    ∷ one partitioned (arrivalOf 0x10000100 0 3 1) 14 (after (running (armHead 3) 1) 128 0 8 (page 16384 1 1 45056))
     -- "0x10001F00 passes, 0x10002000 gives 11; total 33 gives 10."
-    ∷ one partitioned (arrivalOf 0x10001F00 0 32 1) 14 (running (armHead 32) 1) (page 20480 15 1 40960)
-    ∷ one partitioned (arrivalOf 0x10002000 0 32 1) 11 Idle lent
-    ∷ one partitioned (arrivalOf 0x10000000 0 33 1) 10 Idle lent
+    ∷ one partitioned (arrivalOf 0x10001F00 0 32 1) 14 (after (running (armHead 32) 1) 128 0 4 (page 20480 15 1 40960))
+    ∷ one partitioned (arrivalOf 0x10002000 0 32 1) 11 asLent
+    ∷ one partitioned (arrivalOf 0x10000000 0 33 1) 10 asLent
     -- "n = 3, arrivals 2, 0, 2, 1, 0: answers 14, 14, 13, 15, 12."
     ∷ case (arriving plain Idle (blockOfThree 2 ∷ blockOfThree 0 ∷ blockOfThree 2 ∷ blockOfThree 1 ∷ blockOfThree 0 ∷ []))
-    (ran (14 ∷ 14 ∷ 13 ∷ 15 ∷ 12 ∷ []) (replicate 5 false) (Done (armHead 3))
-    (replicate 256 0 ++ (replicate 256 1 ++ (replicate 256 2 ++ (replicate 3328 255 ++ replicate 61440 7)))))
+    (left (14 ∷ 14 ∷ 13 ∷ 15 ∷ 12 ∷ []) (replicate 5 false)
+    (after (Done (armHead 3)) 224 0 128
+    (replicate 256 0 ++ (replicate 256 1 ++ (replicate 256 2 ++ (replicate 3328 255 ++ replicate 61440 7))))))
     -- "total 1: 15 at once, 3,840 bytes of 0xFF beside the payload."
-    ∷ one plain (arrivalOf 0x10000000 0 1 3) 15 (Done (armHead 1)) (replicate 256 3 ++ (replicate 3840 255 ++ replicate 61440 7))
+    ∷ one plain (arrivalOf 0x10000000 0 1 3) 15
+    (after (Done (armHead 1)) 128 0 128 (replicate 256 3 ++ (replicate 3840 255 ++ replicate 61440 7)))
     -- "Running with total 3, same family with total 4: 14, discarded, count 1."
     ∷ case (arriving plain (running (armHead 3) 2) (arrivalOf 0x10000000 0 4 1 ∷ []))
-    (ran (14 ∷ []) (true ∷ []) (running (armHead 4) 1) (page 0 0 1 61440))
+    (left (14 ∷ []) (true ∷ []) (after (running (armHead 4) 1) 128 0 128 (page 0 0 1 61440)))
     -- "unowned entries 0 and 1 accept arm-s, 0 not bootable for Arm, Arm current: place 1; entry 1 gone: place 0."
-    ∷ case (placing (twoEntries 2)) (placed (Entry 1) (At 8192 8192))
-    ∷ case (placing (twoEntries 1)) (placed (Entry 0) (At 0 8192))
+    ∷ case (placing (twoEntries 2)) (placed (Entry 1) (Found 8192 8192))
+    ∷ case (placing (twoEntries 1)) (placed (Entry 0) (Found 0 8192))
     ∷ []
 
 -- every question gives what is expected

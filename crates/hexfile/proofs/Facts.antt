@@ -297,7 +297,7 @@ unfolding liveLine parsedLine
 live-good r l img rec m p = rw (le-ltb 4194304 (r .offset + length l) m, p)
 
 -- in a state s that reads on
-good-line : (r : Reader) (l img : List ℕ) (rec : Record) (s : ReaderState) → Ready r img → r .offset + length l ≤ 4194304 → readOf l .parsed ≡ Good rec
+pub good-line : (r : Reader) (l img : List ℕ) (rec : Record) (s : ReaderState) → Ready r img → r .offset + length l ≤ 4194304 → readOf l .parsed ≡ Good rec
     → r .state ≡ s → haltLine r l img (haltOf s) ≡ liveLine r l img
     → lineOf r l img
     ≡ effectOutcome r rec (readOf l .«data») (r .offset + length l) img (effectOf r (roleOf s (rec .kind) (rec .len)) (rec .address) (rec .len) (wordOf (readOf l .«data»)))

@@ -12,11 +12,10 @@ use Rattle.settings.specs.declared.Link.the-variants.{Unlinked, OwnedBy, BOf}
 use Rattle.settings.specs.declared.Entry.{Entry}
 use Rattle.settings.specs.declared.Settings.{Settings}
 use Rattle.settings.specs.Settings.{blankEntry}
-use Rattle.transfer.specs.declared.Head.{Head}
 use Rattle.transfer.specs.declared.State.{State}
 use Rattle.transfer.specs.declared.State.the-variants.{Idle, Running, Done}
 use Rattle.transfer.specs.declared.Transfer.{Transfer}
-use Rattle.transfer.specs.Transfer.{running}
+use Rattle.transfer.specs.Transfer.{headWith, running}
 use Rattle.block.specs.Write.{le32}
 
 -- the byte at an index, and 0 past the end
@@ -104,20 +103,16 @@ settingsFrom b = settingsOf b (slotsFrom b (usedOf (countFrom b)) 0 16)
 
 -- ---- a transfer, 13 bytes
 
--- "(family, total)" of a transfer
-abbrev pub headOf : ℕ → ℕ → Head
-headOf f n = record { family = f; total = n }
-
 -- a running transfer that has counted none, which row 3 refuses (proofs/Refused.antt)
 abbrev pub noState : State
-noState = running (headOf 0 0) 0
+noState = running (headWith 0 0) 0
 
 -- a tag (0 Idle, 1 Running, 2 Done), family, total and count; any other tag is no state
 unfoldable pub stateOf : ℕ → ℕ → ℕ → ℕ → State
 stateOf tag f n c =
     cond (eqb tag 0) Idle
-    (cond (eqb tag 1) (running (headOf f n) c)
-    (cond (eqb tag 2) (Done (headOf f n)) noState))
+    (cond (eqb tag 1) (running (headWith f n) c)
+    (cond (eqb tag 2) (Done (headWith f n)) noState))
 
 -- 0 tag, 1 family, 5 total, 9 count; bytes of any other length are no state
 unfoldable pub stateFrom : List ℕ → State

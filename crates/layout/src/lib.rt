@@ -170,10 +170,7 @@ fn state(tag: u8, head: Head, count: u32) -> State
 fn none() -> State
     ensures { λ r. ⌜ r ≡ noState ⌝ }
 {
-    let head = Head {
-        family: 0,
-        total: 0,
-    };
+    let head = Head::new(0, 0);
     let run = Run { head, count: 0 };
     State::Running(run)
 }
@@ -186,10 +183,7 @@ pub fn read_transfer(bytes: &[u8]) -> Transfer
         let state = none();
         return Transfer { state };
     }
-    let head = Head {
-        family: block::field(bytes, 1),
-        total: block::field(bytes, 5),
-    };
+    let head = Head::new(block::field(bytes, 1), block::field(bytes, 5));
     let state = state(bytes[0], head, block::field(bytes, 9));
     Transfer { state }
 }

@@ -126,6 +126,11 @@ placeOf s len f =
     (cond (eqb (s .count) 0) (wholeIf (getsWhole (s .arm) (s .riscv) f) len)
     (placeOfChoice (s .table) (chosenEntry s f))))
 
+-- "8 NoPlace: the family has none"; a place is no refusal, and has 0
+abbrev pub placeNumber : Place → ℕ
+placeNumber Nowhere = 8
+placeNumber (At a n) = 0
+
 -- ---- a place asked for alone
 
 -- "refused by .. 8" where there is no place

@@ -1,6 +1,7 @@
 // The place of a family: the whole flash, the bytes of a partition entry, or none.
 ghost use mathlib.Core.Path.{_≡_};
 ghost use Prim.Native.Nat.{_≤_};
+ghost use Rattle.sets.specs.Numbered.{numbered};
 ghost use Rattle.place.specs.Place.{
   otherArch,
   imageOf,
@@ -16,6 +17,7 @@ ghost use Rattle.place.specs.Place.{
   bytesOf,
   StartsLow,
   placeOf,
+  placeNumber,
   askOf,
   placeAnswerNumber,
 };
@@ -190,7 +192,7 @@ fn bytes_of(e: Entry) -> Place
 
 // The place of a family. The settings are taken to be good; of others it looks at no more than 16 entries.
 pub fn find(settings: Settings, flash_len: usize, family: u32) -> Place
-    ensures { λ r. ⌜ r ≡ placeOf settings «flash_len» family ⌝ }
+    ensures { λ r. ⌜ numbered placeNumber r ≡ numbered placeNumber (placeOf settings «flash_len» family) ⌝ }
     ensures low { λ r. ⌜ StartsLow r ⌝ }
 {
     let count = settings.count;
@@ -216,7 +218,7 @@ pub fn find(settings: Settings, flash_len: usize, family: u32) -> Place
 
 // A place asked for alone.
 pub fn ask(settings: Settings, flash_len: usize, family: u32) -> PlaceAnswer
-    ensures { λ r. ⌜ r ≡ askOf settings «flash_len» family ⌝ }
+    ensures { λ r. ⌜ numbered placeAnswerNumber r ≡ numbered placeAnswerNumber (askOf settings «flash_len» family) ⌝ }
 {
     if !flash::right_length(flash_len) {
         return PlaceAnswer::BadBuffers;

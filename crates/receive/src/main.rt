@@ -43,7 +43,7 @@ fn answer_piece(
             more: false,
         };
     }
-    let received = receiver::receive(settings, transfer, &arrival[..n], flash, seen, sectors);
+    let received = receiver::take(settings, transfer, &arrival[..n], flash, seen, sectors);
     let answer = received.answer;
     let next = received.transfer;
     print_answer(index, answer.number(), received.discarded);

@@ -1,5 +1,5 @@
 -- One arrival by cases, in the shape of the code's returns. Assumes nothing.
-use mathlib.Core.Path.{_≡_, sym, ap, _∙_}
+use mathlib.Core.Path.{_≡_, refl, sym, ap, _∙_}
 use mathlib.Core.Bool.{Bool, true, false}
 use mathlib.Core.List.{List}
 use Prim.Native.Nat.{ℕ, _/_}
@@ -9,7 +9,6 @@ use Rattle.flash.specs.Flash.{eraseAt, payloadOf, storeAt}
 use Rattle.settings.specs.Settings.{goodSettings}
 use Rattle.settings.specs.declared.Settings.{Settings}
 use Rattle.transfer.specs.Transfer.{goodState, stepOf}
-use Rattle.transfer.proofs.Laws.{stays-same}
 use Rattle.transfer.specs.declared.Transfer.{Transfer}
 use Rattle.transfer.specs.declared.Unchanged.{Unchanged}
 use Rattle.transfer.specs.declared.Accepted.{Accepted}
@@ -20,8 +19,8 @@ use Rattle.transfer.specs.declared.Answer.the-variants.{BadBuffers, BadSettings
 use Rattle.screen.specs.Screen.{screenOf}
 use Rattle.screen.specs.declared.Page.{Page}
 use Rattle.screen.specs.declared.Screening.the-variants.{Refused, Passed}
-use Rattle.arrival.specs.Arrive.{Outcome, rightLengths, stepped, afterScreening, decide, clearedIf, wipedIf, preparedAt, pagedAt, acceptOf, accepts, done, receiveOf}
-use Rattle.receiver.specs.Receiver.{held, world, refusal, outcome}
+use Rattle.arrival.specs.Arrive.{Lent, Outcome, Decision, rightLengths, stepped, afterScreening, decide, clearedIf, wipedIf, preparedAt, pagedAt, acceptOf, stays, accepts, done, receiveOf, forecast, forecastOf, lookOf}
+use Rattle.receiver.specs.Receiver.{held, lent, world, refusal, outcome, decisionIn}
 use Rattle.receiver.specs.declared.Receipt.{Receipt}
 
 -- ---- a sector before a page is stored in it
@@ -41,49 +40,66 @@ pub stored : (at : ℕ) (clears : Bool) (a f k : List ℕ) {k1 f1 f2 k2 : List �
 unfolding pagedAt wipedIf
 stored at clears a f k cleared erased put marked = rw (marked, put, erased, cleared)
 
-pub took : (p : Page) (t : Accepted) (a f m k : List ℕ) {g n1 n2 j : List ℕ} → held g j ≡ pagedAt (p .at) (payloadOf a) (wipedIf (t .clears) (held f k)) → n1 ≡ clearedIf (t .clears) m → n2 ≡ withMark n1 (p .number) → outcome (record { transfer = t .transfer; answer = t .answer; discarded = t .discarded }) g n2 j ≡ done (world (t .transfer) f m k) (payloadOf a) (accepts p t)
+pub took : (p : Page) (t : Accepted) (a : List ℕ) (h : Lent) {g n1 n2 j : List ℕ} → held g j ≡ pagedAt (p .at) (payloadOf a) (wipedIf (t .clears) (held (h .flash) (h .sectors))) → n1 ≡ clearedIf (t .clears) (h .seen) → n2 ≡ withMark n1 (p .number) → outcome (record { transfer = t .transfer; answer = t .answer; discarded = t .discarded }) (lent g n2 j) ≡ done (world (t .transfer) h) (payloadOf a) (accepts p t)
 unfolding done acceptOf
-took p t a f m k paged cleared marked = cc
+took p t a h paged cleared marked = cc
 
 -- ---- rows 12 to 15
 
-module _ (t : Transfer) (p : Page) (a f m k : List ℕ) {known : Bool} {s : Step} (e : known ≡ markedIn m (p .number)) (h : s ≡ stepOf (t .state) (p .head) known) where
+module _ (t : Transfer) (p : Page) (m : List ℕ) {known : Bool} {s : Step} (e : known ≡ markedIn m (p .number)) (q : s ≡ stepOf (t .state) (p .head) known) where
   step-is : stepOf (t .state) (p .head) (markedIn m (p .number)) ≡ s
-  step-is = rw (sym e) (sym h)
+  step-is = rw (sym e) (sym q)
 
-  pub look-stays : {r : Receipt} {x : Unchanged} → s ≡ Stays x → r ≡ refusal (x .transfer) (x .answer) → outcome r f m k ≡ done (world t f m k) (payloadOf a) (stepped p (stepOf (t .state) (p .head) (markedIn m (p .number))))
-  unfolding done
-  look-stays q y =
-      let z = step-is ∙ q in
-      rw z (ap (λ (r : Receipt). outcome r f m k) y ∙ rw (stays-same (t .state) (p .head) (markedIn m (p .number)) z))
+  pub settle-stays : {x : Unchanged} → s ≡ Stays x → stays (x .answer) ≡ stepped p (stepOf (t .state) (p .head) (markedIn m (p .number)))
+  settle-stays w = let z = step-is ∙ w in rw z refl
 
-  -- what is accepted does not look at the transfer that was
-  pub look-takes : {o : Outcome} {y : Accepted} (u : Transfer) → s ≡ Accepts y → o ≡ done (world u f m k) (payloadOf a) (accepts p y) → o ≡ done (world t f m k) (payloadOf a) (stepped p (stepOf (t .state) (p .head) (markedIn m (p .number))))
-  unfolding done acceptOf
-  look-takes u q y = let z = step-is ∙ q in rw z y
+  pub settle-accepts : {y : Accepted} → s ≡ Accepts y → accepts p y ≡ stepped p (stepOf (t .state) (p .head) (markedIn m (p .number)))
+  settle-accepts w = let z = step-is ∙ w in rw z refl
 
 -- ---- rows 1 to 15
 
-module _ (s : Settings) (t : Transfer) (a f m k : List ℕ) where
-  pub receive-lengths : {r : Receipt} → rightLengths (length a) (length f) (length m) (length k) ≡ false → r ≡ refusal t BadBuffers → outcome r f m k ≡ receiveOf s (world t f m k) a
-  unfolding receiveOf decide done
-  receive-lengths l y = rw l (ap (λ (r : Receipt). outcome r f m k) y)
+module _ (s : Settings) (t : Transfer) (a : List ℕ) (h : Lent) where
+  abbrev lengths : Bool
+  lengths = rightLengths (length a) (length (h .flash)) (length (h .seen)) (length (h .sectors))
 
-  module _ (l : rightLengths (length a) (length f) (length m) (length k) ≡ true) where
-    pub receive-settings : {r : Receipt} → goodSettings s (length f) ≡ false → r ≡ refusal t BadSettings → outcome r f m k ≡ receiveOf s (world t f m k) a
-    unfolding receiveOf decide done
-    receive-settings g y = rw (l, g) (ap (λ (r : Receipt). outcome r f m k) y)
+  pub judge-lengths : lengths ≡ false → stays BadBuffers ≡ decisionIn s (world t h) a
+  unfolding decisionIn decide
+  judge-lengths l = rw l
 
-    module _ (g : goodSettings s (length f) ≡ true) where
-      pub receive-state : {r : Receipt} → goodState (t .state) ≡ false → r ≡ refusal t BadState → outcome r f m k ≡ receiveOf s (world t f m k) a
-      unfolding receiveOf decide done
-      receive-state n y = rw (l, g, n) (ap (λ (r : Receipt). outcome r f m k) y)
+  module _ (l : lengths ≡ true) where
+    pub judge-settings : goodSettings s (length (h .flash)) ≡ false → stays BadSettings ≡ decisionIn s (world t h) a
+    unfolding decisionIn decide
+    judge-settings g = rw (l, g)
+
+    module _ (g : goodSettings s (length (h .flash)) ≡ true) where
+      pub judge-state : goodState (t .state) ≡ false → stays BadState ≡ decisionIn s (world t h) a
+      unfolding decisionIn decide
+      judge-state n = rw (l, g, n)
 
       module _ (n : goodState (t .state) ≡ true) where
-        pub receive-refused : {r : Receipt} {x : Answer} → screenOf s (length f) a ≡ Refused x → r ≡ refusal t x → outcome r f m k ≡ receiveOf s (world t f m k) a
-        unfolding receiveOf decide afterScreening done
-        receive-refused q y = rw (l, g, n, q) (ap (λ (r : Receipt). outcome r f m k) y)
+        pub judge-refused : {x : Answer} → screenOf s (length (h .flash)) a ≡ Refused x → stays x ≡ decisionIn s (world t h) a
+        unfolding decisionIn decide afterScreening
+        judge-refused q = rw (l, g, n, q)
 
-        pub receive-passed : {o : Outcome} {p : Page} → screenOf s (length f) a ≡ Passed p → o ≡ done (world t f m k) (payloadOf a) (stepped p (stepOf (t .state) (p .head) (markedIn m (p .number)))) → o ≡ receiveOf s (world t f m k) a
-        unfolding receiveOf decide afterScreening
-        receive-passed q y = rw (l, g, n, q) y
+        pub judge-passed : {d : Decision} {p : Page} → screenOf s (length (h .flash)) a ≡ Passed p → d ≡ stepped p (stepOf (t .state) (p .head) (markedIn (h .seen) (p .number))) → d ≡ decisionIn s (world t h) a
+        unfolding decisionIn decide afterScreening
+        judge-passed q y = rw (l, g, n, q) y
+
+  -- what is said and what is done
+  module _ {d : Decision} (k : d ≡ decisionIn s (world t h) a) where
+    pub look-stays : {x : Answer} → d ≡ stays x → forecast x false ≡ lookOf s (world t h) a
+    unfolding decisionIn lookOf
+    look-stays e = ap forecastOf (sym e ∙ k)
+
+    pub look-accepts : {p : Page} {y : Accepted} → d ≡ accepts p y → forecast (y .answer) (y .discarded) ≡ lookOf s (world t h) a
+    unfolding decisionIn lookOf
+    look-accepts e = ap forecastOf (sym e ∙ k)
+
+    pub take-stays : {r : Receipt} {x : Answer} → d ≡ stays x → r ≡ refusal t x → outcome r h ≡ receiveOf s (world t h) a
+    unfolding decisionIn receiveOf done
+    take-stays e y = ap (λ (r : Receipt). outcome r h) y ∙ ap (done (world t h) (payloadOf a)) (sym e ∙ k)
+
+    -- what is accepted does not look at the transfer that was
+    pub take-accepts : {o : Outcome} {p : Page} {y : Accepted} (u : Transfer) → d ≡ accepts p y → o ≡ done (world u h) (payloadOf a) (accepts p y) → o ≡ receiveOf s (world t h) a
+    unfolding decisionIn receiveOf done acceptOf
+    take-accepts u e y = y ∙ ap (done (world t h) (payloadOf a)) (sym e ∙ k)

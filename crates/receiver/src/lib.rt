@@ -1,9 +1,11 @@
 // One arrival: the checks in their order, the step of the transfer, and what is written to the lent buffers.
 ghost use mathlib.Core.Path.{_≡_};
+ghost use Rattle.sets.specs.Numbered.{numbered};
 ghost use Rattle.bitmap.specs.Bitmap.{markedIn};
 ghost use Rattle.flash.specs.Flash.{payloadOf};
 ghost use Rattle.transfer.specs.Transfer.{stepOf};
 ghost use Rattle.arrival.specs.Arrive.{
+  outcomeNumber,
   rightLengths,
   stepped,
   clearedIf,
@@ -13,8 +15,10 @@ ghost use Rattle.arrival.specs.Arrive.{
   accepts,
   done,
   receiveOf,
+  forecastNumber,
+  lookOf,
 };
-ghost use Rattle.receiver.specs.Receiver.{held, world, refusal, outcome};
+ghost use Rattle.receiver.specs.Receiver.{held, lentAt, leftAt, world, refusal, outcome, decision, decisionIn, previewed};
 use block::Block;
 use flash::Flash;
 use screen::Page;
@@ -37,6 +41,24 @@ impl Receipt {
     pub const SEEN: usize = 16384;
 
     pub const SECTORS: usize = 1024;
+}
+
+// What a look says: the answer, and whether a running transfer would be discarded.
+pub struct Preview {
+    pub answer: Answer,
+    pub discarded: bool,
+}
+
+// A block that is accepted: its page, and what it does to the transfer.
+pub struct Acceptance {
+    pub page: Page,
+    pub accepted: Accepted,
+}
+
+// What an arrival comes to, before anything is written.
+pub enum Verdict {
+    Leaves(Answer),
+    Accepts(Acceptance),
 }
 
 // Are the lengths of arrival, flash, seen map and sector map right?
@@ -86,7 +108,7 @@ fn store(at: usize, clears: bool, arrival: &[u8], flash: &mut [u8], sectors: &mu
     bitmap::mark(sectors, sector);
 }
 
-// A block that is accepted.
+// Writes a block that is accepted.
 fn accept(
     page: Page,
     accepted: Accepted,
@@ -95,7 +117,7 @@ fn accept(
     seen: &mut [u8],
     sectors: &mut [u8],
 ) -> Receipt
-    ensures { λ r. ⌜ outcome r (now (flash .exit)) (now (seen .exit)) (now (sectors .exit)) ≡ done (world (accepted .transfer) (now (flash .entry)) (now (seen .entry)) (now (sectors .entry))) (payloadOf (now (arrival .entry))) (accepts page accepted) ⌝ }
+    ensures { λ r. ⌜ outcome r (leftAt flash seen sectors) ≡ done (world (accepted .transfer) (lentAt flash seen sectors)) (payloadOf (now (arrival .entry))) (accepts page accepted) ⌝ }
 {
     let next = accepted.transfer;
     let given = accepted.answer;
@@ -110,16 +132,9 @@ fn accept(
     }
 }
 
-// A block that has passed the screening.
-fn look(
-    transfer: Transfer,
-    page: Page,
-    arrival: &[u8],
-    flash: &mut [u8],
-    seen: &mut [u8],
-    sectors: &mut [u8],
-) -> Receipt
-    ensures { λ r. ⌜ outcome r (now (flash .exit)) (now (seen .exit)) (now (sectors .exit)) ≡ done (world transfer (now (flash .entry)) (now (seen .entry)) (now (sectors .entry))) (payloadOf (now (arrival .entry))) (stepped page (stepOf (transfer .state) (page .head) (markedIn (now (seen .entry)) (page .number)))) ⌝ }
+// Rows 12 to 15, of a block that has passed the screening.
+fn settle(transfer: Transfer, page: Page, seen: &[u8]) -> Verdict
+    ensures { λ r. ⌜ decision r ≡ stepped page (stepOf (transfer .state) (page .head) (markedIn (now (seen .entry)) (page .number))) ⌝ }
 {
     let head = page.head;
     let number = page.number as usize;
@@ -127,16 +142,71 @@ fn look(
     let step = transfer.step(head, marked);
     match step {
         Step::Stays(unchanged) => {
-            let same = unchanged.transfer;
             let answer = unchanged.answer;
-            refuse(same, answer)
+            Verdict::Leaves(answer)
         }
-        Step::Accepts(accepted) => accept(page, accepted, arrival, flash, seen, sectors),
+        Step::Accepts(accepted) => Verdict::Accepts(Acceptance { page, accepted }),
     }
 }
 
-// One arrival: the next transfer and the answer, and what it writes.
-pub fn receive(
+// Every check, in its order.
+fn judge(
+    settings: Settings,
+    transfer: Transfer,
+    arrival: &[u8],
+    flash: &[u8],
+    seen: &[u8],
+    sectors: &[u8],
+) -> Verdict
+    ensures { λ r. ⌜ decision r ≡ decisionIn settings (world transfer (lentAt flash seen sectors)) (now (arrival .entry)) ⌝ }
+{
+    let len = flash.len();
+    if !lengths_right(arrival.len(), len, seen.len(), sectors.len()) {
+        return Verdict::Leaves(Answer::BadBuffers);
+    }
+    if !settings::good(settings, len) {
+        return Verdict::Leaves(Answer::BadSettings);
+    }
+    if !transfer.sound() {
+        return Verdict::Leaves(Answer::BadState);
+    }
+    let screening = screen::screen(settings, len, arrival);
+    match screening {
+        Screening::Refused(answer) => Verdict::Leaves(answer),
+        Screening::Passed(page) => settle(transfer, page, seen),
+    }
+}
+
+// What would happen. Nothing changes.
+pub fn look(
+    settings: Settings,
+    transfer: Transfer,
+    arrival: &[u8],
+    flash: &[u8],
+    seen: &[u8],
+    sectors: &[u8],
+) -> Preview
+    ensures { λ r. ⌜ numbered forecastNumber (previewed r) ≡ numbered forecastNumber (lookOf settings (world transfer (lentAt flash seen sectors)) (now (arrival .entry))) ⌝ }
+{
+    let verdict = judge(settings, transfer, arrival, flash, seen, sectors);
+    match verdict {
+        Verdict::Leaves(answer) => Preview {
+            answer,
+            discarded: false,
+        },
+        Verdict::Accepts(acceptance) => {
+            let accepted = acceptance.accepted;
+            let answer = accepted.answer;
+            Preview {
+                answer,
+                discarded: accepted.discarded,
+            }
+        }
+    }
+}
+
+// One arrival: the next transfer and the answer, and what it writes. It gets nothing from a look, and repeats every check.
+pub fn take(
     settings: Settings,
     transfer: Transfer,
     arrival: &[u8],
@@ -144,21 +214,15 @@ pub fn receive(
     seen: &mut [u8],
     sectors: &mut [u8],
 ) -> Receipt
-    ensures { λ r. ⌜ outcome r (now (flash .exit)) (now (seen .exit)) (now (sectors .exit)) ≡ receiveOf settings (world transfer (now (flash .entry)) (now (seen .entry)) (now (sectors .entry))) (now (arrival .entry)) ⌝ }
+    ensures { λ r. ⌜ numbered outcomeNumber (outcome r (leftAt flash seen sectors)) ≡ numbered outcomeNumber (receiveOf settings (world transfer (lentAt flash seen sectors)) (now (arrival .entry))) ⌝ }
 {
-    let len = flash.len();
-    if !lengths_right(arrival.len(), len, seen.len(), sectors.len()) {
-        return refuse(transfer, Answer::BadBuffers);
-    }
-    if !settings::good(settings, len) {
-        return refuse(transfer, Answer::BadSettings);
-    }
-    if !transfer.sound() {
-        return refuse(transfer, Answer::BadState);
-    }
-    let screened = screen::screen(settings, len, arrival);
-    match screened {
-        Screening::Refused(answer) => refuse(transfer, answer),
-        Screening::Passed(page) => look(transfer, page, arrival, flash, seen, sectors),
+    let verdict = judge(settings, transfer, arrival, flash, seen, sectors);
+    match verdict {
+        Verdict::Leaves(answer) => refuse(transfer, answer),
+        Verdict::Accepts(acceptance) => {
+            let page = acceptance.page;
+            let accepted = acceptance.accepted;
+            accept(page, accepted, arrival, flash, seen, sectors)
+        }
     }
 }

@@ -19,9 +19,11 @@ use Rattle.settings.specs.declared.Settings.{Settings}
 use Rattle.place.specs.Place.{placeOf}
 use Rattle.place.specs.declared.Place.{Place}
 use Rattle.place.specs.declared.Place.the-variants.{At}
-use Rattle.transfer.specs.Transfer.{numberOf}
+use Rattle.transfer.specs.Transfer.{headWith}
+use Rattle.transfer.specs.declared.Head.{Head}
 use Rattle.transfer.specs.declared.Answer.the-variants.{BadPayload, BadNumbers, BadAddress}
-use Rattle.screen.specs.Screen.{badNumbers, badAddress, pageAt, placed, headerRefusal, headed, screenOf}
+use Rattle.screen.specs.Screen.{badNumbers, badAddress, placed, afterHeader, placedIn, screenOf, screeningNumber}
+use Rattle.screen.specs.declared.Screening.{Screening}
 use Rattle.screen.specs.declared.Screening.the-variants.{Refused, Passed}
 
 -- ---- what rows 10 and 11 leave
@@ -93,31 +95,35 @@ module _ (start size : ℕ) (b : Block) where
       pub placed-address : (Address size b → ⊥) → placed (At start size) b ≡ Refused BadAddress
       placed-address a = split (badAddress size b) address-true (λ h. absurd (a (address-false size b h)))
 
-      pub placed-passed : Address size b → placed (At start size) b ≡ Passed (pageAt start b)
+      pub placed-passed : Address size b → {g : Head} → g ≡ headWith (b .family) (b .total)
+          → Passed (record { head = g; number = b .number; at = start + (b .address - 0x10000000) }) ≡ placed (At start size) b
       unfolding placed
-      placed-passed a = rw (eq-eqb (b .size) 256 p, numbers-right size b n, address-right size b a)
+      placed-passed a e = rw (eq-eqb (b .size) 256 p, numbers-right size b n, address-right size b a, e)
 
 -- ---- an arrival
 
+-- a header that is none but a refusal, by its tag
+pub refusal-header : (h : Header) → OneOf (0 ∷ 1 ∷ 2 ∷ 3 ∷ []) (tagOf the-type h) → headerNumber h ≢ 0
+refusal-header header.NotBlock n = λ e. omega arith
+refusal-header header.Container n = λ e. omega arith
+refusal-header header.Comment n = λ e. omega arith
+refusal-header header.NoFamily n = λ e. omega arith
+refusal-header (header.Found b) n = absurd (⊎-elim (λ x. omega arith) (⊎-elim (λ x. omega arith) (⊎-elim (λ x. omega arith) (λ x. omega arith))) n)
+
 module _ (s : Settings) (len : ℕ) (a : List ℕ) where
-  -- the header is none of those before `Found`, by its tag
-  pub screen-refused : (h : Header) → h ≡ headerOf a → OneOf (0 ∷ 1 ∷ 2 ∷ 3 ∷ []) (tagOf the-type h) → screenOf s len a ≡ Refused (headerRefusal h)
-  unfolding screenOf headed
-  screen-refused header.NotBlock e n = rw (sym e)
-  screen-refused header.Container e n = rw (sym e)
-  screen-refused header.Comment e n = rw (sym e)
-  screen-refused header.NoFamily e n = rw (sym e)
-  screen-refused (header.Found b) e n = absurd (⊎-elim (λ x. omega arith) (⊎-elim (λ x. omega arith) (⊎-elim (λ x. omega arith) (λ x. omega arith))) n)
+  pub screen-header : {h : Header} → h ≡ headerOf a → {x : Screening} → x ≡ afterHeader h (placedIn s len) → x ≡ screenOf s len a
+  unfolding screenOf
+  screen-header e q = rw (sym e) q
 
   pub screen-placed : (b : Block) (p : Place) → headerOf a ≡ header.Found b → placeOf s len (b .family) ≡ p → screenOf s len a ≡ placed p b
-  unfolding screenOf headed
+  unfolding screenOf placedIn
   screen-placed b p e q = rw (e, q)
 
 -- ---- the numbers of the header's refusals are the answers'
 
-pub refusal-number : (h : Header) → headerNumber h ≢ 0 → numberOf (headerRefusal h) ≡ headerNumber h
-refusal-number header.NotBlock n = refl
-refusal-number header.Container n = refl
-refusal-number header.Comment n = refl
-refusal-number header.NoFamily n = refl
-refusal-number (header.Found b) n = absurd (n refl)
+pub refusal-number : (h : Header) (next : Block → Screening) → headerNumber h ≢ 0 → screeningNumber (afterHeader h next) ≡ headerNumber h
+refusal-number header.NotBlock next n = refl
+refusal-number header.Container next n = refl
+refusal-number header.Comment next n = refl
+refusal-number header.NoFamily next n = refl
+refusal-number (header.Found b) next n = absurd (n refl)

@@ -1,5 +1,6 @@
 -- Rows 4 to 11 of 01's checks, in their order. Assumes nothing.
 use Prim.Native.Nat.{ℕ, _+_, _-_, _*_, _%_}
+use mathlib.Core.Path.{_≡_}
 use mathlib.Core.Bool.{Bool, _||_, not, cond}
 use mathlib.Core.List.{List}
 use lib.Dec.{ltb, leb, eqb}
@@ -11,6 +12,7 @@ use Rattle.settings.specs.declared.Settings.{Settings}
 use Rattle.place.specs.Place.{placeOf}
 use Rattle.place.specs.declared.Place.{Place}
 use Rattle.place.specs.declared.Place.the-variants.{Nowhere, At}
+use Rattle.transfer.specs.Transfer.{headWith, numberOf}
 use Rattle.transfer.specs.declared.Answer.{Answer}
 use Rattle.transfer.specs.declared.Answer.the-variants.{NotBlock, Container, Comment, NoFamily, NoPlace, BadPayload, BadNumbers, BadAddress}
 use Rattle.screen.specs.declared.Page.{Page}
@@ -29,7 +31,7 @@ badAddress size b = ltb (b .address) 0x10000000 || not (eqb (b .address % 256) 0
 abbrev pub pageAt : ℕ → Block → Page
 pageAt start b =
     record {
-      head = record { family = b .family; total = b .total };
+      head = headWith (b .family) (b .total);
       number = b .number;
       at = start + (b .address - 0x10000000);
     }
@@ -43,22 +45,27 @@ placed (At start size) b =
     (cond (badAddress size b) (Refused BadAddress)
     (Passed (pageAt start b))))
 
--- the answer to a header that yields no block; a block gets none of them, and nothing asks for its
-abbrev pub headerRefusal : Header → Answer
-headerRefusal header.NotBlock = NotBlock
-headerRefusal header.Container = Container
-headerRefusal header.Comment = Comment
-headerRefusal header.NoFamily = NoFamily
-headerRefusal (header.Found b) = NotBlock
+-- rows 4 to 7: "Read the header first; if that yields no block, no other field counts"; `next` is what rows 8 to 11 make of a block
+abbrev pub afterHeader : Header → (Block → Screening) → Screening
+afterHeader header.NotBlock next = Refused NotBlock
+afterHeader header.Container next = Refused Container
+afterHeader header.Comment next = Refused Comment
+afterHeader header.NoFamily next = Refused NoFamily
+afterHeader (header.Found b) next = next b
 
--- rows 4 to 7: "Read the header first; if that yields no block, no other field counts"
-unfoldable pub headed : Settings → ℕ → Header → Screening
-headed s len header.NotBlock = Refused NotBlock
-headed s len header.Container = Refused Container
-headed s len header.Comment = Refused Comment
-headed s len header.NoFamily = Refused NoFamily
-headed s len (header.Found b) = placed (placeOf s len (b .family)) b
+-- x is the answer to a header, whatever comes after it
+abbrev pub HeaderAnswer : Header → Answer → Type 0
+HeaderAnswer h x = (next : Block → Screening) → Refused x ≡ afterHeader h next
+
+-- rows 8 to 11, of a block by the place of its family
+unfoldable pub placedIn : Settings → ℕ → Block → Screening
+placedIn s len b = placed (placeOf s len (b .family)) b
 
 -- rows 4 to 11, for a flash of len bytes
 unfoldable pub screenOf : Settings → ℕ → List ℕ → Screening
-screenOf s len a = headed s len (headerOf a)
+screenOf s len a = afterHeader (headerOf a) (placedIn s len)
+
+-- the number of a refusal; a block that passes is none, and has 0
+abbrev pub screeningNumber : Screening → ℕ
+screeningNumber (Refused x) = numberOf x
+screeningNumber (Passed p) = 0

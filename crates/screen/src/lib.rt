@@ -2,7 +2,10 @@
 ghost use mathlib.Core.Path.{_≡_};
 ghost use Prim.Native.Nat.{_<_};
 ghost use Rattle.place.specs.declared.Place.the-variants.{At};
-ghost use Rattle.screen.specs.Screen.{headerRefusal, placed, screenOf};
+ghost use mathlib.Core.Logic.{_≢_};
+ghost use Rattle.sets.specs.Numbered.{numbered};
+ghost use Rattle.block.specs.Block.{headerNumber};
+ghost use Rattle.screen.specs.Screen.{HeaderAnswer, placed, screenOf, screeningNumber};
 use block::Block;
 use block::Header;
 use flash::Flash;
@@ -28,9 +31,10 @@ impl Page {
     pub const WINDOW: usize = 0x10000000;
 }
 
-// The answer to a header that yields no block.
+// The answer to a header that yields no block, whatever the rows after it would say. A match has to name `Found` too; nothing calls it so.
 fn header_answer(h: Header) -> Answer
-    ensures { λ r. ⌜ r ≡ headerRefusal h ⌝ }
+    requires { ⌜ headerNumber h ≢ 0 ⌝ }
+    ensures { λ r. ⌜ HeaderAnswer h r ⌝ }
 {
     match h {
         Header::NotBlock => Answer::NotBlock,
@@ -69,20 +73,18 @@ fn fits_place(b: Block, start: usize, size: usize) -> Screening
     if size < past - Page::WINDOW {
         return Screening::Refused(Answer::BadAddress);
     }
-    let head = Head {
-        family: b.family,
-        total: b.total,
-    };
+    let at = start + (address - Page::WINDOW);
+    let head = Head::new(b.family, b.total);
     Screening::Passed(Page {
         head,
         number: b.number,
-        at: start + (address - Page::WINDOW),
+        at,
     })
 }
 
 // Rows 4 to 11: the first that refuses the arrival, or its page.
 pub fn screen(settings: Settings, flash_len: usize, arrival: &[u8]) -> Screening
-    ensures { λ r. ⌜ r ≡ screenOf settings «flash_len» (now (arrival .entry)) ⌝ }
+    ensures { λ r. ⌜ numbered screeningNumber r ≡ numbered screeningNumber (screenOf settings «flash_len» (now (arrival .entry))) ⌝ }
 {
     let h = block::read(arrival);
     let Header::Found(b) = h else {

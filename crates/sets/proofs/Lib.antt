@@ -5,3 +5,4 @@ pub mod TabLaws
 pub mod OverLaws
 pub mod BytesLaws
 pub mod RowsLaws
+pub mod Numbered

@@ -3,3 +3,4 @@ pub mod Tab
 pub mod Over
 pub mod Bytes
 pub mod Rows
+pub mod Numbered

@@ -35,6 +35,10 @@ numberOf Completed = 15
 abbrev pub fresh : Transfer
 fresh = record { state = Idle }
 
+-- "(family, total)", which make two blocks one transfer
+abbrev pub headWith : ℕ → ℕ → Head
+headWith f n = record { family = f; total = n }
+
 -- "Running (family, total, count)"
 abbrev pub running : Head → ℕ → State
 running g c = Running (record { head = g; count = c })
@@ -85,3 +89,8 @@ stepOf (Running r) g marked =
     (cond marked (Stays (keptState (Running r) Again)) (Accepts (accepted false false g (r .count + 1))))
     (Accepts (accepted true true g 1))
 stepOf (Done h) g marked = Stays (keptState (Done h) Finished)
+
+-- the number of a step's answer
+abbrev pub stepNumber : Step → ℕ
+stepNumber (Stays x) = numberOf (x .answer)
+stepNumber (Accepts k) = numberOf (k .answer)

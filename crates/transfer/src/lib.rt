@@ -1,12 +1,21 @@
 // The transfer: its state, the answers to an arrival, and one step of it.
 ghost use mathlib.Core.Path.{_≡_};
 ghost use Prim.Native.Nat.{_+_};
-ghost use Rattle.transfer.specs.Transfer.{numberOf, fresh, goodState, sameHead, accepted, stepOf};
+ghost use Rattle.sets.specs.Numbered.{numbered};
+ghost use Rattle.transfer.specs.Transfer.{headWith, numberOf, fresh, goodState, sameHead, accepted, stepOf, stepNumber};
 
 // What makes two blocks one transfer.
 pub struct Head {
     pub family: u32,
     pub total: u32,
+}
+
+impl Head {
+    pub fn new(family: u32, total: u32) -> Self
+        ensures { λ r. ⌜ r ≡ headWith family total ⌝ }
+    {
+        Self { family, total }
+    }
 }
 
 // A transfer under way: so many different blocks have been counted.
@@ -148,7 +157,7 @@ impl Transfer {
 
     // What a block of this head does, whose number is marked or not.
     pub fn step(self, head: Head, marked: bool) -> Step
-        ensures { λ r. ⌜ r ≡ stepOf (self .state) head marked ⌝ }
+        ensures { λ r. ⌜ numbered stepNumber r ≡ numbered stepNumber (stepOf (self .state) head marked) ⌝ }
     {
         let state = self.state;
         match state {

@@ -1,8 +1,8 @@
-//! Times the proved receiver and the plain Rust reference in one run, on the same inputs. Both get the settings as bytes. Where a place is
-//! asked for, both read them at each call; where a file is received, both read them once (`uf2_receive_all`), or the proved side at each
-//! arrival (`uf2_receive`) and the plain side at each or once.
+//! Times the proved receiver and plain Rust in one run, on the same inputs. Both get the settings as bytes. Where a place is asked for,
+//! both read them at each call; where a file is taken, a `Way` says which calls are made and what the plain side does.
 
 mod hex;
+mod once;
 mod table;
 
 use std::hint::black_box;
@@ -112,6 +112,13 @@ impl Work {
     }
 }
 
+/// Whether a row is asked for: every one, or those whose names hold the program's argument.
+fn asked(name: &str) -> bool {
+    std::env::args()
+        .nth(1)
+        .is_none_or(|part| name.contains(&part))
+}
+
 /// The best of several rounds of each, in turn. A round clears what it is lent before its time begins.
 fn pair(
     name: &str,
@@ -119,6 +126,9 @@ fn pair(
     mut ours: impl FnMut() -> (f64, u64),
     mut plain: impl FnMut() -> (f64, u64),
 ) {
+    if !asked(name) {
+        return;
+    }
     let (mut a, mut b) = (f64::MAX, f64::MAX);
     for _ in 0..work.rounds {
         let (time, x) = ours();
@@ -174,73 +184,122 @@ fn cleared(buffers: &mut Buffers) -> &mut Buffers {
     buffers
 }
 
-/// How often the settings' bytes are read in a file.
+/// How the arrivals of a file are handed over, and what the plain side does.
 #[derive(Clone, Copy, PartialEq)]
-enum Reads {
-    /// Once by both, in one call.
-    Once,
-    /// At each arrival by both.
-    Each,
-    /// At each arrival by ours, once by the plain side.
-    EachByOurs,
+enum Way {
+    /// All in one call; the plain side reads the settings once and makes every check at each arrival.
+    All,
+    /// All in one call; the plain side judges settings and lengths once, and a place once for a run of one family.
+    AllOnce,
+    /// A take each; both read the settings at each arrival.
+    Take,
+    /// A take each by ours; the plain side reads the settings once.
+    TakeReadOnce,
+    /// A look each, at a fresh transfer; both read the settings at each arrival.
+    Look,
+    /// A look and then a take each; both read the settings at each of the two.
+    LookAndTake,
 }
 
-fn file(name: &str, s: &Settings, sent: Sent, reads: Reads) {
-    let p = proved_settings(s).bytes();
-    let blocks = sent.blocks;
-    let mut order: Vec<u32> = (0..blocks).collect();
+/// The blocks of a file, one after the other.
+fn blocks(sent: Sent) -> Vec<u8> {
+    let mut order: Vec<u32> = (0..sent.blocks).collect();
     if sent.shuffled {
         Random(7).shuffle(&mut order);
     }
     let mut file: Vec<u8> = order
         .iter()
-        .flat_map(|&k| page(reference::ARM_S, blocks, k))
+        .flat_map(|&k| page(reference::ARM_S, sent.blocks, k))
         .collect();
     if sent.refused {
         // 257 bytes of payload: settings, header and place are asked, and nothing is stored
         file.iter_mut().skip(16).step_by(512).for_each(|b| *b = 1);
     }
+    file
+}
+
+/// The proved side takes a file, or looks at it.
+fn proved_side(way: Way, settings: &[u8], file: &[u8], results: &mut [u8], lent: &mut Buffers) {
+    let mut t = proved::Transfer::Idle.bytes();
+    if matches!(way, Way::All | Way::AllOnce) {
+        lent.take_all(settings, &mut t, file, results);
+        return;
+    }
+    for (a, r) in file.chunks_exact(512).zip(results) {
+        if way == Way::LookAndTake {
+            black_box(lent.look(black_box(settings), &t, a));
+        }
+        *r = match way {
+            Way::Look => lent.look(black_box(settings), &t, a),
+            _ => lent.take(black_box(settings), &mut t, a),
+        } as u8;
+    }
+}
+
+/// The plain side does the same.
+fn plain_side(way: Way, settings: &[u8], file: &[u8], results: &mut [u8], lent: &mut Buffers) {
+    let fresh = || read(black_box(settings));
+    let mut t = reference::Transfer::Idle;
+    let kept = fresh();
+    if way == Way::AllOnce {
+        once::take_all(&kept, &mut t, file, results, lent);
+        return;
+    }
+    for (a, r) in file.chunks_exact(512).zip(results) {
+        if way == Way::LookAndTake {
+            black_box(lent.plain_look(&fresh(), t, a));
+        }
+        let (answer, discarded) = match way {
+            Way::Look => lent.plain_look(&fresh(), t, a),
+            _ => {
+                let o = match way {
+                    Way::All | Way::TakeReadOnce => lent.plain_take(&kept, t, a),
+                    _ => lent.plain_take(&fresh(), t, a),
+                };
+                t = o.transfer;
+                (o.answer, o.discarded)
+            }
+        };
+        *r = answer + 128 * u8::from(discarded);
+    }
+}
+
+fn sum(results: &[u8]) -> u64 {
+    results.iter().map(|&r| u64::from(r)).sum()
+}
+
+fn file(name: &str, s: &Settings, sent: Sent, way: Way) {
+    if !asked(name) {
+        return;
+    }
+    let p = proved_settings(s).bytes();
+    let file = blocks(sent);
     let mut ours = Buffers::filled(FLASH, 0);
     let mut theirs = ours.clone();
-    let (mut results, mut plain) = (vec![0; order.len()], vec![0; order.len()]);
+    let (mut results, mut plain) = (vec![0; file.len() / 512], vec![0; file.len() / 512]);
     pair(
         name,
         Work {
             rounds: FILES,
-            calls: blocks as usize,
+            calls: results.len(),
             bytes: Some(file.len()),
         },
         || {
             let lent = cleared(&mut ours);
-            let mut t = proved::Transfer::Idle.bytes();
             timed(|| {
-                if reads == Reads::Once {
-                    lent.proved_all(&p, &mut t, &file, &mut results);
-                } else {
-                    for (a, r) in file.chunks_exact(512).zip(&mut results) {
-                        *r = lent.proved(black_box(&p), &mut t, a) as u8;
-                    }
-                }
-                results.iter().map(|&r| u64::from(r)).sum()
+                proved_side(way, &p, &file, &mut results, lent);
+                sum(&results)
             })
         },
         || {
             let lent = cleared(&mut theirs);
-            let mut t = reference::Transfer::Idle;
             timed(|| {
-                let mut s = read(black_box(&p));
-                for (a, r) in file.chunks_exact(512).zip(&mut plain) {
-                    if reads == Reads::Each {
-                        s = read(black_box(&p));
-                    }
-                    let o = lent.reference(&s, t, a);
-                    t = o.transfer;
-                    *r = o.answer + 128 * u8::from(o.discarded);
-                }
-                plain.iter().map(|&r| u64::from(r)).sum()
+                plain_side(way, &p, &file, &mut plain, lent);
+                sum(&plain)
             })
         },
     );
+    assert!(ours == theirs, "{name}: the two leave the same");
 }
 
 fn main() {
@@ -264,15 +323,21 @@ fn main() {
         };
         let checks =
             format!("settings, header and place of an arrival that row 9 refuses, {table}");
-        file(&checks, s, sent(false, true), Reads::Once);
-        for (how, reads) in [
-            ("all in one call", Reads::Once),
-            ("one call each", Reads::Each),
-            ("one call each, plain settings read once", Reads::EachByOurs),
+        file(&checks, s, sent(false, true), Way::All);
+        for (how, way) in [
+            ("all in one call, plain checks at each", Way::All),
+            ("all in one call, plain judges once", Way::AllOnce),
+            ("a take each", Way::Take),
+            ("a take each, plain settings read once", Way::TakeReadOnce),
+            ("a look each", Way::Look),
+            ("a look and a take each", Way::LookAndTake),
         ] {
             for (order, shuffled) in [("in order", false), ("shuffled", true)] {
-                let name = format!("an arrival of {blocks} {order}, {table}, {how}");
-                file(&name, s, sent(shuffled, false), reads);
+                // a look stores nothing, so that the order says nothing
+                if way != Way::Look || !shuffled {
+                    let name = format!("an arrival of {blocks} {order}, {table}, {how}");
+                    file(&name, s, sent(shuffled, false), way);
+                }
             }
         }
     }

@@ -129,28 +129,43 @@ impl Buffers {
         }
     }
 
-    /// One arrival to the reference, with these.
-    pub fn reference(&mut self, s: &Settings, t: Transfer, arrival: &[u8]) -> reference::Outcome {
+    /// A look of the reference, with these: answer and "discarded".
+    pub fn plain_look(&self, s: &Settings, t: Transfer, arrival: &[u8]) -> (u8, bool) {
+        reference::look(s, t, arrival, &self.flash, &self.seen, &self.sectors)
+    }
+
+    /// A take of the reference, with these.
+    pub fn plain_take(&mut self, s: &Settings, t: Transfer, arrival: &[u8]) -> reference::Outcome {
         let Buffers {
             flash,
             seen,
             sectors,
         } = self;
-        reference::receive(s, t, arrival, flash, seen, sectors)
+        reference::take(s, t, arrival, flash, seen, sectors)
     }
 
-    /// One arrival to the proved receiver as bytes, with these: the result.
-    pub fn proved(&mut self, settings: &[u8], transfer: &mut [u8], arrival: &[u8]) -> u32 {
+    /// A look of the proved receiver over bytes, with these: the result.
+    pub fn look(&self, settings: &[u8], transfer: &[u8], arrival: &[u8]) -> u32 {
         let Buffers {
             flash,
             seen,
             sectors,
         } = self;
-        proved::bytes::receive(settings, transfer, arrival, flash, seen, sectors)
+        proved::bytes::look(settings, transfer, arrival, flash, seen, sectors)
     }
 
-    /// Many arrivals to the proved receiver as bytes, with these: their number.
-    pub fn proved_all(
+    /// A take of the proved receiver over bytes, with these: the result.
+    pub fn take(&mut self, settings: &[u8], transfer: &mut [u8], arrival: &[u8]) -> u32 {
+        let Buffers {
+            flash,
+            seen,
+            sectors,
+        } = self;
+        proved::bytes::take(settings, transfer, arrival, flash, seen, sectors)
+    }
+
+    /// Many takes of the proved receiver over bytes, with these: their number.
+    pub fn take_all(
         &mut self,
         settings: &[u8],
         transfer: &mut [u8],
@@ -162,7 +177,7 @@ impl Buffers {
             seen,
             sectors,
         } = self;
-        proved::bytes::receive_all(settings, transfer, arrivals, results, flash, seen, sectors)
+        proved::bytes::take_all(settings, transfer, arrivals, results, flash, seen, sectors)
     }
 }
 

@@ -1,4 +1,4 @@
-//! Lists of arrivals: after each, answer, transfer and every lent byte are the same. COMPARE_ARRIVALS sets how many arrivals are
+//! Lists of arrivals, each looked at and taken: after each, answer, transfer and every lent byte are the same. COMPARE_ARRIVALS sets how many arrivals are
 //! compared, at least.
 
 use compare::{
@@ -33,15 +33,24 @@ impl Pair {
         }
     }
 
-    /// Hands both the arrival, and says what both answered.
+    /// Both look at the arrival and take it; says what all four answered. A look leaves every buffer as it was: ours are the reference's
+    /// before it, by the last take, and after it.
     fn take(&mut self, arrival: &[u8]) -> u8 {
+        let mut t = proved_transfer(self.transfer);
+        let looked = proved::look(&self.proved, t, arrival, &self.ours.lend());
         let wanted = self
             .theirs
-            .reference(&self.settings, self.transfer, arrival);
-        let mut t = proved_transfer(self.transfer);
-        let got = proved::receive(&self.proved, &mut t, arrival, &mut self.ours.lend());
+            .plain_look(&self.settings, self.transfer, arrival);
+        assert_eq!((looked.answer.number(), looked.discarded), wanted, "look");
+        assert!(self.ours == self.theirs, "buffers after the look");
+
+        let wanted = self
+            .theirs
+            .plain_take(&self.settings, self.transfer, arrival);
+        let got = proved::take(&self.proved, &mut t, arrival, &mut self.ours.lend());
         assert_eq!(got.answer.number(), wanted.answer, "answer");
         assert_eq!(got.discarded, wanted.discarded, "discarded");
+        assert_eq!(got, looked, "the look said it");
         assert_eq!(t, proved_transfer(wanted.transfer), "transfer");
         assert!(self.ours == self.theirs, "buffers");
         self.transfer = wanted.transfer;
@@ -158,7 +167,7 @@ fn two_files_in_turn_agree() {
     }
 }
 
-/// Arrivals handed over at once are received as one by one.
+/// Arrivals handed over at once are taken as one by one.
 #[test]
 fn all_at_once_agrees() {
     let mut r = Random(8);
@@ -177,8 +186,7 @@ fn all_at_once_agrees() {
         let mut results = vec![77; r.below(25) as usize];
         let mut all = buffers;
         let mut end = proved_transfer(transfer);
-        let number =
-            proved::receive_all(&one.proved, &mut end, &file, &mut results, &mut all.lend());
+        let number = proved::take_all(&one.proved, &mut end, &file, &mut results, &mut all.lend());
         assert_eq!(number, n.min(results.len()));
         for (i, a) in file.chunks_exact(512).take(number).enumerate() {
             assert_eq!(results[i] % 128, one.take(a));
@@ -201,7 +209,7 @@ fn longest_file_agrees() {
     let mut transfer = proved::Transfer::new();
     for (i, &k) in order.iter().enumerate() {
         let a = page(reference::DATA, n, k);
-        let got = proved::receive(&p, &mut transfer, &a, &mut buffers.lend());
+        let got = proved::take(&p, &mut transfer, &a, &mut buffers.lend());
         let last = i + 1 == n as usize;
         assert_eq!(got.answer.number(), if last { 15 } else { 14 });
     }

@@ -11,13 +11,16 @@ fn buffers() -> Buffers {
     Buffers::filled(LEN, 5)
 }
 
-/// The result of a block that is right but for what is handed over, by one call and by all at once.
-fn received(settings: &[u8], transfer: &[u8], arrival: &[u8]) -> u32 {
+/// The result of a block that is right but for what is handed over, by a look, by one take and by all at once.
+fn taken(settings: &[u8], transfer: &[u8], arrival: &[u8]) -> u32 {
     let (mut one, mut all) = (transfer.to_vec(), transfer.to_vec());
     let (mut ours, mut theirs) = (buffers(), buffers());
-    let result = ours.proved(settings, &mut one, arrival);
+    let looked = ours.look(settings, &one, arrival);
+    assert!(one == transfer && ours == buffers(), "a look changes");
+    let result = ours.take(settings, &mut one, arrival);
+    assert_eq!(looked, result);
     let mut results = [0; 1];
-    let number = theirs.proved_all(settings, &mut all, arrival, &mut results);
+    let number = theirs.take_all(settings, &mut all, arrival, &mut results);
     assert_eq!((number, results[0].into()), (1, result));
     assert!(one == all && ours == theirs);
     if result < 14 {
@@ -50,7 +53,7 @@ fn transfers_of_every_kind() {
             2 => 12,
             _ => 3,
         };
-        assert_eq!(received(&s, &t, &a), wanted, "kind {kind}");
+        assert_eq!(taken(&s, &t, &a), wanted, "kind {kind}");
     }
 }
 
@@ -62,9 +65,9 @@ fn transfers_of_every_length() {
     for n in lengths(TRANSFER_BYTES) {
         for fill in [0, 1, 2, 255] {
             let t = vec![fill; n];
-            assert_eq!(received(&good, &t, &a), 3, "{n} bytes");
+            assert_eq!(taken(&good, &t, &a), 3, "{n} bytes");
             // 2 is asked before
-            assert_eq!(received(&bad, &t, &a), 2, "{n} bytes");
+            assert_eq!(taken(&bad, &t, &a), 2, "{n} bytes");
         }
     }
 }
@@ -74,13 +77,13 @@ fn settings_of_every_length() {
     let whole = proved_settings(&arm_only()).bytes();
     let t = proved_transfer(Transfer::Idle).bytes();
     let a = page(reference::ARM_S, 4, 1);
-    assert_eq!(received(&whole, &t, &a), 14);
+    assert_eq!(taken(&whole, &t, &a), 14);
     for n in lengths(SETTINGS_BYTES) {
         let mut s = whole.to_vec();
         s.resize(n, 0);
-        assert_eq!(received(&s, &t, &a), 2, "{n} bytes");
+        assert_eq!(taken(&s, &t, &a), 2, "{n} bytes");
         // also with a transfer that is no state
-        assert_eq!(received(&s, &[], &a), 2, "{n} bytes");
+        assert_eq!(taken(&s, &[], &a), 2, "{n} bytes");
         let mut place = [9; 8];
         let number = bytes::ask(&s, LEN, reference::ARM_S, &mut place);
         assert_eq!((number, place), (2, [9; 8]), "{n} bytes");

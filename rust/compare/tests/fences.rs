@@ -85,7 +85,8 @@ struct Call {
 }
 
 impl Call {
-    fn any(r: &mut Random, arrivals: u64) -> Call {
+    /// A call with so many arrivals; `looks` where nothing that it is lent is written.
+    fn any(r: &mut Random, arrivals: u64, looks: bool) -> Call {
         let sectors = r.of(&[1, 2, 5]);
         let pages = sectors * 16;
         let sent = (0..arrivals)
@@ -100,11 +101,11 @@ impl Call {
         }
         Call {
             settings: Twin::read(r, settings),
-            transfer: Twin::written(r, transfer),
+            transfer: Twin::new(r, transfer, looks),
             arrival: Twin::read(r, sent),
-            flash: Twin::written(r, lent.flash),
-            seen: Twin::written(r, lent.seen),
-            sectors: Twin::written(r, lent.sectors),
+            flash: Twin::new(r, lent.flash, looks),
+            seen: Twin::new(r, lent.seen, looks),
+            sectors: Twin::new(r, lent.sectors, looks),
         }
     }
 
@@ -118,13 +119,44 @@ impl Call {
     }
 }
 
+/// Everything that a look is lent lies in pages that cannot be written.
 #[test]
-fn arrivals_keep_their_bounds() {
+fn looks_keep_their_bounds_and_write_nothing() {
+    let mut r = Random(30);
+    let mut answers = [0; 16];
+    for _ in 0..number() {
+        let c = Call::any(&mut r, 1, true);
+        let fenced = bytes::look(
+            c.settings.fenced.bytes(),
+            c.transfer.fenced.bytes(),
+            c.arrival.fenced.bytes(),
+            c.flash.fenced.bytes(),
+            c.seen.fenced.bytes(),
+            c.sectors.fenced.bytes(),
+        );
+        let plain = bytes::look(
+            &c.settings.plain,
+            &c.transfer.plain,
+            &c.arrival.plain,
+            &c.flash.plain,
+            &c.seen.plain,
+            &c.sectors.plain,
+        );
+        assert_eq!(fenced, plain);
+        c.check();
+        answers[plain as usize % 128] += 1;
+    }
+    let often = number() / 4_000;
+    assert!(answers[1..].iter().all(|&n| n >= often), "{answers:?}");
+}
+
+#[test]
+fn takes_keep_their_bounds() {
     let mut r = Random(31);
     let mut answers = [0; 16];
     for _ in 0..number() {
-        let mut c = Call::any(&mut r, 1);
-        let fenced = bytes::receive(
+        let mut c = Call::any(&mut r, 1, false);
+        let fenced = bytes::take(
             c.settings.fenced.bytes(),
             c.transfer.fenced.bytes_mut(),
             c.arrival.fenced.bytes(),
@@ -132,7 +164,7 @@ fn arrivals_keep_their_bounds() {
             c.seen.fenced.bytes_mut(),
             c.sectors.fenced.bytes_mut(),
         );
-        let plain = bytes::receive(
+        let plain = bytes::take(
             &c.settings.plain,
             &mut c.transfer.plain,
             &c.arrival.plain,
@@ -149,15 +181,15 @@ fn arrivals_keep_their_bounds() {
 }
 
 #[test]
-fn many_arrivals_keep_their_bounds() {
+fn many_takes_keep_their_bounds() {
     let mut r = Random(32);
     let mut accepted = 0;
     for _ in 0..number() / 4 {
         let n = r.below(12);
-        let mut c = Call::any(&mut r, n);
+        let mut c = Call::any(&mut r, n, false);
         let room = r.below(14) as usize;
         let mut results = Twin::written(&mut r, vec![77; room]);
-        let fenced = bytes::receive_all(
+        let fenced = bytes::take_all(
             c.settings.fenced.bytes(),
             c.transfer.fenced.bytes_mut(),
             c.arrival.fenced.bytes(),
@@ -166,7 +198,7 @@ fn many_arrivals_keep_their_bounds() {
             c.seen.fenced.bytes_mut(),
             c.sectors.fenced.bytes_mut(),
         );
-        let plain = bytes::receive_all(
+        let plain = bytes::take_all(
             &c.settings.plain,
             &mut c.transfer.plain,
             &c.arrival.plain,

@@ -108,7 +108,7 @@ fn one_block_at_a_time_is_the_same_file() {
 
 /// Shuffled, with every block twice, into both receivers: the transfer is done, and the image stands in the flash.
 #[test]
-fn a_made_file_is_received() {
+fn a_made_file_is_taken() {
     let mut r = Random(14);
     let settings = arm_only();
     for _ in 0..200 {
@@ -125,8 +125,8 @@ fn a_made_file_is_received() {
         let (mut ours, mut theirs) = (Buffers::filled(32_768, 7), Buffers::filled(32_768, 7));
         let (mut t, mut u) = (proved::Transfer::new(), Transfer::Idle);
         for block in blocks {
-            proved::receive(&proved_settings(&settings), &mut t, block, &mut ours.lend());
-            u = theirs.reference(&settings, u, block).transfer;
+            proved::take(&proved_settings(&settings), &mut t, block, &mut ours.lend());
+            u = theirs.plain_take(&settings, u, block).transfer;
         }
         let total = pages as u32;
         assert_eq!(

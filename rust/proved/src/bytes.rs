@@ -27,8 +27,35 @@ pub fn ask(settings: &[u8], flash_len: usize, family: u32, place: &mut [u8]) -> 
     }
 }
 
-/// One arrival: the answer's number, and 128 more where a running transfer was discarded.
-pub fn receive(
+/// A look at an arrival: what [`take`] would return on the same bytes. It changes nothing.
+pub fn look(
+    settings: &[u8],
+    transfer: &[u8],
+    arrival: &[u8],
+    flash: &[u8],
+    seen: &[u8],
+    sectors: &[u8],
+) -> u32 {
+    unsafe {
+        ffi::uf2_look(
+            settings.as_ptr(),
+            settings.len(),
+            transfer.as_ptr(),
+            transfer.len(),
+            arrival.as_ptr(),
+            arrival.len(),
+            flash.as_ptr(),
+            flash.len(),
+            seen.as_ptr(),
+            seen.len(),
+            sectors.as_ptr(),
+            sectors.len(),
+        )
+    }
+}
+
+/// An arrival taken: the answer's number, and 128 more where a running transfer was discarded.
+pub fn take(
     settings: &[u8],
     transfer: &mut [u8],
     arrival: &[u8],
@@ -37,7 +64,7 @@ pub fn receive(
     sectors: &mut [u8],
 ) -> u32 {
     unsafe {
-        ffi::uf2_receive(
+        ffi::uf2_take(
             settings.as_ptr(),
             settings.len(),
             transfer.as_mut_ptr(),
@@ -54,8 +81,9 @@ pub fn receive(
     }
 }
 
-/// Whole arrivals one after the other, as many as there are bytes in `results`, which get what [`receive`] would return; their number.
-pub fn receive_all(
+/// Whole arrivals taken one after the other, as many as there are bytes in `results`, which get what [`take`] would return; their
+/// number.
+pub fn take_all(
     settings: &[u8],
     transfer: &mut [u8],
     arrivals: &[u8],
@@ -65,7 +93,7 @@ pub fn receive_all(
     sectors: &mut [u8],
 ) -> usize {
     unsafe {
-        ffi::uf2_receive_all(
+        ffi::uf2_take_all(
             settings.as_ptr(),
             settings.len(),
             transfer.as_mut_ptr(),

@@ -12,7 +12,22 @@ extern "C" {
         place_len: usize,
     ) -> u32;
 
-    pub fn uf2_receive(
+    pub fn uf2_look(
+        settings: *const u8,
+        settings_len: usize,
+        transfer: *const u8,
+        transfer_len: usize,
+        arrival: *const u8,
+        arrival_len: usize,
+        flash: *const u8,
+        flash_len: usize,
+        seen: *const u8,
+        seen_len: usize,
+        sectors: *const u8,
+        sectors_len: usize,
+    ) -> u32;
+
+    pub fn uf2_take(
         settings: *const u8,
         settings_len: usize,
         transfer: *mut u8,
@@ -27,7 +42,7 @@ extern "C" {
         sectors_len: usize,
     ) -> u32;
 
-    pub fn uf2_receive_all(
+    pub fn uf2_take_all(
         settings: *const u8,
         settings_len: usize,
         transfer: *mut u8,

@@ -1,6 +1,6 @@
 //! The proved receiver for Rust: safe calls of its C interface (include/uf2_receiver.h).
 //!
-//! UF2 blocks go through [`receive`], lines of Universal Hex through [`hex::Reader::line`]. Nothing has to be checked before a call: every
+//! UF2 blocks go through [`look`] and [`take`], lines of Universal Hex through [`hex::Reader::line`]. Nothing has to be checked before a call: every
 //! settings, transfer, reader and length gets an answer, and nothing is allocated or kept between calls. It links
 //! `target/staticlib/libcapi.a`, which `rt staticlib capi` writes: code for x86-64 Linux.
 //!
@@ -14,7 +14,10 @@
 //! let (mut flash, mut seen, mut sectors) =
 //!     (vec![0; 32_768], vec![0; proved::SEEN_MAP_BYTES], vec![0; proved::SECTOR_MAP_BYTES]);
 //! let mut lent = Lent { flash: &mut flash, seen: &mut seen, sectors: &mut sectors };
-//! let outcome = proved::receive(&Settings::ARM, &mut transfer, &block, &mut lent);
+//! let outcome = proved::look(&Settings::ARM, transfer, &block, &lent); // says what would happen, and changes nothing
+//! if outcome.answer.is_accepted() {
+//!     proved::take(&Settings::ARM, &mut transfer, &block, &mut lent);
+//! }
 //! assert_eq!(outcome.answer, Answer::NotBlock); // this block is all zeros
 //! ```
 //!
@@ -100,19 +103,36 @@ pub fn ask(settings: &Settings, flash_len: usize, family: u32) -> Result<Place, 
     }
 }
 
-/// One arrival. The transfer goes in and comes back.
+/// A look at an arrival: what [`take`] would say of it now. It changes nothing.
 ///
 /// # Panics
 ///
 /// Where the library returns a number that is none of the answers (see the crate's page).
-pub fn receive(
+pub fn look(settings: &Settings, transfer: Transfer, arrival: &[u8], lent: &Lent) -> Outcome {
+    let result = bytes::look(
+        &settings.bytes(),
+        &transfer.bytes(),
+        arrival,
+        lent.flash,
+        lent.seen,
+        lent.sectors,
+    );
+    Outcome::from_result(result).unwrap_or_else(|| unknown(result))
+}
+
+/// An arrival taken. The transfer goes in and comes back. A take makes every check itself, whether or not the arrival was looked at.
+///
+/// # Panics
+///
+/// Where the library returns a number that is none of the answers (see the crate's page).
+pub fn take(
     settings: &Settings,
     transfer: &mut Transfer,
     arrival: &[u8],
     lent: &mut Lent,
 ) -> Outcome {
     let mut state = transfer.bytes();
-    let result = bytes::receive(
+    let result = bytes::take(
         &settings.bytes(),
         &mut state,
         arrival,
@@ -124,13 +144,13 @@ pub fn receive(
     Outcome::from_result(result).unwrap_or_else(|| unknown(result))
 }
 
-/// Whole arrivals one after the other, as many as there are results for; their number. [`Outcome::from_result`] says what a result is.
-/// What follows the last whole arrival is not read: a short last piece is for [`receive`], which answers it `BadBuffers`.
+/// Whole arrivals taken one after the other, as many as there are results for; their number. [`Outcome::from_result`] says what a
+/// result is. What follows the last whole arrival is not read: a short last piece is for [`take`], which answers it `BadBuffers`.
 ///
 /// # Panics
 ///
 /// Where the library hands back bytes that are no transfer (see the crate's page).
-pub fn receive_all(
+pub fn take_all(
     settings: &Settings,
     transfer: &mut Transfer,
     arrivals: &[u8],
@@ -138,7 +158,7 @@ pub fn receive_all(
     lent: &mut Lent,
 ) -> usize {
     let mut state = transfer.bytes();
-    let number = bytes::receive_all(
+    let number = bytes::take_all(
         &settings.bytes(),
         &mut state,
         arrivals,

@@ -64,12 +64,12 @@ pub enum Answer {
     Completed = 15,
 }
 
-/// What one arrival was answered.
+/// What a look or a take says of an arrival.
 #[derive(Clone, Copy, PartialEq, Eq, Debug)]
 pub struct Outcome {
     /// The answer.
     pub answer: Answer,
-    /// Whether its block discarded a running transfer of another file.
+    /// Whether its block discards a running transfer of another file.
     pub discarded: bool,
 }
 
@@ -159,7 +159,7 @@ impl Answer {
             .find(|answer| u32::from(answer.number()) == number)
     }
 
-    /// Whether the block was accepted: whether it is in flash and counted now.
+    /// Whether the block is accepted: taken, it is in flash and counted now; looked at, it would be.
     pub fn is_accepted(self) -> bool {
         matches!(self, Answer::Written | Answer::Completed)
     }

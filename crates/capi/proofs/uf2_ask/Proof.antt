@@ -1,4 +1,5 @@
 -- `capi::uf2_ask` meets its contract. Assumes nothing.
+use Rattle.sets.proofs.Numbered.{answer-is}
 use Rattle.capi.proofs.Places.{ask-low}
 use Rattle.capi.proofs.Laws.{ask-short, ask-told}
 use borrow.Author.Needs.{needs}
@@ -15,7 +16,7 @@ ask-requires : tie.Need-ask-requires
 ask-requires c κs = search needs
 
 tell-requires : tie.Need-tell-requires
-tell-requires c κs = (search needs, ask-low _ _ _ (c .before .ask .ensures))
+tell-requires c κs = (search needs, ask-low _ _ _ (answer-is (c .before .ask .ensures)))
 
 same-length : tie.Need-same-length
 same-length c = search needs
@@ -24,7 +25,7 @@ returns-2 : tie.Need-returns-2
 returns-2 c =
     let b = c .before .before in
     let a = b .before .before in
-    ask-told _ _ _ _ (a .before .before .if1 .left) (a .before .read-settings .ensures) (a .ask .ensures) (b .tell .ensures)
+    ask-told _ _ _ _ (a .before .before .if1 .left) (a .before .read-settings .ensures) (answer-is (a .ask .ensures)) (b .tell .ensures)
 
 pub uf2-ask-spec : {M : Type 1} → statement M
 uf2-ask-spec =

@@ -18,6 +18,9 @@ field-requires c κs = search needs
 field-requires-2 : tie.Need-field-requires-2
 field-requires-2 c κs = search needs
 
+new-requires : tie.Need-new-requires
+new-requires c κs = search needs
+
 shared-slice-read-state : tie.Need-shared-slice-read-state
 shared-slice-read-state c = search needs
 
@@ -30,8 +33,9 @@ state-requires c κs = search needs
 returns-2 : tie.Need-returns-2
 unfolding stateFrom
 returns-2 c =
-    let b = c .before .before .before in
-    simp (c .state .ensures, b .before .field .ensures, b .field2 .ensures, c .before .field3 .ensures, eq-eqb _ _ (b .before .before .if1 .left))
+    let n = c .before .before .before in
+    let b = n .before in
+    simp (c .state .ensures, n .new .ensures, b .before .field .ensures, b .field2 .ensures, c .before .field3 .ensures, eq-eqb _ _ (b .before .before .if1 .left))
 
 pub read-transfer-spec : {M : Type 1} → statement M
 read-transfer-spec =
@@ -41,6 +45,7 @@ read-transfer-spec =
     returns
     field-requires
     field-requires-2
+    new-requires
     shared-slice-read-state
     field-requires-3
     state-requires

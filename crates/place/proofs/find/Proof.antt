@@ -2,7 +2,8 @@
 use mathlib.Core.Path.{sym, ap, _∙_}
 use mathlib.Core.Bool.{Bool}
 use native.Mathlib.Omega.{arith}
-use Rattle.place.specs.Place.{wholeIf, placeOfChoice}
+use Rattle.sets.specs.Numbered.{numbered}
+use Rattle.place.specs.Place.{wholeIf, placeOfChoice, placeNumber}
 use Rattle.place.proofs.Laws.{place-absolute, place-rp2040, place-whole, place-table, used-most, chosen-is, entry-below}
 use borrow.Author.Needs.{needs}
 use Rattle.place.proofs.find.Statement.{statement}
@@ -12,10 +13,10 @@ whole-if-requires : tie.Need-whole-if-requires
 whole-if-requires c κs = search needs
 
 returns : tie.Need-returns
-returns c = (c .whole-if .ensures .0 ∙ sym (place-absolute _ _ _ (c .before .if1 .taken)), c .whole-if .ensures .1)
+returns c = (ap (numbered placeNumber) (c .whole-if .ensures .0 ∙ sym (place-absolute _ _ _ (c .before .if1 .taken))), c .whole-if .ensures .1)
 
 returns-2 : tie.Need-returns-2
-returns-2 c = (sym (place-rp2040 _ _ _ (c .if2 .taken)), tt)
+returns-2 c = (ap (numbered placeNumber) (sym (place-rp2040 _ _ _ (c .if2 .taken))), tt)
 
 gets-whole-requires : tie.Need-gets-whole-requires
 gets-whole-requires c κs = search needs
@@ -25,9 +26,9 @@ whole-if-requires-2 c κs = search needs
 
 returns-3 : tie.Need-returns-3
 returns-3 c = (
-  c .whole-if2 .ensures .0
+  ap (numbered placeNumber) (c .whole-if2 .ensures .0
       ∙ ap (λ (b : Bool). wholeIf b (c .before .before .before .before .before .args .flash-len)) (c .before .gets-whole .ensures)
-      ∙ sym (place-whole _ _ _ (c .before .before .before .before .if1 .left) (c .before .before .before .if2 .left) (c .before .before .if3 .taken)),
+      ∙ sym (place-whole _ _ _ (c .before .before .before .before .if1 .left) (c .before .before .before .if2 .left) (c .before .before .if3 .taken))),
   c .whole-if2 .ensures .1,
 )
 
@@ -71,7 +72,7 @@ returns-4 c =
     let x = d .before .before .before .before .before .before .before .args in
     let h = chosen-is (x .settings) (x .family) _ _ (d .choose .ensures) (d .before .used-count .ensures) (d .before .before .before .query .ensures) in
     let e = ap (placeOfChoice (x .settings .table)) (sym h ∙ c .enum-told .given .1) in
-    (sym (place-table _ _ _ (d .before .before .before .before .before .before .if1 .left) (d .before .before .before .before .before .if2 .left) (d .before .before .before .before .if3 .left) ∙ e), tt)
+    (ap (numbered placeNumber) (sym (place-table _ _ _ (d .before .before .before .before .before .before .if1 .left) (d .before .before .before .before .before .if2 .left) (d .before .before .before .before .if3 .left) ∙ e)), tt)
 
 returns-5 : tie.Need-returns-5
 returns-5 c =
@@ -79,7 +80,7 @@ returns-5 c =
     let x = d .before .before .before .before .before .before .before .args in
     let h = chosen-is (x .settings) (x .family) _ _ (d .choose .ensures) (d .before .used-count .ensures) (d .before .before .before .query .ensures) in
     let e = ap (placeOfChoice (x .settings .table)) (sym h ∙ c .before .before .before .k .given .1) in
-    (c .bytes-of .ensures .0 ∙ sym (place-table _ _ _ (d .before .before .before .before .before .before .if1 .left) (d .before .before .before .before .before .if2 .left) (d .before .before .before .before .if3 .left) ∙ e), c .bytes-of .ensures .1)
+    (ap (numbered placeNumber) (c .bytes-of .ensures .0 ∙ sym (place-table _ _ _ (d .before .before .before .before .before .before .if1 .left) (d .before .before .before .before .before .if2 .left) (d .before .before .before .before .if3 .left) ∙ e)), c .bytes-of .ensures .1)
 
 pub find-spec : {M : Type 1} → statement M
 find-spec =

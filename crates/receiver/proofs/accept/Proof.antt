@@ -30,7 +30,7 @@ returns c =
     let marked = c .before .before in
     let cleared = marked .before .before .before .before in
     let paged = cleared .before .before .before .before .before .before in
-    took _ _ _ _ _ _ (paged .store .ensures) (cleared .clear-if .ensures) (marked .mark .ensures)
+    took _ _ _ _ (paged .store .ensures) (cleared .clear-if .ensures) (marked .mark .ensures)
 
 pub accept-spec : {M : Type 1} → statement M
 accept-spec =

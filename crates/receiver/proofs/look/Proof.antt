@@ -1,68 +1,34 @@
 -- `receiver::look` meets its contract. Assumes nothing.
-use Rattle.receiver.proofs.Laws.{look-stays, look-takes}
+use mathlib.Core.Path.{ap}
+use Rattle.sets.specs.Numbered.{numbered}
+use Rattle.arrival.specs.Arrive.{forecastNumber}
+use Rattle.receiver.specs.Receiver.{decision}
+use Rattle.receiver.proofs.Laws.{look-stays, look-accepts}
 use borrow.Author.Needs.{needs}
 use Rattle.receiver.proofs.look.Statement.{statement}
 use Rattle.receiver.proofs.look.Tie as tie
 
-cast-number : tie.Need-cast-number
-cast-number c = search needs
+judge-requires : tie.Need-judge-requires
+judge-requires c κs = search needs
 
-marked-requires : tie.Need-marked-requires
-marked-requires c κs = search needs
+enum-known-verdict : tie.Need-enum-known-verdict
+enum-known-verdict c = search needs
 
-step-requires : tie.Need-step-requires
-step-requires c κs = search needs
-
-enum-known-step : tie.Need-enum-known-step
-enum-known-step c = search needs
-
-refuse-requires : tie.Need-refuse-requires
-refuse-requires c κs = search needs
-
-enum-known-step-2 : tie.Need-enum-known-step-2
-enum-known-step-2 c = search needs
-
-accept-requires : tie.Need-accept-requires
-accept-requires c κs = search needs
-
-same-length : tie.Need-same-length
-same-length c = search needs
+enum-known-verdict-2 : tie.Need-enum-known-verdict-2
+enum-known-verdict-2 c = search needs
 
 returns : tie.Need-returns
-returns c =
-    let d = c .before .before .before .before .before in
-    look-stays _ _ _ _ _ _ (d .before .marked .ensures) (d .step .ensures) (c .before .before .before .step2 .given .1) (c .refuse .ensures)
-
-same-length-2 : tie.Need-same-length-2
-same-length-2 c = search needs
-
-same-length-3 : tie.Need-same-length-3
-same-length-3 c = search needs
-
-same-length-4 : tie.Need-same-length-4
-same-length-4 c = search needs
+returns c = ap (numbered forecastNumber) (look-stays _ _ _ _ (c .before .before .before .judge .ensures) (ap decision (c .before .verdict .given .1)))
 
 returns-2 : tie.Need-returns-2
-returns-2 c =
-    let b = c .before .before .before .before .before .before in
-    let e = b .before .before .before .before .before in
-    let d = e .before .before in
-    look-takes _ _ _ _ _ _ (d .before .marked .ensures) (d .step .ensures) _ (e .step3 .given .1) (b .accept .ensures)
+returns-2 c = ap (numbered forecastNumber) (look-accepts _ _ _ _ (c .before .before .before .before .judge .ensures) (ap decision (c .before .before .verdict2 .given .1)))
 
 pub look-spec : {M : Type 1} → statement M
 look-spec =
     tie.close
     (tie.spec
-    cast-number
-    marked-requires
-    step-requires
-    enum-known-step
-    refuse-requires
-    enum-known-step-2
-    accept-requires
-    same-length
+    judge-requires
+    enum-known-verdict
+    enum-known-verdict-2
     returns
-    same-length-2
-    same-length-3
-    same-length-4
     returns-2)

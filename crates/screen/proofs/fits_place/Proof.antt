@@ -45,11 +45,14 @@ sub-if7 c = search needs
 returns-7 : tie.Need-returns-7
 returns-7 c = sym (placed-address _ _ _ (omega arith) (omega arith) (λ h. omega arith))
 
-add-t11 : tie.Need-add-t11
-add-t11 c = search needs
+add-at : tie.Need-add-at
+add-at c = search needs
+
+new-requires : tie.Need-new-requires
+new-requires c κs = search needs
 
 returns-8 : tie.Need-returns-8
-returns-8 c = sym (placed-passed _ _ _ (omega arith) (omega arith) (omega arith))
+returns-8 c = placed-passed _ _ _ (omega arith) (omega arith) (omega arith) (c .new .ensures)
 
 pub fits-place-spec : {M : Type 1} → statement M
 fits-place-spec =
@@ -68,5 +71,6 @@ fits-place-spec =
     add-past
     sub-if7
     returns-7
-    add-t11
+    add-at
+    new-requires
     returns-8)

@@ -1,8 +1,9 @@
 -- `screen::screen` meets its contract. Assumes nothing.
 use mathlib.Core.Path.{sym, ap, _∙_}
-use Rattle.screen.proofs.Laws.{screen-refused, screen-placed}
-use Rattle.screen.specs.Screen.{placed}
-use Rattle.screen.specs.declared.Screening.the-variants.{Refused}
+use Rattle.sets.specs.Numbered.{numbered}
+use Rattle.sets.proofs.Numbered.{answer-is}
+use Rattle.screen.specs.Screen.{placed, screeningNumber}
+use Rattle.screen.proofs.Laws.{refusal-header, screen-header, screen-placed}
 use borrow.Author.Needs.{needs}
 use Rattle.screen.proofs.screen.Statement.{statement}
 use Rattle.screen.proofs.screen.Tie as tie
@@ -14,10 +15,10 @@ enum-known-h : tie.Need-enum-known-h
 enum-known-h c = search needs
 
 header-answer-requires : tie.Need-header-answer-requires
-header-answer-requires c κs = search needs
+header-answer-requires c κs = refusal-header (c .before .read .result) (c .match .keys2)
 
 returns : tie.Need-returns
-returns c = ap Refused (c .header-answer .ensures) ∙ sym (screen-refused _ _ _ _ (c .before .before .read .ensures) (c .before .match .keys2))
+returns c = ap (numbered screeningNumber) (screen-header _ _ _ (answer-is (c .before .before .read .ensures)) (c .header-answer .ensures _))
 
 find-requires : tie.Need-find-requires
 find-requires c κs = search needs
@@ -33,10 +34,16 @@ fits-place-requires c κs = let h = c .before .before .before .find .ensures .1 
 
 returns-2 : tie.Need-returns-2
 unfolding placed
-returns-2 c = let d = c .before .before in sym (screen-placed _ _ _ _ _ (sym (d .before .before .before .before .read .ensures) ∙ d .before .before .h .given .1) (sym (d .find .ensures .0) ∙ c .enum-told .given .1))
+returns-2 c =
+    let d = c .before .before in
+    let b = sym (answer-is (d .before .before .before .before .read .ensures)) ∙ d .before .before .h .given .1 in
+    ap (numbered screeningNumber) (sym (screen-placed _ _ _ _ _ b (sym (answer-is (d .find .ensures .0)) ∙ c .enum-told .given .1)))
 
 returns-3 : tie.Need-returns-3
-returns-3 c = let d = c .before .before .before .before in c .fits-place .ensures ∙ sym (screen-placed _ _ _ _ _ (sym (d .before .before .before .before .read .ensures) ∙ d .before .before .h .given .1) (sym (d .find .ensures .0) ∙ c .before .before .p .given .1))
+returns-3 c =
+    let d = c .before .before .before .before in
+    let b = sym (answer-is (d .before .before .before .before .read .ensures)) ∙ d .before .before .h .given .1 in
+    ap (numbered screeningNumber) (c .fits-place .ensures ∙ sym (screen-placed _ _ _ _ _ b (sym (answer-is (d .find .ensures .0)) ∙ c .before .before .p .given .1)))
 
 pub screen-spec : {M : Type 1} → statement M
 screen-spec =

@@ -141,9 +141,11 @@ fn deliver(arrivals: &[&[u8]]) -> Result<(Vec<u8>, Vec<u8>), Box<dyn Error>> {
     let mut theirs = ours.clone();
     let mut answers = Vec::new();
     for arrival in arrivals {
-        let got = proved::receive(&settings, &mut p, arrival, &mut ours.lend());
-        let wanted = theirs.reference(&SETTINGS, r, arrival);
+        let looked = proved::look(&settings, p, arrival, &ours.lend());
+        let got = proved::take(&settings, &mut p, arrival, &mut ours.lend());
+        let wanted = theirs.plain_take(&SETTINGS, r, arrival);
         r = wanted.transfer;
+        check(looked == got, "the look says something else")?;
         check(got.answer.number() == wanted.answer, "the answers differ")?;
         answers.push(wanted.answer);
     }

@@ -1,7 +1,8 @@
 -- `transfer::Transfer::step` meets its contract. Assumes nothing.
-use Rattle.transfer.specs.Transfer.{stepOf}
+use Rattle.transfer.specs.Transfer.{stepOf, stepNumber}
 use mathlib.Core.Path.{ap}
 use Rattle.transfer.specs.declared.Step.the-variants.{Accepts}
+use Rattle.sets.specs.Numbered.{numbered}
 use borrow.Author.Needs.{needs}
 use Rattle.transfer.proofs.Transfer.step.Statement.{statement}
 use Rattle.transfer.proofs.Transfer.step.Tie as tie
@@ -23,11 +24,11 @@ enum-told-2 c = search needs
 
 returns : tie.Need-returns
 unfolding stepOf
-returns c = rw (c .before .enum-told .given .1) (ap Accepts (c .accept .ensures))
+returns c = rw (c .before .enum-told .given .1) (ap (numbered stepNumber) (ap Accepts (c .accept .ensures)))
 
 returns-2 : tie.Need-returns-2
 unfolding stepOf
-returns-2 c = rw (c .before .before .state .given .1) (c .go-on .ensures)
+returns-2 c = rw (c .before .before .state .given .1) (ap (numbered stepNumber) (c .go-on .ensures))
 
 returns-3 : tie.Need-returns-3
 unfolding stepOf

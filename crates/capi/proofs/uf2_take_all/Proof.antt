@@ -1,15 +1,16 @@
--- `capi::uf2_receive_all` meets its contract. The invariant: what is still to be received leads to the same end. Assumes nothing.
+-- `capi::uf2_take_all` meets its contract. The invariant: what is still to be received leads to the same end. Assumes nothing.
 use Prim.Native.Nat.{_≤_, _-_, _*_}
 use mathlib.Core.Path.{_≡_, refl, _∙_}
 use mathlib.Core.Bool.{false}
 use lib.ListN.{length, drop, length-set}
-use Rattle.receiver.specs.Receiver.{world}
+use Rattle.receiver.specs.Receiver.{lent, world}
+use Rattle.sets.proofs.Numbered.{answer-is}
 use Rattle.capi.specs.Calls.{arrivalsOf, batchFrom}
 use Rattle.capi.proofs.Laws.{number-most}
 use Rattle.capi.proofs.Batch.{all-start, all-more, all-ran}
 use borrow.Author.Needs.{needs}
-use Rattle.capi.proofs.uf2_receive_all.Statement.{statement}
-use Rattle.capi.proofs.uf2_receive_all.Tie as tie
+use Rattle.capi.proofs.uf2_take_all.Statement.{statement}
+use Rattle.capi.proofs.uf2_take_all.Tie as tie
 
 abbrev Inv-loop : tie.InvT-loop
 Inv-loop settings transfer arrivals results₀ flash₀ seen₀ sectors₀ s t₀ accepted₀ n i₀ results flash seen sectors t accepted i =
@@ -18,7 +19,7 @@ Inv-loop settings transfer arrivals results₀ flash₀ seen₀ sectors₀ s t�
     × (length flash ≡ length flash₀)
     × (length seen ≡ length seen₀)
     × (length sectors ≡ length sectors₀)
-    × (batchFrom n s transfer (world t flash seen sectors) accepted results i (arrivalsOf (n - i) (drop (i * 512) arrivals)) ≡ batchFrom n s transfer (world t₀ flash₀ seen₀ sectors₀) false results₀ 0 (arrivalsOf n arrivals))
+    × (batchFrom n s transfer (world t (lent flash seen sectors)) accepted results i (arrivalsOf (n - i) (drop (i * 512) arrivals)) ≡ batchFrom n s transfer (world t₀ (lent flash₀ seen₀ sectors₀)) false results₀ 0 (arrivalsOf n arrivals))
 
 abbrev μ-loop : tie.MeasureT-loop
 μ-loop settings transfer arrivals results₀ flash₀ seen₀ sectors₀ s t₀ accepted₀ n i₀ results flash seen sectors t accepted i =
@@ -42,23 +43,23 @@ mul-from c = search needs
 add-to : tie.Need-add-to Inv-loop μ-loop
 add-to c = search needs
 
-sub-receive : tie.Need-sub-receive Inv-loop μ-loop
-sub-receive c = search needs
+sub-take : tie.Need-sub-take Inv-loop μ-loop
+sub-take c = search needs
 
-part-receive-start : tie.Need-part-receive-start Inv-loop μ-loop
-part-receive-start c = search needs
+part-take-start : tie.Need-part-take-start Inv-loop μ-loop
+part-take-start c = search needs
 
-part-receive-end : tie.Need-part-receive-end Inv-loop μ-loop
-part-receive-end c = search needs
+part-take-end : tie.Need-part-take-end Inv-loop μ-loop
+part-take-end c = search needs
 
-receive-requires : tie.Need-receive-requires Inv-loop μ-loop
-receive-requires c κs = search needs
+take-requires : tie.Need-take-requires Inv-loop μ-loop
+take-requires c κs = search needs
 
 number-requires : tie.Need-number-requires Inv-loop μ-loop
 number-requires c κs = search needs
 
 report-requires : tie.Need-report-requires Inv-loop μ-loop
-report-requires c κs = rw (c .number .ensures) (number-most (c .before .before .before .before .before .before .before .before .receive .result .answer))
+report-requires c κs = rw (c .number .ensures) (number-most (c .before .before .before .before .before .before .before .before .take .result .answer))
 
 slice-write-results : tie.Need-slice-write-results Inv-loop μ-loop
 slice-write-results c = search needs
@@ -77,7 +78,7 @@ loop-again c =
     let got = c .before .before .before .before .before .before .before .before .before .before in
     let round = got .before .before .before .before .before in
     let at = round .before .loop in
-    (search needs, simp length-set (at .inv .1), search needs, search needs, search needs, all-more _ _ _ _ _ _ _ _ _ _ _ (round .loop-test .taken) (got .receive .ensures) (c .before .before .number .ensures) (c .before .report .ensures) (c .is-acceptance .ensures) ∙ at .inv .5)
+    (search needs, simp length-set (at .inv .1), search needs, search needs, search needs, all-more _ _ _ _ _ _ _ _ _ (round .loop-test .taken) (answer-is (got .take .ensures)) (c .before .before .number .ensures) (c .before .report .ensures) (c .is-acceptance .ensures) ∙ at .inv .5)
 
 keep-requires : tie.Need-keep-requires Inv-loop μ-loop
 keep-requires c κs = search needs
@@ -103,10 +104,10 @@ returns c =
     let out = kept .before .before in
     let made = out .before .before in
     let read = made .before in
-    all-ran _ _ _ _ _ _ _ (out .before .loop .t) (out .before .loop .accepted) (made .at-most .ensures .0) (read .before .before .read-settings .ensures) (read .read-transfer .ensures) (out .loop-test .left) (out .before .loop .inv .5) (kept .keep .ensures)
+    all-ran _ _ _ _ _ (out .before .loop .t) (out .before .loop .accepted) (made .at-most .ensures .0) (read .before .before .read-settings .ensures) (read .read-transfer .ensures) (out .loop-test .left) (out .before .loop .inv .5) (kept .keep .ensures)
 
-pub uf2-receive-all-spec : {M : Type 1} → statement M
-uf2-receive-all-spec =
+pub uf2-take-all-spec : {M : Type 1} → statement M
+uf2-take-all-spec =
     tie.close
     (tie.spec
     Inv-loop
@@ -117,10 +118,10 @@ uf2-receive-all-spec =
     loop-holds
     mul-from
     add-to
-    sub-receive
-    part-receive-start
-    part-receive-end
-    receive-requires
+    sub-take
+    part-take-start
+    part-take-end
+    take-requires
     number-requires
     report-requires
     slice-write-results

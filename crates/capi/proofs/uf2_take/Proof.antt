@@ -1,8 +1,9 @@
--- `capi::uf2_receive` meets its contract. Assumes nothing.
-use Rattle.capi.proofs.Laws.{number-most, receive-ran}
+-- `capi::uf2_take` meets its contract. Assumes nothing.
+use Rattle.sets.proofs.Numbered.{answer-is}
+use Rattle.capi.proofs.Laws.{number-most, take-ran}
 use borrow.Author.Needs.{needs}
-use Rattle.capi.proofs.uf2_receive.Statement.{statement}
-use Rattle.capi.proofs.uf2_receive.Tie as tie
+use Rattle.capi.proofs.uf2_take.Statement.{statement}
+use Rattle.capi.proofs.uf2_take.Tie as tie
 
 read-settings-requires : tie.Need-read-settings-requires
 read-settings-requires c κs = search needs
@@ -10,8 +11,8 @@ read-settings-requires c κs = search needs
 read-transfer-requires : tie.Need-read-transfer-requires
 read-transfer-requires c κs = search needs
 
-receive-requires : tie.Need-receive-requires
-receive-requires c κs = search needs
+take-requires : tie.Need-take-requires
+take-requires c κs = search needs
 
 number-requires : tie.Need-number-requires
 number-requires c κs = search needs
@@ -23,7 +24,7 @@ keep-requires : tie.Need-keep-requires
 keep-requires c κs = search needs
 
 report-requires : tie.Need-report-requires
-report-requires c κs = rw (c .before .before .before .before .before .number .ensures) (number-most (c .before .before .before .before .before .before .before .before .before .before .before .before .before .receive .result .answer))
+report-requires c κs = rw (c .before .before .before .before .before .number .ensures) (number-most (c .before .before .before .before .before .before .before .before .before .before .before .before .before .take .result .answer))
 
 cast-result : tie.Need-cast-result
 cast-result c = search needs
@@ -46,15 +47,15 @@ returns c =
     let number = kept .before .before .before in
     let got = number .before .before .before .before .before .before .before .before in
     let read = got .before .before .before .before in
-    receive-ran _ _ _ _ _ _ (read .before .before .read-settings .ensures) (read .read-transfer .ensures) (got .receive .ensures) (number .number .ensures) (kept .before .is-acceptance .ensures) (kept .keep .ensures) (c .report .ensures)
+    take-ran _ _ _ _ (read .before .before .read-settings .ensures) (read .read-transfer .ensures) (answer-is (got .take .ensures)) (number .number .ensures) (kept .before .is-acceptance .ensures) (kept .keep .ensures) (c .report .ensures)
 
-pub uf2-receive-spec : {M : Type 1} → statement M
-uf2-receive-spec =
+pub uf2-take-spec : {M : Type 1} → statement M
+uf2-take-spec =
     tie.close
     (tie.spec
     read-settings-requires
     read-transfer-requires
-    receive-requires
+    take-requires
     number-requires
     is-acceptance-requires
     keep-requires

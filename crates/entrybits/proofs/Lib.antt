@@ -1,0 +1,6 @@
+-- The laws of `specs/`.
+pub mod Groups
+pub mod ReadBack
+pub mod Entries
+pub mod OneEntry
+pub mod Parts

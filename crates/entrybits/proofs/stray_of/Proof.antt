@@ -1,0 +1,14 @@
+-- `entrybits::stray_of` meets its contract. Assumes nothing.
+use mathlib.Core.Path.{refl}
+use Rattle.packing.specs.Packing.{unpacked, total}
+use Rattle.entrybits.specs.EntryBits.{strayFrom}
+use Rattle.entrybits.specs.Chunks.{chunkFields}
+use Rattle.entrybits.proofs.stray_of.Statement.{statement}
+use Rattle.entrybits.proofs.stray_of.Tie as tie
+
+returns : tie.Need-returns
+unfolding strayFrom chunkFields unpacked total
+returns c = refl
+
+pub stray-of-spec : {M : Type 1} → statement M
+stray-of-spec = tie.close (tie.spec returns)

@@ -1,0 +1,2 @@
+pub mod EntryBits
+pub mod Chunks

@@ -1,0 +1,9 @@
+-- The proofs of the claims.
+pub mod OneRecord
+pub mod Runs
+pub mod Parse
+pub mod Lists
+pub mod Claims
+pub mod Others
+pub mod Exact
+pub mod Instance

@@ -1,0 +1,344 @@
+/* The header's numbers against the library: every offset of settings, transfers, places and readers, and every answer, by its name.
+ * Prints what does not hold, and fails.
+ *
+ *     gcc -std=c99 -Iinclude tests/c/layout.c target/staticlib/libcapi.a -o layout
+ */
+#include "uf2_receiver.h"
+
+#include <stdio.h>
+#include <string.h>
+
+static int failures;
+
+#define CHECK(holds) ((holds) ? (void)0 : (void)(failures++, printf("line %d: %s\n", __LINE__, #holds)))
+
+/* ---- settings and places */
+
+#define SECTORS 16u
+#define FLASH_SIZE (SECTORS * UF2_SECTOR_SIZE)
+
+static uint8_t settings[UF2_SETTINGS_SIZE], place[UF2_PLACE_SIZE];
+
+static uint8_t *entry(int k) {
+    return settings + UF2_SETTINGS_ENTRY_AT(k);
+}
+
+/* Arm alone, and so many entries of one sector each, entry k in sector k. */
+static void table(uint8_t count) {
+    int k;
+    memset(settings, 0, sizeof settings);
+    settings[UF2_SETTINGS_ARM_AT] = 1;
+    settings[UF2_SETTINGS_COUNT_AT] = count;
+    for (k = 0; k < count; k++) {
+        uf2_put32(entry(k) + UF2_ENTRY_FIRST_AT, (uint32_t)k);
+        uf2_put32(entry(k) + UF2_ENTRY_SECTORS_AT, 1);
+    }
+}
+
+static uint32_t ask(uint32_t family) {
+    return uf2_ask(settings, sizeof settings, FLASH_SIZE, family, place, sizeof place);
+}
+
+/* The entry whose place the family gets; -1: none. */
+static int chosen(uint32_t family) {
+    if (ask(family) != UF2_ANSWER_FOUND)
+        return -1;
+    return (int)(uf2_get32(place + UF2_PLACE_START_AT) / UF2_SECTOR_SIZE);
+}
+
+static void switches(void) {
+    table(0);
+    CHECK(ask(UF2_FAMILY_ARM_S) == UF2_ANSWER_FOUND && uf2_get32(place + UF2_PLACE_LENGTH_AT) == FLASH_SIZE);
+    CHECK(uf2_get32(place + UF2_PLACE_START_AT) == 0);
+    CHECK(ask(UF2_FAMILY_DATA) == UF2_ANSWER_FOUND);
+    CHECK(ask(UF2_FAMILY_RISCV) == UF2_ANSWER_NO_PLACE);
+    CHECK(ask(UF2_FAMILY_RP2040) == UF2_ANSWER_NO_PLACE);
+    CHECK(ask(UF2_FAMILY_ARM_NS) == UF2_ANSWER_NO_PLACE);
+    CHECK(ask(UF2_FAMILY_ABSOLUTE) == UF2_ANSWER_NO_PLACE);
+    settings[UF2_SETTINGS_ABSOLUTE_AT] = 1;
+    CHECK(ask(UF2_FAMILY_ABSOLUTE) == UF2_ANSWER_FOUND && ask(UF2_FAMILY_RP2040) == UF2_ANSWER_NO_PLACE);
+    settings[UF2_SETTINGS_RISCV_AT] = 1;
+    CHECK(ask(UF2_FAMILY_RISCV) == UF2_ANSWER_FOUND);
+    settings[UF2_SETTINGS_RISCV_AT] = 0;
+    settings[UF2_SETTINGS_CURRENT_AT] = 1;
+    CHECK(ask(UF2_FAMILY_ARM_S) == UF2_ANSWER_BAD_SETTINGS);
+    table(UF2_MAX_ENTRIES);
+    CHECK(ask(UF2_FAMILY_ARM_S) == UF2_ANSWER_NO_PLACE);
+    settings[UF2_SETTINGS_COUNT_AT]++;
+    CHECK(ask(UF2_FAMILY_ARM_S) == UF2_ANSWER_BAD_SETTINGS);
+    table(0);
+    CHECK(uf2_ask(settings, sizeof settings, FLASH_SIZE + 1, UF2_FAMILY_DATA, place, sizeof place) == UF2_ANSWER_BAD_BUFFERS);
+    CHECK(uf2_ask(settings, sizeof settings, UF2_FLASH_MAX_SIZE, UF2_FAMILY_DATA, place, sizeof place) == UF2_ANSWER_FOUND);
+}
+
+static void entries(void) {
+    static const struct {
+        int at;
+        uint32_t family;
+    } accepts[] = {{UF2_ENTRY_DATA_AT, UF2_FAMILY_DATA},
+                   {UF2_ENTRY_ARM_S_AT, UF2_FAMILY_ARM_S},
+                   {UF2_ENTRY_RISCV_AT, UF2_FAMILY_RISCV},
+                   {UF2_ENTRY_ARM_NS_AT, UF2_FAMILY_ARM_NS}};
+    int i, k;
+
+    for (i = 0; i < 4; i++) {
+        table(3);
+        CHECK(chosen(accepts[i].family) == -1);
+        entry(1)[accepts[i].at] = 1;
+        for (k = 0; k < 4; k++)
+            CHECK(chosen(accepts[k].family) == (k == i ? 1 : -1));
+    }
+    for (i = 0; i < 4; i++) {
+        table(3);
+        uf2_put32(entry(2) + UF2_ENTRY_USERS_AT + 4 * i, 77);
+        entry(2)[UF2_ENTRY_USER_COUNT_AT] = (uint8_t)i;
+        CHECK(chosen(77) == -1);
+        entry(2)[UF2_ENTRY_USER_COUNT_AT] = (uint8_t)(i + 1);
+        CHECK(chosen(77) == 2);
+    }
+    entry(2)[UF2_ENTRY_USER_COUNT_AT] = 5;
+    CHECK(ask(77) == UF2_ANSWER_BAD_SETTINGS);
+
+    table(2);
+    entry(1)[UF2_ENTRY_DATA_AT] = 1;
+    uf2_put32(entry(1) + UF2_ENTRY_FIRST_AT, 3);
+    uf2_put32(entry(1) + UF2_ENTRY_SECTORS_AT, 13);
+    CHECK(chosen(UF2_FAMILY_DATA) == 3 && uf2_get32(place + UF2_PLACE_LENGTH_AT) == 13 * UF2_SECTOR_SIZE);
+    uf2_put32(entry(1) + UF2_ENTRY_SECTORS_AT, 14);
+    CHECK(ask(UF2_FAMILY_DATA) == UF2_ANSWER_BAD_SETTINGS);
+}
+
+/* Entries 0 and 1 accept both images. */
+static void passes(void) {
+    int k;
+    table(2);
+    settings[UF2_SETTINGS_RISCV_AT] = 1;
+    for (k = 0; k < 2; k++)
+        entry(k)[UF2_ENTRY_ARM_S_AT] = entry(k)[UF2_ENTRY_RISCV_AT] = 1;
+    CHECK(chosen(UF2_FAMILY_ARM_S) == 0 && chosen(UF2_FAMILY_RISCV) == 0);
+    entry(0)[UF2_ENTRY_NOT_BOOTABLE_ARM_AT] = 1;
+    CHECK(chosen(UF2_FAMILY_ARM_S) == 1 && chosen(UF2_FAMILY_RISCV) == 0);
+    entry(0)[UF2_ENTRY_NOT_BOOTABLE_ARM_AT] = 0;
+    entry(0)[UF2_ENTRY_NOT_BOOTABLE_RISCV_AT] = 1;
+    /* the other architecture's image is looked for among the bootable only where auto switch is on */
+    CHECK(chosen(UF2_FAMILY_ARM_S) == 0 && chosen(UF2_FAMILY_RISCV) == 0);
+    settings[UF2_SETTINGS_AUTO_SWITCH_AT] = 1;
+    CHECK(chosen(UF2_FAMILY_ARM_S) == 0 && chosen(UF2_FAMILY_RISCV) == 1);
+    entry(1)[UF2_ENTRY_LINK_AT] = UF2_LINK_OWNED_BY;
+    CHECK(chosen(UF2_FAMILY_RISCV) == 0);
+    entry(0)[UF2_ENTRY_RISCV_AT] = 0;
+    CHECK(chosen(UF2_FAMILY_RISCV) == 1);
+    entry(1)[UF2_ENTRY_LINK_AT] = UF2_LINK_B_OF;
+    CHECK(ask(UF2_FAMILY_RISCV) == UF2_ANSWER_NO_PLACE);
+    entry(1)[UF2_ENTRY_LINK_INDEX_AT] = 1;
+    CHECK(ask(UF2_FAMILY_RISCV) == UF2_ANSWER_BAD_SETTINGS);
+    entry(1)[UF2_ENTRY_LINK_AT] = UF2_LINK_NONE;
+    CHECK(chosen(UF2_FAMILY_RISCV) == 1);
+}
+
+/* ---- arrivals */
+
+static uint8_t transfer[UF2_TRANSFER_SIZE], arrival[UF2_ARRIVAL_SIZE];
+static uint8_t flash[FLASH_SIZE], seen[UF2_SEEN_MAP_SIZE], sectors[UF2_SECTOR_MAP_SIZE];
+
+enum { FLAGS_AT = 8, ADDRESS_AT = 12, SIZE_AT = 16, NUMBER_AT = 20, TOTAL_AT = 24, FAMILY_AT = 28 };
+
+static void block(uint32_t number, uint32_t total) {
+    memset(arrival, 0, sizeof arrival);
+    uf2_put32(arrival, 0x0A324655u);
+    uf2_put32(arrival + 4, 0x9E5D5157u);
+    uf2_put32(arrival + FLAGS_AT, 0x2000u);
+    uf2_put32(arrival + ADDRESS_AT, 0x10000000u + 256u * number);
+    uf2_put32(arrival + SIZE_AT, 256u);
+    uf2_put32(arrival + NUMBER_AT, number);
+    uf2_put32(arrival + TOTAL_AT, total);
+    uf2_put32(arrival + FAMILY_AT, UF2_FAMILY_ARM_S);
+    uf2_put32(arrival + 508, 0x0AB16F30u);
+}
+
+/* The result of a take; a look said the same. */
+static uint32_t take_of(size_t arrival_len, size_t settings_len, size_t transfer_len) {
+    uint32_t look = uf2_look(settings, settings_len, transfer, transfer_len, arrival, arrival_len, flash, sizeof flash, seen, sizeof seen,
+                             sectors, sizeof sectors);
+    uint32_t take = uf2_take(settings, settings_len, transfer, transfer_len, arrival, arrival_len, flash, sizeof flash, seen, sizeof seen,
+                             sectors, sizeof sectors);
+    CHECK(look == take);
+    return take;
+}
+
+static uint32_t take(void) {
+    return take_of(UF2_ARRIVAL_SIZE, UF2_SETTINGS_SIZE, UF2_TRANSFER_SIZE);
+}
+
+/* A block of a file that is right but for one field. */
+static uint32_t take_with(int at, uint32_t x) {
+    block(0, 3);
+    uf2_put32(arrival + at, x);
+    return take();
+}
+
+static int stands(int state, uint32_t total, uint32_t count) {
+    uint32_t family = state == UF2_STATE_IDLE ? 0 : UF2_FAMILY_ARM_S;
+    return transfer[UF2_TRANSFER_STATE_AT] == state && uf2_get32(transfer + UF2_TRANSFER_FAMILY_AT) == family &&
+           uf2_get32(transfer + UF2_TRANSFER_TOTAL_AT) == total && uf2_get32(transfer + UF2_TRANSFER_COUNT_AT) == count;
+}
+
+static void arrivals(void) {
+    uint32_t result;
+
+    table(0);
+    memset(transfer, 9, sizeof transfer);
+    uf2_new(transfer, sizeof transfer);
+    CHECK(stands(UF2_STATE_IDLE, 0, 0));
+    block(0, 3);
+    CHECK(take_of(UF2_ARRIVAL_SIZE - 1, UF2_SETTINGS_SIZE, UF2_TRANSFER_SIZE) == UF2_ANSWER_BAD_BUFFERS);
+    CHECK(take_of(UF2_ARRIVAL_SIZE, UF2_SETTINGS_SIZE - 1, UF2_TRANSFER_SIZE) == UF2_ANSWER_BAD_SETTINGS);
+    CHECK(take_of(UF2_ARRIVAL_SIZE, UF2_SETTINGS_SIZE, UF2_TRANSFER_SIZE - 1) == UF2_ANSWER_BAD_STATE);
+    transfer[UF2_TRANSFER_STATE_AT] = UF2_STATE_RUNNING;
+    CHECK(take() == UF2_ANSWER_BAD_STATE);
+    transfer[UF2_TRANSFER_STATE_AT] = UF2_STATE_IDLE;
+    CHECK(take_with(0, 0) == UF2_ANSWER_NOT_BLOCK);
+    CHECK(take_with(FLAGS_AT, 0x3000) == UF2_ANSWER_CONTAINER);
+    CHECK(take_with(FLAGS_AT, 0x2001) == UF2_ANSWER_COMMENT);
+    CHECK(take_with(FLAGS_AT, 0) == UF2_ANSWER_NO_FAMILY);
+    CHECK(take_with(FAMILY_AT, UF2_FAMILY_RISCV) == UF2_ANSWER_NO_PLACE);
+    CHECK(take_with(SIZE_AT, 255) == UF2_ANSWER_BAD_PAYLOAD);
+    CHECK(take_with(TOTAL_AT, FLASH_SIZE / 256 + 1) == UF2_ANSWER_BAD_NUMBERS);
+    CHECK(take_with(ADDRESS_AT, 0x10000000u + FLASH_SIZE) == UF2_ANSWER_BAD_ADDRESS);
+    CHECK(stands(UF2_STATE_IDLE, 0, 0));
+
+    block(1, 3);
+    CHECK(take() == UF2_ANSWER_WRITTEN && stands(UF2_STATE_RUNNING, 3, 1));
+    CHECK(take() == UF2_ANSWER_AGAIN && stands(UF2_STATE_RUNNING, 3, 1));
+    block(1, 2);
+    result = take();
+    CHECK(UF2_RESULT_ANSWER(result) == UF2_ANSWER_WRITTEN && UF2_RESULT_IS_DISCARDED(result) && stands(UF2_STATE_RUNNING, 2, 1));
+    CHECK(UF2_ANSWER_IS_ACCEPTED(UF2_RESULT_ANSWER(result)));
+    block(0, 2);
+    result = take();
+    CHECK(result == UF2_ANSWER_COMPLETED && !UF2_RESULT_IS_DISCARDED(result) && stands(UF2_STATE_DONE, 2, 2));
+    CHECK(take() == UF2_ANSWER_FINISHED && !UF2_ANSWER_IS_ACCEPTED(UF2_ANSWER_FINISHED));
+}
+
+/* ---- lines */
+
+static uint8_t reader[UHEX_READER_SIZE], image[UHEX_IMAGE_MAX_SIZE + 1];
+
+static uint32_t line_of(const char *text, size_t reader_len, size_t image_len) {
+    return uhex_line(reader, reader_len, (const uint8_t *)text, strlen(text), image, image_len);
+}
+
+static uint32_t line(const char *text) {
+    return line_of(text, sizeof reader, UHEX_IMAGE_MAX_SIZE);
+}
+
+static uint32_t offset(void) {
+    return uf2_get32(reader + UHEX_READER_OFFSET_AT);
+}
+
+/* A reader in the section of its own board, at an offset, without what it takes to come there. */
+static void inside(uint16_t own, uint32_t at) {
+    uhex_new(own, reader, sizeof reader);
+    uf2_put32(reader + UHEX_READER_OFFSET_AT, at);
+    reader[UHEX_READER_STATE_AT] = UHEX_STATE_INSIDE;
+    uhex_put16(reader + UHEX_READER_BOARD_AT, own);
+}
+
+/* A line refused in a section, the reader that remembers it, and the same again. */
+static int fails(const char *text, uint32_t answer) {
+    inside(UHEX_BOARD_V1, 512);
+    return line(text) == answer && reader[UHEX_READER_STATE_AT] == UHEX_STATE_FAILED && reader[UHEX_READER_FAILURE_AT] == answer &&
+           line(":00000001FF\n") == answer && UHEX_ANSWER_IS_FAILURE(answer);
+}
+
+static void refusals(void) {
+    char longest[UHEX_LINE_SIZE + 1];
+
+    CHECK(fails("00000001FF\n", UHEX_ANSWER_NO_COLON));
+    CHECK(fails(":00\n", UHEX_ANSWER_BAD_SHAPE));
+    CHECK(fails(":0000000xFF\n", UHEX_ANSWER_BAD_DIGIT));
+    CHECK(fails(":2100000000\n", UHEX_ANSWER_TOO_LONG));
+    CHECK(fails(":01000000FF\n", UHEX_ANSWER_BAD_LENGTH));
+    CHECK(fails(":00000001FE\n", UHEX_ANSWER_BAD_SUM));
+    CHECK(fails(":00000001FF\n", UHEX_ANSWER_OUT_OF_PLACE));
+    CHECK(fails(":02FFFF00000000\n", UHEX_ANSWER_CROSSES));
+
+    /* the longest line that is not refused for its length fits a line buffer, and a full one without an LF is refused for it */
+    memset(longest, '0', sizeof longest);
+    longest[0] = ':';
+    memcpy(longest + UHEX_LINE_SIZE - 2, "\r\n", 3);
+    CHECK(fails(longest, UHEX_ANSWER_BAD_LENGTH));
+    memset(longest + UHEX_LINE_SIZE - 2, '0', 2);
+    CHECK(fails(longest, UHEX_ANSWER_BAD_SHAPE));
+
+    inside(UHEX_BOARD_V1, UHEX_FILE_MAX_SIZE - 11);
+    CHECK(line(":00000001FF\n") == UHEX_ANSWER_FILE_TOO_LONG && UHEX_ANSWER_IS_FAILURE(UHEX_ANSWER_FILE_TOO_LONG));
+    inside(UHEX_BOARD_V1, UHEX_FILE_MAX_SIZE - 12);
+    CHECK(line(":00000001FF\n") == UHEX_ANSWER_OUT_OF_PLACE);
+    inside(UHEX_BOARD_V1, UHEX_FILE_MAX_SIZE + 1);
+    CHECK(line(":00000001FF\n") == UHEX_ANSWER_BAD_READER);
+    inside(UHEX_BOARD_V1 + 1, 0);
+    CHECK(line(":00000001FF\n") == UHEX_ANSWER_BAD_READER);
+    inside(UHEX_BOARD_V1, 0);
+    CHECK(line_of(":00000001FF\n", UHEX_READER_SIZE - 1, UHEX_IMAGE_MAX_SIZE) == UHEX_ANSWER_BAD_READER);
+    CHECK(line_of(":00000001FF\n", UHEX_READER_SIZE, 0) == UHEX_ANSWER_BAD_IMAGE);
+    CHECK(line_of(":00000001FF\n", UHEX_READER_SIZE, sizeof image) == UHEX_ANSWER_BAD_IMAGE);
+}
+
+static void a_file(uint16_t own) {
+    int v1 = own == UHEX_BOARD_V1;
+
+    memset(image, 0xEE, sizeof image);
+    uhex_new(own, reader, sizeof reader);
+    CHECK(uhex_get16(reader + UHEX_READER_OWN_AT) == own && reader[UHEX_READER_STATE_AT] == UHEX_STATE_BETWEEN && offset() == 0);
+    CHECK(line(":020000041234B4\n") == UHEX_ANSWER_PASSED && reader[UHEX_READER_STATE_AT] == UHEX_STATE_OPENED && offset() == 16);
+    CHECK(uhex_get16(reader + UHEX_READER_UPPER_AT) == 0x1234);
+    CHECK(!reader[UHEX_READER_SECTION_V1_AT]);
+    CHECK(line(":0400000A9900C0DEBB\r\n") == UHEX_ANSWER_PASSED && reader[UHEX_READER_STATE_AT] == UHEX_STATE_INSIDE && offset() == 37);
+    CHECK(uhex_get16(reader + UHEX_READER_BOARD_AT) == UHEX_BOARD_V1);
+    CHECK(reader[UHEX_READER_SECTION_V1_AT] && !reader[UHEX_READER_SECTION_V2_AT] && !reader[UHEX_READER_DATA_V1_AT]);
+    CHECK(line(":0100000055AA\n") == (v1 ? UHEX_ANSWER_OUTSIDE : UHEX_ANSWER_PASSED) && image[0] == 0xEE);
+    CHECK(reader[UHEX_READER_DATA_V1_AT] && !reader[UHEX_READER_DATA_V2_AT]);
+    CHECK(line(":020000040000FA\n") == UHEX_ANSWER_PASSED);
+    CHECK(line(":0100000055AA\n") == (v1 ? UHEX_ANSWER_STORED : UHEX_ANSWER_PASSED) && image[0] == (v1 ? 0x55 : 0xEE));
+    CHECK(line(":0000000CF4\n") == UHEX_ANSWER_PASSED && reader[UHEX_READER_STATE_AT] == UHEX_STATE_PADDED);
+    CHECK(line(":0000000BF5\n") == UHEX_ANSWER_PASSED && reader[UHEX_READER_STATE_AT] == UHEX_STATE_BETWEEN);
+
+    /* as if the section had been padded */
+    uf2_put32(reader + UHEX_READER_OFFSET_AT, 512);
+    CHECK(line(":020000040000FA\n") == UHEX_ANSWER_PASSED);
+    CHECK(line(":0400000A9903C0DEB8\n") == UHEX_ANSWER_PASSED && reader[UHEX_READER_SECTION_V2_AT]);
+    CHECK(line(":0100000D668C\n") == (v1 ? UHEX_ANSWER_PASSED : UHEX_ANSWER_STORED) && image[0] == (v1 ? 0x55 : 0x66));
+    CHECK(reader[UHEX_READER_DATA_V2_AT]);
+    CHECK(line(":0000000BF5\n") == UHEX_ANSWER_PASSED);
+    CHECK(line(":00000001FF\n") == UHEX_ANSWER_ENDED && reader[UHEX_READER_STATE_AT] == UHEX_STATE_ENDED);
+    CHECK(!UHEX_ANSWER_IS_FAILURE(UHEX_ANSWER_ENDED) && !UHEX_ANSWER_IS_FAILURE(UHEX_ANSWER_OUTSIDE));
+    CHECK(UHEX_IMAGE_IS_WHOLE(UHEX_ANSWER_ENDED, 0) && !UHEX_IMAGE_IS_WHOLE(UHEX_ANSWER_ENDED, 1));
+    CHECK(line(":00000001FF\n") == UHEX_ANSWER_AFTER_END && UHEX_ANSWER_IS_FAILURE(UHEX_ANSWER_AFTER_END));
+}
+
+/* What a reader between two sections refuses. */
+static void between(void) {
+    uhex_new(UHEX_BOARD_V1, reader, sizeof reader);
+    uf2_put32(reader + UHEX_READER_OFFSET_AT, 511);
+    CHECK(line(":020000040000FA\n") == UHEX_ANSWER_UNALIGNED);
+    uhex_new(UHEX_BOARD_V1, reader, sizeof reader);
+    reader[UHEX_READER_SECTION_V2_AT] = 1;
+    CHECK(line(":020000040000FA\n") == UHEX_ANSWER_PASSED);
+    CHECK(line(":0400000A9903C0DEB8\n") == UHEX_ANSWER_REPEATED);
+    uhex_new(UHEX_BOARD_V1, reader, sizeof reader);
+    reader[UHEX_READER_DATA_V1_AT] = 1;
+    CHECK(line(":00000001FF\n") == UHEX_ANSWER_MISSING_BOARD);
+}
+
+int main(void) {
+    switches();
+    entries();
+    passes();
+    arrivals();
+    refusals();
+    between();
+    a_file(UHEX_BOARD_V1);
+    a_file(UHEX_BOARD_V2);
+    return failures == 0 ? 0 : 1;
+}
