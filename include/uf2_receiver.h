@@ -95,7 +95,8 @@ enum uf2_state { UF2_STATE_IDLE = 0, UF2_STATE_RUNNING = 1, UF2_STATE_DONE = 2 }
 #define UF2_PLACE_START_AT 0 /* 32 bits each, in bytes of the flash */
 #define UF2_PLACE_LENGTH_AT 4
 
-/* ---- Answers to an arrival. They are asked in this order, and the first that fits is given. 1 to 13 change nothing that is lent. */
+/* ---- Answers to an arrival. They are asked in this order, and the first that fits is given. 1 to 13 change nothing that is lent. No
+ * answer has the number 6. */
 enum uf2_answer {
     UF2_ANSWER_FOUND = 0,        /* of uf2_ask alone */
     UF2_ANSWER_BAD_BUFFERS = 1,  /* arrival, flash or a map has a wrong length */
@@ -103,23 +104,23 @@ enum uf2_answer {
     UF2_ANSWER_BAD_STATE = 3,    /* the transfer's numbers fit no transfer */
     UF2_ANSWER_NOT_BLOCK = 4,    /* a magic number differs */
     UF2_ANSWER_CONTAINER = 5,    /* flag 0x1000 */
-    UF2_ANSWER_COMMENT = 6,      /* flag 0x1: not for the main flash */
     UF2_ANSWER_NO_FAMILY = 7,    /* flag 0x2000 is clear */
     UF2_ANSWER_NO_PLACE = 8,     /* the settings have no place for the family */
-    UF2_ANSWER_BAD_PAYLOAD = 9,  /* the payload's size is not 256 */
+    UF2_ANSWER_BAD_PAYLOAD = 9,  /* the payload's size is not 256; not asked of a comment */
     UF2_ANSWER_BAD_NUMBERS = 10, /* total 0 or more than the place holds, or a number that is not below the total */
-    UF2_ANSWER_BAD_ADDRESS = 11, /* outside the window or the place, or no multiple of 256 */
+    UF2_ANSWER_BAD_ADDRESS = 11, /* outside the window or the place, or no multiple of 256; not asked of a comment */
     UF2_ANSWER_FINISHED = 12,    /* the transfer is done */
-    UF2_ANSWER_AGAIN = 13,       /* this block has come before */
+    UF2_ANSWER_AGAIN = 13,       /* a block of this number has come before */
     UF2_ANSWER_WRITTEN = 14,     /* stored, and others are missing */
-    UF2_ANSWER_COMPLETED = 15    /* stored, and the file is whole */
+    UF2_ANSWER_COMPLETED = 15,   /* stored or, a comment, noted, and the file is whole */
+    UF2_ANSWER_NOTED = 16        /* a comment (flag 0x1, not for the main flash): counted and not stored, and others are missing */
 };
 
 /* A result is an answer, with UF2_RESULT_DISCARDED added where the block discarded a running transfer of another file. */
 #define UF2_RESULT_DISCARDED 128u
 #define UF2_RESULT_ANSWER(result) ((result) & 127u)
 #define UF2_RESULT_IS_DISCARDED(result) (((result) & UF2_RESULT_DISCARDED) != 0)
-/* Whether a block with this answer is accepted: taken, it is in flash and counted now; looked at, it would be. */
+/* Whether a block with this answer is accepted: taken, it is counted now, and in flash unless it is a comment; looked at, it would be. */
 #define UF2_ANSWER_IS_ACCEPTED(answer) ((answer) >= UF2_ANSWER_WRITTEN)
 
 /* Writes a fresh transfer, where there are UF2_TRANSFER_SIZE bytes; else changes nothing. */

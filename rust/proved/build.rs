@@ -1,4 +1,4 @@
-//! Links target/staticlib/libcapi.a, which `rt staticlib capi` writes.
+//! Links the static libraries that `rt staticlib capi` and `rt staticlib tagsapi` write to target/staticlib.
 
 use std::path::Path;
 
@@ -6,9 +6,11 @@ fn main() {
     let here = std::env::var("CARGO_MANIFEST_DIR").expect("cargo sets it");
     let folder = Path::new(&here).join("../../target/staticlib");
     println!("cargo:rustc-link-search=native={}", folder.display());
-    println!("cargo:rustc-link-lib=static=capi");
-    println!(
-        "cargo:rerun-if-changed={}",
-        folder.join("libcapi.a").display()
-    );
+    for name in ["capi", "tagsapi"] {
+        println!("cargo:rustc-link-lib=static={name}");
+        println!(
+            "cargo:rerun-if-changed={}",
+            folder.join(format!("lib{name}.a")).display()
+        );
+    }
 }

@@ -199,7 +199,6 @@ static void arrivals(void) {
     transfer[UF2_TRANSFER_STATE_AT] = UF2_STATE_IDLE;
     CHECK(take_with(0, 0) == UF2_ANSWER_NOT_BLOCK);
     CHECK(take_with(FLAGS_AT, 0x3000) == UF2_ANSWER_CONTAINER);
-    CHECK(take_with(FLAGS_AT, 0x2001) == UF2_ANSWER_COMMENT);
     CHECK(take_with(FLAGS_AT, 0) == UF2_ANSWER_NO_FAMILY);
     CHECK(take_with(FAMILY_AT, UF2_FAMILY_RISCV) == UF2_ANSWER_NO_PLACE);
     CHECK(take_with(SIZE_AT, 255) == UF2_ANSWER_BAD_PAYLOAD);
@@ -214,6 +213,13 @@ static void arrivals(void) {
     result = take();
     CHECK(UF2_RESULT_ANSWER(result) == UF2_ANSWER_WRITTEN && UF2_RESULT_IS_DISCARDED(result) && stands(UF2_STATE_RUNNING, 2, 1));
     CHECK(UF2_ANSWER_IS_ACCEPTED(UF2_RESULT_ANSWER(result)));
+    block(0, 3);
+    uf2_put32(arrival + FLAGS_AT, 0x2001);
+    result = take();
+    CHECK(UF2_RESULT_ANSWER(result) == UF2_ANSWER_NOTED && UF2_RESULT_IS_DISCARDED(result) && stands(UF2_STATE_RUNNING, 3, 1));
+    CHECK(UF2_ANSWER_IS_ACCEPTED(UF2_ANSWER_NOTED));
+    block(1, 2);
+    CHECK(take() == (UF2_ANSWER_WRITTEN | UF2_RESULT_DISCARDED));
     block(0, 2);
     result = take();
     CHECK(result == UF2_ANSWER_COMPLETED && !UF2_RESULT_IS_DISCARDED(result) && stands(UF2_STATE_DONE, 2, 2));

@@ -3,10 +3,11 @@
  * than the header says. Linked so that memcpy and memset are found at the start: else the first call of each also runs the dynamic
  * linker, on the same stack.
  *
- *     gcc -std=c99 -Wl,-z,now -Iinclude tests/c/stack.c target/staticlib/libcapi.a -o stack
+ *     gcc -std=c99 -Wl,-z,now -Iinclude tests/c/stack.c target/staticlib/libcapi.a target/staticlib/libtagsapi.a -o stack
  */
 #define _XOPEN_SOURCE 700
 #include "uf2_receiver.h"
+#include "uf2_tags.h"
 
 #include <stdio.h>
 #include <string.h>
@@ -51,6 +52,20 @@ static void call_take_all(void) {
 
 static void call_hex_new(void) {
     uhex_new(UHEX_BOARD_V1, reader, sizeof reader);
+}
+
+static uint8_t tag[UF2_TAG_SIZE];
+
+static void call_tag_first(void) {
+    uf2_tag_first(arrivals, UF2_ARRIVAL_SIZE);
+}
+
+static void call_tag(void) {
+    uf2_tag(arrivals, UF2_ARRIVAL_SIZE, 288, tag, sizeof tag);
+}
+
+static void call_tag_find(void) {
+    uf2_tag_find(arrivals, UF2_ARRIVAL_SIZE, UF2_TAG_TYPE_VERSION, tag, sizeof tag);
 }
 
 static const char *line;
@@ -156,5 +171,15 @@ int main(void) {
     if (image[15] != 15)
         return 1;
     tell("uhex_line", hex);
+    /* two tags, the second of the type that is looked for */
+    block(arrivals, 0);
+    uf2_put32(arrivals + 8, 0xa000u);
+    uf2_put32(arrivals + 288, 0x01020308u);
+    uf2_put32(arrivals + 296, UF2_TAG_TYPE_VERSION << 8 | 9u);
+    tell("uf2_tag_first", used(call_tag_first) - empty);
+    tell("uf2_tag", used(call_tag) - empty);
+    tell("uf2_tag_find", used(call_tag_find) - empty);
+    if (uf2_get32(tag + UF2_TAG_START_AT) != 300)
+        return 1;
     return worst <= UF2_STACK_SIZE ? 0 : 1;
 }

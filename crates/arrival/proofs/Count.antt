@@ -20,15 +20,18 @@ use Rattle.transfer.specs.declared.State.the-variants.{Done}
 use Rattle.transfer.specs.declared.Step.the-variants.{Accepts}
 use Rattle.transfer.specs.declared.Answer.{Answer}
 use Rattle.transfer.specs.declared.Answer.the-variants.{Finished, Again}
-use Rattle.screen.specs.declared.Page.{Page}
-use Rattle.arrival.specs.Arrive.{Held, World, Outcome, accepts, stepped, clearedIf, wipedIf, acceptOf, done}
-use Rattle.arrival.specs.Demand.{File, headIn}
+use Rattle.transfer.specs.declared.Deed.{Deed}
+use Rattle.screen.specs.declared.Body.{Body}
+use Rattle.screen.specs.declared.Body.the-variants.{Page, Note}
+use Rattle.screen.specs.declared.Placed.{Placed}
+use Rattle.arrival.specs.Arrive.{Held, World, Outcome, accepts, deedOf, stepped, clearedIf, wipedIf, acceptOf, done}
+use Rattle.arrival.specs.Demand.{File, isData, headIn}
 use Rattle.arrival.proofs.Heads.{same-head}
 use Rattle.arrival.proofs.Pages.{arrive, apply, took-held}
 
--- ---- the blocks of a file, and their pages
+-- ---- the blocks of a file, and what they hold
 
--- a file, and the storage address of each of its blocks
+-- a file, and the storage address of each of its data blocks
 pub record Blocks : Type 0 where
   pub file : File
   pub at : ℕ → ℕ
@@ -42,16 +45,22 @@ headBy F = headIn (F .file)
 abbrev pub bytesOf : Blocks → ℕ → List ℕ
 bytesOf F k = F .file .block k
 
-abbrev pub pageOf : Blocks → ℕ → Page
-pageOf F k = record { head = headBy F; number = k; at = F .at k }
+abbrev pub bodyOf : Blocks → ℕ → Body
+bodyOf F k = cond (isData (F .file) k) (Page (F .at k)) Note
+
+abbrev pub placedOf : Blocks → ℕ → Placed
+placedOf F k = record { head = headBy F; number = k; body = bodyOf F k }
+
+abbrev pub deedBy : Blocks → ℕ → Deed
+deedBy F k = deedOf (bodyOf F k)
 
 -- what block k comes to
 abbrev pub coming : Blocks → World → ℕ → Outcome
-coming F v k = arrive v (pageOf F k) (bytesOf F k)
+coming F v k = arrive v (placedOf F k) (bytesOf F k)
 
 -- what block k does to flash and sector map
 abbrev pub applied : Blocks → ℕ → Held → Held
-applied F k x = apply (pageOf F k) (bytesOf F k) x
+applied F k x = apply (placedOf F k) (bytesOf F k) x
 
 abbrev pub wipe : Held → Held
 wipe x = wipedIf true x
@@ -70,7 +79,7 @@ pub record Keeps (F : Blocks) (start : Held) (Inv : Set → Held → Type 0) : T
 -- each block of the file, coming first, opens a transfer (and discards one, or not)
 pub record Opens (F : Blocks) (w : World) (d : Bool) : Type 0 where
   pub sized : length (w .seen) ≡ 16384
-  pub opens : (marked : Bool) → stepOf (w .transfer) (headBy F) marked ≡ Accepts (accepted true d (headBy F) 1)
+  pub opens : (marked : Bool) (e : Deed) → stepOf (w .transfer) (headBy F) marked e ≡ Accepts (accepted e true d (headBy F) 1)
 
 -- the world v, once the blocks of S have come to w
 pub data After (F : Blocks) (w : World) (Inv : Set → Held → Type 0) (S : Set) (v : World) : Type 0 where
@@ -80,7 +89,7 @@ pub data After (F : Blocks) (w : World) (Inv : Set → Held → Type 0) (S : Set
 -- the answer to block k once the blocks of S have come
 unfoldable pub verdict : Blocks → Set → ℕ → Answer
 verdict F S k =
-    cond (ltb (size (count F) S) (count F)) (cond (S k) Again (raised (headBy F) (size (count F) S + 1))) Finished
+    cond (ltb (size (count F) S) (count F)) (cond (S k) Again (raised (deedBy F k) (headBy F) (size (count F) S + 1))) Finished
 
 -- what block k does to such a world
 pub record Stepped (F : Blocks) (w : World) (Inv : Set → Held → Type 0) (d : Bool) (S : Set) (k : ℕ) (o : Outcome) : Type 0 where
@@ -98,20 +107,20 @@ module _ (F : Blocks) (w : World) (Inv : Set → Held → Type 0) (K : Keeps F (
   -- a new block is accepted, over the seen map of S and flash and sector map x
   took : (v : World) (S : Set) (x : Held) (clears discards : Bool) → S k ≡ false → clearedIf clears (v .seen) ≡ mapOf 16384 S
       → wipedIf clears (v .held) ≡ x
-      → done v (payloadOf (bytesOf F k)) (accepts (pageOf F k) (accepted clears discards (headBy F) (size (count F) S + 1)))
-      ≡ record { world = reached F (add k S) (applied F k x); answer = raised (headBy F) (size (count F) S + 1); discarded = discards }
+      → done v (payloadOf (bytesOf F k)) (accepts (placedOf F k) (deedBy F k) (accepted (deedBy F k) clears discards (headBy F) (size (count F) S + 1)))
+      ≡ record { world = reached F (add k S) (applied F k x); answer = raised (deedBy F k) (headBy F) (size (count F) S + 1); discarded = discards }
   unfolding done acceptOf accepted
   took v S x clears discards new p q =
       outcome-is _ _ (ap (counted (headBy F)) (omega (arith, size-add (count F) S k h new)))
       (ap (λ (m : List ℕ). withMark m k) p ∙ mark-map 16384 S k (omega (arith, K .few)))
-      (took-held v (bytesOf F k) (pageOf F k) (accepted clears discards (headBy F) (size (count F) S + 1)) ∙ ap (applied F k) q)
+      (took-held v (bytesOf F k) (placedOf F k) (accepted (deedBy F k) clears discards (headBy F) (size (count F) S + 1)) ∙ ap (applied F k) q)
       refl refl
 
   first : coming F w k ≡ record { world = reached F (add k none) (applied F k (wipe (w .held))); answer = verdict F none k; discarded = d }
   unfolding arrive
   first =
-      ap (λ st. done w (payloadOf (bytesOf F k)) (stepped (pageOf F k) st)) (o .opens (markedIn (w .seen) k))
-      ∙ ap (λ (c : ℕ). done w (payloadOf (bytesOf F k)) (accepts (pageOf F k) (accepted true d (headBy F) c))) one-more
+      ap (λ st. done w (payloadOf (bytesOf F k)) (stepped (placedOf F k) (deedBy F k) st)) (o .opens (markedIn (w .seen) k) (deedBy F k))
+      ∙ ap (λ (c : ℕ). done w (payloadOf (bytesOf F k)) (accepts (placedOf F k) (deedBy F k) (accepted (deedBy F k) true d (headBy F) c))) one-more
       ∙ took w none (wipe (w .held)) true d refl cleared refl
       ∙ ap (λ (x : Answer). record { world = reached F (add k none) (applied F k (wipe (w .held))); answer = x; discarded = d }) told
     where
@@ -124,7 +133,7 @@ module _ (F : Blocks) (w : World) (Inv : Set → Held → Type 0) (K : Keeps F (
       cleared : clearedIf true (w .seen) ≡ mapOf 16384 none
       cleared = unfold clearedIf in rw (o .sized) (map-none 16384)
 
-      told : raised (headBy F) (size (count F) none + 1) ≡ verdict F none k
+      told : raised (deedBy F k) (headBy F) (size (count F) none + 1) ≡ verdict F none k
       told = unfold verdict in rw (lt-ltb (size (count F) none) (count F) (omega (arith, z)))
 
   -- a repeat changes nothing

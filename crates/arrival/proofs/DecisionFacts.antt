@@ -1,32 +1,35 @@
--- What has been decided of an arrival: an answer up to 13, or a page that passed rows 1 to 11 and a step that accepts it. Assumes nothing.
+-- What has been decided of an arrival: an answer up to 13, or a block that passed rows 1 to 11 and a step that accepts it. Assumes nothing.
 use Prim.Native.Nat.{ℕ, _+_, _≤_, _<_}
-use mathlib.Core.Path.{_≡_, refl, sym, subst}
+use mathlib.Core.Path.{_≡_, refl, sym, ap, subst}
+use mathlib.Core.Logic.{_⊎_, inl, inr}
 use mathlib.Core.Bool.{Bool, true, false, cond, _&&_}
 use mathlib.Core.List.{List}
 use native.Mathlib.Omega.{arith}
 use lib.Dec.{eqb, ltb}
 use lib.ListN.{length}
 use borrow.Author.Tests.{eqb-true, le-leb}
-use Rattle.sets.proofs.Tests.{split, and-left, and-right}
+use Rattle.sets.proofs.Tests.{split, clash, and-left, and-right}
 use Rattle.bitmap.specs.Bitmap.{markedIn}
 use Rattle.flash.specs.Flash.{flashLength}
 use Rattle.settings.specs.declared.Settings.{Settings}
 use Rattle.settings.specs.Settings.{goodSettings}
-use Rattle.transfer.specs.Transfer.{numberOf, countOf, goodState, sameHead, counted, raised, accepted, stepOf}
+use Rattle.transfer.specs.Transfer.{numberOf, countOf, goodState, sameHead, counted, deedAnswer, raised, accepted, stepOf}
 use Rattle.transfer.specs.declared.Head.{Head}
 use Rattle.transfer.specs.declared.Run.{Run}
 use Rattle.transfer.specs.declared.State.{State}
 use Rattle.transfer.specs.declared.State.the-variants.{Idle, Running, Done}
+use Rattle.transfer.specs.declared.Deed.{Deed}
+use Rattle.transfer.specs.declared.Deed.the-variants.{Stores, Notes}
 use Rattle.transfer.specs.declared.Accepted.{Accepted}
 use Rattle.transfer.specs.declared.Step.{Step}
 use Rattle.transfer.specs.declared.Step.the-variants.{Stays, Accepts}
 use Rattle.transfer.specs.declared.Answer.{Answer}
 use Rattle.transfer.specs.declared.Answer.the-variants.{BadBuffers, BadSettings, BadState}
 use Rattle.screen.specs.Screen.{screenOf}
-use Rattle.screen.specs.declared.Page.{Page}
+use Rattle.screen.specs.declared.Placed.{Placed}
 use Rattle.screen.specs.declared.Screening.{Screening}
 use Rattle.screen.specs.declared.Screening.the-variants.{Refused, Passed}
-use Rattle.arrival.specs.Arrive.{World, Decision, stays, accepts, rightLengths, stepped, afterScreening, decide}
+use Rattle.arrival.specs.Arrive.{World, Decision, stays, accepts, rightLengths, deedOf, stepped, afterScreening, decide, decided}
 use Rattle.arrival.specs.Tally.{clears}
 use Rattle.arrival.proofs.Heads.{head-same}
 use Rattle.arrival.proofs.Screening.{Passing, Good, screen-good}
@@ -35,9 +38,6 @@ use Rattle.arrival.proofs.Screening.{Passing, Good, screen-good}
 
 abbrev pub flashOf : World → ℕ
 flashOf w = length (w .held .flash)
-
-abbrev pub decisionOf : Settings → World → List ℕ → Decision
-decisionOf s w a = decide s (flashOf w) (length (w .held .sectors)) (w .transfer) (w .seen) a
 
 -- settings, buffers and transfer that pass rows 1 to 3
 pub record Board (s : Settings) (w : World) : Type 0 where
@@ -48,7 +48,7 @@ pub record Board (s : Settings) (w : World) : Type 0 where
   pub state : goodState (w .transfer) ≡ true
 
 pub board-decides : (s : Settings) (w : World) (a : List ℕ) → Board s w → length a ≡ 512
-    → decisionOf s w a ≡ afterScreening (w .transfer) (w .seen) (screenOf s (flashOf w) a)
+    → decided s w a ≡ afterScreening (w .transfer) (w .seen) (screenOf s (flashOf w) a)
 unfolding decide rightLengths
 board-decides s w a B l = rw (l, B .flash, B .seen, B .sectors, B .good, B .state)
 
@@ -64,7 +64,7 @@ right-true a f m k e =
     )
 
 pub data Rows (s : Settings) (w : World) (a : List ℕ) : Type 0 where
-  stopped : (x : Answer) → numberOf x ≤ 3 → decisionOf s w a ≡ stays x → Rows s w a
+  stopped : (x : Answer) → numberOf x ≤ 3 → decided s w a ≡ stays x → Rows s w a
   through : Board s w → length a ≡ 512 → Rows s w a
 
 pub rows : (s : Settings) (w : World) (a : List ℕ) → Rows s w a
@@ -81,66 +81,95 @@ rows s w a =
     (λ g. stopped BadSettings (omega arith) (unfold decide in rw (y, g))))
     (λ y. stopped BadBuffers (omega arith) (unfold decide in rw y))
 
--- ---- rows 12 to 15
+-- ---- rows 12 to 16
 
-pub raised-number : (g : Head) (c : ℕ) → 14 ≤ numberOf (raised g c)
+pub raised-number : (d : Deed) (g : Head) (c : ℕ) → 14 ≤ numberOf (raised d g c)
 unfolding raised
-raised-number g c = split (ltb c (g .total)) (λ y. rw y (omega arith)) (λ z. rw z (omega arith))
+raised-number d g c = split (ltb c (g .total)) (λ y. rw y (least d)) (λ z. rw z (omega arith))
+  where
+    least : (d : Deed) → 14 ≤ numberOf (deedAnswer d)
+    least Stores = omega arith
+    least Notes = omega arith
 
--- a step that accepts a block of head g to a transfer t, where its number is marked or not
-pub record AcceptFacts (t : State) (g : Head) (marked : Bool) (k : Accepted) : Type 0 where
+-- a step that accepts a block of head g to a transfer t, where its number is marked or not, and which does d
+pub record AcceptFacts (t : State) (g : Head) (marked : Bool) (d : Deed) (k : Accepted) : Type 0 where
   pub discards : Bool
-  pub is : k ≡ accepted (clears t g) discards g (cond (clears t g) 1 (countOf t + 1))
+  pub is : k ≡ accepted d (clears t g) discards g (cond (clears t g) 1 (countOf t + 1))
   pub going : clears t g ≡ false → (r : Run) × (t ≡ Running r) × (r .head ≡ g) × (marked ≡ false)
+  pub opening : clears t g ≡ true → (t ≡ Idle) ⊎ (discards ≡ true)
 
-abbrev StepFacts : State → Head → Bool → Step → Type 0
-StepFacts t g m (Stays x) = numberOf (x .answer) ≤ 13
-StepFacts t g m (Accepts k) = AcceptFacts t g m k
+abbrev StepFacts : State → Head → Bool → Deed → Step → Type 0
+StepFacts t g m d (Stays x) = numberOf (x .answer) ≤ 13
+StepFacts t g m d (Accepts k) = AcceptFacts t g m d k
 
-step-told : (t : State) (g : Head) (m : Bool) → StepFacts t g m (stepOf t g m)
+step-facts : (t : State) (g : Head) (m : Bool) (d : Deed) → StepFacts t g m d (stepOf t g m d)
 unfolding stepOf
-step-told Idle g m = record { discards = false; is = refl; going = λ e. let z : _≡_ {A = ℕ} 0 1 = cc in absurd (omega arith) }
-step-told (Running r) g m =
+step-facts Idle g m d = record { discards = false; is = refl; going = λ e. clash true refl e; opening = λ e. inl refl }
+step-facts (Running r) g m d =
     split (sameHead (r .head) g)
     (λ q.
     split m
     (λ y. rw (q, y) (omega arith))
-    (λ z. rw (q, z) (record { discards = false; is = rw q; going = λ e. (r, refl, head-same (r .head) g q, refl) })))
-    (λ q.
-    rw q
+    (λ z.
+    rw (q, z)
     (record {
-      discards = true;
+      discards = false;
       is = rw q;
-      going = λ e. let f : true ≡ false = rw q at e in let z : _≡_ {A = ℕ} 0 1 = cc in absurd (omega arith);
-    }))
-step-told (Done h) g m = omega arith
+      going = λ e. (r, refl, head-same (r .head) g q, refl);
+      opening = λ e. clash false (rw q at e) refl;
+    })))
+    (λ q. rw q (record { discards = true; is = rw q; going = λ e. clash true refl (rw q at e); opening = λ e. inr refl }))
+step-facts (Done h) g m d = omega arith
 
-pub took-number : {t : State} {g : Head} {m : Bool} {k : Accepted} → AcceptFacts t g m k → 14 ≤ numberOf (k .answer)
+pub took-number : {t : State} {g : Head} {m : Bool} {d : Deed} {k : Accepted} → AcceptFacts t g m d k → 14 ≤ numberOf (k .answer)
 unfolding accepted
-took-number {t} {g} {m} {k} q = rw (q .is) (raised-number g (cond (clears t g) 1 (countOf t + 1)))
+took-number {t} {g} {m} {d} {k} q = rw (q .is) (raised-number d g (cond (clears t g) 1 (countOf t + 1)))
 
--- ---- rows 1 to 15
+-- what such a step hands back
+module _ {t : State} {g : Head} {m : Bool} {d : Deed} {k : Accepted} (q : AcceptFacts t g m d k) where
+  abbrev pub raisedCount : ℕ
+  raisedCount = cond (clears t g) 1 (countOf t + 1)
+
+  pub took-state : k .transfer .state ≡ counted g raisedCount
+  unfolding accepted
+  took-state = ap (λ (x : Accepted). x .transfer .state) (q .is)
+
+  pub took-answer : k .answer ≡ raised d g raisedCount
+  unfolding accepted
+  took-answer = ap (λ (x : Accepted). x .answer) (q .is)
+
+  pub took-clears : k .clears ≡ clears t g
+  unfolding accepted
+  took-clears = ap (λ (x : Accepted). x .clears) (q .is)
+
+  pub took-discarded : k .discarded ≡ q .discards
+  unfolding accepted
+  took-discarded = ap (λ (x : Accepted). x .discarded) (q .is)
+
+-- ---- every row
 
 pub data DecisionFacts (s : Settings) (w : World) (a : List ℕ) : Decision → Type 0 where
   kept : (x : Answer) → numberOf x ≤ 13 → DecisionFacts s w a (stays x)
-  took : (g : Page) (k : Accepted) → Board s w → length a ≡ 512 → Passing s (flashOf w) a g
-      → AcceptFacts (w .transfer) (g .head) (markedIn (w .seen) (g .number)) k → DecisionFacts s w a (accepts g k)
+  took : (g : Placed) (k : Accepted) → Board s w → length a ≡ 512 → Passing s (flashOf w) a g
+      → AcceptFacts (w .transfer) (g .head) (markedIn (w .seen) (g .number)) (deedOf (g .body)) k
+      → DecisionFacts s w a (accepts g (deedOf (g .body)) k)
 
-pub decided : (s : Settings) (w : World) (a : List ℕ) → DecisionFacts s w a (decisionOf s w a)
-decided s w a = go (rows s w a)
+pub decision-facts : (s : Settings) (w : World) (a : List ℕ) → DecisionFacts s w a (decided s w a)
+decision-facts s w a = go (rows s w a)
   where
-    steps : Board s w → length a ≡ 512 → (g : Page) → Passing s (flashOf w) a g → (st : Step)
-        → StepFacts (w .transfer) (g .head) (markedIn (w .seen) (g .number)) st → DecisionFacts s w a (stepped g st)
+    steps : Board s w → length a ≡ 512 → (g : Placed) → Passing s (flashOf w) a g → (st : Step)
+        → StepFacts (w .transfer) (g .head) (markedIn (w .seen) (g .number)) (deedOf (g .body)) st
+        → DecisionFacts s w a (stepped g (deedOf (g .body)) st)
     steps B l g p (Stays x) h = kept (x .answer) h
     steps B l g p (Accepts k) h = took g k B l p h
 
     look : Board s w → length a ≡ 512 → (x : Screening) → Good s (flashOf w) a x → DecisionFacts s w a (afterScreening (w .transfer) (w .seen) x)
     look B l (Refused x) h = unfold afterScreening in kept x (omega (arith, h))
     look B l (Passed g) h =
-        unfold afterScreening in steps B l g h (stepOf (w .transfer) (g .head) (markedIn (w .seen) (g .number)))
-        (step-told (w .transfer) (g .head) (markedIn (w .seen) (g .number)))
+        unfold afterScreening in steps B l g h (stepOf (w .transfer) (g .head) (markedIn (w .seen) (g .number)) (deedOf (g .body)))
+        (step-facts (w .transfer) (g .head) (markedIn (w .seen) (g .number)) (deedOf (g .body)))
 
-    go : Rows s w a → DecisionFacts s w a (decisionOf s w a)
+    go : Rows s w a → DecisionFacts s w a (decided s w a)
     go (stopped x h e) = subst (DecisionFacts s w a) (sym e) (kept x (omega arith))
     go (through B l) = subst (DecisionFacts s w a) (sym (board-decides s w a B l)) (look B l (screenOf s (flashOf w) a) (screen-good s (flashOf w) a))
 

@@ -1,7 +1,7 @@
 -- The claims of specs/Demand.antt hold. Assumes nothing.
-use Prim.Native.Nat.{ℕ, _+_, _-_, _/_, _≤_, _<_}
+use Prim.Native.Nat.{ℕ, _+_, _/_, _≤_, _<_}
 use mathlib.Core.Path.{_≡_, refl, sym, ap, subst, _∙_, fun-ext}
-use mathlib.Core.Bool.{Bool, true, false, not, _&&_, _||_, or-comm, and-false, not-and-self}
+use mathlib.Core.Bool.{Bool, true, false, not, _&&_, _||_, or-comm, not-and-self}
 use mathlib.Core.List.{List, [], _∷_, _++_}
 use native.Mathlib.Omega.{arith}
 use lib.Dec.{eqb, ltb}
@@ -11,15 +11,16 @@ use Rattle.sets.specs.Sets.{Set, none, add, size}
 use Rattle.sets.proofs.Tests.{split, clash, is-false}
 use Rattle.sets.proofs.Laws.{add-idle, size-le, size-add, size-full, any-hit}
 use Rattle.bitmap.specs.Bitmap.{mapOf}
-use Rattle.flash.specs.Flash.{spans}
 use Rattle.settings.specs.declared.Settings.{Settings}
-use Rattle.transfer.specs.Transfer.{raised}
+use Rattle.block.specs.Block.{hasFlag}
+use Rattle.transfer.specs.Transfer.{deedAnswer, raised}
+use Rattle.transfer.specs.declared.Deed.{Deed}
+use Rattle.transfer.specs.declared.Deed.the-variants.{Stores, Notes}
 use Rattle.transfer.specs.declared.State.the-variants.{Idle}
-use Rattle.transfer.specs.declared.Answer.{Answer}
 use Rattle.arrival.specs.Arrive.{Held, World, Outcome, receiveOf}
 use Rattle.arrival.specs.Lists.{receiveAll, answersOf}
-use Rattle.arrival.specs.Demand.{File, answerNumber, ValidFile, Foreign, Mixed, Sent, nothing, own, other, among, seenOf, isWhole, replyTo, withArrival, repliesTo, Ends, List-ends, List-answers, isCompleted, Completed-exactly, Same-set-same-end, Either-first}
-use Rattle.arrival.proofs.Count.{Blocks, count, Keeps, After, untouched, begun, verdict, Stepped, nothing-seen, some-seen, still-running, whole-done, seen-map, keeps-of, after, after-is}
+use Rattle.arrival.specs.Demand.{File, answerNumber, isData, ValidFile, Foreign, Sent, nothing, own, other, seenOf, isWhole, unfinished, replyTo, withArrival, repliesTo, Ends, List-ends, List-answers, isCompleted, Completed-exactly, Same-set-same-end, Either-first}
+use Rattle.arrival.proofs.Count.{Blocks, count, deedBy, Keeps, After, untouched, begun, verdict, Stepped, nothing-seen, some-seen, still-running, whole-done, seen-map, keeps-of, after, after-is}
 use Rattle.arrival.proofs.Cells.{cell, cell-none, cell-owned, cell-free, getD-buffer}
 use Rattle.arrival.proofs.Effect.{payloadIn, spans-is, Valid, layout, sectorsOf, owned-touches, apart-of, effect, length-effect, grows}
 use Rattle.arrival.proofs.Lists.{Met, met-next, met-after}
@@ -59,15 +60,15 @@ module _ (F : Blocks) (w : World) (ok : Valid F (w .held)) (S : Set) (v : World)
       let r = some-seen F w (Same F (w .held)) S v a s in
       ap (λ (u : World). u .held .sectors) (r .2) ∙ ap (λ (x : Held). x .sectors) (r .1) ∙ unfold effect in refl
 
-  payload-stands : (k : ℕ) → k < count F → S k ≡ true → (i : ℕ) → i < 256 → getD (v .held .flash) (F .at k + i) 0 ≡ getD (payloadIn F k) i 0
-  payload-stands k h s i l =
-      there (F .at k + i) (omega (arith, ok .fits k h .within))
+  payload-stands : (k : ℕ) → k < count F → S k ≡ true → isData (F .file) k ≡ true → (i : ℕ) → i < 256 → getD (v .held .flash) (F .at k + i) 0 ≡ getD (payloadIn F k) i 0
+  payload-stands k h s y i l =
+      there (F .at k + i) (omega (arith, ok .fits k h y .within))
       ∙ cell-owned (count F) (layout F) (λ j. getD (w .held .flash) j 0) S (F .at k + i) (apart-of F (w .held) ok) k h s
-      (spans-is (F .at k) (F .at k + i) (omega arith) (omega arith))
+      (rw y (spans-is (F .at k) (F .at k + i) (omega arith) (omega arith)))
       ∙ ap (λ (x : ℕ). getD (payloadIn F k) x 0) (omega arith)
 
   rest-erased : (j : ℕ) → j < length (w .held .flash) → sectorsOf F S (j / 4096) ≡ true
-      → ((k : ℕ) → k < count F → S k ≡ true → spans (F .at k) j ≡ false) → getD (v .held .flash) j 0 ≡ 255
+      → ((k : ℕ) → k < count F → S k ≡ true → layout F .owns k j ≡ false) → getD (v .held .flash) j 0 ≡ 255
   rest-erased j h t free = there j h ∙ cell-free (count F) (layout F) (λ j. getD (w .held .flash) j 0) S j free ∙ rw t
 
   others-kept : (j : ℕ) → sectorsOf F S (j / 4096) ≡ false → getD (v .held .flash) j 0 ≡ getD (w .held .flash) j 0
@@ -79,14 +80,18 @@ module _ (F : Blocks) (w : World) (ok : Valid F (w .held)) (S : Set) (v : World)
       List·getD-eq-default (v .held .flash) 0 (rw same-length past) ∙ sym (List·getD-eq-default (w .held .flash) 0 past))
     where
       -- a block that held the byte would have touched its sector
-      free : (k : ℕ) → k < count F → S k ≡ true → spans (F .at k) j ≡ false
+      free : (k : ℕ) → k < count F → S k ≡ true → layout F .owns k j ≡ false
       free k h s =
           is-false _
           (λ o.
           clash (sectorsOf F S (j / 4096))
-          (any-hit (λ i. S i && eqb (j / 4096) (F .at i / 4096)) (count F) k h (rw s (owned-touches F (w .held) ok k j h o))) t)
+          (any-hit (λ i. S i && layout F .touches i (j / 4096)) (count F) k h (rw s (owned-touches F (w .held) ok k j h o))) t)
 
 -- ---- Completed exactly where the set becomes whole
+
+deed-other : (d : Deed) → isCompleted (deedAnswer d) ≡ false
+deed-other Stores = refl
+deed-other Notes = refl
 
 completes : (F : Blocks) (S : Set) (k : ℕ) → k < count F → isCompleted (verdict F S k) ≡ not (eqb (size (count F) S) (count F)) && eqb (size (count F) (add k S)) (count F)
 unfolding verdict raised
@@ -100,7 +105,7 @@ completes F S k h =
     let e : size n (add k S) ≡ m + 1 = omega (arith, size-add n S k h z) in
     rw (q, z, e, ne-eqb m n (omega arith))
     (split (ltb (m + 1) n)
-    (λ r. rw (r, ne-eqb (m + 1) n (omega (arith, ltb-true (m + 1) n r))))
+    (λ r. rw (r, deed-other (deedBy F k), ne-eqb (m + 1) n (omega (arith, ltb-true (m + 1) n r))))
     (λ r. rw (r, eq-eqb (m + 1) n (omega (arith, ltb-false (m + 1) n r)))))))
     (λ q.
     let full : S k ≡ true = size-full n S k (ltb-false m n q) h in
@@ -148,7 +153,7 @@ module _ (s : Settings) (w : World) (F : File) (idle : w .transfer ≡ Idle) (ok
         contents =
             record {
               payloads = payload-stands P w sound S v a;
-              inside = λ k h. sound .fits k h .within;
+              inside = λ k h y. sound .fits k h y .within;
               erased = rest-erased P w sound S v a;
               others = others-kept P w sound S v a;
               flash-length = same-length P w sound S v a;
@@ -164,10 +169,14 @@ module _ (s : Settings) (w : World) (F : File) (idle : w .transfer ≡ Idle) (ok
 
   -- ---- the answers
 
+  -- what a block is told that does not complete
+  told-deed : (k : ℕ) → deedAnswer (deedBy P k) ≡ unfinished (F .block k)
+  told-deed k = split (hasFlag (F .block k) 0x1) (λ y. rw y) (λ z. rw z)
+
   reply-own : (S : Set) (k : ℕ) → k < F .total → verdict P S k ≡ replyTo s w F S (F .block k)
   unfolding verdict raised replyTo
   reply-own S k h =
-      rw (lt-leb (answerNumber s w (F .block k)) 11 (omega (arith, ok .passes k h)), ok .numbers k h)
+      rw (told-deed k, lt-leb (answerNumber s w (F .block k)) 11 (omega (arith, ok .passes k h)), ok .numbers k h)
       (split (ltb (size (F .total) S) (F .total))
       (λ y. rw (y, ne-eqb (size (F .total) S) (F .total) (omega (arith, ltb-true (size (F .total) S) (F .total) y))))
       (λ z.

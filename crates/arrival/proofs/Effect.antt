@@ -1,7 +1,7 @@
 -- What a set of pages leaves in flash and sector map, and that one page more makes it grow. Assumes nothing.
 use Prim.Native.Nat.{ℕ, _+_, _-_, _/_, _%_, _<_, _≤_}
 use mathlib.Core.Path.{_≡_, refl, sym, ap, subst, _∙_, fun-ext}
-use mathlib.Core.Bool.{true, not, cond, _&&_, and-false, and-true}
+use mathlib.Core.Bool.{true, false, not, cond, _&&_, _||_, and-false, and-true}
 use mathlib.Core.List.{List}
 use native.Mathlib.Omega.{arith}
 use lib.Dec.{eqb, leb, ltb}
@@ -15,6 +15,7 @@ use Rattle.bitmap.proofs.MapLaws.{map-none, marked-map, mark-map}
 use Rattle.flash.specs.Flash.{payloadOf, spans}
 use Rattle.flash.proofs.Laws.{length-erase, getD-erase, room-yes, length-store, getD-store}
 use Rattle.arrival.specs.Arrive.{Held, clearedIf, wipedIf, preparedAt, pagedAt}
+use Rattle.arrival.specs.Demand.{isData}
 use Rattle.arrival.proofs.Cells.{Layout, Apart, touched, touched-add, touched-none, Leaves, buffer, length-buffer, buffer-none, buffer-add}
 use Rattle.arrival.proofs.Pages.{apply}
 use Rattle.arrival.proofs.Count.{Blocks, count, bytesOf, applied, wipe, Grows}
@@ -76,20 +77,20 @@ module _ (at : ℕ) (payload : List ℕ) (x : Held) (T : Set) (marks : x .sector
   unfolding pagedAt
   paged-map = ap (λ (s : List ℕ). withMark s (at / 4096)) marks ∙ mark-map 1024 T (at / 4096) (omega (arith, ok .within))
 
--- ---- the pages of a file
+-- ---- the blocks of a file
 
 abbrev pub payloadIn : Blocks → ℕ → List ℕ
 payloadIn F k = payloadOf (bytesOf F k)
 
--- none of its pages is refused, and no two have one address
+-- none of its data blocks is refused, and no two have one address
 pub record Valid (F : Blocks) (x : Held) : Type 0 where
   pub some : 1 ≤ count F
   pub few : count F ≤ 131072
   pub whole : length (x .flash) % 4096 ≡ 0
   pub most : length (x .flash) ≤ 33554432
   pub sectors : length (x .sectors) ≡ 1024
-  pub fits : (k : ℕ) → k < count F → Fits (length (x .flash)) (F .at k) (payloadIn F k)
-  pub apart : (i k : ℕ) → i < count F → k < count F → F .at i ≡ F .at k → i ≡ k
+  pub fits : (k : ℕ) → k < count F → isData (F .file) k ≡ true → Fits (length (x .flash)) (F .at k) (payloadIn F k)
+  pub apart : (i k : ℕ) → i < count F → k < count F → isData (F .file) i ≡ true → isData (F .file) k ≡ true → F .at i ≡ F .at k → i ≡ k
 
 pub spans-true : (at j : ℕ) → spans at j ≡ true → (at ≤ j) × (j < at + 256)
 spans-true at j e = (leb-true at j (and-left (leb at j) (ltb j (at + 256)) e), ltb-true j (at + 256) (and-right (leb at j) (ltb j (at + 256)) e))
@@ -100,24 +101,43 @@ spans-is at j p q = rw (le-leb at j p, lt-ltb j (at + 256) q)
 abbrev pub layout : Blocks → Layout
 layout F =
     record {
-      owns = λ k j. spans (F .at k) j;
-      touches = λ k q. eqb q (F .at k / 4096);
+      owns = λ k j. isData (F .file) k && spans (F .at k) j;
+      touches = λ k q. isData (F .file) k && eqb q (F .at k / 4096);
       value = λ k j. getD (payloadIn F k) (j - F .at k) 0;
     }
 
 abbrev pub sectorsOf : Blocks → Set → Set
 sectorsOf F S = touched (count F) (layout F) S
 
--- a page touches the sector of each byte that it holds
-pub owned-touches : (F : Blocks) (x : Held) → Valid F x → (i j : ℕ) → i < count F → spans (F .at i) j ≡ true → eqb (j / 4096) (F .at i / 4096) ≡ true
-owned-touches F x ok i j h o = eq-eqb (j / 4096) (F .at i / 4096) (omega (arith, spans-true (F .at i) j o, ok .fits i h .aligned))
+-- what a block that holds byte j is
+pub record Owning (F : Blocks) (x : Held) (k j : ℕ) : Type 0 where
+  pub data-block : isData (F .file) k ≡ true
+  pub spanned : (F .at k ≤ j) × (j < F .at k + 256)
+  pub aligned : F .at k % 256 ≡ 0
+
+pub owning : (F : Blocks) (x : Held) → Valid F x → (k j : ℕ) → k < count F → layout F .owns k j ≡ true → Owning F x k j
+owning F x ok k j h o =
+    let y : isData (F .file) k ≡ true = and-left (isData (F .file) k) (spans (F .at k) j) o in
+    record {
+      data-block = y;
+      spanned = spans-true (F .at k) j (and-right (isData (F .file) k) (spans (F .at k) j) o);
+      aligned = ok .fits k h y .aligned;
+    }
+
+-- a block touches the sector of each byte that it holds
+pub owned-touches : (F : Blocks) (x : Held) → Valid F x → (i j : ℕ) → i < count F → layout F .owns i j ≡ true → layout F .touches i (j / 4096) ≡ true
+owned-touches F x ok i j h o =
+    let p = owning F x ok i j h o in
+    rw (p .data-block) (eq-eqb (j / 4096) (F .at i / 4096) (omega (arith, p .spanned, p .aligned)))
 
 pub apart-of : (F : Blocks) (x : Held) → Valid F x → Apart (count F) (layout F)
 apart-of F x ok =
     record {
       alone = λ i k j hi hk o q.
-          let e : F .at i ≡ F .at k = omega (arith, spans-true (F .at i) j o, spans-true (F .at k) j q, ok .fits i hi .aligned, ok .fits k hk .aligned) in
-          ok .apart i k hi hk e;
+          let p = owning F x ok i j hi o in
+          let r = owning F x ok k j hk q in
+          let e : F .at i ≡ F .at k = omega (arith, p .spanned, p .aligned, r .spanned, r .aligned) in
+          ok .apart i k hi hk (p .data-block) (r .data-block) e;
       inside = λ i k j hi hk o q. owned-touches F x ok i j hi o;
     }
 
@@ -132,7 +152,7 @@ length-effect F x S = length-buffer (count F) (layout F) (x .flash) S
 held-is : (g h : Held) → g .flash ≡ h .flash → g .sectors ≡ h .sectors → g ≡ h
 held-is g h p q = λ i. record { flash = p i; sectors = q i }
 
--- one page more
+-- one block more: a page, or a comment, which changes nothing
 module _ (F : Blocks) (x : Held) (ok : Valid F x) (S : Set) (k : ℕ) (h : k < count F) where
   abbrev there : Held
   there = effect F x S
@@ -140,36 +160,40 @@ module _ (F : Blocks) (x : Held) (ok : Valid F x) (S : Set) (k : ℕ) (h : k < c
   marks : there .sectors ≡ mapOf 1024 (sectorsOf F S)
   marks = unfold effect in refl
 
-  fits : Fits (length (there .flash)) (F .at k) (payloadIn F k)
-  fits = subst (λ (n : ℕ). Fits n (F .at k) (payloadIn F k)) (sym (length-effect F x S)) (ok .fits k h)
-
   whole : length (there .flash) % 4096 ≡ 0
   whole = rw (length-effect F x S) (ok .whole)
 
   most : length (there .flash) ≤ 33554432
   most = rw (length-effect F x S) (ok .most)
 
-  paged : applied F k there ≡ pagedAt (F .at k) (payloadIn F k) there
-  paged = unfold apply in refl
+  -- what the block leaves of flash and sector map
+  pub record Left (g : Held) : Type 0 where
+    pub flash : Leaves (layout F) k (sectorsOf F S) (there .flash) (g .flash)
+    pub sectors : g .sectors ≡ mapOf 1024 (λ q. layout F .touches k q || sectorsOf F S q)
 
-  leaves : Leaves (layout F) k (sectorsOf F S) (there .flash) (pagedAt (F .at k) (payloadIn F k) there .flash)
-  leaves = (
-    length-paged (F .at k) (payloadIn F k) there,
-    getD-paged (F .at k) (payloadIn F k) there (sectorsOf F S) marks whole most fits,
-  )
+  left-page : isData (F .file) k ≡ true → Left (pagedAt (F .at k) (payloadIn F k) there)
+  left-page y =
+      let fits : Fits (length (there .flash)) (F .at k) (payloadIn F k) =
+      subst (λ (n : ℕ). Fits n (F .at k) (payloadIn F k)) (sym (length-effect F x S)) (ok .fits k h y) in
+      record {
+        flash = (length-paged (F .at k) (payloadIn F k) there, rw y (getD-paged (F .at k) (payloadIn F k) there (sectorsOf F S) marks whole most fits));
+        sectors = rw y (paged-map (F .at k) (payloadIn F k) there (sectorsOf F S) marks whole most fits);
+      }
+
+  left-note : isData (F .file) k ≡ false → Left there
+  left-note z = record { flash = (refl, λ j. rw z); sectors = rw z marks }
+
+  left : Left (applied F k there)
+  unfolding apply
+  left = split (isData (F .file) k) (λ y. rw y (left-page y)) (λ z. rw z (left-note z))
 
   flash-more : applied F k there .flash ≡ effect F x (add k S) .flash
   unfolding effect
-  flash-more =
-      ap (λ (y : Held). y .flash) paged
-      ∙ buffer-add (count F) (layout F) (apart-of F x ok) (x .flash) S k h (pagedAt (F .at k) (payloadIn F k) there .flash) leaves
+  flash-more = buffer-add (count F) (layout F) (apart-of F x ok) (x .flash) S k h (applied F k there .flash) (left .flash)
 
   sectors-more : applied F k there .sectors ≡ effect F x (add k S) .sectors
   unfolding effect
-  sectors-more =
-      ap (λ (y : Held). y .sectors) paged
-      ∙ paged-map (F .at k) (payloadIn F k) there (sectorsOf F S) marks whole most fits
-      ∙ ap (mapOf 1024) (fun-ext (λ q. sym (touched-add (count F) (layout F) S k q h)))
+  sectors-more = left .sectors ∙ ap (mapOf 1024) (fun-ext (λ q. sym (touched-add (count F) (layout F) S k q h)))
 
   pub one-more : applied F k there ≡ effect F x (add k S)
   one-more = held-is (applied F k there) (effect F x (add k S)) flash-more sectors-more

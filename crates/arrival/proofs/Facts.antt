@@ -1,5 +1,5 @@
 -- The claims of specs/Facts.antt hold. Assumes nothing.
-use Prim.Native.Nat.{ℕ, _+_, _/_, _%_, _≤_, _<_}
+use Prim.Native.Nat.{ℕ, _+_, _-_, _/_, _%_, _≤_, _<_}
 use mathlib.Core.Path.{_≡_, refl, subst, _∙_}
 use mathlib.Core.Logic.{_⊎_, ⊎-elim}
 use mathlib.Core.Bool.{Bool, true, false}
@@ -10,7 +10,7 @@ use lib.ListN.{length, getD, length-set}
 use borrow.Author.Tests.{ne-eqb}
 use Rattle.sets.proofs.Tests.{split, is-false}
 use Rattle.bitmap.proofs.Laws.{length-mark, length-unmarked}
-use Rattle.block.specs.Block.{fieldAt}
+use Rattle.block.specs.Block.{fieldAt, hasFlag}
 use Rattle.block.proofs.Laws.{header-flags}
 use Rattle.flash.specs.Flash.{payloadOf, spans, roomAt}
 use Rattle.flash.proofs.Laws.{length-right, payload-set, getD-store}
@@ -18,14 +18,16 @@ use Rattle.settings.specs.declared.Settings.{Settings}
 use Rattle.place.specs.Place.{placeOf}
 use Rattle.place.specs.declared.Place.{Place}
 use Rattle.transfer.specs.Transfer.{numberOf}
+use Rattle.transfer.specs.declared.Deed.{Deed}
+use Rattle.transfer.specs.declared.Deed.the-variants.{Stores, Notes}
 use Rattle.screen.specs.Screen.{screenOf}
 use Rattle.screen.specs.declared.Screening.{Screening}
 use Rattle.screen.specs.declared.Screening.the-variants.{Refused, Passed}
-use Rattle.arrival.specs.Arrive.{Held, World, Decision, stays, accepts, afterScreening, decide, clearedIf, wipedIf, preparedAt, pagedAt, acceptOf, unchanged, done, receiveOf, forecast, forecastOf, lookOf}
+use Rattle.arrival.specs.Arrive.{Held, World, Decision, stays, accepts, afterScreening, decide, decided, clearedIf, wipedIf, preparedAt, pagedAt, atOf, doneTo, acceptOf, unchanged, done, receiveOf, forecast, forecastOf, lookOf}
 use Rattle.arrival.specs.Facts.{Refusals-change-nothing, Answers-read-no-flash, Lengths-kept, Arrivals-keep-lengths, Outside, Outside-kept, Window-kept, Flags-ignored, Look-tells}
 use Rattle.arrival.proofs.Effect.{length-paged, sectors-paged, getD-prepared, spans-true}
-use Rattle.arrival.proofs.Screening.{Good, screen-good, passing-inside}
-use Rattle.arrival.proofs.DecisionFacts.{flashOf, decisionOf, Board, board-decides, Rows, stopped, through, rows, DecisionFacts, kept, took, decided, took-number}
+use Rattle.arrival.proofs.Screening.{Good, screen-good, passing-body, passing-note, passing-inside}
+use Rattle.arrival.proofs.DecisionFacts.{flashOf, Board, board-decides, Rows, stopped, through, rows, DecisionFacts, kept, took, decision-facts, took-number}
 
 -- ---- answers 1 to 13
 
@@ -37,34 +39,40 @@ stayed s w a p (took g k B l q t) n = absurd (omega (arith, took-number t))
 
 pub refusals-change-nothing : Refusals-change-nothing
 unfolding Refusals-change-nothing receiveOf
-refusals-change-nothing s w a n = stayed s w a (payloadOf a) (decided s w a) n
+refusals-change-nothing s w a n = stayed s w a (payloadOf a) (decision-facts s w a) n
 
 -- ---- no flash byte, no sector map
 
 told : (v w : World) (p : List ℕ) (d : Decision) → (done v p d .answer ≡ done w p d .answer) × (done v p d .discarded ≡ done w p d .discarded)
 unfolding done
 told v w p (stays x) = (refl, refl)
-told v w p (accepts g k) = (refl, refl)
+told v w p (accepts g d k) = (refl, refl)
 
 pub answers-read-no-flash : Answers-read-no-flash
 unfolding Answers-read-no-flash receiveOf
-answers-read-no-flash s v w a e = rw (e .transfer, e .seen, e .flash-length, e .sectors-length) (told (record { transfer = w .transfer; seen = w .seen; held = v .held }) w (payloadOf a) (decisionOf s w a))
+answers-read-no-flash s v w a e = rw (e .transfer, e .seen, e .flash-length, e .sectors-length) (told (record { transfer = w .transfer; seen = w .seen; held = v .held }) w (payloadOf a) (decided s w a))
 
 -- ---- lengths
 
-length-cleared : (b : Bool) (m : List ℕ) → length (clearedIf b m) ≡ length m
+pub length-cleared : (b : Bool) (m : List ℕ) → length (clearedIf b m) ≡ length m
 unfolding clearedIf
 length-cleared true m = length-unmarked (length m)
 length-cleared false m = refl
 
+length-done : (d : Deed) (at : ℕ) (p : List ℕ) (x : Held)
+    → (length (doneTo d at p x .flash) ≡ length (x .flash)) × (length (doneTo d at p x .sectors) ≡ length (x .sectors))
+length-done Stores at p x = (length-paged at p x, sectors-paged at p x)
+length-done Notes at p x = (refl, refl)
+
 kept-lengths : (w : World) (p : List ℕ) (d : Decision) → Lengths-kept (done w p d .world) w
 unfolding done acceptOf
 kept-lengths w p (stays x) = record { flash = refl; seen = refl; sectors = refl }
-kept-lengths w p (accepts g k) =
+kept-lengths w p (accepts g d k) =
+    let n = length-done d (atOf (g .body)) p (wipedIf (k .clears) (w .held)) in
     record {
-      flash = length-paged (g .at) p (wipedIf (k .clears) (w .held)) ∙ unfold wipedIf in refl;
+      flash = n .0 ∙ unfold wipedIf in refl;
       seen = length-mark (clearedIf (k .clears) (w .seen)) (g .number) ∙ length-cleared (k .clears) (w .seen);
-      sectors = sectors-paged (g .at) p (wipedIf (k .clears) (w .held)) ∙ wiped (k .clears);
+      sectors = n .1 ∙ wiped (k .clears);
     }
   where
     wiped : (b : Bool) → length (wipedIf b (w .held) .sectors) ≡ length (w .held .sectors)
@@ -72,7 +80,7 @@ kept-lengths w p (accepts g k) =
 
 pub arrivals-keep-lengths : Arrivals-keep-lengths
 unfolding Arrivals-keep-lengths receiveOf
-arrivals-keep-lengths s w a = kept-lengths w (payloadOf a) (decisionOf s w a)
+arrivals-keep-lengths s w a = kept-lengths w (payloadOf a) (decided s w a)
 
 -- ---- outside the place
 
@@ -94,28 +102,33 @@ outside-done : (s : Settings) (w : World) (a : List ℕ) (j : ℕ) {d : Decision
 unfolding done acceptOf
 outside-done s w a j (kept x h) o = refl
 outside-done s w a j (took g k B l q t) o =
-    let i = passing-inside s (flashOf w) a g q (B .flash) (B .good) in
-    outside-page (q .start) (q .size) (g .at) (payloadOf a) (wipedIf (k .clears) (w .held)) j (i .0) (i .1) (i .3) (i .4)
+    split (hasFlag a 0x1)
+    (λ y. rw (passing-note s (flashOf w) a g q (B .flash) (B .good) y) (unfold wipedIf in refl))
+    (λ z.
+    let i = passing-inside s (flashOf w) a g q (B .flash) (B .good) z in
+    rw (passing-body s (flashOf w) a g q (B .flash) (B .good) z)
+    (outside-page (q .start) (q .size) (q .start + (fieldAt a 12 - 0x10000000)) (payloadOf a) (wipedIf (k .clears) (w .held)) j (i .0) (i .1) (i .3) (i .4)
     (subst (λ (p : Place). Outside p j) (q .place) o)
-    ∙ unfold wipedIf in refl
+    ∙ unfold wipedIf in refl))
 
 pub outside-kept : Outside-kept
 unfolding Outside-kept receiveOf
-outside-kept s w a j o = outside-done s w a j (decided s w a) o
+outside-kept s w a j o = outside-done s w a j (decision-facts s w a) o
 
 -- ---- the address window
 
 pub window-kept : Window-kept
 unfolding Window-kept receiveOf done afterScreening
-window-kept s w a n = go (rows s w a)
+window-kept s w a n z = go (rows s w a)
   where
     passed : Board s w → (x : Screening) → Good s (flashOf w) a x
         → 12 ≤ numberOf (done w (payloadOf a) (afterScreening (w .transfer) (w .seen) x) .answer)
         → (0x10000000 ≤ fieldAt a 12) × (fieldAt a 12 + 256 ≤ 0x12000000)
     passed B (Refused x) h m = absurd (omega (arith, m, h .1))
     passed B (Passed g) h m =
-        let i = passing-inside s (flashOf w) a g h (B .flash) (B .good) in
-        (h .low, omega (arith, i .2, h .ends, h .low, length-right (flashOf w) (B .flash) .most))
+        let i = passing-inside s (flashOf w) a g h (B .flash) (B .good) z in
+        let p = h .page z in
+        (p .low, omega (arith, i .2, p .ends, p .low, length-right (flashOf w) (B .flash) .most))
 
     go : Rows s w a → (0x10000000 ≤ fieldAt a 12) × (fieldAt a 12 + 256 ≤ 0x12000000)
     go (stopped x h e) = let m : 12 ≤ numberOf x = rw e at n in absurd (omega (arith, m, h))
@@ -135,8 +148,8 @@ flags-ignored s w a x f =
 told-of : (w : World) (p : List ℕ) (d : Decision) → forecastOf d ≡ forecast (done w p d .answer) (done w p d .discarded)
 unfolding done
 told-of w p (stays x) = refl
-told-of w p (accepts g k) = refl
+told-of w p (accepts g d k) = refl
 
 pub look-tells : Look-tells
 unfolding Look-tells lookOf receiveOf
-look-tells s w a = told-of w (payloadOf a) (decisionOf s w a)
+look-tells s w a = told-of w (payloadOf a) (decided s w a)

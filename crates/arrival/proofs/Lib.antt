@@ -6,6 +6,7 @@ mod Effect
 pub mod Screening
 pub mod DecisionFacts
 pub mod Facts
+pub mod Comments
 mod Lists
 mod Runs
 mod Files

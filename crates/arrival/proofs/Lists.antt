@@ -12,7 +12,7 @@ use Rattle.transfer.specs.Transfer.{countOf, goodState, accepted}
 use Rattle.transfer.specs.declared.Head.{Head}
 use Rattle.transfer.specs.declared.Answer.{Answer}
 use Rattle.screen.specs.Screen.{screenOf}
-use Rattle.screen.specs.declared.Page.{Page}
+use Rattle.screen.specs.declared.Placed.{Placed}
 use Rattle.screen.specs.declared.Screening.the-variants.{Refused, Passed}
 use Rattle.arrival.specs.Arrive.{World, Decision, afterScreening, acceptOf, unchanged, done, receiveOf}
 use Rattle.arrival.specs.Facts.{Arrivals-keep-lengths}
@@ -20,7 +20,7 @@ use Rattle.arrival.specs.Lists.{receiveAll}
 use Rattle.arrival.specs.Tally.{clears}
 use Rattle.arrival.proofs.Pages.{arrive}
 use Rattle.arrival.proofs.Screening.{passing-few}
-use Rattle.arrival.proofs.DecisionFacts.{flashOf, Board, board-decides, DecisionFacts, kept, took, decided, counted-good}
+use Rattle.arrival.proofs.DecisionFacts.{flashOf, Board, board-decides, DecisionFacts, kept, took, decision-facts, counted-good}
 use Rattle.arrival.proofs.Facts.{arrivals-keep-lengths}
 
 -- ---- an arrival that has passed rows 1 to 3, by what it is screened to
@@ -31,7 +31,7 @@ module _ (s : Settings) (w : World) (a : List ℕ) (B : Board s w) (l : length a
   receive-refused x e =
       ap (done w (payloadOf a)) (board-decides s w a B l ∙ ap (afterScreening (w .transfer) (w .seen)) e) ∙ unfold afterScreening done in refl
 
-  pub receive-passed : (p : Page) → screenOf s (flashOf w) a ≡ Passed p → receiveOf s w a ≡ arrive w p a
+  pub receive-passed : (p : Placed) → screenOf s (flashOf w) a ≡ Passed p → receiveOf s w a ≡ arrive w p a
   unfolding receiveOf
   receive-passed p e =
       ap (done w (payloadOf a)) (board-decides s w a B l ∙ ap (afterScreening (w .transfer) (w .seen)) e) ∙ unfold afterScreening arrive in refl
@@ -62,7 +62,7 @@ board-next s w a B =
       seen = unfold Arrivals-keep-lengths in arrivals-keep-lengths s w a .seen ∙ B .seen;
       sectors = unfold Arrivals-keep-lengths in arrivals-keep-lengths s w a .sectors ∙ B .sectors;
       good = ap (goodSettings s) (flash-next s w a) ∙ B .good;
-      state = unfold receiveOf in state-next s w a (decided s w a) (B .state);
+      state = unfold receiveOf in state-next s w a (decision-facts s w a) (B .state);
     }
 
 -- ---- the worlds that a list from w on meets

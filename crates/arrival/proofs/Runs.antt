@@ -7,7 +7,7 @@ use native.Mathlib.Omega.{arith}
 use lib.Dec.{eqb, ltb}
 use lib.ListN.{length}
 use borrow.Author.Tests.{eqb-true, eqb-false, lt-ltb, ltb-true}
-use Rattle.sets.specs.Sets.{Set, none, add}
+use Rattle.sets.specs.Sets.{Set, add}
 use Rattle.sets.proofs.Tests.{split, clash, is-false, eqb-same, and-left, and-right}
 use Rattle.settings.specs.declared.Settings.{Settings}
 use Rattle.arrival.specs.Arrive.{Held, World, Outcome, unchanged, receiveOf}

@@ -19,12 +19,13 @@ use Rattle.transfer.specs.Transfer.{numberOf, countOf, counted, accepted}
 use Rattle.transfer.specs.declared.Head.{Head}
 use Rattle.transfer.specs.declared.State.{State}
 use Rattle.transfer.specs.declared.State.the-variants.{Idle, Running, Done}
+use Rattle.transfer.specs.declared.Deed.{Deed}
 use Rattle.transfer.specs.declared.Accepted.{Accepted}
-use Rattle.arrival.specs.Arrive.{World, Outcome, Decision, clearedIf, acceptOf, done, receiveOf}
+use Rattle.arrival.specs.Arrive.{World, Outcome, Decision, deedOf, clearedIf, acceptOf, done, receiveOf}
 use Rattle.arrival.specs.Lists.{Delivery, playAll}
 use Rattle.arrival.specs.Tally.{isAccepted, headOf, clears, acceptedBy, acceptedOf, anyAccepted, Count-is-marks}
 use Rattle.arrival.proofs.Screening.{passing-few}
-use Rattle.arrival.proofs.DecisionFacts.{flashOf, AcceptFacts, took-number, DecisionFacts, kept, took, decided}
+use Rattle.arrival.proofs.DecisionFacts.{flashOf, AcceptFacts, took-number, DecisionFacts, kept, took, decision-facts}
 
 -- ---- the transfer and the seen map, A being what was accepted since the last clearing
 
@@ -60,15 +61,15 @@ counted-more g n A m c h e new =
     }))
 
 -- before the block that is accepted: no mark where the maps are cleared, else what the running transfer has
-ready : (t : State) (seen : List ℕ) (A : Set) (g : Head) (n : ℕ) (k : Accepted) → length seen ≡ 16384 → g .total ≤ 131072 → n < g .total
-    → AcceptFacts t g (markedIn seen n) k → Kept t seen A → (b : Bool) → clears t g ≡ b
+ready : (t : State) (seen : List ℕ) (A : Set) (g : Head) (n : ℕ) (d : Deed) (k : Accepted) → length seen ≡ 16384 → g .total ≤ 131072 → n < g .total
+    → AcceptFacts t g (markedIn seen n) d k → Kept t seen A → (b : Bool) → clears t g ≡ b
     → Counted g (clearedIf b seen) (cond b none A) (cond b 0 (countOf t)) × (cond b none A n ≡ false)
 unfolding clearedIf
-ready t seen A g n k l few h q e true y = (
+ready t seen A g n d k l few h q e true y = (
   record { map = rw l (map-none 16384); number = size-none (g .total); within = within-none (g .total); few = few },
   refl,
 )
-ready t seen A g n k l few h q e false z =
+ready t seen A g n d k l few h q e false z =
     let r = q .going z in
     let c : Counted (r .0 .head) seen A (r .0 .count) = subst (λ (t : State). Kept t seen A) (r .1) e in
     let d : Counted g seen A (r .0 .count) = subst (λ (g : Head). Counted g seen A (r .0 .count)) (r .2) c in (
@@ -104,7 +105,7 @@ keeping s w a A (took g k B l q t) e =
     let total : g .head .total ≡ fieldAt a 24 = ap (λ (h : Head). h .total) (q .head) in
     let few : g .head .total ≤ 131072 = omega (arith, passing-few s (flashOf w) a g q (B .flash) (B .good)) in
     let below : g .number < g .head .total = omega (arith, q .number, q .below) in
-    let r = ready (w .transfer) (w .seen) A (g .head) (g .number) k (B .seen) few below t e b refl in
+    let r = ready (w .transfer) (w .seen) A (g .head) (g .number) (deedOf (g .body)) k (B .seen) few below t e b refl in
     let c : cond b 0 (countOf (w .transfer)) + 1 ≡ cond b 1 (countOf (w .transfer) + 1) = plus b in
     let f : k .transfer .state ≡ counted (g .head) (cond b 0 (countOf (w .transfer)) + 1) =
     ap (λ (x : Accepted). x .transfer .state) (t .is) ∙ ap (counted (g .head)) (sym c) in
@@ -123,7 +124,7 @@ keeping s w a A (took g k B l q t) e =
 -- ---- turns
 
 step : (s : Settings) (w : World) (a : List ℕ) (A : Set) → Kept (w .transfer) (w .seen) A → Keeping s w a A (receiveOf s w a)
-step s w a A e = unfold receiveOf in keeping s w a A (decided s w a) e
+step s w a A e = unfold receiveOf in keeping s w a A (decision-facts s w a) e
 
 kept-all : (l : List Delivery) (w : World) (A : Set) → Kept (w .transfer) (w .seen) A
     → Kept (playAll w l .transfer) (playAll w l .seen) (acceptedOf w l A)

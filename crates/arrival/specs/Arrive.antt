@@ -10,13 +10,17 @@ use Rattle.settings.specs.Settings.{goodSettings}
 use Rattle.settings.specs.declared.Settings.{Settings}
 use Rattle.transfer.specs.Transfer.{numberOf, goodState, stepOf}
 use Rattle.transfer.specs.declared.State.{State}
+use Rattle.transfer.specs.declared.Deed.{Deed}
+use Rattle.transfer.specs.declared.Deed.the-variants.{Stores, Notes}
 use Rattle.transfer.specs.declared.Accepted.{Accepted}
 use Rattle.transfer.specs.declared.Step.{Step}
 use Rattle.transfer.specs.declared.Step.the-variants.{Stays, Accepts}
 use Rattle.transfer.specs.declared.Answer.{Answer}
 use Rattle.transfer.specs.declared.Answer.the-variants.{BadBuffers, BadSettings, BadState}
 use Rattle.screen.specs.Screen.{screenOf}
-use Rattle.screen.specs.declared.Page.{Page}
+use Rattle.screen.specs.declared.Body.{Body}
+use Rattle.screen.specs.declared.Body.the-variants.{Page, Note}
+use Rattle.screen.specs.declared.Placed.{Placed}
 use Rattle.screen.specs.declared.Screening.{Screening}
 use Rattle.screen.specs.declared.Screening.the-variants.{Refused, Passed}
 
@@ -56,29 +60,39 @@ outcomeNumber o = numberOf (o .answer)
 -- what an arrival comes to, before anything is written
 pub data Decision : Type 0 where
   stays : Answer → Decision  -- answers 1 to 13: nothing changes
-  accepts : Page → Accepted → Decision  -- answers 14 and 15
+  accepts : Placed → Deed → Accepted → Decision  -- answers 14 to 16
 
 -- row 1 is passed: the lengths of arrival, flash, seen map and sector map
 unfoldable pub rightLengths : ℕ → ℕ → ℕ → ℕ → Bool
 rightLengths a f m k = eqb a 512 && flashLength f && eqb m 16384 && eqb k 1024
 
--- a block that passed the screening stays unstored, by 12 or 13, or is accepted with its page
-abbrev pub stepped : Page → Step → Decision
-stepped p (Stays x) = stays (x .answer)
-stepped p (Accepts t) = accepts p t
+-- what a block does once it is accepted, by what it holds
+abbrev pub deedOf : Body → Deed
+deedOf (Page at) = Stores
+deedOf Note = Notes
 
--- rows 12 to 15, of what the screening gives
+-- a block that passed the screening changes nothing, by 12 or 13, or is accepted
+abbrev pub stepped : Placed → Deed → Step → Decision
+stepped p d (Stays x) = stays (x .answer)
+stepped p d (Accepts t) = accepts p d t
+
+-- rows 12 to 15 (and 16), of what the screening gives
 unfoldable pub afterScreening : State → List ℕ → Screening → Decision
 afterScreening t seen (Refused x) = stays x
-afterScreening t seen (Passed p) = stepped p (stepOf t (p .head) (markedIn seen (p .number)))
+afterScreening t seen (Passed p) =
+    stepped p (deedOf (p .body)) (stepOf t (p .head) (markedIn seen (p .number)) (deedOf (p .body)))
 
--- rows 1 to 15, for a flash of f bytes and a sector map of k
+-- every row, for a flash of f bytes and a sector map of k
 unfoldable pub decide : Settings → ℕ → ℕ → State → List ℕ → List ℕ → Decision
 decide s f k t seen a =
     cond (not (rightLengths (length a) f (length seen) k)) (stays BadBuffers)
     (cond (not (goodSettings s f)) (stays BadSettings)
     (cond (not (goodState t)) (stays BadState)
     (afterScreening t seen (screenOf s f a))))
+
+-- what an arrival comes to in a world: nothing of the flash and the sector map is asked but their lengths
+abbrev pub decided : Settings → World → List ℕ → Decision
+decided s w a = decide s (length (w .held .flash)) (length (w .held .sectors)) (w .transfer) (w .seen) a
 
 -- ---- what is done
 
@@ -99,29 +113,37 @@ unfoldable pub pagedAt : ℕ → List ℕ → Held → Held
 pagedAt at payload h =
     record { flash = storeAt (preparedAt (at / 4096) h) at payload; sectors = withMark (h .sectors) (at / 4096) }
 
--- "the number marked, the count raised", of a page with its payload
-unfoldable pub acceptOf : World → List ℕ → Page → Accepted → World
-acceptOf w payload p t =
+-- the storage address of a page; a comment has none, and nothing asks for its
+abbrev pub atOf : Body → ℕ
+atOf (Page at) = at
+atOf Note = 0
+
+-- a page is stored; a comment "sets no flash byte or sector mark" (02, L3)
+abbrev pub doneTo : Deed → ℕ → List ℕ → Held → Held
+doneTo Stores at payload h = pagedAt at payload h
+doneTo Notes at payload h = h
+
+-- "the number marked, the count raised", of a block that is accepted
+unfoldable pub acceptOf : World → List ℕ → Placed → Deed → Accepted → World
+acceptOf w payload p d t =
     record {
       transfer = t .transfer .state;
       seen = withMark (clearedIf (t .clears) (w .seen)) (p .number);
-      held = pagedAt (p .at) payload (wipedIf (t .clears) (w .held));
+      held = doneTo d (atOf (p .body)) payload (wipedIf (t .clears) (w .held));
     }
 
 -- "Answers 1 to 13 change nothing, "discarded" is no."
 abbrev pub unchanged : World → Answer → Outcome
 unchanged w x = record { world = w; answer = x; discarded = false }
 
--- "Answers 1 to 13 change nothing"; for 14 and 15 the page is stored
+-- "Answers 1 to 13 change nothing"; from 14 on the block is accepted
 unfoldable pub done : World → List ℕ → Decision → Outcome
 done w payload (stays x) = unchanged w x
-done w payload (accepts p t) = record { world = acceptOf w payload p t; answer = t .answer; discarded = t .discarded }
+done w payload (accepts p d t) = record { world = acceptOf w payload p d t; answer = t .answer; discarded = t .discarded }
 
 -- one arrival
 unfoldable pub receiveOf : Settings → World → List ℕ → Outcome
-receiveOf s w a =
-    done w (payloadOf a)
-    (decide s (length (w .held .flash)) (length (w .held .sectors)) (w .transfer) (w .seen) a)
+receiveOf s w a = done w (payloadOf a) (decided s w a)
 
 -- ---- a look (02, L7): it "changes nothing and says what would happen"
 
@@ -141,9 +163,8 @@ forecastNumber o = numberOf (o .answer)
 -- what a decision would come to
 abbrev pub forecastOf : Decision → Forecast
 forecastOf (stays x) = forecast x false
-forecastOf (accepts p t) = forecast (t .answer) (t .discarded)
+forecastOf (accepts p d t) = forecast (t .answer) (t .discarded)
 
 -- a look at one arrival
 unfoldable pub lookOf : Settings → World → List ℕ → Forecast
-lookOf s w a =
-    forecastOf (decide s (length (w .held .flash)) (length (w .held .sectors)) (w .transfer) (w .seen) a)
+lookOf s w a = forecastOf (decided s w a)

@@ -9,7 +9,7 @@ use lib.ListN.{length, getD}
 use Rattle.sets.specs.Sets.{Set, none, add, size, any}
 use Rattle.bitmap.specs.Bitmap.{mapOf}
 use Rattle.flash.specs.Flash.{payloadOf, spans}
-use Rattle.block.specs.Block.{fieldAt}
+use Rattle.block.specs.Block.{fieldAt, hasFlag}
 use Rattle.settings.specs.declared.Settings.{Settings}
 use Rattle.place.specs.Place.{placeOf}
 use Rattle.place.specs.declared.Place.{Place}
@@ -18,7 +18,7 @@ use Rattle.transfer.specs.Transfer.{headWith, numberOf, running}
 use Rattle.transfer.specs.declared.Head.{Head}
 use Rattle.transfer.specs.declared.State.the-variants.{Idle, Done}
 use Rattle.transfer.specs.declared.Answer.{Answer}
-use Rattle.transfer.specs.declared.Answer.the-variants.{Finished, Again, Written, Completed}
+use Rattle.transfer.specs.declared.Answer.the-variants.{Finished, Again, Written, Completed, Noted}
 use Rattle.arrival.specs.Arrive.{World, outcomeNumber, receiveOf}
 use Rattle.arrival.specs.Lists.{receiveAll, answersOf}
 
@@ -34,18 +34,24 @@ pub record File : Type 0 where
 abbrev pub answerNumber : Settings → World → List ℕ → ℕ
 answerNumber s w a = outcomeNumber (receiveOf s w a)
 
--- "numbers 0 to n-1 once each, n at least 1, one family, the total n in every block, different addresses, no block earning answers 1 to 11"
+-- "blocks are data or comments" (02, L3): block k is data, its flag 0x1 being clear
+abbrev pub isData : File → ℕ → Bool
+isData F k = not (hasFlag (F .block k) 0x1)
+
+-- "numbers 0 to n-1 once each, n at least 1, one family, the total n in every block, different addresses, no block earning answers 1 to 11";
+-- "different addresses .. asked of data only"
 pub record ValidFile (s : Settings) (w : World) (F : File) : Type 0 where
   pub some : 1 ≤ F .total
   pub numbers : (k : ℕ) → k < F .total → fieldAt (F .block k) 20 ≡ k
   pub families : (k : ℕ) → k < F .total → fieldAt (F .block k) 28 ≡ F .family
   pub totals : (k : ℕ) → k < F .total → fieldAt (F .block k) 24 ≡ F .total
-  pub addresses : (i k : ℕ) → i < F .total → k < F .total → fieldAt (F .block i) 12 ≡ fieldAt (F .block k) 12 → i ≡ k
+  pub addresses : (i k : ℕ) → i < F .total → k < F .total → isData F i ≡ true → isData F k ≡ true
+      → fieldAt (F .block i) 12 ≡ fieldAt (F .block k) 12 → i ≡ k
   pub passes : (k : ℕ) → k < F .total → 12 ≤ answerNumber s w (F .block k)
 
 -- ---- a list of its blocks
 
--- "Arrivals answered 4 to 11 are the foreign ones."
+-- "Arrivals answered 4 to 11 are the foreign ones"; "answered 4, 5 or 7 to 11" (02, L3), since no answer has the number 6
 abbrev pub Foreign : Settings → World → List ℕ → Type 0
 Foreign s w a = (4 ≤ answerNumber s w a) × (answerNumber s w a ≤ 11)
 
@@ -96,15 +102,23 @@ storageIn (At start size) address = start + (address - 0x10000000)
 abbrev pub storageOf : Settings → World → List ℕ → ℕ
 storageOf s w a = storageIn (placeOf s (length (w .held .flash)) (fieldAt a 28)) (fieldAt a 12)
 
--- block k holds byte j
+-- block k is data and holds byte j
 abbrev pub holds : Settings → World → File → ℕ → ℕ → Bool
-holds s w F k j = spans (storageOf s w (F .block k)) j
+holds s w F k j = isData F k && spans (storageOf s w (F .block k)) j
 
--- "A sector is touched if the storage address of a seen block lies in it." (01's term: touched)
+-- block k is data, and its storage address lies in sector q
+abbrev pub liesIn : Settings → World → File → ℕ → ℕ → Bool
+liesIn s w F k q = isData F k && eqb q (storageOf s w (F .block k) / 4096)
+
+-- "A sector is touched if the storage address of a seen block lies in it." (01's term: touched), of data only
 abbrev pub touchedBy : Settings → World → File → Set → Set
-touchedBy s w F S q = any (F .total) (λ k. S k && eqb q (storageOf s w (F .block k) / 4096))
+touchedBy s w F S q = any (F .total) (λ k. S k && liesIn s w F k q)
 
 -- ---- the answers, by the set alone
+
+-- the answer to a new block that leaves the set short of whole: row 14, or of a comment 16 (02, L3)
+abbrev pub unfinished : List ℕ → Answer
+unfinished a = cond (hasFlag a 0x1) Noted Written
 
 -- the answer to the arrival a, once the blocks of S have come
 unfoldable pub replyTo : Settings → World → File → Set → List ℕ → Answer
@@ -112,7 +126,7 @@ replyTo s w F S a =
     cond (leb (answerNumber s w a) 11) (receiveOf s w a .answer)
     (cond (isWhole F S) Finished
     (cond (S (fieldAt a 20)) Again
-    (cond (ltb (howMany F S + 1) (F .total)) Written Completed)))
+    (cond (ltb (howMany F S + 1) (F .total)) (unfinished a) Completed)))
 
 -- S, once the arrival a has come
 unfoldable pub withArrival : Settings → World → Set → List ℕ → Set
@@ -142,11 +156,11 @@ pub record Counts (w : World) (F : File) (S : Set) (v : World) : Type 0 where
   pub seen-map : 1 ≤ howMany F S → v .seen ≡ mapOf 16384 S
 
 pub record Contents (s : Settings) (w : World) (F : File) (S : Set) (v : World) : Type 0 where
-  -- "each seen payload at its storage address,"
-  pub payloads : (k : ℕ) → k < F .total → S k ≡ true → (i : ℕ) → i < 256
+  -- "each seen payload at its storage address,", "asked of data only" (02, L3)
+  pub payloads : (k : ℕ) → k < F .total → S k ≡ true → isData F k ≡ true → (i : ℕ) → i < 256
       → getD (v .held .flash) (storageOf s w (F .block k) + i) 0 ≡ getD (payloadOf (F .block k)) i 0
   -- which lies in the flash
-  pub inside : (k : ℕ) → k < F .total → storageOf s w (F .block k) + 256 ≤ length (w .held .flash)
+  pub inside : (k : ℕ) → k < F .total → isData F k ≡ true → storageOf s w (F .block k) + 256 ≤ length (w .held .flash)
   -- "0xFF in the rest of each touched sector,"
   pub erased : (j : ℕ) → j < length (w .held .flash) → touchedBy s w F S (j / 4096) ≡ true
       → ((k : ℕ) → k < F .total → S k ≡ true → holds s w F k j ≡ false) → getD (v .held .flash) j 0 ≡ 255

@@ -3,9 +3,10 @@
 use Prim.Native.Nat.{ℕ, _+_, _≤_, _<_}
 use mathlib.Core.Path.{_≡_}
 use mathlib.Core.Logic.{_⊎_}
+use mathlib.Core.Bool.{false}
 use mathlib.Core.List.{List}
 use lib.ListN.{length, getD, set}
-use Rattle.block.specs.Block.{fieldAt}
+use Rattle.block.specs.Block.{fieldAt, hasFlag}
 use Rattle.settings.specs.declared.Settings.{Settings}
 use Rattle.place.specs.Place.{placeOf}
 use Rattle.place.specs.declared.Place.{Place}
@@ -53,10 +54,10 @@ Outside-kept =
     (s : Settings) (w : World) (a : List ℕ) (j : ℕ) → Outside (placeOf s (length (w .held .flash)) (fieldAt a 28)) j
     → getD (receiveOf s w a .world .held .flash) j 0 ≡ getD (w .held .flash) j 0
 
--- "0x10000000 up to, not including, 0x12000000": the payload of a block that rows 1 to 11 let through lies in the address window
+-- "0x10000000 up to, not including, 0x12000000": the payload of a data block that rows 1 to 11 let through lies in the address window
 unfoldable pub Window-kept : Type 0
 Window-kept =
-    (s : Settings) (w : World) (a : List ℕ) → 12 ≤ numberOf (receiveOf s w a .answer)
+    (s : Settings) (w : World) (a : List ℕ) → 12 ≤ numberOf (receiveOf s w a .answer) → hasFlag a 0x1 ≡ false
     → (0x10000000 ≤ fieldAt a 12) × (fieldAt a 12 + 256 ≤ 0x12000000)
 
 -- x more in the second byte of an arrival's flags, where 0x40 is the flag 0x4000 and 0x80 is 0x8000

@@ -3,3 +3,4 @@ pub mod Lists
 pub mod Facts
 pub mod Tally
 pub mod Demand
+pub mod Comments

@@ -18,7 +18,7 @@ use Rattle.transfer.specs.declared.Answer.{Answer}
 use Rattle.arrival.specs.Arrive.{World, receiveOf}
 use Rattle.arrival.specs.Lists.{Delivery, playAll}
 
--- a block is accepted: answer 14 or 15
+-- a block is accepted: answer 14 or more
 abbrev pub isAccepted : Answer → Bool
 isAccepted x = leb 14 (numberOf x)
 

@@ -1,5 +1,5 @@
 -- The laws of a block's fields, and each case of its header. Assumes nothing.
-use mathlib.Core.Path.{_≡_, refl, sym, ap, _∙_}
+use mathlib.Core.Path.{_≡_, refl, ap, _∙_}
 use mathlib.Core.Bool.{Bool, true, false, not, cond, _&&_}
 use mathlib.Core.Logic.{_⊎_, inl, inr, ⊎-elim}
 use mathlib.Core.List.{List}
@@ -15,7 +15,7 @@ use Rattle.sets.specs.Bytes.{numberIn}
 use Rattle.sets.proofs.BytesLaws.{number-four}
 use Rattle.block.specs.declared.Block.{Block}
 use Rattle.block.specs.declared.Header.{Header}
-use Rattle.block.specs.declared.Header.the-variants.{NotBlock, Container, Comment, NoFamily, Found}
+use Rattle.block.specs.declared.Header.the-variants.{NotBlock, Container, NoFamily, Found}
 use Rattle.block.specs.Block.{fieldAt, fieldsOf, hasFlag, flaggedOf, isBlock, headerOf, headerNumber}
 
 -- ---- one field, at any offset
@@ -42,18 +42,13 @@ module _ (a : List ℕ) {n : ℕ} (e : n ≡ fieldAt a 8) where
   flagged-container h = rw (← e, eq-eqb (n / 0x1000 % 2) 1 h)
 
   module _ (p : n / 0x1000 % 2 ≡ 1 → ⊥) where
-    pub flagged-comment : n / 0x1 % 2 ≡ 1 → Comment ≡ flaggedOf a
+    pub flagged-bare : (n / 0x2000 % 2 ≡ 1 → ⊥) → NoFamily ≡ flaggedOf a
     unfolding flaggedOf
-    flagged-comment h = rw (← e, ne-eqb (n / 0x1000 % 2) 1 p, eq-eqb (n / 0x1 % 2) 1 h)
+    flagged-bare h = rw (← e, ne-eqb (n / 0x1000 % 2) 1 p, ne-eqb (n / 0x2000 % 2) 1 h)
 
-    module _ (q : n / 0x1 % 2 ≡ 1 → ⊥) where
-      pub flagged-bare : (n / 0x2000 % 2 ≡ 1 → ⊥) → NoFamily ≡ flaggedOf a
-      unfolding flaggedOf
-      flagged-bare h = rw (← e, ne-eqb (n / 0x1000 % 2) 1 p, ne-eqb (n / 0x1 % 2) 1 q, ne-eqb (n / 0x2000 % 2) 1 h)
-
-      pub flagged-found : n / 0x2000 % 2 ≡ 1 → {b : Block} → b ≡ fieldsOf a → Found b ≡ flaggedOf a
-      unfolding flaggedOf
-      flagged-found h f = rw (← e, ne-eqb (n / 0x1000 % 2) 1 p, ne-eqb (n / 0x1 % 2) 1 q, eq-eqb (n / 0x2000 % 2) 1 h, f)
+    pub flagged-found : n / 0x2000 % 2 ≡ 1 → {b : Block} → b ≡ fieldsOf a → Found b ≡ flaggedOf a
+    unfolding flaggedOf
+    flagged-found h f = rw (← e, ne-eqb (n / 0x1000 % 2) 1 p, eq-eqb (n / 0x2000 % 2) 1 h, f)
 
 module _ (a : List ℕ) where
   pub header-first : (fieldAt a 0 ≡ 0x0A324655 → ⊥) → headerOf a ≡ NotBlock
@@ -87,21 +82,20 @@ pub header-is-block : (a : List ℕ) → headerOf a ≡ cond (isBlock a) (flagge
 unfolding headerOf isBlock
 header-is-block a = tests (eqb (fieldAt a 0) 0x0A324655) (eqb (fieldAt a 4) 0x9E5D5157) (eqb (fieldAt a 508) 0x0AB16F30) (flaggedOf a)
 
-flags-other : (p q r : Bool) (f : Block) → headerNumber (cond p Container (cond q Comment (cond (not r) NoFamily (Found f)))) ≡ 4 → ⊥
-flags-other true q r f e = omega arith
-flags-other false true r f e = omega arith
-flags-other false false true f e = omega arith
-flags-other false false false f e = omega arith
+flags-other : (p r : Bool) (f : Block) → headerNumber (cond p Container (cond (not r) NoFamily (Found f))) ≡ 4 → ⊥
+flags-other true r f e = omega arith
+flags-other false true f e = omega arith
+flags-other false false f e = omega arith
 
 -- the flags give no answer 4
 pub flagged-other : (a : List ℕ) → flaggedOf a ≡ NotBlock → ⊥
 unfolding flaggedOf
-flagged-other a e = flags-other (hasFlag a 0x1000) (hasFlag a 0x1) (hasFlag a 0x2000) (fieldsOf a) (ap headerNumber e)
+flagged-other a e = flags-other (hasFlag a 0x1000) (hasFlag a 0x2000) (fieldsOf a) (ap headerNumber e)
 
 -- ---- "Flags 0x4000 and 0x8000 don't change an answer"
 
 -- a field in which byte j does not lie
-field-set : (a : List ℕ) (j v at : ℕ) → (at + 4 ≤ j) ⊎ (j < at) → fieldAt (set a j v) at ≡ fieldAt a at
+pub field-set : (a : List ℕ) (j v at : ℕ) → (at + 4 ≤ j) ⊎ (j < at) → fieldAt (set a j v) at ≡ fieldAt a at
 unfolding fieldAt
 field-set a j v at o =
     rw (

@@ -7,7 +7,7 @@ use lib.Dec.{eqb, leb}
 use Rattle.sets.specs.Bytes.{numberIn}
 use Rattle.block.specs.declared.Block.{Block}
 use Rattle.block.specs.declared.Header.{Header}
-use Rattle.block.specs.declared.Header.the-variants.{NotBlock, Container, Comment, NoFamily, Found}
+use Rattle.block.specs.declared.Header.the-variants.{NotBlock, Container, NoFamily, Found}
 
 -- "Little-endian 32-bit fields": the field at an offset, or 0 where it runs past the end
 unfoldable pub fieldAt : List ℕ → ℕ → ℕ
@@ -17,7 +17,7 @@ fieldAt a at = cond (leb (at + 4) (length a)) (numberIn 4 a at) 0
 abbrev pub hasFlag : List ℕ → ℕ → Bool
 hasFlag a f = eqb (fieldAt a 8 / f % 2) 1
 
--- "12 address, 16 payload size, 20 block number, 24 total, 28 family"
+-- "12 address, 16 payload size, 20 block number, 24 total, 28 family", and whether it is a comment (02, L3): flag 0x1, "not main flash"
 unfoldable pub fieldsOf : List ℕ → Block
 fieldsOf a =
     record {
@@ -26,15 +26,15 @@ fieldsOf a =
       number = fieldAt a 20;
       total = fieldAt a 24;
       family = fieldAt a 28;
+      comment = hasFlag a 0x1;
     }
 
--- "Flags: 0x1 not main flash, 0x1000 container, 0x2000 family present", asked in the order of answers 5 (also when 0x1 is set), 6 and 7
+-- "Flags: .. 0x1000 container, 0x2000 family present", asked in the order of answers 5 ("also when 0x1 is set") and 7
 unfoldable pub flaggedOf : List ℕ → Header
 flaggedOf a =
     cond (hasFlag a 0x1000) Container
-    (cond (hasFlag a 0x1) Comment
     (cond (not (hasFlag a 0x2000)) NoFamily
-    (Found (fieldsOf a))))
+    (Found (fieldsOf a)))
 
 -- row 4 alone, for those who ask no later row: "0 magic 0x0A324655, 4 magic 0x9E5D5157, .. 508 magic 0x0AB16F30"
 unfoldable pub isBlock : List ℕ → Bool
@@ -52,6 +52,5 @@ headerOf a =
 abbrev pub headerNumber : Header → ℕ
 headerNumber NotBlock = 4
 headerNumber Container = 5
-headerNumber Comment = 6
 headerNumber NoFamily = 7
 headerNumber (Found b) = 0

@@ -5,20 +5,20 @@ ghost use Rattle.sets.specs.Numbered.{numbered};
 ghost use Rattle.block.specs.Block.{fieldAt, fieldsOf, flaggedOf, isBlock, headerOf, headerNumber};
 ghost use Rattle.block.specs.Write.{putAt};
 
-// The fields of a block that a header leaves to the checks after it.
+// The fields of a block that a header leaves to the checks after it, and whether it is a comment, which takes a number and holds no page.
 pub struct Block {
     pub address: u32,
     pub size: u32,
     pub number: u32,
     pub total: u32,
     pub family: u32,
+    pub comment: bool,
 }
 
 // What the header of an arrival says: a refusal, or a block.
 pub enum Header {
     NotBlock,
     Container,
-    Comment,
     NoFamily,
     Found(Block),
 }
@@ -98,6 +98,7 @@ fn fields(arrival: &[u8]) -> Block
         number: field(arrival, 20),
         total: field(arrival, 24),
         family: field(arrival, 28),
+        comment: field(arrival, 8) / Block::FLAG_NOT_MAIN_FLASH % 2 == 1,
     }
 }
 
@@ -108,9 +109,6 @@ fn flagged(arrival: &[u8]) -> Header
     let flags = field(arrival, 8);
     if flags / Block::FLAG_CONTAINER % 2 == 1 {
         return Header::Container;
-    }
-    if flags / Block::FLAG_NOT_MAIN_FLASH % 2 == 1 {
-        return Header::Comment;
     }
     if flags / Block::FLAG_FAMILY % 2 != 1 {
         return Header::NoFamily;

@@ -18,6 +18,7 @@ use Rattle.transfer.specs.Transfer.{numberOf, goodState, counted, accepted}
 use Rattle.transfer.specs.declared.Head.{Head}
 use Rattle.transfer.specs.declared.State.{State}
 use Rattle.transfer.specs.declared.State.the-variants.{Idle, Running, Done}
+use Rattle.transfer.specs.declared.Deed.{Deed}
 use Rattle.transfer.specs.declared.Accepted.{Accepted}
 use Rattle.transfer.specs.declared.Answer.{Answer}
 use Rattle.flash.specs.Flash.{payloadOf}
@@ -26,7 +27,7 @@ use Rattle.arrival.specs.Lists.{receiveAll, answersOf, discardsOf, Delivery, pl
 use Rattle.arrival.specs.Facts.{Refusals-change-nothing, Look-tells}
 use Rattle.arrival.specs.Tally.{headOf, anyAccepted, Count-is-marks}
 use Rattle.arrival.specs.Demand.{seenOf, Ends, List-ends, Completed-exactly, Same-set-same-end, Either-first}
-use Rattle.arrival.proofs.DecisionFacts.{AcceptFacts, DecisionFacts, kept, took, took-number, decided}
+use Rattle.arrival.proofs.DecisionFacts.{AcceptFacts, DecisionFacts, kept, took, took-number, decision-facts}
 use Rattle.arrival.proofs.Facts.{refusals-change-nothing, look-tells}
 use Rattle.arrival.proofs.Tally.{count-is-marks}
 use Rattle.arrival.proofs.Demand.{list-ends, completed-exactly, same-set-same-end, either-first}
@@ -65,7 +66,7 @@ unfolding counted
 counted-small g c hf ht =
     split (ltb c (g .total)) (λ y. let l = ltb-true c (g .total) y in rw y (hf, ht, omega arith)) (λ z. rw z (hf, ht))
 
-took-small : {t : State} {g : Head} {m : Bool} {k : Accepted} (a : List ℕ) → Bytes a → g ≡ headOf a → AcceptFacts t g m k → Small (k .transfer .state)
+took-small : {t : State} {g : Head} {m : Bool} {d : Deed} {k : Accepted} (a : List ℕ) → Bytes a → g ≡ headOf a → AcceptFacts t g m d k → Small (k .transfer .state)
 unfolding accepted
 took-small {g = g} a h e q =
     subst (λ (k : Accepted). Small (k .transfer .state)) (sym (q .is))
@@ -97,7 +98,7 @@ next-world s h a b =
     let z = settingsFrom s in
     let w = worldOf h in
     ap (λ (x : State). record { transfer = x; seen = receiveOf z w a .world .seen; held = receiveOf z w a .world .held })
-    (next-state z w a (payloadOf a) (h .transfer) refl b (decided z w a))
+    (next-state z w a (payloadOf a) (h .transfer) refl b (decision-facts z w a))
 
 -- ---- a list of calls
 

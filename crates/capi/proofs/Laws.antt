@@ -12,7 +12,7 @@ use borrow.Author.Tests.{eq-eqb, ne-eqb}
 use Rattle.settings.specs.declared.Settings.{Settings}
 use Rattle.transfer.specs.declared.Transfer.{Transfer}
 use Rattle.transfer.specs.declared.Answer.{Answer}
-use Rattle.transfer.specs.declared.Answer.the-variants.{BadBuffers, BadSettings, BadState, NotBlock, Container, Comment, NoFamily, NoPlace, BadPayload, BadNumbers, BadAddress, Finished, Again, Written, Completed}
+use Rattle.transfer.specs.declared.Answer.the-variants.{BadBuffers, BadSettings, BadState, NotBlock, Container, NoFamily, NoPlace, BadPayload, BadNumbers, BadAddress, Finished, Again, Written, Completed, Noted}
 use Rattle.transfer.specs.Transfer.{numberOf}
 use Rattle.place.specs.declared.PlaceAnswer.{PlaceAnswer}
 use Rattle.place.specs.declared.PlaceAnswer.the-variants as asked
@@ -33,7 +33,6 @@ number-most BadSettings = omega arith
 number-most BadState = omega arith
 number-most NotBlock = omega arith
 number-most Container = omega arith
-number-most Comment = omega arith
 number-most NoFamily = omega arith
 number-most NoPlace = omega arith
 number-most BadPayload = omega arith
@@ -43,6 +42,7 @@ number-most Finished = omega arith
 number-most Again = omega arith
 number-most Written = omega arith
 number-most Completed = omega arith
+number-most Noted = omega arith
 
 -- ---- a place asked for alone
 

@@ -74,7 +74,7 @@ lookResult o = resultOf (numberOf (o .answer)) (o .discarded)
 unfoldable pub lookBytes : List ℕ → List ℕ → List ℕ → Lent → ℕ
 lookBytes s t a h = lookResult (lookOf (settingsFrom s) (world (transferFrom t) h) a)
 
--- answers 14 and 15 accept the block
+-- answers 14 and more accept the block
 abbrev pub isAcceptance : ℕ → Bool
 isAcceptance n = leb 14 n
 

@@ -1,4 +1,4 @@
--- Every example of the table holds: one equation, computed. Assumes nothing.
+-- Every example of the tables holds: one equation each, computed. Assumes nothing.
 use mathlib.Core.Path.{refl}
 use Rattle.fill.specs.Many.{many}
 use Rattle.sets.specs.Bytes.{lowFirst, numberIn}
@@ -10,11 +10,15 @@ use Rattle.block.specs.Block.{fieldAt, fieldsOf, flaggedOf, headerOf}
 use Rattle.settings.specs.Settings.{hasUser, accepts, overlap, overlapAt, sharesSector, reservedUser, badEntry, goodSettings}
 use Rattle.place.specs.Place.{passQueryOf, passAllows, passTakes, firstOf, entryIf, inPass, chosen, chosenEntry, placeOf, askOf}
 use Rattle.transfer.specs.Transfer.{goodState, sameHead, counted, raised, accepted, stepOf}
-use Rattle.screen.specs.Screen.{placed, placedIn, screenOf}
+use Rattle.screen.specs.Screen.{placed, noted, found, placedIn, screenOf}
 use Rattle.arrival.specs.Arrive.{rightLengths, afterScreening, decide, clearedIf, wipedIf, preparedAt, pagedAt, acceptOf, done, receiveOf}
 use Rattle.arrival.specs.Lists.{receiveAll, answersOf, discardsOf}
-use Rattle.examples.specs.Examples.{examples, Examples-hold}
+use Rattle.examples.specs.Examples.{examples, Examples-hold, commentExamples, Comment-examples-hold}
 
 pub examples-hold : Examples-hold
-unfolding Examples-hold examples many any bit withBit markedIn withMark unmarked flashLength over eraseAt payloadOf storeAt lowFirst numberIn fieldAt fieldsOf flaggedOf headerOf hasUser accepts overlap overlapAt sharesSector reservedUser badEntry goodSettings passQueryOf passAllows passTakes firstOf entryIf inPass chosen chosenEntry placeOf askOf goodState sameHead counted raised accepted stepOf placed placedIn screenOf rightLengths afterScreening decide clearedIf wipedIf preparedAt pagedAt acceptOf done receiveOf receiveAll answersOf discardsOf
+unfolding Examples-hold examples many any bit withBit markedIn withMark unmarked flashLength over eraseAt payloadOf storeAt lowFirst numberIn fieldAt fieldsOf flaggedOf headerOf hasUser accepts overlap overlapAt sharesSector reservedUser badEntry goodSettings passQueryOf passAllows passTakes firstOf entryIf inPass chosen chosenEntry placeOf askOf goodState sameHead counted raised accepted stepOf placed noted found placedIn screenOf rightLengths afterScreening decide clearedIf wipedIf preparedAt pagedAt acceptOf done receiveOf receiveAll answersOf discardsOf
 examples-hold = refl
+
+pub comment-examples-hold : Comment-examples-hold
+unfolding Comment-examples-hold commentExamples many any bit withBit markedIn withMark unmarked flashLength over eraseAt payloadOf storeAt lowFirst numberIn fieldAt fieldsOf flaggedOf headerOf hasUser accepts overlap overlapAt sharesSector reservedUser badEntry goodSettings passQueryOf passAllows passTakes firstOf entryIf inPass chosen chosenEntry placeOf askOf goodState sameHead counted raised accepted stepOf placed noted found placedIn screenOf rightLengths afterScreening decide clearedIf wipedIf preparedAt pagedAt acceptOf done receiveOf receiveAll answersOf discardsOf
+comment-examples-hold = refl

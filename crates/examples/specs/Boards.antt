@@ -14,20 +14,28 @@ use Rattle.transfer.specs.declared.Head.{Head}
 use Rattle.transfer.specs.declared.State.{State}
 use Rattle.arrival.specs.Arrive.{World}
 
--- a block of family arm-s, "little-endian 32-bit fields": address, number, total, and the byte that fills its payload
-abbrev pub arrivalOf : ℕ → ℕ → ℕ → ℕ → List ℕ
-arrivalOf address number total fill =
+-- a block of family arm-s, "little-endian 32-bit fields": flags, address, payload size, number, total, and the byte that fills its payload
+abbrev pub blockWith : ℕ → ℕ → ℕ → ℕ → ℕ → ℕ → List ℕ
+blockWith flags address size number total fill =
     lowFirst 4 0x0A324655
     ++ lowFirst 4 0x9E5D5157
-    ++ lowFirst 4 0x2000
+    ++ lowFirst 4 flags
     ++ lowFirst 4 address
-    ++ lowFirst 4 256
+    ++ lowFirst 4 size
     ++ lowFirst 4 number
     ++ lowFirst 4 total
     ++ lowFirst 4 familyArmS
     ++ replicate 256 fill
     ++ replicate 220 0
     ++ lowFirst 4 0x0AB16F30
+
+-- a data block of 256 bytes: address, number, total, and the byte that fills its payload
+abbrev pub arrivalOf : ℕ → ℕ → ℕ → ℕ → List ℕ
+arrivalOf address number total fill = blockWith 0x2000 address 256 number total fill
+
+-- a comment, with an address in no window and no payload size that row 9 lets through: number, total
+abbrev pub commentOf : ℕ → ℕ → List ℕ
+commentOf number total = blockWith 0x2001 0xFFFFFF01 477 number total 8
 
 -- an unowned entry that accepts arm-s: its first sector, how many, and whether it is not bootable for Arm
 abbrev pub entryOf : ℕ → ℕ → Bool → Entry

@@ -1,12 +1,14 @@
--- A file, settings and a list that meet the hypotheses of demand 3, so that they are not empty. Proved in proofs/Instance.antt.
+-- Files, settings and lists that meet the hypotheses of demand 3, so that they are not empty. Proved in proofs/Instance.antt.
 -- Assumes nothing.
 use Prim.Native.Nat.{ℕ}
+use mathlib.Core.Bool.{cond}
 use mathlib.Core.List.{List, [], _∷_}
+use lib.Dec.{eqb}
 use Rattle.settings.specs.Settings.{familyArmS}
 use Rattle.transfer.specs.declared.State.the-variants.{Idle}
 use Rattle.arrival.specs.Arrive.{World}
 use Rattle.arrival.specs.Demand.{File, ValidFile, Sent}
-use Rattle.examples.specs.Boards.{arrivalOf, plain, lentTo}
+use Rattle.examples.specs.Boards.{arrivalOf, commentOf, plain, lentTo}
 use Rattle.examples.specs.Examples.{blockOfThree}
 
 -- three blocks of arm-s, at pages 0, 1 and 2
@@ -24,3 +26,22 @@ arrivals = blockOfThree 2 ∷ blockOfThree 0 ∷ blockOfThree 2 ∷ arrivalOf 0x
 -- the file is valid, and the list is one of its blocks and foreign arrivals
 unfoldable pub Hypotheses-are-met : Type 0
 Hypotheses-are-met = ValidFile plain start file × Sent plain start file arrivals
+
+-- the same with a comment as block 1 (02, L3)
+abbrev pub annotated : File
+annotated = record { total = 3; family = familyArmS; block = λ k. cond (eqb k 1) (commentOf 1 3) (blockOfThree k) }
+
+-- blocks 2, the comment, one past the flash (answer 11), a comment of another number than its total has (answer 10), the comment again, and 0
+abbrev pub annotatedArrivals : List (List ℕ)
+annotatedArrivals =
+    blockOfThree 2 ∷ commentOf 1 3 ∷ arrivalOf 0x10010000 0 3 1 ∷ commentOf 3 3 ∷ commentOf 1 3 ∷ blockOfThree 0 ∷ []
+
+unfoldable pub Met-with-a-comment : Type 0
+Met-with-a-comment = ValidFile plain start annotated × Sent plain start annotated annotatedArrivals
+
+-- two comments and no data, all at one address
+abbrev pub remarks : File
+remarks = record { total = 2; family = familyArmS; block = λ k. commentOf k 2 }
+
+unfoldable pub Met-by-comments-alone : Type 0
+Met-by-comments-alone = ValidFile plain start remarks × Sent plain start remarks (commentOf 1 2 ∷ commentOf 0 2 ∷ [])

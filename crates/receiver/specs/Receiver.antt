@@ -8,7 +8,7 @@ use denote.Triple.Both.{Both}
 use Rattle.settings.specs.declared.Settings.{Settings}
 use Rattle.transfer.specs.declared.Answer.{Answer}
 use Rattle.transfer.specs.declared.Transfer.{Transfer}
-use Rattle.arrival.specs.Arrive.{Held, Lent, World, Outcome, Decision, stays, accepts, decide, Forecast, forecast}
+use Rattle.arrival.specs.Arrive.{Held, Lent, World, Outcome, Decision, stays, accepts, decided, Forecast, forecast}
 use Rattle.receiver.specs.declared.Receipt.{Receipt}
 use Rattle.receiver.specs.declared.Preview.{Preview}
 use Rattle.receiver.specs.declared.Verdict.{Verdict}
@@ -53,11 +53,11 @@ outcome r h = record { world = world (r .transfer) h; answer = r .answer; discar
 -- what an arrival comes to, before anything is written
 abbrev pub decision : Verdict → Decision
 decision (Leaves x) = stays x
-decision (Accepts k) = accepts (k .page) (k .accepted)
+decision (Accepts k) = accepts (k .placed) (k .deed) (k .accepted)
 
 -- what the checks decide of an arrival, for a transfer and the buffers that are lent
 unfoldable pub decisionIn : Settings → World → List ℕ → Decision
-decisionIn s w a = decide s (length (w .held .flash)) (length (w .held .sectors)) (w .transfer) (w .seen) a
+decisionIn s w a = decided s w a
 
 -- what a look returns
 abbrev pub previewed : Preview → Forecast

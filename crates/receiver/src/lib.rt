@@ -7,11 +7,14 @@ ghost use Rattle.transfer.specs.Transfer.{stepOf};
 ghost use Rattle.arrival.specs.Arrive.{
   outcomeNumber,
   rightLengths,
+  deedOf,
   stepped,
   clearedIf,
   wipedIf,
   preparedAt,
   pagedAt,
+  atOf,
+  doneTo,
   accepts,
   done,
   receiveOf,
@@ -21,11 +24,13 @@ ghost use Rattle.arrival.specs.Arrive.{
 ghost use Rattle.receiver.specs.Receiver.{held, lentAt, leftAt, world, refusal, outcome, decision, decisionIn, previewed};
 use block::Block;
 use flash::Flash;
-use screen::Page;
+use screen::Body;
+use screen::Placed;
 use screen::Screening;
 use settings::Settings;
 use transfer::Accepted;
 use transfer::Answer;
+use transfer::Deed;
 use transfer::Step;
 use transfer::Transfer;
 
@@ -49,9 +54,10 @@ pub struct Preview {
     pub discarded: bool,
 }
 
-// A block that is accepted: its page, and what it does to the transfer.
+// A block that is accepted: its number and what it holds, what is done with that, and what the block does to the transfer.
 pub struct Acceptance {
-    pub page: Page,
+    pub placed: Placed,
+    pub deed: Deed,
     pub accepted: Accepted,
 }
 
@@ -108,21 +114,54 @@ fn store(at: usize, clears: bool, arrival: &[u8], flash: &mut [u8], sectors: &mu
     bitmap::mark(sectors, sector);
 }
 
+// What a block does once it is accepted.
+fn deed_of(body: Body) -> Deed
+    ensures { λ r. ⌜ r ≡ deedOf body ⌝ }
+{
+    match body {
+        Body::Page(_) => Deed::Stores,
+        Body::Note => Deed::Notes,
+    }
+}
+
+// The storage address of a page. A comment has none, and nothing asks for its.
+fn page_at(body: Body) -> usize
+    ensures { λ r. ⌜ r ≡ atOf body ⌝ }
+{
+    match body {
+        Body::Page(at) => at,
+        Body::Note => 0,
+    }
+}
+
+// Stores a page, or only clears the sector map where a comment begins a transfer.
+fn write(deed: Deed, at: usize, clears: bool, arrival: &[u8], flash: &mut [u8], sectors: &mut [u8])
+    ensures { λ _. ⌜ held (now (flash .exit)) (now (sectors .exit)) ≡ doneTo deed at (payloadOf (now (arrival .entry))) (wipedIf clears (held (now (flash .entry)) (now (sectors .entry)))) ⌝ }
+{
+    match deed {
+        Deed::Stores => store(at, clears, arrival, flash, sectors),
+        Deed::Notes => clear_if(clears, sectors),
+    }
+}
+
 // Writes a block that is accepted.
 fn accept(
-    page: Page,
+    placed: Placed,
+    deed: Deed,
     accepted: Accepted,
     arrival: &[u8],
     flash: &mut [u8],
     seen: &mut [u8],
     sectors: &mut [u8],
 ) -> Receipt
-    ensures { λ r. ⌜ outcome r (leftAt flash seen sectors) ≡ done (world (accepted .transfer) (lentAt flash seen sectors)) (payloadOf (now (arrival .entry))) (accepts page accepted) ⌝ }
+    ensures { λ r. ⌜ outcome r (leftAt flash seen sectors) ≡ done (world (accepted .transfer) (lentAt flash seen sectors)) (payloadOf (now (arrival .entry))) (accepts placed deed accepted) ⌝ }
 {
     let next = accepted.transfer;
     let given = accepted.answer;
-    let number = page.number as usize;
-    store(page.at, accepted.clears, arrival, flash, sectors);
+    let number = placed.number as usize;
+    let body = placed.body;
+    let at = page_at(body);
+    write(deed, at, accepted.clears, arrival, flash, sectors);
     clear_if(accepted.clears, seen);
     bitmap::mark(seen, number);
     Receipt {
@@ -132,20 +171,26 @@ fn accept(
     }
 }
 
-// Rows 12 to 15, of a block that has passed the screening.
-fn settle(transfer: Transfer, page: Page, seen: &[u8]) -> Verdict
-    ensures { λ r. ⌜ decision r ≡ stepped page (stepOf (transfer .state) (page .head) (markedIn (now (seen .entry)) (page .number))) ⌝ }
+// Rows 12 to 16, of a block that has passed the screening.
+fn settle(transfer: Transfer, placed: Placed, seen: &[u8]) -> Verdict
+    ensures { λ r. ⌜ decision r ≡ stepped placed (deedOf (placed .body)) (stepOf (transfer .state) (placed .head) (markedIn (now (seen .entry)) (placed .number)) (deedOf (placed .body))) ⌝ }
 {
-    let head = page.head;
-    let number = page.number as usize;
+    let head = placed.head;
+    let number = placed.number as usize;
+    let body = placed.body;
     let marked = bitmap::marked(seen, number);
-    let step = transfer.step(head, marked);
+    let deed = deed_of(body);
+    let step = transfer.step(head, marked, deed);
     match step {
         Step::Stays(unchanged) => {
             let answer = unchanged.answer;
             Verdict::Leaves(answer)
         }
-        Step::Accepts(accepted) => Verdict::Accepts(Acceptance { page, accepted }),
+        Step::Accepts(accepted) => Verdict::Accepts(Acceptance {
+            placed,
+            deed,
+            accepted,
+        }),
     }
 }
 
@@ -173,7 +218,7 @@ fn judge(
     let screening = screen::screen(settings, len, arrival);
     match screening {
         Screening::Refused(answer) => Verdict::Leaves(answer),
-        Screening::Passed(page) => settle(transfer, page, seen),
+        Screening::Passed(placed) => settle(transfer, placed, seen),
     }
 }
 
@@ -220,9 +265,10 @@ pub fn take(
     match verdict {
         Verdict::Leaves(answer) => refuse(transfer, answer),
         Verdict::Accepts(acceptance) => {
-            let page = acceptance.page;
+            let placed = acceptance.placed;
+            let deed = acceptance.deed;
             let accepted = acceptance.accepted;
-            accept(page, accepted, arrival, flash, seen, sectors)
+            accept(placed, deed, accepted, arrival, flash, seen, sectors)
         }
     }
 }

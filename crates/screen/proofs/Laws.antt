@@ -22,7 +22,8 @@ use Rattle.place.specs.declared.Place.the-variants.{At}
 use Rattle.transfer.specs.Transfer.{headWith}
 use Rattle.transfer.specs.declared.Head.{Head}
 use Rattle.transfer.specs.declared.Answer.the-variants.{BadPayload, BadNumbers, BadAddress}
-use Rattle.screen.specs.Screen.{badNumbers, badAddress, placed, afterHeader, placedIn, screenOf, screeningNumber}
+use Rattle.screen.specs.Screen.{badNumbers, badAddress, placed, noted, found, afterHeader, placedIn, screenOf, screeningNumber}
+use Rattle.screen.specs.declared.Body.the-variants.{Page, Note}
 use Rattle.screen.specs.declared.Screening.{Screening}
 use Rattle.screen.specs.declared.Screening.the-variants.{Refused, Passed}
 
@@ -72,58 +73,83 @@ module _ (size : ℕ) (b : Block) where
         inside = ltb-false _ _ (or-right (w || m) i h);
       }
 
--- ---- a block beside its place
+  -- row 10 by cases, as the code asks it
+  pub numbers-wrong : (Numbers size b → ⊥) → true ≡ badNumbers size b
+  numbers-wrong n = split (badNumbers size b) sym (λ h. absurd (n (numbers-false h)))
+
+  pub numbers-last : b .total ≢ 0 → b .total * 256 ≤ size → leb (b .total) (b .number) ≡ badNumbers size b
+  numbers-last n m = rw (ne-eqb (b .total) 0 n, le-ltb size (b .total * 256) m)
+
+-- ---- a data block beside its place
 
 module _ (start size : ℕ) (b : Block) where
-  pub placed-payload : b .size ≢ 256 → placed (At start size) b ≡ Refused BadPayload
+  pub placed-payload : b .size ≢ 256 → placed start size b ≡ Refused BadPayload
   unfolding placed
   placed-payload n = rw (ne-eqb (b .size) 256 n)
 
   module _ (p : b .size ≡ 256) where
-    numbers-true : badNumbers size b ≡ true → placed (At start size) b ≡ Refused BadNumbers
+    pub placed-numbers : badNumbers size b ≡ true → placed start size b ≡ Refused BadNumbers
     unfolding placed
-    numbers-true h = rw (eq-eqb (b .size) 256 p, h)
+    placed-numbers h = rw (eq-eqb (b .size) 256 p, h)
 
-    pub placed-numbers : (Numbers size b → ⊥) → placed (At start size) b ≡ Refused BadNumbers
-    placed-numbers n = split (badNumbers size b) numbers-true (λ h. absurd (n (numbers-false size b h)))
-
-    module _ (n : Numbers size b) where
-      address-true : badAddress size b ≡ true → placed (At start size) b ≡ Refused BadAddress
+    module _ (n : badNumbers size b ≡ false) where
+      address-true : badAddress size b ≡ true → placed start size b ≡ Refused BadAddress
       unfolding placed
-      address-true h = rw (eq-eqb (b .size) 256 p, numbers-right size b n, h)
+      address-true h = rw (eq-eqb (b .size) 256 p, n, h)
 
-      pub placed-address : (Address size b → ⊥) → placed (At start size) b ≡ Refused BadAddress
+      pub placed-address : (Address size b → ⊥) → placed start size b ≡ Refused BadAddress
       placed-address a = split (badAddress size b) address-true (λ h. absurd (a (address-false size b h)))
 
       pub placed-passed : Address size b → {g : Head} → g ≡ headWith (b .family) (b .total)
-          → Passed (record { head = g; number = b .number; at = start + (b .address - 0x10000000) }) ≡ placed (At start size) b
+          → Passed (record { head = g; number = b .number; body = Page (start + (b .address - 0x10000000)) }) ≡ placed start size b
       unfolding placed
-      placed-passed a e = rw (eq-eqb (b .size) 256 p, numbers-right size b n, address-right size b a, e)
+      placed-passed a e = rw (eq-eqb (b .size) 256 p, n, address-right size b a, e)
+
+-- ---- a comment beside its place
+
+module _ (size : ℕ) (b : Block) where
+  pub noted-numbers : badNumbers size b ≡ true → noted size b ≡ Refused BadNumbers
+  unfolding noted
+  noted-numbers h = rw h
+
+  pub noted-passed : badNumbers size b ≡ false → {g : Head} → g ≡ headWith (b .family) (b .total)
+      → Passed (record { head = g; number = b .number; body = Note }) ≡ noted size b
+  unfolding noted
+  noted-passed h e = rw (h, e)
+
+-- ---- a block whose family has a place
+
+module _ (start size : ℕ) (b : Block) where
+  pub found-comment : b .comment ≡ true → found (At start size) b ≡ noted size b
+  unfolding found
+  found-comment h = rw h
+
+  pub found-data : b .comment ≡ false → found (At start size) b ≡ placed start size b
+  unfolding found
+  found-data h = rw h
 
 -- ---- an arrival
 
 -- a header that is none but a refusal, by its tag
-pub refusal-header : (h : Header) → OneOf (0 ∷ 1 ∷ 2 ∷ 3 ∷ []) (tagOf the-type h) → headerNumber h ≢ 0
+pub refusal-header : (h : Header) → OneOf (0 ∷ 1 ∷ 2 ∷ []) (tagOf the-type h) → headerNumber h ≢ 0
 refusal-header header.NotBlock n = λ e. omega arith
 refusal-header header.Container n = λ e. omega arith
-refusal-header header.Comment n = λ e. omega arith
 refusal-header header.NoFamily n = λ e. omega arith
-refusal-header (header.Found b) n = absurd (⊎-elim (λ x. omega arith) (⊎-elim (λ x. omega arith) (⊎-elim (λ x. omega arith) (λ x. omega arith))) n)
+refusal-header (header.Found b) n = absurd (⊎-elim (λ x. omega arith) (⊎-elim (λ x. omega arith) (λ x. omega arith)) n)
 
 module _ (s : Settings) (len : ℕ) (a : List ℕ) where
   pub screen-header : {h : Header} → h ≡ headerOf a → {x : Screening} → x ≡ afterHeader h (placedIn s len) → x ≡ screenOf s len a
   unfolding screenOf
   screen-header e q = rw (sym e) q
 
-  pub screen-placed : (b : Block) (p : Place) → headerOf a ≡ header.Found b → placeOf s len (b .family) ≡ p → screenOf s len a ≡ placed p b
+  pub screen-found : (b : Block) (p : Place) → headerOf a ≡ header.Found b → placeOf s len (b .family) ≡ p → screenOf s len a ≡ found p b
   unfolding screenOf placedIn
-  screen-placed b p e q = rw (e, q)
+  screen-found b p e q = rw (e, q)
 
 -- ---- the numbers of the header's refusals are the answers'
 
 pub refusal-number : (h : Header) (next : Block → Screening) → headerNumber h ≢ 0 → screeningNumber (afterHeader h next) ≡ headerNumber h
 refusal-number header.NotBlock next n = refl
 refusal-number header.Container next n = refl
-refusal-number header.Comment next n = refl
 refusal-number header.NoFamily next n = refl
 refusal-number (header.Found b) next n = absurd (n refl)

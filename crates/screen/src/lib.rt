@@ -5,7 +5,7 @@ ghost use Rattle.place.specs.declared.Place.the-variants.{At};
 ghost use mathlib.Core.Logic.{_≢_};
 ghost use Rattle.sets.specs.Numbered.{numbered};
 ghost use Rattle.block.specs.Block.{headerNumber};
-ghost use Rattle.screen.specs.Screen.{HeaderAnswer, placed, screenOf, screeningNumber};
+ghost use Rattle.screen.specs.Screen.{HeaderAnswer, badNumbers, placed, noted, found, screenOf, screeningNumber};
 use block::Block;
 use block::Header;
 use flash::Flash;
@@ -14,19 +14,25 @@ use settings::Settings;
 use transfer::Answer;
 use transfer::Head;
 
-// A block that passes: its head, its number, and the storage address of its payload.
-pub struct Page {
+// What a block holds: a page, with its storage address, or a comment, which has none.
+pub enum Body {
+    Page(usize),
+    Note,
+}
+
+// A block that passes: its head, its number, and what it holds.
+pub struct Placed {
     pub head: Head,
     pub number: u32,
-    pub at: usize,
+    pub body: Body,
 }
 
 pub enum Screening {
     Refused(Answer),
-    Passed(Page),
+    Passed(Placed),
 }
 
-impl Page {
+impl Placed {
     // Where the address window begins, which is where a place's first byte is seen.
     pub const WINDOW: usize = 0x10000000;
 }
@@ -39,50 +45,84 @@ fn header_answer(h: Header) -> Answer
     match h {
         Header::NotBlock => Answer::NotBlock,
         Header::Container => Answer::Container,
-        Header::Comment => Answer::Comment,
         Header::NoFamily => Answer::NoFamily,
         Header::Found(_) => Answer::NotBlock,
     }
 }
 
-// A block beside its place. Sums and products are of 64 bits, since each may pass 32.
+// Row 10. The product is of 64 bits, since it may pass 32.
+fn bad_numbers(b: Block, size: usize) -> bool
+    ensures { λ r. ⌜ r ≡ badNumbers size b ⌝ }
+{
+    if b.total == 0 {
+        return true;
+    }
+    if size < b.total as usize * Flash::PAYLOAD {
+        return true;
+    }
+    b.total <= b.number
+}
+
+// A data block beside its place. The sum is of 64 bits, since it may pass 32.
 fn fits_place(b: Block, start: usize, size: usize) -> Screening
     requires { ⌜ start < 0x100000000000 ⌝ }
-    ensures { λ r. ⌜ r ≡ placed (At start size) b ⌝ }
+    ensures { λ r. ⌜ r ≡ placed start size b ⌝ }
 {
     if b.size as usize != Flash::PAYLOAD {
         return Screening::Refused(Answer::BadPayload);
     }
-    if b.total == 0 {
-        return Screening::Refused(Answer::BadNumbers);
-    }
-    if size < b.total as usize * Flash::PAYLOAD {
-        return Screening::Refused(Answer::BadNumbers);
-    }
-    if b.total <= b.number {
+    if bad_numbers(b, size) {
         return Screening::Refused(Answer::BadNumbers);
     }
     let address = b.address as usize;
-    if address < Page::WINDOW {
+    if address < Placed::WINDOW {
         return Screening::Refused(Answer::BadAddress);
     }
     if address % Flash::PAYLOAD != 0 {
         return Screening::Refused(Answer::BadAddress);
     }
     let past = address + Flash::PAYLOAD;
-    if size < past - Page::WINDOW {
+    if size < past - Placed::WINDOW {
         return Screening::Refused(Answer::BadAddress);
     }
-    let at = start + (address - Page::WINDOW);
+    let at = start + (address - Placed::WINDOW);
     let head = Head::new(b.family, b.total);
-    Screening::Passed(Page {
+    let body = Body::Page(at);
+    Screening::Passed(Placed {
         head,
         number: b.number,
-        at,
+        body,
     })
 }
 
-// Rows 4 to 11: the first that refuses the arrival, or its page.
+// A comment beside its place: of its fields, its numbers alone are asked.
+fn note(b: Block, size: usize) -> Screening
+    ensures { λ r. ⌜ r ≡ noted size b ⌝ }
+{
+    let bad = bad_numbers(b, size);
+    if bad {
+        return Screening::Refused(Answer::BadNumbers);
+    }
+    let head = Head::new(b.family, b.total);
+    Screening::Passed(Placed {
+        head,
+        number: b.number,
+        body: Body::Note,
+    })
+}
+
+// A block whose family has a place.
+fn check(b: Block, start: usize, size: usize) -> Screening
+    requires { ⌜ start < 0x100000000000 ⌝ }
+    ensures { λ r. ⌜ r ≡ found (At start size) b ⌝ }
+{
+    if b.comment {
+        return note(b, size);
+    }
+    fits_place(b, start, size)
+}
+
+// Rows 4 to 11: the first that refuses the arrival, or what it holds.
 pub fn screen(settings: Settings, flash_len: usize, arrival: &[u8]) -> Screening
     ensures { λ r. ⌜ numbered screeningNumber r ≡ numbered screeningNumber (screenOf settings «flash_len» (now (arrival .entry))) ⌝ }
 {
@@ -93,6 +133,6 @@ pub fn screen(settings: Settings, flash_len: usize, arrival: &[u8]) -> Screening
     let p = place::find(settings, flash_len, b.family);
     match p {
         Place::Nowhere => Screening::Refused(Answer::NoPlace),
-        Place::At { start, len } => fits_place(b, start, len),
+        Place::At { start, len } => check(b, start, len),
     }
 }

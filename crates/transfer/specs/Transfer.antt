@@ -1,4 +1,4 @@
--- The transfer (01, "One arrival, checks in this order"): its answers' numbers, row 3, and rows 12 to 15. Assumes nothing.
+-- The transfer (01, "One arrival, checks in this order"): its answers' numbers, row 3, and rows 12 to 15 with 02's 16. Assumes nothing.
 use Prim.Native.Nat.{ℕ, _+_}
 use mathlib.Core.Bool.{Bool, true, false, _&&_, cond}
 use lib.Dec.{ltb, leb, eqb}
@@ -10,17 +10,18 @@ use Rattle.transfer.specs.declared.Unchanged.{Unchanged}
 use Rattle.transfer.specs.declared.Accepted.{Accepted}
 use Rattle.transfer.specs.declared.Step.{Step}
 use Rattle.transfer.specs.declared.Step.the-variants.{Stays, Accepts}
+use Rattle.transfer.specs.declared.Deed.{Deed}
+use Rattle.transfer.specs.declared.Deed.the-variants.{Stores, Notes}
 use Rattle.transfer.specs.declared.Answer.{Answer}
-use Rattle.transfer.specs.declared.Answer.the-variants.{BadBuffers, BadSettings, BadState, NotBlock, Container, Comment, NoFamily, NoPlace, BadPayload, BadNumbers, BadAddress, Finished, Again, Written, Completed}
+use Rattle.transfer.specs.declared.Answer.the-variants.{BadBuffers, BadSettings, BadState, NotBlock, Container, NoFamily, NoPlace, BadPayload, BadNumbers, BadAddress, Finished, Again, Written, Completed, Noted}
 
--- 01's numbers of the answers
+-- the numbers of the answers: 01's, without its 6 (02, L3: "Its answer 6 goes"), which no answer has again, and 02's 16
 abbrev pub numberOf : Answer → ℕ
 numberOf BadBuffers = 1
 numberOf BadSettings = 2
 numberOf BadState = 3
 numberOf NotBlock = 4
 numberOf Container = 5
-numberOf Comment = 6
 numberOf NoFamily = 7
 numberOf NoPlace = 8
 numberOf BadPayload = 9
@@ -30,6 +31,7 @@ numberOf Finished = 12
 numberOf Again = 13
 numberOf Written = 14
 numberOf Completed = 15
+numberOf Noted = 16
 
 -- "A fresh transfer is Idle"
 abbrev pub fresh : Transfer
@@ -63,32 +65,37 @@ sameHead g h = eqb (g .family) (h .family) && eqb (g .total) (h .total)
 unfoldable pub counted : Head → ℕ → State
 counted g c = cond (ltb c (g .total)) (running g c) (Done g)
 
--- rows 14 and 15: Written where "the raised count is under the block's total", Completed otherwise
-unfoldable pub raised : Head → ℕ → Answer
-raised g c = cond (ltb c (g .total)) Written Completed
+-- the answer of a block that does not complete: row 14, or for a comment "new answer 16 Noted" (02, L3)
+abbrev pub deedAnswer : Deed → Answer
+deedAnswer Stores = Written
+deedAnswer Notes = Noted
+
+-- rows 14 and 15 (and 16): that answer where "the raised count is under the block's total", Completed otherwise
+unfoldable pub raised : Deed → Head → ℕ → Answer
+raised d g c = cond (ltb c (g .total)) (deedAnswer d) Completed
 
 -- the transfer as it was, with an answer
 abbrev pub keptState : State → Answer → Unchanged
 keptState t x = record { transfer = record { state = t }; answer = x }
 
 -- a block of head g is accepted, and c is the raised count
-unfoldable pub accepted : Bool → Bool → Head → ℕ → Accepted
-accepted clears discards g c =
+unfoldable pub accepted : Deed → Bool → Bool → Head → ℕ → Accepted
+accepted d clears discards g c =
     record {
       transfer = record { state = counted g c };
-      answer = raised g c;
+      answer = raised d g c;
       discarded = discards;
       clears = clears;
     }
 
--- rows 12 to 15, of a block of head g whose number is marked or not
-unfoldable pub stepOf : State → Head → Bool → Step
-stepOf Idle g marked = Accepts (accepted true false g 1)
-stepOf (Running r) g marked =
+-- rows 12 to 15 (and 16), of a block of head g whose number is marked or not, and which does d once it is accepted
+unfoldable pub stepOf : State → Head → Bool → Deed → Step
+stepOf Idle g marked d = Accepts (accepted d true false g 1)
+stepOf (Running r) g marked d =
     cond (sameHead (r .head) g)
-    (cond marked (Stays (keptState (Running r) Again)) (Accepts (accepted false false g (r .count + 1))))
-    (Accepts (accepted true true g 1))
-stepOf (Done h) g marked = Stays (keptState (Done h) Finished)
+    (cond marked (Stays (keptState (Running r) Again)) (Accepts (accepted d false false g (r .count + 1))))
+    (Accepts (accepted d true true g 1))
+stepOf (Done h) g marked d = Stays (keptState (Done h) Finished)
 
 -- the number of a step's answer
 abbrev pub stepNumber : Step → ℕ

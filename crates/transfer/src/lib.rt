@@ -2,7 +2,7 @@
 ghost use mathlib.Core.Path.{_≡_};
 ghost use Prim.Native.Nat.{_+_};
 ghost use Rattle.sets.specs.Numbered.{numbered};
-ghost use Rattle.transfer.specs.Transfer.{headWith, numberOf, fresh, goodState, sameHead, accepted, stepOf, stepNumber};
+ghost use Rattle.transfer.specs.Transfer.{headWith, numberOf, fresh, goodState, sameHead, deedAnswer, accepted, stepOf, stepNumber};
 
 // What makes two blocks one transfer.
 pub struct Head {
@@ -34,6 +34,12 @@ pub struct Transfer {
     pub state: State,
 }
 
+// What a block does once it is accepted: it stores a page, or it is a comment, which is noted and stores nothing.
+pub enum Deed {
+    Stores,
+    Notes,
+}
+
 // The answers to an arrival, in the order of the checks.
 pub enum Answer {
     BadBuffers,
@@ -41,7 +47,6 @@ pub enum Answer {
     BadState,
     NotBlock,
     Container,
-    Comment,
     NoFamily,
     NoPlace,
     BadPayload,
@@ -51,6 +56,7 @@ pub enum Answer {
     Again,
     Written,
     Completed,
+    Noted,
 }
 
 // A block that changes nothing: the next transfer, which is the one that was, and the answer.
@@ -83,7 +89,6 @@ impl Answer {
             Answer::BadState => 3,
             Answer::NotBlock => 4,
             Answer::Container => 5,
-            Answer::Comment => 6,
             Answer::NoFamily => 7,
             Answer::NoPlace => 8,
             Answer::BadPayload => 9,
@@ -93,6 +98,7 @@ impl Answer {
             Answer::Again => 13,
             Answer::Written => 14,
             Answer::Completed => 15,
+            Answer::Noted => 16,
         }
     }
 }
@@ -103,9 +109,19 @@ fn same_head(g: Head, h: Head) -> bool
     (g.family == h.family) & (g.total == h.total)
 }
 
+// The answer to a block that does not complete its transfer.
+fn deed_answer(deed: Deed) -> Answer
+    ensures { λ r. ⌜ r ≡ deedAnswer deed ⌝ }
+{
+    match deed {
+        Deed::Stores => Answer::Written,
+        Deed::Notes => Answer::Noted,
+    }
+}
+
 // A block is accepted after `before` others. The raised count may not fit 32 bits, so it is compared in 64.
-fn accept(head: Head, before: u32, clears: bool, discarded: bool) -> Accepted
-    ensures { λ r. ⌜ r ≡ accepted clears discarded head (before + 1) ⌝ }
+fn accept(deed: Deed, head: Head, before: u32, clears: bool, discarded: bool) -> Accepted
+    ensures { λ r. ⌜ r ≡ accepted deed clears discarded head (before + 1) ⌝ }
 {
     let raised = before as u64 + 1;
     if raised < head.total as u64 {
@@ -115,7 +131,7 @@ fn accept(head: Head, before: u32, clears: bool, discarded: bool) -> Accepted
         let transfer = Transfer { state };
         return Accepted {
             transfer,
-            answer: Answer::Written,
+            answer: deed_answer(deed),
             discarded,
             clears,
         };
@@ -155,14 +171,14 @@ impl Transfer {
         }
     }
 
-    // What a block of this head does, whose number is marked or not.
-    pub fn step(self, head: Head, marked: bool) -> Step
-        ensures { λ r. ⌜ numbered stepNumber r ≡ numbered stepNumber (stepOf (self .state) head marked) ⌝ }
+    // What a block of this head does, whose number is marked or not, and which does `deed` once it is accepted.
+    pub fn step(self, head: Head, marked: bool, deed: Deed) -> Step
+        ensures { λ r. ⌜ numbered stepNumber r ≡ numbered stepNumber (stepOf (self .state) head marked deed) ⌝ }
     {
         let state = self.state;
         match state {
-            State::Idle => Step::Accepts(accept(head, 0, true, false)),
-            State::Running(run) => go_on(run, head, marked),
+            State::Idle => Step::Accepts(accept(deed, head, 0, true, false)),
+            State::Running(run) => go_on(run, head, marked, deed),
             State::Done(_) => Step::Stays(Unchanged {
                 transfer: self,
                 answer: Answer::Finished,
@@ -172,12 +188,12 @@ impl Transfer {
 }
 
 // What a block of this head does to a running transfer.
-fn go_on(run: Run, head: Head, marked: bool) -> Step
-    ensures { λ r. ⌜ r ≡ stepOf (State.Running run) head marked ⌝ }
+fn go_on(run: Run, head: Head, marked: bool, deed: Deed) -> Step
+    ensures { λ r. ⌜ r ≡ stepOf (State.Running run) head marked deed ⌝ }
 {
     let current = run.head;
     if !same_head(current, head) {
-        return Step::Accepts(accept(head, 0, true, true));
+        return Step::Accepts(accept(deed, head, 0, true, true));
     }
     if marked {
         let state = State::Running(run);
@@ -187,5 +203,5 @@ fn go_on(run: Run, head: Head, marked: bool) -> Step
             answer: Answer::Again,
         });
     }
-    Step::Accepts(accept(head, run.count, false, false))
+    Step::Accepts(accept(deed, head, run.count, false, false))
 }

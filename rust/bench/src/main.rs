@@ -4,6 +4,7 @@
 mod hex;
 mod once;
 mod table;
+mod tags;
 
 use std::hint::black_box;
 use std::time::Instant;
@@ -170,12 +171,19 @@ fn places(name: &str, s: &Settings) {
     );
 }
 
-/// A file as it arrives: in order or shuffled, and whole, or with a payload size that row 9 refuses.
+/// A file as it arrives: in order or shuffled; of data, of data with a payload size that row 9 refuses, or of comments.
 #[derive(Clone, Copy)]
 struct Sent {
     blocks: u32,
     shuffled: bool,
-    refused: bool,
+    kind: Kind,
+}
+
+#[derive(Clone, Copy, PartialEq)]
+enum Kind {
+    Data,
+    Refused,
+    Comments,
 }
 
 /// Every buffer set to zeros, and handed on.
@@ -211,10 +219,17 @@ fn blocks(sent: Sent) -> Vec<u8> {
         .iter()
         .flat_map(|&k| page(reference::ARM_S, sent.blocks, k))
         .collect();
-    if sent.refused {
+    let field = match sent.kind {
+        Kind::Data => return file,
         // 257 bytes of payload: settings, header and place are asked, and nothing is stored
-        file.iter_mut().skip(16).step_by(512).for_each(|b| *b = 1);
-    }
+        Kind::Refused => 16,
+        // flag 0x1
+        Kind::Comments => 8,
+    };
+    file.iter_mut()
+        .skip(field)
+        .step_by(512)
+        .for_each(|b| *b = 1);
     file
 }
 
@@ -311,14 +326,18 @@ fn main() {
     // the last entry has room for so many
     let room = (FLASH / 4096 - 15) as u32 * 16;
     for (table, s, blocks) in [("no table", &none, 131_072), ("16 entries", &full, room)] {
-        let sent = |shuffled, refused| Sent {
+        let sent = |shuffled, kind| Sent {
             blocks,
             shuffled,
-            refused,
+            kind,
         };
         let checks =
             format!("settings, header and place of an arrival that row 9 refuses, {table}");
-        file(&checks, s, sent(false, true), Way::All);
+        file(&checks, s, sent(false, Kind::Refused), Way::All);
+        let comments = format!(
+            "a comment of {blocks} in order, {table}, all in one call, plain checks at each"
+        );
+        file(&comments, s, sent(false, Kind::Comments), Way::All);
         for (how, way) in [
             ("all in one call, plain checks at each", Way::All),
             ("all in one call, plain judges once", Way::AllOnce),
@@ -331,10 +350,11 @@ fn main() {
                 // a look stores nothing, so that the order says nothing
                 if way != Way::Look || !shuffled {
                     let name = format!("an arrival of {blocks} {order}, {table}, {how}");
-                    file(&name, s, sent(shuffled, false), way);
+                    file(&name, s, sent(shuffled, Kind::Data), way);
                 }
             }
         }
     }
     hex::rows();
+    tags::row();
 }

@@ -14,12 +14,12 @@ struct Found {
     place: Option<(usize, usize)>,
 }
 
-/// What an arrival is stored as.
+/// A block that rows 3 to 11 let through, and where it is stored; a comment is not.
 struct Page {
     family: u32,
     total: u32,
     number: u32,
-    at: usize,
+    at: Option<usize>,
 }
 
 /// Whole arrivals, as many as there are results for: their number.
@@ -82,7 +82,6 @@ fn screen(
     }
     match field(8) {
         flags if flags & 0x1000 != 0 => return Err(5),
-        flags if flags & 0x1 != 0 => return Err(6),
         flags if flags & 0x2000 == 0 => return Err(7),
         _ => {}
     }
@@ -96,25 +95,30 @@ fn screen(
         }
     };
     let (start, size) = place.ok_or(8)?;
-    if field(16) as usize != PAYLOAD_LEN {
+    let comment = field(8) & 0x1 != 0;
+    if !comment && field(16) as usize != PAYLOAD_LEN {
         return Err(9);
     }
     if total == 0 || total as usize * PAYLOAD_LEN > size || number >= total {
         return Err(10);
     }
+    let page = |at| Page {
+        family,
+        total,
+        number,
+        at,
+    };
+    if comment {
+        return Ok(page(None));
+    }
     let offset = field(12).checked_sub(WINDOW).ok_or(11)? as usize;
     if !offset.is_multiple_of(PAYLOAD_LEN) || offset + PAYLOAD_LEN > size {
         return Err(11);
     }
-    Ok(Page {
-        family,
-        total,
-        number,
-        at: start + offset,
-    })
+    Ok(page(Some(start + offset)))
 }
 
-/// Rows 12 to 15, and what they store: the result.
+/// Rows 12 to 16, and what they store: the result.
 fn settle(t: &mut Transfer, page: &Page, payload: &[u8], lent: &mut Buffers) -> u8 {
     let (family, total) = (page.family, page.total);
     let mut discards = 0;
@@ -140,12 +144,14 @@ fn settle(t: &mut Transfer, page: &Page, payload: &[u8], lent: &mut Buffers) -> 
         lent.seen.fill(0);
         lent.sectors.fill(0);
     }
-    let sector = page.at / SECTOR_LEN;
-    if !marked(&lent.sectors, sector) {
-        lent.flash[sector * SECTOR_LEN..][..SECTOR_LEN].fill(0xFF);
-        mark(&mut lent.sectors, sector);
+    if let Some(at) = page.at {
+        let sector = at / SECTOR_LEN;
+        if !marked(&lent.sectors, sector) {
+            lent.flash[sector * SECTOR_LEN..][..SECTOR_LEN].fill(0xFF);
+            mark(&mut lent.sectors, sector);
+        }
+        lent.flash[at..][..PAYLOAD_LEN].copy_from_slice(payload);
     }
-    lent.flash[page.at..][..PAYLOAD_LEN].copy_from_slice(payload);
     mark(&mut lent.seen, page.number as usize);
     let count = before.unwrap_or(0) + 1;
     if count < total {
@@ -154,10 +160,10 @@ fn settle(t: &mut Transfer, page: &Page, payload: &[u8], lent: &mut Buffers) -> 
             total,
             count,
         };
-        14 + discards
+        discards + if page.at.is_some() { 14 } else { 16 }
     } else {
         *t = Transfer::Done { family, total };
-        15 + discards
+        discards + 15
     }
 }
 

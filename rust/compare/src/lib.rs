@@ -2,6 +2,7 @@
 
 pub mod fence;
 pub mod hex;
+pub mod tags;
 
 use reference::{Arch, Entry, Link, Settings, Transfer};
 
@@ -354,11 +355,20 @@ fn right_arrival(r: &mut Random, pages: u64) -> Vec<u8> {
     arrival(fields, r.draw())
 }
 
-/// An arrival of any kind: right, near a bound, or damaged.
+/// An arrival of any kind: right, near a bound, or damaged; a quarter of them with flag 0x1.
 pub fn any_arrival(r: &mut Random, pages: u64) -> Vec<u8> {
-    if r.one_in(2) {
-        return right_arrival(r, pages);
-    }
+    let mut a = if r.one_in(2) {
+        right_arrival(r, pages)
+    } else {
+        near_arrival(r, pages)
+    };
+    // the lowest byte of the flags
+    a[8] = a[8] & !1 | u8::from(r.one_in(4));
+    a
+}
+
+/// An arrival with fields at their bounds, and now and then a wrong magic number.
+fn near_arrival(r: &mut Random, pages: u64) -> Vec<u8> {
     let total = r.of(&[1, 2, 3, 16, pages as u32, pages as u32 + 1, 0, 0x0100_0000]);
     let number = match r.below(4) {
         0 => total,

@@ -34,6 +34,7 @@ pub mod bytes;
 mod ffi;
 pub mod hex;
 mod settings;
+pub mod tags;
 mod transfer;
 
 pub use settings::{Arch, Entry, Link, Settings, ENTRIES, SETTINGS_BYTES};

@@ -27,8 +27,8 @@ pub enum Transfer {
     },
 }
 
-/// The answers to an arrival, by their numbers. They are asked in this order, and the first that fits is given. All but `Written` and
-/// `Completed` leave the transfer and everything that is lent as it was.
+/// The answers to an arrival, by their numbers. They are asked in this order, and the first that fits is given. All but `Written`,
+/// `Completed` and `Noted` leave the transfer and everything that is lent as it was. No answer has the number 6.
 #[derive(Clone, Copy, PartialEq, Eq, Debug)]
 #[repr(u8)]
 pub enum Answer {
@@ -42,26 +42,26 @@ pub enum Answer {
     NotBlock = 4,
     /// Flag 0x1000: a file container.
     Container = 5,
-    /// Flag 0x1: not for the main flash.
-    Comment = 6,
     /// Flag 0x2000 is clear: no family.
     NoFamily = 7,
     /// The settings have no place for the family.
     NoPlace = 8,
-    /// The payload's size is not 256.
+    /// The payload's size is not 256. Not asked of a comment.
     BadPayload = 9,
     /// Total 0 or more than the place holds, or a number that is not below the total.
     BadNumbers = 10,
-    /// Outside the window or the place, or no multiple of 256.
+    /// Outside the window or the place, or no multiple of 256. Not asked of a comment.
     BadAddress = 11,
     /// The transfer is done.
     Finished = 12,
-    /// This block has come before.
+    /// A block of this number has come before.
     Again = 13,
     /// Stored, and others are missing.
     Written = 14,
-    /// Stored, and the file is whole.
+    /// Stored or, a comment, noted, and the file is whole.
     Completed = 15,
+    /// A comment (flag 0x1, not for the main flash): counted and not stored, and others are missing.
+    Noted = 16,
 }
 
 /// What a look or a take says of an arrival.
@@ -135,7 +135,6 @@ impl Answer {
         Answer::BadState,
         Answer::NotBlock,
         Answer::Container,
-        Answer::Comment,
         Answer::NoFamily,
         Answer::NoPlace,
         Answer::BadPayload,
@@ -145,6 +144,7 @@ impl Answer {
         Answer::Again,
         Answer::Written,
         Answer::Completed,
+        Answer::Noted,
     ];
 
     /// The answer's number.
@@ -159,9 +159,9 @@ impl Answer {
             .find(|answer| u32::from(answer.number()) == number)
     }
 
-    /// Whether the block is accepted: taken, it is in flash and counted now; looked at, it would be.
+    /// Whether the block is accepted: taken, it is counted now, and in flash unless it is a comment; looked at, it would be.
     pub fn is_accepted(self) -> bool {
-        matches!(self, Answer::Written | Answer::Completed)
+        matches!(self, Answer::Written | Answer::Completed | Answer::Noted)
     }
 }
 

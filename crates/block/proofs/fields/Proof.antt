@@ -19,6 +19,9 @@ field-requires-4 c κs = search needs
 field-requires-5 : tie.Need-field-requires-5
 field-requires-5 c κs = search needs
 
+field-requires-6 : tie.Need-field-requires-6
+field-requires-6 c κs = search needs
+
 returns : tie.Need-returns
 unfolding fieldsOf
 returns c = cc
@@ -32,4 +35,5 @@ fields-spec =
     field-requires-3
     field-requires-4
     field-requires-5
+    field-requires-6
     returns)

@@ -1,5 +1,5 @@
 -- `block::flagged` meets its contract. Assumes nothing.
-use Rattle.block.proofs.Laws.{flagged-container, flagged-comment, flagged-bare, flagged-found}
+use Rattle.block.proofs.Laws.{flagged-container, flagged-bare, flagged-found}
 use borrow.Author.Needs.{needs}
 use Rattle.block.proofs.flagged.Statement.{statement}
 use Rattle.block.proofs.flagged.Tie as tie
@@ -11,17 +11,14 @@ returns : tie.Need-returns
 returns c = flagged-container _ (c .before .field .ensures) (c .if1 .taken)
 
 returns-2 : tie.Need-returns-2
-returns-2 c = flagged-comment _ (c .before .before .field .ensures) (c .before .if1 .left) (c .if2 .taken)
-
-returns-3 : tie.Need-returns-3
-returns-3 c = flagged-bare _ (c .before .before .before .field .ensures) (c .before .before .if1 .left) (c .before .if2 .left) (c .if3 .taken)
+returns-2 c = flagged-bare _ (c .before .before .field .ensures) (c .before .if1 .left) (c .if2 .taken)
 
 fields-requires : tie.Need-fields-requires
 fields-requires c κs = search needs
 
-returns-4 : tie.Need-returns-4
-returns-4 c = flagged-found _ (c .before .before .before .before .field .ensures) (c .before .before .before .if1 .left) (c .before .before .if2 .left) (c .before .if3 .left) (c .fields .ensures)
+returns-3 : tie.Need-returns-3
+returns-3 c = flagged-found _ (c .before .before .before .field .ensures) (c .before .before .if1 .left) (c .before .if2 .left) (c .fields .ensures)
 
 pub flagged-spec : {M : Type 1} → statement M
 flagged-spec =
-    tie.close (tie.spec field-requires returns returns-2 returns-3 fields-requires returns-4)
+    tie.close (tie.spec field-requires returns returns-2 fields-requires returns-3)

@@ -7,8 +7,11 @@ use Rattle.receiver.proofs.accept.Tie as tie
 cast-number : tie.Need-cast-number
 cast-number c = search needs
 
-store-requires : tie.Need-store-requires
-store-requires c κs = search needs
+page-at-requires : tie.Need-page-at-requires
+page-at-requires c κs = search needs
+
+write-requires : tie.Need-write-requires
+write-requires c κs = search needs
 
 clear-if-requires : tie.Need-clear-if-requires
 clear-if-requires c κs = search needs
@@ -30,14 +33,15 @@ returns c =
     let marked = c .before .before in
     let cleared = marked .before .before .before .before in
     let paged = cleared .before .before .before .before .before .before in
-    took _ _ _ _ (paged .store .ensures) (cleared .clear-if .ensures) (marked .mark .ensures)
+    took _ _ _ _ _ (paged .before .before .before .page-at .ensures) (paged .write .ensures) (cleared .clear-if .ensures) (marked .mark .ensures)
 
 pub accept-spec : {M : Type 1} → statement M
 accept-spec =
     tie.close
     (tie.spec
     cast-number
-    store-requires
+    page-at-requires
+    write-requires
     clear-if-requires
     mark-requires
     same-length

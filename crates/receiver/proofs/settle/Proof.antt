@@ -11,6 +11,9 @@ cast-number c = search needs
 marked-requires : tie.Need-marked-requires
 marked-requires c κs = search needs
 
+deed-of-requires : tie.Need-deed-of-requires
+deed-of-requires c κs = search needs
+
 step-requires : tie.Need-step-requires
 step-requires c κs = search needs
 
@@ -23,12 +26,13 @@ enum-known-step-2 c = search needs
 returns : tie.Need-returns
 returns c =
     let d = c .before .before .before in
-    settle-stays _ _ _ (d .before .marked .ensures) (answer-is (d .step .ensures)) (c .before .step2 .given .1)
+    let start = d .before .before .before .before .before .before in
+    settle-stays _ (start .args .placed) _ (d .before .before .marked .ensures) (d .before .deed-of .ensures) (answer-is (d .step .ensures)) (c .before .step2 .given .1)
 
 returns-2 : tie.Need-returns-2
 returns-2 c =
     let d = c .before .before .before in
-    settle-accepts _ _ _ (d .before .marked .ensures) (answer-is (d .step .ensures)) (c .before .step3 .given .1)
+    settle-accepts _ _ _ (d .before .before .marked .ensures) (d .before .deed-of .ensures) (answer-is (d .step .ensures)) (c .before .step3 .given .1)
 
 pub settle-spec : {M : Type 1} → statement M
 settle-spec =
@@ -36,6 +40,7 @@ settle-spec =
     (tie.spec
     cast-number
     marked-requires
+    deed-of-requires
     step-requires
     enum-known-step
     enum-known-step-2

@@ -17,9 +17,6 @@ enum-told-3 c = search needs
 enum-told-4 : tie.Need-enum-told-4
 enum-told-4 c = search needs
 
-enum-told-5 : tie.Need-enum-told-5
-enum-told-5 c = search needs
-
 returns : tie.Need-returns
 returns c next = rw (c .enum-told .given .1) refl
 
@@ -29,12 +26,9 @@ returns-2 c next = rw (c .enum-told2 .given .1) refl
 returns-3 : tie.Need-returns-3
 returns-3 c next = rw (c .enum-told3 .given .1) refl
 
-returns-4 : tie.Need-returns-4
-returns-4 c next = rw (c .enum-told4 .given .1) refl
-
 -- a header that yields a block is not handed in
-returns-5 : tie.Need-returns-5
-returns-5 c next = absurd (c .before .before .pre (ap headerNumber (c .enum-told5 .given .1)))
+returns-4 : tie.Need-returns-4
+returns-4 c next = absurd (c .before .before .pre (ap headerNumber (c .enum-told4 .given .1)))
 
 pub header-answer-spec : {M : Type 1} → statement M
 header-answer-spec =
@@ -44,9 +38,7 @@ header-answer-spec =
     enum-told-2
     enum-told-3
     enum-told-4
-    enum-told-5
     returns
     returns-2
     returns-3
-    returns-4
-    returns-5)
+    returns-4)

@@ -2,8 +2,8 @@
 use mathlib.Core.Path.{sym, ap, _∙_}
 use Rattle.sets.specs.Numbered.{numbered}
 use Rattle.sets.proofs.Numbered.{answer-is}
-use Rattle.screen.specs.Screen.{placed, screeningNumber}
-use Rattle.screen.proofs.Laws.{refusal-header, screen-header, screen-placed}
+use Rattle.screen.specs.Screen.{found, screeningNumber}
+use Rattle.screen.proofs.Laws.{refusal-header, screen-header, screen-found}
 use borrow.Author.Needs.{needs}
 use Rattle.screen.proofs.screen.Statement.{statement}
 use Rattle.screen.proofs.screen.Tie as tie
@@ -29,21 +29,21 @@ enum-told c = search needs
 enum-known-p : tie.Need-enum-known-p
 enum-known-p c = search needs
 
-fits-place-requires : tie.Need-fits-place-requires
-fits-place-requires c κs = let h = c .before .before .before .find .ensures .1 in rw (c .before .p .given .1) at h
+check-requires : tie.Need-check-requires
+check-requires c κs = let h = c .before .before .before .find .ensures .1 in rw (c .before .p .given .1) at h
 
 returns-2 : tie.Need-returns-2
-unfolding placed
+unfolding found
 returns-2 c =
     let d = c .before .before in
     let b = sym (answer-is (d .before .before .before .before .read .ensures)) ∙ d .before .before .h .given .1 in
-    ap (numbered screeningNumber) (sym (screen-placed _ _ _ _ _ b (sym (answer-is (d .find .ensures .0)) ∙ c .enum-told .given .1)))
+    ap (numbered screeningNumber) (sym (screen-found _ _ _ _ _ b (sym (answer-is (d .find .ensures .0)) ∙ c .enum-told .given .1)))
 
 returns-3 : tie.Need-returns-3
 returns-3 c =
     let d = c .before .before .before .before in
     let b = sym (answer-is (d .before .before .before .before .read .ensures)) ∙ d .before .before .h .given .1 in
-    ap (numbered screeningNumber) (c .fits-place .ensures ∙ sym (screen-placed _ _ _ _ _ b (sym (answer-is (d .find .ensures .0)) ∙ c .before .before .p .given .1)))
+    ap (numbered screeningNumber) (c .check .ensures ∙ sym (screen-found _ _ _ _ _ b (sym (answer-is (d .find .ensures .0)) ∙ c .before .before .p .given .1)))
 
 pub screen-spec : {M : Type 1} → statement M
 screen-spec =
@@ -56,6 +56,6 @@ screen-spec =
     find-requires
     enum-told
     enum-known-p
-    fits-place-requires
+    check-requires
     returns-2
     returns-3)

@@ -14,16 +14,16 @@ accept-requires : tie.Need-accept-requires
 accept-requires c κs = search needs
 
 returns : tie.Need-returns
-returns c = ap Accepts (c .accept .ensures) ∙ sym (step-other _ _ _ (sym (c .before .before .same-head .ensures) ∙ not-true _ (c .before .if1 .taken)))
+returns c = ap Accepts (c .accept .ensures) ∙ sym (step-other _ _ _ _ (sym (c .before .before .same-head .ensures) ∙ not-true _ (c .before .if1 .taken)))
 
 returns-2 : tie.Need-returns-2
-returns-2 c = sym (step-again _ _ _ (sym (c .before .before .same-head .ensures) ∙ not-false _ (c .before .if1 .left)) (c .if2 .taken))
+returns-2 c = sym (step-again _ _ _ _ (sym (c .before .before .same-head .ensures) ∙ not-false _ (c .before .if1 .left)) (c .if2 .taken))
 
 accept-requires-2 : tie.Need-accept-requires-2
 accept-requires-2 c κs = search needs
 
 returns-3 : tie.Need-returns-3
-returns-3 c = ap Accepts (c .accept2 .ensures) ∙ sym (step-more _ _ _ (sym (c .before .before .before .same-head .ensures) ∙ not-false _ (c .before .before .if1 .left)) (c .before .if2 .left))
+returns-3 c = ap Accepts (c .accept2 .ensures) ∙ sym (step-more _ _ _ _ (sym (c .before .before .before .same-head .ensures) ∙ not-false _ (c .before .before .if1 .left)) (c .before .if2 .left))
 
 pub go-on-spec : {M : Type 1} → statement M
 go-on-spec =

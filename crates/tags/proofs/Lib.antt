@@ -1,0 +1,4 @@
+-- The laws of `specs/`, for this crate's proofs and those above.
+pub mod Laws
+pub mod Search
+pub mod Parts

@@ -1,0 +1,78 @@
+-- `tags::tag_at` meets its contract. Assumes nothing.
+use mathlib.Core.Path.{sym, ap, _∙_}
+use Rattle.sets.specs.Numbered.{numbered}
+use Rattle.tags.specs.Tag.{answerNumber}
+use native.Mathlib.Omega.{arith}
+use Rattle.tags.proofs.Laws.{not-true, not-false, payload-test, place-test, at-length, at-other, at-clear, at-payload, at-place, at-none, at-tag}
+use borrow.Author.Needs.{needs}
+use Rattle.tags.proofs.tag_at.Statement.{statement}
+use Rattle.tags.proofs.tag_at.Tie as tie
+
+returns : tie.Need-returns
+returns c = ap (numbered answerNumber) (at-length _ _ (omega arith))
+
+is-block-requires : tie.Need-is-block-requires
+is-block-requires c κs = search needs
+
+returns-2 : tie.Need-returns-2
+returns-2 c = ap (numbered answerNumber) (at-other _ _ (omega arith) (sym (c .before .is-block .ensures) ∙ not-true _ (c .if2 .taken)))
+
+field-requires : tie.Need-field-requires
+field-requires c κs = search needs
+
+returns-3 : tie.Need-returns-3
+returns-3 c = ap (numbered answerNumber) (at-clear _ _ (omega arith) (sym (c .before .before .before .is-block .ensures) ∙ not-false _ (c .before .before .if2 .left)) (λ e. omega arith))
+
+field-requires-2 : tie.Need-field-requires-2
+field-requires-2 c κs = search needs
+
+bad-payload-requires : tie.Need-bad-payload-requires
+bad-payload-requires c κs = search needs
+
+returns-4 : tie.Need-returns-4
+returns-4 c = ap (numbered answerNumber) (at-payload _ _ (omega arith) (sym (c .before .before .before .before .before .before .is-block .ensures) ∙ not-false _ (c .before .before .before .before .before .if2 .left)) (omega arith) (payload-test (c .before .before .field2 .ensures) (c .before .bad-payload .ensures) (c .if4 .taken)))
+
+first-place-requires : tie.Need-first-place-requires
+first-place-requires c κs = search needs
+
+bad-place-requires : tie.Need-bad-place-requires
+bad-place-requires c κs = search needs
+
+returns-5 : tie.Need-returns-5
+returns-5 c = ap (numbered answerNumber) (at-place _ _ (omega arith) (sym (c .before .before .before .before .before .before .before .before .before .is-block .ensures) ∙ not-false _ (c .before .before .before .before .before .before .before .before .if2 .left)) (omega arith) (payload-test (c .before .before .before .before .before .field2 .ensures) (c .before .before .before .before .bad-payload .ensures) (c .before .before .before .if4 .left)) (place-test _ (c .before .before .first-place .ensures) (c .before .bad-place .ensures) (c .if5 .taken)))
+
+room-end-requires : tie.Need-room-end-requires
+room-end-requires c κs = search needs
+
+sub-if6 : tie.Need-sub-if6
+sub-if6 c = search needs
+
+returns-6 : tie.Need-returns-6
+returns-6 c = ap (numbered answerNumber) (at-none _ _ (omega arith) (sym (c .before .before .before .before .before .before .before .before .before .before .before .is-block .ensures) ∙ not-false _ (c .before .before .before .before .before .before .before .before .before .before .if2 .left)) (omega arith) (payload-test (c .before .before .before .before .before .before .before .field2 .ensures) (c .before .before .before .before .before .before .bad-payload .ensures) (c .before .before .before .before .before .if4 .left)) (place-test _ (c .before .before .before .before .first-place .ensures) (c .before .before .before .bad-place .ensures) (c .before .before .if5 .left)) (omega arith))
+
+tag-in-requires : tie.Need-tag-in-requires
+tag-in-requires c κs = search needs
+
+returns-7 : tie.Need-returns-7
+returns-7 c = ap (numbered answerNumber) (c .tag-in .ensures ∙ (rw (c .before .before .room-end .ensures .0) (at-tag _ _ (omega arith) (sym (c .before .before .before .before .before .before .before .before .before .before .before .before .is-block .ensures) ∙ not-false _ (c .before .before .before .before .before .before .before .before .before .before .before .if2 .left)) (omega arith) (payload-test (c .before .before .before .before .before .before .before .before .field2 .ensures) (c .before .before .before .before .before .before .before .bad-payload .ensures) (c .before .before .before .before .before .before .if4 .left)) (place-test _ (c .before .before .before .before .before .first-place .ensures) (c .before .before .before .before .bad-place .ensures) (c .before .before .before .if5 .left)) (omega arith))))
+
+pub tag-at-spec : {M : Type 1} → statement M
+tag-at-spec =
+    tie.close
+    (tie.spec
+    returns
+    is-block-requires
+    returns-2
+    field-requires
+    returns-3
+    field-requires-2
+    bad-payload-requires
+    returns-4
+    first-place-requires
+    bad-place-requires
+    returns-5
+    room-end-requires
+    sub-if6
+    returns-6
+    tag-in-requires
+    returns-7)
