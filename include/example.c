@@ -90,13 +90,16 @@ static int blocks(void) {
  * The reader does not remember the second, so it is counted here. */
 static int lines(uint8_t *image, size_t image_len) {
     uint8_t reader[UHEX_READER_SIZE];
-    uint32_t answer = 0;
+    uint32_t result, answer = 0;
     size_t i, outside = 0;
 
     uhex_new(UHEX_BOARD_V1, reader, sizeof reader);
     for (i = 0; i < sizeof file / sizeof file[0]; i++) {
-        answer = uhex_line(reader, sizeof reader, (const uint8_t *)file[i], strlen(file[i]), image, image_len);
+        result = uhex_line(reader, sizeof reader, (const uint8_t *)file[i], strlen(file[i]), image, image_len);
+        answer = UHEX_RESULT_ANSWER(result);
         printf("%u\n", (unsigned)answer);
+        if (answer == UHEX_ANSWER_BAD_DIGIT)
+            printf("bad character at %u\n", (unsigned)UHEX_RESULT_POSITION(result));
         if (UHEX_ANSWER_IS_FAILURE(answer))
             break; /* nothing that follows can be read */
         if (answer == UHEX_ANSWER_OUTSIDE)

@@ -180,6 +180,7 @@ static inline uint16_t uhex_get16(const uint8_t *at) {
 #define UHEX_READER_STATE_AT 8       /* enum uhex_state; any other number is no reader either */
 #define UHEX_READER_FAILURE_AT 9     /* where it has failed: the answer that it failed by, 20 to 30 or 36 (any other: UHEX_ANSWER_BAD_READER); else not read */
 #define UHEX_READER_BOARD_AT 10      /* 16 bits, read only in a section: its board */
+#define UHEX_READER_POSITION_AT 10   /* the same bytes, read only where it has failed by 22: the position, 1 to 520 (any other: UHEX_ANSWER_BAD_READER) */
 #define UHEX_READER_SECTION_V1_AT 12 /* flags: a section of the board has come */
 #define UHEX_READER_SECTION_V2_AT 13
 #define UHEX_READER_DATA_V1_AT 14    /* flags: the board's section gave a data byte */
@@ -202,7 +203,7 @@ enum uhex_answer {
     UHEX_ANSWER_BAD_IMAGE = 19,     /* the image's length */
     UHEX_ANSWER_NO_COLON = 20,      /* empty, or does not begin with ':' */
     UHEX_ANSWER_BAD_SHAPE = 21,     /* under 11, over 521 or an even number of characters */
-    UHEX_ANSWER_BAD_DIGIT = 22,
+    UHEX_ANSWER_BAD_DIGIT = 22,     /* a character that is no digit; the result has its position */
     UHEX_ANSWER_TOO_LONG = 23,      /* the length field is over 32 */
     UHEX_ANSWER_BAD_LENGTH = 24,    /* the characters are not 11 and two for each byte that the length field says */
     UHEX_ANSWER_BAD_SUM = 25,
@@ -230,7 +231,12 @@ enum uhex_answer {
 /* Writes a fresh reader of a board, where there are UHEX_READER_SIZE bytes; else changes nothing. */
 void uhex_new(uint16_t own, uint8_t *reader, size_t reader_len);
 
-/* One line as it stands in the file, with its LF or CR LF: the answer, 18 to 36. The reader's bytes are written by 32 to 35, and by 20 to
+/* What `uhex_line` returns: the answer, 18 to 36, and with UHEX_ANSWER_BAD_DIGIT the position of the first bad character, counted from 0 at
+ * the colon, 1 to 520; with any other answer 0. */
+#define UHEX_RESULT_ANSWER(result) ((result) & 255)
+#define UHEX_RESULT_POSITION(result) ((result) >> 8)
+
+/* One line as it stands in the file, with its LF or CR LF: the answer, and 256 times its position. The reader's bytes are written by 32 to 35, and by 20 to
  * 30 and 36 where it had not failed before; every other answer leaves them as they were lent. */
 uint32_t uhex_line(uint8_t *reader, size_t reader_len, const uint8_t *line, size_t line_len, uint8_t *image, size_t image_len);
 

@@ -15,8 +15,9 @@ use Rattle.record.specs.declared.Record.{Record}
 use Rattle.record.specs.declared.ParseResult.{ParseResult}
 use Rattle.record.specs.declared.ParseResult.the-variants as parsed
 use Rattle.record.proofs.Good.{good-line}
+use Rattle.record.proofs.Positions.{bad-position}
 use Rattle.record.proofs.Data32.{getD-data32}
-use Rattle.grammar.specs.Answers.{numberOf}
+use Rattle.grammar.specs.Answers.{positionOf}
 use Rattle.grammar.specs.Boards.{isV1, isV2, hasBoard, bothBoards}
 use Rattle.grammar.specs.Grammar.{isExtendedLinear, isEndOfFile, isBlockStart, dataKind, afterPadding, roleOf}
 use Rattle.grammar.specs.declared.ReaderState.{ReaderState}
@@ -32,10 +33,11 @@ use Rattle.hexfile.specs.Facts.{Stays-good}
 use Rattle.hexfile.specs.Lines.{Session, readAll, lineAnswers, next}
 use Rattle.hexfile.proofs.Facts.{stays-good}
 use Rattle.readers.specs.Readers.{halfAt, readerStateFrom, fieldsFrom, readerFrom}
+use Rattle.readers.proofs.Answers.{position-most}
 use Rattle.readers.proofs.Refused.{length-bad}
 use Rattle.readers.proofs.Written.{SmallState, Small}
 use Rattle.layout.specs.Layout.{byteAt}
-use Rattle.capi.specs.HexCalls.{lineCallOf}
+use Rattle.capi.specs.HexCalls.{lineResult, lineCallOf}
 use Rattle.capi.proofs.HexLaws.{line-next}
 use Rattle.calls.specs.HexTurns.{LentSession, callLine, leftByLine, callLines, lineReturns, sessionOf, Calls-are-lines}
 use Rattle.calls.proofs.CallLists.{number-low}
@@ -103,7 +105,7 @@ role-narrow Ended kind len h = tt
 role-narrow (Failed f) kind len h = tt
 
 abbrev NarrowStep : Effect → Type 0
-NarrowStep (Fails a) = Unit {0}
+NarrowStep (Fails a) = positionOf a < 2 ^ 16
 NarrowStep (Passes q) = Narrow q
 NarrowStep (Stores q) = Narrow q
 NarrowStep (Ends q) = Narrow q
@@ -111,24 +113,24 @@ NarrowStep (Ends q) = Narrow q
 module _ (r : Reader) (h : Narrow r) where
   step-narrow : (x : Role) (address len word : ℕ) → NarrowRole x → word < 2 ^ 16 → NarrowStep (effectOf r x address len word)
   unfolding effectOf givenOf withState withUpper withSection withData
-  step-narrow Opening address len word n w = either NarrowStep (not (eqb (r .offset % 512) 0)) tt (w, tt)
-  step-narrow Naming address len word n w = either NarrowStep (hasBoard (r .«sections_seen») word) tt (h .0, w)
+  step-narrow Opening address len word n w = either NarrowStep (not (eqb (r .offset % 512) 0)) (omega arith) (w, tt)
+  step-narrow Naming address len word n w = either NarrowStep (hasBoard (r .«sections_seen») word) (omega arith) (h .0, w)
   step-narrow Address address len word n w = (w, h .1)
   step-narrow (Data b) address len word n w =
-      either NarrowStep (ltb 65536 (address + len)) tt
+      either NarrowStep (ltb 65536 (address + len)) (omega arith)
       (either NarrowStep (eqb len 0) h (either NarrowStep (eqb b (r .own)) h h))
   step-narrow (Padding b) address len word n w = (h .0, n)
   step-narrow Other address len word n w = h
   step-narrow Closing address len word n w = (h .0, tt)
-  step-narrow Ending address len word n w = either NarrowStep (bothBoards (r .«data_seen»)) (h .0, tt) tt
-  step-narrow Refused address len word n w = tt
+  step-narrow Ending address len word n w = either NarrowStep (bothBoards (r .«data_seen»)) (h .0, tt) (omega arith)
+  step-narrow Refused address len word n w = omega arith
 
   abbrev NarrowOut : LineOutcome → Type 0
   NarrowOut o = Narrow (o .reader)
 
   stepped-narrow : (rec : Record) (d : List ℕ) (e : ℕ) (img : List ℕ) (x : Effect) → NarrowStep x → NarrowOut (effectOutcome r rec d e img x)
   unfolding effectOutcome storing movedTo withState
-  stepped-narrow rec d e img (Fails a) n = (h .0, tt)
+  stepped-narrow rec d e img (Fails a) n = (h .0, n)
   stepped-narrow rec d e img (Passes q) n = n
   stepped-narrow rec d e img (Stores q) n = either NarrowOut (outside q rec img) n n
   stepped-narrow rec d e img (Ends q) n = n
@@ -140,17 +142,17 @@ module _ (r : Reader) (h : Narrow r) where
         stepped-narrow rec (readOf l .«data») e img _
         (step-narrow (roleOf (r .state) (rec .kind) (rec .len)) (rec .address) (rec .len) (wordOf (readOf l .«data»))
         (role-narrow (r .state) (rec .kind) (rec .len) (h .1)) (word-low l rec q))
-    parsed-narrow e parsed.NoColon q = (h .0, tt)
-    parsed-narrow e parsed.BadShape q = (h .0, tt)
-    parsed-narrow e parsed.BadDigit q = (h .0, tt)
-    parsed-narrow e parsed.TooLong q = (h .0, tt)
-    parsed-narrow e parsed.BadLength q = (h .0, tt)
-    parsed-narrow e parsed.BadSum q = (h .0, tt)
+    parsed-narrow e parsed.NoColon q = (h .0, omega arith)
+    parsed-narrow e parsed.BadShape q = (h .0, omega arith)
+    parsed-narrow e (parsed.BadDigit k) q = (h .0, omega (arith, bad-position l k q))
+    parsed-narrow e parsed.TooLong q = (h .0, omega arith)
+    parsed-narrow e parsed.BadLength q = (h .0, omega arith)
+    parsed-narrow e parsed.BadSum q = (h .0, omega arith)
 
     live-narrow : NarrowOut (liveLine r l img)
     unfolding liveLine withState
     live-narrow =
-        either NarrowOut (ltb 4194304 (r .offset + length l)) (h .0, tt) (parsed-narrow (r .offset + length l) (readOf l .parsed) refl)
+        either NarrowOut (ltb 4194304 (r .offset + length l)) (h .0, omega arith) (parsed-narrow (r .offset + length l) (readOf l .parsed) refl)
 
     state-narrow : (s : ReaderState) → NarrowOut (haltLine r l img (haltOf s))
     unfolding haltLine
@@ -177,7 +179,8 @@ from-narrow b h =
       either SmallState (eqb k 0) tt
           (either SmallState (eqb k 1) tt
           (either SmallState (eqb k 2) (half 10)
-          (either SmallState (eqb k 3) (half 10) (either SmallState (eqb k 4) tt tt)))),
+          (either SmallState (eqb k 3) (half 10)
+          (either SmallState (eqb k 4) tt (omega (arith, position-most (byteAt b 9) (halfAt b 10), half 10)))))),
     )
     (omega arith, tt))
     (omega arith, tt)
@@ -239,12 +242,12 @@ calls-held h [] n = refl
 calls-held h (l ∷ ls) n =
     calls-held (leftByLine (callLine h l)) ls (next-narrow h l n) ∙ ap (λ (x : Session). readAll x ls) (next-held h l n)
 
-calls-answers : (h : LentSession) (ls : List (List ℕ)) → Narrow (readerFrom (h .reader)) → lineReturns h ls ≡ map numberOf (lineAnswers (sessionOf h) ls)
+calls-answers : (h : LentSession) (ls : List (List ℕ)) → Narrow (readerFrom (h .reader)) → lineReturns h ls ≡ map lineResult (lineAnswers (sessionOf h) ls)
 unfolding lineReturns lineAnswers lineCallOf
 calls-answers h [] n = refl
 calls-answers h (l ∷ ls) n =
     ap (λ (x : List ℕ). callLine h l .result ∷ x)
-    (calls-answers (leftByLine (callLine h l)) ls (next-narrow h l n) ∙ ap (λ (x : Session). map numberOf (lineAnswers x ls)) (next-held h l n))
+    (calls-answers (leftByLine (callLine h l)) ls (next-narrow h l n) ∙ ap (λ (x : Session). map lineResult (lineAnswers x ls)) (next-held h l n))
 
 pub calls-are-lines : Calls-are-lines
 unfolding Calls-are-lines

@@ -3,10 +3,9 @@ use Prim.Native.Nat.{ℕ}
 use mathlib.Core.Path.{_≡_}
 use mathlib.Core.List.{List, [], _∷_, map}
 use Rattle.record.specs.Write.{Bytes}
-use Rattle.grammar.specs.Answers.{numberOf}
 use Rattle.hexfile.specs.Lines.{Session, readAll, lineAnswers}
 use Rattle.readers.specs.Readers.{readerFrom}
-use Rattle.capi.specs.HexCalls.{LineReturn, lineCallOf}
+use Rattle.capi.specs.HexCalls.{LineReturn, lineResult, lineCallOf}
 
 -- what the caller holds between two calls
 pub record LentSession : Type 0 where
@@ -35,8 +34,8 @@ lineReturns h (l ∷ ls) = callLine h l .result ∷ lineReturns (leftByLine (cal
 abbrev pub sessionOf : LentSession → Session
 sessionOf h = record { reader = readerFrom (h .reader); image = h .image }
 
--- from any bytes of a reader, whatever the lines and the image, the calls leave what `readAll` leaves, and return its answers
+-- from any bytes of a reader, whatever the lines and the image, the calls leave what `readAll` leaves, and return its answers, with the position of a bad digit
 unfoldable pub Calls-are-lines : Type 0
 Calls-are-lines =
     (h : LentSession) (ls : List (List ℕ)) → Bytes (h .reader)
-    → (sessionOf (callLines h ls) ≡ readAll (sessionOf h) ls) × (lineReturns h ls ≡ map numberOf (lineAnswers (sessionOf h) ls))
+    → (sessionOf (callLines h ls) ≡ readAll (sessionOf h) ls) × (lineReturns h ls ≡ map lineResult (lineAnswers (sessionOf h) ls))

@@ -1,12 +1,13 @@
 -- The calls for Universal Hex by cases. Assumes nothing.
-use Prim.Native.Nat.{ℕ}
+use Prim.Native.Nat.{ℕ, _+_, _*_}
 use mathlib.Core.Path.{_≡_, refl, sym, ap, _∙_}
 use mathlib.Core.Bool.{Bool, true, false, _&&_, or-true}
 use mathlib.Core.List.{List}
 use lib.Dec.{leb}
 use lib.ListN.{length}
 use Rattle.sets.proofs.Tests.{split, clash}
-use Rattle.grammar.specs.Answers.{numberOf}
+use Rattle.grammar.proofs.Laws.{kept-failure}
+use Rattle.grammar.specs.Answers.{numberOf, positionOf}
 use Rattle.grammar.specs.declared.Failure.{Failure}
 use Rattle.grammar.specs.declared.ReaderState.{ReaderState}
 use Rattle.grammar.specs.declared.ReaderState.the-variants.{Between, Opened, Inside, Padded, Ended, Failed}
@@ -21,10 +22,10 @@ use Rattle.readers.proofs.Written.{Small, written-back}
 use Rattle.capi.specs.HexCalls.{lineReturn, hasFailed, changes, keptReader, lineReturnOf, lineCallOf}
 
 module _ (t l img : List ℕ) where
-  pub line-case : {r : Reader} {x : Reply} {g v : List ℕ} {f b : Bool} {n : ℕ} → r ≡ readerFrom t → lineOutcome (x .reader) (x .answer) g ≡ lineOf r l img → f ≡ hasFailed (r .state) → b ≡ changes f (x .answer) → v ≡ keptReader t b (x .reader) → n ≡ numberOf (x .answer) → lineReturn n v g ≡ lineCallOf t l img
+  pub line-case : {r : Reader} {x : Reply} {g v : List ℕ} {f b : Bool} {n k : ℕ} → r ≡ readerFrom t → lineOutcome (x .reader) (x .answer) g ≡ lineOf r l img → f ≡ hasFailed (r .state) → b ≡ changes f (x .answer) → v ≡ keptReader t b (x .reader) → n ≡ numberOf (x .answer) → k ≡ positionOf (x .answer) → lineReturn (n + 256 * k) v g ≡ lineCallOf t l img
   unfolding lineCallOf
-  line-case {r} hr ho hf hb hv hn =
-      rw (hn, hv, hb, hf) (ap (lineReturnOf t r) ho ∙ ap (λ (q : Reader). lineReturnOf t q (lineOf q l img)) hr)
+  line-case {r} hr ho hf hb hv hn hk =
+      rw (hn, hk, hv, hb, hf) (ap (lineReturnOf t r) ho ∙ ap (λ (q : Reader). lineReturnOf t q (lineOf q l img)) hr)
 
 -- ---- the reader stays as it was where its bytes are left
 
@@ -35,7 +36,7 @@ module _ (r : Reader) (l img : List ℕ) where
   same-by (past h) e = refl
   same-by (again f h k) e = refl
   same-by (failed a h) e =
-      clash (changes false a) (rw h (or-true (leb 32 (numberOf a) && leb (numberOf a) 35))) e
+      clash (changes false a) (rw (kept-failure a h) (or-true (leb 32 (numberOf a) && leb (numberOf a) 35))) e
   same-by (out rec q p o m) e = clash true refl e
   same-by (stored rec q d o m) e = clash true refl e
   same-by (passed rec q p o m) e = clash true refl e

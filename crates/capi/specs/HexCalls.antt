@@ -1,9 +1,9 @@
 -- What the calls for Universal Hex answer and leave. Assumes nothing.
-use Prim.Native.Nat.{ℕ}
+use Prim.Native.Nat.{ℕ, _+_, _*_}
 use mathlib.Core.Bool.{Bool, true, false, _&&_, _||_, not, cond}
 use mathlib.Core.List.{List}
 use lib.Dec.{leb}
-use Rattle.grammar.specs.Answers.{numberOf, isFailure}
+use Rattle.grammar.specs.Answers.{numberOf, positionOf, isFailure}
 use Rattle.grammar.specs.declared.Answer.{Answer}
 use Rattle.grammar.specs.declared.ReaderState.{ReaderState}
 use Rattle.grammar.specs.declared.ReaderState.the-variants.{Between, Opened, Inside, Padded, Ended, Failed}
@@ -38,10 +38,14 @@ changes failed a = leb 32 (numberOf a) && leb (numberOf a) 35 || isFailure a && 
 abbrev pub keptReader : List ℕ → Bool → Reader → List ℕ
 keptReader t changed next = cond changed (readerWritten t next) t
 
+-- what is returned: the answer's number, and 256 times its position
+abbrev pub lineResult : Answer → ℕ
+lineResult a = numberOf a + 256 * positionOf a
+
 -- what a call returns and leaves of a line to reader r that comes to o; t is the reader's bytes as they were lent
 abbrev pub lineReturnOf : List ℕ → Reader → LineOutcome → LineReturn
 lineReturnOf t r o =
-    lineReturn (numberOf (o .answer)) (keptReader t (changes (hasFailed (r .state)) (o .answer)) (o .reader)) (o .image)
+    lineReturn (lineResult (o .answer)) (keptReader t (changes (hasFailed (r .state)) (o .answer)) (o .reader)) (o .image)
 
 -- bytes of a reader, line and image
 unfoldable pub lineCallOf : List ℕ → List ℕ → List ℕ → LineReturn

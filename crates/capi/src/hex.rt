@@ -45,7 +45,7 @@ fn keep_reader(reader: &mut [u8], changed: bool, next: Reader)
     }
 }
 
-// One line as it is handed, its ending included: the answer's number.
+// One line as it is handed, its ending included: the answer's number, and 256 times the position of a bad digit.
 #[no_mangle]
 pub extern "C" fn uhex_line(reader: &mut [u8], line: &[u8], image: &mut [u8]) -> u32
     ensures { λ r. ⌜ lineReturn r (now (reader .exit)) (now (image .exit)) ≡ lineCallOf (now (reader .entry)) (now (line .entry)) (now (image .entry)) ⌝ }
@@ -56,5 +56,5 @@ pub extern "C" fn uhex_line(reader: &mut [u8], line: &[u8], image: &mut [u8]) ->
     let next = read.reader;
     let answer = read.answer;
     keep_reader(reader, changes(has_failed(state), answer), next);
-    answer.number() as u32
+    answer.number() as u32 + 256 * (answer.position() as u32)
 }

@@ -1,6 +1,6 @@
 // The grammar of Universal Hex: where a reader stands, and what a record is there.
 ghost use mathlib.Core.Path.{_≡_};
-ghost use Rattle.grammar.specs.Answers.{numberOf, isFailure, refusalOf};
+ghost use Rattle.grammar.specs.Answers.{numberOf, positionOf, isFailure, isKept, refusalOf};
 ghost use Rattle.grammar.specs.Boards.{noBoards, hasBoard, withBoard, bothBoards};
 ghost use Rattle.grammar.specs.declared.ReaderState.the-variants.{Between, Opened, Inside};
 ghost use Rattle.grammar.specs.Grammar.{dataKind, afterPadding, roleOf};
@@ -13,7 +13,8 @@ pub enum Answer {
     BadImage,
     NoColon,
     BadShape,
-    BadDigit,
+    // the position of the first bad character, counted from 0 at the colon
+    BadDigit(u16),
     TooLong,
     BadLength,
     BadSum,
@@ -120,7 +121,7 @@ impl Answer {
             Answer::BadImage => 19,
             Answer::NoColon => 20,
             Answer::BadShape => 21,
-            Answer::BadDigit => 22,
+            Answer::BadDigit(_) => 22,
             Answer::TooLong => 23,
             Answer::BadLength => 24,
             Answer::BadSum => 25,
@@ -138,12 +139,48 @@ impl Answer {
         }
     }
 
-    // A failure that a reader may remember.
+    // The value of the answer that has one: a bad digit's position; 0 stands for none.
+    pub fn position(self) -> u16
+        ensures { λ r. ⌜ r ≡ positionOf self ⌝ }
+    {
+        match self {
+            Answer::BadReader => 0,
+            Answer::BadImage => 0,
+            Answer::NoColon => 0,
+            Answer::BadShape => 0,
+            Answer::BadDigit(position) => position,
+            Answer::TooLong => 0,
+            Answer::BadLength => 0,
+            Answer::BadSum => 0,
+            Answer::OutOfPlace => 0,
+            Answer::Unaligned => 0,
+            Answer::Repeated => 0,
+            Answer::Crosses => 0,
+            Answer::MissingBoard => 0,
+            Answer::AfterEnd => 0,
+            Answer::Outside => 0,
+            Answer::Stored => 0,
+            Answer::Passed => 0,
+            Answer::Ended => 0,
+            Answer::FileTooLong => 0,
+        }
+    }
+
+    // One of the answers that make a reader failed.
     pub fn is_failure(self) -> bool
         ensures { λ r. ⌜ r ≡ isFailure self ⌝ }
     {
         let n = self.number();
         ((20 <= n) & (n <= 30)) | (n == 36)
+    }
+
+    // A failure that a reader may remember: a bad digit's position is 1 to 520.
+    pub fn is_kept(self) -> bool
+        ensures { λ r. ⌜ r ≡ isKept self ⌝ }
+    {
+        let n = self.number();
+        let p = self.position();
+        self.is_failure() & !((n == 22) & !((1 <= p) & (p <= 520)))
     }
 }
 
@@ -156,7 +193,7 @@ pub fn refusal(parsed: ParseResult) -> Answer
         ParseResult::Good(_) => Answer::NoColon,
         ParseResult::NoColon => Answer::NoColon,
         ParseResult::BadShape => Answer::BadShape,
-        ParseResult::BadDigit => Answer::BadDigit,
+        ParseResult::BadDigit(position) => Answer::BadDigit(position),
         ParseResult::TooLong => Answer::TooLong,
         ParseResult::BadLength => Answer::BadLength,
         ParseResult::BadSum => Answer::BadSum,

@@ -14,6 +14,7 @@ use Rattle.record.specs.declared.Record.{Record}
 use Rattle.record.specs.declared.ParseResult.the-variants.{Good}
 use Rattle.grammar.specs.Answers.{numberOf, isFailure}
 use Rattle.grammar.specs.Boards.{isV1, isV2, hasBoard}
+use Rattle.grammar.proofs.Laws.{kept-failure}
 use Rattle.grammar.specs.declared.Answer.{Answer}
 use Rattle.grammar.specs.declared.Answer.the-variants.{Repeated, AfterEnd, Passed}
 use Rattle.grammar.specs.declared.ReaderState.{ReaderState}
@@ -40,8 +41,8 @@ module _ (r : Reader) (l img : List ℕ) where
   unfolding latest
   byte-next j (bad a n x) = rw (ne-eqb (numberOf a) 33 (λ e. omega arith))
   byte-next j (past e) = refl
-  byte-next j (again f e g) = rw (failure-not-stored (f .answer) g)
-  byte-next j (failed a f) = rw (failure-not-stored a f)
+  byte-next j (again f e g) = rw (failure-not-stored (f .answer) (kept-failure (f .answer) g))
+  byte-next j (failed a f) = rw (failure-not-stored a (kept-failure a f))
   byte-next j (out rec q p w m) = refl
   byte-next j (stored rec q d w m) =
       rw (d .says) (getD-over img (addressOf r rec) (take (rec .len) (readOf l .«data»)) j (fits r l img rec d))
@@ -54,8 +55,8 @@ module _ (r : Reader) (l img : List ℕ) where
       → {o : LineOutcome} → LineCase r l img o → p (o .reader) ≡ p r || movesOffset (o .answer) && is
   mark-next p is s m f (bad a n x) = rw (lt-leb 32 (numberOf a) (omega arith)) (sym (or-false (p r)))
   mark-next p is s m f (past e) = sym (or-false (p r))
-  mark-next p is s m f (again x e g) = rw (failure-not-moves (x .answer) g) (sym (or-false (p r)))
-  mark-next p is s m f (failed a g) = rw (failure-not-moves a g) (s (Failed (record { answer = a })) ∙ sym (or-false (p r)))
+  mark-next p is s m f (again x e g) = rw (failure-not-moves (x .answer) (kept-failure (x .answer) g)) (sym (or-false (p r)))
+  mark-next p is s m f (failed a g) = rw (failure-not-moves a (kept-failure a g)) (s (Failed (record { answer = a })) ∙ sym (or-false (p r)))
   mark-next p is s m f (out rec q y w k) = m q (r .offset + length l) ∙ f rec q y w
   mark-next p is s m f (stored rec q d w k) = m q (r .offset + length l) ∙ f rec q (d .says) w
   mark-next p is s m f (passed rec q y w k) = m q (r .offset + length l) ∙ f rec q y w
@@ -81,8 +82,8 @@ module _ (r : Reader) (l img : List ℕ) where
   unfolding withState movedTo
   upper-next (bad a n x) = rw (lt-leb 32 (numberOf a) (omega arith))
   upper-next (past e) = refl
-  upper-next (again f e g) = rw (failure-not-moves (f .answer) g)
-  upper-next (failed a f) = rw (failure-not-moves a f)
+  upper-next (again f e g) = rw (failure-not-moves (f .answer) (kept-failure (f .answer) g))
+  upper-next (failed a f) = rw (failure-not-moves a (kept-failure a f))
   upper-next (out rec q p w m) = upper-onward p w
   upper-next (stored rec q d w m) = upper-onward (d .says) w
   upper-next (passed rec q p w m) = upper-onward p w

@@ -1,8 +1,8 @@
 -- The claims of specs/Facts.antt hold. Assumes nothing.
-use Prim.Native.Nat.{ℕ, _+_, _-_, _≤_}
+use Prim.Native.Nat.{ℕ, _+_, _-_, _≤_, _<_}
 use mathlib.Core.Path.{_≡_, refl, ap, _∙_}
-use mathlib.Core.Logic.{_≢_, ⊎-elim}
-use mathlib.Core.Bool.{true, false, not, _||_, and-false}
+use mathlib.Core.Logic.{_⊎_, _≢_, ⊎-elim}
+use mathlib.Core.Bool.{true, false, not, _||_, and-false, or-true}
 use mathlib.Core.List.{List}
 use native.Mathlib.Omega.{arith}
 use lib.Dec.{ltb, leb, eqb}
@@ -18,16 +18,18 @@ use Rattle.record.specs.declared.ParseResult.the-variants.{Good}
 use Rattle.grammar.specs.Answers.{numberOf, isFailure}
 use Rattle.grammar.specs.Boards.{isV1, isV2, hasBoard, bothBoards}
 use Rattle.grammar.specs.Grammar.{isExtendedLinear, dataKind, roleOf}
+use Rattle.grammar.proofs.Laws.{kept-failure, kept-not}
 use Rattle.grammar.specs.declared.Answer.{Answer}
 use Rattle.grammar.specs.declared.Answer.the-variants as answer
 use Rattle.grammar.specs.declared.ReaderState.{ReaderState}
-use Rattle.grammar.specs.declared.ReaderState.the-variants.{Between, Opened, Inside, Ended}
+use Rattle.grammar.specs.declared.ReaderState.the-variants.{Between, Opened, Inside, Padded, Ended, Failed}
 use Rattle.unihex.specs.declared.Reader.{Reader}
 use Rattle.unihex.specs.declared.Effect.the-variants.{Stores}
 use Rattle.unihex.specs.Reader.{badFailure, badReader, withState, withData, movedTo, givenOf, effectOf}
 use Rattle.unihex.specs.Line.{LineOutcome, lineOutcome, failedBy, failing, addressOf, storing, effectOutcome, recordOutcome, parsedLine, liveLine, haltOf, haltLine, badImage, lineOf}
-use Rattle.hexfile.specs.Facts.{Only-33-stores, Length-kept, Ready, Bad-changes-nothing, Bad-exactly, Failed-repeats, After-end, Failures-fail, movesOffset, moveOf, Offset-moves, Own-kept, Stays-good, End-ends, End-or-missing, Passed-or-repeated, OwnData, StoreIn, Stores-own-data, Own-data-is-stored, Elsewhere-unchanged, Other-board-unchanged}
+use Rattle.hexfile.specs.Facts.{readsOn, Only-33-stores, Length-kept, Ready, Bad-changes-nothing, Bad-exactly, Failed-repeats, After-end, Failures-fail, movesOffset, moveOf, Offset-moves, Own-kept, Stays-good, End-ends, End-or-missing, Passed-or-repeated, OwnData, StoreIn, Stores-own-data, Own-data-is-stored, Elsewhere-unchanged, Other-board-unchanged, Bad-digit-at, Bad-digit-answered, Bad-position}
 use Rattle.record.proofs.Good.{good-len, length-data}
+use Rattle.record.proofs.Positions.{bad-position, bad-inside, bad-there, good-before}
 use Rattle.hexfile.proofs.LineCase.{After, LineCase, bad, past, again, failed, out, stored, passed, ended, good-state, lineCase, linear-no-data}
 
 -- ---- the numbers of failures
@@ -99,7 +101,7 @@ module _ (r : Reader) (l img : List ℕ) where
   nothing-bad (bad a n x) h = refl
   nothing-bad (past e) h = refl
   nothing-bad (again f e g) h = refl
-  nothing-bad (failed a f) h = absurd (omega (arith, failure-from a f))
+  nothing-bad (failed a f) h = absurd (omega (arith, failure-from a (kept-failure a f)))
   nothing-bad (out rec q p w m) h = absurd (omega arith)
   nothing-bad (stored rec q d w m) h = absurd (omega arith)
   nothing-bad (passed rec q p w m) h = absurd (omega arith)
@@ -108,8 +110,8 @@ module _ (r : Reader) (l img : List ℕ) where
   not-bad : {o : LineOutcome} → LineCase r l img o → Ready r img → 20 ≤ numberOf (o .answer)
   not-bad (bad a n x) y = absurd (x y)
   not-bad (past e) y = omega arith
-  not-bad (again f e g) y = failure-from (f .answer) g
-  not-bad (failed a f) y = failure-from a f
+  not-bad (again f e g) y = failure-from (f .answer) (kept-failure (f .answer) g)
+  not-bad (failed a f) y = failure-from a (kept-failure a f)
   not-bad (out rec q p w m) y = omega arith
   not-bad (stored rec q d w m) y = omega arith
   not-bad (passed rec q p w m) y = omega arith
@@ -132,8 +134,8 @@ module _ (r : Reader) (l img : List ℕ) where
   unfolding withState movedTo
   moves (bad a n x) = rw (lt-leb 32 (numberOf a) (omega arith)) (omega arith)
   moves (past e) = omega arith
-  moves (again f e g) = rw (failure-not-moves (f .answer) g) (omega arith)
-  moves (failed a f) = rw (failure-not-moves a f) (omega arith)
+  moves (again f e g) = rw (failure-not-moves (f .answer) (kept-failure (f .answer) g)) (omega arith)
+  moves (failed a f) = rw (failure-not-moves a (kept-failure a f)) (omega arith)
   moves (out rec q p w m) = refl
   moves (stored rec q d w m) = refl
   moves (passed rec q p w m) = refl
@@ -189,8 +191,8 @@ module _ (r : Reader) (l img : List ℕ) where
   unfolding withState movedTo
   ends (bad a n x) h = absurd (omega (arith, ap numberOf h))
   ends (past e) h = absurd (omega (arith, ap numberOf h))
-  ends (again f e g) h = clash (isFailure (f .answer)) g (ap isFailure h)
-  ends (failed a f) h = clash (isFailure a) f (ap isFailure h)
+  ends (again f e g) h = clash (isFailure (f .answer)) (kept-failure (f .answer) g) (ap isFailure h)
+  ends (failed a f) h = clash (isFailure a) (kept-failure a f) (ap isFailure h)
   ends (out rec q p w m) h = absurd (omega (arith, ap numberOf h))
   ends (stored rec q d w m) h = absurd (omega (arith, ap numberOf h))
   ends (passed rec q p w m) h = absurd (omega (arith, ap numberOf h))
@@ -201,8 +203,8 @@ module _ (r : Reader) (l img : List ℕ) where
   stores : {o : LineOutcome} → LineCase r l img o → o .answer ≡ answer.Stored → (rec : Record) × OwnData r l img rec × StoreIn r l img rec (o .image)
   stores (bad a n x) h = absurd (omega (arith, ap numberOf h))
   stores (past e) h = absurd (omega (arith, ap numberOf h))
-  stores (again f e g) h = clash (isFailure (f .answer)) g (ap isFailure h)
-  stores (failed a f) h = clash (isFailure a) f (ap isFailure h)
+  stores (again f e g) h = clash (isFailure (f .answer)) (kept-failure (f .answer) g) (ap isFailure h)
+  stores (failed a f) h = clash (isFailure a) (kept-failure a f) (ap isFailure h)
   stores (out rec q p w m) h = absurd (omega (arith, ap numberOf h))
   stores (stored rec q d w m) h = (rec, d, stored-in rec d)
   stores (passed rec q p w m) h = absurd (omega (arith, ap numberOf h))
@@ -335,3 +337,42 @@ passed-or-repeated r l img rec b y m d =
     ap (λ (o : LineOutcome). o .answer) (good-line r l img rec Opened y m (d .says) (d .opened) (unfold haltLine in refl))
     ∙ unfold effectOutcome roleOf effectOf in
     rw (d .kind, le-leb 2 (rec .len) (d .some), d .board) (split (hasBoard (r .«sections_seen») b) (λ c. rw c) (λ c. rw c))
+
+-- ---- a bad digit
+
+pub bad-digit-at : Bad-digit-at
+unfolding Bad-digit-at
+bad-digit-at l p e =
+    record {
+      after = bad-position l p e .0;
+      within = (bad-inside l p e, bad-position l p e .1);
+      bad = bad-there l p e;
+      first = good-before l p e;
+    }
+
+-- a reader that reads on
+pub live-at : (r : Reader) (l img : List ℕ) (s : ReaderState) → readsOn s ≡ true → haltLine r l img (haltOf s) ≡ liveLine r l img
+unfolding haltLine
+live-at r l img Between y = refl
+live-at r l img Opened y = refl
+live-at r l img (Inside b) y = refl
+live-at r l img (Padded b) y = refl
+live-at r l img Ended y = clash false y refl
+live-at r l img (Failed f) y = clash false y refl
+
+pub bad-digit-answered : Bad-digit-answered
+unfolding Bad-digit-answered lineOf liveLine parsedLine
+bad-digit-answered r l img p y n m e =
+    rw (y .image, y .reader) (live-at r l img (r .state) n ∙ rw (le-ltb 4194304 (r .offset + length l) m, e))
+
+failure-bad : (p : ℕ) → (p < 1) ⊎ (520 < p) → badFailure (Failed (record { answer = answer.BadDigit p })) ≡ true
+unfolding badFailure
+failure-bad p h = rw (kept-not p h)
+
+bad-by : (r : Reader) → badFailure (r .state) ≡ true → badReader r ≡ true
+unfolding badReader
+bad-by r h = rw h (or-true (not (isV1 (r .own) || isV2 (r .own)) || ltb 4194304 (r .offset)))
+
+pub bad-position-refused : Bad-position
+unfolding Bad-position lineOf
+bad-position-refused r l img p y e h = rw (y, bad-by r (ap badFailure e ∙ failure-bad p h))

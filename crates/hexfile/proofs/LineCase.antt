@@ -15,9 +15,11 @@ use Rattle.record.specs.Record.{wordOf, readOf}
 use Rattle.record.specs.declared.Record.{Record}
 use Rattle.record.specs.declared.ParseResult.{ParseResult}
 use Rattle.record.specs.declared.ParseResult.the-variants as parsed
-use Rattle.grammar.specs.Answers.{numberOf, isFailure}
+use Rattle.grammar.specs.Answers.{numberOf, isKept}
 use Rattle.grammar.specs.Boards.{isV1, isV2, hasBoard, withBoard, bothBoards}
 use Rattle.grammar.specs.Grammar.{isExtendedLinear, isEndOfFile, isBlockStart, dataKind, afterPadding, roleOf}
+use Rattle.grammar.proofs.Laws.{kept-digit}
+use Rattle.record.proofs.Positions.{bad-position}
 use Rattle.grammar.specs.declared.Answer.{Answer}
 use Rattle.grammar.specs.declared.Answer.the-variants as answer
 use Rattle.grammar.specs.declared.Boards.{Boards}
@@ -233,7 +235,7 @@ module _ (r : Reader) (rec : Record) (word : ℕ) where
 -- ---- what a good record does
 
 pub data EffectCase (r : Reader) (rec : Record) (word : ℕ) : Effect → Type 0 where
-  broke : (a : Answer) → isFailure a ≡ true → EffectCase r rec word (Fails a)
+  broke : (a : Answer) → isKept a ≡ true → EffectCase r rec word (Fails a)
   went : (q : Reader) → Onward r rec word q → EffectCase r rec word (Passes q)
   stores : r .state ≡ Inside (r .own) → rec .kind ≡ dataKind (r .own) → 1 ≤ rec .len → rec .address + rec .len ≤ 65536
       → EffectCase r rec word (Stores (withData r (r .own)))
@@ -255,7 +257,7 @@ module _ (r : Reader) (rec : Record) (word : ℕ) where
       (λ m. rw (n, m) (went (withData r c) (onward-data r rec word c s k some))))
 
   steps : (x : Role) → RoleFacts (r .state) (rec .kind) (rec .len) x → EffectCase r rec word (effectOf r x (rec .address) (rec .len) word)
-  unfolding effectOf withState withUpper badFailure
+  unfolding effectOf withState withUpper badFailure isKept
   steps Opening h =
       split (not (eqb (r .offset % 512) 0))
       (λ y. rw y (broke answer.Unaligned refl))
@@ -291,8 +293,8 @@ After r l rec q = Onward r rec (wordOf (readOf l .«data»)) q
 pub data LineCase (r : Reader) (l img : List ℕ) : LineOutcome → Type 0 where
   bad : (a : Answer) → numberOf a ≤ 19 → (Ready r img → ⊥) → LineCase r l img (lineOutcome r a img)
   past : r .state ≡ Ended → LineCase r l img (lineOutcome r answer.AfterEnd img)
-  again : (f : Failure) → r .state ≡ Failed f → isFailure (f .answer) ≡ true → LineCase r l img (lineOutcome r (f .answer) img)
-  failed : (a : Answer) → isFailure a ≡ true → LineCase r l img (failing r a img)
+  again : (f : Failure) → r .state ≡ Failed f → isKept (f .answer) ≡ true → LineCase r l img (lineOutcome r (f .answer) img)
+  failed : (a : Answer) → isKept a ≡ true → LineCase r l img (failing r a img)
   out : (rec : Record) (q : Reader) → readOf l .parsed ≡ parsed.Good rec → After r l rec q → endOf r l ≤ 4194304
       → LineCase r l img (lineOutcome (movedTo q (endOf r l)) answer.Outside img)
   stored : (rec : Record) (q : Reader) → OwnData r l img rec → After r l rec q → endOf r l ≤ 4194304
@@ -324,18 +326,19 @@ module _ (r : Reader) (l img : List ℕ) where
   effect-case rec p m (closed o b) = ended rec p o b m
 
   parsed-case : (p : ParseResult) → readOf l .parsed ≡ p → endOf r l ≤ 4194304 → LineCase r l img (parsedLine r (readOf l .«data») (endOf r l) img p)
-  unfolding parsedLine recordOutcome
+  unfolding parsedLine recordOutcome isKept
   parsed-case (parsed.Good rec) p m =
       effect-case rec p m (steps r rec (wordOf (readOf l .«data»)) (roleOf (r .state) (rec .kind) (rec .len)) (role-facts (r .state) (rec .kind) (rec .len)))
   parsed-case parsed.NoColon p m = failed answer.NoColon refl
   parsed-case parsed.BadShape p m = failed answer.BadShape refl
-  parsed-case parsed.BadDigit p m = failed answer.BadDigit refl
+  parsed-case (parsed.BadDigit k) p m =
+      let w = bad-position l k p in failed (answer.BadDigit k) (kept-digit k (w .0) (w .1))
   parsed-case parsed.TooLong p m = failed answer.TooLong refl
   parsed-case parsed.BadLength p m = failed answer.BadLength refl
   parsed-case parsed.BadSum p m = failed answer.BadSum refl
 
   live-case : LineCase r l img (liveLine r l img)
-  unfolding liveLine
+  unfolding liveLine isKept
   live-case =
       split (ltb 4194304 (endOf r l))
       (λ y. rw y (failed answer.FileTooLong refl))
@@ -348,7 +351,7 @@ module _ (r : Reader) (l img : List ℕ) where
   state-case (Inside b) e n = live-case
   state-case (Padded b) e n = live-case
   state-case Ended e n = past e
-  state-case (Failed f) e n = again f e (not-false (isFailure (f .answer)) n)
+  state-case (Failed f) e n = again f e (not-false (isKept (f .answer)) n)
 
   pub lineCase : LineCase r l img (lineOf r l img)
   unfolding lineOf

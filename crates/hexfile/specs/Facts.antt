@@ -8,15 +8,16 @@ use mathlib.Core.List.{List}
 use lib.Dec.{leb}
 use lib.ListN.{length, getD, take}
 use Rattle.sets.specs.Over.{over}
-use Rattle.record.specs.Record.{wordOf, readOf}
+use Rattle.record.specs.Record.{wordOf, textOf, isDigit, readOf}
 use Rattle.record.specs.declared.Record.{Record}
-use Rattle.record.specs.declared.ParseResult.the-variants.{Good}
+use Rattle.record.specs.declared.ParseResult.the-variants.{Good, BadDigit}
 use Rattle.grammar.specs.Answers.{numberOf, isFailure}
 use Rattle.grammar.specs.Boards.{hasBoard, bothBoards}
 use Rattle.grammar.specs.Grammar.{dataKind}
 use Rattle.grammar.specs.declared.Answer.{Answer}
 use Rattle.grammar.specs.declared.Answer.the-variants as answer
 use Rattle.grammar.specs.declared.Failure.{Failure}
+use Rattle.grammar.specs.declared.ReaderState.{ReaderState}
 use Rattle.grammar.specs.declared.ReaderState.the-variants.{Between, Opened, Inside, Padded, Ended, Failed}
 use Rattle.unihex.specs.declared.Reader.{Reader}
 use Rattle.unihex.specs.Reader.{badReader}
@@ -25,6 +26,15 @@ use Rattle.unihex.specs.Line.{LineOutcome, lineOutcome, failing, addressOf, bad
 -- what holds of every reader, line and image, and of what the line comes to
 abbrev pub EveryLine : (Reader → List ℕ → List ℕ → LineOutcome → Type 0) → Type 0
 EveryLine P = (r : Reader) (l img : List ℕ) → P r l img (lineOf r l img)
+
+-- a reader that has neither failed nor come to the end
+abbrev pub readsOn : ReaderState → Bool
+readsOn Between = true
+readsOn Opened = true
+readsOn (Inside b) = true
+readsOn (Padded b) = true
+readsOn Ended = false
+readsOn (Failed f) = false
 
 -- ---- what changes nothing
 
@@ -49,7 +59,7 @@ Bad-exactly = EveryLine (λ r l img o. (20 ≤ numberOf (o .answer)) ↔ Ready r
 unfoldable pub Bad-changes-nothing : Type 0
 Bad-changes-nothing = EveryLine (λ r l img o. numberOf (o .answer) ≤ 19 → o ≡ lineOutcome r (o .answer) img)
 
--- "A failed reader repeats its number and changes nothing."
+-- "A failed reader repeats its number and changes nothing."; "number and position" (02), which is a value of its answer
 unfoldable pub Failed-repeats : Type 0
 Failed-repeats =
     EveryLine (λ r l img o. (f : Failure) → Ready r img → r .state ≡ Failed f → o ≡ lineOutcome r (f .answer) img)
@@ -148,3 +158,32 @@ Elsewhere-unchanged = EveryLine (λ r l img o. r .state ≢ Inside (r .own) → 
 unfoldable pub Other-board-unchanged : Type 0
 Other-board-unchanged =
     EveryLine (λ r l img o. (b : ℕ) → b ≢ r .own → (r .state ≡ Inside b) ⊎ (r .state ≡ Padded b) → o .image ≡ img)
+
+-- ---- a bad digit (02: "the position of the first bad character, counted from 0 at the colon")
+
+-- of a text, p is the place of the first character after the colon that is no digit
+pub record FirstBadAt (t : List ℕ) (p : ℕ) : Type 0 where
+  pub after : 1 ≤ p
+  pub within : (p < length t) × (p ≤ 520)
+  pub bad : isDigit (getD t p 0) ≡ false
+  pub first : (i : ℕ) → 1 ≤ i → i < p → isDigit (getD t i 0) ≡ true
+
+-- the position of a line that row 22 refuses; its text is a part of the line from its start on
+unfoldable pub Bad-digit-at : Type 0
+Bad-digit-at = (l : List ℕ) (p : ℕ) → readOf l .parsed ≡ BadDigit p → FirstBadAt (textOf l) p
+
+-- such a line, to a reader that reads on and within the limit, fails it with that position
+unfoldable pub Bad-digit-answered : Type 0
+Bad-digit-answered =
+    EveryLine
+    (λ r l img o.
+    (p : ℕ) → Ready r img → readsOn (r .state) ≡ true → r .offset + length l ≤ 4194304 → readOf l .parsed ≡ BadDigit p
+    → o ≡ failing r (answer.BadDigit p) img)
+
+-- "one handed in with 22 and a position outside 1 to 520 is 18" (02)
+unfoldable pub Bad-position : Type 0
+Bad-position =
+    EveryLine
+    (λ r l img o.
+    (p : ℕ) → badImage (length img) ≡ false → r .state ≡ Failed (record { answer = answer.BadDigit p }) → (p < 1) ⊎ (520 < p)
+    → o ≡ lineOutcome r answer.BadReader img)

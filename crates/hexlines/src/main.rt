@@ -1,6 +1,7 @@
 // Reads lines of Universal Hex from standard input for one board and prints the answer to each: a board image of 262,144 bytes.
 ghost use Prim.Native.Nat.{_+_, _≤_};
 ghost use lib.ListN.{length};
+use grammar::Answer;
 use grammar::Boards;
 use libc::STDIN_FILENO;
 use libc::STDOUT_FILENO;
@@ -44,7 +45,7 @@ fn room(waiting: &[u8], used: usize, n: usize) -> usize
 }
 
 // Adds the line of an answer to the text that waits, and answers how many of its bytes are used.
-fn add(waiting: &mut [u8], used: usize, index: u64, answer: u8) -> usize
+fn add(waiting: &mut [u8], used: usize, index: u64, answer: Answer) -> usize
     requires { ⌜ (used ≤ length (now waiting)) × (80 ≤ length (now waiting)) ⌝ }
     ensures { λ r. ⌜ r ≤ length (now (waiting .entry)) ⌝ }
 {
@@ -69,7 +70,7 @@ fn run(input: &[u8], own: u16, image: &mut [u8], waiting: &mut [u8]) -> Reader
         let read = reader.line(&input[at..e], image);
         let answer = read.answer;
         reader = read.reader;
-        used = add(waiting, used, index, answer.number());
+        used = add(waiting, used, index, answer);
         at = e;
         index += 1;
     }

@@ -5,18 +5,21 @@ use mathlib.Core.List.{List, [], _∷_, _++_, append-assoc}
 use Prim.Native.Nat.{ℕ, zero, suc, _+_, _-_, _/_, _%_, _^_, _<_, _≤_}
 use native.Mathlib.Nat.{pow-le-pow-right}
 use native.Mathlib.Omega.{arith}
-use lib.Dec.{ltb}
-use lib.ListN.{length, drop, length-append}
+use lib.Dec.{ltb, eqb}
+use lib.ListN.{length, drop, length-append, take-append-drop}
 use lib.Seq.{length-take-le, take-at, drop-drop, drop-append-add}
-use borrow.Author.Tests.{lt-ltb, le-ltb, ltb-true, ltb-false}
+use borrow.Author.Tests.{lt-ltb, le-ltb, ltb-true, ltb-false, eq-eqb, ne-eqb}
 use Rattle.sets.specs.Over.{over}
 use Rattle.sets.proofs.Tests.{split}
+use Rattle.sets.proofs.OverLaws.{over-next}
 use Rattle.io.specs.Counts.{Counts}
 use Rattle.io.specs.Digits.{glyph, digits, Fewest}
-use Rattle.grammar.specs.Answers.{numberOf}
+use Rattle.grammar.specs.Answers.{numberOf, positionOf}
+use Rattle.grammar.specs.declared.Answer.{Answer}
 use Rattle.grammar.specs.declared.ReaderState.{ReaderState}
 use Rattle.grammar.specs.declared.ReaderState.the-variants.{Between, Opened, Inside, Padded, Ended, Failed}
-use Rattle.lines.specs.HexLines.{hexAnswerLine, failedText, readerStateText}
+use Rattle.lines.specs.HexLines.{positionText, hexAnswerLine, failedText, readerStateText}
+use Rattle.lines.specs.Ascii.{ascii}
 use Rattle.lines.specs.Lines.{digit, decimalBy, decimalOf, pairText}
 
 -- ---- a text that grows
@@ -96,20 +99,46 @@ pub decimal-is : (n k : ℕ) {t : List ℕ} → n < 2 ^ 64 → Fewest 10 1 n k �
 unfolding decimalOf
 decimal-is n k l f e = e ∙ digits-by 20 k n (digits-short n k l f) f
 
+-- ---- a bad digit's position
+
+over-none : (xs : List ℕ) (at : ℕ) → xs ≡ over xs at []
+unfolding over
+over-none xs at = let e : at + 0 ≡ at = omega arith in rw e (sym (take-append-drop at xs))
+
+pub position-none : (xs : List ℕ) (at p : ℕ) → p ≡ 0 → (at ≡ at + length (positionText p)) × (xs ≡ over xs at (positionText p))
+unfolding positionText
+position-none xs at p e = rw (eq-eqb p 0 e) (omega arith, over-none xs at)
+
+pub position-some : (xs : List ℕ) (at p : ℕ) {ys zs : List ℕ} {b e : ℕ} → (p ≡ 0 → ⊥) → at + 30 ≤ length xs
+    → (b ≡ at + length (ascii " position ")) × (ys ≡ over xs at (ascii " position ")) → (e ≡ b + length (decimalOf p)) × (zs ≡ over ys b (decimalOf p))
+    → (e ≡ at + length (positionText p)) × (zs ≡ over xs at (positionText p))
+unfolding positionText
+position-some xs at p n h x y =
+    rw (ne-eqb p 0 n) (
+      y .0 ∙ rw (x .0) (simp length-append (omega arith)),
+      y .1 ∙ rw (x .1, x .0) (over-next xs at (ascii " position ") (at + 10) (decimalOf p) refl (omega (arith, decimal-short p))),
+    )
+
 -- ---- how long the parts of a line are
 
 pub pair-short : (index answer : ℕ) → length (pairText index answer) ≤ 41
 pair-short index answer = simp length-append (omega (arith, decimal-short index, decimal-short answer))
 
-pub hex-answer-short : (index answer : ℕ) → length (hexAnswerLine index answer) ≤ 42
-unfolding hexAnswerLine
-hex-answer-short index answer = simp length-append (omega (arith, decimal-short index, decimal-short answer))
+pub position-short : (p : ℕ) → length (positionText p) ≤ 30
+unfolding positionText
+position-short p =
+    split (eqb p 0) (λ y. rw y (omega arith)) (λ n. rw n (simp length-append (omega (arith, decimal-short p))))
 
-pub state-short : (s : ReaderState) → length (readerStateText s) ≤ 33
+pub hex-answer-short : (index : ℕ) (a : Answer) → length (hexAnswerLine index a) ≤ 72
+unfolding hexAnswerLine
+hex-answer-short index a =
+    simp length-append (omega (arith, decimal-short index, decimal-short (numberOf a), position-short (positionOf a)))
+
+pub state-short : (s : ReaderState) → length (readerStateText s) ≤ 63
 unfolding readerStateText failedText
 state-short Between = omega arith
 state-short Opened = omega arith
 state-short (Inside b) = omega arith
 state-short (Padded b) = omega arith
 state-short Ended = omega arith
-state-short (Failed f) = simp length-append (omega (arith, decimal-short (numberOf (f .answer))))
+state-short (Failed f) = simp length-append (omega (arith, decimal-short (numberOf (f .answer)), position-short (positionOf (f .answer))))

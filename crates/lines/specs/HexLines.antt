@@ -1,7 +1,9 @@
 -- The lines of text of the program for lines of Universal Hex, in ASCII. Assumes nothing.
 use Prim.Native.Nat.{ℕ}
-use mathlib.Core.List.{List, _∷_, _++_}
-use Rattle.grammar.specs.Answers.{numberOf}
+use mathlib.Core.Bool.{cond}
+use mathlib.Core.List.{List, [], _∷_, _++_}
+use lib.Dec.{eqb}
+use Rattle.grammar.specs.Answers.{numberOf, positionOf}
 use Rattle.grammar.specs.declared.Answer.{Answer}
 use Rattle.grammar.specs.declared.Boards.{Boards}
 use Rattle.grammar.specs.declared.ReaderState.{ReaderState}
@@ -10,15 +12,20 @@ use Rattle.unihex.specs.declared.Reader.{Reader}
 use Rattle.lines.specs.Ascii.{ascii}
 use Rattle.lines.specs.Lines.{decimalOf, pairText, flagDigit}
 
--- the line of an answer: "0 34"
-unfoldable pub hexAnswerLine : ℕ → ℕ → List ℕ
-hexAnswerLine index answer = pairText index answer ++ ascii "\n"
+-- " position " and the position of a bad digit, or nothing
+unfoldable pub positionText : ℕ → List ℕ
+positionText p = cond (eqb p 0) [] (ascii " position " ++ decimalOf p)
 
--- ---- the last line: "state ended offset 1552 v1 1 v2 1", "state failed 24 offset 36 v1 0 v2 0"
+-- the line of an answer: "0 34", "3 22 position 9"
+unfoldable pub hexAnswerLine : ℕ → Answer → List ℕ
+hexAnswerLine index a = pairText index (numberOf a) ++ positionText (positionOf a) ++ ascii "\n"
 
--- "state failed " and the number of the remembered answer
+-- ---- the last line: "state ended offset 1552 v1 1 v2 1", "state failed 24 offset 36 v1 0 v2 0",
+-- "state failed 22 position 9 offset 80 v1 1 v2 0"
+
+-- "state failed ", the number of the remembered answer, and its position
 unfoldable pub failedText : Answer → List ℕ
-failedText a = ascii "state failed " ++ decimalOf (numberOf a)
+failedText a = ascii "state failed " ++ decimalOf (numberOf a) ++ positionText (positionOf a)
 
 -- "state between", "state opened", "state inside", "state padded", "state ended", or that of a failed reader
 unfoldable pub readerStateText : ReaderState → List ℕ

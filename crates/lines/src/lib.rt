@@ -4,7 +4,7 @@ ghost use Prim.Native.Nat.{_+_, _≤_};
 ghost use mathlib.Core.Bool.{cond};
 ghost use lib.ListN.{length};
 ghost use Rattle.io.specs.Counts.{Counts};
-ghost use Rattle.lines.specs.HexLines.{hexAnswerLine, failedText, readerStateText, hexStateLine};
+ghost use Rattle.lines.specs.HexLines.{positionText, hexAnswerLine, failedText, readerStateText, hexStateLine};
 ghost use Rattle.lines.specs.Lines.{decimalOf, pairText, answerLine, countsLine, stateLine};
 ghost use Rattle.sets.specs.Over.{over};
 use grammar::Answer;
@@ -90,23 +90,38 @@ pub fn state_line(out: &mut [u8; 80], transfer: Transfer) -> usize
     }
 }
 
+// " position " and the position of a bad digit; nothing where there is none.
+fn put_position(out: &mut [u8], at: usize, position: u16) -> usize
+    requires { ⌜ at + 30 ≤ length (now out) ⌝ }
+    ensures { λ r. ⌜ r ≡ at + length (positionText position) ⌝ }
+    ensures { λ _. ⌜ now (out .exit) ≡ over (now (out .entry)) at (positionText position) ⌝ }
+{
+    if position == 0 {
+        return at;
+    }
+    let b = put(out, at, b" position ");
+    put_decimal(out, b, position as u64)
+}
+
 // The line of an answer to a line of Universal Hex.
-pub fn hex_answer_line(out: &mut [u8; 80], index: u64, answer: u8) -> usize
+pub fn hex_answer_line(out: &mut [u8; 80], index: u64, answer: Answer) -> usize
     ensures { λ r. ⌜ r ≡ length (hexAnswerLine index answer) ⌝ }
     ensures { λ _. ⌜ now (out .exit) ≡ over (now (out .entry)) 0 (hexAnswerLine index answer) ⌝ }
     ensures { λ r. ⌜ Counts r (now (out .exit)) ⌝ }
 {
-    let a = put_pair(out, index, answer);
-    put(out, a, b"\n")
+    let a = put_pair(out, index, answer.number());
+    let b = put_position(out, a, answer.position());
+    put(out, b, b"\n")
 }
 
-// A failed reader, with the number that it remembers.
+// A failed reader, with the number and the position that it remembers.
 fn put_failed(out: &mut [u8; 128], answer: Answer) -> usize
     ensures { λ r. ⌜ r ≡ length (failedText answer) ⌝ }
     ensures { λ _. ⌜ now (out .exit) ≡ over (now (out .entry)) 0 (failedText answer) ⌝ }
 {
     let a = put(out, 0, b"state failed ");
-    put_decimal(out, a, answer.number() as u64)
+    let b = put_decimal(out, a, answer.number() as u64);
+    put_position(out, b, answer.position())
 }
 
 // Where a reader stands.

@@ -13,7 +13,7 @@ use Rattle.grammar.specs.Boards.{isV1, isV2}
 use Rattle.unihex.specs.declared.Reader.{Reader}
 use Rattle.unihex.specs.Reader.{badFailure, badReader}
 use Rattle.readers.specs.Readers.{halfAt, readerStateFrom, fieldsFrom, noReader, readerFrom}
-use Rattle.readers.proofs.Answers.{failureNumber, failure-from}
+use Rattle.readers.proofs.Answers.{keptNumber, kept-from}
 use Rattle.readers.proofs.Read.{read-good}
 
 none-bad : badReader noReader ≡ true
@@ -28,16 +28,16 @@ by-failure : (r : Reader) → badFailure (r .state) ≡ true → badReader r ≡
 unfolding badReader
 by-failure r h = rw h (or-true (not (isV1 (r .own) || isV2 (r .own)) || ltb 4194304 (r .offset)))
 
-failed-bad : (n board : ℕ) → failureNumber n ≡ false → badFailure (readerStateFrom 5 n board) ≡ true
+failed-bad : (n half : ℕ) → keptNumber n half ≡ false → badFailure (readerStateFrom 5 n half) ≡ true
 unfolding readerStateFrom badFailure
-failed-bad n board f = ap not (failure-from n ∙ f)
+failed-bad n half f = ap not (kept-from n half ∙ f)
 
 module _ (b : List ℕ) (e : length b ≡ 16) where
   pub state-bad : 5 < byteAt b 8 → badReader (readerFrom b) ≡ true
   unfolding readerFrom
   state-bad h = rw (eq-eqb (length b) 16 e, lt-leb (byteAt b 8) 5 h) none-bad
 
-  pub failure-bad : byteAt b 8 ≡ 5 → failureNumber (byteAt b 9) ≡ false → badReader (readerFrom b) ≡ true
+  pub failure-bad : byteAt b 8 ≡ 5 → keptNumber (byteAt b 9) (halfAt b 10) ≡ false → badReader (readerFrom b) ≡ true
   unfolding fieldsFrom
   failure-bad k f =
       rw (read-good b e (omega arith))

@@ -14,6 +14,7 @@ use Rattle.block.specs.Block.{fieldAt}
 use Rattle.block.specs.Write.{le32}
 use Rattle.layout.specs.Layout.{isOn}
 use Rattle.block.proofs.WriteLaws.{field-le32}
+use Rattle.grammar.specs.Answers.{positionOf}
 use Rattle.grammar.specs.declared.Boards.{Boards}
 use Rattle.grammar.specs.declared.ReaderState.{ReaderState}
 use Rattle.grammar.specs.declared.ReaderState.the-variants.{Between, Opened, Inside, Padded, Ended, Failed}
@@ -37,14 +38,14 @@ written-copied b r {s} l e h =
 
 -- ---- read back
 
--- the section's board fits 16 bits
+-- the section's board, or the failure's position, fits 16 bits
 abbrev pub SmallState : ReaderState → Type 0
 SmallState Between = Unit
 SmallState Opened = Unit
 SmallState (Inside b) = b < 2 ^ 16
 SmallState (Padded b) = b < 2 ^ 16
 SmallState Ended = Unit
-SmallState (Failed f) = Unit
+SmallState (Failed f) = positionOf (f .answer) < 2 ^ 16
 
 -- the fields are in range
 pub record Small (r : Reader) : Type 0 where
@@ -69,15 +70,15 @@ kind-most (Padded b) = refl
 kind-most Ended = refl
 kind-most (Failed f) = refl
 
-board-most : (s : ReaderState) → SmallState s → stateCodeOf s .board < 2 ^ 16
-board-most Between h = omega arith
-board-most Opened h = omega arith
-board-most (Inside b) h = h
-board-most (Padded b) h = h
-board-most Ended h = omega arith
-board-most (Failed f) h = omega arith
+half-most : (s : ReaderState) → SmallState s → stateCodeOf s .half < 2 ^ 16
+half-most Between h = omega arith
+half-most Opened h = omega arith
+half-most (Inside b) h = h
+half-most (Padded b) h = h
+half-most Ended h = omega arith
+half-most (Failed f) h = h
 
-state-back : (s : ReaderState) → readerStateFrom (stateCodeOf s .kind) (stateCodeOf s .failure) (stateCodeOf s .board) ≡ s
+state-back : (s : ReaderState) → readerStateFrom (stateCodeOf s .kind) (stateCodeOf s .failure) (stateCodeOf s .half) ≡ s
 unfolding readerStateFrom
 state-back Between = refl
 state-back Opened = refl
@@ -118,15 +119,15 @@ module _ (r : Reader) (h : Small r) where
   unfolding readerBytes lowFirst
   offset-back = field-le32 (own ++ upper) (r .offset) (tag ++ sections) (h .offset)
 
-  board-back : halfAt (readerBytes r) 10 ≡ stateCodeOf (r .state) .board
+  code-half-back : halfAt (readerBytes r) 10 ≡ stateCodeOf (r .state) .half
   unfolding readerBytes stateCodeBytes lowFirst
-  board-back =
-      half-back (own ++ (upper ++ (offset ++ (stateCodeOf (r .state) .kind ∷ stateCodeOf (r .state) .failure ∷ [])))) (stateCodeOf (r .state) .board) sections (board-most (r .state) (h .state))
+  code-half-back =
+      half-back (own ++ (upper ++ (offset ++ (stateCodeOf (r .state) .kind ∷ stateCodeOf (r .state) .failure ∷ [])))) (stateCodeOf (r .state) .half) sections (half-most (r .state) (h .state))
 
   fields-back : fieldsFrom (readerBytes r) ≡ r
   unfolding fieldsFrom readerBytes stateCodeBytes lowFirst
   fields-back =
-      same-reader own-back offset-back (ap (readerStateFrom _ _) board-back ∙ state-back (r .state)) upper-back (boards-back (r .«sections_seen»)) (boards-back (r .«data_seen»))
+      same-reader own-back offset-back (ap (readerStateFrom _ _) code-half-back ∙ state-back (r .state)) upper-back (boards-back (r .«sections_seen»)) (boards-back (r .«data_seen»))
 
 -- the reader that is read from the bytes written for a reader is that reader
 pub round-trip : (r : Reader) → Small r → readerFrom (readerBytes r) ≡ r

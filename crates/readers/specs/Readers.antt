@@ -8,7 +8,7 @@ use Rattle.sets.specs.Bytes.{lowFirst, numberIn}
 use Rattle.block.specs.Block.{fieldAt}
 use Rattle.block.specs.Write.{le32}
 use Rattle.layout.specs.Layout.{byteAt, isOn}
-use Rattle.grammar.specs.Answers.{numberOf}
+use Rattle.grammar.specs.Answers.{numberOf, positionOf}
 use Rattle.grammar.specs.declared.Answer.{Answer}
 use Rattle.grammar.specs.declared.Answer.the-variants.{BadReader, BadImage, NoColon, BadShape, BadDigit, TooLong, BadLength, BadSum, OutOfPlace, Unaligned, Repeated, Crosses, MissingBoard, AfterEnd, Outside, Stored, Passed, Ended, FileTooLong}
 use Rattle.grammar.specs.declared.Boards.{Boards}
@@ -24,14 +24,14 @@ use Rattle.readers.specs.declared.StateCode.{StateCode}
 abbrev pub halfAt : List ℕ → ℕ → ℕ
 halfAt b at = numberIn 2 b at
 
--- the answers from 18 to 36
-unfoldable pub allAnswers : List Answer
-allAnswers =
+-- the answers from 18 to 36; p is the position of a bad digit
+unfoldable pub allAnswers : ℕ → List Answer
+allAnswers p =
     BadReader
     ∷ BadImage
     ∷ NoColon
     ∷ BadShape
-    ∷ BadDigit
+    ∷ BadDigit p
     ∷ TooLong
     ∷ BadLength
     ∷ BadSum
@@ -48,25 +48,28 @@ allAnswers =
     ∷ FileTooLong
     ∷ []
 
--- the answer of a number; a number that is no answer is read as 18, which row 18 refuses in a failure (proofs/Refused.antt)
-unfoldable pub answerFrom : ℕ → Answer
-answerFrom n = getD allAnswers (n - 18) BadReader
+-- the answer of a number, and of a position where it has one; a number that is no answer is read as 18, which row 18 refuses in a failure
+-- (proofs/Refused.antt)
+unfoldable pub answerFrom : ℕ → ℕ → Answer
+answerFrom n p = getD (allAnswers p) (n - 18) BadReader
 
--- where a reader stands (0 Between, 1 Opened, 2 Inside, 3 Padded, 4 Ended, 5 Failed), the remembered failure and the section's board
+-- where a reader stands (0 Between, 1 Opened, 2 Inside, 3 Padded, 4 Ended, 5 Failed), the remembered failure, and two bytes: the section's
+-- board, or the failure's position
 unfoldable pub readerStateFrom : ℕ → ℕ → ℕ → ReaderState
-readerStateFrom kind failure board =
+readerStateFrom kind failure half =
     cond (eqb kind 0) state.Between
     (cond (eqb kind 1) state.Opened
-    (cond (eqb kind 2) (state.Inside board)
-    (cond (eqb kind 3) (state.Padded board)
+    (cond (eqb kind 2) (state.Inside half)
+    (cond (eqb kind 3) (state.Padded half)
     (cond (eqb kind 4) state.Ended
-    (state.Failed (record { answer = answerFrom failure }))))))
+    (state.Failed (record { answer = answerFrom failure half }))))))
 
 -- of V1 and of V2, each a flag
 abbrev pub boardsFrom : ℕ → ℕ → Boards
 boardsFrom a b = record { v1 = isOn a; v2 = isOn b }
 
--- 0 own board, 2 upper address, 4 offset, 8 where it stands, 9 the remembered failure, 10 board of the section, 12 V1's section came,
+-- 0 own board, 2 upper address, 4 offset, 8 where it stands, 9 the remembered failure, 10 board of the section or position of
+-- the failure, 12 V1's section came,
 -- 13 V2's, 14 V1 gave a data byte, 15 V2 did
 unfoldable pub fieldsFrom : List ℕ → Reader
 fieldsFrom b =
@@ -93,18 +96,18 @@ readerFrom b = cond (eqb (length b) 16) (cond (leb (byteAt b 8) 5) (fieldsFrom b
 abbrev pub le16 : ℕ → List ℕ
 le16 x = lowFirst 2 x
 
--- the kind of a stand, with the remembered failure and the section's board
+-- the kind of a state, with the remembered failure, and the section's board or the failure's position
 abbrev pub stateCode : ℕ → ℕ → ℕ → StateCode
-stateCode kind failure board = record { kind = kind; failure = failure; board = board }
+stateCode kind failure half = record { kind = kind; failure = failure; half = half }
 
--- a failure's number only where failed, a board only where in a section
+-- a failure's number only where failed, its position only by 22, a board only where in a section
 abbrev pub stateCodeOf : ReaderState → StateCode
 stateCodeOf state.Between = stateCode 0 0 0
 stateCodeOf state.Opened = stateCode 1 0 0
 stateCodeOf (state.Inside b) = stateCode 2 0 b
 stateCodeOf (state.Padded b) = stateCode 3 0 b
 stateCodeOf state.Ended = stateCode 4 0 0
-stateCodeOf (state.Failed f) = stateCode 5 (numberOf (f .answer)) 0
+stateCodeOf (state.Failed f) = stateCode 5 (numberOf (f .answer)) (positionOf (f .answer))
 
 -- a flag as a byte
 abbrev pub flagOf : Bool → ℕ
@@ -114,9 +117,9 @@ flagOf on = cond on 1 0
 abbrev pub boardsBytes : Boards → List ℕ
 boardsBytes s = flagOf (s .v1) ∷ flagOf (s .v2) ∷ []
 
--- 8 kind, 9 failure, 10 board
+-- 8 kind, 9 failure, 10 board or position
 unfoldable pub stateCodeBytes : StateCode → List ℕ
-stateCodeBytes t = t .kind ∷ t .failure ∷ le16 (t .board)
+stateCodeBytes t = t .kind ∷ t .failure ∷ le16 (t .half)
 
 -- the bytes of a reader
 unfoldable pub readerBytes : Reader → List ℕ

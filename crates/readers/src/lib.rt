@@ -20,11 +20,11 @@ use unihex::Reader;
 // The bytes of a reader.
 const READER: usize = 16;
 
-// Where a reader stands, as numbers: the kind, the failure's number and the board; 0 where there is none.
+// A reader's state as numbers: the kind, the failure's number, and the section's board or the failure's position; 0 where there is none.
 struct StateCode {
     kind: u8,
     failure: u8,
-    board: u16,
+    half: u16,
 }
 
 // Two bytes as a number, low first.
@@ -35,8 +35,8 @@ fn joined(low: u8, high: u8) -> u16
 }
 
 // The answer of a number. Any other number is read as 18, which no reader remembers.
-fn answer(n: u8) -> Answer
-    ensures { λ r. ⌜ r ≡ answerFrom n ⌝ }
+fn answer(n: u8, position: u16) -> Answer
+    ensures { λ r. ⌜ r ≡ answerFrom n position ⌝ }
 {
     if (n < 18) | (36 < n) {
         return Answer::BadReader;
@@ -46,7 +46,7 @@ fn answer(n: u8) -> Answer
         Answer::BadImage,
         Answer::NoColon,
         Answer::BadShape,
-        Answer::BadDigit,
+        Answer::BadDigit(position),
         Answer::TooLong,
         Answer::BadLength,
         Answer::BadSum,
@@ -67,8 +67,8 @@ fn answer(n: u8) -> Answer
 }
 
 // Any kind over 4 is read as a failure.
-fn state_from(kind: u8, failure: u8, board: u16) -> ReaderState
-    ensures { λ r. ⌜ r ≡ readerStateFrom kind failure board ⌝ }
+fn state_from(kind: u8, failure: u8, half: u16) -> ReaderState
+    ensures { λ r. ⌜ r ≡ readerStateFrom kind failure half ⌝ }
 {
     if kind == 0 {
         return ReaderState::Between;
@@ -77,15 +77,15 @@ fn state_from(kind: u8, failure: u8, board: u16) -> ReaderState
         return ReaderState::Opened;
     }
     if kind == 2 {
-        return ReaderState::Inside(board);
+        return ReaderState::Inside(half);
     }
     if kind == 3 {
-        return ReaderState::Padded(board);
+        return ReaderState::Padded(half);
     }
     if kind == 4 {
         return ReaderState::Ended;
     }
-    let answer = answer(failure);
+    let answer = answer(failure, half);
     let failure = Failure { answer };
     ReaderState::Failed(failure)
 }
@@ -100,8 +100,8 @@ pub fn read_reader(bytes: &[u8]) -> Reader
     if 5 < bytes[8] {
         return Reader::fresh(0);
     }
-    let board = joined(bytes[10], bytes[11]);
-    let state = state_from(bytes[8], bytes[9], board);
+    let half = joined(bytes[10], bytes[11]);
+    let state = state_from(bytes[8], bytes[9], half);
     let sections_seen = Boards {
         v1: bytes[12] != 0,
         v2: bytes[13] != 0,
@@ -127,34 +127,34 @@ fn state_code(state: ReaderState) -> StateCode
         ReaderState::Between => StateCode {
             kind: 0,
             failure: 0,
-            board: 0,
+            half: 0,
         },
         ReaderState::Opened => StateCode {
             kind: 1,
             failure: 0,
-            board: 0,
+            half: 0,
         },
         ReaderState::Inside(board) => StateCode {
             kind: 2,
             failure: 0,
-            board,
+            half: board,
         },
         ReaderState::Padded(board) => StateCode {
             kind: 3,
             failure: 0,
-            board,
+            half: board,
         },
         ReaderState::Ended => StateCode {
             kind: 4,
             failure: 0,
-            board: 0,
+            half: 0,
         },
         ReaderState::Failed(failure) => {
             let answer = failure.answer;
             StateCode {
                 kind: 5,
                 failure: answer.number(),
-                board: 0,
+                half: answer.position(),
             }
         }
     }
@@ -176,8 +176,8 @@ fn reader_bytes(reader: Reader) -> [u8; READER]
     let state = reader.state;
     let sections_seen = reader.sections_seen;
     let data_seen = reader.data_seen;
-    let tag = state_code(state);
-    let board = tag.board;
+    let code = state_code(state);
+    let half = code.half;
     [
         (own % 256) as u8,
         (own / 256 % 256) as u8,
@@ -187,10 +187,10 @@ fn reader_bytes(reader: Reader) -> [u8; READER]
         (offset / 256 % 256) as u8,
         (offset / 65536 % 256) as u8,
         (offset / 16777216 % 256) as u8,
-        tag.kind,
-        tag.failure,
-        (board % 256) as u8,
-        (board / 256 % 256) as u8,
+        code.kind,
+        code.failure,
+        (half % 256) as u8,
+        (half / 256 % 256) as u8,
         flag(sections_seen.v1),
         flag(sections_seen.v2),
         flag(data_seen.v1),

@@ -10,8 +10,9 @@ use lib.Seq.{take-all, getD-take}
 use borrow.Author.Tests.{lt-ltb, le-ltb, eq-eqb, ne-eqb, ltb-true, ltb-false, eqb-false}
 use Rattle.sets.proofs.Tests.{split, or-left, or-right}
 use Rattle.record.specs.declared.ParseResult.the-variants.{NoColon, BadShape, BadDigit, TooLong, BadLength, BadSum}
-use Rattle.record.specs.Record.{allDigits, bytesOf, Decoding, lenOf, total, badShape, good, refused, lineOfBytes, lineOfText}
+use Rattle.record.specs.Record.{allDigits, firstBad, bytesOf, Decoding, lenOf, total, badShape, good, refused, lineOfBytes, lineOfText}
 use Rattle.record.proofs.Digits.{length-bytes}
+use Rattle.record.proofs.FirstBad.{bad-some, bad-all}
 
 -- ---- rows 23 to 25, of n characters and their bytes
 
@@ -83,13 +84,18 @@ module _ (n : ℕ) (l : List ℕ) (least : 10 < n) where
 
 pub record Shape (n : ℕ) : Type 0 where
   pub least : 10 < n
+  pub most : n ≤ 521
   pub odd : n % 2 ≡ 1
 
 pub shaped : (n : ℕ) → badShape n ≡ false → Shape n
 shaped n e =
     let size = ltb n 11 || ltb 521 n in
     let f : n % 2 ≡ 0 → ⊥ = eqb-false (n % 2) 0 (or-right size _ e) in
-    record { least = omega (arith, ltb-false n 11 (or-left _ (ltb 521 n) (or-left size _ e))); odd = omega arith }
+    record {
+      least = omega (arith, ltb-false n 11 (or-left _ (ltb 521 n) (or-left size _ e)));
+      most = ltb-false 521 n (or-right (ltb n 11) (ltb 521 n) (or-left size _ e));
+      odd = omega arith;
+    }
 
 -- a part that goes to the end, as the code lends it
 pub rest : (k : ℕ) (l : List ℕ) → take (length l - k) (drop k l) ≡ drop k l
@@ -110,9 +116,21 @@ module _ (t : List ℕ) where
     is-bad-shape e = rw (ne-eqb (length t) 0 some, eq-eqb (getD t 0 0) 58 colon, e)
 
     module _ (shape : badShape (length t) ≡ false) where
-      pub is-bad-digit : allDigits (drop 1 t) ≡ false → refused BadDigit ≡ lineOfText t
+      pub is-bad-digit : {p : ℕ} → p ≡ 1 + firstBad (drop 1 t) → allDigits (drop 1 t) ≡ false → refused (BadDigit p) ≡ lineOfText t
       unfolding lineOfText
-      is-bad-digit e = rw (ne-eqb (length t) 0 some, eq-eqb (getD t 0 0) 58 colon, shape, e)
+      is-bad-digit q e = rw (q, ne-eqb (length t) 0 some, eq-eqb (getD t 0 0) 58 colon, shape, e)
+
+      -- as the code lends the characters, and finds the first bad one
+      module _ {b : ℕ} (found : b ≡ firstBad (take (length t - 1) (drop 1 t))) where
+        found-in : b ≡ firstBad (drop 1 t)
+        found-in = found ∙ ap firstBad (rest 1 t)
+
+        pub is-bad-at : b < length t - 1 → refused (BadDigit (b + 1)) ≡ lineOfText t
+        is-bad-at h =
+            is-bad-digit (omega (arith, found-in)) (bad-some (drop 1 t) (omega (arith, found-in, length-drop 1 t)))
+
+        pub is-all-good : length t - 1 ≤ b → allDigits (drop 1 t) ≡ true
+        is-all-good h = bad-all (drop 1 t) (omega (arith, found-in, length-drop 1 t))
 
       pub is-bytes : allDigits (drop 1 t) ≡ true → lineOfBytes (length t) (bytesOf (drop 1 t)) ≡ lineOfText t
       unfolding lineOfText

@@ -12,7 +12,7 @@ use Rattle.record.specs.declared.Line.{Line}
 use Rattle.record.specs.declared.Record.{Record}
 use Rattle.record.specs.declared.ParseResult.{ParseResult}
 use Rattle.record.specs.declared.ParseResult.the-variants.{Good, NoColon, BadShape, BadDigit, TooLong, BadLength, BadSum}
-use Rattle.record.specs.Record.{textOf, digitOf, isDigit, allDigits, bytesOf, lenOf, dataOf, recordOf, total, noColon, badShape, badLength, badSum, good, refused, lineOfBytes, lineOfText, readOf, parsedNumber}
+use Rattle.record.specs.Record.{textOf, digitOf, isDigit, allDigits, firstBad, bytesOf, lenOf, dataOf, recordOf, total, noColon, badShape, badLength, badSum, good, refused, lineOfBytes, lineOfText, readOf, parsedNumber}
 use Rattle.record.specs.Write.{Bytes}
 use Rattle.record.proofs.Digits.{length-bytes}
 use Rattle.record.proofs.Data32.{length-data32, data32-take}
@@ -37,7 +37,7 @@ says t r e =
     let b = bytesOf (drop 1 t) in
     let k = passed (noColon t) NoColon _ r (omega arith) e in
     let s = passed (badShape (length t)) BadShape _ r (omega arith) (k .1) in
-    let d = passed (not (allDigits (drop 1 t))) BadDigit _ r (omega arith) (s .1) in
+    let d = passed (not (allDigits (drop 1 t))) (BadDigit (1 + firstBad (drop 1 t))) _ r (omega arith) (s .1) in
     let f = passed (ltb 32 (lenOf b)) TooLong _ r (omega arith) (d .1) in
     let n = passed (badLength (length t) b) BadLength _ r (omega arith) (f .1) in
     let z = passed (badSum b) BadSum _ r (omega arith) (n .1) in
@@ -94,7 +94,7 @@ length-data l =
     let z = length-data32 [] in
     either (noColon t) (refused NoColon) _ z
     (either (badShape (length t)) (refused BadShape) _ z
-    (either (not (allDigits (drop 1 t))) (refused BadDigit) _ z
+    (either (not (allDigits (drop 1 t))) (refused (BadDigit (1 + firstBad (drop 1 t)))) _ z
     (either (ltb 32 (lenOf b)) (refused TooLong) _ z
     (either (badLength (length t) b) (refused BadLength) _ z
     (either (badSum b) (refused BadSum) (good b) z (length-data32 (dataOf b)))))))

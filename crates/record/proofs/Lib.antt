@@ -3,8 +3,10 @@ pub mod Endings
 pub mod Sums
 pub mod Digits
 pub mod Table
+pub mod FirstBad
 pub mod Data32
 pub mod Checks
 pub mod Good
 pub mod Rows
+pub mod Positions
 pub mod Written

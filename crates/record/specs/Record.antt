@@ -1,5 +1,5 @@
 -- One line of Intel Hex, by the bytes of its text (01, "Universal Hex, a line at a time", rows 20 to 25). Assumes nothing.
-use Prim.Native.Nat.{ℕ, _+_, _-_, _*_, _/_, _%_}
+use Prim.Native.Nat.{ℕ, suc, _+_, _-_, _*_, _/_, _%_}
 use mathlib.Core.Path.{_≡_}
 use mathlib.Core.Bool.{Bool, true, _&&_, _||_, not, cond}
 use mathlib.Core.List.{List, [], _∷_}
@@ -45,6 +45,11 @@ isDigit c = ltb (digitOf c) 16
 unfoldable pub allDigits : List ℕ → Bool
 allDigits [] = true
 allDigits (c ∷ l) = isDigit c && allDigits l
+
+-- the index of the first character that is none, or how many there are
+unfoldable pub firstBad : List ℕ → ℕ
+firstBad [] = 0
+firstBad (c ∷ l) = cond (isDigit c) (suc (firstBad l)) 0
 
 -- two digits a byte, high first; the remainder by 16 is the digit itself, and a character that is none never gets that far: row 22
 -- refuses it first
@@ -96,7 +101,7 @@ abbrev pub onRecord : {A : Type 0} → A → (Record → A) → ParseResult → 
 onRecord d f (Good rec) = f rec
 onRecord d f NoColon = d
 onRecord d f BadShape = d
-onRecord d f BadDigit = d
+onRecord d f (BadDigit p) = d
 onRecord d f TooLong = d
 onRecord d f BadLength = d
 onRecord d f BadSum = d
@@ -131,12 +136,13 @@ lineOfBytes n b =
     (cond (badLength n b) (refused BadLength)
     (cond (badSum b) (refused BadSum) (good b)))
 
--- rows 20 to 25, of a text; row 22: a character after the colon is no digit
+-- rows 20 to 25, of a text; row 22: a character after the colon is no digit, with "the position of the first bad character, counted from 0 at
+-- the colon" (02)
 unfoldable pub lineOfText : List ℕ → Line
 lineOfText t =
     cond (noColon t) (refused NoColon)
     (cond (badShape (length t)) (refused BadShape)
-    (cond (not (allDigits (drop 1 t))) (refused BadDigit) (lineOfBytes (length t) (bytesOf (drop 1 t)))))
+    (cond (not (allDigits (drop 1 t))) (refused (BadDigit (1 + firstBad (drop 1 t)))) (lineOfBytes (length t) (bytesOf (drop 1 t)))))
 
 -- a line as it is handed, its ending included
 unfoldable pub readOf : List ℕ → Line
@@ -146,11 +152,21 @@ readOf l = lineOfText (textOf l)
 abbrev pub parsedNumber : ParseResult → ℕ
 parsedNumber NoColon = 20
 parsedNumber BadShape = 21
-parsedNumber BadDigit = 22
+parsedNumber (BadDigit p) = 22
 parsedNumber TooLong = 23
 parsedNumber BadLength = 24
 parsedNumber BadSum = 25
 parsedNumber (Good r) = 0
+
+-- and the value of the one that has one: the position of the first bad character; 0 stands for none
+abbrev pub parsedPosition : ParseResult → ℕ
+parsedPosition NoColon = 0
+parsedPosition BadShape = 0
+parsedPosition (BadDigit p) = p
+parsedPosition TooLong = 0
+parsedPosition BadLength = 0
+parsedPosition BadSum = 0
+parsedPosition (Good r) = 0
 
 -- ---- and the rows by these numbers: the first that a line fails, or 0 for a good record
 

@@ -3,7 +3,7 @@ ghost use mathlib.Core.Path.{_≡_};
 ghost use Prim.Native.Nat.{_+_, _*_, _/_, _%_, _<_, _≤_, min};
 ghost use lib.ListN.{length, take};
 ghost use Rattle.record.specs.Table.{TellsDigits};
-ghost use Rattle.record.specs.Record.{digitOf, textLen, total, allDigits, bytesOf, Decoding, lenOf, wordFrom, good, refused, lineOfBytes, lineOfText, readOf, parsedNumber, rowOf};
+ghost use Rattle.record.specs.Record.{digitOf, textLen, total, allDigits, firstBad, bytesOf, Decoding, lenOf, wordFrom, good, refused, lineOfBytes, lineOfText, readOf, parsedNumber, rowOf};
 
 // A good record: its type, its address field, and how many bytes of data it has.
 pub struct Record {
@@ -17,7 +17,8 @@ pub enum ParseResult {
     Good(Record),
     NoColon,
     BadShape,
-    BadDigit,
+    // the position of the first bad character, counted from 0 at the colon
+    BadDigit(u16),
     TooLong,
     BadLength,
     BadSum,
@@ -64,7 +65,7 @@ impl ParseResult {
             ParseResult::Good(_) => 0,
             ParseResult::NoColon => 20,
             ParseResult::BadShape => 21,
-            ParseResult::BadDigit => 22,
+            ParseResult::BadDigit(_) => 22,
             ParseResult::TooLong => 23,
             ParseResult::BadLength => 24,
             ParseResult::BadSum => 25,
@@ -188,14 +189,35 @@ fn decode(table: &[u8; 256], chars: &[u8], out: &mut [u8]) -> bool
     good & all_digits(table, &chars[e..])
 }
 
-// The same by the table, of which this function alone makes a copy: once a line.
-fn digits_of(chars: &[u8], out: &mut [u8]) -> bool
+// The index of the first character that is no digit, or how many there are. Only a line with such a character gets here.
+fn first_bad(table: &[u8; 256], chars: &[u8]) -> usize
+    requires { ⌜ TellsDigits (now table) ⌝ }
+    ensures { λ r. ⌜ r ≡ firstBad (now (chars .entry)) ⌝ }
+{
+    let mut i = 0;
+    while i < chars.len() {
+        let value = digit(table, chars[i]);
+        if 16 <= value {
+            return i;
+        }
+        i += 1;
+    }
+    i
+}
+
+// The index of the first character that is no digit, or how many there are; the bytes that the characters say go to `out` as far as it
+// has room. This function alone makes a copy of the table: once a line.
+fn judge(chars: &[u8], out: &mut [u8]) -> usize
     requires { ⌜ length (now chars) % 2 ≡ 0 ⌝ }
-    ensures { λ r. ⌜ r ≡ allDigits (now (chars .entry)) ⌝ }
+    ensures { λ r. ⌜ r ≡ firstBad (now (chars .entry)) ⌝ }
     ensures bytes { λ _. ⌜ Decoding (now (chars .entry)) (now (out .exit)) ⌝ }
 {
     let table = DIGITS;
-    decode(&table, chars, out)
+    let good = decode(&table, chars, out);
+    if good {
+        return chars.len();
+    }
+    first_bad(&table, chars)
 }
 
 // Two bytes as a number, high first.
@@ -267,8 +289,9 @@ fn read_text(t: &[u8]) -> Line
         return refusal(ParseResult::BadShape);
     }
     let mut bytes = [0u8; Record::BYTES];
-    if !digits_of(&t[1..], &mut bytes) {
-        return refusal(ParseResult::BadDigit);
+    let bad = judge(&t[1..], &mut bytes);
+    if bad < n - 1 {
+        return refusal(ParseResult::BadDigit((bad + 1) as u16));
     }
     read_bytes(n, &bytes)
 }

@@ -110,7 +110,7 @@ parsed-refused r d e img (parsed.Good rec) t =
     t)
 parsed-refused r d e img parsed.NoColon t = refl
 parsed-refused r d e img parsed.BadShape t = refl
-parsed-refused r d e img parsed.BadDigit t = refl
+parsed-refused r d e img (parsed.BadDigit p) t = refl
 parsed-refused r d e img parsed.TooLong t = refl
 parsed-refused r d e img parsed.BadLength t = refl
 parsed-refused r d e img parsed.BadSum t = refl

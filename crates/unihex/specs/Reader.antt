@@ -2,7 +2,7 @@
 use Prim.Native.Nat.{ℕ, _+_, _%_}
 use mathlib.Core.Bool.{Bool, false, _||_, not, cond}
 use lib.Dec.{ltb, eqb}
-use Rattle.grammar.specs.Answers.{isFailure}
+use Rattle.grammar.specs.Answers.{isKept}
 use Rattle.grammar.specs.Boards.{isV1, isV2, noBoards, hasBoard, withBoard, bothBoards}
 use Rattle.grammar.specs.declared.Answer.the-variants.{OutOfPlace, Unaligned, Repeated, Crosses, MissingBoard}
 use Rattle.grammar.specs.declared.ReaderState.{ReaderState}
@@ -20,14 +20,14 @@ freshOf own =
 
 -- ---- row 18: "own board neither of these, offset over the limit, or a remembered failure that isn't 20 to 30 or 36"
 
--- "a remembered failure that isn't 20 to 30 or 36"
+-- "a remembered failure that isn't 20 to 30 or 36", and "one handed in with 22 and a position outside 1 to 520" (02)
 unfoldable pub badFailure : ReaderState → Bool
 badFailure Between = false
 badFailure Opened = false
 badFailure (Inside b) = false
 badFailure (Padded b) = false
 badFailure Ended = false
-badFailure (Failed f) = not (isFailure (f .answer))
+badFailure (Failed f) = not (isKept (f .answer))
 
 -- the three of them; the own board is "V1 0x9900 or V2 0x9903", the limit 4,194,304
 unfoldable pub badReader : Reader → Bool

@@ -349,7 +349,7 @@ fn bad_failure(state: ReaderState) -> bool
         ReaderState::Ended => false,
         ReaderState::Failed(failure) => {
             let answer = failure.answer;
-            !answer.is_failure()
+            !answer.is_kept()
         }
     }
 }

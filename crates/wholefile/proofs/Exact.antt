@@ -98,7 +98,7 @@ parsed-below r d e img (parsed.Good rec) =
     (effect-below r (roleOf (r .state) (rec .kind) (rec .len)) (rec .address) (rec .len) (wordOf d))
 parsed-below r d e img parsed.NoColon = omega arith
 parsed-below r d e img parsed.BadShape = omega arith
-parsed-below r d e img parsed.BadDigit = omega arith
+parsed-below r d e img (parsed.BadDigit k) = omega arith
 parsed-below r d e img parsed.TooLong = omega arith
 parsed-below r d e img parsed.BadLength = omega arith
 parsed-below r d e img parsed.BadSum = omega arith

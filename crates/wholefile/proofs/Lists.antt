@@ -13,6 +13,7 @@ use Rattle.record.specs.Record.{readOf, wordOf as wordAt}
 use Rattle.record.specs.declared.Record.{Record}
 use Rattle.record.specs.declared.ParseResult.the-variants.{Good}
 use Rattle.grammar.specs.Answers.{numberOf, isFailure}
+use Rattle.grammar.proofs.Laws.{kept-failure}
 use Rattle.grammar.specs.declared.Answer.{Answer}
 use Rattle.grammar.specs.declared.Answer.the-variants as answer
 use Rattle.grammar.specs.declared.Failure.{Failure}
@@ -119,7 +120,7 @@ module _ (own : ℕ) (s : State) (l img : List ℕ) (y : Ready (readerOf own s) 
   lined-viewed (bad a n x) e = absurd (x y)
   lined-viewed (past f) e = absurd (not-ended (s .place) f)
   lined-viewed (again f g h) e = absurd (not-failed (s .place) f g)
-  lined-viewed (failed a f) e = refused f
+  lined-viewed (failed a f) e = refused (kept-failure a f)
   lined-viewed (out rec q p w m) e = subst (AfterRecords own s l img) e (record-viewed rec p m)
   lined-viewed (stored rec q d w m) e = subst (AfterRecords own s l img) e (record-viewed rec (d .says) m)
   lined-viewed (passed rec q p w m) e = subst (AfterRecords own s l img) e (record-viewed rec p m)

@@ -49,7 +49,7 @@ fn plain(lines: &[Vec<u8>], image: &mut [u8]) -> (f64, u64) {
     let answer = |line: &Vec<u8>| {
         let (next, answer) = reference::hex::line(reader, line, image);
         reader = next;
-        u64::from(answer)
+        u64::from(answer.number) | u64::from(answer.position) << 8
     };
     timed(|| lines.iter().map(answer).sum())
 }
@@ -61,8 +61,41 @@ fn by_table(lines: &[Vec<u8>], image: &mut [u8]) -> (f64, u64) {
     timed(|| lines.iter().map(answer).sum())
 }
 
+/// Each line with its last digit bad, to a fresh reader.
+fn bad_digits(lines: &[Vec<u8>]) {
+    let mut bad = lines.to_vec();
+    bad.iter_mut().for_each(|l| {
+        let last = l.len() - 2;
+        l[last] = b'g';
+    });
+    let (mut one, mut other) = (vec![0; 64], vec![0; 64]);
+    let mut reader = [0; 16];
+    proved::hex::bytes::new(V1, &mut reader);
+    let work = Work {
+        rounds: crate::CALLS,
+        calls: bad.len(),
+        bytes: Some(bad.iter().map(Vec::len).sum()),
+    };
+    pair(
+        &format!("a line of {} with a bad last digit", bad.len()),
+        work,
+        || {
+            let answer = |l: &Vec<u8>| proved::hex::bytes::line(&mut reader.clone(), l, &mut one);
+            timed(|| bad.iter().map(answer).map(u64::from).sum())
+        },
+        || {
+            let answer = |l: &Vec<u8>| {
+                let (_, a) = reference::hex::line(fresh(V1), l, &mut other);
+                u64::from(a.number) | u64::from(a.position) << 8
+            };
+            timed(|| bad.iter().map(answer).sum())
+        },
+    );
+}
+
 pub fn rows() {
     let upper = file();
+    bad_digits(&upper);
     let lower = small(&upper);
     let (mut one, mut other) = (vec![0; IMAGE], vec![0; IMAGE]);
     for (case, lines) in [("", &upper), (", lower case", &lower)] {

@@ -321,11 +321,6 @@ fn main() {
     let none = settings(0, [Entry::EMPTY; 16]);
     let full = sixteen();
     println!("| work | proved | plain Rust | ratio |\n|---|---|---|---|");
-    // `bench hex` prints the rows of Universal Hex alone
-    if std::env::args().nth(1).is_some_and(|what| what == "hex") {
-        hex::rows();
-        return;
-    }
     places("settings good and place, no table", &none);
     places("settings good and place, 16 entries", &full);
     // the last entry has room for so many

@@ -1,6 +1,6 @@
 //! Lines of Universal Hex, whole files and damaged ones, and readers of any content, from a seed.
 
-use reference::hex::{Boards, Reader, Stand, V1, V2};
+use reference::hex::{Answer, Boards, Reader, Stand, V1, V2};
 
 use crate::Random;
 
@@ -10,13 +10,13 @@ pub const FILE: u32 = 4_194_304;
 // ---- readers as bytes, said a second time
 
 pub fn bytes_of(reader: Reader) -> [u8; 16] {
-    let (stand, failure, board) = match reader.stand {
+    let (stand, failure, half) = match reader.stand {
         Stand::Between => (0, 0, 0),
         Stand::Opened => (1, 0, 0),
         Stand::Inside(b) => (2, 0, b),
         Stand::Padded(b) => (3, 0, b),
         Stand::Ended => (4, 0, 0),
-        Stand::Failed(n) => (5, n, 0),
+        Stand::Failed(a) => (5, a.number, a.position),
     };
     let mut bytes = [0; 16];
     let numbers = u128::from(reader.own)
@@ -24,7 +24,7 @@ pub fn bytes_of(reader: Reader) -> [u8; 16] {
         | u128::from(reader.offset) << 32
         | u128::from(stand as u8) << 64
         | u128::from(failure) << 72
-        | u128::from(board) << 80;
+        | u128::from(half) << 80;
     bytes.copy_from_slice(&numbers.to_le_bytes());
     let Boards { v1, v2 } = reader.came;
     (bytes[12], bytes[13]) = (v1.into(), v2.into());
@@ -39,14 +39,18 @@ pub fn reader_of(bytes: &[u8]) -> Reader {
         return reference::hex::fresh(0);
     };
     let numbers = u128::from_le_bytes(sixteen);
-    let board = (numbers >> 80) as u16;
+    let half = (numbers >> 80) as u16;
     let stand = match sixteen[8] {
         0 => Stand::Between,
         1 => Stand::Opened,
-        2 => Stand::Inside(board),
-        3 => Stand::Padded(board),
+        2 => Stand::Inside(half),
+        3 => Stand::Padded(half),
         4 => Stand::Ended,
-        5 => Stand::Failed(sixteen[9]),
+        // the two bytes are the position of a 22, and are not read with any other failure
+        5 => Stand::Failed(Answer {
+            number: sixteen[9],
+            position: if sixteen[9] == 22 { half } else { 0 },
+        }),
         _ => return reference::hex::fresh(0),
     };
     let flag = |at: usize| sixteen[at] != 0;
@@ -78,9 +82,9 @@ pub fn proved_reader(reader: Reader) -> Option<proved::hex::Reader> {
             Stand::Inside(b) => proved::hex::State::Inside(b),
             Stand::Padded(b) => proved::hex::State::Padded(b),
             Stand::Ended => proved::hex::State::Ended,
-            Stand::Failed(n) => {
-                proved::hex::State::Failed(proved::hex::HexAnswer::from_number(n.into())?)
-            }
+            Stand::Failed(a) => proved::hex::State::Failed(proved::hex::HexAnswer::from_number(
+                a.number, a.position,
+            )?),
         },
         upper: reader.upper,
         sections: boards(reader.came),
@@ -112,7 +116,27 @@ pub fn any_reader(r: &mut Random) -> [u8; 16] {
     if r.one_in(8) {
         bytes[10..12].copy_from_slice(&(number as u16).to_be_bytes());
     }
+    if bytes[8] == 5 {
+        let position = r.of(&[0, 1, 2, 75, 519, 520, 521, 0xFFFF, number as u16]);
+        bytes[10..12].copy_from_slice(&position.to_le_bytes());
+    }
     bytes
+}
+
+/// A line of digits alone of a length that row 21 lets through, some of them made none, with an ending; row 22 refuses it.
+pub fn bad_digits(r: &mut Random) -> Vec<u8> {
+    let chars = 11 + 2 * r.below(256) as usize;
+    let mut line: Vec<u8> = (0..chars)
+        .map(|_| r.of(b"0123456789ABCDEFabcdef"))
+        .collect();
+    line[0] = b':';
+    for _ in 0..r.of(&[1, 1, 2, 3]) {
+        let any = 1 + r.below(chars as u64 - 1) as usize;
+        let at = r.of(&[1, 2, chars - 1, any]);
+        line[at] = r.of(b":/;@GQ`gq Oo.\r\n\0\x7F\x80\xFF");
+    }
+    line.extend_from_slice(r.of(&ENDINGS));
+    line
 }
 
 fn any_own(r: &mut Random) -> u16 {

@@ -2,7 +2,8 @@
 //! compared, at least.
 
 use compare::hex::{
-    any_file, any_reader, any_record, any_text, bytes_of, damage, proved_reader, reader_of, ENDINGS,
+    any_file, any_reader, any_record, any_text, bad_digits, bytes_of, damage, proved_reader,
+    reader_of, ENDINGS,
 };
 use compare::Random;
 use proved::hex::{Board, Reader};
@@ -36,7 +37,9 @@ impl Pair {
         let was = reader_of(reader);
         let (next, wanted) = reference::hex::line(was, line, &mut self.theirs);
         let got = proved::hex::bytes::line(reader, line, &mut self.ours);
-        assert_eq!(got, wanted.into(), "answer to {line:?} of {was:?}");
+        let result = u32::from(wanted.number) | u32::from(wanted.position) << 8;
+        assert_eq!(got, result, "answer and position of {line:?} of {was:?}");
+        let wanted = wanted.number;
         let failed = matches!(was.stand, Stand::Failed(_));
         let changed = match wanted {
             32..=35 => true,
@@ -127,6 +130,69 @@ fn any_lines_agree() {
     assert!(answers[18] > often);
 }
 
+/// Lines with bad digits, to fresh readers: the position is the same.
+#[test]
+fn positions_agree() {
+    let mut r = Random(16);
+    let mut pair = Pair::new(vec![5; 64]);
+    let mut bad = 0;
+    while bad < number() / 3 {
+        let mut reader = bytes_of(fresh(V1));
+        // a bad character at the end may be taken for the line's ending
+        if pair.take(&mut reader, &bad_digits(&mut r)) == 22 {
+            bad += 1;
+            // and a failed reader repeats it
+            assert_eq!(pair.take(&mut reader, b":00000001FF\n"), 22);
+        }
+    }
+}
+
+/// One bad character, or two, at chosen places of lines of chosen lengths, with each ending.
+#[test]
+fn chosen_positions() {
+    let mut ours = [0; 8];
+    for chars in [75, 77, 521] {
+        for at in [1, 2, 74, 75, 76, 520].into_iter().filter(|&at| at < chars) {
+            for second in [None, Some(chars - 1)] {
+                for ending in ENDINGS {
+                    let mut line = vec![b'0'; chars];
+                    line[0] = b':';
+                    line[at] = b'g';
+                    second.into_iter().for_each(|k| line[k] = b'G');
+                    line.extend_from_slice(ending);
+                    let mut reader = bytes_of(fresh(V1));
+                    let got = proved::hex::bytes::line(&mut reader, &line, &mut ours);
+                    assert_eq!(got, 22 + 256 * at as u32);
+                    Pair::new(vec![0; 8]).take(&mut bytes_of(fresh(V1)), &line);
+                }
+            }
+        }
+    }
+}
+
+/// Positions that are handed in, with 22 and with 24: 18 outside 1 to 520, and not read beside another failure.
+#[test]
+fn handed_positions() {
+    for (position, kept) in [
+        (0u16, false),
+        (1, true),
+        (520, true),
+        (521, false),
+        (0xFFFF, false),
+    ] {
+        for (failure, repeats) in [(22, kept), (24, true)] {
+            let mut reader = bytes_of(fresh(V2));
+            (reader[8], reader[9]) = (5, failure);
+            reader[10..12].copy_from_slice(&position.to_le_bytes());
+            let number = if repeats { failure } else { 18 };
+            let told = if number == 22 { position } else { 0 };
+            let got = proved::hex::bytes::line(&mut reader.clone(), b"?", &mut [0; 4]);
+            assert_eq!(got, u32::from(number) | u32::from(told) << 8);
+            Pair::new(vec![0; 4]).take(&mut reader, b"?");
+        }
+    }
+}
+
 /// Every byte for where a reader stands, with every byte for the failure.
 #[test]
 fn every_stand_and_failure() {
@@ -206,12 +272,13 @@ fn values_agree() {
         let (next, wanted) = reference::hex::line(was, &line, &mut theirs);
         // a reader that is bad in a way that has no value is handed over as bytes alone
         let Some(mut reader) = proved_reader(was) else {
-            assert_eq!(wanted, 18);
+            assert_eq!(wanted.number, 18);
             continue;
         };
         values += 1;
         let got = reader.line(&line, &mut ours);
-        assert_eq!((got.number(), Some(reader)), (wanted, proved_reader(next)));
+        let told = (wanted.number, wanted.position, proved_reader(next));
+        assert_eq!((got.number(), got.position(), Some(reader)), told);
         assert!(ours == theirs);
     }
     assert!(values > number() / 16);

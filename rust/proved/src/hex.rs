@@ -92,48 +92,47 @@ pub struct Reader {
     pub data: Boards,
 }
 
-/// The answers to a line, by their numbers. They are asked in this order: 19, 18, a failed reader's own, 31, 36, then 20 and on.
+/// The answers to a line, 18 to 36 in this order. They are asked in this order: 19, 18, a failed reader's own, 31, 36, then 20 and on.
 #[derive(Clone, Copy, PartialEq, Eq, Debug)]
-#[repr(u8)]
 pub enum HexAnswer {
     /// The offset is over the limit of a file, or the reader failed by an answer that makes none failed. Nothing changes.
-    BadReader = 18,
+    BadReader,
     /// The image's length. Nothing changes.
-    BadImage = 19,
+    BadImage,
     /// Empty, or does not begin with a colon. The reader has failed.
-    NoColon = 20,
+    NoColon,
     /// Under 11, over 521 or an even number of characters. The reader has failed.
-    BadShape = 21,
-    /// A character that is no digit. The reader has failed.
-    BadDigit = 22,
+    BadShape,
+    /// A character that is no digit; the value is the position of the first one, counted from 0 at the colon, 1 to 520. The reader has failed.
+    BadDigit(u16),
     /// The length field is over 32. The reader has failed.
-    TooLong = 23,
+    TooLong,
     /// The characters are not 11 and two for each byte that the length field says. The reader has failed.
-    BadLength = 24,
+    BadLength,
     /// The sum of its bytes is wrong. The reader has failed.
-    BadSum = 25,
+    BadSum,
     /// A type or length that is not allowed there. The reader has failed.
-    OutOfPlace = 26,
+    OutOfPlace,
     /// A section begins at an offset that is no multiple of 512. The reader has failed.
-    Unaligned = 27,
+    Unaligned,
     /// A second section of V1 or V2. The reader has failed.
-    Repeated = 28,
+    Repeated,
     /// Data past the 65,536 bytes that one 04 reaches. The reader has failed.
-    Crosses = 29,
+    Crosses,
     /// The end before V1 and V2 each gave a data byte. The reader has failed.
-    MissingBoard = 30,
+    MissingBoard,
     /// A line after the 01. Nothing changes.
-    AfterEnd = 31,
+    AfterEnd,
     /// Own data that is not wholly in the image: it is left out, and reading goes on.
-    Outside = 32,
+    Outside,
     /// Own data, stored in the image.
-    Stored = 33,
+    Stored,
     /// Any other good record.
-    Passed = 34,
+    Passed,
     /// The 01: every line was good. The image is whole only if no line was answered `Outside`.
-    Ended = 35,
+    Ended,
     /// The file with this line is over the limit. The reader has failed.
-    FileTooLong = 36,
+    FileTooLong,
 }
 
 impl Board {
@@ -164,7 +163,7 @@ impl Boards {
 }
 
 impl State {
-    /// The number of the state, the failure's and the board's.
+    /// The number of the state, the failure's, and the board's or the failure's position.
     fn numbers(self) -> (u8, u8, u16) {
         match self {
             State::Between => (0, 0, 0),
@@ -172,18 +171,18 @@ impl State {
             State::Inside(board) => (2, 0, board),
             State::Padded(board) => (3, 0, board),
             State::Ended => (4, 0, 0),
-            State::Failed(answer) => (5, answer.number(), 0),
+            State::Failed(answer) => (5, answer.number(), answer.position()),
         }
     }
 
-    fn from_numbers(state: u8, failure: u8, board: u16) -> Option<State> {
+    fn from_numbers(state: u8, failure: u8, half: u16) -> Option<State> {
         match state {
             0 => Some(State::Between),
             1 => Some(State::Opened),
-            2 => Some(State::Inside(board)),
-            3 => Some(State::Padded(board)),
+            2 => Some(State::Inside(half)),
+            3 => Some(State::Padded(half)),
             4 => Some(State::Ended),
-            5 => HexAnswer::from_number(failure.into()).map(State::Failed),
+            5 => HexAnswer::from_number(failure, half).map(State::Failed),
             _ => None,
         }
     }
@@ -208,20 +207,20 @@ impl Reader {
     /// Where the library returns a number that is none of the answers (see the crate's page).
     pub fn line(&mut self, line: &[u8], image: &mut [u8]) -> HexAnswer {
         let mut state = self.bytes();
-        let number = bytes::line(&mut state, line, image);
+        let result = bytes::line(&mut state, line, image);
         *self = Reader::handed_back(&state);
-        HexAnswer::from_number(number).unwrap_or_else(|| crate::unknown(number))
+        HexAnswer::from_result(result).unwrap_or_else(|| crate::unknown(result))
     }
 
     /// The bytes of the reader, as the C interface has them.
     pub fn bytes(self) -> [u8; READER_BYTES] {
-        let (state, failure, board) = self.state.numbers();
+        let (state, failure, half) = self.state.numbers();
         let mut bytes = [0; READER_BYTES];
         bytes[..2].copy_from_slice(&self.own.number().to_le_bytes());
         bytes[2..4].copy_from_slice(&self.upper.to_le_bytes());
         bytes[4..8].copy_from_slice(&self.offset.to_le_bytes());
         bytes[8..10].copy_from_slice(&[state, failure]);
-        bytes[10..12].copy_from_slice(&board.to_le_bytes());
+        bytes[10..12].copy_from_slice(&half.to_le_bytes());
         bytes[12..14].copy_from_slice(&self.sections.bytes());
         bytes[14..].copy_from_slice(&self.data.bytes());
         bytes
@@ -248,38 +247,70 @@ impl Reader {
 }
 
 impl HexAnswer {
-    const ALL: [HexAnswer; 19] = [
-        HexAnswer::BadReader,
-        HexAnswer::BadImage,
-        HexAnswer::NoColon,
-        HexAnswer::BadShape,
-        HexAnswer::BadDigit,
-        HexAnswer::TooLong,
-        HexAnswer::BadLength,
-        HexAnswer::BadSum,
-        HexAnswer::OutOfPlace,
-        HexAnswer::Unaligned,
-        HexAnswer::Repeated,
-        HexAnswer::Crosses,
-        HexAnswer::MissingBoard,
-        HexAnswer::AfterEnd,
-        HexAnswer::Outside,
-        HexAnswer::Stored,
-        HexAnswer::Passed,
-        HexAnswer::Ended,
-        HexAnswer::FileTooLong,
-    ];
-
     /// The answer's number.
     pub fn number(self) -> u8 {
-        self as u8
+        match self {
+            HexAnswer::BadReader => 18,
+            HexAnswer::BadImage => 19,
+            HexAnswer::NoColon => 20,
+            HexAnswer::BadShape => 21,
+            HexAnswer::BadDigit(_) => 22,
+            HexAnswer::TooLong => 23,
+            HexAnswer::BadLength => 24,
+            HexAnswer::BadSum => 25,
+            HexAnswer::OutOfPlace => 26,
+            HexAnswer::Unaligned => 27,
+            HexAnswer::Repeated => 28,
+            HexAnswer::Crosses => 29,
+            HexAnswer::MissingBoard => 30,
+            HexAnswer::AfterEnd => 31,
+            HexAnswer::Outside => 32,
+            HexAnswer::Stored => 33,
+            HexAnswer::Passed => 34,
+            HexAnswer::Ended => 35,
+            HexAnswer::FileTooLong => 36,
+        }
     }
 
-    /// The answer of a number; none where the number is no answer's.
-    pub fn from_number(number: u32) -> Option<HexAnswer> {
-        HexAnswer::ALL
-            .into_iter()
-            .find(|answer| u32::from(answer.number()) == number)
+    /// The position of a bad digit; 0 for every other answer.
+    pub fn position(self) -> u16 {
+        match self {
+            HexAnswer::BadDigit(position) => position,
+            _ => 0,
+        }
+    }
+
+    /// The answer of a number, with the position where it is a bad digit; none where the number is no answer's.
+    pub fn from_number(number: u8, position: u16) -> Option<HexAnswer> {
+        let all = [
+            HexAnswer::BadReader,
+            HexAnswer::BadImage,
+            HexAnswer::NoColon,
+            HexAnswer::BadShape,
+            HexAnswer::BadDigit(position),
+            HexAnswer::TooLong,
+            HexAnswer::BadLength,
+            HexAnswer::BadSum,
+            HexAnswer::OutOfPlace,
+            HexAnswer::Unaligned,
+            HexAnswer::Repeated,
+            HexAnswer::Crosses,
+            HexAnswer::MissingBoard,
+            HexAnswer::AfterEnd,
+            HexAnswer::Outside,
+            HexAnswer::Stored,
+            HexAnswer::Passed,
+            HexAnswer::Ended,
+            HexAnswer::FileTooLong,
+        ];
+        all.into_iter().find(|answer| answer.number() == number)
+    }
+
+    /// The answer that the library returned: its number, and 256 times its position.
+    fn from_result(result: u32) -> Option<HexAnswer> {
+        let position = u16::try_from(result >> 8).ok()?;
+        let answer = HexAnswer::from_number(result as u8, position)?;
+        (answer.position() == position).then_some(answer)
     }
 
     /// Whether the line was not read: every answer but `Outside`, `Stored`, `Passed` and `Ended`.

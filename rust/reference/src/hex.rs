@@ -13,7 +13,7 @@ const BAD_READER: u8 = 18;
 const BAD_IMAGE: u8 = 19;
 const NO_COLON: u8 = 20;
 const BAD_SHAPE: u8 = 21;
-pub(crate) const BAD_DIGIT: u8 = 22;
+const BAD_DIGIT: u8 = 22;
 const TOO_LONG: u8 = 23;
 const BAD_LENGTH: u8 = 24;
 const BAD_SUM: u8 = 25;
@@ -53,6 +53,25 @@ pub(crate) const SECTION_END: u8 = 0x0B;
 pub(crate) const PADDING: u8 = 0x0C;
 const CUSTOM_DATA: u8 = 0x0D;
 const OTHER_DATA: u8 = 0x0E;
+
+/// The answer to a line.
+#[derive(Clone, Copy, PartialEq, Eq, Debug)]
+pub struct Answer {
+    /// Its number, 18 to 36.
+    pub number: u8,
+    /// Of a 22, the position of the first character that is no digit, counted
+    /// from 0 at the colon; 0 with any other number.
+    pub position: u16,
+}
+
+impl From<u8> for Answer {
+    fn from(number: u8) -> Answer {
+        Answer {
+            number,
+            position: 0,
+        }
+    }
+}
 
 /// A flag for each of the two boards that a file has to serve.
 #[derive(Clone, Copy, PartialEq, Eq, Debug)]
@@ -97,8 +116,8 @@ pub enum Stand {
     Padded(u16),
     /// After the 01.
     Ended,
-    /// The remembered failure's number.
-    Failed(u8),
+    /// The remembered failure.
+    Failed(Answer),
 }
 
 /// What is kept from one line to the next.
@@ -150,36 +169,48 @@ pub fn fresh(own: u16) -> Reader {
 }
 
 /// Takes one line as handed, its ending included: the next reader and the
-/// answer's number, 18 to 36.
-pub fn line(reader: Reader, line: &[u8], image: &mut [u8]) -> (Reader, u8) {
+/// answer.
+pub fn line(reader: Reader, line: &[u8], image: &mut [u8]) -> (Reader, Answer) {
     if !(1..=MAX_IMAGE_LEN).contains(&image.len()) {
-        return (reader, BAD_IMAGE);
+        return (reader, BAD_IMAGE.into());
     }
     if !reader_good(&reader) {
-        return (reader, BAD_READER);
+        return (reader, BAD_READER.into());
     }
     match reader.stand {
         Stand::Failed(answer) => return (reader, answer),
-        Stand::Ended => return (reader, AFTER_END),
+        Stand::Ended => return (reader, AFTER_END.into()),
         _ => {}
     }
-    take(reader, line, image).unwrap_or_else(|answer| {
-        let stand = Stand::Failed(answer);
-        (Reader { stand, ..reader }, answer)
-    })
+    match take(reader, line, image) {
+        Ok((next, number)) => (next, number.into()),
+        Err(failure) => {
+            let stand = Stand::Failed(failure);
+            (Reader { stand, ..reader }, failure)
+        }
+    }
 }
 
 fn reader_good(reader: &Reader) -> bool {
     let stand_good = match reader.stand {
-        Stand::Failed(answer) => matches!(answer, NO_COLON..=MISSING_BOARD | FILE_TOO_LONG),
+        Stand::Failed(failure) => failure_good(failure),
         _ => true,
     };
     matches!(reader.own, V1 | V2) && reader.offset <= MAX_FILE_LEN && stand_good
 }
 
+/// "One handed in with 22 and a position outside 1 to 520 is 18." A position
+/// beside any other number is not asked for; it is repeated as it came.
+fn failure_good(failure: Answer) -> bool {
+    match failure.number {
+        BAD_DIGIT => (1..MAX_CHARS).contains(&failure.position.into()),
+        number => matches!(number, NO_COLON..=MISSING_BOARD | FILE_TOO_LONG),
+    }
+}
+
 /// A line for a reader that reads on: the next reader with one of 32 to 35, or
 /// the failure. Only a line without failure gets as far as the image.
-fn take(reader: Reader, line: &[u8], image: &mut [u8]) -> Result<(Reader, u8), u8> {
+fn take(reader: Reader, line: &[u8], image: &mut [u8]) -> Result<(Reader, u8), Answer> {
     let offset = offset_after(reader.offset, line).ok_or(FILE_TOO_LONG)?;
     let record = read(without_ending(line))?;
     let (next, answer) = follow(reader, &record, image)?;
@@ -201,25 +232,37 @@ pub(crate) fn without_ending(line: &[u8]) -> &[u8] {
 }
 
 /// The line's own checks, 20 to 25.
-pub(crate) fn read(text: &[u8]) -> Result<Record, u8> {
+pub(crate) fn read(text: &[u8]) -> Result<Record, Answer> {
     let [b':', digits @ ..] = text else {
-        return Err(NO_COLON);
+        return Err(NO_COLON.into());
     };
     if !(MIN_CHARS..=MAX_CHARS).contains(&text.len()) || text.len().is_multiple_of(2) {
-        return Err(BAD_SHAPE);
+        return Err(BAD_SHAPE.into());
     }
-    let (bytes, sum) = decode(digits).ok_or(BAD_DIGIT)?;
+    let (bytes, sum) = decode(digits).ok_or_else(|| bad_digit(digits))?;
     let len = usize::from(bytes[0]);
     if len > MAX_DATA {
-        return Err(TOO_LONG);
+        return Err(TOO_LONG.into());
     }
     if text.len() != MIN_CHARS + 2 * len {
-        return Err(BAD_LENGTH);
+        return Err(BAD_LENGTH.into());
     }
     if sum != 0 {
-        return Err(BAD_SUM);
+        return Err(BAD_SUM.into());
     }
     Ok(Record { bytes, len })
+}
+
+/// The answer for characters of which not all are digits; the first of them
+/// stands after the colon.
+fn bad_digit(digits: &[u8]) -> Answer {
+    let good = digits
+        .iter()
+        .take_while(|&&character| digit(character) < 16);
+    Answer {
+        number: BAD_DIGIT,
+        position: 1 + good.count() as u16,
+    }
 }
 
 /// The bytes that the digits spell, with their sum, unless one is no digit. A

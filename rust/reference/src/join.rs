@@ -1,9 +1,9 @@
 //! One Universal Hex from two plain Intel Hex files (02, L11).
 
 use crate::hex::{
-    data_kind, read, without_ending, AFTER_END, BAD_DIGIT, CROSSES, DATA, END_OF_FILE,
-    FILE_TOO_LONG, MAX_DATA, MAX_FILE_LEN, MIN_CHARS, MISSING_BOARD, OUT_OF_PLACE, PADDING,
-    SECTION_END, SECTION_LEN, SECTION_START, SEGMENT_LEN, UPPER_ADDRESS, V1, V2,
+    data_kind, read, without_ending, Answer, AFTER_END, CROSSES, DATA, END_OF_FILE, FILE_TOO_LONG,
+    MAX_DATA, MAX_FILE_LEN, MIN_CHARS, MISSING_BOARD, OUT_OF_PLACE, PADDING, SECTION_END,
+    SECTION_LEN, SECTION_START, SEGMENT_LEN, UPPER_ADDRESS, V1, V2,
 };
 
 /// The types that only plain Intel Hex has: the segment's address, and the
@@ -32,8 +32,14 @@ pub struct JoinRefusal {
 /// A refusal of an input whose board is not yet named.
 struct Fault {
     line: usize,
-    answer: u8,
-    position: u32,
+    answer: Answer,
+}
+
+impl Fault {
+    fn new(line: usize, answer: impl Into<Answer>) -> Fault {
+        let answer = answer.into();
+        Fault { line, answer }
+    }
 }
 
 /// Data as it stands in the output: at least one byte, and no multiple of
@@ -82,8 +88,8 @@ fn pieces_of(board: u16, file: &[u8]) -> Result<Vec<Piece>, JoinRefusal> {
     plain(file).map_err(|fault| JoinRefusal {
         board,
         line: fault.line,
-        answer: fault.answer.into(),
-        position: fault.position,
+        answer: fault.answer.number.into(),
+        position: fault.answer.position.into(),
     })
 }
 
@@ -96,11 +102,7 @@ fn plain(file: &[u8]) -> Result<Vec<Piece>, Fault> {
     // "A line ends with its LF or the file", so that there is none after the
     // last LF, and an empty file has none.
     for (line, handed) in file.split_inclusive(|&byte| byte == b'\n').enumerate() {
-        let fault = |answer| Fault {
-            line,
-            answer,
-            position: 0,
-        };
+        let fault = |number: u8| Fault::new(line, number);
         if ended {
             return Err(fault(AFTER_END));
         }
@@ -108,11 +110,7 @@ fn plain(file: &[u8]) -> Result<Vec<Piece>, Fault> {
         if offset > MAX_FILE_LEN as usize {
             return Err(fault(FILE_TOO_LONG));
         }
-        let text = without_ending(handed);
-        let record = read(text).map_err(|answer| Fault {
-            position: position(text, answer),
-            ..fault(answer)
-        })?;
+        let record = read(without_ending(handed)).map_err(|answer| Fault::new(line, answer))?;
         match (record.kind(), record.data()) {
             (DATA, data) => {
                 if usize::from(record.address()) + data.len() > SEGMENT_LEN {
@@ -132,30 +130,13 @@ fn plain(file: &[u8]) -> Result<Vec<Piece>, Fault> {
         }
         lines = line + 1;
     }
-    let at_end = |answer| Fault {
-        line: lines,
-        answer,
-        position: 0,
-    };
     if !ended {
-        return Err(at_end(OUT_OF_PLACE));
+        return Err(Fault::new(lines, OUT_OF_PLACE));
     }
     if pieces.is_empty() {
-        return Err(at_end(MISSING_BOARD));
+        return Err(Fault::new(lines, MISSING_BOARD));
     }
     Ok(pieces)
-}
-
-/// The first character that is no digit, if that is what was wrong.
-fn position(text: &[u8], answer: u8) -> u32 {
-    if answer != BAD_DIGIT {
-        return 0;
-    }
-    let bad = |character: &u8| !character.is_ascii_hexdigit();
-    text.iter()
-        .skip(1)
-        .position(bad)
-        .map_or(0, |at| at as u32 + 1)
 }
 
 /// Adds the data in one piece, or in two where it crosses a multiple of 65,536;

@@ -133,7 +133,8 @@ fn lines_end_with_lf_only() {
     let expected = "line answer\n0 20\n1 20\n2 20\nstate failed 20 offset 0 v1 0 v2 0\n";
     assert_eq!(text, expected);
     let text = printed(&[], b":00000001FF\r:00000001FF".to_vec());
-    let expected = "line answer\n0 22\nstate failed 22 offset 0 v1 0 v2 0\n";
+    let expected =
+        "line answer\n0 22 position 11\nstate failed 22 position 11 offset 0 v1 0 v2 0\n";
     assert_eq!(text, expected);
 }
 

@@ -36,9 +36,6 @@ part-line-end c = search needs
 line-requires : tie.Need-line-requires Inv-loop μ-loop
 line-requires c κs = search needs
 
-number-requires : tie.Need-number-requires Inv-loop μ-loop
-number-requires c κs = search needs
-
 add-requires : tie.Need-add-requires Inv-loop μ-loop
 add-requires c κs = search needs
 
@@ -82,7 +79,6 @@ run-spec =
     part-line-start
     part-line-end
     line-requires
-    number-requires
     add-requires
     add-index
     loop-less

@@ -1,29 +1,51 @@
 -- `lines::hex_answer_line` meets its contract. Assumes nothing.
 use native.Mathlib.Omega.{arith}
 use Rattle.lines.specs.HexLines.{hexAnswerLine}
-use Rattle.lines.proofs.Laws.{grown-more, grown-counts, pair-short}
+use Rattle.lines.proofs.Laws.{grown-more, grown-counts, pair-short, position-short}
 use borrow.Author.Needs.{needs}
 use Rattle.lines.proofs.hex_answer_line.Statement.{statement}
 use Rattle.lines.proofs.hex_answer_line.Tie as tie
 
+number-requires : tie.Need-number-requires
+number-requires c κs = search needs
+
 put-pair-requires : tie.Need-put-pair-requires
 put-pair-requires c κs = search needs
+
+position-requires : tie.Need-position-requires
+position-requires c κs = search needs
+
+put-position-requires : tie.Need-put-position-requires
+put-position-requires c κs =
+    let p = c .before .before in
+    omega (arith, p .put-pair, pair-short (p .before .before .before .args .index) (p .before .number .result))
 
 slice-aggregate-put : tie.Need-slice-aggregate-put
 slice-aggregate-put c = search needs
 
 put-requires : tie.Need-put-requires
 put-requires c κs =
-    let p = c .before .before in
-    omega (arith, p .put-pair, pair-short (p .before .before .args .index) (p .before .before .args .answer))
+    let q = c .before .before in
+    let p = q .before .before .before in
+    omega (arith, q .put-position, p .put-pair, position-short (q .before .position .result), pair-short (p .before .before .before .args .index) (p .before .number .result))
 
 returns : tie.Need-returns
 unfolding hexAnswerLine
 returns c =
-    let p = c .before .before .before in
-    let x = p .before .before .args in
-    grown-counts _ _ (grown-more _ _ _ (p .put-pair .ensures) (c .put .ensures)) (omega (arith, c .put, p .put-pair, pair-short (x .index) (x .answer)))
+    let q = c .before .before .before in
+    let p = q .before .before .before in
+    rw (← p .before .number .ensures, ← q .before .position .ensures)
+    (grown-counts _ _ (grown-more _ _ _ (grown-more _ _ _ (p .put-pair .ensures) (q .put-position .ensures)) (c .put .ensures))
+    (omega (arith, c .put, q .put-position, p .put-pair, position-short (q .before .position .result), pair-short (p .before .before .before .args .index) (p .before .number .result))))
 
 pub hex-answer-line-spec : {M : Type 1} → statement M
 hex-answer-line-spec =
-    tie.close (tie.spec put-pair-requires slice-aggregate-put put-requires returns)
+    tie.close
+    (tie.spec
+    number-requires
+    put-pair-requires
+    position-requires
+    put-position-requires
+    slice-aggregate-put
+    put-requires
+    returns)

@@ -1,6 +1,7 @@
 -- `lines::put_failed` meets its contract. Assumes nothing.
+use native.Mathlib.Omega.{arith}
 use Rattle.lines.specs.HexLines.{failedText}
-use Rattle.lines.proofs.Laws.{grown-none, grown-more}
+use Rattle.lines.proofs.Laws.{grown-none, grown-more, decimal-short}
 use borrow.Author.Needs.{needs}
 use Rattle.lines.proofs.put_failed.Statement.{statement}
 use Rattle.lines.proofs.put_failed.Tie as tie
@@ -20,12 +21,21 @@ cast-put-decimal c = search needs
 put-decimal-requires : tie.Need-put-decimal-requires
 put-decimal-requires c κs = search needs
 
+position-requires : tie.Need-position-requires
+position-requires c κs = search needs
+
+put-position-requires : tie.Need-put-position-requires
+put-position-requires c κs =
+    let d = c .before .before in
+    omega (arith, d .put-decimal, d .before .before .before .put, decimal-short (d .before .number .result))
+
 returns : tie.Need-returns
 unfolding failedText
 returns c =
-    let n = c .before in
-    let p = n .before .before in
-    rw (← n .number .ensures) (grown-more _ _ _ (grown-more _ _ _ (grown-none _) (p .put .ensures)) (c .put-decimal .ensures))
+    let d = c .before .before .before in
+    let p = d .before .before .before in
+    rw (← d .before .number .ensures, ← c .before .position .ensures)
+    (grown-more _ _ _ (grown-more _ _ _ (grown-more _ _ _ (grown-none _) (p .put .ensures)) (d .put-decimal .ensures)) (c .put-position .ensures))
 
 pub put-failed-spec : {M : Type 1} → statement M
 put-failed-spec =
@@ -36,4 +46,6 @@ put-failed-spec =
     number-requires
     cast-put-decimal
     put-decimal-requires
+    position-requires
+    put-position-requires
     returns)

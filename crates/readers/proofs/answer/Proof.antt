@@ -7,13 +7,16 @@ use Rattle.readers.proofs.answer.Statement.{statement}
 use Rattle.readers.proofs.answer.Tie as tie
 
 returns : tie.Need-returns
-returns c = sym (answer-none _ (c .if1 .taken))
+returns c = sym (answer-none _ _ (c .if1 .taken))
 
 sub-k : tie.Need-sub-k
 sub-k c = answer-low _ (c .if1 .left)
 
 cast-k : tie.Need-cast-k
 cast-k c = search needs
+
+mul-result : tie.Need-mul-result
+mul-result c = search needs
 
 array-copy-out-result : tie.Need-array-copy-out-result
 array-copy-out-result c = answer-high _ (c .if1 .left)
@@ -23,4 +26,4 @@ unfolding answerFrom allAnswers
 returns-2 c = refl
 
 pub answer-spec : {M : Type 1} → statement M
-answer-spec = tie.close (tie.spec returns sub-k cast-k array-copy-out-result returns-2)
+answer-spec = tie.close (tie.spec returns sub-k cast-k mul-result array-copy-out-result returns-2)

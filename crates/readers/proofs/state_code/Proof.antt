@@ -24,6 +24,9 @@ enum-known-state-3 c = search needs
 number-requires : tie.Need-number-requires
 number-requires c κs = search needs
 
+position-requires : tie.Need-position-requires
+position-requires c κs = search needs
+
 returns : tie.Need-returns
 returns c = rw (c .enum-told .given .1)
 
@@ -40,7 +43,7 @@ returns-5 : tie.Need-returns-5
 returns-5 c = rw (c .enum-told3 .given .1)
 
 returns-6 : tie.Need-returns-6
-returns-6 c = rw (c .before .before .state3 .given .1, c .number .ensures)
+returns-6 c = rw (c .before .before .before .state3 .given .1, c .before .number .ensures, c .position .ensures)
 
 pub state-code-spec : {M : Type 1} → statement M
 state-code-spec =
@@ -53,6 +56,7 @@ state-code-spec =
     enum-told-3
     enum-known-state-3
     number-requires
+    position-requires
     returns
     returns-2
     returns-3

@@ -22,8 +22,8 @@ enum-told-5 c = search needs
 enum-known-state : tie.Need-enum-known-state
 enum-known-state c = search needs
 
-is-failure-requires : tie.Need-is-failure-requires
-is-failure-requires c κs = search needs
+is-kept-requires : tie.Need-is-kept-requires
+is-kept-requires c κs = search needs
 
 returns : tie.Need-returns
 unfolding badFailure
@@ -47,7 +47,7 @@ returns-5 c = rw (c .enum-told5 .given .1)
 
 returns-6 : tie.Need-returns-6
 unfolding badFailure
-returns-6 c = rw (c .before .before .state .given .1, c .is-failure .ensures)
+returns-6 c = rw (c .before .before .state .given .1, c .is-kept .ensures)
 
 pub bad-failure-spec : {M : Type 1} → statement M
 bad-failure-spec =
@@ -59,7 +59,7 @@ bad-failure-spec =
     enum-told-4
     enum-told-5
     enum-known-state
-    is-failure-requires
+    is-kept-requires
     returns
     returns-2
     returns-3

@@ -193,8 +193,9 @@ fn read(own: Board, lines: &[&[u8]]) -> Result<(Vec<u8>, Vec<u8>), Box<dyn Error
         let ours = p.line(line, &mut image);
         let (next, theirs) = hex::line(r, line, &mut image_r);
         r = next;
-        check(ours.number() == theirs, "the answers differ")?;
-        answers.push(theirs);
+        let same = ours.number() == theirs.number && ours.position() == theirs.position;
+        check(same, "the answers differ")?;
+        answers.push(theirs.number);
     }
     check(image == image_r, "the images differ")?;
     Ok((answers, image))

@@ -9,7 +9,7 @@ pub fn new(own: u16, reader: &mut [u8]) {
     unsafe { ffi::uhex_new(own, reader.as_mut_ptr(), reader.len()) }
 }
 
-/// One line: the answer's number.
+/// One line: the answer's number, and 256 times the position of a bad digit.
 pub fn line(reader: &mut [u8], line: &[u8], image: &mut [u8]) -> u32 {
     unsafe {
         ffi::uhex_line(

@@ -5,7 +5,7 @@ use std::env;
 use std::ffi::OsString;
 use std::io::{self, BufWriter, Read, Write};
 
-use reference::hex::{fresh, line, Reader, Stand, V1, V2};
+use reference::hex::{fresh, line, Answer, Reader, Stand, V1, V2};
 
 const IMAGE_LEN: usize = 262_144;
 /// One byte more than a file may have, so that a file too long still shows.
@@ -38,9 +38,20 @@ fn run(own: u16, input: impl Read, mut output: impl Write) -> io::Result<()> {
     for (index, text) in file.split_inclusive(|&byte| byte == b'\n').enumerate() {
         let (next, answer) = line(reader, text, &mut image);
         reader = next;
-        writeln!(output, "{index} {answer}")?;
+        writeln!(output, "{index} {}", shown(answer))?;
     }
     print_state(&reader, output)
+}
+
+/// The number, and for a 22 the position after it.
+fn shown(answer: Answer) -> String {
+    match answer {
+        Answer {
+            number: number @ 22,
+            position,
+        } => format!("{number} position {position}"),
+        Answer { number, .. } => number.to_string(),
+    }
 }
 
 fn print_state(reader: &Reader, mut output: impl Write) -> io::Result<()> {
@@ -51,7 +62,7 @@ fn print_state(reader: &Reader, mut output: impl Write) -> io::Result<()> {
         Stand::Inside(_) => write!(output, "inside")?,
         Stand::Padded(_) => write!(output, "padded")?,
         Stand::Ended => write!(output, "ended")?,
-        Stand::Failed(answer) => write!(output, "failed {answer}")?,
+        Stand::Failed(answer) => write!(output, "failed {}", shown(answer))?,
     }
     let (v1, v2) = (u8::from(reader.gave.v1), u8::from(reader.gave.v2));
     writeln!(output, " offset {} v1 {v1} v2 {v2}", reader.offset)

@@ -2,7 +2,7 @@
 //! the order of the checks.
 
 use super::Random;
-use crate::hex::{fresh, line, Boards, Reader, Stand, V1, V2};
+use crate::hex::{fresh, line, Answer, Boards, Reader, Stand, V1, V2};
 
 const FILE_LIMIT: u32 = 4_194_304;
 const IMAGE_LIMIT: usize = 1_048_576;
@@ -40,6 +40,22 @@ pub fn record(kind: u8, address: u16, data: &[u8]) -> String {
     summed(&[&[data.len() as u8, high, low, kind], data].concat())
 }
 
+/// A failed reader's stand; with 22 at the first character.
+pub fn failed(number: u8) -> Stand {
+    let position = u16::from(number == 22);
+    Stand::Failed(Answer { number, position })
+}
+
+/// The position that goes with a number, told from the line as handed.
+fn position(number: u8, bytes: &[u8]) -> u16 {
+    match number {
+        22 => (1..)
+            .find(|&at: &u16| !bytes[usize::from(at)].is_ascii_hexdigit())
+            .unwrap(),
+        _ => 0,
+    }
+}
+
 /// A reader with the image that is lent to it.
 #[derive(Clone, PartialEq, Debug)]
 pub struct Panel {
@@ -74,18 +90,26 @@ impl Panel {
     }
 
     /// Sends a line as handed, and checks what an answer says of the reader and
-    /// the image whatever the line.
+    /// the image whatever the line, and where its position points.
     pub fn send(&mut self, bytes: impl AsRef<[u8]>) -> u8 {
         let bytes = bytes.as_ref();
         let before = self.clone();
-        let (next, answer) = line(self.reader, bytes, &mut self.image);
+        let (next, full) = line(self.reader, bytes, &mut self.image);
         self.reader = next;
-        let failed_before = matches!(before.reader.stand, Stand::Failed(_));
+        let answer = full.number;
+        match answer {
+            20..=30 | 36 if matches!(before.reader.stand, Stand::Failed(_)) => {
+                assert_eq!(before.reader.stand, Stand::Failed(full));
+                assert_eq!(next, before.reader);
+                assert!(self.image == before.image);
+                return answer;
+            }
+            _ => assert_eq!(full.position, position(answer, bytes)),
+        }
         match answer {
             18 | 19 | 31 => assert_eq!(next, before.reader),
-            20..=30 | 36 if failed_before => assert_eq!(next, before.reader),
             20..=30 | 36 => {
-                let stand = Stand::Failed(answer);
+                let stand = Stand::Failed(full);
                 let failed = Reader {
                     stand,
                     ..before.reader
@@ -174,12 +198,7 @@ fn bad_image() {
 
 #[test]
 fn bad_image_goes_before_all_else() {
-    let readers = [
-        Stand::Between,
-        Stand::Ended,
-        Stand::Failed(24),
-        Stand::Failed(1),
-    ];
+    let readers = [Stand::Between, Stand::Ended, failed(24), failed(1)];
     for stand in readers {
         for offset in [0, u32::MAX] {
             let mut panel = Panel::at(stand).with_image(0).with_offset(offset);
@@ -192,7 +211,7 @@ fn bad_image_goes_before_all_else() {
 
 #[test]
 fn bad_reader_by_board() {
-    let stands = [Stand::Ended, Stand::Failed(24), Stand::Failed(1)];
+    let stands = [Stand::Ended, failed(24), failed(1)];
     for stand in READING.into_iter().chain(stands) {
         for own in [0, 0x9901, 0x9902, 0x9904, 0x0399, V9, u16::MAX] {
             let mut panel = Panel::at(stand);
@@ -210,7 +229,7 @@ fn bad_reader_by_offset() {
             assert_eq!(Panel::at(stand).with_offset(offset).send(""), 18);
         }
     }
-    for (stand, good) in [(Stand::Ended, 31), (Stand::Failed(36), 36)] {
+    for (stand, good) in [(Stand::Ended, 31), (failed(36), 36)] {
         assert_eq!(Panel::at(stand).with_offset(FILE_LIMIT).send(END), good);
         assert_eq!(Panel::at(stand).with_offset(FILE_LIMIT + 1).send(END), 18);
     }
@@ -225,12 +244,71 @@ fn remembered_failure() {
         };
         for offset in [0, FILE_LIMIT] {
             for text in [END, "", "\n", "x", &record(0x0E, 0, &[1, 2])] {
-                let mut panel = Panel::at(Stand::Failed(number)).with_offset(offset);
+                let mut panel = Panel::at(failed(number)).with_offset(offset);
                 assert_eq!(panel.send(text), expected);
                 assert_eq!(panel.send(text), expected);
             }
         }
     }
+}
+
+#[test]
+fn remembered_position() {
+    for position in 0..=u16::MAX {
+        let failure = Answer {
+            number: 22,
+            position,
+        };
+        let good = (1..=520).contains(&position);
+        let mut panel = Panel::at(Stand::Failed(failure));
+        panel.image.truncate(1);
+        // `send` checks that the position is repeated.
+        assert_eq!(panel.send("x"), if good { 22 } else { 18 });
+        assert_eq!(panel.send(END), if good { 22 } else { 18 });
+    }
+    // Beside another number it doesn't make a bad reader.
+    for number in [20, 21, 23, 30, 36] {
+        for position in [0, 1, 521, u16::MAX] {
+            let mut panel = Panel::at(Stand::Failed(Answer { number, position }));
+            assert_eq!(panel.send(END), number);
+        }
+    }
+    for number in [0, 19, 31, 35, 37] {
+        let failure = Answer {
+            number,
+            position: 1,
+        };
+        assert_eq!(answer_at(Stand::Failed(failure), END), 18);
+    }
+}
+
+/// The first of several counts, also past the longest record.
+#[test]
+fn positions() {
+    for chars in [11, 75, 77, 79, 521] {
+        for first in 1..chars {
+            let mut text = format!(":{}", "0".repeat(chars - 1)).into_bytes();
+            text[first] = b'g';
+            text[chars - 1] = b'g';
+            for ending in ["", "\n", "\r\n"] {
+                let mut panel = Panel::at(Stand::Inside(V1)).with_image(1);
+                assert_eq!(panel.send([&text[..], ending.as_bytes()].concat()), 22);
+                let failure = Answer {
+                    number: 22,
+                    position: first as u16,
+                };
+                assert_eq!(panel.reader.stand, Stand::Failed(failure));
+            }
+        }
+    }
+    // An ending that isn't dropped is no digit.
+    let mut panel = Panel::at(Stand::Inside(V1)).with_image(1);
+    assert_eq!(panel.send(":00000001FF\r\r\r\n"), 22);
+    let at_11 = Answer {
+        number: 22,
+        position: 11,
+    };
+    assert_eq!(panel.reader.stand, Stand::Failed(at_11));
 }
 
 #[test]
@@ -636,7 +714,7 @@ fn check_store(image: &mut [u8], address: usize, len: usize) {
     let text = record(0x00, (address % 65_536) as u16, &data);
     let fits = address + len <= image.len();
     let answer = line(reader, text.as_bytes(), image).1;
-    assert_eq!(answer, if fits { 33 } else { 32 });
+    assert_eq!(answer.number, if fits { 33 } else { 32 });
     let around = address.saturating_sub(100)..address + 100;
     for (at, byte) in image
         .iter_mut()
@@ -705,7 +783,14 @@ fn any_stand(random: &mut Random) -> Stand {
     let board = random.pick(&[V1, V2, V9, 0]);
     match random.below(12) {
         0 => Stand::Ended,
-        1 => Stand::Failed(random.next() as u8),
+        1 => Stand::Failed(Answer {
+            number: if random.yes() {
+                22
+            } else {
+                random.next() as u8
+            },
+            position: random.pick(&[0, 1, 520, 521, u16::MAX]),
+        }),
         2 | 3 => Stand::Between,
         4 => Stand::Opened,
         5 | 6 => Stand::Padded(board),

@@ -1,6 +1,6 @@
 //! Whole Universal Hex files, first of all the one that document 002 prints.
 
-use super::hex::{record, summed, Panel};
+use super::hex::{failed, record, summed, Panel};
 use crate::hex::{Boards, Stand, V1, V2};
 
 /// The Universal Hex of 002, without the notes beside its lines.
@@ -162,7 +162,7 @@ fn printed_file() {
         let mut expected = vec![34, 34, data, data, data, data, 34, data];
         expected.resize(lines.len(), 24);
         assert_eq!(answers(&mut panel, &lines), expected);
-        assert_eq!(panel.reader.stand, Stand::Failed(24));
+        assert_eq!(panel.reader.stand, failed(24));
         assert_eq!(panel.reader.offset, 432);
         let gave = Boards {
             v1: true,

@@ -25,6 +25,18 @@ number-requires c κs = search needs
 cast-result : tie.Need-cast-result
 cast-result c = search needs
 
+position-requires : tie.Need-position-requires
+position-requires c κs = search needs
+
+cast-result-2 : tie.Need-cast-result-2
+cast-result-2 c = search needs
+
+mul-result : tie.Need-mul-result
+mul-result c = search needs
+
+add-result : tie.Need-add-result
+add-result c = search needs
+
 same-length : tie.Need-same-length
 same-length c = search needs
 
@@ -33,11 +45,11 @@ same-length-2 c = search needs
 
 returns : tie.Need-returns
 returns c =
-    let kept = c .before .before .before in
+    let kept = c .before .before .before .before in
     let changed = kept .before in
     let failed = changed .before in
     let read = failed .before .before .before .before .before in
-    line-case _ _ _ (read .before .before .read-reader .ensures) (read .line .ensures .0) (failed .has-failed .ensures) (changed .changes .ensures) (kept .keep-reader .ensures) (c .number .ensures)
+    line-case _ _ _ (read .before .before .read-reader .ensures) (read .line .ensures .0) (failed .has-failed .ensures) (changed .changes .ensures) (kept .keep-reader .ensures) (c .before .number .ensures) (c .position .ensures)
 
 pub uhex-line-spec : {M : Type 1} → statement M
 uhex-line-spec =
@@ -50,6 +62,10 @@ uhex-line-spec =
     keep-reader-requires
     number-requires
     cast-result
+    position-requires
+    cast-result-2
+    mul-result
+    add-result
     same-length
     same-length-2
     returns)
