@@ -316,7 +316,7 @@ pub fn take_known(
 {
     let verdict = judge_known(good, place, transfer, arrival, flash, seen, sectors);
     match verdict {
-        Verdict::Leaves(answer) => refuse(transfer, answer),
+        Verdict::Leaves(refused) => refuse(transfer, refused),
         Verdict::Accepts(acceptance) => {
             let placed = acceptance.placed;
             let deed = acceptance.deed;
