@@ -250,11 +250,19 @@ static void inside(uint16_t own, uint32_t at) {
     uhex_put16(reader + UHEX_READER_BOARD_AT, own);
 }
 
-/* A line refused in a section, the reader that remembers it, and the same again. */
-static int fails(const char *text, uint32_t answer) {
+/* A line refused in a section, at a position or at none (0), the reader that remembers it, and the same again. */
+static int fails_at(const char *text, uint32_t answer, uint32_t position) {
+    uint32_t result;
+
     inside(UHEX_BOARD_V1, 512);
-    return line(text) == answer && reader[UHEX_READER_STATE_AT] == UHEX_STATE_FAILED && reader[UHEX_READER_FAILURE_AT] == answer &&
-           line(":00000001FF\n") == answer && UHEX_ANSWER_IS_FAILURE(answer);
+    result = line(text);
+    return UHEX_RESULT_ANSWER(result) == answer && UHEX_RESULT_POSITION(result) == position &&
+           reader[UHEX_READER_STATE_AT] == UHEX_STATE_FAILED && reader[UHEX_READER_FAILURE_AT] == answer &&
+           uhex_get16(reader + UHEX_READER_POSITION_AT) == position && line(":00000001FF\n") == result && UHEX_ANSWER_IS_FAILURE(answer);
+}
+
+static int fails(const char *text, uint32_t answer) {
+    return fails_at(text, answer, 0);
 }
 
 static void refusals(void) {
@@ -262,7 +270,7 @@ static void refusals(void) {
 
     CHECK(fails("00000001FF\n", UHEX_ANSWER_NO_COLON));
     CHECK(fails(":00\n", UHEX_ANSWER_BAD_SHAPE));
-    CHECK(fails(":0000000xFF\n", UHEX_ANSWER_BAD_DIGIT));
+    CHECK(fails_at(":0000000xFF\n", UHEX_ANSWER_BAD_DIGIT, 8));
     CHECK(fails(":2100000000\n", UHEX_ANSWER_TOO_LONG));
     CHECK(fails(":01000000FF\n", UHEX_ANSWER_BAD_LENGTH));
     CHECK(fails(":00000001FE\n", UHEX_ANSWER_BAD_SUM));

@@ -33,13 +33,13 @@ use Rattle.arrival.proofs.Effect.{Fits}
 
 -- ---- a header that yields a block yields the arrival's fields
 
-abbrev Fielded : List ℕ → Header → Type 0
+abbrev pub Fielded : List ℕ → Header → Type 0
 Fielded a header.NotBlock = Unit {0}
 Fielded a header.Container = Unit {0}
 Fielded a header.NoFamily = Unit {0}
 Fielded a (header.Found b) = b ≡ fieldsOf a
 
-fielded : (a : List ℕ) → Fielded a (headerOf a)
+pub fielded : (a : List ℕ) → Fielded a (headerOf a)
 unfolding headerOf flaggedOf
 fielded a =
     split (not (eqb (fieldAt a 0) 0x0A324655)) (λ y. rw y tt)

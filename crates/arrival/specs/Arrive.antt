@@ -45,7 +45,7 @@ pub record World : Type 0 where
 abbrev pub lentOf : World → Lent
 lentOf w = record { flash = w .held .flash; seen = w .seen; sectors = w .held .sectors }
 
--- what an arrival leaves, with "a number, the answer, and a yes/no "discarded""
+-- what an arrival leaves, with "a number, the answer, and a yes/no "discarded"" (01's term: discarded)
 pub record Outcome : Type 0 where
   pub world : World
   pub answer : Answer

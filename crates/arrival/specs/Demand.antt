@@ -51,7 +51,7 @@ pub record ValidFile (s : Settings) (w : World) (F : File) : Type 0 where
 
 -- ---- a list of its blocks
 
--- "Arrivals answered 4 to 11 are the foreign ones"; "answered 4, 5 or 7 to 11" (02, L3), since no answer has the number 6
+-- "Arrivals answered 4 to 11 are the foreign ones"; "answered 4, 5 or 7 to 11" (02, L3), since no answer has the number 6. (01's term: foreign)
 abbrev pub Foreign : Settings → World → List ℕ → Type 0
 Foreign s w a = (4 ≤ answerNumber s w a) × (answerNumber s w a ≤ 11)
 
@@ -87,13 +87,13 @@ seenOf F l k = ltb k (F .total) && among (F .block k) l
 abbrev pub howMany : File → Set → ℕ
 howMany F S = size (F .total) S
 
--- "the set is whole"
+-- "the set is whole" (01's term: whole)
 abbrev pub isWhole : File → Set → Bool
 isWhole F S = eqb (howMany F S) (F .total)
 
 -- ---- where it goes
 
--- "Storage address = place start + block address - 0x10000000"
+-- "Storage address = place start + block address - 0x10000000" (01's term: storage address)
 abbrev pub storageIn : Place → ℕ → ℕ
 storageIn Nowhere address = 0
 storageIn (At start size) address = start + (address - 0x10000000)

@@ -6,15 +6,20 @@ use mathlib.Core.List.{List, [], _∷_}
 use native.Mathlib.Omega.{arith}
 use lib.ListN.{length, take, drop, set}
 use lib.Seq.{drop-drop}
+use Rattle.block.specs.Block.{fieldAt}
+use Rattle.settings.specs.Settings.{goodSettings}
 use Rattle.settings.specs.declared.Settings.{Settings}
+use Rattle.place.specs.Place.{placeOf}
 use Rattle.transfer.specs.declared.Transfer.{Transfer}
 use Rattle.transfer.specs.Transfer.{numberOf}
 use Rattle.arrival.specs.Arrive.{Lent, World, Outcome, receiveOf}
 use Rattle.arrival.specs.Lists.{receiveAll, answersOf, discardsOf}
 use Rattle.receiver.specs.declared.Receipt.{Receipt}
-use Rattle.receiver.specs.Receiver.{world, outcome}
+use Rattle.receiver.specs.Receiver.{world, outcome, receiveKnown}
+use Rattle.receiver.proofs.Known.{known-is}
 use Rattle.layout.specs.Layout.{settingsFrom, transferFrom}
-use Rattle.capi.specs.Calls.{resultOf, isAcceptance, keptTransfer, arrivalsOf, resultsOf, anyAcceptance, storedFrom, BatchCall, batchCall, batchFrom, fewer, takeBatch}
+use Rattle.capi.specs.Calls.{Knows, resultOf, isAcceptance, keptTransfer, arrivalsOf, resultsOf, anyAcceptance, storedFrom, BatchCall, batchCall, batchFrom, fewer, takeBatch}
+use Rattle.capi.specs.declared.Known.{Known}
 
 -- ---- the arrivals that are left
 
@@ -30,6 +35,12 @@ arrivals-next n i a h =
     rw z (ap (λ (l : List ℕ). take 512 (drop (i * 512) a) ∷ arrivalsOf (n - (i + 1)) l) (drop-drop 512 (i * 512) a ∙ ap (λ (j : ℕ). drop j a) w))
 
 -- ---- one of them
+
+-- what was judged before the loop and the place that is kept are the arrival's
+pub round-known : (s : Settings) (u : Transfer) (a : List ℕ) (h : Lent) {len f : ℕ} {good : Bool} {k : Known} {o : Outcome} → length (h .flash) ≡ len → good ≡ goodSettings s len → f ≡ fieldAt a 28 → k .family ≡ f → Knows s len k → o ≡ receiveKnown good (k .place) (world u h) a → o ≡ receiveOf s (world u h) a
+round-known s u a h {k = k} e g hf hk knows ho =
+    let place = knows .0 ∙ ap (λ (n : ℕ). placeOf s n (k .family)) (sym e) ∙ ap (placeOf s (length (h .flash))) (hk ∙ hf) in
+    ho ∙ known-is s (world u h) a (g ∙ ap (goodSettings s) (sym e)) (knows .1) place
 
 module _ (n : ℕ) (s : Settings) (t : List ℕ) (accepted : Bool) (r : List ℕ) (i : ℕ) where
   -- what follows an outcome, where the arrivals of l are left

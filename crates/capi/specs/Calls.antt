@@ -1,10 +1,11 @@
 -- What each call answers and leaves. Assumes nothing.
 use Prim.Native.Nat.{ℕ, zero, suc, _+_, _/_, _<_, _^_}
+use mathlib.Core.Path.{_≡_}
 use mathlib.Core.Bool.{Bool, false, _||_, cond}
 use mathlib.Core.List.{List, [], _∷_, _++_}
 use lib.Dec.{leb, eqb}
 use lib.ListN.{length, take, drop, set}
-use Rattle.place.specs.Place.{askOf, placeAnswerNumber}
+use Rattle.place.specs.Place.{askOf, placeAnswerNumber, placeOf, StartsLow}
 use Rattle.place.specs.declared.PlaceAnswer.{PlaceAnswer}
 use Rattle.place.specs.declared.PlaceAnswer.the-variants.{BadBuffers, BadSettings, NoPlace, Found}
 use Rattle.transfer.specs.Transfer.{numberOf}
@@ -16,6 +17,7 @@ use Rattle.arrival.specs.Lists.{receiveAll, answersOf, discardsOf}
 use Rattle.receiver.specs.Receiver.{world}
 use Rattle.block.specs.Write.{le32}
 use Rattle.layout.specs.Layout.{settingsFrom, transferFrom, withTransfer}
+use Rattle.capi.specs.declared.Known.{Known}
 
 -- ---- a place asked for alone
 
@@ -115,6 +117,10 @@ anyAcceptance (x ∷ l) = isAcceptance (numberOf x) || anyAcceptance l
 unfoldable pub storedFrom : List ℕ → ℕ → List ℕ → List ℕ
 storedFrom l i [] = l
 storedFrom l i (x ∷ xs) = storedFrom (set l i x) (i + 1) xs
+
+-- a family and its place in a flash of len bytes, as the loop keeps them from one arrival to the next
+abbrev pub Knows : Settings → ℕ → Known → Type 0
+Knows s len k = (k .place ≡ placeOf s len (k .family)) × StartsLow (k .place)
 
 -- how many were received, and what the lent buffers hold
 pub record BatchCall : Type 0 where

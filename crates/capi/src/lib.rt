@@ -17,11 +17,15 @@ ghost use Rattle.capi.specs.Calls.{
   lookBytes,
   takeBytes,
   fewer,
+  Knows,
   batchCall,
   takeBatch,
 };
 use block::Block;
+use place::Place;
 use place::PlaceAnswer;
+use settings::Family;
+use settings::Settings;
 use transfer::Transfer;
 
 mod hex;
@@ -135,6 +139,25 @@ fn at_most(a: usize, b: usize) -> usize
     if a <= b { a } else { b }
 }
 
+// A family and its place.
+struct Known {
+    family: u32,
+    place: Place,
+}
+
+// The place of a family, found anew where it is not the family before.
+fn place_for(known: Known, settings: Settings, flash_len: usize, family: u32) -> Known
+    requires { ⌜ Knows settings «flash_len» known ⌝ }
+    ensures { λ r. ⌜ r .family ≡ family ⌝ }
+    ensures knows { λ r. ⌜ Knows settings «flash_len» r ⌝ }
+{
+    if known.family == family {
+        return known;
+    }
+    let place = place::find(settings, flash_len, family);
+    Known { family, place }
+}
+
 // Whole arrivals are taken one after the other, as many as there are results for: their number, and the result of each.
 #[no_mangle]
 pub extern "C" fn uf2_take_all(
@@ -150,13 +173,23 @@ pub extern "C" fn uf2_take_all(
 {
     let s = layout::read_settings(settings);
     let mut t = layout::read_transfer(transfer);
+    let len = flash.len();
+    let good = settings::good(s, len);
+    let first = place::find(s, len, Family::DATA);
+    let mut known = Known {
+        family: Family::DATA,
+        place: first,
+    };
     let mut accepted = false;
     let n = at_most(arrivals.len() / Block::ARRIVAL, results.len());
     let mut i: usize = 0;
     while i < n {
         let from = i * Block::ARRIVAL;
         let to = from + Block::ARRIVAL;
-        let r = receiver::take(s, t, &arrivals[from..to], flash, seen, sectors);
+        let family = block::field(&arrivals[from..to], 28);
+        known = place_for(known, s, len, family);
+        let place = known.place;
+        let r = receiver::take_known(good, place, t, &arrivals[from..to], flash, seen, sectors);
         let answer = r.answer;
         let next = r.transfer;
         let number = answer.number();

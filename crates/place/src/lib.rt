@@ -27,7 +27,7 @@ use settings::Entry;
 use settings::Family;
 use settings::Settings;
 
-// The place of a family, in bytes.
+// The place of a family, in bytes (01's term: place).
 pub enum Place {
     Nowhere,
     At { start: usize, len: usize },

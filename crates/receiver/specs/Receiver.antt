@@ -1,14 +1,19 @@
 -- What a call is lent and hands back, as the meaning has it. Assumes nothing.
 use Prim.Native.Nat.{ℕ}
-use mathlib.Core.Bool.{false}
+use mathlib.Core.Bool.{Bool, false, not, cond}
 use mathlib.Core.List.{List}
 use lib.ListN.{length}
 use denote.Ref.{RefT, now}
 use denote.Triple.Both.{Both}
+use Rattle.flash.specs.Flash.{payloadOf}
 use Rattle.settings.specs.declared.Settings.{Settings}
+use Rattle.place.specs.declared.Place.{Place}
+use Rattle.screen.specs.Screen.{screenAt}
+use Rattle.transfer.specs.Transfer.{goodState}
+use Rattle.transfer.specs.declared.Answer.the-variants.{BadBuffers, BadSettings, BadState}
 use Rattle.transfer.specs.declared.Answer.{Answer}
 use Rattle.transfer.specs.declared.Transfer.{Transfer}
-use Rattle.arrival.specs.Arrive.{Held, Lent, World, Outcome, Decision, stays, accepts, decided, Forecast, forecast}
+use Rattle.arrival.specs.Arrive.{Held, Lent, World, Outcome, Decision, stays, accepts, rightLengths, afterScreening, decided, done, Forecast, forecast}
 use Rattle.receiver.specs.declared.Receipt.{Receipt}
 use Rattle.receiver.specs.declared.Preview.{Preview}
 use Rattle.receiver.specs.declared.Verdict.{Verdict}
@@ -62,3 +67,17 @@ decisionIn s w a = decided s w a
 -- what a look returns
 abbrev pub previewed : Preview → Forecast
 previewed r = forecast (r .answer) (r .discarded)
+
+-- ---- one arrival of many, where row 2's word and the place of the arrival's family are handed in
+
+-- every row: `good` stands for row 2, p for the place that row 8 asks for
+unfoldable pub knownDecision : Bool → Place → World → List ℕ → Decision
+knownDecision good p w a =
+    cond (not (rightLengths (length a) (length (w .held .flash)) (length (w .seen)) (length (w .held .sectors)))) (stays BadBuffers)
+    (cond (not good) (stays BadSettings)
+    (cond (not (goodState (w .transfer))) (stays BadState)
+    (afterScreening (w .transfer) (w .seen) (screenAt p a))))
+
+-- one arrival; with the true word and place it is `receiveOf` (proofs/Known.antt)
+unfoldable pub receiveKnown : Bool → Place → World → List ℕ → Outcome
+receiveKnown good p w a = done w (payloadOf a) (knownDecision good p w a)

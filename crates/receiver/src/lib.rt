@@ -21,9 +21,10 @@ ghost use Rattle.arrival.specs.Arrive.{
   forecastNumber,
   lookOf,
 };
-ghost use Rattle.receiver.specs.Receiver.{held, lentAt, leftAt, world, refusal, outcome, decision, decisionIn, previewed};
+ghost use Rattle.receiver.specs.Receiver.{held, lentAt, leftAt, world, refusal, outcome, decision, decisionIn, previewed, knownDecision, receiveKnown};
 use block::Block;
 use flash::Flash;
+use place::Place;
 use screen::Body;
 use screen::Placed;
 use screen::Screening;
@@ -222,6 +223,34 @@ fn judge(
     }
 }
 
+// Every check, in its order, where row 2's word and the place of the arrival's family are known.
+fn judge_known(
+    good: bool,
+    place: Place,
+    transfer: Transfer,
+    arrival: &[u8],
+    flash: &[u8],
+    seen: &[u8],
+    sectors: &[u8],
+) -> Verdict
+    ensures { λ r. ⌜ decision r ≡ knownDecision good place (world transfer (lentAt flash seen sectors)) (now (arrival .entry)) ⌝ }
+{
+    if !lengths_right(arrival.len(), flash.len(), seen.len(), sectors.len()) {
+        return Verdict::Leaves(Answer::BadBuffers);
+    }
+    if !good {
+        return Verdict::Leaves(Answer::BadSettings);
+    }
+    if !transfer.sound() {
+        return Verdict::Leaves(Answer::BadState);
+    }
+    let screening = screen::screen_at(place, arrival);
+    match screening {
+        Screening::Refused(answer) => Verdict::Leaves(answer),
+        Screening::Passed(placed) => settle(transfer, placed, seen),
+    }
+}
+
 // What would happen. Nothing changes.
 pub fn look(
     settings: Settings,
@@ -264,6 +293,30 @@ pub fn take(
     let verdict = judge(settings, transfer, arrival, flash, seen, sectors);
     match verdict {
         Verdict::Leaves(answer) => refuse(transfer, answer),
+        Verdict::Accepts(acceptance) => {
+            let placed = acceptance.placed;
+            let deed = acceptance.deed;
+            let accepted = acceptance.accepted;
+            accept(placed, deed, accepted, arrival, flash, seen, sectors)
+        }
+    }
+}
+
+// One arrival of many with the same settings and flash: whether these are good, and the place of the arrival's family, are handed in.
+pub fn take_known(
+    good: bool,
+    place: Place,
+    transfer: Transfer,
+    arrival: &[u8],
+    flash: &mut [u8],
+    seen: &mut [u8],
+    sectors: &mut [u8],
+) -> Receipt
+    ensures { λ r. ⌜ numbered outcomeNumber (outcome r (leftAt flash seen sectors)) ≡ numbered outcomeNumber (receiveKnown good place (world transfer (lentAt flash seen sectors)) (now (arrival .entry))) ⌝ }
+{
+    let verdict = judge_known(good, place, transfer, arrival, flash, seen, sectors);
+    match verdict {
+        Verdict::Leaves(refused) => refuse(transfer, refused),
         Verdict::Accepts(acceptance) => {
             let placed = acceptance.placed;
             let deed = acceptance.deed;

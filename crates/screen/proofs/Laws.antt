@@ -8,7 +8,7 @@ use denote.Enum.Declared.{tagOf}
 use Prim.Native.Nat.{ℕ, _+_, _-_, _*_, _%_, _<_, _≤_}
 use native.Mathlib.Omega.{arith}
 use lib.Dec.{ltb, leb, eqb}
-use borrow.Author.Tests.{le-ltb, lt-leb, eq-eqb, ne-eqb, ltb-false, leb-false, eqb-true, eqb-false, not-false}
+use borrow.Author.Tests.{le-leb, le-ltb, lt-leb, eq-eqb, ne-eqb, ltb-false, leb-false, eqb-true, eqb-false, not-false}
 use Rattle.sets.proofs.Tests.{split, or-left, or-right}
 use Rattle.block.proofs.Header.{the-type}
 use Rattle.block.specs.Block.{headerOf, headerNumber}
@@ -21,8 +21,8 @@ use Rattle.place.specs.declared.Place.{Place}
 use Rattle.place.specs.declared.Place.the-variants.{At}
 use Rattle.transfer.specs.Transfer.{headWith}
 use Rattle.transfer.specs.declared.Head.{Head}
-use Rattle.transfer.specs.declared.Answer.the-variants.{BadPayload, BadNumbers, BadAddress}
-use Rattle.screen.specs.Screen.{badNumbers, badAddress, placed, noted, found, afterHeader, placedIn, screenOf, screeningNumber}
+use Rattle.transfer.specs.declared.Answer.the-variants.{NoPlace, BadPayload, BadNumbers, BadAddress}
+use Rattle.screen.specs.Screen.{badNumbers, badAddress, placed, noted, found, afterHeader, placedIn, screenOf, lowPlace, screenAt, screeningNumber}
 use Rattle.screen.specs.declared.Body.the-variants.{Page, Note}
 use Rattle.screen.specs.declared.Screening.{Screening}
 use Rattle.screen.specs.declared.Screening.the-variants.{Refused, Passed}
@@ -145,6 +145,25 @@ module _ (s : Settings) (len : ℕ) (a : List ℕ) where
   pub screen-found : (b : Block) (p : Place) → headerOf a ≡ header.Found b → placeOf s len (b .family) ≡ p → screenOf s len a ≡ found p b
   unfolding screenOf placedIn
   screen-found b p e q = rw (e, q)
+
+-- ---- beside a place that is handed in
+
+module _ (start size : ℕ) (b : Block) where
+  pub low-past : 0x100000000000 ≤ start → found (lowPlace (At start size)) b ≡ Refused NoPlace
+  unfolding found
+  low-past h = rw (le-leb 0x100000000000 start h)
+
+  pub low-kept : start < 0x100000000000 → found (lowPlace (At start size)) b ≡ found (At start size) b
+  low-kept h = rw (lt-leb 0x100000000000 start h)
+
+module _ (p : Place) (a : List ℕ) where
+  pub at-header : {h : Header} → h ≡ headerOf a → {x : Screening} → x ≡ afterHeader h (found (lowPlace p)) → x ≡ screenAt p a
+  unfolding screenAt
+  at-header e q = rw (sym e) q
+
+  pub at-found : (b : Block) (q : Place) → headerOf a ≡ header.Found b → p ≡ q → screenAt p a ≡ found (lowPlace q) b
+  unfolding screenAt
+  at-found b q e f = rw (e, f)
 
 -- ---- the numbers of the header's refusals are the answers'
 

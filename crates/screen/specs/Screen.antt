@@ -69,6 +69,15 @@ placedIn s len b = found (placeOf s len (b .family)) b
 unfoldable pub screenOf : Settings → ℕ → List ℕ → Screening
 screenOf s len a = afterHeader (headerOf a) (placedIn s len)
 
+-- a place that begins at 2 ^ 44 or above is none: no entry can name it, and below it every storage address fits 64 bits
+abbrev pub lowPlace : Place → Place
+lowPlace Nowhere = Nowhere
+lowPlace (At start size) = cond (leb 0x100000000000 start) Nowhere (At start size)
+
+-- rows 4 to 11, where p is handed in as the place of the arrival's family
+unfoldable pub screenAt : Place → List ℕ → Screening
+screenAt p a = afterHeader (headerOf a) (found (lowPlace p))
+
 -- the number of a refusal; a block that passes is none, and has 0
 abbrev pub screeningNumber : Screening → ℕ
 screeningNumber (Refused x) = numberOf x

@@ -5,7 +5,7 @@ ghost use Rattle.place.specs.declared.Place.the-variants.{At};
 ghost use mathlib.Core.Logic.{_≢_};
 ghost use Rattle.sets.specs.Numbered.{numbered};
 ghost use Rattle.block.specs.Block.{headerNumber};
-ghost use Rattle.screen.specs.Screen.{HeaderAnswer, badNumbers, placed, noted, found, screenOf, screeningNumber};
+ghost use Rattle.screen.specs.Screen.{HeaderAnswer, badNumbers, placed, noted, found, lowPlace, screenOf, screenAt, screeningNumber};
 use block::Block;
 use block::Header;
 use flash::Flash;
@@ -35,6 +35,9 @@ pub enum Screening {
 impl Placed {
     // Where the address window begins, which is where a place's first byte is seen.
     pub const WINDOW: usize = 0x10000000;
+
+    // No place begins here or above.
+    pub const STARTS: usize = 0x100000000000;
 }
 
 // The answer to a header that yields no block, whatever the rows after it would say. A match has to name `Found` too; nothing calls it so.
@@ -120,6 +123,30 @@ fn check(b: Block, start: usize, size: usize) -> Screening
         return note(b, size);
     }
     fits_place(b, start, size)
+}
+
+// A block beside a place that is handed in, which may begin anywhere.
+fn check_low(b: Block, start: usize, size: usize) -> Screening
+    ensures { λ r. ⌜ r ≡ found (lowPlace (At start size)) b ⌝ }
+{
+    if Placed::STARTS <= start {
+        return Screening::Refused(Answer::NoPlace);
+    }
+    check(b, start, size)
+}
+
+// Rows 4 to 11, where the place of the arrival's family is known.
+pub fn screen_at(place: Place, arrival: &[u8]) -> Screening
+    ensures { λ r. ⌜ numbered screeningNumber r ≡ numbered screeningNumber (screenAt place (now (arrival .entry))) ⌝ }
+{
+    let h = block::read(arrival);
+    let Header::Found(b) = h else {
+        return Screening::Refused(header_answer(h));
+    };
+    match place {
+        Place::Nowhere => Screening::Refused(Answer::NoPlace),
+        Place::At { start, len } => check_low(b, start, len),
+    }
 }
 
 // Rows 4 to 11: the first that refuses the arrival, or what it holds.

@@ -51,11 +51,11 @@ linkTarget Unlinked = 0
 linkTarget (OwnedBy k) = k
 linkTarget (BOf k) = k
 
--- "An entry is an A partition unless it is "B of"."
+-- "An entry is an A partition unless it is "B of"." (01's term: A partition)
 abbrev pub isA : Entry → Bool
 isA e = not (linkIsB (e .link))
 
--- "It is unowned with link none."
+-- "It is unowned with link none." (01's term: unowned)
 abbrev pub isUnowned : Entry → Bool
 isUnowned e = linkIsNone (e .link)
 

@@ -6,7 +6,7 @@ ghost use Rattle.settings.specs.Settings.{isA, isUnowned, linkTarget, ha
 ghost use Rattle.settings.specs.Parts.{aloneBad, wrongEntry, sharesBelow};
 use flash::Flash;
 
-// What an entry is linked to.
+// What an entry is linked to (01's terms: owned by, B of).
 pub enum Link {
     Unlinked,
     OwnedBy(u8),

@@ -278,7 +278,7 @@ fn lines_keep_their_bounds() {
         reader.check("reader");
         line.check("line");
         image.check("image");
-        answers[plain as usize] += 1;
+        answers[plain as usize % 256] += 1;
 
         let fresh = any_length(&mut r, vec![9; 16]);
         let mut fresh = Twin::written(&mut r, fresh);

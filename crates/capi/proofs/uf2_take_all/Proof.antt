@@ -1,28 +1,30 @@
--- `capi::uf2_take_all` meets its contract. The invariant: what is still to be received leads to the same end. Assumes nothing.
+-- `capi::uf2_take_all` meets its contract. The invariant: what is still to be received leads to the same end, and the place that is kept is
+-- that of its family. Assumes nothing.
 use Prim.Native.Nat.{_≤_, _-_, _*_}
 use mathlib.Core.Path.{_≡_, refl, _∙_}
 use mathlib.Core.Bool.{false}
 use lib.ListN.{length, drop, length-set}
 use Rattle.receiver.specs.Receiver.{lent, world}
 use Rattle.sets.proofs.Numbered.{answer-is}
-use Rattle.capi.specs.Calls.{arrivalsOf, batchFrom}
+use Rattle.capi.specs.Calls.{Knows, arrivalsOf, batchFrom}
 use Rattle.capi.proofs.Laws.{number-most}
-use Rattle.capi.proofs.Batch.{all-start, all-more, all-ran}
+use Rattle.capi.proofs.Batch.{round-known, all-start, all-more, all-ran}
 use borrow.Author.Needs.{needs}
 use Rattle.capi.proofs.uf2_take_all.Statement.{statement}
 use Rattle.capi.proofs.uf2_take_all.Tie as tie
 
 abbrev Inv-loop : tie.InvT-loop
-Inv-loop settings transfer arrivals results₀ flash₀ seen₀ sectors₀ s t₀ accepted₀ n i₀ results flash seen sectors t accepted i =
+Inv-loop settings transfer arrivals results₀ flash₀ seen₀ sectors₀ s t₀ len good known₀ accepted₀ n i₀ results flash seen sectors t known accepted i =
     (i ≤ n)
     × (length results ≡ length results₀)
     × (length flash ≡ length flash₀)
     × (length seen ≡ length seen₀)
     × (length sectors ≡ length sectors₀)
+    × Knows s len known
     × (batchFrom n s transfer (world t (lent flash seen sectors)) accepted results i (arrivalsOf (n - i) (drop (i * 512) arrivals)) ≡ batchFrom n s transfer (world t₀ (lent flash₀ seen₀ sectors₀)) false results₀ 0 (arrivalsOf n arrivals))
 
 abbrev μ-loop : tie.MeasureT-loop
-μ-loop settings transfer arrivals results₀ flash₀ seen₀ sectors₀ s t₀ accepted₀ n i₀ results flash seen sectors t accepted i =
+μ-loop settings transfer arrivals results₀ flash₀ seen₀ sectors₀ s t₀ len good known₀ accepted₀ n i₀ results flash seen sectors t known accepted i =
     n - i
 
 read-settings-requires : tie.Need-read-settings-requires Inv-loop μ-loop
@@ -31,11 +33,19 @@ read-settings-requires c κs = search needs
 read-transfer-requires : tie.Need-read-transfer-requires Inv-loop μ-loop
 read-transfer-requires c κs = search needs
 
+good-requires : tie.Need-good-requires Inv-loop μ-loop
+good-requires c κs = search needs
+
+find-requires : tie.Need-find-requires Inv-loop μ-loop
+find-requires c κs = search needs
+
 at-most-requires : tie.Need-at-most-requires Inv-loop μ-loop
 at-most-requires c κs = search needs
 
 loop-holds : tie.Need-loop-holds Inv-loop μ-loop
-loop-holds c = (search needs, refl, refl, refl, refl, all-start _ _ _ _ _ _ _ _)
+loop-holds c =
+    let found = c .before .find .ensures in
+    (search needs, refl, refl, refl, refl, (answer-is (found .0), found .1), all-start _ _ _ _ _ _ _ _)
 
 mul-from : tie.Need-mul-from Inv-loop μ-loop
 mul-from c = search needs
@@ -43,23 +53,38 @@ mul-from c = search needs
 add-to : tie.Need-add-to Inv-loop μ-loop
 add-to c = search needs
 
-sub-take : tie.Need-sub-take Inv-loop μ-loop
-sub-take c = search needs
+sub-field : tie.Need-sub-field Inv-loop μ-loop
+sub-field c = search needs
 
-part-take-start : tie.Need-part-take-start Inv-loop μ-loop
-part-take-start c = search needs
+part-field-start : tie.Need-part-field-start Inv-loop μ-loop
+part-field-start c = search needs
 
-part-take-end : tie.Need-part-take-end Inv-loop μ-loop
-part-take-end c = search needs
+part-field-end : tie.Need-part-field-end Inv-loop μ-loop
+part-field-end c = search needs
 
-take-requires : tie.Need-take-requires Inv-loop μ-loop
-take-requires c κs = search needs
+field-requires : tie.Need-field-requires Inv-loop μ-loop
+field-requires c κs = search needs
+
+place-for-requires : tie.Need-place-for-requires Inv-loop μ-loop
+place-for-requires c κs = c .before .before .before .loop .inv .5
+
+sub-take-known : tie.Need-sub-take-known Inv-loop μ-loop
+sub-take-known c = search needs
+
+part-take-known-start : tie.Need-part-take-known-start Inv-loop μ-loop
+part-take-known-start c = search needs
+
+part-take-known-end : tie.Need-part-take-known-end Inv-loop μ-loop
+part-take-known-end c = search needs
+
+take-known-requires : tie.Need-take-known-requires Inv-loop μ-loop
+take-known-requires c κs = search needs
 
 number-requires : tie.Need-number-requires Inv-loop μ-loop
 number-requires c κs = search needs
 
 report-requires : tie.Need-report-requires Inv-loop μ-loop
-report-requires c κs = rw (c .number .ensures) (number-most (c .before .before .before .before .before .before .before .before .take .result .answer))
+report-requires c κs = rw (c .number .ensures) (number-most (c .before .before .before .before .before .before .before .before .take-known .result .answer))
 
 slice-write-results : tie.Need-slice-write-results Inv-loop μ-loop
 slice-write-results c = search needs
@@ -75,10 +100,14 @@ loop-less c = search needs
 
 loop-again : tie.Need-loop-again Inv-loop μ-loop
 loop-again c =
-    let got = c .before .before .before .before .before .before .before .before .before .before in
-    let round = got .before .before .before .before .before in
+    let lengths = c .before .before .before .before .before in
+    let got = lengths .before .before .before .before .before in
+    let kept = got .before .before .before .before .before in
+    let round = kept .before .before .before in
     let at = round .before .loop in
-    (search needs, simp length-set (at .inv .1), search needs, search needs, search needs, all-more _ _ _ _ _ _ _ _ _ (round .loop-test .taken) (answer-is (got .take .ensures)) (c .before .before .number .ensures) (c .before .report .ensures) (c .is-acceptance .ensures) ∙ at .inv .5)
+    let knows = kept .place-for .ensures in
+    let took = round-known _ _ _ _ (at .inv .2) (round .before .before .before .before .good2 .ensures) (kept .before .field .ensures) (knows .0) (knows .1) (answer-is (got .take-known .ensures)) in
+    (search needs, simp length-set (at .inv .1), lengths .before .before .before .before .flash .given ∙ at .inv .2, lengths .before .before .seen .given ∙ at .inv .3, lengths .sectors .given ∙ at .inv .4, knows .1, all-more _ _ _ _ _ _ _ _ _ (round .loop-test .taken) took (c .before .before .number .ensures) (c .before .report .ensures) (c .is-acceptance .ensures) ∙ at .inv .6)
 
 keep-requires : tie.Need-keep-requires Inv-loop μ-loop
 keep-requires c κs = search needs
@@ -103,8 +132,8 @@ returns c =
     let kept = c .before .before in
     let out = kept .before .before in
     let made = out .before .before in
-    let read = made .before in
-    all-ran _ _ _ _ _ (out .before .loop .t) (out .before .loop .accepted) (made .at-most .ensures .0) (read .before .before .read-settings .ensures) (read .read-transfer .ensures) (out .loop-test .left) (out .before .loop .inv .5) (kept .keep .ensures)
+    let read = made .before .before .before in
+    all-ran _ _ _ _ _ (out .before .loop .t) (out .before .loop .accepted) (made .at-most .ensures .0) (read .before .before .read-settings .ensures) (read .read-transfer .ensures) (out .loop-test .left) (out .before .loop .inv .6) (kept .keep .ensures)
 
 pub uf2-take-all-spec : {M : Type 1} → statement M
 uf2-take-all-spec =
@@ -114,14 +143,21 @@ uf2-take-all-spec =
     μ-loop
     read-settings-requires
     read-transfer-requires
+    good-requires
+    find-requires
     at-most-requires
     loop-holds
     mul-from
     add-to
-    sub-take
-    part-take-start
-    part-take-end
-    take-requires
+    sub-field
+    part-field-start
+    part-field-end
+    field-requires
+    place-for-requires
+    sub-take-known
+    part-take-known-start
+    part-take-known-end
+    take-known-requires
     number-requires
     report-requires
     slice-write-results

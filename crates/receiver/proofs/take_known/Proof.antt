@@ -1,0 +1,69 @@
+-- `receiver::take_known` meets its contract. Assumes nothing.
+use mathlib.Core.Path.{ap}
+use Rattle.sets.specs.Numbered.{numbered}
+use Rattle.arrival.specs.Arrive.{outcomeNumber}
+use Rattle.receiver.specs.Receiver.{decision}
+use Rattle.receiver.proofs.Known.{known-stays, known-accepts}
+use borrow.Author.Needs.{needs}
+use Rattle.receiver.proofs.take_known.Statement.{statement}
+use Rattle.receiver.proofs.take_known.Tie as tie
+
+judge-known-requires : tie.Need-judge-known-requires
+judge-known-requires c κs = search needs
+
+enum-known-verdict : tie.Need-enum-known-verdict
+enum-known-verdict c = search needs
+
+refuse-requires : tie.Need-refuse-requires
+refuse-requires c κs = search needs
+
+enum-known-verdict-2 : tie.Need-enum-known-verdict-2
+enum-known-verdict-2 c = search needs
+
+accept-requires : tie.Need-accept-requires
+accept-requires c κs = search needs
+
+same-length : tie.Need-same-length
+same-length c = search needs
+
+same-length-2 : tie.Need-same-length-2
+same-length-2 c = search needs
+
+same-length-3 : tie.Need-same-length-3
+same-length-3 c = search needs
+
+returns : tie.Need-returns
+returns c = ap (numbered outcomeNumber) (known-stays _ _ _ _ _ (c .before .before .before .before .judge-known .ensures) (ap decision (c .before .before .verdict .given .1)) (c .refuse .ensures))
+
+same-length-4 : tie.Need-same-length-4
+same-length-4 c = search needs
+
+same-length-5 : tie.Need-same-length-5
+same-length-5 c = search needs
+
+same-length-6 : tie.Need-same-length-6
+same-length-6 c = search needs
+
+returns-2 : tie.Need-returns-2
+returns-2 c =
+    let a = c .before .before .before .before .before .before in
+    let d = a .before .before .before .before .before .before .before in
+    ap (numbered outcomeNumber) (known-accepts _ _ _ _ _ (d .before .before .judge-known .ensures) _ (ap decision (d .verdict2 .given .1)) (a .accept .ensures))
+
+pub take-known-spec : {M : Type 1} → statement M
+take-known-spec =
+    tie.close
+    (tie.spec
+    judge-known-requires
+    enum-known-verdict
+    refuse-requires
+    enum-known-verdict-2
+    accept-requires
+    same-length
+    same-length-2
+    same-length-3
+    returns
+    same-length-4
+    same-length-5
+    same-length-6
+    returns-2)
