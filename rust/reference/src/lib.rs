@@ -84,11 +84,38 @@ struct Block<'a> {
 }
 
 type Arrival = [u8; ARRIVAL_LEN];
-type SeenMap = [u8; SEEN_LEN];
-type SectorMap = [u8; SECTORS_LEN];
 
-/// Takes one arrival: judges it, and stores its payload if nothing refuses it.
-pub fn receive(
+/// What taking an arrival does, for one that no row refuses.
+struct Plan<'a> {
+    block: Block<'a>,
+    /// Where in flash the payload goes.
+    storage: usize,
+    /// Whether both maps are cleared first.
+    clears: bool,
+    discarded: bool,
+    /// The raised count.
+    count: u32,
+}
+
+/// Says what taking the arrival would answer and whether it would discard, and
+/// changes nothing.
+pub fn look(
+    s: &Settings,
+    t: Transfer,
+    arrival: &[u8],
+    flash: &[u8],
+    seen: &[u8],
+    sectors: &[u8],
+) -> (u8, bool) {
+    match plan(s, t, arrival, flash, seen, sectors) {
+        Ok(plan) => (plan.answer(), plan.discarded),
+        Err(answer) => (answer, false),
+    }
+}
+
+/// Takes one arrival: judges it, with every check that a look makes, and stores
+/// its payload if nothing refuses it.
+pub fn take(
     s: &Settings,
     t: Transfer,
     arrival: &[u8],
@@ -96,42 +123,37 @@ pub fn receive(
     seen: &mut [u8],
     sectors: &mut [u8],
 ) -> Outcome {
-    let refused = |answer| Outcome {
-        transfer: t,
-        answer,
-        discarded: false,
-    };
-    if !flash_len_good(flash.len()) {
-        return refused(BAD_BUFFERS);
-    }
-    let Ok(arrival) = <&Arrival>::try_from(arrival) else {
-        return refused(BAD_BUFFERS);
-    };
-    let Ok(seen) = <&mut SeenMap>::try_from(seen) else {
-        return refused(BAD_BUFFERS);
-    };
-    let Ok(sectors) = <&mut SectorMap>::try_from(sectors) else {
-        return refused(BAD_BUFFERS);
-    };
-    match judge(s, t, arrival, flash.len(), seen) {
-        Ok((block, storage)) => accept(t, &block, storage, flash, seen, sectors),
-        Err(answer) => refused(answer),
+    match plan(s, t, arrival, flash, seen, sectors) {
+        Ok(plan) => {
+            plan.carry_out(flash, seen, sectors);
+            Outcome {
+                transfer: plan.transfer(),
+                answer: plan.answer(),
+                discarded: plan.discarded,
+            }
+        }
+        Err(answer) => Outcome {
+            transfer: t,
+            answer,
+            discarded: false,
+        },
     }
 }
 
-fn flash_len_good(flash_len: usize) -> bool {
-    (SECTOR_LEN..=MAX_FLASH_LEN).contains(&flash_len) && flash_len.is_multiple_of(SECTOR_LEN)
-}
-
-/// Rows 2 to 13 in order: the block with its storage address, or the refusal.
-fn judge<'a>(
+/// Rows 1 to 13 in order: what is to be done, or the refusal.
+fn plan<'a>(
     s: &Settings,
     t: Transfer,
-    arrival: &'a Arrival,
-    flash_len: usize,
-    seen: &SeenMap,
-) -> Result<(Block<'a>, usize), u8> {
-    if !settings_good(s, flash_len) {
+    arrival: &'a [u8],
+    flash: &[u8],
+    seen: &[u8],
+    sectors: &[u8],
+) -> Result<Plan<'a>, u8> {
+    let arrival = <&Arrival>::try_from(arrival).map_err(|_| BAD_BUFFERS)?;
+    if !flash_len_good(flash.len()) || seen.len() != SEEN_LEN || sectors.len() != SECTORS_LEN {
+        return Err(BAD_BUFFERS);
+    }
+    if !settings_good(s, flash.len()) {
         return Err(BAD_SETTINGS);
     }
     if !state_good(t) {
@@ -139,16 +161,61 @@ fn judge<'a>(
     }
     let block = read_block(arrival).ok_or(NOT_BLOCK)?;
     check_flags(block.flags)?;
-    let (start, len) = place_of(s, flash_len, block.family).ok_or(NO_PLACE)?;
+    let (start, len) = place_of(s, flash.len(), block.family).ok_or(NO_PLACE)?;
     let offset = check_fit(&block, len)?;
     if matches!(t, Transfer::Done { .. }) {
         return Err(FINISHED);
     }
-    let continues = counted(t, block.family, block.total).is_some();
-    if continues && marked(seen, block.number as usize) {
+    let continued = counted(t, block.family, block.total);
+    if continued.is_some() && marked(seen, block.number as usize) {
         return Err(AGAIN);
     }
-    Ok((block, start + offset))
+    Ok(Plan {
+        block,
+        storage: start + offset,
+        clears: continued.is_none(),
+        discarded: continued.is_none() && matches!(t, Transfer::Running { .. }),
+        count: continued.unwrap_or(0) + 1,
+    })
+}
+
+impl Plan<'_> {
+    fn completes(&self) -> bool {
+        self.count >= self.block.total
+    }
+
+    fn answer(&self) -> u8 {
+        if self.completes() {
+            COMPLETED
+        } else {
+            WRITTEN
+        }
+    }
+
+    fn transfer(&self) -> Transfer {
+        let (family, total) = (self.block.family, self.block.total);
+        if self.completes() {
+            return Transfer::Done { family, total };
+        }
+        Transfer::Running {
+            family,
+            total,
+            count: self.count,
+        }
+    }
+
+    fn carry_out(&self, flash: &mut [u8], seen: &mut [u8], sectors: &mut [u8]) {
+        if self.clears {
+            seen.fill(0);
+            sectors.fill(0);
+        }
+        store(self.block.payload, self.storage, flash, sectors);
+        mark(seen, self.block.number as usize);
+    }
+}
+
+fn flash_len_good(flash_len: usize) -> bool {
+    (SECTOR_LEN..=MAX_FLASH_LEN).contains(&flash_len) && flash_len.is_multiple_of(SECTOR_LEN)
 }
 
 fn state_good(t: Transfer) -> bool {
@@ -215,30 +282,6 @@ fn check_fit(block: &Block, len: usize) -> Result<usize, u8> {
     Ok(offset as usize)
 }
 
-/// Rows 14 and 15, for a block that `judge` let through.
-fn accept(
-    t: Transfer,
-    block: &Block,
-    storage: usize,
-    flash: &mut [u8],
-    seen: &mut SeenMap,
-    sectors: &mut SectorMap,
-) -> Outcome {
-    let continued = counted(t, block.family, block.total);
-    if continued.is_none() {
-        seen.fill(0);
-        sectors.fill(0);
-    }
-    store(block.payload, storage, flash, sectors);
-    mark(seen, block.number as usize);
-    let (transfer, answer) = advance(block, continued.unwrap_or(0) + 1);
-    Outcome {
-        transfer,
-        answer,
-        discarded: continued.is_none() && matches!(t, Transfer::Running { .. }),
-    }
-}
-
 /// The count of a transfer that a block of this family and total goes on with.
 fn counted(t: Transfer, family: u32, total: u32) -> Option<u32> {
     match t {
@@ -251,23 +294,8 @@ fn counted(t: Transfer, family: u32, total: u32) -> Option<u32> {
     }
 }
 
-/// The transfer and the answer after the block as the `count`th one stored.
-fn advance(block: &Block, count: u32) -> (Transfer, u8) {
-    let (family, total) = (block.family, block.total);
-    if count < total {
-        let running = Transfer::Running {
-            family,
-            total,
-            count,
-        };
-        (running, WRITTEN)
-    } else {
-        (Transfer::Done { family, total }, COMPLETED)
-    }
-}
-
 /// Stores the payload, erasing its sector only the first time it is touched.
-fn store(payload: &[u8], storage: usize, flash: &mut [u8], sectors: &mut SectorMap) {
+fn store(payload: &[u8], storage: usize, flash: &mut [u8], sectors: &mut [u8]) {
     let sector = storage / SECTOR_LEN;
     if !marked(sectors, sector) {
         flash[sector * SECTOR_LEN..(sector + 1) * SECTOR_LEN].fill(0xFF);

@@ -3,7 +3,7 @@
 use std::io::{self, BufReader, BufWriter, Read, Write};
 
 use reference::{
-    receive, Arch, Entry, Settings, Transfer, ARRIVAL_LEN, MAX_ENTRIES, SECTORS_LEN, SEEN_LEN,
+    take, Arch, Entry, Settings, Transfer, ARRIVAL_LEN, MAX_ENTRIES, SECTORS_LEN, SEEN_LEN,
 };
 
 const FLASH_LEN: usize = 32_768;
@@ -38,7 +38,7 @@ fn run(mut input: impl Read, mut output: impl Write) -> io::Result<()> {
             break;
         }
         let arrival = &piece[..len];
-        let outcome = receive(
+        let outcome = take(
             &SETTINGS,
             transfer,
             arrival,

@@ -113,10 +113,19 @@ impl Bench {
         }
     }
 
-    /// Sends raw bytes; any refusal must leave all that was lent as it was.
-    fn send(&mut self, bytes: &[u8]) -> (u8, bool) {
-        let before = self.clone();
-        let outcome = receive(
+    fn look(&self, bytes: &[u8]) -> (u8, bool) {
+        look(
+            &self.settings,
+            self.transfer,
+            bytes,
+            &self.flash,
+            &self.seen,
+            &self.sectors,
+        )
+    }
+
+    fn take(&mut self, bytes: &[u8]) -> Outcome {
+        let outcome = take(
             &self.settings,
             self.transfer,
             bytes,
@@ -125,6 +134,16 @@ impl Bench {
             &mut self.sectors,
         );
         self.transfer = outcome.transfer;
+        outcome
+    }
+
+    /// Sends raw bytes; a look must say the same before, and any refusal must
+    /// leave all that was lent as it was.
+    fn send(&mut self, bytes: &[u8]) -> (u8, bool) {
+        let before = self.clone();
+        let looked = self.look(bytes);
+        let outcome = self.take(bytes);
+        assert_eq!(looked, (outcome.answer, outcome.discarded));
         if outcome.answer <= AGAIN {
             assert!(*self == before, "answer {} changed", outcome.answer);
             assert!(!outcome.discarded);

@@ -205,15 +205,7 @@ fn the_largest_file_completes() {
     for k in 0..total {
         // An odd factor visits every number once, out of order.
         let number = k.wrapping_mul(48_271) % total;
-        let outcome = receive(
-            &bench.settings,
-            bench.transfer,
-            &arrival(page(number, total)),
-            &mut bench.flash,
-            &mut bench.seen,
-            &mut bench.sectors,
-        );
-        bench.transfer = outcome.transfer;
+        let outcome = bench.take(&arrival(page(number, total)));
         answers[usize::from(outcome.answer)] += 1;
     }
     assert_eq!((answers[14], answers[15]), (131_071, 1));
