@@ -2,8 +2,9 @@
 //! compared with another implementation: UF2 arrivals here, lines of Universal
 //! Hex in [`hex`].
 //!
-//! Each arrival gets one of the answers 1 to 15 of document 01. Every function
-//! is total: no input makes it panic, and a refusal leaves what was lent as is.
+//! Each arrival gets one of the answers of document 01 and of the requests in
+//! 02. Every function is total: no input makes it panic, and a refusal leaves
+//! what was lent as is.
 
 pub mod hex;
 pub mod join;
@@ -37,7 +38,6 @@ pub const BAD_SETTINGS: u8 = 2;
 pub const BAD_STATE: u8 = 3;
 pub const NOT_BLOCK: u8 = 4;
 pub const CONTAINER: u8 = 5;
-pub const COMMENT: u8 = 6;
 pub const NO_FAMILY: u8 = 7;
 pub const NO_PLACE: u8 = 8;
 pub const BAD_PAYLOAD: u8 = 9;
@@ -47,6 +47,7 @@ pub const FINISHED: u8 = 12;
 pub const AGAIN: u8 = 13;
 pub const WRITTEN: u8 = 14;
 pub const COMPLETED: u8 = 15;
+pub const NOTED: u8 = 16;
 
 const MAGIC_FIRST: u32 = 0x0A32_4655;
 const MAGIC_SECOND: u32 = 0x9E5D_5157;
@@ -56,7 +57,7 @@ const FLAG_NOT_MAIN_FLASH: u32 = 0x1;
 const FLAG_CONTAINER: u32 = 0x1000;
 const FLAG_FAMILY: u32 = 0x2000;
 
-/// How far the transfer is; `count` is the number of different blocks stored.
+/// How far the transfer is; `count` is the number of different blocks accepted.
 #[derive(Clone, Copy, PartialEq, Eq, Debug)]
 pub enum Transfer {
     Idle,
@@ -83,13 +84,19 @@ struct Block<'a> {
     payload: &'a [u8],
 }
 
+impl Block<'_> {
+    fn is_comment(&self) -> bool {
+        self.flags & FLAG_NOT_MAIN_FLASH != 0
+    }
+}
+
 type Arrival = [u8; ARRIVAL_LEN];
 
 /// What taking an arrival does, for one that no row refuses.
 struct Plan<'a> {
     block: Block<'a>,
-    /// Where in flash the payload goes.
-    storage: usize,
+    /// Where in flash the payload goes; a comment's goes nowhere.
+    storage: Option<usize>,
     /// Whether both maps are cleared first.
     clears: bool,
     discarded: bool,
@@ -140,7 +147,8 @@ pub fn take(
     }
 }
 
-/// Rows 1 to 13 in order: what is to be done, or the refusal.
+/// Rows 1 to 13 in order, as far as they apply: what is to be done, or the
+/// refusal.
 fn plan<'a>(
     s: &Settings,
     t: Transfer,
@@ -162,7 +170,14 @@ fn plan<'a>(
     let block = read_block(arrival).ok_or(NOT_BLOCK)?;
     check_flags(block.flags)?;
     let (start, len) = place_of(s, flash.len(), block.family).ok_or(NO_PLACE)?;
-    let offset = check_fit(&block, len)?;
+    let storage = if block.is_comment() {
+        check_numbers(&block, len)?;
+        None
+    } else {
+        check_payload(&block)?;
+        check_numbers(&block, len)?;
+        Some(start + check_address(&block, len)?)
+    };
     if matches!(t, Transfer::Done { .. }) {
         return Err(FINISHED);
     }
@@ -172,7 +187,7 @@ fn plan<'a>(
     }
     Ok(Plan {
         block,
-        storage: start + offset,
+        storage,
         clears: continued.is_none(),
         discarded: continued.is_none() && matches!(t, Transfer::Running { .. }),
         count: continued.unwrap_or(0) + 1,
@@ -187,8 +202,10 @@ impl Plan<'_> {
     fn answer(&self) -> u8 {
         if self.completes() {
             COMPLETED
-        } else {
+        } else if self.storage.is_some() {
             WRITTEN
+        } else {
+            NOTED
         }
     }
 
@@ -209,7 +226,9 @@ impl Plan<'_> {
             seen.fill(0);
             sectors.fill(0);
         }
-        store(self.block.payload, self.storage, flash, sectors);
+        if let Some(storage) = self.storage {
+            store(self.block.payload, storage, flash, sectors);
+        }
         mark(seen, self.block.number as usize);
     }
 }
@@ -249,12 +268,10 @@ fn read_block(arrival: &Arrival) -> Option<Block<'_>> {
     })
 }
 
-/// Rows 5 to 7. A container is one whether or not it is also a comment.
+/// Rows 5 and 7. A container is one whether or not it is also a comment.
 fn check_flags(flags: u32) -> Result<(), u8> {
     if flags & FLAG_CONTAINER != 0 {
         Err(CONTAINER)
-    } else if flags & FLAG_NOT_MAIN_FLASH != 0 {
-        Err(COMMENT)
     } else if flags & FLAG_FAMILY == 0 {
         Err(NO_FAMILY)
     } else {
@@ -262,21 +279,33 @@ fn check_flags(flags: u32) -> Result<(), u8> {
     }
 }
 
-/// Rows 9 to 11: the payload's offset in a place of `len` bytes.
-fn check_fit(block: &Block, len: usize) -> Result<usize, u8> {
-    // 64 bits, since products and sums of the fields may pass 32.
-    let len = len as u64;
-    let size = PAYLOAD_LEN as u64;
-    if u64::from(block.size) != size {
-        return Err(BAD_PAYLOAD);
+/// Row 9, which a comment skips.
+fn check_payload(block: &Block) -> Result<(), u8> {
+    if block.size as usize == PAYLOAD_LEN {
+        Ok(())
+    } else {
+        Err(BAD_PAYLOAD)
     }
-    let total = u64::from(block.total);
-    if total == 0 || total * size > len || block.number >= block.total {
+}
+
+/// Row 10, for a place of `len` bytes.
+fn check_numbers(block: &Block, len: usize) -> Result<(), u8> {
+    // 64 bits, since the product may pass 32.
+    let needed = u64::from(block.total) * PAYLOAD_LEN as u64;
+    if block.total == 0 || needed > len as u64 || block.number >= block.total {
         return Err(BAD_NUMBERS);
     }
+    Ok(())
+}
+
+/// Row 11, which a comment skips: the payload's offset in a place of `len`
+/// bytes.
+fn check_address(block: &Block, len: usize) -> Result<usize, u8> {
     let offset = block.address.checked_sub(WINDOW).ok_or(BAD_ADDRESS)?;
-    // WINDOW is itself a multiple of 256, so offset and address agree on that.
-    if u64::from(offset) % size != 0 || u64::from(offset) + size > len {
+    let size = PAYLOAD_LEN as u64;
+    // 64 bits, since the sum may pass 32. WINDOW is itself a multiple of 256,
+    // so offset and address agree on that.
+    if u64::from(offset) % size != 0 || u64::from(offset) + size > len as u64 {
         return Err(BAD_ADDRESS);
     }
     Ok(offset as usize)

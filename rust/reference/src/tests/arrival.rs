@@ -98,17 +98,19 @@ fn row_4_every_bit_of_the_magic_numbers() {
 }
 
 #[test]
-fn rows_5_to_7_flags() {
+fn rows_5_and_7_flags() {
     for (flags, answer) in [
         (0x1000, 5),
         (0x1001, 5),
         (0x3000, 5),
         (0x3001, 5),
-        (0x0001, 6),
-        (0x2001, 6),
+        (0x0001, 7),
+        (0x2001, 15),
         (0x0000, 7),
         (0xFFFF_CFFE, 7),
+        (0xFFFF_CFFF, 7),
         (0xFFFF_EFFE, 15),
+        (0xFFFF_EFFF, 15),
         (0x2000, 15),
         (0x6000, 15),
         (0xA000, 15),
@@ -227,7 +229,7 @@ fn row_13_needs_the_mark_alone() {
     assert_eq!(bench.transfer, running(20, 4));
 }
 
-/// Wrong in all that rows 5 to 11 ask; Done, so that row 12 waits behind.
+/// Wrong in all that rows 5 and 7 to 11 ask; Done, so that row 12 waits behind.
 const ALL_WRONG: Fields = Fields {
     flags: 0x1001,
     address: 0x1000_2000,
@@ -237,6 +239,9 @@ const ALL_WRONG: Fields = Fields {
     family: DATA,
     fill: 1,
 };
+
+/// The answer after it, and what it mends.
+type Repair = (u8, fn(&mut Fields));
 
 #[test]
 fn the_first_row_that_applies_answers() {
@@ -251,20 +256,36 @@ fn the_first_row_that_applies_answers() {
     bytes[511] ^= 1;
     assert_eq!(bench.send(&bytes), (4, false));
     let mut block = ALL_WRONG;
-    let repairs: [fn(&mut Fields); 8] = [
-        |_| {},
-        |f| f.flags = 0x0001,
-        |f| f.flags = 0x0000,
-        |f| f.flags = 0x2000,
-        |f| f.family = ARM_S,
-        |f| f.size = 256,
-        |f| f.total = 3,
-        |f| f.address = 0x1000_1F00,
+    let repairs: [Repair; 7] = [
+        (5, |_| {}),
+        (7, |f| f.flags = 0x0000),
+        (8, |f| f.flags = 0x2000),
+        (9, |f| f.family = ARM_S),
+        (10, |f| f.size = 256),
+        (11, |f| f.total = 3),
+        (12, |f| f.address = 0x1000_1F00),
     ];
-    for (answer, repair) in (5..).zip(repairs) {
+    for (answer, repair) in repairs {
         repair(&mut block);
         assert_eq!(bench.answer(block), answer);
     }
+    // A comment's size and address may stay wrong.
+    let mut comment = ALL_WRONG;
+    let repairs: [Repair; 5] = [
+        (5, |_| {}),
+        (7, |f| f.flags = 0x0001),
+        (8, |f| f.flags = 0x2001),
+        (10, |f| f.family = ARM_S),
+        (12, |f| f.total = 3),
+    ];
+    for (answer, repair) in repairs {
+        repair(&mut comment);
+        assert_eq!(bench.answer(comment), answer);
+    }
+    bench.transfer = running(3, 1);
+    bench.seen[0] = 0x80;
+    let noted = [0, 1, 2].map(|number| bench.answer(Fields { number, ..comment }));
+    assert_eq!(noted, [13, 16, 15]);
     bench.transfer = running(3, 1);
     bench.seen[0] = 0x80;
     let numbered = [0, 1, 2].map(|number| bench.answer(Fields { number, ..block }));
@@ -336,7 +357,7 @@ fn any_fields(random: &mut Random) -> Fields {
     let small = [0, 1, 2, 3, 3, 3, 3, 16, 131_072, 1 << 24, u32::MAX];
     let offset = random.pick(&[0, 256, 0xF00, 0x1000, 0x8000, 1, 0xEFFF_FF00]);
     Fields {
-        flags: random.pick(&[0x2000, 0x2000, 0x2000, 0xE000, 0x3000, 1, 0]),
+        flags: random.pick(&[0x2000, 0x2000, 0x2000, 0xE000, 0x3000, 0x2001, 1, 0]),
         address: random.pick(&[0x1000_0000, 0x1000_0000, 0x0FFF_FF00]) + offset,
         size: random.pick(&[256, 256, 256, 256, 255]),
         number: random.pick(&small),
@@ -365,7 +386,7 @@ fn any_transfer(random: &mut Random) -> Transfer {
 #[test]
 fn anything_gets_an_answer_and_stays_in_its_place() {
     let mut random = Random(17);
-    let mut answers = [0; 16];
+    let mut answers = [0; 17];
     for _ in 0..20_000 {
         let s = match random.below(6) {
             0 => super::place::any_settings(&mut random, &[0, 1, 2, 7, 8, u32::MAX]),
@@ -385,5 +406,7 @@ fn anything_gets_an_answer_and_stays_in_its_place() {
             assert!(bench.flash[start + len..].iter().all(|&b| b == 0xA7));
         }
     }
-    assert!(answers[1..].iter().all(|&n| n > 0), "{answers:?}");
+    for (answer, &n) in answers.iter().enumerate() {
+        assert_eq!(n == 0, [0, 6].contains(&answer), "{answers:?}");
+    }
 }

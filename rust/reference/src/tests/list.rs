@@ -18,7 +18,8 @@ fn example_three_blocks() {
     assert_eq!(marks(&bench.seen), [0, 1, 2]);
 }
 
-/// A valid file: its blocks in any address order, within the place.
+/// A valid file: its blocks in any address order, within the place; some are
+/// comments, of which size and address say nothing.
 fn any_file(random: &mut Random, place_len: usize) -> Vec<Fields> {
     let mut pages: Vec<u32> = (0..place_len as u32 / 256).collect();
     for i in (1..pages.len()).rev() {
@@ -26,23 +27,37 @@ fn any_file(random: &mut Random, place_len: usize) -> Vec<Fields> {
     }
     let n = 1 + random.below(pages.len().min(24));
     pages.truncate(n);
-    let block = |(number, page): (usize, &u32)| Fields {
-        number: number as u32,
-        total: n as u32,
-        address: 0x1000_0000 + page * 256,
-        fill: random.next() as u8,
-        ..ONLY
+    let comments = random.pick(&[0, 0, 3, 1]);
+    let block = |(number, page): (usize, &u32)| {
+        let data = Fields {
+            number: number as u32,
+            total: n as u32,
+            address: 0x1000_0000 + page * 256,
+            fill: random.next() as u8,
+            ..ONLY
+        };
+        if comments == 0 || random.below(comments) != 0 {
+            return data;
+        }
+        Fields {
+            flags: 0x2001,
+            size: random.pick(&[0, 256, 476, u32::MAX]),
+            address: random.pick(&[0, 0x1000_0000, 0x2000_0000, u32::MAX]),
+            ..data
+        }
     };
     pages.iter().enumerate().map(block).collect()
 }
 
-/// An arrival that earns one of 4 to 11 whatever the transfer.
+/// An arrival that earns one of 4, 5 or 7 to 11 whatever the transfer.
 fn foreign(random: &mut Random, near: Fields) -> ([u8; 512], u8) {
     let mut block = near;
-    let answer = 4 + random.below(8) as u8;
+    let all = [4, 5, 7, 8, 10, 9, 11];
+    // A comment is never refused by 9 or 11.
+    let answers = if comment(&near) { &all[..5] } else { &all };
+    let answer = random.pick(answers);
     match answer {
         5 => block.flags |= 0x1000,
-        6 => block.flags |= 1,
         7 => block.flags = 0x8000,
         8 => block.family = random.pick(&[RP2040, RISCV, 0x68ed_2b88]),
         9 => block.size = 255,
@@ -55,6 +70,10 @@ fn foreign(random: &mut Random, near: Fields) -> ([u8; 512], u8) {
         bytes[random.pick(&[0, 7, 508])] ^= 1 << random.below(8);
     }
     (bytes, answer)
+}
+
+fn comment(f: &Fields) -> bool {
+    f.flags & 1 == 1
 }
 
 /// Where the list ends, told from the start and the set of blocks seen.
@@ -78,12 +97,15 @@ fn expected(start: &Bench, file: &[Fields], set: &[bool], place_start: usize) ->
     end.sectors.fill(0);
     let storage = |f: &Fields| place_start + f.address as usize - 0x1000_0000;
     for f in seen() {
-        let (number, sector) = (f.number as usize, storage(f) / 4096);
+        let number = f.number as usize;
         end.seen[number / 8] |= 128 >> (number % 8);
+    }
+    for f in seen().filter(|f| !comment(f)) {
+        let sector = storage(f) / 4096;
         end.sectors[sector / 8] |= 128 >> (sector % 8);
         end.flash[sector * 4096..(sector + 1) * 4096].fill(0xFF);
     }
-    for f in seen() {
+    for f in seen().filter(|f| !comment(f)) {
         end.flash[storage(f)..storage(f) + 256].fill(f.fill);
     }
     end
@@ -111,6 +133,7 @@ fn play_a_list(random: &mut Random, s: Settings, place: (usize, usize)) {
         let right = match (whole_before, repeat, whole) {
             (true, _, _) => 12,
             (_, true, _) => 13,
+            (_, _, false) if comment(&block) => 16,
             (_, _, false) => 14,
             (_, _, true) => 15,
         };
@@ -145,6 +168,7 @@ fn count_marks_and_accepted_numbers_agree() {
         for _ in 0..40 {
             let number = random.below(6) as u32;
             let block = Fields {
+                flags: random.pick(&[0x2000, 0x2000, 0x2001]),
                 family: random.pick(&[ARM_S, ARM_S, ARM_S, ARM_S, DATA]),
                 ..page(number, random.pick(&[6, 6, 6, 6, 6, 7]))
             };

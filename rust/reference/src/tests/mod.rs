@@ -1,6 +1,7 @@
 //! Common ground of the unit tests: settings, blocks and lent buffers.
 
 mod arrival;
+mod comments;
 mod hex;
 mod hex_file;
 mod list;
