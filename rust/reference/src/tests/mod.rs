@@ -8,6 +8,7 @@ mod kept;
 mod list;
 mod place;
 mod ram;
+mod replay;
 mod storing;
 
 use crate::*;
