@@ -7,6 +7,7 @@ mod hex;
 mod hex_file;
 mod kept;
 mod list;
+mod made;
 mod place;
 mod ram;
 mod replay;
