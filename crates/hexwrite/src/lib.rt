@@ -1,0 +1,1 @@
+// Records written as lines of Intel Hex: upper case, checksum, LF.

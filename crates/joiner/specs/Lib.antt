@@ -1,0 +1,3 @@
+pub mod Pieces
+pub mod Text
+pub mod Join
