@@ -1,2 +1,3 @@
 -- The proofs of the claims.
 pub mod Written
+pub mod Sections

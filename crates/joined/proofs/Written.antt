@@ -1,8 +1,8 @@
 -- Lines of records that are written: what they say, how long they are, and that the text of them is cut into them. Assumes nothing.
-use Prim.Native.Nat.{ℕ, zero, suc, _+_, _*_, _-_, _≤_, _<_}
+use Prim.Native.Nat.{ℕ, zero, suc, _+_, _*_, _%_, _≤_, _<_}
 use mathlib.Core.Path.{_≡_, refl, sym, ap, subst, _∙_}
 use mathlib.Core.Bool.{true, false}
-use mathlib.Core.List.{List, [], _∷_, _++_, append-assoc}
+use mathlib.Core.List.{List, [], _∷_, _++_, append-assoc, flatten}
 use native.Mathlib.Omega.{arith}
 use lib.Dec.{eqb}
 use lib.ListN.{length, getD, take, length-append}
@@ -65,11 +65,6 @@ module _ (k a : ℕ) (d : List ℕ) (f : Fits k a d) where
 
 -- ---- lines of records
 
--- a list of lines as one text
-unfoldable pub concat : List (List ℕ) → List ℕ
-concat [] = []
-concat (l ∷ ls) = l ++ concat ls
-
 -- each line is a record's, and these are the records
 pub data Written : List (List ℕ) → List Item → Type 0 where
   nothing : Written [] []
@@ -85,17 +80,23 @@ written-says (more {k} {a} {d} {ls} {xs} f w) =
     subst (λ (x : Item). Says (recordLine k a d ∷ ls) (x ∷ xs)) (item-is k a d f)
     (line (rec k a d f) (ap (λ (x : Line). x .parsed) (back k a d f)) (written-says w))
 
-pub written-size : {ls : List (List ℕ)} {xs : List Item} → Written ls xs → length (concat ls) ≡ sizeOf xs
-unfolding concat sizeOf
+pub written-size : {ls : List (List ℕ)} {xs : List Item} → Written ls xs → length (flatten ls) ≡ sizeOf xs
+unfolding flatten sizeOf
 written-size nothing = refl
 written-size (more {k} {a} {d} {ls} f w) =
-    length-append (recordLine k a d) (concat ls) ∙ omega (arith, line-length k a d f, written-size w)
+    length-append (recordLine k a d) (flatten ls) ∙ omega (arith, line-length k a d f, written-size w)
 
-pub written-lines : {ls : List (List ℕ)} {xs : List Item} → Written ls xs → linesOf (concat ls) ≡ ls
-unfolding concat linesOf recordLine
+pub written-lines : {ls : List (List ℕ)} {xs : List Item} → Written ls xs → linesOf (flatten ls) ≡ ls
+unfolding flatten linesOf recordLine
 written-lines nothing = refl
 written-lines (more {k} {a} {d} {ls} f w) =
     let t = recordText k a d in
-    ap linesOf (append-assoc t (10 ∷ []) (concat ls))
-    ∙ lines-line t (concat ls) (record-high k a d)
+    ap linesOf (append-assoc t (10 ∷ []) (flatten ls))
+    ∙ lines-line t (flatten ls) (record-high k a d)
     ∙ ap (λ (m : List (List ℕ)). (t ++ (10 ∷ [])) ∷ m) (written-lines w)
+
+-- a record's line has an even number of characters
+pub written-even : {ls : List (List ℕ)} {xs : List Item} → Written ls xs → sizeOf xs % 2 ≡ 0
+unfolding sizeOf
+written-even nothing = refl
+written-even (more f w) = omega (arith, written-even w)
