@@ -18,7 +18,7 @@ use Rattle.wholefile.specs.State.{between, opened, body, placeAfter, State, aft
 use Rattle.wholefile.specs.Instance.{item}
 use Rattle.wholefile.proofs.OneRecord.{not-data, data-not, data-kind, no-gift, a-gift}
 use Rattle.wholefile.proofs.Runs.{size-append, after-append, stays-body}
-use Rattle.joiner.specs.Text.{wordBytes, upperOf, bodyLines, firstUpper, startLines, missing, pads, fillLines, sectionLines}
+use Rattle.joiner.specs.Text.{wordBytes, upperOf, bodyLines, firstUpper, startLines, missing, pads, padLine, fillLines, sectionLines}
 use Rattle.joined.specs.PlainFile.{at, within}
 use Rattle.joined.proofs.Written.{Fits, Written, nothing, more, written-append, written-size, written-even}
 
@@ -61,7 +61,7 @@ itemsIf u v xs = cond (eqb u v) xs (wordItem 0x04 v ∷ xs)
 abbrev dataItem : ℕ → Store → Item
 dataItem kind s = item kind (s .address % 65536) (s .bytes)
 
-unfoldable bodyItems : ℕ → ℕ → List Store → List Item
+unfoldable pub bodyItems : ℕ → ℕ → List Store → List Item
 bodyItems kind u [] = []
 bodyItems kind u (s ∷ ss) = itemsIf u (upperOf s) (dataItem kind s ∷ bodyItems kind (upperOf s) ss)
 
@@ -144,3 +144,155 @@ module _ (own n : ℕ) where
         (λ m.
         rw (m, no-store s w (λ f. omega arith) (λ f. omega arith))
         (rest (after s w) (stays-body s b w e (λ f. omega arith) (λ f. omega arith)) (word-back 0x04 v)))
+
+-- ---- the filling
+
+abbrev padItem : Item
+padItem = item 0x0C 0 (replicate 26 255)
+
+abbrev closeItem : ℕ → Item
+closeItem m = item 0x0B 0 (replicate (m / 2) 255)
+
+filled-fits : (kind k : ℕ) → kind < 256 → k ≤ 32 → Fits kind 0 (replicate k 255)
+filled-fits kind k h m =
+    record {
+      kind = h;
+      address = omega arith;
+      short = omega (arith, length-replicate {A = ℕ} k 255);
+      bytes = λ i l. omega (arith, getD-replicate {A = ℕ} k i 255 0 (omega (arith, length-replicate {A = ℕ} k 255)));
+    }
+
+pads-written : (k : ℕ) {ls : List (List ℕ)} {xs : List Item} → Written ls xs
+    → Written (replicate k padLine ++ ls) (replicate k padItem ++ xs)
+pads-written zero w = w
+pads-written (suc k) w = more (filled-fits 0x0C 26 (omega arith) (omega arith)) (pads-written k w)
+
+fill-written : (m : ℕ) → m < 512 → Written (fillLines m) (replicate (pads m) padItem ++ (closeItem (m - 64 * pads m) ∷ []))
+unfolding fillLines
+fill-written m h = pads-written (pads m) (more (filled-fits 0x0B ((m - 64 * pads m) / 2) (omega arith) (omega arith)) nothing)
+
+pads-tail : (k : ℕ) → Tail (replicate k padItem)
+pads-tail zero = tail-ends
+pads-tail (suc k) = tail-0C refl (pads-tail k)
+
+pads-body : (b k : ℕ) → Body b (replicate k padItem)
+pads-body b zero = body-ends
+pads-body b (suc k) = body-0C refl (pads-tail k)
+
+pads-size : (k : ℕ) → sizeOf (replicate k padItem) ≡ 64 * k
+unfolding sizeOf
+pads-size zero = refl
+pads-size (suc k) = omega (arith, pads-size k)
+
+pads-stores : (own n k : ℕ) (s : State) → storesFor own n s (replicate k padItem) ≡ []
+unfolding storesFor
+pads-stores own n zero s = refl
+pads-stores own n (suc k) s = rw (no-store own n s padItem (λ f. omega arith) (λ f. omega arith)) (pads-stores own n k (after s padItem))
+
+-- n characters, the 0C and the 0B are a multiple of 512
+filled-up : (n : ℕ) → n % 2 ≡ 0 → let m = missing n in (n + (64 * pads m + (12 + 2 * ((m - 64 * pads m) / 2)))) % 512 ≡ 0
+filled-up n e =
+    let m = missing n in
+    let f : m < 512 = omega arith in
+    let g : m % 2 ≡ 0 = omega arith in
+    let h : (n + 12 + m) % 512 ≡ 0 = omega arith in
+    let i : 64 * pads m + 2 * ((m - 64 * pads m) / 2) ≡ m = omega arith in
+    omega arith
+
+-- ---- a section
+
+module _ (b : ℕ) (ss : List Store) where
+  abbrev u : ℕ
+  u = firstUpper ss
+
+  abbrev m : ℕ
+  m = missing (length (flatten (startLines b ss)))
+
+  abbrev startItems : List Item
+  startItems = wordItem 0x04 u ∷ wordItem 0x0A b ∷ bodyItems (dataKind b) u ss
+
+  abbrev padItems : List Item
+  padItems = replicate (pads m) padItem
+
+  abbrev lastItem : Item
+  lastItem = closeItem (m - 64 * pads m)
+
+  abbrev pub section : Section
+  section =
+      record { opening = wordItem 0x04 u; naming = wordItem 0x0A b; body = bodyItems (dataKind b) u ss ++ padItems; closing = lastItem }
+
+  pub board-is : boardOf section ≡ b
+  board-is = word-back 0x0A b
+
+  -- the records, in order
+  items-are : sectionItems section ≡ startItems ++ (padItems ++ (lastItem ∷ []))
+  items-are =
+      ap (λ (z : List Item). wordItem 0x04 u ∷ wordItem 0x0A b ∷ z) (append-assoc (bodyItems (dataKind b) u ss) padItems (lastItem ∷ []))
+
+  data-small : dataKind b < 256
+  unfolding dataKind
+  data-small = split (eqb b 0x9900) (λ y. rw y (omega arith)) (λ z. rw z (omega arith))
+
+first-upper : {ss : List Store} → Pieces ss → firstUpper ss < 65536
+first-upper no-piece = omega arith
+first-upper (piece p ps) = p .wide
+
+module _ (b : ℕ) (hb : b < 65536) {ss : List Store} (ps : Pieces ss) where
+  start-written : Written (startLines b ss) (startItems b ss)
+  unfolding startLines
+  start-written =
+      more (word-fits 0x04 (u b ss) (omega arith) (first-upper ps))
+      (more (word-fits 0x0A b (omega arith) hb) (body-written (dataKind b) (data-small b ss) (u b ss) ps))
+
+  pub section-written : Written (sectionLines b ss) (sectionItems (section b ss))
+  unfolding sectionLines
+  section-written = rw (items-are b ss) (written-append start-written (fill-written (m b ss) (omega arith)))
+
+  pub section-size : sizeOf (sectionItems (section b ss)) % 512 ≡ 0
+  unfolding sizeOf
+  section-size =
+      let n = length (flatten (startLines b ss)) in
+      let s = startItems b ss in
+      let k = padItems b ss in
+      let c = lastItem b ss in
+      let e : sizeOf s ≡ n = sym (written-size start-written) in
+      let l : length (c .bytes) ≡ (m b ss - 64 * pads (m b ss)) / 2 = length-replicate ((m b ss - 64 * pads (m b ss)) / 2) 255 in
+      let f : sizeOf (sectionItems (section b ss)) ≡ sizeOf s + (sizeOf k + (c .size + 0)) =
+      ap sizeOf (items-are b ss) ∙ size-append s (k ++ (c ∷ [])) ∙ ap (λ (z : ℕ). sizeOf s + z) (size-append k (c ∷ [])) in
+      let g : n % 2 ≡ 0 = sym (ap (λ (z : ℕ). z % 2) e) ∙ written-even start-written in
+      omega (arith, filled-up n g, pads-size (pads (m b ss)))
+
+  pub is-section : IsSection (section b ss)
+  is-section =
+      record {
+        opens = refl;
+        upper = refl;
+        names = refl;
+        board = omega arith;
+        body = rw (board-is b ss) (body-is b (u b ss) (padItems b ss) (pads-body b (pads (m b ss))) ps);
+        closes = refl;
+      }
+
+  pub section-stores : (own n : ℕ) (s : State) → s .place ≡ between → storesFor own n s (sectionItems (section b ss)) ≡ cond (eqb b own) (within n ss) []
+  unfolding storesFor
+  section-stores own n s e =
+      let x = wordItem 0x04 (u b ss) in
+      let y = wordItem 0x0A b in
+      let s1 = after s x in
+      let s2 = after s1 y in
+      let bs = bodyItems (dataKind b) (u b ss) ss in
+      let s3 = stateAfter s2 bs in
+      let k = padItems b ss in
+      let c = lastItem b ss in
+      let in-body : s2 .place ≡ body b = unfold placeAfter in rw e (ap body (board-is b ss)) in
+      ap (storesFor own n s) (items-are b ss)
+      ∙ rw (no-store own n s x (λ f. omega arith) (λ f. omega arith), no-store own n s1 y (λ f. omega arith) (λ f. omega arith))
+      (stores-append own n s2 bs (k ++ (c ∷ []))
+      ∙ ap (λ (z : List Store). z ++ storesFor own n s3 (k ++ (c ∷ []))) (body-stores own n b (u b ss) ps s2 in-body (word-back 0x04 (u b ss)))
+      ∙ ap (λ (z : List Store). cond (eqb b own) (within n ss) [] ++ z)
+      (stores-append own n s3 k (c ∷ [])
+      ∙ rw (pads-stores own n (pads (m b ss)) s3, no-store own n (stateAfter s3 k) c (λ f. omega arith) (λ f. omega arith)))
+      ∙ append-nil (cond (eqb b own) (within n ss) []))
+
+pub section-gives : (b : ℕ) (s : Store) (ss : List Store) → Piece s → anyData b (section b (s ∷ ss) .body) ≡ true
+section-gives b s ss p = body-gives b (upperOf s) (padItems b (s ∷ ss)) s ss p
