@@ -1,3 +1,4 @@
 -- The proofs of the claims.
 pub mod Written
 pub mod Sections
+pub mod Whole

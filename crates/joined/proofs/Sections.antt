@@ -93,7 +93,7 @@ body-gives b u ys s ss p =
 -- ---- what a reader of the own board stores, in an image of n bytes
 
 module _ (own n : ℕ) where
-  stores-append : (s : State) (xs ys : List Item) → storesFor own n s (xs ++ ys) ≡ storesFor own n s xs ++ storesFor own n (stateAfter s xs) ys
+  pub stores-append : (s : State) (xs ys : List Item) → storesFor own n s (xs ++ ys) ≡ storesFor own n s xs ++ storesFor own n (stateAfter s xs) ys
   unfolding storesFor stateAfter
   stores-append s [] ys = refl
   stores-append s (x ∷ xs) ys =
