@@ -2,3 +2,4 @@
 pub mod Written
 pub mod Sections
 pub mod Whole
+pub mod PlainRead
