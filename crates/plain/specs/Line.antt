@@ -57,22 +57,25 @@ withEnd p = plain (p .offset) (p .base) true
 
 -- ---- a record
 
--- a 00: row 29, "address field + length over 65,536"; an empty one gives nothing; other data is at the latest 02's or 04's address, plus the
--- record's address field
-unfoldable pub dataTaken : Plain → Record → Taken
-dataTaken p rec =
-    cond (ltb 65536 (rec .address + rec .len)) (Refused Crosses)
-    (cond (eqb (rec .len) 0) (Passed p) (Data p (p .base + rec .address) (rec .len)))
+-- a 00, by its address field and its length: row 29, "address field + length over 65,536"; an empty one gives nothing; other data is at the
+-- latest 02's or 04's address, plus the address field
+unfoldable pub dataTaken : Plain → ℕ → ℕ → Taken
+dataTaken p address len =
+    cond (ltb 65536 (address + len)) (Refused Crosses) (cond (eqb len 0) (Passed p) (Data p (p .base + address) len))
 
--- a record of which `word` is the first two data bytes, high first: an 02's times 16, an 04's times 65,536; "start records dropped"; row 26 for
--- "type, length"
-unfoldable pub recordTaken : Plain → ℕ → Record → Taken
-recordTaken p word rec =
-    cond (eqb (rec .kind) dataType) (dataTaken p rec)
-    (cond (isEnd (rec .kind) (rec .len)) (Passed (withEnd p))
-    (cond (isSegment (rec .kind) (rec .len)) (Passed (withBase p (16 * word)))
-    (cond (isLinear (rec .kind) (rec .len)) (Passed (withBase p (65536 * word)))
-    (cond (isStart (rec .kind) (rec .len)) (Passed p) (Refused OutOfPlace)))))
+-- a record, by its type, address field and length, and its first two data bytes as a number, high first: an 02's times 16, an 04's times
+-- 65,536; "start records dropped"; row 26 for "type, length"
+unfoldable pub recordTaken : Plain → ℕ → ℕ → ℕ → ℕ → Taken
+recordTaken p kind address len word =
+    cond (eqb kind dataType) (dataTaken p address len)
+    (cond (isEnd kind len) (Passed (withEnd p))
+    (cond (isSegment kind len) (Passed (withBase p (16 * word)))
+    (cond (isLinear kind len) (Passed (withBase p (65536 * word)))
+    (cond (isStart kind len) (Passed p) (Refused OutOfPlace)))))
+
+-- the same, of a record that a line says
+abbrev pub fieldsTaken : Plain → ℕ → Record → Taken
+fieldsTaken p word rec = recordTaken p (rec .kind) (rec .address) (rec .len) word
 
 -- ---- a line: "at the first bad line 31, 36, 20 to 26 .. or 29"
 
@@ -81,7 +84,7 @@ unfoldable pub lineTaken : Plain → ℕ → ParseResult → ℕ → Taken
 lineTaken p n parsed word =
     cond (p .ended) (Refused AfterEnd)
     (cond (ltb 4194304 (p .offset + n)) (Refused FileTooLong)
-    (onRecord (Refused (refusalOf parsed)) (recordTaken (movedBy p n) word) parsed))
+    (onRecord (Refused (refusalOf parsed)) (fieldsTaken (movedBy p n) word) parsed))
 
 -- as it is handed, its ending included
 unfoldable pub takenOf : Plain → List ℕ → Taken
