@@ -7,7 +7,7 @@ use mathlib.Core.List.{List, [], _∷_, _++_, flatten}
 use native.Mathlib.Omega.{arith}
 use lib.Dec.{eqb, leb, ltb}
 use lib.ListN.{length, take, length-append}
-use borrow.Author.Tests.{eqb-true, eqb-false, ne-eqb, le-leb, lt-leb, ltb-false}
+use borrow.Author.Tests.{eqb-true, eqb-false, ne-eqb, le-leb, lt-leb, le-ltb, ltb-false}
 use Rattle.sets.proofs.Tests.{split, clash, and-left, and-right}
 use Rattle.stores.specs.Stores.{Store}
 use Rattle.record.specs.Record.{readOf, onRecord, wordOf as wordAt}
@@ -21,7 +21,7 @@ use Rattle.wholefile.proofs.OneRecord.{len-item, word-item}
 use Rattle.plain.specs.declared.Plain.{Plain}
 use Rattle.plain.specs.declared.Taken.{Taken}
 use Rattle.plain.specs.declared.Taken.the-variants.{Refused, Passed, Data}
-use Rattle.plain.specs.Line.{isEnd, isSegment, isLinear, isStart, plain, movedBy, withBase, withEnd, dataTaken, recordTaken, lineTaken, takenOf}
+use Rattle.plain.specs.Line.{isEnd, isSegment, isLinear, isStart, plain, movedBy, withBase, withEnd, dataTaken, recordTaken, fieldsTaken, lineTaken, takenOf}
 use Rattle.plain.specs.File.{goesOn, nextOf, givesOf, recordsFrom, Verdict, Fine, Bad, linesVerdict}
 use Rattle.joined.specs.PlainFile.{Records, ending-01, data-00, segment-02, start-03, linear-04, start-05, baseAfter, dataAt, dataFrom}
 
@@ -71,7 +71,7 @@ module _ (p : Plain) (l : List ℕ) (unended : p .ended ≡ false) (fits : p .of
     same-base : rec .kind ≢ 2 → rec .kind ≢ 4 → q ≡ plain (p .offset + length l) (baseAfter (p .base) x) false
     same-base n m = rw (ne-eqb (rec .kind) 2 n, ne-eqb (rec .kind) 4 m, unended)
 
-    data-view : rec .kind ≡ 0 → View p l (dataTaken q rec)
+    data-view : rec .kind ≡ 0 → View p l (dataTaken q (rec .address) (rec .len))
     unfolding dataTaken
     data-view k =
         split (ltb 65536 (rec .address + rec .len))
@@ -91,3 +91,160 @@ module _ (p : Plain) (l : List ℕ) (unended : p .ended ≡ false) (fits : p .of
         rw w
         (goes
         (record { rec = rec; says = says; fits = fits; on = refl; allowed = λ xs r. data-00 k m r; next = same; gives = rw (k, le-leb 1 (length (x .bytes)) z) })))))
+
+    -- a record that sets what the address fields count from
+    base-view : (k factor : ℕ) → rec .kind ≡ k → k ≢ 0 → rec .len ≡ 2 → (factor * wordOf x ≡ baseAfter (p .base) x)
+        → ((xs : List Item) → Records xs → Records (x ∷ xs)) → View p l (Passed (withBase q (factor * wordAt (readOf l .«data»))))
+    base-view k factor e n m b r =
+        let w : wordAt (readOf l .«data») ≡ wordOf x = word-item l rec says (omega (arith, bytes-are)) in
+        goes
+        (record {
+          rec = rec;
+          says = says;
+          fits = fits;
+          on = refl;
+          allowed = r;
+          next = rw (w, b, unended);
+          gives = no-data (λ f. n (sym e ∙ f));
+        })
+
+    record-view : View p l (fieldsTaken q (wordAt (readOf l .«data»)) rec)
+    unfolding recordTaken
+    record-view =
+        let k = rec .kind in
+        let n = rec .len in
+        split (eqb k 0)
+        (λ y. rw y (data-view (eqb-true k 0 y)))
+        (λ z.
+        rw z
+        (split (isEnd k n)
+        (λ y.
+        let e : k ≡ 1 = eqb-true k 1 (and-left (eqb k 1) (eqb n 0) y) in
+        let m : length (x .bytes) ≡ 0 = bytes-are ∙ eqb-true n 0 (and-right (eqb k 1) (eqb n 0) y) in
+        rw y (ends (record { rec = rec; says = says; fits = fits; on = refl; ends = ending-01 e m; next = refl; gives = no-data (λ f. omega arith) })))
+        (λ z.
+        rw z
+        (split (isSegment k n)
+        (λ y.
+        let e : k ≡ 2 = eqb-true k 2 (and-left (eqb k 2) (eqb n 2) y) in
+        let m : n ≡ 2 = eqb-true n 2 (and-right (eqb k 2) (eqb n 2) y) in
+        rw y (base-view 2 16 e (λ f. omega arith) m (rw e) (λ xs r. segment-02 e (bytes-are ∙ m) r)))
+        (λ z.
+        rw z
+        (split (isLinear k n)
+        (λ y.
+        let e : k ≡ 4 = eqb-true k 4 (and-left (eqb k 4) (eqb n 2) y) in
+        let m : n ≡ 2 = eqb-true n 2 (and-right (eqb k 4) (eqb n 2) y) in
+        rw y (base-view 4 65536 e (λ f. omega arith) m (rw e) (λ xs r. linear-04 e (bytes-are ∙ m) r)))
+        (λ z.
+        rw z
+        (split (isStart k n)
+        (λ y.
+        let m : length (x .bytes) ≡ 4 = bytes-are ∙ eqb-true n 4 (and-right (eqb k 3 || eqb k 5) (eqb n 4) y) in
+        rw y (start-view m (and-left (eqb k 3 || eqb k 5) (eqb n 4) y)))
+        (λ z. rw z (stops refl))))))))))
+      where
+        start-went : (k : ℕ) → rec .kind ≡ k → k ≢ 0 → k ≢ 2 → k ≢ 4 → ((xs : List Item) → Records xs → Records (x ∷ xs)) → View p l (Passed q)
+        start-went k e a b c r =
+            goes
+            (record {
+              rec = rec;
+              says = says;
+              fits = fits;
+              on = refl;
+              allowed = r;
+              next = same-base (λ f. b (sym e ∙ f)) (λ f. c (sym e ∙ f));
+              gives = no-data (λ f. a (sym e ∙ f));
+            })
+
+        start-view : length (x .bytes) ≡ 4 → eqb (rec .kind) 3 || eqb (rec .kind) 5 ≡ true → View p l (Passed q)
+        start-view m y =
+            split (eqb (rec .kind) 3)
+            (λ t.
+            let e = eqb-true (rec .kind) 3 t in
+            start-went 3 e (λ f. omega arith) (λ f. omega arith) (λ f. omega arith) (λ xs r. start-03 e m r))
+            (λ f.
+            let e : rec .kind ≡ 5 = eqb-true (rec .kind) 5 (rw f at y) in
+            start-went 5 e (λ f. omega arith) (λ f. omega arith) (λ f. omega arith) (λ xs r. start-05 e m r))
+
+  parsed-view : (r : ParseResult) → readOf l .parsed ≡ r
+      → View p l (onRecord (Refused (refusalOf r)) (fieldsTaken (movedBy p (length l)) (wordAt (readOf l .«data»))) r)
+  parsed-view (parsed.Good rec) e = record-view rec e
+  parsed-view parsed.NoColon e = stops refl
+  parsed-view parsed.BadShape e = stops refl
+  parsed-view (parsed.BadDigit k) e = stops refl
+  parsed-view parsed.TooLong e = stops refl
+  parsed-view parsed.BadLength e = stops refl
+  parsed-view parsed.BadSum e = stops refl
+
+taken-is : (p : Plain) (l : List ℕ) → p .ended ≡ false → p .offset + length l ≤ 4194304
+    → onRecord (Refused (refusalOf (readOf l .parsed))) (fieldsTaken (movedBy p (length l)) (wordAt (readOf l .«data»))) (readOf l .parsed) ≡ takenOf p l
+unfolding takenOf lineTaken
+taken-is p l u m = rw (u, le-ltb 4194304 (p .offset + length l) m)
+
+too-long : (p : Plain) (l : List ℕ) → p .ended ≡ false → ltb 4194304 (p .offset + length l) ≡ true → goesOn (takenOf p l) ≡ false
+unfolding takenOf lineTaken
+too-long p l u y = rw (u, y)
+
+view : (p : Plain) (l : List ℕ) → p .ended ≡ false → View p l (takenOf p l)
+view p l u =
+    split (ltb 4194304 (p .offset + length l))
+    (λ y. stops (too-long p l u y))
+    (λ n.
+    let m = ltb-false 4194304 (p .offset + length l) n in
+    subst (View p l) (taken-is p l u m) (parsed-view p l u m (readOf l .parsed) refl))
+
+-- ---- lines
+
+-- what is read of lines with no refusal
+pub record Reading (p : Plain) (ls : List (List ℕ)) : Type 0 where
+  pub items : List Item
+  pub says : Says ls items
+  pub records : Records items
+  pub stores : recordsFrom p ls ≡ dataFrom (p .base) items
+  pub short : p .offset + sizeOf items ≤ 4194304
+
+no-refusal : {A : Type 0} (k : ℕ) (a : Rattle.grammar.specs.declared.Answer.Answer) → Bad k a ≡ Fine → A
+no-refusal k a e = absurd (let z : _≡_ {A = ℕ} 0 1 = cc in omega arith)
+
+-- after the 01 there is no line
+past-end : (p : Plain) (k : ℕ) (ls : List (List ℕ)) → p .ended ≡ true → linesVerdict p k ls ≡ Fine → ls ≡ []
+unfolding linesVerdict takenOf lineTaken
+past-end p k [] u e = refl
+past-end p k (l ∷ ls) u e = no-refusal k _ (rw u at e)
+
+went-on : (p : Plain) (l : List ℕ) (ls : List (List ℕ)) (w : Went p l (takenOf p l))
+    → Reading (plain (p .offset + length l) (baseAfter (p .base) (itemOf l (w .rec))) false) ls → Reading p (l ∷ ls)
+unfolding recordsFrom dataFrom sizeOf
+went-on p l ls w r =
+    record {
+      items = itemOf l (w .rec) ∷ r .items;
+      says = line (w .rec) (w .says) (r .says);
+      records = w .allowed (r .items) (r .records);
+      stores = rw (w .on, w .next, w .gives) (ap (λ (z : List Store). dataAt (p .base) (itemOf l (w .rec)) ++ z) (r .stores));
+      short = omega (arith, r .short);
+    }
+
+last-one : (p : Plain) (l : List ℕ) → Last p l (takenOf p l) → Reading p (l ∷ [])
+unfolding recordsFrom dataFrom sizeOf
+last-one p l w =
+    record {
+      items = itemOf l (w .rec) ∷ [];
+      says = line (w .rec) (w .says) none;
+      records = w .ends;
+      stores = rw (w .on, w .gives);
+      short = omega (arith, w .fits);
+    }
+
+pub plain-reading : (ls : List (List ℕ)) (p : Plain) (k : ℕ) → p .ended ≡ false → linesVerdict p k ls ≡ Fine → Reading p ls
+unfolding linesVerdict
+plain-reading [] p k u e = no-refusal k _ (rw u at e)
+plain-reading (l ∷ ls) p k u e = by-view (view p l u) (λ q f. plain-reading ls q (suc k) f)
+  where
+    by-view : View p l (takenOf p l) → ((q : Plain) → q .ended ≡ false → linesVerdict q (suc k) ls ≡ Fine → Reading q ls) → Reading p (l ∷ ls)
+    by-view (stops f) r = no-refusal k _ (rw f at e)
+    by-view (goes w) r =
+        went-on p l ls w (r (plain (p .offset + length l) (baseAfter (p .base) (itemOf l (w .rec))) false) refl (rw (w .on, w .next) at e))
+    by-view (ends w) r =
+        let f : linesVerdict (nextOf p (takenOf p l)) (suc k) ls ≡ Fine = rw (w .on) at e in
+        subst (λ (z : List (List ℕ)). Reading p (l ∷ z)) (sym (past-end (nextOf p (takenOf p l)) (suc k) ls (w .next) f)) (last-one p l w)
