@@ -3,3 +3,4 @@ pub mod Written
 pub mod Sections
 pub mod Whole
 pub mod PlainRead
+pub mod Cuts
