@@ -4,3 +4,4 @@ pub mod Sections
 pub mod Whole
 pub mod PlainRead
 pub mod Cuts
+pub mod Claims

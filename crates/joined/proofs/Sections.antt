@@ -7,7 +7,7 @@ use mathlib.Core.List.{List, [], _∷_, _++_, append-assoc, append-nil, flatten}
 use native.Mathlib.Omega.{arith}
 use lib.Dec.{eqb, leb}
 use lib.ListN.{length, getD, replicate, length-append, length-replicate, getD-replicate}
-use borrow.Author.Tests.{eqb-true, ne-eqb, le-leb}
+use borrow.Author.Tests.{eqb-true, eq-eqb, ne-eqb, le-leb}
 use Rattle.sets.proofs.Tests.{split, eqb-same}
 use Rattle.stores.specs.Stores.{Store}
 use Rattle.record.specs.Write.{Bytes}
@@ -20,6 +20,7 @@ use Rattle.wholefile.proofs.OneRecord.{not-data, data-not, data-kind, no-gift, 
 use Rattle.wholefile.proofs.Runs.{size-append, after-append, stays-body}
 use Rattle.joiner.specs.Text.{wordBytes, upperOf, bodyLines, firstUpper, startLines, missing, pads, padLine, fillLines, sectionLines}
 use Rattle.joined.specs.PlainFile.{at, within}
+use Rattle.joined.specs.Claims.{linearData}
 use Rattle.joined.proofs.Written.{Fits, Written, nothing, more, written-append, written-size, written-even}
 
 -- ---- pieces
@@ -145,6 +146,24 @@ module _ (own n : ℕ) where
         rw (m, no-store s w (λ f. omega arith) (λ f. omega arith))
         (rest (after s w) (stays-body s b w e (λ f. omega arith) (λ f. omega arith)) (word-back 0x04 v)))
 
+-- ---- the data at linear addresses, stored or not
+
+linear-data : (b u : ℕ) (ys : List Item) → ((v : ℕ) → linearData (dataTypeOf b) v ys ≡ []) → (ss : List Store) → linearData (dataTypeOf b) u (bodyItems (dataKind b) u ss ++ ys) ≡ ss
+unfolding bodyItems linearData
+linear-data b u ys h [] = h u
+linear-data b u ys h (t ∷ ts) =
+    let v = upperOf t in
+    let k = dataTypeOf b in
+    let x = dataItem (dataKind b) t in
+    let a : 65536 * v + x .address ≡ t .address = omega arith in
+    let not : x .kind ≢ 4 = data-not (x .kind) b 4 (λ f. omega arith) (λ f. omega arith) (data-kind b) in
+    let rest : cond (eqb (x .kind) k) (at (65536 * v + x .address) (t .bytes) ∷ []) []
+    ++ linearData k (cond (eqb (x .kind) 4) (wordOf x) v) (bodyItems (dataKind b) v ts ++ ys) ≡ t ∷ ts =
+    rw (ne-eqb (x .kind) 4 not, eq-eqb (x .kind) k (data-kind b), a) (ap (λ (z : List Store). t ∷ z) (linear-data b v ys h ts)) in
+    split (eqb u v)
+    (λ y. rw (y, eqb-true u v y) rest)
+    (λ n. rw (n, not-data 4 b (λ f. omega arith) (λ f. omega arith), word-back 0x04 v) rest)
+
 -- ---- the filling
 
 abbrev padItem : Item
@@ -189,6 +208,11 @@ unfolding storesFor
 pads-stores own n zero s = refl
 pads-stores own n (suc k) s = rw (no-store own n s padItem (λ f. omega arith) (λ f. omega arith)) (pads-stores own n k (after s padItem))
 
+pads-linear : (b k v : ℕ) → linearData (dataTypeOf b) v (replicate k padItem) ≡ []
+unfolding linearData
+pads-linear b zero v = refl
+pads-linear b (suc k) v = rw (not-data 12 b (λ f. omega arith) (λ f. omega arith)) (pads-linear b k v)
+
 -- n characters, the 0C and the 0B are a multiple of 512
 filled-up : (n : ℕ) → n % 2 ≡ 0 → let m = missing n in (n + (64 * pads m + (12 + 2 * ((m - 64 * pads m) / 2)))) % 512 ≡ 0
 filled-up n e =
@@ -228,6 +252,9 @@ module _ (b : ℕ) (ss : List Store) where
   items-are : sectionItems section ≡ startItems ++ (padItems ++ (lastItem ∷ []))
   items-are =
       ap (λ (z : List Item). wordItem 0x04 u ∷ wordItem 0x0A b ∷ z) (append-assoc (bodyItems (dataKind b) u ss) padItems (lastItem ∷ []))
+
+  pub section-linear : linearData (dataTypeOf b) (wordOf (section .opening)) (section .body) ≡ ss
+  section-linear = rw (word-back 0x04 u) (linear-data b u padItems (pads-linear b (pads m)) ss)
 
   data-small : dataKind b < 256
   unfolding dataKind

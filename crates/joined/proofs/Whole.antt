@@ -75,19 +75,21 @@ module _ {s t : Store} {ss ts : List Store} (p : Piece s) (ps : Pieces ss) (q : 
   abbrev b : List Store
   b = t ∷ ts
 
-  pub is-file : length (fileText a b) ≤ 4194304 → File (fileItems a b)
+  pub is-file : length (fileText a b) ≤ 4194304 → (f : File (fileItems a b)) × (f .sections ≡ sections a b)
   unfolding howMany anyGives fileText
-  is-file h =
-      record {
-        sections = sections a b;
-        ending = item 0x01 0 [];
-        whole = refl;
-        ordered = in-order (piece p ps) (piece q qs);
-        ends = refl;
-        empty = refl;
-        once-v1 = omega arith;
-        once-v2 = omega arith;
-        data-v1 = rw (section-gives 0x9900 s ss p);
-        data-v2 = rw (section-gives 0x9903 t ts q);
-        short = omega (arith, written-size (file-written (piece p ps) (piece q qs)));
-      }
+  is-file h = (
+    record {
+      sections = sections a b;
+      ending = item 0x01 0 [];
+      whole = refl;
+      ordered = in-order (piece p ps) (piece q qs);
+      ends = refl;
+      empty = refl;
+      once-v1 = omega arith;
+      once-v2 = omega arith;
+      data-v1 = rw (section-gives 0x9900 s ss p);
+      data-v2 = rw (section-gives 0x9903 t ts q);
+      short = omega (arith, written-size (file-written (piece p ps) (piece q qs)));
+    },
+    refl,
+  )

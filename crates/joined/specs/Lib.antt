@@ -1,1 +1,2 @@
 pub mod PlainFile
+pub mod Claims

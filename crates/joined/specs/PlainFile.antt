@@ -60,6 +60,12 @@ pub data Cuts : List Store → List Store → Type 0 where
   none : Cuts [] []
   one : {s : Store} {ss ps qs : List Store} → Cut (s .address) (s .bytes) ps → Cuts ss qs → Cuts (s ∷ ss) (ps ++ qs)
 
+-- the pieces of a plain file
+pub record PlainPieces (text : List ℕ) (ps : List Store) : Type 0 where
+  pub items : List Item
+  pub file : PlainFile text items
+  pub cut : Cuts (dataFrom 0 items) ps
+
 -- those that lie wholly in an image of n bytes
 unfoldable pub within : ℕ → List Store → List Store
 within n [] = []

@@ -1,0 +1,262 @@
+-- The claims of specs/Claims.antt hold. Assumes nothing.
+use Prim.Native.Nat.{ℕ, suc, _+_, _%_, _≤_, _<_}
+use mathlib.Core.Path.{_≡_, refl, sym, ap, subst, _∙_}
+use mathlib.Core.Logic.{_⊎_, ⊎-elim}
+use mathlib.Core.Bool.{Bool, true, false, cond, _||_}
+use mathlib.Core.List.{List, [], _∷_, _++_, flatten}
+use native.Mathlib.Omega.{arith}
+use lib.Dec.{eqb, ltb}
+use lib.ListN.{length, getD, take, drop, length-append}
+use lib.Seq.{take-append-seam, drop-append-seam}
+use borrow.Author.Tests.{eqb-true, ltb-false}
+use Rattle.sets.specs.Over.{over}
+use Rattle.sets.proofs.OverLaws.{length-over}
+use Rattle.sets.proofs.Tests.{split, or-left, or-right}
+use Rattle.stores.specs.Stores.{Store, latest}
+use Rattle.grammar.specs.declared.Answer.{Answer}
+use Rattle.grammar.specs.declared.Answer.the-variants.{Ended}
+use Rattle.textlines.specs.Lines.{glue, linesOf}
+use Rattle.hexfile.specs.Lines.{freshSession, storesOf}
+use Rattle.hexfile.specs.Claims.{Image-is-latest, Image-length-kept}
+use Rattle.hexfile.proofs.Claims.{image-is-latest, image-length-kept}
+use Rattle.wholefile.specs.Items.{Item, itemOf, Says, none, line, sizeOf}
+use Rattle.wholefile.specs.Whole.{Section, allItems, File}
+use Rattle.wholefile.specs.State.{State, begin, after, answersFor}
+use Rattle.wholefile.specs.Claims as wholefile
+use Rattle.wholefile.specs.Claims.{Setup, FileEnd, File-ends, Acceptance}
+use Rattle.wholefile.proofs.Claims.{file-ends}
+use Rattle.wholefile.proofs.OneRecord.{answer-most, answer-least}
+use Rattle.plain.specs.Line.{freshPlain}
+use Rattle.plain.specs.File.{Verdict, Fine, Bad, recordsOf, linesVerdict, dataVerdict, thenVerdict, verdictOf}
+use Rattle.joiner.specs.declared.Joined.{Joined}
+use Rattle.joiner.specs.declared.Joined.the-variants.{Written, Refused}
+use Rattle.joiner.specs.declared.Refusal.{Refusal}
+use Rattle.joiner.specs.Pieces.{splitAll, piecesOf}
+use Rattle.joiner.specs.Text.{fileLines, fileText}
+use Rattle.joiner.specs.Join.{JoinCall, onVerdict, writtenOf, joinOf}
+use Rattle.joined.specs.PlainFile.{dataFrom, Cuts, PlainPieces, within}
+use Rattle.joined.specs.Claims.{ReadBack, Joined-reads-back, SectionOf, TwoSections, Joined-is-file, Cuts-change-no-byte, Refusal-writes-nothing, Past-output-stays}
+use Rattle.joined.proofs.Written.{written-says, written-lines}
+use Rattle.joined.proofs.Sections.{Pieces, no-piece, piece, section, board-is, section-linear, section-size}
+use Rattle.joined.proofs.Whole.{sections, fileItems, file-written, file-stores, is-file}
+use Rattle.joined.proofs.PlainRead.{Reading, plain-reading}
+use Rattle.joined.proofs.Cuts.{data-all, split-all, split-some, cuts-byte}
+
+-- ---- a plain file with no refusal
+
+lines-flat : (s : List ℕ) → flatten (linesOf s) ≡ s
+unfolding linesOf flatten
+lines-flat [] = refl
+lines-flat (c ∷ s) =
+    let e = lines-flat s in
+    split (eqb c 10)
+    (λ y. rw y (ap (λ (z : List ℕ). 10 ∷ z) e ∙ ap (λ (k : ℕ). k ∷ s) (sym (eqb-true c 10 y))))
+    (λ n. rw n (glued c (linesOf s) ∙ ap (λ (z : List ℕ). c ∷ z) e))
+  where
+    glued : (c : ℕ) (ls : List (List ℕ)) → flatten (glue c ls) ≡ c ∷ flatten ls
+    glued c [] = refl
+    glued c (l ∷ ls) = refl
+
+said-length : {ls : List (List ℕ)} {xs : List Item} → Says ls xs → sizeOf xs ≡ length (flatten ls)
+unfolding sizeOf flatten
+said-length none = refl
+said-length (line {l} {ls} rec p t) = omega (arith, said-length t, length-append l (flatten ls))
+
+record Parted (s : List ℕ) : Type 0 where
+  pub plain : PlainPieces s (piecesOf s)
+  pub pieces : Pieces (piecesOf s)
+  pub some : 1 ≤ length (piecesOf s)
+
+then-fine : (v w : Verdict) → thenVerdict v w ≡ Fine → (v ≡ Fine) × (w ≡ Fine)
+then-fine Fine w e = (refl, e)
+then-fine (Bad k a) w e = absurd (let z : _≡_ {A = ℕ} 0 1 = cc in omega arith)
+
+data-some : (k : ℕ) (ss : List Store) → dataVerdict k ss ≡ Fine → 1 ≤ length (splitAll ss)
+data-some k [] e = absurd (let z : _≡_ {A = ℕ} 0 1 = cc in omega arith)
+data-some k (s ∷ ss) e = split-some s ss
+
+read-parted : (s : List ℕ) → Reading freshPlain (linesOf s) → 1 ≤ length (splitAll (recordsOf s)) → Parted s
+unfolding piecesOf recordsOf
+read-parted s r m =
+    let c = split-all (data-all (r .says) (r .records) 0 (omega arith)) in
+    let n : length s ≡ sizeOf (r .items) = ap length (sym (lines-flat s)) ∙ sym (said-length (r .says)) in
+    record {
+      plain =
+          record {
+            items = r .items;
+            file = record { says = r .says; records = r .records; short = omega (arith, r .short) };
+            cut = rw (r .stores) (c .0);
+          };
+      pieces = rw (r .stores) (c .1);
+      some = m;
+    }
+
+parted : (s : List ℕ) → verdictOf s ≡ Fine → Parted s
+unfolding verdictOf
+parted s e =
+    let f = then-fine (linesVerdict freshPlain 0 (linesOf s)) (dataVerdict (length (linesOf s)) (recordsOf s)) e in
+    read-parted s (plain-reading (linesOf s) freshPlain 0 refl (f .0)) (data-some (length (linesOf s)) (recordsOf s) (f .1))
+
+-- ---- an output
+
+record Output (a b out : List ℕ) (n : ℕ) : Type 0 where
+  pub fine-a : verdictOf a ≡ Fine
+  pub fine-b : verdictOf b ≡ Fine
+  pub size : n ≡ length (fileText (piecesOf a) (piecesOf b))
+  pub most : n ≤ 4194304
+  pub fits : n ≤ length out
+  pub room : joinOf a b out .room ≡ over out 0 (fileText (piecesOf a) (piecesOf b))
+
+not-written : {A : Type 0} (r : Refusal) (n : ℕ) → Refused r ≡ Written n → A
+not-written r n e = absurd (let z : _≡_ {A = ℕ} 0 1 = cc in omega arith)
+
+written-is : (t out : List ℕ) (n : ℕ) → writtenOf t out .answer ≡ Written n → (n ≡ length t) × (length t ≤ 4194304) × (length t ≤ length out) × (writtenOf t out .room ≡ over out 0 t)
+unfolding writtenOf
+written-is t out n e =
+    let p = ltb 4194304 (length t) in
+    let q = ltb (length out) (length t) in
+    split (p || q)
+    (λ y. not-written _ n (rw y at e))
+    (λ z.
+    let f : Written (length t) ≡ Written n = rw z at e in
+    let g : n ≡ length t = cc in
+    rw z (g, ltb-false 4194304 (length t) (or-left p q z), ltb-false (length out) (length t) (or-right p q z), refl))
+
+output : (a b out : List ℕ) (n : ℕ) → joinOf a b out .answer ≡ Written n → Output a b out n
+unfolding joinOf
+output a b out n e = by-verdicts (verdictOf a) (verdictOf b) refl refl e
+  where
+    by-verdicts : (v w : Verdict) → verdictOf a ≡ v → verdictOf b ≡ w
+        → onVerdict 0x9900 v out (onVerdict 0x9903 w out (writtenOf (fileText (piecesOf a) (piecesOf b)) out)) .answer ≡ Written n → Output a b out n
+    by-verdicts (Bad k x) w f g e = not-written _ n e
+    by-verdicts Fine (Bad k x) f g e = not-written _ n e
+    by-verdicts Fine Fine f g e =
+        let w = written-is (fileText (piecesOf a) (piecesOf b)) out n e in
+        record { fine-a = f; fine-b = g; size = w .0; most = omega (arith, w .0, w .1); fits = omega (arith, w .0, w .2); room = rw (f, g) (w .3) }
+
+-- the text that stands in the room, and its lines
+module _ (a b out : List ℕ) (n : ℕ) (o : Output a b out n) where
+  abbrev text : List ℕ
+  text = fileText (piecesOf a) (piecesOf b)
+
+  abbrev ls : List (List ℕ)
+  ls = linesOf (take n (joinOf a b out .room))
+
+  text-there : take n (joinOf a b out .room) ≡ text
+  unfolding over
+  text-there = rw (o .size, o .room) (take-append-seam text (drop (0 + length text) out))
+
+  part-a : Parted a
+  part-a = parted a (o .fine-a)
+
+  part-b : Parted b
+  part-b = parted b (o .fine-b)
+
+  lines-there : ls ≡ fileLines (piecesOf a) (piecesOf b)
+  unfolding fileText
+  lines-there = ap linesOf text-there ∙ written-lines (file-written (part-a .pieces) (part-b .pieces))
+
+  says-there : Says ls (fileItems (piecesOf a) (piecesOf b))
+  says-there = rw lines-there (written-says (file-written (part-a .pieces) (part-b .pieces)))
+
+  file-there : (f : File (fileItems (piecesOf a) (piecesOf b))) × (f .sections ≡ sections (piecesOf a) (piecesOf b))
+  file-there = by-pieces (part-a .pieces) (part-b .pieces) (part-a .some) (part-b .some) (omega (arith, o .size, o .most))
+    where
+      by-pieces : {p q : List Store} → Pieces p → Pieces q → 1 ≤ length p → 1 ≤ length q → length (fileText p q) ≤ 4194304
+          → (f : File (fileItems p q)) × (f .sections ≡ sections p q)
+      by-pieces no-piece w h k m = absurd (omega arith)
+      by-pieces (piece f fs) no-piece h k m = absurd (omega arith)
+      by-pieces (piece f fs) (piece g gs) h k m = is-file f fs g gs m
+
+accepted : (own n : ℕ) (s : State) (xs : List Item) → Acceptance (answersFor own n s xs)
+unfolding answersFor
+accepted own n s [] = wholefile.none
+accepted own n s (x ∷ xs) = wholefile.next (answer-least own n s x) (answer-most own n s x) (accepted own n (after s x) xs)
+
+own-pieces : (own : ℕ) (a b : List ℕ) → PlainPieces a (piecesOf a) → PlainPieces b (piecesOf b)
+    → PlainPieces (cond (eqb own 0x9900) a b) (cond (eqb own 0x9900) (piecesOf a) (piecesOf b))
+own-pieces own a b p q = split (eqb own 0x9900) (λ y. rw y p) (λ n. rw n q)
+
+pub joined-reads-back : Joined-reads-back
+unfolding Joined-reads-back File-ends Image-is-latest Image-length-kept
+joined-reads-back a b out n e own img g =
+    let o = output a b out n e in
+    let m = ls a b out n o in
+    let xs = allItems (sections (piecesOf a) (piecesOf b)) in
+    let ps = cond (eqb own 0x9900) (piecesOf a) (piecesOf b) in
+    let w = file-there a b out n o in
+    let f : FileEnd own img m xs =
+    subst (λ (z : List Section). FileEnd own img m (allItems z)) (w .1)
+    (file-ends own img m (fileItems (piecesOf a) (piecesOf b)) g (says-there a b out n o) (w .0)) in
+    let s : storesOf (freshSession own img) m ≡ within (length img) ps =
+    f .stores ∙ file-stores (part-a a b out n o .pieces) (part-b a b out n o .pieces) own (length img) (g .board) in (
+      ps,
+      own-pieces own a b (part-a a b out n o .plain) (part-b a b out n o .plain),
+      record {
+        before = answersFor own (length img) begin xs;
+        accepted = accepted own (length img) begin xs;
+        answers = f .answers;
+        stores = s;
+        image = λ j.
+            image-is-latest (freshSession own img) m j ∙ ap (λ (z : List Store). latest j z (getD img j 0)) s;
+        kept = image-length-kept (freshSession own img) m;
+      },
+    )
+
+pub joined-is-file : Joined-is-file
+unfolding Joined-is-file
+joined-is-file a b out n e =
+    let o = output a b out n e in
+    let w = file-there a b out n o in
+    let p = part-a a b out n o in
+    let q = part-b a b out n o in
+    record {
+      items = fileItems (piecesOf a) (piecesOf b);
+      says = says-there a b out n o;
+      file = w .0;
+      v1 = section 0x9900 (piecesOf a);
+      v2 = section 0x9903 (piecesOf b);
+      two = w .1;
+      of-v1 =
+          record {
+            named = board-is 0x9900 (piecesOf a);
+            aligned = section-size 0x9900 (omega arith) (p .pieces);
+            pieces = rw (section-linear 0x9900 (piecesOf a)) (p .plain);
+          };
+      of-v2 =
+          record {
+            named = board-is 0x9903 (piecesOf b);
+            aligned = section-size 0x9903 (omega arith) (q .pieces);
+            pieces = rw (section-linear 0x9903 (piecesOf b)) (q .plain);
+          };
+    }
+
+pub cuts-change-no-byte : Cuts-change-no-byte
+unfolding Cuts-change-no-byte
+cuts-change-no-byte ss ps c j d = cuts-byte c j d
+
+pub past-output-stays : Past-output-stays
+unfolding Past-output-stays over
+past-output-stays a b out n e =
+    let o = output a b out n e in
+    let t = fileText (piecesOf a) (piecesOf b) in
+    let z : 0 + length t ≡ length t = omega arith in (
+      o .fits,
+      o .most,
+      ap length (o .room) ∙ length-over out 0 t (omega (arith, o .size, o .fits)),
+      rw (o .size, o .room) (drop-append-seam t (drop (0 + length t) out) ∙ ap (λ (k : ℕ). drop k out) z),
+    )
+
+pub refusal-writes-nothing : Refusal-writes-nothing
+unfolding Refusal-writes-nothing joinOf writtenOf
+refusal-writes-nothing a b out r e = by-verdicts (verdictOf a) (verdictOf b) e
+  where
+    by-verdicts : (v w : Verdict) → onVerdict 0x9900 v out (onVerdict 0x9903 w out (writtenOf (fileText (piecesOf a) (piecesOf b)) out)) .answer ≡ Refused r
+        → onVerdict 0x9900 v out (onVerdict 0x9903 w out (writtenOf (fileText (piecesOf a) (piecesOf b)) out)) .room ≡ out
+    by-verdicts (Bad k x) w e = refl
+    by-verdicts Fine (Bad k x) e = refl
+    by-verdicts Fine Fine e =
+        let t = fileText (piecesOf a) (piecesOf b) in
+        split (ltb 4194304 (length t) || ltb (length out) (length t))
+        (λ y. rw y)
+        (λ z. not-written r (length t) (sym (rw z at e)))
