@@ -35,12 +35,12 @@ use Rattle.joiner.specs.Pieces.{splitAll, piecesOf}
 use Rattle.joiner.specs.Text.{fileLines, fileText}
 use Rattle.joiner.specs.Join.{JoinCall, onVerdict, writtenOf, joinOf}
 use Rattle.joined.specs.PlainFile.{dataFrom, Cuts, PlainPieces, within}
-use Rattle.joined.specs.Claims.{ReadBack, Joined-reads-back, SectionOf, TwoSections, Joined-is-file, Cuts-change-no-byte, Refusal-writes-nothing, Past-output-stays}
+use Rattle.joined.specs.Claims.{ReadBack, Joined-reads-back, SectionOf, TwoSections, Joined-is-file, Cuts-change-no-byte, Cuts-are-one, Refusal-writes-nothing, Past-output-stays}
 use Rattle.joined.proofs.Written.{written-says, written-lines}
 use Rattle.joined.proofs.Sections.{Pieces, no-piece, piece, section, board-is, section-linear, section-size}
 use Rattle.joined.proofs.Whole.{sections, fileItems, file-written, file-stores, is-file}
 use Rattle.joined.proofs.PlainRead.{Reading, plain-reading}
-use Rattle.joined.proofs.Cuts.{data-all, split-all, split-some, cuts-byte}
+use Rattle.joined.proofs.Cuts.{data-all, split-all, split-some, cuts-byte, cuts-one}
 
 -- ---- a plain file with no refusal
 
@@ -234,6 +234,10 @@ joined-is-file a b out n e =
 pub cuts-change-no-byte : Cuts-change-no-byte
 unfolding Cuts-change-no-byte
 cuts-change-no-byte ss ps c j d = cuts-byte c j d
+
+pub cuts-are-one : Cuts-are-one
+unfolding Cuts-are-one
+cuts-are-one ss ps qs c d = cuts-one c d
 
 pub past-output-stays : Past-output-stays
 unfolding Past-output-stays over

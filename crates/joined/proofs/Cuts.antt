@@ -6,7 +6,7 @@ use mathlib.Core.List.{List, [], _∷_, _++_, append-nil}
 use native.Mathlib.Omega.{arith}
 use lib.Dec.{eqb, leb, ltb}
 use lib.ListN.{length, getD, take, drop, length-append, length-take, length-drop, take-append-drop, List·getD-append}
-use lib.Seq.{length-take-le, getD-take, getD-drop, getD-append-add}
+use lib.Seq.{length-take-le, getD-take, getD-drop, getD-append-add, take-append-seam, drop-append-seam}
 use borrow.Author.Tests.{eqb-true, leb-true, leb-false, ltb-true, ltb-false, le-leb, lt-leb, le-ltb, lt-ltb}
 use Rattle.sets.proofs.Tests.{split, and-right}
 use Rattle.stores.specs.Stores.{Store, covers, byteOf, latest}
@@ -194,3 +194,26 @@ unfolding latest
 cuts-byte none j v = refl
 cuts-byte (one {s} {ss} {ps} {qs} c cs) j v =
     latest-append j ps qs v ∙ ap (latest j qs) (cut-byte c j v) ∙ cuts-byte cs j (cond (covers s j) (byteOf s j) v)
+
+-- ---- there is one way to cut
+
+-- two parts of one list, the first parts as long as each other
+same-parts : (d x e y : List ℕ) → length d ≡ length e → d ++ x ≡ e ++ y → (d ≡ e) × (x ≡ y)
+same-parts d x e y n h = (
+  sym (take-append-seam d x) ∙ ap (λ (k : ℕ). take k (d ++ x)) n ∙ ap (take (length e)) h ∙ take-append-seam e y,
+  sym (drop-append-seam d x) ∙ ap (λ (k : ℕ). drop k (d ++ x)) n ∙ ap (drop (length e)) h ∙ drop-append-seam e y,
+)
+
+cut-one : {b : ℕ} {e f : List ℕ} {ps qs : List Store} → Cut b e ps → e ≡ f → Cut b f qs → ps ≡ qs
+cut-one {b} (uncut h) z (uncut k) = ap (λ (d : List ℕ). at b d ∷ []) z
+cut-one (uncut h) z (crossing {d = d} {rest = rest} k n c) = absurd (omega (arith, ap length z, length-append d rest))
+cut-one (crossing {d = d} {rest = rest} k n c) z (uncut h) = absurd (omega (arith, ap length z, length-append d rest))
+cut-one {b} (crossing {d = d} {rest = x} {ps = ps} k n c) z (crossing {d = e} {rest = y} {ps = qs} l m g) =
+    let w = same-parts d x e y (omega arith) z in
+    let v : Cut (b + length e) x ps = subst (λ (t : List ℕ). Cut (b + length t) x ps) (w .0) c in
+    ap (λ (t : List ℕ). at b t ∷ ps) (w .0) ∙ ap (λ (t : List Store). at b e ∷ t) (cut-one v (w .1) g)
+
+pub cuts-one : {ss ps qs : List Store} → Cuts ss ps → Cuts ss qs → ps ≡ qs
+cuts-one none none = refl
+cuts-one (one {ps = p} {qs = ps} c cs) (one {ps = q} {qs = qs} d ds) =
+    ap (λ (t : List Store). t ++ ps) (cut-one c refl d) ∙ ap (λ (t : List Store). q ++ t) (cuts-one cs ds)
