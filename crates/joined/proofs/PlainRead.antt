@@ -33,6 +33,7 @@ record Went (p : Plain) (l : List ℕ) (t : Taken) : Type 0 where
   pub says : readOf l .parsed ≡ parsed.Good rec
   pub fits : p .offset + length l ≤ 4194304
   pub on : goesOn t ≡ true
+  pub unlast : rec .kind ≢ 1
   pub allowed : (xs : List Item) → Records xs → Records (itemOf l rec ∷ xs)
   pub next : nextOf p t ≡ plain (p .offset + length l) (baseAfter (p .base) (itemOf l rec)) false
   pub gives : givesOf l t ≡ dataAt (p .base) (itemOf l rec)
@@ -43,6 +44,7 @@ record Last (p : Plain) (l : List ℕ) (t : Taken) : Type 0 where
   pub says : readOf l .parsed ≡ parsed.Good rec
   pub fits : p .offset + length l ≤ 4194304
   pub on : goesOn t ≡ true
+  pub kind : rec .kind ≡ 1
   pub ends : Records (itemOf l rec ∷ [])
   pub next : nextOf p t .ended ≡ true
   pub gives : givesOf l t ≡ dataAt (p .base) (itemOf l rec)
@@ -85,15 +87,15 @@ module _ (p : Plain) (l : List ℕ) (unended : p .ended ≡ false) (fits : p .of
         let z : length (x .bytes) < 1 = omega (arith, bytes-are, eqb-true (rec .len) 0 y) in
         rw y
         (goes
-        (record { rec = rec; says = says; fits = fits; on = refl; allowed = λ xs r. data-00 k m r; next = same; gives = rw (k, lt-leb 1 (length (x .bytes)) z) })))
+        (record { rec = rec; says = says; fits = fits; on = refl; unlast = λ e. omega arith; allowed = λ xs r. data-00 k m r; next = same; gives = rw (k, lt-leb 1 (length (x .bytes)) z) })))
         (λ w.
         let z : 1 ≤ length (x .bytes) = omega (arith, bytes-are, eqb-false (rec .len) 0 w) in
         rw w
         (goes
-        (record { rec = rec; says = says; fits = fits; on = refl; allowed = λ xs r. data-00 k m r; next = same; gives = rw (k, le-leb 1 (length (x .bytes)) z) })))))
+        (record { rec = rec; says = says; fits = fits; on = refl; unlast = λ e. omega arith; allowed = λ xs r. data-00 k m r; next = same; gives = rw (k, le-leb 1 (length (x .bytes)) z) })))))
 
     -- a record that sets what the address fields count from
-    base-view : (k factor : ℕ) → rec .kind ≡ k → k ≢ 0 → rec .len ≡ 2 → (factor * wordOf x ≡ baseAfter (p .base) x)
+    base-view : (k factor : ℕ) → rec .kind ≡ k → 1 < k → rec .len ≡ 2 → (factor * wordOf x ≡ baseAfter (p .base) x)
         → ((xs : List Item) → Records xs → Records (x ∷ xs)) → View p l (Passed (withBase q (factor * wordAt (readOf l .«data»))))
     base-view k factor e n m b r =
         let w : wordAt (readOf l .«data») ≡ wordOf x = word-item l rec says (omega (arith, bytes-are)) in
@@ -103,9 +105,10 @@ module _ (p : Plain) (l : List ℕ) (unended : p .ended ≡ false) (fits : p .of
           says = says;
           fits = fits;
           on = refl;
+          unlast = λ f. omega arith;
           allowed = r;
           next = rw (w, b, unended);
-          gives = no-data (λ f. n (sym e ∙ f));
+          gives = no-data (λ f. omega arith);
         })
 
     record-view : View p l (fieldsTaken q (wordAt (readOf l .«data»)) rec)
@@ -121,21 +124,21 @@ module _ (p : Plain) (l : List ℕ) (unended : p .ended ≡ false) (fits : p .of
         (λ y.
         let e : k ≡ 1 = eqb-true k 1 (and-left (eqb k 1) (eqb n 0) y) in
         let m : length (x .bytes) ≡ 0 = bytes-are ∙ eqb-true n 0 (and-right (eqb k 1) (eqb n 0) y) in
-        rw y (ends (record { rec = rec; says = says; fits = fits; on = refl; ends = ending-01 e m; next = refl; gives = no-data (λ f. omega arith) })))
+        rw y (ends (record { rec = rec; says = says; fits = fits; on = refl; kind = e; ends = ending-01 e m; next = refl; gives = no-data (λ f. omega arith) })))
         (λ z.
         rw z
         (split (isSegment k n)
         (λ y.
         let e : k ≡ 2 = eqb-true k 2 (and-left (eqb k 2) (eqb n 2) y) in
         let m : n ≡ 2 = eqb-true n 2 (and-right (eqb k 2) (eqb n 2) y) in
-        rw y (base-view 2 16 e (λ f. omega arith) m (rw e) (λ xs r. segment-02 e (bytes-are ∙ m) r)))
+        rw y (base-view 2 16 e (omega arith) m (rw e) (λ xs r. segment-02 e (bytes-are ∙ m) r)))
         (λ z.
         rw z
         (split (isLinear k n)
         (λ y.
         let e : k ≡ 4 = eqb-true k 4 (and-left (eqb k 4) (eqb n 2) y) in
         let m : n ≡ 2 = eqb-true n 2 (and-right (eqb k 4) (eqb n 2) y) in
-        rw y (base-view 4 65536 e (λ f. omega arith) m (rw e) (λ xs r. linear-04 e (bytes-are ∙ m) r)))
+        rw y (base-view 4 65536 e (omega arith) m (rw e) (λ xs r. linear-04 e (bytes-are ∙ m) r)))
         (λ z.
         rw z
         (split (isStart k n)
@@ -144,17 +147,18 @@ module _ (p : Plain) (l : List ℕ) (unended : p .ended ≡ false) (fits : p .of
         rw y (start-view m (and-left (eqb k 3 || eqb k 5) (eqb n 4) y)))
         (λ z. rw z (stops refl))))))))))
       where
-        start-went : (k : ℕ) → rec .kind ≡ k → k ≢ 0 → k ≢ 2 → k ≢ 4 → ((xs : List Item) → Records xs → Records (x ∷ xs)) → View p l (Passed q)
-        start-went k e a b c r =
+        start-went : (k : ℕ) → rec .kind ≡ k → 2 < k → k ≢ 4 → ((xs : List Item) → Records xs → Records (x ∷ xs)) → View p l (Passed q)
+        start-went k e a c r =
             goes
             (record {
               rec = rec;
               says = says;
               fits = fits;
               on = refl;
+              unlast = λ f. omega arith;
               allowed = r;
-              next = same-base (λ f. b (sym e ∙ f)) (λ f. c (sym e ∙ f));
-              gives = no-data (λ f. a (sym e ∙ f));
+              next = same-base (λ f. omega arith) (λ f. c (sym e ∙ f));
+              gives = no-data (λ f. omega arith);
             })
 
         start-view : length (x .bytes) ≡ 4 → eqb (rec .kind) 3 || eqb (rec .kind) 5 ≡ true → View p l (Passed q)
@@ -162,10 +166,10 @@ module _ (p : Plain) (l : List ℕ) (unended : p .ended ≡ false) (fits : p .of
             split (eqb (rec .kind) 3)
             (λ t.
             let e = eqb-true (rec .kind) 3 t in
-            start-went 3 e (λ f. omega arith) (λ f. omega arith) (λ f. omega arith) (λ xs r. start-03 e m r))
+            start-went 3 e (omega arith) (λ f. omega arith) (λ xs r. start-03 e m r))
             (λ f.
             let e : rec .kind ≡ 5 = eqb-true (rec .kind) 5 (rw f at y) in
-            start-went 5 e (λ f. omega arith) (λ f. omega arith) (λ f. omega arith) (λ xs r. start-05 e m r))
+            start-went 5 e (omega arith) (λ f. omega arith) (λ xs r. start-05 e m r))
 
   parsed-view : (r : ParseResult) → readOf l .parsed ≡ r
       → View p l (onRecord (Refused (refusalOf r)) (fieldsTaken (movedBy p (length l)) (wordAt (readOf l .«data»))) r)
@@ -248,3 +252,63 @@ plain-reading (l ∷ ls) p k u e = by-view (view p l u) (λ q f. plain-reading l
     by-view (ends w) r =
         let f : linesVerdict (nextOf p (takenOf p l)) (suc k) ls ≡ Fine = rw (w .on) at e in
         subst (λ (z : List (List ℕ)). Reading p (l ∷ z)) (sym (past-end (nextOf p (takenOf p l)) (suc k) ls (w .next) f)) (last-one p l w)
+
+-- ---- and back: a plain file is read with no refusal
+
+-- a record that a plain file may have
+data Allowed (kind address len : ℕ) : Type 0 where
+  any-01 : kind ≡ 1 → len ≡ 0 → Allowed kind address len
+  any-00 : kind ≡ 0 → address + len ≤ 65536 → Allowed kind address len
+  any-02 : kind ≡ 2 → len ≡ 2 → Allowed kind address len
+  any-03 : kind ≡ 3 → len ≡ 4 → Allowed kind address len
+  any-04 : kind ≡ 4 → len ≡ 2 → Allowed kind address len
+  any-05 : kind ≡ 5 → len ≡ 4 → Allowed kind address len
+
+record-on : (p : Plain) (kind address len word : ℕ) → Allowed kind address len → goesOn (recordTaken p kind address len word) ≡ true
+unfolding recordTaken dataTaken
+record-on p kind address len word (any-01 k n) = rw (k, n)
+record-on p kind address len word (any-00 k m) = rw (k, le-ltb 65536 (address + len) m) (split (eqb len 0) (λ y. rw y) (λ z. rw z))
+record-on p kind address len word (any-02 k n) = rw (k, n)
+record-on p kind address len word (any-03 k n) = rw (k, n)
+record-on p kind address len word (any-04 k n) = rw (k, n)
+record-on p kind address len word (any-05 k n) = rw (k, n)
+
+line-on : (p : Plain) (l : List ℕ) (rec : Record) → readOf l .parsed ≡ parsed.Good rec → p .ended ≡ false → p .offset + length l ≤ 4194304
+    → Allowed (rec .kind) (rec .address) (length (itemOf l rec .bytes)) → goesOn (takenOf p l) ≡ true
+line-on p l rec e u m a =
+    sym (ap goesOn (taken-is p l u m))
+    ∙ rw e (record-on (movedBy p (length l)) (rec .kind) (rec .address) (rec .len) (wordAt (readOf l .«data»)) (subst (Allowed (rec .kind) (rec .address)) (len-item l rec e) a))
+
+first-allowed : {x : Item} {xs : List Item} → Records (x ∷ xs) → Allowed (x .kind) (x .address) (length (x .bytes)) × (x .kind ≢ 1 → Records xs) × (x .kind ≡ 1 → xs ≡ [])
+first-allowed (ending-01 k n) = (any-01 k n, (λ f. absurd (f k)), (λ f. refl))
+first-allowed (data-00 k n r) = (any-00 k n, (λ f. r), (λ f. absurd (omega arith)))
+first-allowed (segment-02 k n r) = (any-02 k n, (λ f. r), (λ f. absurd (omega arith)))
+first-allowed (start-03 k n r) = (any-03 k n, (λ f. r), (λ f. absurd (omega arith)))
+first-allowed (linear-04 k n r) = (any-04 k n, (λ f. r), (λ f. absurd (omega arith)))
+first-allowed (start-05 k n r) = (any-05 k n, (λ f. r), (λ f. absurd (omega arith)))
+
+no-lines : {ls : List (List ℕ)} {xs : List Item} → Says ls xs → xs ≡ [] → ls ≡ []
+no-lines none e = refl
+no-lines (line rec p t) e = absurd (let z : _≡_ {A = ℕ} 0 1 = cc in omega arith)
+
+pub plain-fine : {ls : List (List ℕ)} {xs : List Item} → Says ls xs → Records xs → (p : Plain) (k : ℕ) → p .ended ≡ false → p .offset + sizeOf xs ≤ 4194304
+    → linesVerdict p k ls ≡ Fine
+unfolding linesVerdict sizeOf
+plain-fine (line {l} {ls} {xs} rec e t) r p k u m =
+    by-view (view p l u)
+    (λ q v w n. plain-fine t w q (suc k) v n)
+  where
+    a : Allowed (rec .kind) (rec .address) (length (itemOf l rec .bytes)) × (rec .kind ≢ 1 → Records xs) × (rec .kind ≡ 1 → xs ≡ [])
+    a = first-allowed r
+
+    by-view : View p l (takenOf p l) → ((q : Plain) → q .ended ≡ false → Records xs → q .offset + sizeOf xs ≤ 4194304 → linesVerdict q (suc k) ls ≡ Fine)
+        → linesVerdict p k (l ∷ ls) ≡ Fine
+    by-view (stops f) h = clash (goesOn (takenOf p l)) (line-on p l rec e u (omega arith) (a .0)) f
+    by-view (goes w) h =
+        let s : w .rec ≡ rec = cc in
+        let n : rec .kind ≢ 1 = λ f. w .unlast (ap (λ (z : Record). z .kind) s ∙ f) in
+        rw (w .on, w .next) (h (plain (p .offset + length l) (baseAfter (p .base) (itemOf l (w .rec))) false) refl (a .1 n) (omega arith))
+    by-view (ends w) h =
+        let s : w .rec ≡ rec = cc in
+        let n : ls ≡ [] = no-lines t (a .2 (ap (λ (z : Record). z .kind) (sym s) ∙ w .kind)) in
+        rw (w .on, n, w .next)
