@@ -24,7 +24,7 @@ use Rattle.wholefile.specs.Whole.{Section, allItems, File}
 use Rattle.wholefile.specs.State.{State, begin, after, answersFor}
 use Rattle.wholefile.specs.Claims as wholefile
 use Rattle.wholefile.specs.Claims.{Setup, FileEnd, File-ends, Acceptance}
-use Rattle.wholefile.proofs.Claims.{file-ends}
+use Rattle.wholefile.proofs.Claims.{file-ends, says-one}
 use Rattle.wholefile.proofs.OneRecord.{answer-most, answer-least}
 use Rattle.plain.specs.Line.{freshPlain}
 use Rattle.plain.specs.File.{Verdict, Fine, Bad, recordsOf, linesVerdict, dataVerdict, thenVerdict, verdictOf}
@@ -34,12 +34,12 @@ use Rattle.joiner.specs.declared.Refusal.{Refusal}
 use Rattle.joiner.specs.Pieces.{splitAll, piecesOf}
 use Rattle.joiner.specs.Text.{fileLines, fileText}
 use Rattle.joiner.specs.Join.{JoinCall, onVerdict, writtenOf, joinOf}
-use Rattle.joined.specs.PlainFile.{dataFrom, Cuts, PlainPieces, within}
+use Rattle.joined.specs.PlainFile.{PlainFile, dataFrom, WithData, Cuts, PlainPieces, within}
 use Rattle.joined.specs.Claims.{ReadBack, Joined-reads-back, SectionOf, TwoSections, Joined-is-file, Cuts-change-no-byte, Cuts-are-one, Refusal-writes-nothing, Past-output-stays}
 use Rattle.joined.proofs.Written.{written-says, written-lines}
 use Rattle.joined.proofs.Sections.{Pieces, no-piece, piece, section, board-is, section-linear, section-size}
 use Rattle.joined.proofs.Whole.{sections, fileItems, file-written, file-stores, is-file}
-use Rattle.joined.proofs.PlainRead.{Reading, plain-reading}
+use Rattle.joined.proofs.PlainRead.{Reading, plain-reading, plain-fine}
 use Rattle.joined.proofs.Cuts.{data-all, split-all, split-some, cuts-byte, cuts-one}
 
 -- ---- a plain file with no refusal
@@ -75,18 +75,17 @@ data-some : (k : ℕ) (ss : List Store) → dataVerdict k ss ≡ Fine → 1 ≤ 
 data-some k [] e = absurd (let z : _≡_ {A = ℕ} 0 1 = cc in omega arith)
 data-some k (s ∷ ss) e = split-some s ss
 
+reading-file : (s : List ℕ) (r : Reading freshPlain (linesOf s)) → PlainFile s (r .items)
+reading-file s r =
+    let n : length s ≡ sizeOf (r .items) = ap length (sym (lines-flat s)) ∙ sym (said-length (r .says)) in
+    record { says = r .says; records = r .records; short = omega (arith, r .short) }
+
 read-parted : (s : List ℕ) → Reading freshPlain (linesOf s) → 1 ≤ length (splitAll (recordsOf s)) → Parted s
 unfolding piecesOf recordsOf
 read-parted s r m =
     let c = split-all (data-all (r .says) (r .records) 0 (omega arith)) in
-    let n : length s ≡ sizeOf (r .items) = ap length (sym (lines-flat s)) ∙ sym (said-length (r .says)) in
     record {
-      plain =
-          record {
-            items = r .items;
-            file = record { says = r .says; records = r .records; short = omega (arith, r .short) };
-            cut = rw (r .stores) (c .0);
-          };
+      plain = record { items = r .items; file = reading-file s r; cut = rw (r .stores) (c .0) };
       pieces = rw (r .stores) (c .1);
       some = m;
     }
@@ -96,6 +95,45 @@ unfolding verdictOf
 parted s e =
     let f = then-fine (linesVerdict freshPlain 0 (linesOf s)) (dataVerdict (length (linesOf s)) (recordsOf s)) e in
     read-parted s (plain-reading (linesOf s) freshPlain 0 refl (f .0)) (data-some (length (linesOf s)) (recordsOf s) (f .1))
+
+-- it is plain, with a data byte, and no other is
+
+plain-data : (s : List ℕ) → Reading freshPlain (linesOf s) → dataVerdict (length (linesOf s)) (recordsOf s) ≡ Fine → WithData s
+unfolding recordsOf
+plain-data s r e =
+    record {
+      items = r .items;
+      file = reading-file s r;
+      some = some-data (length (linesOf s)) (dataFrom 0 (r .items)) (rw (r .stores) at e);
+    }
+  where
+    some-data : (k : ℕ) (ss : List Store) → dataVerdict k ss ≡ Fine → 1 ≤ length ss
+    some-data k [] e = absurd (let z : _≡_ {A = ℕ} 0 1 = cc in omega arith)
+    some-data k (x ∷ ss) e = omega arith
+
+fine-data : (s : List ℕ) → verdictOf s ≡ Fine → WithData s
+unfolding verdictOf
+fine-data s e =
+    let f = then-fine (linesVerdict freshPlain 0 (linesOf s)) (dataVerdict (length (linesOf s)) (recordsOf s)) e in
+    plain-data s (plain-reading (linesOf s) freshPlain 0 refl (f .0)) (f .1)
+
+data-verdict : (s : List ℕ) (w : WithData s) → Reading freshPlain (linesOf s) → dataVerdict (length (linesOf s)) (recordsOf s) ≡ Fine
+unfolding recordsOf
+data-verdict s w r =
+    let e : recordsOf s ≡ dataFrom 0 (w .items) = r .stores ∙ ap (dataFrom 0) (says-one (r .says) (w .file .says)) in
+    rw e (has-data (length (linesOf s)) (dataFrom 0 (w .items)) (w .some))
+  where
+    has-data : (k : ℕ) (ss : List Store) → 1 ≤ length ss → dataVerdict k ss ≡ Fine
+    has-data k [] h = absurd (omega arith)
+    has-data k (x ∷ ss) h = refl
+
+data-fine : (s : List ℕ) → WithData s → verdictOf s ≡ Fine
+unfolding verdictOf
+data-fine s w =
+    let f = w .file in
+    let n : length s ≡ sizeOf (w .items) = ap length (sym (lines-flat s)) ∙ sym (said-length (f .says)) in
+    let e : linesVerdict freshPlain 0 (linesOf s) ≡ Fine = plain-fine (f .says) (f .records) freshPlain 0 refl (omega (arith, f .short)) in
+    rw e (data-verdict s w (plain-reading (linesOf s) freshPlain 0 refl e))
 
 -- ---- an output
 

@@ -7,7 +7,7 @@ use lib.Dec.{eqb}
 use lib.ListN.{length, getD, take, drop}
 use Rattle.stores.specs.Stores.{Store, latest}
 use Rattle.grammar.specs.declared.Answer.{Answer}
-use Rattle.grammar.specs.declared.Answer.the-variants.{Ended}
+use Rattle.grammar.specs.declared.Answer.the-variants.{Ended, FileTooLong}
 use Rattle.textlines.specs.Lines.{linesOf}
 use Rattle.hexfile.specs.Lines.{freshSession, readAll, lineAnswers, storesOf}
 use Rattle.wholefile.specs.Items.{Item, Says, sizeOf, wordOf}
@@ -16,7 +16,7 @@ use Rattle.wholefile.specs.Claims.{Setup, Acceptance}
 use Rattle.joiner.specs.declared.Refusal.{Refusal}
 use Rattle.joiner.specs.declared.Joined.the-variants.{Written, Refused}
 use Rattle.joiner.specs.Join.{joinOf}
-use Rattle.joined.specs.PlainFile.{at, dataFrom, Cuts, PlainPieces, within}
+use Rattle.joined.specs.PlainFile.{at, WithData, Cuts, PlainPieces, within}
 
 -- what holds of every output: of the two files, the lent room, and the lines of the n bytes that were written
 abbrev pub EveryOutput : (List ℕ → List ℕ → List (List ℕ) → Type 0) → Type 0
@@ -82,7 +82,29 @@ Cuts-change-no-byte = (ss ps : List Store) → Cuts ss ps → (j d : ℕ) → la
 unfoldable pub Cuts-are-one : Type 0
 Cuts-are-one = (ss ps qs : List Store) → Cuts ss ps → Cuts ss qs → ps ≡ qs
 
+-- ---- which files are joined
+
+-- plain files with a data byte each
+unfoldable pub Joined-are-plain : Type 0
+Joined-are-plain = EveryOutput (λ a b ls. WithData a × WithData b)
+
+-- "Refusals are 01's, V1's input whole first": V1's file is none, or it is one and V2's is none, or both are and the output is too long
+pub data RefusalCase (a b : List ℕ) (r : Refusal) : Type 0 where
+  of-v1 : r .board ≡ 0x9900 → (WithData a → ⊥) → RefusalCase a b r
+  of-v2 : r .board ≡ 0x9903 → WithData a → (WithData b → ⊥) → RefusalCase a b r
+  of-both : r .board ≡ 0 → r .line ≡ 0 → r .answer ≡ FileTooLong → WithData a → WithData b → RefusalCase a b r
+
+-- so is every refusal
+unfoldable pub Refused-by-board : Type 0
+Refused-by-board = (a b out : List ℕ) (r : Refusal) → joinOf a b out .answer ≡ Refused r → RefusalCase a b r
+
 -- ---- the room
+
+-- "Output over 4,194,304 bytes or the lent room is 36": what is written in one room is written in every room that holds it
+unfoldable pub Room-by-length : Type 0
+Room-by-length =
+    (a b out other : List ℕ) (n : ℕ) → joinOf a b out .answer ≡ Written n → n ≤ length other
+    → (joinOf a b other .answer ≡ Written n) × (take n (joinOf a b other .room) ≡ take n (joinOf a b out .room))
 
 -- "A refusal writes nothing"
 unfoldable pub Refusal-writes-nothing : Type 0

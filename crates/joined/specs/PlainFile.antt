@@ -47,6 +47,12 @@ unfoldable pub dataFrom : ℕ → List Item → List Store
 dataFrom base [] = []
 dataFrom base (x ∷ xs) = dataAt base x ++ dataFrom (baseAfter base x) xs
 
+-- a plain file with a data byte: row 30 asks for one
+pub record WithData (text : List ℕ) : Type 0 where
+  pub items : List Item
+  pub file : PlainFile text items
+  pub some : 1 ≤ length (dataFrom 0 items)
+
 -- ---- its pieces
 
 -- "split only where the linear address crosses a multiple of 65,536": the pieces of the bytes d from address a on

@@ -259,7 +259,7 @@ memory-is-records own img ls g =
     )
 
 -- lines say one list of records
-says-one : {ls : List (List ℕ)} {xs ys : List Item} → Says ls xs → Says ls ys → xs ≡ ys
+pub says-one : {ls : List (List ℕ)} {xs ys : List Item} → Says ls xs → Says ls ys → xs ≡ ys
 says-one none none = refl
 says-one (line {l} {ls} {xs} rec p s) (line rec′ q t) =
     let e : rec ≡ rec′ = cc in
