@@ -8,13 +8,13 @@ use native.Mathlib.Omega.{arith}
 use lib.Dec.{eqb, ltb}
 use lib.ListN.{length, getD, take, drop, length-append}
 use lib.Seq.{take-append-seam, drop-append-seam}
-use borrow.Author.Tests.{eqb-true, ltb-false}
+use borrow.Author.Tests.{eqb-true, ltb-false, le-ltb}
 use Rattle.sets.specs.Over.{over}
 use Rattle.sets.proofs.OverLaws.{length-over}
 use Rattle.sets.proofs.Tests.{split, or-left, or-right}
 use Rattle.stores.specs.Stores.{Store, latest}
 use Rattle.grammar.specs.declared.Answer.{Answer}
-use Rattle.grammar.specs.declared.Answer.the-variants.{Ended}
+use Rattle.grammar.specs.declared.Answer.the-variants.{Ended, FileTooLong}
 use Rattle.textlines.specs.Lines.{glue, linesOf}
 use Rattle.hexfile.specs.Lines.{freshSession, storesOf}
 use Rattle.hexfile.specs.Claims.{Image-is-latest, Image-length-kept}
@@ -33,9 +33,9 @@ use Rattle.joiner.specs.declared.Joined.the-variants.{Written, Refused}
 use Rattle.joiner.specs.declared.Refusal.{Refusal}
 use Rattle.joiner.specs.Pieces.{splitAll, piecesOf}
 use Rattle.joiner.specs.Text.{fileLines, fileText}
-use Rattle.joiner.specs.Join.{JoinCall, onVerdict, writtenOf, joinOf}
+use Rattle.joiner.specs.Join.{JoinCall, joinCall, refusal, onVerdict, writtenOf, joinOf}
 use Rattle.joined.specs.PlainFile.{PlainFile, dataFrom, WithData, Cuts, PlainPieces, within}
-use Rattle.joined.specs.Claims.{ReadBack, Joined-reads-back, SectionOf, TwoSections, Joined-is-file, Cuts-change-no-byte, Cuts-are-one, Refusal-writes-nothing, Past-output-stays}
+use Rattle.joined.specs.Claims.{ReadBack, Joined-reads-back, SectionOf, TwoSections, Joined-is-file, Cuts-change-no-byte, Cuts-are-one, Joined-are-plain, RefusalCase, of-v1, of-v2, of-both, Refused-by-board, Room-by-length, Refusal-writes-nothing, Past-output-stays}
 use Rattle.joined.proofs.Written.{written-says, written-lines}
 use Rattle.joined.proofs.Sections.{Pieces, no-piece, piece, section, board-is, section-linear, section-size}
 use Rattle.joined.proofs.Whole.{sections, fileItems, file-written, file-stores, is-file}
@@ -160,6 +160,17 @@ written-is t out n e =
     let g : n ≡ length t = cc in
     rw z (g, ltb-false 4194304 (length t) (or-left p q z), ltb-false (length out) (length t) (or-right p q z), refl))
 
+too-long : (t out : List ℕ) (r : Refusal) → writtenOf t out .answer ≡ Refused r → r ≡ refusal 0 0 FileTooLong
+unfolding writtenOf
+too-long t out r e =
+    split (ltb 4194304 (length t) || ltb (length out) (length t))
+    (λ y. let f : Refused (refusal 0 0 FileTooLong) ≡ Refused r = rw y at e in cc)
+    (λ z. not-written r (length t) (sym (rw z at e)))
+
+written-there : (t out : List ℕ) → length t ≤ 4194304 → length t ≤ length out → writtenOf t out ≡ joinCall (Written (length t)) (over out 0 t)
+unfolding writtenOf
+written-there t out m f = rw (le-ltb 4194304 (length t) m, le-ltb (length out) (length t) f)
+
 output : (a b out : List ℕ) (n : ℕ) → joinOf a b out .answer ≡ Written n → Output a b out n
 unfolding joinOf
 output a b out n e = by-verdicts (verdictOf a) (verdictOf b) refl refl e
@@ -277,6 +288,16 @@ pub cuts-are-one : Cuts-are-one
 unfolding Cuts-are-one
 cuts-are-one ss ps qs c d = cuts-one c d
 
+pub room-by-length : Room-by-length
+unfolding Room-by-length joinOf
+room-by-length a b out other n e h =
+    let o = output a b out n e in
+    let t = fileText (piecesOf a) (piecesOf b) in
+    let w : joinOf a b other ≡ joinCall (Written (length t)) (over other 0 t) =
+    rw (o .fine-a, o .fine-b) (written-there t other (omega (arith, o .size, o .most)) (omega (arith, o .size))) in
+    let f : joinOf a b other .answer ≡ Written n = ap (λ (z : JoinCall). z .answer) w ∙ ap Written (sym (o .size)) in
+    (f, text-there a b other n (output a b other n f) ∙ sym (text-there a b out n o))
+
 pub past-output-stays : Past-output-stays
 unfolding Past-output-stays over
 past-output-stays a b out n e =
@@ -302,3 +323,30 @@ refusal-writes-nothing a b out r e = by-verdicts (verdictOf a) (verdictOf b) e
         split (ltb 4194304 (length t) || ltb (length out) (length t))
         (λ y. rw y)
         (λ z. not-written r (length t) (sym (rw z at e)))
+
+-- ---- which files are joined
+
+pub joined-are-plain : Joined-are-plain
+unfolding Joined-are-plain
+joined-are-plain a b out n e = let o = output a b out n e in (fine-data a (o .fine-a), fine-data b (o .fine-b))
+
+not-fine : {A : Type 0} (s : List ℕ) (k : ℕ) (x : Answer) → verdictOf s ≡ Bad k x → WithData s → A
+not-fine s k x e w = absurd (let f = data-fine s w in let z : _≡_ {A = ℕ} 0 1 = cc in omega arith)
+
+is-refused : (x y : Refusal) → Refused x ≡ Refused y → x ≡ y
+is-refused x y e = cc
+
+pub refused-by-board : Refused-by-board
+unfolding Refused-by-board joinOf
+refused-by-board a b out r e = by-verdicts (verdictOf a) (verdictOf b) refl refl e
+  where
+    t : List ℕ
+    t = fileText (piecesOf a) (piecesOf b)
+
+    by-verdicts : (v w : Verdict) → verdictOf a ≡ v → verdictOf b ≡ w
+        → onVerdict 0x9900 v out (onVerdict 0x9903 w out (writtenOf (fileText (piecesOf a) (piecesOf b)) out)) .answer ≡ Refused r → RefusalCase a b r
+    by-verdicts (Bad k x) w f g e = of-v1 (sym (ap (λ (z : Refusal). z .board) (is-refused _ r e))) (not-fine a k x f)
+    by-verdicts Fine (Bad k x) f g e = of-v2 (sym (ap (λ (z : Refusal). z .board) (is-refused _ r e))) (fine-data a f) (not-fine b k x g)
+    by-verdicts Fine Fine f g e =
+        let w = too-long t out r e in
+        of-both (ap (λ (z : Refusal). z .board) w) (ap (λ (z : Refusal). z .line) w) (ap (λ (z : Refusal). z .answer) w) (fine-data a f) (fine-data b g)
