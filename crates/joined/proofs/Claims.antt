@@ -22,6 +22,7 @@ use Rattle.hexfile.proofs.Claims.{image-is-latest, image-length-kept}
 use Rattle.wholefile.specs.Items.{Item, itemOf, Says, none, line, sizeOf}
 use Rattle.wholefile.specs.Whole.{Section, allItems, File}
 use Rattle.wholefile.specs.State.{State, begin, after, answersFor}
+use Rattle.wholefile.specs.Instance.{item}
 use Rattle.wholefile.specs.Claims as wholefile
 use Rattle.wholefile.specs.Claims.{Setup, FileEnd, File-ends, Acceptance}
 use Rattle.wholefile.proofs.Claims.{file-ends, says-one}
@@ -36,8 +37,8 @@ use Rattle.joiner.specs.Text.{fileLines, fileText}
 use Rattle.joiner.specs.Join.{JoinCall, joinCall, refusal, onVerdict, writtenOf, joinOf}
 use Rattle.joined.specs.PlainFile.{PlainFile, dataFrom, WithData, Cuts, PlainPieces, within}
 use Rattle.joined.specs.Claims.{ReadBack, Joined-reads-back, SectionOf, TwoSections, Joined-is-file, Cuts-change-no-byte, Cuts-are-one, Joined-are-plain, RefusalCase, of-v1, of-v2, of-both, Refused-by-board, Room-by-length, Refusal-writes-nothing, Past-output-stays}
-use Rattle.joined.proofs.Written.{written-says, written-lines}
-use Rattle.joined.proofs.Sections.{Pieces, no-piece, piece, section, board-is, section-linear, section-size}
+use Rattle.joined.proofs.Written.{written-says, written-lines, written-map}
+use Rattle.joined.proofs.Sections.{Pieces, no-piece, piece, section, board-is, section-linear, section-size, section-form}
 use Rattle.joined.proofs.Whole.{sections, fileItems, file-written, file-stores, is-file}
 use Rattle.joined.proofs.PlainRead.{Reading, plain-reading, plain-fine}
 use Rattle.joined.proofs.Cuts.{data-all, split-all, split-some, cuts-byte, cuts-one}
@@ -208,11 +209,11 @@ module _ (a b out : List ℕ) (n : ℕ) (o : Output a b out n) where
   says-there : Says ls (fileItems (piecesOf a) (piecesOf b))
   says-there = rw lines-there (written-says (file-written (part-a .pieces) (part-b .pieces)))
 
-  file-there : (f : File (fileItems (piecesOf a) (piecesOf b))) × (f .sections ≡ sections (piecesOf a) (piecesOf b))
+  file-there : (f : File (fileItems (piecesOf a) (piecesOf b))) × (f .sections ≡ sections (piecesOf a) (piecesOf b)) × (f .ending ≡ item 0x01 0 [])
   file-there = by-pieces (part-a .pieces) (part-b .pieces) (part-a .some) (part-b .some) (omega (arith, o .size, o .most))
     where
       by-pieces : {p q : List Store} → Pieces p → Pieces q → 1 ≤ length p → 1 ≤ length q → length (fileText p q) ≤ 4194304
-          → (f : File (fileItems p q)) × (f .sections ≡ sections p q)
+          → (f : File (fileItems p q)) × (f .sections ≡ sections p q) × (f .ending ≡ item 0x01 0 [])
       by-pieces no-piece w h k m = absurd (omega arith)
       by-pieces (piece f fs) no-piece h k m = absurd (omega arith)
       by-pieces (piece f fs) (piece g gs) h k m = is-file f fs g gs m
@@ -261,20 +262,24 @@ joined-is-file a b out n e =
     let q = part-b a b out n o in
     record {
       items = fileItems (piecesOf a) (piecesOf b);
+      lines = lines-there a b out n o ∙ written-map (file-written (p .pieces) (q .pieces));
       says = says-there a b out n o;
       file = w .0;
       v1 = section 0x9900 (piecesOf a);
       v2 = section 0x9903 (piecesOf b);
       two = w .1;
+      ending = w .2;
       of-v1 =
           record {
             named = board-is 0x9900 (piecesOf a);
+            form = section-form 0x9900 (omega arith) (p .pieces) (p .some);
             aligned = section-size 0x9900 (omega arith) (p .pieces);
             pieces = rw (section-linear 0x9900 (piecesOf a)) (p .plain);
           };
       of-v2 =
           record {
             named = board-is 0x9903 (piecesOf b);
+            form = section-form 0x9903 (omega arith) (q .pieces) (q .some);
             aligned = section-size 0x9903 (omega arith) (q .pieces);
             pieces = rw (section-linear 0x9903 (piecesOf b)) (q .plain);
           };

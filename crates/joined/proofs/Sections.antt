@@ -7,7 +7,7 @@ use mathlib.Core.List.{List, [], _∷_, _++_, append-assoc, append-nil, flatten}
 use native.Mathlib.Omega.{arith}
 use lib.Dec.{eqb, leb}
 use lib.ListN.{length, getD, replicate, length-append, length-replicate, getD-replicate}
-use borrow.Author.Tests.{eqb-true, eq-eqb, ne-eqb, le-leb}
+use borrow.Author.Tests.{eqb-true, eqb-false, eq-eqb, ne-eqb, le-leb}
 use Rattle.sets.proofs.Tests.{split, eqb-same}
 use Rattle.stores.specs.Stores.{Store}
 use Rattle.record.specs.Write.{Bytes}
@@ -19,6 +19,7 @@ use Rattle.wholefile.specs.Instance.{item}
 use Rattle.wholefile.proofs.OneRecord.{not-data, data-not, data-kind, no-gift, a-gift}
 use Rattle.wholefile.proofs.Runs.{size-append, after-append, stays-body}
 use Rattle.joiner.specs.Text.{wordBytes, upperOf, bodyLines, firstUpper, startLines, missing, pads, padLine, fillLines, sectionLines}
+use Rattle.joined.specs.Form.{Uppers, no-more, same, changed, Form}
 use Rattle.joined.specs.PlainFile.{at, within}
 use Rattle.joined.specs.Claims.{linearData}
 use Rattle.joined.proofs.Written.{Fits, Written, nothing, more, written-append, written-size, written-even}
@@ -323,3 +324,46 @@ module _ (b : ℕ) (hb : b < 65536) {ss : List Store} (ps : Pieces ss) where
 
 pub section-gives : (b : ℕ) (s : Store) (ss : List Store) → Piece s → anyData b (section b (s ∷ ss) .body) ≡ true
 section-gives b s ss p = body-gives b (upperOf s) (padItems b (s ∷ ss)) s ss p
+
+-- ---- the form of a section
+
+body-uppers : (b u : ℕ) (ss : List Store) → Uppers (dataTypeOf b) u (bodyItems (dataKind b) u ss)
+unfolding bodyItems
+body-uppers b u [] = no-more
+body-uppers b u (s ∷ ss) =
+    let v = upperOf s in
+    let xs = bodyItems (dataKind b) v ss in
+    let x = dataItem (dataTypeOf b) s in
+    let rest = body-uppers b v ss in
+    split (eqb u v)
+    (λ y. rw y (subst (λ (k : ℕ). Uppers (dataTypeOf b) u (dataItem k s ∷ xs)) (sym (data-kind b)) (same (subst (λ (w : ℕ). Uppers (dataTypeOf b) w xs) (sym (eqb-true u v y)) rest))))
+    (λ n. rw n (subst (λ (k : ℕ). Uppers (dataTypeOf b) u (wordItem 0x04 v ∷ dataItem k s ∷ xs)) (sym (data-kind b)) (changed (λ e. eqb-false u v n (sym e)) rest)))
+
+some-form : (b : ℕ) → b < 65536 → (s : Store) (ss : List Store) → Piece s → Pieces ss → Form b (section b (s ∷ ss))
+unfolding bodyItems
+some-form b hb s ss p ps =
+    let v = upperOf s in
+    let k = m b (s ∷ ss) in
+    let w = start-written b hb (piece p ps) in
+    let n = length (flatten (startLines b (s ∷ ss))) in
+    let e : n % 2 ≡ 0 = ap (λ (z : ℕ). z % 2) (written-size w) ∙ written-even w in
+    record {
+      upper = v;
+      address = s .address % 65536;
+      bytes = s .bytes;
+      records = bodyItems (dataKind b) v ss;
+      opening = refl;
+      uppers = body-uppers b v ss;
+      naming = refl;
+      fillers = pads k;
+      rest = (k - 64 * pads k) / 2;
+      body = rw (eqb-same v, data-kind b);
+      closing = refl;
+      least = omega arith;
+      after-last = omega arith;
+      before-last = λ h. omega arith;
+    }
+
+pub section-form : (b : ℕ) → b < 65536 → {ss : List Store} → Pieces ss → 1 ≤ length ss → Form b (section b ss)
+section-form b hb no-piece h = absurd (omega arith)
+section-form b hb (piece {s} {ss} p ps) h = some-form b hb s ss p ps

@@ -75,7 +75,7 @@ module _ {s t : Store} {ss ts : List Store} (p : Piece s) (ps : Pieces ss) (q : 
   abbrev b : List Store
   b = t ∷ ts
 
-  pub is-file : length (fileText a b) ≤ 4194304 → (f : File (fileItems a b)) × (f .sections ≡ sections a b)
+  pub is-file : length (fileText a b) ≤ 4194304 → (f : File (fileItems a b)) × (f .sections ≡ sections a b) × (f .ending ≡ item 0x01 0 [])
   unfolding howMany anyGives fileText
   is-file h = (
     record {
@@ -91,5 +91,6 @@ module _ {s t : Store} {ss ts : List Store} (p : Piece s) (ps : Pieces ss) (q : 
       data-v2 = rw (section-gives 0x9903 t ts q);
       short = omega (arith, written-size (file-written (piece p ps) (piece q qs)));
     },
+    refl,
     refl,
   )

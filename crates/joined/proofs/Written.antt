@@ -2,7 +2,7 @@
 use Prim.Native.Nat.{ℕ, zero, suc, _+_, _*_, _%_, _≤_, _<_}
 use mathlib.Core.Path.{_≡_, refl, sym, ap, subst, _∙_}
 use mathlib.Core.Bool.{true, false}
-use mathlib.Core.List.{List, [], _∷_, _++_, append-assoc, flatten}
+use mathlib.Core.List.{List, [], _∷_, _++_, append-assoc, flatten, map}
 use native.Mathlib.Omega.{arith}
 use lib.Dec.{eqb}
 use lib.ListN.{length, getD, take, length-append}
@@ -16,7 +16,7 @@ use Rattle.record.proofs.Data32.{data32-take}
 use Rattle.record.proofs.Written.{length-text, text-high, length-record, reads-back}
 use Rattle.textlines.specs.Lines.{glue, linesOf}
 use Rattle.wholefile.specs.Items.{Item, itemOf, Says, none, line, sizeOf}
-use Rattle.wholefile.specs.Instance.{item}
+use Rattle.wholefile.specs.Instance.{item, lineFor}
 
 -- ---- a text is cut into its lines
 
@@ -100,3 +100,9 @@ pub written-even : {ls : List (List ℕ)} {xs : List Item} → Written ls xs →
 unfolding sizeOf
 written-even nothing = refl
 written-even (more f w) = omega (arith, written-even w)
+
+-- each line is its record's
+pub written-map : {ls : List (List ℕ)} {xs : List Item} → Written ls xs → ls ≡ map lineFor xs
+unfolding recordLine
+written-map nothing = refl
+written-map (more {k} {a} {d} f w) = ap (λ (m : List (List ℕ)). (recordText k a d ++ (10 ∷ [])) ∷ m) (written-map w)

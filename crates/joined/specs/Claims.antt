@@ -2,7 +2,7 @@
 use Prim.Native.Nat.{ℕ, _+_, _*_, _%_, _≤_}
 use mathlib.Core.Path.{_≡_}
 use mathlib.Core.Bool.{cond}
-use mathlib.Core.List.{List, [], _∷_, _++_}
+use mathlib.Core.List.{List, [], _∷_, _++_, map}
 use lib.Dec.{eqb}
 use lib.ListN.{length, getD, take, drop}
 use Rattle.stores.specs.Stores.{Store, latest}
@@ -13,9 +13,11 @@ use Rattle.hexfile.specs.Lines.{freshSession, readAll, lineAnswers, storesOf}
 use Rattle.wholefile.specs.Items.{Item, Says, sizeOf, wordOf}
 use Rattle.wholefile.specs.Whole.{dataTypeOf, Section, sectionItems, boardOf, File}
 use Rattle.wholefile.specs.Claims.{Setup, Acceptance}
+use Rattle.wholefile.specs.Instance.{item, lineFor}
 use Rattle.joiner.specs.declared.Refusal.{Refusal}
 use Rattle.joiner.specs.declared.Joined.the-variants.{Written, Refused}
 use Rattle.joiner.specs.Join.{joinOf}
+use Rattle.joined.specs.Form.{Form}
 use Rattle.joined.specs.PlainFile.{at, WithData, Cuts, PlainPieces, within}
 
 -- what holds of every output: of the two files, the lent room, and the lines of the n bytes that were written
@@ -42,7 +44,7 @@ Joined-reads-back =
     (λ a b ls.
     (own : ℕ) (img : List ℕ) → Setup own img → (ps : List Store) × PlainPieces (cond (eqb own 0x9900) a b) ps × ReadBack own img ls ps)
 
--- ---- "V1 first, 512-aligned", "one 01 last"
+-- ---- "V1 first, 512-aligned, LF endings", "digits are upper case", "one 01 last"
 
 -- the data of records at linear addresses, the latest 04 ruling, whether an image has it or not
 unfoldable pub linearData : ℕ → ℕ → List Item → List Store
@@ -51,20 +53,24 @@ linearData kind upper (x ∷ xs) =
     cond (eqb (x .kind) kind) (at (65536 * upper + x .address) (x .bytes) ∷ []) []
     ++ linearData kind (cond (eqb (x .kind) 0x04) (wordOf x) upper) xs
 
--- a section of a board, of a multiple of 512 bytes, that has a plain file's pieces, in order
+-- a section of a board, in its form, of a multiple of 512 bytes, that has a plain file's pieces, in order
 pub record SectionOf (board : ℕ) (text : List ℕ) (s : Section) : Type 0 where
   pub named : boardOf s ≡ board
+  pub form : Form board s
   pub aligned : sizeOf (sectionItems s) % 512 ≡ 0
   pub pieces : PlainPieces text (linearData (dataTypeOf board) (wordOf (s .opening)) (s .body))
 
--- lines that are a file (by the grammar of whole files) of two sections: V1's, then V2's
+-- lines that are a file (by the grammar of whole files) of two sections, V1's, then V2's; each line is its record in upper-case digits, and ends
+-- in LF
 pub record TwoSections (a b : List ℕ) (ls : List (List ℕ)) : Type 0 where
   pub items : List Item
+  pub lines : ls ≡ map lineFor items
   pub says : Says ls items
   pub file : File items
   pub v1 : Section
   pub v2 : Section
   pub two : file .sections ≡ v1 ∷ v2 ∷ []
+  pub ending : file .ending ≡ item 0x01 0 []
   pub of-v1 : SectionOf 0x9900 a v1
   pub of-v2 : SectionOf 0x9903 b v2
 
