@@ -5,3 +5,4 @@ pub mod Whole
 pub mod PlainRead
 pub mod Cuts
 pub mod Claims
+pub mod Instance

@@ -1,3 +1,4 @@
 pub mod PlainFile
 pub mod Form
 pub mod Claims
+pub mod Instance
