@@ -46,8 +46,8 @@ unfoldable pub Two-are-joined : Type 0
 Two-are-joined =
     (joinOf small crossing (roomOf 1036) .answer ≡ Written 1036)
     × (joinOf small crossing (roomOf 1035) .answer ≡ Refused (refusal 0 0 FileTooLong))
-    × Reads 0x9900 (34 ∷ 34 ∷ 33 ∷ replicate 7 34 ++ (replicate 15 34 ++ (35 ∷ []))) (at 1 (0x41 ∷ []) ∷ []) (0 ∷ 0x41 ∷ 0 ∷ 0 ∷ 0 ∷ 0 ∷ 0 ∷ 0 ∷ [])
-    × Reads 0x9903 (replicate 10 34 ++ (34 ∷ 34 ∷ 32 ∷ 34 ∷ 32 ∷ 34 ∷ 33 ∷ replicate 7 34 ++ (35 ∷ []))) (at 3 (9 ∷ []) ∷ []) (0 ∷ 0 ∷ 0 ∷ 9 ∷ 0 ∷ 0 ∷ 0 ∷ 0 ∷ [])
+    × Reads 0x9900 (34 ∷ 34 ∷ 33 ∷ replicate 22 34 ++ (35 ∷ [])) (at 1 (0x41 ∷ []) ∷ []) (0 ∷ 0x41 ∷ 0 ∷ 0 ∷ 0 ∷ 0 ∷ 0 ∷ 0 ∷ [])
+    × Reads 0x9903 (replicate 11 34 ++ (34 ∷ 34 ∷ 32 ∷ 34 ∷ 32 ∷ 34 ∷ 33 ∷ replicate 7 34 ++ (35 ∷ []))) (at 3 (9 ∷ []) ∷ []) (0 ∷ 0 ∷ 0 ∷ 9 ∷ 0 ∷ 0 ∷ 0 ∷ 0 ∷ [])
 
 -- ---- the filling
 
