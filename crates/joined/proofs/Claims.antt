@@ -1,140 +1,44 @@
 -- The claims of specs/Claims.antt hold. Assumes nothing.
-use Prim.Native.Nat.{ℕ, suc, _+_, _%_, _≤_, _<_}
+use Prim.Native.Nat.{ℕ, _+_, _≤_}
 use mathlib.Core.Path.{_≡_, refl, sym, ap, subst, _∙_}
-use mathlib.Core.Logic.{_⊎_, ⊎-elim}
-use mathlib.Core.Bool.{Bool, true, false, cond, _||_}
-use mathlib.Core.List.{List, [], _∷_, _++_, flatten}
+use mathlib.Core.Bool.{cond, _||_}
+use mathlib.Core.List.{List, [], _∷_}
 use native.Mathlib.Omega.{arith}
 use lib.Dec.{eqb, ltb}
-use lib.ListN.{length, getD, take, drop, length-append}
+use lib.ListN.{length, getD, take, drop}
 use lib.Seq.{take-append-seam, drop-append-seam}
-use borrow.Author.Tests.{eqb-true, ltb-false, le-ltb}
+use borrow.Author.Tests.{ltb-false, le-ltb}
 use Rattle.sets.specs.Over.{over}
 use Rattle.sets.proofs.OverLaws.{length-over}
 use Rattle.sets.proofs.Tests.{split, or-left, or-right}
 use Rattle.stores.specs.Stores.{Store, latest}
 use Rattle.grammar.specs.declared.Answer.{Answer}
-use Rattle.grammar.specs.declared.Answer.the-variants.{Ended, FileTooLong}
-use Rattle.textlines.specs.Lines.{glue, linesOf}
+use Rattle.grammar.specs.declared.Answer.the-variants.{FileTooLong}
+use Rattle.textlines.specs.Lines.{linesOf}
 use Rattle.hexfile.specs.Lines.{freshSession, storesOf}
 use Rattle.hexfile.specs.Claims.{Image-is-latest, Image-length-kept}
 use Rattle.hexfile.proofs.Claims.{image-is-latest, image-length-kept}
-use Rattle.wholefile.specs.Items.{Item, itemOf, Says, none, line, sizeOf}
+use Rattle.wholefile.specs.Items.{Item, Says, none, line}
 use Rattle.wholefile.specs.Whole.{Section, allItems, File}
 use Rattle.wholefile.specs.State.{State, begin, after, answersFor}
 use Rattle.wholefile.specs.Instance.{item}
 use Rattle.wholefile.specs.Claims as wholefile
-use Rattle.wholefile.specs.Claims.{Setup, FileEnd, File-ends, Acceptance}
-use Rattle.wholefile.proofs.Claims.{file-ends, says-one}
+use Rattle.wholefile.specs.Claims.{FileEnd, File-ends, Acceptance}
+use Rattle.wholefile.proofs.Claims.{file-ends}
 use Rattle.wholefile.proofs.OneRecord.{answer-most, answer-least}
-use Rattle.plain.specs.Line.{freshPlain}
-use Rattle.plain.specs.File.{Verdict, Fine, Bad, recordsOf, linesVerdict, dataVerdict, thenVerdict, verdictOf}
-use Rattle.joiner.specs.declared.Joined.{Joined}
+use Rattle.plain.specs.File.{Verdict, Fine, Bad, verdictOf}
 use Rattle.joiner.specs.declared.Joined.the-variants.{Written, Refused}
 use Rattle.joiner.specs.declared.Refusal.{Refusal}
-use Rattle.joiner.specs.Pieces.{splitAll, piecesOf}
+use Rattle.joiner.specs.Pieces.{piecesOf}
 use Rattle.joiner.specs.Text.{fileLines, fileText}
 use Rattle.joiner.specs.Join.{JoinCall, joinCall, refusal, onVerdict, writtenOf, joinOf}
-use Rattle.joined.specs.PlainFile.{PlainFile, dataFrom, WithData, Cuts, PlainPieces, within}
-use Rattle.joined.specs.Claims.{ReadBack, Joined-reads-back, SectionOf, TwoSections, Joined-is-file, Cuts-change-no-byte, Cuts-are-one, Joined-are-plain, RefusalCase, of-v1, of-v2, of-both, Refused-by-board, Room-by-length, Refusal-writes-nothing, Past-output-stays}
+use Rattle.joined.specs.PlainFile.{WithData, PlainPieces, within}
+use Rattle.joined.specs.Claims.{Joined-reads-back, Joined-is-file, Cuts-change-no-byte, Cuts-are-one, Joined-are-plain, RefusalCase, of-v1, of-v2, of-both, Refused-by-board, Room-by-length, Refusal-writes-nothing, Past-output-stays}
 use Rattle.joined.proofs.Written.{written-says, written-lines, written-map}
 use Rattle.joined.proofs.Sections.{Pieces, no-piece, piece, section, board-is, section-linear, section-size, section-form}
 use Rattle.joined.proofs.Whole.{sections, fileItems, file-written, file-stores, is-file}
-use Rattle.joined.proofs.PlainRead.{Reading, plain-reading, plain-fine}
-use Rattle.joined.proofs.Cuts.{data-all, split-all, split-some, cuts-byte, cuts-one}
-
--- ---- a plain file with no refusal
-
-lines-flat : (s : List ℕ) → flatten (linesOf s) ≡ s
-unfolding linesOf flatten
-lines-flat [] = refl
-lines-flat (c ∷ s) =
-    let e = lines-flat s in
-    split (eqb c 10)
-    (λ y. rw y (ap (λ (z : List ℕ). 10 ∷ z) e ∙ ap (λ (k : ℕ). k ∷ s) (sym (eqb-true c 10 y))))
-    (λ n. rw n (glued c (linesOf s) ∙ ap (λ (z : List ℕ). c ∷ z) e))
-  where
-    glued : (c : ℕ) (ls : List (List ℕ)) → flatten (glue c ls) ≡ c ∷ flatten ls
-    glued c [] = refl
-    glued c (l ∷ ls) = refl
-
-said-length : {ls : List (List ℕ)} {xs : List Item} → Says ls xs → sizeOf xs ≡ length (flatten ls)
-unfolding sizeOf flatten
-said-length none = refl
-said-length (line {l} {ls} rec p t) = omega (arith, said-length t, length-append l (flatten ls))
-
-record Parted (s : List ℕ) : Type 0 where
-  pub plain : PlainPieces s (piecesOf s)
-  pub pieces : Pieces (piecesOf s)
-  pub some : 1 ≤ length (piecesOf s)
-
-then-fine : (v w : Verdict) → thenVerdict v w ≡ Fine → (v ≡ Fine) × (w ≡ Fine)
-then-fine Fine w e = (refl, e)
-then-fine (Bad k a) w e = absurd (let z : _≡_ {A = ℕ} 0 1 = cc in omega arith)
-
-data-some : (k : ℕ) (ss : List Store) → dataVerdict k ss ≡ Fine → 1 ≤ length (splitAll ss)
-data-some k [] e = absurd (let z : _≡_ {A = ℕ} 0 1 = cc in omega arith)
-data-some k (s ∷ ss) e = split-some s ss
-
-reading-file : (s : List ℕ) (r : Reading freshPlain (linesOf s)) → PlainFile s (r .items)
-reading-file s r =
-    let n : length s ≡ sizeOf (r .items) = ap length (sym (lines-flat s)) ∙ sym (said-length (r .says)) in
-    record { says = r .says; records = r .records; short = omega (arith, r .short) }
-
-read-parted : (s : List ℕ) → Reading freshPlain (linesOf s) → 1 ≤ length (splitAll (recordsOf s)) → Parted s
-unfolding piecesOf recordsOf
-read-parted s r m =
-    let c = split-all (data-all (r .says) (r .records) 0 (omega arith)) in
-    record {
-      plain = record { items = r .items; file = reading-file s r; cut = rw (r .stores) (c .0) };
-      pieces = rw (r .stores) (c .1);
-      some = m;
-    }
-
-parted : (s : List ℕ) → verdictOf s ≡ Fine → Parted s
-unfolding verdictOf
-parted s e =
-    let f = then-fine (linesVerdict freshPlain 0 (linesOf s)) (dataVerdict (length (linesOf s)) (recordsOf s)) e in
-    read-parted s (plain-reading (linesOf s) freshPlain 0 refl (f .0)) (data-some (length (linesOf s)) (recordsOf s) (f .1))
-
--- it is plain, with a data byte, and no other is
-
-plain-data : (s : List ℕ) → Reading freshPlain (linesOf s) → dataVerdict (length (linesOf s)) (recordsOf s) ≡ Fine → WithData s
-unfolding recordsOf
-plain-data s r e =
-    record {
-      items = r .items;
-      file = reading-file s r;
-      some = some-data (length (linesOf s)) (dataFrom 0 (r .items)) (rw (r .stores) at e);
-    }
-  where
-    some-data : (k : ℕ) (ss : List Store) → dataVerdict k ss ≡ Fine → 1 ≤ length ss
-    some-data k [] e = absurd (let z : _≡_ {A = ℕ} 0 1 = cc in omega arith)
-    some-data k (x ∷ ss) e = omega arith
-
-fine-data : (s : List ℕ) → verdictOf s ≡ Fine → WithData s
-unfolding verdictOf
-fine-data s e =
-    let f = then-fine (linesVerdict freshPlain 0 (linesOf s)) (dataVerdict (length (linesOf s)) (recordsOf s)) e in
-    plain-data s (plain-reading (linesOf s) freshPlain 0 refl (f .0)) (f .1)
-
-data-verdict : (s : List ℕ) (w : WithData s) → Reading freshPlain (linesOf s) → dataVerdict (length (linesOf s)) (recordsOf s) ≡ Fine
-unfolding recordsOf
-data-verdict s w r =
-    let e : recordsOf s ≡ dataFrom 0 (w .items) = r .stores ∙ ap (dataFrom 0) (says-one (r .says) (w .file .says)) in
-    rw e (has-data (length (linesOf s)) (dataFrom 0 (w .items)) (w .some))
-  where
-    has-data : (k : ℕ) (ss : List Store) → 1 ≤ length ss → dataVerdict k ss ≡ Fine
-    has-data k [] h = absurd (omega arith)
-    has-data k (x ∷ ss) h = refl
-
-data-fine : (s : List ℕ) → WithData s → verdictOf s ≡ Fine
-unfolding verdictOf
-data-fine s w =
-    let f = w .file in
-    let n : length s ≡ sizeOf (w .items) = ap length (sym (lines-flat s)) ∙ sym (said-length (f .says)) in
-    let e : linesVerdict freshPlain 0 (linesOf s) ≡ Fine = plain-fine (f .says) (f .records) freshPlain 0 refl (omega (arith, f .short)) in
-    rw e (data-verdict s w (plain-reading (linesOf s) freshPlain 0 refl e))
+use Rattle.joined.proofs.PlainFiles.{Parted, parted, fine-data, data-fine}
+use Rattle.joined.proofs.Cuts.{cuts-byte, cuts-one}
 
 -- ---- an output
 
@@ -273,14 +177,14 @@ joined-is-file a b out n e =
           record {
             named = board-is 0x9900 (piecesOf a);
             form = section-form 0x9900 (omega arith) (p .pieces) (p .some);
-            aligned = section-size 0x9900 (omega arith) (p .pieces);
+            aligned = omega (arith, section-size 0x9900 (omega arith) (p .pieces));
             pieces = rw (section-linear 0x9900 (piecesOf a)) (p .plain);
           };
       of-v2 =
           record {
             named = board-is 0x9903 (piecesOf b);
             form = section-form 0x9903 (omega arith) (q .pieces) (q .some);
-            aligned = section-size 0x9903 (omega arith) (q .pieces);
+            aligned = omega (arith, section-size 0x9903 (omega arith) (q .pieces));
             pieces = rw (section-linear 0x9903 (piecesOf b)) (q .plain);
           };
     }

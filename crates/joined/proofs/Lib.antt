@@ -4,5 +4,6 @@ pub mod Sections
 pub mod Whole
 pub mod PlainRead
 pub mod Cuts
+pub mod PlainFiles
 pub mod Claims
 pub mod Instance
