@@ -1,17 +1,17 @@
 -- The data of a plain file, cut: the pieces are what one record each holds, and cutting changes no byte. Assumes nothing.
-use Prim.Native.Nat.{ℕ, zero, suc, _+_, _*_, _-_, _/_, _%_, _≤_, _<_}
+use Prim.Native.Nat.{ℕ, _+_, _-_, _≤_, _<_}
 use mathlib.Core.Path.{_≡_, refl, sym, ap, subst, _∙_}
-use mathlib.Core.Bool.{Bool, true, false, cond, _&&_}
-use mathlib.Core.List.{List, [], _∷_, _++_, append-nil}
+use mathlib.Core.Bool.{false, cond}
+use mathlib.Core.List.{List, [], _∷_, _++_}
 use native.Mathlib.Omega.{arith}
 use lib.Dec.{eqb, leb, ltb}
 use lib.ListN.{length, getD, take, drop, length-append, length-take, length-drop, take-append-drop, List·getD-append}
 use lib.Seq.{length-take-le, getD-take, getD-drop, getD-append-add, take-append-seam, drop-append-seam}
-use borrow.Author.Tests.{eqb-true, leb-true, leb-false, ltb-true, ltb-false, le-leb, lt-leb, le-ltb, lt-ltb}
-use Rattle.sets.proofs.Tests.{split, and-right}
+use borrow.Author.Tests.{leb-true, leb-false, ltb-true, ltb-false, le-leb, lt-leb, le-ltb, lt-ltb}
+use Rattle.sets.proofs.Tests.{split}
 use Rattle.stores.specs.Stores.{Store, covers, byteOf, latest}
 use Rattle.stores.proofs.Laws.{latest-append}
-use Rattle.record.specs.Record.{textOf, bytesOf, dataOf, readOf}
+use Rattle.record.specs.Record.{textOf, bytesOf, readOf}
 use Rattle.record.specs.Write.{Bytes}
 use Rattle.record.specs.declared.Record.{Record}
 use Rattle.record.specs.declared.ParseResult.the-variants.{Good}
@@ -19,7 +19,7 @@ use Rattle.record.proofs.Good.{says, good-len, good-data, bytes-small}
 use Rattle.wholefile.specs.Items.{Item, itemOf, Says, line, wordOf}
 use Rattle.wholefile.proofs.OneRecord.{len-item}
 use Rattle.joiner.specs.Pieces.{roomOf, splitOf, splitAll}
-use Rattle.joined.specs.PlainFile.{Records, ending-01, data-00, segment-02, start-03, linear-04, start-05, at, baseAfter, dataAt, dataFrom, Cut, uncut, crossing, Cuts, none, one}
+use Rattle.joined.specs.PlainFile.{Records, ending-01, data-00, segment-02, start-03, linear-04, start-05, at, baseAfter, dataFrom, Cut, uncut, crossing, Cuts, none, one}
 use Rattle.joined.proofs.Sections.{Piece, Pieces, no-piece, piece}
 
 -- ---- bytes

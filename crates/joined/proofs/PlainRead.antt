@@ -2,11 +2,11 @@
 use Prim.Native.Nat.{ℕ, suc, _+_, _*_, _≤_, _<_}
 use mathlib.Core.Path.{_≡_, refl, sym, ap, subst, _∙_}
 use mathlib.Core.Logic.{_≢_}
-use mathlib.Core.Bool.{Bool, true, false, cond, _&&_, _||_}
-use mathlib.Core.List.{List, [], _∷_, _++_, flatten}
+use mathlib.Core.Bool.{true, false, _||_}
+use mathlib.Core.List.{List, [], _∷_, _++_}
 use native.Mathlib.Omega.{arith}
-use lib.Dec.{eqb, leb, ltb}
-use lib.ListN.{length, take, length-append}
+use lib.Dec.{eqb, ltb}
+use lib.ListN.{length}
 use borrow.Author.Tests.{eqb-true, eqb-false, ne-eqb, le-leb, lt-leb, le-ltb, ltb-false}
 use Rattle.sets.proofs.Tests.{split, clash, and-left, and-right}
 use Rattle.stores.specs.Stores.{Store}
@@ -15,14 +15,13 @@ use Rattle.record.specs.declared.Record.{Record}
 use Rattle.record.specs.declared.ParseResult.{ParseResult}
 use Rattle.record.specs.declared.ParseResult.the-variants as parsed
 use Rattle.grammar.specs.Answers.{refusalOf}
-use Rattle.textlines.specs.Lines.{glue, linesOf}
 use Rattle.wholefile.specs.Items.{Item, itemOf, Says, none, line, sizeOf, wordOf}
 use Rattle.wholefile.proofs.OneRecord.{len-item, word-item}
 use Rattle.plain.specs.declared.Plain.{Plain}
 use Rattle.plain.specs.declared.Taken.{Taken}
-use Rattle.plain.specs.declared.Taken.the-variants.{Refused, Passed, Data}
-use Rattle.plain.specs.Line.{isEnd, isSegment, isLinear, isStart, plain, movedBy, withBase, withEnd, dataTaken, recordTaken, fieldsTaken, lineTaken, takenOf}
-use Rattle.plain.specs.File.{goesOn, nextOf, givesOf, recordsFrom, Verdict, Fine, Bad, linesVerdict}
+use Rattle.plain.specs.declared.Taken.the-variants.{Refused, Passed}
+use Rattle.plain.specs.Line.{isEnd, isSegment, isLinear, isStart, plain, movedBy, withBase, dataTaken, recordTaken, fieldsTaken, lineTaken, takenOf}
+use Rattle.plain.specs.File.{goesOn, nextOf, givesOf, recordsFrom, Fine, Bad, linesVerdict}
 use Rattle.joined.specs.PlainFile.{Records, ending-01, data-00, segment-02, start-03, linear-04, start-05, baseAfter, dataAt, dataFrom}
 
 -- ---- a line

@@ -2,11 +2,11 @@
 use Prim.Native.Nat.{ℕ, zero, suc, _+_, _*_, _-_, _/_, _%_, _≤_, _<_}
 use mathlib.Core.Path.{_≡_, refl, sym, ap, subst, _∙_}
 use mathlib.Core.Logic.{_≢_}
-use mathlib.Core.Bool.{Bool, true, false, cond, _&&_, _||_}
+use mathlib.Core.Bool.{true, cond, _&&_, _||_}
 use mathlib.Core.List.{List, [], _∷_, _++_, append-assoc, append-nil, flatten}
 use native.Mathlib.Omega.{arith}
 use lib.Dec.{eqb, leb}
-use lib.ListN.{length, getD, replicate, length-append, length-replicate, getD-replicate}
+use lib.ListN.{length, replicate, length-replicate, getD-replicate}
 use borrow.Author.Tests.{eqb-true, eqb-false, eq-eqb, ne-eqb, le-leb}
 use Rattle.sets.proofs.Tests.{split, eqb-same}
 use Rattle.stores.specs.Stores.{Store}
@@ -14,10 +14,10 @@ use Rattle.record.specs.Write.{Bytes}
 use Rattle.grammar.specs.Grammar.{dataKind}
 use Rattle.wholefile.specs.Items.{Item, sizeOf, wordOf}
 use Rattle.wholefile.specs.Whole.{dataTypeOf, Tail, tail-ends, tail-0C, Body, body-ends, body-04, body-data, body-0C, Section, sectionItems, boardOf, IsSection, anyData}
-use Rattle.wholefile.specs.State.{between, opened, body, placeAfter, State, after, stateAfter, givesFor, fitsIn, addressOf, storesWith, storesFor}
+use Rattle.wholefile.specs.State.{between, body, placeAfter, State, after, stateAfter, addressOf, storesWith, storesFor}
 use Rattle.wholefile.specs.Instance.{item}
 use Rattle.wholefile.proofs.OneRecord.{not-data, data-not, data-kind, no-gift, a-gift}
-use Rattle.wholefile.proofs.Runs.{size-append, after-append, stays-body}
+use Rattle.wholefile.proofs.Runs.{size-append, stays-body}
 use Rattle.joiner.specs.Text.{wordBytes, upperOf, bodyLines, firstUpper, startLines, missing, pads, padLine, fillLines, sectionLines}
 use Rattle.joined.specs.Form.{Uppers, no-more, same, changed, Form}
 use Rattle.joined.specs.PlainFile.{at, within}

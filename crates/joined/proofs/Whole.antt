@@ -1,22 +1,22 @@
 -- The lines that are written are a file, and what a reader of each board makes of it. Assumes nothing.
-use Prim.Native.Nat.{ℕ, _+_, _%_, _≤_}
-use mathlib.Core.Path.{_≡_, refl, sym, ap, subst, _∙_}
+use Prim.Native.Nat.{ℕ, _+_, _≤_}
+use mathlib.Core.Path.{_≡_, refl, sym, ap, _∙_}
 use mathlib.Core.Logic.{_⊎_, ⊎-elim}
-use mathlib.Core.Bool.{Bool, true, false, cond}
-use mathlib.Core.List.{List, [], _∷_, _++_, append-assoc, append-nil, flatten}
+use mathlib.Core.Bool.{cond}
+use mathlib.Core.List.{List, [], _∷_, _++_, append-assoc, append-nil}
 use native.Mathlib.Omega.{arith}
 use lib.Dec.{eqb}
 use lib.ListN.{length}
 use Rattle.stores.specs.Stores.{Store}
-use Rattle.wholefile.specs.Items.{Item, Says, sizeOf}
+use Rattle.wholefile.specs.Items.{Item, sizeOf}
 use Rattle.wholefile.specs.Whole.{Section, sectionItems, Sections, no-section, allItems, howMany, anyGives, File}
 use Rattle.wholefile.specs.Whole as whole
 use Rattle.wholefile.specs.State.{between, begin, stateAfter, storesFor}
 use Rattle.wholefile.specs.Instance.{item}
 use Rattle.wholefile.proofs.Runs.{data-all}
-use Rattle.joiner.specs.Text.{sectionLines, fileLines, fileText}
+use Rattle.joiner.specs.Text.{fileLines, fileText}
 use Rattle.joined.specs.PlainFile.{within}
-use Rattle.joined.proofs.Written.{Written, nothing, more, written-append, written-says, written-size, written-lines}
+use Rattle.joined.proofs.Written.{Written, nothing, more, written-append, written-size}
 use Rattle.joined.proofs.Sections.{Piece, Pieces, piece, stores-append, section, section-written, section-size, is-section, section-stores, section-gives}
 
 module _ (a b : List Store) where

@@ -1,14 +1,12 @@
 -- Lines of records that are written: what they say, how long they are, and that the text of them is cut into them. Assumes nothing.
 use Prim.Native.Nat.{ℕ, zero, suc, _+_, _*_, _%_, _≤_, _<_}
-use mathlib.Core.Path.{_≡_, refl, sym, ap, subst, _∙_}
-use mathlib.Core.Bool.{true, false}
+use mathlib.Core.Path.{_≡_, refl, ap, subst, _∙_}
 use mathlib.Core.List.{List, [], _∷_, _++_, append-assoc, flatten, map}
 use native.Mathlib.Omega.{arith}
-use lib.Dec.{eqb}
-use lib.ListN.{length, getD, take, length-append}
+use lib.ListN.{length, getD, length-append}
 use borrow.Author.Tests.{ne-eqb}
 use Rattle.record.specs.Record.{data32, readOf}
-use Rattle.record.specs.Write.{fieldBytes, checksum, bytesText, recordText, recordLine, lf, Bytes}
+use Rattle.record.specs.Write.{fieldBytes, checksum, recordText, recordLine, lf, Bytes}
 use Rattle.record.specs.declared.Record.{Record}
 use Rattle.record.specs.declared.Line.{Line}
 use Rattle.record.specs.declared.ParseResult.the-variants.{Good}
