@@ -7,7 +7,9 @@ use lib.ListN.{length}
 use Rattle.sets.specs.Over.{over}
 use Rattle.grammar.specs.declared.Answer.{Answer}
 use Rattle.grammar.specs.declared.Answer.the-variants.{FileTooLong}
-use Rattle.plain.specs.File.{Verdict, Fine, Bad, verdictOf}
+use Rattle.plain.specs.declared.Verdict.{Verdict}
+use Rattle.plain.specs.declared.Verdict.the-variants.{Fine, Bad}
+use Rattle.plain.specs.File.{verdictOf}
 use Rattle.joiner.specs.declared.Refusal.{Refusal}
 use Rattle.joiner.specs.declared.Joined.{Joined}
 use Rattle.joiner.specs.declared.Joined.the-variants.{Written, Refused}

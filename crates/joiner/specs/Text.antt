@@ -12,9 +12,9 @@ use Rattle.grammar.specs.Grammar.{dataKind}
 
 -- ---- data
 
--- a number as two bytes, high first
+-- a number's two low bytes, high first
 abbrev pub wordBytes : ℕ → List ℕ
-wordBytes w = w / 256 ∷ w % 256 ∷ []
+wordBytes w = w / 256 % 256 ∷ w % 256 ∷ []
 
 -- the upper half of a piece's address
 abbrev pub upperOf : Store → ℕ

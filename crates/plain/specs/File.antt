@@ -11,6 +11,8 @@ use Rattle.grammar.specs.declared.Answer.the-variants.{OutOfPlace, MissingBoard
 use Rattle.plain.specs.declared.Plain.{Plain}
 use Rattle.plain.specs.declared.Taken.{Taken}
 use Rattle.plain.specs.declared.Taken.the-variants.{Refused, Passed, Data}
+use Rattle.plain.specs.declared.Verdict.{Verdict}
+use Rattle.plain.specs.declared.Verdict.the-variants.{Fine, Bad}
 use Rattle.plain.specs.Line.{freshPlain, takenOf}
 
 -- ---- a line that is taken, or refused
@@ -52,21 +54,20 @@ recordsOf s = recordsFrom freshPlain (linesOf s)
 
 -- ---- the refusal
 
--- a file is fine, or refused: at a line, by its index from 0, with an answer
-pub data Verdict : Type 0 where
-  Fine : Verdict
-  Bad : ℕ → Answer → Verdict
-
 -- "at the first bad line", of lines of which the first has the index k; past the last one "no 01 at the end" is 26, at the number of lines
 unfoldable pub linesVerdict : Plain → ℕ → List (List ℕ) → Verdict
 linesVerdict p k [] = cond (p .ended) Fine (Bad k OutOfPlace)
 linesVerdict p k (l ∷ ls) =
     cond (goesOn (takenOf p l)) (linesVerdict (nextOf p (takenOf p l)) (suc k) ls) (Bad k (badOf (takenOf p l)))
 
+-- there is data
+abbrev pub isSome : List Store → Bool
+isSome [] = false
+isSome (s ∷ ss) = true
+
 -- "then 30 for no data byte", at the number of lines
-abbrev pub dataVerdict : ℕ → List Store → Verdict
-dataVerdict n [] = Bad n MissingBoard
-dataVerdict n (s ∷ ss) = Fine
+abbrev pub dataVerdict : ℕ → Bool → Verdict
+dataVerdict n some = cond some Fine (Bad n MissingBoard)
 
 -- the one, then the other
 abbrev pub thenVerdict : Verdict → Verdict → Verdict
@@ -75,4 +76,8 @@ thenVerdict (Bad k a) v = Bad k a
 
 -- of a text
 unfoldable pub verdictOf : List ℕ → Verdict
-verdictOf s = thenVerdict (linesVerdict freshPlain 0 (linesOf s)) (dataVerdict (length (linesOf s)) (recordsOf s))
+verdictOf s = thenVerdict (linesVerdict freshPlain 0 (linesOf s)) (dataVerdict (length (linesOf s)) (isSome (recordsOf s)))
+
+-- the same where the lines are read, n of them: they gave some data byte or none
+unfoldable pub closeOf : Plain → ℕ → Bool → Verdict
+closeOf p n some = thenVerdict (linesVerdict p n []) (dataVerdict n some)

@@ -1,6 +1,7 @@
 // A plain Intel Hex file, a line at a time: the records of types 00 to 05, and the refusal of the first bad line.
 ghost use mathlib.Core.Path.{_≡_};
 ghost use Prim.Native.Nat.{_+_, _≤_};
+ghost use Rattle.plain.specs.File.{closeOf};
 ghost use Rattle.plain.specs.Line.{freshPlain, movedBy, withBase, withEnd, dataTaken, recordTaken, lineTaken};
 use grammar::Answer;
 use record::ParseResult;
@@ -19,6 +20,12 @@ pub enum Taken {
     Refused(Answer),
     Passed(Plain),
     Data(Plain, usize, u8),
+}
+
+// Whether a plain file is fine, or at which line, by its index from 0, it is refused, and with which answer.
+pub enum Verdict {
+    Fine,
+    Bad(u32, Answer),
 }
 
 impl Plain {
@@ -121,5 +128,18 @@ impl Plain {
         };
         self.moved_by(n as u32)
             .record(rec.kind, rec.address, rec.len, word)
+    }
+
+    // At the end of a file of so many lines, which gave some data byte or none.
+    pub fn close(self, lines: u32, some: bool) -> Verdict
+        ensures { λ r. ⌜ r ≡ closeOf self lines some ⌝ }
+    {
+        if self.ended {
+            if some {
+                return Verdict::Fine;
+            }
+            return Verdict::Bad(lines, Answer::MissingBoard);
+        }
+        Verdict::Bad(lines, Answer::OutOfPlace)
     }
 }
