@@ -26,7 +26,9 @@ use Rattle.wholefile.specs.Claims as wholefile
 use Rattle.wholefile.specs.Claims.{FileEnd, File-ends, Acceptance}
 use Rattle.wholefile.proofs.Claims.{file-ends}
 use Rattle.wholefile.proofs.OneRecord.{answer-most, answer-least}
-use Rattle.plain.specs.File.{Verdict, Fine, Bad, verdictOf}
+use Rattle.plain.specs.declared.Verdict.{Verdict}
+use Rattle.plain.specs.declared.Verdict.the-variants.{Fine, Bad}
+use Rattle.plain.specs.File.{verdictOf}
 use Rattle.joiner.specs.declared.Joined.the-variants.{Written, Refused}
 use Rattle.joiner.specs.declared.Refusal.{Refusal}
 use Rattle.joiner.specs.Pieces.{piecesOf}

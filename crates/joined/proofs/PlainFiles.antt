@@ -12,7 +12,9 @@ use Rattle.textlines.specs.Lines.{glue, linesOf}
 use Rattle.wholefile.specs.Items.{Item, Says, none, line, sizeOf}
 use Rattle.wholefile.proofs.Claims.{says-one}
 use Rattle.plain.specs.Line.{freshPlain}
-use Rattle.plain.specs.File.{Verdict, Fine, Bad, recordsOf, linesVerdict, dataVerdict, thenVerdict, verdictOf}
+use Rattle.plain.specs.declared.Verdict.{Verdict}
+use Rattle.plain.specs.declared.Verdict.the-variants.{Fine, Bad}
+use Rattle.plain.specs.File.{recordsOf, linesVerdict, isSome, dataVerdict, thenVerdict, verdictOf}
 use Rattle.joiner.specs.Pieces.{splitAll, piecesOf}
 use Rattle.joined.specs.PlainFile.{PlainFile, dataFrom, WithData, PlainPieces}
 use Rattle.joined.proofs.Sections.{Pieces}
@@ -46,7 +48,7 @@ then-fine : (v w : Verdict) → thenVerdict v w ≡ Fine → (v ≡ Fine) × (w 
 then-fine Fine w e = (refl, e)
 then-fine (Bad k a) w e = absurd (let z : _≡_ {A = ℕ} 0 1 = cc in omega arith)
 
-data-some : (k : ℕ) (ss : List Store) → dataVerdict k ss ≡ Fine → 1 ≤ length (splitAll ss)
+data-some : (k : ℕ) (ss : List Store) → dataVerdict k (isSome ss) ≡ Fine → 1 ≤ length (splitAll ss)
 data-some k [] e = absurd (let z : _≡_ {A = ℕ} 0 1 = cc in omega arith)
 data-some k (s ∷ ss) e = split-some s ss
 
@@ -68,12 +70,12 @@ read-parted s r m =
 pub parted : (s : List ℕ) → verdictOf s ≡ Fine → Parted s
 unfolding verdictOf
 parted s e =
-    let f = then-fine (linesVerdict freshPlain 0 (linesOf s)) (dataVerdict (length (linesOf s)) (recordsOf s)) e in
+    let f = then-fine (linesVerdict freshPlain 0 (linesOf s)) (dataVerdict (length (linesOf s)) (isSome (recordsOf s))) e in
     read-parted s (plain-reading (linesOf s) freshPlain 0 refl (f .0)) (data-some (length (linesOf s)) (recordsOf s) (f .1))
 
 -- it is plain, with a data byte, and no other is
 
-plain-data : (s : List ℕ) → Reading freshPlain (linesOf s) → dataVerdict (length (linesOf s)) (recordsOf s) ≡ Fine → WithData s
+plain-data : (s : List ℕ) → Reading freshPlain (linesOf s) → dataVerdict (length (linesOf s)) (isSome (recordsOf s)) ≡ Fine → WithData s
 unfolding recordsOf
 plain-data s r e =
     record {
@@ -82,23 +84,23 @@ plain-data s r e =
       some = some-data (length (linesOf s)) (dataFrom 0 (r .items)) (rw (r .stores) at e);
     }
   where
-    some-data : (k : ℕ) (ss : List Store) → dataVerdict k ss ≡ Fine → 1 ≤ length ss
+    some-data : (k : ℕ) (ss : List Store) → dataVerdict k (isSome ss) ≡ Fine → 1 ≤ length ss
     some-data k [] e = absurd (let z : _≡_ {A = ℕ} 0 1 = cc in omega arith)
     some-data k (x ∷ ss) e = omega arith
 
 pub fine-data : (s : List ℕ) → verdictOf s ≡ Fine → WithData s
 unfolding verdictOf
 fine-data s e =
-    let f = then-fine (linesVerdict freshPlain 0 (linesOf s)) (dataVerdict (length (linesOf s)) (recordsOf s)) e in
+    let f = then-fine (linesVerdict freshPlain 0 (linesOf s)) (dataVerdict (length (linesOf s)) (isSome (recordsOf s))) e in
     plain-data s (plain-reading (linesOf s) freshPlain 0 refl (f .0)) (f .1)
 
-data-verdict : (s : List ℕ) (w : WithData s) → Reading freshPlain (linesOf s) → dataVerdict (length (linesOf s)) (recordsOf s) ≡ Fine
+data-verdict : (s : List ℕ) (w : WithData s) → Reading freshPlain (linesOf s) → dataVerdict (length (linesOf s)) (isSome (recordsOf s)) ≡ Fine
 unfolding recordsOf
 data-verdict s w r =
     let e : recordsOf s ≡ dataFrom 0 (w .items) = r .stores ∙ ap (dataFrom 0) (says-one (r .says) (w .file .says)) in
     rw e (has-data (length (linesOf s)) (dataFrom 0 (w .items)) (w .some))
   where
-    has-data : (k : ℕ) (ss : List Store) → 1 ≤ length ss → dataVerdict k ss ≡ Fine
+    has-data : (k : ℕ) (ss : List Store) → 1 ≤ length ss → dataVerdict k (isSome ss) ≡ Fine
     has-data k [] h = absurd (omega arith)
     has-data k (x ∷ ss) h = refl
 

@@ -21,7 +21,8 @@ use Rattle.plain.specs.declared.Plain.{Plain}
 use Rattle.plain.specs.declared.Taken.{Taken}
 use Rattle.plain.specs.declared.Taken.the-variants.{Refused, Passed}
 use Rattle.plain.specs.Line.{isEnd, isSegment, isLinear, isStart, plain, movedBy, withBase, dataTaken, recordTaken, fieldsTaken, lineTaken, takenOf}
-use Rattle.plain.specs.File.{goesOn, nextOf, givesOf, recordsFrom, Fine, Bad, linesVerdict}
+use Rattle.plain.specs.declared.Verdict.the-variants.{Fine, Bad}
+use Rattle.plain.specs.File.{goesOn, nextOf, givesOf, recordsFrom, linesVerdict}
 use Rattle.joined.specs.PlainFile.{Records, ending-01, data-00, segment-02, start-03, linear-04, start-05, baseAfter, dataAt, dataFrom}
 
 -- ---- a line

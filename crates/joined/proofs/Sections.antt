@@ -10,7 +10,7 @@ use lib.ListN.{length, replicate, length-replicate, getD-replicate}
 use borrow.Author.Tests.{eqb-true, eqb-false, eq-eqb, ne-eqb, le-leb}
 use Rattle.sets.proofs.Tests.{split, eqb-same}
 use Rattle.stores.specs.Stores.{Store}
-use Rattle.record.specs.Write.{Bytes}
+use Rattle.record.specs.Write.{Bytes, recordLine}
 use Rattle.grammar.specs.Grammar.{dataKind}
 use Rattle.wholefile.specs.Items.{Item, sizeOf, wordOf}
 use Rattle.wholefile.specs.Whole.{dataTypeOf, Tail, tail-ends, tail-0C, Body, body-ends, body-04, body-data, body-0C, Section, sectionItems, boardOf, IsSection, anyData}
@@ -19,7 +19,7 @@ use Rattle.wholefile.specs.Instance.{item}
 use Rattle.wholefile.proofs.OneRecord.{not-data, data-not, data-kind, no-gift, a-gift}
 use Rattle.wholefile.proofs.Runs.{size-append, stays-body}
 use Rattle.joiner.specs.Text.{wordBytes, upperOf, bodyLines, firstUpper, startLines, missing, pads, padLine, fillLines, sectionLines}
-use Rattle.joined.specs.Form.{Uppers, no-more, same, changed, Form}
+use Rattle.joined.specs.Form.{word, Uppers, no-more, same, changed, Form}
 use Rattle.joined.specs.PlainFile.{at, within}
 use Rattle.joined.specs.Claims.{linearData}
 use Rattle.joined.proofs.Written.{Fits, Written, nothing, more, written-append, written-size, written-even}
@@ -40,25 +40,26 @@ pub data Pieces : List Store → Type 0 where
 
 -- ---- records of two bytes
 
-word-fits : (kind w : ℕ) → kind < 256 → w < 65536 → Fits kind 0 (wordBytes w)
-word-fits kind w k h = record { kind = k; address = omega arith; short = omega arith; bytes = two }
+word-written : (kind w : ℕ) → kind < 256 → w < 65536 → {ls : List (List ℕ)} {xs : List Item} → Written ls xs
+    → Written (recordLine kind 0 (wordBytes w) ∷ ls) (word kind w ∷ xs)
+word-written kind w k h {ls} {xs} r =
+    let high : w / 256 % 256 ≡ w / 256 = omega arith in
+    let f : Fits kind 0 (wordBytes w) = record { kind = k; address = omega arith; short = omega arith; bytes = two } in
+    subst (λ (v : ℕ). Written (recordLine kind 0 (wordBytes w) ∷ ls) (item kind 0 (v ∷ w % 256 ∷ []) ∷ xs)) high (more f r)
   where
     two : Bytes (wordBytes w)
     two zero n = omega arith
     two (suc zero) n = omega arith
     two (suc (suc i)) n = absurd (omega arith)
 
-abbrev pub wordItem : ℕ → ℕ → Item
-wordItem kind w = item kind 0 (wordBytes w)
-
-word-back : (kind w : ℕ) → wordOf (wordItem kind w) ≡ w
+word-back : (kind w : ℕ) → wordOf (word kind w) ≡ w
 word-back kind w = omega arith
 
 -- ---- data
 
 -- an 04 where the upper half changes
 abbrev itemsIf : ℕ → ℕ → List Item → List Item
-itemsIf u v xs = cond (eqb u v) xs (wordItem 0x04 v ∷ xs)
+itemsIf u v xs = cond (eqb u v) xs (word 0x04 v ∷ xs)
 
 abbrev dataItem : ℕ → Store → Item
 dataItem kind s = item kind (s .address % 65536) (s .bytes)
@@ -74,7 +75,7 @@ body-written kind k u (piece {s} p ps) =
     let v = upperOf s in
     let f : Fits kind (s .address % 65536) (s .bytes) = record { kind = k; address = omega arith; short = p .few; bytes = p .bytes } in
     let rest = more f (body-written kind k v ps) in
-    split (eqb u v) (λ y. rw y rest) (λ n. rw n (more (word-fits 0x04 v (omega arith) (p .wide)) rest))
+    split (eqb u v) (λ y. rw y rest) (λ n. rw n (word-written 0x04 v (omega arith) (p .wide) rest))
 
 body-is : (b u : ℕ) (ys : List Item) → Body b ys → {ss : List Store} → Pieces ss → Body b (bodyItems (dataKind b) u ss ++ ys)
 unfolding bodyItems
@@ -140,7 +141,7 @@ module _ (own n : ℕ) where
         (body-stores v ps (after q x) (stays-body q b x g (not 11 (λ f. omega arith) (λ f. omega arith)) (not 12 (λ f. omega arith) (λ f. omega arith)))
         (rw (ne-eqb (x .kind) 4 (not 4 (λ f. omega arith) (λ f. omega arith))) h))
         ∙ own-more t ts in
-        let w = wordItem 0x04 v in
+        let w = word 0x04 v in
         split (eqb u v)
         (λ y. rw y (rest s e (f ∙ eqb-true u v y)))
         (λ m.
@@ -234,7 +235,7 @@ module _ (b : ℕ) (ss : List Store) where
   m = missing (length (flatten (startLines b ss)))
 
   abbrev startItems : List Item
-  startItems = wordItem 0x04 u ∷ wordItem 0x0A b ∷ bodyItems (dataKind b) u ss
+  startItems = word 0x04 u ∷ word 0x0A b ∷ bodyItems (dataKind b) u ss
 
   abbrev padItems : List Item
   padItems = replicate (pads m) padItem
@@ -244,7 +245,7 @@ module _ (b : ℕ) (ss : List Store) where
 
   abbrev pub section : Section
   section =
-      record { opening = wordItem 0x04 u; naming = wordItem 0x0A b; body = bodyItems (dataKind b) u ss ++ padItems; closing = lastItem }
+      record { opening = word 0x04 u; naming = word 0x0A b; body = bodyItems (dataKind b) u ss ++ padItems; closing = lastItem }
 
   pub board-is : boardOf section ≡ b
   board-is = word-back 0x0A b
@@ -252,7 +253,7 @@ module _ (b : ℕ) (ss : List Store) where
   -- the records, in order
   items-are : sectionItems section ≡ startItems ++ (padItems ++ (lastItem ∷ []))
   items-are =
-      ap (λ (z : List Item). wordItem 0x04 u ∷ wordItem 0x0A b ∷ z) (append-assoc (bodyItems (dataKind b) u ss) padItems (lastItem ∷ []))
+      ap (λ (z : List Item). word 0x04 u ∷ word 0x0A b ∷ z) (append-assoc (bodyItems (dataKind b) u ss) padItems (lastItem ∷ []))
 
   pub section-linear : linearData (dataTypeOf b) (wordOf (section .opening)) (section .body) ≡ ss
   section-linear = rw (word-back 0x04 u) (linear-data b u padItems (pads-linear b (pads m)) ss)
@@ -269,8 +270,8 @@ module _ (b : ℕ) (hb : b < 65536) {ss : List Store} (ps : Pieces ss) where
   start-written : Written (startLines b ss) (startItems b ss)
   unfolding startLines
   start-written =
-      more (word-fits 0x04 (u b ss) (omega arith) (first-upper ps))
-      (more (word-fits 0x0A b (omega arith) hb) (body-written (dataKind b) (data-small b ss) (u b ss) ps))
+      word-written 0x04 (u b ss) (omega arith) (first-upper ps)
+      (word-written 0x0A b (omega arith) hb (body-written (dataKind b) (data-small b ss) (u b ss) ps))
 
   pub section-written : Written (sectionLines b ss) (sectionItems (section b ss))
   unfolding sectionLines
@@ -304,8 +305,8 @@ module _ (b : ℕ) (hb : b < 65536) {ss : List Store} (ps : Pieces ss) where
   pub section-stores : (own n : ℕ) (s : State) → s .place ≡ between → storesFor own n s (sectionItems (section b ss)) ≡ cond (eqb b own) (within n ss) []
   unfolding storesFor
   section-stores own n s e =
-      let x = wordItem 0x04 (u b ss) in
-      let y = wordItem 0x0A b in
+      let x = word 0x04 (u b ss) in
+      let y = word 0x0A b in
       let s1 = after s x in
       let s2 = after s1 y in
       let bs = bodyItems (dataKind b) (u b ss) ss in
@@ -337,7 +338,7 @@ body-uppers b u (s ∷ ss) =
     let rest = body-uppers b v ss in
     split (eqb u v)
     (λ y. rw y (subst (λ (k : ℕ). Uppers (dataTypeOf b) u (dataItem k s ∷ xs)) (sym (data-kind b)) (same (subst (λ (w : ℕ). Uppers (dataTypeOf b) w xs) (sym (eqb-true u v y)) rest))))
-    (λ n. rw n (subst (λ (k : ℕ). Uppers (dataTypeOf b) u (wordItem 0x04 v ∷ dataItem k s ∷ xs)) (sym (data-kind b)) (changed (λ e. eqb-false u v n (sym e)) rest)))
+    (λ n. rw n (subst (λ (k : ℕ). Uppers (dataTypeOf b) u (word 0x04 v ∷ dataItem k s ∷ xs)) (sym (data-kind b)) (changed (λ e. eqb-false u v n (sym e)) rest)))
 
 some-form : (b : ℕ) → b < 65536 → (s : Store) (ss : List Store) → Piece s → Pieces ss → Form b (section b (s ∷ ss))
 unfolding bodyItems
