@@ -6,4 +6,5 @@ pub mod PlainRead
 pub mod Cuts
 pub mod PlainFiles
 pub mod Claims
+pub mod One
 pub mod Instance

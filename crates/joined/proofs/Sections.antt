@@ -52,7 +52,7 @@ word-written kind w k h {ls} {xs} r =
     two (suc zero) n = omega arith
     two (suc (suc i)) n = absurd (omega arith)
 
-word-back : (kind w : ℕ) → wordOf (word kind w) ≡ w
+pub word-back : (kind w : ℕ) → wordOf (word kind w) ≡ w
 word-back kind w = omega arith
 
 -- ---- data
@@ -168,10 +168,10 @@ linear-data b u ys h (t ∷ ts) =
 
 -- ---- the filling
 
-abbrev padItem : Item
+abbrev pub padItem : Item
 padItem = item 0x0C 0 (replicate 26 255)
 
-abbrev closeItem : ℕ → Item
+abbrev pub closeItem : ℕ → Item
 closeItem m = item 0x0B 0 (replicate (m / 2) 255)
 
 filled-fits : (kind k : ℕ) → kind < 256 → k ≤ 32 → Fits kind 0 (replicate k 255)
@@ -200,7 +200,7 @@ pads-body : (b k : ℕ) → Body b (replicate k padItem)
 pads-body b zero = body-ends
 pads-body b (suc k) = body-0C refl (pads-tail k)
 
-pads-size : (k : ℕ) → sizeOf (replicate k padItem) ≡ 64 * k
+pub pads-size : (k : ℕ) → sizeOf (replicate k padItem) ≡ 64 * k
 unfolding sizeOf
 pads-size zero = refl
 pads-size (suc k) = omega (arith, pads-size k)
@@ -210,7 +210,7 @@ unfolding storesFor
 pads-stores own n zero s = refl
 pads-stores own n (suc k) s = rw (no-store own n s padItem (λ f. omega arith) (λ f. omega arith)) (pads-stores own n k (after s padItem))
 
-pads-linear : (b k v : ℕ) → linearData (dataTypeOf b) v (replicate k padItem) ≡ []
+pub pads-linear : (b k v : ℕ) → linearData (dataTypeOf b) v (replicate k padItem) ≡ []
 unfolding linearData
 pads-linear b zero v = refl
 pads-linear b (suc k) v = rw (not-data 12 b (λ f. omega arith) (λ f. omega arith)) (pads-linear b k v)
@@ -337,8 +337,8 @@ body-uppers b u (s ∷ ss) =
     let x = dataItem (dataTypeOf b) s in
     let rest = body-uppers b v ss in
     split (eqb u v)
-    (λ y. rw y (subst (λ (k : ℕ). Uppers (dataTypeOf b) u (dataItem k s ∷ xs)) (sym (data-kind b)) (same (subst (λ (w : ℕ). Uppers (dataTypeOf b) w xs) (sym (eqb-true u v y)) rest))))
-    (λ n. rw n (subst (λ (k : ℕ). Uppers (dataTypeOf b) u (word 0x04 v ∷ dataItem k s ∷ xs)) (sym (data-kind b)) (changed (λ e. eqb-false u v n (sym e)) rest)))
+    (λ y. rw y (subst (λ (k : ℕ). Uppers (dataTypeOf b) u (dataItem k s ∷ xs)) (sym (data-kind b)) (same (omega arith) (subst (λ (w : ℕ). Uppers (dataTypeOf b) w xs) (sym (eqb-true u v y)) rest))))
+    (λ n. rw n (subst (λ (k : ℕ). Uppers (dataTypeOf b) u (word 0x04 v ∷ dataItem k s ∷ xs)) (sym (data-kind b)) (changed (λ e. eqb-false u v n (sym e)) (omega arith) rest)))
 
 some-form : (b : ℕ) → b < 65536 → (s : Store) (ss : List Store) → Piece s → Pieces ss → Form b (section b (s ∷ ss))
 unfolding bodyItems
@@ -354,6 +354,7 @@ some-form b hb s ss p ps =
       bytes = s .bytes;
       records = bodyItems (dataKind b) v ss;
       opening = refl;
+      low = omega arith;
       uppers = body-uppers b v ss;
       naming = refl;
       fillers = pads k;

@@ -78,6 +78,10 @@ pub record TwoSections (a b : List ℕ) (ls : List (List ℕ)) : Type 0 where
 unfoldable pub Joined-is-file : Type 0
 Joined-is-file = EveryOutput (λ a b ls. TwoSections a b ls)
 
+-- and these leave one output: two lists of lines that are so are the same
+unfoldable pub Output-is-one : Type 0
+Output-is-one = (a b : List ℕ) (ls ms : List (List ℕ)) → TwoSections a b ls → TwoSections a b ms → ls ≡ ms
+
 -- ---- splitting
 
 -- it changes no byte: what pieces leave at a place is what the data leaves there
