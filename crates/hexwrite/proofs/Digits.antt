@@ -14,7 +14,7 @@ use Rattle.record.specs.Write.{digitText, bytesText, checksum}
 use Rattle.record.proofs.Sums.{total-append}
 use Rattle.record.proofs.Written.{length-text}
 
-over-nothing : (d : List ℕ) (at : ℕ) → over d at [] ≡ d
+pub over-nothing : (d : List ℕ) (at : ℕ) → over d at [] ≡ d
 unfolding over
 over-nothing d at = rw (add-zero at) (take-append-drop at d)
 

@@ -1,3 +1,4 @@
 pub mod Pieces
 pub mod Text
+pub mod Tally
 pub mod Join

@@ -1,5 +1,15 @@
 // One Universal Hex file from two plain Intel Hex files, one for V1 and one for V2.
+ghost use mathlib.Core.Path.{_≡_};
+ghost use mathlib.Core.Bool.{cond};
+ghost use Prim.Native.Nat.{_+_, _/_, _≤_};
+ghost use lib.ListN.{length};
+ghost use Rattle.hexwrite.specs.Put.{putLine, putLines};
+ghost use Rattle.record.specs.Write.{recordLine};
+ghost use Rattle.joiner.specs.Pieces.{piece, splitOf};
+ghost use Rattle.joiner.specs.Text.{wordBytes};
+ghost use Rattle.joiner.specs.Tally.{freshTally, changes, tallyPiece, tallyAll, pieceLines, piecesLines};
 use grammar::Answer;
+use record::Record;
 
 // Why nothing is written: the board whose file is refused, the line's index from 0 (for a missing 01 and for 30 the number of its lines), and
 // the answer. Where the output is too long, board and line are 0.
@@ -13,4 +23,114 @@ pub struct Refusal {
 pub enum Joined {
     Written(u32),
     Refused(Refusal),
+}
+
+// What is known of the pieces so far: whether there is one, the upper half of the first and of the latest, and how many characters their lines
+// have.
+struct Tally {
+    some: bool,
+    first: usize,
+    upper: usize,
+    len: usize,
+}
+
+// A number by a test.
+fn pick(test: bool, a: usize, b: usize) -> usize
+    ensures { λ r. ⌜ r ≡ cond test a b ⌝ }
+{
+    if test { a } else { b }
+}
+
+impl Tally {
+    fn fresh() -> Tally
+        ensures { λ r. ⌜ r ≡ freshTally ⌝ }
+    {
+        Tally {
+            some: false,
+            first: 0,
+            upper: 0,
+            len: 0,
+        }
+    }
+
+    // An 04 stands before a piece with this upper half.
+    fn changes(self, upper: usize) -> bool
+        ensures { λ r. ⌜ r ≡ changes self upper ⌝ }
+    {
+        self.some & !(self.upper == upper)
+    }
+
+    // One more piece, of n bytes.
+    fn with_piece(self, upper: usize, n: usize) -> Tally
+        requires { ⌜ (self .len ≤ 1073741824) × (n ≤ 32) ⌝ }
+        ensures { λ r. ⌜ r ≡ tallyPiece self upper n ⌝ }
+    {
+        let some = self.some;
+        let first = pick(some, self.first, upper);
+        let more = pick(self.changes(upper), 16, 0);
+        let len = self.len + (more + (12 + 2 * n));
+        Tally {
+            some: true,
+            first,
+            upper,
+            len,
+        }
+    }
+}
+
+// A record of two bytes of data, with the address field 0.
+fn put_word(out: &mut [u8], at: usize, kind: u8, word: usize)
+    ensures { λ _. ⌜ now (out .exit) ≡ putLine (now (out .entry)) at (recordLine kind 0 (wordBytes word)) ⌝ }
+{
+    let two = [(word / 256 % 256) as u8, (word % 256) as u8];
+    hexwrite::put_record(out, at, kind, 0, &two);
+}
+
+// The lines of a piece, after those of the pieces before it.
+fn put_piece(
+    out: &mut [u8],
+    at: usize,
+    tally: Tally,
+    kind: u8,
+    address: usize,
+    bytes: &[u8],
+) -> Tally
+    requires { ⌜ (at ≤ 1073741824) × (tally .len ≤ 1073741824) × (length (now bytes) ≤ 32) ⌝ }
+    ensures { λ r. ⌜ r ≡ tallyPiece tally (address / 65536) (length (now (bytes .entry))) ⌝ }
+    ensures lines { λ _. ⌜ now (out .exit) ≡ putLines (now (out .entry)) (at + tally .len) (pieceLines kind tally (piece address (now (bytes .entry)))) ⌝ }
+{
+    let upper = address / 65536;
+    let low = (address % 65536) as u16;
+    let from = at + tally.len;
+    let next = tally.with_piece(upper, bytes.len());
+    if tally.changes(upper) {
+        put_word(out, from, Record::EXTENDED_LINEAR, upper);
+        hexwrite::put_record(out, from + 16, kind, low, bytes);
+        return next;
+    }
+    hexwrite::put_record(out, from, kind, low, bytes);
+    next
+}
+
+// The lines of a record's data, split where its address crosses a multiple of 65,536.
+fn put_data(
+    out: &mut [u8],
+    at: usize,
+    tally: Tally,
+    kind: u8,
+    address: usize,
+    bytes: &[u8],
+) -> Tally
+    requires { ⌜ (at ≤ 1073741824) × (tally .len ≤ 1000000000) × (length (now bytes) ≤ 32) × (address ≤ 8589934592) ⌝ }
+    ensures { λ r. ⌜ r ≡ tallyAll tally (splitOf (piece address (now (bytes .entry)))) ⌝ }
+    ensures lines { λ _. ⌜ now (out .exit) ≡ putLines (now (out .entry)) (at + tally .len) (piecesLines kind tally (splitOf (piece address (now (bytes .entry))))) ⌝ }
+{
+    let n = bytes.len();
+    let room = 65536 - address % 65536;
+    if room < n {
+        let next = put_piece(out, at, tally, kind, address, &bytes[..room]);
+        let beyond = address + room;
+        return put_piece(out, at, next, kind, beyond, &bytes[room..]);
+    }
+    put_piece(out, at, tally, kind, address, bytes)
 }

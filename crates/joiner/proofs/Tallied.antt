@@ -1,0 +1,131 @@
+-- Pieces one after the other: what is kept of them, their lines, and how long these are. Assumes nothing.
+use mathlib.Core.Path.{_≡_, refl, sym, ap, _∙_}
+use mathlib.Core.Bool.{Bool, true, false, cond, not, _&&_}
+use mathlib.Core.List.{List, [], _∷_, _++_, flatten, append-nil, append-assoc}
+use Prim.Native.Nat.{ℕ, _+_, _-_, _*_, _/_, _%_, _≤_, _<_}
+use native.Mathlib.Omega.{arith}
+use lib.Dec.{eqb, ltb}
+use lib.ListN.{length, take, drop, length-append, length-take, length-drop}
+use lib.Seq.{take-all}
+use borrow.Author.Tests.{lt-ltb, le-ltb}
+use Rattle.sets.proofs.Tests.{split, eqb-same}
+use Rattle.stores.specs.Stores.{Store}
+use Rattle.record.specs.Write.{recordLine}
+use Rattle.hexwrite.specs.Put.{putLine, putLines}
+use Rattle.hexwrite.proofs.Line.{length-line}
+use Rattle.hexwrite.proofs.Lines.{put-one, put-two, put-append, length-flatten}
+use Rattle.plain.specs.File.{isSome}
+use Rattle.joiner.specs.declared.Tally.{Tally}
+use Rattle.joiner.specs.Pieces.{piece, roomOf, splitOf, splitAll}
+use Rattle.joiner.specs.Text.{upperOf, upperLine, upperIf, bodyLines, firstUpper}
+use Rattle.joiner.specs.Tally.{tally, freshTally, changes, tallyPiece, tallyAll, pieceLines, piecesLines}
+
+-- ---- one piece
+
+pub at-most : (b : Bool) {k : ℕ} → k ≡ cond b 16 0 → k ≤ 16
+at-most true e = omega arith
+at-most false e = omega arith
+
+pub piece-kept : (t : Tally) (u n : ℕ) {first more : ℕ} {b : Bool} → first ≡ cond (t .some) (t .first) u → b ≡ changes t u → more ≡ cond b 16 0
+    → tally true first u (t .len + (more + (12 + 2 * n))) ≡ tallyPiece t u n
+unfolding tallyPiece
+piece-kept t u n e f g = rw (e, g, f)
+
+pub length-upper : (u : ℕ) → length (upperLine u) ≡ 16
+length-upper u = length-line _ _ _
+
+pub length-piece : (kind : ℕ) (t : Tally) (s : Store)
+    → t .len + length (flatten (pieceLines kind t s)) ≡ tallyPiece t (upperOf s) (length (s .bytes)) .len
+unfolding pieceLines tallyPiece flatten
+length-piece kind t s =
+    let l = recordLine kind (s .address % 65536) (s .bytes) in
+    let u = upperLine (upperOf s) in
+    let n = length-line kind (s .address % 65536) (s .bytes) in
+    let one = length-append l [] in
+    split (changes t (upperOf s))
+    (λ y. rw y (omega (arith, length-append u (l ++ []), length-upper (upperOf s))))
+    (λ z. rw z (omega arith))
+
+-- written after an 04, and without one
+pub put-changed : (out : List ℕ) (kind from : ℕ) (t : Tally) (s : Store) {b : Bool} {one two : List ℕ} → b ≡ changes t (upperOf s) → b ≡ true
+    → one ≡ putLine out from (upperLine (upperOf s)) → two ≡ putLine one (from + 16) (recordLine kind (s .address % 65536) (s .bytes))
+    → two ≡ putLines out from (pieceLines kind t s)
+unfolding pieceLines
+put-changed out kind from t s e y f g =
+    let l = recordLine kind (s .address % 65536) (s .bytes) in
+    let u = upperLine (upperOf s) in
+    rw (← e, y) (g ∙ rw (f, ← length-upper (upperOf s)) (sym (put-two out from u l)))
+
+pub put-unchanged : (out : List ℕ) (kind from : ℕ) (t : Tally) (s : Store) {b : Bool} {one : List ℕ} → b ≡ changes t (upperOf s) → b ≡ false
+    → one ≡ putLine out from (recordLine kind (s .address % 65536) (s .bytes)) → one ≡ putLines out from (pieceLines kind t s)
+unfolding pieceLines
+put-unchanged out kind from t s e n f =
+    rw (← e, n) (f ∙ sym (put-one out from (recordLine kind (s .address % 65536) (s .bytes))))
+
+pub piece-most : (t : Tally) (u n : ℕ) → n ≤ 32 → tallyPiece t u n .len ≤ t .len + 92
+unfolding tallyPiece
+piece-most t u n h = omega (arith, at-most (changes t u) refl)
+
+-- ---- pieces one after the other
+
+abbrev after : Tally → Store → Tally
+after t s = tallyPiece t (upperOf s) (length (s .bytes))
+
+-- the rest, after the first
+pub put-rest : (out : List ℕ) (kind at : ℕ) (t : Tally) (s : Store) (ss : List Store)
+    → putLines (putLines out (at + t .len) (pieceLines kind t s)) (at + after t s .len) (piecesLines kind (after t s) ss) ≡ putLines out (at + t .len) (piecesLines kind t (s ∷ ss))
+unfolding piecesLines
+put-rest out kind at t s ss =
+    let e : at + t .len + length (flatten (pieceLines kind t s)) ≡ at + after t s .len = omega (arith, length-piece kind t s) in
+    rw (← e) (sym (put-append out (at + t .len) (pieceLines kind t s) (piecesLines kind (after t s) ss)))
+
+module _ (out : List ℕ) (kind at : ℕ) (t : Tally) where
+  abbrev Puts : List Store → Tally → List ℕ → Type 0
+  Puts ss r o = (r ≡ tallyAll t ss) × (o ≡ putLines out (at + t .len) (piecesLines kind t ss))
+
+  pub put-single : (s : Store) {r : Tally} {o : List ℕ} → r ≡ after t s → o ≡ putLines out (at + t .len) (pieceLines kind t s) → Puts (s ∷ []) r o
+  unfolding tallyAll piecesLines
+  put-single s e f = (e, f ∙ ap (putLines out (at + t .len)) (sym (append-nil (pieceLines kind t s))))
+
+  pub put-pair : (s v : Store) {q r : Tally} {m o : List ℕ} → q ≡ after t s → m ≡ putLines out (at + t .len) (pieceLines kind t s)
+      → r ≡ after q v → o ≡ putLines m (at + q .len) (pieceLines kind q v) → Puts (s ∷ v ∷ []) r o
+  unfolding tallyAll piecesLines
+  put-pair s v e f g h = (
+    g ∙ rw e refl,
+    h
+        ∙ rw (f, e)
+        (ap (putLines (putLines out (at + t .len) (pieceLines kind t s)) (at + after t s .len)) (sym (append-nil (pieceLines kind (after t s) v)))
+        ∙ put-rest out kind at t s (v ∷ [])),
+  )
+
+  -- a record's data, whole or cut in two
+  pub put-whole : (a : ℕ) (d : List ℕ) {r : Tally} {o : List ℕ} → length d ≤ roomOf a → r ≡ after t (piece a d)
+      → o ≡ putLines out (at + t .len) (pieceLines kind t (piece a d)) → Puts (splitOf (piece a d)) r o
+  unfolding splitOf
+  put-whole a d h e f = rw (le-ltb (roomOf a) (length d) h) (put-single (piece a d) e f)
+
+  pub put-cut : (a : ℕ) (d : List ℕ) {q r : Tally} {m o : List ℕ} → roomOf a < length d → q ≡ after t (piece a (take (roomOf a) d))
+      → m ≡ putLines out (at + t .len) (pieceLines kind t (piece a (take (roomOf a) d))) → r ≡ after q (piece (a + roomOf a) (drop (roomOf a) d))
+      → o ≡ putLines m (at + q .len) (pieceLines kind q (piece (a + roomOf a) (drop (roomOf a) d))) → Puts (splitOf (piece a d)) r o
+  unfolding splitOf
+  put-cut a d h e f g k =
+      rw (lt-ltb (roomOf a) (length d) h) (put-pair (piece a (take (roomOf a) d)) (piece (a + roomOf a) (drop (roomOf a) d)) e f g k)
+
+  -- where the code lends the last part of the data by its length
+  pub put-cut-by : (a : ℕ) (d : List ℕ) (e : List ℕ) {q r : Tally} {m o : List ℕ} → roomOf a < length d → e ≡ take (length d - roomOf a) (drop (roomOf a) d)
+      → q ≡ after t (piece a (take (roomOf a) d)) → m ≡ putLines out (at + t .len) (pieceLines kind t (piece a (take (roomOf a) d)))
+      → r ≡ after q (piece (a + roomOf a) e) → o ≡ putLines m (at + q .len) (pieceLines kind q (piece (a + roomOf a) e)) → Puts (splitOf (piece a d)) r o
+  put-cut-by a d e {q} {r} {m} {o} h w f g k p =
+      let same : e ≡ drop (roomOf a) d = w ∙ take-all (length d - roomOf a) (drop (roomOf a) d) (omega (arith, length-drop (roomOf a) d)) in
+      put-cut a d h f g
+      (k ∙ ap (λ (l : List ℕ). after q (piece (a + roomOf a) l)) same)
+      (p ∙ ap (λ (l : List ℕ). putLines m (at + q .len) (pieceLines kind q (piece (a + roomOf a) l))) same)
+
+-- what put_data asks of put_piece at the second part
+pub second-fits : (t : Tally) (u : ℕ) (d : List ℕ) (r : ℕ) {q : Tally} → t .len ≤ 1000000000 → length d ≤ 32 → q ≡ tallyPiece t u (length (take r d))
+    → (q .len ≤ 1073741824) × (length (take (length d - r) (drop r d)) ≤ 32)
+second-fits t u d r h l e =
+    let n = length-take r d in (
+      rw e (omega (arith, piece-most t u (length (take r d)) (omega arith))),
+      omega (arith, length-take (length d - r) (drop r d)),
+    )
