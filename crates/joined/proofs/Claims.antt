@@ -34,12 +34,13 @@ use Rattle.joiner.specs.declared.Refusal.{Refusal}
 use Rattle.joiner.specs.Pieces.{piecesOf}
 use Rattle.joiner.specs.Text.{fileLines, fileText}
 use Rattle.joiner.specs.Join.{JoinCall, joinCall, refusal, onVerdict, writtenOf, joinOf}
+use Rattle.joined.specs.Refusals.{BadText}
 use Rattle.joined.specs.PlainFile.{WithData, PlainPieces, within}
 use Rattle.joined.specs.Claims.{Joined-reads-back, Joined-is-file, Cuts-change-no-byte, Cuts-are-one, Joined-are-plain, RefusalCase, of-v1, of-v2, of-both, Refused-by-board, Room-by-length, Refusal-writes-nothing, Past-output-stays}
 use Rattle.joined.proofs.Written.{written-says, written-lines, written-map}
 use Rattle.joined.proofs.Sections.{Pieces, no-piece, piece, section, board-is, section-linear, section-size, section-form}
 use Rattle.joined.proofs.Whole.{sections, fileItems, file-written, file-stores, is-file}
-use Rattle.joined.proofs.PlainFiles.{Parted, parted, fine-data, data-fine}
+use Rattle.joined.proofs.PlainFiles.{Parted, parted, fine-data, data-fine, bad-text}
 use Rattle.joined.proofs.Cuts.{cuts-byte, cuts-one}
 
 -- ---- an output
@@ -256,8 +257,12 @@ refused-by-board a b out r e = by-verdicts (verdictOf a) (verdictOf b) refl refl
 
     by-verdicts : (v w : Verdict) → verdictOf a ≡ v → verdictOf b ≡ w
         → onVerdict 0x9900 v out (onVerdict 0x9903 w out (writtenOf (fileText (piecesOf a) (piecesOf b)) out)) .answer ≡ Refused r → RefusalCase a b r
-    by-verdicts (Bad k x) w f g e = of-v1 (sym (ap (λ (z : Refusal). z .board) (is-refused _ r e))) (not-fine a k x f)
-    by-verdicts Fine (Bad k x) f g e = of-v2 (sym (ap (λ (z : Refusal). z .board) (is-refused _ r e))) (fine-data a f) (not-fine b k x g)
+    by-verdicts (Bad k x) w f g e =
+        let h = is-refused (refusal 0x9900 k x) r e in
+        of-v1 (sym (ap (λ (z : Refusal). z .board) h)) (subst (λ (z : Refusal). BadText a (z .line) (z .answer)) h (bad-text a k x f)) (not-fine a k x f)
+    by-verdicts Fine (Bad k x) f g e =
+        let h = is-refused (refusal 0x9903 k x) r e in
+        of-v2 (sym (ap (λ (z : Refusal). z .board) h)) (fine-data a f) (subst (λ (z : Refusal). BadText b (z .line) (z .answer)) h (bad-text b k x g)) (not-fine b k x g)
     by-verdicts Fine Fine f g e =
         let w = too-long t out r e in
         of-both (ap (λ (z : Refusal). z .board) w) (ap (λ (z : Refusal). z .line) w) (ap (λ (z : Refusal). z .answer) w) (fine-data a f) (fine-data b g)

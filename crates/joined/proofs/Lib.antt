@@ -3,6 +3,7 @@ pub mod Written
 pub mod Sections
 pub mod Whole
 pub mod PlainRead
+pub mod BadLines
 pub mod Cuts
 pub mod PlainFiles
 pub mod Claims

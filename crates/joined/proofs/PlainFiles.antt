@@ -1,6 +1,6 @@
 -- A text that is read with no refusal is a plain file with a data byte, by its records, and no other text is; and its pieces. Assumes nothing.
 use Prim.Native.Nat.{ℕ, _≤_}
-use mathlib.Core.Path.{_≡_, refl, sym, ap, _∙_}
+use mathlib.Core.Path.{_≡_, refl, sym, ap, subst, _∙_}
 use mathlib.Core.List.{List, [], _∷_, flatten}
 use native.Mathlib.Omega.{arith}
 use lib.Dec.{eqb}
@@ -8,6 +8,8 @@ use lib.ListN.{length, length-append}
 use borrow.Author.Tests.{eqb-true}
 use Rattle.sets.proofs.Tests.{split}
 use Rattle.stores.specs.Stores.{Store}
+use Rattle.grammar.specs.declared.Answer.{Answer}
+use Rattle.grammar.specs.declared.Answer.the-variants.{MissingBoard}
 use Rattle.textlines.specs.Lines.{glue, linesOf}
 use Rattle.wholefile.specs.Items.{Item, Says, none, line, sizeOf}
 use Rattle.wholefile.proofs.Claims.{says-one}
@@ -17,8 +19,10 @@ use Rattle.plain.specs.declared.Verdict.the-variants.{Fine, Bad}
 use Rattle.plain.specs.File.{recordsOf, linesVerdict, isSome, dataVerdict, thenVerdict, verdictOf}
 use Rattle.joiner.specs.Pieces.{splitAll, piecesOf}
 use Rattle.joined.specs.PlainFile.{PlainFile, dataFrom, WithData, PlainPieces}
+use Rattle.joined.specs.Refusals.{BadText, lines, no-data}
 use Rattle.joined.proofs.Sections.{Pieces}
 use Rattle.joined.proofs.PlainRead.{Reading, plain-reading, plain-fine}
+use Rattle.joined.proofs.BadLines.{bad-is, first-bad}
 use Rattle.joined.proofs.Cuts.{data-all, split-all, split-some}
 
 lines-flat : (s : List ℕ) → flatten (linesOf s) ≡ s
@@ -111,3 +115,23 @@ data-fine s w =
     let n : length s ≡ sizeOf (w .items) = ap length (sym (lines-flat s)) ∙ sym (said-length (f .says)) in
     let e : linesVerdict freshPlain 0 (linesOf s) ≡ Fine = plain-fine (f .says) (f .records) freshPlain 0 refl (omega (arith, f .short)) in
     rw e (data-verdict s w (plain-reading (linesOf s) freshPlain 0 refl e))
+
+-- ---- one with a refusal
+
+no-data-bad : (s : List ℕ) (k : ℕ) (x : Answer) → Reading freshPlain (linesOf s) → dataVerdict (length (linesOf s)) (isSome (recordsOf s)) ≡ Bad k x → BadText s k x
+unfolding recordsOf
+no-data-bad s k x r e = by-data (dataFrom 0 (r .items)) refl (rw (r .stores) at e)
+  where
+    by-data : (ss : List Store) → dataFrom 0 (r .items) ≡ ss → dataVerdict (length (linesOf s)) (isSome ss) ≡ Bad k x → BadText s k x
+    by-data [] f e =
+        let g = bad-is (length (linesOf s)) k MissingBoard x e in
+        subst (λ (y : Answer). BadText s k y) (g .1) (subst (λ (m : ℕ). BadText s m MissingBoard) (g .0) (no-data (r .items) (reading-file s r) f))
+    by-data (y ∷ ss) f e = absurd (let z : _≡_ {A = ℕ} 0 1 = cc in omega arith)
+
+pub bad-text : (s : List ℕ) (k : ℕ) (x : Answer) → verdictOf s ≡ Bad k x → BadText s k x
+unfolding verdictOf
+bad-text s k x e = by-lines (linesVerdict freshPlain 0 (linesOf s)) refl e
+  where
+    by-lines : (v : Verdict) → linesVerdict freshPlain 0 (linesOf s) ≡ v → thenVerdict v (dataVerdict (length (linesOf s)) (isSome (recordsOf s))) ≡ Bad k x → BadText s k x
+    by-lines (Bad j y) f e = lines (first-bad (linesOf s) k x (f ∙ e))
+    by-lines Fine f e = no-data-bad s k x (plain-reading (linesOf s) freshPlain 0 refl f) e

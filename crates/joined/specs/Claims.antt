@@ -18,6 +18,7 @@ use Rattle.joiner.specs.declared.Refusal.{Refusal}
 use Rattle.joiner.specs.declared.Joined.the-variants.{Written, Refused}
 use Rattle.joiner.specs.Join.{joinOf}
 use Rattle.joined.specs.Form.{Form}
+use Rattle.joined.specs.Refusals.{BadText}
 use Rattle.joined.specs.PlainFile.{at, WithData, Cuts, PlainPieces, within}
 
 -- what holds of every output: of the two files, the lent room, and the lines of the n bytes that were written
@@ -98,10 +99,11 @@ Cuts-are-one = (ss ps qs : List Store) → Cuts ss ps → Cuts ss qs → ps ≡ 
 unfoldable pub Joined-are-plain : Type 0
 Joined-are-plain = EveryOutput (λ a b ls. WithData a × WithData b)
 
--- "Refusals are 01's, V1's input whole first": V1's file is none, or it is one and V2's is none, or both are and the output is too long
+-- "Refusals are 01's, V1's input whole first": V1's file is none, or it is one and V2's is none, or both are and the output is too long; a
+-- file that is none is bad at the line that is named, by the answer
 pub data RefusalCase (a b : List ℕ) (r : Refusal) : Type 0 where
-  of-v1 : r .board ≡ 0x9900 → (WithData a → ⊥) → RefusalCase a b r
-  of-v2 : r .board ≡ 0x9903 → WithData a → (WithData b → ⊥) → RefusalCase a b r
+  of-v1 : r .board ≡ 0x9900 → BadText a (r .line) (r .answer) → (WithData a → ⊥) → RefusalCase a b r
+  of-v2 : r .board ≡ 0x9903 → WithData a → BadText b (r .line) (r .answer) → (WithData b → ⊥) → RefusalCase a b r
   of-both : r .board ≡ 0 → r .line ≡ 0 → r .answer ≡ FileTooLong → WithData a → WithData b → RefusalCase a b r
 
 -- so is every refusal

@@ -55,7 +55,7 @@ stores-append h (k ∷ ks) ls =
     ap (λ (z : List Store). one ++ z) (stores-append (next h k) ks ls)
     ∙ sym (append-assoc one (storesOf (next h k) ks) (storesOf (readAll (next h k) ks) ls))
 
-says-append : {ks ls : List (List ℕ)} {xs ys : List Item} → Says ks xs → Says ls ys → Says (ks ++ ls) (xs ++ ys)
+pub says-append : {ks ls : List (List ℕ)} {xs ys : List Item} → Says ks xs → Says ls ys → Says (ks ++ ls) (xs ++ ys)
 says-append none t = t
 says-append (line rec p s) t = line rec p (says-append s t)
 
