@@ -190,7 +190,7 @@ section-fill b text s x =
     record {
       whole = ap (λ (k : ℕ). k % 512) (sym (ap (λ (z : Section). sizeOf (sectionItems z)) (section-is b s f) ∙ shape-size b (piecesIn b s) (f .fillers) (f .rest))) ∙ x .aligned;
       least = f .least;
-      after-last = f .after-last;
+      after-last = omega (arith, f .after-last);
       before-last = f .before-last;
     }
 
