@@ -1,2 +1,3 @@
 -- The laws of `specs/`, and of the code's steps.
 pub mod Tallied
+pub mod Stepped

@@ -8,7 +8,13 @@ ghost use Rattle.record.specs.Write.{recordLine};
 ghost use Rattle.joiner.specs.Pieces.{piece, splitOf};
 ghost use Rattle.joiner.specs.Text.{wordBytes};
 ghost use Rattle.joiner.specs.Tally.{freshTally, changes, tallyPiece, tallyAll, pieceLines, piecesLines};
+ghost use Rattle.plain.specs.File.{badOf};
+ghost use Rattle.joiner.specs.Scan.{scan, linePieces, stepOf, Walk};
+ghost use Rattle.joiner.specs.declared.Step.the-variants.{On};
 use grammar::Answer;
+use plain::Plain;
+use plain::Taken;
+use plain::Verdict;
 use record::Record;
 
 // Why nothing is written: the board whose file is refused, the line's index from 0 (for a missing 01 and for 30 the number of its lines), and
@@ -32,6 +38,24 @@ struct Tally {
     first: usize,
     upper: usize,
     len: usize,
+}
+
+// Where the reading of a plain file stands, and what is known of its pieces.
+struct Scan {
+    plain: Plain,
+    tally: Tally,
+}
+
+// What a line comes to: reading goes on, or the line is refused.
+enum Step {
+    On(Scan),
+    Stop(Answer),
+}
+
+// What a plain file comes to.
+struct Body {
+    verdict: Verdict,
+    tally: Tally,
 }
 
 // A number by a test.
@@ -86,29 +110,28 @@ fn put_word(out: &mut [u8], at: usize, kind: u8, word: usize)
     hexwrite::put_record(out, at, kind, 0, &two);
 }
 
-// The lines of a piece, after those of the pieces before it.
+// The lines of a piece, by the two halves of its address, after those of the pieces before it.
 fn put_piece(
     out: &mut [u8],
     at: usize,
     tally: Tally,
     kind: u8,
-    address: usize,
+    upper: usize,
+    lower: u16,
     bytes: &[u8],
 ) -> Tally
     requires { ⌜ (at ≤ 1073741824) × (tally .len ≤ 1073741824) × (length (now bytes) ≤ 32) ⌝ }
-    ensures { λ r. ⌜ r ≡ tallyPiece tally (address / 65536) (length (now (bytes .entry))) ⌝ }
-    ensures lines { λ _. ⌜ now (out .exit) ≡ putLines (now (out .entry)) (at + tally .len) (pieceLines kind tally (piece address (now (bytes .entry)))) ⌝ }
+    ensures { λ r. ⌜ r ≡ tallyPiece tally upper (length (now (bytes .entry))) ⌝ }
+    ensures lines { λ _. ⌜ now (out .exit) ≡ putLines (now (out .entry)) (at + tally .len) (pieceLines kind tally upper lower (now (bytes .entry))) ⌝ }
 {
-    let upper = address / 65536;
-    let low = (address % 65536) as u16;
     let from = at + tally.len;
     let next = tally.with_piece(upper, bytes.len());
     if tally.changes(upper) {
         put_word(out, from, Record::EXTENDED_LINEAR, upper);
-        hexwrite::put_record(out, from + 16, kind, low, bytes);
+        hexwrite::put_record(out, from + 16, kind, lower, bytes);
         return next;
     }
-    hexwrite::put_record(out, from, kind, low, bytes);
+    hexwrite::put_record(out, from, kind, lower, bytes);
     next
 }
 
@@ -121,16 +144,60 @@ fn put_data(
     address: usize,
     bytes: &[u8],
 ) -> Tally
-    requires { ⌜ (at ≤ 1073741824) × (tally .len ≤ 1000000000) × (length (now bytes) ≤ 32) × (address ≤ 8589934592) ⌝ }
+    requires { ⌜ (at ≤ 1073741824) × (tally .len ≤ 1000000000) × (length (now bytes) ≤ 32) ⌝ }
     ensures { λ r. ⌜ r ≡ tallyAll tally (splitOf (piece address (now (bytes .entry)))) ⌝ }
     ensures lines { λ _. ⌜ now (out .exit) ≡ putLines (now (out .entry)) (at + tally .len) (piecesLines kind tally (splitOf (piece address (now (bytes .entry))))) ⌝ }
 {
-    let n = bytes.len();
+    let upper = address / 65536;
+    let lower = (address % 65536) as u16;
     let room = 65536 - address % 65536;
-    if room < n {
-        let next = put_piece(out, at, tally, kind, address, &bytes[..room]);
-        let beyond = address + room;
-        return put_piece(out, at, next, kind, beyond, &bytes[room..]);
+    if room < bytes.len() {
+        let next = put_piece(out, at, tally, kind, upper, lower, &bytes[..room]);
+        return put_piece(out, at, next, kind, upper + 1, 0, &bytes[room..]);
     }
-    put_piece(out, at, tally, kind, address, bytes)
+    put_piece(out, at, tally, kind, upper, lower, bytes)
+}
+
+// The lines of the data that a line of a plain file gives; the reading goes on at `next`.
+fn put_taken(
+    out: &mut [u8],
+    at: usize,
+    next: Plain,
+    tally: Tally,
+    kind: u8,
+    address: usize,
+    bytes: &[u8],
+) -> Step
+    requires { ⌜ (at ≤ 1073741824) × (tally .len ≤ 1000000000) × (length (now bytes) ≤ 32) ⌝ }
+    ensures { λ r. ⌜ r ≡ On (scan next (tallyAll tally (splitOf (piece address (now (bytes .entry)))))) ⌝ }
+    ensures lines { λ _. ⌜ now (out .exit) ≡ putLines (now (out .entry)) (at + tally .len) (piecesLines kind tally (splitOf (piece address (now (bytes .entry))))) ⌝ }
+{
+    let kept = put_data(out, at, tally, kind, address, bytes);
+    Step::On(Scan {
+        plain: next,
+        tally: kept,
+    })
+}
+
+// A line of a plain file.
+fn put_line(out: &mut [u8], at: usize, state: Scan, kind: u8, line: &[u8]) -> Step
+    requires { ⌜ (at ≤ 1073741824) × (state .tally .len ≤ 1000000000) ⌝ }
+    ensures { λ r. ⌜ r ≡ stepOf state (now (line .entry)) ⌝ }
+    ensures lines { λ _. ⌜ now (out .exit) ≡ putLines (now (out .entry)) (at + state .tally .len) (piecesLines kind (state .tally) (linePieces (state .plain) (now (line .entry)))) ⌝ }
+{
+    let read = record::read(line);
+    let data = read.data;
+    let parsed = read.parsed;
+    let plain = state.plain;
+    let tally = state.tally;
+    let word = record::word(data[0], data[1]);
+    let taken = plain.line(line.len(), parsed, word);
+    match taken {
+        Taken::Refused(answer) => Step::Stop(answer),
+        Taken::Passed(next) => Step::On(Scan { plain: next, tally }),
+        Taken::Data(next, address, len) => {
+            let n = len as usize;
+            put_taken(out, at, next, tally, kind, address, &data[..n])
+        }
+    }
 }
