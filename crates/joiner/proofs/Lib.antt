@@ -1,3 +1,4 @@
 -- The laws of `specs/`, and of the code's steps.
 pub mod Tallied
 pub mod Stepped
+pub mod Walked

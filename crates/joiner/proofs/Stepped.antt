@@ -1,9 +1,11 @@
 -- A line of a plain file, one law for each way that the code leaves. Assumes nothing.
 use mathlib.Core.Path.{_≡_, refl, sym, ap, _∙_}
 use mathlib.Core.List.{List, [], _∷_, _++_, append-nil}
-use Prim.Native.Nat.{ℕ, _+_, _≤_, _<_}
+use Prim.Native.Nat.{ℕ, _+_, _/_, _≤_}
 use native.Mathlib.Omega.{arith}
-use lib.ListN.{length, take, getD}
+use lib.Dec.{ltb}
+use lib.ListN.{length, take, drop, getD, length-take, length-drop}
+use Rattle.sets.proofs.Tests.{split}
 use Rattle.stores.specs.Stores.{Store}
 use Rattle.record.specs.Record.{wordFrom, readOf}
 use Rattle.record.specs.declared.Line.{Line}
@@ -21,8 +23,10 @@ use Rattle.joiner.specs.declared.Tally.{Tally}
 use Rattle.joiner.specs.declared.Scan.{Scan}
 use Rattle.joiner.specs.declared.Step.{Step}
 use Rattle.joiner.specs.declared.Step.the-variants.{On, Stop}
-use Rattle.joiner.specs.Pieces.{piece, splitOf, splitAll}
-use Rattle.joiner.specs.Tally.{tallyAll, piecesLines}
+use Rattle.joiner.specs.Pieces.{piece, roomOf, splitOf, splitAll}
+use Rattle.joiner.specs.Tally.{tallyPiece, tallyAll, piecesLines}
+use Rattle.joiner.specs.Text.{upperOf}
+use Rattle.joiner.proofs.Tallied.{piece-most}
 use Rattle.joiner.specs.Scan.{scan, linePieces, stepOf}
 
 pub is-taken : (p : Plain) (l : List ℕ) {x : Line} {w : ℕ} {t u : Taken} → x ≡ readOf l → w ≡ wordFrom (getD (x .«data») 0 0) (getD (x .«data») 1 0)
@@ -63,3 +67,28 @@ module _ (out : List ℕ) (kind at : ℕ) (s : Scan) (l : List ℕ) where
         f ∙ rw (e, same) refl,
         g ∙ rw (e, same) refl,
       )
+
+-- how much the lines of a line's pieces have
+split-most : (t : Tally) (s : Store) → length (s .bytes) ≤ 32 → tallyAll t (splitOf s) .len ≤ t .len + 184
+unfolding splitOf tallyAll
+split-most t s h =
+    let r = roomOf (s .address) in
+    let d = s .bytes in
+    let v = tallyPiece t (upperOf s) (length (take r d)) in
+    let one = piece-most t (upperOf s) (length (take r d)) (omega (arith, length-take r d)) in
+    let two = piece-most v ((s .address + r) / 65536) (length (drop r d)) (omega (arith, length-drop r d)) in
+    split (ltb r (length d))
+    (λ y. rw y (omega arith))
+    (λ n. rw n (omega (arith, piece-most t (upperOf s) (length d) h)))
+
+pieces-most : (p : Plain) (l : List ℕ) (t : Tally) (x : Taken) → takenOf p l ≡ x → tallyAll t (splitAll (givesOf l x)) .len ≤ t .len + 184
+unfolding splitAll tallyAll
+pieces-most p l t (Refused a) e = omega arith
+pieces-most p l t (Passed q) e = omega arith
+pieces-most p l t (Data q a n) e =
+    let s = piece a (take n (readOf l .«data»)) in
+    rw (append-nil (splitOf s)) (split-most t s (omega (arith, length-take n (readOf l .«data»), taken-few p l e)))
+
+pub line-most : (p : Plain) (l : List ℕ) (t : Tally) → tallyAll t (linePieces p l) .len ≤ t .len + 184
+unfolding linePieces
+line-most p l t = pieces-most p l t (takenOf p l) refl

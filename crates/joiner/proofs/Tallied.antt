@@ -127,3 +127,104 @@ second-fits t u d r h l e =
       rw e (omega (arith, piece-most t u (length (take r d)) (omega arith))),
       omega (arith, length-take (length d - r) (drop r d)),
     )
+
+-- ---- lists of pieces
+
+pub tally-append : (t : Tally) (xs ys : List Store) → tallyAll t (xs ++ ys) ≡ tallyAll (tallyAll t xs) ys
+unfolding tallyAll
+tally-append t [] ys = refl
+tally-append t (x ∷ xs) ys = tally-append (after t x) xs ys
+
+pub lines-append : (kind : ℕ) (t : Tally) (xs ys : List Store)
+    → piecesLines kind t (xs ++ ys) ≡ piecesLines kind t xs ++ piecesLines kind (tallyAll t xs) ys
+unfolding tallyAll piecesLines
+lines-append kind t [] ys = refl
+lines-append kind t (x ∷ xs) ys =
+    ap (λ (l : List (List ℕ)). linesOne kind t x ++ l) (lines-append kind (after t x) xs ys)
+    ∙ sym (append-assoc (linesOne kind t x) (piecesLines kind (after t x) xs) (piecesLines kind (tallyAll (after t x) xs) ys))
+
+pub length-pieces : (kind : ℕ) (t : Tally) (ss : List Store) → t .len + length (flatten (piecesLines kind t ss)) ≡ tallyAll t ss .len
+unfolding tallyAll piecesLines flatten
+length-pieces kind t [] = omega arith
+length-pieces kind t (s ∷ ss) =
+    omega (
+      arith,
+      length-flatten (linesOne kind t s) (piecesLines kind (after t s) ss),
+      length-piece kind t (upperOf s) (s .address % 65536) (s .bytes),
+      length-pieces kind (after t s) ss,
+    )
+
+pub put-more : (out : List ℕ) (kind at : ℕ) (t : Tally) (xs ys : List Store)
+    → putLines (putLines out (at + t .len) (piecesLines kind t xs)) (at + tallyAll t xs .len) (piecesLines kind (tallyAll t xs) ys)
+    ≡ putLines out (at + t .len) (piecesLines kind t (xs ++ ys))
+put-more out kind at t xs ys =
+    let e : at + t .len + length (flatten (piecesLines kind t xs)) ≡ at + tallyAll t xs .len = omega (arith, length-pieces kind t xs) in
+    rw (← e, lines-append kind t xs ys) (sym (put-append out (at + t .len) (piecesLines kind t xs) (piecesLines kind (tallyAll t xs) ys)))
+
+pub split-append : (xs ys : List Store) → splitAll (xs ++ ys) ≡ splitAll xs ++ splitAll ys
+unfolding splitAll
+split-append [] ys = refl
+split-append (x ∷ xs) ys =
+    ap (λ (l : List Store). splitOf x ++ l) (split-append xs ys) ∙ sym (append-assoc (splitOf x) (splitAll xs) (splitAll ys))
+
+-- ---- what is kept of them all
+
+tally-some : (t : Tally) (ss : List Store) → t .some ≡ true → tallyAll t ss .some ≡ true
+unfolding tallyAll tallyPiece
+tally-some t [] e = e
+tally-some t (s ∷ ss) e = tally-some (after t s) ss refl
+
+pub fresh-some : (ss : List Store) → tallyAll freshTally ss .some ≡ isSome ss
+unfolding tallyAll tallyPiece
+fresh-some [] = refl
+fresh-some (s ∷ ss) = tally-some (after freshTally s) ss refl
+
+tally-first : (t : Tally) (ss : List Store) → t .some ≡ true → tallyAll t ss .first ≡ t .first
+unfolding tallyAll tallyPiece
+tally-first t [] e = refl
+tally-first t (s ∷ ss) e = tally-first (after t s) ss refl ∙ rw e refl
+
+pub fresh-first : (ss : List Store) → tallyAll freshTally ss .first ≡ firstUpper ss
+unfolding tallyAll tallyPiece
+fresh-first [] = refl
+fresh-first (s ∷ ss) = tally-first (after freshTally s) ss refl
+
+-- a record with data is at least one piece
+pub split-some : (ss : List Store) → isSome (splitAll ss) ≡ isSome ss
+unfolding splitAll splitOf
+split-some [] = refl
+split-some (s ∷ ss) =
+    split (ltb (roomOf (s .address)) (length (s .bytes))) (λ y. rw y refl) (λ n. rw n refl)
+
+-- the lines after an 04 that holds u
+after-some : (t : Tally) (s : Store) → after t s .some ≡ true
+unfolding tallyPiece
+after-some t s = refl
+
+after-upper : (t : Tally) (s : Store) → after t s .upper ≡ upperOf s
+unfolding tallyPiece
+after-upper t s = refl
+
+first-lines : (kind u : ℕ) (t : Tally) (s : Store) (ls : List (List ℕ)) → t .some ≡ true → t .upper ≡ u
+    → linesOne kind t s ++ ls ≡ upperIf u (upperOf s) (recordLine kind (s .address % 65536) (s .bytes) ∷ ls)
+unfolding pieceLines
+first-lines kind u t s ls e f = split (eqb u (upperOf s)) (λ y. rw (e, f, y)) (λ n. rw (e, f, n))
+
+body-lines : (kind u : ℕ) (t : Tally) (ss : List Store) → t .some ≡ true → t .upper ≡ u → piecesLines kind t ss ≡ bodyLines kind u ss
+unfolding piecesLines bodyLines
+body-lines kind u t [] e f = refl
+body-lines kind u t (s ∷ ss) e f =
+    ap (λ (l : List (List ℕ)). linesOne kind t s ++ l) (body-lines kind (upperOf s) (after t s) ss (after-some t s) (after-upper t s))
+    ∙ first-lines kind u t s (bodyLines kind (upperOf s) ss) e f
+
+fresh-line : (kind : ℕ) (s : Store) (ls : List (List ℕ))
+    → linesOne kind freshTally s ++ ls ≡ upperIf (upperOf s) (upperOf s) (recordLine kind (s .address % 65536) (s .bytes) ∷ ls)
+unfolding pieceLines
+fresh-line kind s ls = rw (eqb-same (upperOf s))
+
+pub fresh-lines : (kind : ℕ) (ss : List Store) → piecesLines kind freshTally ss ≡ bodyLines kind (firstUpper ss) ss
+unfolding piecesLines bodyLines
+fresh-lines kind [] = refl
+fresh-lines kind (s ∷ ss) =
+    ap (λ (l : List (List ℕ)). linesOne kind freshTally s ++ l) (body-lines kind (upperOf s) (after freshTally s) ss (after-some freshTally s) (after-upper freshTally s))
+    ∙ fresh-line kind s (bodyLines kind (upperOf s) ss)

@@ -4,6 +4,8 @@ use mathlib.Core.Path.{_≡_}
 use mathlib.Core.Bool.{cond}
 use mathlib.Core.List.{List}
 use Rattle.stores.specs.Stores.{Store}
+use Rattle.grammar.specs.declared.Answer.{Answer}
+use Rattle.grammar.specs.declared.Answer.the-variants.{OutOfPlace}
 use Rattle.hexwrite.specs.Put.{putLines}
 use Rattle.plain.specs.declared.Plain.{Plain}
 use Rattle.plain.specs.Line.{takenOf}
@@ -29,6 +31,11 @@ unfoldable pub stepOf : Scan → List ℕ → Step
 stepOf s l =
     cond (goesOn (takenOf (s .plain) l)) (On (scan (nextOf (s .plain) (takenOf (s .plain) l)) (tallyAll (s .tally) (linePieces (s .plain) l))))
     (Stop (badOf (takenOf (s .plain) l)))
+
+-- the answer of a line that is refused; of another nothing asks for it
+abbrev pub stopOf : Step → Answer
+stopOf (On s) = OutOfPlace
+stopOf (Stop a) = a
 
 -- a whole file: what is known of it, with the lines of its pieces written from `at` on
 pub record Walk (out : List ℕ) (at kind : ℕ) (s : List ℕ) (r : Body) (o : List ℕ) : Type 0 where

@@ -9,7 +9,7 @@ ghost use Rattle.joiner.specs.Pieces.{piece, splitOf};
 ghost use Rattle.joiner.specs.Text.{wordBytes};
 ghost use Rattle.joiner.specs.Tally.{freshTally, changes, tallyPiece, tallyAll, pieceLines, piecesLines};
 ghost use Rattle.plain.specs.File.{badOf};
-ghost use Rattle.joiner.specs.Scan.{scan, linePieces, stepOf, Walk};
+ghost use Rattle.joiner.specs.Scan.{scan, linePieces, stepOf, stopOf, Walk};
 ghost use Rattle.joiner.specs.declared.Step.the-variants.{On};
 use grammar::Answer;
 use plain::Plain;
@@ -199,5 +199,49 @@ fn put_line(out: &mut [u8], at: usize, state: Scan, kind: u8, line: &[u8]) -> St
             let n = len as usize;
             put_taken(out, at, next, tally, kind, address, &data[..n])
         }
+    }
+}
+
+// The answer of a line that is refused; nothing asks for it of another.
+fn answer_of(step: Step) -> Answer
+    ensures { λ r. ⌜ r ≡ stopOf step ⌝ }
+{
+    match step {
+        Step::On(_) => Answer::OutOfPlace,
+        Step::Stop(answer) => answer,
+    }
+}
+
+// A plain file, the lines of its data written from `at` on. Where these do not fit they are counted and not written: reading a file first and
+// then writing its lines is this function twice.
+fn put_body(out: &mut [u8], at: usize, kind: u8, text: &[u8]) -> Body
+    requires { ⌜ at ≤ 1073741824 ⌝ }
+    ensures { λ r. ⌜ Walk (now (out .entry)) at kind (now (text .entry)) r (now (out .exit)) ⌝ }
+{
+    let mut state = Scan {
+        plain: Plain::fresh(),
+        tally: Tally::fresh(),
+    };
+    let mut lines: u32 = 0;
+    let mut i = 0;
+    while i < text.len() {
+        let e = textlines::line_end(text, i);
+        let step = put_line(out, at, state, kind, &text[i..e]);
+        let Step::On(next) = step else {
+            let tally = state.tally;
+            return Body {
+                verdict: Verdict::Bad(lines, answer_of(step)),
+                tally,
+            };
+        };
+        state = next;
+        lines += 1;
+        i = e;
+    }
+    let plain = state.plain;
+    let tally = state.tally;
+    Body {
+        verdict: plain.close(lines, tally.some),
+        tally,
     }
 }
