@@ -2,3 +2,5 @@
 pub mod Tallied
 pub mod Stepped
 pub mod Walked
+pub mod Filled
+pub mod Sectioned

@@ -43,3 +43,9 @@ pub record Walk (out : List ℕ) (at kind : ℕ) (s : List ℕ) (r : Body) (o : 
   pub tally : r .tally ≡ tallyAll freshTally (piecesOf s)
   pub most : r .tally .len ≤ 1000000000
   pub lines : o ≡ putLines out at (piecesLines kind freshTally (piecesOf s))
+
+-- and without what is written
+pub record Scanned (s : List ℕ) (r : Body) : Type 0 where
+  pub verdict : r .verdict ≡ verdictOf s
+  pub tally : r .tally ≡ tallyAll freshTally (piecesOf s)
+  pub most : r .tally .len ≤ 1000000000

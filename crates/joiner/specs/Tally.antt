@@ -8,7 +8,7 @@ use lib.ListN.{length}
 use Rattle.stores.specs.Stores.{Store}
 use Rattle.record.specs.Write.{recordLine}
 use Rattle.joiner.specs.declared.Tally.{Tally}
-use Rattle.joiner.specs.Text.{upperOf, upperLine}
+use Rattle.joiner.specs.Text.{upperOf, upperLine, missing}
 
 abbrev pub tally : Bool → ℕ → ℕ → ℕ → Tally
 tally some first upper len = record { some = some; first = first; upper = upper; len = len }
@@ -41,3 +41,7 @@ unfoldable pub piecesLines : ℕ → Tally → List Store → List (List ℕ)
 piecesLines kind t [] = []
 piecesLines kind t (s ∷ ss) =
     pieceLines kind t (upperOf s) (s .address % 65536) (s .bytes) ++ piecesLines kind (tallyPiece t (upperOf s) (length (s .bytes))) ss
+
+-- how long a section is whose data's lines have n characters: an 04, an 0A and these, then the filling
+abbrev pub sectionSize : ℕ → ℕ
+sectionSize n = 32 + n + (12 + missing (32 + n))

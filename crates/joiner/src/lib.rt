@@ -2,14 +2,16 @@
 ghost use mathlib.Core.Path.{_≡_};
 ghost use mathlib.Core.Bool.{cond};
 ghost use Prim.Native.Nat.{_+_, _/_, _≤_};
-ghost use lib.ListN.{length};
+ghost use lib.ListN.{length, replicate};
+ghost use mathlib.Core.List.{flatten};
+ghost use Rattle.grammar.specs.Grammar.{dataKind};
 ghost use Rattle.hexwrite.specs.Put.{putLine, putLines};
 ghost use Rattle.record.specs.Write.{recordLine};
-ghost use Rattle.joiner.specs.Pieces.{piece, splitOf};
-ghost use Rattle.joiner.specs.Text.{wordBytes};
-ghost use Rattle.joiner.specs.Tally.{freshTally, changes, tallyPiece, tallyAll, pieceLines, piecesLines};
+ghost use Rattle.joiner.specs.Pieces.{piece, splitOf, piecesOf};
+ghost use Rattle.joiner.specs.Text.{wordBytes, firstUpper, missing, fillLines, sectionLines};
+ghost use Rattle.joiner.specs.Tally.{sectionSize, freshTally, changes, tallyPiece, tallyAll, pieceLines, piecesLines};
 ghost use Rattle.plain.specs.File.{badOf};
-ghost use Rattle.joiner.specs.Scan.{scan, linePieces, stepOf, stopOf, Walk};
+ghost use Rattle.joiner.specs.Scan.{scan, linePieces, stepOf, stopOf, Walk, Scanned};
 ghost use Rattle.joiner.specs.declared.Step.the-variants.{On};
 use grammar::Answer;
 use plain::Plain;
@@ -244,4 +246,69 @@ fn put_body(out: &mut [u8], at: usize, kind: u8, text: &[u8]) -> Body
         verdict: plain.close(lines, tally.some),
         tally,
     }
+}
+
+// What a plain file comes to, with nothing written.
+fn scan_file(text: &[u8]) -> Body
+    ensures { λ r. ⌜ Scanned (now (text .entry)) r ⌝ }
+{
+    let mut none = [0u8; 1];
+    put_body(&mut none, 0, Record::DATA, text)
+}
+
+// A record of n bytes of 0xFF, with the address field 0.
+fn put_filling(out: &mut [u8], at: usize, kind: u8, n: usize)
+    requires { ⌜ n ≤ 32 ⌝ }
+    ensures { λ _. ⌜ now (out .exit) ≡ putLine (now (out .entry)) at (recordLine kind 0 (replicate n 255)) ⌝ }
+{
+    let filling = [255u8; Record::MAX];
+    hexwrite::put_record(out, at, kind, 0, &filling[..n]);
+}
+
+// The filling of a section to which m characters are missing beside an empty 0B.
+fn put_fill(out: &mut [u8], at: usize, missing: usize)
+    requires { ⌜ (at ≤ 1073741824) × (missing ≤ 512) ⌝ }
+    ensures { λ _. ⌜ now (out .exit) ≡ putLines (now (out .entry)) at (fillLines missing) ⌝ }
+{
+    let mut place = at;
+    let mut m = missing;
+    while 64 < m {
+        put_filling(out, place, Record::PADDED_DATA, 26);
+        place += 64;
+        m -= 64;
+    }
+    put_filling(out, place, Record::BLOCK_END, m / 2);
+}
+
+// What is missing to a multiple of 512, after n characters and an empty 0B.
+fn missing_after(n: usize) -> usize
+    requires { ⌜ n ≤ 1073741824 ⌝ }
+    ensures { λ r. ⌜ r ≡ missing n ⌝ }
+{
+    (512 - (n + 12) % 512) % 512
+}
+
+// How many characters a section has whose data has so many.
+fn section_len(body: usize) -> usize
+    requires { ⌜ body ≤ 1000000000 ⌝ }
+    ensures { λ r. ⌜ r ≡ sectionSize body ⌝ }
+{
+    let n = 32 + body;
+    n + (12 + missing_after(n))
+}
+
+// A section: its opening 04, its 0A, its data, its filling. Returns the place after it.
+fn put_section(out: &mut [u8], at: usize, board: u16, kind: u8, first: usize, text: &[u8]) -> usize
+    requires { ⌜ (at ≤ 4194304) × (kind ≡ dataKind board) × (first ≡ firstUpper (piecesOf (now text))) ⌝ }
+    ensures { λ r. ⌜ r ≡ at + length (flatten (sectionLines board (piecesOf (now (text .entry))))) ⌝ }
+    ensures lines { λ _. ⌜ now (out .exit) ≡ putLines (now (out .entry)) at (sectionLines board (piecesOf (now (text .entry)))) ⌝ }
+{
+    put_word(out, at, Record::EXTENDED_LINEAR, first);
+    put_word(out, at + 16, Record::BLOCK_START, board as usize);
+    let body = put_body(out, at + 32, kind, text);
+    let tally = body.tally;
+    let n = 32 + tally.len;
+    let m = missing_after(n);
+    put_fill(out, at + n, m);
+    at + (n + (12 + m))
 }
