@@ -8,7 +8,7 @@ use lib.ListN.{length}
 use Rattle.stores.specs.Stores.{Store}
 use Rattle.record.specs.Write.{recordLine}
 use Rattle.joiner.specs.declared.Tally.{Tally}
-use Rattle.joiner.specs.Text.{upperOf, upperLine}
+use Rattle.joiner.specs.Text.{upperOf, upperLine, missing}
 
 abbrev pub tally : Bool → ℕ → ℕ → ℕ → Tally
 tally some first upper len = record { some = some; first = first; upper = upper; len = len }
@@ -31,14 +31,17 @@ unfoldable pub tallyAll : Tally → List Store → Tally
 tallyAll t [] = t
 tallyAll t (s ∷ ss) = tallyAll (tallyPiece t (upperOf s) (length (s .bytes))) ss
 
--- the lines of a piece
-unfoldable pub pieceLines : ℕ → Tally → Store → List (List ℕ)
-pieceLines kind t s =
-    cond (changes t (upperOf s)) (upperLine (upperOf s) ∷ recordLine kind (s .address % 65536) (s .bytes) ∷ [])
-    (recordLine kind (s .address % 65536) (s .bytes) ∷ [])
+-- the lines of a piece, by the two halves of its address
+unfoldable pub pieceLines : ℕ → Tally → ℕ → ℕ → List ℕ → List (List ℕ)
+pieceLines kind t upper lower d =
+    cond (changes t upper) (upperLine upper ∷ recordLine kind lower d ∷ []) (recordLine kind lower d ∷ [])
 
 -- of pieces
 unfoldable pub piecesLines : ℕ → Tally → List Store → List (List ℕ)
 piecesLines kind t [] = []
 piecesLines kind t (s ∷ ss) =
-    pieceLines kind t s ++ piecesLines kind (tallyPiece t (upperOf s) (length (s .bytes))) ss
+    pieceLines kind t (upperOf s) (s .address % 65536) (s .bytes) ++ piecesLines kind (tallyPiece t (upperOf s) (length (s .bytes))) ss
+
+-- how long a section is whose data's lines have n characters: an 04, an 0A and these, then the filling
+abbrev pub sectionSize : ℕ → ℕ
+sectionSize n = 32 + n + (12 + missing (32 + n))

@@ -2,13 +2,21 @@
 ghost use mathlib.Core.Path.{_≡_};
 ghost use mathlib.Core.Bool.{cond};
 ghost use Prim.Native.Nat.{_+_, _/_, _≤_};
-ghost use lib.ListN.{length};
+ghost use lib.ListN.{length, replicate};
+ghost use mathlib.Core.List.{flatten};
+ghost use Rattle.grammar.specs.Grammar.{dataKind};
 ghost use Rattle.hexwrite.specs.Put.{putLine, putLines};
 ghost use Rattle.record.specs.Write.{recordLine};
-ghost use Rattle.joiner.specs.Pieces.{piece, splitOf};
-ghost use Rattle.joiner.specs.Text.{wordBytes};
-ghost use Rattle.joiner.specs.Tally.{freshTally, changes, tallyPiece, tallyAll, pieceLines, piecesLines};
+ghost use Rattle.joiner.specs.Pieces.{piece, splitOf, piecesOf};
+ghost use Rattle.joiner.specs.Text.{wordBytes, firstUpper, missing, fillLines, sectionLines};
+ghost use Rattle.joiner.specs.Tally.{sectionSize, freshTally, changes, tallyPiece, tallyAll, pieceLines, piecesLines};
+ghost use Rattle.plain.specs.File.{badOf};
+ghost use Rattle.joiner.specs.Scan.{scan, linePieces, stepOf, stopOf, Walk, Scanned};
+ghost use Rattle.joiner.specs.declared.Step.the-variants.{On};
 use grammar::Answer;
+use plain::Plain;
+use plain::Taken;
+use plain::Verdict;
 use record::Record;
 
 // Why nothing is written: the board whose file is refused, the line's index from 0 (for a missing 01 and for 30 the number of its lines), and
@@ -32,6 +40,24 @@ struct Tally {
     first: usize,
     upper: usize,
     len: usize,
+}
+
+// Where the reading of a plain file stands, and what is known of its pieces.
+struct Scan {
+    plain: Plain,
+    tally: Tally,
+}
+
+// What a line comes to: reading goes on, or the line is refused.
+enum Step {
+    On(Scan),
+    Stop(Answer),
+}
+
+// What a plain file comes to.
+struct Body {
+    verdict: Verdict,
+    tally: Tally,
 }
 
 // A number by a test.
@@ -86,29 +112,28 @@ fn put_word(out: &mut [u8], at: usize, kind: u8, word: usize)
     hexwrite::put_record(out, at, kind, 0, &two);
 }
 
-// The lines of a piece, after those of the pieces before it.
+// The lines of a piece, by the two halves of its address, after those of the pieces before it.
 fn put_piece(
     out: &mut [u8],
     at: usize,
     tally: Tally,
     kind: u8,
-    address: usize,
+    upper: usize,
+    lower: u16,
     bytes: &[u8],
 ) -> Tally
     requires { ⌜ (at ≤ 1073741824) × (tally .len ≤ 1073741824) × (length (now bytes) ≤ 32) ⌝ }
-    ensures { λ r. ⌜ r ≡ tallyPiece tally (address / 65536) (length (now (bytes .entry))) ⌝ }
-    ensures lines { λ _. ⌜ now (out .exit) ≡ putLines (now (out .entry)) (at + tally .len) (pieceLines kind tally (piece address (now (bytes .entry)))) ⌝ }
+    ensures { λ r. ⌜ r ≡ tallyPiece tally upper (length (now (bytes .entry))) ⌝ }
+    ensures lines { λ _. ⌜ now (out .exit) ≡ putLines (now (out .entry)) (at + tally .len) (pieceLines kind tally upper lower (now (bytes .entry))) ⌝ }
 {
-    let upper = address / 65536;
-    let low = (address % 65536) as u16;
     let from = at + tally.len;
     let next = tally.with_piece(upper, bytes.len());
     if tally.changes(upper) {
         put_word(out, from, Record::EXTENDED_LINEAR, upper);
-        hexwrite::put_record(out, from + 16, kind, low, bytes);
+        hexwrite::put_record(out, from + 16, kind, lower, bytes);
         return next;
     }
-    hexwrite::put_record(out, from, kind, low, bytes);
+    hexwrite::put_record(out, from, kind, lower, bytes);
     next
 }
 
@@ -121,16 +146,169 @@ fn put_data(
     address: usize,
     bytes: &[u8],
 ) -> Tally
-    requires { ⌜ (at ≤ 1073741824) × (tally .len ≤ 1000000000) × (length (now bytes) ≤ 32) × (address ≤ 8589934592) ⌝ }
+    requires { ⌜ (at ≤ 1073741824) × (tally .len ≤ 1000000000) × (length (now bytes) ≤ 32) ⌝ }
     ensures { λ r. ⌜ r ≡ tallyAll tally (splitOf (piece address (now (bytes .entry)))) ⌝ }
     ensures lines { λ _. ⌜ now (out .exit) ≡ putLines (now (out .entry)) (at + tally .len) (piecesLines kind tally (splitOf (piece address (now (bytes .entry))))) ⌝ }
 {
-    let n = bytes.len();
+    let upper = address / 65536;
+    let lower = (address % 65536) as u16;
     let room = 65536 - address % 65536;
-    if room < n {
-        let next = put_piece(out, at, tally, kind, address, &bytes[..room]);
-        let beyond = address + room;
-        return put_piece(out, at, next, kind, beyond, &bytes[room..]);
+    if room < bytes.len() {
+        let next = put_piece(out, at, tally, kind, upper, lower, &bytes[..room]);
+        return put_piece(out, at, next, kind, upper + 1, 0, &bytes[room..]);
     }
-    put_piece(out, at, tally, kind, address, bytes)
+    put_piece(out, at, tally, kind, upper, lower, bytes)
+}
+
+// The lines of the data that a line of a plain file gives; the reading goes on at `next`.
+fn put_taken(
+    out: &mut [u8],
+    at: usize,
+    next: Plain,
+    tally: Tally,
+    kind: u8,
+    address: usize,
+    bytes: &[u8],
+) -> Step
+    requires { ⌜ (at ≤ 1073741824) × (tally .len ≤ 1000000000) × (length (now bytes) ≤ 32) ⌝ }
+    ensures { λ r. ⌜ r ≡ On (scan next (tallyAll tally (splitOf (piece address (now (bytes .entry)))))) ⌝ }
+    ensures lines { λ _. ⌜ now (out .exit) ≡ putLines (now (out .entry)) (at + tally .len) (piecesLines kind tally (splitOf (piece address (now (bytes .entry))))) ⌝ }
+{
+    let kept = put_data(out, at, tally, kind, address, bytes);
+    Step::On(Scan {
+        plain: next,
+        tally: kept,
+    })
+}
+
+// A line of a plain file.
+fn put_line(out: &mut [u8], at: usize, state: Scan, kind: u8, line: &[u8]) -> Step
+    requires { ⌜ (at ≤ 1073741824) × (state .tally .len ≤ 1000000000) ⌝ }
+    ensures { λ r. ⌜ r ≡ stepOf state (now (line .entry)) ⌝ }
+    ensures lines { λ _. ⌜ now (out .exit) ≡ putLines (now (out .entry)) (at + state .tally .len) (piecesLines kind (state .tally) (linePieces (state .plain) (now (line .entry)))) ⌝ }
+{
+    let read = record::read(line);
+    let data = read.data;
+    let parsed = read.parsed;
+    let plain = state.plain;
+    let tally = state.tally;
+    let word = record::word(data[0], data[1]);
+    let taken = plain.line(line.len(), parsed, word);
+    match taken {
+        Taken::Refused(answer) => Step::Stop(answer),
+        Taken::Passed(next) => Step::On(Scan { plain: next, tally }),
+        Taken::Data(next, address, len) => {
+            let n = len as usize;
+            put_taken(out, at, next, tally, kind, address, &data[..n])
+        }
+    }
+}
+
+// The answer of a line that is refused; nothing asks for it of another.
+fn answer_of(step: Step) -> Answer
+    ensures { λ r. ⌜ r ≡ stopOf step ⌝ }
+{
+    match step {
+        Step::On(_) => Answer::OutOfPlace,
+        Step::Stop(answer) => answer,
+    }
+}
+
+// A plain file, the lines of its data written from `at` on. Where these do not fit they are counted and not written: reading a file first and
+// then writing its lines is this function twice.
+fn put_body(out: &mut [u8], at: usize, kind: u8, text: &[u8]) -> Body
+    requires { ⌜ at ≤ 1073741824 ⌝ }
+    ensures { λ r. ⌜ Walk (now (out .entry)) at kind (now (text .entry)) r (now (out .exit)) ⌝ }
+{
+    let mut state = Scan {
+        plain: Plain::fresh(),
+        tally: Tally::fresh(),
+    };
+    let mut lines: u32 = 0;
+    let mut i = 0;
+    while i < text.len() {
+        let e = textlines::line_end(text, i);
+        let step = put_line(out, at, state, kind, &text[i..e]);
+        let Step::On(next) = step else {
+            let tally = state.tally;
+            return Body {
+                verdict: Verdict::Bad(lines, answer_of(step)),
+                tally,
+            };
+        };
+        state = next;
+        lines += 1;
+        i = e;
+    }
+    let plain = state.plain;
+    let tally = state.tally;
+    Body {
+        verdict: plain.close(lines, tally.some),
+        tally,
+    }
+}
+
+// What a plain file comes to, with nothing written.
+fn scan_file(text: &[u8]) -> Body
+    ensures { λ r. ⌜ Scanned (now (text .entry)) r ⌝ }
+{
+    let mut none = [0u8; 1];
+    put_body(&mut none, 0, Record::DATA, text)
+}
+
+// A record of n bytes of 0xFF, with the address field 0.
+fn put_filling(out: &mut [u8], at: usize, kind: u8, n: usize)
+    requires { ⌜ n ≤ 32 ⌝ }
+    ensures { λ _. ⌜ now (out .exit) ≡ putLine (now (out .entry)) at (recordLine kind 0 (replicate n 255)) ⌝ }
+{
+    let filling = [255u8; Record::MAX];
+    hexwrite::put_record(out, at, kind, 0, &filling[..n]);
+}
+
+// The filling of a section to which m characters are missing beside an empty 0B.
+fn put_fill(out: &mut [u8], at: usize, missing: usize)
+    requires { ⌜ (at ≤ 1073741824) × (missing ≤ 512) ⌝ }
+    ensures { λ _. ⌜ now (out .exit) ≡ putLines (now (out .entry)) at (fillLines missing) ⌝ }
+{
+    let mut place = at;
+    let mut m = missing;
+    while 64 < m {
+        put_filling(out, place, Record::PADDED_DATA, 26);
+        place += 64;
+        m -= 64;
+    }
+    put_filling(out, place, Record::BLOCK_END, m / 2);
+}
+
+// What is missing to a multiple of 512, after n characters and an empty 0B.
+fn missing_after(n: usize) -> usize
+    requires { ⌜ n ≤ 1073741824 ⌝ }
+    ensures { λ r. ⌜ r ≡ missing n ⌝ }
+{
+    (512 - (n + 12) % 512) % 512
+}
+
+// How many characters a section has whose data has so many.
+fn section_len(body: usize) -> usize
+    requires { ⌜ body ≤ 1000000000 ⌝ }
+    ensures { λ r. ⌜ r ≡ sectionSize body ⌝ }
+{
+    let n = 32 + body;
+    n + (12 + missing_after(n))
+}
+
+// A section: its opening 04, its 0A, its data, its filling. Returns the place after it.
+fn put_section(out: &mut [u8], at: usize, board: u16, kind: u8, first: usize, text: &[u8]) -> usize
+    requires { ⌜ (at ≤ 4194304) × (kind ≡ dataKind board) × (first ≡ firstUpper (piecesOf (now text))) ⌝ }
+    ensures { λ r. ⌜ r ≡ at + length (flatten (sectionLines board (piecesOf (now (text .entry))))) ⌝ }
+    ensures lines { λ _. ⌜ now (out .exit) ≡ putLines (now (out .entry)) at (sectionLines board (piecesOf (now (text .entry)))) ⌝ }
+{
+    put_word(out, at, Record::EXTENDED_LINEAR, first);
+    put_word(out, at + 16, Record::BLOCK_START, board as usize);
+    let body = put_body(out, at + 32, kind, text);
+    let tally = body.tally;
+    let n = 32 + tally.len;
+    let m = missing_after(n);
+    put_fill(out, at + n, m);
+    at + (n + (12 + m))
 }

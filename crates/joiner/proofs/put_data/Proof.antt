@@ -9,6 +9,9 @@ use borrow.Author.Needs.{needs}
 use Rattle.joiner.proofs.put_data.Statement.{statement}
 use Rattle.joiner.proofs.put_data.Tie as tie
 
+cast-lower : tie.Need-cast-lower
+cast-lower c = search needs
+
 sub-room : tie.Need-sub-room
 sub-room c = search needs
 
@@ -20,8 +23,8 @@ put-piece-requires c κs =
     let a = c .before .before .before .before .before .args in
     (omega arith, omega arith, omega (arith, length-take (65536 - a .address % 65536) (a .bytes .now)))
 
-add-beyond : tie.Need-add-beyond
-add-beyond c = search needs
+add-put-piece : tie.Need-add-put-piece
+add-put-piece c = search needs
 
 sub-put-piece : tie.Need-sub-put-piece
 sub-put-piece c = search needs
@@ -61,10 +64,11 @@ pub put-data-spec : {M : Type 1} → statement M
 put-data-spec =
     tie.close
     (tie.spec
+    cast-lower
     sub-room
     slice-aggregate-put-piece
     put-piece-requires
-    add-beyond
+    add-put-piece
     sub-put-piece
     part-put-piece-start
     part-put-piece-end

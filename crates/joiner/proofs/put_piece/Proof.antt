@@ -1,16 +1,12 @@
 -- `joiner::put_piece` meets its contract. Assumes nothing.
 use Rattle.joiner.proofs.Tallied.{put-changed, put-unchanged}
 use Rattle.hexwrite.proofs.Lines.{put-record-line}
-use Rattle.joiner.specs.Pieces.{piece}
 use native.Mathlib.Omega.{arith}
 use Prim.Native.Nat.{_+_}
 use mathlib.Core.Path.{_∙_}
 use borrow.Author.Needs.{needs}
 use Rattle.joiner.proofs.put_piece.Statement.{statement}
 use Rattle.joiner.proofs.put_piece.Tie as tie
-
-cast-low : tie.Need-cast-low
-cast-low c = search needs
 
 add-from : tie.Need-add-from
 add-from c = search needs
@@ -36,7 +32,7 @@ same-length c = search needs
 returns : tie.Need-returns
 returns c =
     let a = c .before .before .before .before .before .before .before .before .before .before .before .before .before .before .args in
-    (c .before .before .before .before .before .before .before .before .before .before .with-piece .ensures, put-changed (a .out .now) (a .kind) (a .at + a .tally .len) (a .tally) (piece (a .address) (a .bytes .now)) (c .before .before .before .before .before .before .before .before .before .changes .ensures) (c .before .before .before .before .before .before .before .before .if1 .taken) (c .before .before .before .before .before .before .put-word .ensures) (c .before .before .put-record .ensures ∙ put-record-line _ _ _ _ _ (omega arith)))
+    (c .before .before .before .before .before .before .before .before .before .before .with-piece .ensures, put-changed (a .out .now) (a .kind) (a .at + a .tally .len) (a .tally) (a .upper) (a .lower) (a .bytes .now) (c .before .before .before .before .before .before .before .before .before .changes .ensures) (c .before .before .before .before .before .before .before .before .if1 .taken) (c .before .before .before .before .before .before .put-word .ensures) (c .before .before .put-record .ensures ∙ put-record-line _ _ _ _ _ (omega arith)))
 
 put-record-requires-2 : tie.Need-put-record-requires-2
 put-record-requires-2 c κs = search needs
@@ -47,13 +43,12 @@ same-length-2 c = search needs
 returns-2 : tie.Need-returns-2
 returns-2 c =
     let a = c .before .before .before .before .before .before .before .before .before .before .args in
-    (c .before .before .before .before .before .before .with-piece .ensures, put-unchanged (a .out .now) (a .kind) (a .at + a .tally .len) (a .tally) (piece (a .address) (a .bytes .now)) (c .before .before .before .before .before .changes .ensures) (c .before .before .before .before .if1 .left) (c .before .before .put-record2 .ensures ∙ put-record-line _ _ _ _ _ (omega arith)))
+    (c .before .before .before .before .before .before .with-piece .ensures, put-unchanged (a .out .now) (a .kind) (a .at + a .tally .len) (a .tally) (a .upper) (a .lower) (a .bytes .now) (c .before .before .before .before .before .changes .ensures) (c .before .before .before .before .if1 .left) (c .before .before .put-record2 .ensures ∙ put-record-line _ _ _ _ _ (omega arith)))
 
 pub put-piece-spec : {M : Type 1} → statement M
 put-piece-spec =
     tie.close
     (tie.spec
-    cast-low
     add-from
     with-piece-requires
     changes-requires
