@@ -19,7 +19,7 @@ use Rattle.plain.specs.Line.{plain, freshPlain, lineTaken, takenOf}
 use Rattle.plain.specs.File.{goesOn, badOf, nextOf, linesVerdict}
 use Rattle.joined.specs.PlainFile.{Records, baseAfter}
 use Rattle.joined.specs.Refusals.{PlainType, Begun, nothing, more, BadLine, BadLines, bad-line, after-the-01, no-01}
-use Rattle.joined.proofs.PlainRead.{Went, Last, View, stops, goes, ends, view}
+use Rattle.joined.proofs.PlainRead.{Went, Last, View, stops, goes, ends, line-view}
 
 begun-append : {xs : List Item} (x : Item) → PlainType (x .kind) (length (x .bytes)) → x .kind ≢ 1 → (x .kind ≡ 0 → x .address + length (x .bytes) ≤ 65536)
     → Begun xs → Begun (xs ++ (x ∷ []))
@@ -76,7 +76,7 @@ bad-lines [] p k j x ks u b n e =
     subst (λ (y : Answer). BadLines (ks ++ []) j y) (f .1)
     (subst (λ (m : ℕ). BadLines (ks ++ []) m OutOfPlace) (sym n ∙ f .0)
     (subst (λ (z : List (List ℕ)). BadLines z (length ks) OutOfPlace) (sym (append-nil ks)) (no-01 (b .items) (b .says) (b .begun))))
-bad-lines (l ∷ ls) p k j x ks u b n e = by-view (view p l u) (λ q m v w i. bad-lines ls q (suc k) j x m v w i)
+bad-lines (l ∷ ls) p k j x ks u b n e = by-view (line-view p l u) (λ q m v w i. bad-lines ls q (suc k) j x m v w i)
   where
     longer : suc k ≡ length (ks ++ (l ∷ []))
     longer = omega (arith, length-append ks (l ∷ []))

@@ -38,14 +38,14 @@ use Rattle.joined.specs.Refusals.{BadText}
 use Rattle.joined.specs.PlainFile.{WithData, PlainPieces, within}
 use Rattle.joined.specs.Claims.{Joined-reads-back, Joined-is-file, Cuts-change-no-byte, Cuts-are-one, Joined-are-plain, RefusalCase, of-v1, of-v2, of-both, Refused-by-board, Room-by-length, Refusal-writes-nothing, Past-output-stays}
 use Rattle.joined.proofs.Written.{written-says, written-lines, written-map}
-use Rattle.joined.proofs.Sections.{Pieces, no-piece, piece, section, board-is, section-linear, section-size, section-form}
+use Rattle.joined.proofs.Sections.{Pieces, no-piece, next-piece, section, board-is, section-linear, section-size, section-form}
 use Rattle.joined.proofs.Whole.{sections, fileItems, file-written, file-stores, is-file}
-use Rattle.joined.proofs.PlainFiles.{Parted, parted, fine-data, data-fine, bad-text}
+use Rattle.joined.proofs.PlainFiles.{PartedText, parted, fine-data, data-fine, bad-text}
 use Rattle.joined.proofs.Cuts.{cuts-byte, cuts-one}
 
 -- ---- an output
 
-record Output (a b out : List ℕ) (n : ℕ) : Type 0 where
+record OutputFacts (a b out : List ℕ) (n : ℕ) : Type 0 where
   pub fine-a : verdictOf a ≡ Fine
   pub fine-b : verdictOf b ≡ Fine
   pub size : n ≡ length (fileText (piecesOf a) (piecesOf b))
@@ -79,12 +79,12 @@ written-there : (t out : List ℕ) → length t ≤ 4194304 → length t ≤ len
 unfolding writtenOf
 written-there t out m f = rw (le-ltb 4194304 (length t) m, le-ltb (length out) (length t) f)
 
-output : (a b out : List ℕ) (n : ℕ) → joinOf a b out .answer ≡ Written n → Output a b out n
+output : (a b out : List ℕ) (n : ℕ) → joinOf a b out .answer ≡ Written n → OutputFacts a b out n
 unfolding joinOf
 output a b out n e = by-verdicts (verdictOf a) (verdictOf b) refl refl e
   where
     by-verdicts : (v w : Verdict) → verdictOf a ≡ v → verdictOf b ≡ w
-        → onVerdict 0x9900 v out (onVerdict 0x9903 w out (writtenOf (fileText (piecesOf a) (piecesOf b)) out)) .answer ≡ Written n → Output a b out n
+        → onVerdict 0x9900 v out (onVerdict 0x9903 w out (writtenOf (fileText (piecesOf a) (piecesOf b)) out)) .answer ≡ Written n → OutputFacts a b out n
     by-verdicts (Bad k x) w f g e = not-written _ n e
     by-verdicts Fine (Bad k x) f g e = not-written _ n e
     by-verdicts Fine Fine f g e =
@@ -92,7 +92,7 @@ output a b out n e = by-verdicts (verdictOf a) (verdictOf b) refl refl e
         record { fine-a = f; fine-b = g; size = w .0; most = omega (arith, w .0, w .1); fits = omega (arith, w .0, w .2); room = rw (f, g) (w .3) }
 
 -- the text that stands in the room, and its lines
-module _ (a b out : List ℕ) (n : ℕ) (o : Output a b out n) where
+module _ (a b out : List ℕ) (n : ℕ) (o : OutputFacts a b out n) where
   abbrev text : List ℕ
   text = fileText (piecesOf a) (piecesOf b)
 
@@ -103,10 +103,10 @@ module _ (a b out : List ℕ) (n : ℕ) (o : Output a b out n) where
   unfolding over
   text-there = rw (o .size, o .room) (take-append-seam text (drop (0 + length text) out))
 
-  part-a : Parted a
+  part-a : PartedText a
   part-a = parted a (o .fine-a)
 
-  part-b : Parted b
+  part-b : PartedText b
   part-b = parted b (o .fine-b)
 
   lines-there : ls ≡ fileLines (piecesOf a) (piecesOf b)
@@ -122,8 +122,8 @@ module _ (a b out : List ℕ) (n : ℕ) (o : Output a b out n) where
       by-pieces : {p q : List Store} → Pieces p → Pieces q → 1 ≤ length p → 1 ≤ length q → length (fileText p q) ≤ 4194304
           → (f : File (fileItems p q)) × (f .sections ≡ sections p q) × (f .ending ≡ item 0x01 0 [])
       by-pieces no-piece w h k m = absurd (omega arith)
-      by-pieces (piece f fs) no-piece h k m = absurd (omega arith)
-      by-pieces (piece f fs) (piece g gs) h k m = is-file f fs g gs m
+      by-pieces (next-piece f fs) no-piece h k m = absurd (omega arith)
+      by-pieces (next-piece f fs) (next-piece g gs) h k m = is-file f fs g gs m
 
 accepted : (own n : ℕ) (s : State) (xs : List Item) → Acceptance (answersFor own n s xs)
 unfolding answersFor

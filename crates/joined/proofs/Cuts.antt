@@ -20,7 +20,7 @@ use Rattle.wholefile.specs.Items.{Item, itemOf, Says, line, wordOf}
 use Rattle.wholefile.proofs.OneRecord.{len-item}
 use Rattle.joiner.specs.Pieces.{roomOf, splitOf, splitAll}
 use Rattle.joined.specs.PlainFile.{Records, ending-01, data-00, segment-02, start-03, linear-04, start-05, at, baseAfter, dataFrom, Cut, uncut, crossing, Cuts, none, one}
-use Rattle.joined.proofs.Sections.{Piece, Pieces, no-piece, piece}
+use Rattle.joined.proofs.Sections.{Piece, Pieces, no-piece, next-piece}
 
 -- ---- bytes
 
@@ -135,7 +135,7 @@ module _ (s : Store) (f : Data s) where
           wide = omega (arith, f .inside, f .some);
           bytes = bytes-drop r d (f .bytes);
         } in
-        piece p (piece q no-piece)
+        next-piece p (next-piece q no-piece)
 
   split-one : Cut a d (splitOf s) × Pieces (splitOf s)
   unfolding splitOf
@@ -146,11 +146,11 @@ module _ (s : Store) (f : Data s) where
       let h : length d ≤ r = ltb-false r (length d) z in
       let c : Cut a d (at a d ∷ []) = uncut {a = a} {d = d} (omega arith) in
       let p : Piece s = record { some = f .some; few = f .few; inside = omega arith; wide = omega (arith, f .inside, f .some); bytes = f .bytes } in
-      rw z (c, piece p no-piece))
+      rw z (c, next-piece p no-piece))
 
 pieces-append : {ss ts : List Store} → Pieces ss → Pieces ts → Pieces (ss ++ ts)
 pieces-append no-piece q = q
-pieces-append (piece p ps) q = piece p (pieces-append ps q)
+pieces-append (next-piece p ps) q = next-piece p (pieces-append ps q)
 
 pub split-all : {ss : List Store} → AllData ss → Cuts ss (splitAll ss) × Pieces (splitAll ss)
 unfolding splitAll

@@ -18,7 +18,7 @@ use Rattle.wholefile.proofs.Runs.{size-append}
 use Rattle.wholefile.proofs.Claims.{says-one}
 use Rattle.joiner.specs.Text.{upperOf, firstUpper}
 use Rattle.joined.specs.PlainFile.{at, dataFrom, Cuts, PlainPieces}
-use Rattle.joined.specs.Form.{word, filler, Uppers, no-more, same, changed, Form}
+use Rattle.joined.specs.Form.{word, filler, UppersAsNeeded, no-more, same, changed, Form}
 use Rattle.joined.specs.Claims.{linearData, SectionOf, TwoSections, Output-is-one}
 use Rattle.joined.proofs.Sections.{bodyItems, padItem, closeItem, pads-size, pads-linear, word-back}
 use Rattle.joined.proofs.Cuts.{cuts-one}
@@ -63,7 +63,7 @@ module _ (b : ℕ) where
     body-changed t n = rw (upper-is, lower-is, ne-eqb t u (λ e. n (sym e)))
 
   -- records are given by their pieces
-  uppers-are : {u : ℕ} {xs : List Item} → Uppers kind u xs → xs ≡ bodyItems kind u (linearData kind u xs)
+  uppers-are : {u : ℕ} {xs : List Item} → UppersAsNeeded kind u xs → xs ≡ bodyItems kind u (linearData kind u xs)
   uppers-are no-more = unfold linearData bodyItems in refl
   uppers-are (same {u} {a} {d} {xs} h r) =
       ap (λ (z : List Item). item kind a d ∷ z) (uppers-are r)

@@ -43,7 +43,7 @@ unfolding sizeOf flatten
 said-length none = refl
 said-length (line {l} {ls} rec p t) = omega (arith, said-length t, length-append l (flatten ls))
 
-pub record Parted (s : List ℕ) : Type 0 where
+pub record PartedText (s : List ℕ) : Type 0 where
   pub plain : PlainPieces s (piecesOf s)
   pub pieces : Pieces (piecesOf s)
   pub some : 1 ≤ length (piecesOf s)
@@ -61,7 +61,7 @@ reading-file s r =
     let n : length s ≡ sizeOf (r .items) = ap length (sym (lines-flat s)) ∙ sym (said-length (r .says)) in
     record { says = r .says; records = r .records; short = omega (arith, r .short) }
 
-read-parted : (s : List ℕ) → Reading freshPlain (linesOf s) → 1 ≤ length (splitAll (recordsOf s)) → Parted s
+read-parted : (s : List ℕ) → Reading freshPlain (linesOf s) → 1 ≤ length (splitAll (recordsOf s)) → PartedText s
 unfolding piecesOf recordsOf
 read-parted s r m =
     let c = split-all (data-all (r .says) (r .records) 0 (omega arith)) in
@@ -71,7 +71,7 @@ read-parted s r m =
       some = m;
     }
 
-pub parted : (s : List ℕ) → verdictOf s ≡ Fine → Parted s
+pub parted : (s : List ℕ) → verdictOf s ≡ Fine → PartedText s
 unfolding verdictOf
 parted s e =
     let f = then-fine (linesVerdict freshPlain 0 (linesOf s)) (dataVerdict (length (linesOf s)) (isSome (recordsOf s))) e in

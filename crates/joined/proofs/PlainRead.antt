@@ -214,8 +214,8 @@ too-long : (p : Plain) (l : List ℕ) → p .ended ≡ false → ltb 4194304 (p 
 unfolding takenOf lineTaken
 too-long p l u y = rw (u, y)
 
-pub view : (p : Plain) (l : List ℕ) → p .ended ≡ false → View p l (takenOf p l)
-view p l u =
+pub line-view : (p : Plain) (l : List ℕ) → p .ended ≡ false → View p l (takenOf p l)
+line-view p l u =
     split (ltb 4194304 (p .offset + length l))
     (λ y. subst (View p l) (too-long p l u y) (stops refl (row-36 (ltb-true 4194304 (p .offset + length l) y))))
     (λ n.
@@ -267,7 +267,7 @@ last-one p l w =
 pub plain-reading : (ls : List (List ℕ)) (p : Plain) (k : ℕ) → p .ended ≡ false → linesVerdict p k ls ≡ Fine → Reading p ls
 unfolding linesVerdict
 plain-reading [] p k u e = no-refusal k _ (rw u at e)
-plain-reading (l ∷ ls) p k u e = by-view (view p l u) (λ q f. plain-reading ls q (suc k) f)
+plain-reading (l ∷ ls) p k u e = by-view (line-view p l u) (λ q f. plain-reading ls q (suc k) f)
   where
     by-view : View p l (takenOf p l) → ((q : Plain) → q .ended ≡ false → linesVerdict q (suc k) ls ≡ Fine → Reading q ls) → Reading p (l ∷ ls)
     by-view (stops f w) r = no-refusal k _ (rw f at e)
@@ -319,7 +319,7 @@ pub plain-fine : {ls : List (List ℕ)} {xs : List Item} → Says ls xs → Reco
     → linesVerdict p k ls ≡ Fine
 unfolding linesVerdict sizeOf
 plain-fine (line {l} {ls} {xs} rec e t) r p k u m =
-    by-view (view p l u)
+    by-view (line-view p l u)
     (λ q v w n. plain-fine t w q (suc k) v n)
   where
     a : Allowed (rec .kind) (rec .address) (length (itemOf l rec .bytes)) × (rec .kind ≢ 1 → Records xs) × (rec .kind ≡ 1 → xs ≡ [])

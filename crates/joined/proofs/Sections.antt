@@ -19,7 +19,7 @@ use Rattle.wholefile.specs.Instance.{item}
 use Rattle.wholefile.proofs.OneRecord.{not-data, data-not, data-kind, no-gift, a-gift}
 use Rattle.wholefile.proofs.Runs.{size-append, stays-body}
 use Rattle.joiner.specs.Text.{wordBytes, upperOf, bodyLines, firstUpper, startLines, missing, pads, padLine, fillLines, sectionLines}
-use Rattle.joined.specs.Form.{word, Uppers, no-more, same, changed, Form}
+use Rattle.joined.specs.Form.{word, UppersAsNeeded, no-more, same, changed, Form}
 use Rattle.joined.specs.PlainFile.{at, within}
 use Rattle.joined.specs.Claims.{linearData}
 use Rattle.joined.proofs.Written.{Fits, Written, nothing, more, written-append, written-size, written-even}
@@ -36,7 +36,7 @@ pub record Piece (s : Store) : Type 0 where
 
 pub data Pieces : List Store → Type 0 where
   no-piece : Pieces []
-  piece : {s : Store} {ss : List Store} → Piece s → Pieces ss → Pieces (s ∷ ss)
+  next-piece : {s : Store} {ss : List Store} → Piece s → Pieces ss → Pieces (s ∷ ss)
 
 -- ---- records of two bytes
 
@@ -71,7 +71,7 @@ bodyItems kind u (s ∷ ss) = itemsIf u (upperOf s) (dataItem kind s ∷ bodyIte
 body-written : (kind : ℕ) → kind < 256 → (u : ℕ) {ss : List Store} → Pieces ss → Written (bodyLines kind u ss) (bodyItems kind u ss)
 unfolding bodyLines bodyItems
 body-written kind k u no-piece = nothing
-body-written kind k u (piece {s} p ps) =
+body-written kind k u (next-piece {s} p ps) =
     let v = upperOf s in
     let f : Fits kind (s .address % 65536) (s .bytes) = record { kind = k; address = omega arith; short = p .few; bytes = p .bytes } in
     let rest = more f (body-written kind k v ps) in
@@ -80,7 +80,7 @@ body-written kind k u (piece {s} p ps) =
 body-is : (b u : ℕ) (ys : List Item) → Body b ys → {ss : List Store} → Pieces ss → Body b (bodyItems (dataKind b) u ss ++ ys)
 unfolding bodyItems
 body-is b u ys t no-piece = t
-body-is b u ys t (piece {s} {ss} p ps) =
+body-is b u ys t (next-piece {s} {ss} p ps) =
     let v = upperOf s in
     let rest : Body b (dataItem (dataKind b) s ∷ bodyItems (dataKind b) v ss ++ ys) = body-data (data-kind b) (p .inside) (body-is b v ys t ps) in
     split (eqb u v) (λ y. rw y rest) (λ n. rw n (body-04 refl refl rest))
@@ -130,7 +130,7 @@ module _ (own n : ℕ) where
         → storesFor own n s (bodyItems (dataKind b) u ss) ≡ ownOnly ss
     unfolding bodyItems storesFor
     body-stores u no-piece s e f = unfold within in split (eqb b own) (λ y. rw y) (λ z. rw z)
-    body-stores u (piece {s = t} {ss = ts} p ps) s e f =
+    body-stores u (next-piece {s = t} {ss = ts} p ps) s e f =
         let v = upperOf t in
         let x = dataItem (dataKind b) t in
         let not : (k : ℕ) → k ≢ 0 → k ≢ 13 → x .kind ≢ k = λ k z w. data-not (x .kind) b k z w (data-kind b) in
@@ -264,7 +264,7 @@ module _ (b : ℕ) (ss : List Store) where
 
 first-upper : {ss : List Store} → Pieces ss → firstUpper ss < 65536
 first-upper no-piece = omega arith
-first-upper (piece p ps) = p .wide
+first-upper (next-piece p ps) = p .wide
 
 module _ (b : ℕ) (hb : b < 65536) {ss : List Store} (ps : Pieces ss) where
   start-written : Written (startLines b ss) (startItems b ss)
@@ -328,7 +328,7 @@ section-gives b s ss p = body-gives b (upperOf s) (padItems b (s ∷ ss)) s ss p
 
 -- ---- the form of a section
 
-body-uppers : (b u : ℕ) (ss : List Store) → Uppers (dataTypeOf b) u (bodyItems (dataKind b) u ss)
+body-uppers : (b u : ℕ) (ss : List Store) → UppersAsNeeded (dataTypeOf b) u (bodyItems (dataKind b) u ss)
 unfolding bodyItems
 body-uppers b u [] = no-more
 body-uppers b u (s ∷ ss) =
@@ -337,15 +337,15 @@ body-uppers b u (s ∷ ss) =
     let x = dataItem (dataTypeOf b) s in
     let rest = body-uppers b v ss in
     split (eqb u v)
-    (λ y. rw y (subst (λ (k : ℕ). Uppers (dataTypeOf b) u (dataItem k s ∷ xs)) (sym (data-kind b)) (same (omega arith) (subst (λ (w : ℕ). Uppers (dataTypeOf b) w xs) (sym (eqb-true u v y)) rest))))
-    (λ n. rw n (subst (λ (k : ℕ). Uppers (dataTypeOf b) u (word 0x04 v ∷ dataItem k s ∷ xs)) (sym (data-kind b)) (changed (λ e. eqb-false u v n (sym e)) (omega arith) rest)))
+    (λ y. rw y (subst (λ (k : ℕ). UppersAsNeeded (dataTypeOf b) u (dataItem k s ∷ xs)) (sym (data-kind b)) (same (omega arith) (subst (λ (w : ℕ). UppersAsNeeded (dataTypeOf b) w xs) (sym (eqb-true u v y)) rest))))
+    (λ n. rw n (subst (λ (k : ℕ). UppersAsNeeded (dataTypeOf b) u (word 0x04 v ∷ dataItem k s ∷ xs)) (sym (data-kind b)) (changed (λ e. eqb-false u v n (sym e)) (omega arith) rest)))
 
 some-form : (b : ℕ) → b < 65536 → (s : Store) (ss : List Store) → Piece s → Pieces ss → Form b (section b (s ∷ ss))
 unfolding bodyItems
 some-form b hb s ss p ps =
     let v = upperOf s in
     let k = m b (s ∷ ss) in
-    let w = start-written b hb (piece p ps) in
+    let w = start-written b hb (next-piece p ps) in
     let n = length (flatten (startLines b (s ∷ ss))) in
     let e : n % 2 ≡ 0 = ap (λ (z : ℕ). z % 2) (written-size w) ∙ written-even w in
     record {
@@ -368,4 +368,4 @@ some-form b hb s ss p ps =
 
 pub section-form : (b : ℕ) → b < 65536 → {ss : List Store} → Pieces ss → 1 ≤ length ss → Form b (section b ss)
 section-form b hb no-piece h = absurd (omega arith)
-section-form b hb (piece {s} {ss} p ps) h = some-form b hb s ss p ps
+section-form b hb (next-piece {s} {ss} p ps) h = some-form b hb s ss p ps

@@ -17,7 +17,7 @@ use Rattle.wholefile.proofs.Runs.{data-all}
 use Rattle.joiner.specs.Text.{fileLines, fileText}
 use Rattle.joined.specs.PlainFile.{within}
 use Rattle.joined.proofs.Written.{Written, nothing, more, written-append, written-size}
-use Rattle.joined.proofs.Sections.{Piece, Pieces, piece, stores-append, section, section-written, section-size, is-section, section-stores, section-gives}
+use Rattle.joined.proofs.Sections.{Piece, Pieces, next-piece, stores-append, section, section-written, section-size, is-section, section-stores, section-gives}
 
 module _ (a b : List Store) where
   abbrev pub sections : List Section
@@ -82,14 +82,14 @@ module _ {s t : Store} {ss ts : List Store} (p : Piece s) (ps : Pieces ss) (q : 
       sections = sections a b;
       ending = item 0x01 0 [];
       whole = refl;
-      ordered = in-order (piece p ps) (piece q qs);
+      ordered = in-order (next-piece p ps) (next-piece q qs);
       ends = refl;
       empty = refl;
       once-v1 = omega arith;
       once-v2 = omega arith;
       data-v1 = rw (section-gives 0x9900 s ss p);
       data-v2 = rw (section-gives 0x9903 t ts q);
-      short = omega (arith, written-size (file-written (piece p ps) (piece q qs)));
+      short = omega (arith, written-size (file-written (next-piece p ps) (next-piece q qs)));
     },
     refl,
     refl,

@@ -17,10 +17,10 @@ abbrev pub filler : ℕ → ℕ → Item
 filler kind n = item kind 0 (replicate n 255)
 
 -- data records after an 04 that holds u: "another stands only where that changes", before the record that needs it; an address field is 16 bits
-pub data Uppers (kind : ℕ) : ℕ → List Item → Type 0 where
-  no-more : {u : ℕ} → Uppers kind u []
-  same : {u a : ℕ} {d : List ℕ} {xs : List Item} → a < 65536 → Uppers kind u xs → Uppers kind u (item kind a d ∷ xs)
-  changed : {u v a : ℕ} {d : List ℕ} {xs : List Item} → v ≢ u → a < 65536 → Uppers kind v xs → Uppers kind u (word 0x04 v ∷ item kind a d ∷ xs)
+pub data UppersAsNeeded (kind : ℕ) : ℕ → List Item → Type 0 where
+  no-more : {u : ℕ} → UppersAsNeeded kind u []
+  same : {u a : ℕ} {d : List ℕ} {xs : List Item} → a < 65536 → UppersAsNeeded kind u xs → UppersAsNeeded kind u (item kind a d ∷ xs)
+  changed : {u v a : ℕ} {d : List ℕ} {xs : List Item} → v ≢ u → a < 65536 → UppersAsNeeded kind v xs → UppersAsNeeded kind u (word 0x04 v ∷ item kind a d ∷ xs)
 
 -- a section of a board
 pub record Form (board : ℕ) (s : Section) : Type 0 where
@@ -31,7 +31,7 @@ pub record Form (board : ℕ) (s : Section) : Type 0 where
   pub records : List Item
   pub opening : s .opening ≡ word 0x04 upper
   pub low : address < 65536
-  pub uppers : Uppers (dataTypeOf board) upper records
+  pub uppers : UppersAsNeeded (dataTypeOf board) upper records
   -- "0A holds the board's two bytes"
   pub naming : s .naming ≡ word 0x0A board
   -- "filled with 0C records of 26 bytes of 0xFF", each of 64 characters; "the 0B takes the rest as 0xFF", two characters a byte
