@@ -1,8 +1,8 @@
 -- The claims of specs/Claims.antt hold. Assumes nothing.
-use Prim.Native.Nat.{ℕ, _+_, _≤_}
+use Prim.Native.Nat.{ℕ, _+_, _≤_, _<_}
 use mathlib.Core.Path.{_≡_, refl, sym, ap, subst, _∙_}
 use mathlib.Core.Bool.{cond, _||_}
-use mathlib.Core.List.{List, [], _∷_}
+use mathlib.Core.List.{List, [], _∷_, _++_, map, flatten}
 use native.Mathlib.Omega.{arith}
 use lib.Dec.{eqb, ltb}
 use lib.ListN.{length, getD, take, drop}
@@ -21,7 +21,7 @@ use Rattle.hexfile.proofs.Claims.{image-is-latest, image-length-kept}
 use Rattle.wholefile.specs.Items.{Item, Says, none, line}
 use Rattle.wholefile.specs.Whole.{Section, allItems, File}
 use Rattle.wholefile.specs.State.{State, begin, after, answersFor}
-use Rattle.wholefile.specs.Instance.{item}
+use Rattle.wholefile.specs.Instance.{item, lineFor}
 use Rattle.wholefile.specs.Claims as wholefile
 use Rattle.wholefile.specs.Claims.{FileEnd, File-ends, Acceptance}
 use Rattle.wholefile.proofs.Claims.{file-ends}
@@ -36,11 +36,12 @@ use Rattle.joiner.specs.Text.{fileLines, fileText}
 use Rattle.joiner.specs.Join.{JoinCall, joinCall, refusal, onVerdict, writtenOf, joinOf}
 use Rattle.joined.specs.Refusals.{BadText}
 use Rattle.joined.specs.PlainFile.{WithData, PlainPieces, within}
-use Rattle.joined.specs.Claims.{Joined-reads-back, Joined-is-file, Cuts-change-no-byte, Cuts-are-one, Joined-are-plain, RefusalCase, of-v1, of-v2, of-both, Refused-by-board, Room-by-length, Refusal-writes-nothing, Past-output-stays}
+use Rattle.joined.specs.Claims.{Joined-reads-back, SectionOf, Joined-is-file, Cuts-change-no-byte, Cuts-are-one, Joined-are-plain, RefusalCase, of-v1, of-v2, of-both, Fitting-is-written, Refused-by-board, Refusal-writes-nothing, Past-output-stays}
 use Rattle.joined.proofs.Written.{written-says, written-lines, written-map}
 use Rattle.joined.proofs.Sections.{Pieces, no-piece, next-piece, section, board-is, section-linear, section-size, section-form}
 use Rattle.joined.proofs.Whole.{sections, fileItems, file-written, file-stores, is-file}
-use Rattle.joined.proofs.PlainFiles.{PartedText, parted, fine-data, data-fine, bad-text}
+use Rattle.joined.proofs.One.{section-data, section-one, lines-are}
+use Rattle.joined.proofs.PlainFiles.{said-length, PartedText, parted, fine-data, data-fine, bad-text}
 use Rattle.joined.proofs.Cuts.{cuts-byte, cuts-one}
 
 -- ---- an output
@@ -160,6 +161,15 @@ joined-reads-back a b out n e own img g =
       },
     )
 
+section-of : (board : ℕ) → board < 65536 → (s : List ℕ) → PartedText s → SectionOf board s (section board (piecesOf s))
+section-of board h s p =
+    record {
+      named = board-is board (piecesOf s);
+      form = section-form board h (p .pieces) (p .some);
+      aligned = omega (arith, section-size board h (p .pieces));
+      pieces = rw (section-linear board (piecesOf s)) (p .plain);
+    }
+
 pub joined-is-file : Joined-is-file
 unfolding Joined-is-file
 joined-is-file a b out n e =
@@ -176,20 +186,8 @@ joined-is-file a b out n e =
       v2 = section 0x9903 (piecesOf b);
       two = w .1;
       ending = w .2;
-      of-v1 =
-          record {
-            named = board-is 0x9900 (piecesOf a);
-            form = section-form 0x9900 (omega arith) (p .pieces) (p .some);
-            aligned = omega (arith, section-size 0x9900 (omega arith) (p .pieces));
-            pieces = rw (section-linear 0x9900 (piecesOf a)) (p .plain);
-          };
-      of-v2 =
-          record {
-            named = board-is 0x9903 (piecesOf b);
-            form = section-form 0x9903 (omega arith) (q .pieces) (q .some);
-            aligned = omega (arith, section-size 0x9903 (omega arith) (q .pieces));
-            pieces = rw (section-linear 0x9903 (piecesOf b)) (q .plain);
-          };
+      of-v1 = section-of 0x9900 (omega arith) a p;
+      of-v2 = section-of 0x9903 (omega arith) b q;
     }
 
 pub cuts-change-no-byte : Cuts-change-no-byte
@@ -199,16 +197,6 @@ cuts-change-no-byte ss ps c j d = cuts-byte c j d
 pub cuts-are-one : Cuts-are-one
 unfolding Cuts-are-one
 cuts-are-one ss ps qs c d = cuts-one c d
-
-pub room-by-length : Room-by-length
-unfolding Room-by-length joinOf
-room-by-length a b out other n e h =
-    let o = output a b out n e in
-    let t = fileText (piecesOf a) (piecesOf b) in
-    let w : joinOf a b other ≡ joinCall (Written (length t)) (over other 0 t) =
-    rw (o .fine-a, o .fine-b) (written-there t other (omega (arith, o .size, o .most)) (omega (arith, o .size))) in
-    let f : joinOf a b other .answer ≡ Written n = ap (λ (z : JoinCall). z .answer) w ∙ ap Written (sym (o .size)) in
-    (f, text-there a b other n (output a b other n f) ∙ sym (text-there a b out n o))
 
 pub past-output-stays : Past-output-stays
 unfolding Past-output-stays over
@@ -241,6 +229,25 @@ refusal-writes-nothing a b out r e = by-verdicts (verdictOf a) (verdictOf b) e
 pub joined-are-plain : Joined-are-plain
 unfolding Joined-are-plain
 joined-are-plain a b out n e = let o = output a b out n e in (fine-data a (o .fine-a), fine-data b (o .fine-b))
+
+pub fitting-is-written : Fitting-is-written
+unfolding Fitting-is-written joinOf fileText
+fitting-is-written a b out ls x h =
+    let fa = data-fine a (section-data 0x9900 a (x .v1) (x .of-v1)) in
+    let fb = data-fine b (section-data 0x9903 b (x .v2) (x .of-v2)) in
+    let p = parted a fa in
+    let q = parted b fb in
+    let t = fileText (piecesOf a) (piecesOf b) in
+    let v1 = section-one 0x9900 a (x .v1) (section 0x9900 (piecesOf a)) (x .of-v1) (section-of 0x9900 (omega arith) a p) in
+    let v2 = section-one 0x9903 b (x .v2) (section 0x9903 (piecesOf b)) (x .of-v2) (section-of 0x9903 (omega arith) b q) in
+    let e : ls ≡ fileLines (piecesOf a) (piecesOf b) =
+    lines-are a b ls x
+    ∙ ap (λ (s : Section). map lineFor (allItems (s ∷ x .v2 ∷ []) ++ (item 0x01 0 [] ∷ []))) v1
+    ∙ ap (λ (s : Section). map lineFor (allItems (section 0x9900 (piecesOf a) ∷ s ∷ []) ++ (item 0x01 0 [] ∷ []))) v2
+    ∙ sym (written-map (file-written (p .pieces) (q .pieces))) in
+    let n : length (flatten ls) ≡ length t = ap (λ (z : List (List ℕ)). length (flatten z)) e in
+    let m : length t ≤ 4194304 = omega (arith, said-length (x .says), x .file .short) in
+    rw (fa, fb) (ap (λ (z : JoinCall). z .answer) (written-there t out m (omega arith)) ∙ ap Written (sym n))
 
 not-fine : {A : Type 0} (s : List ℕ) (k : ℕ) (x : Answer) → verdictOf s ≡ Bad k x → WithData s → A
 not-fine s k x e w = absurd (let f = data-fine s w in let z : _≡_ {A = ℕ} 0 1 = cc in omega arith)

@@ -6,6 +6,6 @@ pub mod PlainRead
 pub mod BadLines
 pub mod Cuts
 pub mod PlainFiles
-pub mod Claims
 pub mod One
+pub mod Claims
 pub mod Instance

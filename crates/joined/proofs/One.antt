@@ -17,7 +17,7 @@ use Rattle.wholefile.proofs.OneRecord.{not-data, data-not}
 use Rattle.wholefile.proofs.Runs.{size-append}
 use Rattle.wholefile.proofs.Claims.{says-one}
 use Rattle.joiner.specs.Text.{upperOf, firstUpper}
-use Rattle.joined.specs.PlainFile.{at, dataFrom, Cuts, PlainPieces}
+use Rattle.joined.specs.PlainFile.{at, dataFrom, WithData, Cuts, none, one, PlainPieces}
 use Rattle.joined.specs.Form.{word, filler, UppersAsNeeded, no-more, same, changed, Form}
 use Rattle.joined.specs.Claims.{linearData, SectionOf, TwoSections, Output-is-one}
 use Rattle.joined.proofs.Sections.{bodyItems, padItem, closeItem, pads-size, pads-linear, word-back}
@@ -182,6 +182,17 @@ fill-one n f r g q x y =
     (λ u. split (ltb g f) (λ v. absurd (not-fewer n g q f r y x (ltb-true g f v))) (λ v. omega (arith, ltb-false f g u, ltb-false g f v))) in
     (e, omega arith)
 
+-- a section in its form has a piece, so its plain file has data
+pub section-data : (b : ℕ) (text : List ℕ) (s : Section) → SectionOf b text s → WithData text
+section-data b text s x =
+    let f = x .form in
+    let e = ap length (in-pieces b s f ∙ data-linear b (f .upper) (f .address) (f .bytes) (f .records)) in
+    record { items = x .pieces .items; file = x .pieces .file; some = some-cut (x .pieces .cut) (omega arith) }
+  where
+    some-cut : {ss ps : List Store} → Cuts ss ps → 1 ≤ length ps → 1 ≤ length ss
+    some-cut none h = absurd (omega arith)
+    some-cut (one c cs) h = omega arith
+
 -- ---- one section, one file
 
 section-fill : (b : ℕ) (text : List ℕ) (s : Section) (x : SectionOf b text s) → Fill (startSize b (piecesIn b s)) (x .form .fillers) (x .form .rest)
@@ -194,7 +205,7 @@ section-fill b text s x =
       before-last = f .before-last;
     }
 
-section-one : (b : ℕ) (text : List ℕ) (s t : Section) → SectionOf b text s → SectionOf b text t → s ≡ t
+pub section-one : (b : ℕ) (text : List ℕ) (s t : Section) → SectionOf b text s → SectionOf b text t → s ≡ t
 section-one b text s t x y =
     let e : piecesIn b s ≡ piecesIn b t = pieces-one text (piecesIn b s) (piecesIn b t) (x .pieces) (y .pieces) in
     let w = fill-one (startSize b (piecesIn b t)) (x .form .fillers) (x .form .rest) (y .form .fillers) (y .form .rest)
@@ -206,7 +217,7 @@ section-one b text s t x y =
     ∙ ap (λ (k : ℕ). shape b (piecesIn b t) (y .form .fillers) k) (w .1)
     ∙ sym (section-is b t (y .form))
 
-lines-are : (a b : List ℕ) (ls : List (List ℕ)) (x : TwoSections a b ls) → ls ≡ map lineFor (allItems (x .v1 ∷ x .v2 ∷ []) ++ (item 0x01 0 [] ∷ []))
+pub lines-are : (a b : List ℕ) (ls : List (List ℕ)) (x : TwoSections a b ls) → ls ≡ map lineFor (allItems (x .v1 ∷ x .v2 ∷ []) ++ (item 0x01 0 [] ∷ []))
 lines-are a b ls x =
     x .lines
     ∙ ap (map lineFor)

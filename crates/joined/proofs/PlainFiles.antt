@@ -38,7 +38,7 @@ lines-flat (c ∷ s) =
     glued c [] = refl
     glued c (l ∷ ls) = refl
 
-said-length : {ls : List (List ℕ)} {xs : List Item} → Says ls xs → sizeOf xs ≡ length (flatten ls)
+pub said-length : {ls : List (List ℕ)} {xs : List Item} → Says ls xs → sizeOf xs ≡ length (flatten ls)
 unfolding sizeOf flatten
 said-length none = refl
 said-length (line {l} {ls} rec p t) = omega (arith, said-length t, length-append l (flatten ls))

@@ -2,7 +2,7 @@
 use Prim.Native.Nat.{ℕ, _+_, _*_, _%_, _≤_}
 use mathlib.Core.Path.{_≡_}
 use mathlib.Core.Bool.{cond}
-use mathlib.Core.List.{List, [], _∷_, _++_, map}
+use mathlib.Core.List.{List, [], _∷_, _++_, map, flatten}
 use lib.Dec.{eqb}
 use lib.ListN.{length, getD, take, drop}
 use Rattle.stores.specs.Stores.{Store, latest}
@@ -99,6 +99,11 @@ Cuts-are-one = (ss ps qs : List Store) → Cuts ss ps → Cuts ss qs → ps ≡ 
 unfoldable pub Joined-are-plain : Type 0
 Joined-are-plain = EveryOutput (λ a b ls. WithData a × WithData b)
 
+-- and where there is such a file that the room holds, it is written: a file has at most 4,194,304 bytes by its grammar
+unfoldable pub Fitting-is-written : Type 0
+Fitting-is-written =
+    (a b out : List ℕ) (ls : List (List ℕ)) → TwoSections a b ls → length (flatten ls) ≤ length out → joinOf a b out .answer ≡ Written (length (flatten ls))
+
 -- "Refusals are 01's, V1's input whole first": V1's file is none, or it is one and V2's is none, or both are and the output is too long; a
 -- file that is none is bad at the line that is named, by the answer
 pub data RefusalCase (a b : List ℕ) (r : Refusal) : Type 0 where
@@ -111,12 +116,6 @@ unfoldable pub Refused-by-board : Type 0
 Refused-by-board = (a b out : List ℕ) (r : Refusal) → joinOf a b out .answer ≡ Refused r → RefusalCase a b r
 
 -- ---- the room
-
--- "Output over 4,194,304 bytes or the lent room is 36": what is written in one room is written in every room that holds it
-unfoldable pub Room-by-length : Type 0
-Room-by-length =
-    (a b out other : List ℕ) (n : ℕ) → joinOf a b out .answer ≡ Written n → n ≤ length other
-    → (joinOf a b other .answer ≡ Written n) × (take n (joinOf a b other .room) ≡ take n (joinOf a b out .room))
 
 -- "A refusal writes nothing"
 unfoldable pub Refusal-writes-nothing : Type 0
