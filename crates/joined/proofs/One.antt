@@ -198,8 +198,9 @@ section-data b text s x =
 section-fill : (b : ℕ) (text : List ℕ) (s : Section) (x : SectionOf b text s) → Fill (startSize b (piecesIn b s)) (x .form .fillers) (x .form .rest)
 section-fill b text s x =
     let f = x .form in
+    let e = ap (λ (z : Section). sizeOf (sectionItems z)) (section-is b s f) ∙ shape-size b (piecesIn b s) (f .fillers) (f .rest) in
     record {
-      whole = ap (λ (k : ℕ). k % 512) (sym (ap (λ (z : Section). sizeOf (sectionItems z)) (section-is b s f) ∙ shape-size b (piecesIn b s) (f .fillers) (f .rest))) ∙ x .aligned;
+      whole = omega (arith, e, x .aligned);
       least = f .least;
       after-last = omega (arith, f .after-last);
       before-last = f .before-last;
