@@ -4,3 +4,4 @@ pub mod Stepped
 pub mod Walked
 pub mod Filled
 pub mod Sectioned
+pub mod Files

@@ -8,12 +8,16 @@ ghost use Rattle.grammar.specs.Grammar.{dataKind};
 ghost use Rattle.hexwrite.specs.Put.{putLine, putLines};
 ghost use Rattle.record.specs.Write.{recordLine};
 ghost use Rattle.joiner.specs.Pieces.{piece, splitOf, piecesOf};
-ghost use Rattle.joiner.specs.Text.{wordBytes, firstUpper, missing, fillLines, sectionLines};
+ghost use Rattle.joiner.specs.Text.{wordBytes, firstUpper, missing, fillLines, sectionLines, fileText};
 ghost use Rattle.joiner.specs.Tally.{sectionSize, freshTally, changes, tallyPiece, tallyAll, pieceLines, piecesLines};
 ghost use Rattle.plain.specs.File.{badOf};
 ghost use Rattle.joiner.specs.Scan.{scan, linePieces, stepOf, stopOf, Walk, Scanned};
+ghost use Rattle.joiner.specs.Join.{joinedNumber, joinCall, joinNumber, refusedBy, Fits, writtenOf, joinOf};
+ghost use Rattle.sets.specs.Numbered.{numbered};
+ghost use Rattle.sets.specs.Over.{over};
 ghost use Rattle.joiner.specs.declared.Step.the-variants.{On};
 use grammar::Answer;
+use grammar::Boards;
 use plain::Plain;
 use plain::Taken;
 use plain::Verdict;
@@ -31,6 +35,21 @@ pub struct Refusal {
 pub enum Joined {
     Written(u32),
     Refused(Refusal),
+}
+
+impl Joined {
+    // The number of a refusal, and 0 for a file that is written.
+    pub fn number(self) -> u8
+        ensures { λ r. ⌜ r ≡ joinedNumber self ⌝ }
+    {
+        match self {
+            Joined::Written(_) => 0,
+            Joined::Refused(refusal) => {
+                let answer = refusal.answer;
+                answer.number()
+            }
+        }
+    }
 }
 
 // What is known of the pieces so far: whether there is one, the upper half of the first and of the latest, and how many characters their lines
@@ -311,4 +330,66 @@ fn put_section(out: &mut [u8], at: usize, board: u16, kind: u8, first: usize, te
     let m = missing_after(n);
     put_fill(out, at + n, m);
     at + (n + (12 + m))
+}
+
+// Both sections and the 01, for which there is room.
+fn put_file(out: &mut [u8], v1: &[u8], v2: &[u8], first: usize, second: usize)
+    requires { ⌜ (first ≡ firstUpper (piecesOf (now v1))) × (second ≡ firstUpper (piecesOf (now v2))) ⌝ }
+    requires room { ⌜ Fits (fileText (piecesOf (now v1)) (piecesOf (now v2))) (now out) ⌝ }
+    ensures { λ _. ⌜ now (out .exit) ≡ over (now (out .entry)) 0 (fileText (piecesOf (now (v1 .entry))) (piecesOf (now (v2 .entry)))) ⌝ }
+{
+    let middle = put_section(out, 0, Boards::V1, Record::DATA, first, v1);
+    let end = put_section(out, middle, Boards::V2, Record::CUSTOM_DATA, second, v2);
+    put_filling(out, end, Record::END_OF_FILE, 0);
+}
+
+// Both files are fine: the output is written, or it is too long.
+fn write_file(v1: &[u8], v2: &[u8], out: &mut [u8], a: Tally, b: Tally) -> Joined
+    requires { ⌜ (a ≡ tallyAll freshTally (piecesOf (now v1))) × (b ≡ tallyAll freshTally (piecesOf (now v2))) ⌝ }
+    requires most { ⌜ (a .len ≤ 1000000000) × (b .len ≤ 1000000000) ⌝ }
+    ensures { λ r. ⌜ joinCall r (now (out .exit)) ≡ writtenOf (fileText (piecesOf (now (v1 .entry))) (piecesOf (now (v2 .entry)))) (now (out .entry)) ⌝ }
+{
+    let total = section_len(a.len) + (section_len(b.len) + 12);
+    if (Plain::FILE < total) | (out.len() < total) {
+        return Joined::Refused(Refusal {
+            board: 0,
+            line: 0,
+            answer: Answer::FileTooLong,
+        });
+    }
+    put_file(out, v1, v2, a.first, b.first);
+    Joined::Written(total as u32)
+}
+
+// The refusal of a board's file; nothing asks for it of one that is fine.
+fn refused(board: u16, verdict: Verdict) -> Joined
+    ensures { λ r. ⌜ r ≡ refusedBy board verdict ⌝ }
+{
+    match verdict {
+        Verdict::Fine => Joined::Written(0),
+        Verdict::Bad(line, answer) => Joined::Refused(Refusal {
+            board,
+            line,
+            answer,
+        }),
+    }
+}
+
+// Writes one Universal Hex file from a plain Intel Hex file for V1 and one for V2.
+pub fn join(v1: &[u8], v2: &[u8], out: &mut [u8]) -> Joined
+    ensures { λ r. ⌜ numbered joinNumber (joinCall r (now (out .exit))) ≡ numbered joinNumber (joinOf (now (v1 .entry)) (now (v2 .entry)) (now (out .entry))) ⌝ }
+{
+    let a = scan_file(v1);
+    let first = a.verdict;
+    let Verdict::Fine = first else {
+        return refused(Boards::V1, first);
+    };
+    let b = scan_file(v2);
+    let second = b.verdict;
+    let Verdict::Fine = second else {
+        return refused(Boards::V2, second);
+    };
+    let s = a.tally;
+    let t = b.tally;
+    write_file(v1, v2, out, s, t)
 }
