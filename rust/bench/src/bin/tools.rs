@@ -4,12 +4,14 @@
 use std::hint::black_box;
 use std::time::Instant;
 
+/// The rounds of a digest and of a file made, and those of two files joined, which are shorter.
 const ROUNDS: usize = 15;
+const JOINS: usize = 100;
 
 /// The best of several rounds of each, in turn.
-fn pair(name: &str, bytes: usize, mut ours: impl FnMut(), mut plain: impl FnMut()) {
+fn pair(name: &str, rounds: usize, bytes: usize, mut ours: impl FnMut(), mut plain: impl FnMut()) {
     let (mut a, mut b) = (f64::MAX, f64::MAX);
-    for _ in 0..ROUNDS {
+    for _ in 0..rounds {
         let start = Instant::now();
         ours();
         a = a.min(start.elapsed().as_secs_f64());
@@ -37,6 +39,7 @@ fn digests(name: &str, n: usize) {
     };
     pair(
         name,
+        ROUNDS,
         times * n,
         || repeated(tools::md5),
         || repeated(reference::md5::md5),
@@ -49,6 +52,7 @@ fn file() {
     let (mut ours, mut theirs) = (vec![1; 2 * image.len()], vec![2; 2 * image.len()]);
     pair(
         "a 32 MiB image made into a file",
+        ROUNDS,
         image.len(),
         || {
             black_box(tools::make(&image, 7, START, &mut ours)).expect("it is made");
@@ -80,6 +84,7 @@ fn joined(name: &str, v1: &[u8], v2: &[u8]) {
     let (mut ours, mut theirs) = (vec![1; 4_194_304], vec![1; 4_194_304]);
     pair(
         name,
+        JOINS,
         v1.len() + v2.len(),
         || {
             black_box(tools::join(black_box(v1), v2, &mut ours)).expect("it is written");
