@@ -4,7 +4,7 @@ ghost use mathlib.Core.List.{_∷_, []};
 ghost use Prim.Native.Nat.{_+_, _*_, _<_, _≤_};
 ghost use lib.ListN.{length};
 ghost use Rattle.sets.specs.Over.{over};
-ghost use Rattle.record.specs.Write.{digitText, bytesText, fieldBytes, checksum, recordLine};
+ghost use Rattle.record.specs.Write.{digitText, bytesText, recordLine};
 ghost use Rattle.hexwrite.specs.Put.{putRecord};
 use record::Record;
 
@@ -44,21 +44,6 @@ fn put_bytes(out: &mut [u8], at: usize, bytes: &[u8])
     }
 }
 
-// The byte that brings the sum of a record's bytes to zero.
-fn check_byte(kind: u8, address: u16, data: &[u8]) -> u8
-    requires { ⌜ length (now «data») ≤ 32 ⌝ }
-    ensures { λ r. ⌜ r ≡ checksum (fieldBytes kind address (now («data» .entry))) ⌝ }
-{
-    let head = [
-        data.len() as u8,
-        (address / 256) as u8,
-        (address % 256) as u8,
-        kind,
-    ];
-    let sum = std::num::wrapping_add_u8(record::sum(&head), record::sum(data));
-    std::num::wrapping_sub_u8(0, sum)
-}
-
 // A record's line, for which there is room.
 fn put_line(out: &mut [u8], at: usize, kind: u8, address: u16, data: &[u8])
     requires { ⌜ length (now «data») ≤ 32 ⌝ }
@@ -71,7 +56,8 @@ fn put_line(out: &mut [u8], at: usize, kind: u8, address: u16, data: &[u8])
         (address % 256) as u8,
         kind,
     ];
-    let check = check_byte(kind, address, data);
+    let sum = std::num::wrapping_add_u8(record::sum(&head), record::sum(data));
+    let check = std::num::wrapping_sub_u8(0, sum);
     let digits = at + 1;
     let rest = at + 9;
     let tail = rest + 2 * data.len();

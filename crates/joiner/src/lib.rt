@@ -1,7 +1,7 @@
 // One Universal Hex file from two plain Intel Hex files, one for V1 and one for V2.
 ghost use mathlib.Core.Path.{_≡_};
 ghost use mathlib.Core.Bool.{cond};
-ghost use Prim.Native.Nat.{_+_, _/_, _≤_};
+ghost use Prim.Native.Nat.{_+_, _≤_};
 ghost use lib.ListN.{length, replicate};
 ghost use mathlib.Core.List.{flatten};
 ghost use Rattle.grammar.specs.Grammar.{dataKind};
@@ -10,7 +10,6 @@ ghost use Rattle.record.specs.Write.{recordLine};
 ghost use Rattle.joiner.specs.Pieces.{piece, splitOf, piecesOf};
 ghost use Rattle.joiner.specs.Text.{wordBytes, firstUpper, missing, fillLines, sectionLines, fileText};
 ghost use Rattle.joiner.specs.Tally.{sectionSize, freshTally, changes, tallyPiece, tallyAll, pieceLines, piecesLines};
-ghost use Rattle.plain.specs.File.{badOf};
 ghost use Rattle.joiner.specs.Scan.{scan, linePieces, stepOf, stopOf, Walk, Scanned};
 ghost use Rattle.joiner.specs.Join.{joinedNumber, joinCall, joinNumber, refusedBy, Fits, writtenOf, joinOf};
 ghost use Rattle.sets.specs.Numbered.{numbered};
@@ -105,7 +104,7 @@ impl Tally {
         self.some & !(self.upper == upper)
     }
 
-    // One more piece, of n bytes.
+    // One more piece, of n bytes: a record's line has 12 characters, and two for each byte of its data.
     fn with_piece(self, upper: usize, n: usize) -> Tally
         requires { ⌜ (self .len ≤ 1073741824) × (n ≤ 32) ⌝ }
         ensures { λ r. ⌜ r ≡ tallyPiece self upper n ⌝ }
@@ -169,9 +168,9 @@ fn put_data(
     ensures { λ r. ⌜ r ≡ tallyAll tally (splitOf (piece address (now (bytes .entry)))) ⌝ }
     ensures lines { λ _. ⌜ now (out .exit) ≡ putLines (now (out .entry)) (at + tally .len) (piecesLines kind tally (splitOf (piece address (now (bytes .entry))))) ⌝ }
 {
-    let upper = address / 65536;
-    let lower = (address % 65536) as u16;
-    let room = 65536 - address % 65536;
+    let upper = address / Plain::REACH;
+    let lower = (address % Plain::REACH) as u16;
+    let room = Plain::REACH - address % Plain::REACH;
     if room < bytes.len() {
         let next = put_piece(out, at, tally, kind, upper, lower, &bytes[..room]);
         return put_piece(out, at, next, kind, upper + 1, 0, &bytes[room..]);

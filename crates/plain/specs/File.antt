@@ -6,6 +6,7 @@ use lib.ListN.{length, take}
 use Rattle.stores.specs.Stores.{Store}
 use Rattle.textlines.specs.Lines.{linesOf}
 use Rattle.record.specs.Record.{readOf}
+use Rattle.grammar.specs.Answers.{numberOf}
 use Rattle.grammar.specs.declared.Answer.{Answer}
 use Rattle.grammar.specs.declared.Answer.the-variants.{OutOfPlace, MissingBoard}
 use Rattle.plain.specs.declared.Plain.{Plain}
@@ -53,6 +54,11 @@ unfoldable pub recordsOf : List ℕ → List Store
 recordsOf s = recordsFrom freshPlain (linesOf s)
 
 -- ---- the refusal
+
+-- 01's number of a refusal; a file that is fine has none, and 0 stands for it
+abbrev pub verdictNumber : Verdict → ℕ
+verdictNumber Fine = 0
+verdictNumber (Bad k a) = numberOf a
 
 -- "at the first bad line", of lines of which the first has the index k; past the last one "no 01 at the end" is 26, at the number of lines
 unfoldable pub linesVerdict : Plain → ℕ → List (List ℕ) → Verdict

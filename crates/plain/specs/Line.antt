@@ -8,7 +8,7 @@ use Rattle.record.specs.Types.{dataType, endOfFile, extendedLinear}
 use Rattle.record.specs.Record.{wordOf, onRecord, readOf}
 use Rattle.record.specs.declared.Record.{Record}
 use Rattle.record.specs.declared.ParseResult.{ParseResult}
-use Rattle.grammar.specs.Answers.{refusalOf}
+use Rattle.grammar.specs.Answers.{numberOf, refusalOf}
 use Rattle.grammar.specs.declared.Answer.the-variants.{OutOfPlace, Crosses, AfterEnd, FileTooLong}
 use Rattle.plain.specs.declared.Plain.{Plain}
 use Rattle.plain.specs.declared.Taken.{Taken}
@@ -78,6 +78,12 @@ abbrev pub fieldsTaken : Plain → ℕ → Record → Taken
 fieldsTaken p word rec = recordTaken p (rec .kind) (rec .address) (rec .len) word
 
 -- ---- a line: "at the first bad line 31, 36, 20 to 26 .. or 29"
+
+-- 01's number of a refusal; a line that is taken has none, and 0 stands for it
+abbrev pub takenNumber : Taken → ℕ
+takenNumber (Refused a) = numberOf a
+takenNumber (Passed p) = 0
+takenNumber (Data p a n) = 0
 
 -- of n bytes, by what its text says
 unfoldable pub lineTaken : Plain → ℕ → ParseResult → ℕ → Taken

@@ -1,8 +1,9 @@
 // A plain Intel Hex file, a line at a time: the records of types 00 to 05, and the refusal of the first bad line.
 ghost use mathlib.Core.Path.{_≡_};
 ghost use Prim.Native.Nat.{_+_, _≤_};
-ghost use Rattle.plain.specs.File.{closeOf};
-ghost use Rattle.plain.specs.Line.{freshPlain, movedBy, withBase, withEnd, dataTaken, recordTaken, lineTaken};
+ghost use Rattle.sets.specs.Numbered.{numbered};
+ghost use Rattle.plain.specs.File.{verdictNumber, closeOf};
+ghost use Rattle.plain.specs.Line.{freshPlain, movedBy, withBase, withEnd, dataTaken, recordTaken, takenNumber, lineTaken};
 use grammar::Answer;
 use record::ParseResult;
 use record::Record;
@@ -111,7 +112,7 @@ impl Plain {
 
     // A line of n bytes, by what its text says, and a record's first two data bytes as a number.
     pub fn line(self, n: usize, parsed: ParseResult, word: u16) -> Taken
-        ensures { λ r. ⌜ r ≡ lineTaken self n parsed word ⌝ }
+        ensures { λ r. ⌜ numbered takenNumber r ≡ numbered takenNumber (lineTaken self n parsed word) ⌝ }
     {
         if self.ended {
             return Taken::Refused(Answer::AfterEnd);
@@ -132,7 +133,7 @@ impl Plain {
 
     // At the end of a file of so many lines, which gave some data byte or none.
     pub fn close(self, lines: u32, some: bool) -> Verdict
-        ensures { λ r. ⌜ r ≡ closeOf self lines some ⌝ }
+        ensures { λ r. ⌜ numbered verdictNumber r ≡ numbered verdictNumber (closeOf self lines some) ⌝ }
     {
         if self.ended {
             if some {

@@ -2,6 +2,7 @@
 
 pub mod fence;
 pub mod hex;
+pub mod plain;
 pub mod tags;
 
 use reference::{Arch, Entry, Link, Settings, Transfer};

@@ -23,5 +23,14 @@ extern "C" {
         block_len: usize,
     );
 
+    pub fn uhex_join(
+        v1: *const u8,
+        v1_len: usize,
+        v2: *const u8,
+        v2_len: usize,
+        output: *mut u8,
+        output_len: usize,
+    ) -> u64;
+
     pub fn uf2_md5(bytes: *const u8, bytes_len: usize, digest: *mut u8, digest_len: usize);
 }

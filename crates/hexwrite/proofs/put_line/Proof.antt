@@ -1,20 +1,33 @@
 -- `hexwrite::put_line` meets its contract. Assumes nothing.
 use Rattle.hexwrite.proofs.Line.{line-put}
+use Rattle.hexwrite.proofs.Digits.{check-sum}
 use borrow.Author.Needs.{needs}
 use Rattle.hexwrite.proofs.put_line.Statement.{statement}
 use Rattle.hexwrite.proofs.put_line.Tie as tie
 
-cast-t13 : tie.Need-cast-t13
-cast-t13 c = search needs
+cast-wrapping-add-u8 : tie.Need-cast-wrapping-add-u8
+cast-wrapping-add-u8 c = search needs
 
-cast-t15 : tie.Need-cast-t15
-cast-t15 c = search needs
+cast-t16 : tie.Need-cast-t16
+cast-t16 c = search needs
 
-cast-t17 : tie.Need-cast-t17
-cast-t17 c = search needs
+cast-wrapping-add-u8-2 : tie.Need-cast-wrapping-add-u8-2
+cast-wrapping-add-u8-2 c = search needs
 
-check-byte-requires : tie.Need-check-byte-requires
-check-byte-requires c κs = search needs
+slice-aggregate-sum : tie.Need-slice-aggregate-sum
+slice-aggregate-sum c = search needs
+
+sum-requires : tie.Need-sum-requires
+sum-requires c κs = search needs
+
+sum-requires-2 : tie.Need-sum-requires-2
+sum-requires-2 c κs = search needs
+
+wrapping-add-u8-requires : tie.Need-wrapping-add-u8-requires
+wrapping-add-u8-requires c κs = search needs
+
+wrapping-sub-u8-requires : tie.Need-wrapping-sub-u8-requires
+wrapping-sub-u8-requires c κs = search needs
 
 add-digits : tie.Need-add-digits
 add-digits c = search needs
@@ -54,17 +67,22 @@ same-length c = search needs
 
 returns : tie.Need-returns
 returns c =
-    let a = c .before .before .before .before .before .before .before .before .before .before .before .before .before .before .before .before .before .before .before .before .before .before .before .before .args in
-    line-put (a .kind) (a .address) (a .«data» .now) (a .out .now) (a .at) _ (c .before .before .before .before .before .before .before .before .before .before .before .before .before .before .before .before .before .before .before .before .before .before .before .before .pre .1) (c .before .before .before .before .before .before .before .before .before .before .before .before .before .before .before .before .before .before .before .before .before .check-byte .ensures) (c .before .before .before .before .before .before .before .before .before .before .before .before .before .before .before .before .before .before .before .put-char .ensures) (c .before .before .before .before .before .before .before .before .before .before .before .before .before .before .put-bytes .ensures) (c .before .before .before .before .before .before .before .before .before .before .put-bytes2 .ensures) (c .before .before .before .before .before .before .put-byte .ensures) (c .before .before .put-char2 .ensures)
+    let a = c .before .before .before .before .before .before .before .before .before .before .before .before .before .before .before .before .before .before .before .before .before .before .before .before .before .before .before .before .args in
+    let check = check-sum _ _ _ _ _ _ (c .before .before .before .before .before .before .before .before .before .before .before .before .before .before .before .before .before .before .before .before .before .before .before .before .sum .ensures) (c .before .before .before .before .before .before .before .before .before .before .before .before .before .before .before .before .before .before .before .before .before .before .before .sum2 .ensures) (c .before .before .before .before .before .before .before .before .before .before .before .before .before .before .before .before .before .before .before .before .before .before .wrapping-add-u8 .ensures) (c .before .before .before .before .before .before .before .before .before .before .before .before .before .before .before .before .before .before .before .before .before .wrapping-sub-u8 .ensures) (search needs) in
+    line-put (a .kind) (a .address) (a .«data» .now) (a .out .now) (a .at) _ (c .before .before .before .before .before .before .before .before .before .before .before .before .before .before .before .before .before .before .before .before .before .before .before .before .before .before .before .before .pre .1) check (c .before .before .before .before .before .before .before .before .before .before .before .before .before .before .before .before .before .before .before .put-char .ensures) (c .before .before .before .before .before .before .before .before .before .before .before .before .before .before .put-bytes .ensures) (c .before .before .before .before .before .before .before .before .before .before .put-bytes2 .ensures) (c .before .before .before .before .before .before .put-byte .ensures) (c .before .before .put-char2 .ensures)
 
 pub put-line-spec : {M : Type 1} → statement M
 put-line-spec =
     tie.close
     (tie.spec
-    cast-t13
-    cast-t15
-    cast-t17
-    check-byte-requires
+    cast-wrapping-add-u8
+    cast-t16
+    cast-wrapping-add-u8-2
+    slice-aggregate-sum
+    sum-requires
+    sum-requires-2
+    wrapping-add-u8-requires
+    wrapping-sub-u8-requires
     add-digits
     add-rest
     mul-tail

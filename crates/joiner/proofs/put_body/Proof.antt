@@ -2,6 +2,7 @@
 use Rattle.joiner.proofs.Walked.{Going, going-first, going-next, going-stop, going-last}
 use lib.ListN.{length}
 use Prim.Native.Nat.{_-_}
+use Rattle.sets.proofs.Numbered.{answer-is}
 use borrow.Author.Needs.{needs}
 use Rattle.joiner.proofs.put_body.Statement.{statement}
 use Rattle.joiner.proofs.put_body.Tie as tie
@@ -75,7 +76,7 @@ same-length-2 c = search needs
 returns-2 : tie.Need-returns-2 Inv-loop μ-loop
 returns-2 c =
     let a = c .before .before .before .before .before .before .before .before .before .args in
-    going-last (a .out .now) (a .at) (a .kind) (a .text .now) (c .before .before .before .before .loop .inv) (c .before .before .before .loop-test .left) (c .close .ensures)
+    going-last (a .out .now) (a .at) (a .kind) (a .text .now) (c .before .before .before .before .loop .inv) (c .before .before .before .loop-test .left) (answer-is (c .close .ensures))
 
 pub put-body-spec : {M : Type 1} → statement M
 put-body-spec =
