@@ -297,8 +297,8 @@ module _ (F : Blocks) (x : Held) (ok : Valid F x) (S : Set) (k : ℕ) (h : k < c
         buffers = λ u. (
           length-paged u (kindIn F) (F .at k) (payloadIn F k) there,
           rw y
-          (getD-paged (F .at k) (payloadIn F k) there (sectorsOf F S) marks whole most u (kindIn F) (touched (count F) (layout u F) S)
-          (λ e. ap (λ (v : Kind). touched (count F) (layout v F) S) e) fits),
+              (getD-paged (F .at k) (payloadIn F k) there (sectorsOf F S) marks whole most u (kindIn F) (touched (count F) (layout u F) S)
+              (λ e. ap (λ (v : Kind). touched (count F) (layout v F) S) e) fits),
         );
         sectors = rw y (paged-map (F .at k) (payloadIn F k) there (sectorsOf F S) marks whole most (kindIn F) fits);
       }
