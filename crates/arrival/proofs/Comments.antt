@@ -29,7 +29,7 @@ use Rattle.transfer.specs.declared.Deed.{Deed}
 use Rattle.transfer.specs.declared.Deed.the-variants.{Stores, Notes}
 use Rattle.transfer.specs.declared.Accepted.{Accepted}
 use Rattle.screen.specs.Screen.{noteKind, roomsOf, roomIn, noted, noteFound, found, afterHeader, screenIn, screenOf}
-use Rattle.screen.proofs.Windows.{found-comment}
+use Rattle.screen.proofs.Laws.{found-comment}
 use Rattle.screen.specs.declared.Lengths.{Lengths}
 use Rattle.screen.specs.declared.Rooms.{Rooms}
 use Rattle.screen.specs.declared.Screening.{Screening}

@@ -29,8 +29,8 @@ use Rattle.transfer.specs.declared.Head.{Head}
 use Rattle.transfer.specs.declared.State.{State}
 use Rattle.transfer.specs.declared.State.the-variants.{Idle, Running, Done}
 use Rattle.screen.specs.Screen.{extentOf, isLent, windowOf, noteKind, roomsOf, roomIn, badNumbers, badAddress, placed, strayed, fitted, noted, windowKind, dataFound, noteFound, found, afterHeader, screenIn, screenOf}
-use Rattle.screen.proofs.Laws.{numbers-false}
-use Rattle.screen.proofs.Windows.{InWindow, WindowFacts, window-facts, in-room, found-comment, found-data}
+use Rattle.screen.proofs.Laws.{numbers-false, found-comment, found-data}
+use Rattle.screen.proofs.Windows.{InWindow, WindowFacts, window-facts, in-room}
 use Rattle.transfer.specs.declared.Deed.the-variants.{Stores, Notes}
 use Rattle.screen.specs.declared.Lengths.{Lengths}
 use Rattle.screen.specs.declared.Rooms.{Rooms}
