@@ -25,7 +25,7 @@ use Rattle.screen.specs.declared.Body.the-variants.{Page}
 use Rattle.screen.specs.declared.Placed.{Placed}
 use Rattle.screen.specs.declared.Screening.{Screening}
 use Rattle.screen.specs.declared.Screening.the-variants.{Refused, Passed}
-use Rattle.arrival.specs.Arrive.{World, Outcome, bufferOf, deedOf, done, receiveOf}
+use Rattle.arrival.specs.Arrive.{World, Outcome, bufferOf, standing, deedOf, done, receiveOf}
 use Rattle.arrival.specs.Windows.{windowStart, windowEnd, kindOf}
 use Rattle.arrival.specs.Demand.{File, answerNumber, isData, addressOf, ValidFile, isFound, Foreign, originOf, storageOf, headIn}
 use Rattle.arrival.proofs.Heads.{kind-same}
@@ -35,7 +35,7 @@ use Rattle.arrival.proofs.Count.{Blocks, bodyOf, placedOf, Opens, Carri
 use Rattle.arrival.proofs.Effect.{Fits, Valid, spans-true, spans-is}
 use Rattle.arrival.proofs.Screening.{flashOf, lens, Board, Passing, Good, screen-good, screen-turn, note-counted, room-origin, passing-few, passing-fits}
 use Rattle.arrival.proofs.DecisionFacts.{Rows, stopped, through, rows, raised-number}
-use Rattle.arrival.proofs.Lists.{receive-refused, receive-passed, Met}
+use Rattle.arrival.proofs.Lists.{receive-refused, receive-passed, Reached}
 use Rattle.arrival.proofs.Runs.{Steady}
 
 -- ---- an arrival that earns 4 or more has passed rows 1 to 3
@@ -52,7 +52,7 @@ earned s w a h = go (rows s w a)
 -- ---- a valid file
 
 abbrev pub blocksOf : Settings → World → File → Blocks
-blocksOf s w F = record { file = F; at = λ k. storageOf s w F k }
+blocksOf s w F = record { file = F; at = λ k. storageOf s w F k; stands = λ f k. standing s f (F .block k) }
 
 module _ (s : Settings) (w : World) (F : File) (idle : w .transfer ≡ Idle) (ok : ValidFile s w F) where
   pub board : Board s w
@@ -65,7 +65,7 @@ module _ (s : Settings) (w : World) (F : File) (idle : w .transfer ≡ Idle) (ok
 
   first : (a : List ℕ) → length a ≡ 512 → (x : Screening) → screenOf s (lens w) (w .transfer) a ≡ x → Earned a x
   first a l (Refused x) e = ap (λ (o : Outcome). o .answer) (receive-refused s w a board l x e)
-  first a l (Passed g) e = rw (receive-passed s w a board l g e) (unfold arrive stepOf done accepted in rw idle (raised-number (deedOf (g .body)) (g .head) 1))
+  first a l (Passed g) e = rw (receive-passed s w a board l g e) (unfold arrive stepOf done accepted in rw idle (raised-number (deedOf (standing s (w .held .flash) a) g) (g .head) 1))
 
   -- a block of the file passes
   passed : (k : ℕ) → k < F .total → (g : Placed) × (screenOf s (lens w) (w .transfer) (F .block k) ≡ Passed g) × Passing s w (F .block k) g
@@ -188,7 +188,7 @@ module _ (s : Settings) (w : World) (F : File) (idle : w .transfer ≡ Idle) (ok
   -- ---- what is screened stays so all through a list
 
   -- a comment that is flash's at the start stays so, where the file is flash's or the comment is of another family or total
-  turn : (v : World) → Met s w v → Carried (blocksOf s w F) w (v .transfer) → (a : List ℕ)
+  turn : (v : World) → Reached s w v → Carried (blocksOf s w F) w (v .transfer) → (a : List ℕ)
       → (isFound (headerOf a) ≡ true → hasFlag a 0x1 ≡ true → (F .kind ≡ Flash) ⊎ (eqb (F .family) (fieldAt a 28) && eqb (F .total) (fieldAt a 24) ≡ false))
       → screenOf s (lens v) (v .transfer) a ≡ screenOf s (lens w) (w .transfer) a
   turn v m c a o =

@@ -12,5 +12,6 @@ pub mod Comments
 mod Lists
 mod Runs
 mod Files
+mod Contents
 pub mod Demand
 pub mod Tally
