@@ -11,7 +11,7 @@ use borrow.Author.Tests.{ne-eqb}
 use Rattle.sets.proofs.Tests.{split, clash, is-false}
 use Rattle.bitmap.proofs.Laws.{length-mark, length-unmarked}
 use Rattle.block.specs.Block.{fieldAt, hasFlag}
-use Rattle.block.proofs.Laws.{field-set, header-flags, region-set, flag-beside}
+use Rattle.block.proofs.Laws.{field-set, header-flags, region-set, flag-comment, flag-beside}
 use Rattle.flash.specs.Flash.{payloadOf, spans, roomAt}
 use Rattle.flash.proofs.Laws.{length-right, payload-set, getD-store}
 use Rattle.settings.specs.declared.Settings.{Settings}
@@ -23,6 +23,7 @@ use Rattle.transfer.specs.declared.Kind.{Kind}
 use Rattle.transfer.specs.declared.Kind.the-variants.{Flash, MainRam, XipRam}
 use Rattle.transfer.specs.declared.Head.{Head}
 use Rattle.transfer.specs.declared.State.{State}
+use Rattle.transfer.specs.declared.State.the-variants.{Idle, Running, Done}
 use Rattle.transfer.specs.declared.Accepted.{Accepted}
 use Rattle.transfer.specs.declared.Deed.{Deed}
 use Rattle.transfer.specs.declared.Deed.the-variants.{Stores, Notes, Keeps}
@@ -33,7 +34,7 @@ use Rattle.screen.specs.declared.Placed.{Placed}
 use Rattle.screen.specs.declared.Screening.{Screening}
 use Rattle.screen.specs.declared.Screening.the-variants.{Refused, Passed}
 use Rattle.arrival.specs.Arrive.{Held, World, Decision, stays, accepts, bufferOf, lengthsOf, standsAt, standing, deedOf, afterScreening, decide, decided, clearedIf, wipedIf, preparedAt, pagedAt, atOf, doneTo, acceptOf, unchanged, done, receiveOf, forecast, forecastOf, lookOf}
-use Rattle.arrival.specs.Windows.{windowStart, hasBuffer, kindOf}
+use Rattle.arrival.specs.Windows.{windowStart, hasBuffer, commentKind, kindOf}
 use Rattle.arrival.specs.Facts.{Refusals-change-nothing, Answers-read-no-map, Lengths-kept, Arrivals-keep-lengths, Outside, Outside-kept, Windowed, Window-kept, flagged, Flag-0x8000-ignored, Look-tells}
 use Rattle.arrival.proofs.Heads.{kind-same}
 use Rattle.arrival.proofs.Windows.{lies-is}
@@ -135,7 +136,7 @@ module _ (s : Settings) (w : World) (a : List ℕ) (g : Placed) (k : Accepted) (
   left-none d e n = ap (λ (d : Deed). doneTo d (g .head .kind) (atOf (g .body)) (payloadOf a) before) e ∙ done-none d (g .head .kind) (atOf (g .body)) (payloadOf a) before n
 
   pub deed-is : deedAt s w a g ≡ cond (hasFlag a 0x1) Notes (cond (keepsAt s w a) Keeps Stores)
-  deed-is = passing-deed s w a g q B (standing s (w .held .flash) a)
+  deed-is = passing-deed s w a g q (standing s (w .held .flash) a)
 
   pub left-note : hasFlag a 0x1 ≡ true → after ≡ before
   left-note y = left-none Notes (deed-is ∙ rw y) (λ e. let z : _≡_ {A = ℕ} 0 1 = cc in omega arith)
@@ -262,6 +263,17 @@ decide-flags s n k t seen b a x m =
       header-flags a x m,
       field-set a 9 (getD a 9 0 + x) 28 (inr (omega arith)),
     )
+
+pub kind-flags : (w : World) (a : List ℕ) (x : ℕ) → x % 0x40 ≡ 0 → kindOf w (flagged x a) ≡ kindOf w a
+unfolding kindOf
+kind-flags w a x m =
+    let v : ℕ = getD a 9 0 + x in
+    rw (flag-comment a x m, field-set a 9 v 12 (inr (omega arith)), comment (w .transfer))
+  where
+    comment : (t : State) → commentKind w t (flagged x a) ≡ commentKind w t a
+    comment Idle = refl
+    comment (Running r) = rw (field-set a 9 (getD a 9 0 + x) 28 (inr (omega arith)), field-set a 9 (getD a 9 0 + x) 24 (inr (omega arith)))
+    comment (Done g) = refl
 
 pub stands-flags : (f : List ℕ) (p : Place) (a : List ℕ) (x : ℕ) → standsAt f p (flagged x a) ≡ standsAt f p a
 stands-flags f Nowhere a x = refl

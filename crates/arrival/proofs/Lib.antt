@@ -9,6 +9,7 @@ pub mod DecisionFacts
 pub mod Facts
 pub mod Ram
 pub mod Comments
+pub mod Kept
 mod Lists
 mod Runs
 mod Files

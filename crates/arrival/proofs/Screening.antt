@@ -362,8 +362,11 @@ module _ (s : Settings) (w : World) (a : List ℕ) (g : Placed) (p : Passing s w
   pub passing-note : hasFlag a 0x1 ≡ true → g .body ≡ Note
   passing-note y = p .body ∙ rw y
 
-  -- what it does once it is accepted, where what it would store stands or not
-  pub passing-deed : (b : Bool) → deedOf b g ≡ cond (hasFlag a 0x1) Notes (cond (sameKind (kindOf w a) Flash && b) Keeps Stores)
-  passing-deed b =
-      let e : g .head .kind ≡ kindOf w a = ap (λ (h : Head). h .kind) (p .head) in
-      split (hasFlag a 0x1) (λ y. rw (passing-note y, y)) (λ z. rw (passing-body z, z, e))
+-- what it does once it is accepted, where what it would store stands or not
+pub passing-deed : (s : Settings) (w : World) (a : List ℕ) (g : Placed) → Passing s w a g → (b : Bool)
+    → deedOf b g ≡ cond (hasFlag a 0x1) Notes (cond (sameKind (kindOf w a) Flash && b) Keeps Stores)
+passing-deed s w a g p b =
+    let e : g .head .kind ≡ kindOf w a = ap (λ (h : Head). h .kind) (p .head) in
+    split (hasFlag a 0x1)
+    (λ y. let n : g .body ≡ Note = p .body ∙ rw y in rw (n, y))
+    (λ z. let n : g .body ≡ Page (p .start + (fieldAt a 12 - windowStart (kindOf w a))) = p .body ∙ rw z in rw (n, z, e))

@@ -192,7 +192,14 @@ region-set a j v h =
       field-set a j v 504 (inr (omega arith)),
     )
 
--- flag 0x8000 beside it
+-- a multiple of 0x40 more there, beside flag 0x1
+pub flag-comment : (a : List ℕ) (x : ℕ) → x % 0x40 ≡ 0 → hasFlag (set a 9 (getD a 9 0 + x)) 0x1 ≡ hasFlag a 0x1
+flag-comment a x h =
+    let y : ℕ = cond (leb 12 (length a)) (256 * x) 0 in
+    let m : y % 0x4000 ≡ 0 = part-multiple (leb 12 (length a)) x 0x4000 (omega arith) in
+    rw (flags-more a x, flag-kept (fieldAt a 8) 0x1 (y / 2) y (omega arith) (omega arith))
+
+-- flag 0x8000 beside flag 0x4000
 pub flag-beside : (a : List ℕ) → hasFlag (set a 9 (getD a 9 0 + 0x80)) 0x4000 ≡ hasFlag a 0x4000
 flag-beside a =
     let y : ℕ = cond (leb 12 (length a)) (256 * 0x80) 0 in

@@ -98,6 +98,13 @@ module _ (flash : List ℕ) (start : ℕ) (g : Region) where
         let n : fromOf start g + g .len - fromOf start g ≡ g .len = omega arith in
         s ∙ ap (λ (x : Digest). sameDigest x g) (d ∙ rw n) ∙ stands-there h
 
+module _ (flash : List ℕ) (start : ℕ) (g : Region) where
+  -- the conditions of a region that the flash has
+  pub stands-true : standsIn flash start g ≡ true → sameDigest (md5Of (partOf flash start g)) g ≡ true
+  unfolding standsIn
+  stands-true e =
+      and-right (leb 0x10000000 (g .start) && leb (fromOf start g + g .len) (length flash)) (sameDigest (md5Of (partOf flash start g)) g) e
+
 -- the digest that a region names
 abbrev pub namedBy : Region → Digest
 namedBy g = record { a = g .a; b = g .b; c = g .c; d = g .d }
