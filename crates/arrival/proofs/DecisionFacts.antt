@@ -51,7 +51,7 @@ pub record Right (a : ℕ) (n : Lengths) (m k : ℕ) : Type 0 where
   pub main : ramLength MainRam (n .main) ≡ true
   pub xip : ramLength XipRam (n .xip) ≡ true
 
-right-true : (a : ℕ) (n : Lengths) (m k : ℕ) → rightLengths a n m k ≡ true → Right a n m k
+pub right-true : (a : ℕ) (n : Lengths) (m k : ℕ) → rightLengths a n m k ≡ true → Right a n m k
 unfolding rightLengths
 right-true a n m k e =
     let p1 = eqb a 512 in

@@ -14,3 +14,4 @@ mod Runs
 mod Files
 pub mod Demand
 pub mod Tally
+pub mod Before
