@@ -44,7 +44,7 @@ use Rattle.arrival.specs.Windows.{lies, kindOf}
 use Rattle.arrival.specs.Before.{placedBefore, notedBefore, foundBefore, screenBefore, decideBefore, receiveBefore, InFlash, strays, Without-RAM, Stays-in-flash}
 use Rattle.arrival.proofs.Windows.{lies-is}
 use Rattle.arrival.proofs.Screening.{Fielded, fielded, flashOf, lens, Board, Room, room-of}
-use Rattle.arrival.proofs.DecisionFacts.{Right, right-true, raised-number, DecisionFacts, kept, took, decision-facts, raisedCount, took-state}
+use Rattle.arrival.proofs.DecisionFacts.{Right, right-true, step-late, DecisionFacts, kept, took, decision-facts, raisedCount, took-state}
 
 -- ---- rows 4 to 11
 
@@ -165,16 +165,6 @@ module _ (s : Settings) (w : World) (a : List ℕ) (m : length (w .held .main) �
   screen-before = header-before (headerOf a) (fielded a)
 
 -- ---- every row
-
--- a block that passes is answered 12 or more
-step-late : (w : World) (p : List ℕ) (g : Placed) (d : Deed) (t : State) (b : Bool) → 12 ≤ outcomeNumber (done w p (stepped g d (stepOf t (g .head) b d)))
-unfolding done stepOf accepted
-step-late w p g d Idle b = omega (arith, raised-number d (g .head) 1)
-step-late w p g d (Running r) b =
-    split (sameHead (r .head) (g .head))
-    (λ q. rw q (split b (λ y. rw y (omega arith)) (λ z. rw z (omega (arith, raised-number d (g .head) (r .count + 1))))))
-    (λ q. rw q (omega (arith, raised-number d (g .head) 1)))
-step-late w p g d (Done h) b = omega arith
 
 ten : (w : World) (p : List ℕ) (t : State) (seen : List ℕ) (x : Screening)
     → eqb (outcomeNumber (done w p (afterScreening t seen x))) 10 ≡ eqb (screeningNumber x) 10

@@ -8,6 +8,7 @@ pub mod Screening
 pub mod DecisionFacts
 pub mod Facts
 pub mod Ram
+pub mod RamRows
 pub mod Comments
 mod Lists
 mod Runs
