@@ -8,6 +8,7 @@ pub mod Screening
 pub mod DecisionFacts
 pub mod Facts
 pub mod Ram
+pub mod RamRows
 pub mod Comments
 pub mod Kept
 mod Lists
@@ -16,3 +17,4 @@ mod Files
 mod Contents
 pub mod Demand
 pub mod Tally
+pub mod Before

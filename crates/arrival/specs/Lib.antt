@@ -8,3 +8,4 @@ pub mod Kept
 pub mod Demand
 pub mod Regions
 pub mod Ram
+pub mod Before
