@@ -15,6 +15,7 @@ mod Lists
 mod Runs
 mod Files
 mod Contents
+mod Guards
 pub mod Demand
 pub mod Tally
 pub mod Before
