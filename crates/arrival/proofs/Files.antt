@@ -1,6 +1,6 @@
 -- A valid file is blocks for `Count` and `Effect`, and its blocks and foreign arrivals are screened alike all through a list.
 -- Assumes nothing.
-use Prim.Native.Nat.{ℕ, _+_, _-_, _≤_, _<_}
+use Prim.Native.Nat.{ℕ, _+_, _-_, _%_, _≤_, _<_}
 use mathlib.Core.Path.{_≡_, refl, sym, ap, subst, _∙_}
 use mathlib.Core.Logic.{_≢_, _⊎_, inl, inr, ⊎-elim}
 use mathlib.Core.Bool.{true, false, not, _&&_}
@@ -14,12 +14,15 @@ use Rattle.block.specs.Block.{fieldAt, hasFlag, fieldsOf, headerOf}
 use Rattle.flash.specs.Flash.{payloadOf, spans}
 use Rattle.flash.proofs.Laws.{length-right}
 use Rattle.settings.specs.declared.Settings.{Settings}
+use Rattle.place.specs.Place.{placeOf}
+use Rattle.place.specs.declared.Place.the-variants.{At}
+use Rattle.place.proofs.Theorems.{place-inside}
 use Rattle.transfer.specs.Transfer.{sameKind, headWith, numberOf, accepted, stepOf}
 use Rattle.transfer.specs.declared.Kind.{Kind}
 use Rattle.transfer.specs.declared.Kind.the-variants.{Flash}
 use Rattle.transfer.specs.declared.State.{State}
 use Rattle.transfer.specs.declared.State.the-variants.{Idle}
-use Rattle.screen.specs.Screen.{noteKind, screenOf}
+use Rattle.screen.specs.Screen.{noteKind, roomsOf, roomIn, screenOf}
 use Rattle.screen.specs.declared.Lengths.{Lengths}
 use Rattle.screen.specs.declared.Body.the-variants.{Page}
 use Rattle.screen.specs.declared.Placed.{Placed}
@@ -53,6 +56,14 @@ earned s w a h = go (rows s w a)
 
 abbrev pub blocksOf : Settings → World → File → Blocks
 blocksOf s w F = record { file = F; at = λ k. storageOf s w F k; stands = λ f k. standing s f (F .block k) }
+
+-- the place of its family in the flash
+pub record Located (s : Settings) (w : World) (F : File) : Type 0 where
+  pub start : ℕ
+  pub size : ℕ
+  pub place : placeOf s (flashOf w) (F .family) ≡ At start size
+  pub first : start % 4096 ≡ 0
+  pub within : start + size ≤ flashOf w
 
 module _ (s : Settings) (w : World) (F : File) (idle : w .transfer ≡ Idle) (ok : ValidFile s w F) where
   pub board : Board s w
@@ -129,6 +140,16 @@ module _ (s : Settings) (w : World) (F : File) (idle : w .transfer ≡ Idle) (ok
       let n : passed k h .0 .number ≡ k = p .number ∙ ok .numbers k h in
       let b : passed k h .0 .body ≡ bodyOf (blocksOf s w F) k = body-is k h in
       λ i. record { head = e i; number = n i; body = b i }
+
+  -- a file of flash has one
+  pub located : F .kind ≡ Flash → Located s w F
+  located flat =
+      let p = passed 0 (ok .some) .2 in
+      let k : kindOf w (F .block 0) ≡ Flash = kind-is 0 (ok .some) ∙ flat in
+      let e : placeOf s (flashOf w) (F .family) ≡ At (p .start) (p .size) =
+      sym (λ i. roomIn (roomsOf s (flashOf w) (ok .families 0 (ok .some) i)) (k i)) ∙ p .place in
+      let i = place-inside s (flashOf w) (F .family) (board .flash) (board .good) (p .start) (p .size) e in
+      record { start = p .start; size = p .size; place = e; first = i .0; within = i .2 }
 
   screen-block : (k : ℕ) → k < F .total → screenOf s (lens w) (w .transfer) (F .block k) ≡ Passed (placedOf (blocksOf s w F) k)
   screen-block k h = passed k h .1 ∙ ap Passed (placed-is k h)

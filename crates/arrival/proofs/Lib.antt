@@ -17,5 +17,6 @@ mod Files
 mod Contents
 mod Guards
 pub mod Demand
+pub mod Regions
 pub mod Tally
 pub mod Before
