@@ -298,7 +298,7 @@ pub fn look(
     let len = flash.len();
     let good = settings::good(settings, len);
     let rooms = screen::rooms_for(settings, len, block::field(arrival, 28));
-    let verdict = judge(
+    let forecast = judge(
         good,
         rooms,
         transfer,
@@ -309,7 +309,7 @@ pub fn look(
         main,
         xip,
     );
-    match verdict {
+    match forecast {
         Verdict::Leaves(answer) => Preview {
             answer,
             discarded: false,
@@ -384,9 +384,9 @@ pub fn take(
 ) -> Receipt
     ensures { λ r. ⌜ numbered outcomeNumber (outcome r (leftAt flash seen sectors main xip)) ≡ numbered outcomeNumber (receiveOf settings (world transfer (lentAt flash seen sectors main xip)) (now (arrival .entry))) ⌝ }
 {
-    let len = flash.len();
-    let good = settings::good(settings, len);
-    let rooms = screen::rooms_for(settings, len, block::field(arrival, 28));
+    let flash_len = flash.len();
+    let good = settings::good(settings, flash_len);
+    let rooms = screen::rooms_for(settings, flash_len, block::field(arrival, 28));
     take_known(
         good,
         rooms,

@@ -21,23 +21,23 @@ rooms-for-requires c κs = search needs
 judge-requires : tie.Need-judge-requires
 judge-requires c κs = search needs
 
-enum-known-verdict : tie.Need-enum-known-verdict
-enum-known-verdict c = search needs
+enum-known-forecast : tie.Need-enum-known-forecast
+enum-known-forecast c = search needs
 
-enum-known-verdict-2 : tie.Need-enum-known-verdict-2
-enum-known-verdict-2 c = search needs
+enum-known-forecast-2 : tie.Need-enum-known-forecast-2
+enum-known-forecast-2 c = search needs
 
 returns : tie.Need-returns
 returns c =
     let d = c .before .before .before in
     let known = look-is _ _ _ (d .before .before .before .good2 .ensures) (d .before .rooms-for .ensures .0) (d .before .rooms-for .ensures .1) (d .before .before .field .ensures) in
-    ap (numbered forecastNumber) (look-stays _ _ _ _ _ (d .judge .ensures) (ap decision (c .before .verdict .given .1)) ∙ known)
+    ap (numbered forecastNumber) (look-stays _ _ _ _ _ (d .judge .ensures) (ap decision (c .before .forecast .given .1)) ∙ known)
 
 returns-2 : tie.Need-returns-2
 returns-2 c =
     let d = c .before .before .before .before in
     let known = look-is _ _ _ (d .before .before .before .good2 .ensures) (d .before .rooms-for .ensures .0) (d .before .rooms-for .ensures .1) (d .before .before .field .ensures) in
-    ap (numbered forecastNumber) (look-accepts _ _ _ _ _ (d .judge .ensures) (ap decision (c .before .before .verdict2 .given .1)) ∙ known)
+    ap (numbered forecastNumber) (look-accepts _ _ _ _ _ (d .judge .ensures) (ap decision (c .before .before .forecast2 .given .1)) ∙ known)
 
 pub look-spec : {M : Type 1} → statement M
 look-spec =
@@ -47,7 +47,7 @@ look-spec =
     field-requires
     rooms-for-requires
     judge-requires
-    enum-known-verdict
-    enum-known-verdict-2
+    enum-known-forecast
+    enum-known-forecast-2
     returns
     returns-2)
