@@ -42,7 +42,7 @@ dataKind w address =
 abbrev pub commentKind : World → State → List ℕ → Kind
 commentKind w Idle a = Flash
 commentKind w (Running r) a =
-    cond (eqb (fieldAt a 28) (r .head .family) && eqb (fieldAt a 24) (r .head .total) && hasBuffer w (r .head .kind)) (r .head .kind) Flash
+    cond (eqb (r .head .family) (fieldAt a 28) && eqb (r .head .total) (fieldAt a 24) && hasBuffer w (r .head .kind)) (r .head .kind) Flash
 commentKind w (Done g) a = Flash
 
 -- the kind of an arrival where it comes
