@@ -101,7 +101,7 @@ chosenEntry s f = chosen (s .table) (usedCount (s .count)) (passQueryOf s f)
 abbrev pub getsWhole : Bool → Bool → ℕ → Bool
 getsWhole arm riscv f = eqb f familyData || eqb f familyArmS && arm || eqb f familyRiscV && riscv
 
--- the whole flash, or no place
+-- the whole of so many bytes, or no place
 abbrev pub wholeIf : Bool → ℕ → Place
 wholeIf b len = cond b (At 0 len) Nowhere
 

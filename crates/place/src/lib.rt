@@ -170,15 +170,13 @@ fn gets_whole(arm: bool, riscv: bool, family: u32) -> bool
         | ((family == Family::RISCV) & riscv)
 }
 
-fn whole_if(yes: bool, flash_len: usize) -> Place
-    ensures { λ r. ⌜ r ≡ wholeIf yes «flash_len» ⌝ }
+// The whole of so many bytes, of the flash or of a window, or no place.
+pub fn whole_if(yes: bool, len: usize) -> Place
+    ensures { λ r. ⌜ r ≡ wholeIf yes len ⌝ }
     ensures low { λ r. ⌜ StartsLow r ⌝ }
 {
     if yes {
-        Place::At {
-            start: 0,
-            len: flash_len,
-        }
+        Place::At { start: 0, len }
     } else {
         Place::Nowhere
     }
