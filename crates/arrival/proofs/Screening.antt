@@ -244,6 +244,7 @@ pub record Room (w : World) (k : Kind) (start size : ℕ) : Type 0 where
   pub whole : k ≡ Flash → (start % 4096 ≡ 0) × (size % 4096 ≡ 0)
   pub within : start + size ≤ length (bufferOf k (w .held))
   pub most : size ≤ 33554432
+  pub ends : windowStart k + size ≤ windowEnd k
 
 whole-is : (b : Bool) (n start size : ℕ) → wholeIf b n ≡ At start size → (start ≡ 0) × (size ≡ n)
 whole-is true n start size e = let p : 0 ≡ start = cc in let q : n ≡ size = cc in (sym p, sym q)
@@ -253,13 +254,15 @@ module _ (s : Settings) (w : World) (B : Board s w) (f : ℕ) where
   pub room-of : (k : Kind) (start size : ℕ) → roomIn (roomsOf s (flashOf w) f) k ≡ At start size → isLent (lens w) k ≡ true → Room w k start size
   room-of Flash start size e l =
       let i = place-inside s (flashOf w) f (B .flash) (B .good) start size e in
-      record { whole = λ q. (i .0, i .1); within = i .2; most = omega (arith, i .2, length-right (flashOf w) (B .flash) .most) }
+      let m = length-right (flashOf w) (B .flash) .most in
+      record { whole = λ q. (i .0, i .1); within = i .2; most = omega (arith, i .2, m); ends = omega (arith, i .2, m) }
   room-of MainRam start size e l =
       let i = whole-is (ramFamily s f) 532480 start size e in
       record {
         whole = λ q. let z : _≡_ {A = ℕ} 0 1 = cc in absurd (omega arith);
         within = omega (arith, i, ram-whole MainRam (length (w .held .main)) (B .main) l);
         most = omega (arith, i);
+        ends = omega (arith, i);
       }
   room-of XipRam start size e l =
       let i = whole-is (ramFamily s f) 16384 start size e in
@@ -267,6 +270,7 @@ module _ (s : Settings) (w : World) (B : Board s w) (f : ℕ) where
         whole = λ q. let z : _≡_ {A = ℕ} 0 1 = cc in absurd (omega arith);
         within = omega (arith, i, ram-whole XipRam (length (w .held .xip)) (B .xip) l);
         most = omega (arith, i);
+        ends = omega (arith, i);
       }
 
   -- it starts where the claims say
