@@ -267,6 +267,10 @@ effect-buffer XipRam F x S = refl
 pub length-effect : (u : Kind) (F : Blocks) (x : Held) (S : Set) → length (bufferOf u (effect F x S)) ≡ length (bufferOf u x)
 length-effect u F x S = ap length (effect-buffer u F x S) ∙ length-buffer (count F) (layout u F) (bufferOf u x) S
 
+pub lengths-effect : (F : Blocks) (x : Held) (S : Set) → lengthsOf (effect F x S) ≡ lengthsOf x
+lengths-effect F x S =
+    λ i. record { flash = length-effect Flash F x S i; main = length-effect MainRam F x S i; xip = length-effect XipRam F x S i }
+
 held-is : (g h : Held) → ((u : Kind) → bufferOf u g ≡ bufferOf u h) → g .sectors ≡ h .sectors → g ≡ h
 held-is g h p q = λ i. record { flash = p Flash i; sectors = q i; main = p MainRam i; xip = p XipRam i }
 
@@ -297,8 +301,8 @@ module _ (F : Blocks) (x : Held) (ok : Valid F x) (S : Set) (k : ℕ) (h : k < c
         buffers = λ u. (
           length-paged u (kindIn F) (F .at k) (payloadIn F k) there,
           rw y
-          (getD-paged (F .at k) (payloadIn F k) there (sectorsOf F S) marks whole most u (kindIn F) (touched (count F) (layout u F) S)
-          (λ e. ap (λ (v : Kind). touched (count F) (layout v F) S) e) fits),
+              (getD-paged (F .at k) (payloadIn F k) there (sectorsOf F S) marks whole most u (kindIn F) (touched (count F) (layout u F) S)
+              (λ e. ap (λ (v : Kind). touched (count F) (layout v F) S) e) fits),
         );
         sectors = rw y (paged-map (F .at k) (payloadIn F k) there (sectorsOf F S) marks whole most (kindIn F) fits);
       }

@@ -2,11 +2,11 @@
 -- place of its kind. Assumes nothing.
 use Prim.Native.Nat.{ℕ, _+_, _-_, _*_, _%_, _<_, _≤_}
 use mathlib.Core.Path.{_≡_, refl, sym, ap, subst, _∙_}
-use mathlib.Core.Logic.{_≢_}
+use mathlib.Core.Logic.{_≢_, _⊎_, ⊎-elim}
 use mathlib.Core.Bool.{Bool, true, false, not, cond, _&&_, _||_}
 use mathlib.Core.List.{List}
 use native.Mathlib.Omega.{arith}
-use lib.Dec.{eqb}
+use lib.Dec.{eqb, ltb}
 use lib.ListN.{length}
 use borrow.Author.Tests.{eqb-true, not-true}
 use Rattle.sets.proofs.Tests.{split, clash, and-right}
@@ -22,14 +22,15 @@ use Rattle.place.specs.Place.{wholeIf, placeOf, ramFamily}
 use Rattle.place.specs.declared.Place.{Place}
 use Rattle.place.specs.declared.Place.the-variants.{Nowhere, At}
 use Rattle.place.proofs.Theorems.{place-inside}
-use Rattle.transfer.specs.Transfer.{numberOf, headWith, goodState}
+use Rattle.transfer.specs.Transfer.{numberOf, headWith, goodState, counted}
 use Rattle.transfer.specs.declared.Kind.{Kind}
 use Rattle.transfer.specs.declared.Kind.the-variants.{Flash, MainRam, XipRam}
+use Rattle.transfer.specs.declared.Head.{Head}
 use Rattle.transfer.specs.declared.State.{State}
 use Rattle.transfer.specs.declared.State.the-variants.{Idle, Running, Done}
 use Rattle.screen.specs.Screen.{extentOf, isLent, windowOf, noteKind, roomsOf, roomIn, badNumbers, badAddress, placed, strayed, fitted, noted, windowKind, dataFound, noteFound, found, afterHeader, screenIn, screenOf}
-use Rattle.screen.proofs.Laws.{numbers-false}
-use Rattle.screen.proofs.Windows.{InWindow, WindowFacts, window-facts, in-room, found-comment, found-data}
+use Rattle.screen.proofs.Laws.{numbers-false, found-comment, found-data}
+use Rattle.screen.proofs.Windows.{InWindow, WindowFacts, window-facts, in-room}
 use Rattle.transfer.specs.declared.Deed.the-variants.{Stores, Notes}
 use Rattle.screen.specs.declared.Lengths.{Lengths}
 use Rattle.screen.specs.declared.Rooms.{Rooms}
@@ -41,7 +42,7 @@ use Rattle.screen.specs.declared.Screening.{Screening}
 use Rattle.screen.specs.declared.Screening.the-variants.{Refused, Passed}
 use Rattle.arrival.specs.Arrive.{World, bufferOf, lengthsOf, ramLength, deedOf}
 use Rattle.arrival.specs.Windows.{windowStart, windowEnd, kindOf, headOf}
-use Rattle.arrival.specs.Demand.{startOf, originOf}
+use Rattle.arrival.specs.Demand.{isFound, startOf, originOf}
 use Rattle.arrival.proofs.Windows.{start-is, end-is, data-kind, comment-kind}
 use Rattle.arrival.proofs.Effect.{Fits}
 
@@ -236,6 +237,49 @@ module _ (s : Settings) (w : World) (a : List ℕ) where
   pub screen-good : Good s w a (screenOf s (lens w) (w .transfer) a)
   unfolding screenOf screenIn
   screen-good = header-good (headerOf a) (fielded a)
+
+-- ---- the transfer is asked for the kind of a comment alone
+
+-- as the claims say it: the header yields a block
+pub header-turn : (r : Rooms) (n : Lengths) (t u : State) (a : List ℕ) (h : Header) → Fielded a h
+    → (isFound h ≡ true → hasFlag a 0x1 ≡ true → noteKind n t (fieldsOf a) ≡ noteKind n u (fieldsOf a))
+    → afterHeader h (found r n t) ≡ afterHeader h (found r n u)
+header-turn r n t u a header.NotBlock f e = refl
+header-turn r n t u a header.Container f e = refl
+header-turn r n t u a header.NoFamily f e = refl
+header-turn r n t u a (header.Found b) f e =
+    subst (λ (b : Block). found r n t b ≡ found r n u b) (sym f)
+    (split (hasFlag a 0x1)
+    (λ y.
+    found-comment r n t (fieldsOf a) (comment-is a ∙ y)
+    ∙ ap (λ (k : Kind). noteFound k (roomIn r k) (fieldsOf a)) (e refl y)
+    ∙ sym (found-comment r n u (fieldsOf a) (comment-is a ∙ y)))
+    (λ z. found-data r n t (fieldsOf a) (comment-is a ∙ z) ∙ sym (found-data r n u (fieldsOf a) (comment-is a ∙ z))))
+
+pub screen-turn : (s : Settings) (n : Lengths) (t u : State) (a : List ℕ)
+    → (isFound (headerOf a) ≡ true → hasFlag a 0x1 ≡ true → noteKind n t (fieldsOf a) ≡ noteKind n u (fieldsOf a))
+    → screenOf s n t a ≡ screenOf s n u a
+unfolding screenOf screenIn
+screen-turn s n t u a e = header-turn (roomsOf s (n .flash) (fieldAt a 28)) n t u a (headerOf a) (fielded a) e
+
+-- a comment stays one of flash while a transfer of head g goes on, where that is flash's or has another family or total
+pub note-counted : (n : Lengths) (g : Head) (c : ℕ) (a : List ℕ) → (g .kind ≡ Flash) ⊎ (eqb (g .family) (fieldAt a 28) && eqb (g .total) (fieldAt a 24) ≡ false)
+    → noteKind n (counted g c) (fieldsOf a) ≡ Flash
+unfolding counted noteKind fieldsOf
+note-counted n g c a o =
+    split (ltb c (g .total))
+    (λ y.
+    rw y
+    (⊎-elim
+    (λ (e : g .kind ≡ Flash).
+    ap (λ (k : Kind). cond (eqb (g .family) (fieldAt a 28) && eqb (g .total) (fieldAt a 24) && isLent n k) k Flash) e
+    ∙ either (eqb (g .family) (fieldAt a 28) && eqb (g .total) (fieldAt a 24) && true))
+    (λ e. rw e) o))
+    (λ z. rw z)
+  where
+    either : (b : Bool) → cond b Flash Flash ≡ Flash
+    either true = refl
+    either false = refl
 
 -- ---- the place of a kind, with rows 1 to 3 passed
 

@@ -6,7 +6,8 @@ use mathlib.Core.Bool.{Bool, true, false, cond, and-false, _&&_}
 use mathlib.Core.List.{List}
 use native.Mathlib.Omega.{arith}
 use lib.Dec.{eqb, ltb, leb}
-use borrow.Author.Tests.{le-leb, lt-leb, lt-ltb, le-ltb}
+use borrow.Author.Tests.{le-leb, lt-leb, lt-ltb, leb-true, ltb-true}
+use Rattle.sets.proofs.Tests.{and-left, and-right}
 use Rattle.block.specs.Block.{fieldAt, fieldsOf}
 use Rattle.transfer.specs.declared.Kind.{Kind}
 use Rattle.transfer.specs.declared.Kind.the-variants.{Flash, MainRam, XipRam}
@@ -27,6 +28,24 @@ pub end-is : (k : Kind) → baseOf k + extentOf k ≡ windowEnd k
 end-is Flash = refl
 end-is MainRam = refl
 end-is XipRam = refl
+
+-- no address lies in two windows
+pub window-one : (k u : Kind) (x : ℕ) → windowStart k ≤ x → x < windowEnd k → windowStart u ≤ x → x < windowEnd u → k ≡ u
+window-one Flash Flash x a b c d = refl
+window-one MainRam MainRam x a b c d = refl
+window-one XipRam XipRam x a b c d = refl
+window-one Flash MainRam x a b c d = absurd (omega arith)
+window-one Flash XipRam x a b c d = absurd (omega arith)
+window-one MainRam Flash x a b c d = absurd (omega arith)
+window-one MainRam XipRam x a b c d = absurd (omega arith)
+window-one XipRam Flash x a b c d = absurd (omega arith)
+window-one XipRam MainRam x a b c d = absurd (omega arith)
+
+pub lies-true : (k : Kind) (x : ℕ) → lies k x ≡ true → (windowStart k ≤ x) × (x < windowEnd k)
+lies-true k x e = (
+  leb-true (windowStart k) x (and-left (leb (windowStart k) x) (ltb x (windowEnd k)) e),
+  ltb-true x (windowEnd k) (and-right (leb (windowStart k) x) (ltb x (windowEnd k)) e),
+)
 
 module _ (w : World) where
   -- an address in the window of a kind

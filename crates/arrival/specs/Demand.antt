@@ -75,7 +75,7 @@ isFound (header.Found b) = true
 
 -- "a comment of its family and total"
 abbrev pub isCommentOf : File → List ℕ → Bool
-isCommentOf F a = isFound (headerOf a) && hasFlag a 0x1 && eqb (fieldAt a 28) (F .family) && eqb (fieldAt a 24) (F .total)
+isCommentOf F a = isFound (headerOf a) && hasFlag a 0x1 && eqb (F .family) (fieldAt a 28) && eqb (F .total) (fieldAt a 24)
 
 -- "Arrivals answered 4 to 11 are the foreign ones"; "answered 4, 5 or 7 to 11" (02, L3), since no answer has the number 6. (01's term: foreign)
 -- Of a RAM file "no foreign arrival is a comment of its family and total" (02, L8).

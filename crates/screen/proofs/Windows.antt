@@ -9,10 +9,8 @@ use Rattle.sets.proofs.Tests.{split, clash, and-left, and-right, or-left, or-ri
 use Rattle.block.specs.declared.Block.{Block}
 use Rattle.transfer.specs.declared.Kind.{Kind}
 use Rattle.transfer.specs.declared.Kind.the-variants.{Flash, MainRam, XipRam}
-use Rattle.transfer.specs.declared.State.{State}
-use Rattle.screen.specs.Screen.{baseOf, extentOf, isLent, inWindow, windowOf, noteKind, roomIn, badAddress, windowKind, dataFound, noteFound, found}
+use Rattle.screen.specs.Screen.{baseOf, extentOf, isLent, inWindow, windowOf, badAddress}
 use Rattle.screen.specs.declared.Lengths.{Lengths}
-use Rattle.screen.specs.declared.Rooms.{Rooms}
 use Rattle.screen.specs.declared.Window.{Window}
 use Rattle.screen.specs.declared.Window.the-variants.{Outside, In}
 
@@ -91,14 +89,3 @@ outside-bad n size b e h =
     last : (m : Bool) → m || true ≡ true
     last true = refl
     last false = refl
-
--- ---- a comment or data
-
-module _ (r : Rooms) (n : Lengths) (t : State) (b : Block) where
-  pub found-comment : b .comment ≡ true → found r n t b ≡ noteFound (noteKind n t b) (roomIn r (noteKind n t b)) b
-  unfolding found
-  found-comment h = rw h
-
-  pub found-data : b .comment ≡ false → found r n t b ≡ dataFound (windowOf n (b .address)) (roomIn r (windowKind (windowOf n (b .address)))) b
-  unfolding found
-  found-data h = rw h
