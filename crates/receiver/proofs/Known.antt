@@ -25,10 +25,10 @@ screen-known s n t a {r} e l =
     ap (λ (p : Place). screenIn (record { flash = p; ram = r .ram }) n t a) (low-kept (r .flash) l)
     ∙ ap (λ (q : Rooms). screenIn q n t a) e
 
-module _ (s : Settings) (w : World) (a : List ℕ) {good : Bool} {r : Rooms} (g : good ≡ goodSettings s (length (w .held .flash))) (e : r ≡ roomsOf s (length (w .held .flash)) (fieldAt a 28)) (l : StartsLow (r .flash)) where
+module _ (s : Settings) (w : World) (a : List ℕ) {good : Bool} {r : Rooms} {f : ℕ} (g : good ≡ goodSettings s (length (w .held .flash))) (e : r ≡ roomsOf s (length (w .held .flash)) f) (l : StartsLow (r .flash)) (q : f ≡ fieldAt a 28) where
   decision-is : knownDecision good r w a ≡ decided s w a
   unfolding knownDecision decide
-  decision-is = rw (g, screen-known s (lengthsOf (w .held)) (w .transfer) a e l)
+  decision-is = rw (g, screen-known s (lengthsOf (w .held)) (w .transfer) a (e ∙ ap (roomsOf s (length (w .held .flash))) q) l)
 
   pub known-is : receiveKnown good r w a ≡ receiveOf s w a
   unfolding receiveKnown receiveOf

@@ -298,7 +298,17 @@ pub fn look(
     let len = flash.len();
     let good = settings::good(settings, len);
     let rooms = screen::rooms_for(settings, len, block::field(arrival, 28));
-    let verdict = judge(good, rooms, transfer, arrival, flash, seen, sectors, main, xip);
+    let verdict = judge(
+        good,
+        rooms,
+        transfer,
+        arrival,
+        flash,
+        seen,
+        sectors,
+        main,
+        xip,
+    );
     match verdict {
         Verdict::Leaves(answer) => Preview {
             answer,
@@ -329,14 +339,34 @@ pub fn take_known(
 ) -> Receipt
     ensures { λ r. ⌜ numbered outcomeNumber (outcome r (leftAt flash seen sectors main xip)) ≡ numbered outcomeNumber (receiveKnown good rooms (world transfer (lentAt flash seen sectors main xip)) (now (arrival .entry))) ⌝ }
 {
-    let verdict = judge(good, rooms, transfer, arrival, flash, seen, sectors, main, xip);
+    let verdict = judge(
+        good,
+        rooms,
+        transfer,
+        arrival,
+        flash,
+        seen,
+        sectors,
+        main,
+        xip,
+    );
     match verdict {
         Verdict::Leaves(answer) => refuse(transfer, answer),
         Verdict::Accepts(acceptance) => {
             let placed = acceptance.placed;
             let deed = acceptance.deed;
             let accepted = acceptance.accepted;
-            accept(placed, deed, accepted, arrival, flash, seen, sectors, main, xip)
+            accept(
+                placed,
+                deed,
+                accepted,
+                arrival,
+                flash,
+                seen,
+                sectors,
+                main,
+                xip,
+            )
         }
     }
 }
@@ -357,5 +387,15 @@ pub fn take(
     let len = flash.len();
     let good = settings::good(settings, len);
     let rooms = screen::rooms_for(settings, len, block::field(arrival, 28));
-    take_known(good, rooms, transfer, arrival, flash, seen, sectors, main, xip)
+    take_known(
+        good,
+        rooms,
+        transfer,
+        arrival,
+        flash,
+        seen,
+        sectors,
+        main,
+        xip,
+    )
 }
