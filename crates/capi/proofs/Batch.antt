@@ -16,7 +16,7 @@ use Rattle.arrival.specs.Arrive.{Lent, World, lengthsOf, Outcome, rightLengths,
 use Rattle.arrival.specs.Lists.{receiveAll, answersOf, discardsOf}
 use Rattle.receiver.specs.declared.Receipt.{Receipt}
 use Rattle.receiver.specs.Receiver.{held, world, outcome, receiveKnown}
-use Rattle.receiver.proofs.Known.{known-is}
+use Rattle.receiver.proofs.KnownLaws.{known-is}
 use Rattle.layout.specs.Layout.{settingsFrom, transferFrom}
 use Rattle.capi.specs.Calls.{Knows, resultOf, isAcceptance, keptTransfer, arrivalsOf, resultsOf, anyAcceptance, storedFrom, BatchCall, batchCall, batchFrom, fewer, takeBatch}
 use Rattle.capi.specs.declared.FamilyRooms.{FamilyRooms}
