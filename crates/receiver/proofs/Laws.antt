@@ -5,7 +5,10 @@ use mathlib.Core.List.{List}
 use Prim.Native.Nat.{ℕ, _/_}
 use lib.ListN.{length}
 use Rattle.bitmap.specs.Bitmap.{markedIn, withMark}
+use Rattle.block.specs.Block.{fieldAt}
 use Rattle.flash.specs.Flash.{eraseAt, payloadOf, storeAt}
+use Rattle.settings.specs.Settings.{goodSettings}
+use Rattle.settings.specs.declared.Settings.{Settings}
 use Rattle.transfer.specs.Transfer.{goodState, stepOf}
 use Rattle.transfer.specs.declared.Kind.the-variants.{Flash, MainRam, XipRam}
 use Rattle.transfer.specs.declared.Transfer.{Transfer}
@@ -16,15 +19,16 @@ use Rattle.transfer.specs.declared.Step.{Step}
 use Rattle.transfer.specs.declared.Step.the-variants.{Stays, Accepts}
 use Rattle.transfer.specs.declared.Answer.{Answer}
 use Rattle.transfer.specs.declared.Answer.the-variants.{BadBuffers, BadSettings, BadState}
-use Rattle.screen.specs.Screen.{screenAt}
-use Rattle.screen.specs.declared.Lengths.{Lengths}
+use Rattle.screen.specs.Screen.{roomsOf, screenAt}
 use Rattle.screen.specs.declared.Rooms.{Rooms}
+use Rattle.screen.specs.declared.Lengths.{Lengths}
 use Rattle.screen.specs.declared.Placed.{Placed}
 use Rattle.screen.specs.declared.Screening.the-variants.{Refused, Passed}
 use Rattle.arrival.specs.Arrive.{Held, Lent, Outcome, Decision, lengthsOf, rightLengths, deedOf, stepped, afterScreening, clearedIf, wipedIf, preparedAt, pagedAt, atOf, doneTo, acceptOf, stays, accepts, done, forecast, forecastOf}
-use Rattle.receiver.specs.Receiver.{held, lent, world, refusal, outcome, knownDecision, receiveKnown}
+use Rattle.receiver.specs.Receiver.{held, lent, world, refusal, outcome, knownOf, knownDecision, receiveKnown}
 use Rattle.receiver.specs.Parts.{flashHeld}
 use Rattle.receiver.specs.declared.Receipt.{Receipt}
+use Rattle.receiver.specs.declared.Known.{Known}
 
 -- ---- a sector before a page is stored in it
 
@@ -75,49 +79,50 @@ module _ (t : Transfer) (p : Placed) (m : List ℕ) {known : Bool} {d : Deed} {s
 
 -- ---- every row
 
-module _ (good : Bool) (r : Rooms) (t : Transfer) (a : List ℕ) (h : Lent) where
+-- what the settings and the lengths say, call by call
+pub all-known : (s : Settings) (n : Lengths) (m k : ℕ) (a : List ℕ) {right good : Bool} {f : ℕ} {r : Rooms} → right ≡ rightLengths (length a) n m k → good ≡ goodSettings s (n .flash) → f ≡ fieldAt a 28 → r ≡ roomsOf s (n .flash) f → record { right = right; good = good; rooms = r } ≡ knownOf s n m k a
+all-known s n m k a hl hg hf hr = rw (hl, hg, hr, hf)
+
+module _ (known : Known) (t : Transfer) (a : List ℕ) (h : Lent) where
   abbrev sizes : Lengths
   sizes = lengthsOf (world t h .held)
 
-  abbrev lengths : Bool
-  lengths = rightLengths (length a) sizes (length (h .seen)) (length (h .sectors))
-
-  pub judge-lengths : lengths ≡ false → stays BadBuffers ≡ knownDecision good r (world t h) a
+  pub judge-lengths : known .right ≡ false → stays BadBuffers ≡ knownDecision known (world t h) a
   unfolding knownDecision
   judge-lengths l = rw l
 
-  module _ (l : lengths ≡ true) where
-    pub judge-settings : good ≡ false → stays BadSettings ≡ knownDecision good r (world t h) a
+  module _ (l : known .right ≡ true) where
+    pub judge-settings : known .good ≡ false → stays BadSettings ≡ knownDecision known (world t h) a
     unfolding knownDecision
     judge-settings g = rw (l, g)
 
-    module _ (g : good ≡ true) where
-      pub judge-state : goodState (t .state) ≡ false → stays BadState ≡ knownDecision good r (world t h) a
+    module _ (g : known .good ≡ true) where
+      pub judge-state : goodState (t .state) ≡ false → stays BadState ≡ knownDecision known (world t h) a
       unfolding knownDecision
       judge-state n = rw (l, g, n)
 
       module _ (n : goodState (t .state) ≡ true) where
-        pub judge-refused : {x : Answer} → screenAt r sizes (t .state) a ≡ Refused x → stays x ≡ knownDecision good r (world t h) a
+        pub judge-refused : {x : Answer} → screenAt (known .rooms) sizes (t .state) a ≡ Refused x → stays x ≡ knownDecision known (world t h) a
         unfolding knownDecision afterScreening
         judge-refused q = rw (l, g, n, q)
 
-        pub judge-passed : {d : Decision} {p : Placed} → screenAt r sizes (t .state) a ≡ Passed p → d ≡ stepped p (deedOf (p .body)) (stepOf (t .state) (p .head) (markedIn (h .seen) (p .number)) (deedOf (p .body))) → d ≡ knownDecision good r (world t h) a
+        pub judge-passed : {d : Decision} {p : Placed} → screenAt (known .rooms) sizes (t .state) a ≡ Passed p → d ≡ stepped p (deedOf (p .body)) (stepOf (t .state) (p .head) (markedIn (h .seen) (p .number)) (deedOf (p .body))) → d ≡ knownDecision known (world t h) a
         unfolding knownDecision afterScreening
         judge-passed q y = rw (l, g, n, q) y
 
   -- what is said and what is done
-  module _ {d : Decision} (k : d ≡ knownDecision good r (world t h) a) where
-    pub look-stays : {x : Answer} → d ≡ stays x → forecast x false ≡ forecastOf (knownDecision good r (world t h) a)
+  module _ {d : Decision} (k : d ≡ knownDecision known (world t h) a) where
+    pub look-stays : {x : Answer} → d ≡ stays x → forecast x false ≡ forecastOf (knownDecision known (world t h) a)
     look-stays e = ap forecastOf (sym e ∙ k)
 
-    pub look-accepts : {p : Placed} {e : Deed} {y : Accepted} → d ≡ accepts p e y → forecast (y .answer) (y .discarded) ≡ forecastOf (knownDecision good r (world t h) a)
+    pub look-accepts : {p : Placed} {e : Deed} {y : Accepted} → d ≡ accepts p e y → forecast (y .answer) (y .discarded) ≡ forecastOf (knownDecision known (world t h) a)
     look-accepts q = ap forecastOf (sym q ∙ k)
 
-    pub take-stays : {o : Receipt} {x : Answer} → d ≡ stays x → o ≡ refusal t x → outcome o h ≡ receiveKnown good r (world t h) a
+    pub take-stays : {o : Receipt} {x : Answer} → d ≡ stays x → o ≡ refusal t x → outcome o h ≡ receiveKnown known (world t h) a
     unfolding receiveKnown done
     take-stays e y = ap (λ (o : Receipt). outcome o h) y ∙ ap (done (world t h) (payloadOf a)) (sym e ∙ k)
 
     -- what is accepted does not look at the transfer that was
-    pub take-accepts : {o : Outcome} {p : Placed} {e : Deed} {y : Accepted} (u : Transfer) → d ≡ accepts p e y → o ≡ done (world u h) (payloadOf a) (accepts p e y) → o ≡ receiveKnown good r (world t h) a
+    pub take-accepts : {o : Outcome} {p : Placed} {e : Deed} {y : Accepted} (u : Transfer) → d ≡ accepts p e y → o ≡ done (world u h) (payloadOf a) (accepts p e y) → o ≡ receiveKnown known (world t h) a
     unfolding receiveKnown done acceptOf
     take-accepts u q y = y ∙ ap (done (world t h) (payloadOf a)) (sym q ∙ k)

@@ -1,13 +1,16 @@
 -- What a call is lent and hands back, as the meaning has it. Assumes nothing.
 use Prim.Native.Nat.{ℕ}
-use mathlib.Core.Bool.{Bool, false, not, cond}
+use mathlib.Core.Bool.{false, not, cond}
 use mathlib.Core.List.{List}
 use lib.ListN.{length}
 use denote.Ref.{RefT, now}
 use denote.Triple.Both.{Both}
+use Rattle.block.specs.Block.{fieldAt}
 use Rattle.flash.specs.Flash.{payloadOf}
-use Rattle.screen.specs.Screen.{screenAt}
-use Rattle.screen.specs.declared.Rooms.{Rooms}
+use Rattle.settings.specs.Settings.{goodSettings}
+use Rattle.settings.specs.declared.Settings.{Settings}
+use Rattle.screen.specs.Screen.{roomsOf, screenAt}
+use Rattle.screen.specs.declared.Lengths.{Lengths}
 use Rattle.transfer.specs.Transfer.{goodState}
 use Rattle.transfer.specs.declared.Answer.the-variants.{BadBuffers, BadSettings, BadState}
 use Rattle.transfer.specs.declared.Answer.{Answer}
@@ -15,6 +18,7 @@ use Rattle.transfer.specs.declared.Transfer.{Transfer}
 use Rattle.arrival.specs.Arrive.{Held, Lent, World, Outcome, Decision, stays, accepts, lengthsOf, rightLengths, afterScreening, done, Forecast, forecast}
 use Rattle.receiver.specs.declared.Receipt.{Receipt}
 use Rattle.receiver.specs.declared.Preview.{Preview}
+use Rattle.receiver.specs.declared.Known.{Known}
 use Rattle.receiver.specs.declared.Verdict.{Verdict}
 use Rattle.receiver.specs.declared.Verdict.the-variants.{Leaves, Accepts}
 
@@ -70,16 +74,25 @@ decision (Accepts k) = accepts (k .placed) (k .deed) (k .accepted)
 abbrev pub previewed : Preview → Forecast
 previewed r = forecast (r .answer) (r .discarded)
 
--- ---- one arrival, where what depends on the settings is handed in
+-- ---- one arrival, where what the settings and the lengths say of it is handed in
 
--- every row: `good` stands for row 2, r for what row 8 asks of the settings
-unfoldable pub knownDecision : Bool → Rooms → World → List ℕ → Decision
-knownDecision good r w a =
-    cond (not (rightLengths (length a) (lengthsOf (w .held)) (length (w .seen)) (length (w .held .sectors)))) (stays BadBuffers)
-    (cond (not good) (stays BadSettings)
+-- what they say: row 1's word for buffers of lengths n, a seen map of m bytes and a sector map of k, row 2's word, and what row 8 asks of the settings
+abbrev pub knownOf : Settings → Lengths → ℕ → ℕ → List ℕ → Known
+knownOf s n m k a =
+    record {
+      right = rightLengths (length a) n m k;
+      good = goodSettings s (n .flash);
+      rooms = roomsOf s (n .flash) (fieldAt a 28);
+    }
+
+-- every row
+unfoldable pub knownDecision : Known → World → List ℕ → Decision
+knownDecision k w a =
+    cond (not (k .right)) (stays BadBuffers)
+    (cond (not (k .good)) (stays BadSettings)
     (cond (not (goodState (w .transfer))) (stays BadState)
-    (afterScreening (w .transfer) (w .seen) (screenAt r (lengthsOf (w .held)) (w .transfer) a))))
+    (afterScreening (w .transfer) (w .seen) (screenAt (k .rooms) (lengthsOf (w .held)) (w .transfer) a))))
 
--- one arrival; with the true word and rooms it is `receiveOf` (proofs/Known.antt)
-unfoldable pub receiveKnown : Bool → Rooms → World → List ℕ → Outcome
-receiveKnown good r w a = done w (payloadOf a) (knownDecision good r w a)
+-- one arrival; with what they truly say it is `receiveOf` (proofs/KnownLaws.antt)
+unfoldable pub receiveKnown : Known → World → List ℕ → Outcome
+receiveKnown k w a = done w (payloadOf a) (knownDecision k w a)

@@ -3,6 +3,7 @@ ghost use mathlib.Core.Path.{_≡_};
 ghost use Rattle.sets.specs.Numbered.{numbered};
 ghost use Rattle.bitmap.specs.Bitmap.{markedIn};
 ghost use Rattle.flash.specs.Flash.{payloadOf};
+ghost use Rattle.place.specs.Place.{StartsLow};
 ghost use Rattle.transfer.specs.Transfer.{stepOf};
 ghost use Rattle.arrival.specs.Arrive.{
   outcomeNumber,
@@ -30,6 +31,7 @@ ghost use Rattle.receiver.specs.Receiver.{
   outcome,
   decision,
   previewed,
+  knownOf,
   knownDecision,
   receiveKnown,
 };
@@ -83,8 +85,15 @@ pub enum Verdict {
     Accepts(Acceptance),
 }
 
+// What is known of an arrival before it is judged: row 1's word, row 2's word, and what the settings say of its family.
+pub struct Known {
+    pub right: bool,
+    pub good: bool,
+    pub rooms: Rooms,
+}
+
 // Are the lengths of arrival, flash, seen map, sector map, main RAM and XIP RAM right? A buffer of RAM is whole or empty.
-fn lengths_right(a: usize, lens: Lengths, m: usize, k: usize) -> bool
+pub fn lengths_right(a: usize, lens: Lengths, m: usize, k: usize) -> bool
     ensures { λ r. ⌜ r ≡ rightLengths a lens m k ⌝ }
 {
     (a == Block::ARRIVAL)
@@ -247,10 +256,21 @@ fn settle(transfer: Transfer, placed: Placed, seen: &[u8]) -> Verdict
     }
 }
 
-// Every check, in its order. What depends on the settings is handed in: row 2's word, and what they say of the arrival's family.
+// What the settings and the lengths say of an arrival.
+fn known_of(settings: Settings, lens: Lengths, m: usize, k: usize, arrival: &[u8]) -> Known
+    ensures { λ r. ⌜ r ≡ knownOf settings lens m k (now (arrival .entry)) ⌝ }
+    ensures low { λ r. ⌜ StartsLow (r .rooms .flash) ⌝ }
+{
+    let right = lengths_right(arrival.len(), lens, m, k);
+    let good = settings::good(settings, lens.flash);
+    let family = block::field(arrival, 28);
+    let rooms = screen::rooms_for(settings, lens.flash, family);
+    Known { right, good, rooms }
+}
+
+// Every check, in its order. What the settings and the lengths say is handed in.
 fn judge(
-    good: bool,
-    rooms: Rooms,
+    known: Known,
     transfer: Transfer,
     arrival: &[u8],
     flash: &[u8],
@@ -259,22 +279,23 @@ fn judge(
     main: &[u8],
     xip: &[u8],
 ) -> Verdict
-    ensures { λ r. ⌜ decision r ≡ knownDecision good rooms (world transfer (lentAt flash seen sectors main xip)) (now (arrival .entry)) ⌝ }
+    ensures { λ r. ⌜ decision r ≡ knownDecision known (world transfer (lentAt flash seen sectors main xip)) (now (arrival .entry)) ⌝ }
 {
-    let lens = Lengths {
-        flash: flash.len(),
-        main: main.len(),
-        xip: xip.len(),
-    };
-    if !lengths_right(arrival.len(), lens, seen.len(), sectors.len()) {
+    if !known.right {
         return Verdict::Leaves(Answer::BadBuffers);
     }
-    if !good {
+    if !known.good {
         return Verdict::Leaves(Answer::BadSettings);
     }
     if !transfer.sound() {
         return Verdict::Leaves(Answer::BadState);
     }
+    let rooms = known.rooms;
+    let lens = Lengths {
+        flash: flash.len(),
+        main: main.len(),
+        xip: xip.len(),
+    };
     let screening = screen::screen(rooms, lens, transfer, arrival);
     match screening {
         Screening::Refused(answer) => Verdict::Leaves(answer),
@@ -295,21 +316,14 @@ pub fn look(
 ) -> Preview
     ensures { λ r. ⌜ numbered forecastNumber (previewed r) ≡ numbered forecastNumber (lookOf settings (world transfer (lentAt flash seen sectors main xip)) (now (arrival .entry))) ⌝ }
 {
-    let len = flash.len();
-    let good = settings::good(settings, len);
-    let rooms = screen::rooms_for(settings, len, block::field(arrival, 28));
-    let forecast = judge(
-        good,
-        rooms,
-        transfer,
-        arrival,
-        flash,
-        seen,
-        sectors,
-        main,
-        xip,
-    );
-    match forecast {
+    let lens = Lengths {
+        flash: flash.len(),
+        main: main.len(),
+        xip: xip.len(),
+    };
+    let known = known_of(settings, lens, seen.len(), sectors.len(), arrival);
+    let verdict = judge(known, transfer, arrival, flash, seen, sectors, main, xip);
+    match verdict {
         Verdict::Leaves(answer) => Preview {
             answer,
             discarded: false,
@@ -325,10 +339,9 @@ pub fn look(
     }
 }
 
-// One arrival, where what depends on the settings is handed in: whether they are good, and what they say of the arrival's family.
+// One arrival, where what the settings and the lengths say of it is handed in.
 pub fn take_known(
-    good: bool,
-    rooms: Rooms,
+    known: Known,
     transfer: Transfer,
     arrival: &[u8],
     flash: &mut [u8],
@@ -337,19 +350,9 @@ pub fn take_known(
     main: &mut [u8],
     xip: &mut [u8],
 ) -> Receipt
-    ensures { λ r. ⌜ numbered outcomeNumber (outcome r (leftAt flash seen sectors main xip)) ≡ numbered outcomeNumber (receiveKnown good rooms (world transfer (lentAt flash seen sectors main xip)) (now (arrival .entry))) ⌝ }
+    ensures { λ r. ⌜ numbered outcomeNumber (outcome r (leftAt flash seen sectors main xip)) ≡ numbered outcomeNumber (receiveKnown known (world transfer (lentAt flash seen sectors main xip)) (now (arrival .entry))) ⌝ }
 {
-    let verdict = judge(
-        good,
-        rooms,
-        transfer,
-        arrival,
-        flash,
-        seen,
-        sectors,
-        main,
-        xip,
-    );
+    let verdict = judge(known, transfer, arrival, flash, seen, sectors, main, xip);
     match verdict {
         Verdict::Leaves(answer) => refuse(transfer, answer),
         Verdict::Accepts(acceptance) => {
@@ -384,18 +387,11 @@ pub fn take(
 ) -> Receipt
     ensures { λ r. ⌜ numbered outcomeNumber (outcome r (leftAt flash seen sectors main xip)) ≡ numbered outcomeNumber (receiveOf settings (world transfer (lentAt flash seen sectors main xip)) (now (arrival .entry))) ⌝ }
 {
-    let flash_len = flash.len();
-    let good = settings::good(settings, flash_len);
-    let rooms = screen::rooms_for(settings, flash_len, block::field(arrival, 28));
-    take_known(
-        good,
-        rooms,
-        transfer,
-        arrival,
-        flash,
-        seen,
-        sectors,
-        main,
-        xip,
-    )
+    let lens = Lengths {
+        flash: flash.len(),
+        main: main.len(),
+        xip: xip.len(),
+    };
+    let known = known_of(settings, lens, seen.len(), sectors.len(), arrival);
+    take_known(known, transfer, arrival, flash, seen, sectors, main, xip)
 }

@@ -4,50 +4,42 @@ use Rattle.sets.specs.Numbered.{numbered}
 use Rattle.arrival.specs.Arrive.{forecastNumber}
 use Rattle.receiver.specs.Receiver.{decision}
 use Rattle.receiver.proofs.Laws.{look-stays, look-accepts}
-use Rattle.receiver.proofs.Known.{look-is}
+use Rattle.receiver.proofs.KnownLaws.{look-is}
 use borrow.Author.Needs.{needs}
 use Rattle.receiver.proofs.look.Statement.{statement}
 use Rattle.receiver.proofs.look.Tie as tie
 
-good-requires : tie.Need-good-requires
-good-requires c κs = search needs
-
-field-requires : tie.Need-field-requires
-field-requires c κs = search needs
-
-rooms-for-requires : tie.Need-rooms-for-requires
-rooms-for-requires c κs = search needs
+known-of-requires : tie.Need-known-of-requires
+known-of-requires c κs = search needs
 
 judge-requires : tie.Need-judge-requires
 judge-requires c κs = search needs
 
-enum-known-forecast : tie.Need-enum-known-forecast
-enum-known-forecast c = search needs
+enum-known-verdict : tie.Need-enum-known-verdict
+enum-known-verdict c = search needs
 
-enum-known-forecast-2 : tie.Need-enum-known-forecast-2
-enum-known-forecast-2 c = search needs
+enum-known-verdict-2 : tie.Need-enum-known-verdict-2
+enum-known-verdict-2 c = search needs
 
 returns : tie.Need-returns
 returns c =
     let d = c .before .before .before in
-    let known = look-is _ _ _ (d .before .before .before .good2 .ensures) (d .before .rooms-for .ensures .0) (d .before .rooms-for .ensures .1) (d .before .before .field .ensures) in
-    ap (numbered forecastNumber) (look-stays _ _ _ _ _ (d .judge .ensures) (ap decision (c .before .forecast .given .1)) ∙ known)
+    let known = look-is _ _ _ (d .before .known-of .ensures) in
+    ap (numbered forecastNumber) (look-stays _ _ _ _ (d .judge .ensures) (ap decision (c .before .verdict .given .1)) ∙ known)
 
 returns-2 : tie.Need-returns-2
 returns-2 c =
     let d = c .before .before .before .before in
-    let known = look-is _ _ _ (d .before .before .before .good2 .ensures) (d .before .rooms-for .ensures .0) (d .before .rooms-for .ensures .1) (d .before .before .field .ensures) in
-    ap (numbered forecastNumber) (look-accepts _ _ _ _ _ (d .judge .ensures) (ap decision (c .before .before .forecast2 .given .1)) ∙ known)
+    let known = look-is _ _ _ (d .before .known-of .ensures) in
+    ap (numbered forecastNumber) (look-accepts _ _ _ _ (d .judge .ensures) (ap decision (c .before .before .verdict2 .given .1)) ∙ known)
 
 pub look-spec : {M : Type 1} → statement M
 look-spec =
     tie.close
     (tie.spec
-    good-requires
-    field-requires
-    rooms-for-requires
+    known-of-requires
     judge-requires
-    enum-known-forecast
-    enum-known-forecast-2
+    enum-known-verdict
+    enum-known-verdict-2
     returns
     returns-2)

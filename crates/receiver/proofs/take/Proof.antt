@@ -2,19 +2,13 @@
 use mathlib.Core.Path.{ap, _∙_}
 use Rattle.sets.specs.Numbered.{numbered}
 use Rattle.arrival.specs.Arrive.{outcomeNumber}
-use Rattle.receiver.proofs.Known.{known-is}
+use Rattle.receiver.proofs.KnownLaws.{known-is}
 use borrow.Author.Needs.{needs}
 use Rattle.receiver.proofs.take.Statement.{statement}
 use Rattle.receiver.proofs.take.Tie as tie
 
-good-requires : tie.Need-good-requires
-good-requires c κs = search needs
-
-field-requires : tie.Need-field-requires
-field-requires c κs = search needs
-
-rooms-for-requires : tie.Need-rooms-for-requires
-rooms-for-requires c κs = search needs
+known-of-requires : tie.Need-known-of-requires
+known-of-requires c κs = search needs
 
 take-known-requires : tie.Need-take-known-requires
 take-known-requires c κs = search needs
@@ -39,15 +33,13 @@ returns c =
     let d = c .before .before .before .before .before .before .before .before .before .before in
     let r = d .before .before .before .before .before .before in
     d .take-known .ensures
-    ∙ ap (numbered outcomeNumber) (known-is _ _ _ (r .before .before .good2 .ensures) (r .rooms-for .ensures .0) (r .rooms-for .ensures .1) (r .before .field .ensures))
+    ∙ ap (numbered outcomeNumber) (known-is _ _ _ (r .known-of .ensures))
 
 pub take-spec : {M : Type 1} → statement M
 take-spec =
     tie.close
     (tie.spec
-    good-requires
-    field-requires
-    rooms-for-requires
+    known-of-requires
     take-known-requires
     same-length
     same-length-2

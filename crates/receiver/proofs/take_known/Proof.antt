@@ -39,7 +39,7 @@ same-length-5 : tie.Need-same-length-5
 same-length-5 c = search needs
 
 returns : tie.Need-returns
-returns c = ap (numbered outcomeNumber) (take-stays _ _ _ _ _ (c .before .before .before .before .judge .ensures) (ap decision (c .before .before .verdict .given .1)) (c .refuse .ensures))
+returns c = ap (numbered outcomeNumber) (take-stays _ _ _ _ (c .before .before .before .before .judge .ensures) (ap decision (c .before .before .verdict .given .1)) (c .refuse .ensures))
 
 same-length-6 : tie.Need-same-length-6
 same-length-6 c = search needs
@@ -60,7 +60,7 @@ returns-2 : tie.Need-returns-2
 returns-2 c =
     let a = c .before .before .before .before .before .before .before .before .before .before in
     let d = a .before .before .before .before .before .before .before .before .before in
-    ap (numbered outcomeNumber) (take-accepts _ _ _ _ _ (d .before .before .judge .ensures) _ (ap decision (d .verdict2 .given .1)) (a .accept .ensures))
+    ap (numbered outcomeNumber) (take-accepts _ _ _ _ (d .before .before .judge .ensures) _ (ap decision (d .verdict2 .given .1)) (a .accept .ensures))
 
 pub take-known-spec : {M : Type 1} → statement M
 take-known-spec =
