@@ -299,20 +299,18 @@ module _ (s : Settings) (w : World) (F : File) (idle : w .transfer ≡ Idle) (ok
   -- ---- without regions
 
   -- a block with no region that counts does not stand in the flash
-  place-out : (f : List ℕ) (k : ℕ) (p : Place) → goodRegion (sizeOf p) (fieldAt (F .block k) 12) (regionOf (F .block k)) ≡ false
+  place-out : (f : List ℕ) (k : ℕ) (p : Place) → hasFlag (F .block k) 0x4000 && goodRegion (sizeOf p) (fieldAt (F .block k) 12) (regionOf (F .block k)) ≡ false
       → standsAt f p (F .block k) ≡ false
+  unfolding standsAt
   place-out f k Nowhere e = refl
   place-out f k (At start size) e = rw e
 
   unkept : Plain s w F → Unkept P (w .held)
-  unfolding standing
   unkept plain f k h y n =
       let p = placeOf s (length (w .held .flash)) (F .family) in
       let g = plain k h in
       rw (n, ok .families k h)
-      (split (sameKind (F .kind) Flash)
-      (λ a. rw a (split (hasFlag (F .block k) 0x4000) (λ b. rw b (place-out f k p (rw (a, y, b) at g))) (λ b. rw b)))
-      (λ a. rw a))
+      (split (sameKind (F .kind) Flash) (λ a. rw a (place-out f k p (rw (a, y) at g))) (λ a. rw a))
 
   module _ (plain : Plain s w F) where
     L : Invariant P (w .held) (Same P (w .held)) Any

@@ -275,20 +275,16 @@ kind-flags w a x m =
     comment (Running r) = rw (field-set a 9 (getD a 9 0 + x) 28 (inr (omega arith)), field-set a 9 (getD a 9 0 + x) 24 (inr (omega arith)))
     comment (Done g) = refl
 
-pub stands-flags : (f : List ℕ) (p : Place) (a : List ℕ) (x : ℕ) → standsAt f p (flagged x a) ≡ standsAt f p a
-stands-flags f Nowhere a x = refl
-stands-flags f (At start size) a x =
-    rw (field-set a 9 (getD a 9 0 + x) 12 (inr (omega arith)), region-set a 9 (getD a 9 0 + x) (omega arith))
-
 -- nor does flag 0x8000 tell what stands
+stands-flag : (f : List ℕ) (p : Place) (a : List ℕ) → standsAt f p (flagged 0x80 a) ≡ standsAt f p a
+unfolding standsAt
+stands-flag f Nowhere a = refl
+stands-flag f (At start size) a =
+    rw (flag-beside a, field-set a 9 (getD a 9 0 + 0x80) 12 (inr (omega arith)), region-set a 9 (getD a 9 0 + 0x80) (omega arith))
+
 standing-flag : (s : Settings) (f : List ℕ) (a : List ℕ) → standing s f (flagged 0x80 a) ≡ standing s f a
-unfolding standing
 standing-flag s f a =
-    rw (
-      flag-beside a,
-      field-set a 9 (getD a 9 0 + 0x80) 28 (inr (omega arith)),
-      stands-flags f (placeOf s (length f) (fieldAt a 28)) a 0x80,
-    )
+    rw (field-set a 9 (getD a 9 0 + 0x80) 28 (inr (omega arith))) (stands-flag f (placeOf s (length f) (fieldAt a 28)) a)
 
 pub flag-0x8000-ignored : Flag-0x8000-ignored
 unfolding Flag-0x8000-ignored receiveOf

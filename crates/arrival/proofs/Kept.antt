@@ -156,18 +156,20 @@ flag-0x4000-decides-14-or-17 s w a =
 -- ---- when it is kept
 
 module _ (s : Settings) (w : World) (a : List ℕ) where
-  facts-at : (p : Place) → placeOf s (flashOf w) (fieldAt a 28) ≡ p → hasFlag a 0x1 ≡ false → kindOf w a ≡ Flash → hasFlag a 0x4000 ≡ true
+  facts-at : (p : Place) → placeOf s (flashOf w) (fieldAt a 28) ≡ p → hasFlag a 0x1 ≡ false → kindOf w a ≡ Flash
       → standsAt (w .held .flash) p a ≡ true → Standing s w a
-  unfolding regionOf
-  facts-at Nowhere e z k f h = clash false h refl
-  facts-at (At start size) e z k f h =
+  unfolding standsAt regionOf
+  facts-at Nowhere e z k h = clash false h refl
+  facts-at (At start size) e z k h =
+      let f = hasFlag a 0x4000 in
       let b = goodRegion size (fieldAt a 12) (regionOf a) in
       let t = standsIn (w .held .flash) start (regionOf a) in
-      let c = good-true size (fieldAt a 12) (regionOf a) (and-left b t h) in
+      let g = and-left (f && b) t h in
+      let c = good-true size (fieldAt a 12) (regionOf a) (and-right f b g) in
       record {
         data-block = z;
         flash = k;
-        flag = f;
+        flag = and-left f b g;
         start = start;
         size = size;
         place = e;
@@ -178,21 +180,18 @@ module _ (s : Settings) (w : World) (a : List ℕ) where
         within = c .within;
         before = c .before;
         behind = c .behind;
-        digest = digest-true (md5Of (partOf (w .held .flash) start (regionOf a))) (regionOf a) (stands-true (w .held .flash) start (regionOf a) (and-right b t h));
+        digest = digest-true (md5Of (partOf (w .held .flash) start (regionOf a))) (regionOf a) (stands-true (w .held .flash) start (regionOf a) (and-right (f && b) t h));
       }
 
   pub standing-of : hasFlag a 0x1 ≡ false → keepsAt s w a ≡ true → Standing s w a
-  unfolding standing
   standing-of z e =
       let k = sameKind (kindOf w a) Flash in
       let p = placeOf s (flashOf w) (fieldAt a 28) in
-      let b = hasFlag a 0x4000 in
       let t = standsAt (w .held .flash) p a in
-      let r = and-right k (b && t) e in
-      facts-at p refl z (kind-same (kindOf w a) Flash (and-left k (b && t) e)) (and-left b t r) (and-right b t r)
+      facts-at p refl z (kind-same (kindOf w a) Flash (and-left k t e)) (and-right k t e)
 
   pub standing-keeps : Board s w → Standing s w a → keepsAt s w a ≡ true
-  unfolding standing regionOf
+  unfolding standsAt regionOf
   standing-keeps B q =
       let start = q .start in
       let size = q .size in
@@ -211,7 +210,7 @@ module _ (s : Settings) (w : World) (a : List ℕ) where
       ap (λ (x : Digest). sameDigest x (regionOf a)) (q .digest) ∙ digest-yes (regionOf a) in
       let t : standsIn (w .held .flash) start (regionOf a) ≡ true =
       sym (stands-there (w .held .flash) start (regionOf a) (q .window) (omega (arith, q .within, i .2))) ∙ d in
-      rw (q .flash, q .flag, q .place) (both (good-yes size (fieldAt a 12) (regionOf a) c) t)
+      rw (q .flash, q .place) (both (both (q .flag) (good-yes size (fieldAt a 12) (regionOf a) c)) t)
 
 keeping : (s : Settings) (w : World) (a : List ℕ) {d : Decision} → DecisionFacts s w a d → Standing s w a
     → 14 ≤ numberOf (done w (payloadOf a) d .answer) → Unstored 17 w a (done w (payloadOf a) d)

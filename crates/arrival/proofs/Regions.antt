@@ -223,18 +223,18 @@ module _ (s : Settings) (w : World) (F : File) (idle : w .transfer ≡ Idle) (ok
 
   stood : (f : List ℕ) (k : ℕ) → k < F .total → isData F k ≡ true → length f ≡ flashOf w → standing s f (F .block k) ≡ true → Met f
       → (isGuarded s w F k ≡ true) × Finished P f (regionStart s w F k) (regionLength F k)
-  unfolding standing regionOf
+  unfolding standsAt regionOf
   stood f k h y n e m =
       let b = hasFlag (F .block k) 0x4000 in
-      let p = placeOf s (length f) (fieldAt (F .block k) 28) in
       let t = goodRegion (L .size) (addressOf F k) (regionOf (F .block k)) in
       let u = standsIn f (L .start) (regionOf (F .block k)) in
-      let r : t && u ≡ true = ap (λ (p : Place). standsAt f p (F .block k)) (sym (place-at f k h n)) ∙ and-right b (standsAt f p (F .block k)) e in
-      let c = good-true (L .size) (addressOf F k) (regionOf (F .block k)) (and-left t u r) in
-      let g : isGuarded s w F k ≡ true = guarded-is k y (and-left b (standsAt f p (F .block k)) e) c in
+      let r : b && t && u ≡ true = ap (λ (p : Place). standsAt f p (F .block k)) (sym (place-at f k h n)) ∙ e in
+      let q = and-left (b && t) u r in
+      let c = good-true (L .size) (addressOf F k) (regionOf (F .block k)) (and-right b t q) in
+      let g : isGuarded s w F k ≡ true = guarded-is k y (and-left b t q) c in
       let d : md5Of (regionIn s w F k f) ≡ digestIn (F .block k) =
       ap md5Of (sym (part-is k f))
-      ∙ digest-true (md5Of (partOf f (L .start) (regionOf (F .block k)))) (regionOf (F .block k)) (stands-true f (L .start) (regionOf (F .block k)) (and-right t u r)) in
+      ∙ digest-true (md5Of (partOf f (L .start) (regionOf (F .block k)))) (regionOf (F .block k)) (stands-true f (L .start) (regionOf (F .block k)) (and-right (b && t) u r)) in
       (g, finished k h g f n (m k h g d))
 
   module _ (R : Regions s w F) where
@@ -272,7 +272,7 @@ module _ (s : Settings) (w : World) (F : File) (idle : w .transfer ≡ Idle) (ok
 
     keeps : (f : List ℕ) (k : ℕ) → k < F .total → isGuarded s w F k ≡ true → length f ≡ flashOf w
         → Finished P f (regionStart s w F k) (regionLength F k) → standing s f (F .block k) ≡ true
-    unfolding standing regionOf
+    unfolding standsAt regionOf
     keeps f k h g n e =
         let m = named k g in
         let c = m .counting in
@@ -282,7 +282,7 @@ module _ (s : Settings) (w : World) (F : File) (idle : w .transfer ≡ Idle) (ok
         sym (stands-there f (L .start) (regionOf (F .block k)) (c .window) (omega (arith, c .within, L .within)))
         ∙ ap (λ (x : Digest). sameDigest x (regionOf (F .block k))) d
         ∙ digest-yes (regionOf (F .block k)) in
-        rw (m .flag, place-at f k h n) (both (good-yes (L .size) (addressOf F k) (regionOf (F .block k)) c) t)
+        rw (place-at f k h n) (both (both (m .flag) (good-yes (L .size) (addressOf F k) (regionOf (F .block k)) c)) t)
 
     guards : Guards P (w .held) Met
     guards =

@@ -101,14 +101,15 @@ unfoldable pub rightLengths : ℕ → Lengths → ℕ → ℕ → Bool
 rightLengths a n m k =
     eqb a 512 && flashLength (n .flash) && eqb m 16384 && eqb k 1024 && ramLength MainRam (n .main) && ramLength XipRam (n .xip)
 
--- in a place of the flash: "if the region is whole sectors, not empty, within the place and around the block, and flash there has that digest" (02, L9)
-abbrev pub standsAt : List ℕ → Place → List ℕ → Bool
+-- what an arrival would store in a place of the flash stands there: flag 0x4000, and "the region is whole sectors, not empty, within the place and
+-- around the block, and flash there has that digest" (02, L9)
+unfoldable pub standsAt : List ℕ → Place → List ℕ → Bool
 standsAt flash Nowhere a = false
-standsAt flash (At start size) a = goodRegion size (fieldAt a 12) (regionOf a) && standsIn flash start (regionOf a)
+standsAt flash (At start size) a = hasFlag a 0x4000 && goodRegion size (fieldAt a 12) (regionOf a) && standsIn flash start (regionOf a)
 
--- what an arrival with flag 0x4000 would store in the flash stands there, in the place of its family
-unfoldable pub standing : Settings → List ℕ → List ℕ → Bool
-standing s flash a = hasFlag a 0x4000 && standsAt flash (placeOf s (length flash) (fieldAt a 28)) a
+-- in the place of its family
+abbrev pub standing : Settings → List ℕ → List ℕ → Bool
+standing s flash a = standsAt flash (placeOf s (length flash) (fieldAt a 28)) a
 
 -- what a page does once it is accepted, where it is kept or not, and what a comment does
 abbrev pub bodyDeed : Bool → Body → Deed
