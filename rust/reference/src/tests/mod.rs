@@ -4,6 +4,7 @@ mod arrival;
 mod comments;
 mod hex;
 mod hex_file;
+mod kept;
 mod list;
 mod place;
 mod ram;
