@@ -6,6 +6,7 @@ mod hex;
 mod hex_file;
 mod kept;
 mod list;
+mod made;
 mod place;
 mod ram;
 mod storing;
