@@ -232,7 +232,13 @@ fn all_at_once_agrees() {
         let mut one = Pair::new(settings, transfer, buffers.clone());
         let n = r.below(20) as usize;
         let mut file: Vec<u8> = (0..n)
-            .flat_map(|_| any_arrival(&mut r, sectors * 16, ram))
+            .flat_map(|_| {
+                let mut a = any_arrival(&mut r, sectors * 16, ram);
+                if r.one_in(2) {
+                    name_region(&mut r, &mut a, &one);
+                }
+                a
+            })
             .collect();
         // a last piece that is no whole arrival, and room for fewer results, or for more
         file.resize(file.len() + r.below(512) as usize, 1);
