@@ -1,4 +1,5 @@
 mod Heads
+mod Windows
 mod Pages
 mod Count
 mod Cells
@@ -6,6 +7,7 @@ mod Effect
 pub mod Screening
 pub mod DecisionFacts
 pub mod Facts
+pub mod Ram
 pub mod Comments
 mod Lists
 mod Runs

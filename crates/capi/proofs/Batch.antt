@@ -4,22 +4,22 @@ use mathlib.Core.Path.{_≡_, sym, ap, _∙_}
 use mathlib.Core.Bool.{Bool, false, _||_, or-false, or-assoc}
 use mathlib.Core.List.{List, [], _∷_}
 use native.Mathlib.Omega.{arith}
-use lib.ListN.{length, take, drop, set}
+use lib.ListN.{length, take, drop, set, length-take, length-drop}
 use lib.Seq.{drop-drop}
 use Rattle.block.specs.Block.{fieldAt}
 use Rattle.settings.specs.Settings.{goodSettings}
 use Rattle.settings.specs.declared.Settings.{Settings}
-use Rattle.place.specs.Place.{placeOf}
+use Rattle.screen.specs.Screen.{roomsOf}
 use Rattle.transfer.specs.declared.Transfer.{Transfer}
 use Rattle.transfer.specs.Transfer.{numberOf}
-use Rattle.arrival.specs.Arrive.{Lent, World, Outcome, receiveOf}
+use Rattle.arrival.specs.Arrive.{Lent, World, lengthsOf, Outcome, rightLengths, receiveOf}
 use Rattle.arrival.specs.Lists.{receiveAll, answersOf, discardsOf}
 use Rattle.receiver.specs.declared.Receipt.{Receipt}
-use Rattle.receiver.specs.Receiver.{world, outcome, receiveKnown}
-use Rattle.receiver.proofs.Known.{known-is}
+use Rattle.receiver.specs.Receiver.{held, world, outcome, receiveKnown}
+use Rattle.receiver.proofs.KnownLaws.{known-is}
 use Rattle.layout.specs.Layout.{settingsFrom, transferFrom}
 use Rattle.capi.specs.Calls.{Knows, resultOf, isAcceptance, keptTransfer, arrivalsOf, resultsOf, anyAcceptance, storedFrom, BatchCall, batchCall, batchFrom, fewer, takeBatch}
-use Rattle.capi.specs.declared.Known.{Known}
+use Rattle.capi.specs.declared.FamilyRooms.{FamilyRooms}
 
 -- ---- the arrivals that are left
 
@@ -36,11 +36,29 @@ arrivals-next n i a h =
 
 -- ---- one of them
 
--- what was judged before the loop and the place that is kept are the arrival's
-pub round-known : (s : Settings) (u : Transfer) (a : List ℕ) (h : Lent) {len f : ℕ} {good : Bool} {k : Known} {o : Outcome} → length (h .flash) ≡ len → good ≡ goodSettings s len → f ≡ fieldAt a 28 → k .family ≡ f → Knows s len k → o ≡ receiveKnown good (k .place) (world u h) a → o ≡ receiveOf s (world u h) a
-round-known s u a h {k = k} e g hf hk knows ho =
-    let place = knows .0 ∙ ap (λ (n : ℕ). placeOf s n (k .family)) (sym e) ∙ ap (placeOf s (length (h .flash))) (hk ∙ hf) in
-    ho ∙ known-is s (world u h) a (g ∙ ap (goodSettings s) (sym e)) (knows .1) place
+-- the lent buffers are as long as others
+abbrev pub SameLengths : Lent → Lent → Type 0
+SameLengths h g =
+    (length (h .flash) ≡ length (g .flash))
+    × (length (h .seen) ≡ length (g .seen))
+    × (length (h .sectors) ≡ length (g .sectors))
+    × (length (h .main) ≡ length (g .main))
+    × (length (h .xip) ≡ length (g .xip))
+
+-- row 1, of an arrival of so many bytes
+abbrev pub rightFor : ℕ → Lent → Bool
+rightFor a h = rightLengths a (lengthsOf (held (h .flash) (h .sectors) (h .main) (h .xip))) (length (h .seen)) (length (h .sectors))
+
+pub arrival-size : (n i : ℕ) (a : List ℕ) → i < n → n ≤ length a / 512 → length (take (i * 512 + 512 - i * 512) (drop (i * 512) a)) ≡ 512
+arrival-size n i a l m = simp (length-take, length-drop) (omega arith)
+
+-- what was judged before the loop and what is kept of the family are the arrival's
+pub round-known : (s : Settings) (u : Transfer) (a : List ℕ) (h g : Lent) {f : ℕ} {right good : Bool} {k : FamilyRooms} {o : Outcome} → SameLengths h g → length a ≡ 512 → right ≡ rightFor 512 g → good ≡ goodSettings s (length (g .flash)) → f ≡ fieldAt a 28 → k .family ≡ f → Knows s (length (g .flash)) k → o ≡ receiveKnown right good (k .rooms) (world u h) a → o ≡ receiveOf s (world u h) a
+round-known s u a h g {k = k} e size hr hg hf hk knows ho =
+    let lengths : rightFor 512 g ≡ rightFor (length a) h = rw (e .0, e .1, e .2, e .3, e .4, size) refl in
+    let good = hg ∙ ap (goodSettings s) (sym (e .0)) in
+    let rooms = knows .0 ∙ ap (λ (n : ℕ). roomsOf s n (k .family)) (sym (e .0)) ∙ ap (roomsOf s (length (h .flash))) (hk ∙ hf) in
+    ho ∙ known-is s (world u h) a (hr ∙ lengths) good (knows .1) rooms
 
 module _ (n : ℕ) (s : Settings) (t : List ℕ) (accepted : Bool) (r : List ℕ) (i : ℕ) where
   -- what follows an outcome, where the arrivals of l are left

@@ -5,19 +5,21 @@ use mathlib.Core.Bool.{Bool, false, _||_, cond}
 use mathlib.Core.List.{List, [], _∷_, _++_}
 use lib.Dec.{leb, eqb}
 use lib.ListN.{length, take, drop, set}
-use Rattle.place.specs.Place.{askOf, placeAnswerNumber, placeOf, StartsLow}
+use denote.Ref.{now}
+use Rattle.place.specs.Place.{askOf, placeAnswerNumber, StartsLow}
 use Rattle.place.specs.declared.PlaceAnswer.{PlaceAnswer}
 use Rattle.place.specs.declared.PlaceAnswer.the-variants.{BadBuffers, BadSettings, NoPlace, Found}
 use Rattle.transfer.specs.Transfer.{numberOf}
 use Rattle.transfer.specs.declared.Answer.{Answer}
 use Rattle.transfer.specs.declared.State.{State}
 use Rattle.settings.specs.declared.Settings.{Settings}
+use Rattle.screen.specs.Screen.{roomsOf}
 use Rattle.arrival.specs.Arrive.{Lent, World, lentOf, Outcome, receiveOf, Forecast, lookOf}
 use Rattle.arrival.specs.Lists.{receiveAll, answersOf, discardsOf}
-use Rattle.receiver.specs.Receiver.{world}
+use Rattle.receiver.specs.Receiver.{Slice, world}
 use Rattle.block.specs.Write.{le32}
 use Rattle.layout.specs.Layout.{settingsFrom, transferFrom, withTransfer}
-use Rattle.capi.specs.declared.Known.{Known}
+use Rattle.capi.specs.declared.FamilyRooms.{FamilyRooms}
 
 -- ---- a place asked for alone
 
@@ -76,6 +78,10 @@ lookResult o = resultOf (numberOf (o .answer)) (o .discarded)
 unfoldable pub lookBytes : List ℕ → List ℕ → List ℕ → Lent → ℕ
 lookBytes s t a h = lookResult (lookOf (settingsFrom s) (world (transferFrom t) h) a)
 
+-- the same of the slices that the call is lent, which the contract names
+abbrev pub lookCallOf : Slice → Slice → Slice → Lent → ℕ
+lookCallOf s t a h = lookBytes (now (s .entry)) (now (t .entry)) (now (a .entry)) h
+
 -- answers 14 and more accept the block
 abbrev pub isAcceptance : ℕ → Bool
 isAcceptance n = leb 14 n
@@ -94,6 +100,13 @@ arrivalCallOf t o =
 -- bytes of settings and transfer, arrival, and what is lent
 unfoldable pub takeBytes : List ℕ → List ℕ → List ℕ → Lent → ArrivalCall
 takeBytes s t a h = arrivalCallOf t (receiveOf (settingsFrom s) (world (transferFrom t) h) a)
+
+-- the same of the slices that the call is lent, and what it returns and leaves, which the contract names
+abbrev pub takeCallOf : Slice → Slice → Slice → Lent → ArrivalCall
+takeCallOf s t a h = takeBytes (now (s .entry)) (now (t .entry)) (now (a .entry)) h
+
+abbrev pub takeLeft : ℕ → Slice → Lent → ArrivalCall
+takeLeft n t h = arrivalCall n (now (t .exit)) h
 
 -- ---- arrivals one after the other
 
@@ -118,9 +131,9 @@ unfoldable pub storedFrom : List ℕ → ℕ → List ℕ → List ℕ
 storedFrom l i [] = l
 storedFrom l i (x ∷ xs) = storedFrom (set l i x) (i + 1) xs
 
--- a family and its place in a flash of len bytes, as the loop keeps them from one arrival to the next
-abbrev pub Knows : Settings → ℕ → Known → Type 0
-Knows s len k = (k .place ≡ placeOf s len (k .family)) × StartsLow (k .place)
+-- a family and what the settings say of it with a flash of len bytes, as the loop keeps them from one arrival to the next
+abbrev pub Knows : Settings → ℕ → FamilyRooms → Type 0
+Knows s len k = (k .rooms ≡ roomsOf s len (k .family)) × StartsLow (k .rooms .flash)
 
 -- how many were received, and what the lent buffers hold
 pub record BatchCall : Type 0 where
@@ -150,3 +163,10 @@ unfoldable pub takeBatch : List ℕ → List ℕ → List ℕ → List ℕ → L
 takeBatch s t a r h =
     let n = fewer (length a / 512) (length r) in
     batchFrom n (settingsFrom s) t (world (transferFrom t) h) false r 0 (arrivalsOf n a)
+
+-- the same of the slices that the call is lent, and what it returns and leaves, which the contract names
+abbrev pub batchCallOf : Slice → Slice → Slice → Slice → Lent → BatchCall
+batchCallOf s t a r h = takeBatch (now (s .entry)) (now (t .entry)) (now (a .entry)) (now (r .entry)) h
+
+abbrev pub batchLeft : ℕ → Slice → Slice → Lent → BatchCall
+batchLeft n t r h = batchCall n (now (t .exit)) (now (r .exit)) h

@@ -10,20 +10,21 @@ ghost use Rattle.capi.specs.Calls.{
   placeCall,
   placeCallOf,
   askBytes,
-  arrivalCall,
   resultOf,
   isAcceptance,
   keptTransfer,
-  lookBytes,
-  takeBytes,
+  lookCallOf,
+  takeCallOf,
+  takeLeft,
   fewer,
   Knows,
-  batchCall,
-  takeBatch,
+  batchCallOf,
+  batchLeft,
 };
 use block::Block;
-use place::Place;
 use place::PlaceAnswer;
+use screen::Lengths;
+use screen::Rooms;
 use settings::Family;
 use settings::Settings;
 use transfer::Transfer;
@@ -99,12 +100,14 @@ pub extern "C" fn uf2_look(
     flash: &[u8],
     seen: &[u8],
     sectors: &[u8],
+    main: &[u8],
+    xip: &[u8],
 ) -> u32
-    ensures { λ r. ⌜ r ≡ lookBytes (now (settings .entry)) (now (transfer .entry)) (now (arrival .entry)) (lentAt flash seen sectors) ⌝ }
+    ensures { λ r. ⌜ r ≡ lookCallOf settings transfer arrival (lentAt flash seen sectors main xip) ⌝ }
 {
     let s = layout::read_settings(settings);
     let t = layout::read_transfer(transfer);
-    let p = receiver::look(s, t, arrival, flash, seen, sectors);
+    let p = receiver::look(s, t, arrival, flash, seen, sectors, main, xip);
     let answer = p.answer;
     let n = answer.number();
     report(n, p.discarded) as u32
@@ -119,12 +122,14 @@ pub extern "C" fn uf2_take(
     flash: &mut [u8],
     seen: &mut [u8],
     sectors: &mut [u8],
+    main: &mut [u8],
+    xip: &mut [u8],
 ) -> u32
-    ensures { λ r. ⌜ arrivalCall r (now (transfer .exit)) (leftAt flash seen sectors) ≡ takeBytes (now (settings .entry)) (now (transfer .entry)) (now (arrival .entry)) (lentAt flash seen sectors) ⌝ }
+    ensures { λ r. ⌜ takeLeft r transfer (leftAt flash seen sectors main xip) ≡ takeCallOf settings transfer arrival (lentAt flash seen sectors main xip) ⌝ }
 {
     let s = layout::read_settings(settings);
     let t = layout::read_transfer(transfer);
-    let r = receiver::take(s, t, arrival, flash, seen, sectors);
+    let r = receiver::take(s, t, arrival, flash, seen, sectors, main, xip);
     let answer = r.answer;
     let next = r.transfer;
     let n = answer.number();
@@ -139,26 +144,27 @@ fn at_most(a: usize, b: usize) -> usize
     if a <= b { a } else { b }
 }
 
-// A family and its place.
-struct Known {
+// A family, and what the settings say of it.
+struct FamilyRooms {
     family: u32,
-    place: Place,
+    rooms: Rooms,
 }
 
-// The place of a family, found anew where it is not the family before.
-fn place_for(known: Known, settings: Settings, flash_len: usize, family: u32) -> Known
-    requires { ⌜ Knows settings «flash_len» known ⌝ }
+// What the settings say of a family, asked anew where it is not the family before.
+fn rooms_for(before: FamilyRooms, settings: Settings, flash_len: usize, family: u32) -> FamilyRooms
+    requires { ⌜ Knows settings «flash_len» before ⌝ }
     ensures { λ r. ⌜ r .family ≡ family ⌝ }
     ensures knows { λ r. ⌜ Knows settings «flash_len» r ⌝ }
 {
-    if known.family == family {
-        return known;
+    if before.family == family {
+        return before;
     }
-    let place = place::find(settings, flash_len, family);
-    Known { family, place }
+    let rooms = screen::rooms_for(settings, flash_len, family);
+    FamilyRooms { family, rooms }
 }
 
-// Whole arrivals are taken one after the other, as many as there are results for: their number, and the result of each.
+// Whole arrivals are taken one after the other, as many as there are results for: their number, and the result of each. Lengths and settings
+// are the same for all of them, and judged once.
 #[no_mangle]
 pub extern "C" fn uf2_take_all(
     settings: &[u8],
@@ -168,17 +174,25 @@ pub extern "C" fn uf2_take_all(
     flash: &mut [u8],
     seen: &mut [u8],
     sectors: &mut [u8],
+    main: &mut [u8],
+    xip: &mut [u8],
 ) -> usize
-    ensures { λ r. ⌜ batchCall r (now (transfer .exit)) (now (results .exit)) (leftAt flash seen sectors) ≡ takeBatch (now (settings .entry)) (now (transfer .entry)) (now (arrivals .entry)) (now (results .entry)) (lentAt flash seen sectors) ⌝ }
+    ensures { λ r. ⌜ batchLeft r transfer results (leftAt flash seen sectors main xip) ≡ batchCallOf settings transfer arrivals results (lentAt flash seen sectors main xip) ⌝ }
 {
     let s = layout::read_settings(settings);
     let mut t = layout::read_transfer(transfer);
     let len = flash.len();
+    let lens = Lengths {
+        flash: len,
+        main: main.len(),
+        xip: xip.len(),
+    };
+    let right = receiver::lengths_right(Block::ARRIVAL, lens, seen.len(), sectors.len());
     let good = settings::good(s, len);
-    let first = place::find(s, len, Family::DATA);
-    let mut known = Known {
+    let first = screen::rooms_for(s, len, Family::DATA);
+    let mut known = FamilyRooms {
         family: Family::DATA,
-        place: first,
+        rooms: first,
     };
     let mut accepted = false;
     let n = at_most(arrivals.len() / Block::ARRIVAL, results.len());
@@ -187,9 +201,20 @@ pub extern "C" fn uf2_take_all(
         let from = i * Block::ARRIVAL;
         let to = from + Block::ARRIVAL;
         let family = block::field(&arrivals[from..to], 28);
-        known = place_for(known, s, len, family);
-        let place = known.place;
-        let r = receiver::take_known(good, place, t, &arrivals[from..to], flash, seen, sectors);
+        known = rooms_for(known, s, len, family);
+        let rooms = known.rooms;
+        let r = receiver::take_known(
+            right,
+            good,
+            rooms,
+            t,
+            &arrivals[from..to],
+            flash,
+            seen,
+            sectors,
+            main,
+            xip,
+        );
         let answer = r.answer;
         let next = r.transfer;
         let number = answer.number();

@@ -14,17 +14,15 @@ use Rattle.capi.proofs.uf2_take_all.Statement.{statement}
 use Rattle.capi.proofs.uf2_take_all.Tie as tie
 
 abbrev Inv-loop : tie.InvT-loop
-Inv-loop settings transfer arrivals results₀ flash₀ seen₀ sectors₀ s t₀ len good known₀ accepted₀ n i₀ results flash seen sectors t known accepted i =
+Inv-loop settings transfer arrivals results₀ flash₀ seen₀ sectors₀ main₀ xip₀ s t₀ len lens right good known₀ accepted₀ n i₀ results flash seen sectors main xip t known accepted i =
     (i ≤ n)
     × (length results ≡ length results₀)
-    × (length flash ≡ length flash₀)
-    × (length seen ≡ length seen₀)
-    × (length sectors ≡ length sectors₀)
+    × SameLengths (lent flash seen sectors main xip) (lent flash₀ seen₀ sectors₀ main₀ xip₀)
     × Knows s len known
-    × (batchFrom n s transfer (world t (lent flash seen sectors)) accepted results i (arrivalsOf (n - i) (drop (i * 512) arrivals)) ≡ batchFrom n s transfer (world t₀ (lent flash₀ seen₀ sectors₀)) false results₀ 0 (arrivalsOf n arrivals))
+    × (batchFrom n s transfer (world t (lent flash seen sectors main xip)) accepted results i (arrivalsOf (n - i) (drop (i * 512) arrivals)) ≡ batchFrom n s transfer (world t₀ (lent flash₀ seen₀ sectors₀ main₀ xip₀)) false results₀ 0 (arrivalsOf n arrivals))
 
 abbrev μ-loop : tie.MeasureT-loop
-μ-loop settings transfer arrivals results₀ flash₀ seen₀ sectors₀ s t₀ len good known₀ accepted₀ n i₀ results flash seen sectors t known accepted i =
+μ-loop settings transfer arrivals results₀ flash₀ seen₀ sectors₀ main₀ xip₀ s t₀ len lens right good known₀ accepted₀ n i₀ results flash seen sectors main xip t known accepted i =
     n - i
 
 read-settings-requires : tie.Need-read-settings-requires Inv-loop μ-loop
