@@ -31,7 +31,7 @@ use Rattle.screen.specs.declared.Lengths.{Lengths}
 use Rattle.screen.specs.declared.Placed.{Placed}
 use Rattle.screen.specs.declared.Screening.{Screening}
 use Rattle.screen.specs.declared.Screening.the-variants.{Refused, Passed}
-use Rattle.arrival.specs.Arrive.{World, Decision, stays, accepts, ramLength, rightLengths, deedOf, stepped, afterScreening, decide, decided}
+use Rattle.arrival.specs.Arrive.{World, Decision, outcomeNumber, done, stays, accepts, ramLength, rightLengths, deedOf, stepped, afterScreening, decide, decided}
 use Rattle.arrival.specs.Tally.{clears}
 use Rattle.arrival.proofs.Heads.{head-same}
 use Rattle.arrival.proofs.Screening.{flashOf, lens, Board, Passing, Good, screen-good}
@@ -51,7 +51,7 @@ pub record Right (a : ℕ) (n : Lengths) (m k : ℕ) : Type 0 where
   pub main : ramLength MainRam (n .main) ≡ true
   pub xip : ramLength XipRam (n .xip) ≡ true
 
-right-true : (a : ℕ) (n : Lengths) (m k : ℕ) → rightLengths a n m k ≡ true → Right a n m k
+pub right-true : (a : ℕ) (n : Lengths) (m k : ℕ) → rightLengths a n m k ≡ true → Right a n m k
 unfolding rightLengths
 right-true a n m k e =
     let p1 = eqb a 512 in
@@ -110,6 +110,16 @@ raised-number d g c = split (ltb c (g .total)) (λ y. rw y (least d)) (λ z. rw 
     least : (d : Deed) → 14 ≤ numberOf (deedAnswer d)
     least Stores = omega arith
     least Notes = omega arith
+
+-- a block that passes is answered 12 or more
+pub step-late : (w : World) (p : List ℕ) (g : Placed) (d : Deed) (t : State) (b : Bool) → 12 ≤ outcomeNumber (done w p (stepped g d (stepOf t (g .head) b d)))
+unfolding done stepOf accepted
+step-late w p g d Idle b = omega (arith, raised-number d (g .head) 1)
+step-late w p g d (Running r) b =
+    split (sameHead (r .head) (g .head))
+    (λ q. rw q (split b (λ y. rw y (omega arith)) (λ z. rw z (omega (arith, raised-number d (g .head) (r .count + 1))))))
+    (λ q. rw q (omega (arith, raised-number d (g .head) 1)))
+step-late w p g d (Done h) b = omega arith
 
 -- a step that accepts a block of head g to a transfer t, where its number is marked or not, and which does d
 pub record AcceptFacts (t : State) (g : Head) (marked : Bool) (d : Deed) (k : Accepted) : Type 0 where

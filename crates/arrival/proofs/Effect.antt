@@ -47,6 +47,34 @@ pub length-prepared : (q : ℕ) (x : Held) → length (preparedAt q x) ≡ lengt
 unfolding preparedAt
 length-prepared q x = split (markedIn (x .sectors) q) (λ y. rw y) (λ z. rw z (length-erase (x .flash) q))
 
+-- a page of another kind changes nothing of a buffer
+pub paged-other : (u k : Kind) (at : ℕ) (payload : List ℕ) (x : Held) → u ≢ k → bufferOf u (pagedAt k at payload x) ≡ bufferOf u x
+unfolding pagedAt
+paged-other Flash Flash at payload x n = absurd (n refl)
+paged-other MainRam Flash at payload x n = refl
+paged-other XipRam Flash at payload x n = refl
+paged-other Flash MainRam at payload x n = refl
+paged-other MainRam MainRam at payload x n = absurd (n refl)
+paged-other XipRam MainRam at payload x n = refl
+paged-other Flash XipRam at payload x n = refl
+paged-other MainRam XipRam at payload x n = refl
+paged-other XipRam XipRam at payload x n = absurd (n refl)
+
+-- and RAM marks no sector
+pub sectors-ram : (k : Kind) (at : ℕ) (payload : List ℕ) (x : Held) → k ≢ Flash → pagedAt k at payload x .sectors ≡ x .sectors
+unfolding pagedAt
+sectors-ram Flash at payload x n = absurd (n refl)
+sectors-ram MainRam at payload x n = refl
+sectors-ram XipRam at payload x n = refl
+
+-- a page in RAM changes the 256 bytes alone
+pub getD-ram : (k : Kind) (at : ℕ) (payload : List ℕ) (x : Held) → k ≢ Flash → Fits k (length (bufferOf k x)) at payload → (j : ℕ)
+    → getD (bufferOf k (pagedAt k at payload x)) j 0 ≡ cond (spans at j) (getD payload (j - at) 0) (getD (bufferOf k x) j 0)
+unfolding pagedAt
+getD-ram Flash at payload x n ok j = absurd (n refl)
+getD-ram MainRam at payload x n ok j = getD-store (x .main) at payload j ∙ rw (room-yes (x .main) at payload (ok .full) (ok .within))
+getD-ram XipRam at payload x n ok j = getD-store (x .xip) at payload j ∙ rw (room-yes (x .xip) at payload (ok .full) (ok .within))
+
 pub lengths-paged : (k : Kind) (at : ℕ) (payload : List ℕ) (x : Held) → lengthsOf (pagedAt k at payload x) ≡ lengthsOf x
 unfolding pagedAt
 lengths-paged Flash at payload x =
@@ -77,36 +105,8 @@ length-paged u k at payload x =
 pub sectors-paged : (k : Kind) (at : ℕ) (payload : List ℕ) (x : Held) → length (pagedAt k at payload x .sectors) ≡ length (x .sectors)
 unfolding pagedAt
 sectors-paged Flash at payload x = length-mark (x .sectors) (at / 4096)
-sectors-paged MainRam at payload x = refl
-sectors-paged XipRam at payload x = refl
-
--- a page in RAM changes the 256 bytes alone
-pub getD-ram : (k : Kind) (at : ℕ) (payload : List ℕ) (x : Held) → k ≢ Flash → Fits k (length (bufferOf k x)) at payload → (j : ℕ)
-    → getD (bufferOf k (pagedAt k at payload x)) j 0 ≡ cond (spans at j) (getD payload (j - at) 0) (getD (bufferOf k x) j 0)
-unfolding pagedAt
-getD-ram Flash at payload x n ok j = absurd (n refl)
-getD-ram MainRam at payload x n ok j = getD-store (x .main) at payload j ∙ rw (room-yes (x .main) at payload (ok .full) (ok .within))
-getD-ram XipRam at payload x n ok j = getD-store (x .xip) at payload j ∙ rw (room-yes (x .xip) at payload (ok .full) (ok .within))
-
--- a page of another kind changes nothing of a buffer
-pub paged-other : (u k : Kind) (at : ℕ) (payload : List ℕ) (x : Held) → u ≢ k → bufferOf u (pagedAt k at payload x) ≡ bufferOf u x
-unfolding pagedAt
-paged-other Flash Flash at payload x n = absurd (n refl)
-paged-other MainRam Flash at payload x n = refl
-paged-other XipRam Flash at payload x n = refl
-paged-other Flash MainRam at payload x n = refl
-paged-other MainRam MainRam at payload x n = absurd (n refl)
-paged-other XipRam MainRam at payload x n = refl
-paged-other Flash XipRam at payload x n = refl
-paged-other MainRam XipRam at payload x n = refl
-paged-other XipRam XipRam at payload x n = absurd (n refl)
-
--- and RAM marks no sector
-pub sectors-ram : (k : Kind) (at : ℕ) (payload : List ℕ) (x : Held) → k ≢ Flash → pagedAt k at payload x .sectors ≡ x .sectors
-unfolding pagedAt
-sectors-ram Flash at payload x n = absurd (n refl)
-sectors-ram MainRam at payload x n = refl
-sectors-ram XipRam at payload x n = refl
+sectors-paged MainRam at payload x = ap length (sectors-ram MainRam at payload x (λ e. let z : _≡_ {A = ℕ} 0 1 = cc in omega arith))
+sectors-paged XipRam at payload x = ap length (sectors-ram XipRam at payload x (λ e. let z : _≡_ {A = ℕ} 0 1 = cc in omega arith))
 
 -- a page in flash, over a sector map of T
 module _ (at : ℕ) (payload : List ℕ) (x : Held) (T : Set) (marks : x .sectors ≡ mapOf 1024 T)

@@ -8,9 +8,11 @@ pub mod Screening
 pub mod DecisionFacts
 pub mod Facts
 pub mod Ram
+pub mod RamRows
 pub mod Comments
 mod Lists
 mod Runs
 mod Files
 pub mod Demand
 pub mod Tally
+pub mod Before

@@ -43,7 +43,7 @@ use Rattle.screen.specs.declared.Screening.the-variants.{Refused, Passed}
 use Rattle.arrival.specs.Arrive.{World, bufferOf, lengthsOf, ramLength, deedOf}
 use Rattle.arrival.specs.Windows.{windowStart, windowEnd, kindOf, headOf}
 use Rattle.arrival.specs.Demand.{isFound, startOf, originOf}
-use Rattle.arrival.proofs.Windows.{start-is, end-is, data-kind, comment-kind}
+use Rattle.arrival.proofs.Windows.{start-is, end-is, data-kind, data-window, comment-kind}
 use Rattle.arrival.proofs.Effect.{Fits}
 
 -- ---- a header that yields a block yields the arrival's fields
@@ -63,7 +63,7 @@ fielded a =
     (λ z. rw z (split (hasFlag a 0x1000) (λ y. rw y tt)
     (λ z. rw z (split (not (hasFlag a 0x2000)) (λ y. rw y tt) (λ z. rw z refl)))))))))
 
-comment-is : (a : List ℕ) → fieldsOf a .comment ≡ hasFlag a 0x1
+pub comment-is : (a : List ℕ) → fieldsOf a .comment ≡ hasFlag a 0x1
 unfolding fieldsOf
 comment-is a = refl
 
@@ -143,6 +143,10 @@ module _ (s : Settings) (w : World) (a : List ℕ) where
 
   -- of a data block
   module _ (z : hasFlag a 0x1 ≡ false) where
+    pub kind-window : kindOf w a ≡ windowKind (windowOf (lens w) (fieldsOf a .address))
+    unfolding kindOf fieldsOf
+    kind-window = rw z (data-window w (fieldAt a 12) (windowOf (lens w) (fieldAt a 12)) (window-facts (lens w) (fieldAt a 12)))
+
     kind-data : (k : Kind) → InWindow (lens w) k (fieldAt a 12) → kindOf w a ≡ k
     unfolding kindOf
     kind-data k f = rw z (data-kind w (fieldAt a 12) k f)
@@ -187,7 +191,7 @@ module _ (s : Settings) (w : World) (a : List ℕ) where
 
   -- of a comment
   module _ (y : hasFlag a 0x1 ≡ true) where
-    kind-note : kindOf w a ≡ noteKind (lens w) (w .transfer) (fieldsOf a)
+    pub kind-note : kindOf w a ≡ noteKind (lens w) (w .transfer) (fieldsOf a)
     unfolding kindOf
     kind-note = rw y (sym (comment-kind w a (w .transfer)))
 
@@ -290,7 +294,7 @@ pub record Room (w : World) (k : Kind) (start size : ℕ) : Type 0 where
   pub most : size ≤ 33554432
   pub ends : windowStart k + size ≤ windowEnd k
 
-whole-is : (b : Bool) (n start size : ℕ) → wholeIf b n ≡ At start size → (start ≡ 0) × (size ≡ n)
+pub whole-is : (b : Bool) (n start size : ℕ) → wholeIf b n ≡ At start size → (start ≡ 0) × (size ≡ n)
 whole-is true n start size e = let p : 0 ≡ start = cc in let q : n ≡ size = cc in (sym p, sym q)
 whole-is false n start size e = let z : _≡_ {A = ℕ} 0 1 = cc in absurd (omega arith)
 

@@ -2,7 +2,7 @@
 use Prim.Native.Nat.{ℕ, _+_, _<_, _≤_}
 use mathlib.Core.Path.{_≡_, refl, sym, ap, _∙_}
 use mathlib.Core.Logic.{_≢_}
-use mathlib.Core.Bool.{Bool, true, false, cond, and-false, _&&_}
+use mathlib.Core.Bool.{Bool, true, false, cond, and-false, and-assoc, _&&_}
 use mathlib.Core.List.{List}
 use native.Mathlib.Omega.{arith}
 use lib.Dec.{eqb, ltb, leb}
@@ -14,8 +14,10 @@ use Rattle.transfer.specs.declared.Kind.the-variants.{Flash, MainRam, XipRam}
 use Rattle.transfer.specs.declared.Run.{Run}
 use Rattle.transfer.specs.declared.State.{State}
 use Rattle.transfer.specs.declared.State.the-variants.{Idle, Running, Done}
-use Rattle.screen.specs.Screen.{baseOf, extentOf, isLent, noteKind}
-use Rattle.screen.proofs.Windows.{InWindow}
+use Rattle.screen.specs.Screen.{baseOf, extentOf, isLent, inWindow, noteKind, windowKind}
+use Rattle.screen.specs.declared.Window.{Window}
+use Rattle.screen.specs.declared.Window.the-variants.{Outside, In}
+use Rattle.screen.proofs.Windows.{InWindow, WindowFacts}
 use Rattle.arrival.specs.Arrive.{World, lengthsOf}
 use Rattle.arrival.specs.Windows.{windowStart, windowEnd, lies, hasBuffer, dataKind, commentKind}
 
@@ -70,6 +72,21 @@ module _ (w : World) where
           le-leb 0x13ffc000 x (f .low),
           lt-ltb x 0x14000000 (f .high),
         )
+
+    -- an address in none
+    pub data-outside : ((k : Kind) → inWindow (lengthsOf (w .held)) k x ≡ false) → dataKind w x ≡ Flash
+    data-outside f =
+        rw (
+          sym (and-assoc (hasBuffer w MainRam) (leb 0x20000000 x) (ltb x 0x20082000)) ∙ f MainRam,
+          sym (and-assoc (hasBuffer w XipRam) (leb 0x13ffc000 x) (ltb x 0x14000000)) ∙ f XipRam,
+        )
+
+    abbrev Kinded : Window → Type 0
+    Kinded u = dataKind w x ≡ windowKind u
+
+    pub data-window : (u : Window) → WindowFacts (lengthsOf (w .held)) x u → Kinded u
+    data-window Outside f = data-outside f
+    data-window (In k) f = data-kind k f
 
   -- a comment's kind; flash's buffer is not asked for
   module _ (a : List ℕ) where

@@ -6,3 +6,4 @@ pub mod Tally
 pub mod Demand
 pub mod Comments
 pub mod Ram
+pub mod Before

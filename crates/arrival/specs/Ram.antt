@@ -8,12 +8,13 @@ use mathlib.Core.List.{List}
 use lib.ListN.{getD}
 use Rattle.flash.specs.Flash.{spans}
 use Rattle.block.specs.Block.{fieldAt, hasFlag}
+use Rattle.settings.specs.Settings.{entryAt}
 use Rattle.settings.specs.declared.Settings.{Settings}
 use Rattle.transfer.specs.Transfer.{numberOf}
 use Rattle.transfer.specs.declared.Kind.{Kind}
 use Rattle.transfer.specs.declared.Kind.the-variants.{Flash}
 use Rattle.arrival.specs.Arrive.{World, bufferOf, clearedIf, receiveOf}
-use Rattle.arrival.specs.Windows.{windowStart, kindOf, headOf}
+use Rattle.arrival.specs.Windows.{windowStart, windowEnd, kindOf, headOf}
 use Rattle.arrival.specs.Tally.{clears}
 
 -- an arrival of one kind leaves the buffers of the others whole
@@ -40,3 +41,22 @@ unfoldable pub Ram-marks-nothing : Type 0
 Ram-marks-nothing =
     (s : Settings) (w : World) (a : List ℕ) → 14 ≤ numberOf (receiveOf s w a .answer) → kindOf w a ≢ Flash
     → receiveOf s w a .world .held .sectors ≡ clearedIf (clears (w .transfer) (headOf w a)) (w .held .sectors)
+
+-- "families ..58 to ..5b or a user family of a used entry": user family i, of at most 4, of entry k, whatever its link
+pub data RamFamily (s : Settings) (f : ℕ) : Type 0 where
+  named : 0xe48bff58 ≤ f → f ≤ 0xe48bff5b → RamFamily s f
+  user : (k i : ℕ) → k < s .count → i < 4 → i < entryAt (s .table) k .«user_count» → getD (entryAt (s .table) k .users) i 0 ≡ f
+      → RamFamily s f
+
+-- "In RAM only" these; "others 8": who passes row 8 has one, and who has one is not refused there
+unfoldable pub Ram-families : Type 0
+Ram-families =
+    (s : Settings) (w : World) (a : List ℕ) → kindOf w a ≢ Flash
+    → (9 ≤ numberOf (receiveOf s w a .answer) → RamFamily s (fieldAt a 28))
+    × (RamFamily s (fieldAt a 28) → numberOf (receiveOf s w a .answer) ≢ 8)
+
+-- "by byte address (there 11 is only address + 256 past the window's end)"
+unfoldable pub Ram-addresses : Type 0
+Ram-addresses =
+    (s : Settings) (w : World) (a : List ℕ) → kindOf w a ≢ Flash → hasFlag a 0x1 ≡ false → numberOf (receiveOf s w a .answer) ≡ 11
+    → windowEnd (kindOf w a) < fieldAt a 12 + 256
