@@ -10,9 +10,13 @@ pub mod Facts
 pub mod Ram
 pub mod RamRows
 pub mod Comments
+pub mod Kept
 mod Lists
 mod Runs
 mod Files
+mod Contents
+mod Guards
 pub mod Demand
+pub mod Regions
 pub mod Tally
 pub mod Before
