@@ -1,6 +1,6 @@
 //! One Universal Hex file from two plain Intel Hex files.
 
-use crate::ffi;
+use crate::ffi::{self, len};
 
 /// The most bytes of a file, of an input and of the output.
 pub const HEX_FILE_BYTES: usize = 4_194_304;
@@ -129,11 +129,11 @@ pub fn join(v1: &[u8], v2: &[u8], output: &mut [u8]) -> Result<usize, JoinRefusa
     let number = unsafe {
         ffi::uhex_join(
             v1.as_ptr(),
-            v1.len(),
+            len(v1),
             v2.as_ptr(),
-            v2.len(),
+            len(v2),
             output.as_mut_ptr(),
-            output.len(),
+            len(output),
         )
     };
     result(number).expect("the library is not the proved one of this version")

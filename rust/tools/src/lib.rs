@@ -24,6 +24,8 @@ mod join;
 
 pub use join::{join, Board, JoinRefusal, PlainRefusal, HEX_FILE_BYTES};
 
+use ffi::{len, Len};
+
 /// The bytes of a page of an image.
 pub const PAGE_BYTES: usize = 256;
 /// The bytes of a block of a file.
@@ -71,7 +73,7 @@ fn result(number: u32, image_len: usize) -> Result<usize, MakeRefusal> {
 /// How many blocks [`make`] would write for an image of so many bytes, or its refusal.
 pub fn check(image_len: usize, start: u32, output_len: usize) -> Result<usize, MakeRefusal> {
     // SAFETY: the call takes numbers alone.
-    let number = unsafe { ffi::uf2_make_check(image_len, start, output_len) };
+    let number = unsafe { ffi::uf2_make_check(image_len as Len, start, output_len as Len) };
     result(number, image_len)
 }
 
@@ -87,11 +89,11 @@ pub fn make(
     let number = unsafe {
         ffi::uf2_make(
             image.as_ptr(),
-            image.len(),
+            len(image),
             family,
             start,
             output.as_mut_ptr(),
-            output.len(),
+            len(output),
         )
     };
     result(number, image.len())
@@ -120,9 +122,9 @@ pub fn write_block(fields: Fields, page: &[u8; PAGE_BYTES], block: &mut [u8; BLO
             fields.total,
             fields.family,
             page.as_ptr(),
-            page.len(),
+            len(page),
             block.as_mut_ptr(),
-            block.len(),
+            len(block),
         );
     }
 }
@@ -134,9 +136,9 @@ pub fn md5(bytes: &[u8]) -> [u8; MD5_BYTES] {
     unsafe {
         ffi::uf2_md5(
             bytes.as_ptr(),
-            bytes.len(),
+            len(bytes),
             digest.as_mut_ptr(),
-            digest.len(),
+            len(&digest),
         );
     }
     digest
