@@ -20,3 +20,4 @@ pub mod Demand
 pub mod Regions
 pub mod Tally
 pub mod Before
+pub mod Stopped
