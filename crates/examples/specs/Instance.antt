@@ -4,7 +4,7 @@ use Prim.Native.Nat.{ℕ, _+_, _*_}
 use mathlib.Core.Bool.{cond}
 use mathlib.Core.List.{List, [], _∷_}
 use lib.Dec.{eqb}
-use Rattle.fill.specs.Many.{many}
+use lib.ListN.{replicate}
 use Rattle.settings.specs.Settings.{familyArmS}
 use Rattle.transfer.specs.declared.Kind.the-variants.{Flash, XipRam}
 use Rattle.transfer.specs.declared.State.the-variants.{Idle, Running}
@@ -76,9 +76,9 @@ Met-in-RAM = ValidFile plain ramStart ramFile × Sent plain ramStart ramFile ram
 abbrev pub stopped : World
 stopped =
     record {
-      transfer = Running (record { head = headTo Flash familyArmS 5; count = 2 });
-      seen = many 16384 255;
-      held = record { flash = start .held .flash; sectors = many 1024 255; main = start .held .main; xip = start .held .xip };
+      transfer = Running (record { head = headTo Flash 5; count = 2 });
+      seen = replicate 16384 255;
+      held = record { flash = start .held .flash; sectors = replicate 1024 255; main = start .held .main; xip = start .held .xip };
     }
 
 -- then the file of three blocks arrives: another total
