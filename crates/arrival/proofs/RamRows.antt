@@ -290,4 +290,4 @@ module _ (s : Settings) (w : World) (a : List ℕ) (n : kindOf w a ≢ Flash) (z
 
 pub ram-addresses : Ram-addresses
 unfolding Ram-addresses
-ram-addresses s w a n z e = past-end s w a n z e
+ram-addresses s w a n z e = omega (arith, past-end s w a n z e)

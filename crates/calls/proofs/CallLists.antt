@@ -36,9 +36,10 @@ use Rattle.arrival.proofs.Demand.{list-ends, completed-exactly, same-set-same-e
 use Rattle.layout.specs.Layout.{byteAt, stateFrom, settingsFrom, transferBytes, headBytes, stateBytes, withTransfer}
 use Rattle.layout.proofs.Refused.{state-length}
 use Rattle.layout.proofs.Transfers.{Small, written-back}
+use Rattle.batch.specs.Batch.{resultOf, isAcceptance, arrivalsOf, resultsOf, anyAcceptance, storedFrom, fewer, batchOf}
+use Rattle.batch.proofs.Laws.{number-most}
 use Rattle.capi.specs.Calls as capi
-use Rattle.capi.specs.Calls.{lookResult, lookBytes, takeBytes, isAcceptance, arrivalsOf, resultsOf, anyAcceptance, storedFrom, batchFrom, fewer, takeBatch}
-use Rattle.capi.proofs.Laws.{number-most}
+use Rattle.capi.specs.Calls.{lookResult, lookBytes, takeBytes, takeBatch}
 use Rattle.calls.specs.CallLists.{CallerState, call, leftBy, callAll, returnsOf, worldOf, AllBytes, Calls-are-arrivals, Calls-end, Calls-completed, Calls-same-set, Calls-either-first, Calls-are-one-call, Look-is-take, Call, looks, takes, playCalls, takenBy, Looks-change-nothing, Look-then-take}
 
 -- ---- a field of bytes
@@ -260,7 +261,7 @@ calls-end s h F i v l t b =
     }
 
 -- the answer's number in a result
-result-number : (x : Answer) (d : Bool) → capi.resultOf (numberOf x) d % 128 ≡ numberOf x
+result-number : (x : Answer) (d : Bool) → resultOf (numberOf x) d % 128 ≡ numberOf x
 result-number x true = omega (arith, number-most x)
 result-number x false = omega (arith, number-most x)
 
@@ -305,7 +306,7 @@ arrivals-bytes (suc n) a b = (
 )
 
 pub calls-are-one-call : Calls-are-one-call
-unfolding Calls-are-one-call takeBatch batchFrom
+unfolding Calls-are-one-call takeBatch batchOf
 calls-are-one-call s h a r b =
     let n = fewer (length a / 512) (length r) in
     let l = arrivalsOf n a in

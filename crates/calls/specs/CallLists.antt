@@ -14,7 +14,8 @@ use Rattle.arrival.specs.Lists.{receiveAll, answersOf, discardsOf}
 use Rattle.arrival.specs.Demand.{File, ValidFile, Sent, seenOf, howMany, isWhole, headIn, Ends}
 use Rattle.receiver.specs.Receiver.{world}
 use Rattle.layout.specs.Layout.{byteAt, settingsFrom, transferFrom, stateBytes}
-use Rattle.capi.specs.Calls.{ArrivalCall, BatchCall, lookBytes, takeBytes, arrivalsOf, resultsOf, storedFrom, takeBatch}
+use Rattle.batch.specs.Batch.{arrivalsOf, resultsOf, storedFrom}
+use Rattle.capi.specs.Calls.{ArrivalCall, BatchCall, lookBytes, takeBytes, takeBatch}
 
 -- ---- one call after the other
 

@@ -1,6 +1,5 @@
 // The C interface: its calls. Settings and transfers are bytes in the layout of `layout`, everything else numbers and slices of bytes.
 ghost use mathlib.Core.Path.{_≡_};
-ghost use Prim.Native.Nat.{_≤_};
 ghost use lib.ListN.{length};
 ghost use Rattle.transfer.specs.Transfer.{fresh};
 ghost use Rattle.receiver.specs.Receiver.{lentAt, leftAt};
@@ -10,23 +9,14 @@ ghost use Rattle.capi.specs.Calls.{
   placeCall,
   placeCallOf,
   askBytes,
-  resultOf,
-  isAcceptance,
   keptTransfer,
   lookCallOf,
   takeCallOf,
-  takeLeft,
-  fewer,
-  Knows,
+  takeReturn,
   batchCallOf,
-  batchLeft,
+  batchReturn,
 };
-use block::Block;
 use place::PlaceAnswer;
-use screen::Lengths;
-use screen::Rooms;
-use settings::Family;
-use settings::Settings;
 use transfer::Transfer;
 
 mod hex;
@@ -69,12 +59,6 @@ pub extern "C" fn uf2_ask(settings: &[u8], flash_len: usize, family: u32, place:
     tell(place::ask(s, flash_len, family), place)
 }
 
-fn is_acceptance(answer: u8) -> bool
-    ensures { λ r. ⌜ r ≡ isAcceptance answer ⌝ }
-{
-    14 <= answer
-}
-
 // The next transfer, where a block was accepted.
 fn keep(transfer: &mut [u8], accepted: bool, next: Transfer)
     ensures { λ _. ⌜ now (transfer .exit) ≡ keptTransfer (now (transfer .entry)) accepted (next .state) ⌝ }
@@ -82,13 +66,6 @@ fn keep(transfer: &mut [u8], accepted: bool, next: Transfer)
     if accepted {
         layout::write_transfer(transfer, next);
     }
-}
-
-fn report(answer: u8, discarded: bool) -> u8
-    requires { ⌜ answer ≤ 31 ⌝ }
-    ensures { λ r. ⌜ r ≡ resultOf answer discarded ⌝ }
-{
-    if discarded { answer + 128 } else { answer }
 }
 
 // A look at one arrival: what `uf2_take` would return. Nothing is written.
@@ -109,8 +86,7 @@ pub extern "C" fn uf2_look(
     let t = layout::read_transfer(transfer);
     let p = receiver::look(s, t, arrival, flash, seen, sectors, main, xip);
     let answer = p.answer;
-    let n = answer.number();
-    report(n, p.discarded) as u32
+    batch::result(answer, p.discarded) as u32
 }
 
 // One arrival is taken: the answer's number, and 128 more where a running transfer was discarded.
@@ -125,46 +101,18 @@ pub extern "C" fn uf2_take(
     main: &mut [u8],
     xip: &mut [u8],
 ) -> u32
-    ensures { λ r. ⌜ takeLeft r transfer (leftAt flash seen sectors main xip) ≡ takeCallOf settings transfer arrival (lentAt flash seen sectors main xip) ⌝ }
+    ensures { λ r. ⌜ takeReturn r transfer (leftAt flash seen sectors main xip) ≡ takeCallOf settings transfer arrival (lentAt flash seen sectors main xip) ⌝ }
 {
     let s = layout::read_settings(settings);
     let t = layout::read_transfer(transfer);
     let r = receiver::take(s, t, arrival, flash, seen, sectors, main, xip);
     let answer = r.answer;
     let next = r.transfer;
-    let n = answer.number();
-    keep(transfer, is_acceptance(n), next);
-    report(n, r.discarded) as u32
+    keep(transfer, batch::is_acceptance(answer), next);
+    batch::result(answer, r.discarded) as u32
 }
 
-fn at_most(a: usize, b: usize) -> usize
-    ensures { λ r. ⌜ r ≡ fewer a b ⌝ }
-    ensures low { λ r. ⌜ (r ≤ a) × (r ≤ b) ⌝ }
-{
-    if a <= b { a } else { b }
-}
-
-// A family, and what the settings say of it.
-struct FamilyRooms {
-    family: u32,
-    rooms: Rooms,
-}
-
-// What the settings say of a family, asked anew where it is not the family before.
-fn rooms_for(before: FamilyRooms, settings: Settings, flash_len: usize, family: u32) -> FamilyRooms
-    requires { ⌜ Knows settings «flash_len» before ⌝ }
-    ensures { λ r. ⌜ r .family ≡ family ⌝ }
-    ensures knows { λ r. ⌜ Knows settings «flash_len» r ⌝ }
-{
-    if before.family == family {
-        return before;
-    }
-    let rooms = screen::rooms_for(settings, flash_len, family);
-    FamilyRooms { family, rooms }
-}
-
-// Whole arrivals are taken one after the other, as many as there are results for: their number, and the result of each. Lengths and settings
-// are the same for all of them, and judged once.
+// Whole arrivals are taken one after the other, as many as there are results for: their number, and the result of each.
 #[no_mangle]
 pub extern "C" fn uf2_take_all(
     settings: &[u8],
@@ -177,52 +125,12 @@ pub extern "C" fn uf2_take_all(
     main: &mut [u8],
     xip: &mut [u8],
 ) -> usize
-    ensures { λ r. ⌜ batchLeft r transfer results (leftAt flash seen sectors main xip) ≡ batchCallOf settings transfer arrivals results (lentAt flash seen sectors main xip) ⌝ }
+    ensures { λ r. ⌜ batchReturn r transfer results (leftAt flash seen sectors main xip) ≡ batchCallOf settings transfer arrivals results (lentAt flash seen sectors main xip) ⌝ }
 {
     let s = layout::read_settings(settings);
-    let mut t = layout::read_transfer(transfer);
-    let len = flash.len();
-    let lens = Lengths {
-        flash: len,
-        main: main.len(),
-        xip: xip.len(),
-    };
-    let right = receiver::lengths_right(Block::ARRIVAL, lens, seen.len(), sectors.len());
-    let good = settings::good(s, len);
-    let first = screen::rooms_for(s, len, Family::DATA);
-    let mut known = FamilyRooms {
-        family: Family::DATA,
-        rooms: first,
-    };
-    let mut accepted = false;
-    let n = at_most(arrivals.len() / Block::ARRIVAL, results.len());
-    let mut i: usize = 0;
-    while i < n {
-        let from = i * Block::ARRIVAL;
-        let to = from + Block::ARRIVAL;
-        let family = block::field(&arrivals[from..to], 28);
-        known = rooms_for(known, s, len, family);
-        let rooms = known.rooms;
-        let r = receiver::take_known(
-            right,
-            good,
-            rooms,
-            t,
-            &arrivals[from..to],
-            flash,
-            seen,
-            sectors,
-            main,
-            xip,
-        );
-        let answer = r.answer;
-        let next = r.transfer;
-        let number = answer.number();
-        results[i] = report(number, r.discarded);
-        accepted = accepted | is_acceptance(number);
-        t = next;
-        i += 1;
-    }
-    keep(transfer, accepted, t);
-    n
+    let t = layout::read_transfer(transfer);
+    let b = batch::take_all(s, t, arrivals, results, flash, seen, sectors, main, xip);
+    let next = b.transfer;
+    keep(transfer, b.accepted, next);
+    b.number
 }

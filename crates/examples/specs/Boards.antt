@@ -91,9 +91,9 @@ partitioned = armWith 1 (entryOf 4 2 false ∷ replicate 15 (entryOf 0 0 false))
 abbrev pub twoEntries : ℕ → Settings
 twoEntries n = armWith n (entryOf 0 2 true ∷ entryOf 2 2 false ∷ replicate 14 (entryOf 0 0 false))
 
--- an entry and its B, which has the user families 0x11 and, not used, 0x22
-abbrev pub withUser : Settings
-withUser = armWith 2 (entryOf 0 2 false ∷ entryWith 2 2 false 1 (0x11 ∷ 0x22 ∷ replicate 2 0) false (BOf 0) ∷ replicate 14 (entryOf 0 0 false))
+-- an entry and its B, which has the user family 0x11 and, not used, 0x22; so many of the two are used
+abbrev pub withUser : ℕ → Settings
+withUser n = armWith n (entryOf 0 2 false ∷ entryWith 2 2 false 1 (0x11 ∷ 0x22 ∷ replicate 2 0) false (BOf 0) ∷ replicate 14 (entryOf 0 0 false))
 
 -- the head of a transfer of arm-s of a kind, and of flash
 abbrev pub headTo : Kind → ℕ → Head

@@ -213,8 +213,9 @@ windowExamples =
     ∷ onBoth plain (ofFamily familyArmNs) (pageIn XipRam familyArmNs 1 0 0)
     ∷ onBoth plain (ofFamily 0xe48bff5c) (Refused NoPlace)
     ∷ onBoth plain (ofFamily 0x11) (Refused NoPlace)
-    ∷ onBoth withUser (ofFamily 0x11) (pageIn XipRam 0x11 1 0 0)
-    ∷ onBoth withUser (ofFamily 0x22) (Refused NoPlace)
+    ∷ onBoth (withUser 2) (ofFamily 0x11) (pageIn XipRam 0x11 1 0 0)
+    ∷ onBoth (withUser 2) (ofFamily 0x22) (Refused NoPlace)
+    ∷ onBoth (withUser 1) (ofFamily 0x11) (Refused NoPlace)
     ∷ onNeither (ofFamily familyArmNs) (Refused NoPlace)
     ∷ []
 

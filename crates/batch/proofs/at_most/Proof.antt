@@ -1,8 +1,8 @@
--- `capi::at_most` meets its contract. Assumes nothing.
+-- `batch::at_most` meets its contract. Assumes nothing.
 use borrow.Author.Tests.{le-leb, lt-leb}
 use borrow.Author.Needs.{needs}
-use Rattle.capi.proofs.at_most.Statement.{statement}
-use Rattle.capi.proofs.at_most.Tie as tie
+use Rattle.batch.proofs.at_most.Statement.{statement}
+use Rattle.batch.proofs.at_most.Tie as tie
 
 returns : tie.Need-returns
 returns c = (simp (le-leb _ _ (c .if1 .taken)), search needs)
