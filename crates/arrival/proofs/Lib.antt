@@ -12,7 +12,7 @@ pub mod RamRows
 pub mod Comments
 pub mod Kept
 mod Lists
-mod Runs
+pub mod Runs
 mod Files
 mod Contents
 mod Guards
