@@ -1,5 +1,5 @@
 -- The claims of specs/Before.antt hold. Assumes nothing.
-use Prim.Native.Nat.{ℕ, _+_, _≤_, _<_}
+use Prim.Native.Nat.{ℕ, _≤_}
 use mathlib.Core.Path.{_≡_, refl, sym, ap, subst, _∙_}
 use mathlib.Core.Bool.{Bool, true, false, not, cond, _&&_, and-false, and-true}
 use mathlib.Core.List.{List}
@@ -7,7 +7,7 @@ use native.Mathlib.Omega.{arith}
 use lib.Dec.{eqb, ltb}
 use lib.ListN.{length}
 use borrow.Author.Tests.{ne-eqb}
-use Rattle.sets.proofs.Tests.{split, clash, is-false, both, and-left, and-right}
+use Rattle.sets.proofs.Tests.{split, clash}
 use Rattle.bitmap.specs.Bitmap.{markedIn}
 use Rattle.block.specs.Block.{fieldAt, hasFlag, fieldsOf, headerOf}
 use Rattle.block.specs.declared.Block.{Block}
@@ -19,32 +19,29 @@ use Rattle.settings.specs.declared.Settings.{Settings}
 use Rattle.place.specs.Place.{placeOf}
 use Rattle.place.specs.declared.Place.{Place}
 use Rattle.place.specs.declared.Place.the-variants.{Nowhere, At}
-use Rattle.transfer.specs.Transfer.{numberOf, goodState, sameHead, counted, accepted, stepOf}
+use Rattle.transfer.specs.Transfer.{numberOf, goodState, counted, stepOf}
 use Rattle.transfer.specs.declared.Kind.{Kind}
 use Rattle.transfer.specs.declared.Kind.the-variants.{Flash, MainRam, XipRam}
 use Rattle.transfer.specs.declared.Head.{Head}
 use Rattle.transfer.specs.declared.State.{State}
 use Rattle.transfer.specs.declared.State.the-variants.{Idle, Running, Done}
-use Rattle.transfer.specs.declared.Deed.{Deed}
-use Rattle.transfer.specs.declared.Step.{Step}
 use Rattle.transfer.specs.declared.Answer.{Answer}
-use Rattle.transfer.specs.declared.Answer.the-variants.{BadBuffers, BadSettings, BadState, BadPayload, BadNumbers, BadAddress}
-use Rattle.screen.specs.Screen.{isLent, inWindow, windowOf, noteKind, roomsOf, roomIn, badNumbers, badAddress, placed, strayed, noted, windowKind, dataFound, noteFound, found, afterHeader, screenIn, screenOf, screeningNumber}
+use Rattle.transfer.specs.declared.Answer.the-variants.{BadBuffers, BadSettings, BadState, BadAddress}
+use Rattle.screen.specs.Screen.{isLent, windowOf, noteKind, roomsOf, roomIn, badNumbers, badAddress, placed, strayed, noted, windowKind, dataFound, noteFound, found, afterHeader, screenIn, screenOf, screeningNumber}
 use Rattle.screen.proofs.Laws.{found-comment, found-data}
 use Rattle.screen.proofs.Windows.{InWindow, WindowFacts, window-facts, outside-bad}
 use Rattle.screen.specs.declared.Lengths.{Lengths}
 use Rattle.screen.specs.declared.Rooms.{Rooms}
 use Rattle.screen.specs.declared.Window.{Window}
 use Rattle.screen.specs.declared.Window.the-variants.{Outside, In}
-use Rattle.screen.specs.declared.Placed.{Placed}
 use Rattle.screen.specs.declared.Screening.{Screening}
 use Rattle.screen.specs.declared.Screening.the-variants.{Refused, Passed}
-use Rattle.arrival.specs.Arrive.{World, Outcome, Decision, stays, accepts, outcomeNumber, rightLengths, standing, deedOf, stepped, afterScreening, decide, decided, acceptOf, unchanged, done, receiveOf}
+use Rattle.arrival.specs.Arrive.{World, Decision, stays, outcomeNumber, rightLengths, standing, deedOf, stepped, afterScreening, decide, decided, acceptOf, unchanged, done, receiveOf}
 use Rattle.arrival.specs.Windows.{lies, kindOf}
 use Rattle.arrival.specs.Before.{placedBefore, notedBefore, foundBefore, screenBefore, decideBefore, receiveBefore, InFlash, strays, Without-RAM, Stays-in-flash}
 use Rattle.arrival.proofs.Windows.{lies-is}
-use Rattle.arrival.proofs.Screening.{Fielded, fielded, flashOf, lens, Board, Room, room-of}
-use Rattle.arrival.proofs.DecisionFacts.{Right, right-true, step-late, DecisionFacts, kept, took, decision-facts, raisedCount, took-state}
+use Rattle.arrival.proofs.Screening.{Fielded, fielded, flashOf, lens, Board, room-of}
+use Rattle.arrival.proofs.DecisionFacts.{right-true, step-late, DecisionFacts, kept, took, decision-facts, raisedCount, took-state}
 
 -- ---- rows 4 to 11
 

@@ -2,15 +2,15 @@
 use Prim.Native.Nat.{ℕ, _+_, _/_, _≤_, _<_}
 use mathlib.Core.Path.{_≡_, refl, sym, ap, subst, _∙_, fun-ext}
 use mathlib.Core.Logic.{_≢_}
-use mathlib.Core.Bool.{Bool, true, false, not, cond, _&&_, _||_, or-comm, not-and-self}
+use mathlib.Core.Bool.{Bool, true, false, not, _&&_, _||_, or-comm, not-and-self}
 use mathlib.Core.List.{List, [], _∷_, _++_, map, map-id}
 use native.Mathlib.Omega.{arith}
 use lib.Dec.{eqb, ltb}
 use lib.ListN.{length, getD}
-use borrow.Author.Tests.{eq-eqb, ne-eqb, eqb-true, eqb-false, ltb-true, ltb-false, le-leb, lt-leb, not-true}
+use borrow.Author.Tests.{eq-eqb, ne-eqb, eqb-true, eqb-false, ltb-true, ltb-false, le-leb, lt-leb}
 use Rattle.sets.specs.Sets.{Set, none, add, size}
-use Rattle.sets.proofs.Tests.{split, clash, is-false}
-use Rattle.sets.proofs.Laws.{add-idle, size-le, size-add, size-full, size-none}
+use Rattle.sets.proofs.Tests.{split}
+use Rattle.sets.proofs.Laws.{add-idle, size-le, size-add, size-full}
 use Rattle.bitmap.specs.Bitmap.{mapOf}
 use Rattle.settings.specs.declared.Settings.{Settings}
 use Rattle.place.specs.Place.{placeOf}
@@ -18,7 +18,7 @@ use Rattle.place.specs.declared.Place.{Place}
 use Rattle.place.specs.declared.Place.the-variants.{Nowhere, At}
 use Rattle.block.specs.Block.{fieldAt, hasFlag}
 use Rattle.block.specs.Region.{regionOf}
-use Rattle.region.specs.Regions.{goodRegion, standsIn}
+use Rattle.region.specs.Regions.{goodRegion}
 use Rattle.transfer.specs.Transfer.{sameKind, numberOf, counted, deedAnswer, raised}
 use Rattle.transfer.specs.declared.Kind.{Kind}
 use Rattle.transfer.specs.declared.Kind.the-variants.{Flash}
@@ -28,12 +28,12 @@ use Rattle.transfer.specs.declared.Deed.{Deed}
 use Rattle.transfer.specs.declared.Deed.the-variants.{Stores, Notes, Keeps}
 use Rattle.transfer.specs.declared.State.the-variants.{Idle}
 use Rattle.screen.specs.declared.Lengths.{Lengths}
-use Rattle.arrival.specs.Arrive.{Held, World, Outcome, bufferOf, lengthsOf, standsAt, standing, wipedIf, doneTo, receiveOf}
+use Rattle.arrival.specs.Arrive.{Held, World, Outcome, bufferOf, lengthsOf, standsAt, doneTo, receiveOf}
 use Rattle.arrival.specs.Lists.{receiveAll, answersOf}
 use Rattle.arrival.specs.Kept.{soft}
-use Rattle.arrival.specs.Demand.{File, answerNumber, isData, ValidFile, Foreign, Sent, nothing, own, other, seenOf, isWhole, unfinished, replyTo, withArrival, repliesTo, Counts, Ends, sizeOf, isGuarded, Plain, List-counts, Other-kinds-stay, List-answers, List-ends, Plain-answers, isCompleted, Completed-exactly, SameSet, Same-set-same-end, Either-first, Same-count, Same-set-same-count, Either-first-same-count}
+use Rattle.arrival.specs.Demand.{File, answerNumber, ValidFile, Foreign, Sent, nothing, own, other, seenOf, isWhole, unfinished, replyTo, withArrival, repliesTo, Counts, Ends, sizeOf, Plain, List-counts, Other-kinds-stay, List-answers, List-ends, Plain-answers, isCompleted, Completed-exactly, SameSet, Same-set-same-end, Either-first, Same-count, Same-set-same-count, Either-first-same-count}
 use Rattle.arrival.proofs.Pages.{apply}
-use Rattle.arrival.proofs.Count.{Blocks, count, headBy, deedBy, applied, wipe, Any, Invariant, After, untouched, begun, verdict, Stepped, nothing-seen, some-seen, still-running, whole-done, seen-map, after-carried, invariant-of, after, after-is}
+use Rattle.arrival.proofs.Count.{Blocks, count, headBy, deedBy, Any, Invariant, After, untouched, begun, verdict, Stepped, nothing-seen, some-seen, still-running, whole-done, seen-map, after-carried, invariant-of, after, after-is}
 use Rattle.arrival.proofs.Cells.{cell, cell-none, getD-buffer}
 use Rattle.arrival.proofs.Effect.{kindIn, Valid, layout, sectorsOf, Unkept, paged-other, effect, effect-buffer, lengths-effect, grows}
 use Rattle.arrival.proofs.Facts.{wiped-buffer}

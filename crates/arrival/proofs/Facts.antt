@@ -33,7 +33,7 @@ use Rattle.screen.specs.declared.Body.{Body}
 use Rattle.screen.specs.declared.Placed.{Placed}
 use Rattle.screen.specs.declared.Screening.{Screening}
 use Rattle.screen.specs.declared.Screening.the-variants.{Refused, Passed}
-use Rattle.arrival.specs.Arrive.{Held, World, Decision, stays, accepts, bufferOf, lengthsOf, standsAt, standing, deedOf, afterScreening, decide, decided, clearedIf, wipedIf, preparedAt, pagedAt, atOf, doneTo, acceptOf, unchanged, done, receiveOf, forecast, forecastOf, lookOf}
+use Rattle.arrival.specs.Arrive.{Held, World, Decision, stays, accepts, bufferOf, lengthsOf, standsAt, standing, afterScreening, decide, decided, clearedIf, wipedIf, preparedAt, pagedAt, atOf, doneTo, acceptOf, unchanged, done, receiveOf, forecast, forecastOf, lookOf}
 use Rattle.arrival.specs.Windows.{windowStart, hasBuffer, commentKind, kindOf}
 use Rattle.arrival.specs.Facts.{Refusals-change-nothing, Answers-read-no-map, Lengths-kept, Arrivals-keep-lengths, Outside, Outside-kept, Windowed, Window-kept, flagged, Flag-0x8000-ignored, Look-tells}
 use Rattle.arrival.proofs.Heads.{kind-same}

@@ -1,12 +1,11 @@
 -- The claims of specs/Kept.antt hold. Assumes nothing.
-use Prim.Native.Nat.{ℕ, _+_, _-_, _%_, _≤_}
+use Prim.Native.Nat.{ℕ, _+_, _-_, _≤_}
 use mathlib.Core.Path.{_≡_, refl, sym, ap, _∙_}
-use mathlib.Core.Logic.{_≢_, inr}
 use mathlib.Core.Bool.{Bool, true, false, not, cond, _&&_}
 use mathlib.Core.List.{List}
 use native.Mathlib.Omega.{arith}
-use lib.Dec.{eqb, ltb}
-use lib.ListN.{length, getD, length-set}
+use lib.Dec.{ltb}
+use lib.ListN.{length, getD}
 use Rattle.sets.proofs.Tests.{split, clash, is-false, and-left, and-right, both}
 use Rattle.bitmap.specs.Bitmap.{markedIn, withMark}
 use Rattle.block.specs.Block.{fieldAt, hasFlag}
@@ -34,7 +33,6 @@ use Rattle.transfer.specs.declared.Deed.{Deed}
 use Rattle.transfer.specs.declared.Deed.the-variants.{Stores, Notes, Keeps}
 use Rattle.transfer.specs.declared.Answer.{Answer}
 use Rattle.transfer.specs.declared.Answer.the-variants.{BadBuffers, BadSettings, BadState}
-use Rattle.transfer.specs.declared.Accepted.{Accepted}
 use Rattle.transfer.specs.declared.Step.{Step}
 use Rattle.transfer.specs.declared.Step.the-variants.{Stays, Accepts}
 use Rattle.screen.specs.Screen.{screenOf}
@@ -44,14 +42,14 @@ use Rattle.screen.specs.declared.Body.the-variants.{Page, Note}
 use Rattle.screen.specs.declared.Placed.{Placed}
 use Rattle.screen.specs.declared.Screening.{Screening}
 use Rattle.screen.specs.declared.Screening.the-variants.{Refused, Passed}
-use Rattle.arrival.specs.Arrive.{World, Outcome, Decision, stays, accepts, lengthsOf, rightLengths, standsAt, standing, bodyDeed, deedOf, stepped, afterScreening, decide, decided, clearedIf, acceptOf, done, receiveOf}
+use Rattle.arrival.specs.Arrive.{World, Decision, stays, rightLengths, standsAt, standing, bodyDeed, deedOf, stepped, afterScreening, decide, decided, clearedIf, acceptOf, done, receiveOf}
 use Rattle.arrival.specs.Windows.{kindOf}
-use Rattle.arrival.specs.Facts.{Alike, flagged}
+use Rattle.arrival.specs.Facts.{flagged}
 use Rattle.arrival.specs.Comments.{Unstored}
-use Rattle.arrival.specs.Kept.{soft, Agree, Flash-decides-14-or-17, Flag-0x4000-decides-14-or-17, digestIn, Standing, Standing-kept, Kept-stands, Else-as-before}
-use Rattle.arrival.proofs.Heads.{same-kind, kind-same}
+use Rattle.arrival.specs.Kept.{soft, Agree, Flash-decides-14-or-17, Flag-0x4000-decides-14-or-17, Standing, Standing-kept, Kept-stands, Else-as-before}
+use Rattle.arrival.proofs.Heads.{kind-same}
 use Rattle.arrival.proofs.Screening.{flashOf, lens, Board, Passing, passing-deed}
-use Rattle.arrival.proofs.DecisionFacts.{AcceptFacts, raisedCount, took-answer, deedAt, DecisionFacts, kept, took, decision-facts, decide-same}
+use Rattle.arrival.proofs.DecisionFacts.{raisedCount, took-answer, deedAt, DecisionFacts, kept, took, decision-facts, decide-same}
 use Rattle.arrival.proofs.Facts.{keepsAt, deed-is, decide-flags, kind-flags}
 use Rattle.arrival.proofs.Comments.{unstored}
 

@@ -1,8 +1,8 @@
 -- The claims of specs/Ram.antt hold. Assumes nothing.
 use Prim.Native.Nat.{ℕ, _+_, _-_, _≤_, _<_}
-use mathlib.Core.Path.{_≡_, refl, sym, ap, subst, _∙_}
+use mathlib.Core.Path.{_≡_, refl, sym, ap, _∙_}
 use mathlib.Core.Logic.{_≢_}
-use mathlib.Core.Bool.{Bool, true, false, cond, _&&_}
+use mathlib.Core.Bool.{Bool, false, cond}
 use mathlib.Core.List.{List}
 use native.Mathlib.Omega.{arith}
 use lib.ListN.{length, getD}
@@ -14,16 +14,15 @@ use Rattle.settings.specs.declared.Settings.{Settings}
 use Rattle.transfer.specs.Transfer.{numberOf, sameKind}
 use Rattle.transfer.specs.declared.Kind.{Kind}
 use Rattle.transfer.specs.declared.Kind.the-variants.{Flash, MainRam, XipRam}
-use Rattle.transfer.specs.declared.Head.{Head}
 use Rattle.transfer.specs.declared.Accepted.{Accepted}
 use Rattle.screen.specs.declared.Placed.{Placed}
-use Rattle.arrival.specs.Arrive.{Held, World, Decision, bufferOf, accepts, standing, clearedIf, wipedIf, pagedAt, done, receiveOf}
+use Rattle.arrival.specs.Arrive.{Held, World, Decision, bufferOf, accepts, clearedIf, wipedIf, done, receiveOf}
 use Rattle.arrival.specs.Demand.{originOf}
 use Rattle.arrival.specs.Windows.{windowStart, kindOf, headOf}
 use Rattle.arrival.specs.Tally.{clears}
 use Rattle.arrival.specs.Ram.{Other-kinds-kept, Ram-kept, Ram-stored, Ram-marks-nothing}
 use Rattle.arrival.proofs.Heads.{same-kind, kind-same}
-use Rattle.arrival.proofs.Effect.{Fits, getD-ram, sectors-ram, spans-is}
+use Rattle.arrival.proofs.Effect.{getD-ram, sectors-ram, spans-is}
 use Rattle.arrival.proofs.Screening.{Board, Passing, room-origin}
 use Rattle.arrival.proofs.DecisionFacts.{deedAt, DecisionFacts, kept, took, decision-facts, took-clears}
 use Rattle.arrival.proofs.Facts.{keepsAt, wiped-buffer, wiped-sectors, left-note, left-page, left-fits, left-other}

@@ -6,7 +6,7 @@ use mathlib.Core.Bool.{Bool, true, false, not, cond, _&&_, _||_, or-true}
 use mathlib.Core.List.{List}
 use native.Mathlib.Omega.{arith}
 use lib.Dec.{eqb, ltb, leb}
-use lib.ListN.{length, getD}
+use lib.ListN.{getD}
 use borrow.Author.Tests.{leb-true, le-leb, ltb-true, lt-ltb, eqb-true, eq-eqb}
 use Rattle.sets.specs.Sets.{Set, any}
 use Rattle.sets.proofs.Laws.{any-hit}
@@ -26,12 +26,11 @@ use Rattle.place.specs.declared.Place.the-variants.{Nowhere, At}
 use Rattle.transfer.specs.Transfer.{numberOf}
 use Rattle.transfer.specs.declared.Kind.{Kind}
 use Rattle.transfer.specs.declared.Kind.the-variants.{Flash, MainRam, XipRam}
-use Rattle.transfer.specs.declared.State.{State}
 use Rattle.transfer.specs.declared.Answer.{Answer}
 use Rattle.transfer.specs.declared.Answer.the-variants.{NoPlace}
-use Rattle.screen.specs.Screen.{windowOf, noteKind, roomsOf, roomIn, badNumbers, badAddress, placed, strayed, noted, windowKind, dataFound, noteFound, found, afterHeader, screenIn, screenOf, screeningNumber}
+use Rattle.screen.specs.Screen.{windowOf, noteKind, roomIn, badNumbers, badAddress, placed, strayed, noted, windowKind, dataFound, noteFound, found, afterHeader, screenIn, screenOf, screeningNumber}
 use Rattle.screen.proofs.Laws.{found-comment, found-data}
-use Rattle.screen.proofs.Windows.{InWindow, WindowFacts, window-facts}
+use Rattle.screen.proofs.Windows.{WindowFacts, window-facts}
 use Rattle.screen.specs.declared.Lengths.{Lengths}
 use Rattle.screen.specs.declared.Rooms.{Rooms}
 use Rattle.screen.specs.declared.Window.{Window}

@@ -2,15 +2,15 @@
 use Prim.Native.Nat.{ℕ, _+_, _-_, _*_, _/_, _%_, _≤_, _<_}
 use mathlib.Core.Path.{_≡_, refl, sym, ap, subst, _∙_, fun-ext}
 use mathlib.Core.Logic.{_≢_}
-use mathlib.Core.Bool.{Bool, true, false, not, cond, _&&_, and-false}
+use mathlib.Core.Bool.{Bool, true, false, cond, _&&_, and-false}
 use mathlib.Core.List.{List}
 use native.Mathlib.Omega.{arith}
-use lib.Dec.{eqb, leb, ltb}
-use lib.ListN.{length, getD, take, drop, length-take, length-drop}
+use lib.Dec.{leb, ltb}
+use lib.ListN.{length, getD, take, drop, length-drop}
 use lib.Seq.{getD-take, getD-drop, length-take-le, ext-getD}
 use borrow.Author.Tests.{le-leb, lt-ltb, leb-true, ltb-true}
 use Rattle.sets.specs.Sets.{Set, none, size, any}
-use Rattle.sets.proofs.Tests.{split, clash, is-false, and-left, and-right, both}
+use Rattle.sets.proofs.Tests.{split, and-left, and-right, both}
 use Rattle.sets.proofs.Laws.{any-none, any-all, any-found, any-cong, size-full}
 use Rattle.block.specs.Block.{fieldAt, hasFlag}
 use Rattle.block.specs.Region.{regionOf}
@@ -27,20 +27,19 @@ use Rattle.transfer.specs.Transfer.{sameKind}
 use Rattle.transfer.specs.declared.Kind.{Kind}
 use Rattle.transfer.specs.declared.Kind.the-variants.{Flash, MainRam, XipRam}
 use Rattle.transfer.specs.declared.State.the-variants.{Idle}
-use Rattle.arrival.specs.Arrive.{Held, World, bufferOf, lengthsOf, standsAt, standing}
-use Rattle.arrival.specs.Windows.{windowStart, windowEnd}
+use Rattle.arrival.specs.Arrive.{Held, World, lengthsOf, standsAt, standing}
+use Rattle.arrival.specs.Windows.{windowStart}
 use Rattle.arrival.specs.Lists.{receiveAll, AtEach}
 use Rattle.arrival.specs.Kept.{digestIn}
-use Rattle.arrival.specs.Demand.{File, isData, addressOf, ValidFile, Foreign, Sent, seenOf, howMany, startOf, originOf, storageOf, holds, liesIn, Contents, sizeOf, isGuarded, Plain, Same-count}
+use Rattle.arrival.specs.Demand.{File, isData, addressOf, ValidFile, Foreign, Sent, seenOf, startOf, originOf, storageOf, holds, liesIn, Contents, sizeOf, isGuarded, Plain}
 use Rattle.arrival.specs.Regions.{regionStart, regionLength, regionIn, inRegion, Final, Regions, NoOther, Complete, Regions-end, Whole-same, Whole-alike}
 use Rattle.arrival.proofs.Heads.{kind-same}
 use Rattle.arrival.proofs.Windows.{lies-true}
 use Rattle.arrival.proofs.Cells.{touched, cell, cell-owned, cell-free}
 use Rattle.arrival.proofs.Count.{Blocks, count, After, untouched, some-seen}
-use Rattle.arrival.proofs.Effect.{kindIn, spans-true, spans-is, Valid, layout, apart-of}
+use Rattle.arrival.proofs.Effect.{spans-true, spans-is, Valid, layout, apart-of}
 use Rattle.arrival.proofs.Screening.{flashOf}
 use Rattle.arrival.proofs.Contents.{byteIn, As, contents-of}
-use Rattle.arrival.proofs.Lists.{Reached}
 use Rattle.arrival.proofs.Runs.{run-after}
 use Rattle.arrival.proofs.Files.{Located, blocksOf, board, valid, located, opens, steady}
 use Rattle.arrival.proofs.Guards.{every, final, Finished, Guard, Guards, Inv, invariant, whole-flash}

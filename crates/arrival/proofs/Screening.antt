@@ -2,7 +2,7 @@
 -- place of its kind. Assumes nothing.
 use Prim.Native.Nat.{ℕ, _+_, _-_, _*_, _%_, _<_, _≤_}
 use mathlib.Core.Path.{_≡_, refl, sym, ap, subst, _∙_}
-use mathlib.Core.Logic.{_≢_, _⊎_, ⊎-elim}
+use mathlib.Core.Logic.{_⊎_, ⊎-elim}
 use mathlib.Core.Bool.{Bool, true, false, not, cond, _&&_, _||_}
 use mathlib.Core.List.{List}
 use native.Mathlib.Omega.{arith}
@@ -18,7 +18,7 @@ use Rattle.flash.specs.Flash.{flashLength, payloadOf}
 use Rattle.flash.proofs.Laws.{length-right, length-payload}
 use Rattle.settings.specs.declared.Settings.{Settings}
 use Rattle.settings.specs.Settings.{goodSettings}
-use Rattle.place.specs.Place.{wholeIf, placeOf, ramFamily}
+use Rattle.place.specs.Place.{wholeIf, ramFamily}
 use Rattle.place.specs.declared.Place.{Place}
 use Rattle.place.specs.declared.Place.the-variants.{Nowhere, At}
 use Rattle.place.proofs.Theorems.{place-inside}
@@ -28,7 +28,7 @@ use Rattle.transfer.specs.declared.Kind.the-variants.{Flash, MainRam, XipRam}
 use Rattle.transfer.specs.declared.Head.{Head}
 use Rattle.transfer.specs.declared.State.{State}
 use Rattle.transfer.specs.declared.State.the-variants.{Idle, Running, Done}
-use Rattle.screen.specs.Screen.{extentOf, isLent, windowOf, noteKind, roomsOf, roomIn, badNumbers, badAddress, placed, strayed, fitted, noted, windowKind, dataFound, noteFound, found, afterHeader, screenIn, screenOf}
+use Rattle.screen.specs.Screen.{extentOf, isLent, windowOf, noteKind, roomsOf, roomIn, badNumbers, badAddress, placed, strayed, noted, windowKind, dataFound, noteFound, found, afterHeader, screenIn, screenOf}
 use Rattle.screen.proofs.Laws.{numbers-false, found-comment, found-data}
 use Rattle.screen.proofs.Windows.{InWindow, WindowFacts, window-facts, in-room}
 use Rattle.transfer.specs.declared.Deed.the-variants.{Stores, Notes, Keeps}
@@ -41,7 +41,7 @@ use Rattle.screen.specs.declared.Placed.{Placed}
 use Rattle.screen.specs.declared.Screening.{Screening}
 use Rattle.screen.specs.declared.Screening.the-variants.{Refused, Passed}
 use Rattle.arrival.specs.Arrive.{World, bufferOf, lengthsOf, ramLength, deedOf}
-use Rattle.arrival.specs.Windows.{windowStart, windowEnd, kindOf, headOf}
+use Rattle.arrival.specs.Windows.{windowStart, windowEnd, kindOf}
 use Rattle.arrival.specs.Demand.{isFound, startOf, originOf}
 use Rattle.arrival.proofs.Windows.{start-is, end-is, data-kind, data-window, comment-kind}
 use Rattle.arrival.proofs.Effect.{Fits}

@@ -21,7 +21,7 @@ use Rattle.transfer.specs.declared.State.{State}
 use Rattle.transfer.specs.declared.State.the-variants.{Idle, Running, Done}
 use Rattle.transfer.specs.declared.Deed.{Deed}
 use Rattle.transfer.specs.declared.Accepted.{Accepted}
-use Rattle.arrival.specs.Arrive.{World, Outcome, Decision, deedOf, clearedIf, acceptOf, done, receiveOf}
+use Rattle.arrival.specs.Arrive.{World, Outcome, Decision, clearedIf, acceptOf, done, receiveOf}
 use Rattle.arrival.specs.Lists.{Delivery, playAll}
 use Rattle.arrival.specs.Windows.{headOf}
 use Rattle.arrival.specs.Tally.{isAccepted, clears, acceptedBy, acceptedOf, anyAccepted, Count-is-marks}

@@ -22,7 +22,6 @@ use Rattle.transfer.specs.declared.Answer.the-variants.{BadBuffers, BadSettings
 use Rattle.screen.specs.Screen.{afterHeader}
 use Rattle.screen.specs.declared.Body.{Body}
 use Rattle.screen.specs.declared.Body.the-variants.{Page, Note}
-use Rattle.screen.specs.declared.Placed.{Placed}
 use Rattle.screen.specs.declared.Screening.{Screening}
 use Rattle.screen.specs.declared.Screening.the-variants.{Refused, Passed}
 use Rattle.arrival.specs.Arrive.{World, Outcome, outcomeNumber, Decision, stays, standing, afterScreening, unchanged, done, receiveOf}

@@ -1,7 +1,7 @@
 -- Demand 3 of files with regions (02, L9): "Demand 3 for such files speaks of flash at completion only, never of the sector map." What holds of any
 -- file at any time is in Demand.antt (`List-counts`, `Other-kinds-stay`, `List-answers`, `Completed-exactly`). Proved in proofs/Regions.antt.
 -- Assumes nothing.
-use Prim.Native.Nat.{ℕ, _+_, _-_, _*_, _/_, _≤_, _<_}
+use Prim.Native.Nat.{ℕ, _+_, _-_, _*_, _/_, _<_}
 use mathlib.Core.Path.{_≡_}
 use mathlib.Core.Bool.{Bool, true, false, _&&_}
 use mathlib.Core.List.{List}
@@ -14,7 +14,7 @@ use Rattle.md5.specs.Md5.{md5Of}
 use Rattle.settings.specs.declared.Settings.{Settings}
 use Rattle.transfer.specs.declared.Kind.the-variants.{Flash}
 use Rattle.transfer.specs.declared.State.the-variants.{Idle}
-use Rattle.arrival.specs.Arrive.{World, lengthsOf}
+use Rattle.arrival.specs.Arrive.{World}
 use Rattle.arrival.specs.Lists.{receiveAll, AtEach}
 use Rattle.arrival.specs.Kept.{digestIn}
 use Rattle.arrival.specs.Demand.{File, isData, ValidFile, Sent, seenOf, howMany, originOf, storageOf, holds, liesIn, isGuarded, Contents, Same-count}

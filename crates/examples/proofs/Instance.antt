@@ -22,7 +22,7 @@ use Rattle.transfer.specs.declared.Kind.the-variants.{Flash, XipRam}
 use Rattle.transfer.specs.declared.Head.{Head}
 use Rattle.transfer.specs.declared.State.the-variants.{Done}
 use Rattle.screen.specs.Screen.{windowOf, noteKind, placed, strayed, noted, dataFound, noteFound, found, screenIn, screenOf}
-use Rattle.arrival.specs.Arrive.{World, rightLengths, afterScreening, decide, done, receiveOf, standsAt}
+use Rattle.arrival.specs.Arrive.{World, rightLengths, standsAt, afterScreening, decide, done, receiveOf}
 use Rattle.arrival.specs.Lists.{receiveAll}
 use Rattle.arrival.specs.Windows.{lies}
 use Rattle.arrival.specs.Demand.{File, ValidFile, Foreign, isCommentOf, addressOf, nothing, own, other, answerNumber, isData, sameBytes, among, seenOf, howMany, Ends, List-counts, List-ends}
@@ -52,11 +52,11 @@ address = three (λ k. fieldAt (blockOfThree k) 12 ≡ 0x10000000 + k * 256) ref
 
 -- the answers at the start
 earned : (k : ℕ) → k < 3 → answerNumber plain start (blockOfThree k) ≡ 14
-unfolding many any flashLength payloadOf lowFirst numberIn fieldAt fieldsOf flaggedOf headerOf goodSettings placeOf goodState counted raised accepted stepOf windowOf noteKind placed strayed noted dataFound noteFound found screenIn screenOf rightLengths afterScreening decide done receiveOf standsAt
+unfolding many any flashLength payloadOf lowFirst numberIn fieldAt fieldsOf flaggedOf headerOf goodSettings placeOf goodState counted raised accepted stepOf windowOf noteKind placed strayed noted dataFound noteFound found screenIn screenOf rightLengths standsAt afterScreening decide done receiveOf
 earned = three (λ k. answerNumber plain start (blockOfThree k) ≡ 14) refl refl refl
 
 beyond : answerNumber plain start (arrivalOf 0x10010000 0 3 1) ≡ 11
-unfolding many any flashLength payloadOf lowFirst numberIn fieldAt fieldsOf flaggedOf headerOf goodSettings placeOf goodState counted raised accepted stepOf windowOf noteKind placed strayed noted dataFound noteFound found screenIn screenOf rightLengths afterScreening decide done receiveOf standsAt
+unfolding many any flashLength payloadOf lowFirst numberIn fieldAt fieldsOf flaggedOf headerOf goodSettings placeOf goodState counted raised accepted stepOf windowOf noteKind placed strayed noted dataFound noteFound found screenIn screenOf rightLengths standsAt afterScreening decide done receiveOf
 beyond = refl
 
 valid : ValidFile plain start file
@@ -92,7 +92,7 @@ ends-done = unfold Hypotheses-are-met List-counts in list-counts plain start fil
 -- ---- with a comment
 
 annotated-number : (k : ℕ) → k < 3 → answerNumber plain start (annotated .block k) ≡ cond (eqb k 1) 16 14
-unfolding many any flashLength payloadOf lowFirst numberIn fieldAt fieldsOf flaggedOf headerOf goodSettings placeOf goodState counted raised accepted stepOf windowOf noteKind placed strayed noted dataFound noteFound found screenIn screenOf rightLengths afterScreening decide done receiveOf standsAt
+unfolding many any flashLength payloadOf lowFirst numberIn fieldAt fieldsOf flaggedOf headerOf goodSettings placeOf goodState counted raised accepted stepOf windowOf noteKind placed strayed noted dataFound noteFound found screenIn screenOf rightLengths standsAt afterScreening decide done receiveOf
 annotated-number = three (λ k. answerNumber plain start (annotated .block k) ≡ cond (eqb k 1) 16 14) refl refl refl
 
 -- a comment has no address that counts
@@ -107,7 +107,7 @@ annotated-address =
     (λ y. refl) (λ y. clash false y refl) (λ y. refl)
 
 beyond-total : answerNumber plain start (commentOf 3 3) ≡ 10
-unfolding many any flashLength payloadOf lowFirst numberIn fieldAt fieldsOf flaggedOf headerOf goodSettings placeOf goodState counted raised accepted stepOf windowOf noteKind placed strayed noted dataFound noteFound found screenIn screenOf rightLengths afterScreening decide done receiveOf standsAt
+unfolding many any flashLength payloadOf lowFirst numberIn fieldAt fieldsOf flaggedOf headerOf goodSettings placeOf goodState counted raised accepted stepOf windowOf noteKind placed strayed noted dataFound noteFound found screenIn screenOf rightLengths standsAt afterScreening decide done receiveOf
 beyond-total = refl
 
 annotated-valid : ValidFile plain start annotated
@@ -156,7 +156,7 @@ two P a b (suc zero) h = b
 two P a b (suc (suc k)) h = absurd (omega arith)
 
 remarks-number : (k : ℕ) → k < 2 → answerNumber plain start (commentOf k 2) ≡ 16
-unfolding many any flashLength payloadOf lowFirst numberIn fieldAt fieldsOf flaggedOf headerOf goodSettings placeOf goodState counted raised accepted stepOf windowOf noteKind placed strayed noted dataFound noteFound found screenIn screenOf rightLengths afterScreening decide done receiveOf standsAt
+unfolding many any flashLength payloadOf lowFirst numberIn fieldAt fieldsOf flaggedOf headerOf goodSettings placeOf goodState counted raised accepted stepOf windowOf noteKind placed strayed noted dataFound noteFound found screenIn screenOf rightLengths standsAt afterScreening decide done receiveOf
 remarks-number = two (λ k. answerNumber plain start (commentOf k 2) ≡ 16) refl refl
 
 remarks-valid : ValidFile plain start remarks
@@ -182,7 +182,7 @@ met-by-comments-alone = (remarks-valid, own 1 (omega arith) (own 0 (omega arith)
 -- ---- a file in RAM
 
 ram-number : (k : ℕ) → k < 3 → answerNumber plain ramStart (ramBlock k) ≡ 14
-unfolding ramFamily many any flashLength payloadOf lowFirst numberIn fieldAt fieldsOf flaggedOf headerOf goodSettings placeOf goodState counted raised accepted stepOf windowOf noteKind placed strayed noted dataFound noteFound found screenIn screenOf rightLengths afterScreening decide done receiveOf standsAt
+unfolding ramFamily many any flashLength payloadOf lowFirst numberIn fieldAt fieldsOf flaggedOf headerOf goodSettings placeOf goodState counted raised accepted stepOf windowOf noteKind placed strayed noted dataFound noteFound found screenIn screenOf rightLengths standsAt afterScreening decide done receiveOf
 ram-number = three (λ k. answerNumber plain ramStart (ramBlock k) ≡ 14) refl refl refl
 
 ram-address : (k : ℕ) → k < 3 → addressOf ramFile k ≡ 0x13ffc001 + k * 300
@@ -207,7 +207,7 @@ ram-valid =
 
 -- the answers to the foreign arrivals, of which none is a comment of the file's total
 ram-beyond : (answerNumber plain ramStart (arrivalOf 0x13ffff01 0 3 1) ≡ 11) × (answerNumber plain ramStart (arrivalOf 0x10010000 0 3 1) ≡ 11) × (answerNumber plain ramStart (commentOf 0 257) ≡ 10)
-unfolding ramFamily many any flashLength payloadOf lowFirst numberIn fieldAt fieldsOf flaggedOf headerOf goodSettings placeOf goodState counted raised accepted stepOf windowOf noteKind placed strayed noted dataFound noteFound found screenIn screenOf rightLengths afterScreening decide done receiveOf standsAt
+unfolding ramFamily many any flashLength payloadOf lowFirst numberIn fieldAt fieldsOf flaggedOf headerOf goodSettings placeOf goodState counted raised accepted stepOf windowOf noteKind placed strayed noted dataFound noteFound found screenIn screenOf rightLengths standsAt afterScreening decide done receiveOf
 ram-beyond = (refl, refl, refl)
 
 no-comment : (isCommentOf ramFile (arrivalOf 0x13ffff01 0 3 1) ≡ false) × (isCommentOf ramFile (arrivalOf 0x10010000 0 3 1) ≡ false) × (isCommentOf ramFile (commentOf 0 257) ≡ false)
@@ -238,7 +238,7 @@ ram-done =
 -- ---- a stopped update
 
 stopped-beyond : answerNumber plain stopped (arrivalOf 0x10010000 0 3 1) ≡ 11
-unfolding many any flashLength payloadOf lowFirst numberIn fieldAt fieldsOf flaggedOf headerOf goodSettings placeOf goodState counted raised accepted stepOf windowOf noteKind placed strayed noted dataFound noteFound found screenIn screenOf rightLengths afterScreening decide done receiveOf standsAt
+unfolding many any flashLength payloadOf lowFirst numberIn fieldAt fieldsOf flaggedOf headerOf goodSettings placeOf goodState counted raised accepted stepOf windowOf noteKind placed strayed noted dataFound noteFound found screenIn screenOf rightLengths standsAt afterScreening decide done receiveOf
 stopped-beyond = refl
 
 pub met-by-a-stopped-transfer : Met-by-a-stopped-transfer

@@ -5,7 +5,7 @@ use Prim.Native.Nat.{ℕ, zero, suc, _+_, _-_, _*_, _/_, _%_, _^_, _<_, _≤_}
 use native.Mathlib.Omega.{arith}
 use native.Mathlib.Nat.{zero-add, add-zero, suc-add, add-suc}
 use native.Mathlib.Numerals.{add-one}
-use lib.ListN.{length, getD, take, drop, set, replicate, length-append, length-replicate, length-take, length-drop, length-set, replicate-append-replicate}
+use lib.ListN.{length, getD, take, drop, set, replicate, length-append, length-replicate, length-drop, replicate-append-replicate}
 use lib.Seq.{length-take-le, take-length, take-nil, drop-nil, take-all, take-take, drop-drop, take-suc-set, drop-append-le, take-append-le, take-at, drop-at, set-at}
 use lib.Dec.{T, ltb, ltb→lt}
 use mathlib.Core.Bool.{Bool}
