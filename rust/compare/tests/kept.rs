@@ -318,11 +318,11 @@ impl File {
         let mut touched = vec![false; sectors];
         // each sector has no block, or from one to 16 of them
         let mut pages = Vec::new();
-        for sector in 0..sectors {
+        for (sector, touched) in touched.iter_mut().enumerate() {
             if r.one_in(5) {
                 continue;
             }
-            touched[sector] = true;
+            *touched = true;
             let mut own: Vec<usize> = (0..16).map(|k| 16 * sector + k).collect();
             r.shuffle(&mut own);
             own.truncate(r.of(&[1, 2, 5, 15, 16]));
