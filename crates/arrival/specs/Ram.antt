@@ -1,5 +1,5 @@
 -- What is claimed of one arrival in RAM (02, L8: "No erase, no sector mark: only the 256 bytes change."), whatever the settings, the transfer, the
--- buffers and the arrival. Proved in proofs/Ram.antt. Assumes nothing.
+-- buffers and the arrival. Proved in proofs/Ram.antt, of rows 8 and 11 in proofs/RamRows.antt. Assumes nothing.
 use Prim.Native.Nat.{ℕ, _+_, _-_, _≤_, _<_}
 use mathlib.Core.Path.{_≡_}
 use mathlib.Core.Logic.{_≢_}

@@ -139,16 +139,16 @@ module _ (k : Kind) (start size : ℕ) (b : Block) where
       placed-ragged e w = address-wrong (λ r. w (ap (λ (m : ℕ). b .address % m) e ∙ aligned size b k r))
 
       module _ {from : ℕ} (f : from ≡ baseOf k) (l : baseOf k ≤ b .address) where
-        pub placed-past : size < b .address + 256 - from → placed k start size b ≡ Refused BadAddress
-        placed-past h = address-wrong (λ r. omega (arith, h, f, l, r .inside))
+        pub placed-past : {past : ℕ} → size < past - from → past ≡ b .address + 256 → placed k start size b ≡ Refused BadAddress
+        placed-past h q = address-wrong (λ r. omega (arith, h, q, f, l, r .inside))
 
-        pub placed-passed : {step : ℕ} → step ≡ alignmentOf k → b .address % step ≡ 0 → b .address + 256 - from ≤ size
+        pub placed-passed : {step : ℕ} → step ≡ alignmentOf k → b .address % step ≡ 0 → {past : ℕ} → past - from ≤ size → past ≡ b .address + 256
             → {g : Head} → g ≡ headWith k (b .family) (b .total)
             → Passed (record { head = g; number = b .number; body = Page (start + (b .address - from)) }) ≡ placed k start size b
         unfolding placed
-        placed-passed e w i h =
+        placed-passed e w i q h =
             let whole = sym (ap (λ (m : ℕ). b .address % m) e) ∙ w in
-            rw (eq-eqb (b .size) 256 p, n, address-right size b k l whole (omega (arith, f, l, i)), h, f)
+            rw (eq-eqb (b .size) 256 p, n, address-right size b k l whole (omega (arith, f, l, i, q)), h, f)
 
 -- ---- a data block in no window
 

@@ -1,10 +1,10 @@
 -- What the window of an address and a good address say. Nobody else unfolds `windowOf`. Assumes nothing.
 use Prim.Native.Nat.{ℕ, _+_, _-_, _%_, _<_, _≤_}
-use mathlib.Core.Path.{_≡_, refl, sym, _∙_}
-use mathlib.Core.Bool.{Bool, true, false, not, cond, _&&_, _||_}
+use mathlib.Core.Path.{_≡_, refl}
+use mathlib.Core.Bool.{Bool, true, false, not, _&&_, _||_}
 use native.Mathlib.Omega.{arith}
 use lib.Dec.{ltb, leb, eqb}
-use borrow.Author.Tests.{leb-true, ltb-true, ltb-false, lt-ltb, le-leb, le-ltb, lt-leb, eqb-true, not-false}
+use borrow.Author.Tests.{leb-true, ltb-true, ltb-false, lt-ltb, le-leb, eqb-true, not-false}
 use Rattle.sets.proofs.Tests.{split, clash, and-left, and-right, or-left, or-right, both}
 use Rattle.block.specs.declared.Block.{Block}
 use Rattle.transfer.specs.declared.Kind.{Kind}

@@ -47,7 +47,7 @@ returns-4 c =
     let d = c .before .before .before .before .before in
     let n = sym (d .before .bad-numbers .ensures) ∙ d .if2 .left in
     let l = d .before .before .before .before .pre .1 in
-    sym (placed-past _ _ _ _ (omega arith) n (c .before .before .before .base .ensures) l (c .if4 .taken))
+    sym (placed-past _ _ _ _ (omega arith) n (c .before .before .before .base .ensures) l (c .if4 .taken) (omega arith))
 
 sub-at : tie.Need-sub-at
 sub-at c = search needs
@@ -64,7 +64,7 @@ returns-5 c =
     let d = e .before .before .before .before .before in
     let n = sym (d .before .bad-numbers .ensures) ∙ d .if2 .left in
     let l = d .before .before .before .before .pre .1 in
-    placed-passed _ _ _ _ (omega arith) n (e .before .before .before .base .ensures) l (e .before .before .alignment .ensures) (e .before .if3 .left) (e .if4 .left) (c .new .ensures)
+    placed-passed _ _ _ _ (omega arith) n (e .before .before .before .base .ensures) l (e .before .before .alignment .ensures) (e .before .if3 .left) (e .if4 .left) (omega arith) (c .new .ensures)
 
 pub fits-place-spec : {M : Type 1} → statement M
 fits-place-spec =
