@@ -23,7 +23,7 @@ use Rattle.transfer.specs.declared.State.the-variants.{Idle}
 use Rattle.arrival.specs.Arrive.{World, lengthsOf}
 use Rattle.arrival.specs.Windows.{lies}
 use Rattle.arrival.specs.Lists.{receiveAll}
-use Rattle.arrival.specs.Demand.{File, ValidFile, Foreign, Sent, Mixed, nothing, own, isData, addressOf, answerNumber, sameBytes, among, seenOf, startOf, originOf, storageOf, Ends, List-ends}
+use Rattle.arrival.specs.Demand.{File, ValidFile, Foreign, Sent, Mixed, nothing, own, isData, addressOf, answerNumber, sameBytes, among, seenOf, startOf, originOf, storageOf, Plain, Ends, List-ends}
 use Rattle.arrival.proofs.Screening.{Board}
 use Rattle.arrival.proofs.DecisionFacts.{right-true}
 use Rattle.arrival.proofs.Demand.{list-ends}
@@ -114,6 +114,10 @@ module _ (s : Settings) (w : World) (image out : List ℕ) (family start at byte
         passes = passes;
       }
 
+  -- no block names a region: flag 0x2000 alone is set
+  plain : Plain s w F
+  plain k h = rw (reads k h .flags)
+
   -- ---- by demand 3
 
   payload : (k : ℕ) → k < n → payloadOf (F .block k) ≡ pageOf image k
@@ -133,7 +137,7 @@ module _ (s : Settings) (w : World) (image out : List ℕ) (family start at byte
 
   module _ (l : List (List ℕ)) (sent : Sent s w F l) (all : (k : ℕ) → k < n → seenOf F l k ≡ true) where
     ends : Ends s w F (seenOf F l) (receiveAll s w l)
-    ends = unfold List-ends in list-ends s w F (D .idle) valid l sent
+    ends = unfold List-ends in list-ends s w F (D .idle) valid l sent plain
 
     abbrev flash : List ℕ
     flash = receiveAll s w l .held .flash
