@@ -43,6 +43,9 @@ module _ (F : Blocks) (S : Set) where
   pub sectors-in : (q : ℕ) → sectorsOf F S q ≡ touchedIn q
   sectors-in q = any-each (count F) (sameKind Flash (kindIn F)) S (λ k. isData (F .file) k && eqb q (F .at k / 4096))
 
+  pub held-in : (u : Kind) (j : ℕ) → any (count F) (λ k. S k && layout u F .owns k j) ≡ heldIn u j
+  held-in u j = any-each (count F) (sameKind u (kindIn F)) S (λ k. isData (F .file) k && spans (F .at k) j)
+
   -- a byte that no block of S holds
   free-of : (u : Kind) (j : ℕ) → heldIn u j ≡ false → (k : ℕ) → k < count F → S k ≡ true → layout u F .owns k j ≡ false
   free-of u j z k h s =

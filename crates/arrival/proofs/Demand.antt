@@ -40,7 +40,7 @@ use Rattle.arrival.proofs.Facts.{wiped-buffer}
 use Rattle.arrival.proofs.Contents.{byteIn, As, touchedIn, sectors-in, contents-of}
 use Rattle.arrival.proofs.Lists.{Reached, reached-next, reached-after}
 use Rattle.arrival.proofs.Runs.{mixed-append, mixed-split, seen-nothing, seen-append, seen-own, seen-other, along-any, own-step, other-step, run-after}
-use Rattle.arrival.proofs.Files.{blocksOf, board, valid, opens, steady}
+use Rattle.arrival.proofs.Files.{blocksOf, board, valid, opens, foreign-is, steady}
 
 -- ---- transfer and seen map, with regions or without
 
@@ -232,7 +232,7 @@ module _ (s : Settings) (w : World) (F : File) (idle : w .transfer ≡ Idle) (ok
         ∙ ap (λ (T : Set). repliesTo s w F T l) (grow-own S k h) in
         λ i. x i ∷ y i
     told-after (other {l = l} a f r) S v m u =
-        let e = steady s w F idle ok .foreign v m (after-carried P w (Others P (w .held)) S v u) a f in
+        let e = foreign-is s w F idle ok v m (after-carried P w (Others P (w .held)) S v u) a f in
         let x : t (receiveOf s v a .answer) ≡ replyTo s w F S a =
         ap (λ (o : Outcome). t (o .answer)) e ∙ low (receiveOf s w a .answer) (omega (arith, f .most)) ∙ sym (reply-other S a f) in
         let y : map t (answersOf s (receiveOf s v a .world) l) ≡ repliesTo s w F (withArrival s w S a) l =
@@ -274,7 +274,7 @@ module _ (s : Settings) (w : World) (F : File) (idle : w .transfer ≡ Idle) (ok
 
   exactly-other : {l : List (List ℕ)} → Sent s w F l → (a : List ℕ) → Foreign s w F a → Exactly l a
   exactly-other {l} sent a f =
-      ap (λ (o : Outcome). isCompleted (o .answer)) (steady s w F idle ok .foreign (receiveAll s w l) (reached-list l) (after-carried P w (Others P (w .held)) (seenOf F l) (receiveAll s w l) (after-any sent)) a f)
+      ap (λ (o : Outcome). isCompleted (o .answer)) (foreign-is s w F idle ok (receiveAll s w l) (reached-list l) (after-carried P w (Others P (w .held)) (seenOf F l) (receiveAll s w l) (after-any sent)) a f)
       ∙ ne-eqb (answerNumber s w a) 15 (λ e. omega (arith, f .most))
       ∙ sym (not-and-self (isWhole F (seenOf F l)))
       ∙ sym (ap (λ (R : Set). not (isWhole F (seenOf F l)) && isWhole F R) same)
@@ -305,7 +305,7 @@ module _ (s : Settings) (w : World) (F : File) (idle : w .transfer ≡ Idle) (ok
   place-out f k Nowhere e = refl
   place-out f k (At start size) e = rw e
 
-  unkept : Plain s w F → Unkept P (w .held)
+  pub unkept : Plain s w F → Unkept P (w .held)
   unkept plain f k h y n =
       let p = placeOf s (length (w .held .flash)) (F .family) in
       let g = plain k h in

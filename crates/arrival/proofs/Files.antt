@@ -28,7 +28,7 @@ use Rattle.screen.specs.declared.Body.the-variants.{Page}
 use Rattle.screen.specs.declared.Placed.{Placed}
 use Rattle.screen.specs.declared.Screening.{Screening}
 use Rattle.screen.specs.declared.Screening.the-variants.{Refused, Passed}
-use Rattle.arrival.specs.Arrive.{World, Outcome, bufferOf, standing, deedOf, done, receiveOf}
+use Rattle.arrival.specs.Arrive.{World, Outcome, bufferOf, standing, deedOf, unchanged, done, receiveOf}
 use Rattle.arrival.specs.Windows.{windowStart, windowEnd, kindOf}
 use Rattle.arrival.specs.Demand.{File, answerNumber, isData, addressOf, ValidFile, isFound, Foreign, originOf, storageOf, headIn}
 use Rattle.arrival.proofs.Heads.{kind-same}
@@ -104,7 +104,7 @@ module _ (s : Settings) (w : World) (F : File) (idle : w .transfer ≡ Idle) (ok
   in-window k h y = lies-true (F .kind) (addressOf F k) (ok .kinds k h y)
 
   -- a file with a comment is one of flash
-  comment-flash : (k : ℕ) → k < F .total → hasFlag (F .block k) 0x1 ≡ true → F .kind ≡ Flash
+  pub comment-flash : (k : ℕ) → k < F .total → hasFlag (F .block k) 0x1 ≡ true → F .kind ≡ Flash
   comment-flash k h y =
       split (sameKind (F .kind) Flash)
       (kind-same (F .kind) Flash)
@@ -151,7 +151,7 @@ module _ (s : Settings) (w : World) (F : File) (idle : w .transfer ≡ Idle) (ok
       let i = place-inside s (flashOf w) (F .family) (board .flash) (board .good) (p .start) (p .size) e in
       record { start = p .start; size = p .size; place = e; first = i .0; within = i .2 }
 
-  screen-block : (k : ℕ) → k < F .total → screenOf s (lens w) (w .transfer) (F .block k) ≡ Passed (placedOf (blocksOf s w F) k)
+  pub screen-block : (k : ℕ) → k < F .total → screenOf s (lens w) (w .transfer) (F .block k) ≡ Passed (placedOf (blocksOf s w F) k)
   screen-block k h = passed k h .1 ∙ ap Passed (placed-is k h)
 
   pub valid : Valid (blocksOf s w F) (w .held)
@@ -196,7 +196,7 @@ module _ (s : Settings) (w : World) (F : File) (idle : w .transfer ≡ Idle) (ok
 
   -- ---- a foreign arrival
 
-  screen-foreign : (a : List ℕ) → Foreign s w F a → (screenOf s (lens w) (w .transfer) a ≡ Refused (receiveOf s w a .answer)) × (length a ≡ 512)
+  pub screen-foreign : (a : List ℕ) → Foreign s w F a → (screenOf s (lens w) (w .transfer) a ≡ Refused (receiveOf s w a .answer)) × (length a ≡ 512)
   screen-foreign a f = (go (screenOf s (lens w) (w .transfer) a) refl, l)
     where
       l : length a ≡ 512
@@ -225,7 +225,7 @@ module _ (s : Settings) (w : World) (F : File) (idle : w .transfer ≡ Idle) (ok
       c)
 
   -- "no foreign arrival is a comment of its family and total"
-  foreign-apart : (a : List ℕ) → Foreign s w F a → isFound (headerOf a) ≡ true → hasFlag a 0x1 ≡ true
+  pub foreign-apart : (a : List ℕ) → Foreign s w F a → isFound (headerOf a) ≡ true → hasFlag a 0x1 ≡ true
       → (F .kind ≡ Flash) ⊎ (eqb (F .family) (fieldAt a 28) && eqb (F .total) (fieldAt a 24) ≡ false)
   foreign-apart a f d y =
       split (sameKind (F .kind) Flash)
@@ -234,15 +234,19 @@ module _ (s : Settings) (w : World) (F : File) (idle : w .transfer ≡ Idle) (ok
       let n : F .kind ≢ Flash = λ e. clash (sameKind (F .kind) Flash) (ap (λ (u : Kind). sameKind u Flash) e) z in
       inr (rw (d, y) at (f .quiet n)))
 
+  -- so a foreign arrival is answered all through the list as at its start
+  pub foreign-is : (v : World) → Reached s w v → Carried (blocksOf s w F) w (v .transfer) → (a : List ℕ) → Foreign s w F a
+      → receiveOf s v a ≡ unchanged v (receiveOf s w a .answer)
+  foreign-is v m c a f =
+      receive-refused s v a (m .board) (screen-foreign a f .1) (receiveOf s w a .answer) (turn v m c a (foreign-apart a f) ∙ screen-foreign a f .0)
+
   pub steady : Steady s w (blocksOf s w F) (Foreign s w F)
   steady =
       record {
         ours = λ v m c k h.
             receive-passed s v (F .block k) (m .board) (block-size k h) (placedOf (blocksOf s w F) k)
             (turn v m c (F .block k) (λ f y. inl (comment-flash k h y)) ∙ screen-block k h);
-        foreign = λ v m c a f.
-            receive-refused s v a (m .board) (screen-foreign a f .1) (receiveOf s w a .answer)
-            (turn v m c a (foreign-apart a f) ∙ screen-foreign a f .0);
+        foreign = λ v m c a f. ap (λ (o : Outcome). o .world) (foreign-is v m c a f);
         different = λ j k hj hk e. sym (ok .numbers j hj) ∙ ap (λ (x : List ℕ). fieldAt x 20) e ∙ ok .numbers k hk;
         apart = λ j h f. omega (arith, f .most, ok .passes j h);
       }

@@ -12,7 +12,7 @@ pub mod RamRows
 pub mod Comments
 pub mod Kept
 mod Lists
-mod Runs
+pub mod Runs
 mod Files
 mod Contents
 mod Guards
@@ -20,3 +20,4 @@ pub mod Demand
 pub mod Regions
 pub mod Tally
 pub mod Before
+pub mod Stopped

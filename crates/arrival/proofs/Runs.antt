@@ -10,7 +10,7 @@ use borrow.Author.Tests.{eqb-true, eqb-false, lt-ltb, ltb-true}
 use Rattle.sets.specs.Sets.{Set, add}
 use Rattle.sets.proofs.Tests.{split, clash, is-false, eqb-same, and-left, and-right}
 use Rattle.settings.specs.declared.Settings.{Settings}
-use Rattle.arrival.specs.Arrive.{Held, World, Outcome, unchanged, receiveOf}
+use Rattle.arrival.specs.Arrive.{Held, World, receiveOf}
 use Rattle.arrival.specs.Lists.{receiveAll, AtEach}
 use Rattle.arrival.specs.Demand.{File, Mixed, nothing, own, other, sameBytes, among, seenOf}
 use Rattle.arrival.proofs.Count.{Blocks, count, bytesOf, coming, Any, Invariant, Opens, After, Stepped, block-step, Carried, after-carried}
@@ -62,6 +62,11 @@ mixed-split F P (a ∷ l) m p = go (λ r. mixed-split F P l m r) refl p
         let q = f (subst (Mixed F P) y r) in
         (subst (λ (b : List ℕ). Mixed F P (b ∷ l)) x (other b g (q .0)), q .1)
 
+pub mixed-map : {F : File} {P Q : List ℕ → Type 0} {l : List (List ℕ)} → ((a : List ℕ) → P a → Q a) → Mixed F P l → Mixed F Q l
+mixed-map f nothing = nothing
+mixed-map f (own k h p) = own k h (mixed-map f p)
+mixed-map f (other a q p) = other a (f a q) (mixed-map f p)
+
 -- ---- what is seen
 
 pub seen-nothing : (F : File) (j : ℕ) → seenOf F [] j ≡ false
@@ -75,7 +80,7 @@ seen-append F l m j = rw (among-append (F .block j) l m) (and-or-distrib-left (l
 -- does, an arrival of P changes nothing, and no two of them are the same
 pub record Steady (s : Settings) (w : World) (F : Blocks) (P : List ℕ → Type 0) : Type 0 where
   pub ours : (v : World) → Reached s w v → Carried F w (v .transfer) → (k : ℕ) → k < count F → receiveOf s v (bytesOf F k) ≡ coming F v k
-  pub foreign : (v : World) → Reached s w v → Carried F w (v .transfer) → (a : List ℕ) → P a → receiveOf s v a ≡ unchanged v (receiveOf s w a .answer)
+  pub foreign : (v : World) → Reached s w v → Carried F w (v .transfer) → (a : List ℕ) → P a → receiveOf s v a .world ≡ v
   pub different : (j k : ℕ) → j < count F → k < count F → bytesOf F j ≡ bytesOf F k → j ≡ k
   pub apart : (j : ℕ) → j < count F → P (bytesOf F j) → ⊥
 
@@ -154,7 +159,7 @@ module _ (s : Settings) (w : World) (F : Blocks) (P : List ℕ → Type 0) (R : 
 
   -- a foreign arrival leaves what it finds
   pub other-step : (x : List ℕ) → P x → (S : Set) (v : World) → Reached s w v → After F w Inv S v → After F w Inv S (receiveOf s v x .world)
-  other-step x f S v m a = subst (λ (u : Outcome). After F w Inv S (u .world)) (sym (R .foreign v m (after-carried F w Inv S v a) x f)) a
+  other-step x f S v m a = subst (After F w Inv S) (sym (R .foreign v m (after-carried F w Inv S v a) x f)) a
 
   -- the flash that each arrival finds is as `Met` says
   pub run-after : {l : List (List ℕ)} → Mixed (F .file) P l → (S : Set) (v : World) → Reached s w v → After F w Inv S v → Along Met s v l

@@ -9,3 +9,4 @@ pub mod Demand
 pub mod Regions
 pub mod Ram
 pub mod Before
+pub mod Stopped

@@ -11,8 +11,9 @@ use Rattle.transfer.specs.Transfer.{kindNumber, running}
 use Rattle.transfer.specs.declared.State.the-variants.{Idle, Done}
 use Rattle.arrival.specs.Arrive.{Lent, World}
 use Rattle.arrival.specs.Lists.{receiveAll, answersOf, discardsOf}
-use Rattle.arrival.specs.Demand.{File, ValidFile, Sent, seenOf, howMany, isWhole, headIn, Counts, Contents, Ends, Plain, SameSet}
+use Rattle.arrival.specs.Demand.{File, ValidFile, Mixed, Sent, seenOf, howMany, isWhole, headIn, Counts, Contents, Ends, Plain, SameSet}
 use Rattle.arrival.specs.Regions.{Regions, Complete}
+use Rattle.arrival.specs.Stopped.{Stopped, ForeignToBoth, EndsAlike}
 use Rattle.receiver.specs.Receiver.{world}
 use Rattle.layout.specs.Layout.{byteAt, settingsFrom, transferFrom, stateBytes}
 use Rattle.batch.specs.Batch.{arrivalsOf, resultsOf, storedFrom}
@@ -122,6 +123,19 @@ Calls-either-first =
     (λ s h F l.
     Plain (settingsFrom s) (worldOf h) F → (m : List (List ℕ)) → Sent (settingsFrom s) (worldOf h) F m → AllBytes m
     → callAll s h (l ++ m) ≡ callAll s h (m ++ l))
+
+-- ---- a stopped update, then a good one (02, L13): calls from a stopped start h, and from an Idle one k
+
+-- they end alike, and the transfer byte for byte
+pub record CallsAlike (s : List ℕ) (h k : CallerState) (F : File) (l : List (List ℕ)) : Type 0 where
+  pub ends : EndsAlike (settingsFrom s) (worldOf k) F l (worldOf (callAll s h l)) (worldOf (callAll s k l))
+  pub transfer : callAll s h l .transfer ≡ callAll s k l .transfer
+
+unfoldable pub Calls-stopped : Type 0
+Calls-stopped =
+    (s : List ℕ) (h k : CallerState) (F : File) → Stopped F (worldOf h) (worldOf k) → ValidFile (settingsFrom s) (worldOf k) F
+    → Plain (settingsFrom s) (worldOf k) F → (l : List (List ℕ)) → Mixed F (ForeignToBoth (settingsFrom s) (worldOf h) (worldOf k) F) l
+    → AllBytes l → 1 ≤ howMany F (seenOf F l) → CallsAlike s h k F l
 
 -- ---- they are one call of `uf2_take_all`
 

@@ -1,11 +1,12 @@
 -- The hypotheses of demand 3 are met by the files of specs/Instance.antt, and the theorem speaks of them. Assumes nothing.
 use Prim.Native.Nat.{ℕ, zero, suc, _+_, _*_, _≤_, _<_}
-use mathlib.Core.Path.{_≡_, refl}
+use mathlib.Core.Path.{_≡_, refl, sym, ap, _∙_}
 use mathlib.Core.Logic.{_≢_}
 use mathlib.Core.Bool.{Bool, true, false, not, cond}
 use mathlib.Core.List.{List}
 use native.Mathlib.Omega.{arith}
 use lib.Dec.{eqb, ltb, leb}
+use lib.ListN.{length-replicate}
 use borrow.Author.Tests.{leb-true, ltb-true}
 use Rattle.sets.proofs.Tests.{clash, and-left, and-right}
 use Rattle.fill.specs.Many.{many}
@@ -18,16 +19,18 @@ use Rattle.settings.specs.Settings.{familyArmS, goodSettings}
 use Rattle.place.specs.Place.{placeOf, ramFamily}
 use Rattle.transfer.specs.Transfer.{goodState, counted, raised, accepted, stepOf}
 use Rattle.transfer.specs.declared.Kind.the-variants.{Flash, XipRam}
+use Rattle.transfer.specs.declared.Head.{Head}
 use Rattle.transfer.specs.declared.State.the-variants.{Done}
 use Rattle.screen.specs.Screen.{windowOf, noteKind, placed, strayed, noted, dataFound, noteFound, found, screenIn, screenOf}
 use Rattle.arrival.specs.Arrive.{World, rightLengths, standsAt, afterScreening, decide, done, receiveOf}
 use Rattle.arrival.specs.Lists.{receiveAll}
 use Rattle.arrival.specs.Windows.{lies}
 use Rattle.arrival.specs.Demand.{File, ValidFile, Foreign, isCommentOf, addressOf, nothing, own, other, answerNumber, isData, sameBytes, among, seenOf, howMany, Ends, List-counts, List-ends}
+use Rattle.arrival.specs.Stopped.{ForeignToBoth}
 use Rattle.arrival.proofs.Demand.{list-counts, list-ends}
 use Rattle.examples.specs.Boards.{arrivalOf, commentOf, plain, headTo, armHead}
 use Rattle.examples.specs.Examples.{blockOfThree}
-use Rattle.examples.specs.Instance.{file, start, arrivals, Hypotheses-are-met, annotated, annotatedArrivals, Met-with-a-comment, remarks, Met-by-comments-alone, ramBlock, ramFile, ramStart, ramArrivals, Met-in-RAM}
+use Rattle.examples.specs.Instance.{file, start, arrivals, Hypotheses-are-met, annotated, annotatedArrivals, Met-with-a-comment, remarks, Met-by-comments-alone, ramBlock, ramFile, ramStart, ramArrivals, Met-in-RAM, stopped, Met-by-a-stopped-transfer}
 
 -- what holds of 0, 1 and 2 holds below 3
 three : (P : ℕ → Type 0) → P 0 → P 1 → P 2 → (k : ℕ) → k < 3 → P k
@@ -231,3 +234,34 @@ ram-done =
   where
     whole : howMany ramFile (seenOf ramFile ramArrivals) ≡ 3
     whole = unfold lowFirst size among sameBytes in refl
+
+-- ---- a stopped update
+
+stopped-beyond : answerNumber plain stopped (arrivalOf 0x10010000 0 3 1) ≡ 11
+unfolding many any flashLength payloadOf lowFirst numberIn fieldAt fieldsOf flaggedOf headerOf goodSettings placeOf goodState counted raised accepted stepOf windowOf noteKind placed strayed noted dataFound noteFound found screenIn screenOf rightLengths standsAt afterScreening decide done receiveOf
+stopped-beyond = refl
+
+pub met-by-a-stopped-transfer : Met-by-a-stopped-transfer
+unfolding Met-by-a-stopped-transfer
+met-by-a-stopped-transfer = (
+  record {
+    run = record { head = armHead 5; count = 2 };
+    running = refl;
+    sound = unfold goodState in refl;
+    differs = λ e. absurd (omega (arith, ap (λ (h : Head). h .total) e));
+    quiet = λ f t. absurd (omega (arith, t));
+    idle = refl;
+    lengths = refl;
+    seen-length = length-replicate {A = ℕ} 16384 255 ∙ sym (length-replicate {A = ℕ} 16384 9);
+    sectors-length = length-replicate {A = ℕ} 1024 255 ∙ sym (length-replicate {A = ℕ} 1024 9);
+  },
+  own 2 (omega arith) (own 0 (omega arith) (own 2 (omega arith) (other (arrivalOf 0x10010000 0 3 1) both-starts (own 1 (omega arith) (own 0 (omega arith) nothing))))),
+)
+  where
+    both-starts : ForeignToBoth plain stopped start file (arrivalOf 0x10010000 0 3 1)
+    both-starts =
+        record {
+          foreign = foreign-by start file (arrivalOf 0x10010000 0 3 1) 11 beyond (omega arith) (omega arith) (λ n. absurd (n refl));
+          least = omega (arith, stopped-beyond);
+          most = omega (arith, stopped-beyond);
+        }
