@@ -1,4 +1,4 @@
-/* Files made of images, and digests, for tools on a host: every function is proved to do what crates/toolsapi/specs says, for every input.
+/* Files made of images, digests, and one Universal Hex file from two plain ones, for tools on a host: every function is proved to do what crates/toolsapi/specs says, for every input.
  * What a board links is include/uf2_receiver.h.
  *
  * Built for: x86-64 Linux. `rt staticlib toolsapi` writes target/staticlib/libtoolsapi.a, which links beside libcapi.a. It calls nothing but
@@ -41,6 +41,25 @@ uint32_t uf2_make(const uint8_t *image, uf2_len image_len, uint32_t family, uint
  * UF2_MAKE_PAGE_SIZE, or block_len not UF2_MAKE_BLOCK_SIZE, nothing is written. */
 void uf2_make_block(uint32_t address, uint32_t number, uint32_t total, uint32_t family, const uint8_t *page, uf2_len page_len,
                     uint8_t *block, uf2_len block_len);
+
+/* Writes one Universal Hex file at the start of the output from a plain Intel Hex file for V1 and one for V2: V1's section, V2's, each a
+ * multiple of 512 bytes, and a record 01; lines end with LF, digits are upper case. A refusal writes nothing, and what follows the file
+ * stays. The result, in 64 bits:
+ *   UHEX_JOIN_ANSWER    0, and the file is written; or why not:
+ *                       20 to 25 as `enum uhex_answer` of uf2_receiver.h has them; 26 a type over 05, a length that the type does not have, or
+ *                       no 01 at the end; 29 data past the 65,536 bytes that one 02 or 04 reaches; 30 no data byte; 31 a line after the 01;
+ *                       36 an input or the output over UHEX_JOIN_MAX_SIZE, or the output longer than what is lent
+ *   UHEX_JOIN_POSITION  with 22 the position of the first bad character, counted from 0 at the colon; else 0
+ *   UHEX_JOIN_BOARD     whose file is refused: 1 is V1, which is read first, 2 is V2; 0 for the output, or where the file is written
+ *   UHEX_JOIN_LINE      the index from 0 of the line that is refused; for a missing 01 and for 30 the number of lines; 0 for the output
+ *   UHEX_JOIN_LENGTH    where the file is written, how many bytes */
+#define UHEX_JOIN_MAX_SIZE 4194304
+#define UHEX_JOIN_ANSWER(result) ((uint32_t)((result) & 255u))
+#define UHEX_JOIN_POSITION(result) ((uint32_t)((result) >> 8 & 65535u))
+#define UHEX_JOIN_BOARD(result) ((uint32_t)((result) >> 24 & 255u))
+#define UHEX_JOIN_LINE(result) ((uint32_t)((result) >> 32))
+#define UHEX_JOIN_LENGTH(result) ((uint32_t)((result) >> 32))
+uint64_t uhex_join(const uint8_t *v1, uf2_len v1_len, const uint8_t *v2, uf2_len v2_len, uint8_t *output, uf2_len output_len);
 
 /* The MD5 digest (RFC 1321) of bytes, in the RFC's byte order, as a block with flag 0x4000 has it. Where digest_len is not
  * UF2_MD5_SIZE nothing is written. */

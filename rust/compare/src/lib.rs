@@ -5,6 +5,7 @@ mod buffers;
 pub mod fence;
 pub mod hex;
 mod pair;
+pub mod plain;
 pub mod region;
 pub mod tags;
 

@@ -8,6 +8,7 @@ use std::process::Command;
 
 use compare::fence::{Fenced, Side};
 use compare::hex::{any_reader, any_record, any_text};
+use compare::plain::any_plain;
 use compare::region::any_region;
 use compare::{any_arrival, any_settings, any_transfer, Buffers, Ram, Random, FAMILIES};
 use compare::{proved_settings, proved_transfer};
@@ -351,6 +352,33 @@ fn made_files_and_digests_keep_their_bounds() {
         bytes.check("bytes");
     }
     assert!(made > number() / 10, "{made}");
+}
+
+#[test]
+fn joined_files_keep_their_bounds() {
+    let mut r = Random(36);
+    let mut joined = 0;
+    for _ in 0..number() / 10 {
+        let v1 = any_plain(&mut r);
+        let v2 = any_plain(&mut r);
+        let written = tools::join(&v1, &v2, &mut vec![0; 65_536]).unwrap_or(1036);
+        let v1 = Twin::read(&mut r, v1);
+        let v2 = Twin::read(&mut r, v2);
+        let output = any_length(&mut r, vec![9; written]);
+        let mut output = Twin::written(&mut r, output);
+        let fenced = tools::join(
+            v1.fenced.bytes(),
+            v2.fenced.bytes(),
+            output.fenced.bytes_mut(),
+        );
+        let plain = tools::join(&v1.plain, &v2.plain, &mut output.plain);
+        assert_eq!(fenced, plain);
+        v1.check("V1's file");
+        v2.check("V2's file");
+        output.check("output");
+        joined += usize::from(plain.is_ok());
+    }
+    assert!(joined > number() / 500, "{joined}");
 }
 
 // ---- the fence itself

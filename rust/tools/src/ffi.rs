@@ -31,5 +31,14 @@ extern "C" {
         block_len: Len,
     );
 
+    pub fn uhex_join(
+        v1: *const u8,
+        v1_len: Len,
+        v2: *const u8,
+        v2_len: Len,
+        output: *mut u8,
+        output_len: Len,
+    ) -> u64;
+
     pub fn uf2_md5(bytes: *const u8, bytes_len: Len, digest: *mut u8, digest_len: Len);
 }
