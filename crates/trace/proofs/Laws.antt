@@ -73,7 +73,7 @@ module _ (s : Settings) (t : Transfer) (p : List ℕ) (h : Lent) where
 
 -- ---- the pieces that are left
 
-pieces-none : (l : List ℕ) → length l ≡ 0 → piecesOf l ≡ []
+pub pieces-none : (l : List ℕ) → length l ≡ 0 → piecesOf l ≡ []
 unfolding piecesOf cut
 pieces-none l h = let n : (length l + 512) / 513 ≡ 0 = omega arith in rw n
 
