@@ -25,7 +25,8 @@ use Rattle.trace.specs.Trace.{recorded, isBad, agrees, pieceOf, piecesOf, Trace
 use Rattle.trace.specs.declared.Stop.{Stop}
 use Rattle.trace.specs.declared.Stop.the-variants.{None, Bad, Differs}
 use Rattle.trace.proofs.Laws.{pieces-none, pieces-next}
-use Rattle.replays.specs.Claims.{written, IsRecord, ourRecord, pieceAt, arrivalAt, arrivalsTo, after, IsOurs, Begins-idle, StoppedAt, Stop-is-the-first, recordsBefore, EndsAfter, Ends-before-the-stop, recordingOf, AllWhole, Recording-replays}
+use Rattle.replays.specs.Pieces.{IsRecord, pieceAt, arrivalAt, arrivalsTo, recordsBefore}
+use Rattle.replays.specs.Claims.{ourRecord, after, IsOurs, Begins-idle, StoppedAt, Stop-is-the-first, EndsAfter, Ends-before-the-stop, recordingOf, AllWhole, Recording-replays}
 use Rattle.replays.proofs.Records.{good, good-record, record-good, not-bad, agree-written, written-agree}
 
 -- ---- what the replay comes to

@@ -1,10 +1,10 @@
--- What is claimed of a replay (02, L10), whatever the settings, the buffers and the trace. A record is told here by how it is written, and the
--- pieces by where they stand in the trace. proofs/ proves each claim, in lower case. Assumes nothing.
-use Prim.Native.Nat.{ℕ, zero, suc, _+_, _*_, _/_, _≤_, _<_}
+-- What is claimed of a replay (02, L10), whatever the settings, the buffers and the trace. proofs/ proves each claim, in lower case.
+-- Assumes nothing.
+use Prim.Native.Nat.{ℕ, _*_, _<_}
 use mathlib.Core.Path.{_≡_}
 use mathlib.Core.Logic.{_↔_}
 use mathlib.Core.List.{List, [], _∷_, _++_}
-use lib.ListN.{length, getD, take, drop}
+use lib.ListN.{length, getD}
 use Rattle.sets.specs.Sets.{one}
 use Rattle.settings.specs.declared.Settings.{Settings}
 use Rattle.transfer.specs.Transfer.{numberOf}
@@ -14,40 +14,13 @@ use Rattle.arrival.specs.Lists.{receiveAll}
 use Rattle.trace.specs.Trace.{TraceOutcome, traceOutcome, begun, replayOf}
 use Rattle.trace.specs.declared.Stop.{Stop}
 use Rattle.trace.specs.declared.Stop.the-variants.{None, Bad, Differs}
+use Rattle.replays.specs.Pieces.{written, IsRecord, pieceAt, arrivalAt, arrivalsTo, recordsBefore}
 
--- ---- a record as it is written
-
--- "one byte, top bits first, with answer (5 bits), discarded (1), two zeros, then the arrival"
-abbrev pub written : ℕ → ℕ → List ℕ → List ℕ
-written answer discarded arrival = (answer * 8 + discarded * 4) ∷ arrival
-
--- "records of 513 bytes": of some answer and "discarded"
-pub record IsRecord (p : List ℕ) : Type 0 where
-  pub answer : ℕ
-  pub discarded : ℕ
-  pub arrival : List ℕ
-  pub bit : discarded ≤ 1
-  pub long : length arrival ≡ 512
-  pub is : p ≡ written answer discarded arrival
+-- ---- our own records
 
 -- the record of our own answer to an arrival
 abbrev pub ourRecord : Settings → World → List ℕ → List ℕ
 ourRecord s w a = written (numberOf (receiveOf s w a .answer)) (one (receiveOf s w a .discarded)) a
-
--- ---- the pieces of a trace
-
--- piece k, which begins in the trace where 513 * k is below its length; the last may be shorter
-abbrev pub pieceAt : List ℕ → ℕ → List ℕ
-pieceAt t k = take 513 (drop (513 * k) t)
-
--- its arrival
-abbrev pub arrivalAt : List ℕ → ℕ → List ℕ
-arrivalAt t k = drop 1 (pieceAt t k)
-
--- the arrivals of the first n pieces
-unfoldable pub arrivalsTo : List ℕ → ℕ → List (List ℕ)
-arrivalsTo t zero = []
-arrivalsTo t (suc n) = arrivalsTo t n ++ (arrivalAt t n ∷ [])
 
 -- transfer and buffers once these have been received
 abbrev pub after : Settings → Lent → List ℕ → ℕ → World
@@ -82,12 +55,6 @@ StoppedAt s h t (Differs i) =
 -- in both directions
 unfoldable pub Stop-is-the-first : Type 0
 Stop-is-the-first = (s : Settings) (h : Lent) (t : List ℕ) (x : Stop) → (replayOf s h t .stop ≡ x) ↔ StoppedAt s h t x
-
--- how many records stand before the stop
-abbrev pub recordsBefore : List ℕ → Stop → ℕ
-recordsBefore t None = length t / 513
-recordsBefore t (Bad i) = i
-recordsBefore t (Differs i) = i
 
 -- "The end state is the one after the records before the stop", of which each is ours
 pub record EndsAfter (s : Settings) (h : Lent) (t : List ℕ) (o : TraceOutcome) : Type 0 where
