@@ -32,11 +32,11 @@ use Rattle.arrival.specs.Facts.{Refusals-change-nothing, Look-tells}
 use Rattle.arrival.specs.Windows.{headOf}
 use Rattle.arrival.specs.Tally.{anyAccepted, Count-is-marks}
 use Rattle.arrival.specs.Demand.{File, seenOf, howMany, headIn, Counts, Contents, Ends, List-counts, List-ends, Completed-exactly, Same-set-same-end, Either-first}
+use Rattle.arrival.specs.Regions.{Regions-end}
+use Rattle.arrival.specs.Stopped.{EndsAlike, Stopped-then-good}
 use Rattle.arrival.proofs.DecisionFacts.{AcceptFacts, DecisionFacts, kept, took, took-number, decision-facts}
 use Rattle.arrival.proofs.Facts.{refusals-change-nothing, look-tells}
 use Rattle.arrival.proofs.Tally.{count-is-marks}
-use Rattle.arrival.specs.Regions.{Regions-end}
-use Rattle.arrival.specs.Stopped.{EndsAlike, Stopped-then-good}
 use Rattle.arrival.proofs.Demand.{list-counts, list-ends, completed-exactly, same-set-same-end, either-first}
 use Rattle.arrival.proofs.Runs.{mixed-map}
 use Rattle.arrival.proofs.Regions.{regions-end}
@@ -271,14 +271,12 @@ calls-count s h F i v l t b =
 pub calls-end : Calls-end
 unfolding Calls-end List-ends
 calls-end s h F i v l t b p =
-    let z = settingsFrom s in
-    subst (Ends z (worldOf h) F (seenOf F l)) (sym (calls-world s h l b)) (list-ends z (worldOf h) F i v l t p)
+    subst (Ends (settingsFrom s) (worldOf h) F (seenOf F l)) (sym (calls-world s h l b)) (list-ends (settingsFrom s) (worldOf h) F i v l t p)
 
 pub calls-regions : Calls-regions
 unfolding Calls-regions Regions-end
-calls-regions s h F i v r l c b =
-    let z = settingsFrom s in
-    subst (Contents z (worldOf h) F (seenOf F l)) (sym (calls-world s h l b)) (regions-end z (worldOf h) F i v r l c)
+calls-regions s h F i v l t b r c =
+    subst (Contents (settingsFrom s) (worldOf h) F (seenOf F l)) (sym (calls-world s h l b)) (regions-end (settingsFrom s) (worldOf h) F i v r l c)
 
 -- the answer's number in a result
 result-number : (x : Answer) (d : Bool) → resultOf (numberOf x) d % 128 ≡ numberOf x

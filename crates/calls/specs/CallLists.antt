@@ -11,7 +11,7 @@ use Rattle.transfer.specs.Transfer.{kindNumber, running}
 use Rattle.transfer.specs.declared.State.the-variants.{Idle, Done}
 use Rattle.arrival.specs.Arrive.{Lent, World}
 use Rattle.arrival.specs.Lists.{receiveAll, answersOf, discardsOf}
-use Rattle.arrival.specs.Demand.{File, ValidFile, Mixed, Sent, seenOf, howMany, isWhole, headIn, Counts, Contents, Ends, Plain}
+use Rattle.arrival.specs.Demand.{File, ValidFile, Mixed, Sent, seenOf, howMany, isWhole, headIn, Counts, Contents, Ends, Plain, SameSet}
 use Rattle.arrival.specs.Regions.{Regions, Complete}
 use Rattle.arrival.specs.Stopped.{Stopped, ForeignToBoth, EndsAlike}
 use Rattle.receiver.specs.Receiver.{world}
@@ -70,7 +70,8 @@ EveryCalls P =
     (s : List ℕ) (h : CallerState) (F : File) → worldOf h .transfer ≡ Idle → ValidFile (settingsFrom s) (worldOf h) F
     → (l : List (List ℕ)) → Sent (settingsFrom s) (worldOf h) F l → AllBytes l → P s h F l
 
--- transfer and seen map after the calls, with S the set of blocks seen and k what the caller then holds: 01's bullets, and the transfer's bytes
+-- the end of the calls, with S the set of blocks seen and k what the caller then holds: 01's bullets of transfer and seen map, and the transfer's
+-- bytes
 pub record CallsCount (h : CallerState) (F : File) (S : Set) (k : CallerState) : Type 0 where
   pub counts : Counts (worldOf h) F S (worldOf k)
   -- "m = 0: transfer, flash and maps are as lent.", byte for byte
@@ -81,22 +82,23 @@ pub record CallsCount (h : CallerState) (F : File) (S : Set) (k : CallerState) :
   -- "the whole file be one kind, which the transfer carries once it isn't Idle" (02, L8), as its last byte
   pub kind : 1 ≤ howMany F S → byteAt (k .transfer) 13 ≡ kindNumber (F .kind)
 
--- of every valid file, with regions (02, L9) or without
+-- with regions (02, L9) or without
 unfoldable pub Calls-count : Type 0
 Calls-count = EveryCalls (λ s h F l. CallsCount h F (seenOf F l) (callAll s h l))
 
--- "what was lent at the start and the set of file blocks seen decide flash, maps and transfer", where no region counts
+-- without regions: "what was lent at the start and the set of file blocks seen decide flash, maps and transfer"
 unfoldable pub Calls-end : Type 0
 Calls-end =
     EveryCalls
     (λ s h F l. Plain (settingsFrom s) (worldOf h) F → Ends (settingsFrom s) (worldOf h) F (seenOf F l) (worldOf (callAll s h l)))
 
--- a file with regions (02, L9): the buffers "at completion"
+-- with regions: "Demand 3 for such files speaks of flash at completion only" (02, L9)
 unfoldable pub Calls-regions : Type 0
 Calls-regions =
-    (s : List ℕ) (h : CallerState) (F : File) → worldOf h .transfer ≡ Idle → ValidFile (settingsFrom s) (worldOf h) F
-    → Regions (settingsFrom s) (worldOf h) F → (l : List (List ℕ)) → Complete (settingsFrom s) (worldOf h) F l → AllBytes l
-    → Contents (settingsFrom s) (worldOf h) F (seenOf F l) (worldOf (callAll s h l))
+    EveryCalls
+    (λ s h F l.
+    Regions (settingsFrom s) (worldOf h) F → Complete (settingsFrom s) (worldOf h) F l
+    → Contents (settingsFrom s) (worldOf h) F (seenOf F l) (worldOf (callAll s h l)))
 
 -- ""Completed" comes exactly when an arrival makes the set whole, and no second time", by the result of the call for a after those for l
 unfoldable pub Calls-completed : Type 0
@@ -111,8 +113,8 @@ unfoldable pub Calls-same-set : Type 0
 Calls-same-set =
     EveryCalls
     (λ s h F l.
-    Plain (settingsFrom s) (worldOf h) F → (m : List (List ℕ)) → Sent (settingsFrom s) (worldOf h) F m → AllBytes m
-    → ((k : ℕ) → k < F .total → seenOf F l k ≡ seenOf F m k) → callAll s h l ≡ callAll s h m)
+    Plain (settingsFrom s) (worldOf h) F → (m : List (List ℕ)) → Sent (settingsFrom s) (worldOf h) F m → AllBytes m → SameSet F l m
+    → callAll s h l ≡ callAll s h m)
 
 -- "So do two such lists of the file played one after the other, whichever goes first."
 unfoldable pub Calls-either-first : Type 0
