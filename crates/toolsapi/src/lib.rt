@@ -1,4 +1,4 @@
-// The C interface for tools on a host: files made of images, and digests. What a board links is `capi`.
+// The C interface for tools on a host: files made of images, digests, and traces replayed. What a board links is `capi`.
 ghost use mathlib.Core.Path.{_≡_};
 ghost use lib.ListN.{length};
 ghost use Rattle.block.specs.Write.{le32};
@@ -6,6 +6,8 @@ ghost use Rattle.md5.specs.Md5.{digestBytes};
 ghost use Rattle.uf2file.specs.Uf2file.{checkOf, makeNumber, blockOver};
 ghost use Rattle.toolsapi.specs.Tools.{makeResult, makeBytes, digestOver};
 use md5::Digest;
+
+mod replay;
 
 const DIGEST: usize = 16;
 

@@ -94,7 +94,16 @@ pub fn replay_piece(
             answer: PieceAnswer::Bad,
         };
     }
-    let looked = receiver::look(settings, transfer, &piece[1..], flash, seen, sectors, main, xip);
+    let looked = receiver::look(
+        settings,
+        transfer,
+        &piece[1..],
+        flash,
+        seen,
+        sectors,
+        main,
+        xip,
+    );
     let answer = looked.answer;
     if !agrees(piece[0], answer, looked.discarded) {
         return PieceReceipt {
@@ -102,7 +111,16 @@ pub fn replay_piece(
             answer: PieceAnswer::Differs,
         };
     }
-    let taken = receiver::take(settings, transfer, &piece[1..], flash, seen, sectors, main, xip);
+    let taken = receiver::take(
+        settings,
+        transfer,
+        &piece[1..],
+        flash,
+        seen,
+        sectors,
+        main,
+        xip,
+    );
     let next = taken.transfer;
     PieceReceipt {
         transfer: next,
