@@ -1,7 +1,7 @@
 //! The proved tools for Rust: safe calls of their C interface (include/uf2_tools.h).
 //!
 //! [`make`] writes the UF2 file of an image; a tool that streams asks [`check`] and writes with [`write_block`]. [`md5`] is the digest of
-//! RFC 1321. Nothing has to be checked before a call, nothing is allocated or kept between calls. It links
+//! RFC 1321. [`trace::replay`] replays what a site's host sent. Nothing has to be checked before a call, nothing is allocated or kept between calls. It links
 //! `target/staticlib/libtoolsapi.a`, which `rt staticlib toolsapi` writes: code for x86-64 Linux.
 //!
 //! ```
@@ -15,6 +15,7 @@
 #![deny(missing_docs)]
 
 mod ffi;
+pub mod trace;
 
 use ffi::{len, Len};
 
