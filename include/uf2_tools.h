@@ -1,4 +1,5 @@
-/* Files made of images, digests, and one Universal Hex file from two plain ones, for tools on a host: every function is proved to do what crates/toolsapi/specs says, for every input.
+/* Files made of images, digests, one Universal Hex file from two plain ones, and traces replayed, for tools on a host: every function is proved to do
+ * what crates/toolsapi/specs says, for every input.
  * What a board links is include/uf2_receiver.h.
  *
  * Built for: x86-64 Linux. `rt staticlib toolsapi` writes target/staticlib/libtoolsapi.a, which links beside libcapi.a. It calls nothing but
@@ -65,6 +66,33 @@ uint64_t uhex_join(const uint8_t *v1, uf2_len v1_len, const uint8_t *v2, uf2_len
  * UF2_MD5_SIZE nothing is written. */
 #define UF2_MD5_SIZE 16
 void uf2_md5(const uint8_t *bytes, uf2_len bytes_len, uint8_t *digest, uf2_len digest_len);
+
+/* What a site's host really sent. A trace is records of UF2_RECORD_SIZE bytes: one byte with the answer that the site got (5 bits, from the
+ * top bit down), 1 bit for "discarded" and two zeros, then the arrival of 512 bytes; UF2_RECORD(result) is that byte of what uf2_take
+ * returned. */
+#define UF2_RECORD_SIZE 513
+#define UF2_INDEX_SIZE 8
+#define UF2_RECORD(result) ((uint8_t)(((result) & 0x1f) << 3 | ((result) >= 128 ? 4 : 0)))
+
+/* Where a replay stops. */
+enum uf2_stop {
+    UF2_STOP_NONE = 0,   /* nowhere: every record was replayed */
+    UF2_STOP_BAD = 1,    /* at a record that is short or has stray bits */
+    UF2_STOP_DIFFERS = 2 /* at one whose answer or "discarded" is not ours */
+};
+
+/* Replays a trace from Idle with these settings and buffers (uf2_receiver.h has their layout and lengths). Both maps are zeroed first,
+ * whatever their length. The record that stops the replay is not applied: transfer and buffers are those after the records before it.
+ * Nothing is refused: buffers or settings that are wrong get answer 1 or 2 from each arrival.
+ *
+ * The transfer at the end is written where transfer_len is that of a transfer, and the index of the record at which it stopped, from 0
+ * and with the lowest byte first, where index_len is UF2_INDEX_SIZE; else they stay, and without a stop the index does too.
+ *
+ * Each record is looked at and then taken, so that a region (flag 0x4000) is hashed twice. */
+uint32_t uf2_replay(const uint8_t *settings, uf2_len settings_len, const uint8_t *trace, uf2_len trace_len, uint8_t *flash,
+                    uf2_len flash_len, uint8_t *seen, uf2_len seen_len, uint8_t *sectors, uf2_len sectors_len, uint8_t *main,
+                    uf2_len main_len, uint8_t *xip, uf2_len xip_len, uint8_t *transfer, uf2_len transfer_len, uint8_t *index,
+                    uf2_len index_len);
 
 #ifdef __cplusplus
 }

@@ -9,6 +9,7 @@ mod once;
 mod region;
 mod table;
 mod tags;
+mod trace;
 
 use std::cell::Cell;
 use std::hint::black_box;
@@ -207,6 +208,7 @@ fn main() {
     file::flash_rows();
     file::ram_rows();
     region::kept_rows();
+    trace::rows();
     hex::rows();
     tags::row();
     println!("\n| work, proved | the first | the second | ratio |\n|---|---|---|---|");

@@ -321,6 +321,57 @@ fn lines_keep_their_bounds() {
     assert!(answers[18..].iter().all(|&n| n >= often), "{answers:?}");
 }
 
+/// A trace of the call's arrivals with our own answers, but for a few.
+fn any_trace(r: &mut Random, c: &Call) -> Vec<u8> {
+    let mut transfer = proved::Transfer::Idle.bytes();
+    let mut buffers = c.buffers.each_ref().map(|twin| twin.plain.clone());
+    buffers[1].fill(0);
+    buffers[2].fill(0);
+    let mut trace = Vec::new();
+    for a in c.arrival.plain.chunks(512) {
+        let mut lent = lent(buffers.each_mut().map(|buffer| &mut buffer[..]));
+        let result = bytes::take(&c.settings.plain, &mut transfer, a, &mut lent) as u8;
+        let head = result % 128 * 8 + result / 128 * 4;
+        trace.push(if r.one_in(12) { r.draw() as u8 } else { head });
+        trace.extend(a);
+    }
+    any_length(r, trace)
+}
+
+#[test]
+fn replays_keep_their_bounds() {
+    let mut r = Random(36);
+    let mut stops = [0; 3];
+    for _ in 0..number() / 4 {
+        let n = r.below(8);
+        let mut c = Call::any(&mut r, n, false);
+        let trace = any_trace(&mut r, &c);
+        let trace = Twin::read(&mut r, trace);
+        let index = any_length(&mut r, vec![9; tools::trace::INDEX_BYTES]);
+        let mut index = Twin::written(&mut r, index);
+        let beside = tools::trace::replay_bytes(
+            c.settings.fenced.bytes(),
+            trace.fenced.bytes(),
+            &mut fenced(&mut c.buffers),
+            c.transfer.fenced.bytes_mut(),
+            index.fenced.bytes_mut(),
+        );
+        let alone = tools::trace::replay_bytes(
+            &c.settings.plain,
+            &trace.plain,
+            &mut plain(&mut c.buffers),
+            &mut c.transfer.plain,
+            &mut index.plain,
+        );
+        assert_eq!(beside, alone);
+        c.check();
+        trace.check("trace");
+        index.check("index");
+        stops[alone as usize] += 1;
+    }
+    assert!(stops.iter().all(|&n| n > number() / 400), "{stops:?}");
+}
+
 #[test]
 fn made_files_and_digests_keep_their_bounds() {
     let mut r = Random(35);

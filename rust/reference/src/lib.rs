@@ -12,6 +12,7 @@ pub mod join;
 pub mod make;
 pub mod md5;
 mod place;
+pub mod replay;
 pub mod store;
 pub mod tags;
 

@@ -9,6 +9,7 @@ mod list;
 mod made;
 mod place;
 mod ram;
+mod replay;
 mod storing;
 
 use crate::*;
