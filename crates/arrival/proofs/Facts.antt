@@ -71,6 +71,13 @@ answers-read-no-map s v w a e f =
       ap (λ (d : Decision). done v (payloadOf a) d .discarded) same ∙ t .1,
     )
 
+-- ---- what stores nothing
+
+pub done-none : (d : Deed) (k : Kind) (at : ℕ) (p : List ℕ) (x : Held) → d ≢ Stores → doneTo d k at p x ≡ x
+done-none Stores k at p x n = absurd (n refl)
+done-none Notes k at p x n = refl
+done-none Keeps k at p x n = refl
+
 -- ---- lengths
 
 pub length-cleared : (b : Bool) (m : List ℕ) → length (clearedIf b m) ≡ length m
@@ -114,11 +121,6 @@ arrivals-keep-lengths s w a = kept-lengths w (payloadOf a) (decided s w a)
 -- what the arrival would store in the flash stands there
 abbrev pub keepsAt : Settings → World → List ℕ → Bool
 keepsAt s w a = sameKind (kindOf w a) Flash && standing s (w .held .flash) a
-
-pub done-none : (d : Deed) (k : Kind) (at : ℕ) (p : List ℕ) (x : Held) → d ≢ Stores → doneTo d k at p x ≡ x
-done-none Stores k at p x n = absurd (n refl)
-done-none Notes k at p x n = refl
-done-none Keeps k at p x n = refl
 
 module _ (s : Settings) (w : World) (a : List ℕ) (g : Placed) (k : Accepted) (q : Passing s w a g) (B : Board s w) where
   -- flash and RAM, with the maps cleared where the block opens a transfer
