@@ -207,8 +207,8 @@ fn page_deed(kind: Kind, place: Place, flash: &[u8], arrival: &[u8]) -> Deed
 fn deed_of(placed: Placed, place: Place, flash: &[u8], arrival: &[u8]) -> Deed
     ensures { λ r. ⌜ r ≡ deedOf (standsAt (now (flash .entry)) place (now (arrival .entry))) placed ⌝ }
 {
-    let head = placed.head;
-    let kind = head.kind;
+    let named = placed.head;
+    let kind = named.kind;
     let body = placed.body;
     match body {
         Body::Page(_) => page_deed(kind, place, flash, arrival),
