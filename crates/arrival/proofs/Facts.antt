@@ -71,6 +71,13 @@ answers-read-no-map s v w a e f =
       ap (λ (d : Decision). done v (payloadOf a) d .discarded) same ∙ t .1,
     )
 
+-- ---- what stores nothing
+
+pub done-none : (d : Deed) (k : Kind) (at : ℕ) (p : List ℕ) (x : Held) → d ≢ Stores → doneTo d k at p x ≡ x
+done-none Stores k at p x n = absurd (n refl)
+done-none Notes k at p x n = refl
+done-none Keeps k at p x n = refl
+
 -- ---- lengths
 
 pub length-cleared : (b : Bool) (m : List ℕ) → length (clearedIf b m) ≡ length m
@@ -114,11 +121,6 @@ arrivals-keep-lengths s w a = kept-lengths w (payloadOf a) (decided s w a)
 -- what the arrival would store in the flash stands there
 abbrev pub keepsAt : Settings → World → List ℕ → Bool
 keepsAt s w a = sameKind (kindOf w a) Flash && standing s (w .held .flash) a
-
-pub done-none : (d : Deed) (k : Kind) (at : ℕ) (p : List ℕ) (x : Held) → d ≢ Stores → doneTo d k at p x ≡ x
-done-none Stores k at p x n = absurd (n refl)
-done-none Notes k at p x n = refl
-done-none Keeps k at p x n = refl
 
 module _ (s : Settings) (w : World) (a : List ℕ) (g : Placed) (k : Accepted) (q : Passing s w a g) (B : Board s w) where
   -- flash and RAM, with the maps cleared where the block opens a transfer
@@ -276,24 +278,28 @@ kind-flags w a x m =
     comment (Done g) = refl
 
 -- nor does flag 0x8000 tell what stands
-stands-flag : (f : List ℕ) (p : Place) (a : List ℕ) → standsAt f p (flagged 0x80 a) ≡ standsAt f p a
+stands-flag : (f : List ℕ) (p : Place) (a : List ℕ) (x : ℕ) → x % 0x80 ≡ 0 → standsAt f p (flagged x a) ≡ standsAt f p a
 unfolding standsAt
-stands-flag f Nowhere a = refl
-stands-flag f (At start size) a =
-    rw (flag-beside a, field-set a 9 (getD a 9 0 + 0x80) 12 (inr (omega arith)), region-set a 9 (getD a 9 0 + 0x80) (omega arith))
+stands-flag f Nowhere a x m = refl
+stands-flag f (At start size) a x m =
+    rw (flag-beside a x m, field-set a 9 (getD a 9 0 + x) 12 (inr (omega arith)), region-set a 9 (getD a 9 0 + x) (omega arith))
 
-standing-flag : (s : Settings) (f : List ℕ) (a : List ℕ) → standing s f (flagged 0x80 a) ≡ standing s f a
-standing-flag s f a =
-    rw (field-set a 9 (getD a 9 0 + 0x80) 28 (inr (omega arith))) (stands-flag f (placeOf s (length f) (fieldAt a 28)) a)
+standing-flag : (s : Settings) (f : List ℕ) (a : List ℕ) (x : ℕ) → x % 0x80 ≡ 0 → standing s f (flagged x a) ≡ standing s f a
+standing-flag s f a x m =
+    rw (field-set a 9 (getD a 9 0 + x) 28 (inr (omega arith))) (stands-flag f (placeOf s (length f) (fieldAt a 28)) a x m)
+
+flags-ignored : (s : Settings) (w : World) (a : List ℕ) (x : ℕ) → x % 0x80 ≡ 0 → receiveOf s w (flagged x a) ≡ receiveOf s w a
+unfolding receiveOf
+flags-ignored s w a x m =
+    rw (
+      payload-set a 9 (getD a 9 0 + x) (omega arith),
+      standing-flag s (w .held .flash) a x m,
+      decide-flags s (lens w) (length (w .held .sectors)) (w .transfer) (w .seen) (standing s (w .held .flash) a) a x (omega arith),
+    )
 
 pub flag-0x8000-ignored : Flag-0x8000-ignored
-unfolding Flag-0x8000-ignored receiveOf
-flag-0x8000-ignored s w a =
-    rw (
-      payload-set a 9 (getD a 9 0 + 0x80) (omega arith),
-      standing-flag s (w .held .flash) a,
-      decide-flags s (lens w) (length (w .held .sectors)) (w .transfer) (w .seen) (standing s (w .held .flash) a) a 0x80 (omega arith),
-    )
+unfolding Flag-0x8000-ignored
+flag-0x8000-ignored s w a = flags-ignored s w a _ (omega arith)
 
 -- ---- a look
 

@@ -199,9 +199,9 @@ flag-comment a x h =
     let m : y % 0x4000 ≡ 0 = part-multiple (leb 12 (length a)) x 0x4000 (omega arith) in
     rw (flags-more a x, flag-kept (fieldAt a 8) 0x1 (y / 2) y (omega arith) (omega arith))
 
--- flag 0x8000 beside flag 0x4000
-pub flag-beside : (a : List ℕ) → hasFlag (set a 9 (getD a 9 0 + 0x80)) 0x4000 ≡ hasFlag a 0x4000
-flag-beside a =
-    let y : ℕ = cond (leb 12 (length a)) (256 * 0x80) 0 in
-    let m : y % 0x8000 ≡ 0 = part-multiple (leb 12 (length a)) 0x80 0x8000 refl in
-    rw (flags-more a 0x80, flag-kept (fieldAt a 8) 0x4000 (y / 0x8000) y (omega arith) (omega arith))
+-- a multiple of 0x80 more there, beside flag 0x4000
+pub flag-beside : (a : List ℕ) (x : ℕ) → x % 0x80 ≡ 0 → hasFlag (set a 9 (getD a 9 0 + x)) 0x4000 ≡ hasFlag a 0x4000
+flag-beside a x h =
+    let y : ℕ = cond (leb 12 (length a)) (256 * x) 0 in
+    let m : y % 0x8000 ≡ 0 = part-multiple (leb 12 (length a)) x 0x8000 (omega arith) in
+    rw (flags-more a x, flag-kept (fieldAt a 8) 0x4000 (y / 0x8000) y (omega arith) (omega arith))

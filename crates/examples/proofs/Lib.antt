@@ -1,3 +1,4 @@
 -- The proofs of the examples.
 pub mod Examples
 pub mod Instance
+pub mod Regions

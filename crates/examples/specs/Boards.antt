@@ -102,14 +102,18 @@ headTo k total = headWith k familyArmS total
 abbrev pub armHead : ℕ → Head
 armHead total = headTo Flash total
 
--- a flash of 65,536 bytes, all 7, maps of any content, no main RAM, and an XIP RAM of so many bytes, all 5
-abbrev pub lentWith : ℕ → State → World
-lentWith xip t =
+-- a flash of 65,536 bytes, all of one value, maps of any content, no main RAM, and an XIP RAM of so many bytes, all 5
+abbrev pub lentFilled : ℕ → ℕ → State → World
+lentFilled fill xip t =
     record {
       transfer = t;
       seen = replicate 16384 9;
-      held = record { flash = replicate 65536 7; sectors = replicate 1024 9; main = []; xip = replicate xip 5 };
+      held = record { flash = replicate 65536 fill; sectors = replicate 1024 9; main = []; xip = replicate xip 5 };
     }
+
+-- all 7
+abbrev pub lentWith : ℕ → State → World
+lentWith xip t = lentFilled 7 xip t
 
 -- a board without RAM, as the program has it
 abbrev pub lentTo : State → World

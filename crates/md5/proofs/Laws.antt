@@ -3,7 +3,7 @@ use mathlib.Core.Path.{_≡_, refl, sym, ap, _∙_}
 use mathlib.Core.List.{List, [], _∷_, _++_, append-assoc, append-nil}
 use Prim.Native.Nat.{ℕ, zero, suc, _+_, _-_, _*_, _/_, _%_, _^_, _<_, _≤_}
 use native.Mathlib.Omega.{arith}
-use native.Mathlib.Nat.{zero-add, add-zero, suc-add, add-suc}
+use native.Mathlib.Nat.{mod-lt, zero-add, add-zero, suc-add, add-suc}
 use native.Mathlib.Numerals.{add-one}
 use lib.ListN.{length, getD, take, drop, set, replicate, length-append, length-replicate, length-drop, replicate-append-replicate}
 use lib.Seq.{length-take-le, take-length, take-nil, drop-nil, take-all, take-take, drop-drop, take-suc-set, drop-append-le, take-append-le, take-at, drop-at, set-at}
@@ -214,3 +214,25 @@ rotate-is x n p q =
     let e : n % 32 ≡ n = omega arith in
     let f : (32 - n) % 32 ≡ 32 - n = omega arith in
     rw (e, f)
+
+-- ---- the words of a digest have 32 bits
+
+pub record Words (x : Digest) : Type 0 where
+  pub a : x .a < 2 ^ 32
+  pub b : x .b < 2 ^ 32
+  pub c : x .c < 2 ^ 32
+  pub d : x .d < 2 ^ 32
+
+blocks-words : (l : List ℕ) (s : Digest) (n : ℕ) → 0 < n → Words (blocksOf l s n)
+unfolding blocksOf blockOf plus
+blocks-words l s zero h = absurd (omega arith)
+blocks-words l s (suc n) h =
+    let t = blocksOf l s n in
+    let m = take 64 (drop (64 * n) l) in
+    let u = stepsOf m t 64 in
+    let p : (x : ℕ) → x % 2 ^ 32 < 2 ^ 32 = λ x. mod-lt x (omega arith) in
+    record { a = p (t .a + u .a); b = p (t .b + u .b); c = p (t .c + u .c); d = p (t .d + u .d) }
+
+pub digest-words : (l : List ℕ) → Words (md5Of l)
+unfolding md5Of
+digest-words l = blocks-words (l ++ padOf (length l)) start ((length l + 72) / 64) (omega arith)
