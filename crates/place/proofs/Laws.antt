@@ -2,17 +2,18 @@
 use Prim.Native.Nat.{ℕ, _≤_, _<_}
 use mathlib.Core.Path.{_≡_, _∙_}
 use mathlib.Core.Logic.{_≢_}
-use mathlib.Core.Bool.{true, false}
+use mathlib.Core.Bool.{true, false, _&&_}
 use mathlib.Core.List.{List}
 use native.Mathlib.Omega.{arith}
 use lib.Dec.{leb}
 use borrow.Author.Tests.{eq-eqb, ne-eqb, leb-true, leb-false}
+use Rattle.sets.specs.Sets.{any}
 use Rattle.sets.proofs.Tests.{split}
 use Rattle.flash.specs.Flash.{flashLength}
 use Rattle.settings.specs.declared.Entry as settings
 use Rattle.settings.specs.declared.Settings.{Settings}
-use Rattle.settings.specs.Settings.{familyRp2040, familyAbsolute, entryAt, goodSettings}
-use Rattle.place.specs.Place.{passTakes, entryIf, inPass, chosen, usedCount, passQueryOf, chosenEntry, getsWhole, wholeIf, placeOfChoice, placeOf, foundAt, askOf}
+use Rattle.settings.specs.Settings.{familyRp2040, familyAbsolute, familyData, familyArmNs, entryAt, goodSettings}
+use Rattle.place.specs.Place.{passTakes, entryIf, inPass, chosen, usedCount, passQueryOf, chosenEntry, getsWhole, wholeIf, placeOfChoice, placeOf, userOf, ramFamily, foundAt, askOf}
 use Rattle.place.specs.declared.PassQuery.{PassQuery}
 use Rattle.place.specs.declared.Choice.{Choice}
 use Rattle.place.specs.declared.Choice.the-variants.{Nothing, Entry}
@@ -53,6 +54,17 @@ used-least n = split (leb n 16) (λ h. rw h (omega arith)) (λ h. rw h (omega (a
 
 pub used-whole : (n : ℕ) → n ≤ 16 → n ≤ usedCount n
 used-whole n l = split (leb n 16) (λ h. rw h (omega arith)) (λ h. absurd (omega (arith, leb-false n 16 h)))
+
+-- ---- families in RAM
+
+module _ (s : Settings) (f : ℕ) where
+  pub ram-named : leb familyData f && leb f familyArmNs ≡ true → true ≡ ramFamily s f
+  unfolding ramFamily
+  ram-named h = rw h
+
+  pub ram-other : leb familyData f && leb f familyArmNs ≡ false → any (usedCount (s .count)) (userOf (s .table) f) ≡ ramFamily s f
+  unfolding ramFamily
+  ram-other h = rw h
 
 -- ---- the chosen entry
 

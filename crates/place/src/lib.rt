@@ -1,7 +1,6 @@
 // The place of a family: the whole flash, the bytes of a partition entry, or none.
 ghost use mathlib.Core.Path.{_≡_};
 ghost use Prim.Native.Nat.{_≤_};
-ghost use Rattle.sets.specs.Sets.{any};
 ghost use Rattle.sets.specs.Numbered.{numbered};
 ghost use Rattle.place.specs.Place.{
   otherArch,
@@ -19,7 +18,6 @@ ghost use Rattle.place.specs.Place.{
   StartsLow,
   placeOf,
   placeNumber,
-  userOf,
   ramFamily,
   askOf,
   placeAnswerNumber,
@@ -217,23 +215,7 @@ pub fn find(settings: Settings, flash_len: usize, family: u32) -> Place
     }
 }
 
-// Is the family a user family of one of the first n entries, whatever their links?
-fn any_user(table: [Entry; Settings::ENTRIES], n: usize, family: u32) -> bool
-    requires { ⌜ n ≤ 16 ⌝ }
-    ensures { λ r. ⌜ r ≡ any n (userOf table family) ⌝ }
-{
-    let mut i: usize = 0;
-    while i < n {
-        let e = table[i];
-        if settings::has_user(e, family) {
-            return true;
-        }
-        i += 1;
-    }
-    false
-}
-
-// May blocks of the family go to RAM? The settings' switches are not asked.
+// May blocks of the family go to RAM? Links and switches are not asked.
 pub fn ram_family(settings: Settings, family: u32) -> bool
     ensures { λ r. ⌜ r ≡ ramFamily settings family ⌝ }
 {
@@ -241,8 +223,15 @@ pub fn ram_family(settings: Settings, family: u32) -> bool
         return true;
     }
     let n = used_count(settings.count);
-    let table = settings.table;
-    any_user(table, n, family)
+    let mut i: usize = 0;
+    while i < n {
+        let e = settings.table[i];
+        if settings::has_user(e, family) {
+            return true;
+        }
+        i += 1;
+    }
+    false
 }
 
 // A place asked for alone.
