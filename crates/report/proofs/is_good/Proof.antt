@@ -1,3 +1,4 @@
+use Rattle.report.specs.Report.{goodReport}
 use borrow.Author.Needs.{needs}
 use Rattle.report.proofs.is_good.Statement.{statement}
 use Rattle.report.proofs.is_good.Tie as tie
@@ -16,7 +17,9 @@ wide-requires c κs = search needs
 
 -- src/lib.rt:162:1
 returns : tie.Need-returns
-returns c = ?
+unfolding goodReport
+returns c =
+    simp (c .before .before .sum .ensures, c .before .wide .ensures .0)
 
 pub is-good-spec : {M : Type 1} → statement M
 is-good-spec = tie.close (tie.spec sum-requires wide-requires returns)

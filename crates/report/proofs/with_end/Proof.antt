@@ -1,3 +1,4 @@
+use Rattle.report.specs.Counting.{endedOf}
 use borrow.Author.Needs.{needs}
 use Rattle.report.proofs.with_end.Statement.{statement}
 use Rattle.report.proofs.with_end.Tie as tie
@@ -16,7 +17,9 @@ missing-at-requires c κs = search needs
 
 -- src/lib.rt:214:1
 returns : tie.Need-returns
-returns c = ?
+unfolding endedOf
+returns c =
+    simp (c .before .count .ensures, c .missing-at .ensures)
 
 pub with-end-spec : {M : Type 1} → statement M
 with-end-spec = tie.close (tie.spec count-requires missing-at-requires returns)
