@@ -2,6 +2,7 @@
 -- Nothing here knows of flash. Assumes nothing.
 use Prim.Native.Nat.{ℕ, _+_, _<_, _≤_}
 use mathlib.Core.Path.{_≡_, refl, sym, ap, _∙_}
+use mathlib.Core.Logic.{_⊎_, inl, inr}
 use mathlib.Core.Bool.{Bool, true, false, cond}
 use mathlib.Core.List.{List}
 use native.Mathlib.Omega.{arith}
@@ -16,6 +17,7 @@ use Rattle.bitmap.proofs.MapLaws.{map-none, marked-map, mark-map}
 use Rattle.flash.specs.Flash.{payloadOf}
 use Rattle.transfer.specs.Transfer.{running, counted, raised, accepted, stepOf}
 use Rattle.transfer.specs.declared.Head.{Head}
+use Rattle.transfer.specs.declared.State.{State}
 use Rattle.transfer.specs.declared.State.the-variants.{Done}
 use Rattle.transfer.specs.declared.Step.the-variants.{Accepts}
 use Rattle.transfer.specs.declared.Answer.{Answer}
@@ -222,6 +224,14 @@ module _ (F : Blocks) (w : World) (Inv : Set → Held → Type 0) (S : Set) (v :
 
   pub seen-map : 1 ≤ size (count F) S → v .seen ≡ mapOf 16384 S
   seen-map s = ap (λ (u : World). u .seen) (some-seen s .2)
+
+-- a transfer that is w's, or one of the file
+abbrev pub Carried : Blocks → World → State → Type 0
+Carried F w t = (t ≡ w .transfer) ⊎ ((c : ℕ) × (t ≡ counted (headBy F) c))
+
+pub after-carried : (F : Blocks) (w : World) (Inv : Set → Held → Type 0) (S : Set) (v : World) → After F w Inv S v → Carried F w (v .transfer)
+after-carried F w Inv S v (untouched e p) = inl (ap (λ (u : World). u .transfer) p)
+after-carried F w Inv S v (begun x s i p) = inr (size (count F) S, ap (λ (u : World). u .transfer) p)
 
 -- ---- where flash and sector map are told by the set alone
 

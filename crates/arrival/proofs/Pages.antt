@@ -14,9 +14,9 @@ unfoldable pub arrive : World → Placed → List ℕ → Outcome
 arrive w p a =
     done w (payloadOf a) (stepped p (deedOf (p .body)) (stepOf (w .transfer) (p .head) (markedIn (w .seen) (p .number)) (deedOf (p .body))))
 
--- what it does to flash and sector map
+-- what it does to the buffers of its kind
 unfoldable pub apply : Placed → List ℕ → Held → Held
-apply p a h = doneTo (deedOf (p .body)) (atOf (p .body)) (payloadOf a) h
+apply p a h = doneTo (deedOf (p .body)) (p .head .kind) (atOf (p .body)) (payloadOf a) h
 
 pub took-held : (w : World) (a : List ℕ) (p : Placed) (t : Accepted)
     → acceptOf w (payloadOf a) p (deedOf (p .body)) t .held ≡ apply p a (wipedIf (t .clears) (w .held))

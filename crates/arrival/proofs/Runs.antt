@@ -13,7 +13,7 @@ use Rattle.settings.specs.declared.Settings.{Settings}
 use Rattle.arrival.specs.Arrive.{Held, World, Outcome, unchanged, receiveOf}
 use Rattle.arrival.specs.Lists.{receiveAll}
 use Rattle.arrival.specs.Demand.{File, Mixed, nothing, own, other, sameBytes, among, seenOf}
-use Rattle.arrival.proofs.Count.{Blocks, count, bytesOf, coming, Keeps, Opens, After, Stepped, block-step}
+use Rattle.arrival.proofs.Count.{Blocks, count, bytesOf, coming, Keeps, Opens, After, Stepped, block-step, Carried, after-carried}
 use Rattle.arrival.proofs.Lists.{Met, met-next}
 
 -- the bytes of two arrivals
@@ -71,11 +71,11 @@ seen-nothing F j = and-false (ltb j (F .total))
 pub seen-append : (F : File) (l m : List (List ℕ)) (j : ℕ) → seenOf F (l ++ m) j ≡ seenOf F l j || seenOf F m j
 seen-append F l m j = rw (among-append (F .block j) l m) (and-or-distrib-left (ltb j (F .total)) (among (F .block j) l) (among (F .block j) m))
 
--- the blocks of a file and the arrivals of which P holds, at every world that a list from w on meets: a block comes to what its page does,
--- an arrival of P changes nothing, and no two of them are the same
+-- the blocks of a file and the arrivals of which P holds, at every world that a list of them from w on meets: a block comes to what its page
+-- does, an arrival of P changes nothing, and no two of them are the same
 pub record Steady (s : Settings) (w : World) (F : Blocks) (P : List ℕ → Type 0) : Type 0 where
-  pub ours : (v : World) → Met s w v → (k : ℕ) → k < count F → receiveOf s v (bytesOf F k) ≡ coming F v k
-  pub foreign : (v : World) → Met s w v → (a : List ℕ) → P a → receiveOf s v a ≡ unchanged v (receiveOf s w a .answer)
+  pub ours : (v : World) → Met s w v → Carried F w (v .transfer) → (k : ℕ) → k < count F → receiveOf s v (bytesOf F k) ≡ coming F v k
+  pub foreign : (v : World) → Met s w v → Carried F w (v .transfer) → (a : List ℕ) → P a → receiveOf s v a ≡ unchanged v (receiveOf s w a .answer)
   pub different : (j k : ℕ) → j < count F → k < count F → bytesOf F j ≡ bytesOf F k → j ≡ k
   pub apart : (j : ℕ) → j < count F → P (bytesOf F j) → ⊥
 
@@ -138,11 +138,11 @@ module _ (s : Settings) (w : World) (F : Blocks) (P : List ℕ → Type 0) (R : 
 
   -- what a block leaves, and what it is told
   pub own-step : (k : ℕ) → k < count F → (S : Set) (v : World) → Met s w v → After F w Inv S v → Stepped F w Inv d S k (receiveOf s v (bytesOf F k))
-  own-step k h S v m a = subst (Stepped F w Inv d S k) (sym (R .ours v m k h)) (block-step F w Inv K d o k h S v a)
+  own-step k h S v m a = subst (Stepped F w Inv d S k) (sym (R .ours v m (after-carried F w Inv S v a) k h)) (block-step F w Inv K d o k h S v a)
 
   -- a foreign arrival leaves what it finds
   pub other-step : (x : List ℕ) → P x → (S : Set) (v : World) → Met s w v → After F w Inv S v → After F w Inv S (receiveOf s v x .world)
-  other-step x f S v m a = subst (λ (u : Outcome). After F w Inv S (u .world)) (sym (R .foreign v m x f)) a
+  other-step x f S v m a = subst (λ (u : Outcome). After F w Inv S (u .world)) (sym (R .foreign v m (after-carried F w Inv S v a) x f)) a
 
   pub run-after : {l : List (List ℕ)} → Mixed (F .file) P l → (S : Set) (v : World) → Met s w v → After F w Inv S v
       → After F w Inv (seenFrom F S l) (receiveAll s v l)

@@ -11,13 +11,15 @@ use Rattle.bitmap.specs.Bitmap.{withMark}
 use Rattle.block.specs.Block.{fieldAt, hasFlag}
 use Rattle.settings.specs.declared.Settings.{Settings}
 use Rattle.transfer.specs.Transfer.{numberOf, countOf}
+use Rattle.transfer.specs.declared.Kind.{Kind}
 use Rattle.transfer.specs.declared.Deed.{Deed}
 use Rattle.transfer.specs.declared.Deed.the-variants.{Stores, Notes}
 use Rattle.transfer.specs.declared.Accepted.{Accepted}
 use Rattle.screen.specs.declared.Placed.{Placed}
-use Rattle.arrival.specs.Arrive.{World, Outcome, accepts, decided, clearedIf, wipedIf, receiveOf}
+use Rattle.arrival.specs.Arrive.{World, Outcome, bufferOf, accepts, decided, clearedIf, wipedIf, receiveOf}
 use Rattle.arrival.specs.Lists.{receiveAll}
-use Rattle.arrival.specs.Tally.{headOf, clears}
+use Rattle.arrival.specs.Windows.{headOf}
+use Rattle.arrival.specs.Tally.{clears}
 
 -- ---- of a decision
 
@@ -37,9 +39,9 @@ Nothing-stored =
 
 -- "It clears both maps as 01 says, marks its number, raises the count and sets no flash byte or sector mark: new answer 16 Noted, or 15 if last."
 pub record Noting (w : World) (a : List ℕ) (o : Outcome) : Type 0 where
-  pub flash : o .world .held .flash ≡ w .held .flash
-  pub sectors : o .world .held .sectors ≡ clearedIf (clears (w .transfer) (headOf a)) (w .held .sectors)
-  pub seen : o .world .seen ≡ withMark (clearedIf (clears (w .transfer) (headOf a)) (w .seen)) (fieldAt a 20)
+  pub buffers : (k : Kind) → bufferOf k (o .world .held) ≡ bufferOf k (w .held)
+  pub sectors : o .world .held .sectors ≡ clearedIf (clears (w .transfer) (headOf w a)) (w .held .sectors)
+  pub seen : o .world .seen ≡ withMark (clearedIf (clears (w .transfer) (headOf w a)) (w .seen)) (fieldAt a 20)
   pub answer : numberOf (o .answer) ≡ cond (ltb (countOf (o .world .transfer)) (fieldAt a 24)) 16 15
 
 -- of a comment that is accepted; one that isn't changes nothing, as every arrival answered up to 13
@@ -70,5 +72,5 @@ anyDiscard s w (a ∷ l) = receiveOf s w a .discarded || anyDiscard s (receiveOf
 unfoldable pub First-stands : Type 0
 First-stands =
     (s : Settings) (w : World) (a b : List ℕ) (l : List (List ℕ)) → 14 ≤ numberOf (receiveOf s w a .answer)
-    → anyDiscard s (receiveOf s w a .world) l ≡ false → headOf b ≡ headOf a → fieldAt b 20 ≡ fieldAt a 20
+    → anyDiscard s (receiveOf s w a .world) l ≡ false → headOf (receiveAll s w (a ∷ l)) b ≡ headOf w a → fieldAt b 20 ≡ fieldAt a 20
     → numberOf (receiveOf s (receiveAll s w (a ∷ l)) b .answer) ≤ 13

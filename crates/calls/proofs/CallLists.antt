@@ -8,13 +8,14 @@ use native.Mathlib.Omega.{arith}
 use lib.Dec.{ltb, leb, eqb}
 use lib.ListN.{length, getD, drop, length-take, length-drop}
 use lib.Seq.{getD-take, getD-drop}
-use borrow.Author.Tests.{ltb-true, le-leb, lt-leb, leb-true, leb-false, eqb-true, eqb-false, eq-eqb}
+use borrow.Author.Tests.{ltb-true, ltb-false, le-leb, lt-leb, leb-true, leb-false, eqb-true, eqb-false, eq-eqb}
 use Rattle.sets.proofs.Tests.{split, clash, or-left, or-right}
+use Rattle.sets.proofs.Laws.{size-le}
 use Rattle.sets.specs.Bytes.{lowFirst, numberIn}
 use Rattle.block.specs.Block.{fieldAt}
 use Rattle.record.specs.Write.{Bytes}
 use Rattle.settings.specs.declared.Settings.{Settings}
-use Rattle.transfer.specs.Transfer.{numberOf, goodState, counted, accepted}
+use Rattle.transfer.specs.Transfer.{numberOf, kindNumber, goodState, counted, accepted}
 use Rattle.transfer.specs.declared.Head.{Head}
 use Rattle.transfer.specs.declared.State.{State}
 use Rattle.transfer.specs.declared.State.the-variants.{Idle, Running, Done}
@@ -25,18 +26,20 @@ use Rattle.flash.specs.Flash.{payloadOf}
 use Rattle.arrival.specs.Arrive.{World, lentOf, Outcome, Decision, acceptOf, done, receiveOf}
 use Rattle.arrival.specs.Lists.{receiveAll, answersOf, discardsOf, Delivery, playAll}
 use Rattle.arrival.specs.Facts.{Refusals-change-nothing, Look-tells}
-use Rattle.arrival.specs.Tally.{headOf, anyAccepted, Count-is-marks}
-use Rattle.arrival.specs.Demand.{seenOf, Ends, List-ends, Completed-exactly, Same-set-same-end, Either-first}
+use Rattle.arrival.specs.Windows.{headOf}
+use Rattle.arrival.specs.Tally.{anyAccepted, Count-is-marks}
+use Rattle.arrival.specs.Demand.{seenOf, howMany, headIn, Ends, List-ends, Completed-exactly, Same-set-same-end, Either-first}
 use Rattle.arrival.proofs.DecisionFacts.{AcceptFacts, DecisionFacts, kept, took, took-number, decision-facts}
 use Rattle.arrival.proofs.Facts.{refusals-change-nothing, look-tells}
 use Rattle.arrival.proofs.Tally.{count-is-marks}
 use Rattle.arrival.proofs.Demand.{list-ends, completed-exactly, same-set-same-end, either-first}
-use Rattle.layout.specs.Layout.{stateFrom, settingsFrom, transferBytes, stateBytes, withTransfer}
+use Rattle.layout.specs.Layout.{byteAt, stateFrom, settingsFrom, transferBytes, headBytes, stateBytes, withTransfer}
 use Rattle.layout.proofs.Refused.{state-length}
 use Rattle.layout.proofs.Transfers.{Small, written-back}
+use Rattle.batch.specs.Batch.{resultOf, isAcceptance, arrivalsOf, resultsOf, anyAcceptance, storedFrom, fewer, batchOf}
+use Rattle.batch.proofs.Laws.{number-most}
 use Rattle.capi.specs.Calls as capi
-use Rattle.capi.specs.Calls.{lookResult, lookBytes, takeBytes, isAcceptance, arrivalsOf, resultsOf, anyAcceptance, storedFrom, batchFrom, fewer, takeBatch}
-use Rattle.capi.proofs.Laws.{number-most}
+use Rattle.capi.specs.Calls.{lookResult, lookBytes, takeBytes, takeBatch}
 use Rattle.calls.specs.CallLists.{CallerState, call, leftBy, callAll, returnsOf, worldOf, AllBytes, Calls-are-arrivals, Calls-end, Calls-completed, Calls-same-set, Calls-either-first, Calls-are-one-call, Look-is-take, Call, looks, takes, playCalls, takenBy, Looks-change-nothing, Look-then-take}
 
 -- ---- a field of bytes
@@ -66,18 +69,18 @@ unfolding counted
 counted-small g c hf ht =
     split (ltb c (g .total)) (λ y. let l = ltb-true c (g .total) y in rw y (hf, ht, omega arith)) (λ z. rw z (hf, ht))
 
-took-small : {t : State} {g : Head} {m : Bool} {d : Deed} {k : Accepted} (a : List ℕ) → Bytes a → g ≡ headOf a → AcceptFacts t g m d k → Small (k .transfer .state)
+took-small : {t : State} {g : Head} {m : Bool} {d : Deed} {k : Accepted} (w : World) (a : List ℕ) → Bytes a → g ≡ headOf w a → AcceptFacts t g m d k → Small (k .transfer .state)
 unfolding accepted
-took-small {g = g} a h e q =
+took-small {g = g} w a h e q =
     subst (λ (k : Accepted). Small (k .transfer .state)) (sym (q .is))
     (counted-small g _ (rw e (field-low a h 28)) (rw e (field-low a h 24)))
 
--- bytes of a good state are 13
-good-size : (t : List ℕ) → goodState (stateFrom t) ≡ true → length t ≡ 13
+-- bytes of a good state are 14
+good-size : (t : List ℕ) → goodState (stateFrom t) ≡ true → length t ≡ 14
 good-size t g =
-    split (eqb (length t) 13)
-    (λ y. eqb-true (length t) 13 y)
-    (λ z. clash (goodState (stateFrom t)) g (state-length t (eqb-false (length t) 13 z)))
+    split (eqb (length t) 14)
+    (λ y. eqb-true (length t) 14 y)
+    (λ z. clash (goodState (stateFrom t)) g (state-length t (eqb-false (length t) 14 z)))
 
 -- ---- one call
 
@@ -88,7 +91,7 @@ unfolding done acceptOf
 next-state s w a p t e h (kept x n) = rw (lt-leb 14 (numberOf x) (omega arith)) (sym e)
 next-state s w a p t e h (took g k B l q m) =
     rw (le-leb 14 (numberOf (k .answer)) (took-number m))
-    (written-back t (k .transfer .state) (good-size t (rw e at (B .state))) (took-small a h (q .head) m))
+    (written-back t (k .transfer .state) (good-size t (rw e at (B .state))) (took-small w a h (q .head) m))
 
 -- so the call leaves what the arrival leaves
 next-world : (s : List ℕ) (h : CallerState) (a : List ℕ) → Bytes a
@@ -129,9 +132,9 @@ calls-are-arrivals s h l b = (calls-world s h l b, calls-results s h l b)
 written-again : (t : List ℕ) (x y : State) → withTransfer (withTransfer t x) y ≡ withTransfer t y
 unfolding withTransfer
 written-again t x y =
-    split (eqb (length t) 13) (λ e. rw (e, eq-eqb (length (stateBytes x)) 13 (state-size x))) (λ n. rw (n, n))
+    split (eqb (length t) 14) (λ e. rw (e, eq-eqb (length (stateBytes x)) 14 (state-size x))) (λ n. rw (n, n))
   where
-    state-size : (x : State) → length (stateBytes x) ≡ 13
+    state-size : (x : State) → length (stateBytes x) ≡ 14
     state-size Idle = unfold transferBytes lowFirst in refl
     state-size (Running r) = unfold transferBytes lowFirst in refl
     state-size (Done g) = unfold transferBytes lowFirst in refl
@@ -219,9 +222,14 @@ calls-left s h l i b =
     (calls-transfer s h l b ∙ ap (λ (x : Bool). capi.keptTransfer (h .transfer) x (v .transfer)) (accepted-any z (worldOf h) l i))
 
 -- the bytes of a transfer that is not Idle
-busy-bytes : (t : List ℕ) (x : State) → length t ≡ 13 → isIdle x ≡ false → capi.keptTransfer t (not (isIdle x)) x ≡ stateBytes x
+busy-bytes : (t : List ℕ) (x : State) → length t ≡ 14 → isIdle x ≡ false → capi.keptTransfer t (not (isIdle x)) x ≡ stateBytes x
 unfolding withTransfer
-busy-bytes t x e n = rw (n, eq-eqb (length t) 13 e)
+busy-bytes t x e n = rw (n, eq-eqb (length t) 14 e)
+
+-- its last byte is its kind's number
+kind-byte : (tag : ℕ) (g : Head) (c : ℕ) → byteAt (headBytes tag g c) 13 ≡ kindNumber (g .kind)
+unfolding transferBytes lowFirst
+kind-byte tag g c = refl
 
 -- ---- demand 3
 
@@ -240,10 +248,20 @@ calls-end s h F i v l t b =
       untouched = λ m. same ∙ ap (leftOf h) (E .counts .untouched m) ∙ rw i;
       going = λ m n. bytes _ refl (E .counts .going m n);
       whole = λ m. bytes _ refl (E .counts .whole m);
+      kind =
+          λ m.
+          let n = howMany F (seenOf F l) in
+          let last : (x : State) → isIdle x ≡ false → w .transfer ≡ x → byteAt (callAll s h l .transfer) 13 ≡ byteAt (stateBytes x) 13 =
+          λ x q e. ap (λ (t : List ℕ). byteAt t 13) (bytes x q e) in
+          split (ltb n (F .total))
+          (λ y. last _ refl (E .counts .going m (ltb-true n (F .total) y)) ∙ kind-byte 1 (headIn F) n)
+          (λ z.
+          let all : n ≡ F .total = omega (arith, ltb-false n (F .total) z, size-le (F .total) (seenOf F l)) in
+          last _ refl (E .counts .whole all) ∙ kind-byte 2 (headIn F) (F .total));
     }
 
 -- the answer's number in a result
-result-number : (x : Answer) (d : Bool) → capi.resultOf (numberOf x) d % 128 ≡ numberOf x
+result-number : (x : Answer) (d : Bool) → resultOf (numberOf x) d % 128 ≡ numberOf x
 result-number x true = omega (arith, number-most x)
 result-number x false = omega (arith, number-most x)
 
@@ -288,7 +306,7 @@ arrivals-bytes (suc n) a b = (
 )
 
 pub calls-are-one-call : Calls-are-one-call
-unfolding Calls-are-one-call takeBatch batchFrom
+unfolding Calls-are-one-call takeBatch batchOf
 calls-are-one-call s h a r b =
     let n = fewer (length a / 512) (length r) in
     let l = arrivalsOf n a in

@@ -7,14 +7,15 @@ use lib.Dec.{eqb}
 use lib.ListN.{length}
 use Rattle.record.specs.Write.{Bytes}
 use Rattle.sets.specs.Sets.{Set}
-use Rattle.transfer.specs.Transfer.{running}
+use Rattle.transfer.specs.Transfer.{kindNumber, running}
 use Rattle.transfer.specs.declared.State.the-variants.{Idle, Done}
 use Rattle.arrival.specs.Arrive.{Lent, World}
 use Rattle.arrival.specs.Lists.{receiveAll, answersOf, discardsOf}
 use Rattle.arrival.specs.Demand.{File, ValidFile, Sent, seenOf, howMany, isWhole, headIn, Ends}
 use Rattle.receiver.specs.Receiver.{world}
-use Rattle.layout.specs.Layout.{settingsFrom, transferFrom, stateBytes}
-use Rattle.capi.specs.Calls.{ArrivalCall, BatchCall, lookBytes, takeBytes, arrivalsOf, resultsOf, storedFrom, takeBatch}
+use Rattle.layout.specs.Layout.{byteAt, settingsFrom, transferFrom, stateBytes}
+use Rattle.batch.specs.Batch.{arrivalsOf, resultsOf, storedFrom}
+use Rattle.capi.specs.Calls.{ArrivalCall, BatchCall, lookBytes, takeBytes, takeBatch}
 
 -- ---- one call after the other
 
@@ -75,6 +76,8 @@ pub record CallsEnd (s : List ℕ) (h : CallerState) (F : File) (S : Set) (k : C
   -- "m from 1 to n-1: Running (family, n, m). m = n, the set is whole: Done (family, n)."
   pub going : 1 ≤ howMany F S → howMany F S < F .total → k .transfer ≡ stateBytes (running (headIn F) (howMany F S))
   pub whole : howMany F S ≡ F .total → k .transfer ≡ stateBytes (Done (headIn F))
+  -- "the whole file be one kind, which the transfer carries once it isn't Idle" (02, L8), as its last byte
+  pub kind : 1 ≤ howMany F S → byteAt (k .transfer) 13 ≡ kindNumber (F .kind)
 
 -- "what was lent at the start and the set of file blocks seen decide flash, maps and transfer"
 unfoldable pub Calls-end : Type 0
@@ -117,7 +120,7 @@ pub record Same (s : List ℕ) (h : CallerState) (a r : List ℕ) (o : BatchCall
   pub all : length a / 512 ≤ length r → o .number ≡ length a / 512
   pub few : length r ≤ length a / 512 → o .number ≡ length r
 
--- byte for byte, in transfer, flash and both maps; it counts every arrival that has room for its result
+-- byte for byte, in transfer, flash, RAM and both maps; it counts every arrival that has room for its result
 unfoldable pub Calls-are-one-call : Type 0
 Calls-are-one-call =
     (s : List ℕ) (h : CallerState) (a r : List ℕ) → Bytes a

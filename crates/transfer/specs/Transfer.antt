@@ -2,6 +2,8 @@
 use Prim.Native.Nat.{ℕ, _+_}
 use mathlib.Core.Bool.{Bool, true, false, _&&_, cond}
 use lib.Dec.{ltb, leb, eqb}
+use Rattle.transfer.specs.declared.Kind.{Kind}
+use Rattle.transfer.specs.declared.Kind.the-variants.{Flash, MainRam, XipRam}
 use Rattle.transfer.specs.declared.Head.{Head}
 use Rattle.transfer.specs.declared.State.{State}
 use Rattle.transfer.specs.declared.State.the-variants.{Idle, Running, Done}
@@ -37,9 +39,19 @@ numberOf Noted = 16
 abbrev pub fresh : Transfer
 fresh = record { state = Idle }
 
--- "(family, total)", which make two blocks one transfer
-abbrev pub headWith : ℕ → ℕ → Head
-headWith f n = record { family = f; total = n }
+-- the kinds' numbers, by which they are compared and stored
+abbrev pub kindNumber : Kind → ℕ
+kindNumber Flash = 0
+kindNumber MainRam = 1
+kindNumber XipRam = 2
+
+-- the kinds are one
+abbrev pub sameKind : Kind → Kind → Bool
+sameKind k u = eqb (kindNumber k) (kindNumber u)
+
+-- "(family, total)", and "The transfer carries its kind" (02, L8): what makes two blocks one transfer
+abbrev pub headWith : Kind → ℕ → ℕ → Head
+headWith k f n = record { family = f; total = n; kind = k }
 
 -- "Running (family, total, count)"
 abbrev pub running : Head → ℕ → State
@@ -51,15 +63,15 @@ countOf Idle = 0
 countOf (Running r) = r .count
 countOf (Done g) = g .total
 
--- row 3 is passed: "Running without 1 <= count < total <= 131,072; Done without 1 <= total <= 131,072" is bad
+-- row 3 is passed: "Running without 1 <= count < total <= 131,072; Done without 1 <= total <= 131,072" is bad. Nothing is asked of the kind.
 unfoldable pub goodState : State → Bool
 goodState Idle = true
 goodState (Running r) = leb 1 (r .count) && ltb (r .count) (r .head .total) && leb (r .head .total) 131072
 goodState (Done g) = leb 1 (g .total) && leb (g .total) 131072
 
--- "same family and total"
+-- "same family and total", and "a change of kind discards like a change of family" (02, L8)
 unfoldable pub sameHead : Head → Head → Bool
-sameHead g h = eqb (g .family) (h .family) && eqb (g .total) (h .total)
+sameHead g h = eqb (g .family) (h .family) && eqb (g .total) (h .total) && sameKind (g .kind) (h .kind)
 
 -- "at the total the transfer is Done"
 unfoldable pub counted : Head → ℕ → State

@@ -18,8 +18,8 @@ pub mod tags;
 mod tests;
 
 pub use place::{
-    ask_place, place_of, settings_good, Arch, Entry, Link, Settings, ABSOLUTE, ARM_NS, ARM_S, DATA,
-    MAX_ENTRIES, MAX_USERS, RISCV, RP2040,
+    ask_place, place_of, ram_accepts, settings_good, Arch, Entry, Link, Settings, ABSOLUTE, ARM_NS,
+    ARM_S, DATA, MAX_ENTRIES, MAX_USERS, RISCV, RP2040,
 };
 
 pub const ARRIVAL_LEN: usize = 512;
@@ -30,8 +30,14 @@ pub const SEEN_LEN: usize = 16_384;
 pub const SECTORS_LEN: usize = 1024;
 /// The largest total: the payloads that fill the largest flash.
 pub const MAX_TOTAL: u32 = 131_072;
-/// The block address that means the start of the place.
+/// The block address that means the start of the place; the window is as long
+/// as the largest flash.
 pub const WINDOW: u32 = 0x1000_0000;
+/// The RAM windows, each with the length of its buffer.
+pub const MAIN_WINDOW: u32 = 0x2000_0000;
+pub const MAIN_LEN: usize = 532_480;
+pub const XIP_WINDOW: u32 = 0x13ff_c000;
+pub const XIP_LEN: usize = 16_384;
 
 pub const BAD_BUFFERS: u8 = 1;
 pub const BAD_SETTINGS: u8 = 2;
@@ -57,12 +63,29 @@ const FLAG_NOT_MAIN_FLASH: u32 = 0x1;
 const FLAG_CONTAINER: u32 = 0x1000;
 const FLAG_FAMILY: u32 = 0x2000;
 
+/// What a transfer goes to.
+#[derive(Clone, Copy, PartialEq, Eq, Debug)]
+pub enum Kind {
+    Flash,
+    MainRam,
+    XipRam,
+}
+
 /// How far the transfer is; `count` is the number of different blocks accepted.
 #[derive(Clone, Copy, PartialEq, Eq, Debug)]
 pub enum Transfer {
     Idle,
-    Running { family: u32, total: u32, count: u32 },
-    Done { family: u32, total: u32 },
+    Running {
+        family: u32,
+        total: u32,
+        count: u32,
+        kind: Kind,
+    },
+    Done {
+        family: u32,
+        total: u32,
+        kind: Kind,
+    },
 }
 
 /// What comes back with each arrival.
@@ -92,10 +115,21 @@ impl Block<'_> {
 
 type Arrival = [u8; ARRIVAL_LEN];
 
+/// All that the caller lends, to be read.
+#[derive(Clone, Copy)]
+struct Lent<'a> {
+    flash: &'a [u8],
+    seen: &'a [u8],
+    sectors: &'a [u8],
+    main: &'a [u8],
+    xip: &'a [u8],
+}
+
 /// What taking an arrival does, for one that no row refuses.
 struct Plan<'a> {
     block: Block<'a>,
-    /// Where in flash the payload goes; a comment's goes nowhere.
+    kind: Kind,
+    /// Where in the kind's buffer the payload goes; a comment's goes nowhere.
     storage: Option<usize>,
     /// Whether both maps are cleared first.
     clears: bool,
@@ -106,6 +140,7 @@ struct Plan<'a> {
 
 /// Says what taking the arrival would answer and whether it would discard, and
 /// changes nothing.
+#[allow(clippy::too_many_arguments)]
 pub fn look(
     s: &Settings,
     t: Transfer,
@@ -113,15 +148,26 @@ pub fn look(
     flash: &[u8],
     seen: &[u8],
     sectors: &[u8],
+    main: &[u8],
+    xip: &[u8],
 ) -> (u8, bool) {
-    match plan(s, t, arrival, flash, seen, sectors) {
+    let lent = Lent {
+        flash,
+        seen,
+        sectors,
+        main,
+        xip,
+    };
+    match plan(s, t, arrival, lent) {
         Ok(plan) => (plan.answer(), plan.discarded),
         Err(answer) => (answer, false),
     }
 }
 
 /// Takes one arrival: judges it, with every check that a look makes, and stores
-/// its payload if nothing refuses it.
+/// its payload if nothing refuses it. A RAM buffer is empty where the board
+/// lacks it.
+#[allow(clippy::too_many_arguments)]
 pub fn take(
     s: &Settings,
     t: Transfer,
@@ -129,10 +175,19 @@ pub fn take(
     flash: &mut [u8],
     seen: &mut [u8],
     sectors: &mut [u8],
+    main: &mut [u8],
+    xip: &mut [u8],
 ) -> Outcome {
-    match plan(s, t, arrival, flash, seen, sectors) {
+    let lent = Lent {
+        flash,
+        seen,
+        sectors,
+        main,
+        xip,
+    };
+    match plan(s, t, arrival, lent) {
         Ok(plan) => {
-            plan.carry_out(flash, seen, sectors);
+            plan.carry_out(flash, seen, sectors, main, xip);
             Outcome {
                 transfer: plan.transfer(),
                 answer: plan.answer(),
@@ -149,49 +204,73 @@ pub fn take(
 
 /// Rows 1 to 13 in order, as far as they apply: what is to be done, or the
 /// refusal.
-fn plan<'a>(
-    s: &Settings,
-    t: Transfer,
-    arrival: &'a [u8],
-    flash: &[u8],
-    seen: &[u8],
-    sectors: &[u8],
-) -> Result<Plan<'a>, u8> {
+fn plan<'a>(s: &Settings, t: Transfer, arrival: &'a [u8], lent: Lent) -> Result<Plan<'a>, u8> {
     let arrival = <&Arrival>::try_from(arrival).map_err(|_| BAD_BUFFERS)?;
-    if !flash_len_good(flash.len()) || seen.len() != SEEN_LEN || sectors.len() != SECTORS_LEN {
+    if !lent.lengths_good() {
         return Err(BAD_BUFFERS);
     }
-    if !settings_good(s, flash.len()) {
+    if !settings_good(s, lent.flash.len()) {
         return Err(BAD_SETTINGS);
     }
+    // Row 3 asks nothing of the kind: its limit of 131,072 stands for RAM too,
+    // though no RAM window has room for as many.
     if !state_good(t) {
         return Err(BAD_STATE);
     }
     let block = read_block(arrival).ok_or(NOT_BLOCK)?;
     check_flags(block.flags)?;
-    let (start, len) = place_of(s, flash.len(), block.family).ok_or(NO_PLACE)?;
-    let storage = if block.is_comment() {
+    let (kind, storage) = if block.is_comment() {
+        let kind = comment_kind(&block, t, lent);
+        let (_, len) = place_in(kind, s, block.family, lent)?;
         check_numbers(&block, len)?;
-        None
-    } else {
+        (kind, None)
+    } else if let Some(kind) = kind_at(block.address, lent) {
+        let (start, len) = place_in(kind, s, block.family, lent)?;
         check_payload(&block)?;
         check_numbers(&block, len)?;
-        Some(start + check_address(&block, len)?)
+        (kind, Some(start + check_address(&block, kind, len)?))
+    } else {
+        // "For an address in no window check 8 is flash's, and 11 comes before
+        // 10": 9 keeps its place after 8, and nothing gets past 11.
+        place_in(Kind::Flash, s, block.family, lent)?;
+        check_payload(&block)?;
+        return Err(BAD_ADDRESS);
     };
     if matches!(t, Transfer::Done { .. }) {
         return Err(FINISHED);
     }
-    let continued = counted(t, block.family, block.total);
-    if continued.is_some() && marked(seen, block.number as usize) {
+    let continued = counted(t, block.family, block.total, kind);
+    if continued.is_some() && marked(lent.seen, block.number as usize) {
         return Err(AGAIN);
     }
     Ok(Plan {
         block,
+        kind,
         storage,
         clears: continued.is_none(),
         discarded: continued.is_none() && matches!(t, Transfer::Running { .. }),
         count: continued.unwrap_or(0) + 1,
     })
+}
+
+impl Lent<'_> {
+    /// A RAM buffer has its window's length, or none.
+    fn lengths_good(self) -> bool {
+        flash_len_good(self.flash.len())
+            && self.seen.len() == SEEN_LEN
+            && self.sectors.len() == SECTORS_LEN
+            && matches!(self.main.len(), 0 | MAIN_LEN)
+            && matches!(self.xip.len(), 0 | XIP_LEN)
+    }
+
+    /// Whether the kind's buffer is there at all; flash always is.
+    fn has(self, kind: Kind) -> bool {
+        match kind {
+            Kind::Flash => true,
+            Kind::MainRam => !self.main.is_empty(),
+            Kind::XipRam => !self.xip.is_empty(),
+        }
+    }
 }
 
 impl Plan<'_> {
@@ -210,24 +289,44 @@ impl Plan<'_> {
     }
 
     fn transfer(&self) -> Transfer {
-        let (family, total) = (self.block.family, self.block.total);
+        let (family, total, kind) = (self.block.family, self.block.total, self.kind);
         if self.completes() {
-            return Transfer::Done { family, total };
+            return Transfer::Done {
+                family,
+                total,
+                kind,
+            };
         }
         Transfer::Running {
             family,
             total,
             count: self.count,
+            kind,
         }
     }
 
-    fn carry_out(&self, flash: &mut [u8], seen: &mut [u8], sectors: &mut [u8]) {
+    fn carry_out(
+        &self,
+        flash: &mut [u8],
+        seen: &mut [u8],
+        sectors: &mut [u8],
+        main: &mut [u8],
+        xip: &mut [u8],
+    ) {
         if self.clears {
             seen.fill(0);
             sectors.fill(0);
         }
-        if let Some(storage) = self.storage {
-            store(self.block.payload, storage, flash, sectors);
+        if let Some(at) = self.storage {
+            let buffer = match self.kind {
+                Kind::Flash => {
+                    erase(at / SECTOR_LEN, flash, sectors);
+                    flash
+                }
+                Kind::MainRam => main,
+                Kind::XipRam => xip,
+            };
+            buffer[at..at + PAYLOAD_LEN].copy_from_slice(self.block.payload);
         }
         mark(seen, self.block.number as usize);
     }
@@ -279,6 +378,50 @@ fn check_flags(flags: u32) -> Result<(), u8> {
     }
 }
 
+/// The kind of a data block, unless its address is in no window. A RAM window
+/// is one only where its buffer is lent.
+fn kind_at(address: u32, lent: Lent) -> Option<Kind> {
+    let kinds = [Kind::Flash, Kind::MainRam, Kind::XipRam];
+    kinds.into_iter().find(|&kind| {
+        let (start, len) = window_of(kind);
+        let offset = address.checked_sub(start);
+        lent.has(kind) && offset.is_some_and(|offset| (offset as usize) < len)
+    })
+}
+
+/// Start and length of the kind's window.
+fn window_of(kind: Kind) -> (u32, usize) {
+    match kind {
+        Kind::Flash => (WINDOW, MAX_FLASH_LEN),
+        Kind::MainRam => (MAIN_WINDOW, MAIN_LEN),
+        Kind::XipRam => (XIP_WINDOW, XIP_LEN),
+    }
+}
+
+/// "A comment with the running transfer's family and total takes its kind,
+/// unless that kind's buffer is empty; any other is flash", that of a Done
+/// transfer too.
+fn comment_kind(block: &Block, t: Transfer, lent: Lent) -> Kind {
+    match t {
+        Transfer::Running {
+            family,
+            total,
+            kind,
+            ..
+        } if (family, total) == (block.family, block.total) && lent.has(kind) => kind,
+        _ => Kind::Flash,
+    }
+}
+
+/// Row 8: start and length of the family's place in the kind's buffer.
+fn place_in(kind: Kind, s: &Settings, family: u32, lent: Lent) -> Result<(usize, usize), u8> {
+    let place = match kind {
+        Kind::Flash => place_of(s, lent.flash.len(), family),
+        Kind::MainRam | Kind::XipRam => ram_accepts(s, family).then(|| (0, window_of(kind).1)),
+    };
+    place.ok_or(NO_PLACE)
+}
+
 /// Row 9, which a comment skips.
 fn check_payload(block: &Block) -> Result<(), u8> {
     if block.size as usize == PAYLOAD_LEN {
@@ -298,39 +441,41 @@ fn check_numbers(block: &Block, len: usize) -> Result<(), u8> {
     Ok(())
 }
 
-/// Row 11, which a comment skips: the payload's offset in a place of `len`
-/// bytes.
-fn check_address(block: &Block, len: usize) -> Result<usize, u8> {
-    let offset = block.address.checked_sub(WINDOW).ok_or(BAD_ADDRESS)?;
-    let size = PAYLOAD_LEN as u64;
-    // 64 bits, since the sum may pass 32. WINDOW is itself a multiple of 256,
-    // so offset and address agree on that.
-    if u64::from(offset) % size != 0 || u64::from(offset) + size > len as u64 {
+/// Row 11, which a comment skips, for an address in the kind's window: the
+/// payload's offset in a place of `len` bytes.
+fn check_address(block: &Block, kind: Kind, len: usize) -> Result<usize, u8> {
+    let (start, _) = window_of(kind);
+    let offset = block.address.checked_sub(start).ok_or(BAD_ADDRESS)? as usize;
+    // WINDOW is itself a multiple of 256, so offset and address agree on that.
+    // RAM goes by byte address.
+    let aligned = kind != Kind::Flash || offset.is_multiple_of(PAYLOAD_LEN);
+    // An offset in a window is far from where the sum would wrap.
+    if !aligned || offset + PAYLOAD_LEN > len {
         return Err(BAD_ADDRESS);
     }
-    Ok(offset as usize)
+    Ok(offset)
 }
 
-/// The count of a transfer that a block of this family and total goes on with.
-fn counted(t: Transfer, family: u32, total: u32) -> Option<u32> {
+/// The count of a transfer that a block of this family, total and kind goes on
+/// with.
+fn counted(t: Transfer, family: u32, total: u32, kind: Kind) -> Option<u32> {
     match t {
         Transfer::Running {
             family: f,
             total: n,
             count,
-        } if (f, n) == (family, total) => Some(count),
+            kind: k,
+        } if (f, n, k) == (family, total, kind) => Some(count),
         _ => None,
     }
 }
 
-/// Stores the payload, erasing its sector only the first time it is touched.
-fn store(payload: &[u8], storage: usize, flash: &mut [u8], sectors: &mut [u8]) {
-    let sector = storage / SECTOR_LEN;
+/// Erases the sector the first time that it is touched.
+fn erase(sector: usize, flash: &mut [u8], sectors: &mut [u8]) {
     if !marked(sectors, sector) {
         flash[sector * SECTOR_LEN..(sector + 1) * SECTOR_LEN].fill(0xFF);
         mark(sectors, sector);
     }
-    flash[storage..storage + PAYLOAD_LEN].copy_from_slice(payload);
 }
 
 /// Bits are counted from the most significant of each byte.
