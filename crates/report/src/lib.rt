@@ -234,8 +234,10 @@ pub fn add(
     flash: &mut [u8],
     seen: &mut [u8],
     sectors: &mut [u8],
+    main: &mut [u8],
+    xip: &mut [u8],
 ) -> Added
-    ensures { λ r. ⌜ numbered outcomeNumber (figuresOutcome (r .answer) (r .report) (leftAt flash seen sectors)) ≡ numbered outcomeNumber (addOf report settings (lentAt flash seen sectors) (now (trace .entry))) ⌝ }
+    ensures { λ r. ⌜ numbered outcomeNumber (figuresOutcome (r .answer) (r .report) (leftAt flash seen sectors main xip)) ≡ numbered outcomeNumber (addOf report settings (lentAt flash seen sectors main xip) (now (trace .entry))) ⌝ }
 {
     if !is_good(report) {
         return Added {
@@ -250,7 +252,7 @@ pub fn add(
             answer: FiguresAnswer::TooMany,
         };
     }
-    let replayed = trace::replay(settings, trace, flash, seen, sectors);
+    let replayed = trace::replay(settings, trace, flash, seen, sectors, main, xip);
     let stop = replayed.stop;
     let transfer = replayed.transfer;
     let counted = count_records(report, trace, before_stop(stop, pieces));

@@ -154,6 +154,6 @@ module _ (s : Settings) (trace : List ℕ) (at i : ℕ) (u : Transfer) (h : Lent
 pub from-fresh : (s : Settings) (trace : List ℕ) (h : Lent) {u : Transfer} {x : TraceOutcome} → x ≡ replayFrom s 0 (world u h) (piecesOf trace) → u ≡ fresh → x ≡ replayFrom s 0 (world fresh h) (piecesOf trace)
 from-fresh s trace h e q = e ∙ ap (λ (u : Transfer). replayFrom s 0 (world u h) (piecesOf trace)) q
 
-pub run-whole : (s : Settings) (trace : List ℕ) (h : Lent) {x : TraceOutcome} {m k : List ℕ} → m ≡ unmarked (length (h .seen)) → k ≡ unmarked (length (h .sectors)) → x ≡ replayFrom s 0 (world fresh (lent (h .flash) m k)) (piecesOf trace) → x ≡ replayOf s h trace
+pub run-whole : (s : Settings) (trace : List ℕ) (h : Lent) {x : TraceOutcome} {m k : List ℕ} → m ≡ unmarked (length (h .seen)) → k ≡ unmarked (length (h .sectors)) → x ≡ replayFrom s 0 (world fresh (lent (h .flash) m k (h .main) (h .xip))) (piecesOf trace) → x ≡ replayOf s h trace
 unfolding replayOf begun
 run-whole s trace h hm hk e = rw (← hm, ← hk) e

@@ -94,7 +94,7 @@ replayFrom s i w (p ∷ l) = wentOn i (pieceOf s w p) (replayFrom s (i + 1) (pie
 
 -- "From Idle with given settings and buffers, both maps zeroed first"
 unfoldable pub begun : Lent → World
-begun h = world fresh (lent (h .flash) (unmarked (length (h .seen))) (unmarked (length (h .sectors))))
+begun h = world fresh (lent (h .flash) (unmarked (length (h .seen))) (unmarked (length (h .sectors))) (h .main) (h .xip))
 
 unfoldable pub replayOf : Settings → Lent → List ℕ → TraceOutcome
 replayOf s h t = replayFrom s 0 (begun h) (piecesOf t)

@@ -83,8 +83,10 @@ pub fn replay_piece(
     flash: &mut [u8],
     seen: &mut [u8],
     sectors: &mut [u8],
+    main: &mut [u8],
+    xip: &mut [u8],
 ) -> PieceReceipt
-    ensures { λ r. ⌜ pieceOutcome (r .answer) (world (r .transfer) (leftAt flash seen sectors)) ≡ pieceOf settings (world transfer (lentAt flash seen sectors)) (now (piece .entry)) ⌝ }
+    ensures { λ r. ⌜ pieceOutcome (r .answer) (world (r .transfer) (leftAt flash seen sectors main xip)) ≡ pieceOf settings (world transfer (lentAt flash seen sectors main xip)) (now (piece .entry)) ⌝ }
 {
     if is_bad(piece) {
         return PieceReceipt {
@@ -92,7 +94,16 @@ pub fn replay_piece(
             answer: PieceAnswer::Bad,
         };
     }
-    let looked = receiver::look(settings, transfer, &piece[1..], flash, seen, sectors);
+    let looked = receiver::look(
+        settings,
+        transfer,
+        &piece[1..],
+        flash,
+        seen,
+        sectors,
+        main,
+        xip,
+    );
     let answer = looked.answer;
     if !agrees(piece[0], answer, looked.discarded) {
         return PieceReceipt {
@@ -100,7 +111,16 @@ pub fn replay_piece(
             answer: PieceAnswer::Differs,
         };
     }
-    let taken = receiver::take(settings, transfer, &piece[1..], flash, seen, sectors);
+    let taken = receiver::take(
+        settings,
+        transfer,
+        &piece[1..],
+        flash,
+        seen,
+        sectors,
+        main,
+        xip,
+    );
     let next = taken.transfer;
     PieceReceipt {
         transfer: next,
@@ -145,8 +165,10 @@ fn run(
     flash: &mut [u8],
     seen: &mut [u8],
     sectors: &mut [u8],
+    main: &mut [u8],
+    xip: &mut [u8],
 ) -> TraceReceipt
-    ensures { λ r. ⌜ traceOutcome (r .stop) (world (r .transfer) (leftAt flash seen sectors)) ≡ replayFrom settings 0 (world fresh (lentAt flash seen sectors)) (piecesOf (now (trace .entry))) ⌝ }
+    ensures { λ r. ⌜ traceOutcome (r .stop) (world (r .transfer) (leftAt flash seen sectors main xip)) ≡ replayFrom settings 0 (world fresh (lentAt flash seen sectors main xip)) (piecesOf (now (trace .entry))) ⌝ }
 {
     let len = trace.len();
     let mut t = Transfer::new();
@@ -154,7 +176,7 @@ fn run(
     let mut at: usize = 0;
     while at < len {
         let to = piece_end(at, len);
-        let done = replay_piece(settings, t, &trace[at..to], flash, seen, sectors);
+        let done = replay_piece(settings, t, &trace[at..to], flash, seen, sectors, main, xip);
         let answer = done.answer;
         let next = done.transfer;
         if !is_replayed(answer) {
@@ -180,10 +202,12 @@ pub fn replay(
     flash: &mut [u8],
     seen: &mut [u8],
     sectors: &mut [u8],
+    main: &mut [u8],
+    xip: &mut [u8],
 ) -> TraceReceipt
-    ensures { λ r. ⌜ traceOutcome (r .stop) (world (r .transfer) (leftAt flash seen sectors)) ≡ replayOf settings (lentAt flash seen sectors) (now (trace .entry)) ⌝ }
+    ensures { λ r. ⌜ traceOutcome (r .stop) (world (r .transfer) (leftAt flash seen sectors main xip)) ≡ replayOf settings (lentAt flash seen sectors main xip) (now (trace .entry)) ⌝ }
 {
     bitmap::clear(seen);
     bitmap::clear(sectors);
-    run(settings, trace, flash, seen, sectors)
+    run(settings, trace, flash, seen, sectors, main, xip)
 }

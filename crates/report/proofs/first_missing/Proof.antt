@@ -1,3 +1,4 @@
+-- `report::first_missing` meets its contract. Assumes nothing.
 use Prim.Native.Nat.{ℕ}
 use mathlib.Core.Path.{subst}
 use native.Mathlib.Omega.{arith}
@@ -10,9 +11,6 @@ use Rattle.report.specs.Report.{isMissing}
 use borrow.Author.Needs.{needs}
 use Rattle.report.proofs.first_missing.Statement.{statement}
 use Rattle.report.proofs.first_missing.Tie as tie
-use Rattle.report.proofs.first_missing.Reads as reads
-use Rattle.report.proofs.first_missing.Lts as lts
-use Rattle.bitmap.proofs.marked.Reads as marked-reads
 
 abbrev Inv-loop : tie.InvT-loop
 Inv-loop map total k₀ k = (k ≤ total) × (any k (isMissing map) ≡ false)
@@ -20,37 +18,29 @@ Inv-loop map total k₀ k = (k ≤ total) × (any k (isMissing map) ≡ false)
 abbrev μ-loop : tie.MeasureT-loop
 μ-loop map total k₀ k = total - k
 
--- src/lib.rt:93:5
 loop-holds : tie.Need-loop-holds Inv-loop μ-loop
 loop-holds c = (search needs, any-zero _)
 
--- src/lib.rt:94:33
 cast-marked : tie.Need-cast-marked Inv-loop μ-loop
 cast-marked c = search needs
 
--- src/lib.rt:94:13
 marked-requires : tie.Need-marked-requires Inv-loop μ-loop
 marked-requires c κs = search needs
 
--- src/lib.rt:95:13
 returns : tie.Need-returns Inv-loop μ-loop
 returns c =
     sym (least-is (isMissing (c .before .before .before .before .before .args .map .now)) _ _ (c .before .before .loop-test .taken) (c .before .before .before .loop .inv .1) (ap not (sym (c .before .marked .ensures)) ∙ (c .if1 .taken)))
 
--- src/lib.rt:97:9
 add-k : tie.Need-add-k Inv-loop μ-loop
 add-k c = search needs
 
--- src/lib.rt:93:5
 loop-less : tie.Need-loop-less Inv-loop μ-loop
 loop-less c = search needs
 
--- src/lib.rt:93:5
 loop-again : tie.Need-loop-again Inv-loop μ-loop
 loop-again c =
     (search needs, any-more (isMissing (c .before .before .before .before .before .args .map .now)) _ (c .before .before .before .loop .inv .1) (ap not (sym (c .before .marked .ensures)) ∙ (c .if1 .left)))
 
--- src/lib.rt:89:1
 returns-2 : tie.Need-returns-2 Inv-loop μ-loop
 returns-2 c =
     sym (least-none (isMissing (c .before .before .before .args .map .now)) _ (subst (λ (n : ℕ). any n (isMissing (c .before .before .before .args .map .now)) ≡ false) (omega arith) (c .before .loop .inv .1)))

@@ -1,23 +1,18 @@
+-- `report::slot` meets its contract. Assumes nothing.
 use borrow.Author.Tests.{le-leb, lt-leb}
 use borrow.Author.Needs.{needs}
 use Rattle.report.proofs.slot.Statement.{statement}
 use Rattle.report.proofs.slot.Tie as tie
-use Rattle.report.proofs.slot.Reads as reads
-use Rattle.report.proofs.slot.Lts as lts
 
--- src/lib.rt:82:9
 sub-result : tie.Need-sub-result
 sub-result c = search needs
 
--- src/lib.rt:84:9
 sub-result-2 : tie.Need-sub-result-2
 sub-result-2 c = search needs
 
--- src/lib.rt:77:1
 returns : tie.Need-returns
 returns c = simp (le-leb _ _ (c .if1 .taken))
 
--- src/lib.rt:77:1
 returns-2 : tie.Need-returns-2
 returns-2 c = simp (lt-leb _ _ (c .if1 .left))
 

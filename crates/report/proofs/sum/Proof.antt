@@ -1,3 +1,4 @@
+-- `report::sum` meets its contract. Assumes nothing.
 use Prim.Native.Nat.{ℕ, _≤_, _-_, _*_}
 use mathlib.Core.Path.{_≡_, sym, ap, _∙_}
 use native.Mathlib.Omega.{arith}
@@ -6,9 +7,6 @@ use Rattle.report.proofs.Sums.{sum-none, sum-more}
 use borrow.Author.Needs.{needs}
 use Rattle.report.proofs.sum.Statement.{statement}
 use Rattle.report.proofs.sum.Tie as tie
-use Rattle.report.proofs.sum.Reads as reads
-use Rattle.report.proofs.sum.Lts as lts
-use Rattle.report.proofs.wide.Reads as wide-reads
 
 abbrev Inv-loop : tie.InvT-loop
 Inv-loop counts total₀ i₀ total i = (i ≤ 16) × (total ≡ sumTo i counts) × (total ≤ i * 4294967295)
@@ -16,41 +14,32 @@ Inv-loop counts total₀ i₀ total i = (i ≤ 16) × (total ≡ sumTo i counts)
 abbrev μ-loop : tie.MeasureT-loop
 μ-loop counts total₀ i₀ total i = 16 - i
 
--- src/lib.rt:76:5
 loop-holds : tie.Need-loop-holds Inv-loop μ-loop
 loop-holds c = (search needs, sym (sum-none _), search needs)
 
--- src/lib.rt:77:23
 mul-wide : tie.Need-mul-wide Inv-loop μ-loop
 mul-wide c = search needs
 
--- src/lib.rt:77:23
 array-read-wide : tie.Need-array-read-wide Inv-loop μ-loop
 array-read-wide c = search needs
 
--- src/lib.rt:77:18
 wide-requires : tie.Need-wide-requires Inv-loop μ-loop
 wide-requires c κs = search needs
 
--- src/lib.rt:77:9
 add-total : tie.Need-add-total Inv-loop μ-loop
 add-total c =
     omega (arith, c .wide .ensures .1)
 
--- src/lib.rt:78:9
 add-i : tie.Need-add-i Inv-loop μ-loop
 add-i c = search needs
 
--- src/lib.rt:76:5
 loop-less : tie.Need-loop-less Inv-loop μ-loop
 loop-less c = search needs
 
--- src/lib.rt:76:5
 loop-again : tie.Need-loop-again Inv-loop μ-loop
 loop-again c =
     (search needs, rw (sum-more (c .before .before .loop .i) (c .before .before .before .args .t1)) (omega (arith, c .wide .ensures .0)), omega (arith, c .wide .ensures .1))
 
--- src/lib.rt:71:1
 returns : tie.Need-returns Inv-loop μ-loop
 returns c =
     c .before .loop .inv .1 ∙ ap (λ (n : ℕ). sumTo n (c .before .before .args .t1)) (omega arith)

@@ -22,10 +22,16 @@ same-length-2 c = search needs
 same-length-3 : tie.Need-same-length-3
 same-length-3 c = search needs
 
+same-length-4 : tie.Need-same-length-4
+same-length-4 c = search needs
+
+same-length-5 : tie.Need-same-length-5
+same-length-5 c = search needs
+
 returns : tie.Need-returns
 returns c =
-    let ran = c .before .before .before .before .before .before in
-    let second = ran .before .before .before .before .before .before in
+    let ran = c .before .before .before .before .before .before .before .before .before .before in
+    let second = ran .before .before .before .before .before .before .before .before in
     let first = second .before .before .before .before in
     run-whole _ _ _ (first .clear .ensures) (second .clear2 .ensures) (ran .run .ensures)
 
@@ -39,4 +45,6 @@ replay-spec =
     same-length
     same-length-2
     same-length-3
+    same-length-4
+    same-length-5
     returns)

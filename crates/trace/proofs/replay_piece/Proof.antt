@@ -27,7 +27,9 @@ look-requires : tie.Need-look-requires
 look-requires c κs = search needs
 
 shared-slice-read-agrees : tie.Need-shared-slice-read-agrees
-shared-slice-read-agrees c = omega (arith, good-length _ (sym (c .before .before .before .before .before .before .before .is-bad .ensures) ∙ (c .before .before .before .before .before .before .if1 .left)))
+shared-slice-read-agrees c =
+    let judged = c .before .before .before .before .before .before .before .before .before in
+    omega (arith, good-length _ (sym (judged .is-bad .ensures) ∙ (c .before .before .before .before .before .before .before .before .if1 .left)))
 
 agrees-requires : tie.Need-agrees-requires
 agrees-requires c κs = search needs
@@ -41,17 +43,27 @@ same-length-2 c = search needs
 same-length-3 : tie.Need-same-length-3
 same-length-3 c = search needs
 
+same-length-4 : tie.Need-same-length-4
+same-length-4 c = search needs
+
+same-length-5 : tie.Need-same-length-5
+same-length-5 c = search needs
+
 returns-2 : tie.Need-returns-2
 returns-2 c =
     let looked = c .before .before .before in
-    let judged = looked .before .before .before .before .before .before in
-    piece-differs _ _ _ _ (sym (judged .is-bad .ensures) ∙ (looked .before .before .before .before .before .if1 .left)) (answer-is (looked .look .ensures)) (sym (c .before .agrees .ensures) ∙ not-true _ (c .if2 .taken))
+    let judged = looked .before .before .before .before .before .before .before .before in
+    piece-differs _ _ _ _ (sym (judged .is-bad .ensures) ∙ (looked .before .before .before .before .before .before .before .if1 .left)) (answer-is (looked .look .ensures)) (sym (c .before .agrees .ensures) ∙ not-true _ (c .if2 .taken))
 
 sub-take : tie.Need-sub-take
-sub-take c = omega (arith, good-length _ (sym (c .before .before .before .before .before .before .before .before .before .is-bad .ensures) ∙ (c .before .before .before .before .before .before .before .before .if1 .left)))
+sub-take c =
+    let judged = c .before .before .before .before .before .before .before .before .before .before .before in
+    omega (arith, good-length _ (sym (judged .is-bad .ensures) ∙ (c .before .before .before .before .before .before .before .before .before .before .if1 .left)))
 
 part-take-start : tie.Need-part-take-start
-part-take-start c = omega (arith, good-length _ (sym (c .before .before .before .before .before .before .before .before .before .is-bad .ensures) ∙ (c .before .before .before .before .before .before .before .before .if1 .left)))
+part-take-start c =
+    let judged = c .before .before .before .before .before .before .before .before .before .before .before in
+    omega (arith, good-length _ (sym (judged .is-bad .ensures) ∙ (c .before .before .before .before .before .before .before .before .before .before .if1 .left)))
 
 part-take-end : tie.Need-part-take-end
 part-take-end c = search needs
@@ -59,22 +71,28 @@ part-take-end c = search needs
 take-requires : tie.Need-take-requires
 take-requires c κs = search needs
 
-same-length-4 : tie.Need-same-length-4
-same-length-4 c = search needs
-
-same-length-5 : tie.Need-same-length-5
-same-length-5 c = search needs
-
 same-length-6 : tie.Need-same-length-6
 same-length-6 c = search needs
 
+same-length-7 : tie.Need-same-length-7
+same-length-7 c = search needs
+
+same-length-8 : tie.Need-same-length-8
+same-length-8 c = search needs
+
+same-length-9 : tie.Need-same-length-9
+same-length-9 c = search needs
+
+same-length-10 : tie.Need-same-length-10
+same-length-10 c = search needs
+
 returns-3 : tie.Need-returns-3
 returns-3 c =
-    let done = c .before .before .before .before .before .before .before in
-    let told = done .before .before .before .before .before .before in
+    let done = c .before .before .before .before .before .before .before .before .before .before .before in
+    let told = done .before .before .before .before .before .before .before .before in
     let looked = told .before .before in
-    let judged = looked .before .before .before .before .before .before in
-    piece-replayed _ _ _ _ (sym (judged .is-bad .ensures) ∙ (looked .before .before .before .before .before .if1 .left)) (answer-is (looked .look .ensures)) (sym (told .agrees .ensures) ∙ not-false _ (done .before .before .before .before .before .if2 .left)) (answer-is (done .take .ensures))
+    let judged = looked .before .before .before .before .before .before .before .before in
+    piece-replayed _ _ _ _ (sym (judged .is-bad .ensures) ∙ (looked .before .before .before .before .before .before .before .if1 .left)) (answer-is (looked .look .ensures)) (sym (told .agrees .ensures) ∙ not-false _ (done .before .before .before .before .before .before .before .if2 .left)) (answer-is (done .take .ensures))
 
 pub replay-piece-spec : {M : Type 1} → statement M
 replay-piece-spec =
@@ -91,12 +109,16 @@ replay-piece-spec =
     same-length
     same-length-2
     same-length-3
+    same-length-4
+    same-length-5
     returns-2
     sub-take
     part-take-start
     part-take-end
     take-requires
-    same-length-4
-    same-length-5
     same-length-6
+    same-length-7
+    same-length-8
+    same-length-9
+    same-length-10
     returns-3)
