@@ -1,5 +1,5 @@
 -- `report::count_records` meets its contract. Assumes nothing.
-use Prim.Native.Nat.{_+_, _-_, _≤_}
+use Prim.Native.Nat.{_+_, _-_, _<_, _≤_}
 use mathlib.Core.Path.{_≡_}
 use native.Mathlib.Omega.{arith}
 use Rattle.report.specs.Report.{sumTo, countAll}
@@ -39,23 +39,43 @@ slot-requires c κs =
 
 mul-counts : tie.Need-mul-counts Inv-loop μ-loop
 mul-counts c =
-    ?
+    let round = c .before .before .before in
+    let begin = round .before .before .before in
+    let range = begin .pre .ours _ (c .before .before .loop-test .taken) in
+    let low : c .slot .result < 16 = rw (c .slot .ensures) (slot-low _ (range .0) (range .1)) in
+    omega arith
 
 array-read-counts : tie.Need-array-read-counts Inv-loop μ-loop
 array-read-counts c =
-    ?
+    let round = c .before .before .before in
+    let begin = round .before .before .before in
+    let range = begin .pre .ours _ (c .before .before .loop-test .taken) in
+    let low : c .slot .result < 16 = rw (c .slot .ensures) (slot-low _ (range .0) (range .1)) in
+    low
 
 add-counts : tie.Need-add-counts Inv-loop μ-loop
 add-counts c =
-    ?
+    let round = c .before .before .before in
+    let begin = round .before .before .before in
+    let range = begin .pre .ours _ (c .before .before .loop-test .taken) in
+    let low : c .slot .result < 16 = rw (c .slot .ensures) (slot-low _ (range .0) (range .1)) in
+    omega (arith, sum-has 16 (round .loop .counts) _ low, round .loop .inv .1, begin .pre .room, (c .before .before .loop-test .taken))
 
 mul-counts-2 : tie.Need-mul-counts-2 Inv-loop μ-loop
 mul-counts-2 c =
-    ?
+    let round = c .before .before .before in
+    let begin = round .before .before .before in
+    let range = begin .pre .ours _ (c .before .before .loop-test .taken) in
+    let low : c .slot .result < 16 = rw (c .slot .ensures) (slot-low _ (range .0) (range .1)) in
+    omega arith
 
 array-write-counts : tie.Need-array-write-counts Inv-loop μ-loop
 array-write-counts c =
-    ?
+    let round = c .before .before .before in
+    let begin = round .before .before .before in
+    let range = begin .pre .ours _ (c .before .before .loop-test .taken) in
+    let low : c .slot .result < 16 = rw (c .slot .ensures) (slot-low _ (range .0) (range .1)) in
+    low
 
 cast-discards : tie.Need-cast-discards Inv-loop μ-loop
 cast-discards c = search needs
@@ -72,7 +92,9 @@ loop-less c = search needs
 
 loop-again : tie.Need-loop-again Inv-loop μ-loop
 loop-again c =
-    (search needs, ?, omega (arith, c .before .before .before .loop .inv .2), counts-more _ _ _ (c .before .before .before .loop .inv .3) (c .slot .ensures), discards-more _ _ (c .before .before .before .loop .inv .4))
+    let round = c .before .before .before in
+    let begin = round .before .before .before in
+    (search needs, omega (arith, sum-raised-le 16 (round .loop .counts) (c .slot .result), round .loop .inv .1), omega (arith, round .loop .inv .2), counts-more _ _ _ (round .loop .inv .3) (c .slot .ensures), discards-more _ _ _ (round .loop .inv .4))
 
 cast-t22 : tie.Need-cast-t22 Inv-loop μ-loop
 cast-t22 c =
