@@ -136,15 +136,25 @@ enum uf2_answer {
     UF2_ANSWER_FINISHED = 12,    /* the transfer is done */
     UF2_ANSWER_AGAIN = 13,       /* a block of this number has come before */
     UF2_ANSWER_WRITTEN = 14,     /* stored, and others are missing */
-    UF2_ANSWER_COMPLETED = 15,   /* stored or, a comment, noted, and the file is whole */
-    UF2_ANSWER_NOTED = 16        /* a comment: counted and not stored, and others are missing */
+    UF2_ANSWER_COMPLETED = 15,   /* stored, kept or, a comment, noted, and the file is whole */
+    UF2_ANSWER_NOTED = 16,       /* a comment: counted and not stored, and others are missing */
+    UF2_ANSWER_KEPT = 17         /* counted and not stored, since the flash has what its region names (below), and others are missing */
 };
+
+/* A region: a block with flag 0x4000 names one in its last 24 data bytes (byte 484 of the arrival: its start, an address like the block's, and its
+ * length, both the lowest byte first, then the MD5 digest of its bytes). It counts for a flash data block that would be stored, where it is whole
+ * sectors, not empty, within the place and around the block. Where the flash there has that digest, the block is counted and nothing is stored:
+ * UF2_ANSWER_KEPT, or UF2_ANSWER_COMPLETED if it is the last. Else the flag changes nothing.
+ *
+ * What it costs: each block of a region that is accepted hashes the whole region once, and a look once more; nothing is kept between calls. A
+ * region of 16 pages (one sector) costs 16 hashes of 4 KiB, one of 1 MiB costs 4,096 hashes of 1 MiB. So let a file name regions of one sector
+ * or of 64 KiB, and look only where you need to. A comment, a RAM block, UF2_ANSWER_FINISHED, _AGAIN and every refusal hash nothing. */
 
 /* A result is an answer, with UF2_RESULT_DISCARDED added where the block discarded a running transfer of another file. */
 #define UF2_RESULT_DISCARDED 128u
 #define UF2_RESULT_ANSWER(result) ((result) & 127u)
 #define UF2_RESULT_IS_DISCARDED(result) (((result) & UF2_RESULT_DISCARDED) != 0)
-/* Whether a block with this answer is accepted: taken, it is counted now, and stored unless it is a comment; looked at, it would be. */
+/* Whether a block with this answer is accepted: taken, it is counted now, and stored unless it is a comment or kept; looked at, it would be. */
 #define UF2_ANSWER_IS_ACCEPTED(answer) ((answer) >= UF2_ANSWER_WRITTEN)
 
 /* Writes a fresh transfer, where there are UF2_TRANSFER_SIZE bytes; else changes nothing. */

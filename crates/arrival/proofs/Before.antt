@@ -36,7 +36,7 @@ use Rattle.screen.specs.declared.Window.{Window}
 use Rattle.screen.specs.declared.Window.the-variants.{Outside, In}
 use Rattle.screen.specs.declared.Screening.{Screening}
 use Rattle.screen.specs.declared.Screening.the-variants.{Refused, Passed}
-use Rattle.arrival.specs.Arrive.{World, Decision, stays, outcomeNumber, rightLengths, deedOf, stepped, afterScreening, decide, decided, acceptOf, unchanged, done, receiveOf}
+use Rattle.arrival.specs.Arrive.{World, Decision, stays, outcomeNumber, rightLengths, standing, deedOf, stepped, afterScreening, decide, decided, acceptOf, unchanged, done, receiveOf}
 use Rattle.arrival.specs.Windows.{lies, kindOf}
 use Rattle.arrival.specs.Before.{placedBefore, notedBefore, foundBefore, screenBefore, decideBefore, receiveBefore, InFlash, strays, Without-RAM, Stays-in-flash}
 use Rattle.arrival.proofs.Windows.{lies-is}
@@ -163,24 +163,27 @@ module _ (s : Settings) (w : World) (a : List ℕ) (m : length (w .held .main) �
 
 -- ---- every row
 
-ten : (w : World) (p : List ℕ) (t : State) (seen : List ℕ) (x : Screening)
-    → eqb (outcomeNumber (done w p (afterScreening t seen x))) 10 ≡ eqb (screeningNumber x) 10
+ten : (w : World) (p : List ℕ) (t : State) (seen : List ℕ) (c : Bool) (x : Screening)
+    → eqb (outcomeNumber (done w p (afterScreening t seen c x))) 10 ≡ eqb (screeningNumber x) 10
 unfolding afterScreening
-ten w p t seen (Refused x) = unfold done in refl
-ten w p t seen (Passed g) =
-    let d = deedOf (g .body) in
+ten w p t seen c (Refused x) = unfold done in refl
+ten w p t seen c (Passed g) =
+    let d = deedOf c g in
     let b = markedIn seen (g .number) in
     let o = outcomeNumber (done w p (stepped g d (stepOf t (g .head) b d))) in
     ne-eqb o 10 (λ e. omega (arith, step-late w p g d t b))
 
-turn-out : (w : World) (p : List ℕ) (t : State) (seen : List ℕ) (b : Bool) (x : Screening)
-    → done w p (afterScreening t seen (cond b (Refused BadAddress) x)) ≡ cond b (unchanged w BadAddress) (done w p (afterScreening t seen x))
-turn-out w p t seen true x = unfold afterScreening done in refl
-turn-out w p t seen false x = refl
+turn-out : (w : World) (p : List ℕ) (t : State) (seen : List ℕ) (c b : Bool) (x : Screening)
+    → done w p (afterScreening t seen c (cond b (Refused BadAddress) x)) ≡ cond b (unchanged w BadAddress) (done w p (afterScreening t seen c x))
+turn-out w p t seen c true x = unfold afterScreening done in refl
+turn-out w p t seen c false x = refl
 
 module _ (s : Settings) (w : World) (a : List ℕ) (m : length (w .held .main) ≡ 0) (p : length (w .held .xip) ≡ 0) (f : InFlash (w .transfer)) where
+  abbrev stood : Bool
+  stood = standing s (w .held .flash) a
+
   abbrev before : Decision
-  before = decideBefore s (flashOf w) (length (w .held .sectors)) (w .transfer) (w .seen) a
+  before = decideBefore s (flashOf w) (length (w .held .sectors)) (w .transfer) (w .seen) stood a
 
   abbrev rightBefore : Bool
   rightBefore = eqb (length a) 512 && flashLength (flashOf w) && eqb (length (w .seen)) 16384 && eqb (length (w .held .sectors)) 1024
@@ -196,16 +199,16 @@ module _ (s : Settings) (w : World) (a : List ℕ) (m : length (w .held .main) �
   stop x n d e = rw (d, e, ne-eqb (numberOf x) 10 (λ q. omega arith), and-false (not (hasFlag a 0x1) && not (lies Flash (fieldAt a 12))))
 
   -- rows 4 on
-  go-on : Board s w → decided s w a ≡ afterScreening (w .transfer) (w .seen) (screenOf s (lens w) (w .transfer) a)
-      → before ≡ afterScreening (w .transfer) (w .seen) (screenBefore s (flashOf w) a)
+  go-on : Board s w → decided s w a ≡ afterScreening (w .transfer) (w .seen) stood (screenOf s (lens w) (w .transfer) a)
+      → before ≡ afterScreening (w .transfer) (w .seen) stood (screenBefore s (flashOf w) a)
       → receiveOf s w a ≡ cond (strays s w a) (unchanged w BadAddress) (receiveBefore s w a)
   unfolding receiveOf receiveBefore
   go-on B d e =
       let y = screenBefore s (flashOf w) a in
       let c = not (hasFlag a 0x1) && not (lies Flash (fieldAt a 12)) in
-      ap (done w (payloadOf a)) (d ∙ ap (afterScreening (w .transfer) (w .seen)) (screen-before s w a m p f B))
-      ∙ turn-out w (payloadOf a) (w .transfer) (w .seen) (c && eqb (screeningNumber y) 10) y
-      ∙ rw (e, ten w (payloadOf a) (w .transfer) (w .seen) y)
+      ap (done w (payloadOf a)) (d ∙ ap (afterScreening (w .transfer) (w .seen) stood) (screen-before s w a m p f B))
+      ∙ turn-out w (payloadOf a) (w .transfer) (w .seen) stood (c && eqb (screeningNumber y) 10) y
+      ∙ rw (e, ten w (payloadOf a) (w .transfer) (w .seen) stood y)
 
   pub as-before : receiveOf s w a ≡ cond (strays s w a) (unchanged w BadAddress) (receiveBefore s w a)
   as-before =

@@ -19,31 +19,31 @@ use Rattle.flash.specs.Flash.{payloadOf}
 use Rattle.settings.specs.declared.Settings.{Settings}
 use Rattle.place.specs.declared.Place.{Place}
 use Rattle.place.specs.declared.Place.the-variants.{Nowhere, At}
-use Rattle.transfer.specs.Transfer.{numberOf, countOf, sameHead, counted, raised}
+use Rattle.transfer.specs.Transfer.{numberOf, countOf, sameHead, counted, deedAnswer, raised, accepted}
 use Rattle.transfer.specs.declared.Kind.{Kind}
 use Rattle.transfer.specs.declared.Head.{Head}
 use Rattle.transfer.specs.declared.Run.{Run}
 use Rattle.transfer.specs.declared.State.{State}
 use Rattle.transfer.specs.declared.State.the-variants.{Idle, Running, Done}
 use Rattle.transfer.specs.declared.Deed.{Deed}
-use Rattle.transfer.specs.declared.Deed.the-variants.{Stores, Notes}
+use Rattle.transfer.specs.declared.Deed.the-variants.{Stores, Notes, Keeps}
 use Rattle.transfer.specs.declared.Accepted.{Accepted}
 use Rattle.screen.specs.Screen.{noteKind, roomsOf, roomIn, noted, noteFound, found, afterHeader, screenIn, screenOf}
 use Rattle.screen.proofs.Laws.{found-comment}
 use Rattle.screen.specs.declared.Lengths.{Lengths}
 use Rattle.screen.specs.declared.Rooms.{Rooms}
 use Rattle.screen.specs.declared.Screening.{Screening}
-use Rattle.screen.specs.declared.Body.{Body}
+use Rattle.screen.specs.declared.Placed.{Placed}
 use Rattle.screen.specs.declared.Body.the-variants.{Note}
-use Rattle.arrival.specs.Arrive.{Held, World, Decision, bufferOf, accepts, deedOf, decide, decided, clearedIf, wipedIf, atOf, doneTo, acceptOf, done, receiveOf}
+use Rattle.arrival.specs.Arrive.{Held, World, Decision, bufferOf, accepts, standing, decide, decided, clearedIf, wipedIf, atOf, acceptOf, done, receiveOf}
 use Rattle.arrival.specs.Lists.{receiveAll}
 use Rattle.arrival.specs.Windows.{headOf}
 use Rattle.arrival.specs.Tally.{clears}
-use Rattle.arrival.specs.Comments.{Comments-note, Nothing-stored, Noting, Comments-store-nothing, Unread, Comments-unread, anyDiscard, First-stands}
+use Rattle.arrival.specs.Comments.{isNoted, Comments-note, Nothing-stored, Unstored, Comments-store-nothing, Unread, Comments-unread, anyDiscard, First-stands}
 use Rattle.arrival.proofs.Heads.{same-head}
-use Rattle.arrival.proofs.Screening.{lens, passing-few, passing-note, passing-deed}
-use Rattle.arrival.proofs.DecisionFacts.{AcceptFacts, DecisionFacts, raisedCount, took-state, took-answer, took-clears, took-discarded, kept, took, decision-facts}
-use Rattle.arrival.proofs.Facts.{length-cleared, wiped-buffer, wiped-sectors, left-note}
+use Rattle.arrival.proofs.Screening.{lens, Board, Passing, passing-few}
+use Rattle.arrival.proofs.DecisionFacts.{AcceptFacts, deedAt, DecisionFacts, raisedCount, took-state, took-answer, took-clears, took-discarded, kept, took, decision-facts, decide-same}
+use Rattle.arrival.proofs.Facts.{keepsAt, length-cleared, wiped-buffer, wiped-sectors, done-none, left-none, deed-is}
 
 -- ---- of a decision
 
@@ -51,49 +51,60 @@ pub comments-note : Comments-note
 unfolding Comments-note
 comments-note s w a p d t e = go (decision-facts s w a) e
   where
-    go : {x : Decision} → DecisionFacts s w a x → x ≡ accepts p d t → d ≡ cond (hasFlag a 0x1) Notes Stores
+    told : (b c : Bool) → isNoted (cond b Notes (cond c Keeps Stores)) ≡ b
+    told true c = refl
+    told false true = refl
+    told false false = refl
+
+    go : {x : Decision} → DecisionFacts s w a x → x ≡ accepts p d t → isNoted d ≡ hasFlag a 0x1
     go (kept x h) e = let z : _≡_ {A = ℕ} 0 1 = cc in absurd (omega arith)
-    go (took g k B l q f) e = let x : deedOf (g .body) ≡ d = cc in sym x ∙ passing-deed s w a g q B
+    go (took g k B l q f) e =
+        let x : deedAt s w a g ≡ d = cc in
+        ap isNoted (sym x ∙ deed-is s w a g k q B) ∙ told (hasFlag a 0x1) (keepsAt s w a)
 
 pub nothing-stored : Nothing-stored
 unfolding Nothing-stored receiveOf
-nothing-stored s w a p d t e n = ap (λ (x : Decision). done w (payloadOf a) x .world .held) e ∙ unfold done acceptOf in left d n
-  where
-    left : (d : Deed) → d ≢ Stores → doneTo d (p .head .kind) (atOf (p .body)) (payloadOf a) (wipedIf (t .clears) (w .held)) ≡ wipedIf (t .clears) (w .held)
-    left Stores n = absurd (n refl)
-    left Notes n = refl
+nothing-stored s w a p d t e n =
+    ap (λ (x : Decision). done w (payloadOf a) x .world .held) e
+    ∙ unfold done acceptOf in done-none d (p .head .kind) (atOf (p .body)) (payloadOf a) (wipedIf (t .clears) (w .held)) n
 
 -- ---- of what arrives and what is left
 
-raised-told : (g : Head) (c : ℕ) → numberOf (raised Notes g c) ≡ cond (ltb (countOf (counted g c)) (g .total)) 16 15
+raised-told : (e : Deed) (g : Head) (c : ℕ) → numberOf (raised e g c) ≡ cond (ltb (countOf (counted g c)) (g .total)) (numberOf (deedAnswer e)) 15
 unfolding raised counted
-raised-told g c = split (ltb c (g .total)) (λ y. rw (y, y)) (λ z. rw (z, le-ltb (g .total) (g .total) (omega arith)))
+raised-told e g c = split (ltb c (g .total)) (λ y. rw (y, y)) (λ z. rw (z, le-ltb (g .total) (g .total) (omega arith)))
 
-noting : (s : Settings) (w : World) (a : List ℕ) {d : Decision} → DecisionFacts s w a d → hasFlag a 0x1 ≡ true
-    → 14 ≤ numberOf (done w (payloadOf a) d .answer) → Noting w a (done w (payloadOf a) d)
+-- an accepted block that does e, which is not to store
+pub unstored : (s : Settings) (w : World) (a : List ℕ) (e : Deed) (g : Placed) (k : Accepted) → Passing s w a g → Board s w
+    → AcceptFacts (w .transfer) (g .head) (markedIn (w .seen) (g .number)) (deedAt s w a g) k → deedAt s w a g ≡ e → e ≢ Stores
+    → Unstored (numberOf (deedAnswer e)) w a (done w (payloadOf a) (accepts g (deedAt s w a g) k))
 unfolding done acceptOf
-noting s w a (kept x h) y n = absurd (omega arith)
-noting s w a (took g k B l q t) y n =
-    let b : g .body ≡ Note = passing-note s w a g q B y in
+unstored s w a e g k q B t f n =
     let m : k .clears ≡ clears (w .transfer) (headOf w a) = took-clears t ∙ ap (clears (w .transfer)) (q .head) in
     let c : ℕ = raisedCount t in
-    let e = left-note s w a g k q B y in
-    let r : numberOf (k .answer) ≡ numberOf (raised Notes (g .head) c) =
-    ap numberOf (took-answer t) ∙ ap (λ (x : Body). numberOf (raised (deedOf x) (g .head) c)) b in
+    let left = left-none s w a g k q B e f n in
+    let r : numberOf (k .answer) ≡ numberOf (raised e (g .head) c) =
+    ap numberOf (took-answer t) ∙ ap (λ (x : Deed). numberOf (raised x (g .head) c)) f in
     record {
-      buffers = λ u. ap (bufferOf u) e ∙ wiped-buffer (k .clears) (w .held) u;
+      buffers = λ u. ap (bufferOf u) left ∙ wiped-buffer (k .clears) (w .held) u;
       sectors =
-          ap (λ (x : Held). x .sectors) e
+          ap (λ (x : Held). x .sectors) left
           ∙ wiped-sectors (k .clears) (w .held)
           ∙ ap (λ (x : Bool). clearedIf x (w .held .sectors)) m;
       seen =
           ap (λ (x : Bool). withMark (clearedIf x (w .seen)) (g .number)) m
           ∙ ap (withMark (clearedIf (clears (w .transfer) (headOf w a)) (w .seen))) (q .number);
       answer =
-          r ∙ raised-told (g .head) c
-          ∙ ap (λ (h : Head). cond (ltb (countOf (counted (g .head) c)) (h .total)) 16 15) (q .head)
-          ∙ sym (ap (λ (x : State). cond (ltb (countOf x) (fieldAt a 24)) 16 15) (took-state t));
+          r ∙ raised-told e (g .head) c
+          ∙ ap (λ (h : Head). cond (ltb (countOf (counted (g .head) c)) (h .total)) (numberOf (deedAnswer e)) 15) (q .head)
+          ∙ sym (ap (λ (x : State). cond (ltb (countOf x) (fieldAt a 24)) (numberOf (deedAnswer e)) 15) (took-state t));
     }
+
+noting : (s : Settings) (w : World) (a : List ℕ) {d : Decision} → DecisionFacts s w a d → hasFlag a 0x1 ≡ true
+    → 14 ≤ numberOf (done w (payloadOf a) d .answer) → Unstored 16 w a (done w (payloadOf a) d)
+noting s w a (kept x h) y n = let m : 14 ≤ numberOf x = unfold done in n in absurd (omega arith)
+noting s w a (took g k B l q t) y n =
+    unstored s w a Notes g k q B t (deed-is s w a g k q B ∙ rw y) (λ e. let z : _≡_ {A = ℕ} 0 1 = cc in omega arith)
 
 pub comments-store-nothing : Comments-store-nothing
 unfolding Comments-store-nothing receiveOf
@@ -166,15 +177,22 @@ payload-unread : (s : Settings) (w : World) (a : List ℕ) (p : List ℕ) {d : D
     → done w p d ≡ done w (payloadOf a) d
 unfolding done acceptOf
 payload-unread s w a p (kept x h) y = refl
-payload-unread s w a p (took g k B l q t) y = rw (passing-note s w a g q B y)
+payload-unread s w a p (took g k B l q t) y = let e : deedAt s w a g ≡ Notes = deed-is s w a g k q B ∙ rw y in rw e
 
 pub comments-unread : Comments-unread
 unfolding Comments-unread receiveOf
 comments-unread s w a i x y o =
     ap (done w (payloadOf (set a i x))) same ∙ payload-unread s w a (payloadOf (set a i x)) (decision-facts s w a) y
   where
+    at : (b : Bool) → decide s (lens w) (length (w .held .sectors)) (w .transfer) (w .seen) b (set a i x)
+        ≡ decide s (lens w) (length (w .held .sectors)) (w .transfer) (w .seen) b a
+    at b = unfold decide in rw (length-set a i x, screen-same s (lens w) (w .transfer) a i x y o)
+
+    -- nor is the region of a comment
     same : decided s w (set a i x) ≡ decided s w a
-    same = unfold decide in rw (length-set a i x, screen-same s (lens w) (w .transfer) a i x y o)
+    same =
+        at (standing s (w .held .flash) (set a i x))
+        ∙ decide-same s w a (standing s (w .held .flash) (set a i x)) (standing s (w .held .flash) a) (λ g p. let e : g .body ≡ Note = p .body ∙ rw y in rw e)
 
 -- ---- the first of two stands
 
@@ -258,7 +276,7 @@ refused-again : (s : Settings) (v : World) (b : List ℕ) {d : Decision} → Dec
 unfolding done
 refused-again s v b (kept x h) st = h
 refused-again s v b (took g k B l q t) st =
-    absurd (no-step (v .transfer) (v .seen) (g .head) (g .number) (deedOf (g .body)) k t (rw (q .head, q .number) st))
+    absurd (no-step (v .transfer) (v .seen) (g .head) (g .number) (deedAt s v b g) k t (rw (q .head, q .number) st))
 
 pub first-stands : First-stands
 unfolding First-stands receiveAll

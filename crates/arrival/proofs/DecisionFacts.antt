@@ -20,7 +20,7 @@ use Rattle.transfer.specs.declared.Run.{Run}
 use Rattle.transfer.specs.declared.State.{State}
 use Rattle.transfer.specs.declared.State.the-variants.{Idle, Running, Done}
 use Rattle.transfer.specs.declared.Deed.{Deed}
-use Rattle.transfer.specs.declared.Deed.the-variants.{Stores, Notes}
+use Rattle.transfer.specs.declared.Deed.the-variants.{Stores, Notes, Keeps}
 use Rattle.transfer.specs.declared.Accepted.{Accepted}
 use Rattle.transfer.specs.declared.Step.{Step}
 use Rattle.transfer.specs.declared.Step.the-variants.{Stays, Accepts}
@@ -31,7 +31,7 @@ use Rattle.screen.specs.declared.Lengths.{Lengths}
 use Rattle.screen.specs.declared.Placed.{Placed}
 use Rattle.screen.specs.declared.Screening.{Screening}
 use Rattle.screen.specs.declared.Screening.the-variants.{Refused, Passed}
-use Rattle.arrival.specs.Arrive.{World, Decision, outcomeNumber, done, stays, accepts, ramLength, rightLengths, deedOf, stepped, afterScreening, decide, decided}
+use Rattle.arrival.specs.Arrive.{World, Decision, outcomeNumber, done, stays, accepts, ramLength, rightLengths, standing, deedOf, stepped, afterScreening, decide, decided}
 use Rattle.arrival.specs.Tally.{clears}
 use Rattle.arrival.proofs.Heads.{head-same}
 use Rattle.arrival.proofs.Screening.{flashOf, lens, Board, Passing, Good, screen-good}
@@ -39,7 +39,7 @@ use Rattle.arrival.proofs.Screening.{flashOf, lens, Board, Passing, Goo
 -- ---- rows 1 to 3
 
 pub board-decides : (s : Settings) (w : World) (a : List ℕ) → Board s w → length a ≡ 512
-    → decided s w a ≡ afterScreening (w .transfer) (w .seen) (screenOf s (lens w) (w .transfer) a)
+    → decided s w a ≡ afterScreening (w .transfer) (w .seen) (standing s (w .held .flash) a) (screenOf s (lens w) (w .transfer) a)
 unfolding decide rightLengths
 board-decides s w a B l = rw (l, B .flash, B .seen, B .sectors, B .main, B .xip, B .good, B .state)
 
@@ -101,7 +101,7 @@ rows s w a =
     (λ g. stopped BadSettings (omega arith) (unfold decide in rw (y, g))))
     (λ y. stopped BadBuffers (omega arith) (unfold decide in rw y))
 
--- ---- rows 12 to 16
+-- ---- rows 12 to 17
 
 pub raised-number : (d : Deed) (g : Head) (c : ℕ) → 14 ≤ numberOf (raised d g c)
 unfolding raised
@@ -110,6 +110,7 @@ raised-number d g c = split (ltb c (g .total)) (λ y. rw y (least d)) (λ z. rw 
     least : (d : Deed) → 14 ≤ numberOf (deedAnswer d)
     least Stores = omega arith
     least Notes = omega arith
+    least Keeps = omega arith
 
 -- a block that passes is answered 12 or more
 pub step-late : (w : World) (p : List ℕ) (g : Placed) (d : Deed) (t : State) (b : Bool) → 12 ≤ outcomeNumber (done w p (stepped g d (stepOf t (g .head) b d)))
@@ -178,30 +179,46 @@ module _ {t : State} {g : Head} {m : Bool} {d : Deed} {k : Accepted} (q : Accept
 
 -- ---- every row
 
+-- what a block g does that the arrival passes as
+abbrev pub deedAt : Settings → World → List ℕ → Placed → Deed
+deedAt s w a g = deedOf (standing s (w .held .flash) a) g
+
 pub data DecisionFacts (s : Settings) (w : World) (a : List ℕ) : Decision → Type 0 where
   kept : (x : Answer) → numberOf x ≤ 13 → DecisionFacts s w a (stays x)
   took : (g : Placed) (k : Accepted) → Board s w → length a ≡ 512 → Passing s w a g
-      → AcceptFacts (w .transfer) (g .head) (markedIn (w .seen) (g .number)) (deedOf (g .body)) k
-      → DecisionFacts s w a (accepts g (deedOf (g .body)) k)
+      → AcceptFacts (w .transfer) (g .head) (markedIn (w .seen) (g .number)) (deedAt s w a g) k
+      → DecisionFacts s w a (accepts g (deedAt s w a g) k)
 
 pub decision-facts : (s : Settings) (w : World) (a : List ℕ) → DecisionFacts s w a (decided s w a)
 decision-facts s w a = go (rows s w a)
   where
     steps : Board s w → length a ≡ 512 → (g : Placed) → Passing s w a g → (st : Step)
-        → StepFacts (w .transfer) (g .head) (markedIn (w .seen) (g .number)) (deedOf (g .body)) st
-        → DecisionFacts s w a (stepped g (deedOf (g .body)) st)
+        → StepFacts (w .transfer) (g .head) (markedIn (w .seen) (g .number)) (deedAt s w a g) st
+        → DecisionFacts s w a (stepped g (deedAt s w a g) st)
     steps B l g p (Stays x) h = kept (x .answer) h
     steps B l g p (Accepts k) h = took g k B l p h
 
-    look : Board s w → length a ≡ 512 → (x : Screening) → Good s w a x → DecisionFacts s w a (afterScreening (w .transfer) (w .seen) x)
+    look : Board s w → length a ≡ 512 → (x : Screening) → Good s w a x
+        → DecisionFacts s w a (afterScreening (w .transfer) (w .seen) (standing s (w .held .flash) a) x)
     look B l (Refused x) h = unfold afterScreening in kept x (omega (arith, h))
     look B l (Passed g) h =
-        unfold afterScreening in steps B l g h (stepOf (w .transfer) (g .head) (markedIn (w .seen) (g .number)) (deedOf (g .body)))
-        (step-facts (w .transfer) (g .head) (markedIn (w .seen) (g .number)) (deedOf (g .body)))
+        unfold afterScreening in steps B l g h (stepOf (w .transfer) (g .head) (markedIn (w .seen) (g .number)) (deedAt s w a g))
+        (step-facts (w .transfer) (g .head) (markedIn (w .seen) (g .number)) (deedAt s w a g))
 
     go : Rows s w a → DecisionFacts s w a (decided s w a)
     go (stopped x h e) = subst (DecisionFacts s w a) (sym e) (kept x (omega arith))
     go (through B l) = subst (DecisionFacts s w a) (sym (board-decides s w a B l)) (look B l (screenOf s (lens w) (w .transfer) a) (screen-good s w a))
+
+-- ---- whether what the arrival would store stands is asked of a page alone
+
+pub decide-same : (s : Settings) (w : World) (a : List ℕ) (b c : Bool) → ((g : Placed) → Passing s w a g → deedOf b g ≡ deedOf c g)
+    → decide s (lens w) (length (w .held .sectors)) (w .transfer) (w .seen) b a ≡ decide s (lens w) (length (w .held .sectors)) (w .transfer) (w .seen) c a
+unfolding decide
+decide-same s w a b c e = rw (same (screenOf s (lens w) (w .transfer) a) (screen-good s w a))
+  where
+    same : (x : Screening) → Good s w a x → afterScreening (w .transfer) (w .seen) b x ≡ afterScreening (w .transfer) (w .seen) c x
+    same (Refused x) h = unfold afterScreening in refl
+    same (Passed g) h = unfold afterScreening in rw (e g h)
 
 -- ---- the transfer that comes back passes row 3
 

@@ -274,8 +274,12 @@ lengths-effect F x S =
 held-is : (g h : Held) → ((u : Kind) → bufferOf u g ≡ bufferOf u h) → g .sectors ≡ h .sectors → g ≡ h
 held-is g h p q = λ i. record { flash = p Flash i; sectors = q i; main = p MainRam i; xip = p XipRam i }
 
--- one block more: a page, or a comment, which changes nothing
-module _ (F : Blocks) (x : Held) (ok : Valid F x) (S : Set) (k : ℕ) (h : k < count F) where
+-- none of its data blocks stands in any flash of that length
+abbrev pub Unkept : Blocks → Held → Type 0
+Unkept F x = (f : List ℕ) (k : ℕ) → k < count F → isData (F .file) k ≡ true → length f ≡ length (x .flash) → sameKind (kindIn F) Flash && F .stands f k ≡ false
+
+-- one block more: a page that is stored, or a comment, which changes nothing
+module _ (F : Blocks) (x : Held) (ok : Valid F x) (plain : Unkept F x) (S : Set) (k : ℕ) (h : k < count F) where
   abbrev there : Held
   there = effect F x S
 
@@ -316,7 +320,7 @@ module _ (F : Blocks) (x : Held) (ok : Valid F x) (S : Set) (k : ℕ) (h : k < c
 
   left : Left (applied F k there)
   unfolding apply
-  left = split (isData (F .file) k) (λ y. rw y (left-page y)) (λ z. rw z (left-note z))
+  left = split (isData (F .file) k) (λ y. rw (plain (there .flash) k h y (length-effect Flash F x S), y) (left-page y)) (λ z. rw z (left-note z))
 
   buffer-more : (u : Kind) → bufferOf u (applied F k there) ≡ bufferOf u (effect F x (add k S))
   buffer-more u =
@@ -344,5 +348,5 @@ none-yet F x n = held-is (wipe x) (effect F x none) (λ u. wiped u ∙ buffer-no
         unfold effect wipedIf clearedIf in rw n (map-none 1024)
         ∙ ap (mapOf 1024) (fun-ext (λ q. sym (touched-none (count F) (layout Flash F) q)))
 
-pub grows : (F : Blocks) (x : Held) → Valid F x → Grows F x (effect F x)
-grows F x ok = record { few = ok .few; none-yet = none-yet F x (ok .sectors); one-more = λ S k h. one-more F x ok S k h }
+pub grows : (F : Blocks) (x : Held) → Valid F x → Unkept F x → Grows F x (effect F x)
+grows F x ok plain = record { few = ok .few; none-yet = none-yet F x (ok .sectors); one-more = λ S k h. one-more F x ok plain S k h }

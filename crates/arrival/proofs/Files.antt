@@ -1,6 +1,6 @@
 -- A valid file is blocks for `Count` and `Effect`, and its blocks and foreign arrivals are screened alike all through a list.
 -- Assumes nothing.
-use Prim.Native.Nat.{ℕ, _+_, _-_, _≤_, _<_}
+use Prim.Native.Nat.{ℕ, _+_, _-_, _%_, _≤_, _<_}
 use mathlib.Core.Path.{_≡_, refl, sym, ap, subst, _∙_}
 use mathlib.Core.Logic.{_≢_, _⊎_, inl, inr, ⊎-elim}
 use mathlib.Core.Bool.{true, false, not, _&&_}
@@ -14,18 +14,21 @@ use Rattle.block.specs.Block.{fieldAt, hasFlag, fieldsOf, headerOf}
 use Rattle.flash.specs.Flash.{payloadOf, spans}
 use Rattle.flash.proofs.Laws.{length-right}
 use Rattle.settings.specs.declared.Settings.{Settings}
+use Rattle.place.specs.Place.{placeOf}
+use Rattle.place.specs.declared.Place.the-variants.{At}
+use Rattle.place.proofs.Theorems.{place-inside}
 use Rattle.transfer.specs.Transfer.{sameKind, headWith, numberOf, accepted, stepOf}
 use Rattle.transfer.specs.declared.Kind.{Kind}
 use Rattle.transfer.specs.declared.Kind.the-variants.{Flash}
 use Rattle.transfer.specs.declared.State.{State}
 use Rattle.transfer.specs.declared.State.the-variants.{Idle}
-use Rattle.screen.specs.Screen.{noteKind, screenOf}
+use Rattle.screen.specs.Screen.{noteKind, roomsOf, roomIn, screenOf}
 use Rattle.screen.specs.declared.Lengths.{Lengths}
 use Rattle.screen.specs.declared.Body.the-variants.{Page}
 use Rattle.screen.specs.declared.Placed.{Placed}
 use Rattle.screen.specs.declared.Screening.{Screening}
 use Rattle.screen.specs.declared.Screening.the-variants.{Refused, Passed}
-use Rattle.arrival.specs.Arrive.{World, Outcome, bufferOf, deedOf, done, receiveOf}
+use Rattle.arrival.specs.Arrive.{World, Outcome, bufferOf, standing, deedOf, unchanged, done, receiveOf}
 use Rattle.arrival.specs.Windows.{windowStart, windowEnd, kindOf}
 use Rattle.arrival.specs.Demand.{File, answerNumber, isData, addressOf, ValidFile, isFound, Foreign, originOf, storageOf, headIn}
 use Rattle.arrival.proofs.Heads.{kind-same}
@@ -35,7 +38,7 @@ use Rattle.arrival.proofs.Count.{Blocks, bodyOf, placedOf, Opens, Carri
 use Rattle.arrival.proofs.Effect.{Fits, Valid, spans-true, spans-is}
 use Rattle.arrival.proofs.Screening.{flashOf, lens, Board, Passing, Good, screen-good, screen-turn, note-counted, room-origin, passing-few, passing-fits}
 use Rattle.arrival.proofs.DecisionFacts.{Rows, stopped, through, rows, raised-number}
-use Rattle.arrival.proofs.Lists.{receive-refused, receive-passed, Met}
+use Rattle.arrival.proofs.Lists.{receive-refused, receive-passed, Reached}
 use Rattle.arrival.proofs.Runs.{Steady}
 
 -- ---- an arrival that earns 4 or more has passed rows 1 to 3
@@ -52,7 +55,15 @@ earned s w a h = go (rows s w a)
 -- ---- a valid file
 
 abbrev pub blocksOf : Settings → World → File → Blocks
-blocksOf s w F = record { file = F; at = λ k. storageOf s w F k }
+blocksOf s w F = record { file = F; at = λ k. storageOf s w F k; stands = λ f k. standing s f (F .block k) }
+
+-- the place of its family in the flash
+pub record Located (s : Settings) (w : World) (F : File) : Type 0 where
+  pub start : ℕ
+  pub size : ℕ
+  pub place : placeOf s (flashOf w) (F .family) ≡ At start size
+  pub first : start % 4096 ≡ 0
+  pub within : start + size ≤ flashOf w
 
 module _ (s : Settings) (w : World) (F : File) (idle : w .transfer ≡ Idle) (ok : ValidFile s w F) where
   pub board : Board s w
@@ -65,7 +76,7 @@ module _ (s : Settings) (w : World) (F : File) (idle : w .transfer ≡ Idle) (ok
 
   first : (a : List ℕ) → length a ≡ 512 → (x : Screening) → screenOf s (lens w) (w .transfer) a ≡ x → Earned a x
   first a l (Refused x) e = ap (λ (o : Outcome). o .answer) (receive-refused s w a board l x e)
-  first a l (Passed g) e = rw (receive-passed s w a board l g e) (unfold arrive stepOf done accepted in rw idle (raised-number (deedOf (g .body)) (g .head) 1))
+  first a l (Passed g) e = rw (receive-passed s w a board l g e) (unfold arrive stepOf done accepted in rw idle (raised-number (deedOf (standing s (w .held .flash) a) g) (g .head) 1))
 
   -- a block of the file passes
   passed : (k : ℕ) → k < F .total → (g : Placed) × (screenOf s (lens w) (w .transfer) (F .block k) ≡ Passed g) × Passing s w (F .block k) g
@@ -93,7 +104,7 @@ module _ (s : Settings) (w : World) (F : File) (idle : w .transfer ≡ Idle) (ok
   in-window k h y = lies-true (F .kind) (addressOf F k) (ok .kinds k h y)
 
   -- a file with a comment is one of flash
-  comment-flash : (k : ℕ) → k < F .total → hasFlag (F .block k) 0x1 ≡ true → F .kind ≡ Flash
+  pub comment-flash : (k : ℕ) → k < F .total → hasFlag (F .block k) 0x1 ≡ true → F .kind ≡ Flash
   comment-flash k h y =
       split (sameKind (F .kind) Flash)
       (kind-same (F .kind) Flash)
@@ -130,7 +141,17 @@ module _ (s : Settings) (w : World) (F : File) (idle : w .transfer ≡ Idle) (ok
       let b : passed k h .0 .body ≡ bodyOf (blocksOf s w F) k = body-is k h in
       λ i. record { head = e i; number = n i; body = b i }
 
-  screen-block : (k : ℕ) → k < F .total → screenOf s (lens w) (w .transfer) (F .block k) ≡ Passed (placedOf (blocksOf s w F) k)
+  -- a file of flash has one
+  pub located : F .kind ≡ Flash → Located s w F
+  located flat =
+      let p = passed 0 (ok .some) .2 in
+      let k : kindOf w (F .block 0) ≡ Flash = kind-is 0 (ok .some) ∙ flat in
+      let e : placeOf s (flashOf w) (F .family) ≡ At (p .start) (p .size) =
+      sym (λ i. roomIn (roomsOf s (flashOf w) (ok .families 0 (ok .some) i)) (k i)) ∙ p .place in
+      let i = place-inside s (flashOf w) (F .family) (board .flash) (board .good) (p .start) (p .size) e in
+      record { start = p .start; size = p .size; place = e; first = i .0; within = i .2 }
+
+  pub screen-block : (k : ℕ) → k < F .total → screenOf s (lens w) (w .transfer) (F .block k) ≡ Passed (placedOf (blocksOf s w F) k)
   screen-block k h = passed k h .1 ∙ ap Passed (placed-is k h)
 
   pub valid : Valid (blocksOf s w F) (w .held)
@@ -175,7 +196,7 @@ module _ (s : Settings) (w : World) (F : File) (idle : w .transfer ≡ Idle) (ok
 
   -- ---- a foreign arrival
 
-  screen-foreign : (a : List ℕ) → Foreign s w F a → (screenOf s (lens w) (w .transfer) a ≡ Refused (receiveOf s w a .answer)) × (length a ≡ 512)
+  pub screen-foreign : (a : List ℕ) → Foreign s w F a → (screenOf s (lens w) (w .transfer) a ≡ Refused (receiveOf s w a .answer)) × (length a ≡ 512)
   screen-foreign a f = (go (screenOf s (lens w) (w .transfer) a) refl, l)
     where
       l : length a ≡ 512
@@ -188,7 +209,7 @@ module _ (s : Settings) (w : World) (F : File) (idle : w .transfer ≡ Idle) (ok
   -- ---- what is screened stays so all through a list
 
   -- a comment that is flash's at the start stays so, where the file is flash's or the comment is of another family or total
-  turn : (v : World) → Met s w v → Carried (blocksOf s w F) w (v .transfer) → (a : List ℕ)
+  turn : (v : World) → Reached s w v → Carried (blocksOf s w F) w (v .transfer) → (a : List ℕ)
       → (isFound (headerOf a) ≡ true → hasFlag a 0x1 ≡ true → (F .kind ≡ Flash) ⊎ (eqb (F .family) (fieldAt a 28) && eqb (F .total) (fieldAt a 24) ≡ false))
       → screenOf s (lens v) (v .transfer) a ≡ screenOf s (lens w) (w .transfer) a
   turn v m c a o =
@@ -204,7 +225,7 @@ module _ (s : Settings) (w : World) (F : File) (idle : w .transfer ≡ Idle) (ok
       c)
 
   -- "no foreign arrival is a comment of its family and total"
-  foreign-apart : (a : List ℕ) → Foreign s w F a → isFound (headerOf a) ≡ true → hasFlag a 0x1 ≡ true
+  pub foreign-apart : (a : List ℕ) → Foreign s w F a → isFound (headerOf a) ≡ true → hasFlag a 0x1 ≡ true
       → (F .kind ≡ Flash) ⊎ (eqb (F .family) (fieldAt a 28) && eqb (F .total) (fieldAt a 24) ≡ false)
   foreign-apart a f d y =
       split (sameKind (F .kind) Flash)
@@ -213,15 +234,19 @@ module _ (s : Settings) (w : World) (F : File) (idle : w .transfer ≡ Idle) (ok
       let n : F .kind ≢ Flash = λ e. clash (sameKind (F .kind) Flash) (ap (λ (u : Kind). sameKind u Flash) e) z in
       inr (rw (d, y) at (f .quiet n)))
 
+  -- so a foreign arrival is answered all through the list as at its start
+  pub foreign-is : (v : World) → Reached s w v → Carried (blocksOf s w F) w (v .transfer) → (a : List ℕ) → Foreign s w F a
+      → receiveOf s v a ≡ unchanged v (receiveOf s w a .answer)
+  foreign-is v m c a f =
+      receive-refused s v a (m .board) (screen-foreign a f .1) (receiveOf s w a .answer) (turn v m c a (foreign-apart a f) ∙ screen-foreign a f .0)
+
   pub steady : Steady s w (blocksOf s w F) (Foreign s w F)
   steady =
       record {
         ours = λ v m c k h.
             receive-passed s v (F .block k) (m .board) (block-size k h) (placedOf (blocksOf s w F) k)
             (turn v m c (F .block k) (λ f y. inl (comment-flash k h y)) ∙ screen-block k h);
-        foreign = λ v m c a f.
-            receive-refused s v a (m .board) (screen-foreign a f .1) (receiveOf s w a .answer)
-            (turn v m c a (foreign-apart a f) ∙ screen-foreign a f .0);
+        foreign = λ v m c a f. ap (λ (o : Outcome). o .world) (foreign-is v m c a f);
         different = λ j k hj hk e. sym (ok .numbers j hj) ∙ ap (λ (x : List ℕ). fieldAt x 20) e ∙ ok .numbers k hk;
         apart = λ j h f. omega (arith, f .most, ok .passes j h);
       }

@@ -10,9 +10,14 @@ pub mod Facts
 pub mod Ram
 pub mod RamRows
 pub mod Comments
+pub mod Kept
 mod Lists
-mod Runs
+pub mod Runs
 mod Files
+mod Contents
+mod Guards
 pub mod Demand
+pub mod Regions
 pub mod Tally
 pub mod Before
+pub mod Stopped

@@ -16,7 +16,7 @@ use Rattle.screen.specs.Screen.{screenOf}
 use Rattle.screen.specs.declared.Lengths.{Lengths}
 use Rattle.screen.specs.declared.Placed.{Placed}
 use Rattle.screen.specs.declared.Screening.the-variants.{Refused, Passed}
-use Rattle.arrival.specs.Arrive.{World, Decision, ramLength, afterScreening, acceptOf, unchanged, done, receiveOf}
+use Rattle.arrival.specs.Arrive.{World, Decision, ramLength, standing, afterScreening, acceptOf, unchanged, done, receiveOf}
 use Rattle.arrival.specs.Facts.{Arrivals-keep-lengths}
 use Rattle.arrival.specs.Lists.{receiveAll}
 use Rattle.arrival.specs.Tally.{clears}
@@ -31,12 +31,14 @@ module _ (s : Settings) (w : World) (a : List ℕ) (B : Board s w) (l : length a
   pub receive-refused : (x : Answer) → screenOf s (lens w) (w .transfer) a ≡ Refused x → receiveOf s w a ≡ unchanged w x
   unfolding receiveOf
   receive-refused x e =
-      ap (done w (payloadOf a)) (board-decides s w a B l ∙ ap (afterScreening (w .transfer) (w .seen)) e) ∙ unfold afterScreening done in refl
+      ap (done w (payloadOf a)) (board-decides s w a B l ∙ ap (afterScreening (w .transfer) (w .seen) (standing s (w .held .flash) a)) e)
+      ∙ unfold afterScreening done in refl
 
-  pub receive-passed : (p : Placed) → screenOf s (lens w) (w .transfer) a ≡ Passed p → receiveOf s w a ≡ arrive w p a
+  pub receive-passed : (p : Placed) → screenOf s (lens w) (w .transfer) a ≡ Passed p → receiveOf s w a ≡ arrive w (standing s (w .held .flash) a) p a
   unfolding receiveOf
   receive-passed p e =
-      ap (done w (payloadOf a)) (board-decides s w a B l ∙ ap (afterScreening (w .transfer) (w .seen)) e) ∙ unfold afterScreening arrive in refl
+      ap (done w (payloadOf a)) (board-decides s w a B l ∙ ap (afterScreening (w .transfer) (w .seen) (standing s (w .held .flash) a)) e)
+      ∙ unfold afterScreening arrive in refl
 
 -- ---- rows 1 to 3 stay passed
 
@@ -73,14 +75,14 @@ board-next s w a B =
 -- ---- the worlds that a list from w on meets
 
 -- rows 1 to 3 are passed, and the buffers have w's lengths
-pub record Met (s : Settings) (w v : World) : Type 0 where
+pub record Reached (s : Settings) (w v : World) : Type 0 where
   pub board : Board s v
   pub lengths : lens v ≡ lens w
 
-pub met-next : (s : Settings) (w v : World) (a : List ℕ) → Met s w v → Met s w (receiveOf s v a .world)
-met-next s w v a m = record { board = board-next s v a (m .board); lengths = lens-next s v a ∙ m .lengths }
+pub reached-next : (s : Settings) (w v : World) (a : List ℕ) → Reached s w v → Reached s w (receiveOf s v a .world)
+reached-next s w v a m = record { board = board-next s v a (m .board); lengths = lens-next s v a ∙ m .lengths }
 
-pub met-after : (s : Settings) (w : World) (l : List (List ℕ)) (v : World) → Met s w v → Met s w (receiveAll s v l)
+pub reached-after : (s : Settings) (w : World) (l : List (List ℕ)) (v : World) → Reached s w v → Reached s w (receiveAll s v l)
 unfolding receiveAll
-met-after s w [] v m = m
-met-after s w (a ∷ l) v m = met-after s w l (receiveOf s v a .world) (met-next s w v a m)
+reached-after s w [] v m = m
+reached-after s w (a ∷ l) v m = reached-after s w l (receiveOf s v a .world) (reached-next s w v a m)

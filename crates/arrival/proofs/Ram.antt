@@ -6,7 +6,7 @@ use mathlib.Core.Bool.{Bool, false, cond}
 use mathlib.Core.List.{List}
 use native.Mathlib.Omega.{arith}
 use lib.ListN.{length, getD}
-use Rattle.sets.proofs.Tests.{split, clash}
+use Rattle.sets.proofs.Tests.{split, clash, is-false}
 use Rattle.block.specs.Block.{fieldAt, hasFlag}
 use Rattle.flash.specs.Flash.{payloadOf, spans}
 use Rattle.flash.proofs.Laws.{getD-payload}
@@ -16,7 +16,7 @@ use Rattle.transfer.specs.declared.Kind.{Kind}
 use Rattle.transfer.specs.declared.Kind.the-variants.{Flash, MainRam, XipRam}
 use Rattle.transfer.specs.declared.Accepted.{Accepted}
 use Rattle.screen.specs.declared.Placed.{Placed}
-use Rattle.arrival.specs.Arrive.{Held, World, Decision, bufferOf, accepts, deedOf, clearedIf, wipedIf, done, receiveOf}
+use Rattle.arrival.specs.Arrive.{Held, World, Decision, bufferOf, accepts, clearedIf, wipedIf, done, receiveOf}
 use Rattle.arrival.specs.Demand.{originOf}
 use Rattle.arrival.specs.Windows.{windowStart, kindOf, headOf}
 use Rattle.arrival.specs.Tally.{clears}
@@ -24,8 +24,8 @@ use Rattle.arrival.specs.Ram.{Other-kinds-kept, Ram-kept, Ram-stored, Ra
 use Rattle.arrival.proofs.Heads.{same-kind, kind-same}
 use Rattle.arrival.proofs.Effect.{getD-ram, sectors-ram, spans-is}
 use Rattle.arrival.proofs.Screening.{Board, Passing, room-origin}
-use Rattle.arrival.proofs.DecisionFacts.{DecisionFacts, kept, took, decision-facts, took-clears}
-use Rattle.arrival.proofs.Facts.{wiped-buffer, wiped-sectors, left-note, left-page, left-fits, left-other}
+use Rattle.arrival.proofs.DecisionFacts.{deedAt, DecisionFacts, kept, took, decision-facts, took-clears}
+use Rattle.arrival.proofs.Facts.{keepsAt, wiped-buffer, wiped-sectors, left-note, left-page, left-fits, left-other}
 
 -- ---- the other kinds
 
@@ -40,6 +40,12 @@ other-kinds-kept s w a k n = others s w a k (decision-facts s w a) n
 
 -- ---- a page in RAM
 
+-- nothing is kept there
+keeps-ram : (s : Settings) (w : World) (a : List ℕ) → kindOf w a ≢ Flash → keepsAt s w a ≡ false
+keeps-ram s w a n =
+    let z : sameKind (kindOf w a) Flash ≡ false = is-false (sameKind (kindOf w a) Flash) (λ y. n (kind-same (kindOf w a) Flash y)) in
+    rw z
+
 -- a place in RAM starts at 0
 ram-origin : (s : Settings) (w : World) (k : Kind) (f : ℕ) → k ≢ Flash → originOf s w k f ≡ 0
 ram-origin s w Flash f n = absurd (n refl)
@@ -53,14 +59,14 @@ module _ (s : Settings) (w : World) (a : List ℕ) (g : Placed) (c : Accepted) (
       room-origin s w B (fieldAt a 28) (kindOf w a) (q .start) (q .size) (q .place) ∙ ram-origin s w (kindOf w a) (fieldAt a 28) n
 
   page-bytes : hasFlag a 0x1 ≡ false → (j : ℕ)
-      → getD (bufferOf (kindOf w a) (done w (payloadOf a) (accepts g (deedOf (g .body)) c) .world .held)) j 0
+      → getD (bufferOf (kindOf w a) (done w (payloadOf a) (accepts g (deedAt s w a g) c) .world .held)) j 0
       ≡ cond (spans (fieldAt a 12 - windowStart (kindOf w a)) j) (getD (payloadOf a) (j - (fieldAt a 12 - windowStart (kindOf w a))) 0) (getD (bufferOf (kindOf w a) (w .held)) j 0)
   page-bytes z j =
       let k = kindOf w a in
       let x = fieldAt a 12 - windowStart k in
       let h = wipedIf (c .clears) (w .held) in
       let e : q .start + x ≡ x = omega (arith, start-zero) in
-      ap (λ (v : Held). getD (bufferOf k v) j 0) (left-page s w a g c q B z)
+      ap (λ (v : Held). getD (bufferOf k v) j 0) (left-page s w a g c q B z (keeps-ram s w a n))
       ∙ getD-ram k (q .start + x) (payloadOf a) h n (left-fits s w a g c q B z l) j
       ∙ ap (λ (i : ℕ). cond (spans i j) (getD (payloadOf a) (j - i) 0) (getD (bufferOf k h) j 0)) e
       ∙ ap (λ (b : List ℕ). cond (spans x j) (getD (payloadOf a) (j - x) 0) (getD b j 0)) (wiped-buffer (c .clears) (w .held) k)
@@ -75,7 +81,7 @@ stay s w a k j (took g c B l q t) n e =
     (λ z. ap (λ (b : List ℕ). getD b j 0) (left-other s w a g c q B k (λ r. clash (sameKind k (kindOf w a)) (ap (sameKind k) (sym r) ∙ same-kind k) z)))
   where
     own : (k : Kind) → k ≡ kindOf w a → k ≢ Flash → spans (fieldAt a 12 - windowStart k) j ≡ false
-        → getD (bufferOf k (done w (payloadOf a) (accepts g (deedOf (g .body)) c) .world .held)) j 0 ≡ getD (bufferOf k (w .held)) j 0
+        → getD (bufferOf k (done w (payloadOf a) (accepts g (deedAt s w a g) c) .world .held)) j 0 ≡ getD (bufferOf k (w .held)) j 0
     own k r n e =
         rw r
         (split (hasFlag a 0x1)
@@ -115,7 +121,7 @@ no-mark s w a (took g c B l q t) m n =
     split (hasFlag a 0x1)
     (λ y. ap (λ (v : Held). v .sectors) (left-note s w a g c q B y))
     (λ z.
-    ap (λ (v : Held). v .sectors) (left-page s w a g c q B z)
+    ap (λ (v : Held). v .sectors) (left-page s w a g c q B z (keeps-ram s w a n))
     ∙ sectors-ram (kindOf w a) (q .start + (fieldAt a 12 - windowStart (kindOf w a))) (payloadOf a) (wipedIf (c .clears) (w .held)) n)
     ∙ wiped-sectors (c .clears) (w .held)
     ∙ ap (λ (b : Bool). clearedIf b (w .held .sectors)) (took-clears t ∙ ap (clears (w .transfer)) (q .head))

@@ -37,7 +37,7 @@ use Rattle.screen.specs.declared.Window.{Window}
 use Rattle.screen.specs.declared.Window.the-variants.{Outside, In}
 use Rattle.screen.specs.declared.Screening.{Screening}
 use Rattle.screen.specs.declared.Screening.the-variants.{Refused, Passed}
-use Rattle.arrival.specs.Arrive.{World, Decision, deedOf, afterScreening, decided, done, receiveOf}
+use Rattle.arrival.specs.Arrive.{World, Decision, standing, deedOf, afterScreening, decided, done, receiveOf}
 use Rattle.arrival.specs.Windows.{windowStart, windowEnd, kindOf}
 use Rattle.arrival.specs.Ram.{RamFamily, named, user, Ram-families, Ram-addresses}
 use Rattle.arrival.proofs.Windows.{start-is}
@@ -175,10 +175,10 @@ module _ (s : Settings) (w : World) (a : List ℕ) where
   screen-8 n = row-8 n (headerOf a) (fielded a)
 
   -- the answer to an arrival that has passed rows 1 to 3
-  answered : (x : Screening) → Placed8 x → numberOf (done w (payloadOf a) (afterScreening (w .transfer) (w .seen) x) .answer) ≢ 8
+  answered : (b : Bool) (x : Screening) → Placed8 x → numberOf (done w (payloadOf a) (afterScreening (w .transfer) (w .seen) b x) .answer) ≢ 8
   unfolding afterScreening
-  answered (Refused x) n = unfold done in n
-  answered (Passed g) n = λ e. omega (arith, step-late w (payloadOf a) g (deedOf (g .body)) (w .transfer) (markedIn (w .seen) (g .number)))
+  answered b (Refused x) n = unfold done in n
+  answered b (Passed g) n = λ e. omega (arith, step-late w (payloadOf a) g (deedOf b g) (w .transfer) (markedIn (w .seen) (g .number)))
 
 -- what the claim says of a decision
 abbrev Says : Settings → World → List ℕ → Decision → Type 0
@@ -186,17 +186,18 @@ Says s w a d =
     (9 ≤ numberOf (done w (payloadOf a) d .answer) → RamFamily s (fieldAt a 28))
     × (RamFamily s (fieldAt a 28) → numberOf (done w (payloadOf a) d .answer) ≢ 8)
 
-over : (w : World) (p : List ℕ) (x : Screening) (y : Answer) → x ≡ Refused y → numberOf y ≤ 8
-    → 9 ≤ numberOf (done w p (afterScreening (w .transfer) (w .seen) x) .answer) → ⊥
+over : (w : World) (p : List ℕ) (b : Bool) (x : Screening) (y : Answer) → x ≡ Refused y → numberOf y ≤ 8
+    → 9 ≤ numberOf (done w p (afterScreening (w .transfer) (w .seen) b x) .answer) → ⊥
 unfolding afterScreening done
-over w p x y e h l = let q : 9 ≤ numberOf y = rw e at l in omega arith
+over w p b x y e h l = let q : 9 ≤ numberOf y = rw e at l in omega arith
 
-screened : (s : Settings) (w : World) (a : List ℕ) → Board s w → (x : Screening) → Row8 s w a x → Says s w a (afterScreening (w .transfer) (w .seen) x)
-screened s w a B x r =
+screened : (s : Settings) (w : World) (a : List ℕ) → Board s w → (b : Bool) (x : Screening) → Row8 s w a x
+    → Says s w a (afterScreening (w .transfer) (w .seen) b x)
+screened s w a B b x r =
     let few = good-count s (flashOf w) (B .good) in (
       λ l. split (ramFamily s (fieldAt a 28)) (ram-yes s (fieldAt a 28) few)
-          (λ z. let y = r .others z in absurd (over w (payloadOf a) x (y .0) (y .1) (y .2) l)),
-      λ m. answered s w a x (r .those (ram-is s (fieldAt a 28) few m)),
+          (λ z. let y = r .others z in absurd (over w (payloadOf a) b x (y .0) (y .1) (y .2) l)),
+      λ m. answered s w a b x (r .those (ram-is s (fieldAt a 28) few m)),
     )
 
 pub ram-families : Ram-families
@@ -206,7 +207,7 @@ ram-families s w a n = go (rows s w a)
     go : Rows s w a → Says s w a (decided s w a)
     go (stopped x h e) = subst (Says s w a) (sym e) (unfold done in (λ l. absurd (omega arith), λ m q. omega arith))
     go (through B l) =
-        subst (Says s w a) (sym (board-decides s w a B l)) (screened s w a B (screenOf s (lens w) (w .transfer) a) (screen-8 s w a n))
+        subst (Says s w a) (sym (board-decides s w a B l)) (screened s w a B (standing s (w .held .flash) a) (screenOf s (lens w) (w .transfer) a) (screen-8 s w a n))
 
 -- ---- row 11
 
@@ -268,11 +269,11 @@ module _ (s : Settings) (w : World) (a : List ℕ) (n : kindOf w a ≢ Flash) (z
   unfolding screenOf screenIn
   past-screen e = past-header (headerOf a) (fielded a) e
 
-  past-answer : (x : Screening) → numberOf (done w (payloadOf a) (afterScreening (w .transfer) (w .seen) x) .answer) ≡ 11 → screeningNumber x ≡ 11
+  past-answer : (b : Bool) (x : Screening) → numberOf (done w (payloadOf a) (afterScreening (w .transfer) (w .seen) b x) .answer) ≡ 11 → screeningNumber x ≡ 11
   unfolding afterScreening
-  past-answer (Refused x) e = unfold done in e
-  past-answer (Passed g) e =
-      absurd (omega (arith, step-late w (payloadOf a) g (deedOf (g .body)) (w .transfer) (markedIn (w .seen) (g .number))))
+  past-answer b (Refused x) e = unfold done in e
+  past-answer b (Passed g) e =
+      absurd (omega (arith, step-late w (payloadOf a) g (deedOf b g) (w .transfer) (markedIn (w .seen) (g .number))))
 
   pub past-end : numberOf (receiveOf s w a .answer) ≡ 11 → Past
   unfolding receiveOf
@@ -283,7 +284,7 @@ module _ (s : Settings) (w : World) (a : List ℕ) (n : kindOf w a ≢ Flash) (z
           let q : numberOf x ≡ 11 = unfold done in ap (λ (d : Decision). numberOf (done w (payloadOf a) d .answer)) (sym d) ∙ e in
           absurd (omega arith)
       go (through B l) =
-          past-screen (past-answer (screenOf s (lens w) (w .transfer) a)
+          past-screen (past-answer (standing s (w .held .flash) a) (screenOf s (lens w) (w .transfer) a)
           (ap (λ (d : Decision). numberOf (done w (payloadOf a) d .answer)) (sym (board-decides s w a B l)) ∙ e))
 
 pub ram-addresses : Ram-addresses

@@ -22,7 +22,7 @@ use Rattle.place.specs.Place.{wholeIf, ramFamily}
 use Rattle.place.specs.declared.Place.{Place}
 use Rattle.place.specs.declared.Place.the-variants.{Nowhere, At}
 use Rattle.place.proofs.Theorems.{place-inside}
-use Rattle.transfer.specs.Transfer.{numberOf, headWith, goodState, counted}
+use Rattle.transfer.specs.Transfer.{numberOf, sameKind, headWith, goodState, counted}
 use Rattle.transfer.specs.declared.Kind.{Kind}
 use Rattle.transfer.specs.declared.Kind.the-variants.{Flash, MainRam, XipRam}
 use Rattle.transfer.specs.declared.Head.{Head}
@@ -31,7 +31,7 @@ use Rattle.transfer.specs.declared.State.the-variants.{Idle, Running, Done}
 use Rattle.screen.specs.Screen.{extentOf, isLent, windowOf, noteKind, roomsOf, roomIn, badNumbers, badAddress, placed, strayed, noted, windowKind, dataFound, noteFound, found, afterHeader, screenIn, screenOf}
 use Rattle.screen.proofs.Laws.{numbers-false, found-comment, found-data}
 use Rattle.screen.proofs.Windows.{InWindow, WindowFacts, window-facts, in-room}
-use Rattle.transfer.specs.declared.Deed.the-variants.{Stores, Notes}
+use Rattle.transfer.specs.declared.Deed.the-variants.{Stores, Notes, Keeps}
 use Rattle.screen.specs.declared.Lengths.{Lengths}
 use Rattle.screen.specs.declared.Rooms.{Rooms}
 use Rattle.screen.specs.declared.Window.{Window}
@@ -366,5 +366,11 @@ module _ (s : Settings) (w : World) (a : List ℕ) (g : Placed) (p : Passing s w
   pub passing-note : hasFlag a 0x1 ≡ true → g .body ≡ Note
   passing-note y = p .body ∙ rw y
 
-  pub passing-deed : deedOf (g .body) ≡ cond (hasFlag a 0x1) Notes Stores
-  passing-deed = split (hasFlag a 0x1) (λ y. rw (passing-note y, y)) (λ z. rw (passing-body z, z))
+-- what it does once it is accepted, where what it would store stands or not
+pub passing-deed : (s : Settings) (w : World) (a : List ℕ) (g : Placed) → Passing s w a g → (b : Bool)
+    → deedOf b g ≡ cond (hasFlag a 0x1) Notes (cond (sameKind (kindOf w a) Flash && b) Keeps Stores)
+passing-deed s w a g p b =
+    let e : g .head .kind ≡ kindOf w a = ap (λ (h : Head). h .kind) (p .head) in
+    split (hasFlag a 0x1)
+    (λ y. let n : g .body ≡ Note = p .body ∙ rw y in rw (n, y))
+    (λ z. let n : g .body ≡ Page (p .start + (fieldAt a 12 - windowStart (kindOf w a))) = p .body ∙ rw z in rw (n, z, e))

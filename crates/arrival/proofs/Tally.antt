@@ -21,12 +21,12 @@ use Rattle.transfer.specs.declared.State.{State}
 use Rattle.transfer.specs.declared.State.the-variants.{Idle, Running, Done}
 use Rattle.transfer.specs.declared.Deed.{Deed}
 use Rattle.transfer.specs.declared.Accepted.{Accepted}
-use Rattle.arrival.specs.Arrive.{World, Outcome, Decision, deedOf, clearedIf, acceptOf, done, receiveOf}
+use Rattle.arrival.specs.Arrive.{World, Outcome, Decision, clearedIf, acceptOf, done, receiveOf}
 use Rattle.arrival.specs.Lists.{Delivery, playAll}
 use Rattle.arrival.specs.Windows.{headOf}
 use Rattle.arrival.specs.Tally.{isAccepted, clears, acceptedBy, acceptedOf, anyAccepted, Count-is-marks}
 use Rattle.arrival.proofs.Screening.{passing-few}
-use Rattle.arrival.proofs.DecisionFacts.{AcceptFacts, took-number, DecisionFacts, kept, took, decision-facts}
+use Rattle.arrival.proofs.DecisionFacts.{AcceptFacts, took-number, deedAt, DecisionFacts, kept, took, decision-facts}
 
 -- ---- the transfer and the seen map, A being what was accepted since the last clearing
 
@@ -106,7 +106,7 @@ keeping s w a A (took g k B l q t) e =
     let total : g .head .total ≡ fieldAt a 24 = ap (λ (h : Head). h .total) (q .head) in
     let few : g .head .total ≤ 131072 = omega (arith, passing-few s w a g q B) in
     let below : g .number < g .head .total = omega (arith, q .number, q .below) in
-    let r = ready (w .transfer) (w .seen) A (g .head) (g .number) (deedOf (g .body)) k (B .seen) few below t e b refl in
+    let r = ready (w .transfer) (w .seen) A (g .head) (g .number) (deedAt s w a g) k (B .seen) few below t e b refl in
     let c : cond b 0 (countOf (w .transfer)) + 1 ≡ cond b 1 (countOf (w .transfer) + 1) = plus b in
     let f : k .transfer .state ≡ counted (g .head) (cond b 0 (countOf (w .transfer)) + 1) =
     ap (λ (x : Accepted). x .transfer .state) (t .is) ∙ ap (counted (g .head)) (sym c) in

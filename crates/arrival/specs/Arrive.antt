@@ -6,14 +6,20 @@ use lib.Dec.{eqb}
 use lib.ListN.{length}
 use Rattle.bitmap.specs.Bitmap.{markedIn, withMark, unmarked}
 use Rattle.flash.specs.Flash.{flashLength, eraseAt, payloadOf, storeAt}
+use Rattle.block.specs.Block.{fieldAt, hasFlag}
+use Rattle.block.specs.Region.{regionOf}
+use Rattle.region.specs.Regions.{goodRegion, standsIn}
 use Rattle.settings.specs.Settings.{goodSettings}
 use Rattle.settings.specs.declared.Settings.{Settings}
-use Rattle.transfer.specs.Transfer.{numberOf, goodState, stepOf}
+use Rattle.place.specs.Place.{placeOf}
+use Rattle.place.specs.declared.Place.{Place}
+use Rattle.place.specs.declared.Place.the-variants.{Nowhere, At}
+use Rattle.transfer.specs.Transfer.{sameKind, numberOf, goodState, stepOf}
 use Rattle.transfer.specs.declared.Kind.{Kind}
 use Rattle.transfer.specs.declared.Kind.the-variants.{Flash, MainRam, XipRam}
 use Rattle.transfer.specs.declared.State.{State}
 use Rattle.transfer.specs.declared.Deed.{Deed}
-use Rattle.transfer.specs.declared.Deed.the-variants.{Stores, Notes}
+use Rattle.transfer.specs.declared.Deed.the-variants.{Stores, Notes, Keeps}
 use Rattle.transfer.specs.declared.Accepted.{Accepted}
 use Rattle.transfer.specs.declared.Step.{Step}
 use Rattle.transfer.specs.declared.Step.the-variants.{Stays, Accepts}
@@ -79,12 +85,12 @@ pub record Outcome : Type 0 where
 abbrev pub outcomeNumber : Outcome → ℕ
 outcomeNumber o = numberOf (o .answer)
 
--- ---- what decides: settings, lengths, transfer, seen map and arrival; no byte of flash or RAM, and no sector map
+-- ---- what decides: settings, lengths, transfer, seen map and arrival, and of flash one yes or no (02, L9); no byte of RAM, and no sector map
 
 -- what an arrival comes to, before anything is written
 pub data Decision : Type 0 where
   stays : Answer → Decision  -- answers 1 to 13: nothing changes
-  accepts : Placed → Deed → Accepted → Decision  -- answers 14 to 16
+  accepts : Placed → Deed → Accepted → Decision  -- answers 14 to 17
 
 -- "its own lent buffer of exactly that length, or empty .. other lengths are answer 1" (02, L8)
 abbrev pub ramLength : Kind → ℕ → Bool
@@ -95,33 +101,48 @@ unfoldable pub rightLengths : ℕ → Lengths → ℕ → ℕ → Bool
 rightLengths a n m k =
     eqb a 512 && flashLength (n .flash) && eqb m 16384 && eqb k 1024 && ramLength MainRam (n .main) && ramLength XipRam (n .xip)
 
--- what a block does once it is accepted, by what it holds
-abbrev pub deedOf : Body → Deed
-deedOf (Page at) = Stores
-deedOf Note = Notes
+-- what an arrival would store in a place of the flash stands there: flag 0x4000, and "the region is whole sectors, not empty, within the place and
+-- around the block, and flash there has that digest" (02, L9)
+unfoldable pub standsAt : List ℕ → Place → List ℕ → Bool
+standsAt flash Nowhere a = false
+standsAt flash (At start size) a = hasFlag a 0x4000 && goodRegion size (fieldAt a 12) (regionOf a) && standsIn flash start (regionOf a)
+
+-- in the place of its family
+abbrev pub standing : Settings → List ℕ → List ℕ → Bool
+standing s flash a = standsAt flash (placeOf s (length flash) (fieldAt a 28)) a
+
+-- what a page does once it is accepted, where it is kept or not, and what a comment does
+abbrev pub bodyDeed : Bool → Body → Deed
+bodyDeed kept (Page at) = cond kept Keeps Stores
+bodyDeed kept Note = Notes
+
+-- what a block does once it is accepted: "For a flash data block" that stands, "store nothing" (02, L9)
+abbrev pub deedOf : Bool → Placed → Deed
+deedOf kept p = bodyDeed (sameKind (p .head .kind) Flash && kept) (p .body)
 
 -- a block that passed the screening changes nothing, by 12 or 13, or is accepted
 abbrev pub stepped : Placed → Deed → Step → Decision
 stepped p d (Stays x) = stays (x .answer)
 stepped p d (Accepts t) = accepts p d t
 
--- rows 12 to 15 (and 16), of what the screening gives
-unfoldable pub afterScreening : State → List ℕ → Screening → Decision
-afterScreening t seen (Refused x) = stays x
-afterScreening t seen (Passed p) =
-    stepped p (deedOf (p .body)) (stepOf t (p .head) (markedIn seen (p .number)) (deedOf (p .body)))
+-- rows 12 to 15 (and 16, 17), of what the screening gives
+unfoldable pub afterScreening : State → List ℕ → Bool → Screening → Decision
+afterScreening t seen kept (Refused x) = stays x
+afterScreening t seen kept (Passed p) =
+    stepped p (deedOf kept p) (stepOf t (p .head) (markedIn seen (p .number)) (deedOf kept p))
 
--- every row, for buffers of lengths n and a sector map of k bytes
-unfoldable pub decide : Settings → Lengths → ℕ → State → List ℕ → List ℕ → Decision
-decide s n k t seen a =
+-- every row, for buffers of lengths n and a sector map of k bytes, where what the arrival would store in the flash stands there or not
+unfoldable pub decide : Settings → Lengths → ℕ → State → List ℕ → Bool → List ℕ → Decision
+decide s n k t seen kept a =
     cond (not (rightLengths (length a) n (length seen) k)) (stays BadBuffers)
     (cond (not (goodSettings s (n .flash))) (stays BadSettings)
     (cond (not (goodState t)) (stays BadState)
-    (afterScreening t seen (screenOf s n t a))))
+    (afterScreening t seen kept (screenOf s n t a))))
 
--- what an arrival comes to in a world: nothing of flash, RAM and sector map is asked but their lengths
+-- what an arrival comes to in a world: of flash its length and whether the arrival stands in it are asked, of RAM and sector map their lengths
 abbrev pub decided : Settings → World → List ℕ → Decision
-decided s w a = decide s (lengthsOf (w .held)) (length (w .held .sectors)) (w .transfer) (w .seen) a
+decided s w a =
+    decide s (lengthsOf (w .held)) (length (w .held .sectors)) (w .transfer) (w .seen) (standing s (w .held .flash) a) a
 
 -- ---- what is done
 
@@ -154,10 +175,11 @@ abbrev pub atOf : Body → ℕ
 atOf (Page at) = at
 atOf Note = 0
 
--- a page is stored in the buffer of its kind; a comment "sets no flash byte or sector mark" (02, L3)
+-- a page is stored in the buffer of its kind; a comment "sets no flash byte or sector mark" (02, L3), and what stands is not rewritten (02, L9)
 abbrev pub doneTo : Deed → Kind → ℕ → List ℕ → Held → Held
 doneTo Stores k at payload h = pagedAt k at payload h
 doneTo Notes k at payload h = h
+doneTo Keeps k at payload h = h
 
 -- "the number marked, the count raised", of a block that is accepted
 unfoldable pub acceptOf : World → List ℕ → Placed → Deed → Accepted → World

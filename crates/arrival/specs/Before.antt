@@ -24,7 +24,7 @@ use Rattle.screen.specs.declared.Body.{Body}
 use Rattle.screen.specs.declared.Body.the-variants.{Page, Note}
 use Rattle.screen.specs.declared.Screening.{Screening}
 use Rattle.screen.specs.declared.Screening.the-variants.{Refused, Passed}
-use Rattle.arrival.specs.Arrive.{World, Outcome, outcomeNumber, Decision, stays, afterScreening, unchanged, done, receiveOf}
+use Rattle.arrival.specs.Arrive.{World, Outcome, outcomeNumber, Decision, stays, standing, afterScreening, unchanged, done, receiveOf}
 use Rattle.arrival.specs.Windows.{lies}
 
 -- row 10: "total 0, total x 256 over the place, or number >= total"
@@ -59,18 +59,19 @@ foundBefore (At start size) b = cond (b .comment) (notedBefore size b) (placedBe
 unfoldable pub screenBefore : Settings → ℕ → List ℕ → Screening
 screenBefore s len a = afterHeader (headerOf a) (foundBefore (placeOf s len (fieldAt a 28)))
 
--- every row
-unfoldable pub decideBefore : Settings → ℕ → ℕ → State → List ℕ → List ℕ → Decision
-decideBefore s f k t seen a =
+-- every row; what stands in the flash is kept as it is now (02, L9)
+unfoldable pub decideBefore : Settings → ℕ → ℕ → State → List ℕ → Bool → List ℕ → Decision
+decideBefore s f k t seen kept a =
     cond (not (eqb (length a) 512 && flashLength f && eqb (length seen) 16384 && eqb k 1024)) (stays BadBuffers)
     (cond (not (goodSettings s f)) (stays BadSettings)
     (cond (not (goodState t)) (stays BadState)
-    (afterScreening t seen (screenBefore s f a))))
+    (afterScreening t seen kept (screenBefore s f a))))
 
 -- one arrival
 unfoldable pub receiveBefore : Settings → World → List ℕ → Outcome
 receiveBefore s w a =
-    done w (payloadOf a) (decideBefore s (length (w .held .flash)) (length (w .held .sectors)) (w .transfer) (w .seen) a)
+    done w (payloadOf a)
+    (decideBefore s (length (w .held .flash)) (length (w .held .sectors)) (w .transfer) (w .seen) (standing s (w .held .flash) a) a)
 
 -- ---- the claims
 

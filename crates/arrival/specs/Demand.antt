@@ -4,13 +4,15 @@ use Prim.Native.Nat.{ℕ, _+_, _-_, _/_, _≤_, _<_}
 use mathlib.Core.Path.{_≡_}
 use mathlib.Core.Logic.{_≢_}
 use mathlib.Core.Bool.{Bool, true, false, not, cond, _&&_, _||_}
-use mathlib.Core.List.{List, [], _∷_, _++_}
+use mathlib.Core.List.{List, [], _∷_, _++_, map}
 use lib.Dec.{eqb, ltb, leb}
 use lib.ListN.{length, getD}
 use Rattle.sets.specs.Sets.{Set, none, add, size, any}
 use Rattle.bitmap.specs.Bitmap.{mapOf}
 use Rattle.flash.specs.Flash.{payloadOf, spans}
 use Rattle.block.specs.Block.{fieldAt, hasFlag, headerOf}
+use Rattle.block.specs.Region.{regionOf}
+use Rattle.region.specs.Regions.{goodRegion}
 use Rattle.block.specs.declared.Header.{Header}
 use Rattle.block.specs.declared.Header.the-variants as header
 use Rattle.settings.specs.declared.Settings.{Settings}
@@ -27,6 +29,7 @@ use Rattle.transfer.specs.declared.Answer.the-variants.{Finished, Again, Writte
 use Rattle.arrival.specs.Arrive.{World, bufferOf, lengthsOf, outcomeNumber, receiveOf}
 use Rattle.arrival.specs.Windows.{windowStart, lies}
 use Rattle.arrival.specs.Lists.{receiveAll, answersOf}
+use Rattle.arrival.specs.Kept.{soft}
 
 -- ---- a valid file
 
@@ -219,6 +222,25 @@ pub record Ends (s : Settings) (w : World) (F : File) (S : Set) (v : World) : Ty
   pub sector-map : 1 ≤ howMany F S → v .held .sectors ≡ mapOf 1024 (touchedBy s w F S)
   pub contents : Contents s w F S v
 
+-- ---- regions (02, L9)
+
+-- the bytes of a place
+abbrev pub sizeOf : Place → ℕ
+sizeOf Nowhere = 0
+sizeOf (At start size) = size
+
+-- block k names a region that counts: a flash data block with flag 0x4000, and "whole sectors, not empty, within the place and around the block"
+abbrev pub isGuarded : Settings → World → File → ℕ → Bool
+isGuarded s w F k =
+    sameKind (F .kind) Flash
+    && isData F k
+    && hasFlag (F .block k) 0x4000
+    && goodRegion (sizeOf (placeOf s (length (w .held .flash)) (F .family))) (addressOf F k) (regionOf (F .block k))
+
+-- a file without regions: none of its blocks names one that counts
+abbrev pub Plain : Settings → World → File → Type 0
+Plain s w F = (k : ℕ) → k < F .total → isGuarded s w F k ≡ false
+
 -- ---- the claims, of every valid file and every list, the empty one too, from an Idle transfer with buffers of any content
 
 -- what holds of every such start, file and list
@@ -227,13 +249,25 @@ EveryList P =
     (s : Settings) (w : World) (F : File) → w .transfer ≡ Idle → ValidFile s w F
     → (l : List (List ℕ)) → Sent s w F l → P s w F l
 
--- "what was lent at the start and the set of file blocks seen decide flash, maps and transfer, and nothing else does"
-unfoldable pub List-ends : Type 0
-List-ends = EveryList (λ s w F l. Ends s w F (seenOf F l) (receiveAll s w l))
+-- with regions or without: the set of file blocks seen decides transfer and seen map
+unfoldable pub List-counts : Type 0
+List-counts = EveryList (λ s w F l. Counts w F (seenOf F l) (receiveAll s w l))
 
--- the answer to each arrival of the list
+-- "For any file, every other byte of all three buffers stays.", of the buffers of other kinds
+unfoldable pub Other-kinds-stay : Type 0
+Other-kinds-stay = EveryList (λ s w F l. (u : Kind) → u ≢ F .kind → bufferOf u (receiveAll s w l .held) ≡ bufferOf u (w .held))
+
+-- the answer to each arrival of the list, with 17 told as 14
 unfoldable pub List-answers : Type 0
-List-answers = EveryList (λ s w F l. answersOf s w l ≡ repliesTo s w F none l)
+List-answers = EveryList (λ s w F l. map soft (answersOf s w l) ≡ repliesTo s w F none l)
+
+-- without regions: "what was lent at the start and the set of file blocks seen decide flash, maps and transfer, and nothing else does"
+unfoldable pub List-ends : Type 0
+List-ends = EveryList (λ s w F l. Plain s w F → Ends s w F (seenOf F l) (receiveAll s w l))
+
+-- and each answer is the one told
+unfoldable pub Plain-answers : Type 0
+Plain-answers = EveryList (λ s w F l. Plain s w F → answersOf s w l ≡ repliesTo s w F none l)
 
 -- "Completed" is answer 15
 abbrev pub isCompleted : Answer → Bool
@@ -246,14 +280,31 @@ Completed-exactly =
     → (l : List (List ℕ)) (a : List ℕ) → Sent s w F (l ++ (a ∷ []))
     → isCompleted (receiveOf s (receiveAll s w l) a .answer) ≡ not (isWhole F (seenOf F l)) && isWhole F (seenOf F (l ++ (a ∷ [])))
 
+-- the same blocks are seen in two lists
+abbrev pub SameSet : File → List (List ℕ) → List (List ℕ) → Type 0
+SameSet F l m = (k : ℕ) → k < F .total → seenOf F l k ≡ seenOf F m k
+
 -- "Two such lists with the same set, from the same start, end alike."
 unfoldable pub Same-set-same-end : Type 0
 Same-set-same-end =
     EveryList
-    (λ s w F l.
-    (m : List (List ℕ)) → Sent s w F m → ((k : ℕ) → k < F .total → seenOf F l k ≡ seenOf F m k)
-    → receiveAll s w l ≡ receiveAll s w m)
+    (λ s w F l. Plain s w F → (m : List (List ℕ)) → Sent s w F m → SameSet F l m → receiveAll s w l ≡ receiveAll s w m)
 
 -- "So do two such lists of the file played one after the other, whichever goes first."
 unfoldable pub Either-first : Type 0
-Either-first = EveryList (λ s w F l. (m : List (List ℕ)) → Sent s w F m → receiveAll s w (l ++ m) ≡ receiveAll s w (m ++ l))
+Either-first =
+    EveryList (λ s w F l. Plain s w F → (m : List (List ℕ)) → Sent s w F m → receiveAll s w (l ++ m) ≡ receiveAll s w (m ++ l))
+
+-- the same transfer and seen map
+pub record Same-count (v w : World) : Type 0 where
+  pub transfer : v .transfer ≡ w .transfer
+  pub seen : v .seen ≡ w .seen
+
+-- with regions or without
+unfoldable pub Same-set-same-count : Type 0
+Same-set-same-count =
+    EveryList (λ s w F l. (m : List (List ℕ)) → Sent s w F m → SameSet F l m → Same-count (receiveAll s w l) (receiveAll s w m))
+
+unfoldable pub Either-first-same-count : Type 0
+Either-first-same-count =
+    EveryList (λ s w F l. (m : List (List ℕ)) → Sent s w F m → Same-count (receiveAll s w (l ++ m)) (receiveAll s w (m ++ l)))

@@ -28,10 +28,11 @@ pub record Alike (v w : World) : Type 0 where
   pub lengths : lengthsOf (v .held) ≡ lengthsOf (w .held)
   pub sectors-length : length (v .held .sectors) ≡ length (w .held .sectors)
 
--- "Answers depend on the arrival, settings, transfer, seen map and lengths, never on a flash byte or the sector map.", nor on a byte of RAM
-unfoldable pub Answers-read-no-flash : Type 0
-Answers-read-no-flash =
-    (s : Settings) (v w : World) (a : List ℕ) → Alike v w
+-- "Answers depend on the arrival, settings, transfer, seen map and lengths, never on .. the sector map.", nor on a byte of RAM; what they read of
+-- flash is said in Kept.antt
+unfoldable pub Answers-read-no-map : Type 0
+Answers-read-no-map =
+    (s : Settings) (v w : World) (a : List ℕ) → Alike v w → v .held .flash ≡ w .held .flash
     → (receiveOf s v a .answer ≡ receiveOf s w a .answer) × (receiveOf s v a .discarded ≡ receiveOf s w a .discarded)
 
 -- every buffer keeps its length
@@ -70,11 +71,9 @@ Window-kept =
 abbrev pub flagged : ℕ → List ℕ → List ℕ
 flagged x a = set a 9 (getD a 9 0 + x)
 
--- "Flags 0x4000 and 0x8000 don't change an answer": either of them or both
-unfoldable pub Flags-ignored : Type 0
-Flags-ignored =
-    (s : Settings) (w : World) (a : List ℕ) (x : ℕ) → (x ≡ 0x40) ⊎ ((x ≡ 0x80) ⊎ (x ≡ 0xC0))
-    → receiveOf s w (flagged x a) ≡ receiveOf s w a
+-- "Flags .. 0x8000 don't change an answer", nor anything else; what 0x4000 changes is said in Kept.antt
+unfoldable pub Flag-0x8000-ignored : Type 0
+Flag-0x8000-ignored = (s : Settings) (w : World) (a : List ℕ) → receiveOf s w (flagged 0x80 a) ≡ receiveOf s w a
 
 -- 02, L7: "On the same inputs both give the old call's answer and "discarded""
 unfoldable pub Look-tells : Type 0

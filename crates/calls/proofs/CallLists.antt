@@ -1,6 +1,7 @@
 -- The claims of specs/CallLists.antt hold. Assumes nothing.
-use Prim.Native.Nat.{ℕ, zero, suc, _+_, _/_, _%_, _<_, _^_}
+use Prim.Native.Nat.{ℕ, zero, suc, _+_, _/_, _%_, _<_, _≤_, _^_}
 use mathlib.Core.Path.{_≡_, refl, sym, ap, subst, _∙_}
+use mathlib.Core.Logic.{_≢_}
 use mathlib.Core.Bool.{Bool, true, false, _||_, not}
 use mathlib.Core.List.{List, [], _∷_, _++_, map}
 use native.Mathlib.Nat.{pow-suc}
@@ -10,6 +11,7 @@ use lib.ListN.{length, getD, drop, length-take, length-drop}
 use lib.Seq.{getD-take, getD-drop}
 use borrow.Author.Tests.{ltb-true, ltb-false, le-leb, lt-leb, leb-true, leb-false, eqb-true, eqb-false, eq-eqb}
 use Rattle.sets.proofs.Tests.{split, clash, or-left, or-right}
+use Rattle.sets.specs.Sets.{Set}
 use Rattle.sets.proofs.Laws.{size-le}
 use Rattle.sets.specs.Bytes.{lowFirst, numberIn}
 use Rattle.block.specs.Block.{fieldAt}
@@ -17,6 +19,7 @@ use Rattle.record.specs.Write.{Bytes}
 use Rattle.settings.specs.declared.Settings.{Settings}
 use Rattle.transfer.specs.Transfer.{numberOf, kindNumber, goodState, counted, accepted}
 use Rattle.transfer.specs.declared.Head.{Head}
+use Rattle.transfer.specs.declared.Run.{Run}
 use Rattle.transfer.specs.declared.State.{State}
 use Rattle.transfer.specs.declared.State.the-variants.{Idle, Running, Done}
 use Rattle.transfer.specs.declared.Deed.{Deed}
@@ -28,11 +31,16 @@ use Rattle.arrival.specs.Lists.{receiveAll, answersOf, discardsOf, Delivery, pl
 use Rattle.arrival.specs.Facts.{Refusals-change-nothing, Look-tells}
 use Rattle.arrival.specs.Windows.{headOf}
 use Rattle.arrival.specs.Tally.{anyAccepted, Count-is-marks}
-use Rattle.arrival.specs.Demand.{seenOf, howMany, headIn, Ends, List-ends, Completed-exactly, Same-set-same-end, Either-first}
+use Rattle.arrival.specs.Demand.{File, seenOf, howMany, headIn, Counts, Contents, Ends, List-counts, List-ends, Completed-exactly, Same-set-same-end, Either-first}
+use Rattle.arrival.specs.Regions.{Regions-end}
+use Rattle.arrival.specs.Stopped.{EndsAlike, Stopped-then-good}
 use Rattle.arrival.proofs.DecisionFacts.{AcceptFacts, DecisionFacts, kept, took, took-number, decision-facts}
 use Rattle.arrival.proofs.Facts.{refusals-change-nothing, look-tells}
 use Rattle.arrival.proofs.Tally.{count-is-marks}
-use Rattle.arrival.proofs.Demand.{list-ends, completed-exactly, same-set-same-end, either-first}
+use Rattle.arrival.proofs.Demand.{list-counts, list-ends, completed-exactly, same-set-same-end, either-first}
+use Rattle.arrival.proofs.Runs.{mixed-map}
+use Rattle.arrival.proofs.Regions.{regions-end}
+use Rattle.arrival.proofs.Stopped.{stopped-then-good}
 use Rattle.layout.specs.Layout.{byteAt, stateFrom, settingsFrom, transferBytes, headBytes, stateBytes, withTransfer}
 use Rattle.layout.proofs.Refused.{state-length}
 use Rattle.layout.proofs.Transfers.{Small, written-back}
@@ -40,7 +48,7 @@ use Rattle.batch.specs.Batch.{resultOf, isAcceptance, arrivalsOf, resultsOf, an
 use Rattle.batch.proofs.Laws.{number-most}
 use Rattle.capi.specs.Calls as capi
 use Rattle.capi.specs.Calls.{lookResult, lookBytes, takeBytes, takeBatch}
-use Rattle.calls.specs.CallLists.{CallerState, call, leftBy, callAll, returnsOf, worldOf, AllBytes, Calls-are-arrivals, Calls-end, Calls-completed, Calls-same-set, Calls-either-first, Calls-are-one-call, Look-is-take, Call, looks, takes, playCalls, takenBy, Looks-change-nothing, Look-then-take}
+use Rattle.calls.specs.CallLists.{CallerState, call, leftBy, callAll, returnsOf, worldOf, AllBytes, Calls-are-arrivals, Calls-count, Calls-end, Calls-regions, Calls-completed, Calls-same-set, Calls-either-first, Calls-stopped, Calls-are-one-call, Look-is-take, Call, looks, takes, playCalls, takenBy, Looks-change-nothing, Look-then-take}
 
 -- ---- a field of bytes
 
@@ -233,32 +241,42 @@ kind-byte tag g c = refl
 
 -- ---- demand 3
 
-pub calls-end : Calls-end
-unfolding Calls-end List-ends
-calls-end s h F i v l t b =
+pub calls-count : Calls-count
+unfolding Calls-count List-counts
+calls-count s h F i v l t b =
     let z = settingsFrom s in
     let w = receiveAll z (worldOf h) l in
-    let E = list-ends z (worldOf h) F i v l t in
+    let E = list-counts z (worldOf h) F i v l t in
     let size = good-size (h .transfer) (rw i (unfold goodState in refl)) in
     let same = calls-left s h l i b in
     let bytes : (x : State) → isIdle x ≡ false → w .transfer ≡ x → callAll s h l .transfer ≡ stateBytes x =
     λ x n e. ap (λ (k : CallerState). k .transfer) same ∙ ap (λ (x : State). capi.keptTransfer (h .transfer) (not (isIdle x)) x) e ∙ busy-bytes (h .transfer) x size n in
     record {
-      ends = subst (Ends z (worldOf h) F (seenOf F l)) (sym (calls-world s h l b)) E;
-      untouched = λ m. same ∙ ap (leftOf h) (E .counts .untouched m) ∙ rw i;
-      going = λ m n. bytes _ refl (E .counts .going m n);
-      whole = λ m. bytes _ refl (E .counts .whole m);
+      counts = subst (Counts (worldOf h) F (seenOf F l)) (sym (calls-world s h l b)) E;
+      untouched = λ m. same ∙ ap (leftOf h) (E .untouched m) ∙ rw i;
+      going = λ m n. bytes _ refl (E .going m n);
+      whole = λ m. bytes _ refl (E .whole m);
       kind =
           λ m.
           let n = howMany F (seenOf F l) in
           let last : (x : State) → isIdle x ≡ false → w .transfer ≡ x → byteAt (callAll s h l .transfer) 13 ≡ byteAt (stateBytes x) 13 =
           λ x q e. ap (λ (t : List ℕ). byteAt t 13) (bytes x q e) in
           split (ltb n (F .total))
-          (λ y. last _ refl (E .counts .going m (ltb-true n (F .total) y)) ∙ kind-byte 1 (headIn F) n)
+          (λ y. last _ refl (E .going m (ltb-true n (F .total) y)) ∙ kind-byte 1 (headIn F) n)
           (λ z.
           let all : n ≡ F .total = omega (arith, ltb-false n (F .total) z, size-le (F .total) (seenOf F l)) in
-          last _ refl (E .counts .whole all) ∙ kind-byte 2 (headIn F) (F .total));
+          last _ refl (E .whole all) ∙ kind-byte 2 (headIn F) (F .total));
     }
+
+pub calls-end : Calls-end
+unfolding Calls-end List-ends
+calls-end s h F i v l t b p =
+    subst (Ends (settingsFrom s) (worldOf h) F (seenOf F l)) (sym (calls-world s h l b)) (list-ends (settingsFrom s) (worldOf h) F i v l t p)
+
+pub calls-regions : Calls-regions
+unfolding Calls-regions Regions-end
+calls-regions s h F i v l t b r c =
+    subst (Contents (settingsFrom s) (worldOf h) F (seenOf F l)) (sym (calls-world s h l b)) (regions-end (settingsFrom s) (worldOf h) F i v r l c)
 
 -- the answer's number in a result
 result-number : (x : Answer) (d : Bool) → resultOf (numberOf x) d % 128 ≡ numberOf x
@@ -276,9 +294,9 @@ calls-completed s h F i v l t b a u =
 
 pub calls-same-set : Calls-same-set
 unfolding Calls-same-set Same-set-same-end
-calls-same-set s h F i v l t b m u c e =
+calls-same-set s h F i v l t b p m u c e =
     calls-left s h l i b
-    ∙ ap (leftOf h) (same-set-same-end (settingsFrom s) (worldOf h) F i v l t m u e)
+    ∙ ap (leftOf h) (same-set-same-end (settingsFrom s) (worldOf h) F i v l t p m u e)
     ∙ sym (calls-left s h m i c)
 
 all-append : (l m : List (List ℕ)) → AllBytes l → AllBytes m → AllBytes (l ++ m)
@@ -287,10 +305,70 @@ all-append (a ∷ l) m b c = (b .0, all-append l m (b .1) c)
 
 pub calls-either-first : Calls-either-first
 unfolding Calls-either-first Either-first
-calls-either-first s h F i v l t b m u c =
+calls-either-first s h F i v l t b p m u c =
     calls-left s h (l ++ m) i (all-append l m b c)
-    ∙ ap (leftOf h) (either-first (settingsFrom s) (worldOf h) F i v l t m u)
+    ∙ ap (leftOf h) (either-first (settingsFrom s) (worldOf h) F i v l t p m u)
     ∙ sym (calls-left s h (m ++ l) i (all-append m l c b))
+
+-- ---- a stopped update, then a good one
+
+-- where the transfer moves, its bytes are written
+moved-bytes : (s : List ℕ) (h : CallerState) (l : List (List ℕ)) → AllBytes l → goodState (worldOf h .transfer) ≡ true
+    → receiveAll (settingsFrom s) (worldOf h) l .transfer ≢ worldOf h .transfer
+    → callAll s h l .transfer ≡ stateBytes (receiveAll (settingsFrom s) (worldOf h) l .transfer)
+moved-bytes s h l b g n =
+    let z = settingsFrom s in
+    calls-transfer s h l b
+    ∙ split (anyAcceptance (answersOf z (worldOf h) l))
+    (λ y. rw y (unfold withTransfer in rw (eq-eqb (length (h .transfer)) 14 (good-size (h .transfer) g))))
+    (λ e. absurd (n (none-taken z (worldOf h) l e)))
+
+-- a transfer of another head, and an Idle one, is none that a file leaves
+abbrev headNow : Head → State → Head
+headNow g Idle = g
+headNow g (Running r) = r .head
+headNow g (Done h) = h
+
+abbrev isRunning : State → Bool
+isRunning Idle = false
+isRunning (Running r) = true
+isRunning (Done h) = false
+
+module _ (w : World) (F : File) (S : Set) (y : World) (C : Counts w F S y) (n : 1 ≤ howMany F S) where
+  busy : isIdle (y .transfer) ≡ false
+  busy =
+      split (ltb (howMany F S) (F .total))
+      (λ t. ap isIdle (C .going n (ltb-true (howMany F S) (F .total) t)))
+      (λ z. ap isIdle (C .whole (omega (arith, ltb-false (howMany F S) (F .total) z, size-le (F .total) S))))
+
+  of-file : (r : Run) → y .transfer ≡ Running r → r .head ≡ headIn F
+  of-file r e =
+      split (ltb (howMany F S) (F .total))
+      (λ t. ap (headNow (r .head)) (sym e ∙ C .going n (ltb-true (howMany F S) (F .total) t)))
+      (λ z.
+      let d = C .whole (omega (arith, ltb-false (howMany F S) (F .total) z, size-le (F .total) S)) in
+      clash (isRunning (y .transfer)) (ap isRunning e) (ap isRunning d))
+
+pub calls-stopped : Calls-stopped
+unfolding Calls-stopped Stopped-then-good List-counts
+calls-stopped s h k F Z v p l m b n =
+    let z = settingsFrom s in
+    let x = receiveAll z (worldOf h) l in
+    let y = receiveAll z (worldOf k) l in
+    let E = stopped-then-good z (worldOf h) (worldOf k) F Z v p l m n in
+    let C = list-counts z (worldOf k) F (Z .idle) v l (mixed-map (λ a f. f .foreign) m) in
+    let free : y .transfer ≢ worldOf k .transfer =
+    λ e. clash (isIdle (y .transfer)) (ap isIdle (e ∙ Z .idle)) (busy (worldOf k) F (seenOf F l) y C n) in
+    let other : x .transfer ≢ worldOf h .transfer =
+    λ e. Z .differs (of-file (worldOf k) F (seenOf F l) y C n (Z .run) (sym (E .transfer) ∙ e ∙ Z .running)) in
+    record {
+      ends =
+          subst (λ (u : World). EndsAlike z (worldOf k) F l u (worldOf (callAll s k l))) (sym (calls-world s h l b))
+          (subst (EndsAlike z (worldOf k) F l x) (sym (calls-world s k l b)) E);
+      transfer =
+          moved-bytes s h l b (Z .sound) other ∙ ap stateBytes (E .transfer)
+          ∙ sym (moved-bytes s k l b (rw (Z .idle) (unfold goodState in refl)) free);
+    }
 
 -- ---- one call of many
 

@@ -1,11 +1,12 @@
 -- The hypotheses of demand 3 are met by the files of specs/Instance.antt, and the theorem speaks of them. Assumes nothing.
 use Prim.Native.Nat.{ℕ, zero, suc, _+_, _*_, _≤_, _<_}
-use mathlib.Core.Path.{_≡_, refl}
+use mathlib.Core.Path.{_≡_, refl, sym, ap, _∙_}
 use mathlib.Core.Logic.{_≢_}
 use mathlib.Core.Bool.{Bool, true, false, not, cond}
 use mathlib.Core.List.{List}
 use native.Mathlib.Omega.{arith}
 use lib.Dec.{eqb, ltb, leb}
+use lib.ListN.{length-replicate}
 use borrow.Author.Tests.{leb-true, ltb-true}
 use Rattle.sets.proofs.Tests.{clash, and-left, and-right}
 use Rattle.fill.specs.Many.{many}
@@ -18,16 +19,18 @@ use Rattle.settings.specs.Settings.{familyArmS, goodSettings}
 use Rattle.place.specs.Place.{placeOf, ramFamily}
 use Rattle.transfer.specs.Transfer.{goodState, counted, raised, accepted, stepOf}
 use Rattle.transfer.specs.declared.Kind.the-variants.{Flash, XipRam}
+use Rattle.transfer.specs.declared.Head.{Head}
 use Rattle.transfer.specs.declared.State.the-variants.{Done}
 use Rattle.screen.specs.Screen.{windowOf, noteKind, placed, strayed, noted, dataFound, noteFound, found, screenIn, screenOf}
-use Rattle.arrival.specs.Arrive.{World, rightLengths, afterScreening, decide, done, receiveOf}
+use Rattle.arrival.specs.Arrive.{World, rightLengths, standsAt, afterScreening, decide, done, receiveOf}
 use Rattle.arrival.specs.Lists.{receiveAll}
 use Rattle.arrival.specs.Windows.{lies}
-use Rattle.arrival.specs.Demand.{File, ValidFile, Foreign, isCommentOf, addressOf, nothing, own, other, answerNumber, isData, sameBytes, among, seenOf, howMany, Ends, List-ends}
-use Rattle.arrival.proofs.Demand.{list-ends}
+use Rattle.arrival.specs.Demand.{File, ValidFile, Foreign, isCommentOf, addressOf, nothing, own, other, answerNumber, isData, sameBytes, among, seenOf, howMany, Ends, List-counts, List-ends}
+use Rattle.arrival.specs.Stopped.{ForeignToBoth}
+use Rattle.arrival.proofs.Demand.{list-counts, list-ends}
 use Rattle.examples.specs.Boards.{arrivalOf, commentOf, plain, headTo, armHead}
 use Rattle.examples.specs.Examples.{blockOfThree}
-use Rattle.examples.specs.Instance.{file, start, arrivals, Hypotheses-are-met, annotated, annotatedArrivals, Met-with-a-comment, remarks, Met-by-comments-alone, ramBlock, ramFile, ramStart, ramArrivals, Met-in-RAM}
+use Rattle.examples.specs.Instance.{file, start, arrivals, Hypotheses-are-met, annotated, annotatedArrivals, Met-with-a-comment, remarks, Met-by-comments-alone, ramBlock, ramFile, ramStart, ramArrivals, Met-in-RAM, stopped, Met-by-a-stopped-transfer}
 
 -- what holds of 0, 1 and 2 holds below 3
 three : (P : ℕ → Type 0) → P 0 → P 1 → P 2 → (k : ℕ) → k < 3 → P k
@@ -49,11 +52,11 @@ address = three (λ k. fieldAt (blockOfThree k) 12 ≡ 0x10000000 + k * 256) ref
 
 -- the answers at the start
 earned : (k : ℕ) → k < 3 → answerNumber plain start (blockOfThree k) ≡ 14
-unfolding many any flashLength payloadOf lowFirst numberIn fieldAt fieldsOf flaggedOf headerOf goodSettings placeOf goodState counted raised accepted stepOf windowOf noteKind placed strayed noted dataFound noteFound found screenIn screenOf rightLengths afterScreening decide done receiveOf
+unfolding many any flashLength payloadOf lowFirst numberIn fieldAt fieldsOf flaggedOf headerOf goodSettings placeOf goodState counted raised accepted stepOf windowOf noteKind placed strayed noted dataFound noteFound found screenIn screenOf rightLengths standsAt afterScreening decide done receiveOf
 earned = three (λ k. answerNumber plain start (blockOfThree k) ≡ 14) refl refl refl
 
 beyond : answerNumber plain start (arrivalOf 0x10010000 0 3 1) ≡ 11
-unfolding many any flashLength payloadOf lowFirst numberIn fieldAt fieldsOf flaggedOf headerOf goodSettings placeOf goodState counted raised accepted stepOf windowOf noteKind placed strayed noted dataFound noteFound found screenIn screenOf rightLengths afterScreening decide done receiveOf
+unfolding many any flashLength payloadOf lowFirst numberIn fieldAt fieldsOf flaggedOf headerOf goodSettings placeOf goodState counted raised accepted stepOf windowOf noteKind placed strayed noted dataFound noteFound found screenIn screenOf rightLengths standsAt afterScreening decide done receiveOf
 beyond = refl
 
 valid : ValidFile plain start file
@@ -81,7 +84,7 @@ hypotheses-are-met = (
 
 -- so the theorem gives its end
 pub ends-done : receiveAll plain start arrivals .transfer ≡ Done (armHead 3)
-ends-done = unfold Hypotheses-are-met List-ends in list-ends plain start file refl valid arrivals (hypotheses-are-met .1) .counts .whole whole
+ends-done = unfold Hypotheses-are-met List-counts in list-counts plain start file refl valid arrivals (hypotheses-are-met .1) .whole whole
   where
     whole : howMany file (seenOf file arrivals) ≡ 3
     whole = unfold lowFirst size among sameBytes in refl
@@ -89,7 +92,7 @@ ends-done = unfold Hypotheses-are-met List-ends in list-ends plain start file re
 -- ---- with a comment
 
 annotated-number : (k : ℕ) → k < 3 → answerNumber plain start (annotated .block k) ≡ cond (eqb k 1) 16 14
-unfolding many any flashLength payloadOf lowFirst numberIn fieldAt fieldsOf flaggedOf headerOf goodSettings placeOf goodState counted raised accepted stepOf windowOf noteKind placed strayed noted dataFound noteFound found screenIn screenOf rightLengths afterScreening decide done receiveOf
+unfolding many any flashLength payloadOf lowFirst numberIn fieldAt fieldsOf flaggedOf headerOf goodSettings placeOf goodState counted raised accepted stepOf windowOf noteKind placed strayed noted dataFound noteFound found screenIn screenOf rightLengths standsAt afterScreening decide done receiveOf
 annotated-number = three (λ k. answerNumber plain start (annotated .block k) ≡ cond (eqb k 1) 16 14) refl refl refl
 
 -- a comment has no address that counts
@@ -104,7 +107,7 @@ annotated-address =
     (λ y. refl) (λ y. clash false y refl) (λ y. refl)
 
 beyond-total : answerNumber plain start (commentOf 3 3) ≡ 10
-unfolding many any flashLength payloadOf lowFirst numberIn fieldAt fieldsOf flaggedOf headerOf goodSettings placeOf goodState counted raised accepted stepOf windowOf noteKind placed strayed noted dataFound noteFound found screenIn screenOf rightLengths afterScreening decide done receiveOf
+unfolding many any flashLength payloadOf lowFirst numberIn fieldAt fieldsOf flaggedOf headerOf goodSettings placeOf goodState counted raised accepted stepOf windowOf noteKind placed strayed noted dataFound noteFound found screenIn screenOf rightLengths standsAt afterScreening decide done receiveOf
 beyond-total = refl
 
 annotated-valid : ValidFile plain start annotated
@@ -140,7 +143,7 @@ met-with-a-comment = (
 -- so its file finishes
 pub annotated-done : receiveAll plain start annotatedArrivals .transfer ≡ Done (armHead 3)
 annotated-done =
-    unfold Met-with-a-comment List-ends in list-ends plain start annotated refl annotated-valid annotatedArrivals (met-with-a-comment .1) .counts .whole whole
+    unfold Met-with-a-comment List-counts in list-counts plain start annotated refl annotated-valid annotatedArrivals (met-with-a-comment .1) .whole whole
   where
     whole : howMany annotated (seenOf annotated annotatedArrivals) ≡ 3
     whole = unfold lowFirst size among sameBytes in refl
@@ -153,7 +156,7 @@ two P a b (suc zero) h = b
 two P a b (suc (suc k)) h = absurd (omega arith)
 
 remarks-number : (k : ℕ) → k < 2 → answerNumber plain start (commentOf k 2) ≡ 16
-unfolding many any flashLength payloadOf lowFirst numberIn fieldAt fieldsOf flaggedOf headerOf goodSettings placeOf goodState counted raised accepted stepOf windowOf noteKind placed strayed noted dataFound noteFound found screenIn screenOf rightLengths afterScreening decide done receiveOf
+unfolding many any flashLength payloadOf lowFirst numberIn fieldAt fieldsOf flaggedOf headerOf goodSettings placeOf goodState counted raised accepted stepOf windowOf noteKind placed strayed noted dataFound noteFound found screenIn screenOf rightLengths standsAt afterScreening decide done receiveOf
 remarks-number = two (λ k. answerNumber plain start (commentOf k 2) ≡ 16) refl refl
 
 remarks-valid : ValidFile plain start remarks
@@ -179,7 +182,7 @@ met-by-comments-alone = (remarks-valid, own 1 (omega arith) (own 0 (omega arith)
 -- ---- a file in RAM
 
 ram-number : (k : ℕ) → k < 3 → answerNumber plain ramStart (ramBlock k) ≡ 14
-unfolding ramFamily many any flashLength payloadOf lowFirst numberIn fieldAt fieldsOf flaggedOf headerOf goodSettings placeOf goodState counted raised accepted stepOf windowOf noteKind placed strayed noted dataFound noteFound found screenIn screenOf rightLengths afterScreening decide done receiveOf
+unfolding ramFamily many any flashLength payloadOf lowFirst numberIn fieldAt fieldsOf flaggedOf headerOf goodSettings placeOf goodState counted raised accepted stepOf windowOf noteKind placed strayed noted dataFound noteFound found screenIn screenOf rightLengths standsAt afterScreening decide done receiveOf
 ram-number = three (λ k. answerNumber plain ramStart (ramBlock k) ≡ 14) refl refl refl
 
 ram-address : (k : ℕ) → k < 3 → addressOf ramFile k ≡ 0x13ffc001 + k * 300
@@ -204,7 +207,7 @@ ram-valid =
 
 -- the answers to the foreign arrivals, of which none is a comment of the file's total
 ram-beyond : (answerNumber plain ramStart (arrivalOf 0x13ffff01 0 3 1) ≡ 11) × (answerNumber plain ramStart (arrivalOf 0x10010000 0 3 1) ≡ 11) × (answerNumber plain ramStart (commentOf 0 257) ≡ 10)
-unfolding ramFamily many any flashLength payloadOf lowFirst numberIn fieldAt fieldsOf flaggedOf headerOf goodSettings placeOf goodState counted raised accepted stepOf windowOf noteKind placed strayed noted dataFound noteFound found screenIn screenOf rightLengths afterScreening decide done receiveOf
+unfolding ramFamily many any flashLength payloadOf lowFirst numberIn fieldAt fieldsOf flaggedOf headerOf goodSettings placeOf goodState counted raised accepted stepOf windowOf noteKind placed strayed noted dataFound noteFound found screenIn screenOf rightLengths standsAt afterScreening decide done receiveOf
 ram-beyond = (refl, refl, refl)
 
 no-comment : (isCommentOf ramFile (arrivalOf 0x13ffff01 0 3 1) ≡ false) × (isCommentOf ramFile (arrivalOf 0x10010000 0 3 1) ≡ false) × (isCommentOf ramFile (commentOf 0 257) ≡ false)
@@ -226,8 +229,39 @@ met-in-ram = (
 pub ram-done : (receiveAll plain ramStart ramArrivals .transfer ≡ Done (headTo XipRam 3)) × (receiveAll plain ramStart ramArrivals .held .sectors ≡ mapOf 1024 none)
 ram-done =
     let e : Ends plain ramStart ramFile (seenOf ramFile ramArrivals) (receiveAll plain ramStart ramArrivals) =
-    unfold Met-in-RAM List-ends in list-ends plain ramStart ramFile refl ram-valid ramArrivals (met-in-ram .1) in
+    unfold Met-in-RAM List-ends in list-ends plain ramStart ramFile refl ram-valid ramArrivals (met-in-ram .1) (λ k h. refl) in
     (e .counts .whole whole, e .sector-map (omega (arith, whole)))
   where
     whole : howMany ramFile (seenOf ramFile ramArrivals) ≡ 3
     whole = unfold lowFirst size among sameBytes in refl
+
+-- ---- a stopped update
+
+stopped-beyond : answerNumber plain stopped (arrivalOf 0x10010000 0 3 1) ≡ 11
+unfolding many any flashLength payloadOf lowFirst numberIn fieldAt fieldsOf flaggedOf headerOf goodSettings placeOf goodState counted raised accepted stepOf windowOf noteKind placed strayed noted dataFound noteFound found screenIn screenOf rightLengths standsAt afterScreening decide done receiveOf
+stopped-beyond = refl
+
+pub met-by-a-stopped-transfer : Met-by-a-stopped-transfer
+unfolding Met-by-a-stopped-transfer
+met-by-a-stopped-transfer = (
+  record {
+    run = record { head = armHead 5; count = 2 };
+    running = refl;
+    sound = unfold goodState in refl;
+    differs = λ e. absurd (omega (arith, ap (λ (h : Head). h .total) e));
+    quiet = λ f t. absurd (omega (arith, t));
+    idle = refl;
+    lengths = refl;
+    seen-length = length-replicate {A = ℕ} 16384 255 ∙ sym (length-replicate {A = ℕ} 16384 9);
+    sectors-length = length-replicate {A = ℕ} 1024 255 ∙ sym (length-replicate {A = ℕ} 1024 9);
+  },
+  own 2 (omega arith) (own 0 (omega arith) (own 2 (omega arith) (other (arrivalOf 0x10010000 0 3 1) both-starts (own 1 (omega arith) (own 0 (omega arith) nothing))))),
+)
+  where
+    both-starts : ForeignToBoth plain stopped start file (arrivalOf 0x10010000 0 3 1)
+    both-starts =
+        record {
+          foreign = foreign-by start file (arrivalOf 0x10010000 0 3 1) 11 beyond (omega arith) (omega arith) (λ n. absurd (n refl));
+          least = omega (arith, stopped-beyond);
+          most = omega (arith, stopped-beyond);
+        }

@@ -4,12 +4,14 @@ use Prim.Native.Nat.{ℕ, _+_, _*_}
 use mathlib.Core.Bool.{cond}
 use mathlib.Core.List.{List, [], _∷_}
 use lib.Dec.{eqb}
+use lib.ListN.{replicate}
 use Rattle.settings.specs.Settings.{familyArmS}
 use Rattle.transfer.specs.declared.Kind.the-variants.{Flash, XipRam}
-use Rattle.transfer.specs.declared.State.the-variants.{Idle}
+use Rattle.transfer.specs.declared.State.the-variants.{Idle, Running}
 use Rattle.arrival.specs.Arrive.{World}
-use Rattle.arrival.specs.Demand.{File, ValidFile, Sent}
-use Rattle.examples.specs.Boards.{arrivalOf, commentOf, plain, lentTo, lentRam}
+use Rattle.arrival.specs.Demand.{File, ValidFile, Sent, Mixed}
+use Rattle.arrival.specs.Stopped.{Stopped, ForeignToBoth}
+use Rattle.examples.specs.Boards.{arrivalOf, commentOf, plain, headTo, lentTo, lentRam}
 use Rattle.examples.specs.Examples.{blockOfThree}
 
 -- three blocks of arm-s, at pages 0, 1 and 2
@@ -67,3 +69,18 @@ ramArrivals =
 
 unfoldable pub Met-in-RAM : Type 0
 Met-in-RAM = ValidFile plain ramStart ramFile × Sent plain ramStart ramFile ramArrivals
+
+-- ---- a stopped update (02, L13)
+
+-- two of five blocks have come, and both maps are marked all over
+abbrev pub stopped : World
+stopped =
+    record {
+      transfer = Running (record { head = headTo Flash 5; count = 2 });
+      seen = replicate 16384 255;
+      held = record { flash = start .held .flash; sectors = replicate 1024 255; main = start .held .main; xip = start .held .xip };
+    }
+
+-- then the file of three blocks arrives: another total
+unfoldable pub Met-by-a-stopped-transfer : Type 0
+Met-by-a-stopped-transfer = Stopped file stopped start × Mixed file (ForeignToBoth plain stopped start file) arrivals

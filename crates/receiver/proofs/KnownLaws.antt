@@ -6,7 +6,7 @@ use lib.ListN.{length}
 use Rattle.block.specs.Block.{fieldAt}
 use Rattle.flash.specs.Flash.{payloadOf}
 use Rattle.settings.specs.declared.Settings.{Settings}
-use Rattle.place.specs.Place.{StartsLow}
+use Rattle.place.specs.Place.{StartsLow, placeOf}
 use Rattle.place.specs.declared.Place.{Place}
 use Rattle.transfer.specs.declared.State.{State}
 use Rattle.screen.specs.Screen.{roomsOf, screenIn, screenOf, screenAt}
@@ -37,7 +37,8 @@ module _ (s : Settings) (w : World) (a : List ℕ) {k : Known} (e : Knows s w a 
       let r = ap (λ (k : Known). k .right) (e .0) in
       let g = ap (λ (k : Known). k .good) (e .0) in
       let q = screen-known s n (w .transfer) a (ap (λ (k : Known). k .rooms) (e .0)) (e .1) in
-      rw (q, r, g)
+      let p : k .rooms .flash ≡ placeOf s (n .flash) (fieldAt a 28) = ap (λ (k : Known). k .rooms .flash) (e .0) in
+      rw (q, r, g, p)
 
   pub known-is : receiveKnown k w a ≡ receiveOf s w a
   unfolding receiveKnown receiveOf

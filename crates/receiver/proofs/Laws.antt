@@ -1,19 +1,26 @@
 -- One arrival by cases, in the shape of the code's returns. Assumes nothing.
-use mathlib.Core.Path.{_≡_, refl, sym, ap, _∙_}
+use mathlib.Core.Path.{_≡_, sym, ap, _∙_}
 use mathlib.Core.Bool.{Bool, true, false}
 use mathlib.Core.List.{List}
 use Prim.Native.Nat.{ℕ, _/_}
 use lib.ListN.{length}
 use Rattle.bitmap.specs.Bitmap.{markedIn, withMark}
-use Rattle.block.specs.Block.{fieldAt}
+use Rattle.block.specs.Block.{fieldAt, hasFlag}
+use Rattle.block.specs.Region.{regionOf}
+use Rattle.block.specs.declared.Region.{Region}
+use Rattle.region.specs.Regions.{goodRegion, standsIn}
 use Rattle.flash.specs.Flash.{eraseAt, payloadOf, storeAt}
 use Rattle.settings.specs.Settings.{goodSettings}
 use Rattle.settings.specs.declared.Settings.{Settings}
+use Rattle.place.specs.declared.Place.{Place}
+use Rattle.place.specs.declared.Place.the-variants.{Nowhere, At}
 use Rattle.transfer.specs.Transfer.{goodState, stepOf}
+use Rattle.transfer.proofs.Laws.{stays-any}
 use Rattle.transfer.specs.declared.Kind.the-variants.{Flash, MainRam, XipRam}
 use Rattle.transfer.specs.declared.Transfer.{Transfer}
 use Rattle.transfer.specs.declared.Unchanged.{Unchanged}
 use Rattle.transfer.specs.declared.Deed.{Deed}
+use Rattle.transfer.specs.declared.Deed.the-variants.{Stores}
 use Rattle.transfer.specs.declared.Accepted.{Accepted}
 use Rattle.transfer.specs.declared.Step.{Step}
 use Rattle.transfer.specs.declared.Step.the-variants.{Stays, Accepts}
@@ -24,7 +31,7 @@ use Rattle.screen.specs.declared.Rooms.{Rooms}
 use Rattle.screen.specs.declared.Lengths.{Lengths}
 use Rattle.screen.specs.declared.Placed.{Placed}
 use Rattle.screen.specs.declared.Screening.the-variants.{Refused, Passed}
-use Rattle.arrival.specs.Arrive.{Held, Lent, Outcome, Decision, lengthsOf, rightLengths, deedOf, stepped, afterScreening, clearedIf, wipedIf, preparedAt, pagedAt, atOf, doneTo, acceptOf, stays, accepts, done, forecast, forecastOf}
+use Rattle.arrival.specs.Arrive.{Held, Lent, Outcome, Decision, lengthsOf, rightLengths, standsAt, deedOf, stepped, afterScreening, clearedIf, wipedIf, preparedAt, pagedAt, atOf, doneTo, acceptOf, stays, accepts, done, forecast, forecastOf}
 use Rattle.receiver.specs.Receiver.{held, lent, world, refusal, outcome, knownOf, knownDecision, receiveKnown}
 use Rattle.receiver.specs.Parts.{flashHeld}
 use Rattle.receiver.specs.declared.Receipt.{Receipt}
@@ -65,17 +72,49 @@ pub took : (p : Placed) (d : Deed) (t : Accepted) (a : List ℕ) (h : Lent) {at 
 unfolding done acceptOf wipedIf
 took p d t a h at wiped cleared written marked = cc
 
--- ---- rows 12 to 16
+-- ---- what stands
 
-module _ (t : Transfer) (p : Placed) (m : List ℕ) {known : Bool} {d : Deed} {s : Step} (e : known ≡ markedIn m (p .number)) (f : d ≡ deedOf (p .body)) (q : s ≡ stepOf (t .state) (p .head) known d) where
-  step-is : stepOf (t .state) (p .head) (markedIn m (p .number)) (deedOf (p .body)) ≡ s
-  step-is = rw (sym e, sym f) (sym q)
+module _ (f a : List ℕ) (start size : ℕ) where
+  pub stands-bare : hasFlag a 0x4000 ≡ false → false ≡ standsAt f (At start size) a
+  unfolding standsAt
+  stands-bare h = rw h
 
-  pub settle-stays : {x : Unchanged} → s ≡ Stays x → stays (x .answer) ≡ stepped p (deedOf (p .body)) (stepOf (t .state) (p .head) (markedIn m (p .number)) (deedOf (p .body)))
-  settle-stays w = let z = step-is ∙ w in rw z refl
+  module _ (h : hasFlag a 0x4000 ≡ true) {g : Region} (e : g ≡ regionOf a) {x : ℕ} (q : x ≡ fieldAt a 12) where
+    pub stands-bad : goodRegion size x g ≡ false → false ≡ standsAt f (At start size) a
+    unfolding standsAt
+    stands-bad n = rw (h, sym e, sym q, n)
 
-  pub settle-accepts : {y : Accepted} → s ≡ Accepts y → accepts p d y ≡ stepped p (deedOf (p .body)) (stepOf (t .state) (p .head) (markedIn m (p .number)) (deedOf (p .body)))
-  settle-accepts w = let z = step-is ∙ w in rw (z, sym f) refl
+    pub stands-good : goodRegion size x g ≡ true → {r : Bool} → r ≡ standsIn f start g → r ≡ standsAt f (At start size) a
+    unfolding standsAt
+    stands-good n r = r ∙ rw (h, sym e, sym q, n)
+
+pub stands-nowhere : (f a : List ℕ) {p : Place} → p ≡ Nowhere → false ≡ standsAt f p a
+unfolding standsAt
+stands-nowhere f a e = rw e
+
+-- ---- rows 12 to 17
+
+module _ (t : Transfer) (p : Placed) (m : Bool) (d : Deed) {s : Step} (q : s ≡ stepOf (t .state) (p .head) m d) where
+  pub settle-stays : {x : Unchanged} → s ≡ Stays x → stays (x .answer) ≡ stepped p d (stepOf (t .state) (p .head) m d)
+  settle-stays w = let z = sym q ∙ w in rw z
+
+  pub settle-accepts : {y : Accepted} → s ≡ Accepts y → accepts p d y ≡ stepped p d (stepOf (t .state) (p .head) m d)
+  settle-accepts w = let z = sym q ∙ w in rw z
+
+module _ (t : Transfer) (p : Placed) (seen : List ℕ) (kept : Bool) {m : Bool} (e : m ≡ markedIn seen (p .number)) where
+  -- what stays, stays whatever the flash has
+  pub settled-stays : {s : Step} → s ≡ stepOf (t .state) (p .head) m Stores → {x : Unchanged} → s ≡ Stays x
+      → stays (x .answer) ≡ afterScreening (t .state) seen kept (Passed p)
+  unfolding afterScreening
+  settled-stays q w =
+      let z : stepOf (t .state) (p .head) (markedIn seen (p .number)) (deedOf kept p) ≡ Stays _ =
+      ap (λ (b : Bool). stepOf (t .state) (p .head) b (deedOf kept p)) (sym e) ∙ stays-any (t .state) (p .head) m Stores (deedOf kept p) (sym q ∙ w) in
+      rw z
+
+  pub settled-as : {d : Deed} → d ≡ deedOf kept p → {v : Decision} → v ≡ stepped p d (stepOf (t .state) (p .head) m d)
+      → v ≡ afterScreening (t .state) seen kept (Passed p)
+  unfolding afterScreening
+  settled-as f v = v ∙ rw (e, f)
 
 -- ---- every row
 
@@ -106,8 +145,8 @@ module _ (known : Known) (t : Transfer) (a : List ℕ) (h : Lent) where
         unfolding knownDecision afterScreening
         judge-refused q = rw (l, g, n, q)
 
-        pub judge-passed : {d : Decision} {p : Placed} → screenAt (known .rooms) sizes (t .state) a ≡ Passed p → d ≡ stepped p (deedOf (p .body)) (stepOf (t .state) (p .head) (markedIn (h .seen) (p .number)) (deedOf (p .body))) → d ≡ knownDecision known (world t h) a
-        unfolding knownDecision afterScreening
+        pub judge-passed : {d : Decision} {p : Placed} → screenAt (known .rooms) sizes (t .state) a ≡ Passed p → d ≡ afterScreening (t .state) (h .seen) (standsAt (h .flash) (known .rooms .flash) a) (Passed p) → d ≡ knownDecision known (world t h) a
+        unfolding knownDecision
         judge-passed q y = rw (l, g, n, q) y
 
   -- what is said and what is done

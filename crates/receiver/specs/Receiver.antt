@@ -15,7 +15,7 @@ use Rattle.transfer.specs.Transfer.{goodState}
 use Rattle.transfer.specs.declared.Answer.the-variants.{BadBuffers, BadSettings, BadState}
 use Rattle.transfer.specs.declared.Answer.{Answer}
 use Rattle.transfer.specs.declared.Transfer.{Transfer}
-use Rattle.arrival.specs.Arrive.{Held, Lent, World, Outcome, Decision, stays, accepts, lengthsOf, rightLengths, afterScreening, done, Forecast, forecast}
+use Rattle.arrival.specs.Arrive.{Held, Lent, World, Outcome, Decision, stays, accepts, lengthsOf, rightLengths, standsAt, afterScreening, done, Forecast, forecast}
 use Rattle.receiver.specs.declared.Receipt.{Receipt}
 use Rattle.receiver.specs.declared.Preview.{Preview}
 use Rattle.receiver.specs.declared.Known.{Known}
@@ -91,7 +91,7 @@ knownDecision k w a =
     cond (not (k .right)) (stays BadBuffers)
     (cond (not (k .good)) (stays BadSettings)
     (cond (not (goodState (w .transfer))) (stays BadState)
-    (afterScreening (w .transfer) (w .seen) (screenAt (k .rooms) (lengthsOf (w .held)) (w .transfer) a))))
+    (afterScreening (w .transfer) (w .seen) (standsAt (w .held .flash) (k .rooms .flash) a) (screenAt (k .rooms) (lengthsOf (w .held)) (w .transfer) a))))
 
 -- one arrival; with what they truly say it is `receiveOf` (proofs/KnownLaws.antt)
 unfoldable pub receiveKnown : Known → World → List ℕ → Outcome

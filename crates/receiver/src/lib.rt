@@ -1,15 +1,18 @@
 // One arrival: the checks in their order, the step of the transfer, and what is written to the lent buffers.
 ghost use mathlib.Core.Path.{_≡_};
+ghost use mathlib.Core.Bool.{_&&_};
 ghost use Rattle.sets.specs.Numbered.{numbered};
 ghost use Rattle.bitmap.specs.Bitmap.{markedIn};
 ghost use Rattle.flash.specs.Flash.{payloadOf};
 ghost use Rattle.place.specs.Place.{StartsLow};
-ghost use Rattle.transfer.specs.Transfer.{stepOf};
+ghost use Rattle.transfer.specs.Transfer.{sameKind, stepOf};
 ghost use Rattle.arrival.specs.Arrive.{
   outcomeNumber,
   rightLengths,
+  standsAt,
   deedOf,
   stepped,
+  afterScreening,
   clearedIf,
   preparedAt,
   pagedAt,
@@ -35,9 +38,10 @@ ghost use Rattle.receiver.specs.Receiver.{
   knownDecision,
   receiveKnown,
 };
-ghost use Rattle.receiver.specs.Parts.{flashHeld};
+ghost use Rattle.receiver.specs.Parts.{flashHeld, pageDeed};
 use block::Block;
 use flash::Flash;
+use place::Place;
 use screen::Body;
 use screen::Lengths;
 use screen::Placed;
@@ -162,12 +166,52 @@ fn page(
     }
 }
 
-// What a block does once it is accepted.
-fn deed_of(body: Body) -> Deed
-    ensures { λ r. ⌜ r ≡ deedOf body ⌝ }
+// Does the region of an arrival, if it names one, count in a place of the flash, and have its digest there?
+fn stands_in(start: usize, size: usize, flash: &[u8], arrival: &[u8]) -> bool
+    ensures { λ r. ⌜ r ≡ standsAt (now (flash .entry)) (Place.At start size) (now (arrival .entry)) ⌝ }
 {
+    if !block::has_region(arrival) {
+        return false;
+    }
+    let region = block::read_region(arrival);
+    let address = block::field(arrival, 12);
+    if !region::good(region, size, address) {
+        return false;
+    }
+    region::stands(flash, start, region)
+}
+
+fn stands_at(place: Place, flash: &[u8], arrival: &[u8]) -> bool
+    ensures { λ r. ⌜ r ≡ standsAt (now (flash .entry)) place (now (arrival .entry)) ⌝ }
+{
+    match place {
+        Place::Nowhere => false,
+        Place::At { start, len } => stands_in(start, len, flash, arrival),
+    }
+}
+
+// A page is stored; in flash it is kept where it stands. The flash is read only there.
+fn page_deed(kind: Kind, place: Place, flash: &[u8], arrival: &[u8]) -> Deed
+    ensures { λ r. ⌜ r ≡ pageDeed (sameKind kind Kind.Flash && standsAt (now (flash .entry)) place (now (arrival .entry))) ⌝ }
+{
+    if !transfer::same_kind(kind, Kind::Flash) {
+        return Deed::Stores;
+    }
+    if stands_at(place, flash, arrival) {
+        return Deed::Keeps;
+    }
+    Deed::Stores
+}
+
+// What a block does once it is accepted, where `place` is its family's.
+fn deed_of(placed: Placed, place: Place, flash: &[u8], arrival: &[u8]) -> Deed
+    ensures { λ r. ⌜ r ≡ deedOf (standsAt (now (flash .entry)) place (now (arrival .entry))) placed ⌝ }
+{
+    let named = placed.head;
+    let kind = named.kind;
+    let body = placed.body;
     match body {
-        Body::Page(_) => Deed::Stores,
+        Body::Page(_) => page_deed(kind, place, flash, arrival),
         Body::Note => Deed::Notes,
     }
 }
@@ -182,7 +226,7 @@ fn page_at(body: Body) -> usize
     }
 }
 
-// Stores a page. A comment stores nothing.
+// Stores a page. A comment stores nothing, nor does what is kept.
 fn write(
     deed: Deed,
     kind: Kind,
@@ -198,6 +242,7 @@ fn write(
     match deed {
         Deed::Stores => page(kind, at, arrival, flash, sectors, main, xip),
         Deed::Notes => {}
+        Deed::Keeps => {}
     }
 }
 
@@ -233,15 +278,11 @@ fn accept(
     }
 }
 
-// Rows 12 to 16, of a block that has passed the screening.
-fn settle(transfer: Transfer, placed: Placed, seen: &[u8]) -> Verdict
-    ensures { λ r. ⌜ decision r ≡ stepped placed (deedOf (placed .body)) (stepOf (transfer .state) (placed .head) (markedIn (now (seen .entry)) (placed .number)) (deedOf (placed .body))) ⌝ }
+// Rows 12 to 17, of a block that does `deed` if it is accepted.
+fn settle_as(transfer: Transfer, placed: Placed, marked: bool, deed: Deed) -> Verdict
+    ensures { λ r. ⌜ decision r ≡ stepped placed deed (stepOf (transfer .state) (placed .head) marked deed) ⌝ }
 {
     let head = placed.head;
-    let number = placed.number as usize;
-    let body = placed.body;
-    let marked = bitmap::marked(seen, number);
-    let deed = deed_of(body);
     let step = transfer.step(head, marked, deed);
     match step {
         Step::Stays(unchanged) => {
@@ -253,6 +294,33 @@ fn settle(transfer: Transfer, placed: Placed, seen: &[u8]) -> Verdict
             deed,
             accepted,
         }),
+    }
+}
+
+// Rows 12 to 17, of a block that has passed the screening. The flash is read where it is accepted, and not for 12 and 13.
+fn settle(
+    transfer: Transfer,
+    placed: Placed,
+    place: Place,
+    arrival: &[u8],
+    flash: &[u8],
+    seen: &[u8],
+) -> Verdict
+    ensures { λ r. ⌜ decision r ≡ afterScreening (transfer .state) (now (seen .entry)) (standsAt (now (flash .entry)) place (now (arrival .entry))) (Screening.Passed placed) ⌝ }
+{
+    let head = placed.head;
+    let number = placed.number as usize;
+    let marked = bitmap::marked(seen, number);
+    let trial = transfer.step(head, marked, Deed::Stores);
+    match trial {
+        Step::Stays(unchanged) => {
+            let given = unchanged.answer;
+            Verdict::Leaves(given)
+        }
+        Step::Accepts(_) => {
+            let deed = deed_of(placed, place, flash, arrival);
+            settle_as(transfer, placed, marked, deed)
+        }
     }
 }
 
@@ -299,7 +367,10 @@ fn judge(
     let screening = screen::screen(rooms, lens, transfer, arrival);
     match screening {
         Screening::Refused(answer) => Verdict::Leaves(answer),
-        Screening::Passed(placed) => settle(transfer, placed, seen),
+        Screening::Passed(placed) => {
+            let place = rooms.flash;
+            settle(transfer, placed, place, arrival, flash, seen)
+        }
     }
 }
 

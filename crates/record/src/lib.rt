@@ -125,7 +125,7 @@ fn text_len(line: &[u8]) -> usize
 }
 
 // The sum of bytes, kept to eight bits.
-fn sum(bytes: &[u8]) -> u8
+pub fn sum(bytes: &[u8]) -> u8
     ensures { λ r. ⌜ r ≡ total (now (bytes .entry)) % 256 ⌝ }
 {
     let mut s: u8 = 0;

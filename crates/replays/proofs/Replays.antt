@@ -282,4 +282,6 @@ begins-idle h =
       seen-length = length-unmarked (length (h .seen));
       sectors = no-byte (length (h .sectors));
       sectors-length = length-unmarked (length (h .sectors));
+      main = refl;
+      xip = refl;
     }

@@ -42,6 +42,8 @@ pub record Begins (h : Lent) (w : World) : Type 0 where
   pub seen-length : length (lentOf w .seen) ≡ length (h .seen)
   pub sectors : (k : ℕ) → getD (lentOf w .sectors) k 0 ≡ 0
   pub sectors-length : length (lentOf w .sectors) ≡ length (h .sectors)
+  pub main : lentOf w .main ≡ h .main
+  pub xip : lentOf w .xip ≡ h .xip
 
 unfoldable pub Begins-idle : Type 0
 Begins-idle = (h : Lent) → Begins h (begun h)

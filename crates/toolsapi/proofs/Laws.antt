@@ -6,6 +6,8 @@ use mathlib.Core.List.{List, _++_}
 use native.Mathlib.Omega.{arith}
 use lib.ListN.{length}
 use borrow.Author.Tests.{eq-eqb, ne-eqb}
+use Rattle.sets.specs.Numbered.{numbered}
+use Rattle.sets.proofs.Numbered.{answer-is}
 use Rattle.sets.specs.Bytes.{lowFirst}
 use Rattle.sets.proofs.OverLaws.{over-whole}
 use Rattle.block.specs.Write.{le32, putAt}
@@ -14,6 +16,9 @@ use Rattle.md5.specs.declared.Digest.{Digest}
 use Rattle.md5.specs.Md5.{md5Of, digestBytes}
 use Rattle.uf2file.specs.declared.MakeAnswer.{MakeAnswer}
 use Rattle.uf2file.specs.Uf2file.{makeNumber, makeCall, makeOf}
+use Rattle.joiner.specs.declared.Joined.{Joined}
+use Rattle.joiner.specs.Join.{joinCall, joinNumber, joinOf}
+use Rattle.toolsapi.specs.Join.{joinedResult, joinReturn, joinReturnOf, joinBytes}
 use Rattle.toolsapi.specs.Tools.{makeResult, resultOf, makeBytes, digestOver}
 
 pub make-told : (image : List ℕ) (family start : ℕ) (out : List ℕ) {n : ℕ} {x : MakeAnswer} {b : List ℕ}
@@ -41,3 +46,10 @@ module _ (out l : List ℕ) where
   pub digest-told : length out ≡ 16 → {b : List ℕ} {x : Digest} → b ≡ digestBytes x → x ≡ md5Of l → b ≡ digestOver out l
   unfolding digestOver
   digest-told h {b} {x} e k = e ∙ ap digestBytes k ∙ rw (eq-eqb (length out) 16 h)
+
+-- ---- one file from two
+
+pub joined-told : (a b out : List ℕ) {n : ℕ} {x : Joined} {o : List ℕ} → numbered joinNumber (joinCall x o) ≡ numbered joinNumber (joinOf a b out)
+    → n ≡ joinedResult x → joinReturn n o ≡ joinBytes a b out
+unfolding joinBytes
+joined-told a b out {n} {x} {o} e h = ap (λ (k : ℕ). joinReturn k o) h ∙ ap joinReturnOf (answer-is e)

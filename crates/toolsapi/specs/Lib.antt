@@ -1,1 +1,3 @@
 pub mod Tools
+pub mod Join
+pub mod ReplayCall

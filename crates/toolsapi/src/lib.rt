@@ -1,11 +1,19 @@
-// The C interface for tools on a host: files made of images, and digests. What a board links is `capi`.
+// The C interface for tools on a host: files made of images, digests, one Universal Hex file from two, and traces replayed. What a board links is
+// `capi`.
 ghost use mathlib.Core.Path.{_≡_};
+ghost use Prim.Native.Nat.{_≤_};
 ghost use lib.ListN.{length};
 ghost use Rattle.block.specs.Write.{le32};
 ghost use Rattle.md5.specs.Md5.{digestBytes};
 ghost use Rattle.uf2file.specs.Uf2file.{checkOf, makeNumber, blockOver};
 ghost use Rattle.toolsapi.specs.Tools.{makeResult, makeBytes, digestOver};
+ghost use Rattle.toolsapi.specs.Join.{boardCode, refusalResult, joinedResult, joinReturn, joinBytes};
+use grammar::Boards;
+use joiner::Joined;
+use joiner::Refusal;
 use md5::Digest;
+
+mod replay;
 
 const DIGEST: usize = 16;
 
@@ -59,4 +67,48 @@ pub extern "C" fn uf2_md5(bytes: &[u8], digest: &mut [u8])
         return;
     }
     put_digest(digest, md5::hash(bytes));
+}
+
+// 1 for V1, 2 for V2, 0 for any other.
+fn board_code(board: u16) -> u64
+    ensures { λ r. ⌜ r ≡ boardCode board ⌝ }
+    ensures small { λ r. ⌜ r ≤ 2 ⌝ }
+{
+    if board == Boards::V1 {
+        return 1;
+    }
+    if board == Boards::V2 {
+        return 2;
+    }
+    0
+}
+
+// A refusal as one number.
+fn refusal_result(refusal: Refusal) -> u64
+    ensures { λ r. ⌜ r ≡ refusalResult refusal ⌝ }
+{
+    let answer = refusal.answer;
+    let number = answer.number() as u64;
+    let position = answer.position() as u64;
+    let board = board_code(refusal.board);
+    let line = refusal.line as u64;
+    number + (256 * position + (16777216 * board + 4294967296 * line))
+}
+
+// What comes of two files as one number.
+fn joined_result(joined: Joined) -> u64
+    ensures { λ r. ⌜ r ≡ joinedResult joined ⌝ }
+{
+    match joined {
+        Joined::Written(n) => 4294967296 * (n as u64),
+        Joined::Refused(refusal) => refusal_result(refusal),
+    }
+}
+
+// One Universal Hex file from a plain Intel Hex file for V1 and one for V2.
+#[no_mangle]
+pub extern "C" fn uhex_join(v1: &[u8], v2: &[u8], output: &mut [u8]) -> u64
+    ensures { λ r. ⌜ joinReturn r (now (output .exit)) ≡ joinBytes (now (v1 .entry)) (now (v2 .entry)) (now (output .entry)) ⌝ }
+{
+    joined_result(joiner::join(v1, v2, output))
 }

@@ -1,4 +1,4 @@
--- The transfer (01, "One arrival, checks in this order"): its answers' numbers, row 3, and rows 12 to 15 with 02's 16. Assumes nothing.
+-- The transfer (01, "One arrival, checks in this order"): its answers' numbers, row 3, and rows 12 to 15 with 02's 16 and 17. Assumes nothing.
 use Prim.Native.Nat.{ℕ, _+_}
 use mathlib.Core.Bool.{Bool, true, false, _&&_, cond}
 use lib.Dec.{ltb, leb, eqb}
@@ -13,11 +13,11 @@ use Rattle.transfer.specs.declared.Accepted.{Accepted}
 use Rattle.transfer.specs.declared.Step.{Step}
 use Rattle.transfer.specs.declared.Step.the-variants.{Stays, Accepts}
 use Rattle.transfer.specs.declared.Deed.{Deed}
-use Rattle.transfer.specs.declared.Deed.the-variants.{Stores, Notes}
+use Rattle.transfer.specs.declared.Deed.the-variants.{Stores, Notes, Keeps}
 use Rattle.transfer.specs.declared.Answer.{Answer}
-use Rattle.transfer.specs.declared.Answer.the-variants.{BadBuffers, BadSettings, BadState, NotBlock, Container, NoFamily, NoPlace, BadPayload, BadNumbers, BadAddress, Finished, Again, Written, Completed, Noted}
+use Rattle.transfer.specs.declared.Answer.the-variants.{BadBuffers, BadSettings, BadState, NotBlock, Container, NoFamily, NoPlace, BadPayload, BadNumbers, BadAddress, Finished, Again, Written, Completed, Noted, Kept}
 
--- the numbers of the answers: 01's, without its 6 (02, L3: "Its answer 6 goes"), which no answer has again, and 02's 16
+-- the numbers of the answers: 01's, without its 6 (02, L3: "Its answer 6 goes"), which no answer has again, and 02's 16 and 17
 abbrev pub numberOf : Answer → ℕ
 numberOf BadBuffers = 1
 numberOf BadSettings = 2
@@ -34,6 +34,7 @@ numberOf Again = 13
 numberOf Written = 14
 numberOf Completed = 15
 numberOf Noted = 16
+numberOf Kept = 17
 
 -- "A fresh transfer is Idle"
 abbrev pub fresh : Transfer
@@ -77,12 +78,13 @@ sameHead g h = eqb (g .family) (h .family) && eqb (g .total) (h .total) && sameK
 unfoldable pub counted : Head → ℕ → State
 counted g c = cond (ltb c (g .total)) (running g c) (Done g)
 
--- the answer of a block that does not complete: row 14, or for a comment "new answer 16 Noted" (02, L3)
+-- the answer of a block that does not complete: row 14, or for a comment "new answer 16 Noted" (02, L3), or "store nothing: answer 17 Kept" (02, L9)
 abbrev pub deedAnswer : Deed → Answer
 deedAnswer Stores = Written
 deedAnswer Notes = Noted
+deedAnswer Keeps = Kept
 
--- rows 14 and 15 (and 16): that answer where "the raised count is under the block's total", Completed otherwise
+-- rows 14 and 15 (and 16, 17): that answer where "the raised count is under the block's total", Completed otherwise
 unfoldable pub raised : Deed → Head → ℕ → Answer
 raised d g c = cond (ltb c (g .total)) (deedAnswer d) Completed
 
@@ -100,7 +102,7 @@ accepted d clears discards g c =
       clears = clears;
     }
 
--- rows 12 to 15 (and 16), of a block of head g whose number is marked or not, and which does d once it is accepted
+-- rows 12 to 15 (and 16, 17), of a block of head g whose number is marked or not, and which does d once it is accepted
 unfoldable pub stepOf : State → Head → Bool → Deed → Step
 stepOf Idle g marked d = Accepts (accepted d true false g 1)
 stepOf (Running r) g marked d =

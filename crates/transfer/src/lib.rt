@@ -65,10 +65,12 @@ pub struct Transfer {
     pub state: State,
 }
 
-// What a block does once it is accepted: it stores a page, or it is a comment, which is noted and stores nothing.
+// What a block does once it is accepted: it stores a page, or it is a comment, which is noted and stores nothing, or what it would store is kept
+// as it stands.
 pub enum Deed {
     Stores,
     Notes,
+    Keeps,
 }
 
 // The answers to an arrival, in the order of the checks.
@@ -88,6 +90,7 @@ pub enum Answer {
     Written,
     Completed,
     Noted,
+    Kept,
 }
 
 // A block that changes nothing: the next transfer, which is the one that was, and the answer.
@@ -130,6 +133,7 @@ impl Answer {
             Answer::Written => 14,
             Answer::Completed => 15,
             Answer::Noted => 16,
+            Answer::Kept => 17,
         }
     }
 }
@@ -150,6 +154,7 @@ fn deed_answer(deed: Deed) -> Answer
     match deed {
         Deed::Stores => Answer::Written,
         Deed::Notes => Answer::Noted,
+        Deed::Keeps => Answer::Kept,
     }
 }
 

@@ -5,8 +5,8 @@ use mathlib.Core.Bool.{Bool, true, false, not, cond, _||_, true≢false}
 use Prim.Native.Nat.{ℕ, _+_, _*_, _/_, _%_, _<_, _≤_}
 use native.Mathlib.Omega.{arith}
 use lib.Dec.{eqb, ltb, leb}
-use borrow.Author.Tests.{eq-eqb, ne-eqb, lt-ltb, le-ltb, le-leb, lt-leb, eqb-true, ltb-false}
-use Rattle.sets.proofs.Tests.{or-right}
+use borrow.Author.Tests.{eq-eqb, ne-eqb, lt-ltb, le-ltb, le-leb, lt-leb, eqb-true, eqb-false, ltb-false}
+use Rattle.sets.proofs.Tests.{or-left, or-right}
 use Rattle.uf2file.specs.declared.MakeAnswer.{MakeAnswer}
 use Rattle.uf2file.specs.declared.MakeAnswer.the-variants.{BadImage, BadStart, PastWindow, ShortOutput, Made}
 use Rattle.uf2file.specs.Uf2file.{checkOf}
@@ -79,7 +79,10 @@ module _ (n start room : ℕ) where
 
 -- what holds where m blocks are made
 pub record Right (n start room m : ℕ) : Type 0 where
+  pub some : 1 ≤ m
   pub whole : n ≡ 256 * m
+  pub low : 0x10000000 ≤ start
+  pub aligned : start % 256 ≡ 0
   pub window : start + 256 * m ≤ 0x12000000
   pub space : 512 * m ≤ room
 
@@ -119,4 +122,8 @@ made-right n start room m e =
     let u : start + n ≤ 0x12000000 = ltb-false 0x12000000 (start + n) (f .2) in
     let r : 512 * (n / 256) ≤ room = ltb-false room (512 * (n / 256)) (f .3) in
     let k : n / 256 ≡ m = f .4 in
-    record { whole = omega arith; window = omega arith; space = omega arith }
+    let z : n ≢ 0 = eqb-false n 0 (or-left (eqb n 0) (not (eqb (n % 256) 0)) (f .0)) in
+    let l : 0x10000000 ≤ start = ltb-false start 0x10000000 (or-left (ltb start 0x10000000) (leb 0x12000000 start || not (eqb (start % 256) 0)) (f .1)) in
+    let o = or-right (ltb start 0x10000000) (leb 0x12000000 start || not (eqb (start % 256) 0)) (f .1) in
+    let a : start % 256 ≡ 0 = eqb-true (start % 256) 0 (not-false (eqb (start % 256) 0) (or-right (leb 0x12000000 start) (not (eqb (start % 256) 0)) o)) in
+    record { some = omega (arith, z); whole = omega arith; low = l; aligned = a; window = omega arith; space = omega arith }

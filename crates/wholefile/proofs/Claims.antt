@@ -3,12 +3,13 @@ use Prim.Native.Nat.{ℕ, _+_, _≤_}
 use mathlib.Core.Path.{_≡_, refl, sym, ap, subst, _∙_}
 use mathlib.Core.Logic.{_⊎_, _≢_, inl, inr, ⊎-elim}
 use mathlib.Core.Bool.{Bool, true, false, _&&_, _||_, not, cond}
-use mathlib.Core.List.{List, [], _∷_, _++_}
+use mathlib.Core.List.{List, [], _∷_, _++_, append-assoc, append-nil}
 use native.Mathlib.Omega.{arith}
 use lib.ListN.{length}
 use lib.Dec.{ltb, leb, eqb}
 use borrow.Author.Tests.{le-ltb, eqb-true, leb-true}
 use Rattle.sets.proofs.Tests.{split, clash, and-left, and-right}
+use Rattle.stores.specs.Stores.{Store}
 use Rattle.record.specs.Record.{readOf}
 use Rattle.record.specs.declared.Record.{Record}
 use Rattle.record.specs.declared.ParseResult.the-variants.{Good}
@@ -24,15 +25,15 @@ use Rattle.hexfile.specs.Facts.{Ready, Other-board-unchanged}
 use Rattle.hexfile.specs.Claims.{Image-length-kept}
 use Rattle.hexfile.proofs.Facts.{other-board-unchanged}
 use Rattle.hexfile.proofs.Claims.{image-length-kept}
-use Rattle.hexfile.specs.Lines.{Session, freshSession, readLine, next, readAll, lineAnswers}
+use Rattle.hexfile.specs.Lines.{Session, freshSession, readLine, next, readAll, lineAnswers, storeOf, isStored, storesOf}
 use Rattle.wholefile.specs.Items.{Item, itemOf, Says, none, line, sizeOf}
 use Rattle.wholefile.specs.Whole.{dataTypeOf, Section, Sections, allItems, howMany, File}
-use Rattle.wholefile.specs.State.{Place, between, opened, body, padded, isIn, givesFor, State, begin, stateAfter, answerFor, answersFor, imageFor, readerStateOf, readerOf}
+use Rattle.wholefile.specs.State.{Place, between, opened, body, padded, isIn, givesFor, State, begin, stateAfter, answerFor, answersFor, imageFor, storesFor, readerStateOf, readerOf}
 use Rattle.wholefile.specs.Claims.{Setup, FileEnd, File-ends, Ended-is-file, Acceptance, Agreement, Taken-is-known, Memory, Memory-is-records, OwnStore, Stored-is-own, Other-board-untouched}
 use Rattle.wholefile.proofs.OneRecord.{line-goes, line-ends, answer-most, answer-stored}
 use Rattle.wholefile.proofs.Runs.{Runs, Once, isV, size-append, size-after, sections-run, data-all}
 use Rattle.wholefile.proofs.Parse.{parsed}
-use Rattle.wholefile.proofs.Lists.{session, run-reads, AfterRecords, refused, went, last, viewed, RecordsOf, taken-run, last-run, run-accepted, recall}
+use Rattle.wholefile.proofs.Lists.{session, run-reads, run-stores, AfterRecords, refused, went, last, viewed, RecordsOf, taken-run, last-run, run-accepted, recall}
 
 -- ---- lists
 
@@ -46,7 +47,15 @@ unfolding readAll lineAnswers
 answers-append h [] ls = refl
 answers-append h (k ∷ ks) ls = ap (λ (z : List Answer). readLine h k .answer ∷ z) (answers-append (next h k) ks ls)
 
-says-append : {ks ls : List (List ℕ)} {xs ys : List Item} → Says ks xs → Says ls ys → Says (ks ++ ls) (xs ++ ys)
+stores-append : (h : Session) (ks ls : List (List ℕ)) → storesOf h (ks ++ ls) ≡ storesOf h ks ++ storesOf (readAll h ks) ls
+unfolding readAll storesOf
+stores-append h [] ls = refl
+stores-append h (k ∷ ks) ls =
+    let one = cond (isStored (readLine h k .answer)) (storeOf (h .reader) (readOf k .«data») (readOf k .parsed)) [] in
+    ap (λ (z : List Store). one ++ z) (stores-append (next h k) ks ls)
+    ∙ sym (append-assoc one (storesOf (next h k) ks) (storesOf (readAll (next h k) ks) ls))
+
+pub says-append : {ks ls : List (List ℕ)} {xs ys : List Item} → Says ks xs → Says ls ys → Says (ks ++ ls) (xs ++ ys)
 says-append none t = t
 says-append (line rec p s) t = line rec p (says-append s t)
 
@@ -144,6 +153,11 @@ module _ (own : ℕ) (img : List ℕ) (g : Setup own img) (xs : List Item) (f : 
         ∙ read-append (freshSession own img) (p .before) (p .final ∷ [])
         ∙ ap (λ (h : Session). next h (p .final)) (reads .0)
 
+    -- the last line stores nothing
+    last-stores : storesOf (session own before-end (imageFor own begin items img)) (p .final ∷ []) ≡ []
+    unfolding storesOf
+    last-stores = rw (ap (λ (o : LineOutcome). isStored (o .answer)) last-line)
+
     file-end : FileEnd own img ls items
     unfolding lineAnswers movedTo withState
     file-end =
@@ -155,6 +169,14 @@ module _ (own : ℕ) (img : List ℕ) (g : Setup own img) (xs : List Item) (f : 
               ∙ ap (λ (h : Session). answersFor own (length img) begin items ++ (readLine h (p .final) .answer ∷ [])) (reads .0)
               ∙ ap (λ (o : LineOutcome). answersFor own (length img) begin items ++ (o .answer ∷ [])) last-line;
           image = ap (λ (h : Session). h .image) all-read ∙ ap (λ (o : LineOutcome). o .image) last-line;
+          stores =
+              ap (storesOf (freshSession own img)) (p .whole)
+              ∙ stores-append (freshSession own img) (p .before) (p .final ∷ [])
+              ∙ ap (λ (z : List Store). z ++ storesOf (readAll (freshSession own img) (p .before)) (p .final ∷ []))
+              (run-stores own (p .says) begin img (ready-set own img g) file-runs)
+              ∙ ap (λ (h : Session). storesFor own (length img) begin items ++ storesOf h (p .final ∷ [])) (reads .0)
+              ∙ ap (λ (z : List Store). storesFor own (length img) begin items ++ z) last-stores
+              ∙ append-nil (storesFor own (length img) begin items);
           ended = ap (λ (h : Session). h .reader .state) all-read ∙ ap (λ (o : LineOutcome). o .reader .state) last-line;
         }
 
@@ -237,7 +259,7 @@ memory-is-records own img ls g =
     )
 
 -- lines say one list of records
-says-one : {ls : List (List ℕ)} {xs ys : List Item} → Says ls xs → Says ls ys → xs ≡ ys
+pub says-one : {ls : List (List ℕ)} {xs ys : List Item} → Says ls xs → Says ls ys → xs ≡ ys
 says-one none none = refl
 says-one (line {l} {ls} {xs} rec p s) (line rec′ q t) =
     let e : rec ≡ rec′ = cc in

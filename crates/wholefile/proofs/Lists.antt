@@ -9,6 +9,7 @@ use lib.ListN.{length, replicate}
 use lib.Dec.{ltb, leb, eqb}
 use borrow.Author.Tests.{le-leb, ltb-true, ltb-false}
 use Rattle.sets.proofs.Tests.{split, clash, both}
+use Rattle.stores.specs.Stores.{Store}
 use Rattle.record.specs.Record.{readOf, wordOf as wordAt}
 use Rattle.record.specs.declared.Record.{Record}
 use Rattle.record.specs.declared.ParseResult.the-variants.{Good}
@@ -24,13 +25,13 @@ use Rattle.unihex.specs.Reader.{badFailure, badReader, withState, movedTo}
 use Rattle.unihex.specs.declared.Effect.{Effect}
 use Rattle.unihex.specs.Line.{LineOutcome, lineOutcome, failing, badImage, effectOutcome, lineOf}
 use Rattle.hexfile.specs.Facts.{Ready, movesOffset, Length-kept, Stays-good, Failures-fail}
-use Rattle.hexfile.specs.Lines.{Session, readLine, next, readAll, lineAnswers}
+use Rattle.hexfile.specs.Lines.{Session, readLine, next, readAll, lineAnswers, storeOf, isStored, storesOf}
 use Rattle.hexfile.specs.Claims.{Failure-stays, End-stays}
 use Rattle.hexfile.proofs.LineCase.{LineCase, bad, past, again, failed, out, stored, passed, ended, lineCase}
 use Rattle.hexfile.proofs.Facts.{failure-not-moves, length-kept, stays-good, failures-fail}
 use Rattle.hexfile.proofs.Claims.{failure-stays, end-stays}
 use Rattle.wholefile.specs.Items.{Item, itemOf, Says, none, line}
-use Rattle.wholefile.specs.State.{Place, between, opened, body, padded, State, after, stateAfter, answerFor, answersFor, imageWith, imageFor, readerStateOf, bothOf, readerOf}
+use Rattle.wholefile.specs.State.{Place, between, opened, body, padded, givesFor, State, after, stateAfter, fitsIn, answerFor, answersFor, imageWith, imageFor, storesWith, storesFor, readerStateOf, bothOf, readerOf}
 use Rattle.wholefile.specs.Claims as claims
 use Rattle.wholefile.specs.Claims.{Acceptance, Stop}
 use Rattle.wholefile.proofs.OneRecord.{Goes, EffectCase, fails, goes, ends, steps, made, word-item, line-made, line-goes, line-ends, answer-most, answer-least}
@@ -82,6 +83,29 @@ module _ (own : ℕ) where
             (h .1 ∙ ap (λ (k : ℕ). answersFor own k (after s x) xs) (length-on s l img x w)),
         h .2,
       )
+
+  -- and store what they say
+  store-one : (s : State) (l img : List ℕ) (rec : Record) → readOf l .parsed ≡ Good rec → (o : LineOutcome) → o ≡ onward s (itemOf l rec) img
+      → cond (isStored (o .answer)) (storeOf (readerOf own s) (readOf l .«data») (readOf l .parsed)) [] ≡ storesWith own (length img) s (itemOf l rec)
+  unfolding storesWith answerFor
+  store-one s l img rec p o e =
+      let x = itemOf l rec in
+      rw (e, p)
+      (split (givesFor (s .place) x own)
+      (λ y. rw y (split (fitsIn (length img) s x) (λ z. rw z) (λ z. rw z)))
+      (λ z. rw z))
+
+  pub run-stores : {ls : List (List ℕ)} {xs : List Item} → Says ls xs → (s : State) (img : List ℕ) → Ready (readerOf own s) img → Runs s xs
+      → storesOf (session own s img) ls ≡ storesFor own (length img) s xs
+  unfolding storesOf storesFor
+  run-stores none s img y r = refl
+  run-stores (line {l} {ls} {xs} rec p t) s img y (step _ _ q e g m r) =
+      let x = itemOf l rec in
+      let w = line-goes l rec p own s img y m e g in
+      let h = run-stores t (after s x) (imageWith own s x img) (ready-on s l img x w y) r in
+      ap (λ (z : List Store). z ++ storesOf (next (session own s img) l) ls) (store-one s l img rec p (readLine (session own s img) l) w)
+      ∙ ap (λ (k : Session). storesWith own (length img) s x ++ storesOf k ls) (next-is s l img x w)
+      ∙ ap (λ (z : List Store). storesWith own (length img) s x ++ z) (h ∙ ap (λ (k : ℕ). storesFor own k (after s x) xs) (length-on s l img x w))
 
 -- ---- every line after records that go on
 

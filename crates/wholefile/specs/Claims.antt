@@ -8,10 +8,10 @@ use Rattle.grammar.specs.Answers.{numberOf}
 use Rattle.grammar.specs.declared.Answer.{Answer}
 use Rattle.grammar.specs.declared.Answer.the-variants as answer
 use Rattle.grammar.specs.declared.ReaderState.the-variants as state
-use Rattle.hexfile.specs.Lines.{Session, freshSession, readLine, readAll, lineAnswers}
+use Rattle.hexfile.specs.Lines.{Session, freshSession, readLine, readAll, lineAnswers, storesOf}
 use Rattle.wholefile.specs.Items.{Item, Says}
 use Rattle.wholefile.specs.Whole.{dataTypeOf, Section, sectionItems, boardOf, IsSection, allItems, File}
-use Rattle.wholefile.specs.State.{between, body, padded, State, begin, stateAfter, addressOf, answersFor, imageFor, bothOf, readerOf}
+use Rattle.wholefile.specs.State.{between, body, padded, State, begin, stateAfter, addressOf, answersFor, imageFor, storesFor, bothOf, readerOf}
 
 -- a fresh reader of V1 or V2, and an image of 1 to 1,048,576 bytes
 pub record Setup (own : ℕ) (img : List ℕ) : Type 0 where
@@ -22,10 +22,12 @@ pub record Setup (own : ℕ) (img : List ℕ) : Type 0 where
 -- ---- a whole file
 
 -- its lines are answered 32 to 34, each by its record, the board of its section, the latest 04 and the image's length, and the last 35;
--- the image is what was lent with the data of the own board's section, and the reader is after the end
+-- the image is what was lent with the data of the own board's section, what is stored is that data as far as it lies in the image, record by
+-- record, and the reader is after the end
 pub record FileEnd (own : ℕ) (img : List ℕ) (ls : List (List ℕ)) (xs : List Item) : Type 0 where
   pub answers : lineAnswers (freshSession own img) ls ≡ answersFor own (length img) begin xs ++ (answer.Ended ∷ [])
   pub image : readAll (freshSession own img) ls .image ≡ imageFor own begin xs img
+  pub stores : storesOf (freshSession own img) ls ≡ storesFor own (length img) begin xs
   pub ended : readAll (freshSession own img) ls .reader .state ≡ state.Ended
 
 -- so are the lines of every file

@@ -2,10 +2,11 @@
 -- that were named and that gave a data byte. For records in the order of a file. Assumes nothing.
 use Prim.Native.Nat.{ℕ, _+_, _*_}
 use mathlib.Core.Bool.{Bool, false, cond, _&&_, _||_}
-use mathlib.Core.List.{List, [], _∷_}
+use mathlib.Core.List.{List, [], _∷_, _++_}
 use lib.Dec.{leb, eqb}
 use lib.ListN.{length}
 use Rattle.sets.specs.Over.{over}
+use Rattle.stores.specs.Stores.{Store}
 use Rattle.grammar.specs.declared.Answer.{Answer}
 use Rattle.grammar.specs.declared.Answer.the-variants.{Outside, Stored, Passed}
 use Rattle.grammar.specs.declared.Boards.{Boards}
@@ -74,7 +75,7 @@ unfoldable pub stateAfter : State → List Item → State
 stateAfter s [] = s
 stateAfter s (x ∷ xs) = stateAfter (after s x) xs
 
--- ---- the answers and the image
+-- ---- the answers, the image and what is stored
 
 -- "the latest 04's two bytes, high first, times 65,536, plus the record's address field"
 abbrev pub addressOf : State → Item → ℕ
@@ -101,6 +102,15 @@ imageWith own s x img = cond (givesFor (s .place) x own && fitsIn (length img) s
 unfoldable pub imageFor : ℕ → State → List Item → List ℕ → List ℕ
 imageFor own s [] img = img
 imageFor own s (x ∷ xs) img = imageFor own (after s x) xs (imageWith own s x img)
+
+-- what is stored of a record, in an image of n bytes: own data that lies wholly in it, at its address
+unfoldable pub storesWith : ℕ → ℕ → State → Item → List Store
+storesWith own n s x = cond (givesFor (s .place) x own && fitsIn n s x) (record { address = addressOf s x; bytes = x .bytes } ∷ []) []
+
+-- of each, in order
+unfoldable pub storesFor : ℕ → ℕ → State → List Item → List Store
+storesFor own n s [] = []
+storesFor own n s (x ∷ xs) = storesWith own n s x ++ storesFor own n (after s x) xs
 
 -- ---- the reader
 

@@ -6,8 +6,10 @@
 mod file;
 mod hex;
 mod once;
+mod region;
 mod table;
 mod tags;
+mod trace;
 
 use std::cell::Cell;
 use std::hint::black_box;
@@ -205,8 +207,11 @@ fn main() {
     places("settings good and place, 16 entries", &sixteen());
     file::flash_rows();
     file::ram_rows();
+    region::kept_rows();
+    trace::rows();
     hex::rows();
     tags::row();
     println!("\n| work, proved | the first | the second | ratio |\n|---|---|---|---|");
     file::table_rows();
+    region::beside_rows();
 }

@@ -8,6 +8,8 @@ use std::process::Command;
 
 use compare::fence::{Fenced, Side};
 use compare::hex::{any_reader, any_record, any_text};
+use compare::plain::any_plain;
+use compare::region::any_region;
 use compare::{any_arrival, any_settings, any_transfer, Buffers, Ram, Random, FAMILIES};
 use compare::{proved_settings, proved_transfer};
 use proved::bytes;
@@ -74,6 +76,14 @@ fn any_transfer_bytes(r: &mut Random, pages: u64) -> Vec<u8> {
     any_length(r, bytes)
 }
 
+/// Where the place of a block's family begins, or 0.
+fn place(settings: &[u8], flash_len: usize, a: &[u8]) -> usize {
+    let family = u32::from_le_bytes([a[28], a[29], a[30], a[31]]);
+    let mut place = [0; bytes::PLACE_BYTES];
+    bytes::ask(settings, flash_len, family, &mut place);
+    u32::from_le_bytes([place[0], place[1], place[2], place[3]]) as usize
+}
+
 /// What a call is lent, each part beside a fence.
 struct Call {
     settings: Twin,
@@ -95,13 +105,20 @@ impl Call {
             main: r.one_in(8),
             xip: r.one_in(2),
         };
-        let sent = (0..arrivals)
-            .flat_map(|_| any_arrival(r, pages, ram))
-            .collect::<Vec<u8>>();
         let settings = any_settings_bytes(r, sectors);
         let transfer = any_transfer_bytes(r, pages);
-        let sent = any_length(r, sent);
         let mut lent = Buffers::any(r, sectors, ram);
+        let sent = (0..arrivals)
+            .flat_map(|_| {
+                let mut a = any_arrival(r, pages, ram);
+                if r.one_in(2) {
+                    let place = place(&settings, lent.flash.len(), &a);
+                    any_region(r, &mut a, &lent.flash, place);
+                }
+                a
+            })
+            .collect::<Vec<u8>>();
+        let sent = any_length(r, sent);
         Call {
             settings: Twin::read(r, settings),
             transfer: Twin::new(r, transfer, looks),
@@ -148,7 +165,7 @@ fn lent(buffers: [&mut [u8]; 5]) -> proved::Buffers<'_> {
 #[test]
 fn looks_keep_their_bounds_and_write_nothing() {
     let mut r = Random(30);
-    let mut answers = [0; 17];
+    let mut answers = [0; 18];
     for _ in 0..number() {
         let mut c = Call::any(&mut r, 1, true);
         let beside = bytes::look(
@@ -175,7 +192,7 @@ fn looks_keep_their_bounds_and_write_nothing() {
 #[test]
 fn takes_keep_their_bounds() {
     let mut r = Random(31);
-    let mut answers = [0; 17];
+    let mut answers = [0; 18];
     for _ in 0..number() {
         let mut c = Call::any(&mut r, 1, false);
         let beside = bytes::take(
@@ -304,6 +321,57 @@ fn lines_keep_their_bounds() {
     assert!(answers[18..].iter().all(|&n| n >= often), "{answers:?}");
 }
 
+/// A trace of the call's arrivals with our own answers, but for a few.
+fn any_trace(r: &mut Random, c: &Call) -> Vec<u8> {
+    let mut transfer = proved::Transfer::Idle.bytes();
+    let mut buffers = c.buffers.each_ref().map(|twin| twin.plain.clone());
+    buffers[1].fill(0);
+    buffers[2].fill(0);
+    let mut trace = Vec::new();
+    for a in c.arrival.plain.chunks(512) {
+        let mut lent = lent(buffers.each_mut().map(|buffer| &mut buffer[..]));
+        let result = bytes::take(&c.settings.plain, &mut transfer, a, &mut lent) as u8;
+        let head = result % 128 * 8 + result / 128 * 4;
+        trace.push(if r.one_in(12) { r.draw() as u8 } else { head });
+        trace.extend(a);
+    }
+    any_length(r, trace)
+}
+
+#[test]
+fn replays_keep_their_bounds() {
+    let mut r = Random(36);
+    let mut stops = [0; 3];
+    for _ in 0..number() / 4 {
+        let n = r.below(8);
+        let mut c = Call::any(&mut r, n, false);
+        let trace = any_trace(&mut r, &c);
+        let trace = Twin::read(&mut r, trace);
+        let index = any_length(&mut r, vec![9; tools::trace::INDEX_BYTES]);
+        let mut index = Twin::written(&mut r, index);
+        let beside = tools::trace::replay_bytes(
+            c.settings.fenced.bytes(),
+            trace.fenced.bytes(),
+            &mut fenced(&mut c.buffers),
+            c.transfer.fenced.bytes_mut(),
+            index.fenced.bytes_mut(),
+        );
+        let alone = tools::trace::replay_bytes(
+            &c.settings.plain,
+            &trace.plain,
+            &mut plain(&mut c.buffers),
+            &mut c.transfer.plain,
+            &mut index.plain,
+        );
+        assert_eq!(beside, alone);
+        c.check();
+        trace.check("trace");
+        index.check("index");
+        stops[alone as usize] += 1;
+    }
+    assert!(stops.iter().all(|&n| n > number() / 400), "{stops:?}");
+}
+
 #[test]
 fn made_files_and_digests_keep_their_bounds() {
     let mut r = Random(35);
@@ -335,6 +403,33 @@ fn made_files_and_digests_keep_their_bounds() {
         bytes.check("bytes");
     }
     assert!(made > number() / 10, "{made}");
+}
+
+#[test]
+fn joined_files_keep_their_bounds() {
+    let mut r = Random(36);
+    let mut joined = 0;
+    for _ in 0..number() / 10 {
+        let v1 = any_plain(&mut r);
+        let v2 = any_plain(&mut r);
+        let written = tools::join(&v1, &v2, &mut vec![0; 65_536]).unwrap_or(1036);
+        let v1 = Twin::read(&mut r, v1);
+        let v2 = Twin::read(&mut r, v2);
+        let output = any_length(&mut r, vec![9; written]);
+        let mut output = Twin::written(&mut r, output);
+        let fenced = tools::join(
+            v1.fenced.bytes(),
+            v2.fenced.bytes(),
+            output.fenced.bytes_mut(),
+        );
+        let plain = tools::join(&v1.plain, &v2.plain, &mut output.plain);
+        assert_eq!(fenced, plain);
+        v1.check("V1's file");
+        v2.check("V2's file");
+        output.check("output");
+        joined += usize::from(plain.is_ok());
+    }
+    assert!(joined > number() / 500, "{joined}");
 }
 
 // ---- the fence itself

@@ -26,6 +26,12 @@
 //! assert_eq!(outcome.answer, Answer::NotBlock); // this block is all zeros
 //! ```
 //!
+//! # What a region costs
+//!
+//! A block with flag 0x4000 names a region of flash and its MD5. Each take of such a block, where it would store, hashes the region once, and a
+//! look at it once more: the time is that of the region's length, at every block of it. Name regions of a sector or of 64 KiB, and look
+//! only where it is needed.
+//!
 //! # A number that is none of the answers
 //!
 //! That the library returns only the numbers of its answers is proved. A call that gets another one, or bytes that are no transfer or no

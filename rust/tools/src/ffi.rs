@@ -31,5 +31,35 @@ extern "C" {
         block_len: Len,
     );
 
+    pub fn uhex_join(
+        v1: *const u8,
+        v1_len: Len,
+        v2: *const u8,
+        v2_len: Len,
+        output: *mut u8,
+        output_len: Len,
+    ) -> u64;
+
     pub fn uf2_md5(bytes: *const u8, bytes_len: Len, digest: *mut u8, digest_len: Len);
+
+    pub fn uf2_replay(
+        settings: *const u8,
+        settings_len: Len,
+        trace: *const u8,
+        trace_len: Len,
+        flash: *mut u8,
+        flash_len: Len,
+        seen: *mut u8,
+        seen_len: Len,
+        sectors: *mut u8,
+        sectors_len: Len,
+        main: *mut u8,
+        main_len: Len,
+        xip: *mut u8,
+        xip_len: Len,
+        transfer: *mut u8,
+        transfer_len: Len,
+        index: *mut u8,
+        index_len: Len,
+    ) -> u32;
 }

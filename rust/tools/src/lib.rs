@@ -1,7 +1,8 @@
 //! The proved tools for Rust: safe calls of their C interface (include/uf2_tools.h).
 //!
 //! [`make`] writes the UF2 file of an image; a tool that streams asks [`check`] and writes with [`write_block`]. [`md5`] is the digest of
-//! RFC 1321. Nothing has to be checked before a call, nothing is allocated or kept between calls. It links
+//! RFC 1321. [`join`] writes one Universal Hex file from two plain Intel Hex files. [`trace::replay`] replays what a site's host sent. Nothing has to be
+//! checked before a call, nothing is allocated or kept between calls. It links
 //! `target/staticlib/libtoolsapi.a`, which `rt staticlib toolsapi` writes: code for x86-64 Linux.
 //!
 //! ```
@@ -9,12 +10,21 @@
 //! let mut file = [0; 1024];
 //! assert_eq!(tools::make(&image, 0xe48b_ff59, 0x1000_0000, &mut file), Ok(2));
 //! assert_eq!(tools::make(&[], 0xe48b_ff59, 0x1000_0000, &mut file), Err(tools::MakeRefusal::BadImage));
+//!
+//! let plain = b":010000005AA5\n:00000001FF\n";
+//! let mut both = [0; 1036];
+//! assert_eq!(tools::join(plain, plain, &mut both), Ok(1036));
+//! assert_eq!(tools::join(plain, plain, &mut both[..1035]), Err(tools::JoinRefusal::OutputTooLong));
 //! ```
 
 #![no_std]
 #![deny(missing_docs)]
 
 mod ffi;
+mod join;
+pub mod trace;
+
+pub use join::{join, Board, JoinRefusal, PlainRefusal, HEX_FILE_BYTES};
 
 use ffi::{len, Len};
 

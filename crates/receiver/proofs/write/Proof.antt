@@ -13,6 +13,9 @@ page-requires c κs = search needs
 enum-told-2 : tie.Need-enum-told-2
 enum-told-2 c = search needs
 
+enum-told-3 : tie.Need-enum-told-3
+enum-told-3 c = search needs
+
 same-length : tie.Need-same-length
 same-length c = search needs
 
@@ -31,6 +34,9 @@ returns c = let d = c .before .before .before .before .before .before .before .b
 returns-2 : tie.Need-returns-2
 returns-2 c = rw (c .enum-told2 .given .1) refl
 
+returns-3 : tie.Need-returns-3
+returns-3 c = rw (c .enum-told3 .given .1) refl
+
 pub write-spec : {M : Type 1} → statement M
 write-spec =
     tie.close
@@ -38,9 +44,11 @@ write-spec =
     enum-told
     page-requires
     enum-told-2
+    enum-told-3
     same-length
     same-length-2
     same-length-3
     same-length-4
     returns
-    returns-2)
+    returns-2
+    returns-3)

@@ -27,9 +27,7 @@ look-requires : tie.Need-look-requires
 look-requires c κs = search needs
 
 shared-slice-read-agrees : tie.Need-shared-slice-read-agrees
-shared-slice-read-agrees c =
-    let judged = c .before .before .before .before .before .before .before .before .before in
-    omega (arith, good-length _ (sym (judged .is-bad .ensures) ∙ (c .before .before .before .before .before .before .before .before .if1 .left)))
+shared-slice-read-agrees c = omega (arith, good-length _ (sym (c .before .before .before .before .before .before .before .before .before .is-bad .ensures) ∙ (c .before .before .before .before .before .before .before .before .if1 .left)))
 
 agrees-requires : tie.Need-agrees-requires
 agrees-requires c κs = search needs
@@ -56,14 +54,10 @@ returns-2 c =
     piece-differs _ _ _ _ (sym (judged .is-bad .ensures) ∙ (looked .before .before .before .before .before .before .before .if1 .left)) (answer-is (looked .look .ensures)) (sym (c .before .agrees .ensures) ∙ not-true _ (c .if2 .taken))
 
 sub-take : tie.Need-sub-take
-sub-take c =
-    let judged = c .before .before .before .before .before .before .before .before .before .before .before in
-    omega (arith, good-length _ (sym (judged .is-bad .ensures) ∙ (c .before .before .before .before .before .before .before .before .before .before .if1 .left)))
+sub-take c = omega (arith, good-length _ (sym (c .before .before .before .before .before .before .before .before .before .before .before .is-bad .ensures) ∙ (c .before .before .before .before .before .before .before .before .before .before .if1 .left)))
 
 part-take-start : tie.Need-part-take-start
-part-take-start c =
-    let judged = c .before .before .before .before .before .before .before .before .before .before .before in
-    omega (arith, good-length _ (sym (judged .is-bad .ensures) ∙ (c .before .before .before .before .before .before .before .before .before .before .if1 .left)))
+part-take-start c = omega (arith, good-length _ (sym (c .before .before .before .before .before .before .before .before .before .before .before .is-bad .ensures) ∙ (c .before .before .before .before .before .before .before .before .before .before .if1 .left)))
 
 part-take-end : tie.Need-part-take-end
 part-take-end c = search needs

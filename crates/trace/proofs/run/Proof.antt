@@ -89,14 +89,14 @@ loop-again c =
     let main-left = xip-left .before .before in
     let sectors-left = main-left .before .before in
     let seen-left = sectors-left .before .before in
-    let done = seen-left .before .before .before in
+    let flash-left = seen-left .before .before in
+    let done = flash-left .before in
     let ended = done .before .before .before .before .before .before .before in
     let test = ended .before in
-    let round = test .before in
-    let at = round .loop in
+    let at = test .before .loop in
     let to = ended .piece-end .ensures in
     let more = test .loop-test .taken in
-    (omega (arith, to, more), omega (arith, to, more, at .inv), seen-left .before .before .flash .given ∙ at .inv .2, seen-left .seen .given ∙ at .inv .3, sectors-left .sectors .given ∙ at .inv .4, main-left .main .given ∙ at .inv .5, xip-left .xip .given ∙ at .inv .6, run-goes-on _ _ _ _ _ _ more to (done .replay-piece .ensures) (sym (c .before .is-replayed .ensures) ∙ not-false _ (c .if1 .left)) ∙ at .inv .7)
+    (omega (arith, to, more), omega (arith, to, more, at .inv), flash-left .flash .given ∙ at .inv .2, seen-left .seen .given ∙ at .inv .3, sectors-left .sectors .given ∙ at .inv .4, main-left .main .given ∙ at .inv .5, xip-left .xip .given ∙ at .inv .6, run-goes-on _ _ _ _ _ _ more to (done .replay-piece .ensures) (sym (c .before .is-replayed .ensures) ∙ not-false _ (c .if1 .left)) ∙ at .inv .7)
 
 same-length-6 : tie.Need-same-length-6 Inv-loop μ-loop
 same-length-6 c = search needs
@@ -114,7 +114,8 @@ same-length-10 : tie.Need-same-length-10 Inv-loop μ-loop
 same-length-10 c = search needs
 
 returns-2 : tie.Need-returns-2 Inv-loop μ-loop
-returns-2 c = from-fresh _ _ _ (run-ends _ _ _ _ _ _ (c .loop-test .left) ∙ c .before .loop .inv .7) (c .before .before .new .ensures)
+returns-2 c =
+    from-fresh _ _ _ (run-ends _ _ _ _ _ _ (c .loop-test .left) ∙ c .before .loop .inv .7) (c .before .before .new .ensures)
 
 pub run-spec : {M : Type 1} → statement M
 run-spec =

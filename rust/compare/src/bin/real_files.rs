@@ -1,9 +1,12 @@
 //! Real files through the proved receiver and reader and through the reference, side by side: the UF2 files of Debian's package `snek` and
-//! the Intel Hex file of `firmware-microbit-micropython`, where they are installed. `REAL_FILES` names another place than /usr/share.
+//! the Intel Hex file of `firmware-microbit-micropython`, where they are installed. `REAL_FILES` names another place than /usr/share. The plain
+//! file is joined for both boards too, and the images of what is written are compared with those that `srecord` and `python3-intelhex` make of
+//! the plain file, where they are installed.
 
 use std::error::Error;
 use std::fs;
 use std::path::{Path, PathBuf};
+use std::process::Command;
 
 use compare::hex::{record, Text};
 use compare::{proved_settings, Buffers, Random};
@@ -45,6 +48,7 @@ fn main() -> Done {
     }
     for path in &plain {
         println!("{}: {}", name(path), hex_file(&fs::read(path)?)?);
+        println!("{}: {}", name(path), joined_file(path)?);
     }
     Ok(())
 }
@@ -182,6 +186,81 @@ fn hex_file(file: &[u8]) -> Result<String, Box<dyn Error>> {
         "{} lines, refused with 26 at the second; as a section of V1: {stored} records stored, {outside} outside the image, ended",
         plain.len()
     ))
+}
+
+/// The file joined with itself, for both boards, by both sides; and the image of each board from what is written.
+fn joined_file(path: &Path) -> Result<String, Box<dyn Error>> {
+    let file = fs::read(path)?;
+    let mut ours = vec![0xA7; tools::HEX_FILE_BYTES];
+    let mut theirs = ours.clone();
+    let written = tools::join(&file, &file, &mut ours).map_err(|e| format!("{e:?}"))?;
+    let wanted = reference::join::join(&file, &file, &mut theirs).map_err(|e| format!("{e:?}"))?;
+    check(
+        written == wanted && ours == theirs,
+        "the joined files differ",
+    )?;
+    let lines: Vec<&[u8]> = ours[..written].split_inclusive(|&c| c == b'\n').collect();
+    let (answers, image) = read(Board::V1, &lines)?;
+    check(answers.last() == Some(&35), "the joined file does not end")?;
+    let (answers, second) = read(Board::V2, &lines)?;
+    check(answers.last() == Some(&35), "the joined file does not end")?;
+    check(image == second, "the two boards' images differ")?;
+    let plain: Vec<&[u8]> = file.split_inclusive(|&c| c == b'\n').collect();
+    check(
+        image == universal(&plain).1,
+        "the image is not what the plain file says",
+    )?;
+    let mut beside = Vec::new();
+    for (tool, made) in [
+        ("srecord", by_srecord(path)),
+        ("python3-intelhex", by_intelhex(path)),
+    ] {
+        match made {
+            Some(made) => {
+                check(made == image, "another tool's image differs")?;
+                beside.push(format!("the images are those of {tool}"));
+            }
+            None => beside.push(format!("{tool} is not installed: left out")),
+        }
+    }
+    Ok(format!(
+        "joined for both boards: {written} bytes, {} lines, read to the end by both; {}",
+        lines.len(),
+        beside.join("; ")
+    ))
+}
+
+/// The image of a plain file, of `IMAGE_LEN` bytes from 0 on, 0xFF where there is no data: by `srec_cat`.
+fn by_srecord(path: &Path) -> Option<Vec<u8>> {
+    let out = std::env::temp_dir().join(format!("real_files.{}.bin", std::process::id()));
+    let (from, to) = ("0", IMAGE_LEN.to_string());
+    let ran = Command::new("srec_cat")
+        .arg(path)
+        .args([
+            "-intel", "-crop", from, &to, "-fill", "0xFF", from, &to, "-o",
+        ])
+        .arg(&out)
+        .arg("-binary")
+        .output()
+        .ok()?;
+    let made = fs::read(&out).ok();
+    let _ = fs::remove_file(&out);
+    made.filter(|_| ran.status.success())
+}
+
+/// The same by `python3-intelhex`, of the system's Python.
+fn by_intelhex(path: &Path) -> Option<Vec<u8>> {
+    let program = "import sys, intelhex\n\
+        h = intelhex.IntelHex(sys.argv[1])\n\
+        h.padding = 0xFF\n\
+        sys.stdout.buffer.write(bytes(h.tobinarray(start=0, size=int(sys.argv[2]))))";
+    let ran = Command::new("/usr/bin/python3")
+        .args(["-c", program])
+        .arg(path)
+        .arg(IMAGE_LEN.to_string())
+        .output()
+        .ok()?;
+    ran.status.success().then_some(ran.stdout)
 }
 
 /// The answers to lines from a fresh reader, and the image afterwards, the same on both sides.

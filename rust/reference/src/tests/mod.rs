@@ -4,9 +4,12 @@ mod arrival;
 mod comments;
 mod hex;
 mod hex_file;
+mod kept;
 mod list;
+mod made;
 mod place;
 mod ram;
+mod replay;
 mod storing;
 
 use crate::*;

@@ -1,0 +1,1 @@
+// The claims about files that are made and delivered: no code.

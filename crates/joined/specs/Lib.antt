@@ -1,0 +1,5 @@
+pub mod PlainFile
+pub mod Form
+pub mod Refusals
+pub mod Claims
+pub mod Instance

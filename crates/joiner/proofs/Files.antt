@@ -1,0 +1,115 @@
+-- The file of two sections, and the call. Assumes nothing.
+use mathlib.Core.Path.{_≡_, refl, sym, ap, _∙_}
+use mathlib.Core.Bool.{Bool, true, false, cond, _||_}
+use mathlib.Core.List.{List, [], _∷_, _++_, flatten}
+use Prim.Native.Nat.{ℕ, _+_, _≤_}
+use native.Mathlib.Omega.{arith}
+use lib.Dec.{ltb}
+use lib.ListN.{length, length-append}
+use borrow.Author.Tests.{ltb-false}
+use Rattle.sets.specs.Numbered.{numbered}
+use Rattle.sets.specs.Over.{over}
+use Rattle.sets.proofs.Tests.{or-left, or-right}
+use Rattle.stores.specs.Stores.{Store}
+use Rattle.record.specs.Types.{endOfFile}
+use Rattle.record.specs.Write.{recordLine}
+use Rattle.grammar.specs.declared.Answer.{Answer}
+use Rattle.grammar.specs.declared.Answer.the-variants.{FileTooLong}
+use Rattle.hexwrite.specs.Put.{putLine, putLines}
+use Rattle.hexwrite.proofs.Line.{length-line}
+use Rattle.hexwrite.proofs.Lines.{put-one, put-append, put-fits, length-flatten}
+use Rattle.plain.specs.declared.Verdict.{Verdict}
+use Rattle.plain.specs.declared.Verdict.the-variants.{Fine, Bad}
+use Rattle.plain.specs.File.{verdictOf}
+use Rattle.joiner.specs.declared.Tally.{Tally}
+use Rattle.joiner.specs.declared.Joined.{Joined}
+use Rattle.joiner.specs.declared.Joined.the-variants.{Written, Refused}
+use Rattle.joiner.specs.Pieces.{piecesOf}
+use Rattle.joiner.specs.Text.{firstUpper, sectionLines, fileLines, fileText}
+use Rattle.joiner.specs.Tally.{freshTally, tallyAll, sectionSize}
+use Rattle.joiner.specs.Join.{JoinCall, joinCall, joinNumber, refusal, refusedBy, onVerdict, writtenOf, Fits, joinOf}
+use Rattle.joiner.proofs.Tallied.{fresh-first}
+use Rattle.joiner.proofs.Sectioned.{length-section}
+
+-- ---- the file
+
+abbrev lastLine : List ℕ
+lastLine = recordLine endOfFile 0 []
+
+module _ (a b : List Store) where
+  pub length-file : length (fileText a b) ≡ length (flatten (sectionLines 0x9900 a)) + (length (flatten (sectionLines 0x9903 b)) + 12)
+  unfolding fileText fileLines flatten
+  length-file =
+      let first = sectionLines 0x9900 a in
+      let second = sectionLines 0x9903 b in
+      let last = lastLine ∷ [] in
+      omega (
+        arith,
+        length-flatten first (second ++ last),
+        length-flatten second last,
+        length-append lastLine [],
+        length-line endOfFile 0 [],
+      )
+
+  pub file-length : (s t : Tally) {m n : ℕ} → s ≡ tallyAll freshTally a → t ≡ tallyAll freshTally b → m ≡ sectionSize (s .len) → n ≡ sectionSize (t .len)
+      → m + (n + 12) ≡ length (fileText a b)
+  file-length s t e f p q =
+      let x : sectionSize (s .len) ≡ length (flatten (sectionLines 0x9900 a)) = rw e (sym (length-section 0x9900 a)) in
+      let y : sectionSize (t .len) ≡ length (flatten (sectionLines 0x9903 b)) = rw f (sym (length-section 0x9903 b)) in
+      rw (p, x, q, y) (sym length-file)
+
+  pub file-put : (out : List ℕ) {one two three : List ℕ} {mid last : ℕ} → Fits (fileText a b) out
+      → one ≡ putLines out 0 (sectionLines 0x9900 a) → mid ≡ 0 + length (flatten (sectionLines 0x9900 a))
+      → two ≡ putLines one mid (sectionLines 0x9903 b) → last ≡ mid + length (flatten (sectionLines 0x9903 b))
+      → three ≡ putLine two last lastLine → three ≡ over out 0 (fileText a b)
+  unfolding fileText fileLines
+  file-put out f e m g n h =
+      let first = sectionLines 0x9900 a in
+      let second = sectionLines 0x9903 b in
+      let all : 0 + length (flatten (fileLines a b)) ≤ length out = omega (arith, f .room) in
+      h
+      ∙ rw (n, g, m, e) (sym (put-one (putLines (putLines out 0 first) (0 + length (flatten first)) second) (0 + length (flatten first) + length (flatten second)) lastLine))
+      ∙ sym (put-append (putLines out 0 first) (0 + length (flatten first)) second (lastLine ∷ []))
+      ∙ sym (put-append out 0 first (second ++ (lastLine ∷ [])))
+      ∙ put-fits out 0 (fileLines a b) all
+
+pub first-is : (s : Tally) (a : List Store) → s ≡ tallyAll freshTally a → s .first ≡ firstUpper a
+first-is s a e = rw e (fresh-first a)
+
+-- ---- whether it fits
+
+module _ (text out : List ℕ) (n : ℕ) (e : n ≡ length text) where
+  pub too-long : (ltb 4194304 n || ltb (length out) n) ≡ true → joinCall (Refused (refusal 0 0 FileTooLong)) out ≡ writtenOf text out
+  unfolding writtenOf
+  too-long h = rw (← e, h) refl
+
+  pub written : {o : List ℕ} → (ltb 4194304 n || ltb (length out) n) ≡ false → o ≡ over out 0 text → joinCall (Written n) o ≡ writtenOf text out
+  unfolding writtenOf
+  written h f = rw (← e, h) (ap (joinCall (Written n)) f)
+
+  pub fits-by : (ltb 4194304 n || ltb (length out) n) ≡ false → Fits text out
+  fits-by h =
+      record {
+        short = rw (← e) (ltb-false 4194304 n (or-left (ltb 4194304 n) (ltb (length out) n) h));
+        room = rw (← e) (ltb-false (length out) n (or-right (ltb 4194304 n) (ltb (length out) n) h));
+      }
+
+-- ---- the call
+
+module _ (a b out : List ℕ) where
+  abbrev Joins : Joined → List ℕ → Type 0
+  Joins r o = numbered joinNumber (joinCall r o) ≡ numbered joinNumber (joinOf a b out)
+
+  pub joins-first : {v : Verdict} {k : ℕ} {x : Answer} {r : Joined} → v ≡ verdictOf a → v ≡ Bad k x → r ≡ refusedBy 0x9900 v → Joins r out
+  unfolding joinOf
+  joins-first e f g = ap (numbered joinNumber) (rw (← e, f) (ap (λ (y : Joined). joinCall y out) (g ∙ rw f refl)))
+
+  pub joins-second : {u v : Verdict} {k : ℕ} {x : Answer} {r : Joined} → u ≡ verdictOf a → u ≡ Fine → v ≡ verdictOf b → v ≡ Bad k x
+      → r ≡ refusedBy 0x9903 v → Joins r out
+  unfolding joinOf
+  joins-second d h e f g = ap (numbered joinNumber) (rw (← d, h, ← e, f) (ap (λ (y : Joined). joinCall y out) (g ∙ rw f refl)))
+
+  pub joins-both : {u v : Verdict} {r : Joined} {o : List ℕ} → u ≡ verdictOf a → u ≡ Fine → v ≡ verdictOf b → v ≡ Fine
+      → joinCall r o ≡ writtenOf (fileText (piecesOf a) (piecesOf b)) out → Joins r o
+  unfolding joinOf
+  joins-both d h e f g = ap (numbered joinNumber) (rw (← d, h, ← e, f) g)

@@ -1,0 +1,71 @@
+-- One file from two, or a refusal (02, L11). Assumes nothing.
+use Prim.Native.Nat.{ℕ, _≤_}
+use mathlib.Core.Bool.{cond, _||_}
+use mathlib.Core.List.{List}
+use lib.Dec.{ltb}
+use lib.ListN.{length}
+use Rattle.sets.specs.Over.{over}
+use Rattle.grammar.specs.Answers.{numberOf}
+use Rattle.grammar.specs.declared.Answer.{Answer}
+use Rattle.grammar.specs.declared.Answer.the-variants.{FileTooLong}
+use Rattle.plain.specs.declared.Verdict.{Verdict}
+use Rattle.plain.specs.declared.Verdict.the-variants.{Fine, Bad}
+use Rattle.plain.specs.File.{verdictOf}
+use Rattle.joiner.specs.declared.Refusal.{Refusal}
+use Rattle.joiner.specs.declared.Joined.{Joined}
+use Rattle.joiner.specs.declared.Joined.the-variants.{Written, Refused}
+use Rattle.joiner.specs.Pieces.{piecesOf}
+use Rattle.joiner.specs.Text.{fileText}
+
+-- what is answered, and what the room holds
+pub record JoinCall : Type 0 where
+  pub answer : Joined
+  pub room : List ℕ
+
+-- both as one value, which the contract names
+abbrev pub joinCall : Joined → List ℕ → JoinCall
+joinCall x l = record { answer = x; room = l }
+
+-- 01's number of a refusal; a file that is written is none, and has 0
+abbrev pub joinedNumber : Joined → ℕ
+joinedNumber (Written n) = 0
+joinedNumber (Refused r) = numberOf (r .answer)
+
+-- of a call
+abbrev pub joinNumber : JoinCall → ℕ
+joinNumber c = joinedNumber (c .answer)
+
+-- of a board's file, at a line; 0 and 0 for the output
+abbrev pub refusal : ℕ → ℕ → Answer → Refusal
+refusal board k a = record { board = board; line = k; answer = a }
+
+-- "A refusal writes nothing"
+abbrev pub refusedCall : ℕ → ℕ → Answer → List ℕ → JoinCall
+refusedCall board k a out = joinCall (Refused (refusal board k a)) out
+
+-- the refusal of a board's file; of one that is fine nothing asks for it
+abbrev pub refusedBy : ℕ → Verdict → Joined
+refusedBy board Fine = Written 0
+refusedBy board (Bad k a) = Refused (refusal board k a)
+
+-- a board's file is refused, or what follows is asked
+abbrev pub onVerdict : ℕ → Verdict → List ℕ → JoinCall → JoinCall
+onVerdict board Fine out rest = rest
+onVerdict board (Bad k a) out rest = refusedCall board k a out
+
+-- "Output over 4,194,304 bytes or the lent room is 36"; "room past the output stays"
+unfoldable pub writtenOf : List ℕ → List ℕ → JoinCall
+writtenOf text out =
+    cond (ltb 4194304 (length text) || ltb (length out) (length text)) (refusedCall 0 0 FileTooLong out)
+    (joinCall (Written (length text)) (over out 0 text))
+
+-- a text for which there is room
+pub record Fits (text out : List ℕ) : Type 0 where
+  pub short : length text ≤ 4194304
+  pub room : length text ≤ length out
+
+-- "V1's input whole first"
+unfoldable pub joinOf : List ℕ → List ℕ → List ℕ → JoinCall
+joinOf a b out =
+    onVerdict 0x9900 (verdictOf a) out
+    (onVerdict 0x9903 (verdictOf b) out (writtenOf (fileText (piecesOf a) (piecesOf b)) out))
