@@ -276,8 +276,6 @@ begins-idle h =
     record {
       idle = refl;
       flash = refl;
-      main = refl;
-      xip = refl;
       seen = no-byte (length (h .seen));
       seen-length = length-unmarked (length (h .seen));
       sectors = no-byte (length (h .sectors));

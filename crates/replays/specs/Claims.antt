@@ -36,8 +36,6 @@ IsOurs s h t k = (length (pieceAt t k) ≡ 513) × (pieceAt t k ≡ ourRecord s 
 pub record Begins (h : Lent) (w : World) : Type 0 where
   pub idle : w .transfer ≡ Idle
   pub flash : lentOf w .flash ≡ h .flash
-  pub main : lentOf w .main ≡ h .main
-  pub xip : lentOf w .xip ≡ h .xip
   pub seen : (k : ℕ) → getD (lentOf w .seen) k 0 ≡ 0
   pub seen-length : length (lentOf w .seen) ≡ length (h .seen)
   pub sectors : (k : ℕ) → getD (lentOf w .sectors) k 0 ≡ 0

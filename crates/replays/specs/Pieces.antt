@@ -36,11 +36,8 @@ unfoldable pub arrivalsTo : List ℕ → ℕ → List (List ℕ)
 arrivalsTo t zero = []
 arrivalsTo t (suc n) = arrivalsTo t n ++ (arrivalAt t n ∷ [])
 
--- how many records stand before the stop, of a trace with n whole pieces
-abbrev pub beforeStop : ℕ → Stop → ℕ
-beforeStop n None = n
-beforeStop n (Bad i) = i
-beforeStop n (Differs i) = i
-
+-- how many records stand before the stop
 abbrev pub recordsBefore : List ℕ → Stop → ℕ
-recordsBefore t x = beforeStop (length t / 513) x
+recordsBefore t None = length t / 513
+recordsBefore t (Bad i) = i
+recordsBefore t (Differs i) = i

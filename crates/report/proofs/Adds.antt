@@ -21,7 +21,7 @@ use Rattle.transfer.specs.declared.Transfer.{Transfer}
 use Rattle.transfer.specs.declared.State.{State}
 use Rattle.transfer.specs.declared.State.the-variants.{Idle}
 use Rattle.transfer.specs.declared.Answer.{Answer}
-use Rattle.transfer.specs.declared.Answer.the-variants.{BadBuffers, BadSettings, BadState, NotBlock, Container, NoFamily, NoPlace, BadPayload, BadNumbers, BadAddress, Finished, Again, Written, Completed, Noted}
+use Rattle.transfer.specs.declared.Answer.the-variants.{BadBuffers, BadSettings, BadState, NotBlock, Container, NoFamily, NoPlace, BadPayload, BadNumbers, BadAddress, Finished, Again, Written, Completed, Noted, Kept}
 use Rattle.arrival.specs.Arrive.{Lent, World, Outcome, lentOf, unchanged, receiveOf}
 use Rattle.arrival.specs.Lists.{receiveAll, answersOf, discardsOf, Delivery, playAll}
 use Rattle.arrival.specs.Facts.{Refusals-change-nothing}
@@ -31,13 +31,14 @@ use Rattle.arrival.proofs.Tally.{count-is-marks}
 use Rattle.receiver.specs.Receiver.{world}
 use Rattle.trace.specs.Trace.{TraceOutcome, traceOutcome, begun, replayOf}
 use Rattle.trace.specs.declared.Stop.{Stop}
-use Rattle.replays.specs.Pieces.{pieceAt, arrivalAt, arrivalsTo, beforeStop, recordsBefore}
+use Rattle.trace.specs.declared.Stop.the-variants.{None, Bad, Differs}
+use Rattle.replays.specs.Pieces.{pieceAt, arrivalAt, arrivalsTo, recordsBefore}
 use Rattle.replays.specs.Claims.{after, IsOurs, EndsAfter, Ends-before-the-stop}
 use Rattle.replays.proofs.Replays.{ends-before-the-stop}
 use Rattle.report.specs.declared.Report.{Report}
 use Rattle.report.specs.declared.FiguresAnswer.the-variants.{BadReport, TooMany, Replayed}
 use Rattle.report.specs.Report.{sumTo, goodReport, withRoom, countAll, howManyYes, missingAt, replayedIn, addedTo, figuresOutcome, addOf}
-use Rattle.report.specs.Counting.{recordedAt, numbersTo, discardsTo, Countable, countedOf, endedOf}
+use Rattle.report.specs.Counting.{beforeStop, recordedAt, numbersTo, discardsTo, Countable, countedOf, endedOf}
 
 -- ---- the numbers of our answers
 
@@ -57,6 +58,7 @@ number-range Again = (omega arith, omega arith, λ e. omega (arith, e))
 number-range Written = (omega arith, omega arith, λ e. omega (arith, e))
 number-range Completed = (omega arith, omega arith, λ e. omega (arith, e))
 number-range Noted = (omega arith, omega arith, λ e. omega (arith, e))
+number-range Kept = (omega arith, omega arith, λ e. omega (arith, e))
 
 -- ---- lists with one arrival more
 
@@ -75,6 +77,11 @@ pub length-arrivals : (t : List ℕ) (n : ℕ) → length (arrivalsTo t n) ≡ n
 unfolding arrivalsTo
 length-arrivals t zero = refl
 length-arrivals t (suc n) = rw (length-append (arrivalsTo t n) (arrivalAt t n ∷ []), length-arrivals t n) (omega arith)
+
+before-is : (t : List ℕ) (x : Stop) → beforeStop (length t / 513) x ≡ recordsBefore t x
+before-is t None = refl
+before-is t (Bad i) = refl
+before-is t (Differs i) = refl
 
 -- ---- records of ours
 
@@ -125,13 +132,13 @@ module _ (s : Settings) (h : Lent) (t : List ℕ) where
     pub countable : (r : Report) {n : ℕ} → goodReport r ≡ true → withRoom r (length t / 513) ≡ true → n ≡ beforeStop (length t / 513) x → Countable r t n
     unfolding goodReport withRoom
     countable r {n} g m q =
-        let f : (k : ℕ) → k < n → IsOurs s h t k = λ k l. before k (rw q at l) in
+        let f : (k : ℕ) → k < n → IsOurs s h t k = λ k l. before k (subst (λ (m : ℕ). k < m) (q ∙ before-is t x) l) in
         let long = whole n f in
         record {
           whole = long;
           ours = λ k l. let b = number-range (ours k .answer) in rw (answer-is k (f k l)) (b .0, b .1);
-          sum = eqb-true (sumTo 16 (r .counts)) (r .records) (and-left _ _ g);
-          few = leb-true (r .discards) (r .records) (and-right _ _ g);
+          sum = eqb-true (sumTo 16 (r .counts)) (r .records) (and-left (eqb (sumTo 16 (r .counts)) (r .records)) (leb (r .discards) (r .records)) g);
+          few = leb-true (r .discards) (r .records) (and-right (eqb (sumTo 16 (r .counts)) (r .records)) (leb (r .discards) (r .records)) g);
           room = omega (arith, leb-true (r .records + length t / 513) 4294967295 m);
         }
 
@@ -192,7 +199,7 @@ module _ (r : Report) (s : Settings) (h : Lent) (t : List ℕ) where
     added-is q =
         let m = recordsBefore t (replayOf s h t .stop) in
         let f : (k : ℕ) → k < m → IsOurs s h t k = unfold Ends-before-the-stop in ends-before-the-stop s h t .ours in
-        rw (q ∙ ap (recordsBefore t) (stop-is s h t e), length-arrivals t m, ← numbers-are s h t m f, ← discards-are s h t m f, ← replay-count s h t, ← e)
+        rw (q ∙ before-is t x ∙ ap (recordsBefore t) (stop-is s h t e), length-arrivals t m, ← numbers-are s h t m f, ← discards-are s h t m f, ← replay-count s h t, ← e)
 
     pub add-replayed : {n : ℕ} {c d : Report} → goodReport r ≡ true → withRoom r (length t / 513) ≡ true → n ≡ beforeStop (length t / 513) x
         → c ≡ countedOf r t n → d ≡ endedOf c (u .state) (k .seen) → figuresOutcome (Replayed x) d k ≡ addOf r s h t

@@ -5,8 +5,16 @@ use mathlib.Core.List.{List, [], _∷_, _++_}
 use lib.ListN.{length, getD}
 use Rattle.transfer.specs.Transfer.{countOf}
 use Rattle.transfer.specs.declared.State.{State}
+use Rattle.trace.specs.declared.Stop.{Stop}
+use Rattle.trace.specs.declared.Stop.the-variants.{None, Bad, Differs}
 use Rattle.report.specs.declared.Report.{Report}
 use Rattle.report.specs.Report.{sumTo, countAll, missingAt}
+
+-- how many records stand before the stop, of a trace with n whole pieces
+abbrev pub beforeStop : ℕ → Stop → ℕ
+beforeStop n None = n
+beforeStop n (Bad i) = i
+beforeStop n (Differs i) = i
 
 -- the byte of record k
 abbrev pub recordedAt : List ℕ → ℕ → ℕ

@@ -6,7 +6,6 @@ ghost use Rattle.sets.specs.Sets.{least};
 ghost use Rattle.sets.specs.Numbered.{numbered};
 ghost use Rattle.transfer.specs.Transfer.{countOf};
 ghost use Rattle.receiver.specs.Receiver.{lentAt, leftAt};
-ghost use Rattle.replays.specs.Pieces.{beforeStop};
 ghost use Rattle.report.specs.Report.{
   freshReport,
   sumTo,
@@ -20,7 +19,7 @@ ghost use Rattle.report.specs.Report.{
   outcomeNumber,
   addOf,
 };
-ghost use Rattle.report.specs.Counting.{Countable, countedOf, endedOf};
+ghost use Rattle.report.specs.Counting.{beforeStop, Countable, countedOf, endedOf};
 use settings::Settings;
 use trace::Stop;
 use transfer::State;
