@@ -14,8 +14,8 @@ use Rattle.settings.specs.Settings.{goodSettings}
 use Rattle.settings.specs.declared.Settings.{Settings}
 use Rattle.place.specs.declared.Place.{Place}
 use Rattle.place.specs.declared.Place.the-variants.{Nowhere, At}
-use Rattle.transfer.specs.Transfer.{goodState, stepOf}
-use Rattle.transfer.proofs.Laws.{stays-any}
+use Rattle.transfer.specs.Transfer.{goodState, withDeed, stepOf}
+use Rattle.transfer.proofs.Laws.{stays-any, accepts-any}
 use Rattle.transfer.specs.declared.Kind.the-variants.{Flash, MainRam, XipRam}
 use Rattle.transfer.specs.declared.Transfer.{Transfer}
 use Rattle.transfer.specs.declared.Unchanged.{Unchanged}
@@ -94,13 +94,6 @@ stands-nowhere f a e = rw e
 
 -- ---- rows 12 to 17
 
-module _ (t : Transfer) (p : Placed) (m : Bool) (d : Deed) {s : Step} (q : s ≡ stepOf (t .state) (p .head) m d) where
-  pub settle-stays : {x : Unchanged} → s ≡ Stays x → stays (x .answer) ≡ stepped p d (stepOf (t .state) (p .head) m d)
-  settle-stays w = let z = sym q ∙ w in rw z
-
-  pub settle-accepts : {y : Accepted} → s ≡ Accepts y → accepts p d y ≡ stepped p d (stepOf (t .state) (p .head) m d)
-  settle-accepts w = let z = sym q ∙ w in rw z
-
 module _ (t : Transfer) (p : Placed) (seen : List ℕ) (kept : Bool) {m : Bool} (e : m ≡ markedIn seen (p .number)) where
   -- what stays, stays whatever the flash has
   pub settled-stays : {s : Step} → s ≡ stepOf (t .state) (p .head) m Stores → {x : Unchanged} → s ≡ Stays x
@@ -111,10 +104,14 @@ module _ (t : Transfer) (p : Placed) (seen : List ℕ) (kept : Bool) {m : Bool} 
       ap (λ (b : Bool). stepOf (t .state) (p .head) b (deedOf kept p)) (sym e) ∙ stays-any (t .state) (p .head) m Stores (deedOf kept p) (sym q ∙ w) in
       rw z
 
-  pub settled-as : {d : Deed} → d ≡ deedOf kept p → {v : Decision} → v ≡ stepped p d (stepOf (t .state) (p .head) m d)
-      → v ≡ afterScreening (t .state) seen kept (Passed p)
+  -- and what is accepted is accepted
+  pub settled-accepts : {s : Step} → s ≡ stepOf (t .state) (p .head) m Stores → {y : Accepted} → s ≡ Accepts y → {d : Deed} → d ≡ deedOf kept p → {z : Accepted} → z ≡ withDeed d y
+      → accepts p d z ≡ afterScreening (t .state) seen kept (Passed p)
   unfolding afterScreening
-  settled-as f v = v ∙ rw (e, f)
+  settled-accepts q {y} w f g =
+      let v : stepOf (t .state) (p .head) (markedIn seen (p .number)) (deedOf kept p) ≡ Accepts (withDeed (deedOf kept p) y) =
+      ap (λ (b : Bool). stepOf (t .state) (p .head) b (deedOf kept p)) (sym e) ∙ accepts-any (t .state) (p .head) m (deedOf kept p) (sym q ∙ w) in
+      rw (v, g, f)
 
 -- ---- every row
 

@@ -278,25 +278,6 @@ fn accept(
     }
 }
 
-// Rows 12 to 17, of a block that does `deed` if it is accepted.
-fn settle_as(transfer: Transfer, placed: Placed, marked: bool, deed: Deed) -> Verdict
-    ensures { λ r. ⌜ decision r ≡ stepped placed deed (stepOf (transfer .state) (placed .head) marked deed) ⌝ }
-{
-    let head = placed.head;
-    let step = transfer.step(head, marked, deed);
-    match step {
-        Step::Stays(unchanged) => {
-            let answer = unchanged.answer;
-            Verdict::Leaves(answer)
-        }
-        Step::Accepts(accepted) => Verdict::Accepts(Acceptance {
-            placed,
-            deed,
-            accepted,
-        }),
-    }
-}
-
 // Rows 12 to 17, of a block that has passed the screening. The flash is read where it is accepted, and not for 12 and 13.
 fn settle(
     transfer: Transfer,
@@ -317,9 +298,14 @@ fn settle(
             let given = unchanged.answer;
             Verdict::Leaves(given)
         }
-        Step::Accepts(_) => {
+        Step::Accepts(stored) => {
             let deed = deed_of(placed, place, flash, arrival);
-            settle_as(transfer, placed, marked, deed)
+            let accepted = transfer::doing(stored, deed);
+            Verdict::Accepts(Acceptance {
+                placed,
+                deed,
+                accepted,
+            })
         }
     }
 }

@@ -102,6 +102,22 @@ accepted d clears discards g c =
       clears = clears;
     }
 
+-- the answer to a block that does d, where x is that to one that stores, and the transfer goes on to a state
+abbrev pub toldAnswer : Deed → State → Answer → Answer
+toldAnswer d Idle x = x
+toldAnswer d (Running r) x = deedAnswer d
+toldAnswer d (Done g) x = x
+
+-- a block that was accepted as one that stores does d instead
+abbrev pub withDeed : Deed → Accepted → Accepted
+withDeed d y =
+    record {
+      transfer = y .transfer;
+      answer = toldAnswer d (y .transfer .state) (y .answer);
+      discarded = y .discarded;
+      clears = y .clears;
+    }
+
 -- rows 12 to 15 (and 16, 17), of a block of head g whose number is marked or not, and which does d once it is accepted
 unfoldable pub stepOf : State → Head → Bool → Deed → Step
 stepOf Idle g marked d = Accepts (accepted d true false g 1)

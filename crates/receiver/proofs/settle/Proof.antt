@@ -1,6 +1,6 @@
 -- `receiver::settle` meets its contract. Assumes nothing.
 use Rattle.sets.proofs.Numbered.{answer-is}
-use Rattle.receiver.proofs.Laws.{settled-stays, settled-as}
+use Rattle.receiver.proofs.Laws.{settled-stays, settled-accepts}
 use borrow.Author.Needs.{needs}
 use Rattle.receiver.proofs.settle.Statement.{statement}
 use Rattle.receiver.proofs.settle.Tie as tie
@@ -17,20 +17,23 @@ step-requires c κs = search needs
 enum-known-trial : tie.Need-enum-known-trial
 enum-known-trial c = search needs
 
-enum-told : tie.Need-enum-told
-enum-told c = search needs
+enum-known-trial-2 : tie.Need-enum-known-trial-2
+enum-known-trial-2 c = search needs
 
 deed-of-requires : tie.Need-deed-of-requires
 deed-of-requires c κs = search needs
 
-settle-as-requires : tie.Need-settle-as-requires
-settle-as-requires c κs = search needs
+doing-requires : tie.Need-doing-requires
+doing-requires c κs = search needs
 
 returns : tie.Need-returns
 returns c = settled-stays _ (c .before .before .before .before .before .before .before .before .before .before .args .placed) _ _ (c .before .before .before .before .marked .ensures) (answer-is (c .before .before .before .step .ensures)) (c .before .trial .given .1)
 
 returns-2 : tie.Need-returns-2
-returns-2 c = settled-as _ _ _ _ (c .before .before .before .before .before .marked .ensures) (c .before .deed-of .ensures) (c .settle-as .ensures)
+returns-2 c =
+    let trial = c .before .before .before in
+    let stepped = trial .before .before in
+    settled-accepts _ _ _ _ (stepped .before .marked .ensures) (answer-is (stepped .step .ensures)) (trial .trial2 .given .1) (c .before .deed-of .ensures) (c .doing .ensures)
 
 pub settle-spec : {M : Type 1} → statement M
 settle-spec =
@@ -40,8 +43,8 @@ settle-spec =
     marked-requires
     step-requires
     enum-known-trial
-    enum-told
+    enum-known-trial-2
     deed-of-requires
-    settle-as-requires
+    doing-requires
     returns
     returns-2)
