@@ -27,7 +27,7 @@ use Rattle.transfer.specs.declared.State.{State}
 use Rattle.transfer.specs.declared.State.the-variants.{Running}
 use Rattle.transfer.specs.declared.Answer.the-variants.{NoPlace, BadPayload, BadNumbers, BadAddress}
 use Rattle.screen.specs.Screen.{baseOf, extentOf, isLent, inWindow, windowOf, noteKind, roomIn, badNumbers, badAddress, placed, strayed, noted, windowKind, dataFound, noteFound, found, afterHeader, lowPlace, lowRooms, screenIn, screenAt, screeningNumber}
-use Rattle.screen.specs.Parts.{alignmentOf, Above}
+use Rattle.screen.specs.Parts.{alignmentOf, Above, commentFound, pageFound}
 use Rattle.screen.specs.declared.Lengths.{Lengths}
 use Rattle.screen.specs.declared.Rooms.{Rooms}
 use Rattle.screen.specs.declared.Window.{Window}
@@ -205,13 +205,12 @@ module _ (r : Rooms) (n : Lengths) (t : State) (b : Block) where
   found-data h = ap (λ (c : Bool). cond c (noteAt (noteKind n t b)) (dataAt (windowOf n (b .address)))) h
 
   -- as the code goes, call by call
-  pub check-comment : b .comment ≡ true → {k : Kind} → k ≡ noteKind n t b → {p : Place} → p ≡ roomIn r k → {x : Screening} → x ≡ noteFound k p b → x ≡ found r n t b
-  check-comment h {k} e q y = y ∙ ap (λ (p : Place). noteFound k p b) q ∙ ap noteAt e ∙ sym (found-comment h)
+  pub check-comment : {k : Kind} → k ≡ noteKind n t b → {p : Place} → p ≡ roomIn r k → {x : Screening} → x ≡ noteFound k p b → x ≡ commentFound r n t b
+  check-comment {k} e q y = y ∙ ap (λ (p : Place). noteFound k p b) q ∙ ap noteAt e
 
-  pub check-window : b .comment ≡ false → {u : Window} → u ≡ windowOf n (b .address) → {k : Kind} → k ≡ windowKind u → {p : Place} → p ≡ roomIn r k
-      → {x : Screening} → x ≡ dataFound u p b → x ≡ found r n t b
-  check-window h {u} e q i y =
-      y ∙ ap (λ (p : Place). dataFound u p b) (i ∙ ap (roomIn r) q) ∙ ap dataAt e ∙ sym (found-data h)
+  pub check-window : {u : Window} → u ≡ windowOf n (b .address) → {k : Kind} → k ≡ windowKind u → {p : Place} → p ≡ roomIn r k
+      → {x : Screening} → x ≡ dataFound u p b → x ≡ pageFound r n b
+  check-window {u} e q i y = y ∙ ap (λ (p : Place). dataFound u p b) (i ∙ ap (roomIn r) q) ∙ ap dataAt e
 
 above : (n : Lengths) (x : ℕ) (u : Window) → WindowFacts n x u → Above u x
 above n x Outside f = tt
@@ -246,6 +245,12 @@ module _ (r : Rooms) (n : Lengths) (t : State) (a : List ℕ) where
   pub screen-found : (b : Block) → headerOf a ≡ header.Found b → screenAt r n t a ≡ found (lowRooms r) n t b
   unfolding screenAt screenIn
   screen-found b e = rw e
+
+  pub screen-comment : (b : Block) → headerOf a ≡ header.Found b → b .comment ≡ true → {x : Screening} → x ≡ commentFound (lowRooms r) n t b → x ≡ screenAt r n t a
+  screen-comment b e h q = q ∙ sym (found-comment (lowRooms r) n t b h) ∙ sym (screen-found b e)
+
+  pub screen-page : (b : Block) → headerOf a ≡ header.Found b → b .comment ≡ false → {x : Screening} → x ≡ pageFound (lowRooms r) n b → x ≡ screenAt r n t a
+  screen-page b e h q = q ∙ sym (found-data (lowRooms r) n t b h) ∙ sym (screen-found b e)
 
 -- ---- the numbers of the header's refusals are the answers'
 

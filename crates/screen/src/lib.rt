@@ -23,14 +23,13 @@ ghost use Rattle.screen.specs.Screen.{
   windowKind,
   dataFound,
   noteFound,
-  found,
   HeaderAnswer,
   lowPlace,
   lowRooms,
   screenAt,
   screeningNumber,
 };
-ghost use Rattle.screen.specs.Parts.{alignmentOf, Above};
+ghost use Rattle.screen.specs.Parts.{alignmentOf, Above, commentFound, pageFound};
 use block::Block;
 use block::Header;
 use flash::Flash;
@@ -345,15 +344,19 @@ fn check_note(kind: Kind, place: Place, b: Block) -> Screening
     }
 }
 
-// Rows 8 to 11.
-fn check(rooms: Rooms, lens: Lengths, transfer: Transfer, b: Block) -> Screening
-    ensures { λ r. ⌜ r ≡ found (lowRooms rooms) lens (transfer .state) b ⌝ }
+// Rows 8 to 11, of a comment.
+fn check_comment(rooms: Rooms, lens: Lengths, transfer: Transfer, b: Block) -> Screening
+    ensures { λ r. ⌜ r ≡ commentFound (lowRooms rooms) lens (transfer .state) b ⌝ }
 {
-    if b.comment {
-        let noted = note_kind(lens, transfer, b);
-        let room = room_in(rooms, noted);
-        return check_note(noted, room, b);
-    }
+    let noted = note_kind(lens, transfer, b);
+    let room = room_in(rooms, noted);
+    check_note(noted, room, b)
+}
+
+// Rows 8 to 11, of a data block.
+fn check_page(rooms: Rooms, lens: Lengths, b: Block) -> Screening
+    ensures { λ r. ⌜ r ≡ pageFound (lowRooms rooms) lens b ⌝ }
+{
     let window = window_of(lens, b.address as usize);
     let kind = window_kind(window);
     let place = room_in(rooms, kind);
@@ -368,5 +371,23 @@ pub fn screen(rooms: Rooms, lens: Lengths, transfer: Transfer, arrival: &[u8]) -
     let Header::Found(b) = h else {
         return Screening::Refused(header_answer(h));
     };
-    check(rooms, lens, transfer, b)
+    if b.comment {
+        return check_comment(rooms, lens, transfer, b);
+    }
+    check_page(rooms, lens, b)
+}
+
+// The same as `screen`, for a take. A function of two callers is not put in the place of the call, and what this is handed and hands back would go
+// through memory at each arrival.
+pub fn screen_to_take(rooms: Rooms, lens: Lengths, transfer: Transfer, arrival: &[u8]) -> Screening
+    ensures { λ r. ⌜ numbered screeningNumber r ≡ numbered screeningNumber (screenAt rooms lens (transfer .state) (now (arrival .entry))) ⌝ }
+{
+    let h = block::read(arrival);
+    let Header::Found(b) = h else {
+        return Screening::Refused(header_answer(h));
+    };
+    if b.comment {
+        return check_comment(rooms, lens, transfer, b);
+    }
+    check_page(rooms, lens, b)
 }

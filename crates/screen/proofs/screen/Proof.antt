@@ -3,7 +3,7 @@ use mathlib.Core.Path.{sym, ap, _∙_}
 use Rattle.sets.specs.Numbered.{numbered}
 use Rattle.sets.proofs.Numbered.{answer-is}
 use Rattle.screen.specs.Screen.{screeningNumber}
-use Rattle.screen.proofs.Laws.{refusal-header, screen-header, screen-found}
+use Rattle.screen.proofs.Laws.{refusal-header, screen-header, screen-comment, screen-page}
 use borrow.Author.Needs.{needs}
 use Rattle.screen.proofs.screen.Statement.{statement}
 use Rattle.screen.proofs.screen.Tie as tie
@@ -20,15 +20,33 @@ header-answer-requires c κs = refusal-header (c .before .read .result) (c .matc
 returns : tie.Need-returns
 returns c = ap (numbered screeningNumber) (screen-header _ _ _ _ (answer-is (c .before .before .read .ensures)) (c .header-answer .ensures _))
 
-check-requires : tie.Need-check-requires
-check-requires c κs = search needs
+check-comment-requires : tie.Need-check-comment-requires
+check-comment-requires c κs = search needs
 
 returns-2 : tie.Need-returns-2
 returns-2 c =
-    let h = sym (answer-is (c .before .before .before .before .read .ensures)) ∙ c .before .before .h .given .1 in
-    ap (numbered screeningNumber) (c .check .ensures ∙ sym (screen-found _ _ _ _ _ h))
+    let d = c .before .before in
+    let h = sym (answer-is (d .before .before .before .read .ensures)) ∙ d .before .h .given .1 in
+    ap (numbered screeningNumber) (screen-comment _ _ _ _ _ h (c .before .if1 .taken) (c .check-comment .ensures))
+
+check-page-requires : tie.Need-check-page-requires
+check-page-requires c κs = search needs
+
+returns-3 : tie.Need-returns-3
+returns-3 c =
+    let d = c .before .before in
+    let h = sym (answer-is (d .before .before .before .read .ensures)) ∙ d .before .h .given .1 in
+    ap (numbered screeningNumber) (screen-page _ _ _ _ _ h (c .before .if1 .left) (c .check-page .ensures))
 
 pub screen-spec : {M : Type 1} → statement M
 screen-spec =
     tie.close
-    (tie.spec read-requires enum-known-h header-answer-requires returns check-requires returns-2)
+    (tie.spec
+    read-requires
+    enum-known-h
+    header-answer-requires
+    returns
+    check-comment-requires
+    returns-2
+    check-page-requires
+    returns-3)
