@@ -28,7 +28,7 @@ use Rattle.transfer.specs.declared.State.the-variants.{Idle, Running, Done}
 use Rattle.transfer.specs.declared.Answer.{Answer}
 use Rattle.transfer.specs.declared.Answer.the-variants.{BadBuffers, BadSettings, BadState, BadAddress}
 use Rattle.screen.specs.Screen.{isLent, windowOf, noteKind, roomsOf, roomIn, badNumbers, badAddress, placed, strayed, noted, windowKind, dataFound, noteFound, found, afterHeader, screenIn, screenOf, screeningNumber}
-use Rattle.screen.proofs.Laws.{found-comment, found-data}
+use Rattle.screen.proofs.Laws.{Fielded, fielded, found-comment, found-data}
 use Rattle.screen.proofs.Windows.{InWindow, WindowFacts, window-facts, outside-bad}
 use Rattle.screen.specs.declared.Lengths.{Lengths}
 use Rattle.screen.specs.declared.Rooms.{Rooms}
@@ -40,7 +40,7 @@ use Rattle.arrival.specs.Arrive.{World, Decision, stays, outcomeNumber, 
 use Rattle.arrival.specs.Windows.{lies, kindOf}
 use Rattle.arrival.specs.Before.{placedBefore, notedBefore, foundBefore, screenBefore, decideBefore, receiveBefore, InFlash, strays, Without-RAM, Stays-in-flash}
 use Rattle.arrival.proofs.Windows.{lies-is}
-use Rattle.arrival.proofs.Screening.{Fielded, fielded, flashOf, lens, Board, room-of}
+use Rattle.arrival.proofs.Screening.{flashOf, lens, Board, room-of}
 use Rattle.arrival.proofs.DecisionFacts.{right-true, step-late, DecisionFacts, kept, took, decision-facts, raisedCount, took-state}
 
 -- ---- rows 4 to 11

@@ -29,7 +29,7 @@ use Rattle.transfer.specs.declared.Kind.the-variants.{Flash, MainRam, XipRam}
 use Rattle.transfer.specs.declared.Answer.{Answer}
 use Rattle.transfer.specs.declared.Answer.the-variants.{NoPlace}
 use Rattle.screen.specs.Screen.{windowOf, noteKind, roomIn, badNumbers, badAddress, placed, strayed, noted, windowKind, dataFound, noteFound, found, afterHeader, screenIn, screenOf, screeningNumber}
-use Rattle.screen.proofs.Laws.{found-comment, found-data}
+use Rattle.screen.proofs.Laws.{Fielded, fielded, found-comment, found-data}
 use Rattle.screen.proofs.Windows.{WindowFacts, window-facts}
 use Rattle.screen.specs.declared.Lengths.{Lengths}
 use Rattle.screen.specs.declared.Rooms.{Rooms}
@@ -41,7 +41,7 @@ use Rattle.arrival.specs.Arrive.{World, Decision, deedOf, afterScreening
 use Rattle.arrival.specs.Windows.{windowStart, windowEnd, kindOf}
 use Rattle.arrival.specs.Ram.{RamFamily, named, user, Ram-families, Ram-addresses}
 use Rattle.arrival.proofs.Windows.{start-is}
-use Rattle.arrival.proofs.Screening.{Fielded, fielded, comment-is, kind-note, kind-window, flashOf, lens, Board, roomsFor, whole-is}
+use Rattle.arrival.proofs.Screening.{comment-is, kind-note, kind-window, flashOf, lens, Board, roomsFor, whole-is}
 use Rattle.arrival.proofs.DecisionFacts.{board-decides, Rows, stopped, through, rows, step-late}
 
 -- ---- the families

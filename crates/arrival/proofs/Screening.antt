@@ -29,7 +29,7 @@ use Rattle.transfer.specs.declared.Head.{Head}
 use Rattle.transfer.specs.declared.State.{State}
 use Rattle.transfer.specs.declared.State.the-variants.{Idle, Running, Done}
 use Rattle.screen.specs.Screen.{extentOf, isLent, windowOf, noteKind, roomsOf, roomIn, badNumbers, badAddress, placed, strayed, noted, windowKind, dataFound, noteFound, found, afterHeader, screenIn, screenOf}
-use Rattle.screen.proofs.Laws.{numbers-false, found-comment, found-data}
+use Rattle.screen.proofs.Laws.{Fielded, fielded, numbers-false, found-comment, found-data}
 use Rattle.screen.proofs.Windows.{InWindow, WindowFacts, window-facts, in-room}
 use Rattle.transfer.specs.declared.Deed.the-variants.{Stores, Notes}
 use Rattle.screen.specs.declared.Lengths.{Lengths}
@@ -46,22 +46,7 @@ use Rattle.arrival.specs.Demand.{isFound, startOf, originOf}
 use Rattle.arrival.proofs.Windows.{start-is, end-is, data-kind, data-window, comment-kind}
 use Rattle.arrival.proofs.Effect.{Fits}
 
--- ---- a header that yields a block yields the arrival's fields
-
-abbrev pub Fielded : List ℕ → Header → Type 0
-Fielded a header.NotBlock = Unit {0}
-Fielded a header.Container = Unit {0}
-Fielded a header.NoFamily = Unit {0}
-Fielded a (header.Found b) = b ≡ fieldsOf a
-
-pub fielded : (a : List ℕ) → Fielded a (headerOf a)
-unfolding headerOf flaggedOf
-fielded a =
-    split (not (eqb (fieldAt a 0) 0x0A324655)) (λ y. rw y tt)
-    (λ z. rw z (split (not (eqb (fieldAt a 4) 0x9E5D5157)) (λ y. rw y tt)
-    (λ z. rw z (split (not (eqb (fieldAt a 508) 0x0AB16F30)) (λ y. rw y tt)
-    (λ z. rw z (split (hasFlag a 0x1000) (λ y. rw y tt)
-    (λ z. rw z (split (not (hasFlag a 0x2000)) (λ y. rw y tt) (λ z. rw z refl)))))))))
+-- ---- a comment, by its flag
 
 pub comment-is : (a : List ℕ) → fieldsOf a .comment ≡ hasFlag a 0x1
 unfolding fieldsOf

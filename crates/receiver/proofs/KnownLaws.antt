@@ -1,4 +1,4 @@
--- With what the settings and the lengths truly say handed in, an arrival is judged, looked at and taken as the meaning has it. Assumes nothing.
+-- With what the settings and the lengths truly say handed in, an arrival is taken as the meaning has it. Assumes nothing.
 use mathlib.Core.Path.{_≡_, ap, _∙_}
 use mathlib.Core.List.{List}
 use Prim.Native.Nat.{ℕ}
@@ -13,9 +13,9 @@ use Rattle.screen.specs.Screen.{roomsOf, screenIn, screenOf, screenAt}
 use Rattle.screen.specs.declared.Lengths.{Lengths}
 use Rattle.screen.specs.declared.Rooms.{Rooms}
 use Rattle.screen.proofs.Laws.{low-kept}
-use Rattle.arrival.specs.Arrive.{World, lengthsOf, decide, decided, done, receiveOf, forecastOf, lookOf}
+use Rattle.arrival.specs.Arrive.{World, lengthsOf, decide, decided, done, receiveOf}
 use Rattle.receiver.specs.declared.Known.{Known}
-use Rattle.receiver.specs.Receiver.{knownOf, knownDecision, receiveKnown}
+use Rattle.receiver.specs.Receiver.{knownOf, rowsOf, knownDecision, receiveKnown}
 
 -- the screening beside the rooms of the arrival's family is the screening
 screen-known : (s : Settings) (n : Lengths) (t : State) (a : List ℕ) {r : Rooms} → r ≡ roomsOf s (n .flash) (fieldAt a 28) → StartsLow (r .flash) → screenAt r n t a ≡ screenOf s n t a
@@ -31,7 +31,7 @@ Knows s w a k =
 
 module _ (s : Settings) (w : World) (a : List ℕ) {k : Known} (e : Knows s w a k) where
   decision-is : knownDecision k w a ≡ decided s w a
-  unfolding knownDecision decide
+  unfolding knownDecision rowsOf decide
   decision-is =
       let n = lengthsOf (w .held) in
       let r = ap (λ (k : Known). k .right) (e .0) in
@@ -42,7 +42,3 @@ module _ (s : Settings) (w : World) (a : List ℕ) {k : Known} (e : Knows s w a 
   pub known-is : receiveKnown k w a ≡ receiveOf s w a
   unfolding receiveKnown receiveOf
   known-is = ap (done w (payloadOf a)) decision-is
-
-  pub look-is : forecastOf (knownDecision k w a) ≡ lookOf s w a
-  unfolding lookOf
-  look-is = ap forecastOf decision-is

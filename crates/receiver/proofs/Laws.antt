@@ -5,7 +5,6 @@ use mathlib.Core.List.{List}
 use Prim.Native.Nat.{ℕ, _/_}
 use lib.ListN.{length}
 use Rattle.bitmap.specs.Bitmap.{markedIn, withMark}
-use Rattle.block.specs.Block.{fieldAt}
 use Rattle.flash.specs.Flash.{eraseAt, payloadOf, storeAt}
 use Rattle.settings.specs.Settings.{goodSettings}
 use Rattle.settings.specs.declared.Settings.{Settings}
@@ -19,13 +18,12 @@ use Rattle.transfer.specs.declared.Step.{Step}
 use Rattle.transfer.specs.declared.Step.the-variants.{Stays, Accepts}
 use Rattle.transfer.specs.declared.Answer.{Answer}
 use Rattle.transfer.specs.declared.Answer.the-variants.{BadBuffers, BadSettings, BadState}
-use Rattle.screen.specs.Screen.{roomsOf, screenAt}
-use Rattle.screen.specs.declared.Rooms.{Rooms}
-use Rattle.screen.specs.declared.Lengths.{Lengths}
+use Rattle.screen.specs.Screen.{screenOf, screenAt}
 use Rattle.screen.specs.declared.Placed.{Placed}
+use Rattle.screen.specs.declared.Screening.{Screening}
 use Rattle.screen.specs.declared.Screening.the-variants.{Refused, Passed}
-use Rattle.arrival.specs.Arrive.{Held, Lent, Outcome, Decision, lengthsOf, rightLengths, deedOf, stepped, afterScreening, clearedIf, wipedIf, preparedAt, pagedAt, atOf, doneTo, acceptOf, stays, accepts, done, forecast, forecastOf}
-use Rattle.receiver.specs.Receiver.{held, lent, world, refusal, outcome, knownOf, knownDecision, receiveKnown}
+use Rattle.arrival.specs.Arrive.{Held, Lent, Outcome, Decision, lengthsOf, rightLengths, deedOf, stepped, afterScreening, clearedIf, wipedIf, preparedAt, pagedAt, atOf, doneTo, acceptOf, stays, accepts, done, forecast, forecastOf, decide, receiveOf, lookOf}
+use Rattle.receiver.specs.Receiver.{held, lent, world, refusal, outcome, decisionIn, rowsOf, knownDecision, receiveKnown}
 use Rattle.receiver.specs.Parts.{flashHeld}
 use Rattle.receiver.specs.declared.Receipt.{Receipt}
 use Rattle.receiver.specs.declared.Known.{Known}
@@ -79,50 +77,68 @@ module _ (t : Transfer) (p : Placed) (m : List ℕ) {known : Bool} {d : Deed} {s
 
 -- ---- every row
 
--- what the settings and the lengths say, call by call
-pub all-known : (s : Settings) (n : Lengths) (m k : ℕ) (a : List ℕ) {right good : Bool} {f : ℕ} {r : Rooms} → right ≡ rightLengths (length a) n m k → good ≡ goodSettings s (n .flash) → f ≡ fieldAt a 28 → r ≡ roomsOf s (n .flash) f → record { right = right; good = good; rooms = r } ≡ knownOf s n m k a
-all-known s n m k a hl hg hf hr = rw (hl, hg, hr, hf)
+-- by the words of rows 1 and 2 and the screening
+module _ (right good : Bool) (t : Transfer) (h : Lent) (x : Screening) where
+  pub rows-lengths : right ≡ false → stays BadBuffers ≡ rowsOf right good (world t h) x
+  unfolding rowsOf
+  rows-lengths l = rw l
 
-module _ (known : Known) (t : Transfer) (a : List ℕ) (h : Lent) where
-  abbrev sizes : Lengths
-  sizes = lengthsOf (world t h .held)
+  module _ (l : right ≡ true) where
+    pub rows-settings : good ≡ false → stays BadSettings ≡ rowsOf right good (world t h) x
+    unfolding rowsOf
+    rows-settings g = rw (l, g)
 
-  pub judge-lengths : known .right ≡ false → stays BadBuffers ≡ knownDecision known (world t h) a
-  unfolding knownDecision
-  judge-lengths l = rw l
-
-  module _ (l : known .right ≡ true) where
-    pub judge-settings : known .good ≡ false → stays BadSettings ≡ knownDecision known (world t h) a
-    unfolding knownDecision
-    judge-settings g = rw (l, g)
-
-    module _ (g : known .good ≡ true) where
-      pub judge-state : goodState (t .state) ≡ false → stays BadState ≡ knownDecision known (world t h) a
-      unfolding knownDecision
-      judge-state n = rw (l, g, n)
+    module _ (g : good ≡ true) where
+      pub rows-state : goodState (t .state) ≡ false → stays BadState ≡ rowsOf right good (world t h) x
+      unfolding rowsOf
+      rows-state n = rw (l, g, n)
 
       module _ (n : goodState (t .state) ≡ true) where
-        pub judge-refused : {x : Answer} → screenAt (known .rooms) sizes (t .state) a ≡ Refused x → stays x ≡ knownDecision known (world t h) a
-        unfolding knownDecision afterScreening
-        judge-refused q = rw (l, g, n, q)
+        pub rows-refused : {y : Answer} → x ≡ Refused y → stays y ≡ rowsOf right good (world t h) x
+        unfolding rowsOf afterScreening
+        rows-refused q = rw (l, g, n, q)
 
-        pub judge-passed : {d : Decision} {p : Placed} → screenAt (known .rooms) sizes (t .state) a ≡ Passed p → d ≡ stepped p (deedOf (p .body)) (stepOf (t .state) (p .head) (markedIn (h .seen) (p .number)) (deedOf (p .body))) → d ≡ knownDecision known (world t h) a
-        unfolding knownDecision afterScreening
-        judge-passed q y = rw (l, g, n, q) y
+        pub rows-passed : {d : Decision} {p : Placed} → x ≡ Passed p → d ≡ stepped p (deedOf (p .body)) (stepOf (t .state) (p .head) (markedIn (h .seen) (p .number)) (deedOf (p .body))) → d ≡ rowsOf right good (world t h) x
+        unfolding rowsOf afterScreening
+        rows-passed q y = rw (l, g, n, q) y
 
-  -- what is said and what is done
-  module _ {d : Decision} (k : d ≡ knownDecision known (world t h) a) where
-    pub look-stays : {x : Answer} → d ≡ stays x → forecast x false ≡ forecastOf (knownDecision known (world t h) a)
-    look-stays e = ap forecastOf (sym e ∙ k)
+-- with the words and the screening of the settings they are the decision
+pub rows-decide : (s : Settings) (t : Transfer) (a : List ℕ) (h : Lent) {right good : Bool} {x : Screening} {d : Decision} → right ≡ rightLengths (length a) (lengthsOf (world t h .held)) (length (h .seen)) (length (h .sectors)) → good ≡ goodSettings s (length (h .flash)) → x ≡ screenOf s (lengthsOf (world t h .held)) (t .state) a → d ≡ rowsOf right good (world t h) x → d ≡ decisionIn s (world t h) a
+unfolding rowsOf decisionIn decide
+rows-decide s t a h r g x d = rw (sym r, sym g, sym x) d
 
-    pub look-accepts : {p : Placed} {e : Deed} {y : Accepted} → d ≡ accepts p e y → forecast (y .answer) (y .discarded) ≡ forecastOf (knownDecision known (world t h) a)
-    look-accepts q = ap forecastOf (sym q ∙ k)
+-- with what is handed in, the decision by that
+pub rows-known : (k : Known) (t : Transfer) (a : List ℕ) (h : Lent) {x : Screening} {d : Decision} → x ≡ screenAt (k .rooms) (lengthsOf (world t h .held)) (t .state) a → d ≡ rowsOf (k .right) (k .good) (world t h) x → d ≡ knownDecision k (world t h) a
+unfolding knownDecision
+rows-known k t a h x d = rw (sym x) d
 
-    pub take-stays : {o : Receipt} {x : Answer} → d ≡ stays x → o ≡ refusal t x → outcome o h ≡ receiveKnown known (world t h) a
-    unfolding receiveKnown done
-    take-stays e y = ap (λ (o : Receipt). outcome o h) y ∙ ap (done (world t h) (payloadOf a)) (sym e ∙ k)
+-- ---- what is said and what is done, of a decision q
 
-    -- what is accepted does not look at the transfer that was
-    pub take-accepts : {o : Outcome} {p : Placed} {e : Deed} {y : Accepted} (u : Transfer) → d ≡ accepts p e y → o ≡ done (world u h) (payloadOf a) (accepts p e y) → o ≡ receiveKnown known (world t h) a
-    unfolding receiveKnown done acceptOf
-    take-accepts u q y = y ∙ ap (done (world t h) (payloadOf a)) (sym q ∙ k)
+module _ (q : Decision) {d : Decision} (k : d ≡ q) where
+  pub look-stays : {x : Answer} → d ≡ stays x → forecast x false ≡ forecastOf q
+  look-stays e = ap forecastOf (sym e ∙ k)
+
+  pub look-accepts : {p : Placed} {e : Deed} {y : Accepted} → d ≡ accepts p e y → forecast (y .answer) (y .discarded) ≡ forecastOf q
+  look-accepts e = ap forecastOf (sym e ∙ k)
+
+  pub take-stays : (t : Transfer) (h : Lent) (a : List ℕ) {o : Receipt} {x : Answer} → d ≡ stays x → o ≡ refusal t x → outcome o h ≡ done (world t h) (payloadOf a) q
+  unfolding done
+  take-stays t h a e y = ap (λ (o : Receipt). outcome o h) y ∙ ap (done (world t h) (payloadOf a)) (sym e ∙ k)
+
+  -- what is accepted does not look at the transfer that was
+  pub take-accepts : (t : Transfer) (h : Lent) (a : List ℕ) {o : Outcome} {p : Placed} {e : Deed} {y : Accepted} (u : Transfer) → d ≡ accepts p e y → o ≡ done (world u h) (payloadOf a) (accepts p e y) → o ≡ done (world t h) (payloadOf a) q
+  unfolding done acceptOf
+  take-accepts t h a u e y = y ∙ ap (done (world t h) (payloadOf a)) (sym e ∙ k)
+
+-- by the name of the whole
+pub looked : (s : Settings) (t : Transfer) (a : List ℕ) (h : Lent) → forecastOf (decisionIn s (world t h) a) ≡ lookOf s (world t h) a
+unfolding decisionIn lookOf
+looked s t a h = refl
+
+pub received : (s : Settings) (t : Transfer) (a : List ℕ) (h : Lent) → done (world t h) (payloadOf a) (decisionIn s (world t h) a) ≡ receiveOf s (world t h) a
+unfolding decisionIn receiveOf
+received s t a h = refl
+
+pub received-known : (k : Known) (t : Transfer) (a : List ℕ) (h : Lent) → done (world t h) (payloadOf a) (knownDecision k (world t h) a) ≡ receiveKnown k (world t h) a
+unfolding receiveKnown
+received-known k t a h = refl

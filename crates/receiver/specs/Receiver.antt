@@ -1,6 +1,6 @@
 -- What a call is lent and hands back, as the meaning has it. Assumes nothing.
 use Prim.Native.Nat.{ℕ}
-use mathlib.Core.Bool.{false, not, cond}
+use mathlib.Core.Bool.{Bool, false, not, cond}
 use mathlib.Core.List.{List}
 use lib.ListN.{length}
 use denote.Ref.{RefT, now}
@@ -11,11 +11,12 @@ use Rattle.settings.specs.Settings.{goodSettings}
 use Rattle.settings.specs.declared.Settings.{Settings}
 use Rattle.screen.specs.Screen.{roomsOf, screenAt}
 use Rattle.screen.specs.declared.Lengths.{Lengths}
+use Rattle.screen.specs.declared.Screening.{Screening}
 use Rattle.transfer.specs.Transfer.{goodState}
 use Rattle.transfer.specs.declared.Answer.the-variants.{BadBuffers, BadSettings, BadState}
 use Rattle.transfer.specs.declared.Answer.{Answer}
 use Rattle.transfer.specs.declared.Transfer.{Transfer}
-use Rattle.arrival.specs.Arrive.{Held, Lent, World, Outcome, Decision, stays, accepts, lengthsOf, rightLengths, afterScreening, done, Forecast, forecast}
+use Rattle.arrival.specs.Arrive.{Held, Lent, World, Outcome, Decision, stays, accepts, lengthsOf, rightLengths, afterScreening, decided, done, Forecast, forecast}
 use Rattle.receiver.specs.declared.Receipt.{Receipt}
 use Rattle.receiver.specs.declared.Preview.{Preview}
 use Rattle.receiver.specs.declared.Known.{Known}
@@ -70,6 +71,10 @@ abbrev pub decision : Verdict → Decision
 decision (Leaves x) = stays x
 decision (Accepts k) = accepts (k .placed) (k .deed) (k .accepted)
 
+-- what the checks decide of an arrival, for a transfer and the buffers that are lent
+unfoldable pub decisionIn : Settings → World → List ℕ → Decision
+decisionIn s w a = decided s w a
+
 -- what a look returns
 abbrev pub previewed : Preview → Forecast
 previewed r = forecast (r .answer) (r .discarded)
@@ -85,13 +90,16 @@ knownOf s n m k a =
       rooms = roomsOf s (n .flash) (fieldAt a 28);
     }
 
--- every row
-unfoldable pub knownDecision : Known → World → List ℕ → Decision
-knownDecision k w a =
-    cond (not (k .right)) (stays BadBuffers)
-    (cond (not (k .good)) (stays BadSettings)
+-- every row, by the words of rows 1 and 2 and the screening
+unfoldable pub rowsOf : Bool → Bool → World → Screening → Decision
+rowsOf right good w x =
+    cond (not right) (stays BadBuffers)
+    (cond (not good) (stays BadSettings)
     (cond (not (goodState (w .transfer))) (stays BadState)
-    (afterScreening (w .transfer) (w .seen) (screenAt (k .rooms) (lengthsOf (w .held)) (w .transfer) a))))
+    (afterScreening (w .transfer) (w .seen) x)))
+
+unfoldable pub knownDecision : Known → World → List ℕ → Decision
+knownDecision k w a = rowsOf (k .right) (k .good) w (screenAt (k .rooms) (lengthsOf (w .held)) (w .transfer) a)
 
 -- one arrival; with what they truly say it is `receiveOf` (proofs/KnownLaws.antt)
 unfoldable pub receiveKnown : Known → World → List ℕ → Outcome

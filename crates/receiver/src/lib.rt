@@ -3,7 +3,6 @@ ghost use mathlib.Core.Path.{_≡_};
 ghost use Rattle.sets.specs.Numbered.{numbered};
 ghost use Rattle.bitmap.specs.Bitmap.{markedIn};
 ghost use Rattle.flash.specs.Flash.{payloadOf};
-ghost use Rattle.place.specs.Place.{StartsLow};
 ghost use Rattle.transfer.specs.Transfer.{stepOf};
 ghost use Rattle.arrival.specs.Arrive.{
   outcomeNumber,
@@ -31,7 +30,7 @@ ghost use Rattle.receiver.specs.Receiver.{
   outcome,
   decision,
   previewed,
-  knownOf,
+  decisionIn,
   knownDecision,
   receiveKnown,
 };
@@ -256,20 +255,43 @@ fn settle(transfer: Transfer, placed: Placed, seen: &[u8]) -> Verdict
     }
 }
 
-// What the settings and the lengths say of an arrival.
-fn known_of(settings: Settings, lens: Lengths, m: usize, k: usize, arrival: &[u8]) -> Known
-    ensures { λ r. ⌜ r ≡ knownOf settings lens m k (now (arrival .entry)) ⌝ }
-    ensures low { λ r. ⌜ StartsLow (r .rooms .flash) ⌝ }
+// Every check, in its order.
+fn judge(
+    settings: Settings,
+    transfer: Transfer,
+    arrival: &[u8],
+    flash: &[u8],
+    seen: &[u8],
+    sectors: &[u8],
+    main: &[u8],
+    xip: &[u8],
+) -> Verdict
+    ensures { λ r. ⌜ decision r ≡ decisionIn settings (world transfer (lentAt flash seen sectors main xip)) (now (arrival .entry)) ⌝ }
 {
-    let right = lengths_right(arrival.len(), lens, m, k);
-    let good = settings::good(settings, lens.flash);
-    let family = block::field(arrival, 28);
-    let rooms = screen::rooms_for(settings, lens.flash, family);
-    Known { right, good, rooms }
+    let lens = Lengths {
+        flash: flash.len(),
+        main: main.len(),
+        xip: xip.len(),
+    };
+    if !lengths_right(arrival.len(), lens, seen.len(), sectors.len()) {
+        return Verdict::Leaves(Answer::BadBuffers);
+    }
+    if !settings::good(settings, lens.flash) {
+        return Verdict::Leaves(Answer::BadSettings);
+    }
+    if !transfer.sound() {
+        return Verdict::Leaves(Answer::BadState);
+    }
+    let screening = screen::screen(settings, lens, transfer, arrival);
+    match screening {
+        Screening::Refused(answer) => Verdict::Leaves(answer),
+        Screening::Passed(placed) => settle(transfer, placed, seen),
+    }
 }
 
-// Every check, in its order. What the settings and the lengths say is handed in.
-fn judge(
+// Every check, in its order, where what the settings and the lengths say is handed in. A function of its own, and not a part of `judge`: with one
+// caller each, the compiler makes one piece of a take of many.
+fn judge_known(
     known: Known,
     transfer: Transfer,
     arrival: &[u8],
@@ -296,7 +318,7 @@ fn judge(
         main: main.len(),
         xip: xip.len(),
     };
-    let screening = screen::screen(rooms, lens, transfer, arrival);
+    let screening = screen::screen_at(rooms, lens, transfer, arrival);
     match screening {
         Screening::Refused(answer) => Verdict::Leaves(answer),
         Screening::Passed(placed) => settle(transfer, placed, seen),
@@ -316,13 +338,7 @@ pub fn look(
 ) -> Preview
     ensures { λ r. ⌜ numbered forecastNumber (previewed r) ≡ numbered forecastNumber (lookOf settings (world transfer (lentAt flash seen sectors main xip)) (now (arrival .entry))) ⌝ }
 {
-    let lens = Lengths {
-        flash: flash.len(),
-        main: main.len(),
-        xip: xip.len(),
-    };
-    let known = known_of(settings, lens, seen.len(), sectors.len(), arrival);
-    let verdict = judge(known, transfer, arrival, flash, seen, sectors, main, xip);
+    let verdict = judge(settings, transfer, arrival, flash, seen, sectors, main, xip);
     match verdict {
         Verdict::Leaves(answer) => Preview {
             answer,
@@ -339,9 +355,9 @@ pub fn look(
     }
 }
 
-// One arrival, where what the settings and the lengths say of it is handed in.
-pub fn take_known(
-    known: Known,
+// One arrival: the next transfer and the answer, and what it writes. It gets nothing from a look, and repeats every check.
+pub fn take(
+    settings: Settings,
     transfer: Transfer,
     arrival: &[u8],
     flash: &mut [u8],
@@ -350,9 +366,9 @@ pub fn take_known(
     main: &mut [u8],
     xip: &mut [u8],
 ) -> Receipt
-    ensures { λ r. ⌜ numbered outcomeNumber (outcome r (leftAt flash seen sectors main xip)) ≡ numbered outcomeNumber (receiveKnown known (world transfer (lentAt flash seen sectors main xip)) (now (arrival .entry))) ⌝ }
+    ensures { λ r. ⌜ numbered outcomeNumber (outcome r (leftAt flash seen sectors main xip)) ≡ numbered outcomeNumber (receiveOf settings (world transfer (lentAt flash seen sectors main xip)) (now (arrival .entry))) ⌝ }
 {
-    let verdict = judge(known, transfer, arrival, flash, seen, sectors, main, xip);
+    let verdict = judge(settings, transfer, arrival, flash, seen, sectors, main, xip);
     match verdict {
         Verdict::Leaves(answer) => refuse(transfer, answer),
         Verdict::Accepts(acceptance) => {
@@ -374,9 +390,9 @@ pub fn take_known(
     }
 }
 
-// One arrival: the next transfer and the answer, and what it writes. It gets nothing from a look, and repeats every check.
-pub fn take(
-    settings: Settings,
+// One arrival, where what the settings and the lengths say of it is handed in.
+pub fn take_known(
+    known: Known,
     transfer: Transfer,
     arrival: &[u8],
     flash: &mut [u8],
@@ -385,13 +401,26 @@ pub fn take(
     main: &mut [u8],
     xip: &mut [u8],
 ) -> Receipt
-    ensures { λ r. ⌜ numbered outcomeNumber (outcome r (leftAt flash seen sectors main xip)) ≡ numbered outcomeNumber (receiveOf settings (world transfer (lentAt flash seen sectors main xip)) (now (arrival .entry))) ⌝ }
+    ensures { λ r. ⌜ numbered outcomeNumber (outcome r (leftAt flash seen sectors main xip)) ≡ numbered outcomeNumber (receiveKnown known (world transfer (lentAt flash seen sectors main xip)) (now (arrival .entry))) ⌝ }
 {
-    let lens = Lengths {
-        flash: flash.len(),
-        main: main.len(),
-        xip: xip.len(),
-    };
-    let known = known_of(settings, lens, seen.len(), sectors.len(), arrival);
-    take_known(known, transfer, arrival, flash, seen, sectors, main, xip)
+    let verdict = judge_known(known, transfer, arrival, flash, seen, sectors, main, xip);
+    match verdict {
+        Verdict::Leaves(refused) => refuse(transfer, refused),
+        Verdict::Accepts(acceptance) => {
+            let placed = acceptance.placed;
+            let deed = acceptance.deed;
+            let accepted = acceptance.accepted;
+            accept(
+                placed,
+                deed,
+                accepted,
+                arrival,
+                flash,
+                seen,
+                sectors,
+                main,
+                xip,
+            )
+        }
+    }
 }

@@ -1,6 +1,6 @@
 -- The screening by cases: the header, the place, and a block beside its place. Assumes nothing.
-use mathlib.Core.Path.{_≡_, refl, sym, ap, _∙_}
-use mathlib.Core.Bool.{Bool, true, false, _&&_, _||_, cond}
+use mathlib.Core.Path.{_≡_, refl, sym, ap, subst, _∙_}
+use mathlib.Core.Bool.{Bool, true, false, not, _&&_, _||_, cond}
 use mathlib.Core.List.{List, [], _∷_}
 use mathlib.Core.Logic.{_≢_, ⊎-elim}
 use types.Run.{OneOf}
@@ -11,10 +11,11 @@ use lib.Dec.{ltb, leb, eqb}
 use borrow.Author.Tests.{le-leb, le-ltb, lt-leb, eq-eqb, ne-eqb, ltb-false, leb-false, eqb-false}
 use Rattle.sets.proofs.Tests.{split, or-left, or-right}
 use Rattle.block.proofs.Header.{the-type}
-use Rattle.block.specs.Block.{headerOf, headerNumber}
+use Rattle.block.specs.Block.{fieldAt, hasFlag, fieldsOf, flaggedOf, headerOf, headerNumber}
 use Rattle.block.specs.declared.Block.{Block}
 use Rattle.block.specs.declared.Header.{Header}
 use Rattle.block.specs.declared.Header.the-variants as header
+use Rattle.settings.specs.declared.Settings.{Settings}
 use Rattle.place.specs.Place.{StartsLow}
 use Rattle.place.specs.declared.Place.{Place}
 use Rattle.place.specs.declared.Place.the-variants.{Nowhere, At}
@@ -26,8 +27,8 @@ use Rattle.transfer.specs.declared.Run.{Run}
 use Rattle.transfer.specs.declared.State.{State}
 use Rattle.transfer.specs.declared.State.the-variants.{Running}
 use Rattle.transfer.specs.declared.Answer.the-variants.{NoPlace, BadPayload, BadNumbers, BadAddress}
-use Rattle.screen.specs.Screen.{baseOf, extentOf, isLent, inWindow, windowOf, noteKind, roomIn, badNumbers, badAddress, placed, strayed, noted, windowKind, dataFound, noteFound, found, afterHeader, lowPlace, lowRooms, screenIn, screenAt, screeningNumber}
-use Rattle.screen.specs.Parts.{alignmentOf, Above}
+use Rattle.screen.specs.Screen.{baseOf, extentOf, isLent, inWindow, windowOf, noteKind, roomsOf, roomIn, badNumbers, badAddress, placed, strayed, noted, windowKind, dataFound, noteFound, found, afterHeader, lowPlace, lowRooms, screenIn, screenOf, screenAt, screeningNumber}
+use Rattle.screen.specs.Parts.{alignmentOf, kindFound, Above}
 use Rattle.screen.specs.declared.Lengths.{Lengths}
 use Rattle.screen.specs.declared.Rooms.{Rooms}
 use Rattle.screen.specs.declared.Window.{Window}
@@ -220,6 +221,14 @@ above n x (In k) f = f .low
 pub window-above : (n : Lengths) (x : ℕ) {u : Window} → u ≡ windowOf n x → Above u x
 window-above n x e = rw e (above n x (windowOf n x) (window-facts n x))
 
+-- the kind of a block, as the code asks it
+module _ (n : Lengths) (t : State) (b : Block) where
+  pub kind-comment : b .comment ≡ true → noteKind n t b ≡ kindFound n t b
+  kind-comment h = rw h
+
+  pub kind-window : b .comment ≡ false → {u : Window} → u ≡ windowOf n (b .address) → windowKind u ≡ kindFound n t b
+  kind-window h e = rw (h, e)
+
 -- ---- a place that is handed in
 
 pub low-past : (start size : ℕ) → 0x100000000000 ≤ start → lowPlace (At start size) ≡ Nowhere
@@ -246,6 +255,37 @@ module _ (r : Rooms) (n : Lengths) (t : State) (a : List ℕ) where
   pub screen-found : (b : Block) → headerOf a ≡ header.Found b → screenAt r n t a ≡ found (lowRooms r) n t b
   unfolding screenAt screenIn
   screen-found b e = rw e
+
+-- a header that yields a block yields the arrival's fields
+abbrev pub Fielded : List ℕ → Header → Type 0
+Fielded a header.NotBlock = Unit {0}
+Fielded a header.Container = Unit {0}
+Fielded a header.NoFamily = Unit {0}
+Fielded a (header.Found b) = b ≡ fieldsOf a
+
+pub fielded : (a : List ℕ) → Fielded a (headerOf a)
+unfolding headerOf flaggedOf
+fielded a =
+    split (not (eqb (fieldAt a 0) 0x0A324655)) (λ y. rw y tt)
+    (λ z. rw z (split (not (eqb (fieldAt a 4) 0x9E5D5157)) (λ y. rw y tt)
+    (λ z. rw z (split (not (eqb (fieldAt a 508) 0x0AB16F30)) (λ y. rw y tt)
+    (λ z. rw z (split (hasFlag a 0x1000) (λ y. rw y tt)
+    (λ z. rw z (split (not (hasFlag a 0x2000)) (λ y. rw y tt) (λ z. rw z refl)))))))))
+
+-- its family among them
+family-is : (a : List ℕ) (b : Block) → headerOf a ≡ header.Found b → b .family ≡ fieldAt a 28
+unfolding fieldsOf
+family-is a b e = let f : b ≡ fieldsOf a = subst (Fielded a) e (fielded a) in rw f
+
+module _ (s : Settings) (n : Lengths) (t : State) (a : List ℕ) where
+  pub settled-header : {h : Header} → h ≡ headerOf a → {x : Screening} → x ≡ afterHeader h (found (roomsOf s (n .flash) (fieldAt a 28)) n t) → x ≡ screenOf s n t a
+  unfolding screenOf screenIn
+  settled-header e q = rw (sym e) q
+
+  pub settled-found : (b : Block) → headerOf a ≡ header.Found b → found (roomsOf s (n .flash) (b .family)) n t b ≡ screenOf s n t a
+  unfolding screenOf screenIn
+  settled-found b e =
+      ap (λ (f : ℕ). found (roomsOf s (n .flash) f) n t b) (family-is a b e) ∙ sym (ap (λ (h : Header). afterHeader h (found (roomsOf s (n .flash) (fieldAt a 28)) n t)) e)
 
 -- ---- the numbers of the header's refusals are the answers'
 

@@ -27,10 +27,11 @@ ghost use Rattle.screen.specs.Screen.{
   HeaderAnswer,
   lowPlace,
   lowRooms,
+  screenOf,
   screenAt,
   screeningNumber,
 };
-ghost use Rattle.screen.specs.Parts.{alignmentOf, Above};
+ghost use Rattle.screen.specs.Parts.{alignmentOf, kindFound, Above};
 use block::Block;
 use block::Header;
 use flash::Flash;
@@ -345,8 +346,55 @@ fn check_note(kind: Kind, place: Place, b: Block) -> Screening
     }
 }
 
-// Rows 8 to 11.
-fn check(rooms: Rooms, lens: Lengths, transfer: Transfer, b: Block) -> Screening
+// The kind of a block: of a comment the transfer's or flash, of data that of its window.
+fn kind_of(lens: Lengths, transfer: Transfer, b: Block) -> Kind
+    ensures { λ r. ⌜ r ≡ kindFound lens (transfer .state) b ⌝ }
+{
+    if b.comment {
+        return note_kind(lens, transfer, b);
+    }
+    let window = window_of(lens, b.address as usize);
+    window_kind(window)
+}
+
+// The place of a family for a block of this kind: what is not asked for is not looked for.
+fn room_of(settings: Settings, flash_len: usize, kind: Kind, family: u32) -> Place
+    ensures { λ r. ⌜ r ≡ roomIn (roomsOf settings «flash_len» family) kind ⌝ }
+    ensures low { λ r. ⌜ StartsLow r ⌝ }
+{
+    match kind {
+        Kind::Flash => place::find(settings, flash_len, family),
+        Kind::MainRam => place::whole_if(place::ram_family(settings, family), Window::MAIN_RAM),
+        Kind::XipRam => place::whole_if(place::ram_family(settings, family), Window::XIP_RAM),
+    }
+}
+
+// Rows 8 to 11. The place is asked for at one point, so that a compiler makes one copy of it.
+fn check(settings: Settings, lens: Lengths, transfer: Transfer, b: Block) -> Screening
+    ensures { λ r. ⌜ r ≡ found (roomsOf settings (lens .flash) (b .family)) lens (transfer .state) b ⌝ }
+{
+    let kind = kind_of(lens, transfer, b);
+    let place = room_of(settings, lens.flash, kind, b.family);
+    if b.comment {
+        return check_note(kind, place, b);
+    }
+    let window = window_of(lens, b.address as usize);
+    check_data(window, place, b)
+}
+
+// Rows 4 to 11: the first that refuses the arrival, or what it holds.
+pub fn screen(settings: Settings, lens: Lengths, transfer: Transfer, arrival: &[u8]) -> Screening
+    ensures { λ r. ⌜ numbered screeningNumber r ≡ numbered screeningNumber (screenOf settings lens (transfer .state) (now (arrival .entry))) ⌝ }
+{
+    let h = block::read(arrival);
+    let Header::Found(b) = h else {
+        return Screening::Refused(header_answer(h));
+    };
+    check(settings, lens, transfer, b)
+}
+
+// Rows 8 to 11, where what the settings say of the family is handed in.
+fn check_at(rooms: Rooms, lens: Lengths, transfer: Transfer, b: Block) -> Screening
     ensures { λ r. ⌜ r ≡ found (lowRooms rooms) lens (transfer .state) b ⌝ }
 {
     if b.comment {
@@ -360,13 +408,13 @@ fn check(rooms: Rooms, lens: Lengths, transfer: Transfer, b: Block) -> Screening
     check_data(window, place, b)
 }
 
-// Rows 4 to 11: the first that refuses the arrival, or what it holds. `rooms` is what the settings say of the arrival's family.
-pub fn screen(rooms: Rooms, lens: Lengths, transfer: Transfer, arrival: &[u8]) -> Screening
+// Rows 4 to 11, where what the settings say of the arrival's family is handed in.
+pub fn screen_at(rooms: Rooms, lens: Lengths, transfer: Transfer, arrival: &[u8]) -> Screening
     ensures { λ r. ⌜ numbered screeningNumber r ≡ numbered screeningNumber (screenAt rooms lens (transfer .state) (now (arrival .entry))) ⌝ }
 {
     let h = block::read(arrival);
     let Header::Found(b) = h else {
         return Screening::Refused(header_answer(h));
     };
-    check(rooms, lens, transfer, b)
+    check_at(rooms, lens, transfer, b)
 }

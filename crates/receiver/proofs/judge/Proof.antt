@@ -1,17 +1,26 @@
 -- `receiver::judge` meets its contract. Assumes nothing.
-use mathlib.Core.Path.{sym, _∙_}
+use mathlib.Core.Path.{refl, sym, _∙_}
 use borrow.Author.Tests.{not-true, not-false}
 use Rattle.sets.proofs.Numbered.{answer-is}
-use Rattle.receiver.proofs.Laws.{judge-lengths, judge-settings, judge-state, judge-refused, judge-passed}
+use Rattle.receiver.proofs.Laws.{rows-lengths, rows-settings, rows-state, rows-refused, rows-passed, rows-decide}
 use borrow.Author.Needs.{needs}
 use Rattle.receiver.proofs.judge.Statement.{statement}
 use Rattle.receiver.proofs.judge.Tie as tie
 
+lengths-right-requires : tie.Need-lengths-right-requires
+lengths-right-requires c κs = search needs
+
 returns : tie.Need-returns
-returns c = judge-lengths _ _ _ _ (not-true _ (c .if1 .taken))
+returns c = rows-decide _ _ _ _ (c .before .lengths-right .ensures) refl refl (rows-lengths _ _ _ _ _ (not-true _ (c .if1 .taken)))
+
+good-requires : tie.Need-good-requires
+good-requires c κs = search needs
 
 returns-2 : tie.Need-returns-2
-returns-2 c = judge-settings _ _ _ _ (not-false _ (c .before .before .if1 .left)) (not-true _ (c .if2 .taken))
+returns-2 c =
+    let second = c .before in
+    let first = second .before in
+    rows-decide _ _ _ _ (first .before .lengths-right .ensures) (second .good2 .ensures) refl (rows-settings _ _ _ _ _ (not-false _ (first .if1 .left)) (not-true _ (c .if2 .taken)))
 
 sound-requires : tie.Need-sound-requires
 sound-requires c κs = search needs
@@ -20,7 +29,8 @@ returns-3 : tie.Need-returns-3
 returns-3 c =
     let second = c .before .before in
     let first = second .before .before in
-    judge-state _ _ _ _ (not-false _ (first .if1 .left)) (not-false _ (second .if2 .left)) (sym (c .before .sound .ensures) ∙ not-true _ (c .if3 .taken))
+    rows-decide _ _ _ _ (first .before .lengths-right .ensures) (second .before .good2 .ensures) refl
+    (rows-state _ _ _ _ _ (not-false _ (first .if1 .left)) (not-false _ (second .if2 .left)) (sym (c .before .sound .ensures) ∙ not-true _ (c .if3 .taken)))
 
 screen-requires : tie.Need-screen-requires
 screen-requires c κs = search needs
@@ -37,26 +47,30 @@ settle-requires c κs = search needs
 returns-4 : tie.Need-returns-4
 returns-4 c =
     let screened = c .before .before .before in
-    let third = screened .before .before in
+    let third = screened .before in
     let second = third .before .before in
     let first = second .before .before in
     let sound = sym (third .before .sound .ensures) ∙ not-false _ (third .if3 .left) in
-    judge-refused _ _ _ _ (not-false _ (first .if1 .left)) (not-false _ (second .if2 .left)) sound (sym (answer-is (screened .screen .ensures)) ∙ c .before .screening .given .1)
+    rows-decide _ _ _ _ (first .before .lengths-right .ensures) (second .before .good2 .ensures) (answer-is (screened .screen .ensures))
+    (rows-refused _ _ _ _ _ (not-false _ (first .if1 .left)) (not-false _ (second .if2 .left)) sound (c .before .screening .given .1))
 
 returns-5 : tie.Need-returns-5
 returns-5 c =
     let screened = c .before .before .before .before in
-    let third = screened .before .before in
+    let third = screened .before in
     let second = third .before .before in
     let first = second .before .before in
     let sound = sym (third .before .sound .ensures) ∙ not-false _ (third .if3 .left) in
-    judge-passed _ _ _ _ (not-false _ (first .if1 .left)) (not-false _ (second .if2 .left)) sound (sym (answer-is (screened .screen .ensures)) ∙ c .before .before .screening2 .given .1) (c .settle .ensures)
+    rows-decide _ _ _ _ (first .before .lengths-right .ensures) (second .before .good2 .ensures) (answer-is (screened .screen .ensures))
+    (rows-passed _ _ _ _ _ (not-false _ (first .if1 .left)) (not-false _ (second .if2 .left)) sound (c .before .before .screening2 .given .1) (c .settle .ensures))
 
 pub judge-spec : {M : Type 1} → statement M
 judge-spec =
     tie.close
     (tie.spec
+    lengths-right-requires
     returns
+    good-requires
     returns-2
     sound-requires
     returns-3

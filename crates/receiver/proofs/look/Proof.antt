@@ -3,14 +3,10 @@ use mathlib.Core.Path.{ap, _∙_}
 use Rattle.sets.specs.Numbered.{numbered}
 use Rattle.arrival.specs.Arrive.{forecastNumber}
 use Rattle.receiver.specs.Receiver.{decision}
-use Rattle.receiver.proofs.Laws.{look-stays, look-accepts}
-use Rattle.receiver.proofs.KnownLaws.{look-is}
+use Rattle.receiver.proofs.Laws.{look-stays, look-accepts, looked}
 use borrow.Author.Needs.{needs}
 use Rattle.receiver.proofs.look.Statement.{statement}
 use Rattle.receiver.proofs.look.Tie as tie
-
-known-of-requires : tie.Need-known-of-requires
-known-of-requires c κs = search needs
 
 judge-requires : tie.Need-judge-requires
 judge-requires c κs = search needs
@@ -24,20 +20,17 @@ enum-known-verdict-2 c = search needs
 returns : tie.Need-returns
 returns c =
     let d = c .before .before .before in
-    let known = look-is _ _ _ (d .before .known-of .ensures) in
-    ap (numbered forecastNumber) (look-stays _ _ _ _ (d .judge .ensures) (ap decision (c .before .verdict .given .1)) ∙ known)
+    ap (numbered forecastNumber) (look-stays _ (d .judge .ensures) (ap decision (c .before .verdict .given .1)) ∙ looked _ _ _ _)
 
 returns-2 : tie.Need-returns-2
 returns-2 c =
     let d = c .before .before .before .before in
-    let known = look-is _ _ _ (d .before .known-of .ensures) in
-    ap (numbered forecastNumber) (look-accepts _ _ _ _ (d .judge .ensures) (ap decision (c .before .before .verdict2 .given .1)) ∙ known)
+    ap (numbered forecastNumber) (look-accepts _ (d .judge .ensures) (ap decision (c .before .before .verdict2 .given .1)) ∙ looked _ _ _ _)
 
 pub look-spec : {M : Type 1} → statement M
 look-spec =
     tie.close
     (tie.spec
-    known-of-requires
     judge-requires
     enum-known-verdict
     enum-known-verdict-2

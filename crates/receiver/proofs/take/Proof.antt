@@ -2,16 +2,26 @@
 use mathlib.Core.Path.{ap, _∙_}
 use Rattle.sets.specs.Numbered.{numbered}
 use Rattle.arrival.specs.Arrive.{outcomeNumber}
-use Rattle.receiver.proofs.KnownLaws.{known-is}
+use Rattle.receiver.specs.Receiver.{decision}
+use Rattle.receiver.proofs.Laws.{take-stays, take-accepts, received}
 use borrow.Author.Needs.{needs}
 use Rattle.receiver.proofs.take.Statement.{statement}
 use Rattle.receiver.proofs.take.Tie as tie
 
-known-of-requires : tie.Need-known-of-requires
-known-of-requires c κs = search needs
+judge-requires : tie.Need-judge-requires
+judge-requires c κs = search needs
 
-take-known-requires : tie.Need-take-known-requires
-take-known-requires c κs = search needs
+enum-known-verdict : tie.Need-enum-known-verdict
+enum-known-verdict c = search needs
+
+refuse-requires : tie.Need-refuse-requires
+refuse-requires c κs = search needs
+
+enum-known-verdict-2 : tie.Need-enum-known-verdict-2
+enum-known-verdict-2 c = search needs
+
+accept-requires : tie.Need-accept-requires
+accept-requires c κs = search needs
 
 same-length : tie.Need-same-length
 same-length c = search needs
@@ -29,21 +39,47 @@ same-length-5 : tie.Need-same-length-5
 same-length-5 c = search needs
 
 returns : tie.Need-returns
-returns c =
-    let d = c .before .before .before .before .before .before .before .before .before .before in
-    let r = d .before .before .before .before .before .before in
-    d .take-known .ensures
-    ∙ ap (numbered outcomeNumber) (known-is _ _ _ (r .known-of .ensures))
+returns c = ap (numbered outcomeNumber) (take-stays _ (c .before .before .before .before .judge .ensures) _ _ _ (ap decision (c .before .before .verdict .given .1)) (c .refuse .ensures) ∙ received _ _ _ _)
+
+same-length-6 : tie.Need-same-length-6
+same-length-6 c = search needs
+
+same-length-7 : tie.Need-same-length-7
+same-length-7 c = search needs
+
+same-length-8 : tie.Need-same-length-8
+same-length-8 c = search needs
+
+same-length-9 : tie.Need-same-length-9
+same-length-9 c = search needs
+
+same-length-10 : tie.Need-same-length-10
+same-length-10 c = search needs
+
+returns-2 : tie.Need-returns-2
+returns-2 c =
+    let a = c .before .before .before .before .before .before .before .before .before .before in
+    let d = a .before .before .before .before .before .before .before .before .before in
+    ap (numbered outcomeNumber) (take-accepts _ (d .before .before .judge .ensures) _ _ _ _ (ap decision (d .verdict2 .given .1)) (a .accept .ensures) ∙ received _ _ _ _)
 
 pub take-spec : {M : Type 1} → statement M
 take-spec =
     tie.close
     (tie.spec
-    known-of-requires
-    take-known-requires
+    judge-requires
+    enum-known-verdict
+    refuse-requires
+    enum-known-verdict-2
+    accept-requires
     same-length
     same-length-2
     same-length-3
     same-length-4
     same-length-5
-    returns)
+    returns
+    same-length-6
+    same-length-7
+    same-length-8
+    same-length-9
+    same-length-10
+    returns-2)

@@ -1,15 +1,15 @@
 -- `receiver::take_known` meets its contract. Assumes nothing.
-use mathlib.Core.Path.{ap}
+use mathlib.Core.Path.{ap, _∙_}
 use Rattle.sets.specs.Numbered.{numbered}
 use Rattle.arrival.specs.Arrive.{outcomeNumber}
 use Rattle.receiver.specs.Receiver.{decision}
-use Rattle.receiver.proofs.Laws.{take-stays, take-accepts}
+use Rattle.receiver.proofs.Laws.{take-stays, take-accepts, received-known}
 use borrow.Author.Needs.{needs}
 use Rattle.receiver.proofs.take_known.Statement.{statement}
 use Rattle.receiver.proofs.take_known.Tie as tie
 
-judge-requires : tie.Need-judge-requires
-judge-requires c κs = search needs
+judge-known-requires : tie.Need-judge-known-requires
+judge-known-requires c κs = search needs
 
 enum-known-verdict : tie.Need-enum-known-verdict
 enum-known-verdict c = search needs
@@ -39,7 +39,7 @@ same-length-5 : tie.Need-same-length-5
 same-length-5 c = search needs
 
 returns : tie.Need-returns
-returns c = ap (numbered outcomeNumber) (take-stays _ _ _ _ (c .before .before .before .before .judge .ensures) (ap decision (c .before .before .verdict .given .1)) (c .refuse .ensures))
+returns c = ap (numbered outcomeNumber) (take-stays _ (c .before .before .before .before .judge-known .ensures) _ _ _ (ap decision (c .before .before .verdict .given .1)) (c .refuse .ensures) ∙ received-known _ _ _ _)
 
 same-length-6 : tie.Need-same-length-6
 same-length-6 c = search needs
@@ -60,13 +60,13 @@ returns-2 : tie.Need-returns-2
 returns-2 c =
     let a = c .before .before .before .before .before .before .before .before .before .before in
     let d = a .before .before .before .before .before .before .before .before .before in
-    ap (numbered outcomeNumber) (take-accepts _ _ _ _ (d .before .before .judge .ensures) _ (ap decision (d .verdict2 .given .1)) (a .accept .ensures))
+    ap (numbered outcomeNumber) (take-accepts _ (d .before .before .judge-known .ensures) _ _ _ _ (ap decision (d .verdict2 .given .1)) (a .accept .ensures) ∙ received-known _ _ _ _)
 
 pub take-known-spec : {M : Type 1} → statement M
 take-known-spec =
     tie.close
     (tie.spec
-    judge-requires
+    judge-known-requires
     enum-known-verdict
     refuse-requires
     enum-known-verdict-2
