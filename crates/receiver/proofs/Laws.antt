@@ -9,6 +9,7 @@ use Rattle.flash.specs.Flash.{eraseAt, payloadOf, storeAt}
 use Rattle.settings.specs.Settings.{goodSettings}
 use Rattle.settings.specs.declared.Settings.{Settings}
 use Rattle.transfer.specs.Transfer.{goodState, stepOf}
+use Rattle.transfer.specs.declared.Kind.{Kind}
 use Rattle.transfer.specs.declared.Kind.the-variants.{Flash, MainRam, XipRam}
 use Rattle.transfer.specs.declared.Transfer.{Transfer}
 use Rattle.transfer.specs.declared.Unchanged.{Unchanged}
@@ -24,7 +25,7 @@ use Rattle.screen.specs.declared.Screening.{Screening}
 use Rattle.screen.specs.declared.Screening.the-variants.{Refused, Passed}
 use Rattle.arrival.specs.Arrive.{Held, Lent, Outcome, Decision, lengthsOf, rightLengths, deedOf, stepped, afterScreening, clearedIf, wipedIf, preparedAt, pagedAt, atOf, doneTo, acceptOf, stays, accepts, done, forecast, forecastOf, decide, receiveOf, lookOf}
 use Rattle.receiver.specs.Receiver.{held, lent, world, refusal, outcome, decisionIn, rowsOf, knownDecision, receiveKnown}
-use Rattle.receiver.specs.Parts.{flashHeld}
+use Rattle.receiver.specs.Parts.{flashHeld, writtenTo}
 use Rattle.receiver.specs.declared.Receipt.{Receipt}
 use Rattle.receiver.specs.declared.Known.{Known}
 
@@ -59,9 +60,16 @@ module _ (at : ℕ) (p f k u x : List ℕ) where
   unfolding pagedAt
   paged-xip e = rw e
 
-pub took : (p : Placed) (d : Deed) (t : Accepted) (a : List ℕ) (h : Lent) {at : ℕ} {k1 m1 m2 f2 k2 u2 x2 : List ℕ} → at ≡ atOf (p .body) → k1 ≡ clearedIf (t .clears) (h .sectors) → m1 ≡ clearedIf (t .clears) (h .seen) → held f2 k2 u2 x2 ≡ doneTo d (p .head .kind) at (payloadOf a) (held (h .flash) k1 (h .main) (h .xip)) → m2 ≡ withMark m1 (p .number) → outcome (record { transfer = t .transfer; answer = t .answer; discarded = t .discarded }) (lent f2 m2 k2 u2 x2) ≡ done (world (t .transfer) h) (payloadOf a) (accepts p d t)
-unfolding done acceptOf wipedIf
-took p d t a h at wiped cleared written marked = cc
+pub written : (d : Deed) (k : Kind) (at number : ℕ) (clears : Bool) (a : List ℕ) (h : Lent) {k1 m1 m2 f2 k2 u2 x2 : List ℕ} → k1 ≡ clearedIf clears (h .sectors) → m1 ≡ clearedIf clears (h .seen) → held f2 k2 u2 x2 ≡ doneTo d k at (payloadOf a) (held (h .flash) k1 (h .main) (h .xip)) → m2 ≡ withMark m1 number → lent f2 m2 k2 u2 x2 ≡ writtenTo d k at number clears (payloadOf a) h
+unfolding writtenTo wipedIf
+written d k at number clears a h wiped cleared done marked =
+    let q : Held → Lent = λ g. lent (g .flash) (withMark (clearedIf clears (h .seen)) number) (g .sectors) (g .main) (g .xip) in
+    rw (marked, cleared) (ap q done ∙ ap (λ (s : List ℕ). q (doneTo d k at (payloadOf a) (held (h .flash) s (h .main) (h .xip)))) wiped)
+
+-- a block that is accepted
+pub took : (p : Placed) (d : Deed) (t : Accepted) (a : List ℕ) (h : Lent) {at : ℕ} {g : Lent} → at ≡ atOf (p .body) → g ≡ writtenTo d (p .head .kind) at (p .number) (t .clears) (payloadOf a) h → outcome (record { transfer = t .transfer; answer = t .answer; discarded = t .discarded }) g ≡ done (world (t .transfer) h) (payloadOf a) (accepts p d t)
+unfolding done acceptOf writtenTo
+took p d t a h e q = rw (q, e)
 
 -- ---- rows 12 to 16
 

@@ -34,7 +34,7 @@ ghost use Rattle.receiver.specs.Receiver.{
   knownDecision,
   receiveKnown,
 };
-ghost use Rattle.receiver.specs.Parts.{flashHeld};
+ghost use Rattle.receiver.specs.Parts.{flashHeld, writtenTo};
 use block::Block;
 use flash::Flash;
 use screen::Body;
@@ -200,7 +200,29 @@ fn write(
     }
 }
 
-// Writes a block that is accepted.
+// Writes a block that is accepted, by plain numbers: what decides is not handed on through memory.
+fn write_block(
+    deed: Deed,
+    kind: Kind,
+    at: usize,
+    number: usize,
+    clears: bool,
+    arrival: &[u8],
+    flash: &mut [u8],
+    seen: &mut [u8],
+    sectors: &mut [u8],
+    main: &mut [u8],
+    xip: &mut [u8],
+)
+    ensures { λ _. ⌜ leftAt flash seen sectors main xip ≡ writtenTo deed kind at number clears (payloadOf (now (arrival .entry))) (lentAt flash seen sectors main xip) ⌝ }
+{
+    clear_if(clears, sectors);
+    clear_if(clears, seen);
+    write(deed, kind, at, arrival, flash, sectors, main, xip);
+    bitmap::mark(seen, number);
+}
+
+// What a block that is accepted comes to, and what it writes.
 fn accept(
     placed: Placed,
     deed: Deed,
@@ -221,10 +243,19 @@ fn accept(
     let at = page_at(body);
     let head = placed.head;
     let kind = head.kind;
-    clear_if(accepted.clears, sectors);
-    clear_if(accepted.clears, seen);
-    write(deed, kind, at, arrival, flash, sectors, main, xip);
-    bitmap::mark(seen, number);
+    write_block(
+        deed,
+        kind,
+        at,
+        number,
+        accepted.clears,
+        arrival,
+        flash,
+        seen,
+        sectors,
+        main,
+        xip,
+    );
     Receipt {
         transfer: next,
         answer: given,

@@ -10,17 +10,8 @@ cast-number c = search needs
 page-at-requires : tie.Need-page-at-requires
 page-at-requires c κs = search needs
 
-clear-if-requires : tie.Need-clear-if-requires
-clear-if-requires c κs = search needs
-
-clear-if-requires-2 : tie.Need-clear-if-requires-2
-clear-if-requires-2 c κs = search needs
-
-write-requires : tie.Need-write-requires
-write-requires c κs = search needs
-
-mark-requires : tie.Need-mark-requires
-mark-requires c κs = search needs
+write-block-requires : tie.Need-write-block-requires
+write-block-requires c κs = search needs
 
 same-length : tie.Need-same-length
 same-length c = search needs
@@ -39,11 +30,8 @@ same-length-5 c = search needs
 
 returns : tie.Need-returns
 returns c =
-    let marked = c .before .before in
-    let written = marked .before .before .before .before .before .before .before .before .before .before in
-    let cleared = written .before .before .before .before .before .before .before in
-    let wiped = cleared .before .before .before .before in
-    took _ _ _ _ _ (wiped .before .before .before .page-at .ensures) (wiped .clear-if .ensures) (cleared .clear-if2 .ensures) (written .write .ensures) (marked .mark .ensures)
+    let block = c .before .before .before .before .before .before .before .before .before .before in
+    took _ _ _ _ _ (block .before .before .before .before .before .before .before .page-at .ensures) (block .write-block .ensures)
 
 pub accept-spec : {M : Type 1} → statement M
 accept-spec =
@@ -51,10 +39,7 @@ accept-spec =
     (tie.spec
     cast-number
     page-at-requires
-    clear-if-requires
-    clear-if-requires-2
-    write-requires
-    mark-requires
+    write-block-requires
     same-length
     same-length-2
     same-length-3
