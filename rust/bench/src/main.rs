@@ -1,20 +1,24 @@
-//! Times the proved receiver and plain Rust in one run, on the same inputs. Both get the settings as bytes. Where a place is asked for,
-//! both read them at each call; where a file is taken, a `Way` says which calls are made and what the plain side does.
+//! Times the proved receiver and plain Rust in one run, on the same inputs, a round of each in turn; the figure of a side is its least.
+//! Both get the settings as bytes. Where a place is asked for, both read them at each call; where a file is taken, a `Way` says which
+//! calls are made and what the plain side does. An argument prints only the rows whose names hold it; BENCH_ROUNDS sets the rounds of
+//! every row.
 
+mod file;
 mod hex;
 mod once;
+mod region;
 mod table;
 mod tags;
 
+use std::cell::Cell;
 use std::hint::black_box;
 use std::time::Instant;
 
-use compare::{page, proved_settings, Buffers, Random};
+use compare::proved_settings;
 use reference::{Arch, Entry, Link, Settings};
 
 const FLASH: usize = 33_554_432;
-/// The rounds of a whole file, and those of 30,000 calls, which are shorter.
-const FILES: usize = 15;
+/// The rounds of 30,000 calls.
 const CALLS: usize = 100;
 
 fn settings(count: u8, table: [Entry; 16]) -> Settings {
@@ -105,7 +109,7 @@ struct Work {
 
 impl Work {
     fn told(&self, time: f64) -> String {
-        let call = format!("{:.0} ns", time / self.calls as f64);
+        let call = format!("{:.1} ns", time / self.calls as f64);
         match self.bytes {
             Some(n) => format!("{call}, {:.0} MB/s", n as f64 / time * 1000.0),
             None => call,
@@ -120,7 +124,19 @@ fn asked(name: &str) -> bool {
         .is_none_or(|part| name.contains(&part))
 }
 
-/// The best of several rounds of each, in turn. A round clears what it is lent before its time begins.
+/// The least time of several rounds of each, a round of each in turn, so that what else runs on the machine hits both alike.
+fn least(rounds: usize, mut a: impl FnMut() -> f64, mut b: impl FnMut() -> f64) -> (f64, f64) {
+    let asked = std::env::var("BENCH_ROUNDS").ok();
+    let rounds = asked.and_then(|n| n.parse().ok()).unwrap_or(rounds);
+    let mut least = (f64::MAX, f64::MAX);
+    for _ in 0..rounds {
+        least.0 = least.0.min(a());
+        least.1 = least.1.min(b());
+    }
+    least
+}
+
+/// The proved side and the plain one. A round clears what it is lent before its time begins.
 fn pair(
     name: &str,
     work: Work,
@@ -130,16 +146,26 @@ fn pair(
     if !asked(name) {
         return;
     }
-    let (mut a, mut b) = (f64::MAX, f64::MAX);
-    for _ in 0..work.rounds {
-        let (time, x) = ours();
-        a = a.min(time);
-        let (time, y) = plain();
-        b = b.min(time);
-        assert_eq!(x, y, "{name}: the two say the same");
-    }
+    let sums = [Cell::new(0), Cell::new(0)];
+    let kept = |(time, sum), side: usize| {
+        sums[side].set(sum);
+        time
+    };
+    let (a, b) = least(work.rounds, || kept(ours(), 0), || kept(plain(), 1));
+    assert_eq!(sums[0], sums[1], "{name}: the two say the same");
     let (ours, plain) = (work.told(a), work.told(b));
     println!("| {name} | {ours} | {plain} | {:.2} : 1 |", a / b);
+}
+
+/// Two works of the proved side, by the time of a call of each.
+fn beside(name: &str, a: (Work, impl FnMut() -> f64), b: (Work, impl FnMut() -> f64)) {
+    let (x, y) = least(a.0.rounds, a.1, b.1);
+    let ratio = (x / a.0.calls as f64) / (y / b.0.calls as f64);
+    println!(
+        "| {name} | {} | {} | {ratio:.2} : 1 |",
+        a.0.told(x),
+        b.0.told(y)
+    );
 }
 
 fn places(name: &str, s: &Settings) {
@@ -171,190 +197,19 @@ fn places(name: &str, s: &Settings) {
     );
 }
 
-/// A file as it arrives: in order or shuffled; of data, of data with a payload size that row 9 refuses, or of comments.
-#[derive(Clone, Copy)]
-struct Sent {
-    blocks: u32,
-    shuffled: bool,
-    kind: Kind,
-}
-
-#[derive(Clone, Copy, PartialEq)]
-enum Kind {
-    Data,
-    Refused,
-    Comments,
-}
-
-/// Every buffer set to zeros, and handed on.
-fn cleared(buffers: &mut Buffers) -> &mut Buffers {
-    buffers.each().into_iter().for_each(|b| b.fill(0));
-    buffers
-}
-
-/// How the arrivals of a file are handed over, and what the plain side does.
-#[derive(Clone, Copy, PartialEq)]
-enum Way {
-    /// All in one call; the plain side reads the settings once and makes every check at each arrival.
-    All,
-    /// All in one call; the plain side judges settings and lengths once, and a place once for a run of one family.
-    AllOnce,
-    /// A take each; both read the settings at each arrival.
-    Take,
-    /// A take each by ours; the plain side reads the settings once.
-    TakeReadOnce,
-    /// A look each, at a fresh transfer; both read the settings at each arrival.
-    Look,
-    /// A look and then a take each; both read the settings at each of the two.
-    LookAndTake,
-}
-
-/// The blocks of a file, one after the other.
-fn blocks(sent: Sent) -> Vec<u8> {
-    let mut order: Vec<u32> = (0..sent.blocks).collect();
-    if sent.shuffled {
-        Random(7).shuffle(&mut order);
-    }
-    let mut file: Vec<u8> = order
-        .iter()
-        .flat_map(|&k| page(reference::ARM_S, sent.blocks, k))
-        .collect();
-    let field = match sent.kind {
-        Kind::Data => return file,
-        // 257 bytes of payload: settings, header and place are asked, and nothing is stored
-        Kind::Refused => 16,
-        // flag 0x1
-        Kind::Comments => 8,
-    };
-    file.iter_mut()
-        .skip(field)
-        .step_by(512)
-        .for_each(|b| *b = 1);
-    file
-}
-
-/// The proved side takes a file, or looks at it.
-fn proved_side(way: Way, settings: &[u8], file: &[u8], results: &mut [u8], lent: &mut Buffers) {
-    let mut t = proved::Transfer::Idle.bytes();
-    if matches!(way, Way::All | Way::AllOnce) {
-        lent.take_all(settings, &mut t, file, results);
-        return;
-    }
-    for (a, r) in file.chunks_exact(512).zip(results) {
-        if way == Way::LookAndTake {
-            black_box(lent.look(black_box(settings), &t, a));
-        }
-        *r = match way {
-            Way::Look => lent.look(black_box(settings), &t, a),
-            _ => lent.take(black_box(settings), &mut t, a),
-        } as u8;
-    }
-}
-
-/// The plain side does the same.
-fn plain_side(way: Way, settings: &[u8], file: &[u8], results: &mut [u8], lent: &mut Buffers) {
-    let fresh = || read(black_box(settings));
-    let mut t = reference::Transfer::Idle;
-    let kept = fresh();
-    if way == Way::AllOnce {
-        once::take_all(&kept, &mut t, file, results, lent);
-        return;
-    }
-    for (a, r) in file.chunks_exact(512).zip(results) {
-        if way == Way::LookAndTake {
-            black_box(lent.plain_look(&fresh(), t, a));
-        }
-        let (answer, discarded) = match way {
-            Way::Look => lent.plain_look(&fresh(), t, a),
-            _ => {
-                let o = match way {
-                    Way::All | Way::TakeReadOnce => lent.plain_take(&kept, t, a),
-                    _ => lent.plain_take(&fresh(), t, a),
-                };
-                t = o.transfer;
-                (o.answer, o.discarded)
-            }
-        };
-        *r = answer + 128 * u8::from(discarded);
-    }
-}
-
-fn sum(results: &[u8]) -> u64 {
-    results.iter().map(|&r| u64::from(r)).sum()
-}
-
-fn file(name: &str, s: &Settings, sent: Sent, way: Way) {
-    if !asked(name) {
-        return;
-    }
-    let p = proved_settings(s).bytes();
-    let file = blocks(sent);
-    let mut ours = Buffers::filled(FLASH, 0);
-    let mut theirs = ours.clone();
-    let (mut results, mut plain) = (vec![0; file.len() / 512], vec![0; file.len() / 512]);
-    pair(
-        name,
-        Work {
-            rounds: FILES,
-            calls: results.len(),
-            bytes: Some(file.len()),
-        },
-        || {
-            let lent = cleared(&mut ours);
-            timed(|| {
-                proved_side(way, &p, &file, &mut results, lent);
-                sum(&results)
-            })
-        },
-        || {
-            let lent = cleared(&mut theirs);
-            timed(|| {
-                plain_side(way, &p, &file, &mut plain, lent);
-                sum(&plain)
-            })
-        },
-    );
-    assert!(ours == theirs, "{name}: the two leave the same");
-}
-
 fn main() {
-    let none = settings(0, [Entry::EMPTY; 16]);
-    let full = sixteen();
     println!("| work | proved | plain Rust | ratio |\n|---|---|---|---|");
-    places("settings good and place, no table", &none);
-    places("settings good and place, 16 entries", &full);
-    // the last entry has room for so many
-    let room = (FLASH / 4096 - 15) as u32 * 16;
-    for (table, s, blocks) in [("no table", &none, 131_072), ("16 entries", &full, room)] {
-        let sent = |shuffled, kind| Sent {
-            blocks,
-            shuffled,
-            kind,
-        };
-        let checks =
-            format!("settings, header and place of an arrival that row 9 refuses, {table}");
-        file(&checks, s, sent(false, Kind::Refused), Way::All);
-        let comments = format!(
-            "a comment of {blocks} in order, {table}, all in one call, plain checks at each"
-        );
-        file(&comments, s, sent(false, Kind::Comments), Way::All);
-        for (how, way) in [
-            ("all in one call, plain checks at each", Way::All),
-            ("all in one call, plain judges once", Way::AllOnce),
-            ("a take each", Way::Take),
-            ("a take each, plain settings read once", Way::TakeReadOnce),
-            ("a look each", Way::Look),
-            ("a look and a take each", Way::LookAndTake),
-        ] {
-            for (order, shuffled) in [("in order", false), ("shuffled", true)] {
-                // a look stores nothing, so that the order says nothing
-                if way != Way::Look || !shuffled {
-                    let name = format!("an arrival of {blocks} {order}, {table}, {how}");
-                    file(&name, s, sent(shuffled, Kind::Data), way);
-                }
-            }
-        }
-    }
+    places(
+        "settings good and place, no table",
+        &settings(0, [Entry::EMPTY; 16]),
+    );
+    places("settings good and place, 16 entries", &sixteen());
+    file::flash_rows();
+    file::ram_rows();
+    region::kept_rows();
     hex::rows();
     tags::row();
+    println!("\n| work, proved | the first | the second | ratio |\n|---|---|---|---|");
+    file::table_rows();
+    region::beside_rows();
 }

@@ -1,10 +1,17 @@
 //! Inputs for both receivers, from a seed, and the settings of one as the other takes them.
 
+pub mod before_ram;
+mod buffers;
 pub mod fence;
 pub mod hex;
+mod pair;
+pub mod region;
 pub mod tags;
 
-use reference::{Arch, Entry, Link, Settings, Transfer};
+pub use buffers::{Buffers, Ram};
+pub use pair::Pair;
+
+use reference::{Arch, Entry, Kind, Link, Settings, Transfer, MAIN_WINDOW, WINDOW, XIP_WINDOW};
 
 /// A small generator (splitmix64): the same numbers on every machine.
 pub struct Random(pub u64);
@@ -30,11 +37,23 @@ impl Random {
         choices[self.below(choices.len() as u64) as usize]
     }
 
+    pub fn fill(&mut self, bytes: &mut [u8]) {
+        for part in bytes.chunks_mut(8) {
+            part.copy_from_slice(&self.draw().to_le_bytes()[..part.len()]);
+        }
+    }
+
     pub fn shuffle<T>(&mut self, items: &mut [T]) {
         for i in (1..items.len()).rev() {
             items.swap(i, self.below(i as u64 + 1) as usize);
         }
     }
+}
+
+/// How many arrivals a test compares: COMPARE_ARRIVALS, or a million.
+pub fn arrivals_asked() -> usize {
+    let asked = std::env::var("COMPARE_ARRIVALS").ok();
+    asked.and_then(|n| n.parse().ok()).unwrap_or(1_000_000)
 }
 
 pub fn proved_settings(s: &Settings) -> proved::Settings {
@@ -73,6 +92,14 @@ fn proved_entry(e: &Entry) -> proved::Entry {
     }
 }
 
+pub fn proved_kind(kind: Kind) -> proved::Kind {
+    match kind {
+        Kind::Flash => proved::Kind::Flash,
+        Kind::MainRam => proved::Kind::MainRam,
+        Kind::XipRam => proved::Kind::XipRam,
+    }
+}
+
 pub fn proved_transfer(t: Transfer) -> proved::Transfer {
     match t {
         Transfer::Idle => proved::Transfer::Idle,
@@ -80,105 +107,22 @@ pub fn proved_transfer(t: Transfer) -> proved::Transfer {
             family,
             total,
             count,
+            kind,
         } => proved::Transfer::Running {
             family,
             total,
             count,
+            kind: proved_kind(kind),
         },
-        Transfer::Done { family, total } => proved::Transfer::Done { family, total },
-    }
-}
-
-/// What is lent with each arrival, as one side owns it.
-#[derive(Clone, PartialEq, Eq)]
-pub struct Buffers {
-    pub flash: Vec<u8>,
-    pub seen: Vec<u8>,
-    pub sectors: Vec<u8>,
-}
-
-impl Buffers {
-    /// A flash of a length and maps of the right ones, each byte of all three the same.
-    pub fn filled(flash_len: usize, byte: u8) -> Buffers {
-        Buffers {
-            flash: vec![byte; flash_len],
-            seen: vec![byte; reference::SEEN_LEN],
-            sectors: vec![byte; reference::SECTORS_LEN],
-        }
-    }
-
-    /// A flash of whole sectors and maps of the right lengths, of any content.
-    pub fn any(r: &mut Random, sectors: u64) -> Buffers {
-        let mut buffers = Buffers::filled(sectors as usize * reference::SECTOR_LEN, 0);
-        for buffer in buffers.each() {
-            buffer.fill_with(|| r.draw() as u8);
-        }
-        buffers
-    }
-
-    /// Every buffer, for what is done to each alike.
-    pub fn each(&mut self) -> [&mut Vec<u8>; 3] {
-        [&mut self.flash, &mut self.seen, &mut self.sectors]
-    }
-
-    /// Lent to the proved receiver.
-    pub fn lend(&mut self) -> proved::Lent<'_> {
-        proved::Lent {
-            flash: &mut self.flash,
-            seen: &mut self.seen,
-            sectors: &mut self.sectors,
-        }
-    }
-
-    /// A look of the reference, with these: answer and "discarded".
-    pub fn plain_look(&self, s: &Settings, t: Transfer, arrival: &[u8]) -> (u8, bool) {
-        reference::look(s, t, arrival, &self.flash, &self.seen, &self.sectors)
-    }
-
-    /// A take of the reference, with these.
-    pub fn plain_take(&mut self, s: &Settings, t: Transfer, arrival: &[u8]) -> reference::Outcome {
-        let Buffers {
-            flash,
-            seen,
-            sectors,
-        } = self;
-        reference::take(s, t, arrival, flash, seen, sectors)
-    }
-
-    /// A look of the proved receiver over bytes, with these: the result.
-    pub fn look(&self, settings: &[u8], transfer: &[u8], arrival: &[u8]) -> u32 {
-        let Buffers {
-            flash,
-            seen,
-            sectors,
-        } = self;
-        proved::bytes::look(settings, transfer, arrival, flash, seen, sectors)
-    }
-
-    /// A take of the proved receiver over bytes, with these: the result.
-    pub fn take(&mut self, settings: &[u8], transfer: &mut [u8], arrival: &[u8]) -> u32 {
-        let Buffers {
-            flash,
-            seen,
-            sectors,
-        } = self;
-        proved::bytes::take(settings, transfer, arrival, flash, seen, sectors)
-    }
-
-    /// Many takes of the proved receiver over bytes, with these: their number.
-    pub fn take_all(
-        &mut self,
-        settings: &[u8],
-        transfer: &mut [u8],
-        arrivals: &[u8],
-        results: &mut [u8],
-    ) -> usize {
-        let Buffers {
-            flash,
-            seen,
-            sectors,
-        } = self;
-        proved::bytes::take_all(settings, transfer, arrivals, results, flash, seen, sectors)
+        Transfer::Done {
+            family,
+            total,
+            kind,
+        } => proved::Transfer::Done {
+            family,
+            total,
+            kind: proved_kind(kind),
+        },
     }
 }
 
@@ -222,10 +166,10 @@ pub fn any_settings(r: &mut Random, flash_sectors: u64) -> Settings {
 }
 
 fn any_entry(r: &mut Random, k: u64, from: u64, sectors: u64) -> Entry {
-    let link = match r.below(6) {
-        0 if k > 0 => Link::OwnedBy(r.below(k) as u8),
-        1 if k > 0 => Link::BOf(r.below(k) as u8),
-        _ => Link::None,
+    let (link, user) = match r.below(6) {
+        0 if k > 0 => (Link::OwnedBy(r.below(k) as u8), USER_OF_OWNED),
+        1 if k > 0 => (Link::BOf(r.below(k) as u8), USER_OF_B),
+        _ => (Link::None, USER),
     };
     Entry {
         first: from as u32,
@@ -235,7 +179,7 @@ fn any_entry(r: &mut Random, k: u64, from: u64, sectors: u64) -> Entry {
         riscv: r.one_in(2),
         arm_ns: r.one_in(3),
         user_count: r.below(5) as u8,
-        users: [USER, r.draw() as u32 % 8, 0xe48b_ff55, 0xe48b_ff5c],
+        users: [user, r.draw() as u32 % 8, 0xe48b_ff55, 0xe48b_ff5c],
         not_bootable_arm: r.one_in(3),
         not_bootable_riscv: r.one_in(3),
         link,
@@ -259,10 +203,12 @@ fn spoil(r: &mut Random, s: &mut Settings) {
     }
 }
 
-/// A user family that some entries accept.
+/// A user family that some entries accept, and one each that only owned entries and only B entries do.
 pub const USER: u32 = 0x1234_5678;
+pub const USER_OF_OWNED: u32 = 0x1234_5679;
+pub const USER_OF_B: u32 = 0x1234_567a;
 
-pub const FAMILIES: [u32; 9] = [
+pub const FAMILIES: [u32; 11] = [
     reference::ARM_S,
     reference::ARM_S,
     reference::ABSOLUTE,
@@ -271,29 +217,40 @@ pub const FAMILIES: [u32; 9] = [
     reference::ARM_NS,
     reference::RP2040,
     USER,
+    USER_OF_OWNED,
+    USER_OF_B,
     3,
 ];
 
-/// A transfer of any kind, most of them good.
+pub const KINDS: [Kind; 3] = [Kind::Flash, Kind::MainRam, Kind::XipRam];
+
+/// A transfer of any state and kind, most of them good.
 pub fn any_transfer(r: &mut Random, pages: u64) -> Transfer {
     let (mut family, mut total) = (reference::ARM_S, r.of(&[2, 3, 16]));
     if r.one_in(2) {
         family = r.of(&FAMILIES);
         total = r.of(&[0, 1, 2, pages as u32, 131_072, 131_073]);
     }
+    let kind = r.of(&KINDS);
     let right = 1 + r.below(u64::from(total).max(2) - 1) as u32;
     match r.below(8) {
         0..=2 => Transfer::Idle,
-        3 => Transfer::Done { family, total },
+        3 => Transfer::Done {
+            family,
+            total,
+            kind,
+        },
         4 => Transfer::Running {
             family,
             total,
             count: r.of(&[0, 1, total.wrapping_sub(1), total, u32::MAX]),
+            kind,
         },
         _ => Transfer::Running {
             family,
             total,
             count: right,
+            kind,
         },
     }
 }
@@ -341,24 +298,44 @@ pub fn page(family: u32, total: u32, k: u32) -> Vec<u8> {
     arrival(fields, u64::from(k) + 1)
 }
 
-/// A block that passes wherever its family has a place of so many pages.
-fn right_arrival(r: &mut Random, pages: u64) -> Vec<u8> {
-    let total = r.of(&[1, 2, 3, 16, pages as u32]);
+/// Start and length of a kind's window: addresses of flash that so many pages hold, or all of a RAM's.
+pub fn window(kind: Kind, pages: u64) -> (u32, u32) {
+    match kind {
+        Kind::Flash => (WINDOW, 256 * pages as u32),
+        Kind::MainRam => (MAIN_WINDOW, reference::MAIN_LEN as u32),
+        Kind::XipRam => (XIP_WINDOW, reference::XIP_LEN as u32),
+    }
+}
+
+/// A block that passes wherever its family has a place of so many pages, or may go to a RAM that is lent.
+fn right_arrival(r: &mut Random, pages: u64, ram: Ram) -> Vec<u8> {
+    let drawn = r.of(&KINDS);
+    let kind = if ram.has(drawn) { drawn } else { Kind::Flash };
+    let (start, len) = window(kind, pages);
+    let offset = r.below(u64::from(len) - 255) as u32;
+    let total = r.of(&[1, 2, 3, 16, len / 256]);
+    let family = r.of(&[reference::ARM_S, reference::ARM_S, reference::DATA, USER]);
     let fields = Fields {
         flags: r.of(&[0x2000, 0x2000, 0xE000]),
-        address: 0x1000_0000 + 256 * r.below(pages) as u32,
+        address: match kind {
+            Kind::Flash => start + offset / 256 * 256,
+            Kind::MainRam | Kind::XipRam => start + offset,
+        },
         size: 256,
         number: r.below(u64::from(total)) as u32,
         total,
-        family: r.of(&[reference::ARM_S, reference::ARM_S, reference::DATA, USER]),
+        family: match kind {
+            Kind::MainRam | Kind::XipRam if r.one_in(3) => r.of(&FAMILIES),
+            _ => family,
+        },
     };
     arrival(fields, r.draw())
 }
 
-/// An arrival of any kind: right, near a bound, or damaged; a quarter of them with flag 0x1.
-pub fn any_arrival(r: &mut Random, pages: u64) -> Vec<u8> {
+/// An arrival of any kind: right for a flash of so many pages or for a RAM, near a bound, or damaged; a quarter of them with flag 0x1.
+pub fn any_arrival(r: &mut Random, pages: u64, ram: Ram) -> Vec<u8> {
     let mut a = if r.one_in(2) {
-        right_arrival(r, pages)
+        right_arrival(r, pages, ram)
     } else {
         near_arrival(r, pages)
     };
@@ -367,15 +344,41 @@ pub fn any_arrival(r: &mut Random, pages: u64) -> Vec<u8> {
     a
 }
 
+/// The arrival as a block of the running transfer's family and total, of any number.
+pub fn join(r: &mut Random, a: &mut [u8], transfer: Transfer) {
+    if let Transfer::Running { family, total, .. } = transfer {
+        let number = r.below(u64::from(total).max(1)) as u32;
+        a[20..32].copy_from_slice([number, total, family].map(u32::to_le_bytes).as_flattened());
+    }
+}
+
+/// The first address of each window, and the first one past it.
+pub const EDGES: [u32; 6] = [
+    0x1000_0000,
+    0x1200_0000,
+    0x13ff_c000,
+    0x1400_0000,
+    0x2000_0000,
+    0x2008_2000,
+];
+
+/// What is added to an edge: a block, and a byte, to either side of it and of where the last block begins.
+pub const BESIDE: [i32; 9] = [-512, -257, -256, -255, -1, 0, 1, 255, 256];
+
 /// An arrival with fields at their bounds, and now and then a wrong magic number.
 fn near_arrival(r: &mut Random, pages: u64) -> Vec<u8> {
-    let total = r.of(&[1, 2, 3, 16, pages as u32, pages as u32 + 1, 0, 0x0100_0000]);
+    let pages = pages as u32;
+    let total = match r.below(4) {
+        0 => r.of(&[64, 65, 2080, 2081]),
+        _ => r.of(&[1, 2, 3, 16, pages, pages + 1, 0, 0x0100_0000]),
+    };
     let number = match r.below(4) {
         0 => total,
         1 => total.wrapping_sub(1),
         _ => r.below(u64::from(total).max(1)) as u32,
     };
-    let inside = 0x1000_0000 + 256 * r.below(pages) as u32;
+    let inside = 0x1000_0000 + 256 * r.below(pages.into()) as u32;
+    let edge = r.of(&EDGES).wrapping_add_signed(r.of(&BESIDE));
     let fields = Fields {
         flags: r.of(&[
             0x2000,
@@ -390,14 +393,14 @@ fn near_arrival(r: &mut Random, pages: u64) -> Vec<u8> {
             0xFFFF_FFFF,
         ]),
         address: r.of(&[
-            0x1000_0000,
             inside,
-            0x1000_0000 + 256 * (pages as u32 - 1),
-            0x1000_0000 + 256 * pages as u32,
-            0x0FFF_FF00,
-            0x1000_0001,
+            inside,
+            edge,
+            edge,
+            0x1000_0000 + 256 * (pages - 1),
+            0x1000_0000 + 256 * pages,
             0xFFFF_FF00,
-            0x1200_0000,
+            0xFFFF_FFFF,
         ]),
         size: r.of(&[256, 256, 256, 256, 255, 476, 0]),
         number,

@@ -1,108 +1,140 @@
 //! Lists of arrivals, each looked at and taken: after each, answer, transfer and every lent byte are the same. COMPARE_ARRIVALS sets how many arrivals are
 //! compared, at least.
 
+use compare::region::any_region;
 use compare::{
-    any_arrival, any_settings, any_transfer, arm_only, page, proved_settings, proved_transfer,
-    Buffers, Random,
+    any_arrival, any_settings, any_transfer, arm_only, arrivals_asked, join, page, proved_settings,
+    proved_transfer, Buffers, Pair, Ram, Random,
 };
-use reference::{Settings, Transfer};
+use reference::{Kind, Transfer};
 
-/// The number of arrivals that a run compares.
-fn number() -> usize {
-    let asked = std::env::var("COMPARE_ARRIVALS").ok();
-    asked.and_then(|n| n.parse().ok()).unwrap_or(1_000_000)
+/// What a list of arrivals met.
+#[derive(Default, Debug)]
+struct Met {
+    answers: [usize; 18],
+    /// Accepted, by the kind of the transfer afterwards, of data and of comments.
+    data: [usize; 3],
+    comments: [usize; 3],
+    /// A running transfer discarded by one that differs in kind alone.
+    kind_changes: usize,
 }
 
-/// Both receivers, each with buffers of its own.
-struct Pair {
-    settings: Settings,
-    proved: proved::Settings,
-    transfer: Transfer,
-    ours: Buffers,
-    theirs: Buffers,
-}
-
-impl Pair {
-    fn new(settings: Settings, transfer: Transfer, buffers: Buffers) -> Pair {
-        Pair {
-            proved: proved_settings(&settings),
-            settings,
-            transfer,
-            ours: buffers.clone(),
-            theirs: buffers,
+impl Met {
+    fn count(&mut self, a: &[u8], before: Transfer, answer: u8, after: Transfer) {
+        self.answers[usize::from(answer)] += 1;
+        if answer < 14 {
+            return;
         }
+        let Some((family, total, kind)) = head(after) else {
+            panic!("an accepted block leaves a transfer that is not Idle");
+        };
+        let counts = if a[8] & 1 == 0 {
+            &mut self.data
+        } else {
+            &mut self.comments
+        };
+        counts[kind as usize] += 1;
+        let other = |(f, n, k)| (f, n) == (family, total) && k != kind;
+        self.kind_changes += usize::from(head(before).is_some_and(other));
     }
+}
 
-    /// Both look at the arrival and take it; says what all four answered. A look leaves every buffer as it was: ours are the reference's
-    /// before it, by the last take, and after it.
-    fn take(&mut self, arrival: &[u8]) -> u8 {
-        let mut t = proved_transfer(self.transfer);
-        let looked = proved::look(&self.proved, t, arrival, &self.ours.lend());
-        let wanted = self
-            .theirs
-            .plain_look(&self.settings, self.transfer, arrival);
-        assert_eq!((looked.answer.number(), looked.discarded), wanted, "look");
-        assert!(self.ours == self.theirs, "buffers after the look");
-
-        let wanted = self
-            .theirs
-            .plain_take(&self.settings, self.transfer, arrival);
-        let got = proved::take(&self.proved, &mut t, arrival, &mut self.ours.lend());
-        assert_eq!(got.answer.number(), wanted.answer, "answer");
-        assert_eq!(got.discarded, wanted.discarded, "discarded");
-        assert_eq!(got, looked, "the look said it");
-        assert_eq!(t, proved_transfer(wanted.transfer), "transfer");
-        assert!(self.ours == self.theirs, "buffers");
-        self.transfer = wanted.transfer;
-        wanted.answer
+/// Family, total and kind, but of Idle.
+fn head(transfer: Transfer) -> Option<(u32, u32, Kind)> {
+    match transfer {
+        Transfer::Idle => None,
+        Transfer::Running {
+            family,
+            total,
+            kind,
+            ..
+        }
+        | Transfer::Done {
+            family,
+            total,
+            kind,
+        } => Some((family, total, kind)),
     }
+}
+
+/// A region for the block, with the digest of what its family's place has there, where it has a place.
+fn name_region(r: &mut Random, a: &mut [u8], pair: &Pair) {
+    let family = u32::from_le_bytes([a[28], a[29], a[30], a[31]]);
+    let flash = &pair.ours.flash;
+    let place = reference::ask_place(&pair.settings, flash.len(), family);
+    any_region(r, a, flash, place.map_or(0, |(start, _)| start));
 }
 
 #[test]
 fn arrivals_agree() {
     let mut r = Random(2);
-    let mut answers = [0; 17];
-    for _ in 0..number().div_ceil(40) {
+    let mut met = Met::default();
+    while met.answers.iter().sum::<usize>() < arrivals_asked() {
         let sectors = r.of(&[1, 2, 5, 16]);
         let settings = any_settings(&mut r, sectors);
         let transfer = any_transfer(&mut r, sectors * 16);
-        let buffers = Buffers::any(&mut r, sectors);
+        let ram = Ram::any(&mut r);
+        let buffers = Buffers::any(&mut r, sectors, ram);
         let mut pair = Pair::new(settings, transfer, buffers);
         let mut sent: Vec<Vec<u8>> = Vec::new();
         for _ in 0..40 {
-            let a = if !sent.is_empty() && r.one_in(3) {
+            let mut a = if !sent.is_empty() && r.one_in(3) {
                 sent[r.below(sent.len() as u64) as usize].clone()
             } else {
-                any_arrival(&mut r, sectors * 16)
+                any_arrival(&mut r, sectors * 16, ram)
             };
-            answers[usize::from(pair.take(&a))] += 1;
+            if r.one_in(4) {
+                join(&mut r, &mut a, pair.transfer);
+            }
+            if r.one_in(3) {
+                name_region(&mut r, &mut a, &pair);
+            }
+            let before = pair.transfer;
+            let answer = pair.take(&a);
+            met.count(&a, before, answer, pair.transfer);
             sent.push(a);
+            // bad settings and a bad state stay so, and a transfer that is done too
+            if matches!(answer, 2 | 3 | 12) && r.one_in(4) {
+                break;
+            }
         }
     }
     // every answer but 1 came, and often; none is 6
-    let often = number() / 500;
-    let all = (2..17).filter(|&n| n != 6);
-    assert!(all.map(|n| answers[n]).all(|n| n > often), "{answers:?}");
-    assert_eq!(answers[6], 0);
+    let often = arrivals_asked() / 500;
+    let all = (2..18).filter(|&n| n != 6);
+    assert!(all.map(|n| met.answers[n]).all(|n| n > often), "{met:?}");
+    assert_eq!(met.answers[6], 0);
+    // and every kind, with changes between them
+    let kinds = met.data.iter().chain([&met.comments[0], &met.kind_changes]);
+    assert!(kinds.copied().all(|n| n > often), "{met:?}");
+    let noted = &met.comments[1..];
+    assert!(noted.iter().all(|&n| n > often / 20), "{met:?}");
+}
+
+/// A buffer that is changed; one that is empty may be lengthened too.
+fn change(r: &mut Random, buffer: &mut Vec<u8>) {
+    let n = buffer.len();
+    let lengths = [0, 1, n.saturating_sub(1), n + 1, n / 2, n + 4096];
+    let lengths = [&lengths[..], &[16_383, 16_385, 532_479, 532_481]].concat();
+    buffer.resize(r.of(&lengths), 9);
 }
 
 #[test]
 fn wrong_lengths_agree() {
     let mut r = Random(3);
-    for _ in 0..2_000 {
+    let mut refused = 0;
+    for _ in 0..3_000 {
         let settings = any_settings(&mut r, 4);
-        let mut buffers = Buffers::any(&mut r, 4);
+        let ram = Ram::any(&mut r);
+        let mut buffers = Buffers::any(&mut r, 4, ram);
         let mut a = page(reference::ARM_S, 4, 1);
-        let change = |r: &mut Random, v: &mut Vec<u8>| {
-            let n = r.of(&[0, 1, v.len() - 1, v.len() + 1, v.len() / 2, v.len() + 4096]);
-            v.resize(n, 9);
-        };
-        match r.below(4) {
+        match r.below(6) {
             0 => change(&mut r, &mut a),
             k => change(&mut r, buffers.each()[k as usize - 1]),
         }
-        Pair::new(settings, Transfer::Idle, buffers).take(&a);
+        refused += u32::from(Pair::new(settings, Transfer::Idle, buffers).take(&a) == 1);
     }
+    assert!(refused > 2_000, "{refused}");
 }
 
 /// Files in any order, with repeats and other arrivals between: completed once, at the arrival that makes the set whole.
@@ -126,7 +158,9 @@ fn shuffled_files_agree() {
             order.push(r.below(u64::from(n)) as usize);
         }
         r.shuffle(&mut order);
-        let mut pair = Pair::new(arm_only(), Transfer::Idle, Buffers::any(&mut r, sectors));
+        let ram = Ram::any(&mut r);
+        let buffers = Buffers::any(&mut r, sectors, ram);
+        let mut pair = Pair::new(arm_only(), Transfer::Idle, buffers);
         let mut seen = vec![false; n as usize];
         for k in order {
             if r.one_in(5) {
@@ -154,7 +188,8 @@ fn two_files_in_turn_agree() {
         let n = 2 + r.below(40) as u32;
         let other = r.of(&[(reference::ARM_S, n + 1), (reference::DATA, n)]);
         let files = [(reference::ARM_S, n), other];
-        let mut pair = Pair::new(arm_only(), Transfer::Idle, Buffers::any(&mut r, 8));
+        let buffers = Buffers::any(&mut r, 8, Ram::NONE);
+        let mut pair = Pair::new(arm_only(), Transfer::Idle, buffers);
         for i in 0..2 * n {
             let (family, total) = files[i as usize % 2];
             let block = page(family, total, r.below(u64::from(total)) as u32);
@@ -172,7 +207,15 @@ fn two_files_in_turn_agree() {
             .map(|&k| pair.take(&page(family, total, k)))
             .collect();
         assert!(last.contains(&15));
-        assert_eq!(pair.transfer, Transfer::Done { family, total });
+        let kind = Kind::Flash;
+        assert_eq!(
+            pair.transfer,
+            Transfer::Done {
+                family,
+                total,
+                kind
+            }
+        );
     }
 }
 
@@ -184,11 +227,18 @@ fn all_at_once_agrees() {
         let sectors = r.of(&[1, 2, 5, 16]);
         let settings = any_settings(&mut r, sectors);
         let transfer = any_transfer(&mut r, sectors * 16);
-        let buffers = Buffers::any(&mut r, sectors);
+        let ram = Ram::any(&mut r);
+        let buffers = Buffers::any(&mut r, sectors, ram);
         let mut one = Pair::new(settings, transfer, buffers.clone());
         let n = r.below(20) as usize;
         let mut file: Vec<u8> = (0..n)
-            .flat_map(|_| any_arrival(&mut r, sectors * 16))
+            .flat_map(|_| {
+                let mut a = any_arrival(&mut r, sectors * 16, ram);
+                if r.one_in(2) {
+                    name_region(&mut r, &mut a, &one);
+                }
+                a
+            })
             .collect();
         // a last piece that is no whole arrival, and room for fewer results, or for more
         file.resize(file.len() + r.below(512) as usize, 1);

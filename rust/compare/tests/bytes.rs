@@ -3,7 +3,7 @@
 
 use compare::{any_settings, arm_only, page, proved_settings, proved_transfer, Buffers, Random};
 use proved::{bytes, SETTINGS_BYTES, TRANSFER_BYTES};
-use reference::Transfer;
+use reference::{Kind, Transfer};
 
 const LEN: usize = 16_384;
 
@@ -36,24 +36,58 @@ fn lengths(right: usize) -> impl Iterator<Item = usize> {
 }
 
 #[test]
-fn transfers_of_every_kind() {
+fn transfers_of_every_state_and_kind() {
     let s = proved_settings(&arm_only()).bytes();
     let a = page(reference::ARM_S, 4, 1);
     let running = Transfer::Running {
         family: reference::ARM_S,
         total: 4,
         count: 1,
+        kind: Kind::Flash,
     };
-    for kind in 0..=255 {
-        let mut t = proved_transfer(running).bytes();
-        t[0] = kind;
-        let wanted = match kind {
-            0 => 14,
-            1 => 14,
-            2 => 12,
-            _ => 3,
+    for state in 0..=255 {
+        for kind in [0, 1, 2, 3, 4, 127, 128, 129, 254, 255] {
+            let mut t = proved_transfer(running).bytes();
+            (t[0], t[13]) = (state, kind);
+            let wanted = match (state, kind) {
+                // what is idle has no kind
+                (0, _) | (1, 0) => 14,
+                // a block of flash discards a transfer of RAM
+                (1, 1 | 2) => 14 + 128,
+                (2, 0..=2) => 12,
+                _ => 3,
+            };
+            assert_eq!(taken(&s, &t, &a), wanted, "state {state}, kind {kind}");
+        }
+    }
+}
+
+/// What a transfer is, is read back from its bytes; other bytes are no transfer.
+#[test]
+fn transfers_are_read_back() {
+    for kind in compare::KINDS {
+        let (family, total) = (0x0102_0304, 0x0506_0708);
+        let done = Transfer::Done {
+            family,
+            total,
+            kind,
         };
-        assert_eq!(taken(&s, &t, &a), wanted, "kind {kind}");
+        let running = Transfer::Running {
+            family,
+            total,
+            count: 0x090A_0B0C,
+            kind,
+        };
+        for transfer in [Transfer::Idle, running, done].map(proved_transfer) {
+            let mut bytes = transfer.bytes();
+            assert_eq!(proved::Transfer::from_bytes(&bytes), Some(transfer));
+            bytes[13] = 3;
+            let idle = transfer == proved::Transfer::Idle;
+            let wanted = idle.then_some(proved::Transfer::Idle);
+            assert_eq!(proved::Transfer::from_bytes(&bytes), wanted);
+            bytes[0] = 3;
+            assert_eq!(proved::Transfer::from_bytes(&bytes), None);
+        }
     }
 }
 

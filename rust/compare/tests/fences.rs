@@ -8,14 +8,14 @@ use std::process::Command;
 
 use compare::fence::{Fenced, Side};
 use compare::hex::{any_reader, any_record, any_text};
-use compare::{any_arrival, any_settings, any_transfer, Buffers, Random, FAMILIES};
+use compare::region::any_region;
+use compare::{any_arrival, any_settings, any_transfer, Buffers, Ram, Random, FAMILIES};
 use compare::{proved_settings, proved_transfer};
 use proved::bytes;
 
 /// The number of calls of each test.
 fn number() -> usize {
-    let asked = std::env::var("COMPARE_ARRIVALS").ok();
-    asked.and_then(|n| n.parse().ok()).unwrap_or(1_000_000) / 50
+    compare::arrivals_asked() / 50
 }
 
 /// Bytes beside a fence, and the same bytes in plain memory.
@@ -69,9 +69,18 @@ fn any_settings_bytes(r: &mut Random, sectors: u64) -> Vec<u8> {
 fn any_transfer_bytes(r: &mut Random, pages: u64) -> Vec<u8> {
     let mut bytes = proved_transfer(any_transfer(r, pages)).bytes().to_vec();
     if r.one_in(12) {
-        bytes[0] = r.draw() as u8;
+        let at = r.of(&[0, 13]);
+        bytes[at] = r.draw() as u8;
     }
     any_length(r, bytes)
+}
+
+/// Where the place of a block's family begins, or 0.
+fn place(settings: &[u8], flash_len: usize, a: &[u8]) -> usize {
+    let family = u32::from_le_bytes([a[28], a[29], a[30], a[31]]);
+    let mut place = [0; bytes::PLACE_BYTES];
+    bytes::ask(settings, flash_len, family, &mut place);
+    u32::from_le_bytes([place[0], place[1], place[2], place[3]]) as usize
 }
 
 /// What a call is lent, each part beside a fence.
@@ -79,33 +88,44 @@ struct Call {
     settings: Twin,
     transfer: Twin,
     arrival: Twin,
-    flash: Twin,
-    seen: Twin,
-    sectors: Twin,
+    /// Flash, seen map, sector map, main RAM and XIP RAM.
+    buffers: [Twin; 5],
 }
+
+const BUFFERS: [&str; 5] = ["flash", "seen map", "sector map", "main RAM", "XIP RAM"];
 
 impl Call {
     /// A call with so many arrivals; `looks` where nothing that it is lent is written.
     fn any(r: &mut Random, arrivals: u64, looks: bool) -> Call {
         let sectors = r.of(&[1, 2, 5]);
         let pages = sectors * 16;
-        let sent = (0..arrivals)
-            .flat_map(|_| any_arrival(r, pages))
-            .collect::<Vec<u8>>();
+        let ram = Ram {
+            // it is large: two copies for each call that has it
+            main: r.one_in(8),
+            xip: r.one_in(2),
+        };
         let settings = any_settings_bytes(r, sectors);
         let transfer = any_transfer_bytes(r, pages);
+        let mut lent = Buffers::any(r, sectors, ram);
+        let sent = (0..arrivals)
+            .flat_map(|_| {
+                let mut a = any_arrival(r, pages, ram);
+                if r.one_in(2) {
+                    let place = place(&settings, lent.flash.len(), &a);
+                    any_region(r, &mut a, &lent.flash, place);
+                }
+                a
+            })
+            .collect::<Vec<u8>>();
         let sent = any_length(r, sent);
-        let mut lent = Buffers::any(r, sectors);
-        for buffer in lent.each() {
-            *buffer = any_length(r, std::mem::take(buffer));
-        }
         Call {
             settings: Twin::read(r, settings),
             transfer: Twin::new(r, transfer, looks),
             arrival: Twin::read(r, sent),
-            flash: Twin::new(r, lent.flash, looks),
-            seen: Twin::new(r, lent.seen, looks),
-            sectors: Twin::new(r, lent.sectors, looks),
+            buffers: lent.each().map(|buffer| {
+                let buffer = any_length(r, std::mem::take(buffer));
+                Twin::new(r, buffer, looks)
+            }),
         }
     }
 
@@ -113,9 +133,30 @@ impl Call {
         self.settings.check("settings");
         self.transfer.check("transfer");
         self.arrival.check("arrival");
-        self.flash.check("flash");
-        self.seen.check("seen map");
-        self.sectors.check("sector map");
+        for (twin, name) in self.buffers.iter().zip(BUFFERS) {
+            twin.check(name);
+        }
+    }
+}
+
+/// The buffers beside fences, lent.
+fn fenced(buffers: &mut [Twin; 5]) -> proved::Buffers<'_> {
+    lent(buffers.each_mut().map(|twin| twin.fenced.bytes_mut()))
+}
+
+/// The same in plain memory.
+fn plain(buffers: &mut [Twin; 5]) -> proved::Buffers<'_> {
+    lent(buffers.each_mut().map(|twin| &mut twin.plain[..]))
+}
+
+fn lent(buffers: [&mut [u8]; 5]) -> proved::Buffers<'_> {
+    let [flash, seen, sectors, main, xip] = buffers;
+    proved::Buffers {
+        flash,
+        seen,
+        sectors,
+        main,
+        xip,
     }
 }
 
@@ -123,28 +164,24 @@ impl Call {
 #[test]
 fn looks_keep_their_bounds_and_write_nothing() {
     let mut r = Random(30);
-    let mut answers = [0; 17];
+    let mut answers = [0; 18];
     for _ in 0..number() {
-        let c = Call::any(&mut r, 1, true);
-        let fenced = bytes::look(
+        let mut c = Call::any(&mut r, 1, true);
+        let beside = bytes::look(
             c.settings.fenced.bytes(),
             c.transfer.fenced.bytes(),
             c.arrival.fenced.bytes(),
-            c.flash.fenced.bytes(),
-            c.seen.fenced.bytes(),
-            c.sectors.fenced.bytes(),
+            &fenced(&mut c.buffers),
         );
-        let plain = bytes::look(
+        let alone = bytes::look(
             &c.settings.plain,
             &c.transfer.plain,
             &c.arrival.plain,
-            &c.flash.plain,
-            &c.seen.plain,
-            &c.sectors.plain,
+            &plain(&mut c.buffers),
         );
-        assert_eq!(fenced, plain);
+        assert_eq!(beside, alone);
         c.check();
-        answers[plain as usize % 128] += 1;
+        answers[alone as usize % 128] += 1;
     }
     let often = number() / 4_000;
     answers[6] = often; // no answer has this number
@@ -154,28 +191,24 @@ fn looks_keep_their_bounds_and_write_nothing() {
 #[test]
 fn takes_keep_their_bounds() {
     let mut r = Random(31);
-    let mut answers = [0; 17];
+    let mut answers = [0; 18];
     for _ in 0..number() {
         let mut c = Call::any(&mut r, 1, false);
-        let fenced = bytes::take(
+        let beside = bytes::take(
             c.settings.fenced.bytes(),
             c.transfer.fenced.bytes_mut(),
             c.arrival.fenced.bytes(),
-            c.flash.fenced.bytes_mut(),
-            c.seen.fenced.bytes_mut(),
-            c.sectors.fenced.bytes_mut(),
+            &mut fenced(&mut c.buffers),
         );
-        let plain = bytes::take(
+        let alone = bytes::take(
             &c.settings.plain,
             &mut c.transfer.plain,
             &c.arrival.plain,
-            &mut c.flash.plain,
-            &mut c.seen.plain,
-            &mut c.sectors.plain,
+            &mut plain(&mut c.buffers),
         );
-        assert_eq!(fenced, plain);
+        assert_eq!(beside, alone);
         c.check();
-        answers[plain as usize % 128] += 1;
+        answers[alone as usize % 128] += 1;
     }
     let often = number() / 4_000;
     answers[6] = often; // no answer has this number
@@ -191,28 +224,24 @@ fn many_takes_keep_their_bounds() {
         let mut c = Call::any(&mut r, n, false);
         let room = r.below(14) as usize;
         let mut results = Twin::written(&mut r, vec![77; room]);
-        let fenced = bytes::take_all(
+        let beside = bytes::take_all(
             c.settings.fenced.bytes(),
             c.transfer.fenced.bytes_mut(),
             c.arrival.fenced.bytes(),
             results.fenced.bytes_mut(),
-            c.flash.fenced.bytes_mut(),
-            c.seen.fenced.bytes_mut(),
-            c.sectors.fenced.bytes_mut(),
+            &mut fenced(&mut c.buffers),
         );
-        let plain = bytes::take_all(
+        let alone = bytes::take_all(
             &c.settings.plain,
             &mut c.transfer.plain,
             &c.arrival.plain,
             &mut results.plain,
-            &mut c.flash.plain,
-            &mut c.seen.plain,
-            &mut c.sectors.plain,
+            &mut plain(&mut c.buffers),
         );
-        assert_eq!(fenced, plain);
+        assert_eq!(beside, alone);
         c.check();
         results.check("results");
-        let results = &results.plain[..plain];
+        let results = &results.plain[..alone];
         accepted += results.iter().filter(|&&x| x % 128 >= 14).count();
     }
     assert!(accepted > number() / 20, "{accepted}");
@@ -241,7 +270,7 @@ fn places_keep_their_bounds() {
         place.check("place");
         found += usize::from(plain == 0);
 
-        let transfer = any_length(&mut r, vec![9; 13]);
+        let transfer = any_length(&mut r, vec![9; proved::TRANSFER_BYTES]);
         let mut transfer = Twin::written(&mut r, transfer);
         bytes::new(transfer.fenced.bytes_mut());
         bytes::new(&mut transfer.plain);

@@ -1,7 +1,7 @@
 //! Files made of images, and digests: the proved tools beside the reference, at every edge; and a made file in both receivers.
 
-use compare::{arm_only, proved_settings, Buffers, Random};
-use reference::{Transfer, ARM_S};
+use compare::{arm_only, proved_settings, proved_transfer, Buffers, Random};
+use reference::{Kind, Transfer, ARM_S};
 use tools::{check, make, write_block, Fields, BLOCK_BYTES, PAGE_BYTES};
 
 const STARTS: [u32; 12] = [
@@ -128,21 +128,12 @@ fn a_made_file_is_taken() {
             proved::take(&proved_settings(&settings), &mut t, block, &mut ours.lend());
             u = theirs.plain_take(&settings, u, block).transfer;
         }
-        let total = pages as u32;
-        assert_eq!(
-            t,
-            proved::Transfer::Done {
-                family: ARM_S,
-                total
-            }
-        );
-        assert_eq!(
-            u,
-            Transfer::Done {
-                family: ARM_S,
-                total
-            }
-        );
+        let done = Transfer::Done {
+            family: ARM_S,
+            total: pages as u32,
+            kind: Kind::Flash,
+        };
+        assert_eq!((t, u), (proved_transfer(done), done));
         assert_eq!(ours.flash[from..from + image.len()], image);
         assert!(ours == theirs);
     }

@@ -5,7 +5,9 @@ use std::path::PathBuf;
 use std::process::{Command, Stdio};
 
 use compare::hex::{any_file, damage, FILE};
-use compare::{any_arrival, page, Random};
+use compare::region::{any_region, put_region};
+use compare::{any_arrival, page, Ram, Random};
+use reference::md5::md5;
 
 /// A program that `rt check` has made.
 fn proved(name: &str) -> PathBuf {
@@ -60,7 +62,15 @@ fn receive_programs_agree() {
     let mut r = Random(6);
     for n in [0, 1, 2, 3, 10, 300] {
         for cut in [0, 1, 511] {
-            let mut input: Vec<u8> = (0..n).flat_map(|_| any_arrival(&mut r, 128)).collect();
+            let mut input: Vec<u8> = (0..n)
+                .flat_map(|_| {
+                    let mut a = any_arrival(&mut r, 128, Ram::BOTH);
+                    if r.one_in(2) {
+                        any_region(&mut r, &mut a, &[0xFF; 32_768], 0);
+                    }
+                    a
+                })
+                .collect();
             input.truncate(input.len().saturating_sub(cut));
             receive_both(&input);
         }
@@ -72,6 +82,42 @@ fn the_papers_example() {
     let file = [0, 0, 1].map(|k| page(reference::ARM_S, 2, k)).concat();
     let text = "arrival answer discarded\n0 14 0\n1 13 0\n2 15 0\nstate done total 2 seen 2\n";
     assert_eq!(receive_both(&file), text);
+}
+
+/// The program has no RAM: an address there is 11, also with a total of 0, and one in flash with that total is 10.
+#[test]
+fn the_program_has_no_ram() {
+    let mut input = Vec::new();
+    for address in [0x2000_0000, 0x13ff_c000, 0x1000_0000_u32] {
+        for total in [2, 0] {
+            let mut a = page(reference::ARM_S, total, 0);
+            a[12..16].copy_from_slice(&address.to_le_bytes());
+            input.extend(a);
+        }
+    }
+    let text = "arrival answer discarded\n0 11 0\n1 11 0\n2 11 0\n3 11 0\n4 14 0\n5 10 0\nstate running total 2 seen 1\n";
+    assert_eq!(receive_both(&input), text);
+}
+
+/// The program's flash starts as 0xFF, so that a region of such bytes is there, until a block is stored in it.
+#[test]
+fn the_program_keeps_what_is_there() {
+    let erased = |number: u32, flags: u8| {
+        let mut a = page(reference::ARM_S, 4, number);
+        put_region(&mut a, 0x1000_0000, 4096, md5(&[0xFF; 4096]));
+        a[9] &= flags;
+        a
+    };
+    let input = [
+        erased(0, 0xFF),
+        erased(0, 0xFF),
+        erased(1, 0xBF),
+        erased(2, 0xFF),
+    ]
+    .concat();
+    let text =
+        "arrival answer discarded\n0 17 0\n1 13 0\n2 14 0\n3 14 0\nstate running total 4 seen 3\n";
+    assert_eq!(receive_both(&input), text);
 }
 
 #[test]

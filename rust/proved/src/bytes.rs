@@ -3,14 +3,15 @@
 //!
 //! Every call is safe: a Rust slice is a pointer to as many bytes as it says, never null, and one that is written overlaps no other.
 
-use crate::ffi;
+use crate::ffi::{self, len};
+use crate::Buffers;
 
 /// The bytes of a place: its start and its length, 32 bits each, the lowest byte first.
 pub const PLACE_BYTES: usize = 8;
 
 /// A fresh transfer, where there are [`TRANSFER_BYTES`](crate::TRANSFER_BYTES); else nothing changes.
 pub fn new(transfer: &mut [u8]) {
-    unsafe { ffi::uf2_new(transfer.as_mut_ptr(), transfer.len()) }
+    unsafe { ffi::uf2_new(transfer.as_mut_ptr(), len(transfer)) }
 }
 
 /// 0 and a place in the [`PLACE_BYTES`] of `place`; or the number of a refusal, and `place` stays.
@@ -18,65 +19,59 @@ pub fn ask(settings: &[u8], flash_len: usize, family: u32, place: &mut [u8]) -> 
     unsafe {
         ffi::uf2_ask(
             settings.as_ptr(),
-            settings.len(),
-            flash_len,
+            len(settings),
+            flash_len as ffi::Len,
             family,
             place.as_mut_ptr(),
-            place.len(),
+            len(place),
         )
     }
 }
 
 /// A look at an arrival: what [`take`] would return on the same bytes. It changes nothing.
-pub fn look(
-    settings: &[u8],
-    transfer: &[u8],
-    arrival: &[u8],
-    flash: &[u8],
-    seen: &[u8],
-    sectors: &[u8],
-) -> u32 {
+pub fn look(settings: &[u8], transfer: &[u8], arrival: &[u8], buffers: &Buffers) -> u32 {
     unsafe {
         ffi::uf2_look(
             settings.as_ptr(),
-            settings.len(),
+            len(settings),
             transfer.as_ptr(),
-            transfer.len(),
+            len(transfer),
             arrival.as_ptr(),
-            arrival.len(),
-            flash.as_ptr(),
-            flash.len(),
-            seen.as_ptr(),
-            seen.len(),
-            sectors.as_ptr(),
-            sectors.len(),
+            len(arrival),
+            buffers.flash.as_ptr(),
+            len(buffers.flash),
+            buffers.seen.as_ptr(),
+            len(buffers.seen),
+            buffers.sectors.as_ptr(),
+            len(buffers.sectors),
+            buffers.main.as_ptr(),
+            len(buffers.main),
+            buffers.xip.as_ptr(),
+            len(buffers.xip),
         )
     }
 }
 
 /// An arrival taken: the answer's number, and 128 more where a running transfer was discarded.
-pub fn take(
-    settings: &[u8],
-    transfer: &mut [u8],
-    arrival: &[u8],
-    flash: &mut [u8],
-    seen: &mut [u8],
-    sectors: &mut [u8],
-) -> u32 {
+pub fn take(settings: &[u8], transfer: &mut [u8], arrival: &[u8], buffers: &mut Buffers) -> u32 {
     unsafe {
         ffi::uf2_take(
             settings.as_ptr(),
-            settings.len(),
+            len(settings),
             transfer.as_mut_ptr(),
-            transfer.len(),
+            len(transfer),
             arrival.as_ptr(),
-            arrival.len(),
-            flash.as_mut_ptr(),
-            flash.len(),
-            seen.as_mut_ptr(),
-            seen.len(),
-            sectors.as_mut_ptr(),
-            sectors.len(),
+            len(arrival),
+            buffers.flash.as_mut_ptr(),
+            len(buffers.flash),
+            buffers.seen.as_mut_ptr(),
+            len(buffers.seen),
+            buffers.sectors.as_mut_ptr(),
+            len(buffers.sectors),
+            buffers.main.as_mut_ptr(),
+            len(buffers.main),
+            buffers.xip.as_mut_ptr(),
+            len(buffers.xip),
         )
     }
 }
@@ -88,26 +83,29 @@ pub fn take_all(
     transfer: &mut [u8],
     arrivals: &[u8],
     results: &mut [u8],
-    flash: &mut [u8],
-    seen: &mut [u8],
-    sectors: &mut [u8],
+    buffers: &mut Buffers,
 ) -> usize {
-    unsafe {
+    let number = unsafe {
         ffi::uf2_take_all(
             settings.as_ptr(),
-            settings.len(),
+            len(settings),
             transfer.as_mut_ptr(),
-            transfer.len(),
+            len(transfer),
             arrivals.as_ptr(),
-            arrivals.len(),
+            len(arrivals),
             results.as_mut_ptr(),
-            results.len(),
-            flash.as_mut_ptr(),
-            flash.len(),
-            seen.as_mut_ptr(),
-            seen.len(),
-            sectors.as_mut_ptr(),
-            sectors.len(),
+            len(results),
+            buffers.flash.as_mut_ptr(),
+            len(buffers.flash),
+            buffers.seen.as_mut_ptr(),
+            len(buffers.seen),
+            buffers.sectors.as_mut_ptr(),
+            len(buffers.sectors),
+            buffers.main.as_mut_ptr(),
+            len(buffers.main),
+            buffers.xip.as_mut_ptr(),
+            len(buffers.xip),
         )
-    }
+    };
+    number as usize
 }

@@ -4,22 +4,33 @@
 //! settings, transfer, reader and length gets an answer, and nothing is allocated or kept between calls. It links
 //! `target/staticlib/libcapi.a`, which `rt staticlib capi` writes: code for x86-64 Linux.
 //!
-//! Flash is memory that can be stored to. Where flash needs a driver, lend a copy of it in memory and write it back afterwards.
+//! A block goes to flash or, where its address lies in the window of a RAM that is lent, to that RAM ([`Kind`]). Flash is memory that can be
+//! stored to. Where flash needs a driver, lend a copy of it in memory and write it back afterwards.
 //!
 //! ```
-//! use proved::{Answer, Lent, Settings, Transfer};
+//! use proved::{Answer, Buffers, Settings, Transfer};
 //!
 //! # let block = [0; proved::ARRIVAL_BYTES];
 //! let mut transfer = Transfer::new();
-//! let (mut flash, mut seen, mut sectors) =
-//!     (vec![0; 32_768], vec![0; proved::SEEN_MAP_BYTES], vec![0; proved::SECTOR_MAP_BYTES]);
-//! let mut lent = Lent { flash: &mut flash, seen: &mut seen, sectors: &mut sectors };
-//! let outcome = proved::look(&Settings::ARM, transfer, &block, &lent); // says what would happen, and changes nothing
+//! let mut buffers = Buffers {
+//!     flash: &mut vec![0; 32_768],
+//!     seen: &mut [0; proved::SEEN_MAP_BYTES],
+//!     sectors: &mut [0; proved::SECTOR_MAP_BYTES],
+//!     main: &mut vec![0; proved::MAIN_RAM_BYTES],
+//!     xip: &mut [], // a board without it
+//! };
+//! let outcome = proved::look(&Settings::ARM, transfer, &block, &buffers); // says what would happen, and changes nothing
 //! if outcome.answer.is_accepted() {
-//!     proved::take(&Settings::ARM, &mut transfer, &block, &mut lent);
+//!     proved::take(&Settings::ARM, &mut transfer, &block, &mut buffers);
 //! }
 //! assert_eq!(outcome.answer, Answer::NotBlock); // this block is all zeros
 //! ```
+//!
+//! # What a region costs
+//!
+//! A block with flag 0x4000 names a region of flash and its MD5. Each take of such a block, where it would store, hashes the region once, and a
+//! look at it once more: the time is that of the region's length, at every block of it. Name regions of a sector or of 64 KiB, and look
+//! only where it is needed.
 //!
 //! # A number that is none of the answers
 //!
@@ -38,7 +49,7 @@ pub mod tags;
 mod transfer;
 
 pub use settings::{Arch, Entry, Link, Settings, ENTRIES, SETTINGS_BYTES};
-pub use transfer::{Answer, Outcome, Transfer, TRANSFER_BYTES};
+pub use transfer::{Answer, Kind, Outcome, Transfer, TRANSFER_BYTES};
 
 /// The bytes of an arrival: a UF2 block.
 pub const ARRIVAL_BYTES: usize = 512;
@@ -50,6 +61,14 @@ pub const SECTOR_MAP_BYTES: usize = 1024;
 pub const SECTOR_BYTES: usize = 4096;
 /// The most bytes of a flash.
 pub const FLASH_MAX_BYTES: usize = 33_554_432;
+/// The bytes of the main RAM, where it is lent.
+pub const MAIN_RAM_BYTES: usize = 532_480;
+/// The address of its first byte.
+pub const MAIN_RAM_START: u32 = 0x2000_0000;
+/// The bytes of the XIP RAM, where it is lent.
+pub const XIP_RAM_BYTES: usize = 16_384;
+/// The address of its first byte.
+pub const XIP_RAM_START: u32 = 0x13ff_c000;
 
 /// The numbers of the families that have a meaning of their own; any other is a user family.
 pub mod family {
@@ -67,14 +86,19 @@ pub mod family {
     pub const ARM_NS: u32 = 0xe48b_ff5b;
 }
 
-/// What is lent with each arrival; nobody else writes it between the arrivals of a transfer.
-pub struct Lent<'a> {
+/// The buffers that are lent with each arrival; nobody else writes them between the arrivals of a transfer. A RAM that the board lacks
+/// is empty, and its addresses then lie in no window.
+pub struct Buffers<'a> {
     /// The flash: whole sectors, at most [`FLASH_MAX_BYTES`].
     pub flash: &'a mut [u8],
     /// The seen map, [`SEEN_MAP_BYTES`] long.
     pub seen: &'a mut [u8],
     /// The sector map, [`SECTOR_MAP_BYTES`] long.
     pub sectors: &'a mut [u8],
+    /// The main RAM, [`MAIN_RAM_BYTES`] long or empty.
+    pub main: &'a mut [u8],
+    /// The XIP RAM, [`XIP_RAM_BYTES`] long or empty.
+    pub xip: &'a mut [u8],
 }
 
 /// A place in the flash, in bytes.
@@ -109,15 +133,8 @@ pub fn ask(settings: &Settings, flash_len: usize, family: u32) -> Result<Place, 
 /// # Panics
 ///
 /// Where the library returns a number that is none of the answers (see the crate's page).
-pub fn look(settings: &Settings, transfer: Transfer, arrival: &[u8], lent: &Lent) -> Outcome {
-    let result = bytes::look(
-        &settings.bytes(),
-        &transfer.bytes(),
-        arrival,
-        lent.flash,
-        lent.seen,
-        lent.sectors,
-    );
+pub fn look(settings: &Settings, transfer: Transfer, arrival: &[u8], buffers: &Buffers) -> Outcome {
+    let result = bytes::look(&settings.bytes(), &transfer.bytes(), arrival, buffers);
     Outcome::from_result(result).unwrap_or_else(|| unknown(result))
 }
 
@@ -130,17 +147,10 @@ pub fn take(
     settings: &Settings,
     transfer: &mut Transfer,
     arrival: &[u8],
-    lent: &mut Lent,
+    buffers: &mut Buffers,
 ) -> Outcome {
     let mut state = transfer.bytes();
-    let result = bytes::take(
-        &settings.bytes(),
-        &mut state,
-        arrival,
-        lent.flash,
-        lent.seen,
-        lent.sectors,
-    );
+    let result = bytes::take(&settings.bytes(), &mut state, arrival, buffers);
     *transfer = Transfer::handed_back(&state);
     Outcome::from_result(result).unwrap_or_else(|| unknown(result))
 }
@@ -156,18 +166,10 @@ pub fn take_all(
     transfer: &mut Transfer,
     arrivals: &[u8],
     results: &mut [u8],
-    lent: &mut Lent,
+    buffers: &mut Buffers,
 ) -> usize {
     let mut state = transfer.bytes();
-    let number = bytes::take_all(
-        &settings.bytes(),
-        &mut state,
-        arrivals,
-        results,
-        lent.flash,
-        lent.seen,
-        lent.sectors,
-    );
+    let number = bytes::take_all(&settings.bytes(), &mut state, arrivals, results, buffers);
     *transfer = Transfer::handed_back(&state);
     number
 }

@@ -22,49 +22,52 @@ use core::fmt;
 mod ffi {
     //! The functions of libtagsapi.a. A slice is a pointer and then a length.
 
+    pub use crate::ffi::{len, Len};
+
     extern "C" {
-        pub fn uf2_tag_first(block: *const u8, block_len: usize) -> usize;
+        pub fn uf2_tag_first(block: *const u8, block_len: Len) -> Len;
 
         pub fn uf2_tag(
             block: *const u8,
-            block_len: usize,
-            place: usize,
+            block_len: Len,
+            place: Len,
             tag: *mut u8,
-            tag_len: usize,
+            tag_len: Len,
         ) -> u32;
 
         pub fn uf2_tag_find(
             block: *const u8,
-            block_len: usize,
+            block_len: Len,
             kind: u32,
             tag: *mut u8,
-            tag_len: usize,
+            tag_len: Len,
         ) -> u32;
     }
 }
 
 /// The calls as they are, for a tag that is bytes already, of any length. What the library returns is handed on as it is.
 pub mod bytes {
-    use super::ffi;
+    use super::ffi::{self, len, Len};
 
     /// The bytes of a tag: type, start, length and next place, 32 bits each, the lowest byte first.
     pub const TAG_BYTES: usize = 16;
 
     /// The place of a block's first tag.
     pub fn first_place(block: &[u8]) -> usize {
-        unsafe { ffi::uf2_tag_first(block.as_ptr(), block.len()) }
+        let place = unsafe { ffi::uf2_tag_first(block.as_ptr(), len(block)) };
+        place as usize
     }
 
     /// 0 and the tag at a place in the [`TAG_BYTES`] of `tag`; or the number of the end or of a refusal, and `tag` stays.
     pub fn tag_at(block: &[u8], place: usize, tag: &mut [u8]) -> u32 {
-        let (at, len) = (tag.as_mut_ptr(), tag.len());
-        unsafe { ffi::uf2_tag(block.as_ptr(), block.len(), place, at, len) }
+        let (at, size, place) = (tag.as_mut_ptr(), len(tag), place as Len);
+        unsafe { ffi::uf2_tag(block.as_ptr(), len(block), place, at, size) }
     }
 
     /// 0 and the first tag of a type in the [`TAG_BYTES`] of `tag`; or the number of the end or of a refusal, and `tag` stays.
     pub fn find(block: &[u8], kind: u32, tag: &mut [u8]) -> u32 {
-        let (at, len) = (tag.as_mut_ptr(), tag.len());
-        unsafe { ffi::uf2_tag_find(block.as_ptr(), block.len(), kind, at, len) }
+        let (at, size) = (tag.as_mut_ptr(), len(tag));
+        unsafe { ffi::uf2_tag_find(block.as_ptr(), len(block), kind, at, size) }
     }
 }
 

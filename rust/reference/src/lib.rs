@@ -1,6 +1,7 @@
 //! The update receiver, written from the papers alone so that it can be
 //! compared with another implementation: UF2 arrivals here, lines of Universal
-//! Hex in [`hex`].
+//! Hex in [`hex`]. Around them stand files to be made ([`make`], [`join`]), the
+//! tags of a block ([`tags`]) and stored settings ([`store`]).
 //!
 //! Each arrival gets one of the answers of document 01 and of the requests in
 //! 02. Every function is total: no input makes it panic, and a refusal leaves
@@ -18,8 +19,8 @@ pub mod tags;
 mod tests;
 
 pub use place::{
-    ask_place, place_of, settings_good, Arch, Entry, Link, Settings, ABSOLUTE, ARM_NS, ARM_S, DATA,
-    MAX_ENTRIES, MAX_USERS, RISCV, RP2040,
+    ask_place, place_of, ram_accepts, settings_good, Arch, Entry, Link, Settings, ABSOLUTE, ARM_NS,
+    ARM_S, DATA, MAX_ENTRIES, MAX_USERS, RISCV, RP2040,
 };
 
 pub const ARRIVAL_LEN: usize = 512;
@@ -30,8 +31,14 @@ pub const SEEN_LEN: usize = 16_384;
 pub const SECTORS_LEN: usize = 1024;
 /// The largest total: the payloads that fill the largest flash.
 pub const MAX_TOTAL: u32 = 131_072;
-/// The block address that means the start of the place.
+/// The block address that means the start of the place; the window is as long
+/// as the largest flash.
 pub const WINDOW: u32 = 0x1000_0000;
+/// The RAM windows, each with the length of its buffer.
+pub const MAIN_WINDOW: u32 = 0x2000_0000;
+pub const MAIN_LEN: usize = 532_480;
+pub const XIP_WINDOW: u32 = 0x13ff_c000;
+pub const XIP_LEN: usize = 16_384;
 
 pub const BAD_BUFFERS: u8 = 1;
 pub const BAD_SETTINGS: u8 = 2;
@@ -48,6 +55,7 @@ pub const AGAIN: u8 = 13;
 pub const WRITTEN: u8 = 14;
 pub const COMPLETED: u8 = 15;
 pub const NOTED: u8 = 16;
+pub const KEPT: u8 = 17;
 
 const MAGIC_FIRST: u32 = 0x0A32_4655;
 const MAGIC_SECOND: u32 = 0x9E5D_5157;
@@ -56,13 +64,35 @@ const MAGIC_LAST: u32 = 0x0AB1_6F30;
 const FLAG_NOT_MAIN_FLASH: u32 = 0x1;
 const FLAG_CONTAINER: u32 = 0x1000;
 const FLAG_FAMILY: u32 = 0x2000;
+const FLAG_MD5: u32 = 0x4000;
+
+/// Where a block's data lies, and in the data the region with its digest.
+const DATA_AT: std::ops::Range<usize> = 32..508;
+const REGION_AT: std::ops::Range<usize> = 452..476;
+
+/// What a transfer goes to.
+#[derive(Clone, Copy, PartialEq, Eq, Debug)]
+pub enum Kind {
+    Flash,
+    MainRam,
+    XipRam,
+}
 
 /// How far the transfer is; `count` is the number of different blocks accepted.
 #[derive(Clone, Copy, PartialEq, Eq, Debug)]
 pub enum Transfer {
     Idle,
-    Running { family: u32, total: u32, count: u32 },
-    Done { family: u32, total: u32 },
+    Running {
+        family: u32,
+        total: u32,
+        count: u32,
+        kind: Kind,
+    },
+    Done {
+        family: u32,
+        total: u32,
+        kind: Kind,
+    },
 }
 
 /// What comes back with each arrival.
@@ -81,22 +111,66 @@ struct Block<'a> {
     number: u32,
     total: u32,
     family: u32,
-    payload: &'a [u8],
+    data: &'a [u8],
+}
+
+/// The region of flash that a block names, with the digest that makes storing
+/// the block needless.
+struct Region<'a> {
+    start: u32,
+    len: u32,
+    digest: &'a [u8],
 }
 
 impl Block<'_> {
     fn is_comment(&self) -> bool {
         self.flags & FLAG_NOT_MAIN_FLASH != 0
     }
+
+    fn payload(&self) -> &[u8] {
+        &self.data[..PAYLOAD_LEN]
+    }
+
+    fn region(&self) -> Option<Region<'_>> {
+        if self.flags & FLAG_MD5 == 0 {
+            return None;
+        }
+        let bytes = &self.data[REGION_AT];
+        Some(Region {
+            start: field(bytes, 0),
+            len: field(bytes, 4),
+            digest: &bytes[8..],
+        })
+    }
 }
 
 type Arrival = [u8; ARRIVAL_LEN];
 
+/// All that the caller lends, to be read.
+#[derive(Clone, Copy)]
+struct Lent<'a> {
+    flash: &'a [u8],
+    seen: &'a [u8],
+    sectors: &'a [u8],
+    main: &'a [u8],
+    xip: &'a [u8],
+}
+
+/// What becomes of a block's payload.
+enum Effect {
+    /// A comment has none to store.
+    Note,
+    /// It goes there in the kind's buffer.
+    Store(usize),
+    /// It is in flash already.
+    Keep,
+}
+
 /// What taking an arrival does, for one that no row refuses.
 struct Plan<'a> {
     block: Block<'a>,
-    /// Where in flash the payload goes; a comment's goes nowhere.
-    storage: Option<usize>,
+    kind: Kind,
+    effect: Effect,
     /// Whether both maps are cleared first.
     clears: bool,
     discarded: bool,
@@ -106,6 +180,7 @@ struct Plan<'a> {
 
 /// Says what taking the arrival would answer and whether it would discard, and
 /// changes nothing.
+#[allow(clippy::too_many_arguments)]
 pub fn look(
     s: &Settings,
     t: Transfer,
@@ -113,15 +188,26 @@ pub fn look(
     flash: &[u8],
     seen: &[u8],
     sectors: &[u8],
+    main: &[u8],
+    xip: &[u8],
 ) -> (u8, bool) {
-    match plan(s, t, arrival, flash, seen, sectors) {
+    let lent = Lent {
+        flash,
+        seen,
+        sectors,
+        main,
+        xip,
+    };
+    match plan(s, t, arrival, lent) {
         Ok(plan) => (plan.answer(), plan.discarded),
         Err(answer) => (answer, false),
     }
 }
 
 /// Takes one arrival: judges it, with every check that a look makes, and stores
-/// its payload if nothing refuses it.
+/// its payload if nothing refuses it. A RAM buffer is empty where the board
+/// lacks it.
+#[allow(clippy::too_many_arguments)]
 pub fn take(
     s: &Settings,
     t: Transfer,
@@ -129,10 +215,19 @@ pub fn take(
     flash: &mut [u8],
     seen: &mut [u8],
     sectors: &mut [u8],
+    main: &mut [u8],
+    xip: &mut [u8],
 ) -> Outcome {
-    match plan(s, t, arrival, flash, seen, sectors) {
+    let lent = Lent {
+        flash,
+        seen,
+        sectors,
+        main,
+        xip,
+    };
+    match plan(s, t, arrival, lent) {
         Ok(plan) => {
-            plan.carry_out(flash, seen, sectors);
+            plan.carry_out(flash, seen, sectors, main, xip);
             Outcome {
                 transfer: plan.transfer(),
                 answer: plan.answer(),
@@ -149,49 +244,81 @@ pub fn take(
 
 /// Rows 1 to 13 in order, as far as they apply: what is to be done, or the
 /// refusal.
-fn plan<'a>(
-    s: &Settings,
-    t: Transfer,
-    arrival: &'a [u8],
-    flash: &[u8],
-    seen: &[u8],
-    sectors: &[u8],
-) -> Result<Plan<'a>, u8> {
+fn plan<'a>(s: &Settings, t: Transfer, arrival: &'a [u8], lent: Lent) -> Result<Plan<'a>, u8> {
     let arrival = <&Arrival>::try_from(arrival).map_err(|_| BAD_BUFFERS)?;
-    if !flash_len_good(flash.len()) || seen.len() != SEEN_LEN || sectors.len() != SECTORS_LEN {
+    if !lent.lengths_good() {
         return Err(BAD_BUFFERS);
     }
-    if !settings_good(s, flash.len()) {
+    if !settings_good(s, lent.flash.len()) {
         return Err(BAD_SETTINGS);
     }
+    // Row 3 asks nothing of the kind: its limit of 131,072 stands for RAM too,
+    // though no RAM window has room for as many.
     if !state_good(t) {
         return Err(BAD_STATE);
     }
     let block = read_block(arrival).ok_or(NOT_BLOCK)?;
     check_flags(block.flags)?;
-    let (start, len) = place_of(s, flash.len(), block.family).ok_or(NO_PLACE)?;
-    let storage = if block.is_comment() {
-        check_numbers(&block, len)?;
-        None
-    } else {
+    let (kind, place, offset) = if block.is_comment() {
+        let kind = comment_kind(&block, t, lent);
+        let place = place_in(kind, s, block.family, lent)?;
+        check_numbers(&block, place)?;
+        (kind, place, None)
+    } else if let Some(kind) = kind_at(block.address, lent) {
+        let place = place_in(kind, s, block.family, lent)?;
         check_payload(&block)?;
-        check_numbers(&block, len)?;
-        Some(start + check_address(&block, len)?)
+        check_numbers(&block, place)?;
+        (kind, place, Some(check_address(&block, kind, place)?))
+    } else {
+        // "For an address in no window check 8 is flash's, and 11 comes before
+        // 10": 9 keeps its place after 8, and nothing gets past 11.
+        place_in(Kind::Flash, s, block.family, lent)?;
+        check_payload(&block)?;
+        return Err(BAD_ADDRESS);
     };
     if matches!(t, Transfer::Done { .. }) {
         return Err(FINISHED);
     }
-    let continued = counted(t, block.family, block.total);
-    if continued.is_some() && marked(seen, block.number as usize) {
+    let continued = counted(t, block.family, block.total, kind);
+    if continued.is_some() && marked(lent.seen, block.number as usize) {
         return Err(AGAIN);
     }
+    // The block would be 14 or 15 now, or 16.
+    let effect = match offset {
+        None => Effect::Note,
+        Some(offset) if kind == Kind::Flash && is_kept(&block, place, offset, lent.flash) => {
+            Effect::Keep
+        }
+        Some(offset) => Effect::Store(place.start + offset),
+    };
     Ok(Plan {
         block,
-        storage,
+        kind,
+        effect,
         clears: continued.is_none(),
         discarded: continued.is_none() && matches!(t, Transfer::Running { .. }),
         count: continued.unwrap_or(0) + 1,
     })
+}
+
+impl Lent<'_> {
+    /// A RAM buffer has its window's length, or none.
+    fn lengths_good(self) -> bool {
+        flash_len_good(self.flash.len())
+            && self.seen.len() == SEEN_LEN
+            && self.sectors.len() == SECTORS_LEN
+            && matches!(self.main.len(), 0 | MAIN_LEN)
+            && matches!(self.xip.len(), 0 | XIP_LEN)
+    }
+
+    /// Whether the kind's buffer is there at all; flash always is.
+    fn has(self, kind: Kind) -> bool {
+        match kind {
+            Kind::Flash => true,
+            Kind::MainRam => !self.main.is_empty(),
+            Kind::XipRam => !self.xip.is_empty(),
+        }
+    }
 }
 
 impl Plan<'_> {
@@ -200,34 +327,53 @@ impl Plan<'_> {
     }
 
     fn answer(&self) -> u8 {
-        if self.completes() {
-            COMPLETED
-        } else if self.storage.is_some() {
-            WRITTEN
-        } else {
-            NOTED
+        match self.effect {
+            _ if self.completes() => COMPLETED,
+            Effect::Store(_) => WRITTEN,
+            Effect::Note => NOTED,
+            Effect::Keep => KEPT,
         }
     }
 
     fn transfer(&self) -> Transfer {
-        let (family, total) = (self.block.family, self.block.total);
+        let (family, total, kind) = (self.block.family, self.block.total, self.kind);
         if self.completes() {
-            return Transfer::Done { family, total };
+            return Transfer::Done {
+                family,
+                total,
+                kind,
+            };
         }
         Transfer::Running {
             family,
             total,
             count: self.count,
+            kind,
         }
     }
 
-    fn carry_out(&self, flash: &mut [u8], seen: &mut [u8], sectors: &mut [u8]) {
+    fn carry_out(
+        &self,
+        flash: &mut [u8],
+        seen: &mut [u8],
+        sectors: &mut [u8],
+        main: &mut [u8],
+        xip: &mut [u8],
+    ) {
         if self.clears {
             seen.fill(0);
             sectors.fill(0);
         }
-        if let Some(storage) = self.storage {
-            store(self.block.payload, storage, flash, sectors);
+        if let Effect::Store(at) = self.effect {
+            let buffer = match self.kind {
+                Kind::Flash => {
+                    erase(at / SECTOR_LEN, flash, sectors);
+                    flash
+                }
+                Kind::MainRam => main,
+                Kind::XipRam => xip,
+            };
+            buffer[at..at + PAYLOAD_LEN].copy_from_slice(self.block.payload());
         }
         mark(seen, self.block.number as usize);
     }
@@ -246,14 +392,7 @@ fn state_good(t: Transfer) -> bool {
 }
 
 fn read_block(arrival: &Arrival) -> Option<Block<'_>> {
-    let field = |at: usize| {
-        u32::from_le_bytes([
-            arrival[at],
-            arrival[at + 1],
-            arrival[at + 2],
-            arrival[at + 3],
-        ])
-    };
+    let field = |at| field(arrival, at);
     if field(0) != MAGIC_FIRST || field(4) != MAGIC_SECOND || field(508) != MAGIC_LAST {
         return None;
     }
@@ -264,8 +403,13 @@ fn read_block(arrival: &Arrival) -> Option<Block<'_>> {
         number: field(20),
         total: field(24),
         family: field(28),
-        payload: &arrival[32..32 + PAYLOAD_LEN],
+        data: &arrival[DATA_AT],
     })
+}
+
+/// The little-endian field at that offset.
+fn field(bytes: &[u8], at: usize) -> u32 {
+    u32::from_le_bytes([bytes[at], bytes[at + 1], bytes[at + 2], bytes[at + 3]])
 }
 
 /// Rows 5 and 7. A container is one whether or not it is also a comment.
@@ -279,6 +423,58 @@ fn check_flags(flags: u32) -> Result<(), u8> {
     }
 }
 
+/// The kind of a data block, unless its address is in no window. A RAM window
+/// is one only where its buffer is lent.
+fn kind_at(address: u32, lent: Lent) -> Option<Kind> {
+    let kinds = [Kind::Flash, Kind::MainRam, Kind::XipRam];
+    kinds.into_iter().find(|&kind| {
+        let (start, len) = window_of(kind);
+        let offset = address.checked_sub(start);
+        lent.has(kind) && offset.is_some_and(|offset| (offset as usize) < len)
+    })
+}
+
+/// Start and length of the kind's window.
+fn window_of(kind: Kind) -> (u32, usize) {
+    match kind {
+        Kind::Flash => (WINDOW, MAX_FLASH_LEN),
+        Kind::MainRam => (MAIN_WINDOW, MAIN_LEN),
+        Kind::XipRam => (XIP_WINDOW, XIP_LEN),
+    }
+}
+
+/// "A comment with the running transfer's family and total takes its kind,
+/// unless that kind's buffer is empty; any other is flash", that of a Done
+/// transfer too.
+fn comment_kind(block: &Block, t: Transfer, lent: Lent) -> Kind {
+    match t {
+        Transfer::Running {
+            family,
+            total,
+            kind,
+            ..
+        } if (family, total) == (block.family, block.total) && lent.has(kind) => kind,
+        _ => Kind::Flash,
+    }
+}
+
+/// The family's part of the kind's buffer; in RAM it is the whole.
+#[derive(Clone, Copy)]
+struct Place {
+    start: usize,
+    len: usize,
+}
+
+/// Row 8.
+fn place_in(kind: Kind, s: &Settings, family: u32, lent: Lent) -> Result<Place, u8> {
+    let place = match kind {
+        Kind::Flash => place_of(s, lent.flash.len(), family),
+        Kind::MainRam | Kind::XipRam => ram_accepts(s, family).then(|| (0, window_of(kind).1)),
+    };
+    let (start, len) = place.ok_or(NO_PLACE)?;
+    Ok(Place { start, len })
+}
+
 /// Row 9, which a comment skips.
 fn check_payload(block: &Block) -> Result<(), u8> {
     if block.size as usize == PAYLOAD_LEN {
@@ -288,49 +484,74 @@ fn check_payload(block: &Block) -> Result<(), u8> {
     }
 }
 
-/// Row 10, for a place of `len` bytes.
-fn check_numbers(block: &Block, len: usize) -> Result<(), u8> {
+/// Row 10.
+fn check_numbers(block: &Block, place: Place) -> Result<(), u8> {
     // 64 bits, since the product may pass 32.
     let needed = u64::from(block.total) * PAYLOAD_LEN as u64;
-    if block.total == 0 || needed > len as u64 || block.number >= block.total {
+    if block.total == 0 || needed > place.len as u64 || block.number >= block.total {
         return Err(BAD_NUMBERS);
     }
     Ok(())
 }
 
-/// Row 11, which a comment skips: the payload's offset in a place of `len`
-/// bytes.
-fn check_address(block: &Block, len: usize) -> Result<usize, u8> {
-    let offset = block.address.checked_sub(WINDOW).ok_or(BAD_ADDRESS)?;
-    let size = PAYLOAD_LEN as u64;
-    // 64 bits, since the sum may pass 32. WINDOW is itself a multiple of 256,
-    // so offset and address agree on that.
-    if u64::from(offset) % size != 0 || u64::from(offset) + size > len as u64 {
+/// Row 11, which a comment skips, for an address in the kind's window: the
+/// payload's offset in the place.
+fn check_address(block: &Block, kind: Kind, place: Place) -> Result<usize, u8> {
+    let (start, _) = window_of(kind);
+    let offset = block.address.checked_sub(start).ok_or(BAD_ADDRESS)? as usize;
+    // WINDOW is itself a multiple of 256, so offset and address agree on that.
+    // RAM goes by byte address.
+    let aligned = kind != Kind::Flash || offset.is_multiple_of(PAYLOAD_LEN);
+    // An offset in a window is far from where the sum would wrap.
+    if !aligned || offset + PAYLOAD_LEN > place.len {
         return Err(BAD_ADDRESS);
     }
-    Ok(offset as usize)
+    Ok(offset)
 }
 
-/// The count of a transfer that a block of this family and total goes on with.
-fn counted(t: Transfer, family: u32, total: u32) -> Option<u32> {
+/// The count of a transfer that a block of this family, total and kind goes on
+/// with.
+fn counted(t: Transfer, family: u32, total: u32, kind: Kind) -> Option<u32> {
     match t {
         Transfer::Running {
             family: f,
             total: n,
             count,
-        } if (f, n) == (family, total) => Some(count),
+            kind: k,
+        } if (f, n, k) == (family, total, kind) => Some(count),
         _ => None,
     }
 }
 
-/// Stores the payload, erasing its sector only the first time it is touched.
-fn store(payload: &[u8], storage: usize, flash: &mut [u8], sectors: &mut [u8]) {
-    let sector = storage / SECTOR_LEN;
+/// Whether flash has what the block's region says, for a data block with that
+/// offset in its place: the region has to be whole sectors, not empty, within
+/// the place and around the block.
+fn is_kept(block: &Block, place: Place, offset: usize, flash: &[u8]) -> bool {
+    let Some(region) = block.region() else {
+        return false;
+    };
+    // Like a block's address, the region's start counts from the window's. A
+    // place begins with a sector, so that sectors of the one are sectors of
+    // the other.
+    let Some(start) = region.start.checked_sub(WINDOW) else {
+        return false;
+    };
+    let (start, len) = (start as usize, region.len as usize);
+    let whole = start.is_multiple_of(SECTOR_LEN) && len.is_multiple_of(SECTOR_LEN);
+    let Some(end) = start.checked_add(len).filter(|&end| end <= place.len) else {
+        return false;
+    };
+    // A region around the block isn't empty.
+    let around = start <= offset && offset + PAYLOAD_LEN <= end;
+    whole && around && md5::md5(&flash[place.start + start..place.start + end]) == region.digest
+}
+
+/// Erases the sector the first time that it is touched.
+fn erase(sector: usize, flash: &mut [u8], sectors: &mut [u8]) {
     if !marked(sectors, sector) {
         flash[sector * SECTOR_LEN..(sector + 1) * SECTOR_LEN].fill(0xFF);
         mark(sectors, sector);
     }
-    flash[storage..storage + PAYLOAD_LEN].copy_from_slice(payload);
 }
 
 /// Bits are counted from the most significant of each byte.

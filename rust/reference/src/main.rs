@@ -45,6 +45,8 @@ fn run(mut input: impl Read, mut output: impl Write) -> io::Result<()> {
             &mut flash,
             &mut seen,
             &mut sectors,
+            &mut [],
+            &mut [],
         );
         transfer = outcome.transfer;
         let discarded = u8::from(outcome.discarded);

@@ -171,6 +171,14 @@ pub fn place_of(s: &Settings, flash_len: usize, family: u32) -> Option<(usize, u
     }
 }
 
+/// Whether the family may go to RAM: one of 004's reserved range, or a user
+/// family of a used entry. That the entry is "B of" another, or that an
+/// architecture is off, doesn't matter.
+pub fn ram_accepts(s: &Settings, family: u32) -> bool {
+    (DATA..=ARM_NS).contains(&family)
+        || s.used().iter().any(|entry| entry.users().contains(&family))
+}
+
 /// Good settings stay far below saturation, even where `usize` has 32 bits.
 fn bytes(sectors: u32) -> usize {
     (sectors as usize).saturating_mul(SECTOR_LEN)

@@ -1,15 +1,23 @@
 //! The functions of libtoolsapi.a (include/uf2_tools.h). A slice is a pointer and then a length.
 
+/// A length as the library takes it (`uf2_len`): 64 bits on every machine.
+pub type Len = u64;
+
+/// The length of a slice.
+pub const fn len(bytes: &[u8]) -> Len {
+    bytes.len() as Len
+}
+
 extern "C" {
-    pub fn uf2_make_check(image_len: usize, start: u32, output_len: usize) -> u32;
+    pub fn uf2_make_check(image_len: Len, start: u32, output_len: Len) -> u32;
 
     pub fn uf2_make(
         image: *const u8,
-        image_len: usize,
+        image_len: Len,
         family: u32,
         start: u32,
         output: *mut u8,
-        output_len: usize,
+        output_len: Len,
     ) -> u32;
 
     pub fn uf2_make_block(
@@ -18,10 +26,10 @@ extern "C" {
         total: u32,
         family: u32,
         page: *const u8,
-        page_len: usize,
+        page_len: Len,
         block: *mut u8,
-        block_len: usize,
+        block_len: Len,
     );
 
-    pub fn uf2_md5(bytes: *const u8, bytes_len: usize, digest: *mut u8, digest_len: usize);
+    pub fn uf2_md5(bytes: *const u8, bytes_len: Len, digest: *mut u8, digest_len: Len);
 }

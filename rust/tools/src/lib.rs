@@ -16,6 +16,8 @@
 
 mod ffi;
 
+use ffi::{len, Len};
+
 /// The bytes of a page of an image.
 pub const PAGE_BYTES: usize = 256;
 /// The bytes of a block of a file.
@@ -63,7 +65,7 @@ fn result(number: u32, image_len: usize) -> Result<usize, MakeRefusal> {
 /// How many blocks [`make`] would write for an image of so many bytes, or its refusal.
 pub fn check(image_len: usize, start: u32, output_len: usize) -> Result<usize, MakeRefusal> {
     // SAFETY: the call takes numbers alone.
-    let number = unsafe { ffi::uf2_make_check(image_len, start, output_len) };
+    let number = unsafe { ffi::uf2_make_check(image_len as Len, start, output_len as Len) };
     result(number, image_len)
 }
 
@@ -79,11 +81,11 @@ pub fn make(
     let number = unsafe {
         ffi::uf2_make(
             image.as_ptr(),
-            image.len(),
+            len(image),
             family,
             start,
             output.as_mut_ptr(),
-            output.len(),
+            len(output),
         )
     };
     result(number, image.len())
@@ -112,9 +114,9 @@ pub fn write_block(fields: Fields, page: &[u8; PAGE_BYTES], block: &mut [u8; BLO
             fields.total,
             fields.family,
             page.as_ptr(),
-            page.len(),
+            len(page),
             block.as_mut_ptr(),
-            block.len(),
+            len(block),
         );
     }
 }
@@ -126,9 +128,9 @@ pub fn md5(bytes: &[u8]) -> [u8; MD5_BYTES] {
     unsafe {
         ffi::uf2_md5(
             bytes.as_ptr(),
-            bytes.len(),
+            len(bytes),
             digest.as_mut_ptr(),
-            digest.len(),
+            len(&digest),
         );
     }
     digest

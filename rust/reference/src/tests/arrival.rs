@@ -9,6 +9,7 @@ fn running(total: u32, count: u32) -> Transfer {
         family: ARM_S,
         total,
         count,
+        kind: Kind::Flash,
     }
 }
 
@@ -16,6 +17,7 @@ fn done(total: u32) -> Transfer {
     Transfer::Done {
         family: ARM_S,
         total,
+        kind: Kind::Flash,
     }
 }
 
@@ -356,9 +358,11 @@ fn answers_ignore_flash_and_sector_map() {
 fn any_fields(random: &mut Random) -> Fields {
     let small = [0, 1, 2, 3, 3, 3, 3, 16, 131_072, 1 << 24, u32::MAX];
     let offset = random.pick(&[0, 256, 0xF00, 0x1000, 0x8000, 1, 0xEFFF_FF00]);
+    let flash = 0x1000_0000;
+    let base: u32 = random.pick(&[flash, flash, 0x0FFF_FF00, 0x13FF_C000, 0x2000_0000]);
     Fields {
         flags: random.pick(&[0x2000, 0x2000, 0x2000, 0xE000, 0x3000, 0x2001, 1, 0]),
-        address: random.pick(&[0x1000_0000, 0x1000_0000, 0x0FFF_FF00]) + offset,
+        address: base.wrapping_add(offset),
         size: random.pick(&[256, 256, 256, 256, 255]),
         number: random.pick(&small),
         total: random.pick(&small),
@@ -372,13 +376,19 @@ fn any_transfer(random: &mut Random) -> Transfer {
     let family = random.pick(&[ARM_S, DATA]);
     let total = random.pick(&numbers);
     let count = random.pick(&[1, 1, 2, 3, 0, total, u32::MAX]);
+    let kind = random.pick(&[Kind::Flash, Kind::Flash, Kind::MainRam, Kind::XipRam]);
     match random.below(4) {
         0 => Transfer::Idle,
-        1 => Transfer::Done { family, total },
+        1 => Transfer::Done {
+            family,
+            total,
+            kind,
+        },
         _ => Transfer::Running {
             family,
             total,
             count,
+            kind,
         },
     }
 }
@@ -395,15 +405,29 @@ fn anything_gets_an_answer_and_stays_in_its_place() {
         };
         let mut bench = Bench::new(s, random.pick(&[32_768, 32_768, 32_768, 4096, 100]));
         bench.transfer = any_transfer(&mut random);
+        if random.yes() {
+            bench.xip = vec![0xA7; XIP_LEN];
+        }
+        if random.below(40) == 0 {
+            bench.main = vec![0xA7; MAIN_LEN];
+        }
         let block = any_fields(&mut random);
         let mut bytes = arrival(block);
         bytes[508] ^= u8::from(random.below(20) == 0);
         let (answer, _) = bench.send(&bytes);
         answers[usize::from(answer)] += 1;
-        if answer >= WRITTEN {
+        let kind = match bench.transfer {
+            Transfer::Running { kind, .. } | Transfer::Done { kind, .. } => Some(kind),
+            Transfer::Idle => None,
+        };
+        let untouched = |bytes: &[u8]| bytes.iter().all(|&b| b == 0xA7);
+        assert!(kind == Some(Kind::MainRam) || untouched(&bench.main));
+        assert!(kind == Some(Kind::XipRam) || untouched(&bench.xip));
+        assert!(kind == Some(Kind::Flash) || untouched(&bench.flash));
+        if answer >= WRITTEN && kind == Some(Kind::Flash) {
             let (start, len) = ask_place(&s, bench.flash.len(), block.family).unwrap();
-            assert!(bench.flash[..start].iter().all(|&b| b == 0xA7));
-            assert!(bench.flash[start + len..].iter().all(|&b| b == 0xA7));
+            assert!(untouched(&bench.flash[..start]));
+            assert!(untouched(&bench.flash[start + len..]));
         }
     }
     for (answer, &n) in answers.iter().enumerate() {

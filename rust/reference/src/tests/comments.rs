@@ -19,6 +19,7 @@ fn running(total: u32, count: u32) -> Transfer {
         family: ARM_S,
         total,
         count,
+        kind: Kind::Flash,
     }
 }
 
@@ -60,6 +61,7 @@ fn a_file_with_comments_finishes() {
     let done = Transfer::Done {
         family: ARM_S,
         total: 4,
+        kind: Kind::Flash,
     };
     assert_eq!(bench.transfer, done);
     assert_eq!(marks(&bench.seen), [0, 1, 2, 3]);

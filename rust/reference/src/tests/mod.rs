@@ -4,8 +4,11 @@ mod arrival;
 mod comments;
 mod hex;
 mod hex_file;
+mod kept;
 mod list;
+mod made;
 mod place;
+mod ram;
 mod storing;
 
 use crate::*;
@@ -100,10 +103,13 @@ struct Bench {
     flash: Vec<u8>,
     seen: Vec<u8>,
     sectors: Vec<u8>,
+    main: Vec<u8>,
+    xip: Vec<u8>,
 }
 
 impl Bench {
-    /// Flash and maps hold old content, which a first block has to replace.
+    /// Flash and maps hold old content, which a first block has to replace; the
+    /// board has no RAM to load.
     fn new(settings: Settings, flash_len: usize) -> Bench {
         Bench {
             settings,
@@ -111,6 +117,16 @@ impl Bench {
             flash: vec![0xA7; flash_len],
             seen: vec![0xA7; SEEN_LEN],
             sectors: vec![0xA7; SECTORS_LEN],
+            main: vec![],
+            xip: vec![],
+        }
+    }
+
+    fn with_ram(settings: Settings, flash_len: usize) -> Bench {
+        Bench {
+            main: vec![0xA7; MAIN_LEN],
+            xip: vec![0xA7; XIP_LEN],
+            ..Bench::new(settings, flash_len)
         }
     }
 
@@ -122,6 +138,8 @@ impl Bench {
             &self.flash,
             &self.seen,
             &self.sectors,
+            &self.main,
+            &self.xip,
         )
     }
 
@@ -133,6 +151,8 @@ impl Bench {
             &mut self.flash,
             &mut self.seen,
             &mut self.sectors,
+            &mut self.main,
+            &mut self.xip,
         );
         self.transfer = outcome.transfer;
         outcome

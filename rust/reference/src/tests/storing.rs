@@ -15,6 +15,7 @@ fn example_total_1() {
     let done = Transfer::Done {
         family: ARM_S,
         total: 1,
+        kind: Kind::Flash,
     };
     assert_eq!(bench.transfer, done);
     assert!(all(&bench.flash[..256], 0x5A));
@@ -126,6 +127,7 @@ fn example_another_total_discards() {
         family: ARM_S,
         total: 4,
         count: 1,
+        kind: Kind::Flash,
     };
     assert_eq!(bench.transfer, running);
     assert_eq!(marks(&bench.seen), [1]);
@@ -150,6 +152,7 @@ fn another_family_discards_and_its_sectors_are_erased_anew() {
         family: DATA,
         total: 3,
         count: 1,
+        kind: Kind::Flash,
     };
     assert_eq!(bench.transfer, running);
     assert_eq!(marks(&bench.seen), [1]);
@@ -163,6 +166,7 @@ fn a_discard_can_complete_at_once() {
     let done = Transfer::Done {
         family: ARM_S,
         total: 1,
+        kind: Kind::Flash,
     };
     assert_eq!(bench.transfer, done);
 }
