@@ -4,18 +4,17 @@
  * nothing but memcpy and memset, allocates nothing and keeps nothing between calls, so that calls on different buffers may run at the
  * same time. A call needs at most UF2_STACK_SIZE bytes of stack (measured: docs/BENCHMARKS.md).
  *
- * A slice is a pointer to bytes and then their number, and no function keeps a pointer. A pointer is never null, also of an empty
- * slice, and points to as many bytes as the number says; it may have any alignment. Slices that a function writes (no `const`) overlap
- * no other slice of the call. Flash is memory that can be stored to: an erase sets 4,096 bytes to 0xFF, a payload is copied to its
- * place. Where flash needs a driver, lend a copy of it in memory and write it back afterwards.
+ * A slice is a pointer to bytes and then their number (`uf2_len`, 64 bits), and no function keeps a pointer. A pointer is never null,
+ * also of an empty slice, and points to as many bytes as the number says; it may have any alignment. Slices that a function writes (no
+ * `const`) overlap no other slice of the call. Flash is memory that can be stored to: an erase sets 4,096 bytes to 0xFF, a payload is
+ * copied to its place. Where flash needs a driver, lend a copy of it in memory and write it back afterwards.
  *
  * Names: `.._SIZE` is a number of bytes, `.._AT` the offset of a byte in a slice, `UF2_ANSWER_..` and `UHEX_ANSWER_..` what a call says,
- * `UF2_STATE_..` and `UHEX_STATE_..` where a transfer or a reader stands. */
+ * `UF2_STATE_..` and `UHEX_STATE_..` where a transfer or a reader stands, `UF2_KIND_..` what a transfer writes to. */
 #ifndef UF2_RECEIVER_H
 #define UF2_RECEIVER_H
 
-#include <stddef.h>
-#include <stdint.h>
+#include "uf2_len.h"
 
 #ifdef __cplusplus
 extern "C" {
@@ -29,6 +28,25 @@ extern "C" {
 #define UF2_SECTOR_MAP_SIZE 1024
 #define UF2_SECTOR_SIZE 4096
 #define UF2_FLASH_MAX_SIZE 33554432
+
+/* RAM images are handled: a block whose address lies in a RAM window is stored in the buffer of that RAM, from byte (address - .._START) on.
+ * A board that has the RAM lends exactly .._SIZE bytes for it. A board that lacks it lends an empty slice: any pointer but null, and the
+ * length 0. Its addresses then lie in no window, and no block there is ever accepted. Any other length of a RAM buffer is
+ * UF2_ANSWER_BAD_BUFFERS, for every arrival, those for flash too. */
+#define UF2_MAIN_RAM_SIZE 532480
+#define UF2_XIP_RAM_SIZE 16384
+
+/* The windows: addresses from .._START up to, not including, .._END. That of flash is the same for every length of flash. */
+#define UF2_FLASH_START 0x10000000u
+#define UF2_FLASH_END 0x12000000u
+#define UF2_MAIN_RAM_START 0x20000000u
+#define UF2_MAIN_RAM_END 0x20082000u
+#define UF2_XIP_RAM_START 0x13ffc000u
+#define UF2_XIP_RAM_END 0x14000000u
+
+/* What a transfer writes to: one of the three for a whole file. A block of another kind than the running transfer's discards it, as one
+ * of another family or total does. */
+enum uf2_kind { UF2_KIND_FLASH = 0, UF2_KIND_MAIN_RAM = 1, UF2_KIND_XIP_RAM = 2 };
 
 /* ---- Numbers of 32 bits in the layouts below stand as four bytes, the lowest first. */
 static inline void uf2_put32(uint8_t *at, uint32_t x) {
@@ -82,11 +100,12 @@ enum uf2_link { UF2_LINK_NONE = 0, UF2_LINK_OWNED_BY = 1, UF2_LINK_B_OF = 2 };
 
 /* ---- A transfer: made by uf2_new, it goes in and comes back with each arrival. A slice of another length is no transfer, and is
  * answered UF2_ANSWER_BAD_STATE. */
-#define UF2_TRANSFER_SIZE 13
+#define UF2_TRANSFER_SIZE 14
 #define UF2_TRANSFER_STATE_AT 0  /* enum uf2_state; any other number is no transfer either */
 #define UF2_TRANSFER_FAMILY_AT 1 /* 32 bits each, and 0 where idle */
 #define UF2_TRANSFER_TOTAL_AT 5
 #define UF2_TRANSFER_COUNT_AT 9  /* blocks counted; the total where done, where it is not read */
+#define UF2_TRANSFER_KIND_AT 13  /* enum uf2_kind; where running or done any other number is no transfer either. Idle: 0, and not read */
 
 enum uf2_state { UF2_STATE_IDLE = 0, UF2_STATE_RUNNING = 1, UF2_STATE_DONE = 2 };
 
@@ -95,59 +114,77 @@ enum uf2_state { UF2_STATE_IDLE = 0, UF2_STATE_RUNNING = 1, UF2_STATE_DONE = 2 }
 #define UF2_PLACE_START_AT 0 /* 32 bits each, in bytes of the flash */
 #define UF2_PLACE_LENGTH_AT 4
 
-/* ---- Answers to an arrival. They are asked in this order, and the first that fits is given. 1 to 13 change nothing that is lent. No
- * answer has the number 6. */
+/* ---- Answers to an arrival. They are asked in this order, and the first that fits is given; but where the address of a block that is
+ * no comment lies in no window, 11 is asked before 10. 1 to 13 change nothing that is lent. No answer has the number 6.
+ *
+ * A comment has flag 0x1, "not main flash"; its address is not read and it is not stored. A comment of the running transfer's family and
+ * total has that transfer's kind, unless the buffer of this kind is empty; every other comment is of kind flash. */
 enum uf2_answer {
     UF2_ANSWER_FOUND = 0,        /* of uf2_ask alone */
-    UF2_ANSWER_BAD_BUFFERS = 1,  /* arrival, flash or a map has a wrong length */
+    UF2_ANSWER_BAD_BUFFERS = 1,  /* arrival, flash, a map or a RAM buffer has a wrong length */
     UF2_ANSWER_BAD_SETTINGS = 2,
     UF2_ANSWER_BAD_STATE = 3,    /* the transfer's numbers fit no transfer */
     UF2_ANSWER_NOT_BLOCK = 4,    /* a magic number differs */
     UF2_ANSWER_CONTAINER = 5,    /* flag 0x1000 */
     UF2_ANSWER_NO_FAMILY = 7,    /* flag 0x2000 is clear */
-    UF2_ANSWER_NO_PLACE = 8,     /* the settings have no place for the family */
+    UF2_ANSWER_NO_PLACE = 8,     /* flash, and where no window is: the settings have no place for the family; RAM: it is none of data,
+                                    arm-s, riscv and arm-ns and no user family of a used entry */
     UF2_ANSWER_BAD_PAYLOAD = 9,  /* the payload's size is not 256; not asked of a comment */
-    UF2_ANSWER_BAD_NUMBERS = 10, /* total 0 or more than the place holds, or a number that is not below the total */
-    UF2_ANSWER_BAD_ADDRESS = 11, /* outside the window or the place, or no multiple of 256; not asked of a comment */
+    UF2_ANSWER_BAD_NUMBERS = 10, /* total 0 or more than the place or the RAM holds, or a number that is not below the total */
+    UF2_ANSWER_BAD_ADDRESS = 11, /* in no window; flash: past the place, or no multiple of 256; RAM, any byte address: address + 256
+                                    past the window's end. Not asked of a comment */
     UF2_ANSWER_FINISHED = 12,    /* the transfer is done */
     UF2_ANSWER_AGAIN = 13,       /* a block of this number has come before */
     UF2_ANSWER_WRITTEN = 14,     /* stored, and others are missing */
-    UF2_ANSWER_COMPLETED = 15,   /* stored or, a comment, noted, and the file is whole */
-    UF2_ANSWER_NOTED = 16        /* a comment (flag 0x1, not for the main flash): counted and not stored, and others are missing */
+    UF2_ANSWER_COMPLETED = 15,   /* stored, kept or, a comment, noted, and the file is whole */
+    UF2_ANSWER_NOTED = 16,       /* a comment: counted and not stored, and others are missing */
+    UF2_ANSWER_KEPT = 17         /* counted and not stored, since the flash has what its region names (below), and others are missing */
 };
+
+/* A region: a block with flag 0x4000 names one in its last 24 data bytes (byte 484 of the arrival: its start, an address like the block's, and its
+ * length, both the lowest byte first, then the MD5 digest of its bytes). It counts for a flash data block that would be stored, where it is whole
+ * sectors, not empty, within the place and around the block. Where the flash there has that digest, the block is counted and nothing is stored:
+ * UF2_ANSWER_KEPT, or UF2_ANSWER_COMPLETED if it is the last. Else the flag changes nothing.
+ *
+ * What it costs: each block of a region that is accepted hashes the whole region once, and a look once more; nothing is kept between calls. A
+ * region of 16 pages (one sector) costs 16 hashes of 4 KiB, one of 1 MiB costs 4,096 hashes of 1 MiB. So let a file name regions of one sector
+ * or of 64 KiB, and look only where you need to. A comment, a RAM block, UF2_ANSWER_FINISHED, _AGAIN and every refusal hash nothing. */
 
 /* A result is an answer, with UF2_RESULT_DISCARDED added where the block discarded a running transfer of another file. */
 #define UF2_RESULT_DISCARDED 128u
 #define UF2_RESULT_ANSWER(result) ((result) & 127u)
 #define UF2_RESULT_IS_DISCARDED(result) (((result) & UF2_RESULT_DISCARDED) != 0)
-/* Whether a block with this answer is accepted: taken, it is counted now, and in flash unless it is a comment; looked at, it would be. */
+/* Whether a block with this answer is accepted: taken, it is counted now, and stored unless it is a comment or kept; looked at, it would be. */
 #define UF2_ANSWER_IS_ACCEPTED(answer) ((answer) >= UF2_ANSWER_WRITTEN)
 
 /* Writes a fresh transfer, where there are UF2_TRANSFER_SIZE bytes; else changes nothing. */
-void uf2_new(uint8_t *transfer, size_t transfer_len);
+void uf2_new(uint8_t *transfer, uf2_len transfer_len);
 
-/* The place of a family: UF2_ANSWER_FOUND, with start and length in `place`; or UF2_ANSWER_BAD_BUFFERS (the flash's length is wrong, or
- * place_len is not UF2_PLACE_SIZE), UF2_ANSWER_BAD_SETTINGS or UF2_ANSWER_NO_PLACE, with `place` unchanged. */
-uint32_t uf2_ask(const uint8_t *settings, size_t settings_len, size_t flash_len, uint32_t family, uint8_t *place, size_t place_len);
+/* The place of a family in flash: UF2_ANSWER_FOUND, with start and length in `place`; or UF2_ANSWER_BAD_BUFFERS (the flash's length is wrong,
+ * or place_len is not UF2_PLACE_SIZE), UF2_ANSWER_BAD_SETTINGS or UF2_ANSWER_NO_PLACE, with `place` unchanged. */
+uint32_t uf2_ask(const uint8_t *settings, uf2_len settings_len, uf2_len flash_len, uint32_t family, uint8_t *place, uf2_len place_len);
 
 /* A look at an arrival: the result that uf2_take would return on the same bytes. It changes nothing. */
-uint32_t uf2_look(const uint8_t *settings, size_t settings_len, const uint8_t *transfer, size_t transfer_len, const uint8_t *arrival,
-                  size_t arrival_len, const uint8_t *flash, size_t flash_len, const uint8_t *seen, size_t seen_len,
-                  const uint8_t *sectors, size_t sectors_len);
+uint32_t uf2_look(const uint8_t *settings, uf2_len settings_len, const uint8_t *transfer, uf2_len transfer_len, const uint8_t *arrival,
+                  uf2_len arrival_len, const uint8_t *flash, uf2_len flash_len, const uint8_t *seen, uf2_len seen_len,
+                  const uint8_t *sectors, uf2_len sectors_len, const uint8_t *main_ram, uf2_len main_ram_len, const uint8_t *xip_ram,
+                  uf2_len xip_ram_len);
 
-/* An arrival taken: its result. An accepted block writes the next transfer; every other answer leaves all that is lent. A take makes every
- * check itself: it needs no look before it, and one that looked at something else harms nothing. */
-uint32_t uf2_take(const uint8_t *settings, size_t settings_len, uint8_t *transfer, size_t transfer_len, const uint8_t *arrival,
-                  size_t arrival_len, uint8_t *flash, size_t flash_len, uint8_t *seen, size_t seen_len, uint8_t *sectors,
-                  size_t sectors_len);
+/* An arrival taken: its result. An accepted block writes the next transfer, and stores in the buffer of its kind alone: a page of flash in a
+ * sector that is erased first where it is not marked, a page of RAM as its 256 bytes and no more, a comment nowhere. Every other answer leaves
+ * all that is lent. A take makes every check itself: it needs no look before it, and one that looked at something else harms nothing. */
+uint32_t uf2_take(const uint8_t *settings, uf2_len settings_len, uint8_t *transfer, uf2_len transfer_len, const uint8_t *arrival,
+                  uf2_len arrival_len, uint8_t *flash, uf2_len flash_len, uint8_t *seen, uf2_len seen_len, uint8_t *sectors,
+                  uf2_len sectors_len, uint8_t *main_ram, uf2_len main_ram_len, uint8_t *xip_ram, uf2_len xip_ram_len);
 
 /* Arrivals taken one after the other, each UF2_ARRIVAL_SIZE bytes: as many whole ones as there are bytes in `results`, which get the
  * results that uf2_take would return; the number of them. The other bytes of `results` stay as they were lent, and so does the transfer
  * where no block is accepted. Settings are read once. What follows the last whole arrival, or the last that has room for its result,
  * is not read: a short last piece is for uf2_take, which answers it UF2_ANSWER_BAD_BUFFERS. */
-size_t uf2_take_all(const uint8_t *settings, size_t settings_len, uint8_t *transfer, size_t transfer_len, const uint8_t *arrivals,
-                    size_t arrivals_len, uint8_t *results, size_t results_len, uint8_t *flash, size_t flash_len, uint8_t *seen,
-                    size_t seen_len, uint8_t *sectors, size_t sectors_len);
+uf2_len uf2_take_all(const uint8_t *settings, uf2_len settings_len, uint8_t *transfer, uf2_len transfer_len, const uint8_t *arrivals,
+                     uf2_len arrivals_len, uint8_t *results, uf2_len results_len, uint8_t *flash, uf2_len flash_len, uint8_t *seen,
+                     uf2_len seen_len, uint8_t *sectors, uf2_len sectors_len, uint8_t *main_ram, uf2_len main_ram_len, uint8_t *xip_ram,
+                     uf2_len xip_ram_len);
 
 /* ---- Universal Hex, a line at a time, for one board. Numbers of 16 bits stand as two bytes, the lowest first. */
 static inline void uhex_put16(uint8_t *at, uint16_t x) {
@@ -229,7 +266,7 @@ enum uhex_answer {
 #define UHEX_IMAGE_IS_WHOLE(last_answer, outside_count) ((last_answer) == UHEX_ANSWER_ENDED && (outside_count) == 0)
 
 /* Writes a fresh reader of a board, where there are UHEX_READER_SIZE bytes; else changes nothing. */
-void uhex_new(uint16_t own, uint8_t *reader, size_t reader_len);
+void uhex_new(uint16_t own, uint8_t *reader, uf2_len reader_len);
 
 /* What `uhex_line` returns: the answer, 18 to 36, and with UHEX_ANSWER_BAD_DIGIT the position of the first bad character, counted from 0 at
  * the colon, 1 to 520; with any other answer 0. */
@@ -238,7 +275,7 @@ void uhex_new(uint16_t own, uint8_t *reader, size_t reader_len);
 
 /* One line as it stands in the file, with its LF or CR LF: the answer, and 256 times its position. The reader's bytes are written by 32 to 35, and by 20 to
  * 30 and 36 where it had not failed before; every other answer leaves them as they were lent. */
-uint32_t uhex_line(uint8_t *reader, size_t reader_len, const uint8_t *line, size_t line_len, uint8_t *image, size_t image_len);
+uint32_t uhex_line(uint8_t *reader, uf2_len reader_len, const uint8_t *line, uf2_len line_len, uint8_t *image, uf2_len image_len);
 
 #ifdef __cplusplus
 }

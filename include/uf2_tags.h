@@ -5,7 +5,7 @@
  * here too.
  *
  *     uint8_t tag[UF2_TAG_SIZE];
- *     size_t place = uf2_tag_first(block, UF2_ARRIVAL_SIZE);
+ *     uf2_len place = uf2_tag_first(block, UF2_ARRIVAL_SIZE);
  *     while (uf2_tag(block, UF2_ARRIVAL_SIZE, place, tag, sizeof tag) == UF2_TAG_FOUND) {
  *         ... uf2_get32(tag + UF2_TAG_TYPE_AT), and the contents at block + uf2_get32(tag + UF2_TAG_START_AT) ...
  *         place = uf2_get32(tag + UF2_TAG_NEXT_AT);
@@ -50,13 +50,13 @@ enum uf2_tag_answer {
 };
 
 /* The place of a block's first tag. */
-size_t uf2_tag_first(const uint8_t *block, size_t block_len);
+uf2_len uf2_tag_first(const uint8_t *block, uf2_len block_len);
 
 /* What stands at a place of a block: UF2_TAG_FOUND, with the tag in `tag`; or any other answer, with `tag` unchanged. */
-uint32_t uf2_tag(const uint8_t *block, size_t block_len, size_t place, uint8_t *tag, size_t tag_len);
+uint32_t uf2_tag(const uint8_t *block, uf2_len block_len, uf2_len place, uint8_t *tag, uf2_len tag_len);
 
 /* The first tag of a type: UF2_TAG_FOUND, with the tag in `tag`; or the end or the refusal before any, with `tag` unchanged. */
-uint32_t uf2_tag_find(const uint8_t *block, size_t block_len, uint32_t type, uint8_t *tag, size_t tag_len);
+uint32_t uf2_tag_find(const uint8_t *block, uf2_len block_len, uint32_t type, uint8_t *tag, uf2_len tag_len);
 
 #ifdef __cplusplus
 }

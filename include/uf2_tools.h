@@ -10,8 +10,7 @@
 #ifndef UF2_TOOLS_H
 #define UF2_TOOLS_H
 
-#include <stddef.h>
-#include <stdint.h>
+#include "uf2_len.h"
 
 #ifdef __cplusplus
 extern "C" {
@@ -32,21 +31,21 @@ enum uf2_make_answer {
 };
 
 /* What uf2_make would answer to an image of image_len bytes and an output of output_len. */
-uint32_t uf2_make_check(size_t image_len, uint32_t start, size_t output_len);
+uint32_t uf2_make_check(uf2_len image_len, uint32_t start, uf2_len output_len);
 
 /* Writes the UF2 blocks of an image in number order at the start of the output: the family's flag alone, block k at start + 256 k, data
  * padded with zeros. A refusal writes nothing, and what follows the last block stays. */
-uint32_t uf2_make(const uint8_t *image, size_t image_len, uint32_t family, uint32_t start, uint8_t *output, size_t output_len);
+uint32_t uf2_make(const uint8_t *image, uf2_len image_len, uint32_t family, uint32_t start, uint8_t *output, uf2_len output_len);
 
 /* Writes one such block, for a tool that makes a file page by page and has asked uf2_make_check first. Where page_len is not
  * UF2_MAKE_PAGE_SIZE, or block_len not UF2_MAKE_BLOCK_SIZE, nothing is written. */
-void uf2_make_block(uint32_t address, uint32_t number, uint32_t total, uint32_t family, const uint8_t *page, size_t page_len,
-                    uint8_t *block, size_t block_len);
+void uf2_make_block(uint32_t address, uint32_t number, uint32_t total, uint32_t family, const uint8_t *page, uf2_len page_len,
+                    uint8_t *block, uf2_len block_len);
 
 /* The MD5 digest (RFC 1321) of bytes, in the RFC's byte order, as a block with flag 0x4000 has it. Where digest_len is not
  * UF2_MD5_SIZE nothing is written. */
 #define UF2_MD5_SIZE 16
-void uf2_md5(const uint8_t *bytes, size_t bytes_len, uint8_t *digest, size_t digest_len);
+void uf2_md5(const uint8_t *bytes, uf2_len bytes_len, uint8_t *digest, uf2_len digest_len);
 
 #ifdef __cplusplus
 }

@@ -140,6 +140,9 @@ static void passes(void) {
 
 static uint8_t transfer[UF2_TRANSFER_SIZE], arrival[UF2_ARRIVAL_SIZE];
 static uint8_t flash[FLASH_SIZE], seen[UF2_SEEN_MAP_SIZE], sectors[UF2_SECTOR_MAP_SIZE];
+static uint8_t main_ram[UF2_MAIN_RAM_SIZE + 1], xip_ram[UF2_XIP_RAM_SIZE + 1];
+/* what is lent of them */
+static uf2_len main_len = UF2_MAIN_RAM_SIZE, xip_len = UF2_XIP_RAM_SIZE;
 
 enum { FLAGS_AT = 8, ADDRESS_AT = 12, SIZE_AT = 16, NUMBER_AT = 20, TOTAL_AT = 24, FAMILY_AT = 28 };
 
@@ -157,11 +160,11 @@ static void block(uint32_t number, uint32_t total) {
 }
 
 /* The result of a take; a look said the same. */
-static uint32_t take_of(size_t arrival_len, size_t settings_len, size_t transfer_len) {
+static uint32_t take_of(uf2_len arrival_len, uf2_len settings_len, uf2_len transfer_len) {
     uint32_t look = uf2_look(settings, settings_len, transfer, transfer_len, arrival, arrival_len, flash, sizeof flash, seen, sizeof seen,
-                             sectors, sizeof sectors);
+                             sectors, sizeof sectors, main_ram, main_len, xip_ram, xip_len);
     uint32_t take = uf2_take(settings, settings_len, transfer, transfer_len, arrival, arrival_len, flash, sizeof flash, seen, sizeof seen,
-                             sectors, sizeof sectors);
+                             sectors, sizeof sectors, main_ram, main_len, xip_ram, xip_len);
     CHECK(look == take);
     return take;
 }
@@ -177,10 +180,15 @@ static uint32_t take_with(int at, uint32_t x) {
     return take();
 }
 
-static int stands(int state, uint32_t total, uint32_t count) {
+static int stands_in(int kind, int state, uint32_t total, uint32_t count) {
     uint32_t family = state == UF2_STATE_IDLE ? 0 : UF2_FAMILY_ARM_S;
     return transfer[UF2_TRANSFER_STATE_AT] == state && uf2_get32(transfer + UF2_TRANSFER_FAMILY_AT) == family &&
-           uf2_get32(transfer + UF2_TRANSFER_TOTAL_AT) == total && uf2_get32(transfer + UF2_TRANSFER_COUNT_AT) == count;
+           uf2_get32(transfer + UF2_TRANSFER_TOTAL_AT) == total && uf2_get32(transfer + UF2_TRANSFER_COUNT_AT) == count &&
+           transfer[UF2_TRANSFER_KIND_AT] == kind;
+}
+
+static int stands(int state, uint32_t total, uint32_t count) {
+    return stands_in(UF2_KIND_FLASH, state, total, count);
 }
 
 static void arrivals(void) {
@@ -226,11 +234,127 @@ static void arrivals(void) {
     CHECK(take() == UF2_ANSWER_FINISHED && !UF2_ANSWER_IS_ACCEPTED(UF2_ANSWER_FINISHED));
 }
 
+/* ---- RAM windows */
+
+/* The answer to block 0 of 3 at an address, from a fresh transfer. */
+static uint32_t answer_at(uint32_t address) {
+    uf2_new(transfer, sizeof transfer);
+    return take_with(ADDRESS_AT, address);
+}
+
+static void windows(void) {
+    static const struct {
+        int kind;
+        uint32_t start, end;
+        uint8_t *ram;
+    } rams[] = {{UF2_KIND_MAIN_RAM, UF2_MAIN_RAM_START, UF2_MAIN_RAM_END, main_ram},
+                {UF2_KIND_XIP_RAM, UF2_XIP_RAM_START, UF2_XIP_RAM_END, xip_ram}};
+    int i;
+
+    table(0);
+    for (i = 0; i < 2; i++) {
+        uint32_t start = rams[i].start, end = rams[i].end;
+        CHECK(answer_at(start - 1) == UF2_ANSWER_BAD_ADDRESS && answer_at(end) == UF2_ANSWER_BAD_ADDRESS);
+        CHECK(answer_at(end - 255) == UF2_ANSWER_BAD_ADDRESS);
+        memset(rams[i].ram, 0xEE, end - start);
+        memset(flash, 0xEE, sizeof flash);
+        CHECK(answer_at(end - 256) == UF2_ANSWER_WRITTEN && stands_in(rams[i].kind, UF2_STATE_RUNNING, 3, 1));
+        CHECK(rams[i].ram[end - start - 257] == 0xEE && rams[i].ram[end - start - 256] == 0 && rams[i].ram[end - start - 1] == 0);
+        CHECK(answer_at(start + 1) == UF2_ANSWER_WRITTEN && rams[i].ram[0] == 0xEE && rams[i].ram[1] == 0 && flash[0] == 0xEE);
+        CHECK(sectors[0] == 0);
+        /* as many blocks as the window holds */
+        uf2_new(transfer, sizeof transfer);
+        block(0, (end - start) / 256);
+        uf2_put32(arrival + ADDRESS_AT, start);
+        CHECK(take() == UF2_ANSWER_WRITTEN);
+        block(0, (end - start) / 256 + 1);
+        uf2_put32(arrival + ADDRESS_AT, start);
+        CHECK(take() == UF2_ANSWER_BAD_NUMBERS);
+        /* every family of images and data, whatever is enabled; not absolute, whatever is allowed */
+        block(0, 3);
+        uf2_put32(arrival + ADDRESS_AT, start);
+        uf2_put32(arrival + FAMILY_AT, UF2_FAMILY_ARM_NS);
+        CHECK(UF2_RESULT_ANSWER(take()) == UF2_ANSWER_WRITTEN);
+        settings[UF2_SETTINGS_ABSOLUTE_AT] = 1;
+        uf2_put32(arrival + FAMILY_AT, UF2_FAMILY_ABSOLUTE);
+        CHECK(take() == UF2_ANSWER_NO_PLACE);
+        settings[UF2_SETTINGS_ABSOLUTE_AT] = 0;
+    }
+    /* a user family of a "B of" entry */
+    table(2);
+    entry(1)[UF2_ENTRY_LINK_AT] = UF2_LINK_B_OF;
+    uf2_put32(entry(1) + UF2_ENTRY_USERS_AT, 77);
+    entry(1)[UF2_ENTRY_USER_COUNT_AT] = 1;
+    uf2_new(transfer, sizeof transfer);
+    block(0, 3);
+    uf2_put32(arrival + FAMILY_AT, 77);
+    CHECK(take() == UF2_ANSWER_NO_PLACE);
+    uf2_put32(arrival + ADDRESS_AT, UF2_XIP_RAM_START);
+    CHECK(take() == UF2_ANSWER_WRITTEN);
+    entry(1)[UF2_ENTRY_USER_COUNT_AT] = 0;
+    CHECK(take() == UF2_ANSWER_NO_PLACE);
+    /* where no window is, 11 comes before 10 and after 9 */
+    table(0);
+    uf2_new(transfer, sizeof transfer);
+    block(0, 0);
+    CHECK(take() == UF2_ANSWER_BAD_NUMBERS);
+    uf2_put32(arrival + ADDRESS_AT, UF2_FLASH_END);
+    CHECK(take() == UF2_ANSWER_BAD_ADDRESS);
+    uf2_put32(arrival + SIZE_AT, 255);
+    CHECK(take() == UF2_ANSWER_BAD_PAYLOAD);
+}
+
+/* A change of kind, the kind of comments, and buffers that are empty or of a wrong length. */
+static void kinds(void) {
+    table(0);
+    uf2_new(transfer, sizeof transfer);
+    block(0, 3);
+    CHECK(take() == UF2_ANSWER_WRITTEN && stands_in(UF2_KIND_FLASH, UF2_STATE_RUNNING, 3, 1));
+    uf2_put32(arrival + ADDRESS_AT, UF2_MAIN_RAM_START);
+    CHECK(take() == (UF2_ANSWER_WRITTEN | UF2_RESULT_DISCARDED) && stands_in(UF2_KIND_MAIN_RAM, UF2_STATE_RUNNING, 3, 1));
+    CHECK(take() == UF2_ANSWER_AGAIN);
+    uf2_put32(arrival + ADDRESS_AT, UF2_XIP_RAM_START);
+    CHECK(take() == (UF2_ANSWER_WRITTEN | UF2_RESULT_DISCARDED) && stands_in(UF2_KIND_XIP_RAM, UF2_STATE_RUNNING, 3, 1));
+    /* a comment takes the kind of the running transfer, or flash where that kind's buffer is empty */
+    block(1, 3);
+    uf2_put32(arrival + FLAGS_AT, 0x2001);
+    CHECK(take() == UF2_ANSWER_NOTED && stands_in(UF2_KIND_XIP_RAM, UF2_STATE_RUNNING, 3, 2));
+    block(2, 3);
+    uf2_put32(arrival + FLAGS_AT, 0x2001);
+    xip_len = 0;
+    CHECK(take() == (UF2_ANSWER_NOTED | UF2_RESULT_DISCARDED) && stands_in(UF2_KIND_FLASH, UF2_STATE_RUNNING, 3, 1));
+    /* an empty buffer has no window */
+    CHECK(answer_at(UF2_XIP_RAM_START) == UF2_ANSWER_BAD_ADDRESS && answer_at(UF2_MAIN_RAM_START) == UF2_ANSWER_WRITTEN);
+    xip_len = UF2_XIP_RAM_SIZE;
+    main_len = 0;
+    CHECK(answer_at(UF2_MAIN_RAM_START) == UF2_ANSWER_BAD_ADDRESS && answer_at(UF2_XIP_RAM_START) == UF2_ANSWER_WRITTEN);
+    /* every other length is wrong, for flash too */
+    for (main_len = UF2_MAIN_RAM_SIZE - 1; main_len <= UF2_MAIN_RAM_SIZE + 1; main_len++)
+        CHECK(answer_at(UF2_FLASH_START) == (main_len == UF2_MAIN_RAM_SIZE ? UF2_ANSWER_WRITTEN : UF2_ANSWER_BAD_BUFFERS));
+    main_len = UF2_MAIN_RAM_SIZE;
+    for (xip_len = UF2_XIP_RAM_SIZE - 1; xip_len <= UF2_XIP_RAM_SIZE + 1; xip_len++)
+        CHECK(answer_at(UF2_FLASH_START) == (xip_len == UF2_XIP_RAM_SIZE ? UF2_ANSWER_WRITTEN : UF2_ANSWER_BAD_BUFFERS));
+    xip_len = UF2_XIP_RAM_SIZE;
+    /* a kind over 2 is no transfer, and is not read where idle */
+    CHECK(answer_at(UF2_XIP_RAM_START) == UF2_ANSWER_WRITTEN);
+    transfer[UF2_TRANSFER_KIND_AT]++;
+    CHECK(take() == UF2_ANSWER_BAD_STATE);
+    transfer[UF2_TRANSFER_STATE_AT] = UF2_STATE_DONE;
+    CHECK(take() == UF2_ANSWER_BAD_STATE);
+    transfer[UF2_TRANSFER_KIND_AT]--;
+    CHECK(take() == UF2_ANSWER_FINISHED);
+    transfer[UF2_TRANSFER_STATE_AT] = UF2_STATE_IDLE;
+    transfer[UF2_TRANSFER_KIND_AT] = 255;
+    CHECK(take() == UF2_ANSWER_WRITTEN && stands_in(UF2_KIND_XIP_RAM, UF2_STATE_RUNNING, 3, 1));
+    uf2_new(transfer, sizeof transfer);
+    CHECK(stands(UF2_STATE_IDLE, 0, 0));
+}
+
 /* ---- lines */
 
 static uint8_t reader[UHEX_READER_SIZE], image[UHEX_IMAGE_MAX_SIZE + 1];
 
-static uint32_t line_of(const char *text, size_t reader_len, size_t image_len) {
+static uint32_t line_of(const char *text, uf2_len reader_len, uf2_len image_len) {
     return uhex_line(reader, reader_len, (const uint8_t *)text, strlen(text), image, image_len);
 }
 
@@ -350,6 +474,8 @@ int main(void) {
     entries();
     passes();
     arrivals();
+    windows();
+    kinds();
     refusals();
     between();
     a_file(UHEX_BOARD_V1);

@@ -21,6 +21,7 @@ static ucontext_t here, there;
 
 static uint8_t settings[UF2_SETTINGS_SIZE], transfer[UF2_TRANSFER_SIZE], place[UF2_PLACE_SIZE], arrivals[3 * UF2_ARRIVAL_SIZE], results[3];
 static uint8_t flash[64 * UF2_SECTOR_SIZE], seen[UF2_SEEN_MAP_SIZE], sectors[UF2_SECTOR_MAP_SIZE];
+static uint8_t main_ram[UF2_MAIN_RAM_SIZE], xip_ram[UF2_XIP_RAM_SIZE];
 static uint8_t reader[UHEX_READER_SIZE], image[64];
 
 /* ---- what is measured */
@@ -37,17 +38,17 @@ static void call_ask(void) {
 
 static void call_look(void) {
     uf2_look(settings, sizeof settings, transfer, sizeof transfer, arrivals, UF2_ARRIVAL_SIZE, flash, sizeof flash, seen, sizeof seen,
-             sectors, sizeof sectors);
+             sectors, sizeof sectors, main_ram, sizeof main_ram, xip_ram, sizeof xip_ram);
 }
 
 static void call_take(void) {
     uf2_take(settings, sizeof settings, transfer, sizeof transfer, arrivals, UF2_ARRIVAL_SIZE, flash, sizeof flash, seen, sizeof seen,
-             sectors, sizeof sectors);
+             sectors, sizeof sectors, main_ram, sizeof main_ram, xip_ram, sizeof xip_ram);
 }
 
 static void call_take_all(void) {
     uf2_take_all(settings, sizeof settings, transfer, sizeof transfer, arrivals, sizeof arrivals, results, sizeof results, flash,
-                 sizeof flash, seen, sizeof seen, sectors, sizeof sectors);
+                 sizeof flash, seen, sizeof seen, sectors, sizeof sectors, main_ram, sizeof main_ram, xip_ram, sizeof xip_ram);
 }
 
 static void call_hex_new(void) {
@@ -102,11 +103,11 @@ static size_t larger(size_t a, size_t b) {
     return a > b ? a : b;
 }
 
-static void block(uint8_t *at, uint32_t k) {
+static void block(uint8_t *at, uint32_t start, uint32_t k) {
     uf2_put32(at, 0x0A324655u);
     uf2_put32(at + 4, 0x9E5D5157u);
     uf2_put32(at + 8, 0x2000u);
-    uf2_put32(at + 12, 0x10000000u + 256u * k);
+    uf2_put32(at + 12, start + 256u * k);
     uf2_put32(at + 16, 256u);
     uf2_put32(at + 20, k);
     uf2_put32(at + 24, 3u);
@@ -134,20 +135,21 @@ static void table(uint8_t count) {
 int main(void) {
     static const char *const file[] = {":020000040000FA\n", ":0400000A9900C0DEBB\n", ":040000001122334452\r\n",
                                        ":10000000000102030405060708090A0B0C0D0E0F78\n", "x"};
+    static const uint32_t starts[] = {UF2_FLASH_START, UF2_MAIN_RAM_START, UF2_XIP_RAM_START};
     size_t ask = 0, look = 0, one = 0, all = 0, hex = 0, i;
     uint8_t counts[] = {0, 16, 17}, k;
 
     empty = used(nothing);
     tell("uf2_new", used(call_new) - empty);
-    for (k = 0; k < sizeof counts; k++) {
-        table(counts[k]);
+    for (k = 0; k < 3 * sizeof counts; k++) {
+        table(counts[k / 3]);
         uf2_new(transfer, sizeof transfer);
         for (i = 0; i < 3; i++)
-            block(arrivals + i * UF2_ARRIVAL_SIZE, (uint32_t)i);
+            block(arrivals + i * UF2_ARRIVAL_SIZE, starts[k % 3], (uint32_t)i);
         ask = larger(ask, used(call_ask) - empty);
         /* written, the same again, refused by its address, no block */
         for (i = 0; i < 4; i++) {
-            arrivals[12] = i == 2;
+            arrivals[15] = (uint8_t)(i == 2 ? 0xFF : starts[k % 3] >> 24);
             arrivals[0] = (uint8_t)(i == 3 ? 0 : 0x55);
             look = larger(look, used(call_look) - empty);
             one = larger(one, used(call_take) - empty);
@@ -156,7 +158,7 @@ int main(void) {
         /* again, written, completed; then finished */
         all = larger(all, used(call_take_all) - empty);
         all = larger(all, used(call_take_all) - empty);
-        if (k < 2 && transfer[UF2_TRANSFER_STATE_AT] != UF2_STATE_DONE)
+        if (k < 6 && transfer[UF2_TRANSFER_STATE_AT] != UF2_STATE_DONE)
             return 1;
     }
     tell("uf2_ask", ask);
@@ -172,7 +174,7 @@ int main(void) {
         return 1;
     tell("uhex_line", hex);
     /* two tags, the second of the type that is looked for */
-    block(arrivals, 0);
+    block(arrivals, UF2_FLASH_START, 0);
     uf2_put32(arrivals + 8, 0xa000u);
     uf2_put32(arrivals + 288, 0x01020308u);
     uf2_put32(arrivals + 296, UF2_TAG_TYPE_VERSION << 8 | 9u);

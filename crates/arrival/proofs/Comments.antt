@@ -1,7 +1,7 @@
 -- The claims of specs/Comments.antt hold. Assumes nothing.
 use Prim.Native.Nat.{ℕ, _+_, _/_, _%_, _≤_, _<_}
 use mathlib.Core.Path.{_≡_, refl, sym, ap, subst, _∙_}
-use mathlib.Core.Logic.{_⊎_, _≢_, inl, inr, ⊎-elim}
+use mathlib.Core.Logic.{_≢_, inl, inr, ⊎-elim}
 use mathlib.Core.Bool.{Bool, true, false, not, cond}
 use mathlib.Core.List.{List, [], _∷_}
 use native.Mathlib.Omega.{arith}
@@ -17,29 +17,33 @@ use Rattle.block.specs.declared.Header.the-variants as header
 use Rattle.block.proofs.Laws.{field-set}
 use Rattle.flash.specs.Flash.{payloadOf}
 use Rattle.settings.specs.declared.Settings.{Settings}
-use Rattle.place.specs.Place.{placeOf}
 use Rattle.place.specs.declared.Place.{Place}
 use Rattle.place.specs.declared.Place.the-variants.{Nowhere, At}
-use Rattle.transfer.specs.Transfer.{numberOf, countOf, sameHead, counted, raised, accepted}
+use Rattle.transfer.specs.Transfer.{numberOf, countOf, sameHead, counted, deedAnswer, raised, accepted}
+use Rattle.transfer.specs.declared.Kind.{Kind}
 use Rattle.transfer.specs.declared.Head.{Head}
 use Rattle.transfer.specs.declared.Run.{Run}
 use Rattle.transfer.specs.declared.State.{State}
 use Rattle.transfer.specs.declared.State.the-variants.{Idle, Running, Done}
 use Rattle.transfer.specs.declared.Deed.{Deed}
-use Rattle.transfer.specs.declared.Deed.the-variants.{Stores, Notes}
+use Rattle.transfer.specs.declared.Deed.the-variants.{Stores, Notes, Keeps}
 use Rattle.transfer.specs.declared.Accepted.{Accepted}
-use Rattle.screen.specs.Screen.{noted, found, afterHeader, placedIn, screenOf}
+use Rattle.screen.specs.Screen.{noteKind, roomsOf, roomIn, noted, noteFound, found, afterHeader, screenIn, screenOf}
+use Rattle.screen.proofs.Laws.{found-comment}
+use Rattle.screen.specs.declared.Lengths.{Lengths}
+use Rattle.screen.specs.declared.Rooms.{Rooms}
 use Rattle.screen.specs.declared.Screening.{Screening}
-use Rattle.screen.specs.declared.Body.{Body}
+use Rattle.screen.specs.declared.Placed.{Placed}
 use Rattle.screen.specs.declared.Body.the-variants.{Note}
-use Rattle.arrival.specs.Arrive.{Held, World, Decision, accepts, deedOf, decide, decided, clearedIf, wipedIf, atOf, doneTo, acceptOf, done, receiveOf}
+use Rattle.arrival.specs.Arrive.{Held, World, Decision, bufferOf, accepts, standing, decide, decided, clearedIf, wipedIf, atOf, acceptOf, done, receiveOf}
 use Rattle.arrival.specs.Lists.{receiveAll}
-use Rattle.arrival.specs.Tally.{headOf, clears}
-use Rattle.arrival.specs.Comments.{Comments-note, Nothing-stored, Noting, Comments-store-nothing, Unread, Comments-unread, anyDiscard, First-stands}
+use Rattle.arrival.specs.Windows.{headOf}
+use Rattle.arrival.specs.Tally.{clears}
+use Rattle.arrival.specs.Comments.{isNoted, Comments-note, Nothing-stored, Unstored, Comments-store-nothing, Unread, Comments-unread, anyDiscard, First-stands}
 use Rattle.arrival.proofs.Heads.{same-head}
-use Rattle.arrival.proofs.Screening.{passing-few, passing-note, passing-deed}
-use Rattle.arrival.proofs.DecisionFacts.{flashOf, AcceptFacts, DecisionFacts, raisedCount, took-state, took-answer, took-clears, took-discarded, kept, took, decision-facts}
-use Rattle.arrival.proofs.Facts.{length-cleared}
+use Rattle.arrival.proofs.Screening.{lens, Board, Passing, passing-few}
+use Rattle.arrival.proofs.DecisionFacts.{AcceptFacts, deedAt, DecisionFacts, raisedCount, took-state, took-answer, took-clears, took-discarded, kept, took, decision-facts, decide-same}
+use Rattle.arrival.proofs.Facts.{keepsAt, length-cleared, wiped-buffer, wiped-sectors, done-none, left-none, deed-is}
 
 -- ---- of a decision
 
@@ -47,56 +51,60 @@ pub comments-note : Comments-note
 unfolding Comments-note
 comments-note s w a p d t e = go (decision-facts s w a) e
   where
-    go : {x : Decision} → DecisionFacts s w a x → x ≡ accepts p d t → d ≡ cond (hasFlag a 0x1) Notes Stores
+    told : (b c : Bool) → isNoted (cond b Notes (cond c Keeps Stores)) ≡ b
+    told true c = refl
+    told false true = refl
+    told false false = refl
+
+    go : {x : Decision} → DecisionFacts s w a x → x ≡ accepts p d t → isNoted d ≡ hasFlag a 0x1
     go (kept x h) e = let z : _≡_ {A = ℕ} 0 1 = cc in absurd (omega arith)
-    go (took g k B l q f) e = let x : deedOf (g .body) ≡ d = cc in sym x ∙ passing-deed s (flashOf w) a g q (B .flash) (B .good)
+    go (took g k B l q f) e =
+        let x : deedAt s w a g ≡ d = cc in
+        ap isNoted (sym x ∙ deed-is s w a g k q B) ∙ told (hasFlag a 0x1) (keepsAt s w a)
 
 pub nothing-stored : Nothing-stored
 unfolding Nothing-stored receiveOf
-nothing-stored s w a p d t e n = ap (λ (x : Decision). done w (payloadOf a) x .world .held) e ∙ unfold done acceptOf in left d n
-  where
-    left : (d : Deed) → d ≢ Stores → doneTo d (atOf (p .body)) (payloadOf a) (wipedIf (t .clears) (w .held)) ≡ wipedIf (t .clears) (w .held)
-    left Stores n = absurd (n refl)
-    left Notes n = refl
+nothing-stored s w a p d t e n =
+    ap (λ (x : Decision). done w (payloadOf a) x .world .held) e
+    ∙ unfold done acceptOf in done-none d (p .head .kind) (atOf (p .body)) (payloadOf a) (wipedIf (t .clears) (w .held)) n
 
 -- ---- of what arrives and what is left
 
-raised-told : (g : Head) (c : ℕ) → numberOf (raised Notes g c) ≡ cond (ltb (countOf (counted g c)) (g .total)) 16 15
+raised-told : (e : Deed) (g : Head) (c : ℕ) → numberOf (raised e g c) ≡ cond (ltb (countOf (counted g c)) (g .total)) (numberOf (deedAnswer e)) 15
 unfolding raised counted
-raised-told g c = split (ltb c (g .total)) (λ y. rw (y, y)) (λ z. rw (z, le-ltb (g .total) (g .total) (omega arith)))
+raised-told e g c = split (ltb c (g .total)) (λ y. rw (y, y)) (λ z. rw (z, le-ltb (g .total) (g .total) (omega arith)))
 
-wiped-flash : (b : Bool) (h : Held) → wipedIf b h .flash ≡ h .flash
-unfolding wipedIf
-wiped-flash b h = refl
-
-wiped-sectors : (b : Bool) (h : Held) → wipedIf b h .sectors ≡ clearedIf b (h .sectors)
-unfolding wipedIf
-wiped-sectors b h = refl
-
-noting : (s : Settings) (w : World) (a : List ℕ) {d : Decision} → DecisionFacts s w a d → hasFlag a 0x1 ≡ true
-    → 14 ≤ numberOf (done w (payloadOf a) d .answer) → Noting w a (done w (payloadOf a) d)
+-- an accepted block that does e, which is not to store
+pub unstored : (s : Settings) (w : World) (a : List ℕ) (e : Deed) (g : Placed) (k : Accepted) → Passing s w a g → Board s w
+    → AcceptFacts (w .transfer) (g .head) (markedIn (w .seen) (g .number)) (deedAt s w a g) k → deedAt s w a g ≡ e → e ≢ Stores
+    → Unstored (numberOf (deedAnswer e)) w a (done w (payloadOf a) (accepts g (deedAt s w a g) k))
 unfolding done acceptOf
-noting s w a (kept x h) y n = absurd (omega arith)
-noting s w a (took g k B l q t) y n =
-    let b : g .body ≡ Note = passing-note s (flashOf w) a g q (B .flash) (B .good) y in
-    let m : k .clears ≡ clears (w .transfer) (headOf a) = took-clears t ∙ ap (clears (w .transfer)) (q .head) in
+unstored s w a e g k q B t f n =
+    let m : k .clears ≡ clears (w .transfer) (headOf w a) = took-clears t ∙ ap (clears (w .transfer)) (q .head) in
     let c : ℕ = raisedCount t in
-    let r : numberOf (k .answer) ≡ numberOf (raised Notes (g .head) c) =
-    ap numberOf (took-answer t) ∙ ap (λ (x : Body). numberOf (raised (deedOf x) (g .head) c)) b in
+    let left = left-none s w a g k q B e f n in
+    let r : numberOf (k .answer) ≡ numberOf (raised e (g .head) c) =
+    ap numberOf (took-answer t) ∙ ap (λ (x : Deed). numberOf (raised x (g .head) c)) f in
     record {
-      flash = ap (λ (x : Body). doneTo (deedOf x) (atOf x) (payloadOf a) (wipedIf (k .clears) (w .held)) .flash) b ∙ wiped-flash (k .clears) (w .held);
+      buffers = λ u. ap (bufferOf u) left ∙ wiped-buffer (k .clears) (w .held) u;
       sectors =
-          ap (λ (x : Body). doneTo (deedOf x) (atOf x) (payloadOf a) (wipedIf (k .clears) (w .held)) .sectors) b
+          ap (λ (x : Held). x .sectors) left
           ∙ wiped-sectors (k .clears) (w .held)
           ∙ ap (λ (x : Bool). clearedIf x (w .held .sectors)) m;
       seen =
           ap (λ (x : Bool). withMark (clearedIf x (w .seen)) (g .number)) m
-          ∙ ap (withMark (clearedIf (clears (w .transfer) (headOf a)) (w .seen))) (q .number);
+          ∙ ap (withMark (clearedIf (clears (w .transfer) (headOf w a)) (w .seen))) (q .number);
       answer =
-          r ∙ raised-told (g .head) c
-          ∙ ap (λ (h : Head). cond (ltb (countOf (counted (g .head) c)) (h .total)) 16 15) (q .head)
-          ∙ sym (ap (λ (x : State). cond (ltb (countOf x) (fieldAt a 24)) 16 15) (took-state t));
+          r ∙ raised-told e (g .head) c
+          ∙ ap (λ (h : Head). cond (ltb (countOf (counted (g .head) c)) (h .total)) (numberOf (deedAnswer e)) 15) (q .head)
+          ∙ sym (ap (λ (x : State). cond (ltb (countOf x) (fieldAt a 24)) (numberOf (deedAnswer e)) 15) (took-state t));
     }
+
+noting : (s : Settings) (w : World) (a : List ℕ) {d : Decision} → DecisionFacts s w a d → hasFlag a 0x1 ≡ true
+    → 14 ≤ numberOf (done w (payloadOf a) d .answer) → Unstored 16 w a (done w (payloadOf a) d)
+noting s w a (kept x h) y n = let m : 14 ≤ numberOf x = unfold done in n in absurd (omega arith)
+noting s w a (took g k B l q t) y n =
+    unstored s w a Notes g k q B t (deed-is s w a g k q B ∙ rw y) (λ e. let z : _≡_ {A = ℕ} 0 1 = cc in omega arith)
 
 pub comments-store-nothing : Comments-store-nothing
 unfolding Comments-store-nothing receiveOf
@@ -104,7 +112,7 @@ comments-store-nothing s w a y n = noting s w a (decision-facts s w a) y n
 
 -- ---- what of a comment is not read
 
-module _ (s : Settings) (len : ℕ) (a : List ℕ) (i x : ℕ) (y : hasFlag a 0x1 ≡ true) (o : Unread i) where
+module _ (s : Settings) (n : Lengths) (t : State) (a : List ℕ) (i x : ℕ) (y : hasFlag a 0x1 ≡ true) (o : Unread i) where
   abbrev b : List ℕ
   b = set a i x
 
@@ -118,50 +126,73 @@ module _ (s : Settings) (len : ℕ) (a : List ℕ) (i x : ℕ) (y : hasFlag a 0x
   last : fieldAt b 508 ≡ fieldAt a 508
   last = field-set a i x 508 (inr (⊎-elim (λ p. omega (arith, p)) (λ p. omega (arith, p)) o))
 
-  beside : (p : Place) → found p (fieldsOf b) ≡ found p (fieldsOf a)
-  unfolding found noted fieldsOf
-  beside Nowhere = refl
-  beside (At start size) =
-      let f : hasFlag b 0x1 ≡ true = ap (λ (n : ℕ). eqb (n / 0x1 % 2) 1) (low 8 (omega arith)) ∙ y in
-      rw (f, y, between 20 (omega arith) (omega arith), between 24 (omega arith) (omega arith), between 28 (omega arith) (omega arith))
+  family : fieldAt b 28 ≡ fieldAt a 28
+  family = between 28 (omega arith) (omega arith)
 
-  found-same : placedIn s len (fieldsOf b) ≡ placedIn s len (fieldsOf a)
-  unfolding placedIn
-  found-same =
-      beside (placeOf s len (fieldsOf b .family))
-      ∙ ap (λ (n : ℕ). found (placeOf s len n) (fieldsOf a)) (unfold fieldsOf in between 28 (omega arith) (omega arith))
+  total : fieldAt b 24 ≡ fieldAt a 24
+  total = between 24 (omega arith) (omega arith)
 
-  abbrev after : Header → Screening
-  after h = afterHeader h (placedIn s len)
+  kinds : (t : State) → noteKind n t (fieldsOf b) ≡ noteKind n t (fieldsOf a)
+  unfolding noteKind fieldsOf
+  kinds Idle = refl
+  kinds (Running r) = rw (family, total)
+  kinds (Done g) = refl
 
-  pass : (t : Bool) (h f g : Header) → after f ≡ after g → after (cond t h f) ≡ after (cond t h g)
-  pass true h f g e = refl
-  pass false h f g e = e
+  beside : (k : Kind) (p : Place) → noteFound k p (fieldsOf b) ≡ noteFound k p (fieldsOf a)
+  unfolding noteFound noted fieldsOf
+  beside k Nowhere = refl
+  beside k (At start size) = rw (family, total, between 20 (omega arith) (omega arith))
 
-  screen-same : screenOf s len b ≡ screenOf s len a
-  unfolding screenOf headerOf flaggedOf
+  comment-b : hasFlag b 0x1 ≡ true
+  comment-b = ap (λ (n : ℕ). eqb (n / 0x1 % 2) 1) (low 8 (omega arith)) ∙ y
+
+  found-same : (r : Rooms) → found r n t (fieldsOf b) ≡ found r n t (fieldsOf a)
+  found-same r =
+      let k = noteKind n t (fieldsOf a) in
+      found-comment r n t (fieldsOf b) (unfold fieldsOf in comment-b)
+      ∙ ap (λ (k : Kind). noteFound k (roomIn r k) (fieldsOf b)) (kinds t)
+      ∙ beside k (roomIn r k)
+      ∙ sym (found-comment r n t (fieldsOf a) (unfold fieldsOf in y))
+
+  abbrev after : Rooms → Header → Screening
+  after r h = afterHeader h (found r n t)
+
+  pass : (r : Rooms) (c : Bool) (h f g : Header) → after r f ≡ after r g → after r (cond c h f) ≡ after r (cond c h g)
+  pass r true h f g e = refl
+  pass r false h f g e = e
+
+  screen-same : screenOf s n t b ≡ screenOf s n t a
+  unfolding screenOf screenIn headerOf flaggedOf
   screen-same =
-      rw (low 0 (omega arith), low 4 (omega arith), low 8 (omega arith), last)
-      (pass (not (eqb (fieldAt a 0) 0x0A324655)) header.NotBlock _ _
-      (pass (not (eqb (fieldAt a 4) 0x9E5D5157)) header.NotBlock _ _
-      (pass (not (eqb (fieldAt a 508) 0x0AB16F30)) header.NotBlock _ _
-      (pass (hasFlag a 0x1000) header.Container _ _
-      (pass (not (hasFlag a 0x2000)) header.NoFamily (header.Found (fieldsOf b)) (header.Found (fieldsOf a)) found-same)))))
+      let r = roomsOf s (n .flash) (fieldAt a 28) in
+      rw (family, low 0 (omega arith), low 4 (omega arith), low 8 (omega arith), last)
+      (pass r (not (eqb (fieldAt a 0) 0x0A324655)) header.NotBlock _ _
+      (pass r (not (eqb (fieldAt a 4) 0x9E5D5157)) header.NotBlock _ _
+      (pass r (not (eqb (fieldAt a 508) 0x0AB16F30)) header.NotBlock _ _
+      (pass r (hasFlag a 0x1000) header.Container _ _
+      (pass r (not (hasFlag a 0x2000)) header.NoFamily (header.Found (fieldsOf b)) (header.Found (fieldsOf a)) (found-same r))))))
 
 -- an accepted comment does not read its payload
 payload-unread : (s : Settings) (w : World) (a : List ℕ) (p : List ℕ) {d : Decision} → DecisionFacts s w a d → hasFlag a 0x1 ≡ true
     → done w p d ≡ done w (payloadOf a) d
 unfolding done acceptOf
 payload-unread s w a p (kept x h) y = refl
-payload-unread s w a p (took g k B l q t) y = rw (passing-note s (flashOf w) a g q (B .flash) (B .good) y)
+payload-unread s w a p (took g k B l q t) y = let e : deedAt s w a g ≡ Notes = deed-is s w a g k q B ∙ rw y in rw e
 
 pub comments-unread : Comments-unread
 unfolding Comments-unread receiveOf
 comments-unread s w a i x y o =
     ap (done w (payloadOf (set a i x))) same ∙ payload-unread s w a (payloadOf (set a i x)) (decision-facts s w a) y
   where
+    at : (b : Bool) → decide s (lens w) (length (w .held .sectors)) (w .transfer) (w .seen) b (set a i x)
+        ≡ decide s (lens w) (length (w .held .sectors)) (w .transfer) (w .seen) b a
+    at b = unfold decide in rw (length-set a i x, screen-same s (lens w) (w .transfer) a i x y o)
+
+    -- nor is the region of a comment
     same : decided s w (set a i x) ≡ decided s w a
-    same = unfold decide in rw (length-set a i x, screen-same s (flashOf w) a i x y o)
+    same =
+        at (standing s (w .held .flash) (set a i x))
+        ∙ decide-same s w a (standing s (w .held .flash) (set a i x)) (standing s (w .held .flash) a) (λ g p. let e : g .body ≡ Note = p .body ∙ rw y in rw e)
 
 -- ---- the first of two stands
 
@@ -197,13 +228,13 @@ no-step (Running r) seen g n d k f s =
 no-step (Done h) seen g n d k f s = let r = f .going refl in let e = r .1 in let z : _≡_ {A = ℕ} 0 1 = cc in omega arith
 
 accepted-stands : (s : Settings) (w : World) (a : List ℕ) {d : Decision} → DecisionFacts s w a d → 14 ≤ numberOf (done w (payloadOf a) d .answer)
-    → Standing (headOf a) (fieldAt a 20) (done w (payloadOf a) d .world .transfer) (done w (payloadOf a) d .world .seen)
+    → Standing (headOf w a) (fieldAt a 20) (done w (payloadOf a) d .world .transfer) (done w (payloadOf a) d .world .seen)
 unfolding done acceptOf
 accepted-stands s w a (kept x h) n = absurd (omega arith)
 accepted-stands s w a (took g k B l q t) n =
     let c : ℕ = raisedCount t in
     let room : g .number / 8 < length (clearedIf (k .clears) (w .seen)) =
-    omega (arith, length-cleared (k .clears) (w .seen), B .seen, q .number, q .below, passing-few s (flashOf w) a g q (B .flash) (B .good)) in
+    omega (arith, length-cleared (k .clears) (w .seen), B .seen, q .number, q .below, passing-few s w a g q B) in
     rw (took-state t, ← q .head, ← q .number)
     (counted-stands (g .head) (g .number) c (withMark (clearedIf (k .clears) (w .seen)) (g .number)) (marked-same (clearedIf (k .clears) (w .seen)) (g .number) room))
 
@@ -240,18 +271,18 @@ stands-all s g n (b ∷ l) w e st =
     stands-all s g n l (receiveOf s w b .world) (or-right (receiveOf s w b .discarded) (anyDiscard s (receiveOf s w b .world) l) e)
     (unfold receiveOf in stands-next s w b g n (decision-facts s w b) p st)
 
-refused-again : (s : Settings) (v : World) (b : List ℕ) {d : Decision} → DecisionFacts s v b d → Standing (headOf b) (fieldAt b 20) (v .transfer) (v .seen)
+refused-again : (s : Settings) (v : World) (b : List ℕ) {d : Decision} → DecisionFacts s v b d → Standing (headOf v b) (fieldAt b 20) (v .transfer) (v .seen)
     → numberOf (done v (payloadOf b) d .answer) ≤ 13
 unfolding done
 refused-again s v b (kept x h) st = h
 refused-again s v b (took g k B l q t) st =
-    absurd (no-step (v .transfer) (v .seen) (g .head) (g .number) (deedOf (g .body)) k t (rw (q .head, q .number) st))
+    absurd (no-step (v .transfer) (v .seen) (g .head) (g .number) (deedAt s v b g) k t (rw (q .head, q .number) st))
 
 pub first-stands : First-stands
 unfolding First-stands receiveAll
 first-stands s w a b l n e h m =
     let u = receiveOf s w a .world in
-    let st : Standing (headOf a) (fieldAt a 20) (u .transfer) (u .seen) = unfold receiveOf in accepted-stands s w a (decision-facts s w a) n in
+    let st : Standing (headOf w a) (fieldAt a 20) (u .transfer) (u .seen) = unfold receiveOf in accepted-stands s w a (decision-facts s w a) n in
     let v = receiveAll s u l in
-    let sv : Standing (headOf a) (fieldAt a 20) (v .transfer) (v .seen) = stands-all s (headOf a) (fieldAt a 20) l u e st in
+    let sv : Standing (headOf w a) (fieldAt a 20) (v .transfer) (v .seen) = stands-all s (headOf w a) (fieldAt a 20) l u e st in
     unfold receiveOf in refused-again s v b (decision-facts s v b) (rw (h, m) sv)

@@ -14,54 +14,64 @@ use Rattle.flash.specs.Flash.{flashLength}
 use Rattle.settings.specs.declared.Settings.{Settings}
 use Rattle.settings.specs.Settings.{goodSettings}
 use Rattle.transfer.specs.Transfer.{numberOf, countOf, goodState, sameHead, counted, deedAnswer, raised, accepted, stepOf}
+use Rattle.transfer.specs.declared.Kind.the-variants.{MainRam, XipRam}
 use Rattle.transfer.specs.declared.Head.{Head}
 use Rattle.transfer.specs.declared.Run.{Run}
 use Rattle.transfer.specs.declared.State.{State}
 use Rattle.transfer.specs.declared.State.the-variants.{Idle, Running, Done}
 use Rattle.transfer.specs.declared.Deed.{Deed}
-use Rattle.transfer.specs.declared.Deed.the-variants.{Stores, Notes}
+use Rattle.transfer.specs.declared.Deed.the-variants.{Stores, Notes, Keeps}
 use Rattle.transfer.specs.declared.Accepted.{Accepted}
 use Rattle.transfer.specs.declared.Step.{Step}
 use Rattle.transfer.specs.declared.Step.the-variants.{Stays, Accepts}
 use Rattle.transfer.specs.declared.Answer.{Answer}
 use Rattle.transfer.specs.declared.Answer.the-variants.{BadBuffers, BadSettings, BadState}
 use Rattle.screen.specs.Screen.{screenOf}
+use Rattle.screen.specs.declared.Lengths.{Lengths}
 use Rattle.screen.specs.declared.Placed.{Placed}
 use Rattle.screen.specs.declared.Screening.{Screening}
 use Rattle.screen.specs.declared.Screening.the-variants.{Refused, Passed}
-use Rattle.arrival.specs.Arrive.{World, Decision, stays, accepts, rightLengths, deedOf, stepped, afterScreening, decide, decided}
+use Rattle.arrival.specs.Arrive.{World, Decision, outcomeNumber, done, stays, accepts, ramLength, rightLengths, standing, deedOf, stepped, afterScreening, decide, decided}
 use Rattle.arrival.specs.Tally.{clears}
 use Rattle.arrival.proofs.Heads.{head-same}
-use Rattle.arrival.proofs.Screening.{Passing, Good, screen-good}
+use Rattle.arrival.proofs.Screening.{flashOf, lens, Board, Passing, Good, screen-good}
 
 -- ---- rows 1 to 3
 
-abbrev pub flashOf : World → ℕ
-flashOf w = length (w .held .flash)
-
--- settings, buffers and transfer that pass rows 1 to 3
-pub record Board (s : Settings) (w : World) : Type 0 where
-  pub flash : flashLength (flashOf w) ≡ true
-  pub seen : length (w .seen) ≡ 16384
-  pub sectors : length (w .held .sectors) ≡ 1024
-  pub good : goodSettings s (flashOf w) ≡ true
-  pub state : goodState (w .transfer) ≡ true
-
 pub board-decides : (s : Settings) (w : World) (a : List ℕ) → Board s w → length a ≡ 512
-    → decided s w a ≡ afterScreening (w .transfer) (w .seen) (screenOf s (flashOf w) a)
+    → decided s w a ≡ afterScreening (w .transfer) (w .seen) (standing s (w .held .flash) a) (screenOf s (lens w) (w .transfer) a)
 unfolding decide rightLengths
-board-decides s w a B l = rw (l, B .flash, B .seen, B .sectors, B .good, B .state)
+board-decides s w a B l = rw (l, B .flash, B .seen, B .sectors, B .main, B .xip, B .good, B .state)
 
-right-true : (a f m k : ℕ) → rightLengths a f m k ≡ true → (a ≡ 512) × (flashLength f ≡ true) × (m ≡ 16384) × (k ≡ 1024)
+pub record Right (a : ℕ) (n : Lengths) (m k : ℕ) : Type 0 where
+  pub arrival : a ≡ 512
+  pub flash : flashLength (n .flash) ≡ true
+  pub seen : m ≡ 16384
+  pub sectors : k ≡ 1024
+  pub main : ramLength MainRam (n .main) ≡ true
+  pub xip : ramLength XipRam (n .xip) ≡ true
+
+pub right-true : (a : ℕ) (n : Lengths) (m k : ℕ) → rightLengths a n m k ≡ true → Right a n m k
 unfolding rightLengths
-right-true a f m k e =
-    let p = and-left (eqb a 512 && flashLength f && eqb m 16384) (eqb k 1024) e in
-    let q = and-left (eqb a 512 && flashLength f) (eqb m 16384) p in (
-      eqb-true a 512 (and-left (eqb a 512) (flashLength f) q),
-      and-right (eqb a 512) (flashLength f) q,
-      eqb-true m 16384 (and-right (eqb a 512 && flashLength f) (eqb m 16384) p),
-      eqb-true k 1024 (and-right (eqb a 512 && flashLength f && eqb m 16384) (eqb k 1024) e),
-    )
+right-true a n m k e =
+    let p1 = eqb a 512 in
+    let p2 = flashLength (n .flash) in
+    let p3 = eqb m 16384 in
+    let p4 = eqb k 1024 in
+    let p5 = ramLength MainRam (n .main) in
+    let p6 = ramLength XipRam (n .xip) in
+    let e5 = and-left (p1 && p2 && p3 && p4 && p5) p6 e in
+    let e4 = and-left (p1 && p2 && p3 && p4) p5 e5 in
+    let e3 = and-left (p1 && p2 && p3) p4 e4 in
+    let e2 = and-left (p1 && p2) p3 e3 in
+    record {
+      arrival = eqb-true a 512 (and-left p1 p2 e2);
+      flash = and-right p1 p2 e2;
+      seen = eqb-true m 16384 (and-right (p1 && p2) p3 e3);
+      sectors = eqb-true k 1024 (and-right (p1 && p2 && p3) p4 e4);
+      main = and-right (p1 && p2 && p3 && p4) p5 e5;
+      xip = and-right (p1 && p2 && p3 && p4 && p5) p6 e;
+    }
 
 pub data Rows (s : Settings) (w : World) (a : List ℕ) : Type 0 where
   stopped : (x : Answer) → numberOf x ≤ 3 → decided s w a ≡ stays x → Rows s w a
@@ -69,19 +79,29 @@ pub data Rows (s : Settings) (w : World) (a : List ℕ) : Type 0 where
 
 pub rows : (s : Settings) (w : World) (a : List ℕ) → Rows s w a
 rows s w a =
-    split (rightLengths (length a) (flashOf w) (length (w .seen)) (length (w .held .sectors)))
+    split (rightLengths (length a) (lens w) (length (w .seen)) (length (w .held .sectors)))
     (λ y.
     split (goodSettings s (flashOf w))
     (λ g.
     split (goodState (w .transfer))
     (λ t.
-    let r = right-true (length a) (flashOf w) (length (w .seen)) (length (w .held .sectors)) y in
-    through (record { flash = r .1; seen = r .2; sectors = r .3; good = g; state = t }) (r .0))
+    let r = right-true (length a) (lens w) (length (w .seen)) (length (w .held .sectors)) y in
+    through
+    (record {
+      flash = r .flash;
+      seen = r .seen;
+      sectors = r .sectors;
+      main = r .main;
+      xip = r .xip;
+      good = g;
+      state = t;
+    })
+    (r .arrival))
     (λ t. stopped BadState (omega arith) (unfold decide in rw (y, g, t))))
     (λ g. stopped BadSettings (omega arith) (unfold decide in rw (y, g))))
     (λ y. stopped BadBuffers (omega arith) (unfold decide in rw y))
 
--- ---- rows 12 to 16
+-- ---- rows 12 to 17
 
 pub raised-number : (d : Deed) (g : Head) (c : ℕ) → 14 ≤ numberOf (raised d g c)
 unfolding raised
@@ -90,6 +110,17 @@ raised-number d g c = split (ltb c (g .total)) (λ y. rw y (least d)) (λ z. rw 
     least : (d : Deed) → 14 ≤ numberOf (deedAnswer d)
     least Stores = omega arith
     least Notes = omega arith
+    least Keeps = omega arith
+
+-- a block that passes is answered 12 or more
+pub step-late : (w : World) (p : List ℕ) (g : Placed) (d : Deed) (t : State) (b : Bool) → 12 ≤ outcomeNumber (done w p (stepped g d (stepOf t (g .head) b d)))
+unfolding done stepOf accepted
+step-late w p g d Idle b = omega (arith, raised-number d (g .head) 1)
+step-late w p g d (Running r) b =
+    split (sameHead (r .head) (g .head))
+    (λ q. rw q (split b (λ y. rw y (omega arith)) (λ z. rw z (omega (arith, raised-number d (g .head) (r .count + 1))))))
+    (λ q. rw q (omega (arith, raised-number d (g .head) 1)))
+step-late w p g d (Done h) b = omega arith
 
 -- a step that accepts a block of head g to a transfer t, where its number is marked or not, and which does d
 pub record AcceptFacts (t : State) (g : Head) (marked : Bool) (d : Deed) (k : Accepted) : Type 0 where
@@ -148,30 +179,46 @@ module _ {t : State} {g : Head} {m : Bool} {d : Deed} {k : Accepted} (q : Accept
 
 -- ---- every row
 
+-- what a block g does that the arrival passes as
+abbrev pub deedAt : Settings → World → List ℕ → Placed → Deed
+deedAt s w a g = deedOf (standing s (w .held .flash) a) g
+
 pub data DecisionFacts (s : Settings) (w : World) (a : List ℕ) : Decision → Type 0 where
   kept : (x : Answer) → numberOf x ≤ 13 → DecisionFacts s w a (stays x)
-  took : (g : Placed) (k : Accepted) → Board s w → length a ≡ 512 → Passing s (flashOf w) a g
-      → AcceptFacts (w .transfer) (g .head) (markedIn (w .seen) (g .number)) (deedOf (g .body)) k
-      → DecisionFacts s w a (accepts g (deedOf (g .body)) k)
+  took : (g : Placed) (k : Accepted) → Board s w → length a ≡ 512 → Passing s w a g
+      → AcceptFacts (w .transfer) (g .head) (markedIn (w .seen) (g .number)) (deedAt s w a g) k
+      → DecisionFacts s w a (accepts g (deedAt s w a g) k)
 
 pub decision-facts : (s : Settings) (w : World) (a : List ℕ) → DecisionFacts s w a (decided s w a)
 decision-facts s w a = go (rows s w a)
   where
-    steps : Board s w → length a ≡ 512 → (g : Placed) → Passing s (flashOf w) a g → (st : Step)
-        → StepFacts (w .transfer) (g .head) (markedIn (w .seen) (g .number)) (deedOf (g .body)) st
-        → DecisionFacts s w a (stepped g (deedOf (g .body)) st)
+    steps : Board s w → length a ≡ 512 → (g : Placed) → Passing s w a g → (st : Step)
+        → StepFacts (w .transfer) (g .head) (markedIn (w .seen) (g .number)) (deedAt s w a g) st
+        → DecisionFacts s w a (stepped g (deedAt s w a g) st)
     steps B l g p (Stays x) h = kept (x .answer) h
     steps B l g p (Accepts k) h = took g k B l p h
 
-    look : Board s w → length a ≡ 512 → (x : Screening) → Good s (flashOf w) a x → DecisionFacts s w a (afterScreening (w .transfer) (w .seen) x)
+    look : Board s w → length a ≡ 512 → (x : Screening) → Good s w a x
+        → DecisionFacts s w a (afterScreening (w .transfer) (w .seen) (standing s (w .held .flash) a) x)
     look B l (Refused x) h = unfold afterScreening in kept x (omega (arith, h))
     look B l (Passed g) h =
-        unfold afterScreening in steps B l g h (stepOf (w .transfer) (g .head) (markedIn (w .seen) (g .number)) (deedOf (g .body)))
-        (step-facts (w .transfer) (g .head) (markedIn (w .seen) (g .number)) (deedOf (g .body)))
+        unfold afterScreening in steps B l g h (stepOf (w .transfer) (g .head) (markedIn (w .seen) (g .number)) (deedAt s w a g))
+        (step-facts (w .transfer) (g .head) (markedIn (w .seen) (g .number)) (deedAt s w a g))
 
     go : Rows s w a → DecisionFacts s w a (decided s w a)
     go (stopped x h e) = subst (DecisionFacts s w a) (sym e) (kept x (omega arith))
-    go (through B l) = subst (DecisionFacts s w a) (sym (board-decides s w a B l)) (look B l (screenOf s (flashOf w) a) (screen-good s (flashOf w) a))
+    go (through B l) = subst (DecisionFacts s w a) (sym (board-decides s w a B l)) (look B l (screenOf s (lens w) (w .transfer) a) (screen-good s w a))
+
+-- ---- whether what the arrival would store stands is asked of a page alone
+
+pub decide-same : (s : Settings) (w : World) (a : List ℕ) (b c : Bool) → ((g : Placed) → Passing s w a g → deedOf b g ≡ deedOf c g)
+    → decide s (lens w) (length (w .held .sectors)) (w .transfer) (w .seen) b a ≡ decide s (lens w) (length (w .held .sectors)) (w .transfer) (w .seen) c a
+unfolding decide
+decide-same s w a b c e = rw (same (screenOf s (lens w) (w .transfer) a) (screen-good s w a))
+  where
+    same : (x : Screening) → Good s w a x → afterScreening (w .transfer) (w .seen) b x ≡ afterScreening (w .transfer) (w .seen) c x
+    same (Refused x) h = unfold afterScreening in refl
+    same (Passed g) h = unfold afterScreening in rw (e g h)
 
 -- ---- the transfer that comes back passes row 3
 

@@ -9,32 +9,36 @@ use Rattle.flash.specs.Flash.{flashLength, payloadOf}
 use Rattle.settings.specs.declared.Settings.{Settings}
 use Rattle.settings.specs.Settings.{goodSettings}
 use Rattle.transfer.specs.Transfer.{countOf, goodState, accepted}
+use Rattle.transfer.specs.declared.Kind.the-variants.{MainRam, XipRam}
 use Rattle.transfer.specs.declared.Head.{Head}
 use Rattle.transfer.specs.declared.Answer.{Answer}
 use Rattle.screen.specs.Screen.{screenOf}
+use Rattle.screen.specs.declared.Lengths.{Lengths}
 use Rattle.screen.specs.declared.Placed.{Placed}
 use Rattle.screen.specs.declared.Screening.the-variants.{Refused, Passed}
-use Rattle.arrival.specs.Arrive.{World, Decision, afterScreening, acceptOf, unchanged, done, receiveOf}
+use Rattle.arrival.specs.Arrive.{World, Decision, ramLength, standing, afterScreening, acceptOf, unchanged, done, receiveOf}
 use Rattle.arrival.specs.Facts.{Arrivals-keep-lengths}
 use Rattle.arrival.specs.Lists.{receiveAll}
 use Rattle.arrival.specs.Tally.{clears}
 use Rattle.arrival.proofs.Pages.{arrive}
-use Rattle.arrival.proofs.Screening.{passing-few}
-use Rattle.arrival.proofs.DecisionFacts.{flashOf, Board, board-decides, DecisionFacts, kept, took, decision-facts, counted-good}
+use Rattle.arrival.proofs.Screening.{lens, Board, passing-few}
+use Rattle.arrival.proofs.DecisionFacts.{board-decides, DecisionFacts, kept, took, decision-facts, counted-good}
 use Rattle.arrival.proofs.Facts.{arrivals-keep-lengths}
 
 -- ---- an arrival that has passed rows 1 to 3, by what it is screened to
 
 module _ (s : Settings) (w : World) (a : List ℕ) (B : Board s w) (l : length a ≡ 512) where
-  pub receive-refused : (x : Answer) → screenOf s (flashOf w) a ≡ Refused x → receiveOf s w a ≡ unchanged w x
+  pub receive-refused : (x : Answer) → screenOf s (lens w) (w .transfer) a ≡ Refused x → receiveOf s w a ≡ unchanged w x
   unfolding receiveOf
   receive-refused x e =
-      ap (done w (payloadOf a)) (board-decides s w a B l ∙ ap (afterScreening (w .transfer) (w .seen)) e) ∙ unfold afterScreening done in refl
+      ap (done w (payloadOf a)) (board-decides s w a B l ∙ ap (afterScreening (w .transfer) (w .seen) (standing s (w .held .flash) a)) e)
+      ∙ unfold afterScreening done in refl
 
-  pub receive-passed : (p : Placed) → screenOf s (flashOf w) a ≡ Passed p → receiveOf s w a ≡ arrive w p a
+  pub receive-passed : (p : Placed) → screenOf s (lens w) (w .transfer) a ≡ Passed p → receiveOf s w a ≡ arrive w (standing s (w .held .flash) a) p a
   unfolding receiveOf
   receive-passed p e =
-      ap (done w (payloadOf a)) (board-decides s w a B l ∙ ap (afterScreening (w .transfer) (w .seen)) e) ∙ unfold afterScreening arrive in refl
+      ap (done w (payloadOf a)) (board-decides s w a B l ∙ ap (afterScreening (w .transfer) (w .seen) (standing s (w .held .flash) a)) e)
+      ∙ unfold afterScreening arrive in refl
 
 -- ---- rows 1 to 3 stay passed
 
@@ -46,36 +50,39 @@ state-next s w a (took g k B l q t) e =
     rw (t .is)
     (counted-good (g .head) (g .number) (cond (clears (w .transfer) (g .head)) 1 (countOf (w .transfer) + 1)) (least (clears (w .transfer) (g .head)))
     (omega (arith, q .number, q .below, ap (λ (h : Head). h .total) (q .head)))
-    (omega (arith, passing-few s (flashOf w) a g q (B .flash) (B .good), ap (λ (h : Head). h .total) (q .head))))
+    (omega (arith, passing-few s w a g q B, ap (λ (h : Head). h .total) (q .head))))
   where
     least : (b : Bool) → 1 ≤ cond b 1 (countOf (w .transfer) + 1)
     least true = omega arith
     least false = omega arith
 
-pub flash-next : (s : Settings) (w : World) (a : List ℕ) → flashOf (receiveOf s w a .world) ≡ flashOf w
-flash-next s w a = unfold Arrivals-keep-lengths in arrivals-keep-lengths s w a .flash
+pub lens-next : (s : Settings) (w : World) (a : List ℕ) → lens (receiveOf s w a .world) ≡ lens w
+lens-next s w a = unfold Arrivals-keep-lengths in arrivals-keep-lengths s w a .buffers
 
 pub board-next : (s : Settings) (w : World) (a : List ℕ) → Board s w → Board s (receiveOf s w a .world)
 board-next s w a B =
+    let e : lens (receiveOf s w a .world) ≡ lens w = lens-next s w a in
     record {
-      flash = ap flashLength (flash-next s w a) ∙ B .flash;
+      flash = ap (λ (n : Lengths). flashLength (n .flash)) e ∙ B .flash;
       seen = unfold Arrivals-keep-lengths in arrivals-keep-lengths s w a .seen ∙ B .seen;
       sectors = unfold Arrivals-keep-lengths in arrivals-keep-lengths s w a .sectors ∙ B .sectors;
-      good = ap (goodSettings s) (flash-next s w a) ∙ B .good;
+      main = ap (λ (n : Lengths). ramLength MainRam (n .main)) e ∙ B .main;
+      xip = ap (λ (n : Lengths). ramLength XipRam (n .xip)) e ∙ B .xip;
+      good = ap (λ (n : Lengths). goodSettings s (n .flash)) e ∙ B .good;
       state = unfold receiveOf in state-next s w a (decision-facts s w a) (B .state);
     }
 
 -- ---- the worlds that a list from w on meets
 
--- rows 1 to 3 are passed, and the flash has w's length
-pub record Met (s : Settings) (w v : World) : Type 0 where
+-- rows 1 to 3 are passed, and the buffers have w's lengths
+pub record Reached (s : Settings) (w v : World) : Type 0 where
   pub board : Board s v
-  pub flash : flashOf v ≡ flashOf w
+  pub lengths : lens v ≡ lens w
 
-pub met-next : (s : Settings) (w v : World) (a : List ℕ) → Met s w v → Met s w (receiveOf s v a .world)
-met-next s w v a m = record { board = board-next s v a (m .board); flash = flash-next s v a ∙ m .flash }
+pub reached-next : (s : Settings) (w v : World) (a : List ℕ) → Reached s w v → Reached s w (receiveOf s v a .world)
+reached-next s w v a m = record { board = board-next s v a (m .board); lengths = lens-next s v a ∙ m .lengths }
 
-pub met-after : (s : Settings) (w : World) (l : List (List ℕ)) (v : World) → Met s w v → Met s w (receiveAll s v l)
+pub reached-after : (s : Settings) (w : World) (l : List (List ℕ)) (v : World) → Reached s w v → Reached s w (receiveAll s v l)
 unfolding receiveAll
-met-after s w [] v m = m
-met-after s w (a ∷ l) v m = met-after s w l (receiveOf s v a .world) (met-next s w v a m)
+reached-after s w [] v m = m
+reached-after s w (a ∷ l) v m = reached-after s w l (receiveOf s v a .world) (reached-next s w v a m)

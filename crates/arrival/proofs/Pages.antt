@@ -1,6 +1,7 @@
 -- An arrival that has passed rows 1 to 11: what it comes to, and what it does once it is accepted. Assumes nothing.
 use Prim.Native.Nat.{ℕ}
 use mathlib.Core.Path.{_≡_, refl}
+use mathlib.Core.Bool.{Bool}
 use mathlib.Core.List.{List}
 use Rattle.bitmap.specs.Bitmap.{markedIn}
 use Rattle.flash.specs.Flash.{payloadOf}
@@ -9,16 +10,16 @@ use Rattle.transfer.specs.declared.Accepted.{Accepted}
 use Rattle.screen.specs.declared.Placed.{Placed}
 use Rattle.arrival.specs.Arrive.{Held, World, Outcome, deedOf, stepped, wipedIf, atOf, doneTo, acceptOf, done}
 
--- rows 12 to 16 of the arrival a, which passes as p
-unfoldable pub arrive : World → Placed → List ℕ → Outcome
-arrive w p a =
-    done w (payloadOf a) (stepped p (deedOf (p .body)) (stepOf (w .transfer) (p .head) (markedIn (w .seen) (p .number)) (deedOf (p .body))))
+-- rows 12 to 17 of the arrival a, which passes as p, where what it would store stands or not
+unfoldable pub arrive : World → Bool → Placed → List ℕ → Outcome
+arrive w b p a =
+    done w (payloadOf a) (stepped p (deedOf b p) (stepOf (w .transfer) (p .head) (markedIn (w .seen) (p .number)) (deedOf b p)))
 
--- what it does to flash and sector map
-unfoldable pub apply : Placed → List ℕ → Held → Held
-apply p a h = doneTo (deedOf (p .body)) (atOf (p .body)) (payloadOf a) h
+-- what it does to the buffers of its kind
+unfoldable pub apply : Bool → Placed → List ℕ → Held → Held
+apply b p a h = doneTo (deedOf b p) (p .head .kind) (atOf (p .body)) (payloadOf a) h
 
-pub took-held : (w : World) (a : List ℕ) (p : Placed) (t : Accepted)
-    → acceptOf w (payloadOf a) p (deedOf (p .body)) t .held ≡ apply p a (wipedIf (t .clears) (w .held))
+pub took-held : (w : World) (a : List ℕ) (b : Bool) (p : Placed) (t : Accepted)
+    → acceptOf w (payloadOf a) p (deedOf b p) t .held ≡ apply b p a (wipedIf (t .clears) (w .held))
 unfolding acceptOf apply
-took-held w a p t = refl
+took-held w a b p t = refl

@@ -10,11 +10,11 @@ use borrow.Author.Tests.{eqb-true, eqb-false, lt-ltb, ltb-true}
 use Rattle.sets.specs.Sets.{Set, add}
 use Rattle.sets.proofs.Tests.{split, clash, is-false, eqb-same, and-left, and-right}
 use Rattle.settings.specs.declared.Settings.{Settings}
-use Rattle.arrival.specs.Arrive.{Held, World, Outcome, unchanged, receiveOf}
-use Rattle.arrival.specs.Lists.{receiveAll}
+use Rattle.arrival.specs.Arrive.{Held, World, receiveOf}
+use Rattle.arrival.specs.Lists.{receiveAll, AtEach}
 use Rattle.arrival.specs.Demand.{File, Mixed, nothing, own, other, sameBytes, among, seenOf}
-use Rattle.arrival.proofs.Count.{Blocks, count, bytesOf, coming, Keeps, Opens, After, Stepped, block-step}
-use Rattle.arrival.proofs.Lists.{Met, met-next}
+use Rattle.arrival.proofs.Count.{Blocks, count, bytesOf, coming, Any, Invariant, Opens, After, Stepped, block-step, Carried, after-carried}
+use Rattle.arrival.proofs.Lists.{Reached, reached-next}
 
 -- the bytes of two arrivals
 pub same-true : (a b : List ℕ) → sameBytes a b ≡ true → a ≡ b
@@ -62,6 +62,11 @@ mixed-split F P (a ∷ l) m p = go (λ r. mixed-split F P l m r) refl p
         let q = f (subst (Mixed F P) y r) in
         (subst (λ (b : List ℕ). Mixed F P (b ∷ l)) x (other b g (q .0)), q .1)
 
+pub mixed-map : {F : File} {P Q : List ℕ → Type 0} {l : List (List ℕ)} → ((a : List ℕ) → P a → Q a) → Mixed F P l → Mixed F Q l
+mixed-map f nothing = nothing
+mixed-map f (own k h p) = own k h (mixed-map f p)
+mixed-map f (other a q p) = other a (f a q) (mixed-map f p)
+
 -- ---- what is seen
 
 pub seen-nothing : (F : File) (j : ℕ) → seenOf F [] j ≡ false
@@ -71,11 +76,11 @@ seen-nothing F j = and-false (ltb j (F .total))
 pub seen-append : (F : File) (l m : List (List ℕ)) (j : ℕ) → seenOf F (l ++ m) j ≡ seenOf F l j || seenOf F m j
 seen-append F l m j = rw (among-append (F .block j) l m) (and-or-distrib-left (ltb j (F .total)) (among (F .block j) l) (among (F .block j) m))
 
--- the blocks of a file and the arrivals of which P holds, at every world that a list from w on meets: a block comes to what its page does,
--- an arrival of P changes nothing, and no two of them are the same
+-- the blocks of a file and the arrivals of which P holds, at every world that a list of them from w on meets: a block comes to what its page
+-- does, an arrival of P changes nothing, and no two of them are the same
 pub record Steady (s : Settings) (w : World) (F : Blocks) (P : List ℕ → Type 0) : Type 0 where
-  pub ours : (v : World) → Met s w v → (k : ℕ) → k < count F → receiveOf s v (bytesOf F k) ≡ coming F v k
-  pub foreign : (v : World) → Met s w v → (a : List ℕ) → P a → receiveOf s v a ≡ unchanged v (receiveOf s w a .answer)
+  pub ours : (v : World) → Reached s w v → Carried F w (v .transfer) → (k : ℕ) → k < count F → receiveOf s v (bytesOf F k) ≡ coming F v k
+  pub foreign : (v : World) → Reached s w v → Carried F w (v .transfer) → (a : List ℕ) → P a → receiveOf s v a .world ≡ v
   pub different : (j k : ℕ) → j < count F → k < count F → bytesOf F j ≡ bytesOf F k → j ≡ k
   pub apart : (j : ℕ) → j < count F → P (bytesOf F j) → ⊥
 
@@ -120,11 +125,21 @@ module _ (s : Settings) (w : World) (F : Blocks) (P : List ℕ → Type 0) (R : 
 
 -- ---- a list
 
+-- the flash that each of its arrivals finds
+abbrev pub Along : (List ℕ → Type 0) → Settings → World → List (List ℕ) → Type 0
+Along Q s w l = AtEach (λ v. Q (v .held .flash)) s w l
+
+pub along-any : (s : Settings) (l : List (List ℕ)) (w : World) → Along Any s w l
+unfolding AtEach
+along-any s [] w = tt
+along-any s (a ∷ l) w = (tt, along-any s l (receiveOf s w a .world))
+
 -- S, and then the blocks seen in a list
 abbrev pub seenFrom : Blocks → Set → List (List ℕ) → Set
 seenFrom F S l j = S j || seenOf (F .file) l j
 
-module _ (s : Settings) (w : World) (F : Blocks) (P : List ℕ → Type 0) (R : Steady s w F P) (Inv : Set → Held → Type 0) (K : Keeps F (w .held) Inv) (d : Bool) (o : Opens F w d) where
+module _ (s : Settings) (w : World) (F : Blocks) (P : List ℕ → Type 0) (R : Steady s w F P) (Inv : Set → Held → Type 0) (Met : List ℕ → Type 0)
+    (K : Invariant F (w .held) Inv Met) (d : Bool) (o : Opens F w d) where
   from-own : (S : Set) (k : ℕ) (l : List (List ℕ)) → k < count F → seenFrom F (add k S) l ≡ seenFrom F S (bytesOf F k ∷ l)
   from-own S k l h =
       fun-ext
@@ -137,21 +152,24 @@ module _ (s : Settings) (w : World) (F : Blocks) (P : List ℕ → Type 0) (R : 
   from-other S a l f = fun-ext (λ j. ap (λ (T : Set). S j || T j) (sym (seen-other s w F P R a l f)))
 
   -- what a block leaves, and what it is told
-  pub own-step : (k : ℕ) → k < count F → (S : Set) (v : World) → Met s w v → After F w Inv S v → Stepped F w Inv d S k (receiveOf s v (bytesOf F k))
-  own-step k h S v m a = subst (Stepped F w Inv d S k) (sym (R .ours v m k h)) (block-step F w Inv K d o k h S v a)
+  pub own-step : (k : ℕ) → k < count F → (S : Set) (v : World) → Reached s w v → After F w Inv S v → Met (v .held .flash)
+      → Stepped F w Inv d S k (v .held .flash) (receiveOf s v (bytesOf F k))
+  own-step k h S v m a e =
+      subst (Stepped F w Inv d S k (v .held .flash)) (sym (R .ours v m (after-carried F w Inv S v a) k h)) (block-step F w Inv Met K d o k h S v a e)
 
   -- a foreign arrival leaves what it finds
-  pub other-step : (x : List ℕ) → P x → (S : Set) (v : World) → Met s w v → After F w Inv S v → After F w Inv S (receiveOf s v x .world)
-  other-step x f S v m a = subst (λ (u : Outcome). After F w Inv S (u .world)) (sym (R .foreign v m x f)) a
+  pub other-step : (x : List ℕ) → P x → (S : Set) (v : World) → Reached s w v → After F w Inv S v → After F w Inv S (receiveOf s v x .world)
+  other-step x f S v m a = subst (After F w Inv S) (sym (R .foreign v m (after-carried F w Inv S v a) x f)) a
 
-  pub run-after : {l : List (List ℕ)} → Mixed (F .file) P l → (S : Set) (v : World) → Met s w v → After F w Inv S v
+  -- the flash that each arrival finds is as `Met` says
+  pub run-after : {l : List (List ℕ)} → Mixed (F .file) P l → (S : Set) (v : World) → Reached s w v → After F w Inv S v → Along Met s v l
       → After F w Inv (seenFrom F S l) (receiveAll s v l)
-  unfolding receiveAll
-  run-after nothing S v m a =
+  unfolding receiveAll AtEach
+  run-after nothing S v m a e =
       subst (λ (T : Set). After F w Inv T v) (fun-ext (λ j. sym (ap (λ (b : Bool). S j || b) (seen-nothing (F .file) j) ∙ or-comm (S j) false))) a
-  run-after (own {l = l} k h r) S v m a =
+  run-after (own {l = l} k h r) S v m a e =
       subst (λ (T : Set). After F w Inv T (receiveAll s (receiveOf s v (bytesOf F k) .world) l)) (from-own S k l h)
-      (run-after r (add k S) (receiveOf s v (bytesOf F k) .world) (met-next s w v (bytesOf F k) m) (own-step k h S v m a .next))
-  run-after (other {l = l} x f r) S v m a =
+      (run-after r (add k S) (receiveOf s v (bytesOf F k) .world) (reached-next s w v (bytesOf F k) m) (own-step k h S v m a (e .0) .next) (e .1))
+  run-after (other {l = l} x f r) S v m a e =
       subst (λ (T : Set). After F w Inv T (receiveAll s (receiveOf s v x .world) l)) (from-other S x l f)
-      (run-after r S (receiveOf s v x .world) (met-next s w v x m) (other-step x f S v m a))
+      (run-after r S (receiveOf s v x .world) (reached-next s w v x m) (other-step x f S v m a) (e .1))

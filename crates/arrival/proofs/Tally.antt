@@ -21,11 +21,12 @@ use Rattle.transfer.specs.declared.State.{State}
 use Rattle.transfer.specs.declared.State.the-variants.{Idle, Running, Done}
 use Rattle.transfer.specs.declared.Deed.{Deed}
 use Rattle.transfer.specs.declared.Accepted.{Accepted}
-use Rattle.arrival.specs.Arrive.{World, Outcome, Decision, deedOf, clearedIf, acceptOf, done, receiveOf}
+use Rattle.arrival.specs.Arrive.{World, Outcome, Decision, clearedIf, acceptOf, done, receiveOf}
 use Rattle.arrival.specs.Lists.{Delivery, playAll}
-use Rattle.arrival.specs.Tally.{isAccepted, headOf, clears, acceptedBy, acceptedOf, anyAccepted, Count-is-marks}
+use Rattle.arrival.specs.Windows.{headOf}
+use Rattle.arrival.specs.Tally.{isAccepted, clears, acceptedBy, acceptedOf, anyAccepted, Count-is-marks}
 use Rattle.arrival.proofs.Screening.{passing-few}
-use Rattle.arrival.proofs.DecisionFacts.{flashOf, AcceptFacts, took-number, DecisionFacts, kept, took, decision-facts}
+use Rattle.arrival.proofs.DecisionFacts.{AcceptFacts, took-number, deedAt, DecisionFacts, kept, took, decision-facts}
 
 -- ---- the transfer and the seen map, A being what was accepted since the last clearing
 
@@ -91,7 +92,7 @@ counted-busy g c = split (ltb c (g .total)) (λ y. rw y) (λ z. rw z)
 -- what an outcome keeps: the map of the accepted numbers, and Idle exactly where none was
 pub record Keeping (s : Settings) (w : World) (a : List ℕ) (A : Set) (o : Outcome) : Type 0 where
   pub held : Kept (o .world .transfer) (o .world .seen)
-      (cond (isAccepted (o .answer)) (add (fieldAt a 20) (cond (clears (w .transfer) (headOf a)) none A)) A)
+      (cond (isAccepted (o .answer)) (add (fieldAt a 20) (cond (clears (w .transfer) (headOf w a)) none A)) A)
   pub busy : isIdle (o .world .transfer) ≡ not (isAccepted (o .answer)) && isIdle (w .transfer)
 
 keeping : (s : Settings) (w : World) (a : List ℕ) (A : Set) {d : Decision} → DecisionFacts s w a d → Kept (w .transfer) (w .seen) A
@@ -103,9 +104,9 @@ keeping s w a A (took g k B l q t) e =
     let b = clears (w .transfer) (g .head) in
     let y : isAccepted (k .answer) ≡ true = le-leb 14 (numberOf (k .answer)) (took-number t) in
     let total : g .head .total ≡ fieldAt a 24 = ap (λ (h : Head). h .total) (q .head) in
-    let few : g .head .total ≤ 131072 = omega (arith, passing-few s (flashOf w) a g q (B .flash) (B .good)) in
+    let few : g .head .total ≤ 131072 = omega (arith, passing-few s w a g q B) in
     let below : g .number < g .head .total = omega (arith, q .number, q .below) in
-    let r = ready (w .transfer) (w .seen) A (g .head) (g .number) (deedOf (g .body)) k (B .seen) few below t e b refl in
+    let r = ready (w .transfer) (w .seen) A (g .head) (g .number) (deedAt s w a g) k (B .seen) few below t e b refl in
     let c : cond b 0 (countOf (w .transfer)) + 1 ≡ cond b 1 (countOf (w .transfer) + 1) = plus b in
     let f : k .transfer .state ≡ counted (g .head) (cond b 0 (countOf (w .transfer)) + 1) =
     ap (λ (x : Accepted). x .transfer .state) (t .is) ∙ ap (counted (g .head)) (sym c) in

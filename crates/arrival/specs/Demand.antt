@@ -2,32 +2,42 @@
 -- Proved in proofs/Demand.antt. Assumes nothing.
 use Prim.Native.Nat.{ℕ, _+_, _-_, _/_, _≤_, _<_}
 use mathlib.Core.Path.{_≡_}
+use mathlib.Core.Logic.{_≢_}
 use mathlib.Core.Bool.{Bool, true, false, not, cond, _&&_, _||_}
-use mathlib.Core.List.{List, [], _∷_, _++_}
+use mathlib.Core.List.{List, [], _∷_, _++_, map}
 use lib.Dec.{eqb, ltb, leb}
 use lib.ListN.{length, getD}
 use Rattle.sets.specs.Sets.{Set, none, add, size, any}
 use Rattle.bitmap.specs.Bitmap.{mapOf}
 use Rattle.flash.specs.Flash.{payloadOf, spans}
-use Rattle.block.specs.Block.{fieldAt, hasFlag}
+use Rattle.block.specs.Block.{fieldAt, hasFlag, headerOf}
+use Rattle.block.specs.Region.{regionOf}
+use Rattle.region.specs.Regions.{goodRegion}
+use Rattle.block.specs.declared.Header.{Header}
+use Rattle.block.specs.declared.Header.the-variants as header
 use Rattle.settings.specs.declared.Settings.{Settings}
 use Rattle.place.specs.Place.{placeOf}
 use Rattle.place.specs.declared.Place.{Place}
 use Rattle.place.specs.declared.Place.the-variants.{Nowhere, At}
-use Rattle.transfer.specs.Transfer.{headWith, numberOf, running}
+use Rattle.transfer.specs.Transfer.{sameKind, headWith, numberOf, running}
+use Rattle.transfer.specs.declared.Kind.{Kind}
+use Rattle.transfer.specs.declared.Kind.the-variants.{Flash, MainRam, XipRam}
 use Rattle.transfer.specs.declared.Head.{Head}
 use Rattle.transfer.specs.declared.State.the-variants.{Idle, Done}
 use Rattle.transfer.specs.declared.Answer.{Answer}
 use Rattle.transfer.specs.declared.Answer.the-variants.{Finished, Again, Written, Completed, Noted}
-use Rattle.arrival.specs.Arrive.{World, outcomeNumber, receiveOf}
+use Rattle.arrival.specs.Arrive.{World, bufferOf, lengthsOf, outcomeNumber, receiveOf}
+use Rattle.arrival.specs.Windows.{windowStart, lies}
 use Rattle.arrival.specs.Lists.{receiveAll, answersOf}
+use Rattle.arrival.specs.Kept.{soft}
 
 -- ---- a valid file
 
--- a file of `total` blocks of one family: the arrival that is block k
+-- a file of `total` blocks of one family and one kind (02, L8): the arrival that is block k
 pub record File : Type 0 where
   pub total : ℕ
   pub family : ℕ
+  pub kind : Kind
   pub block : ℕ → List ℕ
 
 -- "Whether a block earns 1 to 11 is asked with the fixed settings and what is lent at the start."
@@ -38,22 +48,44 @@ answerNumber s w a = outcomeNumber (receiveOf s w a)
 abbrev pub isData : File → ℕ → Bool
 isData F k = not (hasFlag (F .block k) 0x1)
 
--- "numbers 0 to n-1 once each, n at least 1, one family, the total n in every block, different addresses, no block earning answers 1 to 11";
--- "different addresses .. asked of data only"
+-- the address of block k
+abbrev pub addressOf : File → ℕ → ℕ
+addressOf F k = fieldAt (F .block k) 12
+
+-- "numbers 0 to n-1 once each, n at least 1, one family, the total n in every block, .. no block earning answers 1 to 11"
 pub record ValidFile (s : Settings) (w : World) (F : File) : Type 0 where
   pub some : 1 ≤ F .total
   pub numbers : (k : ℕ) → k < F .total → fieldAt (F .block k) 20 ≡ k
   pub families : (k : ℕ) → k < F .total → fieldAt (F .block k) 28 ≡ F .family
   pub totals : (k : ℕ) → k < F .total → fieldAt (F .block k) 24 ≡ F .total
-  pub addresses : (i k : ℕ) → i < F .total → k < F .total → isData F i ≡ true → isData F k ≡ true
-      → fieldAt (F .block i) 12 ≡ fieldAt (F .block k) 12 → i ≡ k
+  -- "demand 3 now asks that data ranges be disjoint" (02, L8): no byte address is of two
+  pub disjoint : (i k j : ℕ) → i < F .total → k < F .total → isData F i ≡ true → isData F k ≡ true
+      → spans (addressOf F i) j ≡ true → spans (addressOf F k) j ≡ true → i ≡ k
+  -- "the whole file be one kind": its data lies in the window of that
+  pub kinds : (k : ℕ) → k < F .total → isData F k ≡ true → lies (F .kind) (addressOf F k) ≡ true
+  -- "A RAM file in demand 3 holds no comments"
+  pub quiet : F .kind ≢ Flash → (k : ℕ) → k < F .total → isData F k ≡ true
   pub passes : (k : ℕ) → k < F .total → 12 ≤ answerNumber s w (F .block k)
 
 -- ---- a list of its blocks
 
+-- the header yields a block
+abbrev pub isFound : Header → Bool
+isFound header.NotBlock = false
+isFound header.Container = false
+isFound header.NoFamily = false
+isFound (header.Found b) = true
+
+-- "a comment of its family and total"
+abbrev pub isCommentOf : File → List ℕ → Bool
+isCommentOf F a = isFound (headerOf a) && hasFlag a 0x1 && eqb (F .family) (fieldAt a 28) && eqb (F .total) (fieldAt a 24)
+
 -- "Arrivals answered 4 to 11 are the foreign ones"; "answered 4, 5 or 7 to 11" (02, L3), since no answer has the number 6. (01's term: foreign)
-abbrev pub Foreign : Settings → World → List ℕ → Type 0
-Foreign s w a = (4 ≤ answerNumber s w a) × (answerNumber s w a ≤ 11)
+-- Of a RAM file "no foreign arrival is a comment of its family and total" (02, L8).
+pub record Foreign (s : Settings) (w : World) (F : File) (a : List ℕ) : Type 0 where
+  pub least : 4 ≤ answerNumber s w a
+  pub most : answerNumber s w a ≤ 11
+  pub quiet : F .kind ≢ Flash → isCommentOf F a ≡ false
 
 -- "every list of its blocks, in any order, any number of times or not at all, mixed with" arrivals of which P holds
 pub data Mixed (F : File) (P : List ℕ → Type 0) : List (List ℕ) → Type 0 where
@@ -63,7 +95,7 @@ pub data Mixed (F : File) (P : List ℕ → Type 0) : List (List ℕ) → Type 0
 
 -- "mixed with arrivals answered 4 to 11"
 abbrev pub Sent : Settings → World → File → List (List ℕ) → Type 0
-Sent s w F l = Mixed F (Foreign s w) l
+Sent s w F l = Mixed F (Foreign s w F) l
 
 -- ---- what is seen
 
@@ -93,26 +125,42 @@ isWhole F S = eqb (howMany F S) (F .total)
 
 -- ---- where it goes
 
--- "Storage address = place start + block address - 0x10000000" (01's term: storage address)
-abbrev pub storageIn : Place → ℕ → ℕ
-storageIn Nowhere address = 0
-storageIn (At start size) address = start + (address - 0x10000000)
+-- where a place starts
+abbrev pub startOf : Place → ℕ
+startOf Nowhere = 0
+startOf (At start size) = start
 
--- the storage address of an arrival, by the place of its family in the flash that is lent
-abbrev pub storageOf : Settings → World → List ℕ → ℕ
-storageOf s w a = storageIn (placeOf s (length (w .held .flash)) (fieldAt a 28)) (fieldAt a 12)
+-- what a kind's window starts at in its buffer: flash's at the start of the family's place, RAM's at 0
+abbrev pub originOf : Settings → World → Kind → ℕ → ℕ
+originOf s w Flash f = startOf (placeOf s (length (w .held .flash)) f)
+originOf s w MainRam f = 0
+originOf s w XipRam f = 0
 
--- block k is data and holds byte j
+-- "Storage address = place start + block address - 0x10000000" (01's term: storage address); in RAM "counted from the window's start" (02, L8)
+abbrev pub storageOf : Settings → World → File → ℕ → ℕ
+storageOf s w F k = originOf s w (F .kind) (F .family) + (addressOf F k - windowStart (F .kind))
+
+-- block k is data and holds byte j of its kind's buffer
 abbrev pub holds : Settings → World → File → ℕ → ℕ → Bool
-holds s w F k j = isData F k && spans (storageOf s w (F .block k)) j
+holds s w F k j = isData F k && spans (storageOf s w F k) j
+
+-- a seen block holds byte j of the buffer of kind u
+abbrev pub heldBy : Settings → World → File → Set → Kind → ℕ → Bool
+heldBy s w F S u j = sameKind u (F .kind) && any (F .total) (λ k. S k && holds s w F k j)
 
 -- block k is data, and its storage address lies in sector q
 abbrev pub liesIn : Settings → World → File → ℕ → ℕ → Bool
-liesIn s w F k q = isData F k && eqb q (storageOf s w (F .block k) / 4096)
+liesIn s w F k q = isData F k && eqb q (storageOf s w F k / 4096)
 
--- "A sector is touched if the storage address of a seen block lies in it." (01's term: touched), of data only
+-- "A sector is touched if the storage address of a seen block lies in it." (01's term: touched), of data only; "a RAM file touches no sector"
 abbrev pub touchedBy : Settings → World → File → Set → Set
-touchedBy s w F S q = any (F .total) (λ k. S k && liesIn s w F k q)
+touchedBy s w F S q = sameKind Flash (F .kind) && any (F .total) (λ k. S k && liesIn s w F k q)
+
+-- byte j of the buffer of kind u is one that the file changes: in flash of a touched sector, in RAM of a seen payload
+abbrev pub changedBy : Settings → World → File → Set → Kind → ℕ → Bool
+changedBy s w F S Flash j = touchedBy s w F S (j / 4096)
+changedBy s w F S MainRam j = heldBy s w F S MainRam j
+changedBy s w F S XipRam j = heldBy s w F S XipRam j
 
 -- ---- the answers, by the set alone
 
@@ -139,12 +187,12 @@ repliesTo s w F S (a ∷ l) = replyTo s w F S a ∷ repliesTo s w F (withArrival
 
 -- ---- the end of the list
 
--- "Running (family, n, m)", "Done (family, n)": the family and the n
+-- "Running (family, n, m)", "Done (family, n)": the family and the n, and the kind, "which the transfer carries once it isn't Idle"
 abbrev pub headIn : File → Head
-headIn F = headWith (F .family) (F .total)
+headIn F = headWith (F .kind) (F .family) (F .total)
 
 -- The four bullets of 01, with S the set of blocks seen and v the world after the list: of transfer and seen map, of the sector map, of the
--- flash.
+-- buffers.
 
 pub record Counts (w : World) (F : File) (S : Set) (v : World) : Type 0 where
   -- "m = 0: transfer, flash and maps are as lent."
@@ -158,21 +206,40 @@ pub record Counts (w : World) (F : File) (S : Set) (v : World) : Type 0 where
 pub record Contents (s : Settings) (w : World) (F : File) (S : Set) (v : World) : Type 0 where
   -- "each seen payload at its storage address,", "asked of data only" (02, L3)
   pub payloads : (k : ℕ) → k < F .total → S k ≡ true → isData F k ≡ true → (i : ℕ) → i < 256
-      → getD (v .held .flash) (storageOf s w (F .block k) + i) 0 ≡ getD (payloadOf (F .block k)) i 0
-  -- which lies in the flash
-  pub inside : (k : ℕ) → k < F .total → isData F k ≡ true → storageOf s w (F .block k) + 256 ≤ length (w .held .flash)
-  -- "0xFF in the rest of each touched sector,"
-  pub erased : (j : ℕ) → j < length (w .held .flash) → touchedBy s w F S (j / 4096) ≡ true
-      → ((k : ℕ) → k < F .total → S k ≡ true → holds s w F k j ≡ false) → getD (v .held .flash) j 0 ≡ 255
-  -- "every other byte as lent."
-  pub others : (j : ℕ) → touchedBy s w F S (j / 4096) ≡ false → getD (v .held .flash) j 0 ≡ getD (w .held .flash) j 0
-  pub flash-length : length (v .held .flash) ≡ length (w .held .flash)
+      → getD (bufferOf (F .kind) (v .held)) (storageOf s w F k + i) 0 ≡ getD (payloadOf (F .block k)) i 0
+  -- which lies in its kind's buffer
+  pub inside : (k : ℕ) → k < F .total → isData F k ≡ true → storageOf s w F k + 256 ≤ length (bufferOf (F .kind) (w .held))
+  -- "0xFF in the rest of each touched sector,", "erased bytes for flash only" (02, L8)
+  pub erased : (j : ℕ) → j < length (w .held .flash) → touchedBy s w F S (j / 4096) ≡ true → heldBy s w F S Flash j ≡ false
+      → getD (v .held .flash) j 0 ≡ 255
+  -- "every other byte as lent."; "For any file, every other byte of all three buffers stays."
+  pub others : (u : Kind) (j : ℕ) → changedBy s w F S u j ≡ false → getD (bufferOf u (v .held)) j 0 ≡ getD (bufferOf u (w .held)) j 0
+  pub lengths : lengthsOf (v .held) ≡ lengthsOf (w .held)
 
 pub record Ends (s : Settings) (w : World) (F : File) (S : Set) (v : World) : Type 0 where
   pub counts : Counts w F S v
   -- ".. the sector map exactly the touched sectors; every other bit is 0."
   pub sector-map : 1 ≤ howMany F S → v .held .sectors ≡ mapOf 1024 (touchedBy s w F S)
   pub contents : Contents s w F S v
+
+-- ---- regions (02, L9)
+
+-- the bytes of a place
+abbrev pub sizeOf : Place → ℕ
+sizeOf Nowhere = 0
+sizeOf (At start size) = size
+
+-- block k names a region that counts: a flash data block with flag 0x4000, and "whole sectors, not empty, within the place and around the block"
+abbrev pub isGuarded : Settings → World → File → ℕ → Bool
+isGuarded s w F k =
+    sameKind (F .kind) Flash
+    && isData F k
+    && hasFlag (F .block k) 0x4000
+    && goodRegion (sizeOf (placeOf s (length (w .held .flash)) (F .family))) (addressOf F k) (regionOf (F .block k))
+
+-- a file without regions: none of its blocks names one that counts
+abbrev pub Plain : Settings → World → File → Type 0
+Plain s w F = (k : ℕ) → k < F .total → isGuarded s w F k ≡ false
 
 -- ---- the claims, of every valid file and every list, the empty one too, from an Idle transfer with buffers of any content
 
@@ -182,13 +249,25 @@ EveryList P =
     (s : Settings) (w : World) (F : File) → w .transfer ≡ Idle → ValidFile s w F
     → (l : List (List ℕ)) → Sent s w F l → P s w F l
 
--- "what was lent at the start and the set of file blocks seen decide flash, maps and transfer, and nothing else does"
-unfoldable pub List-ends : Type 0
-List-ends = EveryList (λ s w F l. Ends s w F (seenOf F l) (receiveAll s w l))
+-- with regions or without: the set of file blocks seen decides transfer and seen map
+unfoldable pub List-counts : Type 0
+List-counts = EveryList (λ s w F l. Counts w F (seenOf F l) (receiveAll s w l))
 
--- the answer to each arrival of the list
+-- "For any file, every other byte of all three buffers stays.", of the buffers of other kinds
+unfoldable pub Other-kinds-stay : Type 0
+Other-kinds-stay = EveryList (λ s w F l. (u : Kind) → u ≢ F .kind → bufferOf u (receiveAll s w l .held) ≡ bufferOf u (w .held))
+
+-- the answer to each arrival of the list, with 17 told as 14
 unfoldable pub List-answers : Type 0
-List-answers = EveryList (λ s w F l. answersOf s w l ≡ repliesTo s w F none l)
+List-answers = EveryList (λ s w F l. map soft (answersOf s w l) ≡ repliesTo s w F none l)
+
+-- without regions: "what was lent at the start and the set of file blocks seen decide flash, maps and transfer, and nothing else does"
+unfoldable pub List-ends : Type 0
+List-ends = EveryList (λ s w F l. Plain s w F → Ends s w F (seenOf F l) (receiveAll s w l))
+
+-- and each answer is the one told
+unfoldable pub Plain-answers : Type 0
+Plain-answers = EveryList (λ s w F l. Plain s w F → answersOf s w l ≡ repliesTo s w F none l)
 
 -- "Completed" is answer 15
 abbrev pub isCompleted : Answer → Bool
@@ -201,14 +280,31 @@ Completed-exactly =
     → (l : List (List ℕ)) (a : List ℕ) → Sent s w F (l ++ (a ∷ []))
     → isCompleted (receiveOf s (receiveAll s w l) a .answer) ≡ not (isWhole F (seenOf F l)) && isWhole F (seenOf F (l ++ (a ∷ [])))
 
+-- the same blocks are seen in two lists
+abbrev pub SameSet : File → List (List ℕ) → List (List ℕ) → Type 0
+SameSet F l m = (k : ℕ) → k < F .total → seenOf F l k ≡ seenOf F m k
+
 -- "Two such lists with the same set, from the same start, end alike."
 unfoldable pub Same-set-same-end : Type 0
 Same-set-same-end =
     EveryList
-    (λ s w F l.
-    (m : List (List ℕ)) → Sent s w F m → ((k : ℕ) → k < F .total → seenOf F l k ≡ seenOf F m k)
-    → receiveAll s w l ≡ receiveAll s w m)
+    (λ s w F l. Plain s w F → (m : List (List ℕ)) → Sent s w F m → SameSet F l m → receiveAll s w l ≡ receiveAll s w m)
 
 -- "So do two such lists of the file played one after the other, whichever goes first."
 unfoldable pub Either-first : Type 0
-Either-first = EveryList (λ s w F l. (m : List (List ℕ)) → Sent s w F m → receiveAll s w (l ++ m) ≡ receiveAll s w (m ++ l))
+Either-first =
+    EveryList (λ s w F l. Plain s w F → (m : List (List ℕ)) → Sent s w F m → receiveAll s w (l ++ m) ≡ receiveAll s w (m ++ l))
+
+-- the same transfer and seen map
+pub record Same-count (v w : World) : Type 0 where
+  pub transfer : v .transfer ≡ w .transfer
+  pub seen : v .seen ≡ w .seen
+
+-- with regions or without
+unfoldable pub Same-set-same-count : Type 0
+Same-set-same-count =
+    EveryList (λ s w F l. (m : List (List ℕ)) → Sent s w F m → SameSet F l m → Same-count (receiveAll s w l) (receiveAll s w m))
+
+unfoldable pub Either-first-same-count : Type 0
+Either-first-same-count =
+    EveryList (λ s w F l. (m : List (List ℕ)) → Sent s w F m → Same-count (receiveAll s w (l ++ m)) (receiveAll s w (m ++ l)))

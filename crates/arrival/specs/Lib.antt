@@ -1,6 +1,12 @@
 pub mod Arrive
+pub mod Windows
 pub mod Lists
 pub mod Facts
 pub mod Tally
-pub mod Demand
 pub mod Comments
+pub mod Kept
+pub mod Demand
+pub mod Regions
+pub mod Ram
+pub mod Before
+pub mod Stopped

@@ -10,23 +10,21 @@ use Rattle.sets.specs.Sets.{Set, none, add, size}
 use Rattle.bitmap.specs.Bitmap.{marks}
 use Rattle.block.specs.Block.{fieldAt}
 use Rattle.settings.specs.declared.Settings.{Settings}
-use Rattle.transfer.specs.Transfer.{headWith, numberOf, sameHead, countOf}
+use Rattle.transfer.specs.Transfer.{numberOf, sameHead, countOf}
 use Rattle.transfer.specs.declared.Head.{Head}
 use Rattle.transfer.specs.declared.State.{State}
 use Rattle.transfer.specs.declared.State.the-variants.{Idle, Running, Done}
 use Rattle.transfer.specs.declared.Answer.{Answer}
 use Rattle.arrival.specs.Arrive.{World, receiveOf}
+use Rattle.arrival.specs.Windows.{headOf}
 use Rattle.arrival.specs.Lists.{Delivery, playAll}
 
 -- a block is accepted: answer 14 or more
 abbrev pub isAccepted : Answer → Bool
 isAccepted x = leb 14 (numberOf x)
 
--- "28 family", "24 total" of an arrival
-abbrev pub headOf : List ℕ → Head
-headOf a = headWith (fieldAt a 28) (fieldAt a 24)
-
--- "if the transfer was Idle, or Running with another family or total, both maps are first set to zero"
+-- "if the transfer was Idle, or Running with another family or total, both maps are first set to zero"; "a change of kind discards like a
+-- change of family" (02, L8)
 abbrev pub clears : State → Head → Bool
 clears Idle g = true
 clears (Running r) g = not (sameHead (r .head) g)
@@ -35,7 +33,7 @@ clears (Done h) g = false
 -- A, the numbers accepted since the last clearing, once the arrival a has come
 abbrev pub acceptedBy : Settings → World → List ℕ → Set → Set
 acceptedBy s w a A =
-    cond (isAccepted (receiveOf s w a .answer)) (add (fieldAt a 20) (cond (clears (w .transfer) (headOf a)) none A)) A
+    cond (isAccepted (receiveOf s w a .answer)) (add (fieldAt a 20) (cond (clears (w .transfer) (headOf w a)) none A)) A
 
 -- "different numbers accepted since the last clearing", over deliveries, A being those before them
 unfoldable pub acceptedOf : World → List Delivery → Set → Set

@@ -4,7 +4,7 @@ use mathlib.Core.Bool.{Bool, true, false, not, cond, _&&_}
 use mathlib.Core.Logic.{_⊎_, inl, inr, ⊎-elim}
 use mathlib.Core.List.{List}
 use Prim.Native.Nat.{ℕ, _+_, _*_, _/_, _%_, _<_, _≤_}
-use native.Mathlib.Nat.{add-mul-div-left, add-mul-mod-self-left}
+use native.Mathlib.Nat.{add-mul-div-left, add-mul-mod-self-left, zero-mod}
 use native.Mathlib.Omega.{arith}
 use lib.Dec.{leb, eqb}
 use lib.ListN.{length, getD, set, length-set}
@@ -17,6 +17,7 @@ use Rattle.block.specs.declared.Block.{Block}
 use Rattle.block.specs.declared.Header.{Header}
 use Rattle.block.specs.declared.Header.the-variants.{NotBlock, Container, NoFamily, Found}
 use Rattle.block.specs.Block.{fieldAt, fieldsOf, hasFlag, flaggedOf, isBlock, headerOf, headerNumber}
+use Rattle.block.specs.Region.{regionOf}
 
 -- ---- one field, at any offset
 
@@ -144,9 +145,9 @@ header-marked x a b m =
       m .others 28 (inr (omega arith)),
     )
 
--- x more in the second byte of the flags, a multiple of 0x40
-pub header-flags : (a : List ℕ) (x : ℕ) → x % 0x40 ≡ 0 → headerOf (set a 9 (getD a 9 0 + x)) ≡ headerOf a
-header-flags a x h =
+-- x more in the second byte of the flags: 256 * x more in all, where they are there
+pub flags-more : (a : List ℕ) (x : ℕ) → fieldAt (set a 9 (getD a 9 0 + x)) 8 ≡ fieldAt a 8 + cond (leb 12 (length a)) (256 * x) 0
+flags-more a x =
     let v = getD a 9 0 + x in
     let b = set a 9 v in
     let n = length-set a 9 v in
@@ -157,17 +158,50 @@ header-flags a x h =
     let low : getD b 8 0 ≡ getD a 8 0 = getD-set-other a 9 8 v 0 (λ e. omega (arith, e)) in
     let high : getD b 10 0 ≡ getD a 10 0 = getD-set-other a 9 10 v 0 (λ e. omega (arith, e)) in
     let top : getD b 11 0 ≡ getD a 11 0 = getD-set-other a 9 11 v 0 (λ e. omega (arith, e)) in
-    header-marked (256 * x) a b
-    (record {
-      which = omega arith;
-      flags = omega (arith, field-in a 8 (omega arith), field-in b 8 (omega arith), same, low, high, top);
-      others = field-set a 9 v;
-    }))
+    rw y (omega (arith, field-in a 8 (omega arith), field-in b 8 (omega arith), same, low, high, top)))
     (λ z.
     let l = leb-false 12 (length a) z in
-    header-marked 0 a b
+    rw z (omega (arith, field-past a 8 (omega arith), field-past b 8 (omega arith))))
+
+part-multiple : (b : Bool) (x m : ℕ) → 256 * x % m ≡ 0 → cond b (256 * x) 0 % m ≡ 0
+part-multiple true x m h = h
+part-multiple false x m h = zero-mod m
+
+-- a multiple of 0x40 more there
+pub header-flags : (a : List ℕ) (x : ℕ) → x % 0x40 ≡ 0 → headerOf (set a 9 (getD a 9 0 + x)) ≡ headerOf a
+header-flags a x h =
+    header-marked (cond (leb 12 (length a)) (256 * x) 0) a (set a 9 (getD a 9 0 + x))
     (record {
-      which = omega arith;
-      flags = omega (arith, field-past a 8 (omega arith), field-past b 8 (omega arith));
-      others = field-set a 9 v;
-    }))
+      which = part-multiple (leb 12 (length a)) x 0x4000 (omega arith);
+      flags = flags-more a x;
+      others = field-set a 9 (getD a 9 0 + x);
+    })
+
+-- ---- the region of flag 0x4000
+
+-- a byte before it
+pub region-set : (a : List ℕ) (j v : ℕ) → j < 484 → regionOf (set a j v) ≡ regionOf a
+unfolding regionOf
+region-set a j v h =
+    rw (
+      field-set a j v 484 (inr (omega arith)),
+      field-set a j v 488 (inr (omega arith)),
+      field-set a j v 492 (inr (omega arith)),
+      field-set a j v 496 (inr (omega arith)),
+      field-set a j v 500 (inr (omega arith)),
+      field-set a j v 504 (inr (omega arith)),
+    )
+
+-- a multiple of 0x40 more there, beside flag 0x1
+pub flag-comment : (a : List ℕ) (x : ℕ) → x % 0x40 ≡ 0 → hasFlag (set a 9 (getD a 9 0 + x)) 0x1 ≡ hasFlag a 0x1
+flag-comment a x h =
+    let y : ℕ = cond (leb 12 (length a)) (256 * x) 0 in
+    let m : y % 0x4000 ≡ 0 = part-multiple (leb 12 (length a)) x 0x4000 (omega arith) in
+    rw (flags-more a x, flag-kept (fieldAt a 8) 0x1 (y / 2) y (omega arith) (omega arith))
+
+-- flag 0x8000 beside flag 0x4000
+pub flag-beside : (a : List ℕ) → hasFlag (set a 9 (getD a 9 0 + 0x80)) 0x4000 ≡ hasFlag a 0x4000
+flag-beside a =
+    let y : ℕ = cond (leb 12 (length a)) (256 * 0x80) 0 in
+    let m : y % 0x8000 ≡ 0 = part-multiple (leb 12 (length a)) 0x80 0x8000 refl in
+    rw (flags-more a 0x80, flag-kept (fieldAt a 8) 0x4000 (y / 0x8000) y (omega arith) (omega arith))

@@ -2,7 +2,8 @@
 ghost use mathlib.Core.Path.{_≡_};
 ghost use Prim.Native.Nat.{_+_, _*_};
 ghost use Rattle.sets.specs.Numbered.{numbered};
-ghost use Rattle.block.specs.Block.{fieldAt, fieldsOf, flaggedOf, isBlock, headerOf, headerNumber};
+ghost use Rattle.block.specs.Block.{fieldAt, hasFlag, fieldsOf, flaggedOf, isBlock, headerOf, headerNumber};
+ghost use Rattle.block.specs.Region.{regionOf};
 ghost use Rattle.block.specs.Write.{putAt};
 
 // The fields of a block that a header leaves to the checks after it, and whether it is a comment, which takes a number and holds no page.
@@ -21,6 +22,16 @@ pub enum Header {
     Container,
     NoFamily,
     Found(Block),
+}
+
+// The region that a block with flag 0x4000 names: its start, an address of the window, its length, and the words A, B, C, D of its MD5 digest.
+pub struct Region {
+    pub start: u32,
+    pub len: u32,
+    pub a: u32,
+    pub b: u32,
+    pub c: u32,
+    pub d: u32,
 }
 
 impl Block {
@@ -130,4 +141,25 @@ pub fn read(arrival: &[u8]) -> Header
         return Header::NotBlock;
     }
     flagged(arrival)
+}
+
+// Does a block name a region?
+pub fn has_region(arrival: &[u8]) -> bool
+    ensures { λ r. ⌜ r ≡ hasFlag (now (arrival .entry)) 0x4000 ⌝ }
+{
+    field(arrival, 8) / Block::FLAG_MD5 % 2 == 1
+}
+
+// The region that a block names.
+pub fn read_region(arrival: &[u8]) -> Region
+    ensures { λ r. ⌜ r ≡ regionOf (now (arrival .entry)) ⌝ }
+{
+    Region {
+        start: field(arrival, 484),
+        len: field(arrival, 488),
+        a: field(arrival, 492),
+        b: field(arrival, 496),
+        c: field(arrival, 500),
+        d: field(arrival, 504),
+    }
 }

@@ -1,6 +1,7 @@
 -- The claims of specs/CallLists.antt hold. Assumes nothing.
-use Prim.Native.Nat.{ℕ, zero, suc, _+_, _/_, _%_, _<_, _^_}
+use Prim.Native.Nat.{ℕ, zero, suc, _+_, _/_, _%_, _<_, _≤_, _^_}
 use mathlib.Core.Path.{_≡_, refl, sym, ap, subst, _∙_}
+use mathlib.Core.Logic.{_≢_}
 use mathlib.Core.Bool.{Bool, true, false, _||_, not}
 use mathlib.Core.List.{List, [], _∷_, _++_, map}
 use native.Mathlib.Nat.{pow-suc}
@@ -8,14 +9,17 @@ use native.Mathlib.Omega.{arith}
 use lib.Dec.{ltb, leb, eqb}
 use lib.ListN.{length, getD, drop, length-take, length-drop}
 use lib.Seq.{getD-take, getD-drop}
-use borrow.Author.Tests.{ltb-true, le-leb, lt-leb, leb-true, leb-false, eqb-true, eqb-false, eq-eqb}
+use borrow.Author.Tests.{ltb-true, ltb-false, le-leb, lt-leb, leb-true, leb-false, eqb-true, eqb-false, eq-eqb}
 use Rattle.sets.proofs.Tests.{split, clash, or-left, or-right}
+use Rattle.sets.specs.Sets.{Set}
+use Rattle.sets.proofs.Laws.{size-le}
 use Rattle.sets.specs.Bytes.{lowFirst, numberIn}
 use Rattle.block.specs.Block.{fieldAt}
 use Rattle.record.specs.Write.{Bytes}
 use Rattle.settings.specs.declared.Settings.{Settings}
-use Rattle.transfer.specs.Transfer.{numberOf, goodState, counted, accepted}
+use Rattle.transfer.specs.Transfer.{numberOf, kindNumber, goodState, counted, accepted}
 use Rattle.transfer.specs.declared.Head.{Head}
+use Rattle.transfer.specs.declared.Run.{Run}
 use Rattle.transfer.specs.declared.State.{State}
 use Rattle.transfer.specs.declared.State.the-variants.{Idle, Running, Done}
 use Rattle.transfer.specs.declared.Deed.{Deed}
@@ -25,19 +29,26 @@ use Rattle.flash.specs.Flash.{payloadOf}
 use Rattle.arrival.specs.Arrive.{World, lentOf, Outcome, Decision, acceptOf, done, receiveOf}
 use Rattle.arrival.specs.Lists.{receiveAll, answersOf, discardsOf, Delivery, playAll}
 use Rattle.arrival.specs.Facts.{Refusals-change-nothing, Look-tells}
-use Rattle.arrival.specs.Tally.{headOf, anyAccepted, Count-is-marks}
-use Rattle.arrival.specs.Demand.{seenOf, Ends, List-ends, Completed-exactly, Same-set-same-end, Either-first}
+use Rattle.arrival.specs.Windows.{headOf}
+use Rattle.arrival.specs.Tally.{anyAccepted, Count-is-marks}
+use Rattle.arrival.specs.Demand.{File, seenOf, howMany, headIn, Counts, Contents, Ends, List-counts, List-ends, Completed-exactly, Same-set-same-end, Either-first}
+use Rattle.arrival.specs.Regions.{Regions-end}
+use Rattle.arrival.specs.Stopped.{EndsAlike, Stopped-then-good}
 use Rattle.arrival.proofs.DecisionFacts.{AcceptFacts, DecisionFacts, kept, took, took-number, decision-facts}
 use Rattle.arrival.proofs.Facts.{refusals-change-nothing, look-tells}
 use Rattle.arrival.proofs.Tally.{count-is-marks}
-use Rattle.arrival.proofs.Demand.{list-ends, completed-exactly, same-set-same-end, either-first}
-use Rattle.layout.specs.Layout.{stateFrom, settingsFrom, transferBytes, stateBytes, withTransfer}
+use Rattle.arrival.proofs.Demand.{list-counts, list-ends, completed-exactly, same-set-same-end, either-first}
+use Rattle.arrival.proofs.Runs.{mixed-map}
+use Rattle.arrival.proofs.Regions.{regions-end}
+use Rattle.arrival.proofs.Stopped.{stopped-then-good}
+use Rattle.layout.specs.Layout.{byteAt, stateFrom, settingsFrom, transferBytes, headBytes, stateBytes, withTransfer}
 use Rattle.layout.proofs.Refused.{state-length}
 use Rattle.layout.proofs.Transfers.{Small, written-back}
+use Rattle.batch.specs.Batch.{resultOf, isAcceptance, arrivalsOf, resultsOf, anyAcceptance, storedFrom, fewer, batchOf}
+use Rattle.batch.proofs.Laws.{number-most}
 use Rattle.capi.specs.Calls as capi
-use Rattle.capi.specs.Calls.{lookResult, lookBytes, takeBytes, isAcceptance, arrivalsOf, resultsOf, anyAcceptance, storedFrom, batchFrom, fewer, takeBatch}
-use Rattle.capi.proofs.Laws.{number-most}
-use Rattle.calls.specs.CallLists.{CallerState, call, leftBy, callAll, returnsOf, worldOf, AllBytes, Calls-are-arrivals, Calls-end, Calls-completed, Calls-same-set, Calls-either-first, Calls-are-one-call, Look-is-take, Call, looks, takes, playCalls, takenBy, Looks-change-nothing, Look-then-take}
+use Rattle.capi.specs.Calls.{lookResult, lookBytes, takeBytes, takeBatch}
+use Rattle.calls.specs.CallLists.{CallerState, call, leftBy, callAll, returnsOf, worldOf, AllBytes, Calls-are-arrivals, Calls-count, Calls-end, Calls-regions, Calls-completed, Calls-same-set, Calls-either-first, Calls-stopped, Calls-are-one-call, Look-is-take, Call, looks, takes, playCalls, takenBy, Looks-change-nothing, Look-then-take}
 
 -- ---- a field of bytes
 
@@ -66,18 +77,18 @@ unfolding counted
 counted-small g c hf ht =
     split (ltb c (g .total)) (λ y. let l = ltb-true c (g .total) y in rw y (hf, ht, omega arith)) (λ z. rw z (hf, ht))
 
-took-small : {t : State} {g : Head} {m : Bool} {d : Deed} {k : Accepted} (a : List ℕ) → Bytes a → g ≡ headOf a → AcceptFacts t g m d k → Small (k .transfer .state)
+took-small : {t : State} {g : Head} {m : Bool} {d : Deed} {k : Accepted} (w : World) (a : List ℕ) → Bytes a → g ≡ headOf w a → AcceptFacts t g m d k → Small (k .transfer .state)
 unfolding accepted
-took-small {g = g} a h e q =
+took-small {g = g} w a h e q =
     subst (λ (k : Accepted). Small (k .transfer .state)) (sym (q .is))
     (counted-small g _ (rw e (field-low a h 28)) (rw e (field-low a h 24)))
 
--- bytes of a good state are 13
-good-size : (t : List ℕ) → goodState (stateFrom t) ≡ true → length t ≡ 13
+-- bytes of a good state are 14
+good-size : (t : List ℕ) → goodState (stateFrom t) ≡ true → length t ≡ 14
 good-size t g =
-    split (eqb (length t) 13)
-    (λ y. eqb-true (length t) 13 y)
-    (λ z. clash (goodState (stateFrom t)) g (state-length t (eqb-false (length t) 13 z)))
+    split (eqb (length t) 14)
+    (λ y. eqb-true (length t) 14 y)
+    (λ z. clash (goodState (stateFrom t)) g (state-length t (eqb-false (length t) 14 z)))
 
 -- ---- one call
 
@@ -88,7 +99,7 @@ unfolding done acceptOf
 next-state s w a p t e h (kept x n) = rw (lt-leb 14 (numberOf x) (omega arith)) (sym e)
 next-state s w a p t e h (took g k B l q m) =
     rw (le-leb 14 (numberOf (k .answer)) (took-number m))
-    (written-back t (k .transfer .state) (good-size t (rw e at (B .state))) (took-small a h (q .head) m))
+    (written-back t (k .transfer .state) (good-size t (rw e at (B .state))) (took-small w a h (q .head) m))
 
 -- so the call leaves what the arrival leaves
 next-world : (s : List ℕ) (h : CallerState) (a : List ℕ) → Bytes a
@@ -129,9 +140,9 @@ calls-are-arrivals s h l b = (calls-world s h l b, calls-results s h l b)
 written-again : (t : List ℕ) (x y : State) → withTransfer (withTransfer t x) y ≡ withTransfer t y
 unfolding withTransfer
 written-again t x y =
-    split (eqb (length t) 13) (λ e. rw (e, eq-eqb (length (stateBytes x)) 13 (state-size x))) (λ n. rw (n, n))
+    split (eqb (length t) 14) (λ e. rw (e, eq-eqb (length (stateBytes x)) 14 (state-size x))) (λ n. rw (n, n))
   where
-    state-size : (x : State) → length (stateBytes x) ≡ 13
+    state-size : (x : State) → length (stateBytes x) ≡ 14
     state-size Idle = unfold transferBytes lowFirst in refl
     state-size (Running r) = unfold transferBytes lowFirst in refl
     state-size (Done g) = unfold transferBytes lowFirst in refl
@@ -219,31 +230,56 @@ calls-left s h l i b =
     (calls-transfer s h l b ∙ ap (λ (x : Bool). capi.keptTransfer (h .transfer) x (v .transfer)) (accepted-any z (worldOf h) l i))
 
 -- the bytes of a transfer that is not Idle
-busy-bytes : (t : List ℕ) (x : State) → length t ≡ 13 → isIdle x ≡ false → capi.keptTransfer t (not (isIdle x)) x ≡ stateBytes x
+busy-bytes : (t : List ℕ) (x : State) → length t ≡ 14 → isIdle x ≡ false → capi.keptTransfer t (not (isIdle x)) x ≡ stateBytes x
 unfolding withTransfer
-busy-bytes t x e n = rw (n, eq-eqb (length t) 13 e)
+busy-bytes t x e n = rw (n, eq-eqb (length t) 14 e)
+
+-- its last byte is its kind's number
+kind-byte : (tag : ℕ) (g : Head) (c : ℕ) → byteAt (headBytes tag g c) 13 ≡ kindNumber (g .kind)
+unfolding transferBytes lowFirst
+kind-byte tag g c = refl
 
 -- ---- demand 3
 
-pub calls-end : Calls-end
-unfolding Calls-end List-ends
-calls-end s h F i v l t b =
+pub calls-count : Calls-count
+unfolding Calls-count List-counts
+calls-count s h F i v l t b =
     let z = settingsFrom s in
     let w = receiveAll z (worldOf h) l in
-    let E = list-ends z (worldOf h) F i v l t in
+    let E = list-counts z (worldOf h) F i v l t in
     let size = good-size (h .transfer) (rw i (unfold goodState in refl)) in
     let same = calls-left s h l i b in
     let bytes : (x : State) → isIdle x ≡ false → w .transfer ≡ x → callAll s h l .transfer ≡ stateBytes x =
     λ x n e. ap (λ (k : CallerState). k .transfer) same ∙ ap (λ (x : State). capi.keptTransfer (h .transfer) (not (isIdle x)) x) e ∙ busy-bytes (h .transfer) x size n in
     record {
-      ends = subst (Ends z (worldOf h) F (seenOf F l)) (sym (calls-world s h l b)) E;
-      untouched = λ m. same ∙ ap (leftOf h) (E .counts .untouched m) ∙ rw i;
-      going = λ m n. bytes _ refl (E .counts .going m n);
-      whole = λ m. bytes _ refl (E .counts .whole m);
+      counts = subst (Counts (worldOf h) F (seenOf F l)) (sym (calls-world s h l b)) E;
+      untouched = λ m. same ∙ ap (leftOf h) (E .untouched m) ∙ rw i;
+      going = λ m n. bytes _ refl (E .going m n);
+      whole = λ m. bytes _ refl (E .whole m);
+      kind =
+          λ m.
+          let n = howMany F (seenOf F l) in
+          let last : (x : State) → isIdle x ≡ false → w .transfer ≡ x → byteAt (callAll s h l .transfer) 13 ≡ byteAt (stateBytes x) 13 =
+          λ x q e. ap (λ (t : List ℕ). byteAt t 13) (bytes x q e) in
+          split (ltb n (F .total))
+          (λ y. last _ refl (E .going m (ltb-true n (F .total) y)) ∙ kind-byte 1 (headIn F) n)
+          (λ z.
+          let all : n ≡ F .total = omega (arith, ltb-false n (F .total) z, size-le (F .total) (seenOf F l)) in
+          last _ refl (E .whole all) ∙ kind-byte 2 (headIn F) (F .total));
     }
 
+pub calls-end : Calls-end
+unfolding Calls-end List-ends
+calls-end s h F i v l t b p =
+    subst (Ends (settingsFrom s) (worldOf h) F (seenOf F l)) (sym (calls-world s h l b)) (list-ends (settingsFrom s) (worldOf h) F i v l t p)
+
+pub calls-regions : Calls-regions
+unfolding Calls-regions Regions-end
+calls-regions s h F i v l t b r c =
+    subst (Contents (settingsFrom s) (worldOf h) F (seenOf F l)) (sym (calls-world s h l b)) (regions-end (settingsFrom s) (worldOf h) F i v r l c)
+
 -- the answer's number in a result
-result-number : (x : Answer) (d : Bool) → capi.resultOf (numberOf x) d % 128 ≡ numberOf x
+result-number : (x : Answer) (d : Bool) → resultOf (numberOf x) d % 128 ≡ numberOf x
 result-number x true = omega (arith, number-most x)
 result-number x false = omega (arith, number-most x)
 
@@ -258,9 +294,9 @@ calls-completed s h F i v l t b a u =
 
 pub calls-same-set : Calls-same-set
 unfolding Calls-same-set Same-set-same-end
-calls-same-set s h F i v l t b m u c e =
+calls-same-set s h F i v l t b p m u c e =
     calls-left s h l i b
-    ∙ ap (leftOf h) (same-set-same-end (settingsFrom s) (worldOf h) F i v l t m u e)
+    ∙ ap (leftOf h) (same-set-same-end (settingsFrom s) (worldOf h) F i v l t p m u e)
     ∙ sym (calls-left s h m i c)
 
 all-append : (l m : List (List ℕ)) → AllBytes l → AllBytes m → AllBytes (l ++ m)
@@ -269,10 +305,70 @@ all-append (a ∷ l) m b c = (b .0, all-append l m (b .1) c)
 
 pub calls-either-first : Calls-either-first
 unfolding Calls-either-first Either-first
-calls-either-first s h F i v l t b m u c =
+calls-either-first s h F i v l t b p m u c =
     calls-left s h (l ++ m) i (all-append l m b c)
-    ∙ ap (leftOf h) (either-first (settingsFrom s) (worldOf h) F i v l t m u)
+    ∙ ap (leftOf h) (either-first (settingsFrom s) (worldOf h) F i v l t p m u)
     ∙ sym (calls-left s h (m ++ l) i (all-append m l c b))
+
+-- ---- a stopped update, then a good one
+
+-- where the transfer moves, its bytes are written
+moved-bytes : (s : List ℕ) (h : CallerState) (l : List (List ℕ)) → AllBytes l → goodState (worldOf h .transfer) ≡ true
+    → receiveAll (settingsFrom s) (worldOf h) l .transfer ≢ worldOf h .transfer
+    → callAll s h l .transfer ≡ stateBytes (receiveAll (settingsFrom s) (worldOf h) l .transfer)
+moved-bytes s h l b g n =
+    let z = settingsFrom s in
+    calls-transfer s h l b
+    ∙ split (anyAcceptance (answersOf z (worldOf h) l))
+    (λ y. rw y (unfold withTransfer in rw (eq-eqb (length (h .transfer)) 14 (good-size (h .transfer) g))))
+    (λ e. absurd (n (none-taken z (worldOf h) l e)))
+
+-- a transfer of another head, and an Idle one, is none that a file leaves
+abbrev headNow : Head → State → Head
+headNow g Idle = g
+headNow g (Running r) = r .head
+headNow g (Done h) = h
+
+abbrev isRunning : State → Bool
+isRunning Idle = false
+isRunning (Running r) = true
+isRunning (Done h) = false
+
+module _ (w : World) (F : File) (S : Set) (y : World) (C : Counts w F S y) (n : 1 ≤ howMany F S) where
+  busy : isIdle (y .transfer) ≡ false
+  busy =
+      split (ltb (howMany F S) (F .total))
+      (λ t. ap isIdle (C .going n (ltb-true (howMany F S) (F .total) t)))
+      (λ z. ap isIdle (C .whole (omega (arith, ltb-false (howMany F S) (F .total) z, size-le (F .total) S))))
+
+  of-file : (r : Run) → y .transfer ≡ Running r → r .head ≡ headIn F
+  of-file r e =
+      split (ltb (howMany F S) (F .total))
+      (λ t. ap (headNow (r .head)) (sym e ∙ C .going n (ltb-true (howMany F S) (F .total) t)))
+      (λ z.
+      let d = C .whole (omega (arith, ltb-false (howMany F S) (F .total) z, size-le (F .total) S)) in
+      clash (isRunning (y .transfer)) (ap isRunning e) (ap isRunning d))
+
+pub calls-stopped : Calls-stopped
+unfolding Calls-stopped Stopped-then-good List-counts
+calls-stopped s h k F Z v p l m b n =
+    let z = settingsFrom s in
+    let x = receiveAll z (worldOf h) l in
+    let y = receiveAll z (worldOf k) l in
+    let E = stopped-then-good z (worldOf h) (worldOf k) F Z v p l m n in
+    let C = list-counts z (worldOf k) F (Z .idle) v l (mixed-map (λ a f. f .foreign) m) in
+    let free : y .transfer ≢ worldOf k .transfer =
+    λ e. clash (isIdle (y .transfer)) (ap isIdle (e ∙ Z .idle)) (busy (worldOf k) F (seenOf F l) y C n) in
+    let other : x .transfer ≢ worldOf h .transfer =
+    λ e. Z .differs (of-file (worldOf k) F (seenOf F l) y C n (Z .run) (sym (E .transfer) ∙ e ∙ Z .running)) in
+    record {
+      ends =
+          subst (λ (u : World). EndsAlike z (worldOf k) F l u (worldOf (callAll s k l))) (sym (calls-world s h l b))
+          (subst (EndsAlike z (worldOf k) F l x) (sym (calls-world s k l b)) E);
+      transfer =
+          moved-bytes s h l b (Z .sound) other ∙ ap stateBytes (E .transfer)
+          ∙ sym (moved-bytes s k l b (rw (Z .idle) (unfold goodState in refl)) free);
+    }
 
 -- ---- one call of many
 
@@ -288,7 +384,7 @@ arrivals-bytes (suc n) a b = (
 )
 
 pub calls-are-one-call : Calls-are-one-call
-unfolding Calls-are-one-call takeBatch batchFrom
+unfolding Calls-are-one-call takeBatch batchOf
 calls-are-one-call s h a r b =
     let n = fewer (length a / 512) (length r) in
     let l = arrivalsOf n a in

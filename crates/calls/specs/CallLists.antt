@@ -7,14 +7,17 @@ use lib.Dec.{eqb}
 use lib.ListN.{length}
 use Rattle.record.specs.Write.{Bytes}
 use Rattle.sets.specs.Sets.{Set}
-use Rattle.transfer.specs.Transfer.{running}
+use Rattle.transfer.specs.Transfer.{kindNumber, running}
 use Rattle.transfer.specs.declared.State.the-variants.{Idle, Done}
 use Rattle.arrival.specs.Arrive.{Lent, World}
 use Rattle.arrival.specs.Lists.{receiveAll, answersOf, discardsOf}
-use Rattle.arrival.specs.Demand.{File, ValidFile, Sent, seenOf, howMany, isWhole, headIn, Ends}
+use Rattle.arrival.specs.Demand.{File, ValidFile, Mixed, Sent, seenOf, howMany, isWhole, headIn, Counts, Contents, Ends, Plain, SameSet}
+use Rattle.arrival.specs.Regions.{Regions, Complete}
+use Rattle.arrival.specs.Stopped.{Stopped, ForeignToBoth, EndsAlike}
 use Rattle.receiver.specs.Receiver.{world}
-use Rattle.layout.specs.Layout.{settingsFrom, transferFrom, stateBytes}
-use Rattle.capi.specs.Calls.{ArrivalCall, BatchCall, lookBytes, takeBytes, arrivalsOf, resultsOf, storedFrom, takeBatch}
+use Rattle.layout.specs.Layout.{byteAt, settingsFrom, transferFrom, stateBytes}
+use Rattle.batch.specs.Batch.{arrivalsOf, resultsOf, storedFrom}
+use Rattle.capi.specs.Calls.{ArrivalCall, BatchCall, lookBytes, takeBytes, takeBatch}
 
 -- ---- one call after the other
 
@@ -67,18 +70,35 @@ EveryCalls P =
     (s : List ℕ) (h : CallerState) (F : File) → worldOf h .transfer ≡ Idle → ValidFile (settingsFrom s) (worldOf h) F
     → (l : List (List ℕ)) → Sent (settingsFrom s) (worldOf h) F l → AllBytes l → P s h F l
 
--- the end of the calls, with S the set of blocks seen and k what the caller then holds: 01's bullets, and the transfer's bytes
-pub record CallsEnd (s : List ℕ) (h : CallerState) (F : File) (S : Set) (k : CallerState) : Type 0 where
-  pub ends : Ends (settingsFrom s) (worldOf h) F S (worldOf k)
+-- the end of the calls, with S the set of blocks seen and k what the caller then holds: 01's bullets of transfer and seen map, and the transfer's
+-- bytes
+pub record CallsCount (h : CallerState) (F : File) (S : Set) (k : CallerState) : Type 0 where
+  pub counts : Counts (worldOf h) F S (worldOf k)
   -- "m = 0: transfer, flash and maps are as lent.", byte for byte
   pub untouched : howMany F S ≡ 0 → k ≡ h
   -- "m from 1 to n-1: Running (family, n, m). m = n, the set is whole: Done (family, n)."
   pub going : 1 ≤ howMany F S → howMany F S < F .total → k .transfer ≡ stateBytes (running (headIn F) (howMany F S))
   pub whole : howMany F S ≡ F .total → k .transfer ≡ stateBytes (Done (headIn F))
+  -- "the whole file be one kind, which the transfer carries once it isn't Idle" (02, L8), as its last byte
+  pub kind : 1 ≤ howMany F S → byteAt (k .transfer) 13 ≡ kindNumber (F .kind)
 
--- "what was lent at the start and the set of file blocks seen decide flash, maps and transfer"
+-- with regions (02, L9) or without
+unfoldable pub Calls-count : Type 0
+Calls-count = EveryCalls (λ s h F l. CallsCount h F (seenOf F l) (callAll s h l))
+
+-- without regions: "what was lent at the start and the set of file blocks seen decide flash, maps and transfer"
 unfoldable pub Calls-end : Type 0
-Calls-end = EveryCalls (λ s h F l. CallsEnd s h F (seenOf F l) (callAll s h l))
+Calls-end =
+    EveryCalls
+    (λ s h F l. Plain (settingsFrom s) (worldOf h) F → Ends (settingsFrom s) (worldOf h) F (seenOf F l) (worldOf (callAll s h l)))
+
+-- with regions: "Demand 3 for such files speaks of flash at completion only" (02, L9)
+unfoldable pub Calls-regions : Type 0
+Calls-regions =
+    EveryCalls
+    (λ s h F l.
+    Regions (settingsFrom s) (worldOf h) F → Complete (settingsFrom s) (worldOf h) F l
+    → Contents (settingsFrom s) (worldOf h) F (seenOf F l) (worldOf (callAll s h l)))
 
 -- ""Completed" comes exactly when an arrival makes the set whole, and no second time", by the result of the call for a after those for l
 unfoldable pub Calls-completed : Type 0
@@ -93,7 +113,7 @@ unfoldable pub Calls-same-set : Type 0
 Calls-same-set =
     EveryCalls
     (λ s h F l.
-    (m : List (List ℕ)) → Sent (settingsFrom s) (worldOf h) F m → AllBytes m → ((k : ℕ) → k < F .total → seenOf F l k ≡ seenOf F m k)
+    Plain (settingsFrom s) (worldOf h) F → (m : List (List ℕ)) → Sent (settingsFrom s) (worldOf h) F m → AllBytes m → SameSet F l m
     → callAll s h l ≡ callAll s h m)
 
 -- "So do two such lists of the file played one after the other, whichever goes first."
@@ -101,8 +121,21 @@ unfoldable pub Calls-either-first : Type 0
 Calls-either-first =
     EveryCalls
     (λ s h F l.
-    (m : List (List ℕ)) → Sent (settingsFrom s) (worldOf h) F m → AllBytes m
+    Plain (settingsFrom s) (worldOf h) F → (m : List (List ℕ)) → Sent (settingsFrom s) (worldOf h) F m → AllBytes m
     → callAll s h (l ++ m) ≡ callAll s h (m ++ l))
+
+-- ---- a stopped update, then a good one (02, L13): calls from a stopped start h, and from an Idle one k
+
+-- they end alike, and the transfer byte for byte
+pub record CallsAlike (s : List ℕ) (h k : CallerState) (F : File) (l : List (List ℕ)) : Type 0 where
+  pub ends : EndsAlike (settingsFrom s) (worldOf k) F l (worldOf (callAll s h l)) (worldOf (callAll s k l))
+  pub transfer : callAll s h l .transfer ≡ callAll s k l .transfer
+
+unfoldable pub Calls-stopped : Type 0
+Calls-stopped =
+    (s : List ℕ) (h k : CallerState) (F : File) → Stopped F (worldOf h) (worldOf k) → ValidFile (settingsFrom s) (worldOf k) F
+    → Plain (settingsFrom s) (worldOf k) F → (l : List (List ℕ)) → Mixed F (ForeignToBoth (settingsFrom s) (worldOf h) (worldOf k) F) l
+    → AllBytes l → 1 ≤ howMany F (seenOf F l) → CallsAlike s h k F l
 
 -- ---- they are one call of `uf2_take_all`
 
@@ -117,7 +150,7 @@ pub record Same (s : List ℕ) (h : CallerState) (a r : List ℕ) (o : BatchCall
   pub all : length a / 512 ≤ length r → o .number ≡ length a / 512
   pub few : length r ≤ length a / 512 → o .number ≡ length r
 
--- byte for byte, in transfer, flash and both maps; it counts every arrival that has room for its result
+-- byte for byte, in transfer, flash, RAM and both maps; it counts every arrival that has room for its result
 unfoldable pub Calls-are-one-call : Type 0
 Calls-are-one-call =
     (s : List ℕ) (h : CallerState) (a r : List ℕ) → Bytes a

@@ -22,10 +22,10 @@ use Rattle.readers.proofs.Written.{Small, written-back}
 use Rattle.capi.specs.HexCalls.{lineReturn, hasFailed, changes, keptReader, lineReturnOf, lineCallOf}
 
 module _ (t l img : List ℕ) where
-  pub line-case : {r : Reader} {x : Reply} {g v : List ℕ} {f b : Bool} {n k : ℕ} → r ≡ readerFrom t → lineOutcome (x .reader) (x .answer) g ≡ lineOf r l img → f ≡ hasFailed (r .state) → b ≡ changes f (x .answer) → v ≡ keptReader t b (x .reader) → n ≡ numberOf (x .answer) → k ≡ positionOf (x .answer) → lineReturn (n + 256 * k) v g ≡ lineCallOf t l img
+  pub line-case : {r : Reader} {x : Reply} {g v : List ℕ} {f b : Bool} {n k y : ℕ} → r ≡ readerFrom t → lineOutcome (x .reader) (x .answer) g ≡ lineOf r l img → f ≡ hasFailed (r .state) → b ≡ changes f (x .answer) → v ≡ keptReader t b (x .reader) → n ≡ numberOf (x .answer) → k ≡ positionOf (x .answer) → y ≡ n + 256 * k → lineReturn y v g ≡ lineCallOf t l img
   unfolding lineCallOf
-  line-case {r} hr ho hf hb hv hn hk =
-      rw (hn, hk, hv, hb, hf) (ap (lineReturnOf t r) ho ∙ ap (λ (q : Reader). lineReturnOf t q (lineOf q l img)) hr)
+  line-case {r} hr ho hf hb hv hn hk hy =
+      rw (hy, hn, hk, hv, hb, hf) (ap (lineReturnOf t r) ho ∙ ap (λ (q : Reader). lineReturnOf t q (lineOf q l img)) hr)
 
 -- ---- the reader stays as it was where its bytes are left
 

@@ -1,5 +1,5 @@
 -- Calls by cases. Assumes nothing.
-use Prim.Native.Nat.{ℕ, _≤_}
+use Prim.Native.Nat.{ℕ}
 use mathlib.Core.Path.{_≡_, refl, ap, _∙_}
 use mathlib.Core.Logic.{_≢_, ⊎-elim}
 use mathlib.Core.Bool.{Bool}
@@ -11,8 +11,7 @@ use lib.ListN.{length}
 use borrow.Author.Tests.{eq-eqb, ne-eqb}
 use Rattle.settings.specs.declared.Settings.{Settings}
 use Rattle.transfer.specs.declared.Transfer.{Transfer}
-use Rattle.transfer.specs.declared.Answer.{Answer}
-use Rattle.transfer.specs.declared.Answer.the-variants.{BadBuffers, BadSettings, BadState, NotBlock, Container, NoFamily, NoPlace, BadPayload, BadNumbers, BadAddress, Finished, Again, Written, Completed, Noted}
+use Rattle.transfer.specs.declared.Answer.the-variants.{BadBuffers, BadSettings, NoPlace}
 use Rattle.transfer.specs.Transfer.{numberOf}
 use Rattle.place.specs.declared.PlaceAnswer.{PlaceAnswer}
 use Rattle.place.specs.declared.PlaceAnswer.the-variants as asked
@@ -24,25 +23,9 @@ use Rattle.receiver.specs.declared.Preview.{Preview}
 use Rattle.receiver.specs.Receiver.{world, outcome, previewed}
 use Rattle.block.specs.Write.{le32}
 use Rattle.layout.specs.Layout.{settingsFrom, transferFrom}
-use Rattle.capi.specs.Calls.{PlaceCall, placeCall, placeCallOf, askBytes, arrivalCall, resultOf, lookResult, lookBytes, isAcceptance, keptTransfer, arrivalCallOf, takeBytes}
-
--- the numbers fit five bits, and leave room for 128 more in a byte
-pub number-most : (a : Answer) → numberOf a ≤ 31
-number-most BadBuffers = omega arith
-number-most BadSettings = omega arith
-number-most BadState = omega arith
-number-most NotBlock = omega arith
-number-most Container = omega arith
-number-most NoFamily = omega arith
-number-most NoPlace = omega arith
-number-most BadPayload = omega arith
-number-most BadNumbers = omega arith
-number-most BadAddress = omega arith
-number-most Finished = omega arith
-number-most Again = omega arith
-number-most Written = omega arith
-number-most Completed = omega arith
-number-most Noted = omega arith
+use Rattle.batch.specs.declared.Batch.{Batch}
+use Rattle.batch.specs.Batch.{resultOf, isAcceptance, batchLeft, batchOf}
+use Rattle.capi.specs.Calls.{PlaceCall, placeCall, placeCallOf, askBytes, arrivalCall, lookResult, lookBytes, keptTransfer, arrivalCallOf, takeBytes, batchCall, batchCallEnd, takeBatch}
 
 -- ---- a place asked for alone
 
@@ -70,20 +53,29 @@ module _ (s : List ℕ) (len f : ℕ) (l : List ℕ) where
   ask-told n hz hx ho = simp (eq-eqb (length l) 8 n) (ho ∙ ap (placeCallOf l) (hx ∙ ap (λ (z : Settings). askOf z len f) hz))
 
 module _ (s t a : List ℕ) (h : Lent) where
-  pub look-ran : {z : Settings} {u : Transfer} {r : Preview} {x y : ℕ} → z ≡ settingsFrom s → u ≡ transferFrom t → previewed r ≡ lookOf z (world u h) a → x ≡ numberOf (r .answer) → y ≡ resultOf x (r .discarded) → y ≡ lookBytes s t a h
+  pub look-ran : {z : Settings} {u : Transfer} {r : Preview} {y : ℕ} → z ≡ settingsFrom s → u ≡ transferFrom t → previewed r ≡ lookOf z (world u h) a → y ≡ resultOf (numberOf (r .answer)) (r .discarded) → y ≡ lookBytes s t a h
   unfolding lookBytes
-  look-ran {u = u} hz hu ho hx hy =
-      let p =
-      ho
+  look-ran {u = u} hz hu ho hy =
+      hy
+      ∙ ap lookResult
+      (ho
       ∙ ap (λ (z : Settings). lookOf z (world u h) a) hz
-      ∙ ap (λ (u : Transfer). lookOf (settingsFrom s) (world u h) a) hu in
-      rw (hy, hx) (ap lookResult p)
+      ∙ ap (λ (u : Transfer). lookOf (settingsFrom s) (world u h) a) hu)
 
-  pub take-ran : {z : Settings} {u : Transfer} {r : Receipt} {g : Lent} {v : List ℕ} {x y : ℕ} {b : Bool} → z ≡ settingsFrom s → u ≡ transferFrom t → outcome r g ≡ receiveOf z (world u h) a → x ≡ numberOf (r .answer) → b ≡ isAcceptance x → v ≡ keptTransfer t b (r .transfer .state) → y ≡ resultOf x (r .discarded) → arrivalCall y v g ≡ takeBytes s t a h
+  pub take-ran : {z : Settings} {u : Transfer} {r : Receipt} {g : Lent} {v : List ℕ} {y : ℕ} {b : Bool} → z ≡ settingsFrom s → u ≡ transferFrom t → outcome r g ≡ receiveOf z (world u h) a → b ≡ isAcceptance (numberOf (r .answer)) → v ≡ keptTransfer t b (r .transfer .state) → y ≡ resultOf (numberOf (r .answer)) (r .discarded) → arrivalCall y v g ≡ takeBytes s t a h
   unfolding takeBytes
-  take-ran {u = u} hz hu ho hx hb hv hy =
+  take-ran {u = u} hz hu ho hb hv hy =
       let p =
       ho
       ∙ ap (λ (z : Settings). receiveOf z (world u h) a) hz
       ∙ ap (λ (u : Transfer). receiveOf (settingsFrom s) (world u h) a) hu in
-      rw (hy, hv, hb, hx) (ap (arrivalCallOf t) p)
+      rw (hy, hv, hb) (ap (arrivalCallOf t) p)
+
+  pub batch-ran : (r : List ℕ) {z : Settings} {u : Transfer} {b : Batch} {g : Lent} {v r₁ : List ℕ} → z ≡ settingsFrom s → u ≡ transferFrom t → batchLeft b r₁ g ≡ batchOf z (world u h) a r → v ≡ keptTransfer t (b .accepted) (b .transfer .state) → batchCall (b .number) v r₁ g ≡ takeBatch s t a r h
+  unfolding takeBatch
+  batch-ran r {u = u} hz hu ho hv =
+      let p =
+      ho
+      ∙ ap (λ (z : Settings). batchOf z (world u h) a r) hz
+      ∙ ap (λ (u : Transfer). batchOf (settingsFrom s) (world u h) a r) hu in
+      rw hv (ap (batchCallEnd t) p)

@@ -1,5 +1,4 @@
 -- The laws of `specs/`.
 pub mod Places
 pub mod Laws
-pub mod Batch
 pub mod HexLaws

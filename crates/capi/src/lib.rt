@@ -1,6 +1,5 @@
 // The C interface: its calls. Settings and transfers are bytes in the layout of `layout`, everything else numbers and slices of bytes.
 ghost use mathlib.Core.Path.{_≡_};
-ghost use Prim.Native.Nat.{_≤_};
 ghost use lib.ListN.{length};
 ghost use Rattle.transfer.specs.Transfer.{fresh};
 ghost use Rattle.receiver.specs.Receiver.{lentAt, leftAt};
@@ -10,22 +9,14 @@ ghost use Rattle.capi.specs.Calls.{
   placeCall,
   placeCallOf,
   askBytes,
-  arrivalCall,
-  resultOf,
-  isAcceptance,
   keptTransfer,
-  lookBytes,
-  takeBytes,
-  fewer,
-  Knows,
-  batchCall,
-  takeBatch,
+  lookCallOf,
+  takeCallOf,
+  takeReturn,
+  batchCallOf,
+  batchReturn,
 };
-use block::Block;
-use place::Place;
 use place::PlaceAnswer;
-use settings::Family;
-use settings::Settings;
 use transfer::Transfer;
 
 mod hex;
@@ -68,12 +59,6 @@ pub extern "C" fn uf2_ask(settings: &[u8], flash_len: usize, family: u32, place:
     tell(place::ask(s, flash_len, family), place)
 }
 
-fn is_acceptance(answer: u8) -> bool
-    ensures { λ r. ⌜ r ≡ isAcceptance answer ⌝ }
-{
-    14 <= answer
-}
-
 // The next transfer, where a block was accepted.
 fn keep(transfer: &mut [u8], accepted: bool, next: Transfer)
     ensures { λ _. ⌜ now (transfer .exit) ≡ keptTransfer (now (transfer .entry)) accepted (next .state) ⌝ }
@@ -81,13 +66,6 @@ fn keep(transfer: &mut [u8], accepted: bool, next: Transfer)
     if accepted {
         layout::write_transfer(transfer, next);
     }
-}
-
-fn report(answer: u8, discarded: bool) -> u8
-    requires { ⌜ answer ≤ 31 ⌝ }
-    ensures { λ r. ⌜ r ≡ resultOf answer discarded ⌝ }
-{
-    if discarded { answer + 128 } else { answer }
 }
 
 // A look at one arrival: what `uf2_take` would return. Nothing is written.
@@ -99,15 +77,16 @@ pub extern "C" fn uf2_look(
     flash: &[u8],
     seen: &[u8],
     sectors: &[u8],
+    main: &[u8],
+    xip: &[u8],
 ) -> u32
-    ensures { λ r. ⌜ r ≡ lookBytes (now (settings .entry)) (now (transfer .entry)) (now (arrival .entry)) (lentAt flash seen sectors) ⌝ }
+    ensures { λ r. ⌜ r ≡ lookCallOf settings transfer arrival (lentAt flash seen sectors main xip) ⌝ }
 {
     let s = layout::read_settings(settings);
     let t = layout::read_transfer(transfer);
-    let p = receiver::look(s, t, arrival, flash, seen, sectors);
+    let p = receiver::look(s, t, arrival, flash, seen, sectors, main, xip);
     let answer = p.answer;
-    let n = answer.number();
-    report(n, p.discarded) as u32
+    batch::result(answer, p.discarded) as u32
 }
 
 // One arrival is taken: the answer's number, and 128 more where a running transfer was discarded.
@@ -119,43 +98,18 @@ pub extern "C" fn uf2_take(
     flash: &mut [u8],
     seen: &mut [u8],
     sectors: &mut [u8],
+    main: &mut [u8],
+    xip: &mut [u8],
 ) -> u32
-    ensures { λ r. ⌜ arrivalCall r (now (transfer .exit)) (leftAt flash seen sectors) ≡ takeBytes (now (settings .entry)) (now (transfer .entry)) (now (arrival .entry)) (lentAt flash seen sectors) ⌝ }
+    ensures { λ r. ⌜ takeReturn r transfer (leftAt flash seen sectors main xip) ≡ takeCallOf settings transfer arrival (lentAt flash seen sectors main xip) ⌝ }
 {
     let s = layout::read_settings(settings);
     let t = layout::read_transfer(transfer);
-    let r = receiver::take(s, t, arrival, flash, seen, sectors);
+    let r = receiver::take(s, t, arrival, flash, seen, sectors, main, xip);
     let answer = r.answer;
     let next = r.transfer;
-    let n = answer.number();
-    keep(transfer, is_acceptance(n), next);
-    report(n, r.discarded) as u32
-}
-
-fn at_most(a: usize, b: usize) -> usize
-    ensures { λ r. ⌜ r ≡ fewer a b ⌝ }
-    ensures low { λ r. ⌜ (r ≤ a) × (r ≤ b) ⌝ }
-{
-    if a <= b { a } else { b }
-}
-
-// A family and its place.
-struct Known {
-    family: u32,
-    place: Place,
-}
-
-// The place of a family, found anew where it is not the family before.
-fn place_for(known: Known, settings: Settings, flash_len: usize, family: u32) -> Known
-    requires { ⌜ Knows settings «flash_len» known ⌝ }
-    ensures { λ r. ⌜ r .family ≡ family ⌝ }
-    ensures knows { λ r. ⌜ Knows settings «flash_len» r ⌝ }
-{
-    if known.family == family {
-        return known;
-    }
-    let place = place::find(settings, flash_len, family);
-    Known { family, place }
+    keep(transfer, batch::is_acceptance(answer), next);
+    batch::result(answer, r.discarded) as u32
 }
 
 // Whole arrivals are taken one after the other, as many as there are results for: their number, and the result of each.
@@ -168,36 +122,15 @@ pub extern "C" fn uf2_take_all(
     flash: &mut [u8],
     seen: &mut [u8],
     sectors: &mut [u8],
+    main: &mut [u8],
+    xip: &mut [u8],
 ) -> usize
-    ensures { λ r. ⌜ batchCall r (now (transfer .exit)) (now (results .exit)) (leftAt flash seen sectors) ≡ takeBatch (now (settings .entry)) (now (transfer .entry)) (now (arrivals .entry)) (now (results .entry)) (lentAt flash seen sectors) ⌝ }
+    ensures { λ r. ⌜ batchReturn r transfer results (leftAt flash seen sectors main xip) ≡ batchCallOf settings transfer arrivals results (lentAt flash seen sectors main xip) ⌝ }
 {
     let s = layout::read_settings(settings);
-    let mut t = layout::read_transfer(transfer);
-    let len = flash.len();
-    let good = settings::good(s, len);
-    let first = place::find(s, len, Family::DATA);
-    let mut known = Known {
-        family: Family::DATA,
-        place: first,
-    };
-    let mut accepted = false;
-    let n = at_most(arrivals.len() / Block::ARRIVAL, results.len());
-    let mut i: usize = 0;
-    while i < n {
-        let from = i * Block::ARRIVAL;
-        let to = from + Block::ARRIVAL;
-        let family = block::field(&arrivals[from..to], 28);
-        known = place_for(known, s, len, family);
-        let place = known.place;
-        let r = receiver::take_known(good, place, t, &arrivals[from..to], flash, seen, sectors);
-        let answer = r.answer;
-        let next = r.transfer;
-        let number = answer.number();
-        results[i] = report(number, r.discarded);
-        accepted = accepted | is_acceptance(number);
-        t = next;
-        i += 1;
-    }
-    keep(transfer, accepted, t);
-    n
+    let t = layout::read_transfer(transfer);
+    let b = batch::take_all(s, t, arrivals, results, flash, seen, sectors, main, xip);
+    let next = b.transfer;
+    keep(transfer, b.accepted, next);
+    b.number
 }

@@ -8,17 +8,25 @@ use Rattle.bitmap.specs.Bitmap.{bit, withBit, markedIn, withMark, unmarked}
 use Rattle.flash.specs.Flash.{flashLength, eraseAt, payloadOf, storeAt}
 use Rattle.block.specs.Block.{fieldAt, fieldsOf, flaggedOf, headerOf}
 use Rattle.settings.specs.Settings.{hasUser, accepts, overlap, overlapAt, sharesSector, reservedUser, badEntry, goodSettings}
-use Rattle.place.specs.Place.{passQueryOf, passAllows, passTakes, firstOf, entryIf, inPass, chosen, chosenEntry, placeOf, askOf}
+use Rattle.place.specs.Place.{passQueryOf, passAllows, passTakes, firstOf, entryIf, inPass, chosen, chosenEntry, placeOf, ramFamily, askOf}
 use Rattle.transfer.specs.Transfer.{goodState, sameHead, counted, raised, accepted, stepOf}
-use Rattle.screen.specs.Screen.{placed, noted, found, placedIn, screenOf}
-use Rattle.arrival.specs.Arrive.{rightLengths, afterScreening, decide, clearedIf, wipedIf, preparedAt, pagedAt, acceptOf, done, receiveOf}
+use Rattle.screen.specs.Screen.{windowOf, noteKind, placed, strayed, noted, dataFound, noteFound, found, screenIn, screenOf}
+use Rattle.arrival.specs.Arrive.{rightLengths, standsAt, afterScreening, decide, clearedIf, wipedIf, preparedAt, pagedAt, acceptOf, done, receiveOf}
 use Rattle.arrival.specs.Lists.{receiveAll, answersOf, discardsOf}
-use Rattle.examples.specs.Examples.{examples, Examples-hold, commentExamples, Comment-examples-hold}
+use Rattle.examples.specs.Examples.{examples, Examples-hold, commentExamples, Comment-examples-hold, windowExamples, Window-examples-hold, ramExamples, Ram-examples-hold}
 
 pub examples-hold : Examples-hold
-unfolding Examples-hold examples many any bit withBit markedIn withMark unmarked flashLength over eraseAt payloadOf storeAt lowFirst numberIn fieldAt fieldsOf flaggedOf headerOf hasUser accepts overlap overlapAt sharesSector reservedUser badEntry goodSettings passQueryOf passAllows passTakes firstOf entryIf inPass chosen chosenEntry placeOf askOf goodState sameHead counted raised accepted stepOf placed noted found placedIn screenOf rightLengths afterScreening decide clearedIf wipedIf preparedAt pagedAt acceptOf done receiveOf receiveAll answersOf discardsOf
+unfolding Examples-hold examples many any bit withBit markedIn withMark unmarked flashLength over eraseAt payloadOf storeAt lowFirst numberIn fieldAt fieldsOf flaggedOf headerOf hasUser accepts overlap overlapAt sharesSector reservedUser badEntry goodSettings passQueryOf passAllows passTakes firstOf entryIf inPass chosen chosenEntry placeOf ramFamily askOf goodState sameHead counted raised accepted stepOf windowOf noteKind placed strayed noted dataFound noteFound found screenIn screenOf rightLengths standsAt afterScreening decide clearedIf wipedIf preparedAt pagedAt acceptOf done receiveOf receiveAll answersOf discardsOf
 examples-hold = refl
 
 pub comment-examples-hold : Comment-examples-hold
-unfolding Comment-examples-hold commentExamples many any bit withBit markedIn withMark unmarked flashLength over eraseAt payloadOf storeAt lowFirst numberIn fieldAt fieldsOf flaggedOf headerOf hasUser accepts overlap overlapAt sharesSector reservedUser badEntry goodSettings passQueryOf passAllows passTakes firstOf entryIf inPass chosen chosenEntry placeOf askOf goodState sameHead counted raised accepted stepOf placed noted found placedIn screenOf rightLengths afterScreening decide clearedIf wipedIf preparedAt pagedAt acceptOf done receiveOf receiveAll answersOf discardsOf
+unfolding Comment-examples-hold commentExamples many any bit withBit markedIn withMark unmarked flashLength over eraseAt payloadOf storeAt lowFirst numberIn fieldAt fieldsOf flaggedOf headerOf hasUser accepts overlap overlapAt sharesSector reservedUser badEntry goodSettings passQueryOf passAllows passTakes firstOf entryIf inPass chosen chosenEntry placeOf ramFamily askOf goodState sameHead counted raised accepted stepOf windowOf noteKind placed strayed noted dataFound noteFound found screenIn screenOf rightLengths standsAt afterScreening decide clearedIf wipedIf preparedAt pagedAt acceptOf done receiveOf receiveAll answersOf discardsOf
 comment-examples-hold = refl
+
+pub window-examples-hold : Window-examples-hold
+unfolding Window-examples-hold windowExamples many any bit withBit markedIn withMark unmarked flashLength over eraseAt payloadOf storeAt lowFirst numberIn fieldAt fieldsOf flaggedOf headerOf hasUser accepts overlap overlapAt sharesSector reservedUser badEntry goodSettings passQueryOf passAllows passTakes firstOf entryIf inPass chosen chosenEntry placeOf ramFamily askOf goodState sameHead counted raised accepted stepOf windowOf noteKind placed strayed noted dataFound noteFound found screenIn screenOf rightLengths standsAt afterScreening decide clearedIf wipedIf preparedAt pagedAt acceptOf done receiveOf receiveAll answersOf discardsOf
+window-examples-hold = refl
+
+pub ram-examples-hold : Ram-examples-hold
+unfolding Ram-examples-hold ramExamples many any bit withBit markedIn withMark unmarked flashLength over eraseAt payloadOf storeAt lowFirst numberIn fieldAt fieldsOf flaggedOf headerOf hasUser accepts overlap overlapAt sharesSector reservedUser badEntry goodSettings passQueryOf passAllows passTakes firstOf entryIf inPass chosen chosenEntry placeOf ramFamily askOf goodState sameHead counted raised accepted stepOf windowOf noteKind placed strayed noted dataFound noteFound found screenIn screenOf rightLengths standsAt afterScreening decide clearedIf wipedIf preparedAt pagedAt acceptOf done receiveOf receiveAll answersOf discardsOf
+ram-examples-hold = refl

@@ -40,7 +40,7 @@ pub fn erase(flash: &mut [u8], sector: usize)
     }
 }
 
-// Stores the payload of an arrival at an address of the flash. Where either does not fit nothing changes.
+// Stores the payload of an arrival at an address of the flash, or of another lent buffer. Where either does not fit nothing changes.
 pub fn store(flash: &mut [u8], at: usize, arrival: &[u8])
     ensures { λ _. ⌜ now (flash .exit) ≡ storeAt (now (flash .entry)) at (payloadOf (now (arrival .entry))) ⌝ }
 {

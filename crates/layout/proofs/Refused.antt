@@ -5,9 +5,9 @@ use mathlib.Core.Logic.{_≢_}
 use mathlib.Core.Bool.{true, false}
 use mathlib.Core.List.{List}
 use native.Mathlib.Omega.{arith}
-use lib.Dec.{leb}
+use lib.Dec.{ltb, leb}
 use lib.ListN.{length}
-use borrow.Author.Tests.{eq-eqb, ne-eqb, leb-true, leb-false}
+use borrow.Author.Tests.{eq-eqb, ne-eqb, lt-ltb, leb-true, leb-false}
 use Rattle.sets.proofs.Tests.{split}
 use Rattle.sets.proofs.Laws.{any-hit}
 use Rattle.settings.specs.declared.Entry.{Entry}
@@ -15,24 +15,42 @@ use Rattle.settings.specs.declared.Link.the-variants.{OwnedBy}
 use Rattle.settings.specs.Settings.{entryAt, goodSettings}
 use Rattle.settings.specs.Parts.{wrongEntry}
 use Rattle.settings.proofs.Laws.{good-over, good-wrong, wrong-link, link-up}
+use Rattle.transfer.specs.declared.Head.{Head}
+use Rattle.transfer.specs.declared.State.the-variants.{Idle}
 use Rattle.transfer.specs.Transfer.{goodState}
 use Rattle.layout.specs.Layout.{byteAt, linkFrom, entryFrom, entryBytes, slotFrom, slotsFrom, countFrom, usedOf, settingsOf, settingsFrom, stateOf, stateFrom}
 use Rattle.layout.proofs.Table.{slots-at, slot-used}
 
 -- ---- no state
 
-pub state-length : (b : List ℕ) → length b ≢ 13 → goodState (stateFrom b) ≡ false
+pub state-length : (b : List ℕ) → length b ≢ 14 → goodState (stateFrom b) ≡ false
 unfolding stateFrom goodState
-state-length b h = rw (ne-eqb (length b) 13 h)
+state-length b h = rw (ne-eqb (length b) 14 h)
 
-other-tag : (tag f n c : ℕ) → 2 < tag → goodState (stateOf tag f n c) ≡ false
+other-tag : (tag k : ℕ) (g : Head) (c : ℕ) → 2 < tag → goodState (stateOf tag k g c) ≡ false
 unfolding stateOf goodState
-other-tag tag f n c h =
-    simp (ne-eqb tag 0 (omega arith), ne-eqb tag 1 (omega arith), ne-eqb tag 2 (omega arith))
+other-tag tag k g c h =
+    split (ltb 2 k)
+    (λ q. simp (ne-eqb tag 0 (omega arith), q))
+    (λ q. simp (ne-eqb tag 0 (omega arith), q, ne-eqb tag 1 (omega arith), ne-eqb tag 2 (omega arith)))
 
-pub state-tag : (b : List ℕ) → length b ≡ 13 → 2 < byteAt b 0 → goodState (stateFrom b) ≡ false
+pub state-tag : (b : List ℕ) → length b ≡ 14 → 2 < byteAt b 0 → goodState (stateFrom b) ≡ false
 unfolding stateFrom
-state-tag b e h = rw (eq-eqb (length b) 13 e) (other-tag (byteAt b 0) _ _ _ h)
+state-tag b e h = rw (eq-eqb (length b) 14 e) (other-tag (byteAt b 0) _ _ _ h)
+
+other-kind : (tag k : ℕ) (g : Head) (c : ℕ) → tag ≢ 0 → 2 < k → goodState (stateOf tag k g c) ≡ false
+unfolding stateOf goodState
+other-kind tag k g c d h = simp (ne-eqb tag 0 d, lt-ltb 2 k h)
+
+-- the kind of a transfer that is not Idle
+pub state-kind : (b : List ℕ) → length b ≡ 14 → byteAt b 0 ≢ 0 → 2 < byteAt b 13 → goodState (stateFrom b) ≡ false
+unfolding stateFrom
+state-kind b e d h = rw (eq-eqb (length b) 14 e) (other-kind (byteAt b 0) _ _ _ d h)
+
+-- one that is Idle is read whatever else stands there
+pub idle-read : (b : List ℕ) → length b ≡ 14 → byteAt b 0 ≡ 0 → stateFrom b ≡ Idle
+unfolding stateFrom stateOf
+idle-read b e z = simp (eq-eqb (length b) 14 e, z)
 
 -- ---- no settings
 
@@ -40,12 +58,12 @@ pub settings-length : (b : List ℕ) (len : ℕ) → length b ≢ 534 → goodSe
 unfolding settingsFrom settingsOf
 settings-length b len h = good-over (settingsFrom b) len (rw (ne-eqb (length b) 534 h) (omega arith))
 
--- ---- a used entry's link of another kind
+-- ---- a used entry's link of another tag
 
-other-link : (kind index : ℕ) → 2 < kind → linkFrom kind index ≡ OwnedBy 255
+other-link : (tag index : ℕ) → 2 < tag → linkFrom tag index ≡ OwnedBy 255
 unfolding linkFrom
-other-link kind index h =
-    simp (ne-eqb kind 0 (omega arith), ne-eqb kind 1 (omega arith), ne-eqb kind 2 (omega arith))
+other-link tag index h =
+    simp (ne-eqb tag 0 (omega arith), ne-eqb tag 1 (omega arith), ne-eqb tag 2 (omega arith))
 
 -- an entry that is owned by 255 is wrong by its link
 owned-wrong : (table : List Entry) (len k : ℕ) → k ≤ 255 → entryAt table k .link ≡ OwnedBy 255 → wrongEntry table len k ≡ true
@@ -56,10 +74,10 @@ entry-link : (e : List ℕ) → entryFrom e .link ≡ linkFrom (byteAt e 31) (by
 unfolding entryFrom
 entry-link e = refl
 
--- settings of which entry k is used and has a link of another kind than 0, 1 and 2
-pub link-kind : (b : List ℕ) (len k : ℕ) → length b ≡ 534 → k < byteAt b 5 → 2 < byteAt (entryBytes b k) 31 → goodSettings (settingsFrom b) len ≡ false
+-- settings of which entry k is used and has a link of another tag than 0, 1 and 2
+pub link-tag : (b : List ℕ) (len k : ℕ) → length b ≡ 534 → k < byteAt b 5 → 2 < byteAt (entryBytes b k) 31 → goodSettings (settingsFrom b) len ≡ false
 unfolding settingsFrom settingsOf
-link-kind b len k e used kind =
+link-tag b len k e used tag =
     let n = byteAt b 5 in
     let s = settingsFrom b in
     let same : countFrom b ≡ n = rw (eq-eqb (length b) 534 e) refl in
@@ -69,6 +87,6 @@ link-kind b len k e used kind =
     let t = slotsFrom b n 0 16 in
     let u : usedOf (countFrom b) ≡ n = ap usedOf same ∙ rw q refl in
     let at : entryAt t k ≡ entryFrom (entryBytes b k) = slots-at b n 0 16 k (omega arith) ∙ ap (slotFrom b n) (omega arith) ∙ slot-used b n k used in
-    let own : entryAt t k .link ≡ OwnedBy 255 = ap (λ (x : Entry). x .link) at ∙ entry-link (entryBytes b k) ∙ other-link _ _ kind in
+    let own : entryAt t k .link ≡ OwnedBy 255 = ap (λ (x : Entry). x .link) at ∙ entry-link (entryBytes b k) ∙ other-link _ _ tag in
     good-wrong s len (rw (u, same) (any-hit (wrongEntry t len) n k used (owned-wrong t len k (omega arith) own))))
     (λ q. good-over s len (rw same (leb-false n 16 q))))

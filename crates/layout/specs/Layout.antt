@@ -12,10 +12,13 @@ use Rattle.settings.specs.declared.Link.the-variants.{Unlinked, OwnedBy, BOf}
 use Rattle.settings.specs.declared.Entry.{Entry}
 use Rattle.settings.specs.declared.Settings.{Settings}
 use Rattle.settings.specs.Settings.{blankEntry}
+use Rattle.transfer.specs.declared.Kind.{Kind}
+use Rattle.transfer.specs.declared.Kind.the-variants.{Flash, MainRam, XipRam}
+use Rattle.transfer.specs.declared.Head.{Head}
 use Rattle.transfer.specs.declared.State.{State}
 use Rattle.transfer.specs.declared.State.the-variants.{Idle, Running, Done}
 use Rattle.transfer.specs.declared.Transfer.{Transfer}
-use Rattle.transfer.specs.Transfer.{headWith, running}
+use Rattle.transfer.specs.Transfer.{kindNumber, headWith, running}
 use Rattle.block.specs.Write.{le32}
 
 -- the byte at an index, and 0 past the end
@@ -28,19 +31,19 @@ isOn x = not (eqb x 0)
 
 -- ---- an entry, 33 bytes
 
--- a kind and an index: 0 none, 1 owned by, 2 B of; any other kind is owned by 255, which makes a used entry bad (proofs/Refused.antt)
+-- a tag and an index: 0 none, 1 owned by, 2 B of; any other tag is owned by 255, which makes a used entry bad (proofs/Refused.antt)
 unfoldable pub linkFrom : ℕ → ℕ → Link
-linkFrom kind index =
-    cond (eqb kind 0) Unlinked
-    (cond (eqb kind 1) (OwnedBy index)
-    (cond (eqb kind 2) (BOf index) (OwnedBy 255)))
+linkFrom tag index =
+    cond (eqb tag 0) Unlinked
+    (cond (eqb tag 1) (OwnedBy index)
+    (cond (eqb tag 2) (BOf index) (OwnedBy 255)))
 
 -- "0 to 4 user families": four fields from 8 on
 abbrev pub usersFrom : List ℕ → List ℕ
 usersFrom e = fieldAt e 8 ∷ fieldAt e 12 ∷ fieldAt e 16 ∷ fieldAt e 20 ∷ []
 
 -- 0 first sector, 4 sectors, 8 four user families, 24 data, 25 arm-s, 26 riscv, 27 arm-ns, 28 number of user families, 29 not bootable
--- for Arm, 30 for RISC-V, 31 link kind, 32 link index
+-- for Arm, 30 for RISC-V, 31 link tag, 32 link index
 unfoldable pub entryFrom : List ℕ → Entry
 entryFrom e =
     record {
@@ -101,38 +104,52 @@ settingsOf b table =
 unfoldable pub settingsFrom : List ℕ → Settings
 settingsFrom b = settingsOf b (slotsFrom b (usedOf (countFrom b)) 0 16)
 
--- ---- a transfer, 13 bytes
+-- ---- a transfer, 14 bytes
+
+-- what it writes to: the kind of this number (`kindNumber`), where there is one
+unfoldable pub kindFrom : ℕ → Kind
+kindFrom k = cond (eqb k 1) MainRam (cond (eqb k 2) XipRam Flash)
 
 -- a running transfer that has counted none, which row 3 refuses (proofs/Refused.antt)
 abbrev pub noState : State
-noState = running (headWith 0 0) 0
+noState = running (headWith Flash 0 0) 0
 
--- a tag (0 Idle, 1 Running, 2 Done), family, total and count; any other tag is no state
-unfoldable pub stateOf : ℕ → ℕ → ℕ → ℕ → State
-stateOf tag f n c =
+-- a tag (0 Idle, 1 Running, 2 Done), the kind's number, the head and the count; any other tag is no state, and so is a kind over 2 of
+-- a transfer that is not Idle
+unfoldable pub stateOf : ℕ → ℕ → Head → ℕ → State
+stateOf tag kind g c =
     cond (eqb tag 0) Idle
-    (cond (eqb tag 1) (running (headWith f n) c)
-    (cond (eqb tag 2) (Done (headWith f n)) noState))
+    (cond (ltb 2 kind) noState
+    (cond (eqb tag 1) (running g c)
+    (cond (eqb tag 2) (Done g) noState)))
 
--- 0 tag, 1 family, 5 total, 9 count; bytes of any other length are no state
+-- 1 family, 5 total, 13 kind
+abbrev pub headFrom : List ℕ → Head
+headFrom b = headWith (kindFrom (byteAt b 13)) (fieldAt b 1) (fieldAt b 5)
+
+-- 0 tag, 9 count, and the head; bytes of any other length are no state
 unfoldable pub stateFrom : List ℕ → State
 stateFrom b =
-    cond (eqb (length b) 13) (stateOf (byteAt b 0) (fieldAt b 1) (fieldAt b 5) (fieldAt b 9)) noState
+    cond (eqb (length b) 14) (stateOf (byteAt b 0) (byteAt b 13) (headFrom b) (fieldAt b 9)) noState
 
 -- the transfer that bytes are
 abbrev pub transferFrom : List ℕ → Transfer
 transferFrom b = record { state = stateFrom b }
 
--- the bytes of a tag, a family, a total and a count
-unfoldable pub transferBytes : ℕ → ℕ → ℕ → ℕ → List ℕ
-transferBytes tag f n c = tag ∷ (le32 f ++ (le32 n ++ le32 c))
+-- the bytes of a tag, a family, a total, a count and a kind's number
+unfoldable pub transferBytes : ℕ → ℕ → ℕ → ℕ → ℕ → List ℕ
+transferBytes tag f n c kind = tag ∷ (le32 f ++ (le32 n ++ (le32 c ++ (kind ∷ []))))
+
+-- those of a tag, a head and a count
+abbrev pub headBytes : ℕ → Head → ℕ → List ℕ
+headBytes tag g c = transferBytes tag (g .family) (g .total) c (kindNumber (g .kind))
 
 -- the bytes of a transfer; one that is done has counted its total
 abbrev pub stateBytes : State → List ℕ
-stateBytes Idle = transferBytes 0 0 0 0
-stateBytes (Running r) = transferBytes 1 (r .head .family) (r .head .total) (r .count)
-stateBytes (Done g) = transferBytes 2 (g .family) (g .total) (g .total)
+stateBytes Idle = transferBytes 0 0 0 0 0
+stateBytes (Running r) = headBytes 1 (r .head) (r .count)
+stateBytes (Done g) = headBytes 2 g (g .total)
 
--- a transfer written over bytes, where there are 13
+-- a transfer written over bytes, where there are 14
 unfoldable pub withTransfer : List ℕ → State → List ℕ
-withTransfer b t = cond (eqb (length b) 13) (stateBytes t) b
+withTransfer b t = cond (eqb (length b) 14) (stateBytes t) b

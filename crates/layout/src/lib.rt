@@ -12,10 +12,12 @@ ghost use Rattle.layout.specs.Layout.{
   countFrom,
   usedOf,
   settingsFrom,
+  kindFrom,
   noState,
   stateOf,
   transferFrom,
   transferBytes,
+  headBytes,
   withTransfer,
 };
 use settings::Arch;
@@ -23,6 +25,7 @@ use settings::Entry;
 use settings::Link;
 use settings::Settings;
 use transfer::Head;
+use transfer::Kind;
 use transfer::Run;
 use transfer::State;
 use transfer::Transfer;
@@ -35,7 +38,7 @@ const HEAD: usize = 6;
 const ENTRY: usize = 33;
 
 // The bytes of a transfer.
-const TRANSFER: usize = 13;
+const TRANSFER: usize = 14;
 
 fn arch(x: u8) -> Arch
     ensures { λ r. ⌜ r ≡ archFrom x ⌝ }
@@ -43,17 +46,17 @@ fn arch(x: u8) -> Arch
     if x == 0 { Arch::Arm } else { Arch::RiscV }
 }
 
-// Of another kind than 0, 1 and 2: a link that is bad at every index.
-fn link(kind: u8, index: u8) -> Link
-    ensures { λ r. ⌜ r ≡ linkFrom kind index ⌝ }
+// Of another tag than 0, 1 and 2: a link that is bad at every index.
+fn link(tag: u8, index: u8) -> Link
+    ensures { λ r. ⌜ r ≡ linkFrom tag index ⌝ }
 {
-    if kind == 0 {
+    if tag == 0 {
         return Link::Unlinked;
     }
-    if kind == 1 {
+    if tag == 1 {
         return Link::OwnedBy(index);
     }
-    if kind == 2 {
+    if tag == 2 {
         return Link::BOf(index);
     }
     Link::OwnedBy(255)
@@ -149,12 +152,28 @@ pub fn read_settings(bytes: &[u8]) -> Settings
     }
 }
 
-// Of another tag than 0, 1 and 2: a running transfer that is bad.
-fn state(tag: u8, head: Head, count: u32) -> State
-    ensures { λ r. ⌜ r ≡ stateOf tag (head .family) (head .total) count ⌝ }
+// The kind of a number that is one; of any other number nothing is made.
+fn kind(number: u8) -> Kind
+    ensures { λ r. ⌜ r ≡ kindFrom number ⌝ }
+{
+    if number == 1 {
+        return Kind::MainRam;
+    }
+    if number == 2 {
+        return Kind::XipRam;
+    }
+    Kind::Flash
+}
+
+// Of another tag than 0, 1 and 2, and of another kind where it is not Idle: a running transfer that is bad.
+fn state(tag: u8, kind: u8, head: Head, count: u32) -> State
+    ensures { λ r. ⌜ r ≡ stateOf tag kind head count ⌝ }
 {
     if tag == 0 {
         return State::Idle;
+    }
+    if 2 < kind {
+        return none();
     }
     if tag == 1 {
         let run = Run { head, count };
@@ -170,7 +189,7 @@ fn state(tag: u8, head: Head, count: u32) -> State
 fn none() -> State
     ensures { λ r. ⌜ r ≡ noState ⌝ }
 {
-    let head = Head::new(0, 0);
+    let head = Head::new(Kind::Flash, 0, 0);
     let run = Run { head, count: 0 };
     State::Running(run)
 }
@@ -183,19 +202,30 @@ pub fn read_transfer(bytes: &[u8]) -> Transfer
         let state = none();
         return Transfer { state };
     }
-    let head = Head::new(block::field(bytes, 1), block::field(bytes, 5));
-    let state = state(bytes[0], head, block::field(bytes, 9));
+    let number = bytes[13];
+    let head = Head::new(kind(number), block::field(bytes, 1), block::field(bytes, 5));
+    let state = state(bytes[0], number, head, block::field(bytes, 9));
     Transfer { state }
 }
 
-fn write(bytes: &mut [u8], tag: u8, family: u32, total: u32, count: u32)
-    requires { ⌜ length (now bytes) ≡ 13 ⌝ }
-    ensures { λ _. ⌜ now (bytes .exit) ≡ transferBytes tag family total count ⌝ }
+fn write(bytes: &mut [u8], tag: u8, family: u32, total: u32, count: u32, kind: u8)
+    requires { ⌜ length (now bytes) ≡ 14 ⌝ }
+    ensures { λ _. ⌜ now (bytes .exit) ≡ transferBytes tag family total count kind ⌝ }
 {
     bytes[0] = tag;
     block::put(bytes, 1, family);
     block::put(bytes, 5, total);
     block::put(bytes, 9, count);
+    bytes[13] = kind;
+}
+
+// A transfer that is not Idle.
+fn write_head(bytes: &mut [u8], tag: u8, head: Head, count: u32)
+    requires { ⌜ length (now bytes) ≡ 14 ⌝ }
+    ensures { λ _. ⌜ now (bytes .exit) ≡ headBytes tag head count ⌝ }
+{
+    let kind = head.kind;
+    write(bytes, tag, head.family, head.total, count, kind.number());
 }
 
 // Writes a transfer, where there are bytes for it.
@@ -207,11 +237,11 @@ pub fn write_transfer(bytes: &mut [u8], next: Transfer)
     }
     let state = next.state;
     match state {
-        State::Idle => write(bytes, 0, 0, 0, 0),
+        State::Idle => write(bytes, 0, 0, 0, 0, 0),
         State::Running(run) => {
             let head = run.head;
-            write(bytes, 1, head.family, head.total, run.count);
+            write_head(bytes, 1, head, run.count);
         }
-        State::Done(head) => write(bytes, 2, head.family, head.total, head.total),
+        State::Done(head) => write_head(bytes, 2, head, head.total),
     }
 }

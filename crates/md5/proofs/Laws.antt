@@ -5,11 +5,12 @@ use Prim.Native.Nat.{ℕ, zero, suc, _+_, _-_, _*_, _/_, _%_, _^_, _<_, _≤_}
 use native.Mathlib.Omega.{arith}
 use native.Mathlib.Nat.{zero-add, add-zero, suc-add, add-suc}
 use native.Mathlib.Numerals.{add-one}
-use lib.ListN.{length, getD, take, drop, set, replicate, length-append, length-replicate, length-take, length-drop, length-set, replicate-append-replicate}
+use lib.ListN.{length, getD, take, drop, set, replicate, length-append, length-replicate, length-drop, replicate-append-replicate}
 use lib.Seq.{length-take-le, take-length, take-nil, drop-nil, take-all, take-take, drop-drop, take-suc-set, drop-append-le, take-append-le, take-at, drop-at, set-at}
 use lib.Dec.{T, ltb, ltb→lt}
 use mathlib.Core.Bool.{Bool}
 use borrow.Author.Tests.{lt-ltb, le-ltb}
+use lib.Bits.{bitOr}
 use Rattle.md5.proofs.Table.{at, both, both-left, both-right}
 use Rattle.md5.specs.declared.Digest.{Digest}
 use Rattle.md5.specs.Md5.{add, rotateLeft, fOf, gOf, hOf, iOf, sines, shifts, operationOf, stepOf, stepsOf, plus, blockOf, blocksOf, padWith, padOf, md5Of, start}
@@ -205,3 +206,11 @@ joined l s t n hn ht hs =
 pub ended : (l : List ℕ) (s t : Digest) (n e : ℕ) → (119 - n % 64) % 64 ≡ e - 1 - n % 64 → (n % 64 + 72) / 64 ≡ (e + 8) / 64
     → s ≡ blocksOf (l ++ padWith (e - 1 - n % 64) n) t ((e + 8) / 64) → s ≡ blocksOf (l ++ padOf n) t ((n % 64 + 72) / 64)
 ended l s t n e p q h = rw (p, q) h
+
+-- a rotation, with both amounts below 32 as a processor takes them
+pub rotate-is : (x n : ℕ) → 0 < n → n < 32 → bitOr (x * 2 ^ (n % 32) % 2 ^ 32) (x / 2 ^ ((32 - n) % 32)) ≡ rotateLeft x n
+unfolding rotateLeft
+rotate-is x n p q =
+    let e : n % 32 ≡ n = omega arith in
+    let f : (32 - n) % 32 ≡ 32 - n = omega arith in
+    rw (e, f)

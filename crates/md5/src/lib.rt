@@ -160,7 +160,7 @@ fn rotate_left(x: u32, n: u32) -> u32
     requires { ⌜ (0 < n) × (n < 32) ⌝ }
     ensures { λ r. ⌜ r ≡ rotateLeft x n ⌝ }
 {
-    (x << n) | (x >> (32 - n))
+    (x << (n % 32)) | (x >> ((32 - n) % 32))
 }
 
 // The four functions, one a round.

@@ -5,7 +5,8 @@ use mathlib.Core.Logic.{_↔_, _≢_}
 use mathlib.Core.Bool.{Bool, true, _&&_, _||_, cond, not}
 use mathlib.Core.List.{List}
 use lib.Dec.{leb, eqb}
-use Rattle.settings.specs.Settings.{familyRp2040, familyAbsolute, familyData, familyArmS, familyRiscV, entryAt, isA, isUnowned, accepts, enabled, goodSettings}
+use Rattle.sets.specs.Sets.{any}
+use Rattle.settings.specs.Settings.{familyRp2040, familyAbsolute, familyData, familyArmS, familyRiscV, familyArmNs, hasUser, entryAt, isA, isUnowned, accepts, enabled, goodSettings}
 use Rattle.settings.specs.declared.Settings.{Settings}
 use Rattle.settings.specs.declared.Entry.{Entry}
 use Rattle.settings.specs.declared.Arch.{Arch}
@@ -100,7 +101,7 @@ chosenEntry s f = chosen (s .table) (usedCount (s .count)) (passQueryOf s f)
 abbrev pub getsWhole : Bool → Bool → ℕ → Bool
 getsWhole arm riscv f = eqb f familyData || eqb f familyArmS && arm || eqb f familyRiscV && riscv
 
--- the whole flash, or no place
+-- the whole of so many bytes, or no place
 abbrev pub wholeIf : Bool → ℕ → Place
 wholeIf b len = cond b (At 0 len) Nowhere
 
@@ -130,6 +131,16 @@ placeOf s len f =
 abbrev pub placeNumber : Place → ℕ
 placeNumber Nowhere = 8
 placeNumber (At a n) = 0
+
+-- ---- families in RAM (02, L8)
+
+-- f is a user family of entry k, whatever its link
+abbrev pub userOf : List Entry → ℕ → ℕ → Bool
+userOf table f k = hasUser (entryAt table k) f
+
+-- "In RAM only families ..58 to ..5b or a user family of a used entry"
+unfoldable pub ramFamily : Settings → ℕ → Bool
+ramFamily s f = leb familyData f && leb f familyArmNs || any (usedCount (s .count)) (userOf (s .table) f)
 
 -- ---- a place asked for alone
 

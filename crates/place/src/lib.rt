@@ -1,6 +1,7 @@
 // The place of a family: the whole flash, the bytes of a partition entry, or none.
 ghost use mathlib.Core.Path.{_≡_};
 ghost use Prim.Native.Nat.{_≤_};
+ghost use Rattle.sets.specs.Sets.{any};
 ghost use Rattle.sets.specs.Numbered.{numbered};
 ghost use Rattle.place.specs.Place.{
   otherArch,
@@ -18,6 +19,8 @@ ghost use Rattle.place.specs.Place.{
   StartsLow,
   placeOf,
   placeNumber,
+  userOf,
+  ramFamily,
   askOf,
   placeAnswerNumber,
 };
@@ -167,15 +170,13 @@ fn gets_whole(arm: bool, riscv: bool, family: u32) -> bool
         | ((family == Family::RISCV) & riscv)
 }
 
-fn whole_if(yes: bool, flash_len: usize) -> Place
-    ensures { λ r. ⌜ r ≡ wholeIf yes «flash_len» ⌝ }
+// The whole of so many bytes, of the flash or of a window, or no place.
+pub fn whole_if(yes: bool, len: usize) -> Place
+    ensures { λ r. ⌜ r ≡ wholeIf yes len ⌝ }
     ensures low { λ r. ⌜ StartsLow r ⌝ }
 {
     if yes {
-        Place::At {
-            start: 0,
-            len: flash_len,
-        }
+        Place::At { start: 0, len }
     } else {
         Place::Nowhere
     }
@@ -214,6 +215,34 @@ pub fn find(settings: Settings, flash_len: usize, family: u32) -> Place
             bytes_of(e)
         }
     }
+}
+
+// Is the family a user family of one of the first n entries, whatever their links?
+fn any_user(table: [Entry; Settings::ENTRIES], n: usize, family: u32) -> bool
+    requires { ⌜ n ≤ 16 ⌝ }
+    ensures { λ r. ⌜ r ≡ any n (userOf table family) ⌝ }
+{
+    let mut i: usize = 0;
+    while i < n {
+        let e = table[i];
+        if settings::has_user(e, family) {
+            return true;
+        }
+        i += 1;
+    }
+    false
+}
+
+// May blocks of the family go to RAM? The settings' switches are not asked.
+pub fn ram_family(settings: Settings, family: u32) -> bool
+    ensures { λ r. ⌜ r ≡ ramFamily settings family ⌝ }
+{
+    if (Family::DATA <= family) & (family <= Family::ARM_NS) {
+        return true;
+    }
+    let n = used_count(settings.count);
+    let table = settings.table;
+    any_user(table, n, family)
 }
 
 // A place asked for alone.

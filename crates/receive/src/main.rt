@@ -1,5 +1,5 @@
-// Reads arrivals of 512 bytes from standard input and prints the answer to each: a flash of 32,768 bytes, no partition table, Arm alone,
-// absolute allowed.
+// Reads arrivals of 512 bytes from standard input and prints the answer to each: a flash of 32,768 bytes, no RAM, no partition table, Arm
+// alone, absolute allowed.
 use block::Block;
 use libc::STDIN_FILENO;
 use libc::STDOUT_FILENO;
@@ -35,6 +35,8 @@ fn answer_piece(
     seen: &mut [u8],
     sectors: &mut [u8],
 ) -> Progress {
+    let mut main_ram = [0u8; 0];
+    let mut xip_ram = [0u8; 0];
     let mut arrival = [0u8; Block::ARRIVAL];
     let n = io::read_full(STDIN_FILENO, &mut arrival);
     if n == 0 {
@@ -43,7 +45,16 @@ fn answer_piece(
             more: false,
         };
     }
-    let received = receiver::take(settings, transfer, &arrival[..n], flash, seen, sectors);
+    let received = receiver::take(
+        settings,
+        transfer,
+        &arrival[..n],
+        flash,
+        seen,
+        sectors,
+        &mut main_ram,
+        &mut xip_ram,
+    );
     let answer = received.answer;
     let next = received.transfer;
     print_answer(index, answer.number(), received.discarded);
@@ -71,7 +82,7 @@ fn run(flash: &mut [u8], seen: &mut [u8], sectors: &mut [u8]) -> Transfer {
 }
 
 fn main() {
-    // no answer depends on a byte of the flash; it starts erased
+    // it starts erased
     let mut flash = [0xFFu8; 32768];
     let mut seen = [0u8; Receipt::SEEN];
     let mut sectors = [0u8; Receipt::SECTORS];

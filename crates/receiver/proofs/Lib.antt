@@ -1,4 +1,4 @@
 -- The laws of `specs/` in the shape of the code's returns.
 pub mod Laws
--- One arrival of many, where what was judged is handed in.
-pub mod Known
+-- With what the settings say handed in, an arrival is what it is by the settings.
+pub mod KnownLaws

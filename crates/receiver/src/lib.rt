@@ -1,16 +1,19 @@
 // One arrival: the checks in their order, the step of the transfer, and what is written to the lent buffers.
 ghost use mathlib.Core.Path.{_≡_};
+ghost use mathlib.Core.Bool.{_&&_};
 ghost use Rattle.sets.specs.Numbered.{numbered};
 ghost use Rattle.bitmap.specs.Bitmap.{markedIn};
 ghost use Rattle.flash.specs.Flash.{payloadOf};
-ghost use Rattle.transfer.specs.Transfer.{stepOf};
+ghost use Rattle.place.specs.Place.{StartsLow};
+ghost use Rattle.transfer.specs.Transfer.{sameKind, stepOf};
 ghost use Rattle.arrival.specs.Arrive.{
   outcomeNumber,
   rightLengths,
+  standsAt,
   deedOf,
   stepped,
+  afterScreening,
   clearedIf,
-  wipedIf,
   preparedAt,
   pagedAt,
   atOf,
@@ -21,17 +24,35 @@ ghost use Rattle.arrival.specs.Arrive.{
   forecastNumber,
   lookOf,
 };
-ghost use Rattle.receiver.specs.Receiver.{held, lentAt, leftAt, world, refusal, outcome, decision, decisionIn, previewed, knownDecision, receiveKnown};
+ghost use Rattle.receiver.specs.Receiver.{
+  lentAt,
+  leftAt,
+  heldAt,
+  keptAt,
+  world,
+  refusal,
+  outcome,
+  decision,
+  previewed,
+  knownOf,
+  knownDecision,
+  receiveKnown,
+};
+ghost use Rattle.receiver.specs.Parts.{flashHeld, pageDeed};
 use block::Block;
 use flash::Flash;
 use place::Place;
 use screen::Body;
+use screen::Lengths;
 use screen::Placed;
+use screen::Rooms;
 use screen::Screening;
+use screen::Window;
 use settings::Settings;
 use transfer::Accepted;
 use transfer::Answer;
 use transfer::Deed;
+use transfer::Kind;
 use transfer::Step;
 use transfer::Transfer;
 
@@ -68,11 +89,23 @@ pub enum Verdict {
     Accepts(Acceptance),
 }
 
-// Are the lengths of arrival, flash, seen map and sector map right?
-fn lengths_right(a: usize, f: usize, m: usize, k: usize) -> bool
-    ensures { λ r. ⌜ r ≡ rightLengths a f m k ⌝ }
+// What is known of an arrival before it is judged: row 1's word, row 2's word, and what the settings say of its family.
+pub struct Known {
+    pub right: bool,
+    pub good: bool,
+    pub rooms: Rooms,
+}
+
+// Are the lengths of arrival, flash, seen map, sector map, main RAM and XIP RAM right? A buffer of RAM is whole or empty.
+pub fn lengths_right(a: usize, lens: Lengths, m: usize, k: usize) -> bool
+    ensures { λ r. ⌜ r ≡ rightLengths a lens m k ⌝ }
 {
-    (a == Block::ARRIVAL) & flash::right_length(f) & (m == Receipt::SEEN) & (k == Receipt::SECTORS)
+    (a == Block::ARRIVAL)
+        & flash::right_length(lens.flash)
+        & (m == Receipt::SEEN)
+        & (k == Receipt::SECTORS)
+        & ((lens.main == 0) | (lens.main == Window::MAIN_RAM))
+        & ((lens.xip == 0) | (lens.xip == Window::XIP_RAM))
 }
 
 // Nothing changes, and this is the answer.
@@ -97,7 +130,7 @@ fn clear_if(clears: bool, map: &mut [u8])
 
 // Erases a sector that is not marked.
 fn erase_new(flash: &mut [u8], sectors: &[u8], sector: usize)
-    ensures { λ _. ⌜ now (flash .exit) ≡ preparedAt sector (held (now (flash .entry)) (now (sectors .entry))) ⌝ }
+    ensures { λ _. ⌜ now (flash .exit) ≡ preparedAt sector (flashHeld (now (flash .entry)) (now (sectors .entry))) ⌝ }
 {
     if !bitmap::marked(sectors, sector) {
         flash::erase(flash, sector);
@@ -105,22 +138,80 @@ fn erase_new(flash: &mut [u8], sectors: &[u8], sector: usize)
 }
 
 // Stores the payload of an arrival at an address of the flash, in a sector that is erased first where it is not marked.
-fn store(at: usize, clears: bool, arrival: &[u8], flash: &mut [u8], sectors: &mut [u8])
-    ensures { λ _. ⌜ held (now (flash .exit)) (now (sectors .exit)) ≡ pagedAt at (payloadOf (now (arrival .entry))) (wipedIf clears (held (now (flash .entry)) (now (sectors .entry)))) ⌝ }
+fn store(at: usize, arrival: &[u8], flash: &mut [u8], sectors: &mut [u8])
+    ensures { λ _. ⌜ flashHeld (now (flash .exit)) (now (sectors .exit)) ≡ pagedAt Kind.Flash at (payloadOf (now (arrival .entry))) (flashHeld (now (flash .entry)) (now (sectors .entry))) ⌝ }
 {
     let sector = at / Flash::SECTOR;
-    clear_if(clears, sectors);
     erase_new(flash, sectors, sector);
     flash::store(flash, at, arrival);
     bitmap::mark(sectors, sector);
 }
 
-// What a block does once it is accepted.
-fn deed_of(body: Body) -> Deed
-    ensures { λ r. ⌜ r ≡ deedOf body ⌝ }
+// Stores the payload of an arrival in the buffer of its kind. In RAM nothing but its bytes changes.
+fn page(
+    kind: Kind,
+    at: usize,
+    arrival: &[u8],
+    flash: &mut [u8],
+    sectors: &mut [u8],
+    main: &mut [u8],
+    xip: &mut [u8],
+)
+    ensures { λ _. ⌜ keptAt flash sectors main xip ≡ pagedAt kind at (payloadOf (now (arrival .entry))) (heldAt flash sectors main xip) ⌝ }
 {
+    match kind {
+        Kind::Flash => store(at, arrival, flash, sectors),
+        Kind::MainRam => flash::store(main, at, arrival),
+        Kind::XipRam => flash::store(xip, at, arrival),
+    }
+}
+
+// Does the region of an arrival, if it names one, count in a place of the flash, and have its digest there?
+fn stands_in(start: usize, size: usize, flash: &[u8], arrival: &[u8]) -> bool
+    ensures { λ r. ⌜ r ≡ standsAt (now (flash .entry)) (Place.At start size) (now (arrival .entry)) ⌝ }
+{
+    if !block::has_region(arrival) {
+        return false;
+    }
+    let region = block::read_region(arrival);
+    let address = block::field(arrival, 12);
+    if !region::good(region, size, address) {
+        return false;
+    }
+    region::stands(flash, start, region)
+}
+
+fn stands_at(place: Place, flash: &[u8], arrival: &[u8]) -> bool
+    ensures { λ r. ⌜ r ≡ standsAt (now (flash .entry)) place (now (arrival .entry)) ⌝ }
+{
+    match place {
+        Place::Nowhere => false,
+        Place::At { start, len } => stands_in(start, len, flash, arrival),
+    }
+}
+
+// A page is stored; in flash it is kept where it stands. The flash is read only there.
+fn page_deed(kind: Kind, place: Place, flash: &[u8], arrival: &[u8]) -> Deed
+    ensures { λ r. ⌜ r ≡ pageDeed (sameKind kind Kind.Flash && standsAt (now (flash .entry)) place (now (arrival .entry))) ⌝ }
+{
+    if !transfer::same_kind(kind, Kind::Flash) {
+        return Deed::Stores;
+    }
+    if stands_at(place, flash, arrival) {
+        return Deed::Keeps;
+    }
+    Deed::Stores
+}
+
+// What a block does once it is accepted, where `place` is its family's.
+fn deed_of(placed: Placed, place: Place, flash: &[u8], arrival: &[u8]) -> Deed
+    ensures { λ r. ⌜ r ≡ deedOf (standsAt (now (flash .entry)) place (now (arrival .entry))) placed ⌝ }
+{
+    let named = placed.head;
+    let kind = named.kind;
+    let body = placed.body;
     match body {
-        Body::Page(_) => Deed::Stores,
+        Body::Page(_) => page_deed(kind, place, flash, arrival),
         Body::Note => Deed::Notes,
     }
 }
@@ -135,13 +226,23 @@ fn page_at(body: Body) -> usize
     }
 }
 
-// Stores a page, or only clears the sector map where a comment begins a transfer.
-fn write(deed: Deed, at: usize, clears: bool, arrival: &[u8], flash: &mut [u8], sectors: &mut [u8])
-    ensures { λ _. ⌜ held (now (flash .exit)) (now (sectors .exit)) ≡ doneTo deed at (payloadOf (now (arrival .entry))) (wipedIf clears (held (now (flash .entry)) (now (sectors .entry)))) ⌝ }
+// Stores a page. A comment stores nothing, nor does what is kept.
+fn write(
+    deed: Deed,
+    kind: Kind,
+    at: usize,
+    arrival: &[u8],
+    flash: &mut [u8],
+    sectors: &mut [u8],
+    main: &mut [u8],
+    xip: &mut [u8],
+)
+    ensures { λ _. ⌜ keptAt flash sectors main xip ≡ doneTo deed kind at (payloadOf (now (arrival .entry))) (heldAt flash sectors main xip) ⌝ }
 {
     match deed {
-        Deed::Stores => store(at, clears, arrival, flash, sectors),
-        Deed::Notes => clear_if(clears, sectors),
+        Deed::Stores => page(kind, at, arrival, flash, sectors, main, xip),
+        Deed::Notes => {}
+        Deed::Keeps => {}
     }
 }
 
@@ -154,16 +255,21 @@ fn accept(
     flash: &mut [u8],
     seen: &mut [u8],
     sectors: &mut [u8],
+    main: &mut [u8],
+    xip: &mut [u8],
 ) -> Receipt
-    ensures { λ r. ⌜ outcome r (leftAt flash seen sectors) ≡ done (world (accepted .transfer) (lentAt flash seen sectors)) (payloadOf (now (arrival .entry))) (accepts placed deed accepted) ⌝ }
+    ensures { λ r. ⌜ outcome r (leftAt flash seen sectors main xip) ≡ done (world (accepted .transfer) (lentAt flash seen sectors main xip)) (payloadOf (now (arrival .entry))) (accepts placed deed accepted) ⌝ }
 {
     let next = accepted.transfer;
     let given = accepted.answer;
     let number = placed.number as usize;
     let body = placed.body;
     let at = page_at(body);
-    write(deed, at, accepted.clears, arrival, flash, sectors);
+    let head = placed.head;
+    let kind = head.kind;
+    clear_if(accepted.clears, sectors);
     clear_if(accepted.clears, seen);
+    write(deed, kind, at, arrival, flash, sectors, main, xip);
     bitmap::mark(seen, number);
     Receipt {
         transfer: next,
@@ -172,15 +278,11 @@ fn accept(
     }
 }
 
-// Rows 12 to 16, of a block that has passed the screening.
-fn settle(transfer: Transfer, placed: Placed, seen: &[u8]) -> Verdict
-    ensures { λ r. ⌜ decision r ≡ stepped placed (deedOf (placed .body)) (stepOf (transfer .state) (placed .head) (markedIn (now (seen .entry)) (placed .number)) (deedOf (placed .body))) ⌝ }
+// Rows 12 to 17, of a block that does `deed` if it is accepted.
+fn settle_as(transfer: Transfer, placed: Placed, marked: bool, deed: Deed) -> Verdict
+    ensures { λ r. ⌜ decision r ≡ stepped placed deed (stepOf (transfer .state) (placed .head) marked deed) ⌝ }
 {
     let head = placed.head;
-    let number = placed.number as usize;
-    let body = placed.body;
-    let marked = bitmap::marked(seen, number);
-    let deed = deed_of(body);
     let step = transfer.step(head, marked, deed);
     match step {
         Step::Stays(unchanged) => {
@@ -195,59 +297,80 @@ fn settle(transfer: Transfer, placed: Placed, seen: &[u8]) -> Verdict
     }
 }
 
-// Every check, in its order.
-fn judge(
-    settings: Settings,
+// Rows 12 to 17, of a block that has passed the screening. The flash is read where it is accepted, and not for 12 and 13.
+fn settle(
     transfer: Transfer,
+    placed: Placed,
+    place: Place,
     arrival: &[u8],
     flash: &[u8],
     seen: &[u8],
-    sectors: &[u8],
 ) -> Verdict
-    ensures { λ r. ⌜ decision r ≡ decisionIn settings (world transfer (lentAt flash seen sectors)) (now (arrival .entry)) ⌝ }
+    ensures { λ r. ⌜ decision r ≡ afterScreening (transfer .state) (now (seen .entry)) (standsAt (now (flash .entry)) place (now (arrival .entry))) (Screening.Passed placed) ⌝ }
 {
-    let len = flash.len();
-    if !lengths_right(arrival.len(), len, seen.len(), sectors.len()) {
-        return Verdict::Leaves(Answer::BadBuffers);
-    }
-    if !settings::good(settings, len) {
-        return Verdict::Leaves(Answer::BadSettings);
-    }
-    if !transfer.sound() {
-        return Verdict::Leaves(Answer::BadState);
-    }
-    let screening = screen::screen(settings, len, arrival);
-    match screening {
-        Screening::Refused(answer) => Verdict::Leaves(answer),
-        Screening::Passed(placed) => settle(transfer, placed, seen),
+    let head = placed.head;
+    let number = placed.number as usize;
+    let marked = bitmap::marked(seen, number);
+    let trial = transfer.step(head, marked, Deed::Stores);
+    match trial {
+        Step::Stays(unchanged) => {
+            let given = unchanged.answer;
+            Verdict::Leaves(given)
+        }
+        Step::Accepts(_) => {
+            let deed = deed_of(placed, place, flash, arrival);
+            settle_as(transfer, placed, marked, deed)
+        }
     }
 }
 
-// Every check, in its order, where row 2's word and the place of the arrival's family are known.
-fn judge_known(
-    good: bool,
-    place: Place,
+// What the settings and the lengths say of an arrival.
+fn known_of(settings: Settings, lens: Lengths, m: usize, k: usize, arrival: &[u8]) -> Known
+    ensures { λ r. ⌜ r ≡ knownOf settings lens m k (now (arrival .entry)) ⌝ }
+    ensures low { λ r. ⌜ StartsLow (r .rooms .flash) ⌝ }
+{
+    let right = lengths_right(arrival.len(), lens, m, k);
+    let good = settings::good(settings, lens.flash);
+    let family = block::field(arrival, 28);
+    let rooms = screen::rooms_for(settings, lens.flash, family);
+    Known { right, good, rooms }
+}
+
+// Every check, in its order. What the settings and the lengths say is handed in.
+fn judge(
+    known: Known,
     transfer: Transfer,
     arrival: &[u8],
     flash: &[u8],
     seen: &[u8],
     sectors: &[u8],
+    main: &[u8],
+    xip: &[u8],
 ) -> Verdict
-    ensures { λ r. ⌜ decision r ≡ knownDecision good place (world transfer (lentAt flash seen sectors)) (now (arrival .entry)) ⌝ }
+    ensures { λ r. ⌜ decision r ≡ knownDecision known (world transfer (lentAt flash seen sectors main xip)) (now (arrival .entry)) ⌝ }
 {
-    if !lengths_right(arrival.len(), flash.len(), seen.len(), sectors.len()) {
+    if !known.right {
         return Verdict::Leaves(Answer::BadBuffers);
     }
-    if !good {
+    if !known.good {
         return Verdict::Leaves(Answer::BadSettings);
     }
     if !transfer.sound() {
         return Verdict::Leaves(Answer::BadState);
     }
-    let screening = screen::screen_at(place, arrival);
+    let rooms = known.rooms;
+    let lens = Lengths {
+        flash: flash.len(),
+        main: main.len(),
+        xip: xip.len(),
+    };
+    let screening = screen::screen(rooms, lens, transfer, arrival);
     match screening {
         Screening::Refused(answer) => Verdict::Leaves(answer),
-        Screening::Passed(placed) => settle(transfer, placed, seen),
+        Screening::Passed(placed) => {
+            let place = rooms.flash;
+            settle(transfer, placed, place, arrival, flash, seen)
+        }
     }
 }
 
@@ -259,10 +382,18 @@ pub fn look(
     flash: &[u8],
     seen: &[u8],
     sectors: &[u8],
+    main: &[u8],
+    xip: &[u8],
 ) -> Preview
-    ensures { λ r. ⌜ numbered forecastNumber (previewed r) ≡ numbered forecastNumber (lookOf settings (world transfer (lentAt flash seen sectors)) (now (arrival .entry))) ⌝ }
+    ensures { λ r. ⌜ numbered forecastNumber (previewed r) ≡ numbered forecastNumber (lookOf settings (world transfer (lentAt flash seen sectors main xip)) (now (arrival .entry))) ⌝ }
 {
-    let verdict = judge(settings, transfer, arrival, flash, seen, sectors);
+    let lens = Lengths {
+        flash: flash.len(),
+        main: main.len(),
+        xip: xip.len(),
+    };
+    let known = known_of(settings, lens, seen.len(), sectors.len(), arrival);
+    let verdict = judge(known, transfer, arrival, flash, seen, sectors, main, xip);
     match verdict {
         Verdict::Leaves(answer) => Preview {
             answer,
@@ -279,6 +410,41 @@ pub fn look(
     }
 }
 
+// One arrival, where what the settings and the lengths say of it is handed in.
+pub fn take_known(
+    known: Known,
+    transfer: Transfer,
+    arrival: &[u8],
+    flash: &mut [u8],
+    seen: &mut [u8],
+    sectors: &mut [u8],
+    main: &mut [u8],
+    xip: &mut [u8],
+) -> Receipt
+    ensures { λ r. ⌜ numbered outcomeNumber (outcome r (leftAt flash seen sectors main xip)) ≡ numbered outcomeNumber (receiveKnown known (world transfer (lentAt flash seen sectors main xip)) (now (arrival .entry))) ⌝ }
+{
+    let verdict = judge(known, transfer, arrival, flash, seen, sectors, main, xip);
+    match verdict {
+        Verdict::Leaves(answer) => refuse(transfer, answer),
+        Verdict::Accepts(acceptance) => {
+            let placed = acceptance.placed;
+            let deed = acceptance.deed;
+            let accepted = acceptance.accepted;
+            accept(
+                placed,
+                deed,
+                accepted,
+                arrival,
+                flash,
+                seen,
+                sectors,
+                main,
+                xip,
+            )
+        }
+    }
+}
+
 // One arrival: the next transfer and the answer, and what it writes. It gets nothing from a look, and repeats every check.
 pub fn take(
     settings: Settings,
@@ -287,41 +453,16 @@ pub fn take(
     flash: &mut [u8],
     seen: &mut [u8],
     sectors: &mut [u8],
+    main: &mut [u8],
+    xip: &mut [u8],
 ) -> Receipt
-    ensures { λ r. ⌜ numbered outcomeNumber (outcome r (leftAt flash seen sectors)) ≡ numbered outcomeNumber (receiveOf settings (world transfer (lentAt flash seen sectors)) (now (arrival .entry))) ⌝ }
+    ensures { λ r. ⌜ numbered outcomeNumber (outcome r (leftAt flash seen sectors main xip)) ≡ numbered outcomeNumber (receiveOf settings (world transfer (lentAt flash seen sectors main xip)) (now (arrival .entry))) ⌝ }
 {
-    let verdict = judge(settings, transfer, arrival, flash, seen, sectors);
-    match verdict {
-        Verdict::Leaves(answer) => refuse(transfer, answer),
-        Verdict::Accepts(acceptance) => {
-            let placed = acceptance.placed;
-            let deed = acceptance.deed;
-            let accepted = acceptance.accepted;
-            accept(placed, deed, accepted, arrival, flash, seen, sectors)
-        }
-    }
-}
-
-// One arrival of many with the same settings and flash: whether these are good, and the place of the arrival's family, are handed in.
-pub fn take_known(
-    good: bool,
-    place: Place,
-    transfer: Transfer,
-    arrival: &[u8],
-    flash: &mut [u8],
-    seen: &mut [u8],
-    sectors: &mut [u8],
-) -> Receipt
-    ensures { λ r. ⌜ numbered outcomeNumber (outcome r (leftAt flash seen sectors)) ≡ numbered outcomeNumber (receiveKnown good place (world transfer (lentAt flash seen sectors)) (now (arrival .entry))) ⌝ }
-{
-    let verdict = judge_known(good, place, transfer, arrival, flash, seen, sectors);
-    match verdict {
-        Verdict::Leaves(refused) => refuse(transfer, refused),
-        Verdict::Accepts(acceptance) => {
-            let placed = acceptance.placed;
-            let deed = acceptance.deed;
-            let accepted = acceptance.accepted;
-            accept(placed, deed, accepted, arrival, flash, seen, sectors)
-        }
-    }
+    let lens = Lengths {
+        flash: flash.len(),
+        main: main.len(),
+        xip: xip.len(),
+    };
+    let known = known_of(settings, lens, seen.len(), sectors.len(), arrival);
+    take_known(known, transfer, arrival, flash, seen, sectors, main, xip)
 }

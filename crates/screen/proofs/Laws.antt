@@ -1,6 +1,6 @@
 -- The screening by cases: the header, the place, and a block beside its place. Assumes nothing.
-use mathlib.Core.Path.{_≡_, refl, sym}
-use mathlib.Core.Bool.{true, false, _||_, not}
+use mathlib.Core.Path.{_≡_, refl, sym, ap, _∙_}
+use mathlib.Core.Bool.{Bool, true, false, _&&_, _||_, cond}
 use mathlib.Core.List.{List, [], _∷_}
 use mathlib.Core.Logic.{_≢_, ⊎-elim}
 use types.Run.{OneOf}
@@ -8,36 +8,68 @@ use denote.Enum.Declared.{tagOf}
 use Prim.Native.Nat.{ℕ, _+_, _-_, _*_, _%_, _<_, _≤_}
 use native.Mathlib.Omega.{arith}
 use lib.Dec.{ltb, leb, eqb}
-use borrow.Author.Tests.{le-leb, le-ltb, lt-leb, eq-eqb, ne-eqb, ltb-false, leb-false, eqb-true, eqb-false, not-false}
+use borrow.Author.Tests.{le-leb, le-ltb, lt-leb, eq-eqb, ne-eqb, ltb-false, leb-false, eqb-false}
 use Rattle.sets.proofs.Tests.{split, or-left, or-right}
 use Rattle.block.proofs.Header.{the-type}
 use Rattle.block.specs.Block.{headerOf, headerNumber}
 use Rattle.block.specs.declared.Block.{Block}
 use Rattle.block.specs.declared.Header.{Header}
 use Rattle.block.specs.declared.Header.the-variants as header
-use Rattle.settings.specs.declared.Settings.{Settings}
-use Rattle.place.specs.Place.{placeOf}
+use Rattle.place.specs.Place.{StartsLow}
 use Rattle.place.specs.declared.Place.{Place}
-use Rattle.place.specs.declared.Place.the-variants.{At}
+use Rattle.place.specs.declared.Place.the-variants.{Nowhere, At}
 use Rattle.transfer.specs.Transfer.{headWith}
 use Rattle.transfer.specs.declared.Head.{Head}
+use Rattle.transfer.specs.declared.Kind.{Kind}
+use Rattle.transfer.specs.declared.Kind.the-variants.{Flash, MainRam, XipRam}
+use Rattle.transfer.specs.declared.Run.{Run}
+use Rattle.transfer.specs.declared.State.{State}
+use Rattle.transfer.specs.declared.State.the-variants.{Running}
 use Rattle.transfer.specs.declared.Answer.the-variants.{NoPlace, BadPayload, BadNumbers, BadAddress}
-use Rattle.screen.specs.Screen.{badNumbers, badAddress, placed, noted, found, afterHeader, placedIn, screenOf, lowPlace, screenAt, screeningNumber}
+use Rattle.screen.specs.Screen.{baseOf, extentOf, isLent, inWindow, windowOf, noteKind, roomIn, badNumbers, badAddress, placed, strayed, noted, windowKind, dataFound, noteFound, found, afterHeader, lowPlace, lowRooms, screenIn, screenAt, screeningNumber}
+use Rattle.screen.specs.Parts.{alignmentOf, Above}
+use Rattle.screen.specs.declared.Lengths.{Lengths}
+use Rattle.screen.specs.declared.Rooms.{Rooms}
+use Rattle.screen.specs.declared.Window.{Window}
+use Rattle.screen.specs.declared.Window.the-variants.{Outside, In}
 use Rattle.screen.specs.declared.Body.the-variants.{Page, Note}
 use Rattle.screen.specs.declared.Screening.{Screening}
 use Rattle.screen.specs.declared.Screening.the-variants.{Refused, Passed}
+use Rattle.screen.proofs.Windows.{WindowFacts, window-facts, InRoom, in-room}
 
--- ---- what rows 10 and 11 leave
+-- ---- the window of an address, as the code asks it
+
+-- no sum of the code passes 64 bits
+pub window-low : (k : Kind) → baseOf k + extentOf k ≤ 0x100000000
+window-low Flash = omega arith
+window-low MainRam = omega arith
+window-low XipRam = omega arith
+
+module _ (n : Lengths) (x : ℕ) where
+  pub window-flash : inWindow n Flash x ≡ true → windowOf n x ≡ In Flash
+  unfolding windowOf
+  window-flash f = rw f
+
+  module _ (f : inWindow n Flash x ≡ false) where
+    pub window-main : inWindow n MainRam x ≡ true → windowOf n x ≡ In MainRam
+    unfolding windowOf
+    window-main m = rw (f, m)
+
+    module _ (m : inWindow n MainRam x ≡ false) where
+      pub window-xip : inWindow n XipRam x ≡ true → windowOf n x ≡ In XipRam
+      unfolding windowOf
+      window-xip q = rw (f, m, q)
+
+      pub window-none : inWindow n XipRam x ≡ false → windowOf n x ≡ Outside
+      unfolding windowOf
+      window-none q = rw (f, m, q)
+
+-- ---- what row 10 leaves
 
 pub record Numbers (size : ℕ) (b : Block) : Type 0 where
   pub some : b .total ≢ 0
   pub room : b .total * 256 ≤ size
   pub below : b .number < b .total
-
-pub record Address (size : ℕ) (b : Block) : Type 0 where
-  pub window : 0x10000000 ≤ b .address
-  pub whole : b .address % 256 ≡ 0
-  pub inside : b .address - 0x10000000 + 256 ≤ size
 
 module _ (size : ℕ) (b : Block) where
   pub numbers-right : Numbers size b → badNumbers size b ≡ false
@@ -53,26 +85,6 @@ module _ (size : ℕ) (b : Block) where
         below = leb-false _ _ (or-right (eqb (b .total) 0 || ltb size (b .total * 256)) (leb (b .total) (b .number)) h);
       }
 
-  pub address-right : Address size b → badAddress size b ≡ false
-  address-right a =
-      rw (
-        le-ltb (b .address) 0x10000000 (a .window),
-        eq-eqb (b .address % 256) 0 (a .whole),
-        le-ltb size (b .address - 0x10000000 + 256) (a .inside),
-      )
-
-  pub address-false : badAddress size b ≡ false → Address size b
-  address-false h =
-      let w = ltb (b .address) 0x10000000 in
-      let m = not (eqb (b .address % 256) 0) in
-      let i = ltb size (b .address - 0x10000000 + 256) in
-      let l = or-left (w || m) i h in
-      record {
-        window = ltb-false _ _ (or-left w m l);
-        whole = eqb-true _ _ (not-false _ (or-right w m l));
-        inside = ltb-false _ _ (or-right (w || m) i h);
-      }
-
   -- row 10 by cases, as the code asks it
   pub numbers-wrong : (Numbers size b → ⊥) → true ≡ badNumbers size b
   numbers-wrong n = split (badNumbers size b) sym (λ h. absurd (n (numbers-false h)))
@@ -80,53 +92,142 @@ module _ (size : ℕ) (b : Block) where
   pub numbers-last : b .total ≢ 0 → b .total * 256 ≤ size → leb (b .total) (b .number) ≡ badNumbers size b
   numbers-last n m = rw (ne-eqb (b .total) 0 n, le-ltb size (b .total * 256) m)
 
--- ---- a data block beside its place
+-- ---- row 11, of an address that is not below its window
 
-module _ (start size : ℕ) (b : Block) where
-  pub placed-payload : b .size ≢ 256 → placed start size b ≡ Refused BadPayload
+pub some-alignment : (k : Kind) → 1 ≤ alignmentOf k
+some-alignment Flash = omega arith
+some-alignment MainRam = omega arith
+some-alignment XipRam = omega arith
+
+module _ (size : ℕ) (b : Block) where
+  aligned : (k : Kind) → InRoom k size b → b .address % alignmentOf k ≡ 0
+  aligned Flash r = r .whole refl
+  aligned MainRam r = omega arith
+  aligned XipRam r = omega arith
+
+  address-right : (k : Kind) → baseOf k ≤ b .address → b .address % alignmentOf k ≡ 0 → b .address - baseOf k + 256 ≤ size → badAddress k size b ≡ false
+  address-right Flash l w i =
+      rw (
+        le-ltb (b .address) 0x10000000 l,
+        eq-eqb (b .address % 256) 0 w,
+        le-ltb size (b .address - 0x10000000 + 256) i,
+      )
+  address-right MainRam l w i = le-ltb size (b .address - 0x20000000 + 256) i
+  address-right XipRam l w i = le-ltb size (b .address - 0x13ffc000 + 256) i
+
+-- ---- a data block in a window
+
+module _ (k : Kind) (start size : ℕ) (b : Block) where
+  pub placed-payload : b .size ≢ 256 → placed k start size b ≡ Refused BadPayload
   unfolding placed
   placed-payload n = rw (ne-eqb (b .size) 256 n)
 
   module _ (p : b .size ≡ 256) where
-    pub placed-numbers : badNumbers size b ≡ true → placed start size b ≡ Refused BadNumbers
+    pub placed-numbers : badNumbers size b ≡ true → placed k start size b ≡ Refused BadNumbers
     unfolding placed
     placed-numbers h = rw (eq-eqb (b .size) 256 p, h)
 
     module _ (n : badNumbers size b ≡ false) where
-      address-true : badAddress size b ≡ true → placed start size b ≡ Refused BadAddress
+      address-true : badAddress k size b ≡ true → placed k start size b ≡ Refused BadAddress
       unfolding placed
       address-true h = rw (eq-eqb (b .size) 256 p, n, h)
 
-      pub placed-address : (Address size b → ⊥) → placed start size b ≡ Refused BadAddress
-      placed-address a = split (badAddress size b) address-true (λ h. absurd (a (address-false size b h)))
+      address-wrong : (InRoom k size b → ⊥) → placed k start size b ≡ Refused BadAddress
+      address-wrong a = split (badAddress k size b) address-true (λ h. absurd (a (in-room k size b h)))
 
-      pub placed-passed : Address size b → {g : Head} → g ≡ headWith (b .family) (b .total)
-          → Passed (record { head = g; number = b .number; body = Page (start + (b .address - 0x10000000)) }) ≡ placed start size b
-      unfolding placed
-      placed-passed a e = rw (eq-eqb (b .size) 256 p, n, address-right size b a, e)
+      pub placed-ragged : {step : ℕ} → step ≡ alignmentOf k → b .address % step ≢ 0 → placed k start size b ≡ Refused BadAddress
+      placed-ragged e w = address-wrong (λ r. w (ap (λ (m : ℕ). b .address % m) e ∙ aligned size b k r))
+
+      module _ {from : ℕ} (f : from ≡ baseOf k) (l : baseOf k ≤ b .address) where
+        pub placed-past : {past : ℕ} → size < past - from → past ≡ b .address + 256 → placed k start size b ≡ Refused BadAddress
+        placed-past h q = address-wrong (λ r. omega (arith, h, q, f, l, r .inside))
+
+        pub placed-passed : {step : ℕ} → step ≡ alignmentOf k → b .address % step ≡ 0 → {past : ℕ} → past - from ≤ size → past ≡ b .address + 256
+            → {g : Head} → g ≡ headWith k (b .family) (b .total)
+            → Passed (record { head = g; number = b .number; body = Page (start + (b .address - from)) }) ≡ placed k start size b
+        unfolding placed
+        placed-passed e w i q h =
+            let whole = sym (ap (λ (m : ℕ). b .address % m) e) ∙ w in
+            rw (eq-eqb (b .size) 256 p, n, address-right size b k l whole (omega (arith, f, l, i, q)), h, f)
+
+-- ---- a data block in no window
+
+module _ (b : Block) where
+  pub strayed-payload : b .size ≢ 256 → strayed b ≡ Refused BadPayload
+  unfolding strayed
+  strayed-payload n = rw (ne-eqb (b .size) 256 n)
+
+  pub strayed-address : b .size ≡ 256 → strayed b ≡ Refused BadAddress
+  unfolding strayed
+  strayed-address p = rw (eq-eqb (b .size) 256 p)
 
 -- ---- a comment beside its place
 
-module _ (size : ℕ) (b : Block) where
-  pub noted-numbers : badNumbers size b ≡ true → noted size b ≡ Refused BadNumbers
+module _ (k : Kind) (size : ℕ) (b : Block) where
+  pub noted-numbers : badNumbers size b ≡ true → noted k size b ≡ Refused BadNumbers
   unfolding noted
   noted-numbers h = rw h
 
-  pub noted-passed : badNumbers size b ≡ false → {g : Head} → g ≡ headWith (b .family) (b .total)
-      → Passed (record { head = g; number = b .number; body = Note }) ≡ noted size b
+  pub noted-passed : badNumbers size b ≡ false → {g : Head} → g ≡ headWith k (b .family) (b .total)
+      → Passed (record { head = g; number = b .number; body = Note }) ≡ noted k size b
   unfolding noted
   noted-passed h e = rw (h, e)
 
--- ---- a block whose family has a place
+-- ---- the kind of a comment
 
-module _ (start size : ℕ) (b : Block) where
-  pub found-comment : b .comment ≡ true → found (At start size) b ≡ noted size b
-  unfolding found
-  found-comment h = rw h
+module _ (n : Lengths) (r : Run) (b : Block) {here : Bool} (h : here ≡ isLent n (r .head .kind)) where
+  abbrev Own : Bool
+  Own = eqb (r .head .family) (b .family) && eqb (r .head .total) (b .total)
 
-  pub found-data : b .comment ≡ false → found (At start size) b ≡ placed start size b
+  pub note-own : Own && here ≡ true → noteKind n (Running r) b ≡ r .head .kind
+  unfolding noteKind
+  note-own q = ap (λ (c : Bool). cond c (r .head .kind) Flash) (ap (λ (x : Bool). Own && x) (sym h) ∙ q)
+
+  pub note-other : Own && here ≡ false → noteKind n (Running r) b ≡ Flash
+  unfolding noteKind
+  note-other q = ap (λ (c : Bool). cond c (r .head .kind) Flash) (ap (λ (x : Bool). Own && x) (sym h) ∙ q)
+
+-- ---- a block
+
+module _ (r : Rooms) (n : Lengths) (t : State) (b : Block) where
+  abbrev noteAt : Kind → Screening
+  noteAt k = noteFound k (roomIn r k) b
+
+  abbrev dataAt : Window → Screening
+  dataAt u = dataFound u (roomIn r (windowKind u)) b
+
+  pub found-comment : b .comment ≡ true → found r n t b ≡ noteAt (noteKind n t b)
   unfolding found
-  found-data h = rw h
+  found-comment h = ap (λ (c : Bool). cond c (noteAt (noteKind n t b)) (dataAt (windowOf n (b .address)))) h
+
+  pub found-data : b .comment ≡ false → found r n t b ≡ dataAt (windowOf n (b .address))
+  unfolding found
+  found-data h = ap (λ (c : Bool). cond c (noteAt (noteKind n t b)) (dataAt (windowOf n (b .address)))) h
+
+  -- as the code goes, call by call
+  pub check-comment : b .comment ≡ true → {k : Kind} → k ≡ noteKind n t b → {p : Place} → p ≡ roomIn r k → {x : Screening} → x ≡ noteFound k p b → x ≡ found r n t b
+  check-comment h {k} e q y = y ∙ ap (λ (p : Place). noteFound k p b) q ∙ ap noteAt e ∙ sym (found-comment h)
+
+  pub check-window : b .comment ≡ false → {u : Window} → u ≡ windowOf n (b .address) → {k : Kind} → k ≡ windowKind u → {p : Place} → p ≡ roomIn r k
+      → {x : Screening} → x ≡ dataFound u p b → x ≡ found r n t b
+  check-window h {u} e q i y =
+      y ∙ ap (λ (p : Place). dataFound u p b) (i ∙ ap (roomIn r) q) ∙ ap dataAt e ∙ sym (found-data h)
+
+above : (n : Lengths) (x : ℕ) (u : Window) → WindowFacts n x u → Above u x
+above n x Outside f = tt
+above n x (In k) f = f .low
+
+pub window-above : (n : Lengths) (x : ℕ) {u : Window} → u ≡ windowOf n x → Above u x
+window-above n x e = rw e (above n x (windowOf n x) (window-facts n x))
+
+-- ---- a place that is handed in
+
+pub low-past : (start size : ℕ) → 0x100000000000 ≤ start → lowPlace (At start size) ≡ Nowhere
+low-past start size h = rw (le-leb 0x100000000000 start h)
+
+pub low-kept : (p : Place) → StartsLow p → lowPlace p ≡ p
+low-kept Nowhere h = refl
+low-kept (At start size) h = rw (lt-leb 0x100000000000 start h)
 
 -- ---- an arrival
 
@@ -137,33 +238,14 @@ refusal-header header.Container n = λ e. omega arith
 refusal-header header.NoFamily n = λ e. omega arith
 refusal-header (header.Found b) n = absurd (⊎-elim (λ x. omega arith) (⊎-elim (λ x. omega arith) (λ x. omega arith)) n)
 
-module _ (s : Settings) (len : ℕ) (a : List ℕ) where
-  pub screen-header : {h : Header} → h ≡ headerOf a → {x : Screening} → x ≡ afterHeader h (placedIn s len) → x ≡ screenOf s len a
-  unfolding screenOf
+module _ (r : Rooms) (n : Lengths) (t : State) (a : List ℕ) where
+  pub screen-header : {h : Header} → h ≡ headerOf a → {x : Screening} → x ≡ afterHeader h (found (lowRooms r) n t) → x ≡ screenAt r n t a
+  unfolding screenAt screenIn
   screen-header e q = rw (sym e) q
 
-  pub screen-found : (b : Block) (p : Place) → headerOf a ≡ header.Found b → placeOf s len (b .family) ≡ p → screenOf s len a ≡ found p b
-  unfolding screenOf placedIn
-  screen-found b p e q = rw (e, q)
-
--- ---- beside a place that is handed in
-
-module _ (start size : ℕ) (b : Block) where
-  pub low-past : 0x100000000000 ≤ start → found (lowPlace (At start size)) b ≡ Refused NoPlace
-  unfolding found
-  low-past h = rw (le-leb 0x100000000000 start h)
-
-  pub low-kept : start < 0x100000000000 → found (lowPlace (At start size)) b ≡ found (At start size) b
-  low-kept h = rw (lt-leb 0x100000000000 start h)
-
-module _ (p : Place) (a : List ℕ) where
-  pub at-header : {h : Header} → h ≡ headerOf a → {x : Screening} → x ≡ afterHeader h (found (lowPlace p)) → x ≡ screenAt p a
-  unfolding screenAt
-  at-header e q = rw (sym e) q
-
-  pub at-found : (b : Block) (q : Place) → headerOf a ≡ header.Found b → p ≡ q → screenAt p a ≡ found (lowPlace q) b
-  unfolding screenAt
-  at-found b q e f = rw (e, f)
+  pub screen-found : (b : Block) → headerOf a ≡ header.Found b → screenAt r n t a ≡ found (lowRooms r) n t b
+  unfolding screenAt screenIn
+  screen-found b e = rw e
 
 -- ---- the numbers of the header's refusals are the answers'
 

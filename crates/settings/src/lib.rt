@@ -134,7 +134,8 @@ pub fn unowned(e: Entry) -> bool
     }
 }
 
-fn has_user(e: Entry, family: u32) -> bool
+// Is the family one of the entry's user families?
+pub fn has_user(e: Entry, family: u32) -> bool
     ensures { λ r. ⌜ r ≡ hasUser e family ⌝ }
 {
     let n = e.user_count;

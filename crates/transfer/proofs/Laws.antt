@@ -2,6 +2,7 @@
 use mathlib.Core.Path.{_≡_, refl}
 use mathlib.Core.Bool.{Bool, true, false}
 use Prim.Native.Nat.{ℕ, _+_, _<_, _≤_}
+use native.Mathlib.Omega.{arith}
 use borrow.Author.Tests.{lt-ltb, le-ltb}
 use Rattle.sets.proofs.Tests.{split}
 use Rattle.transfer.specs.Transfer.{running, sameHead, counted, deedAnswer, raised, keptState, accepted, stepOf}
@@ -61,3 +62,13 @@ handed (Done h) g m d = refl
 
 pub stays-same : (t : State) (g : Head) (m : Bool) (d : Deed) {x : Unchanged} → stepOf t g m d ≡ Stays x → x .transfer .state ≡ t
 stays-same t g m d q = rw q at (handed t g m d)
+
+-- what stays, stays whatever the block would do
+pub stays-any : (t : State) (g : Head) (m : Bool) (d e : Deed) {x : Unchanged} → stepOf t g m d ≡ Stays x → stepOf t g m e ≡ Stays x
+unfolding stepOf
+stays-any Idle g m d e q = let z : _≡_ {A = ℕ} 0 1 = cc in absurd (omega arith)
+stays-any (Running r) g m d e q =
+    split (sameHead (r .head) g)
+    (λ y. split m (λ z. rw (y, z) (rw (y, z) at q)) (λ z. let v = rw (y, z) at q in let u : _≡_ {A = ℕ} 0 1 = cc in absurd (omega arith)))
+    (λ y. let v = rw y at q in let u : _≡_ {A = ℕ} 0 1 = cc in absurd (omega arith))
+stays-any (Done h) g m d e q = q

@@ -2,19 +2,50 @@
 ghost use mathlib.Core.Path.{_≡_};
 ghost use Prim.Native.Nat.{_+_};
 ghost use Rattle.sets.specs.Numbered.{numbered};
-ghost use Rattle.transfer.specs.Transfer.{headWith, numberOf, fresh, goodState, sameHead, deedAnswer, accepted, stepOf, stepNumber};
+ghost use Rattle.transfer.specs.Transfer.{kindNumber, sameKind, headWith, numberOf, fresh, goodState, sameHead, deedAnswer, accepted, stepOf, stepNumber};
+
+// Where a transfer's pages go: to the flash, to main RAM or to XIP RAM.
+pub enum Kind {
+    Flash,
+    MainRam,
+    XipRam,
+}
+
+impl Kind {
+    pub fn number(self) -> u8
+        ensures { λ r. ⌜ r ≡ kindNumber self ⌝ }
+    {
+        match self {
+            Kind::Flash => 0,
+            Kind::MainRam => 1,
+            Kind::XipRam => 2,
+        }
+    }
+}
+
+// Kinds are compared by their numbers.
+pub fn same_kind(a: Kind, b: Kind) -> bool
+    ensures { λ r. ⌜ r ≡ sameKind a b ⌝ }
+{
+    a.number() == b.number()
+}
 
 // What makes two blocks one transfer.
 pub struct Head {
     pub family: u32,
     pub total: u32,
+    pub kind: Kind,
 }
 
 impl Head {
-    pub fn new(family: u32, total: u32) -> Self
-        ensures { λ r. ⌜ r ≡ headWith family total ⌝ }
+    pub fn new(kind: Kind, family: u32, total: u32) -> Self
+        ensures { λ r. ⌜ r ≡ headWith kind family total ⌝ }
     {
-        Self { family, total }
+        Self {
+            family,
+            total,
+            kind,
+        }
     }
 }
 
@@ -34,10 +65,12 @@ pub struct Transfer {
     pub state: State,
 }
 
-// What a block does once it is accepted: it stores a page, or it is a comment, which is noted and stores nothing.
+// What a block does once it is accepted: it stores a page, or it is a comment, which is noted and stores nothing, or what it would store is kept
+// as it stands.
 pub enum Deed {
     Stores,
     Notes,
+    Keeps,
 }
 
 // The answers to an arrival, in the order of the checks.
@@ -57,6 +90,7 @@ pub enum Answer {
     Written,
     Completed,
     Noted,
+    Kept,
 }
 
 // A block that changes nothing: the next transfer, which is the one that was, and the answer.
@@ -99,6 +133,7 @@ impl Answer {
             Answer::Written => 14,
             Answer::Completed => 15,
             Answer::Noted => 16,
+            Answer::Kept => 17,
         }
     }
 }
@@ -106,7 +141,10 @@ impl Answer {
 fn same_head(g: Head, h: Head) -> bool
     ensures { λ r. ⌜ r ≡ sameHead g h ⌝ }
 {
-    (g.family == h.family) & (g.total == h.total)
+    let current = g.kind;
+    let other = h.kind;
+    let same = same_kind(current, other);
+    (g.family == h.family) & (g.total == h.total) & same
 }
 
 // The answer to a block that does not complete its transfer.
@@ -116,6 +154,7 @@ fn deed_answer(deed: Deed) -> Answer
     match deed {
         Deed::Stores => Answer::Written,
         Deed::Notes => Answer::Noted,
+        Deed::Keeps => Answer::Kept,
     }
 }
 

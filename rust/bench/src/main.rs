@@ -6,6 +6,7 @@
 mod file;
 mod hex;
 mod once;
+mod region;
 mod table;
 mod tags;
 
@@ -205,8 +206,10 @@ fn main() {
     places("settings good and place, 16 entries", &sixteen());
     file::flash_rows();
     file::ram_rows();
+    region::kept_rows();
     hex::rows();
     tags::row();
     println!("\n| work, proved | the first | the second | ratio |\n|---|---|---|---|");
     file::table_rows();
+    region::beside_rows();
 }

@@ -5,6 +5,7 @@ mod buffers;
 pub mod fence;
 pub mod hex;
 mod pair;
+pub mod region;
 pub mod tags;
 
 pub use buffers::{Buffers, Ram};

@@ -1,6 +1,7 @@
 //! Lists of arrivals, each looked at and taken: after each, answer, transfer and every lent byte are the same. COMPARE_ARRIVALS sets how many arrivals are
 //! compared, at least.
 
+use compare::region::any_region;
 use compare::{
     any_arrival, any_settings, any_transfer, arm_only, arrivals_asked, join, page, proved_settings,
     proved_transfer, Buffers, Pair, Ram, Random,
@@ -10,7 +11,7 @@ use reference::{Kind, Transfer};
 /// What a list of arrivals met.
 #[derive(Default, Debug)]
 struct Met {
-    answers: [usize; 17],
+    answers: [usize; 18],
     /// Accepted, by the kind of the transfer afterwards, of data and of comments.
     data: [usize; 3],
     comments: [usize; 3],
@@ -56,6 +57,14 @@ fn head(transfer: Transfer) -> Option<(u32, u32, Kind)> {
     }
 }
 
+/// A region for the block, with the digest of what its family's place has there, where it has a place.
+fn name_region(r: &mut Random, a: &mut [u8], pair: &Pair) {
+    let family = u32::from_le_bytes([a[28], a[29], a[30], a[31]]);
+    let flash = &pair.ours.flash;
+    let place = reference::ask_place(&pair.settings, flash.len(), family);
+    any_region(r, a, flash, place.map_or(0, |(start, _)| start));
+}
+
 #[test]
 fn arrivals_agree() {
     let mut r = Random(2);
@@ -77,6 +86,9 @@ fn arrivals_agree() {
             if r.one_in(4) {
                 join(&mut r, &mut a, pair.transfer);
             }
+            if r.one_in(3) {
+                name_region(&mut r, &mut a, &pair);
+            }
             let before = pair.transfer;
             let answer = pair.take(&a);
             met.count(&a, before, answer, pair.transfer);
@@ -89,7 +101,7 @@ fn arrivals_agree() {
     }
     // every answer but 1 came, and often; none is 6
     let often = arrivals_asked() / 500;
-    let all = (2..17).filter(|&n| n != 6);
+    let all = (2..18).filter(|&n| n != 6);
     assert!(all.map(|n| met.answers[n]).all(|n| n > often), "{met:?}");
     assert_eq!(met.answers[6], 0);
     // and every kind, with changes between them
@@ -220,7 +232,13 @@ fn all_at_once_agrees() {
         let mut one = Pair::new(settings, transfer, buffers.clone());
         let n = r.below(20) as usize;
         let mut file: Vec<u8> = (0..n)
-            .flat_map(|_| any_arrival(&mut r, sectors * 16, ram))
+            .flat_map(|_| {
+                let mut a = any_arrival(&mut r, sectors * 16, ram);
+                if r.one_in(2) {
+                    name_region(&mut r, &mut a, &one);
+                }
+                a
+            })
             .collect();
         // a last piece that is no whole arrival, and room for fewer results, or for more
         file.resize(file.len() + r.below(512) as usize, 1);

@@ -8,6 +8,7 @@ use std::process::Command;
 
 use compare::fence::{Fenced, Side};
 use compare::hex::{any_reader, any_record, any_text};
+use compare::region::any_region;
 use compare::{any_arrival, any_settings, any_transfer, Buffers, Ram, Random, FAMILIES};
 use compare::{proved_settings, proved_transfer};
 use proved::bytes;
@@ -74,6 +75,14 @@ fn any_transfer_bytes(r: &mut Random, pages: u64) -> Vec<u8> {
     any_length(r, bytes)
 }
 
+/// Where the place of a block's family begins, or 0.
+fn place(settings: &[u8], flash_len: usize, a: &[u8]) -> usize {
+    let family = u32::from_le_bytes([a[28], a[29], a[30], a[31]]);
+    let mut place = [0; bytes::PLACE_BYTES];
+    bytes::ask(settings, flash_len, family, &mut place);
+    u32::from_le_bytes([place[0], place[1], place[2], place[3]]) as usize
+}
+
 /// What a call is lent, each part beside a fence.
 struct Call {
     settings: Twin,
@@ -95,13 +104,20 @@ impl Call {
             main: r.one_in(8),
             xip: r.one_in(2),
         };
-        let sent = (0..arrivals)
-            .flat_map(|_| any_arrival(r, pages, ram))
-            .collect::<Vec<u8>>();
         let settings = any_settings_bytes(r, sectors);
         let transfer = any_transfer_bytes(r, pages);
-        let sent = any_length(r, sent);
         let mut lent = Buffers::any(r, sectors, ram);
+        let sent = (0..arrivals)
+            .flat_map(|_| {
+                let mut a = any_arrival(r, pages, ram);
+                if r.one_in(2) {
+                    let place = place(&settings, lent.flash.len(), &a);
+                    any_region(r, &mut a, &lent.flash, place);
+                }
+                a
+            })
+            .collect::<Vec<u8>>();
+        let sent = any_length(r, sent);
         Call {
             settings: Twin::read(r, settings),
             transfer: Twin::new(r, transfer, looks),
@@ -148,7 +164,7 @@ fn lent(buffers: [&mut [u8]; 5]) -> proved::Buffers<'_> {
 #[test]
 fn looks_keep_their_bounds_and_write_nothing() {
     let mut r = Random(30);
-    let mut answers = [0; 17];
+    let mut answers = [0; 18];
     for _ in 0..number() {
         let mut c = Call::any(&mut r, 1, true);
         let beside = bytes::look(
@@ -175,7 +191,7 @@ fn looks_keep_their_bounds_and_write_nothing() {
 #[test]
 fn takes_keep_their_bounds() {
     let mut r = Random(31);
-    let mut answers = [0; 17];
+    let mut answers = [0; 18];
     for _ in 0..number() {
         let mut c = Call::any(&mut r, 1, false);
         let beside = bytes::take(

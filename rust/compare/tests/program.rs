@@ -5,7 +5,9 @@ use std::path::PathBuf;
 use std::process::{Command, Stdio};
 
 use compare::hex::{any_file, damage, FILE};
+use compare::region::{any_region, put_region};
 use compare::{any_arrival, page, Ram, Random};
+use reference::md5::md5;
 
 /// A program that `rt check` has made.
 fn proved(name: &str) -> PathBuf {
@@ -61,7 +63,13 @@ fn receive_programs_agree() {
     for n in [0, 1, 2, 3, 10, 300] {
         for cut in [0, 1, 511] {
             let mut input: Vec<u8> = (0..n)
-                .flat_map(|_| any_arrival(&mut r, 128, Ram::BOTH))
+                .flat_map(|_| {
+                    let mut a = any_arrival(&mut r, 128, Ram::BOTH);
+                    if r.one_in(2) {
+                        any_region(&mut r, &mut a, &[0xFF; 32_768], 0);
+                    }
+                    a
+                })
                 .collect();
             input.truncate(input.len().saturating_sub(cut));
             receive_both(&input);
@@ -88,6 +96,27 @@ fn the_program_has_no_ram() {
         }
     }
     let text = "arrival answer discarded\n0 11 0\n1 11 0\n2 11 0\n3 11 0\n4 14 0\n5 10 0\nstate running total 2 seen 1\n";
+    assert_eq!(receive_both(&input), text);
+}
+
+/// The program's flash starts as 0xFF, so that a region of such bytes is there, until a block is stored in it.
+#[test]
+fn the_program_keeps_what_is_there() {
+    let erased = |number: u32, flags: u8| {
+        let mut a = page(reference::ARM_S, 4, number);
+        put_region(&mut a, 0x1000_0000, 4096, md5(&[0xFF; 4096]));
+        a[9] &= flags;
+        a
+    };
+    let input = [
+        erased(0, 0xFF),
+        erased(0, 0xFF),
+        erased(1, 0xBF),
+        erased(2, 0xFF),
+    ]
+    .concat();
+    let text =
+        "arrival answer discarded\n0 17 0\n1 13 0\n2 14 0\n3 14 0\nstate running total 4 seen 3\n";
     assert_eq!(receive_both(&input), text);
 }
 

@@ -1,5 +1,5 @@
 //! RAM windows: each edge of each, boards that lack one or both, families, comments; whole files of the three kinds, which end as the papers
-//! say of their blocks; and, of a board without RAM, what has changed with them. COMPARE_ARRIVALS sets how many arrivals are compared.
+//! say of their blocks, also after a stopped one; and, of a board without RAM, what has changed with them. COMPARE_ARRIVALS sets how many arrivals are compared.
 
 use compare::{
     any_arrival, any_settings, any_transfer, arm_only, arrivals_asked, before_ram, join, page,
@@ -446,6 +446,56 @@ fn files_of_every_kind_end_as_sent() {
         whole.iter().chain(&cut).all(|&n| n > 20),
         "{whole:?} {cut:?}"
     );
+}
+
+/// A file stopped at a random block, both maps then overwritten with anything, and another file sent, of the three kinds each: what that one touches,
+/// both maps and the transfer end as from Idle, and every other byte is as the stopped file left it.
+#[test]
+fn a_stopped_update_then_a_good_one() {
+    let mut r = Random(46);
+    let mut met = [[0; 3]; 3];
+    for _ in 0..600 {
+        let settings = r.of(&[arm_only(), with_users()]);
+        let (first, second) = (r.of(&KINDS), r.of(&KINDS));
+        let stopped = File::any(&mut r, &settings, first);
+        let file = File::any(&mut r, &settings, second);
+        let alike = stopped.family == file.family && stopped.total() == file.total();
+        let comments = file.blocks.iter().any(|a| a[8] & 1 != 0);
+        if stopped.total() == 1 || (alike && (first == second || comments)) {
+            continue;
+        }
+        let mut pair = Pair::new(settings, Transfer::Idle, board(&mut r, Ram::BOTH));
+        let mut order: Vec<usize> = (0..stopped.blocks.len()).collect();
+        r.shuffle(&mut order);
+        order.truncate(1 + r.below(order.len() as u64 - 1) as usize);
+        for k in order {
+            pair.take(&stopped.blocks[k]);
+        }
+        r.fill(&mut pair.ours.seen);
+        r.fill(&mut pair.ours.sectors);
+        pair.theirs = pair.ours.clone();
+        let lent = pair.ours.clone();
+        let n = file.blocks.len();
+        let mut order: Vec<usize> = (0..n)
+            .chain((0..n / 2).map(|_| r.below(n as u64) as usize))
+            .collect();
+        r.shuffle(&mut order);
+        let mut had = vec![false; n];
+        for k in order {
+            if r.one_in(3) {
+                let answer = pair.take(&file.foreign(&mut r));
+                assert!((4..=11).contains(&answer), "foreign: {answer}");
+            }
+            let opens = !had.contains(&true);
+            assert_eq!(pair.told(&file.blocks[k]), (file.reply(&had, k), opens));
+            had[k] = true;
+        }
+        let (transfer, buffers) = file.end(&lent, &had);
+        assert_eq!(pair.transfer, transfer);
+        assert!(pair.ours == buffers, "{first:?}, then {second:?}");
+        met[first as usize][second as usize] += 1;
+    }
+    assert!(met.iter().flatten().all(|&n| n > 20), "{met:?}");
 }
 
 /// A transfer as it was before there were kinds.

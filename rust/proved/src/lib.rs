@@ -4,7 +4,8 @@
 //! settings, transfer, reader and length gets an answer, and nothing is allocated or kept between calls. It links
 //! `target/staticlib/libcapi.a`, which `rt staticlib capi` writes: code for x86-64 Linux.
 //!
-//! Flash is memory that can be stored to. Where flash needs a driver, lend a copy of it in memory and write it back afterwards.
+//! A block goes to flash or, where its address lies in the window of a RAM that is lent, to that RAM ([`Kind`]). Flash is memory that can be
+//! stored to. Where flash needs a driver, lend a copy of it in memory and write it back afterwards.
 //!
 //! ```
 //! use proved::{Answer, Buffers, Settings, Transfer};
@@ -24,6 +25,12 @@
 //! }
 //! assert_eq!(outcome.answer, Answer::NotBlock); // this block is all zeros
 //! ```
+//!
+//! # What a region costs
+//!
+//! A block with flag 0x4000 names a region of flash and its MD5. Each take of such a block, where it would store, hashes the region once, and a
+//! look at it once more: the time is that of the region's length, at every block of it. Name regions of a sector or of 64 KiB, and look
+//! only where it is needed.
 //!
 //! # A number that is none of the answers
 //!
@@ -54,11 +61,11 @@ pub const SECTOR_MAP_BYTES: usize = 1024;
 pub const SECTOR_BYTES: usize = 4096;
 /// The most bytes of a flash.
 pub const FLASH_MAX_BYTES: usize = 33_554_432;
-/// The bytes of a main RAM, where it is lent.
+/// The bytes of the main RAM, where it is lent.
 pub const MAIN_RAM_BYTES: usize = 532_480;
 /// The address of its first byte.
 pub const MAIN_RAM_START: u32 = 0x2000_0000;
-/// The bytes of a XIP RAM, where it is lent.
+/// The bytes of the XIP RAM, where it is lent.
 pub const XIP_RAM_BYTES: usize = 16_384;
 /// The address of its first byte.
 pub const XIP_RAM_START: u32 = 0x13ff_c000;
@@ -79,8 +86,8 @@ pub mod family {
     pub const ARM_NS: u32 = 0xe48b_ff5b;
 }
 
-/// The buffers that are lent with each arrival; nobody else writes them between the arrivals of a transfer. A RAM that the board does not
-/// have is empty, and no address is one of its own then.
+/// The buffers that are lent with each arrival; nobody else writes them between the arrivals of a transfer. A RAM that the board lacks
+/// is empty, and its addresses then lie in no window.
 pub struct Buffers<'a> {
     /// The flash: whole sectors, at most [`FLASH_MAX_BYTES`].
     pub flash: &'a mut [u8],

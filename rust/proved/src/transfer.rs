@@ -44,7 +44,7 @@ pub enum Transfer {
 }
 
 /// The answers to an arrival, by their numbers. They are asked in this order, and the first that fits is given. All but `Written`,
-/// `Completed` and `Noted` leave the transfer and everything that is lent as it was. No answer has the number 6.
+/// `Completed`, `Noted` and `Kept` leave the transfer and everything that is lent as it was. No answer has the number 6.
 #[derive(Clone, Copy, PartialEq, Eq, Debug)]
 #[repr(u8)]
 pub enum Answer {
@@ -75,10 +75,12 @@ pub enum Answer {
     Again = 13,
     /// Stored, and others are missing.
     Written = 14,
-    /// Stored or, a comment, noted, and the file is whole.
+    /// Stored or kept or, a comment, noted, and the file is whole.
     Completed = 15,
     /// A comment (flag 0x1, not for the main flash): counted and not stored, and others are missing.
     Noted = 16,
+    /// Flash has the region that the block names (flag 0x4000) with its digest already: counted and not stored, and others are missing.
+    Kept = 17,
 }
 
 /// What a look or a take says of an arrival.
@@ -171,7 +173,7 @@ impl Transfer {
 }
 
 impl Answer {
-    const ALL: [Answer; 15] = [
+    const ALL: [Answer; 16] = [
         Answer::BadBuffers,
         Answer::BadSettings,
         Answer::BadState,
@@ -187,6 +189,7 @@ impl Answer {
         Answer::Written,
         Answer::Completed,
         Answer::Noted,
+        Answer::Kept,
     ];
 
     /// The answer's number.
@@ -201,9 +204,12 @@ impl Answer {
             .find(|answer| u32::from(answer.number()) == number)
     }
 
-    /// Whether the block is accepted: taken, it is counted now, and stored unless it is a comment; looked at, it would be.
+    /// Whether the block is accepted: taken, it is counted now, and stored unless it is a comment or kept; looked at, it would be.
     pub fn is_accepted(self) -> bool {
-        matches!(self, Answer::Written | Answer::Completed | Answer::Noted)
+        matches!(
+            self,
+            Answer::Written | Answer::Completed | Answer::Noted | Answer::Kept
+        )
     }
 }
 

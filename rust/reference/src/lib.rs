@@ -1,6 +1,7 @@
 //! The update receiver, written from the papers alone so that it can be
 //! compared with another implementation: UF2 arrivals here, lines of Universal
-//! Hex in [`hex`].
+//! Hex in [`hex`]. Around them stand files to be made ([`make`], [`join`]), the
+//! tags of a block ([`tags`]) and stored settings ([`store`]).
 //!
 //! Each arrival gets one of the answers of document 01 and of the requests in
 //! 02. Every function is total: no input makes it panic, and a refusal leaves
@@ -54,6 +55,7 @@ pub const AGAIN: u8 = 13;
 pub const WRITTEN: u8 = 14;
 pub const COMPLETED: u8 = 15;
 pub const NOTED: u8 = 16;
+pub const KEPT: u8 = 17;
 
 const MAGIC_FIRST: u32 = 0x0A32_4655;
 const MAGIC_SECOND: u32 = 0x9E5D_5157;
@@ -62,6 +64,11 @@ const MAGIC_LAST: u32 = 0x0AB1_6F30;
 const FLAG_NOT_MAIN_FLASH: u32 = 0x1;
 const FLAG_CONTAINER: u32 = 0x1000;
 const FLAG_FAMILY: u32 = 0x2000;
+const FLAG_MD5: u32 = 0x4000;
+
+/// Where a block's data lies, and in the data the region with its digest.
+const DATA_AT: std::ops::Range<usize> = 32..508;
+const REGION_AT: std::ops::Range<usize> = 452..476;
 
 /// What a transfer goes to.
 #[derive(Clone, Copy, PartialEq, Eq, Debug)]
@@ -104,12 +111,36 @@ struct Block<'a> {
     number: u32,
     total: u32,
     family: u32,
-    payload: &'a [u8],
+    data: &'a [u8],
+}
+
+/// The region of flash that a block names, with the digest that makes storing
+/// the block needless.
+struct Region<'a> {
+    start: u32,
+    len: u32,
+    digest: &'a [u8],
 }
 
 impl Block<'_> {
     fn is_comment(&self) -> bool {
         self.flags & FLAG_NOT_MAIN_FLASH != 0
+    }
+
+    fn payload(&self) -> &[u8] {
+        &self.data[..PAYLOAD_LEN]
+    }
+
+    fn region(&self) -> Option<Region<'_>> {
+        if self.flags & FLAG_MD5 == 0 {
+            return None;
+        }
+        let bytes = &self.data[REGION_AT];
+        Some(Region {
+            start: field(bytes, 0),
+            len: field(bytes, 4),
+            digest: &bytes[8..],
+        })
     }
 }
 
@@ -125,12 +156,21 @@ struct Lent<'a> {
     xip: &'a [u8],
 }
 
+/// What becomes of a block's payload.
+enum Effect {
+    /// A comment has none to store.
+    Note,
+    /// It goes there in the kind's buffer.
+    Store(usize),
+    /// It is in flash already.
+    Keep,
+}
+
 /// What taking an arrival does, for one that no row refuses.
 struct Plan<'a> {
     block: Block<'a>,
     kind: Kind,
-    /// Where in the kind's buffer the payload goes; a comment's goes nowhere.
-    storage: Option<usize>,
+    effect: Effect,
     /// Whether both maps are cleared first.
     clears: bool,
     discarded: bool,
@@ -219,16 +259,16 @@ fn plan<'a>(s: &Settings, t: Transfer, arrival: &'a [u8], lent: Lent) -> Result<
     }
     let block = read_block(arrival).ok_or(NOT_BLOCK)?;
     check_flags(block.flags)?;
-    let (kind, storage) = if block.is_comment() {
+    let (kind, place, offset) = if block.is_comment() {
         let kind = comment_kind(&block, t, lent);
-        let (_, len) = place_in(kind, s, block.family, lent)?;
-        check_numbers(&block, len)?;
-        (kind, None)
+        let place = place_in(kind, s, block.family, lent)?;
+        check_numbers(&block, place)?;
+        (kind, place, None)
     } else if let Some(kind) = kind_at(block.address, lent) {
-        let (start, len) = place_in(kind, s, block.family, lent)?;
+        let place = place_in(kind, s, block.family, lent)?;
         check_payload(&block)?;
-        check_numbers(&block, len)?;
-        (kind, Some(start + check_address(&block, kind, len)?))
+        check_numbers(&block, place)?;
+        (kind, place, Some(check_address(&block, kind, place)?))
     } else {
         // "For an address in no window check 8 is flash's, and 11 comes before
         // 10": 9 keeps its place after 8, and nothing gets past 11.
@@ -243,10 +283,18 @@ fn plan<'a>(s: &Settings, t: Transfer, arrival: &'a [u8], lent: Lent) -> Result<
     if continued.is_some() && marked(lent.seen, block.number as usize) {
         return Err(AGAIN);
     }
+    // The block would be 14 or 15 now, or 16.
+    let effect = match offset {
+        None => Effect::Note,
+        Some(offset) if kind == Kind::Flash && is_kept(&block, place, offset, lent.flash) => {
+            Effect::Keep
+        }
+        Some(offset) => Effect::Store(place.start + offset),
+    };
     Ok(Plan {
         block,
         kind,
-        storage,
+        effect,
         clears: continued.is_none(),
         discarded: continued.is_none() && matches!(t, Transfer::Running { .. }),
         count: continued.unwrap_or(0) + 1,
@@ -279,12 +327,11 @@ impl Plan<'_> {
     }
 
     fn answer(&self) -> u8 {
-        if self.completes() {
-            COMPLETED
-        } else if self.storage.is_some() {
-            WRITTEN
-        } else {
-            NOTED
+        match self.effect {
+            _ if self.completes() => COMPLETED,
+            Effect::Store(_) => WRITTEN,
+            Effect::Note => NOTED,
+            Effect::Keep => KEPT,
         }
     }
 
@@ -317,7 +364,7 @@ impl Plan<'_> {
             seen.fill(0);
             sectors.fill(0);
         }
-        if let Some(at) = self.storage {
+        if let Effect::Store(at) = self.effect {
             let buffer = match self.kind {
                 Kind::Flash => {
                     erase(at / SECTOR_LEN, flash, sectors);
@@ -326,7 +373,7 @@ impl Plan<'_> {
                 Kind::MainRam => main,
                 Kind::XipRam => xip,
             };
-            buffer[at..at + PAYLOAD_LEN].copy_from_slice(self.block.payload);
+            buffer[at..at + PAYLOAD_LEN].copy_from_slice(self.block.payload());
         }
         mark(seen, self.block.number as usize);
     }
@@ -345,14 +392,7 @@ fn state_good(t: Transfer) -> bool {
 }
 
 fn read_block(arrival: &Arrival) -> Option<Block<'_>> {
-    let field = |at: usize| {
-        u32::from_le_bytes([
-            arrival[at],
-            arrival[at + 1],
-            arrival[at + 2],
-            arrival[at + 3],
-        ])
-    };
+    let field = |at| field(arrival, at);
     if field(0) != MAGIC_FIRST || field(4) != MAGIC_SECOND || field(508) != MAGIC_LAST {
         return None;
     }
@@ -363,8 +403,13 @@ fn read_block(arrival: &Arrival) -> Option<Block<'_>> {
         number: field(20),
         total: field(24),
         family: field(28),
-        payload: &arrival[32..32 + PAYLOAD_LEN],
+        data: &arrival[DATA_AT],
     })
+}
+
+/// The little-endian field at that offset.
+fn field(bytes: &[u8], at: usize) -> u32 {
+    u32::from_le_bytes([bytes[at], bytes[at + 1], bytes[at + 2], bytes[at + 3]])
 }
 
 /// Rows 5 and 7. A container is one whether or not it is also a comment.
@@ -413,13 +458,21 @@ fn comment_kind(block: &Block, t: Transfer, lent: Lent) -> Kind {
     }
 }
 
-/// Row 8: start and length of the family's place in the kind's buffer.
-fn place_in(kind: Kind, s: &Settings, family: u32, lent: Lent) -> Result<(usize, usize), u8> {
+/// The family's part of the kind's buffer; in RAM it is the whole.
+#[derive(Clone, Copy)]
+struct Place {
+    start: usize,
+    len: usize,
+}
+
+/// Row 8.
+fn place_in(kind: Kind, s: &Settings, family: u32, lent: Lent) -> Result<Place, u8> {
     let place = match kind {
         Kind::Flash => place_of(s, lent.flash.len(), family),
         Kind::MainRam | Kind::XipRam => ram_accepts(s, family).then(|| (0, window_of(kind).1)),
     };
-    place.ok_or(NO_PLACE)
+    let (start, len) = place.ok_or(NO_PLACE)?;
+    Ok(Place { start, len })
 }
 
 /// Row 9, which a comment skips.
@@ -431,26 +484,26 @@ fn check_payload(block: &Block) -> Result<(), u8> {
     }
 }
 
-/// Row 10, for a place of `len` bytes.
-fn check_numbers(block: &Block, len: usize) -> Result<(), u8> {
+/// Row 10.
+fn check_numbers(block: &Block, place: Place) -> Result<(), u8> {
     // 64 bits, since the product may pass 32.
     let needed = u64::from(block.total) * PAYLOAD_LEN as u64;
-    if block.total == 0 || needed > len as u64 || block.number >= block.total {
+    if block.total == 0 || needed > place.len as u64 || block.number >= block.total {
         return Err(BAD_NUMBERS);
     }
     Ok(())
 }
 
 /// Row 11, which a comment skips, for an address in the kind's window: the
-/// payload's offset in a place of `len` bytes.
-fn check_address(block: &Block, kind: Kind, len: usize) -> Result<usize, u8> {
+/// payload's offset in the place.
+fn check_address(block: &Block, kind: Kind, place: Place) -> Result<usize, u8> {
     let (start, _) = window_of(kind);
     let offset = block.address.checked_sub(start).ok_or(BAD_ADDRESS)? as usize;
     // WINDOW is itself a multiple of 256, so offset and address agree on that.
     // RAM goes by byte address.
     let aligned = kind != Kind::Flash || offset.is_multiple_of(PAYLOAD_LEN);
     // An offset in a window is far from where the sum would wrap.
-    if !aligned || offset + PAYLOAD_LEN > len {
+    if !aligned || offset + PAYLOAD_LEN > place.len {
         return Err(BAD_ADDRESS);
     }
     Ok(offset)
@@ -468,6 +521,29 @@ fn counted(t: Transfer, family: u32, total: u32, kind: Kind) -> Option<u32> {
         } if (f, n, k) == (family, total, kind) => Some(count),
         _ => None,
     }
+}
+
+/// Whether flash has what the block's region says, for a data block with that
+/// offset in its place: the region has to be whole sectors, not empty, within
+/// the place and around the block.
+fn is_kept(block: &Block, place: Place, offset: usize, flash: &[u8]) -> bool {
+    let Some(region) = block.region() else {
+        return false;
+    };
+    // Like a block's address, the region's start counts from the window's. A
+    // place begins with a sector, so that sectors of the one are sectors of
+    // the other.
+    let Some(start) = region.start.checked_sub(WINDOW) else {
+        return false;
+    };
+    let (start, len) = (start as usize, region.len as usize);
+    let whole = start.is_multiple_of(SECTOR_LEN) && len.is_multiple_of(SECTOR_LEN);
+    let Some(end) = start.checked_add(len).filter(|&end| end <= place.len) else {
+        return false;
+    };
+    // A region around the block isn't empty.
+    let around = start <= offset && offset + PAYLOAD_LEN <= end;
+    whole && around && md5::md5(&flash[place.start + start..place.start + end]) == region.digest
 }
 
 /// Erases the sector the first time that it is touched.

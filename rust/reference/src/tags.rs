@@ -4,7 +4,7 @@
 //! begins, and each tag found names the place after it. A refusal or the end
 //! leaves the place as it is, so that every later call finds it again.
 
-use crate::{read_block, Arrival, BAD_BUFFERS, BAD_STATE, NOT_BLOCK};
+use crate::{read_block, Arrival, BAD_BUFFERS, BAD_STATE, FLAG_MD5, NOT_BLOCK};
 
 /// The payload size is over 476 or no multiple of 4.
 pub const BAD_SIZE: u32 = 61;
@@ -17,7 +17,6 @@ pub const PAST_ROOM: u32 = 64;
 /// Under 4 bytes are left where a tag should start.
 pub const NO_ROOM: u32 = 65;
 
-const FLAG_MD5: u32 = 0x4000;
 const FLAG_TAGS: u32 = 0x8000;
 
 /// Where a block's data begins, and how long it is.

@@ -1,6 +1,6 @@
 -- `capi::uf2_look` meets its contract. Assumes nothing.
 use Rattle.sets.proofs.Numbered.{answer-is}
-use Rattle.capi.proofs.Laws.{number-most, look-ran}
+use Rattle.capi.proofs.Laws.{look-ran}
 use borrow.Author.Needs.{needs}
 use Rattle.capi.proofs.uf2_look.Statement.{statement}
 use Rattle.capi.proofs.uf2_look.Tie as tie
@@ -14,21 +14,17 @@ read-transfer-requires c κs = search needs
 look-requires : tie.Need-look-requires
 look-requires c κs = search needs
 
-number-requires : tie.Need-number-requires
-number-requires c κs = search needs
-
-report-requires : tie.Need-report-requires
-report-requires c κs = rw (c .number .ensures) (number-most (c .before .look .result .answer))
+result-requires : tie.Need-result-requires
+result-requires c κs = search needs
 
 cast-result : tie.Need-cast-result
 cast-result c = search needs
 
 returns : tie.Need-returns
 returns c =
-    let n = c .before in
-    let l = n .before in
+    let l = c .before in
     let t = l .before in
-    look-ran _ _ _ _ (t .before .read-settings .ensures) (t .read-transfer .ensures) (answer-is (l .look .ensures)) (n .number .ensures) (c .report .ensures)
+    look-ran _ _ _ _ (t .before .read-settings .ensures) (t .read-transfer .ensures) (answer-is (l .look .ensures)) (c .result .ensures)
 
 pub uf2-look-spec : {M : Type 1} → statement M
 uf2-look-spec =
@@ -37,7 +33,6 @@ uf2-look-spec =
     read-settings-requires
     read-transfer-requires
     look-requires
-    number-requires
-    report-requires
+    result-requires
     cast-result
     returns)

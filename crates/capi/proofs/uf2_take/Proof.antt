@@ -1,6 +1,6 @@
 -- `capi::uf2_take` meets its contract. Assumes nothing.
 use Rattle.sets.proofs.Numbered.{answer-is}
-use Rattle.capi.proofs.Laws.{number-most, take-ran}
+use Rattle.capi.proofs.Laws.{take-ran}
 use borrow.Author.Needs.{needs}
 use Rattle.capi.proofs.uf2_take.Statement.{statement}
 use Rattle.capi.proofs.uf2_take.Tie as tie
@@ -14,17 +14,14 @@ read-transfer-requires c κs = search needs
 take-requires : tie.Need-take-requires
 take-requires c κs = search needs
 
-number-requires : tie.Need-number-requires
-number-requires c κs = search needs
-
 is-acceptance-requires : tie.Need-is-acceptance-requires
 is-acceptance-requires c κs = search needs
 
 keep-requires : tie.Need-keep-requires
 keep-requires c κs = search needs
 
-report-requires : tie.Need-report-requires
-report-requires c κs = rw (c .before .before .before .before .before .number .ensures) (number-most (c .before .before .before .before .before .before .before .before .before .before .before .before .before .take .result .answer))
+result-requires : tie.Need-result-requires
+result-requires c κs = search needs
 
 cast-result : tie.Need-cast-result
 cast-result c = search needs
@@ -41,13 +38,18 @@ same-length-3 c = search needs
 same-length-4 : tie.Need-same-length-4
 same-length-4 c = search needs
 
+same-length-5 : tie.Need-same-length-5
+same-length-5 c = search needs
+
+same-length-6 : tie.Need-same-length-6
+same-length-6 c = search needs
+
 returns : tie.Need-returns
 returns c =
     let kept = c .before .before .before in
-    let number = kept .before .before .before in
-    let got = number .before .before .before .before .before .before .before .before in
-    let read = got .before .before .before .before in
-    take-ran _ _ _ _ (read .before .before .read-settings .ensures) (read .read-transfer .ensures) (answer-is (got .take .ensures)) (number .number .ensures) (kept .before .is-acceptance .ensures) (kept .keep .ensures) (c .report .ensures)
+    let got = kept .before .before .before .before .before .before .before .before .before .before .before .before .before .before in
+    let read = got .before .before .before .before .before .before in
+    take-ran _ _ _ _ (read .before .before .read-settings .ensures) (read .read-transfer .ensures) (answer-is (got .take .ensures)) (kept .before .is-acceptance .ensures) (kept .keep .ensures) (c .result .ensures)
 
 pub uf2-take-spec : {M : Type 1} → statement M
 uf2-take-spec =
@@ -56,13 +58,14 @@ uf2-take-spec =
     read-settings-requires
     read-transfer-requires
     take-requires
-    number-requires
     is-acceptance-requires
     keep-requires
-    report-requires
+    result-requires
     cast-result
     same-length
     same-length-2
     same-length-3
     same-length-4
+    same-length-5
+    same-length-6
     returns)

@@ -12,6 +12,12 @@ returns : tie.Need-returns
 unfolding stateFrom
 returns c = simp (c .none .ensures, ne-eqb _ _ (c .before .if1 .taken))
 
+shared-slice-read-number : tie.Need-shared-slice-read-number
+shared-slice-read-number c = search needs
+
+kind-requires : tie.Need-kind-requires
+kind-requires c κs = search needs
+
 field-requires : tie.Need-field-requires
 field-requires c κs = search needs
 
@@ -34,8 +40,8 @@ returns-2 : tie.Need-returns-2
 unfolding stateFrom
 returns-2 c =
     let n = c .before .before .before in
-    let b = n .before in
-    simp (c .state .ensures, n .new .ensures, b .before .field .ensures, b .field2 .ensures, c .before .field3 .ensures, eq-eqb _ _ (b .before .before .if1 .left))
+    let k = n .before .before .before in
+    simp (c .state .ensures, n .new .ensures, n .before .before .field .ensures, n .before .field2 .ensures, c .before .field3 .ensures, k .kind .ensures, eq-eqb _ _ (k .before .before .if1 .left))
 
 pub read-transfer-spec : {M : Type 1} → statement M
 read-transfer-spec =
@@ -43,6 +49,8 @@ read-transfer-spec =
     (tie.spec
     none-requires
     returns
+    shared-slice-read-number
+    kind-requires
     field-requires
     field-requires-2
     new-requires

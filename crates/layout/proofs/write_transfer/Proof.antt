@@ -19,14 +19,14 @@ write-requires c κs = search needs
 enum-known-state : tie.Need-enum-known-state
 enum-known-state c = search needs
 
-write-requires-2 : tie.Need-write-requires-2
-write-requires-2 c κs = search needs
+write-head-requires : tie.Need-write-head-requires
+write-head-requires c κs = search needs
 
 enum-known-state-2 : tie.Need-enum-known-state-2
 enum-known-state-2 c = search needs
 
-write-requires-3 : tie.Need-write-requires-3
-write-requires-3 c κs = search needs
+write-head-requires-2 : tie.Need-write-head-requires-2
+write-head-requires-2 c κs = search needs
 
 same-length : tie.Need-same-length
 same-length c = search needs
@@ -44,7 +44,7 @@ returns-3 : tie.Need-returns-3
 unfolding withTransfer
 returns-3 c =
     let b = c .before .before in
-    simp (eq-eqb _ _ (b .before .before .before .before .before .before .if1 .left)) (b .write2 .ensures ∙ sym (ap stateBytes (b .before .before .before .before .state .given .1)))
+    simp (eq-eqb _ _ (b .before .before .before .before .before .before .if1 .left)) (b .write-head .ensures ∙ sym (ap stateBytes (b .before .before .before .before .state .given .1)))
 
 same-length-3 : tie.Need-same-length-3
 same-length-3 c = search needs
@@ -53,7 +53,7 @@ returns-4 : tie.Need-returns-4
 unfolding withTransfer
 returns-4 c =
     let b = c .before .before in
-    simp (eq-eqb _ _ (b .before .before .before .before .before .if1 .left)) (b .write3 .ensures ∙ sym (ap stateBytes (b .before .before .before .state2 .given .1)))
+    simp (eq-eqb _ _ (b .before .before .before .before .before .if1 .left)) (b .write-head2 .ensures ∙ sym (ap stateBytes (b .before .before .before .state2 .given .1)))
 
 pub write-transfer-spec : {M : Type 1} → statement M
 write-transfer-spec =
@@ -63,9 +63,9 @@ write-transfer-spec =
     enum-told
     write-requires
     enum-known-state
-    write-requires-2
+    write-head-requires
     enum-known-state-2
-    write-requires-3
+    write-head-requires-2
     same-length
     returns-2
     same-length-2

@@ -1,6 +1,6 @@
 -- `md5::rotate_left` meets its contract. Assumes nothing.
-use mathlib.Core.Path.{refl}
-use Rattle.md5.specs.Md5.{rotateLeft}
+use native.Mathlib.Omega.{arith}
+use Rattle.md5.proofs.Laws.{rotate-is}
 use borrow.Author.Needs.{needs}
 use Rattle.md5.proofs.rotate_left.Statement.{statement}
 use Rattle.md5.proofs.rotate_left.Tie as tie
@@ -15,8 +15,7 @@ shr-result : tie.Need-shr-result
 shr-result c = search needs
 
 returns : tie.Need-returns
-unfolding rotateLeft
-returns c = refl
+returns c = rotate-is _ _ (omega arith) (omega arith)
 
 pub rotate-left-spec : {M : Type 1} → statement M
 rotate-left-spec = tie.close (tie.spec shl-result sub-result shr-result returns)

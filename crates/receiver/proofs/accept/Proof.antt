@@ -10,11 +10,14 @@ cast-number c = search needs
 page-at-requires : tie.Need-page-at-requires
 page-at-requires c κs = search needs
 
-write-requires : tie.Need-write-requires
-write-requires c κs = search needs
-
 clear-if-requires : tie.Need-clear-if-requires
 clear-if-requires c κs = search needs
+
+clear-if-requires-2 : tie.Need-clear-if-requires-2
+clear-if-requires-2 c κs = search needs
+
+write-requires : tie.Need-write-requires
+write-requires c κs = search needs
 
 mark-requires : tie.Need-mark-requires
 mark-requires c κs = search needs
@@ -28,12 +31,19 @@ same-length-2 c = search needs
 same-length-3 : tie.Need-same-length-3
 same-length-3 c = search needs
 
+same-length-4 : tie.Need-same-length-4
+same-length-4 c = search needs
+
+same-length-5 : tie.Need-same-length-5
+same-length-5 c = search needs
+
 returns : tie.Need-returns
 returns c =
     let marked = c .before .before in
-    let cleared = marked .before .before .before .before in
-    let paged = cleared .before .before .before .before .before .before in
-    took _ _ _ _ _ (paged .before .before .before .page-at .ensures) (paged .write .ensures) (cleared .clear-if .ensures) (marked .mark .ensures)
+    let written = marked .before .before .before .before .before .before .before .before .before .before in
+    let cleared = written .before .before .before .before .before .before .before in
+    let wiped = cleared .before .before .before .before in
+    took _ _ _ _ _ (wiped .before .before .before .page-at .ensures) (wiped .clear-if .ensures) (cleared .clear-if2 .ensures) (written .write .ensures) (marked .mark .ensures)
 
 pub accept-spec : {M : Type 1} → statement M
 accept-spec =
@@ -41,10 +51,13 @@ accept-spec =
     (tie.spec
     cast-number
     page-at-requires
-    write-requires
     clear-if-requires
+    clear-if-requires-2
+    write-requires
     mark-requires
     same-length
     same-length-2
     same-length-3
+    same-length-4
+    same-length-5
     returns)

@@ -9,7 +9,7 @@ right-length-requires c κs = search needs
 
 returns : tie.Need-returns
 unfolding rightLengths
-returns c = simp (c .right-length .ensures)
+returns c = simp (c .before .before .before .before .right-length .ensures)
 
 pub lengths-right-spec : {M : Type 1} → statement M
 lengths-right-spec = tie.close (tie.spec right-length-requires returns)

@@ -4,9 +4,6 @@ use borrow.Author.Needs.{needs}
 use Rattle.receiver.proofs.store.Statement.{statement}
 use Rattle.receiver.proofs.store.Tie as tie
 
-clear-if-requires : tie.Need-clear-if-requires
-clear-if-requires c κs = search needs
-
 erase-new-requires : tie.Need-erase-new-requires
 erase-new-requires c κs = search needs
 
@@ -27,17 +24,9 @@ returns c =
     let marked = c .before .before in
     let put = marked .before .before .before .before in
     let erased = put .before .before .before .before in
-    let cleared = erased .before .before .before .before .before in
-    stored _ _ _ _ _ (cleared .clear-if .ensures) (erased .erase-new .ensures) (put .store .ensures) (marked .mark .ensures)
+    stored _ _ _ _ (erased .erase-new .ensures) (put .store .ensures) (marked .mark .ensures)
 
 pub store-spec : {M : Type 1} → statement M
 store-spec =
     tie.close
-    (tie.spec
-    clear-if-requires
-    erase-new-requires
-    store-requires
-    mark-requires
-    same-length
-    same-length-2
-    returns)
+    (tie.spec erase-new-requires store-requires mark-requires same-length same-length-2 returns)

@@ -245,6 +245,53 @@ fn lists_end_where_the_set_seen_says() {
     }
 }
 
+/// A stopped update, then a good one (02, L13): a whole file of another family,
+/// total or kind ends as from Idle, whatever was Running.
+#[test]
+fn a_whole_file_after_a_stopped_one() {
+    let mut random = Random(1313);
+    for round in 0..240 {
+        let target = targets()[round % 4];
+        let file = any_file(&mut random, target);
+        let total = file.len() as u32;
+        let has_comments = file.iter().any(comment);
+        let kinds = [Kind::Flash, Kind::MainRam, Kind::XipRam];
+        let other = random.pick(&kinds.map(|kind| (kind, kind != target.kind)));
+        let (family, stopped_total, kind) = match random.below(3) {
+            0 => (DATA, total.max(2), other.0),
+            1 => (ARM_S, total + 1 + random.below(9) as u32, other.0),
+            // A file that differs in kind alone holds no comments.
+            _ if other.1 && !has_comments && total > 1 => (ARM_S, total, other.0),
+            _ => (ARM_NS, 131_072, other.0),
+        };
+        let mut stopped = Bench::with_ram(target.settings, LEN);
+        stopped.flash.fill_with(|| random.next() as u8);
+        stopped.seen.fill_with(|| random.next() as u8);
+        stopped.sectors.fill_with(|| random.next() as u8);
+        stopped.transfer = Transfer::Running {
+            family,
+            total: stopped_total,
+            count: 1 + random.below(stopped_total as usize - 1) as u32,
+            kind,
+        };
+        let whole = vec![true; file.len()];
+        let end = expected(&stopped, &file, &whole, target);
+        let mut arrivals = file.clone();
+        for _ in 0..random.below(5) {
+            arrivals.push(random.pick(&file));
+        }
+        for i in (1..arrivals.len()).rev() {
+            arrivals.swap(i, random.below(i + 1));
+        }
+        for (k, &block) in arrivals.iter().enumerate() {
+            let (answer, discarded) = stopped.send(&arrival(block));
+            assert_eq!(discarded, k == 0);
+            assert!((12..=16).contains(&answer));
+        }
+        assert!(stopped == end);
+    }
+}
+
 #[test]
 fn the_empty_list_leaves_all_as_lent() {
     let start = Bench::new(NO_TABLE, LEN);

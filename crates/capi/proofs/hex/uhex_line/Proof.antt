@@ -1,5 +1,6 @@
 -- `capi::hex::uhex_line` meets its contract. Assumes nothing.
 use Rattle.capi.proofs.HexLaws.{line-case}
+use native.Mathlib.Omega.{arith}
 use borrow.Author.Needs.{needs}
 use Rattle.capi.proofs.hex.uhex_line.Statement.{statement}
 use Rattle.capi.proofs.hex.uhex_line.Tie as tie
@@ -49,7 +50,7 @@ returns c =
     let changed = kept .before in
     let failed = changed .before in
     let read = failed .before .before .before .before .before in
-    line-case _ _ _ (read .before .before .read-reader .ensures) (read .line .ensures .0) (failed .has-failed .ensures) (changed .changes .ensures) (kept .keep-reader .ensures) (c .before .number .ensures) (c .position .ensures)
+    line-case _ _ _ (read .before .before .read-reader .ensures) (read .line .ensures .0) (failed .has-failed .ensures) (changed .changes .ensures) (kept .keep-reader .ensures) (c .before .number .ensures) (c .position .ensures) (omega arith)
 
 pub uhex-line-spec : {M : Type 1} → statement M
 uhex-line-spec =

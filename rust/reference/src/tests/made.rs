@@ -1,0 +1,57 @@
+//! Made files, delivered (02, L1).
+
+use super::*;
+use crate::make::make;
+
+const LEN: usize = 65_536;
+
+/// The blocks of an image of random bytes.
+fn any_made(random: &mut Random, pages: usize, start: u32) -> (Vec<u8>, Vec<[u8; 512]>) {
+    let image: Vec<u8> = (0..pages * 256).map(|_| random.next() as u8).collect();
+    let mut output = vec![0; pages * 512];
+    assert_eq!(make(&image, ARM_S, start, &mut output), Ok(pages));
+    let blocks = output.as_chunks().0.to_vec();
+    (image, blocks)
+}
+
+#[test]
+fn delivered_in_any_order() {
+    let mut random = Random(256);
+    let table = with_table(&[arm_s(4, 3)]);
+    for (s, place, len) in [(NO_TABLE, 0, LEN), (table, 16_384, 12_288)] {
+        for _ in 0..100 {
+            let pages = 1 + random.below(len / 256);
+            let first = random.below(len / 256 - pages + 1);
+            let start = 0x1000_0000 + 256 * first as u32;
+            let (image, mut blocks) = any_made(&mut random, pages, start);
+            for i in (1..pages).rev() {
+                blocks.swap(i, random.below(i + 1));
+            }
+            let mut bench = Bench::new(s, LEN);
+            for (k, block) in blocks.iter().enumerate() {
+                let answer = if k + 1 < pages { 14 } else { 15 };
+                assert_eq!(bench.send(block), (answer, false));
+            }
+            let done = Transfer::Done {
+                family: ARM_S,
+                total: pages as u32,
+                kind: Kind::Flash,
+            };
+            assert_eq!(bench.transfer, done);
+            let at = place + 256 * first;
+            assert!(bench.flash[at..at + image.len()] == image);
+        }
+    }
+}
+
+/// What a made block says by its other fields: it is no comment, and has no
+/// tags and no region.
+#[test]
+fn flags() {
+    let (_, blocks) = any_made(&mut Random(1), 3, 0x1000_0000);
+    for block in blocks {
+        use crate::tags::{first_place, tag_at, Found};
+        assert_eq!(first_place(&block), 288);
+        assert_eq!(tag_at(&block, 288), Found::End);
+    }
+}
