@@ -1,26 +1,28 @@
 -- The end of a replay: a running transfer has a number that is missing. Assumes nothing.
 use Prim.Native.Nat.{ℕ, zero, suc, _+_, _-_, _*_, _≤_, _<_}
 use mathlib.Core.Path.{_≡_, refl, sym, ap, _∙_}
-use mathlib.Core.Bool.{Bool, true, false, not, _&&_}
+use mathlib.Core.Bool.{Bool, true, false, not, cond}
 use mathlib.Core.List.{List, [], _∷_}
 use native.Mathlib.Omega.{arith}
 use lib.Dec.{ltb, leb}
 use lib.ListN.{length}
 use borrow.Author.Tests.{ltb-true, leb-true, leb-false}
-use Rattle.sets.specs.Sets.{Set, one, size, any, least}
-use Rattle.sets.proofs.Tests.{split, clash, and-left, and-right}
+use Rattle.sets.specs.Sets.{Set, size, any, least}
+use Rattle.sets.proofs.Tests.{split, clash}
 use Rattle.sets.proofs.Laws.{any-all, least-below}
 use Rattle.bitmap.specs.Bitmap.{markedIn, marks}
 use Rattle.bitmap.proofs.Laws.{marked-past}
 use Rattle.settings.specs.declared.Settings.{Settings}
-use Rattle.transfer.specs.Transfer.{countOf, goodState}
+use Rattle.transfer.specs.Transfer.{countOf, counted, accepted}
+use Rattle.transfer.specs.declared.Head.{Head}
 use Rattle.transfer.specs.declared.Run.{Run}
 use Rattle.transfer.specs.declared.State.{State}
 use Rattle.transfer.specs.declared.State.the-variants.{Idle, Running, Done}
-use Rattle.arrival.specs.Arrive.{Lent, World, done, receiveOf}
+use Rattle.flash.specs.Flash.{payloadOf}
+use Rattle.arrival.specs.Arrive.{Lent, World, Decision, acceptOf, done, receiveOf}
 use Rattle.arrival.specs.Lists.{receiveAll}
-use Rattle.arrival.proofs.DecisionFacts.{Rows, stopped, through, rows}
-use Rattle.arrival.proofs.Lists.{board-next}
+use Rattle.arrival.specs.Tally.{clears}
+use Rattle.arrival.proofs.DecisionFacts.{DecisionFacts, kept, took, decision-facts}
 use Rattle.trace.specs.Trace.{begun, replayOf}
 use Rattle.replays.specs.Claims.{Ends-before-the-stop}
 use Rattle.replays.proofs.Replays.{ends-before-the-stop}
@@ -28,29 +30,31 @@ use Rattle.report.specs.Report.{isMissing, missingAt, replayedIn}
 use Rattle.report.proofs.Adds.{replay-count}
 use Rattle.figures.specs.Claims.{MissingFacts}
 
--- ---- row 3 stays passed
+-- ---- the count of a running transfer is below its total
 
-good-by : (s : Settings) (w : World) (a : List ℕ) → goodState (w .transfer) ≡ true → Rows s w a → goodState (receiveOf s w a .world .transfer) ≡ true
-unfolding receiveOf done
-good-by s w a g (stopped x h e) = rw e g
-good-by s w a g (through B l) = board-next s w a B .state
+abbrev below : State → Bool
+below Idle = true
+below (Running r) = ltb (r .count) (r .head .total)
+below (Done g) = true
 
-good-all : (s : Settings) (l : List (List ℕ)) (w : World) → goodState (w .transfer) ≡ true → goodState (receiveAll s w l .transfer) ≡ true
-unfolding receiveAll
-good-all s [] w g = g
-good-all s (a ∷ l) w g = good-all s l (receiveOf s w a .world) (good-by s w a g (rows s w a))
+below-counted : (g : Head) (c : ℕ) → below (counted g c) ≡ true
+unfolding counted
+below-counted g c = split (ltb c (g .total)) (λ y. rw (y, y)) (λ z. rw z)
 
-good-end : (s : Settings) (h : Lent) (t : List ℕ) → goodState (replayOf s h t .world .transfer) ≡ true
+below-by : (s : Settings) (w : World) (a : List ℕ) {d : Decision} → DecisionFacts s w a d → below (w .transfer) ≡ true → below (done w (payloadOf a) d .world .transfer) ≡ true
+unfolding done acceptOf accepted
+below-by s w a (kept x h) e = e
+below-by s w a (took g k B l q t) e =
+    rw (t .is) (below-counted (g .head) (cond (clears (w .transfer) (g .head)) 1 (countOf (w .transfer) + 1)))
+
+below-all : (s : Settings) (l : List (List ℕ)) (w : World) → below (w .transfer) ≡ true → below (receiveAll s w l .transfer) ≡ true
+unfolding receiveAll receiveOf
+below-all s [] w e = e
+below-all s (a ∷ l) w e = below-all s l (receiveOf s w a .world) (below-by s w a (decision-facts s w a) e)
+
+below-end : (s : Settings) (h : Lent) (t : List ℕ) → below (replayOf s h t .world .transfer) ≡ true
 unfolding Ends-before-the-stop
-good-end s h t = rw (ends-before-the-stop s h t .world) (good-all s (replayedIn s h t) (begun h) (unfold begun goodState in refl))
-
-below-total : (r : Run) → goodState (Running r) ≡ true → r .count < r .head .total
-unfolding goodState
-below-total r e =
-    let a = leb 1 (r .count) in
-    let b = ltb (r .count) (r .head .total) in
-    let c = leb (r .head .total) 131072 in
-    ltb-true (r .count) (r .head .total) (and-right a b (and-left (a && b) c e))
+below-end s h t = rw (ends-before-the-stop s h t .world) (below-all s (replayedIn s h t) (begun h) (unfold begun in refl))
 
 -- ---- so some number below the total is not marked
 
@@ -106,9 +110,9 @@ module _ (s : Settings) (h : Lent) (t : List ℕ) where
 
   running-missing : (r : Run) → end-world .transfer ≡ Running r → any (r .head .total) (isMissing (end-world .seen)) ≡ true
   running-missing r e =
-      let good : goodState (Running r) ≡ true = rw e at (good-end s h t) in
+      let less : ltb (r .count) (r .head .total) ≡ true = sym (ap below e) ∙ below-end s h t in
       let same : r .count ≡ marks (end-world .seen) = sym (ap countOf e) ∙ replay-count s h t in
-      has-missing (end-world .seen) (r .head .total) (omega (arith, same, below-total r good))
+      has-missing (end-world .seen) (r .head .total) (omega (arith, same, ltb-true (r .count) (r .head .total) less))
 
   missing-by : (x : State) → end-world .transfer ≡ x → MissingFacts end-world (missingAt x (end-world .seen))
   missing-by Idle e = λ r q. idle-run r (sym e ∙ q)

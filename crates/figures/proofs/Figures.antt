@@ -1,17 +1,17 @@
 -- The claims of specs/Claims.antt hold. Assumes nothing.
 use Prim.Native.Nat.{ℕ, _+_, _/_, _≤_, _<_}
 use mathlib.Core.Path.{_≡_, refl, sym, ap, subst, _∙_}
-use mathlib.Core.Bool.{Bool, true, false, _&&_, not}
-use mathlib.Core.List.{List, [], _∷_, _++_, map}
+use mathlib.Core.Bool.{Bool, true, false}
+use mathlib.Core.List.{List, [], _∷_, map}
 use native.Mathlib.Omega.{arith}
 use lib.Dec.{leb, eqb}
-use lib.ListN.{length, getD, length-append, getD-replicate}
+use lib.ListN.{length, length-append, getD-replicate}
 use borrow.Author.Tests.{leb-true, leb-false, le-leb, lt-leb, eqb-true, eq-eqb}
 use Rattle.sets.proofs.Tests.{split, clash, and-left, and-right}
 use Rattle.settings.specs.declared.Settings.{Settings}
-use Rattle.transfer.specs.Transfer.{numberOf, countOf}
+use Rattle.transfer.specs.Transfer.{numberOf}
 use Rattle.transfer.specs.declared.Answer.{Answer}
-use Rattle.arrival.specs.Arrive.{Lent, World, lentOf}
+use Rattle.arrival.specs.Arrive.{Lent, lentOf}
 use Rattle.arrival.specs.Lists.{answersOf, discardsOf}
 use Rattle.trace.specs.Trace.{begun, replayOf}
 use Rattle.trace.specs.declared.Stop.{Stop}
@@ -21,7 +21,7 @@ use Rattle.report.specs.declared.FiguresAnswer.the-variants.{BadReport, TooMany
 use Rattle.report.specs.Report.{freshReport, sumTo, goodReport, withRoom, slotOf, howManyYes, replayedIn, addedTo, FiguresOutcome, figuresOutcome, figuresNumber, addOf}
 use Rattle.report.proofs.Sums.{slot-low}
 use Rattle.report.proofs.Adds.{number-range, replay-count}
-use Rattle.figures.specs.Claims.{Sound, Refused-71, Refused-70, Else-replayed, Refusals-leave-all, timesOf, countIn, Adds, Replay-adds, EndFacts, Replay-ends, Job, doneBy, addAll, toldBy, allAnswers, allDiscards, Exact, From-fresh}
+use Rattle.figures.specs.Claims.{Sound, Refused-71, Refused-70, Else-replayed, Refusals-leave-all, timesOf, countIn, Adds, Replay-adds, EndFacts, Replay-ends, Job, doneBy, addAll, toldBy, allAnswers, allDiscards, From-fresh}
 use Rattle.figures.proofs.Counts.{length-all, counts-at, sum-at, times-append, yes-append, yes-most, length-answers, length-discards}
 use Rattle.figures.proofs.Ends.{missing-facts}
 
@@ -247,6 +247,6 @@ from-fresh l =
     record {
       sound = a .sound;
       records = omega (arith, a .records);
-      counts = λ x. let n = number-range x in omega (arith, a .counts x, getD-replicate 16 (slotOf (numberOf x)) 0 0 (slot-low (numberOf x) (n .0) (n .1)));
+      counts = λ x. let n = number-range x in omega (arith, a .counts x, getD-replicate {A = ℕ} 16 (slotOf (numberOf x)) 0 0 (slot-low (numberOf x) (n .0) (n .1)));
       discards = omega (arith, a .discards);
     }

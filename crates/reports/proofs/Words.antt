@@ -1,11 +1,10 @@
 -- Words read and written, as the code has them. Assumes nothing.
 use Prim.Native.Nat.{ℕ, _+_, _-_, _*_, _≤_, _<_}
-use mathlib.Core.Path.{_≡_, refl, sym, ap, _∙_}
+use mathlib.Core.Path.{_≡_, _∙_}
 use mathlib.Core.Logic.{_≢_}
 use mathlib.Core.List.{List}
-use native.Mathlib.Numerals.{add-one}
 use native.Mathlib.Omega.{arith}
-use lib.Dec.{ltb, eqb}
+use lib.Dec.{eqb}
 use lib.ListN.{length, getD, set, length-set}
 use lib.Seq.{getD-set-same, getD-set-other}
 use borrow.Author.Tests.{lt-ltb, le-ltb, eq-eqb, ne-eqb, eqb-true, eqb-false}
@@ -13,7 +12,7 @@ use Rattle.sets.specs.Over.{over}
 use Rattle.sets.specs.Rows.{rows}
 use Rattle.sets.proofs.Tests.{split}
 use Rattle.sets.proofs.BytesLaws.{length-low}
-use Rattle.sets.proofs.OverLaws.{length-over, over-whole}
+use Rattle.sets.proofs.OverLaws.{over-whole}
 use Rattle.sets.proofs.RowsLaws.{rows-none, length-rows, rows-over}
 use Rattle.sets.proofs.TabLaws.{is-tab}
 use Rattle.block.specs.Block.{fieldAt}
