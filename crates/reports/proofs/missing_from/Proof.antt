@@ -1,0 +1,17 @@
+use borrow.Author.Tests.{eq-eqb, ne-eqb}
+use borrow.Author.Needs.{needs}
+use Rattle.reports.proofs.missing_from.Statement.{statement}
+use Rattle.reports.proofs.missing_from.Tie as tie
+use Rattle.reports.proofs.missing_from.Reads as reads
+use Rattle.reports.proofs.missing_from.Lts as lts
+
+-- src/lib.rt:39:9
+returns : tie.Need-returns
+returns c = simp (eq-eqb _ _ (c .if1 .taken))
+
+-- src/lib.rt:35:1
+returns-2 : tie.Need-returns-2
+returns-2 c = simp (ne-eqb _ _ (c .if1 .left))
+
+pub missing-from-spec : {M : Type 1} → statement M
+missing-from-spec = tie.close (tie.spec returns returns-2)
