@@ -5,6 +5,7 @@ mod buffers;
 pub mod fence;
 pub mod hex;
 mod pair;
+pub mod store;
 pub mod tags;
 
 pub use buffers::{Buffers, Ram};
@@ -71,7 +72,7 @@ pub fn proved_settings(s: &Settings) -> proved::Settings {
     }
 }
 
-fn proved_entry(e: &Entry) -> proved::Entry {
+pub fn proved_entry(e: &Entry) -> proved::Entry {
     proved::Entry {
         first: e.first,
         sectors: e.sectors,
@@ -88,6 +89,8 @@ fn proved_entry(e: &Entry) -> proved::Entry {
             Link::OwnedBy(k) => proved::Link::OwnedBy(k),
             Link::BOf(k) => proved::Link::BOf(k),
         },
+        // no answer depends on it: some entries have it wherever the two are compared
+        no_restart: e.data,
     }
 }
 

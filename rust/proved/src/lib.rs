@@ -39,6 +39,7 @@ pub mod bytes;
 mod ffi;
 pub mod hex;
 mod settings;
+pub mod store;
 pub mod tags;
 mod transfer;
 
