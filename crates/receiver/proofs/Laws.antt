@@ -9,6 +9,9 @@ use Rattle.block.specs.Block.{fieldAt, hasFlag}
 use Rattle.block.specs.Region.{regionOf}
 use Rattle.block.specs.declared.Region.{Region}
 use Rattle.region.specs.Regions.{goodRegion, standsIn}
+use Rattle.region.proofs.Laws.{good-no}
+use Rattle.sets.proofs.Tests.{split}
+use native.Mathlib.Omega.{arith}
 use Rattle.flash.specs.Flash.{eraseAt, payloadOf, storeAt}
 use Rattle.settings.specs.Settings.{goodSettings}
 use Rattle.settings.specs.declared.Settings.{Settings}
@@ -31,7 +34,7 @@ use Rattle.screen.specs.declared.Rooms.{Rooms}
 use Rattle.screen.specs.declared.Lengths.{Lengths}
 use Rattle.screen.specs.declared.Placed.{Placed}
 use Rattle.screen.specs.declared.Screening.the-variants.{Refused, Passed}
-use Rattle.arrival.specs.Arrive.{Held, Lent, Outcome, Decision, lengthsOf, rightLengths, standsAt, deedOf, stepped, afterScreening, clearedIf, wipedIf, preparedAt, pagedAt, atOf, doneTo, acceptOf, stays, accepts, done, forecast, forecastOf}
+use Rattle.arrival.specs.Arrive.{Held, Lent, Outcome, Decision, lengthsOf, rightLengths, standsAt, deedOf, stepped, afterScreening, clearedIf, wipedIf, preparedAt, pagedAt, atOf, doneTo, acceptOf, stays, accepts, done}
 use Rattle.receiver.specs.Receiver.{held, lent, world, refusal, outcome, knownOf, knownDecision, receiveKnown}
 use Rattle.receiver.specs.Parts.{flashHeld}
 use Rattle.receiver.specs.declared.Receipt.{Receipt}
@@ -74,23 +77,32 @@ took p d t a h at wiped cleared written marked = cc
 
 -- ---- what stands
 
-module _ (f a : List ℕ) (start size : ℕ) where
-  pub stands-bare : hasFlag a 0x4000 ≡ false → false ≡ standsAt f (At start size) a
-  unfolding standsAt
-  stands-bare h = rw h
-
-  module _ (h : hasFlag a 0x4000 ≡ true) {g : Region} (e : g ≡ regionOf a) {x : ℕ} (q : x ≡ fieldAt a 12) where
-    pub stands-bad : goodRegion size x g ≡ false → false ≡ standsAt f (At start size) a
-    unfolding standsAt
-    stands-bad n = rw (h, sym e, sym q, n)
-
-    pub stands-good : goodRegion size x g ≡ true → {r : Bool} → r ≡ standsIn f start g → r ≡ standsAt f (At start size) a
-    unfolding standsAt
-    stands-good n r = r ∙ rw (h, sym e, sym q, n)
-
-pub stands-nowhere : (f a : List ℕ) {p : Place} → p ≡ Nowhere → false ≡ standsAt f p a
+-- an arrival that names no region stands nowhere
+pub stands-bare : (f a : List ℕ) (p : Place) → hasFlag a 0x4000 ≡ false → standsAt f p a ≡ false
 unfolding standsAt
-stands-nowhere f a e = rw e
+stands-bare f a Nowhere h = refl
+stands-bare f a (At start size) h = rw h
+
+module _ (f a : List ℕ) (start size : ℕ) (h : hasFlag a 0x4000 ≡ true) {g : Region} (e : g ≡ regionOf a) {x : ℕ} (q : x ≡ fieldAt a 12) where
+  pub stands-bad : goodRegion size x g ≡ false → false ≡ standsAt f (At start size) a
+  unfolding standsAt
+  stands-bad n = rw (h, sym e, sym q, n)
+
+  pub stands-good : goodRegion size x g ≡ true → {r : Bool} → r ≡ standsIn f start g → r ≡ standsAt f (At start size) a
+  unfolding standsAt
+  stands-good n r = r ∙ rw (h, sym e, sym q, n)
+
+-- no region counts in a place of no bytes
+none-good : (x : ℕ) (g : Region) → goodRegion 0 x g ≡ false
+none-good x g = sym (good-no 0 x g (λ k. let w = k .within in k .some (omega arith)))
+
+stands-none : (f a : List ℕ) → standsAt f (At 0 0) a ≡ false
+unfolding standsAt
+stands-none f a = let n = none-good (fieldAt a 12) (regionOf a) in split (hasFlag a 0x4000) (λ h. rw (h, n)) (λ h. rw h)
+
+pub stands-nowhere : (f a : List ℕ) {p : Place} → p ≡ Nowhere → {r : Bool} → r ≡ standsAt f (At 0 0) a → r ≡ standsAt f p a
+unfolding standsAt
+stands-nowhere f a e q = rw e (q ∙ stands-none f a)
 
 -- ---- rows 12 to 17
 
@@ -146,14 +158,8 @@ module _ (known : Known) (t : Transfer) (a : List ℕ) (h : Lent) where
         unfolding knownDecision
         judge-passed q y = rw (l, g, n, q) y
 
-  -- what is said and what is done
+  -- what is done
   module _ {d : Decision} (k : d ≡ knownDecision known (world t h) a) where
-    pub look-stays : {x : Answer} → d ≡ stays x → forecast x false ≡ forecastOf (knownDecision known (world t h) a)
-    look-stays e = ap forecastOf (sym e ∙ k)
-
-    pub look-accepts : {p : Placed} {e : Deed} {y : Accepted} → d ≡ accepts p e y → forecast (y .answer) (y .discarded) ≡ forecastOf (knownDecision known (world t h) a)
-    look-accepts q = ap forecastOf (sym q ∙ k)
-
     pub take-stays : {o : Receipt} {x : Answer} → d ≡ stays x → o ≡ refusal t x → outcome o h ≡ receiveKnown known (world t h) a
     unfolding receiveKnown done
     take-stays e y = ap (λ (o : Receipt). outcome o h) y ∙ ap (done (world t h) (payloadOf a)) (sym e ∙ k)

@@ -1,8 +1,9 @@
 // One arrival: the checks in their order, the step of the transfer, and what is written to the lent buffers.
 ghost use mathlib.Core.Path.{_≡_};
-ghost use mathlib.Core.Bool.{_&&_};
+ghost use mathlib.Core.Bool.{true, _&&_};
 ghost use Rattle.sets.specs.Numbered.{numbered};
 ghost use Rattle.bitmap.specs.Bitmap.{markedIn};
+ghost use Rattle.block.specs.Block.{hasFlag};
 ghost use Rattle.flash.specs.Flash.{payloadOf};
 ghost use Rattle.place.specs.Place.{StartsLow};
 ghost use Rattle.transfer.specs.Transfer.{sameKind, stepOf};
@@ -21,6 +22,8 @@ ghost use Rattle.arrival.specs.Arrive.{
   accepts,
   done,
   receiveOf,
+  forecast,
+  forecastOf,
   forecastNumber,
   lookOf,
 };
@@ -108,6 +111,12 @@ pub fn lengths_right(a: usize, lens: Lengths, m: usize, k: usize) -> bool
         & ((lens.xip == 0) | (lens.xip == Window::XIP_RAM))
 }
 
+fn tell(answer: Answer, discarded: bool) -> Preview
+    ensures { λ r. ⌜ previewed r ≡ forecast answer discarded ⌝ }
+{
+    Preview { answer, discarded }
+}
+
 // Nothing changes, and this is the answer.
 fn refuse(transfer: Transfer, answer: Answer) -> Receipt
     ensures { λ r. ⌜ r ≡ refusal transfer answer ⌝ }
@@ -166,13 +175,11 @@ fn page(
     }
 }
 
-// Does the region of an arrival, if it names one, count in a place of the flash, and have its digest there?
+// Does the region that an arrival names count in a place of the flash, and have its digest there?
 fn stands_in(start: usize, size: usize, flash: &[u8], arrival: &[u8]) -> bool
+    requires { ⌜ hasFlag (now arrival) 0x4000 ≡ true ⌝ }
     ensures { λ r. ⌜ r ≡ standsAt (now (flash .entry)) (Place.At start size) (now (arrival .entry)) ⌝ }
 {
-    if !block::has_region(arrival) {
-        return false;
-    }
     let region = block::read_region(arrival);
     let address = block::field(arrival, 12);
     if !region::good(region, size, address) {
@@ -181,11 +188,13 @@ fn stands_in(start: usize, size: usize, flash: &[u8], arrival: &[u8]) -> bool
     region::stands(flash, start, region)
 }
 
+// No region lies in a place of no bytes. `stands_in` is asked there too: of two callers, it stays apart from the way of arrivals that name none.
 fn stands_at(place: Place, flash: &[u8], arrival: &[u8]) -> bool
+    requires { ⌜ hasFlag (now arrival) 0x4000 ≡ true ⌝ }
     ensures { λ r. ⌜ r ≡ standsAt (now (flash .entry)) place (now (arrival .entry)) ⌝ }
 {
     match place {
-        Place::Nowhere => false,
+        Place::Nowhere => stands_in(0, 0, flash, arrival),
         Place::At { start, len } => stands_in(start, len, flash, arrival),
     }
 }
@@ -195,6 +204,9 @@ fn page_deed(kind: Kind, place: Place, flash: &[u8], arrival: &[u8]) -> Deed
     ensures { λ r. ⌜ r ≡ pageDeed (sameKind kind Kind.Flash && standsAt (now (flash .entry)) place (now (arrival .entry))) ⌝ }
 {
     if !transfer::same_kind(kind, Kind::Flash) {
+        return Deed::Stores;
+    }
+    if !block::has_region(arrival) {
         return Deed::Stores;
     }
     if stands_at(place, flash, arrival) {
@@ -310,6 +322,36 @@ fn settle(
     }
 }
 
+// What rows 12 to 17 say of such a block. The same as `settle`, of which nothing but answer and discard is told: of two callers it would not be put
+// in the place of the call, and an arrival that is taken would go through memory.
+fn foresee(
+    transfer: Transfer,
+    placed: Placed,
+    place: Place,
+    arrival: &[u8],
+    flash: &[u8],
+    seen: &[u8],
+) -> Preview
+    ensures { λ r. ⌜ previewed r ≡ forecastOf (afterScreening (transfer .state) (now (seen .entry)) (standsAt (now (flash .entry)) place (now (arrival .entry))) (Screening.Passed placed)) ⌝ }
+{
+    let head = placed.head;
+    let number = placed.number as usize;
+    let marked = bitmap::marked(seen, number);
+    let trial = transfer.step(head, marked, Deed::Stores);
+    match trial {
+        Step::Stays(unchanged) => {
+            let given = unchanged.answer;
+            tell(given, false)
+        }
+        Step::Accepts(stored) => {
+            let deed = deed_of(placed, place, flash, arrival);
+            let accepted = transfer::doing(stored, deed);
+            let answer = accepted.answer;
+            tell(answer, accepted.discarded)
+        }
+    }
+}
+
 // What the settings and the lengths say of an arrival.
 fn known_of(settings: Settings, lens: Lengths, m: usize, k: usize, arrival: &[u8]) -> Known
     ensures { λ r. ⌜ r ≡ knownOf settings lens m k (now (arrival .entry)) ⌝ }
@@ -322,7 +364,7 @@ fn known_of(settings: Settings, lens: Lengths, m: usize, k: usize, arrival: &[u8
     Known { right, good, rooms }
 }
 
-// Every check, in its order. What the settings and the lengths say is handed in.
+// Every check, in its order, of an arrival to take. What the settings and the lengths say is handed in.
 fn judge(
     known: Known,
     transfer: Transfer,
@@ -350,7 +392,7 @@ fn judge(
         main: main.len(),
         xip: xip.len(),
     };
-    let screening = screen::screen(rooms, lens, transfer, arrival);
+    let screening = screen::screen_to_take(rooms, lens, transfer, arrival);
     match screening {
         Screening::Refused(answer) => Verdict::Leaves(answer),
         Screening::Passed(placed) => {
@@ -378,20 +420,23 @@ pub fn look(
         main: main.len(),
         xip: xip.len(),
     };
-    let known = known_of(settings, lens, seen.len(), sectors.len(), arrival);
-    let verdict = judge(known, transfer, arrival, flash, seen, sectors, main, xip);
-    match verdict {
-        Verdict::Leaves(answer) => Preview {
-            answer,
-            discarded: false,
-        },
-        Verdict::Accepts(acceptance) => {
-            let accepted = acceptance.accepted;
-            let answer = accepted.answer;
-            Preview {
-                answer,
-                discarded: accepted.discarded,
-            }
+    let says = known_of(settings, lens, seen.len(), sectors.len(), arrival);
+    if !says.right {
+        return tell(Answer::BadBuffers, false);
+    }
+    if !says.good {
+        return tell(Answer::BadSettings, false);
+    }
+    if !transfer.sound() {
+        return tell(Answer::BadState, false);
+    }
+    let rooms = says.rooms;
+    let screening = screen::screen(rooms, lens, transfer, arrival);
+    match screening {
+        Screening::Refused(answer) => tell(answer, false),
+        Screening::Passed(placed) => {
+            let place = rooms.flash;
+            foresee(transfer, placed, place, arrival, flash, seen)
         }
     }
 }

@@ -22,8 +22,8 @@ returns-3 c =
     let first = second .before .before in
     judge-state _ _ _ _ (not-false _ (first .if1 .left)) (not-false _ (second .if2 .left)) (sym (c .before .sound .ensures) ∙ not-true _ (c .if3 .taken))
 
-screen-requires : tie.Need-screen-requires
-screen-requires c κs = search needs
+screen-to-take-requires : tie.Need-screen-to-take-requires
+screen-to-take-requires c κs = search needs
 
 enum-known-screening : tie.Need-enum-known-screening
 enum-known-screening c = search needs
@@ -41,7 +41,7 @@ returns-4 c =
     let second = third .before .before in
     let first = second .before .before in
     let sound = sym (third .before .sound .ensures) ∙ not-false _ (third .if3 .left) in
-    judge-refused _ _ _ _ (not-false _ (first .if1 .left)) (not-false _ (second .if2 .left)) sound (sym (answer-is (screened .screen .ensures)) ∙ c .before .screening .given .1)
+    judge-refused _ _ _ _ (not-false _ (first .if1 .left)) (not-false _ (second .if2 .left)) sound (sym (answer-is (screened .screen-to-take .ensures)) ∙ c .before .screening .given .1)
 
 returns-5 : tie.Need-returns-5
 returns-5 c =
@@ -50,7 +50,7 @@ returns-5 c =
     let second = third .before .before in
     let first = second .before .before in
     let sound = sym (third .before .sound .ensures) ∙ not-false _ (third .if3 .left) in
-    judge-passed _ _ _ _ (not-false _ (first .if1 .left)) (not-false _ (second .if2 .left)) sound (sym (answer-is (screened .screen .ensures)) ∙ c .before .before .screening2 .given .1) (c .settle .ensures)
+    judge-passed _ _ _ _ (not-false _ (first .if1 .left)) (not-false _ (second .if2 .left)) sound (sym (answer-is (screened .screen-to-take .ensures)) ∙ c .before .before .screening2 .given .1) (c .settle .ensures)
 
 pub judge-spec : {M : Type 1} → statement M
 judge-spec =
@@ -60,7 +60,7 @@ judge-spec =
     returns-2
     sound-requires
     returns-3
-    screen-requires
+    screen-to-take-requires
     enum-known-screening
     enum-known-screening-2
     settle-requires

@@ -1,6 +1,7 @@
 -- `receiver::page_deed` meets its contract. Assumes nothing.
 use mathlib.Core.Path.{sym, _∙_}
 use borrow.Author.Tests.{not-true, not-false}
+use Rattle.receiver.proofs.Laws.{stands-bare}
 use borrow.Author.Needs.{needs}
 use Rattle.receiver.proofs.page_deed.Statement.{statement}
 use Rattle.receiver.proofs.page_deed.Tie as tie
@@ -11,15 +12,39 @@ same-kind-requires c κs = search needs
 returns : tie.Need-returns
 returns c = let e = sym (c .before .same-kind .ensures) ∙ not-true _ (c .if1 .taken) in rw e
 
-stands-at-requires : tie.Need-stands-at-requires
-stands-at-requires c κs = search needs
+has-region-requires : tie.Need-has-region-requires
+has-region-requires c κs = search needs
 
 returns-2 : tie.Need-returns-2
-returns-2 c = let e = sym (c .before .before .before .same-kind .ensures) ∙ not-false _ (c .before .before .if1 .left) in let f = sym (c .before .stands-at .ensures) ∙ c .if2 .taken in rw (e, f)
+returns-2 c =
+    let e = sym (c .before .before .before .same-kind .ensures) ∙ not-false _ (c .before .before .if1 .left) in
+    let a = c .before .before .before .before .before .before .args in
+    let f = stands-bare (a .flash .now) (a .arrival .now) (a .place) (sym (c .before .has-region .ensures) ∙ not-true _ (c .if2 .taken)) in
+    rw (e, f)
+
+stands-at-requires : tie.Need-stands-at-requires
+stands-at-requires c κs = sym (c .before .has-region .ensures) ∙ not-false _ (c .if2 .left)
 
 returns-3 : tie.Need-returns-3
-returns-3 c = let e = sym (c .before .before .before .same-kind .ensures) ∙ not-false _ (c .before .before .if1 .left) in let f = sym (c .before .stands-at .ensures) ∙ c .if2 .left in rw (e, f)
+returns-3 c =
+    let e = sym (c .before .before .before .before .before .same-kind .ensures) ∙ not-false _ (c .before .before .before .before .if1 .left) in
+    let f = sym (c .before .stands-at .ensures) ∙ c .if3 .taken in
+    rw (e, f)
+
+returns-4 : tie.Need-returns-4
+returns-4 c =
+    let e = sym (c .before .before .before .before .before .same-kind .ensures) ∙ not-false _ (c .before .before .before .before .if1 .left) in
+    let f = sym (c .before .stands-at .ensures) ∙ c .if3 .left in
+    rw (e, f)
 
 pub page-deed-spec : {M : Type 1} → statement M
 page-deed-spec =
-    tie.close (tie.spec same-kind-requires returns stands-at-requires returns-2 returns-3)
+    tie.close
+    (tie.spec
+    same-kind-requires
+    returns
+    has-region-requires
+    returns-2
+    stands-at-requires
+    returns-3
+    returns-4)
