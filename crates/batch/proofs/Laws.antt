@@ -5,7 +5,7 @@ use mathlib.Core.Bool.{Bool, false, _||_, or-false, or-assoc}
 use mathlib.Core.List.{List, [], _∷_}
 use native.Mathlib.Omega.{arith}
 use lib.ListN.{length, take, drop, set, length-take, length-drop}
-use lib.Seq.{drop-drop}
+use lib.Seq.{drop-drop, take-all}
 use Rattle.block.specs.Block.{fieldAt}
 use Rattle.settings.specs.declared.Settings.{Settings}
 use Rattle.transfer.specs.Transfer.{numberOf}
@@ -142,3 +142,19 @@ unfolding endFrom batchOf
 end-starts s w a r {n} hn =
     let whole : n - 0 ≡ n = omega arith in
     rw (whole, hn)
+
+-- one whole arrival, with room for its result
+abbrev pub oneEnd : Outcome → BatchEnd
+oneEnd o =
+    record {
+      number = 1;
+      world = o .world;
+      accepted = isAcceptance (numberOf (o .answer));
+      results = resultOf (numberOf (o .answer)) (o .discarded) ∷ [];
+    }
+
+pub batch-one : (s : Settings) (w : World) (a : List ℕ) (x : ℕ) → length a ≡ 512 → batchOf s w a (x ∷ []) ≡ oneEnd (receiveOf s w a)
+unfolding batchOf arrivalsOf receiveAll answersOf discardsOf resultsOf anyAcceptance storedFrom
+batch-one s w a x h =
+    let z : take 512 a ≡ a = take-all 512 a (omega arith) in
+    rw (h, z, or-false (isAcceptance (numberOf (receiveOf s w a .answer))))

@@ -12,7 +12,6 @@ use block::Block;
 use receiver::Known;
 use screen::Lengths;
 use screen::Rooms;
-use settings::Family;
 use settings::Settings;
 use transfer::Answer;
 use transfer::Transfer;
@@ -130,11 +129,9 @@ pub fn take_all(
     };
     let right = receiver::lengths_right(Block::ARRIVAL, lens, seen.len(), sectors.len());
     let good = settings::good(settings, flash.len());
-    let rooms = screen::rooms_for(settings, flash.len(), Family::DATA);
-    let mut kept = FamilyRooms {
-        family: Family::DATA,
-        rooms,
-    };
+    let family = block::field(arrivals, 28);
+    let rooms = screen::rooms_for(settings, flash.len(), family);
+    let mut kept = FamilyRooms { family, rooms };
     let mut next = transfer;
     let mut accepted = false;
     let mut i: usize = 0;

@@ -13,7 +13,7 @@ use Rattle.batch.proofs.take_all.Statement.{statement}
 use Rattle.batch.proofs.take_all.Tie as tie
 
 abbrev Inv-loop : tie.InvT-loop
-Inv-loop settings arrivals results₀ flash₀ seen₀ sectors₀ main₀ xip₀ n right good kept₀ next₀ accepted₀ i₀ results flash seen sectors main xip kept next accepted i =
+Inv-loop settings arrivals results₀ flash₀ seen₀ sectors₀ main₀ xip₀ n right good family kept₀ next₀ accepted₀ i₀ results flash seen sectors main xip kept next accepted i =
     (i ≤ n)
     × (length results ≡ length results₀)
     × Stays settings (lent flash₀ seen₀ sectors₀ main₀ xip₀) right good (lent flash seen sectors main xip)
@@ -21,7 +21,7 @@ Inv-loop settings arrivals results₀ flash₀ seen₀ sectors₀ main₀ xip₀
     × (endFrom n settings (world next (lent flash seen sectors main xip)) accepted results i (arrivalsOf (n - i) (drop (i * 512) arrivals)) ≡ batchOf settings (world next₀ (lent flash₀ seen₀ sectors₀ main₀ xip₀)) arrivals results₀)
 
 abbrev μ-loop : tie.MeasureT-loop
-μ-loop settings arrivals results₀ flash₀ seen₀ sectors₀ main₀ xip₀ n right good kept₀ next₀ accepted₀ i₀ results flash seen sectors main xip kept next accepted i =
+μ-loop settings arrivals results₀ flash₀ seen₀ sectors₀ main₀ xip₀ n right good family kept₀ next₀ accepted₀ i₀ results flash seen sectors main xip kept next accepted i =
     n - i
 
 at-most-requires : tie.Need-at-most-requires Inv-loop μ-loop
@@ -33,13 +33,17 @@ lengths-right-requires c κs = search needs
 good-requires : tie.Need-good-requires Inv-loop μ-loop
 good-requires c κs = search needs
 
+field-requires : tie.Need-field-requires Inv-loop μ-loop
+field-requires c κs = search needs
+
 rooms-for-requires : tie.Need-rooms-for-requires Inv-loop μ-loop
 rooms-for-requires c κs = search needs
 
 loop-holds : tie.Need-loop-holds Inv-loop μ-loop
 loop-holds c =
-    let made = c .before .before .before in
-    (search needs, refl, stays-first _ _ (c .before .before .lengths-right .ensures, c .before .good2 .ensures), c .rooms-for .ensures, end-starts _ _ _ _ (made .at-most .ensures .0))
+    let good = c .before .before in
+    let made = good .before .before in
+    (search needs, refl, stays-first _ _ (good .before .lengths-right .ensures, good .good2 .ensures), c .rooms-for .ensures, end-starts _ _ _ _ (made .at-most .ensures .0))
 
 mul-from : tie.Need-mul-from Inv-loop μ-loop
 mul-from c = search needs
@@ -63,14 +67,14 @@ take-next-requires : tie.Need-take-next-requires Inv-loop μ-loop
 take-next-requires c κs =
     let round = c .before .before .before .before .before .before in
     let at = round .before .loop in
-    let made = round .before .before .before .before .before in
+    let made = round .before .before .before .before .before .before in
     (at .inv .2 .judged, (at .inv .3, arrival-size _ _ (made .before .before .before .before .before .before .before .before .args .arrivals .now) (round .loop-test .taken) (made .at-most .ensures .1 .0)))
 
 slice-write-results : tie.Need-slice-write-results Inv-loop μ-loop
 slice-write-results c =
     let round = c .before .before .before .before .before .before .before .before .before .before .before .before .before .before .before .before .before .before .before in
     let at = round .before .loop in
-    let made = round .before .before .before .before .before in
+    let made = round .before .before .before .before .before .before in
     omega (arith, at .inv .1, round .loop-test .taken, made .at-most .ensures .1 .1)
 
 loop-less : tie.Need-loop-less Inv-loop μ-loop
@@ -116,6 +120,7 @@ take-all-spec =
     at-most-requires
     lengths-right-requires
     good-requires
+    field-requires
     rooms-for-requires
     loop-holds
     mul-from
