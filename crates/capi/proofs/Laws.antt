@@ -2,12 +2,12 @@
 use Prim.Native.Nat.{ℕ}
 use mathlib.Core.Path.{_≡_, refl, ap, _∙_}
 use mathlib.Core.Logic.{_≢_, ⊎-elim}
-use mathlib.Core.Bool.{Bool}
+use mathlib.Core.Bool.{Bool, false}
 use mathlib.Core.List.{List, [], _∷_, _++_}
 use types.Run.{OneOf}
 use denote.Enum.Declared.{tagOf}
 use native.Mathlib.Omega.{arith}
-use lib.ListN.{length}
+use lib.ListN.{length, getD}
 use borrow.Author.Tests.{eq-eqb, ne-eqb}
 use Rattle.settings.specs.declared.Settings.{Settings}
 use Rattle.transfer.specs.declared.Transfer.{Transfer}
@@ -17,15 +17,15 @@ use Rattle.place.specs.declared.PlaceAnswer.{PlaceAnswer}
 use Rattle.place.specs.declared.PlaceAnswer.the-variants as asked
 use Rattle.place.specs.Place.{askOf, placeAnswerNumber}
 use Rattle.place.proofs.PlaceAnswer.{the-type}
-use Rattle.arrival.specs.Arrive.{Lent, receiveOf, lookOf}
-use Rattle.receiver.specs.declared.Receipt.{Receipt}
+use Rattle.arrival.specs.Arrive.{Lent, lentOf, rightLengths, decide, done, receiveOf, lookOf}
 use Rattle.receiver.specs.declared.Preview.{Preview}
-use Rattle.receiver.specs.Receiver.{world, outcome, previewed}
+use Rattle.receiver.specs.Receiver.{world, previewed}
 use Rattle.block.specs.Write.{le32}
 use Rattle.layout.specs.Layout.{settingsFrom, transferFrom}
 use Rattle.batch.specs.declared.Batch.{Batch}
-use Rattle.batch.specs.Batch.{resultOf, isAcceptance, batchLeft, batchOf}
-use Rattle.capi.specs.Calls.{PlaceCall, placeCall, placeCallOf, askBytes, arrivalCall, lookResult, lookBytes, keptTransfer, arrivalCallOf, takeBytes, batchCall, batchCallEnd, takeBatch}
+use Rattle.batch.specs.Batch.{resultOf, BatchEnd, batchLeft, batchOf}
+use Rattle.batch.proofs.Laws.{batch-one}
+use Rattle.capi.specs.Calls.{PlaceCall, placeCall, placeCallOf, askBytes, arrivalCall, lookResult, lookBytes, keptTransfer, takeBytes, batchCall, batchCallEnd, takeBatch}
 
 -- ---- a place asked for alone
 
@@ -62,14 +62,21 @@ module _ (s t a : List ℕ) (h : Lent) where
       ∙ ap (λ (z : Settings). lookOf z (world u h) a) hz
       ∙ ap (λ (u : Transfer). lookOf (settingsFrom s) (world u h) a) hu)
 
-  pub take-ran : {z : Settings} {u : Transfer} {r : Receipt} {g : Lent} {v : List ℕ} {y : ℕ} {b : Bool} → z ≡ settingsFrom s → u ≡ transferFrom t → outcome r g ≡ receiveOf z (world u h) a → b ≡ isAcceptance (numberOf (r .answer)) → v ≡ keptTransfer t b (r .transfer .state) → y ≡ resultOf (numberOf (r .answer)) (r .discarded) → arrivalCall y v g ≡ takeBytes s t a h
+  -- an arrival of another length
+  pub take-short : length a ≢ 512 → {y : ℕ} → y ≡ resultOf (numberOf BadBuffers) false → arrivalCall y t h ≡ takeBytes s t a h
+  unfolding takeBytes receiveOf decide rightLengths done
+  take-short n q = rw (q, ne-eqb (length a) 512 n)
+
+  -- a whole one, of which x was there before its result
+  pub take-ran : length a ≡ 512 → (x : ℕ) {z : Settings} {u : Transfer} {b : Batch} {g : Lent} {v r : List ℕ} {y : ℕ} → z ≡ settingsFrom s → u ≡ transferFrom t → batchLeft b r g ≡ batchOf z (world u h) a (x ∷ []) → v ≡ keptTransfer t (b .accepted) (b .transfer .state) → y ≡ getD r 0 0 → arrivalCall y v g ≡ takeBytes s t a h
   unfolding takeBytes
-  take-ran {u = u} hz hu ho hb hv hy =
+  take-ran n x {u = u} hz hu ho hv hy =
       let p =
       ho
-      ∙ ap (λ (z : Settings). receiveOf z (world u h) a) hz
-      ∙ ap (λ (u : Transfer). receiveOf (settingsFrom s) (world u h) a) hu in
-      rw (hy, hv, hb) (ap (arrivalCallOf t) p)
+      ∙ ap (λ (z : Settings). batchOf z (world u h) a (x ∷ [])) hz
+      ∙ ap (λ (u : Transfer). batchOf (settingsFrom s) (world u h) a (x ∷ [])) hu
+      ∙ batch-one (settingsFrom s) (world (transferFrom t) h) a x n in
+      rw (hy, hv) (ap (λ (e : BatchEnd). arrivalCall (getD (e .results) 0 0) (keptTransfer t (e .accepted) (e .world .transfer)) (lentOf (e .world))) p)
 
   pub batch-ran : (r : List ℕ) {z : Settings} {u : Transfer} {b : Batch} {g : Lent} {v r₁ : List ℕ} → z ≡ settingsFrom s → u ≡ transferFrom t → batchLeft b r₁ g ≡ batchOf z (world u h) a r → v ≡ keptTransfer t (b .accepted) (b .transfer .state) → batchCall (b .number) v r₁ g ≡ takeBatch s t a r h
   unfolding takeBatch

@@ -16,7 +16,9 @@ ghost use Rattle.capi.specs.Calls.{
   batchCallOf,
   batchReturn,
 };
+use block::Block;
 use place::PlaceAnswer;
+use transfer::Answer;
 use transfer::Transfer;
 
 mod hex;
@@ -89,7 +91,8 @@ pub extern "C" fn uf2_look(
     batch::result(answer, p.discarded) as u32
 }
 
-// One arrival is taken: the answer's number, and 128 more where a running transfer was discarded.
+// One arrival is taken: the answer's number, and 128 more where a running transfer was discarded. A whole one is taken as many are, by the same code:
+// of two callers, `receiver::take_known` would not be put in the place of the call, and each arrival would go through memory.
 #[no_mangle]
 pub extern "C" fn uf2_take(
     settings: &[u8],
@@ -103,13 +106,16 @@ pub extern "C" fn uf2_take(
 ) -> u32
     ensures { λ r. ⌜ takeReturn r transfer (leftAt flash seen sectors main xip) ≡ takeCallOf settings transfer arrival (lentAt flash seen sectors main xip) ⌝ }
 {
+    if arrival.len() != Block::ARRIVAL {
+        return batch::result(Answer::BadBuffers, false) as u32;
+    }
     let s = layout::read_settings(settings);
     let t = layout::read_transfer(transfer);
-    let r = receiver::take(s, t, arrival, flash, seen, sectors, main, xip);
-    let answer = r.answer;
-    let next = r.transfer;
-    keep(transfer, batch::is_acceptance(answer), next);
-    batch::result(answer, r.discarded) as u32
+    let mut result = [0u8; 1];
+    let one = batch::take_all(s, t, arrival, &mut result, flash, seen, sectors, main, xip);
+    let next = one.transfer;
+    keep(transfer, one.accepted, next);
+    result[0] as u32
 }
 
 // Whole arrivals are taken one after the other, as many as there are results for: their number, and the result of each.
