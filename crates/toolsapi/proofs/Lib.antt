@@ -1,3 +1,4 @@
 -- The laws of `specs/`.
 pub mod Laws
 pub mod ReplayLaws
+pub mod FiguresLaws

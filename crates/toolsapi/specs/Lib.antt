@@ -1,3 +1,4 @@
 pub mod Tools
 pub mod Join
 pub mod ReplayCall
+pub mod FiguresCall

@@ -29,7 +29,7 @@ fn put_index(index: &mut [u8], i: usize)
 }
 
 // The index of the piece that stopped a replay.
-fn put_stop(index: &mut [u8], stop: Stop)
+pub fn put_stop(index: &mut [u8], stop: Stop)
     ensures { λ _. ⌜ now (index .exit) ≡ withStop (now (index .entry)) stop ⌝ }
 {
     match stop {
@@ -39,7 +39,7 @@ fn put_stop(index: &mut [u8], stop: Stop)
     }
 }
 
-fn number(stop: Stop) -> u32
+pub fn number(stop: Stop) -> u32
     ensures { λ r. ⌜ r ≡ stopNumber stop ⌝ }
 {
     match stop {

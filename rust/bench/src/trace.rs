@@ -1,4 +1,5 @@
 //! A trace replayed: `uf2_replay` beside a plain replay that looks at each record and takes it. Both read the settings once.
+//! The same added to a fresh report: `uf2_figures`.
 
 use std::hint::black_box;
 
@@ -69,7 +70,52 @@ fn row(name: &str, shuffled: bool) {
     assert!(ours == theirs, "{name}: the two leave the same");
 }
 
+/// A report's marks are the file's blocks, each replayed: twice their number of each side.
+fn figures(name: &str, shuffled: bool) {
+    if !asked(name) {
+        return;
+    }
+    let s = settings(0, [Entry::EMPTY; 16]);
+    let p = proved_settings(&s);
+    let mut ours = Buffers::filled(FLASH, 0);
+    let trace = recorded(&s, shuffled, &mut ours);
+    let mut theirs = ours.clone();
+    let work = Work {
+        rounds: ROUNDS,
+        calls: RECORDS as usize,
+        bytes: Some(trace.len()),
+    };
+    pair(
+        name,
+        work,
+        || {
+            ours.flash.fill(0);
+            timed(|| {
+                let mut report = tools::report::Report::FRESH;
+                let lent = &mut ours.lend();
+                tools::report::add(&mut report, black_box(&p), &trace, lent)
+                    .expect("a fresh report");
+                u64::from(report.records) + u64::from(report.marked)
+            })
+        },
+        || {
+            theirs.flash.fill(0);
+            let [flash, seen, sectors, main, xip] = theirs.each();
+            timed(|| {
+                let mut report = reference::figures::Report::FRESH;
+                let s = black_box(&s);
+                reference::figures::add(&mut report, s, &trace, flash, seen, sectors, main, xip)
+                    .expect("a fresh report");
+                u64::from(report.records) + u64::from(report.marked)
+            })
+        },
+    );
+    assert!(ours == theirs, "{name}: the two leave the same");
+}
+
 pub fn rows() {
     row("a record replayed, 131,072 in order", false);
     row("a record replayed, 131,072 shuffled", true);
+    figures("a record in a report, 131,072 in order", false);
+    figures("a record in a report, 131,072 shuffled", true);
 }

@@ -62,4 +62,25 @@ extern "C" {
         index: *mut u8,
         index_len: Len,
     ) -> u32;
+
+    pub fn uf2_figures(
+        report: *mut u8,
+        report_len: Len,
+        settings: *const u8,
+        settings_len: Len,
+        trace: *const u8,
+        trace_len: Len,
+        flash: *mut u8,
+        flash_len: Len,
+        seen: *mut u8,
+        seen_len: Len,
+        sectors: *mut u8,
+        sectors_len: Len,
+        main: *mut u8,
+        main_len: Len,
+        xip: *mut u8,
+        xip_len: Len,
+        index: *mut u8,
+        index_len: Len,
+    ) -> u32;
 }
