@@ -1,6 +1,6 @@
 -- Counts of answers by their slots. Assumes nothing.
-use Prim.Native.Nat.{ℕ, _+_, _-_, _≤_, _<_}
-use mathlib.Core.Path.{_≡_, refl, _∙_}
+use Prim.Native.Nat.{ℕ, zero, suc, _+_, _-_, _≤_, _<_}
+use mathlib.Core.Path.{_≡_, refl, sym, ap, subst, _∙_}
 use mathlib.Core.Logic.{_≢_}
 use mathlib.Core.Bool.{Bool}
 use mathlib.Core.List.{List, [], _∷_, _++_, map}
@@ -15,12 +15,13 @@ use Rattle.sets.proofs.Laws.{one-le}
 use Rattle.settings.specs.declared.Settings.{Settings}
 use Rattle.transfer.specs.Transfer.{numberOf}
 use Rattle.transfer.specs.declared.Answer.{Answer}
+use Rattle.transfer.specs.declared.Answer.the-variants.{BadBuffers, BadSettings, BadState, NotBlock, Container, NoFamily, NoPlace, BadPayload, BadNumbers, BadAddress, Finished, Again, Written, Completed, Noted, Kept}
 use Rattle.arrival.specs.Arrive.{World, receiveOf}
 use Rattle.arrival.specs.Lists.{answersOf, discardsOf}
 use Rattle.report.specs.Report.{sumTo, slotOf, countOne, countAll, howManyYes}
 use Rattle.report.proofs.Sums.{sum-raised, slot-low, length-one}
 use Rattle.report.proofs.Adds.{number-range}
-use Rattle.figures.specs.Claims.{timesOf}
+use Rattle.figures.specs.Claims.{sumOf, timesOf, timesYes, placeOf}
 
 -- ---- no two answers have one slot
 
@@ -46,6 +47,44 @@ slot-same x y e =
 
 slot-in : (c : List ℕ) → length c ≡ 16 → (y : Answer) → slotOf (numberOf y) < length c
 slot-in c l y = let a = number-range y in rw l (slot-low (numberOf y) (a .0) (a .1))
+
+-- the slot of an answer is its place
+pub place-is : (x : Answer) → slotOf (numberOf x) ≡ placeOf x
+place-is BadBuffers = refl
+place-is BadSettings = refl
+place-is BadState = refl
+place-is NotBlock = refl
+place-is Container = refl
+place-is NoFamily = refl
+place-is NoPlace = refl
+place-is BadPayload = refl
+place-is BadNumbers = refl
+place-is BadAddress = refl
+place-is Finished = refl
+place-is Again = refl
+place-is Written = refl
+place-is Completed = refl
+place-is Noted = refl
+place-is Kept = refl
+
+pub place-low : (x : Answer) → placeOf x < 16
+place-low x = let n = number-range x in subst (λ (k : ℕ). k < 16) (place-is x) (slot-low (numberOf x) (n .0) (n .1))
+
+-- ---- sums
+
+sum-first : (n x : ℕ) (l : List ℕ) → sumTo (suc n) (x ∷ l) ≡ x + sumTo n l
+unfolding sumTo
+sum-first zero x l = omega arith
+sum-first (suc n) x l = rw (sum-first n x l) (omega arith)
+
+sum-all : (l : List ℕ) → sumTo (length l) l ≡ sumOf l
+unfolding sumTo sumOf
+sum-all [] = refl
+sum-all (x ∷ l) = sum-first (length l) x l ∙ rw (sum-all l)
+
+-- the sum of 16 counts is that of their list
+pub sum-is : (l : List ℕ) → length l ≡ 16 → sumTo 16 l ≡ sumOf l
+sum-is l e = ap (λ (n : ℕ). sumTo n l) (sym e) ∙ sum-all l
 
 -- ---- one record more
 
@@ -90,18 +129,24 @@ sum-at (y ∷ l) c h =
 
 -- ---- lists one after the other
 
+-- the meaning's "how many" is the claims'
+pub yes-is : (l : List Bool) → howManyYes l ≡ timesYes l
+unfolding howManyYes timesYes
+yes-is [] = refl
+yes-is (d ∷ l) = rw (yes-is l)
+
 pub times-append : (x : Answer) (l m : List Answer) → timesOf x (l ++ m) ≡ timesOf x l + timesOf x m
 unfolding timesOf
 times-append x [] m = omega arith
 times-append x (y ∷ l) m = rw (times-append x l m) (omega arith)
 
-pub yes-append : (l m : List Bool) → howManyYes (l ++ m) ≡ howManyYes l + howManyYes m
-unfolding howManyYes
+pub yes-append : (l m : List Bool) → timesYes (l ++ m) ≡ timesYes l + timesYes m
+unfolding timesYes
 yes-append [] m = omega arith
 yes-append (d ∷ l) m = rw (yes-append l m) (omega arith)
 
-pub yes-most : (l : List Bool) → howManyYes l ≤ length l
-unfolding howManyYes
+pub yes-most : (l : List Bool) → timesYes l ≤ length l
+unfolding timesYes
 yes-most [] = omega arith
 yes-most (d ∷ l) = omega (arith, yes-most l, one-le d)
 

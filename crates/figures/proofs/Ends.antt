@@ -26,9 +26,9 @@ use Rattle.arrival.proofs.DecisionFacts.{DecisionFacts, kept, took, decision-fa
 use Rattle.trace.specs.Trace.{begun, replayOf}
 use Rattle.replays.specs.Claims.{Ends-before-the-stop}
 use Rattle.replays.proofs.Replays.{ends-before-the-stop}
-use Rattle.report.specs.Report.{isMissing, missingAt, replayedIn}
+use Rattle.report.specs.Report.{isMissing, missingAt}
 use Rattle.report.proofs.Adds.{replay-count}
-use Rattle.figures.specs.Claims.{MissingFacts}
+use Rattle.figures.specs.Claims.{arrivalsIn, MissingFacts}
 
 -- ---- the count of a running transfer is below its total
 
@@ -54,7 +54,7 @@ below-all s (a ∷ l) w e = below-all s l (receiveOf s w a .world) (below-by s w
 
 below-end : (s : Settings) (h : Lent) (t : List ℕ) → below (replayOf s h t .world .transfer) ≡ true
 unfolding Ends-before-the-stop
-below-end s h t = rw (ends-before-the-stop s h t .world) (below-all s (replayedIn s h t) (begun h) (unfold begun in refl))
+below-end s h t = rw (ends-before-the-stop s h t .world) (below-all s (arrivalsIn s h t) (begun h) (unfold begun in refl))
 
 -- ---- so some number below the total is not marked
 

@@ -5,7 +5,7 @@ use mathlib.Core.Bool.{Bool, true, false}
 use mathlib.Core.List.{List, [], _∷_, map}
 use native.Mathlib.Omega.{arith}
 use lib.Dec.{leb, eqb}
-use lib.ListN.{length, length-append, getD-replicate}
+use lib.ListN.{length, getD, length-append, getD-replicate}
 use borrow.Author.Tests.{leb-true, leb-false, le-leb, lt-leb, eqb-true, eq-eqb}
 use Rattle.sets.proofs.Tests.{split, clash, and-left, and-right}
 use Rattle.settings.specs.declared.Settings.{Settings}
@@ -18,18 +18,17 @@ use Rattle.trace.specs.declared.Stop.{Stop}
 use Rattle.report.specs.declared.Report.{Report}
 use Rattle.report.specs.declared.FiguresAnswer.{FiguresAnswer}
 use Rattle.report.specs.declared.FiguresAnswer.the-variants.{BadReport, TooMany, Replayed}
-use Rattle.report.specs.Report.{freshReport, sumTo, goodReport, withRoom, slotOf, howManyYes, replayedIn, addedTo, FiguresOutcome, figuresOutcome, figuresNumber, addOf}
-use Rattle.report.proofs.Sums.{slot-low}
-use Rattle.report.proofs.Adds.{number-range, replay-count}
-use Rattle.figures.specs.Claims.{Sound, Refused-71, Refused-70, Else-replayed, Refusals-leave-all, timesOf, countIn, Adds, Replay-adds, EndFacts, Replay-ends, Job, doneBy, addAll, toldBy, allAnswers, allDiscards, From-fresh}
-use Rattle.figures.proofs.Counts.{length-all, counts-at, sum-at, times-append, yes-append, yes-most, length-answers, length-discards}
+use Rattle.report.specs.Report.{freshReport, sumTo, goodReport, withRoom, countAll, addedTo, FiguresOutcome, figuresOutcome, figuresNumber, addOf}
+use Rattle.report.proofs.Adds.{replay-count}
+use Rattle.figures.specs.Claims.{sumOf, Sound, Refused-71, Refused-70, Else-replayed, Refusals-leave-all, timesOf, timesYes, placeOf, countIn, arrivalsIn, Adds, Replay-adds, EndFacts, Replay-ends, Job, doneBy, addAll, toldBy, allAnswers, allDiscards, From-fresh}
+use Rattle.figures.proofs.Counts.{place-is, place-low, sum-is, yes-is, length-all, counts-at, sum-at, times-append, yes-append, yes-most, length-answers, length-discards}
 use Rattle.figures.proofs.Ends.{missing-facts}
 
 -- ---- a good report is a sound one
 
 sound-good : (r : Report) → Sound r → goodReport r ≡ true
 unfolding goodReport
-sound-good r c = rw (eq-eqb (sumTo 16 (r .counts)) (r .records) (c .sums), le-leb (r .discards) (r .records) (c .discards))
+sound-good r c = rw (eq-eqb (sumTo 16 (r .counts)) (r .records) (sum-is (r .counts) (c .slots) ∙ c .sums), le-leb (r .discards) (r .records) (c .discards))
 
 good-sound : (r : Report) → length (r .counts) ≡ 16 → goodReport r ≡ true → Sound r
 unfolding goodReport
@@ -38,7 +37,7 @@ good-sound r l g =
     let b = leb (r .discards) (r .records) in
     record {
       slots = l;
-      sums = eqb-true (sumTo 16 (r .counts)) (r .records) (and-left a b g);
+      sums = sym (sum-is (r .counts) l) ∙ eqb-true (sumTo 16 (r .counts)) (r .records) (and-left a b g);
       discards = leb-true (r .discards) (r .records) (and-right a b g);
     }
 
@@ -153,21 +152,26 @@ module _ (r : Report) (s : Settings) (h : Lent) (t : List ℕ) where
   adds : Sound r → Adds r s h t (addedTo r s h t)
   unfolding addedTo
   adds c =
-      let l = replayedIn s h t in
+      let l = arrivalsIn s h t in
       let answers = answersOf s (begun h) l in
       let discards = discardsOf s (begun h) l in
       let n = length-answers s l (begun h) in
+      let slots = length-all (r .counts) (map numberOf answers) ∙ c .slots in
       let sums = sum-at answers (r .counts) (c .slots) in
+      let was = sum-is (r .counts) (c .slots) in
+      let is = sum-is (countAll (r .counts) (map numberOf answers)) slots in
       record {
         sound =
             record {
-              slots = length-all (r .counts) (map numberOf answers) ∙ c .slots;
-              sums = omega (arith, sums, n, c .sums);
-              discards = omega (arith, yes-most discards, length-discards s l (begun h), c .discards);
+              slots = slots;
+              sums = omega (arith, sums, was, is, n, c .sums);
+              discards = omega (arith, yes-is discards, yes-most discards, length-discards s l (begun h), c .discards);
             };
         records = refl;
-        counts = counts-at answers (r .counts) (c .slots);
-        discards = refl;
+        counts = λ x.
+            subst (λ (k : ℕ). getD (countAll (r .counts) (map numberOf answers)) k 0 ≡ getD (r .counts) k 0 + timesOf x answers)
+            (place-is x) (counts-at answers (r .counts) (c .slots) x);
+        discards = ap (λ (k : ℕ). r .discards + k) (yes-is discards);
       }
 
   ends : EndFacts (replayOf s h t .world) (addedTo r s h t)
@@ -191,14 +195,14 @@ pub record AddsAll (r : Report) (l : List Job) (q : Report) : Type 0 where
   pub sound : Sound q
   pub records : q .records ≡ r .records + length (allAnswers r l)
   pub counts : (x : Answer) → countIn q x ≡ countIn r x + timesOf x (allAnswers r l)
-  pub discards : q .discards ≡ r .discards + howManyYes (allDiscards r l)
+  pub discards : q .discards ≡ r .discards + timesYes (allDiscards r l)
 
 -- one call adds what it tells
 pub record AddsOne (r : Report) (j : Job) (o : FiguresOutcome) : Type 0 where
   pub sound : Sound (o .report)
-  pub records : o .report .records ≡ r .records + length (toldBy (answersOf (j .settings) (begun (j .lent)) (replayedIn (j .settings) (j .lent) (j .trace))) (o .answer))
-  pub counts : (x : Answer) → countIn (o .report) x ≡ countIn r x + timesOf x (toldBy (answersOf (j .settings) (begun (j .lent)) (replayedIn (j .settings) (j .lent) (j .trace))) (o .answer))
-  pub discards : o .report .discards ≡ r .discards + howManyYes (toldBy (discardsOf (j .settings) (begun (j .lent)) (replayedIn (j .settings) (j .lent) (j .trace))) (o .answer))
+  pub records : o .report .records ≡ r .records + length (toldBy (answersOf (j .settings) (begun (j .lent)) (arrivalsIn (j .settings) (j .lent) (j .trace))) (o .answer))
+  pub counts : (x : Answer) → countIn (o .report) x ≡ countIn r x + timesOf x (toldBy (answersOf (j .settings) (begun (j .lent)) (arrivalsIn (j .settings) (j .lent) (j .trace))) (o .answer))
+  pub discards : o .report .discards ≡ r .discards + timesYes (toldBy (discardsOf (j .settings) (begun (j .lent)) (arrivalsIn (j .settings) (j .lent) (j .trace))) (o .answer))
 
 adds-one : (r : Report) (j : Job) → Sound r → AddsOne r j (doneBy r j)
 adds-one r j c =
@@ -212,23 +216,23 @@ adds-one r j c =
     replayed a =
         record {
           sound = a .sound;
-          records = a .records ∙ ap (λ (n : ℕ). r .records + n) (sym (length-answers (j .settings) (replayedIn (j .settings) (j .lent) (j .trace)) (begun (j .lent))));
+          records = a .records ∙ ap (λ (n : ℕ). r .records + n) (sym (length-answers (j .settings) (arrivalsIn (j .settings) (j .lent) (j .trace)) (begun (j .lent))));
           counts = a .counts;
           discards = a .discards;
         }
 
     many : AddsOne r j (figuresOutcome TooMany r (j .lent))
-    many = record { sound = c; records = omega arith; counts = λ x. unfold timesOf in omega arith; discards = unfold howManyYes in omega arith }
+    many = record { sound = c; records = omega arith; counts = λ x. unfold timesOf in omega arith; discards = unfold timesYes in omega arith }
 
 adds-all : (l : List Job) (r : Report) → Sound r → AddsAll r l (addAll r l)
-unfolding addAll allAnswers allDiscards timesOf howManyYes
+unfolding addAll allAnswers allDiscards timesOf timesYes
 adds-all [] r c = record { sound = c; records = omega arith; counts = λ x. omega arith; discards = omega arith }
 adds-all (j ∷ l) r c =
     let o = doneBy r j in
     let a = adds-one r j c in
     let b = adds-all l (o .report) (a .sound) in
-    let told = toldBy (answersOf (j .settings) (begun (j .lent)) (replayedIn (j .settings) (j .lent) (j .trace))) (o .answer) in
-    let gone = toldBy (discardsOf (j .settings) (begun (j .lent)) (replayedIn (j .settings) (j .lent) (j .trace))) (o .answer) in
+    let told = toldBy (answersOf (j .settings) (begun (j .lent)) (arrivalsIn (j .settings) (j .lent) (j .trace))) (o .answer) in
+    let gone = toldBy (discardsOf (j .settings) (begun (j .lent)) (arrivalsIn (j .settings) (j .lent) (j .trace))) (o .answer) in
     record {
       sound = b .sound;
       records = omega (arith, b .records, a .records, length-append told (allAnswers (o .report) l));
@@ -237,7 +241,7 @@ adds-all (j ∷ l) r c =
     }
 
 fresh-sound : Sound freshReport
-unfolding sumTo
+unfolding sumOf
 fresh-sound = record { slots = refl; sums = refl; discards = omega arith }
 
 pub from-fresh : From-fresh
@@ -247,6 +251,6 @@ from-fresh l =
     record {
       sound = a .sound;
       records = omega (arith, a .records);
-      counts = λ x. let n = number-range x in omega (arith, a .counts x, getD-replicate {A = ℕ} 16 (slotOf (numberOf x)) 0 0 (slot-low (numberOf x) (n .0) (n .1)));
+      counts = λ x. omega (arith, a .counts x, getD-replicate {A = ℕ} 16 (placeOf x) 0 0 (place-low x));
       discards = omega (arith, a .discards);
     }

@@ -1,5 +1,5 @@
--- What is claimed of a report (02, L14), whatever the report, the settings, the buffers and the traces. proofs/ proves each claim, in lower
--- case. Assumes nothing.
+-- What is claimed of a report (02, L14), whatever the report, the settings, the buffers and the traces: by the records before the stop and
+-- the end of the replay alone, in words of their own. proofs/ proves each claim, in lower case. Assumes nothing.
 use Prim.Native.Nat.{ℕ, _+_, _/_, _≤_, _<_}
 use mathlib.Core.Path.{_≡_}
 use mathlib.Core.Logic.{_↔_}
@@ -14,11 +14,13 @@ use Rattle.transfer.specs.Transfer.{numberOf, countOf}
 use Rattle.transfer.specs.declared.Run.{Run}
 use Rattle.transfer.specs.declared.State.the-variants.{Running}
 use Rattle.transfer.specs.declared.Answer.{Answer}
+use Rattle.transfer.specs.declared.Answer.the-variants.{BadBuffers, BadSettings, BadState, NotBlock, Container, NoFamily, NoPlace, BadPayload, BadNumbers, BadAddress, Finished, Again, Written, Completed, Noted, Kept}
 use Rattle.arrival.specs.Arrive.{Lent, World}
 use Rattle.arrival.specs.Lists.{answersOf, discardsOf}
 use Rattle.trace.specs.Trace.{begun, replayOf}
 use Rattle.trace.specs.declared.Stop.{Stop}
-use Rattle.report.specs.Report.{freshReport, sumTo, slotOf, howManyYes, replayedIn, FiguresOutcome, addOf}
+use Rattle.replays.specs.Pieces.{arrivalsTo, recordsBefore}
+use Rattle.report.specs.Report.{freshReport, FiguresOutcome, addOf}
 use Rattle.report.specs.declared.Report.{Report}
 use Rattle.report.specs.declared.Missing.{Missing}
 use Rattle.report.specs.declared.Missing.the-variants as missing
@@ -27,10 +29,15 @@ use Rattle.report.specs.declared.FiguresAnswer.the-variants.{BadReport, TooMany
 
 -- ---- a report that is handed in
 
+-- the sum of a list
+unfoldable pub sumOf : List ℕ → ℕ
+sumOf [] = 0
+sumOf (x ∷ l) = x + sumOf l
+
 -- "answer counts .. sum to its records", with no "more discards than records"; a report has 16 counts
 pub record Sound (r : Report) : Type 0 where
   pub slots : length (r .counts) ≡ 16
-  pub sums : sumTo 16 (r .counts) ≡ r .records
+  pub sums : sumOf (r .counts) ≡ r .records
   pub discards : r .discards ≤ r .records
 
 -- ---- what the calls answer
@@ -66,16 +73,44 @@ unfoldable pub timesOf : Answer → List Answer → ℕ
 timesOf x [] = 0
 timesOf x (y ∷ l) = one (eqb (numberOf x) (numberOf y)) + timesOf x l
 
+-- how often yes stands in a list
+unfoldable pub timesYes : List Bool → ℕ
+timesYes [] = 0
+timesYes (d ∷ l) = one d + timesYes l
+
+-- where the count of an answer stands: in the order of their numbers, with no place for 6
+abbrev pub placeOf : Answer → ℕ
+placeOf BadBuffers = 0
+placeOf BadSettings = 1
+placeOf BadState = 2
+placeOf NotBlock = 3
+placeOf Container = 4
+placeOf NoFamily = 5
+placeOf NoPlace = 6
+placeOf BadPayload = 7
+placeOf BadNumbers = 8
+placeOf BadAddress = 9
+placeOf Finished = 10
+placeOf Again = 11
+placeOf Written = 12
+placeOf Completed = 13
+placeOf Noted = 14
+placeOf Kept = 15
+
 -- the count of an answer in a report
 abbrev pub countIn : Report → Answer → ℕ
-countIn r x = getD (r .counts) (slotOf (numberOf x)) 0
+countIn r x = getD (r .counts) (placeOf x) 0
+
+-- the arrivals of the records before the stop
+abbrev pub arrivalsIn : Settings → Lent → List ℕ → List (List ℕ)
+arrivalsIn s h t = arrivalsTo t (recordsBefore t (replayOf s h t .stop))
 
 -- "records replayed (those before a stop), a count for each of our answers, discards"
 pub record Adds (r : Report) (s : Settings) (h : Lent) (t : List ℕ) (q : Report) : Type 0 where
   pub sound : Sound q
-  pub records : q .records ≡ r .records + length (replayedIn s h t)
-  pub counts : (x : Answer) → countIn q x ≡ countIn r x + timesOf x (answersOf s (begun h) (replayedIn s h t))
-  pub discards : q .discards ≡ r .discards + howManyYes (discardsOf s (begun h) (replayedIn s h t))
+  pub records : q .records ≡ r .records + length (arrivalsIn s h t)
+  pub counts : (x : Answer) → countIn q x ≡ countIn r x + timesOf x (answersOf s (begun h) (arrivalsIn s h t))
+  pub discards : q .discards ≡ r .discards + timesYes (discardsOf s (begun h) (arrivalsIn s h t))
 
 unfoldable pub Replay-adds : Type 0
 Replay-adds =
@@ -127,14 +162,14 @@ toldBy l (Replayed x) = l
 unfoldable pub allAnswers : Report → List Job → List Answer
 allAnswers r [] = []
 allAnswers r (j ∷ l) =
-    toldBy (answersOf (j .settings) (begun (j .lent)) (replayedIn (j .settings) (j .lent) (j .trace))) (doneBy r j .answer)
+    toldBy (answersOf (j .settings) (begun (j .lent)) (arrivalsIn (j .settings) (j .lent) (j .trace))) (doneBy r j .answer)
     ++ allAnswers (doneBy r j .report) l
 
 -- our "discarded" of each
 unfoldable pub allDiscards : Report → List Job → List Bool
 allDiscards r [] = []
 allDiscards r (j ∷ l) =
-    toldBy (discardsOf (j .settings) (begun (j .lent)) (replayedIn (j .settings) (j .lent) (j .trace))) (doneBy r j .answer)
+    toldBy (discardsOf (j .settings) (begun (j .lent)) (arrivalsIn (j .settings) (j .lent) (j .trace))) (doneBy r j .answer)
     ++ allDiscards (doneBy r j .report) l
 
 -- "Answer counts sum to the records replayed, and from a fresh, all-zero report each is the number of replayed records with that answer,
@@ -143,7 +178,7 @@ pub record Exact (l : List Job) (q : Report) : Type 0 where
   pub sound : Sound q
   pub records : q .records ≡ length (allAnswers freshReport l)
   pub counts : (x : Answer) → countIn q x ≡ timesOf x (allAnswers freshReport l)
-  pub discards : q .discards ≡ howManyYes (allDiscards freshReport l)
+  pub discards : q .discards ≡ timesYes (allDiscards freshReport l)
 
 unfoldable pub From-fresh : Type 0
 From-fresh = (l : List Job) → Exact l (addAll freshReport l)
