@@ -1,4 +1,2 @@
 pub mod Tools
 pub mod Join
-pub mod ReplayCall
-pub mod FiguresCall

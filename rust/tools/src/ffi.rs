@@ -1,4 +1,4 @@
-//! The functions of libtoolsapi.a (include/uf2_tools.h). A slice is a pointer and then a length.
+//! The functions of libtoolsapi.a and libtraceapi.a (include/uf2_tools.h). A slice is a pointer and then a length.
 
 /// A length as the library takes it (`uf2_len`): 64 bits on every machine.
 pub type Len = u64;

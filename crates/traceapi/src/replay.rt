@@ -1,7 +1,7 @@
 // The call that replays a trace. Settings and the transfer are bytes in the layout of `layout`.
 ghost use mathlib.Core.Path.{_≡_};
 ghost use Rattle.receiver.specs.Receiver.{lentAt, leftAt};
-ghost use Rattle.toolsapi.specs.ReplayCall.{
+ghost use Rattle.traceapi.specs.ReplayCall.{
   stopNumber,
   indexOver,
   withStop,

@@ -1,9 +1,9 @@
--- `toolsapi::replay::put_stop` meets its contract. Assumes nothing.
+-- `traceapi::replay::put_stop` meets its contract. Assumes nothing.
 use mathlib.Core.Path.{sym, ap, _∙_}
-use Rattle.toolsapi.specs.ReplayCall.{withStop}
+use Rattle.traceapi.specs.ReplayCall.{withStop}
 use borrow.Author.Needs.{needs}
-use Rattle.toolsapi.proofs.replay.put_stop.Statement.{statement}
-use Rattle.toolsapi.proofs.replay.put_stop.Tie as tie
+use Rattle.traceapi.proofs.replay.put_stop.Statement.{statement}
+use Rattle.traceapi.proofs.replay.put_stop.Tie as tie
 
 enum-told : tie.Need-enum-told
 enum-told c = search needs

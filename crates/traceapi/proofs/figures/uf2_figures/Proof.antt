@@ -1,9 +1,9 @@
--- `toolsapi::figures::uf2_figures` meets its contract. Assumes nothing.
+-- `traceapi::figures::uf2_figures` meets its contract. Assumes nothing.
 use Rattle.sets.proofs.Numbered.{answer-is}
-use Rattle.toolsapi.proofs.FiguresLaws.{figures-ran}
+use Rattle.traceapi.proofs.FiguresLaws.{figures-ran}
 use borrow.Author.Needs.{needs}
-use Rattle.toolsapi.proofs.figures.uf2_figures.Statement.{statement}
-use Rattle.toolsapi.proofs.figures.uf2_figures.Tie as tie
+use Rattle.traceapi.proofs.figures.uf2_figures.Statement.{statement}
+use Rattle.traceapi.proofs.figures.uf2_figures.Tie as tie
 
 read-report-requires : tie.Need-read-report-requires
 read-report-requires c κs = search needs

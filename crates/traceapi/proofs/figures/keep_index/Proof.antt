@@ -1,9 +1,9 @@
--- `toolsapi::figures::keep_index` meets its contract. Assumes nothing.
+-- `traceapi::figures::keep_index` meets its contract. Assumes nothing.
 use mathlib.Core.Path.{sym, ap, _∙_}
-use Rattle.toolsapi.specs.FiguresCall.{keptIndex}
+use Rattle.traceapi.specs.FiguresCall.{keptIndex}
 use borrow.Author.Needs.{needs}
-use Rattle.toolsapi.proofs.figures.keep_index.Statement.{statement}
-use Rattle.toolsapi.proofs.figures.keep_index.Tie as tie
+use Rattle.traceapi.proofs.figures.keep_index.Statement.{statement}
+use Rattle.traceapi.proofs.figures.keep_index.Tie as tie
 
 enum-told : tie.Need-enum-told
 enum-told c = search needs

@@ -1,10 +1,10 @@
--- `toolsapi::replay::put_index` meets its contract. Assumes nothing.
+-- `traceapi::replay::put_index` meets its contract. Assumes nothing.
 use mathlib.Core.Path.{_∙_}
 use native.Mathlib.Omega.{arith}
-use Rattle.toolsapi.proofs.ReplayLaws.{index-other, index-put}
+use Rattle.traceapi.proofs.ReplayLaws.{index-other, index-put}
 use borrow.Author.Needs.{needs}
-use Rattle.toolsapi.proofs.replay.put_index.Statement.{statement}
-use Rattle.toolsapi.proofs.replay.put_index.Tie as tie
+use Rattle.traceapi.proofs.replay.put_index.Statement.{statement}
+use Rattle.traceapi.proofs.replay.put_index.Tie as tie
 
 returns : tie.Need-returns
 returns c = index-other _ _ (λ e. omega (arith, e))

@@ -1,8 +1,8 @@
--- `toolsapi::replay::uf2_replay` meets its contract. Assumes nothing.
-use Rattle.toolsapi.proofs.ReplayLaws.{replay-ran}
+-- `traceapi::replay::uf2_replay` meets its contract. Assumes nothing.
+use Rattle.traceapi.proofs.ReplayLaws.{replay-ran}
 use borrow.Author.Needs.{needs}
-use Rattle.toolsapi.proofs.replay.uf2_replay.Statement.{statement}
-use Rattle.toolsapi.proofs.replay.uf2_replay.Tie as tie
+use Rattle.traceapi.proofs.replay.uf2_replay.Statement.{statement}
+use Rattle.traceapi.proofs.replay.uf2_replay.Tie as tie
 
 read-settings-requires : tie.Need-read-settings-requires
 read-settings-requires c κs = search needs

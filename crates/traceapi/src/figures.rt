@@ -1,7 +1,7 @@
 // The call that adds a trace to a report. The report is bytes in the layout of `reports`, settings in that of `layout`.
 ghost use mathlib.Core.Path.{_≡_};
 ghost use Rattle.receiver.specs.Receiver.{lentAt, leftAt};
-ghost use Rattle.toolsapi.specs.FiguresCall.{
+ghost use Rattle.traceapi.specs.FiguresCall.{
   figuresResult,
   keptReport,
   keptIndex,

@@ -16,7 +16,7 @@ use Rattle.receiver.specs.Receiver.{world}
 use Rattle.layout.specs.Layout.{settingsFrom, withTransfer}
 use Rattle.trace.specs.declared.TraceReceipt.{TraceReceipt}
 use Rattle.trace.specs.Trace.{traceOutcome, replayOf}
-use Rattle.toolsapi.specs.ReplayCall.{stopNumber, indexOver, withStop, replayCall, replayCallEnd, replayBytes}
+use Rattle.traceapi.specs.ReplayCall.{stopNumber, indexOver, withStop, replayCall, replayCallEnd, replayBytes}
 
 -- ---- an index
 

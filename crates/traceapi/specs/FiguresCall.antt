@@ -10,7 +10,7 @@ use Rattle.report.specs.declared.FiguresAnswer.{FiguresAnswer}
 use Rattle.report.specs.declared.FiguresAnswer.the-variants.{BadReport, TooMany, Replayed}
 use Rattle.report.specs.Report.{FiguresOutcome, addOf}
 use Rattle.reports.specs.Reports.{reportFrom, reportWritten}
-use Rattle.toolsapi.specs.ReplayCall.{stopNumber, withStop}
+use Rattle.traceapi.specs.ReplayCall.{stopNumber, withStop}
 
 -- 71, 70, or where the replay stopped: "none", "bad", "differs"
 abbrev pub figuresResult : FiguresAnswer → ℕ

@@ -1,7 +1,7 @@
--- `toolsapi::figures::keep_report` meets its contract. Assumes nothing.
+-- `traceapi::figures::keep_report` meets its contract. Assumes nothing.
 use borrow.Author.Needs.{needs}
-use Rattle.toolsapi.proofs.figures.keep_report.Statement.{statement}
-use Rattle.toolsapi.proofs.figures.keep_report.Tie as tie
+use Rattle.traceapi.proofs.figures.keep_report.Statement.{statement}
+use Rattle.traceapi.proofs.figures.keep_report.Tie as tie
 
 enum-told : tie.Need-enum-told
 enum-told c = search needs
