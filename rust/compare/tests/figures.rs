@@ -144,6 +144,11 @@ fn lists_of_traces_agree() {
                 xip: r.one_in(8),
             };
             let mut lent = Buffers::any(&mut r, sectors, ram);
+            match r.below(40) {
+                0 => lent.seen.push(0),
+                1 => lent.sectors.truncate(r.below(1_024) as usize),
+                _ => {}
+            }
             let trace = any_trace(&mut r, settings, &lent, ram);
             match both(&mut report, &settings, &trace, &mut lent) {
                 Ok(Stop::None) => stops[0] += 1,
