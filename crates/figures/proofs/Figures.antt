@@ -125,8 +125,8 @@ refused-71 r s h t l = (
 pub refused-70 : Refused-70
 unfolding Refused-70
 refused-70 r s h t l = (
-  λ e. let b = if-70 r s h t (ap figuresNumber e) in (good-sound r l (b .0), room-many r s h t (b .1)),
-  λ b. ap (λ (o : FiguresOutcome). o .answer) (is-many r s h t (sound-good r (b .0)) (many-room r s h t (b .1))),
+  λ e. let b = if-70 r s h t (ap figuresNumber e) in (good-sound r l (b .0), omega (arith, room-many r s h t (b .1))),
+  λ b. ap (λ (o : FiguresOutcome). o .answer) (is-many r s h t (sound-good r (b .0)) (many-room r s h t (omega (arith, b .1)))),
 )
 
 pub else-replayed : Else-replayed

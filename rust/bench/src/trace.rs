@@ -119,3 +119,48 @@ pub fn rows() {
     figures("a record in a report, 131,072 in order", false);
     figures("a record in a report, 131,072 shuffled", true);
 }
+
+/// A trace added to a fresh report beside the same trace replayed, both proved: each side tells twice the number of the records.
+fn beside(name: &str, shuffled: bool) {
+    if !asked(name) {
+        return;
+    }
+    let s = settings(0, [Entry::EMPTY; 16]);
+    let p = proved_settings(&s);
+    let mut reported = Buffers::filled(FLASH, 0);
+    let trace = recorded(&s, shuffled, &mut reported);
+    let mut replayed = reported.clone();
+    let work = Work {
+        rounds: ROUNDS,
+        calls: RECORDS as usize,
+        bytes: Some(trace.len()),
+    };
+    pair(
+        name,
+        work,
+        || {
+            reported.flash.fill(0);
+            timed(|| {
+                let mut report = tools::report::Report::FRESH;
+                let lent = &mut reported.lend();
+                tools::report::add(&mut report, black_box(&p), &trace, lent)
+                    .expect("a fresh report");
+                u64::from(report.records) + u64::from(report.marked)
+            })
+        },
+        || {
+            replayed.flash.fill(0);
+            timed(|| {
+                let end = tools::trace::replay(black_box(&p), &trace, &mut replayed.lend());
+                let done = matches!(end.transfer, proved::Transfer::Done { .. });
+                u64::from(done) * 2 * u64::from(RECORDS)
+            })
+        },
+    );
+    assert!(reported == replayed, "{name}: the two leave the same");
+}
+
+pub fn beside_rows() {
+    beside("a record in a report beside a replay, in order", false);
+    beside("a record in a report beside a replay, shuffled", true);
+}

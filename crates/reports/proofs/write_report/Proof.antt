@@ -44,7 +44,7 @@ loop-again c =
     let l = c .before .before .before .before .before .before .loop in
     let one =
     c .before .before .put .ensures
-    ∙ words-more (a .report) (a .bytes .now) (l .bytes) (l .k) (l .inv .1) (c .before .before .before .before .before .loop-test .taken) (l .inv .3) (c .before .before .before .word .ensures) in
+    ∙ words-more (a .report) (a .bytes .now) (l .bytes) (l .k) (l .inv .1) (omega arith) (l .inv .3) (c .before .before .before .word .ensures) in
     (omega arith, l .inv .1, words-long (a .report) (a .bytes .now) _ (l .k + 1) (l .inv .1) (omega arith) one, one)
 
 same-length : tie.Need-same-length Inv-loop μ-loop
