@@ -1,9 +1,9 @@
-/* Files made of images, digests, one Universal Hex file from two plain ones, and traces replayed, for tools on a host: every function is proved to do
- * what crates/toolsapi/specs says, for every input.
+/* Files made of images, digests, one Universal Hex file from two plain ones, traces replayed, and exact figures over them, for tools on a host:
+ * every function is proved to do what crates/toolsapi/specs and crates/traceapi/specs say, for every input.
  * What a board links is include/uf2_receiver.h.
  *
- * Built for: x86-64 Linux. `rt staticlib toolsapi` writes target/staticlib/libtoolsapi.a, which links beside libcapi.a. It calls nothing but
- * memcpy and memset, allocates nothing and keeps nothing between calls.
+ * Built for: x86-64 Linux. `rt staticlib toolsapi` writes target/staticlib/libtoolsapi.a, and `rt staticlib traceapi` libtraceapi.a, which has
+ * uf2_replay and uf2_figures. Both link beside libcapi.a; they call nothing but memcpy and memset, allocate nothing and keep nothing between calls.
  *
  * A slice is a pointer to bytes and then their number, and no function keeps a pointer. A pointer is never null, also of an empty slice, and
  * points to as many bytes as the number says; it may have any alignment. A slice that a function writes (no `const`) overlaps no other
@@ -93,6 +93,35 @@ uint32_t uf2_replay(const uint8_t *settings, uf2_len settings_len, const uint8_t
                     uf2_len flash_len, uint8_t *seen, uf2_len seen_len, uint8_t *sectors, uf2_len sectors_len, uint8_t *main,
                     uf2_len main_len, uint8_t *xip, uf2_len xip_len, uint8_t *transfer, uf2_len transfer_len, uint8_t *index,
                     uf2_len index_len);
+
+/* Exact figures over many traces, each replayed from Idle. A report is UF2_REPORT_SIZE bytes: 21 numbers of 32 bits, each with the lowest byte
+ * first. A fresh report is all zeros.
+ *    0  the records replayed, which are those before a stop
+ *    4  how many of them had each of our answers, 16 numbers: UF2_REPORT_COUNT(answer) is the offset of one
+ *   68  how many of them discarded a running transfer
+ *   72  the different numbers marked at the end of the last trace
+ *   76  1 if its transfer was running then, and so a number is missing; else 0
+ *   80  the smallest number that is missing, or 0 */
+#define UF2_REPORT_SIZE 84
+#define UF2_REPORT_RECORDS 0
+#define UF2_REPORT_COUNT(answer) (4 + 4 * ((answer) <= 5 ? (answer) - 1 : (answer) - 2))
+#define UF2_REPORT_DISCARDS 68
+#define UF2_REPORT_MARKED 72
+#define UF2_REPORT_IS_MISSING 76
+#define UF2_REPORT_MISSING 80
+
+/* Why a trace is not added. 71 is asked first. */
+enum uf2_figures_refusal {
+    UF2_FIGURES_TOO_MANY = 70,  /* the report's records and the whole pieces of the trace, replayed or not, would pass 4,294,967,295 */
+    UF2_FIGURES_BAD_REPORT = 71 /* the counts do not sum to the records, more discards than records, or another length */
+};
+
+/* Adds one trace to a report: it is replayed as uf2_replay does, and the result is where it stopped (enum uf2_stop) with its index, or a
+ * refusal, which leaves the bytes of report and index and every buffer as they were lent. */
+uint32_t uf2_figures(uint8_t *report, uf2_len report_len, const uint8_t *settings, uf2_len settings_len, const uint8_t *trace,
+                     uf2_len trace_len, uint8_t *flash, uf2_len flash_len, uint8_t *seen, uf2_len seen_len, uint8_t *sectors,
+                     uf2_len sectors_len, uint8_t *main, uf2_len main_len, uint8_t *xip, uf2_len xip_len, uint8_t *index,
+                     uf2_len index_len);
 
 #ifdef __cplusplus
 }

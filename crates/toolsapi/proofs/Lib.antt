@@ -1,3 +1,2 @@
 -- The laws of `specs/`.
 pub mod Laws
-pub mod ReplayLaws

@@ -1,3 +1,2 @@
 pub mod Tools
 pub mod Join
-pub mod ReplayCall

@@ -1,5 +1,5 @@
-// The C interface for tools on a host: files made of images, digests, one Universal Hex file from two, and traces replayed. What a board links is
-// `capi`.
+// The C interface for tools on a host: files made of images, digests, and one Universal Hex file from two. What a board links is `capi`, the
+// calls for traces are in `traceapi`.
 ghost use mathlib.Core.Path.{_≡_};
 ghost use Prim.Native.Nat.{_≤_};
 ghost use lib.ListN.{length};
@@ -12,8 +12,6 @@ use grammar::Boards;
 use joiner::Joined;
 use joiner::Refusal;
 use md5::Digest;
-
-mod replay;
 
 const DIGEST: usize = 16;
 

@@ -214,4 +214,5 @@ fn main() {
     println!("\n| work, proved | the first | the second | ratio |\n|---|---|---|---|");
     file::table_rows();
     region::beside_rows();
+    trace::beside_rows();
 }

@@ -373,6 +373,43 @@ fn replays_keep_their_bounds() {
 }
 
 #[test]
+fn reports_keep_their_bounds() {
+    let mut r = Random(37);
+    let mut added = 0;
+    for _ in 0..number() / 4 {
+        let n = r.below(8);
+        let mut c = Call::any(&mut r, n, false);
+        let trace = any_trace(&mut r, &c);
+        let trace = Twin::read(&mut r, trace);
+        let report = any_length(&mut r, vec![0; tools::report::REPORT_BYTES]);
+        let mut report = Twin::written(&mut r, report);
+        let index = any_length(&mut r, vec![9; tools::trace::INDEX_BYTES]);
+        let mut index = Twin::written(&mut r, index);
+        let beside = tools::report::add_bytes(
+            report.fenced.bytes_mut(),
+            c.settings.fenced.bytes(),
+            trace.fenced.bytes(),
+            &mut fenced(&mut c.buffers),
+            index.fenced.bytes_mut(),
+        );
+        let alone = tools::report::add_bytes(
+            &mut report.plain,
+            &c.settings.plain,
+            &trace.plain,
+            &mut plain(&mut c.buffers),
+            &mut index.plain,
+        );
+        assert_eq!(beside, alone);
+        c.check();
+        trace.check("trace");
+        report.check("report");
+        index.check("index");
+        added += usize::from(alone < 70);
+    }
+    assert!(added > number() / 20, "{added}");
+}
+
+#[test]
 fn made_files_and_digests_keep_their_bounds() {
     let mut r = Random(35);
     let mut made = 0;

@@ -7,6 +7,7 @@
 //! 02. Every function is total: no input makes it panic, and a refusal leaves
 //! what was lent as is.
 
+pub mod figures;
 pub mod hex;
 pub mod join;
 pub mod make;

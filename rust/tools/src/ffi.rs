@@ -1,4 +1,4 @@
-//! The functions of libtoolsapi.a (include/uf2_tools.h). A slice is a pointer and then a length.
+//! The functions of libtoolsapi.a and libtraceapi.a (include/uf2_tools.h). A slice is a pointer and then a length.
 
 /// A length as the library takes it (`uf2_len`): 64 bits on every machine.
 pub type Len = u64;
@@ -59,6 +59,27 @@ extern "C" {
         xip_len: Len,
         transfer: *mut u8,
         transfer_len: Len,
+        index: *mut u8,
+        index_len: Len,
+    ) -> u32;
+
+    pub fn uf2_figures(
+        report: *mut u8,
+        report_len: Len,
+        settings: *const u8,
+        settings_len: Len,
+        trace: *const u8,
+        trace_len: Len,
+        flash: *mut u8,
+        flash_len: Len,
+        seen: *mut u8,
+        seen_len: Len,
+        sectors: *mut u8,
+        sectors_len: Len,
+        main: *mut u8,
+        main_len: Len,
+        xip: *mut u8,
+        xip_len: Len,
         index: *mut u8,
         index_len: Len,
     ) -> u32;

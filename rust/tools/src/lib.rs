@@ -1,9 +1,9 @@
 //! The proved tools for Rust: safe calls of their C interface (include/uf2_tools.h).
 //!
 //! [`make`] writes the UF2 file of an image; a tool that streams asks [`check`] and writes with [`write_block`]. [`md5`] is the digest of
-//! RFC 1321. [`join`] writes one Universal Hex file from two plain Intel Hex files. [`trace::replay`] replays what a site's host sent. Nothing has to be
-//! checked before a call, nothing is allocated or kept between calls. It links
-//! `target/staticlib/libtoolsapi.a`, which `rt staticlib toolsapi` writes: code for x86-64 Linux.
+//! RFC 1321. [`join`] writes one Universal Hex file from two plain Intel Hex files. [`trace::replay`] replays what a site's host sent, and
+//! [`report::add`] adds such a trace to exact figures over many. Nothing has to be checked before a call, nothing is allocated or kept between calls. It links
+//! `libtoolsapi.a` and `libtraceapi.a` in `target/staticlib`, which `rt staticlib` writes: code for x86-64 Linux.
 //!
 //! ```
 //! let image = [7; 512];
@@ -22,6 +22,7 @@
 
 mod ffi;
 mod join;
+pub mod report;
 pub mod trace;
 
 pub use join::{join, Board, JoinRefusal, PlainRefusal, HEX_FILE_BYTES};

@@ -2,6 +2,7 @@
 
 mod arrival;
 mod comments;
+mod figures;
 mod hex;
 mod hex_file;
 mod kept;

@@ -1,0 +1,4 @@
+-- The claims proved.
+pub mod Counts
+pub mod Ends
+pub mod Figures

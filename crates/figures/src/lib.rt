@@ -1,0 +1,1 @@
+// What is claimed of a report over traces. No code: specs/ says it, proofs/ proves it.

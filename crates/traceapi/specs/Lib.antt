@@ -1,0 +1,2 @@
+pub mod ReplayCall
+pub mod FiguresCall
