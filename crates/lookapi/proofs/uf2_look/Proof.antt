@@ -1,9 +1,9 @@
--- `capi::uf2_look` meets its contract. Assumes nothing.
+-- `lookapi::uf2_look` meets its contract. Assumes nothing.
 use Rattle.sets.proofs.Numbered.{answer-is}
-use Rattle.capi.proofs.Laws.{look-ran}
+use Rattle.callbytes.proofs.Laws.{look-ran}
 use borrow.Author.Needs.{needs}
-use Rattle.capi.proofs.uf2_look.Statement.{statement}
-use Rattle.capi.proofs.uf2_look.Tie as tie
+use Rattle.lookapi.proofs.uf2_look.Statement.{statement}
+use Rattle.lookapi.proofs.uf2_look.Tie as tie
 
 read-settings-requires : tie.Need-read-settings-requires
 read-settings-requires c κs = search needs

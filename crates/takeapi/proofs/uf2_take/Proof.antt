@@ -1,9 +1,9 @@
--- `capi::uf2_take` meets its contract. Assumes nothing.
+-- `takeapi::uf2_take` meets its contract. Assumes nothing.
 use Rattle.sets.proofs.Numbered.{answer-is}
-use Rattle.capi.proofs.Laws.{take-ran}
+use Rattle.callbytes.proofs.Laws.{take-ran}
 use borrow.Author.Needs.{needs}
-use Rattle.capi.proofs.uf2_take.Statement.{statement}
-use Rattle.capi.proofs.uf2_take.Tie as tie
+use Rattle.takeapi.proofs.uf2_take.Statement.{statement}
+use Rattle.takeapi.proofs.uf2_take.Tie as tie
 
 read-settings-requires : tie.Need-read-settings-requires
 read-settings-requires c κs = search needs

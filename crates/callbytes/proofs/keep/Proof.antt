@@ -1,7 +1,7 @@
--- `capi::keep` meets its contract. Assumes nothing.
+-- `callbytes::keep` meets its contract. Assumes nothing.
 use borrow.Author.Needs.{needs}
-use Rattle.capi.proofs.keep.Statement.{statement}
-use Rattle.capi.proofs.keep.Tie as tie
+use Rattle.callbytes.proofs.keep.Statement.{statement}
+use Rattle.callbytes.proofs.keep.Tie as tie
 
 write-transfer-requires : tie.Need-write-transfer-requires
 write-transfer-requires c κs = search needs
