@@ -64,11 +64,15 @@ takeReturn n t h = arrivalCall n (now (t .exit)) h
 
 -- ---- one arrival, with a plan for the flash
 
--- the deed's number, where its sector begins and where its page does, each of 32 bits; 0 where nothing is planned
+-- three numbers of 32 bits: the deed's, where its sector begins and where its page does
+abbrev pub planWords : ℕ → ℕ → ℕ → List ℕ
+planWords d q p = (le32 d ++ le32 q) ++ le32 p
+
+-- all 0 where nothing is planned
 abbrev pub planBytes : Plan → List ℕ
-planBytes Nothing = le32 0 ++ (le32 0 ++ le32 0)
-planBytes (Program at) = le32 1 ++ (le32 (at / 4096 * 4096) ++ le32 at)
-planBytes (EraseProgram q at) = le32 2 ++ (le32 (q * 4096) ++ le32 at)
+planBytes Nothing = planWords 0 0 0
+planBytes (Program at) = planWords 1 (at / 4096 * 4096) at
+planBytes (EraseProgram q at) = planWords 2 (q * 4096) at
 
 -- what is returned, what the lent buffers hold, and the plan's 12 bytes
 pub record PlannedCall : Type 0 where
