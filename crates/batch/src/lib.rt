@@ -9,13 +9,13 @@ ghost use Rattle.receiver.specs.Receiver.{lent, lentAt, leftAt, world};
 ghost use Rattle.batch.specs.Batch.{resultOf, isAcceptance, fewer, batchLeft, batchOf};
 ghost use Rattle.batch.specs.Parts.{Knows, Judges, turnLeft, turnOf};
 use block::Block;
-use receiver::Known;
 use screen::Lengths;
 use screen::Rooms;
 use settings::Family;
 use settings::Settings;
 use transfer::Answer;
 use transfer::Transfer;
+use verdict::Known;
 
 // What arrivals come to, beside their results: how many were taken, the next transfer, and whether a block was accepted.
 pub struct Batch {
@@ -128,7 +128,7 @@ pub fn take_all(
         main: main.len(),
         xip: xip.len(),
     };
-    let right = receiver::lengths_right(Block::ARRIVAL, lens, seen.len(), sectors.len());
+    let right = verdict::lengths_right(Block::ARRIVAL, lens, seen.len(), sectors.len());
     let good = settings::good(settings, flash.len());
     let rooms = screen::rooms_for(settings, flash.len(), Family::DATA);
     let mut kept = FamilyRooms {

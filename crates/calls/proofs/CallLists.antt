@@ -46,8 +46,8 @@ use Rattle.layout.proofs.Refused.{state-length}
 use Rattle.layout.proofs.Transfers.{Small, written-back}
 use Rattle.batch.specs.Batch.{resultOf, isAcceptance, arrivalsOf, resultsOf, anyAcceptance, storedFrom, fewer, batchOf}
 use Rattle.batch.proofs.Laws.{number-most}
-use Rattle.capi.specs.Calls as capi
-use Rattle.capi.specs.Calls.{lookResult, lookBytes, takeBytes, takeBatch}
+use Rattle.callbytes.specs.Calls as calls
+use Rattle.callbytes.specs.Calls.{lookResult, lookBytes, takeBytes, takeBatch}
 use Rattle.calls.specs.CallLists.{CallerState, call, leftBy, callAll, returnsOf, worldOf, AllBytes, Calls-are-arrivals, Calls-count, Calls-end, Calls-regions, Calls-completed, Calls-same-set, Calls-either-first, Calls-stopped, Calls-are-one-call, Look-is-take, Call, looks, takes, playCalls, takenBy, Looks-change-nothing, Look-then-take}
 
 -- ---- a field of bytes
@@ -94,7 +94,7 @@ good-size t g =
 
 -- the bytes that are left are read as the next transfer
 next-state : (s : Settings) (w : World) (a p t : List ℕ) → w .transfer ≡ stateFrom t → Bytes a → {d : Decision} → DecisionFacts s w a d
-    → stateFrom (capi.keptTransfer t (isAcceptance (numberOf (done w p d .answer))) (done w p d .world .transfer)) ≡ done w p d .world .transfer
+    → stateFrom (calls.keptTransfer t (isAcceptance (numberOf (done w p d .answer))) (done w p d .world .transfer)) ≡ done w p d .world .transfer
 unfolding done acceptOf
 next-state s w a p t e h (kept x n) = rw (lt-leb 14 (numberOf x) (omega arith)) (sym e)
 next-state s w a p t e h (took g k B l q m) =
@@ -159,21 +159,21 @@ none-taken z w (a ∷ l) e =
 
 -- a call and then others: x for the call, y for a block that one of the others took
 kept-twice : (t : List ℕ) (x y : Bool) (next last : State) → (y ≡ false → last ≡ next)
-    → capi.keptTransfer (capi.keptTransfer t x next) y last ≡ capi.keptTransfer t (x || y) last
+    → calls.keptTransfer (calls.keptTransfer t x next) y last ≡ calls.keptTransfer t (x || y) last
 kept-twice t true true next last e = written-again t next last
 kept-twice t true false next last e = ap (withTransfer t) (sym (e refl))
 kept-twice t false y next last e = refl
 
 -- the calls leave the bytes of the last transfer where one of them took a block, and else what was lent
 calls-transfer : (s : List ℕ) (h : CallerState) (l : List (List ℕ)) → AllBytes l → let z = settingsFrom s in
-    callAll s h l .transfer ≡ capi.keptTransfer (h .transfer) (anyAcceptance (answersOf z (worldOf h) l)) (receiveAll z (worldOf h) l .transfer)
+    callAll s h l .transfer ≡ calls.keptTransfer (h .transfer) (anyAcceptance (answersOf z (worldOf h) l)) (receiveAll z (worldOf h) l .transfer)
 unfolding callAll receiveAll answersOf anyAcceptance takeBytes
 calls-transfer s h [] b = refl
 calls-transfer s h (a ∷ l) b =
     let z = settingsFrom s in
     let o = receiveOf z (worldOf h) a in
     calls-transfer s (leftBy (call s h a)) l (b .1)
-    ∙ ap (λ (w : World). capi.keptTransfer (call s h a .transfer) (anyAcceptance (answersOf z w l)) (receiveAll z w l .transfer)) (next-world s h a (b .0))
+    ∙ ap (λ (w : World). calls.keptTransfer (call s h a .transfer) (anyAcceptance (answersOf z w l)) (receiveAll z w l .transfer)) (next-world s h a (b .0))
     ∙ kept-twice (h .transfer) (isAcceptance (numberOf (o .answer))) _ _ _ (none-taken z (o .world) l)
 
 -- ---- from Idle, what a list leaves says whether a block was accepted
@@ -218,7 +218,7 @@ abbrev stateWith : List ℕ → World → CallerState
 stateWith t w = record { transfer = t; lent = lentOf w }
 
 abbrev leftOf : CallerState → World → CallerState
-leftOf h v = stateWith (capi.keptTransfer (h .transfer) (not (isIdle (v .transfer))) (v .transfer)) v
+leftOf h v = stateWith (calls.keptTransfer (h .transfer) (not (isIdle (v .transfer))) (v .transfer)) v
 
 calls-left : (s : List ℕ) (h : CallerState) (l : List (List ℕ)) → worldOf h .transfer ≡ Idle → AllBytes l
     → callAll s h l ≡ leftOf h (receiveAll (settingsFrom s) (worldOf h) l)
@@ -227,10 +227,10 @@ calls-left s h l i b =
     let v = receiveAll z (worldOf h) l in
     ap (stateWith (callAll s h l .transfer)) (calls-world s h l b)
     ∙ ap (λ (t : List ℕ). stateWith t v)
-    (calls-transfer s h l b ∙ ap (λ (x : Bool). capi.keptTransfer (h .transfer) x (v .transfer)) (accepted-any z (worldOf h) l i))
+    (calls-transfer s h l b ∙ ap (λ (x : Bool). calls.keptTransfer (h .transfer) x (v .transfer)) (accepted-any z (worldOf h) l i))
 
 -- the bytes of a transfer that is not Idle
-busy-bytes : (t : List ℕ) (x : State) → length t ≡ 14 → isIdle x ≡ false → capi.keptTransfer t (not (isIdle x)) x ≡ stateBytes x
+busy-bytes : (t : List ℕ) (x : State) → length t ≡ 14 → isIdle x ≡ false → calls.keptTransfer t (not (isIdle x)) x ≡ stateBytes x
 unfolding withTransfer
 busy-bytes t x e n = rw (n, eq-eqb (length t) 14 e)
 
@@ -250,7 +250,7 @@ calls-count s h F i v l t b =
     let size = good-size (h .transfer) (rw i (unfold goodState in refl)) in
     let same = calls-left s h l i b in
     let bytes : (x : State) → isIdle x ≡ false → w .transfer ≡ x → callAll s h l .transfer ≡ stateBytes x =
-    λ x n e. ap (λ (k : CallerState). k .transfer) same ∙ ap (λ (x : State). capi.keptTransfer (h .transfer) (not (isIdle x)) x) e ∙ busy-bytes (h .transfer) x size n in
+    λ x n e. ap (λ (k : CallerState). k .transfer) same ∙ ap (λ (x : State). calls.keptTransfer (h .transfer) (not (isIdle x)) x) e ∙ busy-bytes (h .transfer) x size n in
     record {
       counts = subst (Counts (worldOf h) F (seenOf F l)) (sym (calls-world s h l b)) E;
       untouched = λ m. same ∙ ap (leftOf h) (E .untouched m) ∙ rw i;

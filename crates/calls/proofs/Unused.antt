@@ -10,7 +10,8 @@ use lib.Seq.{take-nil, take-take, getD-take}
 use borrow.Author.Tests.{ltb-true}
 use Rattle.sets.proofs.Tests.{split}
 use Rattle.layout.specs.Layout.{byteAt, entryFrom, slotFrom, slotsFrom, countFrom, usedOf, settingsOf, settingsFrom}
-use Rattle.capi.specs.Calls.{askBytes, lookBytes, takeBytes, takeBatch}
+use Rattle.capi.specs.Calls.{askBytes}
+use Rattle.callbytes.specs.Calls.{lookBytes, takeBytes, takeBatch}
 use Rattle.calls.specs.Unused.{usedBytes, Unused-change-nothing, Unused-change-no-call}
 
 -- ---- parts of the bytes that agree

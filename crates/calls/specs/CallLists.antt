@@ -17,7 +17,7 @@ use Rattle.arrival.specs.Stopped.{Stopped, ForeignToBoth, EndsAlike}
 use Rattle.receiver.specs.Receiver.{world}
 use Rattle.layout.specs.Layout.{byteAt, settingsFrom, transferFrom, stateBytes}
 use Rattle.batch.specs.Batch.{arrivalsOf, resultsOf, storedFrom}
-use Rattle.capi.specs.Calls.{ArrivalCall, BatchCall, lookBytes, takeBytes, takeBatch}
+use Rattle.callbytes.specs.Calls.{ArrivalCall, BatchCall, lookBytes, takeBytes, takeBatch}
 
 -- ---- one call after the other
 

@@ -5,7 +5,8 @@ use mathlib.Core.List.{List}
 use lib.ListN.{length, take}
 use Rattle.arrival.specs.Arrive.{Lent}
 use Rattle.layout.specs.Layout.{countFrom, usedOf, settingsFrom}
-use Rattle.capi.specs.Calls.{askBytes, lookBytes, takeBytes, takeBatch}
+use Rattle.capi.specs.Calls.{askBytes}
+use Rattle.callbytes.specs.Calls.{lookBytes, takeBytes, takeBatch}
 
 -- how many bytes of settings are read: the first 6, and 33 for each used entry
 abbrev pub usedBytes : List ℕ → ℕ

@@ -2,7 +2,6 @@
 use Prim.Native.Nat.{ℕ}
 use mathlib.Core.Path.{_≡_, refl, ap, _∙_}
 use mathlib.Core.Logic.{_≢_, ⊎-elim}
-use mathlib.Core.Bool.{Bool}
 use mathlib.Core.List.{List, [], _∷_, _++_}
 use types.Run.{OneOf}
 use denote.Enum.Declared.{tagOf}
@@ -10,22 +9,15 @@ use native.Mathlib.Omega.{arith}
 use lib.ListN.{length}
 use borrow.Author.Tests.{eq-eqb, ne-eqb}
 use Rattle.settings.specs.declared.Settings.{Settings}
-use Rattle.transfer.specs.declared.Transfer.{Transfer}
 use Rattle.transfer.specs.declared.Answer.the-variants.{BadBuffers, BadSettings, NoPlace}
 use Rattle.transfer.specs.Transfer.{numberOf}
 use Rattle.place.specs.declared.PlaceAnswer.{PlaceAnswer}
 use Rattle.place.specs.declared.PlaceAnswer.the-variants as asked
 use Rattle.place.specs.Place.{askOf, placeAnswerNumber}
 use Rattle.place.proofs.PlaceAnswer.{the-type}
-use Rattle.arrival.specs.Arrive.{Lent, receiveOf, lookOf}
-use Rattle.receiver.specs.declared.Receipt.{Receipt}
-use Rattle.receiver.specs.declared.Preview.{Preview}
-use Rattle.receiver.specs.Receiver.{world, outcome, previewed}
 use Rattle.block.specs.Write.{le32}
-use Rattle.layout.specs.Layout.{settingsFrom, transferFrom}
-use Rattle.batch.specs.declared.Batch.{Batch}
-use Rattle.batch.specs.Batch.{resultOf, isAcceptance, batchLeft, batchOf}
-use Rattle.capi.specs.Calls.{PlaceCall, placeCall, placeCallOf, askBytes, arrivalCall, lookResult, lookBytes, keptTransfer, arrivalCallOf, takeBytes, batchCall, batchCallEnd, takeBatch}
+use Rattle.layout.specs.Layout.{settingsFrom}
+use Rattle.capi.specs.Calls.{PlaceCall, placeCall, placeCallOf, askBytes}
 
 -- ---- a place asked for alone
 
@@ -51,31 +43,3 @@ module _ (s : List ℕ) (len f : ℕ) (l : List ℕ) where
   pub ask-told : {z : Settings} {x : PlaceAnswer} {o : PlaceCall} → length l ≡ 8 → z ≡ settingsFrom s → x ≡ askOf z len f → o ≡ placeCallOf l x → o ≡ askBytes s len f l
   unfolding askBytes
   ask-told n hz hx ho = simp (eq-eqb (length l) 8 n) (ho ∙ ap (placeCallOf l) (hx ∙ ap (λ (z : Settings). askOf z len f) hz))
-
-module _ (s t a : List ℕ) (h : Lent) where
-  pub look-ran : {z : Settings} {u : Transfer} {r : Preview} {y : ℕ} → z ≡ settingsFrom s → u ≡ transferFrom t → previewed r ≡ lookOf z (world u h) a → y ≡ resultOf (numberOf (r .answer)) (r .discarded) → y ≡ lookBytes s t a h
-  unfolding lookBytes
-  look-ran {u = u} hz hu ho hy =
-      hy
-      ∙ ap lookResult
-      (ho
-      ∙ ap (λ (z : Settings). lookOf z (world u h) a) hz
-      ∙ ap (λ (u : Transfer). lookOf (settingsFrom s) (world u h) a) hu)
-
-  pub take-ran : {z : Settings} {u : Transfer} {r : Receipt} {g : Lent} {v : List ℕ} {y : ℕ} {b : Bool} → z ≡ settingsFrom s → u ≡ transferFrom t → outcome r g ≡ receiveOf z (world u h) a → b ≡ isAcceptance (numberOf (r .answer)) → v ≡ keptTransfer t b (r .transfer .state) → y ≡ resultOf (numberOf (r .answer)) (r .discarded) → arrivalCall y v g ≡ takeBytes s t a h
-  unfolding takeBytes
-  take-ran {u = u} hz hu ho hb hv hy =
-      let p =
-      ho
-      ∙ ap (λ (z : Settings). receiveOf z (world u h) a) hz
-      ∙ ap (λ (u : Transfer). receiveOf (settingsFrom s) (world u h) a) hu in
-      rw (hy, hv, hb) (ap (arrivalCallOf t) p)
-
-  pub batch-ran : (r : List ℕ) {z : Settings} {u : Transfer} {b : Batch} {g : Lent} {v r₁ : List ℕ} → z ≡ settingsFrom s → u ≡ transferFrom t → batchLeft b r₁ g ≡ batchOf z (world u h) a r → v ≡ keptTransfer t (b .accepted) (b .transfer .state) → batchCall (b .number) v r₁ g ≡ takeBatch s t a r h
-  unfolding takeBatch
-  batch-ran r {u = u} hz hu ho hv =
-      let p =
-      ho
-      ∙ ap (λ (z : Settings). batchOf z (world u h) a r) hz
-      ∙ ap (λ (u : Transfer). batchOf (settingsFrom s) (world u h) a r) hu in
-      rw hv (ap (batchCallEnd t) p)

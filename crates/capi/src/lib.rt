@@ -4,18 +4,8 @@ ghost use lib.ListN.{length};
 ghost use Rattle.transfer.specs.Transfer.{fresh};
 ghost use Rattle.receiver.specs.Receiver.{lentAt, leftAt};
 ghost use Rattle.layout.specs.Layout.{withTransfer};
-ghost use Rattle.capi.specs.Calls.{
-  Low,
-  placeCall,
-  placeCallOf,
-  askBytes,
-  keptTransfer,
-  lookCallOf,
-  takeCallOf,
-  takeReturn,
-  batchCallOf,
-  batchReturn,
-};
+ghost use Rattle.callbytes.specs.Calls.{batchCallOf, batchReturn};
+ghost use Rattle.capi.specs.Calls.{Low, placeCall, placeCallOf, askBytes};
 use place::PlaceAnswer;
 use transfer::Transfer;
 
@@ -59,59 +49,6 @@ pub extern "C" fn uf2_ask(settings: &[u8], flash_len: usize, family: u32, place:
     tell(place::ask(s, flash_len, family), place)
 }
 
-// The next transfer, where a block was accepted.
-fn keep(transfer: &mut [u8], accepted: bool, next: Transfer)
-    ensures { λ _. ⌜ now (transfer .exit) ≡ keptTransfer (now (transfer .entry)) accepted (next .state) ⌝ }
-{
-    if accepted {
-        layout::write_transfer(transfer, next);
-    }
-}
-
-// A look at one arrival: what `uf2_take` would return. Nothing is written.
-#[no_mangle]
-pub extern "C" fn uf2_look(
-    settings: &[u8],
-    transfer: &[u8],
-    arrival: &[u8],
-    flash: &[u8],
-    seen: &[u8],
-    sectors: &[u8],
-    main: &[u8],
-    xip: &[u8],
-) -> u32
-    ensures { λ r. ⌜ r ≡ lookCallOf settings transfer arrival (lentAt flash seen sectors main xip) ⌝ }
-{
-    let s = layout::read_settings(settings);
-    let t = layout::read_transfer(transfer);
-    let p = receiver::look(s, t, arrival, flash, seen, sectors, main, xip);
-    let answer = p.answer;
-    batch::result(answer, p.discarded) as u32
-}
-
-// One arrival is taken: the answer's number, and 128 more where a running transfer was discarded.
-#[no_mangle]
-pub extern "C" fn uf2_take(
-    settings: &[u8],
-    transfer: &mut [u8],
-    arrival: &[u8],
-    flash: &mut [u8],
-    seen: &mut [u8],
-    sectors: &mut [u8],
-    main: &mut [u8],
-    xip: &mut [u8],
-) -> u32
-    ensures { λ r. ⌜ takeReturn r transfer (leftAt flash seen sectors main xip) ≡ takeCallOf settings transfer arrival (lentAt flash seen sectors main xip) ⌝ }
-{
-    let s = layout::read_settings(settings);
-    let t = layout::read_transfer(transfer);
-    let r = receiver::take(s, t, arrival, flash, seen, sectors, main, xip);
-    let answer = r.answer;
-    let next = r.transfer;
-    keep(transfer, batch::is_acceptance(answer), next);
-    batch::result(answer, r.discarded) as u32
-}
-
 // Whole arrivals are taken one after the other, as many as there are results for: their number, and the result of each.
 #[no_mangle]
 pub extern "C" fn uf2_take_all(
@@ -131,6 +68,6 @@ pub extern "C" fn uf2_take_all(
     let t = layout::read_transfer(transfer);
     let b = batch::take_all(s, t, arrivals, results, flash, seen, sectors, main, xip);
     let next = b.transfer;
-    keep(transfer, b.accepted, next);
+    callbytes::keep(transfer, b.accepted, next);
     b.number
 }

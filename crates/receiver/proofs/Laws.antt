@@ -1,164 +1,51 @@
--- One arrival by cases, in the shape of the code's returns. Assumes nothing.
-use mathlib.Core.Path.{_≡_, sym, ap, _∙_}
-use mathlib.Core.Bool.{Bool, true, false}
+-- One arrival by what it comes to, in the shape of the code's returns. Assumes nothing.
+use mathlib.Core.Path.{_≡_, refl, sym, ap, _∙_}
+use mathlib.Core.Bool.{false}
 use mathlib.Core.List.{List}
-use Prim.Native.Nat.{ℕ, _/_}
-use lib.ListN.{length}
-use Rattle.bitmap.specs.Bitmap.{markedIn, withMark}
-use Rattle.block.specs.Block.{fieldAt, hasFlag}
-use Rattle.block.specs.Region.{regionOf}
-use Rattle.block.specs.declared.Region.{Region}
-use Rattle.region.specs.Regions.{goodRegion, standsIn}
-use Rattle.flash.specs.Flash.{eraseAt, payloadOf, storeAt}
-use Rattle.settings.specs.Settings.{goodSettings}
-use Rattle.settings.specs.declared.Settings.{Settings}
-use Rattle.place.specs.declared.Place.{Place}
-use Rattle.place.specs.declared.Place.the-variants.{Nowhere, At}
-use Rattle.transfer.specs.Transfer.{goodState, withDeed, stepOf}
-use Rattle.transfer.proofs.Laws.{stays-any, accepts-any}
-use Rattle.transfer.specs.declared.Kind.the-variants.{Flash, MainRam, XipRam}
+use Prim.Native.Nat.{ℕ}
+use Rattle.flash.specs.Flash.{payloadOf}
 use Rattle.transfer.specs.declared.Transfer.{Transfer}
-use Rattle.transfer.specs.declared.Unchanged.{Unchanged}
 use Rattle.transfer.specs.declared.Deed.{Deed}
-use Rattle.transfer.specs.declared.Deed.the-variants.{Stores}
 use Rattle.transfer.specs.declared.Accepted.{Accepted}
-use Rattle.transfer.specs.declared.Step.{Step}
-use Rattle.transfer.specs.declared.Step.the-variants.{Stays, Accepts}
 use Rattle.transfer.specs.declared.Answer.{Answer}
-use Rattle.transfer.specs.declared.Answer.the-variants.{BadBuffers, BadSettings, BadState}
-use Rattle.screen.specs.Screen.{roomsOf, screenAt}
-use Rattle.screen.specs.declared.Rooms.{Rooms}
-use Rattle.screen.specs.declared.Lengths.{Lengths}
 use Rattle.screen.specs.declared.Placed.{Placed}
-use Rattle.screen.specs.declared.Screening.the-variants.{Refused, Passed}
-use Rattle.arrival.specs.Arrive.{Held, Lent, Outcome, Decision, lengthsOf, rightLengths, standsAt, deedOf, stepped, afterScreening, clearedIf, wipedIf, preparedAt, pagedAt, atOf, doneTo, acceptOf, stays, accepts, done, forecast, forecastOf}
-use Rattle.receiver.specs.Receiver.{held, lent, world, refusal, outcome, knownOf, knownDecision, receiveKnown}
-use Rattle.receiver.specs.Parts.{flashHeld}
+use Rattle.arrival.specs.Arrive.{Lent, World, Outcome, Decision, stays, accepts, done, acceptOf, forecast, forecastOf}
+use Rattle.verdict.specs.Verdict.{knownDecision}
+use Rattle.verdict.specs.declared.Known.{Known}
+use Rattle.plan.specs.declared.Plan.{Plan}
+use Rattle.plan.specs.declared.Plan.the-variants.{Nothing}
+use Rattle.plan.specs.Plan.{decisionPlan, performed, withFlash, outcomeWith, Accepting, acceptingBy, performedOn}
+use Rattle.plan.specs.Parts.{beside, entering, enteringOf}
+use Rattle.plan.proofs.Laws.{entered, performs-by}
+use Rattle.receiver.specs.Receiver.{lent, world, refusal, outcome, receiveKnown, acceptKnown}
 use Rattle.receiver.specs.declared.Receipt.{Receipt}
-use Rattle.receiver.specs.declared.Known.{Known}
-
--- ---- a sector before a page is stored in it
-
-module _ (q : ℕ) (f k : List ℕ) where
-  pub prepared-kept : markedIn k q ≡ true → preparedAt q (flashHeld f k) ≡ f
-  unfolding preparedAt
-  prepared-kept h = rw h
-
-  pub prepared-new : markedIn k q ≡ false → preparedAt q (flashHeld f k) ≡ eraseAt f q
-  unfolding preparedAt
-  prepared-new h = rw h
-
--- ---- what is written, call by call
-
-pub stored : (at : ℕ) (p f k : List ℕ) {f1 f2 k1 : List ℕ} → f1 ≡ preparedAt (at / 4096) (flashHeld f k) → f2 ≡ storeAt f1 at p → k1 ≡ withMark k (at / 4096) → flashHeld f2 k1 ≡ pagedAt Flash at p (flashHeld f k)
-unfolding pagedAt
-stored at p f k erased put marked = rw (marked, put, erased)
-
-module _ (at : ℕ) (p f k u x : List ℕ) where
-  -- a page of flash does not ask for RAM, nor change it
-  pub paged-flash : {f1 k1 : List ℕ} → flashHeld f1 k1 ≡ pagedAt Flash at p (flashHeld f k) → held f1 k1 u x ≡ pagedAt Flash at p (held f k u x)
-  unfolding pagedAt preparedAt
-  paged-flash e = rw (ap (λ (h : Held). h .flash) e, ap (λ (h : Held). h .sectors) e)
-
-  pub paged-main : {u1 : List ℕ} → u1 ≡ storeAt u at p → held f k u1 x ≡ pagedAt MainRam at p (held f k u x)
-  unfolding pagedAt
-  paged-main e = rw e
-
-  pub paged-xip : {x1 : List ℕ} → x1 ≡ storeAt x at p → held f k u x1 ≡ pagedAt XipRam at p (held f k u x)
-  unfolding pagedAt
-  paged-xip e = rw e
-
-pub took : (p : Placed) (d : Deed) (t : Accepted) (a : List ℕ) (h : Lent) {at : ℕ} {k1 m1 m2 f2 k2 u2 x2 : List ℕ} → at ≡ atOf (p .body) → k1 ≡ clearedIf (t .clears) (h .sectors) → m1 ≡ clearedIf (t .clears) (h .seen) → held f2 k2 u2 x2 ≡ doneTo d (p .head .kind) at (payloadOf a) (held (h .flash) k1 (h .main) (h .xip)) → m2 ≡ withMark m1 (p .number) → outcome (record { transfer = t .transfer; answer = t .answer; discarded = t .discarded }) (lent f2 m2 k2 u2 x2) ≡ done (world (t .transfer) h) (payloadOf a) (accepts p d t)
-unfolding done acceptOf wipedIf
-took p d t a h at wiped cleared written marked = cc
-
--- ---- what stands
-
-module _ (f a : List ℕ) (start size : ℕ) where
-  pub stands-bare : hasFlag a 0x4000 ≡ false → false ≡ standsAt f (At start size) a
-  unfolding standsAt
-  stands-bare h = rw h
-
-  module _ (h : hasFlag a 0x4000 ≡ true) {g : Region} (e : g ≡ regionOf a) {x : ℕ} (q : x ≡ fieldAt a 12) where
-    pub stands-bad : goodRegion size x g ≡ false → false ≡ standsAt f (At start size) a
-    unfolding standsAt
-    stands-bad n = rw (h, sym e, sym q, n)
-
-    pub stands-good : goodRegion size x g ≡ true → {r : Bool} → r ≡ standsIn f start g → r ≡ standsAt f (At start size) a
-    unfolding standsAt
-    stands-good n r = r ∙ rw (h, sym e, sym q, n)
-
-pub stands-nowhere : (f a : List ℕ) {p : Place} → p ≡ Nowhere → false ≡ standsAt f p a
-unfolding standsAt
-stands-nowhere f a e = rw e
-
--- ---- rows 12 to 17
-
-module _ (t : Transfer) (p : Placed) (seen : List ℕ) (kept : Bool) {m : Bool} (e : m ≡ markedIn seen (p .number)) where
-  -- what stays, stays whatever the flash has
-  pub settled-stays : {s : Step} → s ≡ stepOf (t .state) (p .head) m Stores → {x : Unchanged} → s ≡ Stays x
-      → stays (x .answer) ≡ afterScreening (t .state) seen kept (Passed p)
-  unfolding afterScreening
-  settled-stays q w =
-      let z : stepOf (t .state) (p .head) (markedIn seen (p .number)) (deedOf kept p) ≡ Stays _ =
-      ap (λ (b : Bool). stepOf (t .state) (p .head) b (deedOf kept p)) (sym e) ∙ stays-any (t .state) (p .head) m Stores (deedOf kept p) (sym q ∙ w) in
-      rw z
-
-  -- and what is accepted is accepted
-  pub settled-accepts : {s : Step} → s ≡ stepOf (t .state) (p .head) m Stores → {y : Accepted} → s ≡ Accepts y → {d : Deed} → d ≡ deedOf kept p → {z : Accepted} → z ≡ withDeed d y
-      → accepts p d z ≡ afterScreening (t .state) seen kept (Passed p)
-  unfolding afterScreening
-  settled-accepts q {y} w f g =
-      let v : stepOf (t .state) (p .head) (markedIn seen (p .number)) (deedOf kept p) ≡ Accepts (withDeed (deedOf kept p) y) =
-      ap (λ (b : Bool). stepOf (t .state) (p .head) b (deedOf kept p)) (sym e) ∙ accepts-any (t .state) (p .head) m (deedOf kept p) (sym q ∙ w) in
-      rw (v, g, f)
-
--- ---- every row
-
--- what the settings and the lengths say, call by call
-pub all-known : (s : Settings) (n : Lengths) (m k : ℕ) (a : List ℕ) {right good : Bool} {f : ℕ} {r : Rooms} → right ≡ rightLengths (length a) n m k → good ≡ goodSettings s (n .flash) → f ≡ fieldAt a 28 → r ≡ roomsOf s (n .flash) f → record { right = right; good = good; rooms = r } ≡ knownOf s n m k a
-all-known s n m k a hl hg hf hr = rw (hl, hg, hr, hf)
 
 module _ (known : Known) (t : Transfer) (a : List ℕ) (h : Lent) where
-  abbrev sizes : Lengths
-  sizes = lengthsOf (world t h .held)
-
-  pub judge-lengths : known .right ≡ false → stays BadBuffers ≡ knownDecision known (world t h) a
-  unfolding knownDecision
-  judge-lengths l = rw l
-
-  module _ (l : known .right ≡ true) where
-    pub judge-settings : known .good ≡ false → stays BadSettings ≡ knownDecision known (world t h) a
-    unfolding knownDecision
-    judge-settings g = rw (l, g)
-
-    module _ (g : known .good ≡ true) where
-      pub judge-state : goodState (t .state) ≡ false → stays BadState ≡ knownDecision known (world t h) a
-      unfolding knownDecision
-      judge-state n = rw (l, g, n)
-
-      module _ (n : goodState (t .state) ≡ true) where
-        pub judge-refused : {x : Answer} → screenAt (known .rooms) sizes (t .state) a ≡ Refused x → stays x ≡ knownDecision known (world t h) a
-        unfolding knownDecision afterScreening
-        judge-refused q = rw (l, g, n, q)
-
-        pub judge-passed : {d : Decision} {p : Placed} → screenAt (known .rooms) sizes (t .state) a ≡ Passed p → d ≡ afterScreening (t .state) (h .seen) (standsAt (h .flash) (known .rooms .flash) a) (Passed p) → d ≡ knownDecision known (world t h) a
-        unfolding knownDecision
-        judge-passed q y = rw (l, g, n, q) y
-
-  -- what is said and what is done
   module _ {d : Decision} (k : d ≡ knownDecision known (world t h) a) where
+    -- what is said
     pub look-stays : {x : Answer} → d ≡ stays x → forecast x false ≡ forecastOf (knownDecision known (world t h) a)
     look-stays e = ap forecastOf (sym e ∙ k)
 
     pub look-accepts : {p : Placed} {e : Deed} {y : Accepted} → d ≡ accepts p e y → forecast (y .answer) (y .discarded) ≡ forecastOf (knownDecision known (world t h) a)
     look-accepts q = ap forecastOf (sym q ∙ k)
 
-    pub take-stays : {o : Receipt} {x : Answer} → d ≡ stays x → o ≡ refusal t x → outcome o h ≡ receiveKnown known (world t h) a
-    unfolding receiveKnown done
-    take-stays e y = ap (λ (o : Receipt). outcome o h) y ∙ ap (done (world t h) (payloadOf a)) (sym e ∙ k)
+    -- what is accepted
+    pub accept-stays : {o : Receipt} {x : Answer} → d ≡ stays x → o ≡ refusal t x → record { outcome = outcome o h; plan = Nothing } ≡ acceptKnown known (world t h) a
+    unfolding acceptKnown acceptingBy done
+    accept-stays e y = ap (λ (o : Receipt). record { outcome = outcome o h; plan = Nothing }) y ∙ ap (acceptingBy (world t h) a) (sym e ∙ k)
 
-    -- what is accepted does not look at the transfer that was
-    pub take-accepts : {o : Outcome} {p : Placed} {e : Deed} {y : Accepted} (u : Transfer) → d ≡ accepts p e y → o ≡ done (world u h) (payloadOf a) (accepts p e y) → o ≡ receiveKnown known (world t h) a
-    unfolding receiveKnown done acceptOf
-    take-accepts u q y = y ∙ ap (done (world t h) (payloadOf a)) (sym q ∙ k)
+    pub accept-accepts : {p : Placed} {e : Deed} {y : Accepted} → d ≡ accepts p e y → {r : Plan} {m s u x : List ℕ} → entering r m (beside s u x) ≡ enteringOf p e y (payloadOf a) (h .seen) (beside (h .sectors) (h .main) (h .xip)) → record { outcome = outcome (record { transfer = y .transfer; answer = y .answer; discarded = y .discarded }) (lent (h .flash) m s u x); plan = r } ≡ acceptKnown known (world t h) a
+    unfolding acceptKnown acceptingBy done
+    accept-accepts {p} {e} {y} q {r} en =
+        let z = entered p e y (payloadOf a) (world t h) en in
+        ap (λ (v : World). record { outcome = record { world = v; answer = y .answer; discarded = y .discarded }; plan = r }) (z .1)
+        ∙ ap (λ (b : Plan). record { outcome = record { world = withFlash (h .flash) (acceptOf (world t h) (payloadOf a) p e y); answer = y .answer; discarded = y .discarded }; plan = b }) (z .0)
+        ∙ ap (acceptingBy (world t h) a) (sym q ∙ k)
+
+  -- what is accepted and performed is taken
+  pub performed-taken : {o : Receipt} {r : Plan} {m s u x f : List ℕ} → record { outcome = outcome o (lent (h .flash) m s u x); plan = r } ≡ acceptKnown known (world t h) a → f ≡ performed r (payloadOf a) (h .flash) → outcome o (lent f m s u x) ≡ receiveKnown known (world t h) a
+  unfolding acceptKnown receiveKnown
+  performed-taken {o} {r} {m} {s} {u} {x} e p =
+      ap (λ (f : List ℕ). outcome o (lent f m s u x)) p
+      ∙ ap (performedOn (world t h) a) e
+      ∙ performs-by (world t h) a (knownDecision known (world t h) a)

@@ -1,2 +1,1 @@
 pub mod Receiver
-pub mod Parts

@@ -1,26 +1,17 @@
 -- `receiver::accept` meets its contract. Assumes nothing.
-use Rattle.receiver.proofs.Laws.{took}
+use mathlib.Core.Path.{ap, _∙_}
+use Rattle.sets.specs.Numbered.{numbered}
+use Rattle.plan.specs.Plan.{acceptingNumber}
+use Rattle.receiver.proofs.KnownLaws.{accept-is}
 use borrow.Author.Needs.{needs}
 use Rattle.receiver.proofs.accept.Statement.{statement}
 use Rattle.receiver.proofs.accept.Tie as tie
 
-cast-number : tie.Need-cast-number
-cast-number c = search needs
+known-of-requires : tie.Need-known-of-requires
+known-of-requires c κs = search needs
 
-page-at-requires : tie.Need-page-at-requires
-page-at-requires c κs = search needs
-
-clear-if-requires : tie.Need-clear-if-requires
-clear-if-requires c κs = search needs
-
-clear-if-requires-2 : tie.Need-clear-if-requires-2
-clear-if-requires-2 c κs = search needs
-
-write-requires : tie.Need-write-requires
-write-requires c κs = search needs
-
-mark-requires : tie.Need-mark-requires
-mark-requires c κs = search needs
+accept-known-requires : tie.Need-accept-known-requires
+accept-known-requires c κs = search needs
 
 same-length : tie.Need-same-length
 same-length c = search needs
@@ -34,30 +25,17 @@ same-length-3 c = search needs
 same-length-4 : tie.Need-same-length-4
 same-length-4 c = search needs
 
-same-length-5 : tie.Need-same-length-5
-same-length-5 c = search needs
-
 returns : tie.Need-returns
-returns c =
-    let marked = c .before .before in
-    let written = marked .before .before .before .before .before .before .before .before .before .before in
-    let cleared = written .before .before .before .before .before .before .before in
-    let wiped = cleared .before .before .before .before in
-    took _ _ _ _ _ (wiped .before .before .before .page-at .ensures) (wiped .clear-if .ensures) (cleared .clear-if2 .ensures) (written .write .ensures) (marked .mark .ensures)
+returns c = ap (numbered acceptingNumber) (c .before .before .before .before .before .before .before .before .accept-known .ensures ∙ accept-is _ _ _ (c .before .before .before .before .before .before .before .before .before .before .before .before .before .known-of .ensures))
 
 pub accept-spec : {M : Type 1} → statement M
 accept-spec =
     tie.close
     (tie.spec
-    cast-number
-    page-at-requires
-    clear-if-requires
-    clear-if-requires-2
-    write-requires
-    mark-requires
+    known-of-requires
+    accept-known-requires
     same-length
     same-length-2
     same-length-3
     same-length-4
-    same-length-5
     returns)

@@ -2,7 +2,8 @@
 use mathlib.Core.Path.{ap, _∙_}
 use Rattle.sets.specs.Numbered.{numbered}
 use Rattle.arrival.specs.Arrive.{forecastNumber}
-use Rattle.receiver.specs.Receiver.{decision}
+use Rattle.sets.proofs.Numbered.{answer-is}
+use Rattle.verdict.specs.Verdict.{decision}
 use Rattle.receiver.proofs.Laws.{look-stays, look-accepts}
 use Rattle.receiver.proofs.KnownLaws.{look-is}
 use borrow.Author.Needs.{needs}
@@ -25,13 +26,13 @@ returns : tie.Need-returns
 returns c =
     let d = c .before .before .before in
     let known = look-is _ _ _ (d .before .known-of .ensures) in
-    ap (numbered forecastNumber) (look-stays _ _ _ _ (d .judge .ensures) (ap decision (c .before .verdict .given .1)) ∙ known)
+    ap (numbered forecastNumber) (look-stays _ _ _ _ (answer-is (d .judge .ensures)) (ap decision (c .before .verdict .given .1)) ∙ known)
 
 returns-2 : tie.Need-returns-2
 returns-2 c =
     let d = c .before .before .before .before in
     let known = look-is _ _ _ (d .before .known-of .ensures) in
-    ap (numbered forecastNumber) (look-accepts _ _ _ _ (d .judge .ensures) (ap decision (c .before .before .verdict2 .given .1)) ∙ known)
+    ap (numbered forecastNumber) (look-accepts _ _ _ _ (answer-is (d .judge .ensures)) (ap decision (c .before .before .verdict2 .given .1)) ∙ known)
 
 pub look-spec : {M : Type 1} → statement M
 look-spec =

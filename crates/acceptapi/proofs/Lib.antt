@@ -1,0 +1,2 @@
+-- A plan's numbers fit, and are written.
+pub mod Laws
