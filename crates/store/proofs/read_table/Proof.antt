@@ -1,0 +1,90 @@
+-- `store::read_table` meets its contract. Assumes nothing.
+use Prim.Native.Nat.{_-_, _≤_}
+use mathlib.Core.Path.{_≡_, ap, _∙_}
+use native.Mathlib.Omega.{arith}
+use Rattle.store.specs.Store.{entryOf, tableOf}
+use Rattle.store.proofs.Tables.{Read, read-none, read-more, read-table}
+use Rattle.store.proofs.Rows.{entry-at}
+use borrow.Author.Needs.{needs}
+use Rattle.store.proofs.read_table.Statement.{statement}
+use Rattle.store.proofs.read_table.Tie as tie
+
+abbrev Inv-loop : tie.InvT-loop
+Inv-loop s n table₀ k₀ table k = (k ≤ n) × Read (entryOf s) k table
+
+abbrev μ-loop : tie.MeasureT-loop
+μ-loop s n table₀ k₀ table k = n - k
+
+blank-requires : tie.Need-blank-requires Inv-loop μ-loop
+blank-requires c κs = search needs
+
+loop-holds : tie.Need-loop-holds Inv-loop μ-loop
+loop-holds c = (omega arith, read-none _ (c .blank .ensures))
+
+mul-a : tie.Need-mul-a Inv-loop μ-loop
+mul-a c = search needs
+
+add-a : tie.Need-add-a Inv-loop μ-loop
+add-a c = search needs
+
+add-z : tie.Need-add-z Inv-loop μ-loop
+add-z c = search needs
+
+sub-unpack : tie.Need-sub-unpack Inv-loop μ-loop
+sub-unpack c = search needs
+
+part-unpack-start : tie.Need-part-unpack-start Inv-loop μ-loop
+part-unpack-start c = search needs
+
+part-unpack-end : tie.Need-part-unpack-end Inv-loop μ-loop
+part-unpack-end c = search needs
+
+unpack-requires : tie.Need-unpack-requires Inv-loop μ-loop
+unpack-requires c κs = search needs
+
+mul-table : tie.Need-mul-table Inv-loop μ-loop
+mul-table c = search needs
+
+array-set-from-table : tie.Need-array-set-from-table Inv-loop μ-loop
+array-set-from-table c = search needs
+
+add-k : tie.Need-add-k Inv-loop μ-loop
+add-k c = search needs
+
+loop-less : tie.Need-loop-less Inv-loop μ-loop
+loop-less c = search needs
+
+loop-again : tie.Need-loop-again Inv-loop μ-loop
+loop-again c =
+    let s = c .before .before .before .before .before .before .args .s .now in
+    let l = c .before .before .before .loop in
+    (omega arith, read-more (entryOf s) (l .k) (l .table) (omega arith) (l .inv .1) (entry-at s (l .k) (c .unpack .ensures)))
+
+returns : tie.Need-returns Inv-loop μ-loop
+returns c =
+    let a = c .before .before .before .before .args in
+    let l = c .before .loop in
+    let e : l .k ≡ a .n = omega arith in
+    read-table (entryOf (a .s .now)) (l .k) (l .table) (l .inv .1) ∙ ap (tableOf (entryOf (a .s .now))) e
+
+pub read-table-spec : {M : Type 1} → statement M
+read-table-spec =
+    tie.close
+    (tie.spec
+    Inv-loop
+    μ-loop
+    blank-requires
+    loop-holds
+    mul-a
+    add-a
+    add-z
+    sub-unpack
+    part-unpack-start
+    part-unpack-end
+    unpack-requires
+    mul-table
+    array-set-from-table
+    add-k
+    loop-less
+    loop-again
+    returns)
