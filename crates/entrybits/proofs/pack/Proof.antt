@@ -77,7 +77,7 @@ returns : tie.Need-returns
 returns c =
     let start = c .before .before .before .before .before .before .before .before .before .before .before .before .before .before .before .before .before .before .before in
     c .bytes-of .ensures
-    ∙ entry-joined (start .args .e) (start .args .no-restart) _ _ _ _ _ _ _ _ _ _ _ _ _ _ _
+    ∙ entry-joined (start .args .e) _ _ _ _ _ _ _ _ _ _ _ _ _ _ _
     (c .before .before .before .before .before .before .before .before .before .before .before .before .before .lead .ensures .0) (c .before .before .before .before .before .before .marks .ensures .0) (c .before .before .before .before .before .before .before .before .before .before .before .before .before .before .before .kind-of .ensures .0) (ap (λ (k : ℕ). k % 16) (c .before .before .before .before .before .before .before .before .before .before .before .before .before .before .index-of .ensures))
     (c .before .before .before .before .before .before .before .before .before .before .before .before .bit-of .ensures .0) (c .before .before .before .before .before .before .before .before .before .before .before .bit-of2 .ensures .0) (c .before .before .before .before .before .before .before .before .before .before .bit-of3 .ensures .0) (c .before .before .before .before .before .before .before .before .before .bit-of4 .ensures .0) (c .before .before .before .before .before .before .before .before .bit-of5 .ensures .0) (c .before .before .before .before .before .before .before .bit-of6 .ensures .0)
     (c .before .before .before .before .before .slot-of .ensures) (c .before .before .before .before .slot-of2 .ensures) (c .before .before .before .slot-of3 .ensures) (c .before .before .slot-of4 .ensures) (c .before .bit-of7 .ensures .0)
