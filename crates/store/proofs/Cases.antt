@@ -1,7 +1,7 @@
 -- Each case of `writeOf` and `readOf`, from the facts that lead to it. Assumes nothing.
 use mathlib.Core.Path.{_≡_, sym, ap, _∙_}
 use mathlib.Core.Logic.{_≢_}
-use mathlib.Core.Bool.{Bool, true, false, cond, not, _||_, and-true, true≢false}
+use mathlib.Core.Bool.{Bool, true, false, cond, not, _&&_, _||_, true≢false}
 use mathlib.Core.List.{List, [], _∷_}
 use Prim.Native.Nat.{ℕ, _+_, _*_, _/_, _%_, _<_, _≤_}
 use native.Mathlib.Omega.{arith}
@@ -14,11 +14,11 @@ use Rattle.flash.specs.Flash.{flashLength}
 use Rattle.settings.specs.declared.Entry.{Entry}
 use Rattle.settings.specs.declared.Settings.{Settings}
 use Rattle.settings.specs.Settings.{goodSettings}
+use Rattle.settings.specs.Table.{tableOf}
 use Rattle.packing.specs.Packing.{total, packed, unpacked, octets, fieldsOf}
 use Rattle.store.specs.declared.StoreAnswer.the-variants.{BadBuffers, BadSettings, BadVersion, BadLength, BadBits, Good}
 use Rattle.store.specs.declared.Reading.{Reading}
-use Rattle.store.specs.Store.{headWidths, storeOf, headIn, tableOf, entryOf, settingsOf, settingsIn, strayAt, straysIn, refusal, found, readHead, readOf, writeCall, writeOf}
-use Rattle.store.proofs.Tables.{none-restarts}
+use Rattle.store.specs.Store.{restartAt, headWidths, storeOf, headIn, entryOf, settingsOf, settingsIn, strayAt, straysIn, refusal, found, readHead, readOf, writeCall, writeOf}
 
 -- a test whose denial decides
 pub is-off : (a : Bool) {b : Bool} → a ≡ b → not a ≡ true → b ≡ false
@@ -89,11 +89,11 @@ module _ (b : List ℕ) (len x : ℕ) where
       unfolding readHead unpacked total
       read-41 h = rw (r, le-ltb 16 (x / 128 % 32) s, ne-eqb (length b) (2 + 22 * (x / 128 % 32)) h)
 
-      module _ (w : length b ≡ 2 + 22 * (x / 128 % 32)) {y : Bool} (k : y ≡ any (x / 128 % 32) (strayAt b (x / 4096 % 16))) where
-        strays : straysIn (unpacked headWidths x) b ≡ not (eqb (x / 1 % 4) 0) || y || eqb (x / 4096 % 16) 2
+      module _ (w : length b ≡ 2 + 22 * (x / 128 % 32)) {table : List Entry} (ht : table ≡ tableOf (entryOf b) (x / 128 % 32)) {y v : Bool}
+          (k : y ≡ any (x / 128 % 32) (strayAt b (x / 4096 % 16))) (m : v ≡ any (x / 128 % 32) (restartAt table)) where
+        strays : straysIn (unpacked headWidths x) b ≡ not (eqb (x / 1 % 4) 0) || y || eqb (x / 4096 % 16) 2 && not v
         unfolding straysIn unpacked total
-        strays =
-            rw (← k, none-restarts (tableOf (entryOf b) (x / 128 % 32)) (x / 128 % 32), and-true (eqb (x / 4096 % 16) 2))
+        strays = rw (k, m, ht)
 
         reach : readHead (unpacked headWidths x) b len
             ≡ cond (straysIn (unpacked headWidths x) b) (refusal BadBits)
@@ -101,11 +101,10 @@ module _ (b : List ℕ) (len x : ℕ) where
         unfolding readHead unpacked total
         reach = rw (r, le-ltb 16 (x / 128 % 32) s, eq-eqb (length b) (2 + 22 * (x / 128 % 32)) w)
 
-        pub read-42 : not (eqb (x / 1 % 4) 0) || y || eqb (x / 4096 % 16) 2 ≡ true → refusal BadBits ≡ readHead (unpacked headWidths x) b len
+        pub read-42 : not (eqb (x / 1 % 4) 0) || y || eqb (x / 4096 % 16) 2 && not v ≡ true → refusal BadBits ≡ readHead (unpacked headWidths x) b len
         read-42 h = sym (reach ∙ rw (strays, h))
 
-        module _ (u : not (eqb (x / 1 % 4) 0) || y || eqb (x / 4096 % 16) 2 ≡ false) {z : Settings} {table : List Entry} (hz : z ≡ settingsOf (unpacked headWidths x) table)
-            (ht : table ≡ tableOf (entryOf b) (x / 128 % 32)) where
+        module _ (u : not (eqb (x / 1 % 4) 0) || y || eqb (x / 4096 % 16) 2 && not v ≡ false) {z : Settings} (hz : z ≡ settingsOf (unpacked headWidths x) table) where
           whole : settingsIn (unpacked headWidths x) b ≡ z
           unfolding settingsIn unpacked total
           whole = sym (hz ∙ rw ht)

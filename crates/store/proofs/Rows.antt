@@ -1,11 +1,12 @@
 -- What is written: the head's two bytes, and the rows after it. Assumes nothing.
 use Prim.Native.Nat.{ℕ, _+_, _-_, _*_, _/_, _%_, _≤_}
 use mathlib.Core.Path.{_≡_, refl, sym, ap, _∙_}
-use mathlib.Core.Bool.{Bool, false}
+use mathlib.Core.Bool.{Bool, true, false}
 use mathlib.Core.List.{List, [], _∷_, _++_}
 use native.Mathlib.Omega.{arith}
 use lib.ListN.{length, take, drop, set, take-append-drop}
 use borrow.Rule.Slice.PartMut.{putMid}
+use Rattle.sets.specs.Sets.{any}
 use Rattle.sets.specs.Over.{over}
 use Rattle.sets.specs.Rows.{rows}
 use Rattle.sets.proofs.OverLaws.{length-over, set-over, over-next, copied-over}
@@ -13,14 +14,15 @@ use Rattle.sets.proofs.RowsLaws.{rows-none, rows-more, length-rows}
 use Rattle.settings.specs.declared.Entry.{Entry}
 use Rattle.settings.specs.declared.Settings.{Settings}
 use Rattle.settings.specs.Settings.{entryAt}
-use Rattle.packing.specs.Packing.{total, packed, unpacked, octets, bytesOf}
+use Rattle.packing.specs.Packing.{total, packed, unpacked, octets, bytesOf, bit}
 use Rattle.entrybits.specs.EntryBits.{packedEntry, entryIn, strayIn}
-use Rattle.store.specs.Store.{versionOf, headWidths, headFields, rowAt, storeOf, entryOf, strayAt}
-use Rattle.store.proofs.Tables.{none-restarts}
+use Rattle.store.specs.Store.{restartAt, versionOf, headWidths, headFields, rowAt, storeOf, entryOf, strayAt}
 
-pub version-one : (s : Settings) → versionOf s ≡ 1
+-- the version, as the code has it
+pub version-is : (s : Settings) (b : Bool) → b ≡ any (s .count) (restartAt (s .table)) → versionOf s ≡ 1 + bit b
 unfolding versionOf
-version-one s = rw (none-restarts (s .table) (s .count))
+version-is s true e = rw (← e)
+version-is s false e = rw (← e)
 
 -- ---- the rows
 
@@ -28,9 +30,9 @@ pub length-row : (t : List Entry) (k : ℕ) → length (rowAt t k) ≡ 22
 unfolding rowAt packedEntry bytesOf unpacked octets
 length-row t k = refl
 
-row-is : (t : List Entry) (k : ℕ) {e : Entry} {r : List ℕ} → e ≡ entryAt t k → r ≡ packedEntry e false → r ≡ rowAt t k
+row-is : (t : List Entry) (k : ℕ) {e : Entry} {r : List ℕ} → e ≡ entryAt t k → r ≡ packedEntry e → r ≡ rowAt t k
 unfolding rowAt
-row-is t k {e} {r} h q = q ∙ ap (λ (x : Entry). packedEntry x false) h
+row-is t k {e} {r} h q = q ∙ ap packedEntry h
 
 pub rows-first : (out : List ℕ) (t : List Entry) → 2 ≤ length out → out ≡ over out 2 (rows (rowAt t) 0)
 unfolding over
@@ -44,7 +46,7 @@ module _ (out₀ : List ℕ) (t : List Entry) where
 
   -- one row more, copied into the part that was lent
   pub rows-next : (out ys r : List ℕ) (k : ℕ) {e : Entry} → 2 + 22 * (k + 1) ≤ length out₀ → out ≡ over out₀ 2 (rows (rowAt t) k)
-      → e ≡ entryAt t k → r ≡ packedEntry e false
+      → e ≡ entryAt t k → r ≡ packedEntry e
       → ys ≡ take (length r) r ++ drop (length r) (take (2 + 22 * k + 22 - (2 + 22 * k)) (drop (2 + 22 * k) out))
       → putMid (2 + 22 * k) (2 + 22 * k + 22 - (2 + 22 * k)) out ys ≡ over out₀ 2 (rows (rowAt t) (k + 1))
   rows-next out ys r k {e} room s he hr hy =

@@ -1,5 +1,5 @@
 -- The packed store of settings (02, L5). Assumes nothing.
-use Prim.Native.Nat.{ℕ, zero, suc, _+_, _*_}
+use Prim.Native.Nat.{ℕ, _+_, _*_}
 use mathlib.Core.Bool.{Bool, true, false, _&&_, _||_, cond, not}
 use mathlib.Core.List.{List, [], _∷_, _++_}
 use lib.ListN.{length, getD, take, drop, replicate}
@@ -13,20 +13,18 @@ use Rattle.settings.specs.declared.Arch.the-variants.{Arm, RiscV}
 use Rattle.settings.specs.declared.Entry.{Entry}
 use Rattle.settings.specs.declared.Settings.{Settings}
 use Rattle.settings.specs.Settings.{entryAt, blankEntry, goodSettings}
+use Rattle.settings.specs.Table.{tableOf}
 use Rattle.packing.specs.Packing.{bytesOf, fieldsOf, bit, on}
-use Rattle.entrybits.specs.EntryBits.{packedEntry, entryIn, strayIn, neatEntry}
+use Rattle.entrybits.specs.EntryBits.{packedEntry, entryIn, strayIn}
 use Rattle.store.specs.declared.StoreAnswer.{StoreAnswer}
 use Rattle.store.specs.declared.StoreAnswer.the-variants.{BadBuffers, BadSettings, BadVersion, BadLength, BadBits, Good}
 use Rattle.store.specs.declared.Reading.{Reading}
 
 -- ---- written
 
--- "don't restart" of an entry, which it does not have yet
-abbrev pub restartOf : Entry → Bool
-restartOf e = false
-
+-- entry k has "don't restart"
 unfoldable pub restartAt : List Entry → ℕ → Bool
-restartAt table k = restartOf (entryAt table k)
+restartAt table k = entryAt table k .«no_restart»
 
 -- "version 2 is used exactly if some used entry has it"
 unfoldable pub versionOf : Settings → ℕ
@@ -46,7 +44,7 @@ headFields s =
 
 -- the bytes of entry k
 unfoldable pub rowAt : List Entry → ℕ → List ℕ
-rowAt table k = packedEntry (entryAt table k) (restartOf (entryAt table k))
+rowAt table k = packedEntry (entryAt table k)
 
 -- the head, and then the used entries
 unfoldable pub storeOf : Settings → List ℕ
@@ -61,17 +59,7 @@ headIn b = fieldsOf headWidths 2 (take 2 b)
 abbrev pub partIn : List ℕ → ℕ → List ℕ
 partIn b k = take 22 (drop (2 + 22 * k) b)
 
--- a table of 16 entries of which the first n are those of f, and the others blank: "unused .. entries .. are zero, also in settings read"
-unfoldable pub slotOf : (ℕ → Entry) → ℕ → ℕ → Entry
-slotOf f n k = cond (ltb k n) (f k) blankEntry
-
-unfoldable pub slotsOf : (ℕ → Entry) → ℕ → ℕ → ℕ → List Entry
-slotsOf f n k zero = []
-slotsOf f n k (suc m) = slotOf f n k ∷ slotsOf f n (k + 1) m
-
-abbrev pub tableOf : (ℕ → Entry) → ℕ → List Entry
-tableOf f n = slotsOf f n 0 16
-
+-- entry k
 unfoldable pub entryOf : List ℕ → ℕ → Entry
 entryOf b k = entryIn (partIn b k)
 
@@ -92,6 +80,7 @@ settingsOf h table =
       count = getD h 1 0;
     }
 
+-- "Unused .. entries .. are zero, also in settings read": `tableOf` has them blank
 unfoldable pub settingsIn : List ℕ → List ℕ → Settings
 settingsIn h b = settingsOf h (tableOf (entryOf b) (getD h 1 0))
 
@@ -168,21 +157,3 @@ writeOf s len out =
     (cond (not (goodSettings s len)) (writeCall BadSettings out)
     (cond (ltb (length out) (2 + 22 * s .count)) (writeCall BadLength out)
     (writeCall Good (over out 0 (storeOf s)))))
-
--- ---- compared
-
-unfoldable pub neatAt : List Entry → ℕ → Entry
-neatAt table k = neatEntry (entryAt table k)
-
--- settings in which unused entries and slots are zero
-unfoldable pub neat : Settings → Settings
-neat s =
-    record {
-      table = tableOf (neatAt (s .table)) (s .count);
-      arm = s .arm;
-      riscv = s .riscv;
-      current = s .current;
-      «auto_switch» = s .«auto_switch»;
-      absolute = s .absolute;
-      count = s .count;
-    }

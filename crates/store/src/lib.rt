@@ -6,21 +6,19 @@ ghost use Rattle.sets.specs.Sets.{any};
 ghost use Rattle.sets.specs.Over.{over};
 ghost use Rattle.sets.specs.Rows.{rows};
 ghost use Rattle.packing.specs.Packing.{packed, unpacked, bit};
-ghost use Rattle.settings.specs.Settings.{goodSettings};
+ghost use Rattle.settings.specs.Table.{tableOf};
 ghost use Rattle.store.specs.Store.{
   headWidths,
   archBit,
   headFields,
+  restartAt,
   rowAt,
   storeOf,
   headIn,
-  tableOf,
   entryOf,
   archFrom,
   settingsOf,
-  settingsIn,
   strayAt,
-  straysIn,
   refusal,
   readHead,
   readOf,
@@ -82,9 +80,23 @@ fn arch_bit(a: Arch) -> u64
     }
 }
 
+// Has one of the first n entries "don't restart"?
+fn any_restart(table: [Entry; 16], n: usize) -> bool
+    requires { ⌜ n ≤ 16 ⌝ }
+    ensures { λ r. ⌜ r ≡ any n (restartAt table) ⌝ }
+{
+    let mut found = false;
+    let mut k: usize = 0;
+    while k < n {
+        found = found | table[k].no_restart;
+        k += 1;
+    }
+    found
+}
+
 // The head as one number.
-fn head_of(s: Settings) -> u64
-    requires { ⌜ s .count ≤ 16 ⌝ }
+fn head_of(s: Settings, restart: bool) -> u64
+    requires { ⌜ (s .count ≤ 16) × (restart ≡ any (s .count) (restartAt (s .table))) ⌝ }
     ensures { λ r. ⌜ (r ≡ packed headWidths (headFields s)) × (r < 65536) ⌝ }
 {
     let current = s.current;
@@ -94,7 +106,8 @@ fn head_of(s: Settings) -> u64
     let d = bit_of(s.riscv);
     let e = arch_bit(current);
     let n = s.count as u64;
-    4096 + n * 128 + a * 64 + b * 32 + c * 16 + d * 8 + e * 4
+    let version = 1 + bit_of(restart);
+    version * 4096 + n * 128 + a * 64 + b * 32 + c * 16 + d * 8 + e * 4
 }
 
 // Writes the used entries, from byte 2 on.
@@ -105,7 +118,7 @@ fn write_rows(out: &mut [u8], table: [Entry; 16], n: usize)
     let mut k: usize = 0;
     while k < n {
         let e = table[k];
-        let row = entrybits::pack(e, false);
+        let row = entrybits::pack(e);
         let a = HEAD + ENTRY * k;
         let z = a + ENTRY;
         bytes::copy(&row, &mut out[a..z]);
@@ -117,9 +130,9 @@ fn put_store(out: &mut [u8], s: Settings)
     requires { ⌜ (s .count ≤ 16) × (2 + 22 * s .count ≤ length (now out)) ⌝ }
     ensures { λ _. ⌜ now (out .exit) ≡ over (now (out .entry)) 0 (storeOf s) ⌝ }
 {
-    let x = head_of(s);
     let table = s.table;
     let n = s.count as usize;
+    let x = head_of(s, any_restart(table, n));
     out[0] = (x / 256 % 256) as u8;
     out[1] = (x / 1 % 256) as u8;
     write_rows(out, table, n);
@@ -237,10 +250,11 @@ fn read_head(b: &[u8], x: u64, flash_len: usize) -> Reading
     if b.len() != HEAD + ENTRY * n {
         return refuse(StoreAnswer::BadLength);
     }
-    if !(x / 1 % 4 == 0) | any_stray(b, version, n) | (version == 2) {
+    let table = read_table(b, n);
+    if !(x / 1 % 4 == 0) | any_stray(b, version, n) | ((version == 2) & !any_restart(table, n)) {
         return refuse(StoreAnswer::BadBits);
     }
-    let settings = settings_of(x, read_table(b, n));
+    let settings = settings_of(x, table);
     if !settings::good(settings, flash_len) {
         return refuse(StoreAnswer::BadSettings);
     }

@@ -4,7 +4,7 @@ use mathlib.Core.Path.{_≡_, ap, _∙_}
 use native.Mathlib.Omega.{arith}
 use Rattle.sets.specs.Sets.{any}
 use Rattle.store.specs.Store.{strayAt}
-use Rattle.store.proofs.Tables.{any-first, any-next}
+use Rattle.store.proofs.Searches.{any-first, any-next}
 use Rattle.store.proofs.Rows.{stray-at}
 use borrow.Author.Needs.{needs}
 use Rattle.store.proofs.any_stray.Statement.{statement}

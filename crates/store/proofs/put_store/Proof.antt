@@ -7,11 +7,14 @@ use borrow.Author.Needs.{needs}
 use Rattle.store.proofs.put_store.Statement.{statement}
 use Rattle.store.proofs.put_store.Tie as tie
 
-head-of-requires : tie.Need-head-of-requires
-head-of-requires c κs = search needs
-
 cast-n : tie.Need-cast-n
 cast-n c = search needs
+
+any-restart-requires : tie.Need-any-restart-requires
+any-restart-requires c κs = search needs
+
+head-of-requires : tie.Need-head-of-requires
+head-of-requires c κs = search needs
 
 cast-out : tie.Need-cast-out
 cast-out c = search needs
@@ -33,15 +36,16 @@ same-length c = c .before .before .write-rows .kept .0 ∙ simp length-set
 
 returns : tie.Need-returns
 returns c =
-    let start = c .before .before .before .before .before .before .before .before in
-    c .before .before .write-rows .ensures ∙ head-put (start .args .s) (start .args .out .now) _ (start .pre .1) (c .before .before .before .before .before .before .head-of .ensures .0)
+    let start = c .before .before .before .before .before .before .before .before .before in
+    c .before .before .write-rows .ensures ∙ head-put (start .args .s) (start .args .out .now) _ (start .pre .1) (c .before .before .before .before .head-of .ensures .0)
 
 pub put-store-spec : {M : Type 1} → statement M
 put-store-spec =
     tie.close
     (tie.spec
-    head-of-requires
     cast-n
+    any-restart-requires
+    head-of-requires
     cast-out
     slice-write-out
     cast-out-2

@@ -13,13 +13,17 @@ refuse-requires : tie.Need-refuse-requires
 refuse-requires c κs = search needs
 
 returns : tie.Need-returns
-returns c = c .refuse .ensures ∙ read-40 (c .before .before .before .args .b .now) (c .before .before .before .args .flash-len) (c .before .before .before .args .x) (c .before .if1 .taken)
+returns c =
+    let a = c .before .before .before .args in
+    c .refuse .ensures ∙ read-40 (a .b .now) (a .flash-len) (a .x) (c .before .if1 .taken)
 
 refuse-requires-2 : tie.Need-refuse-requires-2
 refuse-requires-2 c κs = search needs
 
 returns-2 : tie.Need-returns-2
-returns-2 c = c .refuse2 .ensures ∙ read-many (c .before .before .before .before .args .b .now) (c .before .before .before .before .args .flash-len) (c .before .before .before .before .args .x) (c .before .before .if1 .left) (omega arith)
+returns-2 c =
+    let a = c .before .before .before .before .args in
+    c .refuse2 .ensures ∙ read-many (a .b .now) (a .flash-len) (a .x) (c .before .before .if1 .left) (omega arith)
 
 mul-if3 : tie.Need-mul-if3
 mul-if3 c = search needs
@@ -31,19 +35,27 @@ refuse-requires-3 : tie.Need-refuse-requires-3
 refuse-requires-3 c κs = search needs
 
 returns-3 : tie.Need-returns-3
-returns-3 c = c .refuse3 .ensures ∙ read-41 (c .before .before .before .before .before .args .b .now) (c .before .before .before .before .before .args .flash-len) (c .before .before .before .before .before .args .x) (c .before .before .before .if1 .left) (omega arith) (λ e. omega (arith, e))
+returns-3 c =
+    let a = c .before .before .before .before .before .args in
+    c .refuse3 .ensures ∙ read-41 (a .b .now) (a .flash-len) (a .x) (c .before .before .before .if1 .left) (omega arith) (λ e. omega (arith, e))
+
+read-table-requires : tie.Need-read-table-requires
+read-table-requires c κs = search needs
 
 any-stray-requires : tie.Need-any-stray-requires
 any-stray-requires c κs = search needs
+
+any-restart-requires : tie.Need-any-restart-requires
+any-restart-requires c κs = search needs
 
 refuse-requires-4 : tie.Need-refuse-requires-4
 refuse-requires-4 c κs = search needs
 
 returns-4 : tie.Need-returns-4
-returns-4 c = c .refuse4 .ensures ∙ read-42 (c .before .before .before .before .before .before .before .args .b .now) (c .before .before .before .before .before .before .before .args .flash-len) (c .before .before .before .before .before .before .before .args .x) (c .before .before .before .before .before .if1 .left) (omega arith) (omega arith) (c .before .before .any-stray .ensures) (c .before .if4 .taken)
-
-read-table-requires : tie.Need-read-table-requires
-read-table-requires c κs = search needs
+returns-4 c =
+    let a = c .before .before .before .before .before .before .before .before .before .args in
+    c .refuse4 .ensures
+    ∙ read-42 (a .b .now) (a .flash-len) (a .x) (c .before .before .before .before .before .before .before .if1 .left) (omega arith) (omega arith) (c .before .before .before .before .read-table .ensures) (c .before .before .before .any-stray .ensures) (c .before .before .any-restart .ensures) (c .before .if4 .taken)
 
 settings-of-requires : tie.Need-settings-of-requires
 settings-of-requires c κs = search needs
@@ -55,10 +67,15 @@ refuse-requires-5 : tie.Need-refuse-requires-5
 refuse-requires-5 c κs = search needs
 
 returns-5 : tie.Need-returns-5
-returns-5 c = c .refuse5 .ensures ∙ read-2 (c .before .before .before .before .before .before .before .before .before .before .before .args .b .now) (c .before .before .before .before .before .before .before .before .before .before .before .args .flash-len) (c .before .before .before .before .before .before .before .before .before .before .before .args .x) (c .before .before .before .before .before .before .before .before .before .if1 .left) (omega arith) (omega arith) (c .before .before .before .before .before .before .any-stray .ensures) (c .before .before .before .before .before .if4 .left) (c .before .before .before .settings-of .ensures) (c .before .before .before .before .read-table .ensures) (is-off _ (c .before .before .good2 .ensures) (c .before .if5 .taken))
+returns-5 c =
+    let a = c .before .before .before .before .before .before .before .before .before .before .before .before .args in
+    c .refuse5 .ensures
+    ∙ read-2 (a .b .now) (a .flash-len) (a .x) (c .before .before .before .before .before .before .before .before .before .before .if1 .left) (omega arith) (omega arith) (c .before .before .before .before .before .before .before .read-table .ensures) (c .before .before .before .before .before .before .any-stray .ensures) (c .before .before .before .before .before .any-restart .ensures) (c .before .before .before .before .if4 .left) (c .before .before .before .settings-of .ensures) (is-off _ (c .before .before .good2 .ensures) (c .before .if5 .taken))
 
 returns-6 : tie.Need-returns-6
-returns-6 c = read-good (c .before .before .before .before .before .before .before .before .before .before .args .b .now) (c .before .before .before .before .before .before .before .before .before .before .args .flash-len) (c .before .before .before .before .before .before .before .before .before .before .args .x) (c .before .before .before .before .before .before .before .before .if1 .left) (omega arith) (omega arith) (c .before .before .before .before .before .any-stray .ensures) (c .before .before .before .before .if4 .left) (c .before .before .settings-of .ensures) (c .before .before .before .read-table .ensures) (is-on _ (c .before .good2 .ensures) (c .if5 .left))
+returns-6 c =
+    let a = c .before .before .before .before .before .before .before .before .before .before .before .args in
+    read-good (a .b .now) (a .flash-len) (a .x) (c .before .before .before .before .before .before .before .before .before .if1 .left) (omega arith) (omega arith) (c .before .before .before .before .before .before .read-table .ensures) (c .before .before .before .before .before .any-stray .ensures) (c .before .before .before .before .any-restart .ensures) (c .before .before .before .if4 .left) (c .before .before .settings-of .ensures) (is-on _ (c .before .good2 .ensures) (c .if5 .left))
 
 pub read-head-spec : {M : Type 1} → statement M
 read-head-spec =
@@ -73,10 +90,11 @@ read-head-spec =
     add-if3
     refuse-requires-3
     returns-3
+    read-table-requires
     any-stray-requires
+    any-restart-requires
     refuse-requires-4
     returns-4
-    read-table-requires
     settings-of-requires
     good-requires
     refuse-requires-5

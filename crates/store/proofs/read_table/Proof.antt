@@ -2,15 +2,16 @@
 use Prim.Native.Nat.{_-_, _≤_}
 use mathlib.Core.Path.{_≡_, ap, _∙_}
 use native.Mathlib.Omega.{arith}
-use Rattle.store.specs.Store.{entryOf, tableOf}
-use Rattle.store.proofs.Tables.{Read, read-none, read-more, read-table}
+use Rattle.settings.specs.Table.{tableOf}
+use Rattle.settings.proofs.Tables.{Filled, filled-none, filled-more, filled-table}
+use Rattle.store.specs.Store.{entryOf}
 use Rattle.store.proofs.Rows.{entry-at}
 use borrow.Author.Needs.{needs}
 use Rattle.store.proofs.read_table.Statement.{statement}
 use Rattle.store.proofs.read_table.Tie as tie
 
 abbrev Inv-loop : tie.InvT-loop
-Inv-loop s n table₀ k₀ table k = (k ≤ n) × Read (entryOf s) k table
+Inv-loop s n table₀ k₀ table k = (k ≤ n) × Filled (entryOf s) k table
 
 abbrev μ-loop : tie.MeasureT-loop
 μ-loop s n table₀ k₀ table k = n - k
@@ -19,7 +20,7 @@ blank-requires : tie.Need-blank-requires Inv-loop μ-loop
 blank-requires c κs = search needs
 
 loop-holds : tie.Need-loop-holds Inv-loop μ-loop
-loop-holds c = (omega arith, read-none _ (c .blank .ensures))
+loop-holds c = (omega arith, filled-none _ (c .blank .ensures))
 
 mul-a : tie.Need-mul-a Inv-loop μ-loop
 mul-a c = search needs
@@ -58,14 +59,14 @@ loop-again : tie.Need-loop-again Inv-loop μ-loop
 loop-again c =
     let s = c .before .before .before .before .before .before .args .s .now in
     let l = c .before .before .before .loop in
-    (omega arith, read-more (entryOf s) (l .k) (l .table) (omega arith) (l .inv .1) (entry-at s (l .k) (c .unpack .ensures)))
+    (omega arith, filled-more (entryOf s) (l .k) (l .table) (omega arith) (l .inv .1) (entry-at s (l .k) (c .unpack .ensures)))
 
 returns : tie.Need-returns Inv-loop μ-loop
 returns c =
     let a = c .before .before .before .before .args in
     let l = c .before .loop in
     let e : l .k ≡ a .n = omega arith in
-    read-table (entryOf (a .s .now)) (l .k) (l .table) (l .inv .1) ∙ ap (tableOf (entryOf (a .s .now))) e
+    filled-table (entryOf (a .s .now)) (l .k) (l .table) (l .inv .1) ∙ ap (tableOf (entryOf (a .s .now))) e
 
 pub read-table-spec : {M : Type 1} → statement M
 read-table-spec =

@@ -1,18 +1,18 @@
--- A store that is written and read gives the settings back, their unused entries and slots zero. Assumes nothing.
+-- A store that is written and read gives the settings back in their canonical form. Assumes nothing.
 use mathlib.Core.Path.{_≡_, refl, sym, ap, _∙_}
-use Rattle.store.specs.declared.Reading.{Reading}
-use mathlib.Core.Bool.{Bool, cond, true, false, not, _&&_, _||_}
+use mathlib.Core.Bool.{true, false, not, _&&_, _||_}
 use mathlib.Core.List.{List, _++_}
 use Prim.Native.Nat.{ℕ, _+_, _*_, _%_, _<_, _≤_}
 use native.Mathlib.Omega.{arith}
-use lib.Dec.{ltb, leb, eqb}
-use lib.ListN.{length, take, drop, length-append, getD}
+use lib.Dec.{leb, eqb}
+use lib.ListN.{length, take, drop, length-append}
 use lib.Seq.{take-at, drop-at, drop-drop}
 use borrow.Author.Tests.{le-ltb, eq-eqb, eqb-false, leb-true, leb-false, ltb-false}
+use Rattle.sets.specs.Sets.{any}
 use Rattle.sets.specs.Rows.{rows}
-use Rattle.sets.proofs.Tests.{or-left, or-right, and-right}
-use Rattle.sets.proofs.Laws.{any-none}
-use Rattle.sets.proofs.RowsLaws.{rows-cong, length-rows, part-rows}
+use Rattle.sets.proofs.Tests.{split, or-left, or-right, and-right}
+use Rattle.sets.proofs.Laws.{any-none, any-all, any-cong}
+use Rattle.sets.proofs.RowsLaws.{length-rows, part-rows}
 use Rattle.flash.specs.Flash.{flashLength}
 use Rattle.settings.specs.declared.Arch.{Arch}
 use Rattle.settings.specs.declared.Arch.the-variants.{Arm, RiscV}
@@ -21,18 +21,19 @@ use Rattle.settings.specs.declared.Link.the-variants.{Unlinked, OwnedBy, BOf}
 use Rattle.settings.specs.declared.Entry.{Entry}
 use Rattle.settings.specs.declared.Settings.{Settings}
 use Rattle.settings.specs.Settings.{linkIsNone, linkTarget, entryAt, noSectors, runsPast, sharesSector, linksUp, linksToB, manyUsers, reservedUser, badEntry, goodSettings}
+use Rattle.settings.specs.Table.{tableOf}
 use Rattle.settings.proofs.Laws.{good-count, good-entry, good-fits, good-off}
+use Rattle.settings.proofs.Tables.{table-at, table-cong}
 use Rattle.packing.specs.Packing.{total, unpacked, octets, bytesOf, fieldsOf, Fit, none, one, on}
 use Rattle.packing.proofs.Widths.{fields-bytes, bit-lt, on-bit}
-use Rattle.entrybits.specs.EntryBits.{indexOf, entryWidths, entryFields, packedEntry, entryIn, strayIn, slot, neatEntry}
+use Rattle.entrybits.specs.EntryBits.{indexOf, entryWidths, entryFields, packedEntry, entryIn, strayIn, neatEntry}
 use Rattle.entrybits.proofs.ReadBack.{even}
 use Rattle.entrybits.proofs.OneEntry.{entry-back as fields-back}
 use Rattle.entrybits.proofs.OneEntry.{Fits, entry-fit, entry-neat}
-use Rattle.store.specs.Store.{archBit, archFrom, entryOf, found, headFields, headIn, headWidths, neat, neatAt, noSettings, partIn, readHead, readOf, rowAt, settingsIn, storeOf, strayAt, straysIn, tableOf, versionOf}
-use Rattle.store.specs.Claims.{Narrow, Written-reads-back, One-encoding, No-settings-are-bad}
-use Rattle.store.proofs.Tables.{table-at, table-cong}
-use Rattle.store.proofs.Rows.{version-one, length-row}
-use Rattle.store.proofs.Neat.{good-neat}
+use Rattle.store.specs.Store.{archBit, archFrom, entryOf, found, headFields, headIn, headWidths, noSettings, partIn, readHead, readOf, restartAt, rowAt, settingsIn, storeOf, strayAt, straysIn, versionOf}
+use Rattle.store.proofs.Rows.{length-row}
+use Rattle.encoding.specs.Claims.{Narrow, neat, neatAt, Written-reads-back, No-settings-are-bad}
+use Rattle.encoding.proofs.Compared.{Few, good-neat}
 
 -- ---- the entries of good settings fit
 
@@ -65,6 +66,30 @@ module _ (s : Settings) (len : ℕ) (right : flashLength len ≡ true) (good : g
       let up = or-right (noSectors e || runsPast len e || sharesSector t (s .count) k) (linksUp t k) h4 in
       record { first = omega arith; sectors = omega arith; index = index-low (e .link) k (omega arith) up; users = users }
 
+pub good-few : (s : Settings) (len : ℕ) → flashLength len ≡ true → goodSettings s len ≡ true → Few s
+good-few s len right good = record { entries = good-count s len good; users = λ k l. good-fields s len right good k l .users }
+
+-- ---- the version
+
+module _ (s : Settings) where
+  version-known : eqb (versionOf s) 1 || eqb (versionOf s) 2 ≡ true
+  unfolding versionOf
+  version-known = split (any (s .count) (restartAt (s .table))) (λ e. rw e) (λ e. rw e)
+
+  version-low : versionOf s < 16
+  unfolding versionOf
+  version-low = split (any (s .count) (restartAt (s .table))) (λ e. rw e (omega arith)) (λ e. rw e (omega arith))
+
+  -- in version 1 no used entry has "don't restart"
+  version-old : versionOf s ≡ 1 → any (s .count) (restartAt (s .table)) ≡ false
+  unfolding versionOf
+  version-old v = split (any (s .count) (restartAt (s .table))) (λ e. let z : _≡_ {A = ℕ} 2 1 = rw e at v in absurd (omega arith)) (λ e. e)
+
+  -- version 2 is not needless
+  version-needed : eqb (versionOf s) 2 && not (any (s .count) (restartAt (s .table))) ≡ false
+  unfolding versionOf
+  version-needed = split (any (s .count) (restartAt (s .table))) (λ e. rw e) (λ e. rw e)
+
 -- ---- the bytes, part by part
 
 pub head-even : total headWidths ≡ total (octets 2)
@@ -89,7 +114,7 @@ module _ (s : Settings) (few : s .count ≤ 16) (fits : (k : ℕ) → k < s .cou
   head-fit : Fit headWidths (headFields s)
   unfolding headFields
   head-fit =
-      one {w = 4} {v = versionOf s} (rw (version-one s) (omega arith)) (one {w = 5} {v = s .count} (omega arith) (one {w = 1} (bit-lt (s .«auto_switch»)) (one {w = 1} (bit-lt (s .absolute)) (one {w = 1} (bit-lt (s .arm)) (one {w = 1} (bit-lt (s .riscv)) (one {w = 1} (arch-lt (s .current)) (one {w = 2} {v = 0} (omega arith) none)))))))
+      one {w = 4} {v = versionOf s} (version-low s) (one {w = 5} {v = s .count} (omega arith) (one {w = 1} (bit-lt (s .«auto_switch»)) (one {w = 1} (bit-lt (s .absolute)) (one {w = 1} (bit-lt (s .arm)) (one {w = 1} (bit-lt (s .riscv)) (one {w = 1} (arch-lt (s .current)) (one {w = 2} {v = 0} (omega arith) none)))))))
 
   head-length : length head ≡ 2
   unfolding bytesOf unpacked octets
@@ -112,19 +137,28 @@ module _ (s : Settings) (few : s .count ≤ 16) (fits : (k : ℕ) → k < s .cou
       ap (take 22) (sym (drop-drop (22 * k) 2 (head ++ tail)) ∙ ap (drop (22 * k)) (drop-at head tail 2 head-length))
       ∙ part-rows 22 (s .count) (rowAt (s .table)) (λ j m. length-row (s .table) j) (s .count) k (omega arith) l
 
-  row-fields : (k : ℕ) → fieldsOf entryWidths 22 (rowAt (s .table) k) ≡ entryFields (entryAt (s .table) k) false
+  row-fields : (k : ℕ) → k < s .count → fieldsOf entryWidths 22 (rowAt (s .table) k) ≡ entryFields (entryAt (s .table) k)
   unfolding rowAt packedEntry
-  row-fields k = fields-bytes entryWidths 22 even (entry-fit (entryAt (s .table) k) false (narrow k))
+  row-fields k l = fields-bytes entryWidths 22 even (entry-fit (entryAt (s .table) k) (λ i. narrow k i l))
 
   entry-back : (k : ℕ) → k < s .count → entryOf (storeOf s) k ≡ neatAt (s .table) k
   unfolding entryOf entryIn neatAt
   entry-back k l =
-      rw (part-back k l, eq-eqb (length (rowAt (s .table) k)) 22 (length-row (s .table) k), row-fields k) (fields-back (entryAt (s .table) k) false (fits k l))
+      rw (part-back k l, eq-eqb (length (rowAt (s .table) k)) 22 (length-row (s .table) k), row-fields k l) (fields-back (entryAt (s .table) k) (fits k l))
 
-  stray-back : (k : ℕ) → k < s .count → strayAt (storeOf s) 1 k ≡ false
+  old-entry : versionOf s ≡ 1 → (k : ℕ) → k < s .count → entryAt (s .table) k .«no_restart» ≡ false
+  unfolding restartAt
+  old-entry v k l = any-all (restartAt (s .table)) (s .count) (version-old s v) k l
+
+  stray-back : (k : ℕ) → k < s .count → strayAt (storeOf s) (versionOf s) k ≡ false
   unfolding strayAt strayIn
   stray-back k l =
-      rw (part-back k l, eq-eqb (length (rowAt (s .table) k)) 22 (length-row (s .table) k), row-fields k) (entry-neat 1 (entryAt (s .table) k) false (fits k l .users) (λ e. refl))
+      rw (part-back k l, eq-eqb (length (rowAt (s .table) k)) 22 (length-row (s .table) k), row-fields k l)
+      (entry-neat (versionOf s) (entryAt (s .table) k) (fits k l .users) (λ v. old-entry v k l))
+
+  restart-back : (k : ℕ) → k < s .count → restartAt (tableOf (entryOf (storeOf s)) (s .count)) k ≡ restartAt (s .table) k
+  unfolding restartAt neatAt neatEntry
+  restart-back k l = ap (λ (e : Entry). e .«no_restart») (table-at (entryOf (storeOf s)) (s .count) k few l ∙ entry-back k l)
 
   settings-back : settingsIn (headFields s) (storeOf s) ≡ neat s
   unfolding settingsIn headFields neat
@@ -140,59 +174,23 @@ module _ (s : Settings) (few : s .count ≤ 16) (fits : (k : ℕ) → k < s .cou
 
   none-stray : straysIn (headFields s) (storeOf s) ≡ false
   unfolding straysIn headFields
-  none-stray = rw (version-one s, any-none (strayAt (storeOf s) 1) (s .count) stray-back)
-
-  version-known : eqb (versionOf s) 1 || eqb (versionOf s) 2 ≡ true
-  version-known = rw (version-one s)
+  none-stray =
+      rw (
+        any-none (strayAt (storeOf s) (versionOf s)) (s .count) stray-back,
+        any-cong (s .count) (restartAt (tableOf (entryOf (storeOf s)) (s .count))) (restartAt (s .table)) restart-back,
+      )
+      (version-needed s)
 
   read-back : (len : ℕ) → flashLength len ≡ true → goodSettings (neat s) len ≡ true → readOf (storeOf s) len ≡ found (neat s)
   unfolding readOf readHead headFields
   read-back len p q =
       let short = le-ltb (length (storeOf s)) 2 (omega (arith, store-length)) in
       rw (p, short, head-back)
-      (rw (version-known, le-ltb 16 (s .count) few, eq-eqb (length (storeOf s)) (2 + 22 * s .count) store-length, none-stray) (rw (settings-back, q) refl))
+      (rw (version-known s, le-ltb 16 (s .count) few, eq-eqb (length (storeOf s)) (2 + 22 * s .count) store-length, none-stray) (rw (settings-back, q) refl))
 
 pub written-reads-back : Written-reads-back
 written-reads-back s len right good narrow =
-    let few = good-count s len good in
-    read-back s few (good-fields s len right good) narrow len right (good-neat s len few ∙ good)
-
--- ---- one encoding
-
-slot-slot : (c : Bool) (x : ℕ) → cond c (cond c x 0) 0 ≡ cond c x 0
-slot-slot true x = refl
-slot-slot false x = refl
-
-packed-neat : (t : List Entry) (k : ℕ) → packedEntry (neatAt t k) false ≡ packedEntry (entryAt t k) false
-unfolding neatAt neatEntry packedEntry entryFields slot
-packed-neat t k =
-    let e = entryAt t k in
-    rw (
-      slot-slot (ltb 0 (e .«user_count»)) (getD (e .users) 0 0),
-      slot-slot (ltb 1 (e .«user_count»)) (getD (e .users) 1 0),
-      slot-slot (ltb 2 (e .«user_count»)) (getD (e .users) 2 0),
-      slot-slot (ltb 3 (e .«user_count»)) (getD (e .users) 3 0),
-    )
-
--- what is written does not see what is unused
-row-neat : (t : List Entry) (n k : ℕ) → n ≤ 16 → k < n → rowAt (tableOf (neatAt t) n) k ≡ rowAt t k
-unfolding rowAt
-row-neat t n k few l = rw (table-at (neatAt t) n k few l) (packed-neat t k)
-
-store-neat : (s : Settings) → s .count ≤ 16 → storeOf (neat s) ≡ storeOf s
-unfolding storeOf neat headFields
-store-neat s few =
-    rw (
-      version-one (neat s),
-      version-one s,
-      rows-cong (rowAt (tableOf (neatAt (s .table)) (s .count))) (rowAt (s .table)) (s .count) (λ k l. row-neat (s .table) (s .count) k few l),
-    )
-
-pub one-encoding : One-encoding
-one-encoding s t len right gs gt ns nt = (
-  λ e. ap (λ (r : Reading). r .settings) (sym (written-reads-back s len right gs ns) ∙ ap (λ (b : List ℕ). readOf b len) e ∙ written-reads-back t len right gt nt),
-  λ e. sym (store-neat s (good-count s len gs)) ∙ ap storeOf e ∙ store-neat t (good-count t len gt),
-)
+    read-back s (good-count s len good) (good-fields s len right good) narrow len right (good-neat s len (good-few s len right good) ∙ good)
 
 pub no-settings-are-bad : No-settings-are-bad
 no-settings-are-bad len = good-off noSettings len refl
