@@ -252,13 +252,13 @@ module _ (b : List ℕ) (low : Bytes b) (known : not (eqb (getD (headIn b) 0 0) 
 -- ---- the claims
 
 -- what is known where settings are read
-record Found (b : List ℕ) (len : ℕ) (s : Settings) : Type 0 where
-  right : flashLength len ≡ true
-  good : goodSettings s len ≡ true
-  encoded : storeOf s ≡ b
-  narrow : Narrow s
+pub record Found (b : List ℕ) (len : ℕ) (s : Settings) : Type 0 where
+  pub right : flashLength len ≡ true
+  pub good : goodSettings s len ≡ true
+  pub encoded : storeOf s ≡ b
+  pub narrow : Narrow s
 
-read-found : (b : List ℕ) (len : ℕ) (s : Settings) → Bytes b → readOf b len ≡ found s → Found b len s
+pub read-found : (b : List ℕ) (len : ℕ) (s : Settings) → Bytes b → readOf b len ≡ found s → Found b len s
 unfolding readOf readHead
 read-found b len s low e =
     let h = headIn b in

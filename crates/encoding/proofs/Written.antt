@@ -123,7 +123,7 @@ module _ (s : Settings) (few : s .count ≤ 16) (fits : (k : ℕ) → k < s .cou
   tail-length : length tail ≡ 22 * s .count
   tail-length = length-rows 22 (s .count) (rowAt (s .table)) (λ j l. length-row (s .table) j) (s .count) (omega arith)
 
-  store-length : length (storeOf s) ≡ 2 + 22 * s .count
+  pub store-length : length (storeOf s) ≡ 2 + 22 * s .count
   unfolding storeOf
   store-length = omega (arith, length-append head tail, head-length, tail-length)
 

@@ -140,6 +140,10 @@ storeNumber BadLength = 41
 storeNumber BadBits = 42
 storeNumber Good = 0
 
+-- the number of what is read
+abbrev pub readNumber : Reading → ℕ
+readNumber r = storeNumber (r .answer)
+
 -- ---- a call that writes
 
 -- what is answered, and what the output holds
@@ -149,6 +153,9 @@ pub record WriteCall : Type 0 where
 
 abbrev pub writeCall : StoreAnswer → List ℕ → WriteCall
 writeCall x l = record { answer = x; output = l }
+
+abbrev pub writeNumber : WriteCall → ℕ
+writeNumber w = storeNumber (w .answer)
 
 -- "Writing: 2, then 41 for too short a buffer, nothing written; bytes past the store stay."
 unfoldable pub writeOf : Settings → ℕ → List ℕ → WriteCall

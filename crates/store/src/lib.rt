@@ -3,6 +3,7 @@ ghost use mathlib.Core.Path.{_≡_};
 ghost use Prim.Native.Nat.{_+_, _*_, _≤_, _<_};
 ghost use lib.ListN.{length};
 ghost use Rattle.sets.specs.Sets.{any};
+ghost use Rattle.sets.specs.Numbered.{numbered};
 ghost use Rattle.sets.specs.Over.{over};
 ghost use Rattle.sets.specs.Rows.{rows};
 ghost use Rattle.packing.specs.Packing.{packed, unpacked, bit};
@@ -23,6 +24,8 @@ ghost use Rattle.store.specs.Store.{
   readHead,
   readOf,
   storeNumber,
+  readNumber,
+  writeNumber,
   writeCall,
   writeOf,
 };
@@ -140,7 +143,7 @@ fn put_store(out: &mut [u8], s: Settings)
 
 // Writes the store of settings that are good for a flash of that length.
 pub fn write(settings: Settings, flash_len: usize, out: &mut [u8]) -> StoreAnswer
-    ensures { λ r. ⌜ writeCall r (now (out .exit)) ≡ writeOf settings «flash_len» (now (out .entry)) ⌝ }
+    ensures { λ r. ⌜ numbered writeNumber (writeCall r (now (out .exit))) ≡ numbered writeNumber (writeOf settings «flash_len» (now (out .entry))) ⌝ }
 {
     if !flash::right_length(flash_len) {
         return StoreAnswer::BadBuffers;
@@ -266,7 +269,7 @@ fn read_head(b: &[u8], x: u64, flash_len: usize) -> Reading
 
 // The settings that a store holds, for a flash of that length.
 pub fn read(bytes: &[u8], flash_len: usize) -> Reading
-    ensures { λ r. ⌜ r ≡ readOf (now (bytes .entry)) «flash_len» ⌝ }
+    ensures { λ r. ⌜ numbered readNumber r ≡ numbered readNumber (readOf (now (bytes .entry)) «flash_len») ⌝ }
 {
     if !flash::right_length(flash_len) {
         return refuse(StoreAnswer::BadBuffers);
