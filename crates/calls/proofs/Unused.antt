@@ -1,15 +1,14 @@
 -- The claims of specs/Unused.antt hold. Assumes nothing.
 use Prim.Native.Nat.{ℕ, zero, suc, _+_, _*_, _≤_, _<_}
-use mathlib.Core.Path.{_≡_, refl, sym, ap, _∙_}
+use mathlib.Core.Path.{_≡_, sym, ap, _∙_}
 use mathlib.Core.List.{List, [], _∷_}
 use native.Mathlib.Nat.{suc-add, zero-add}
 use native.Mathlib.Omega.{arith}
-use lib.Dec.{ltb}
 use lib.ListN.{take, drop}
 use lib.Seq.{take-nil, take-take, getD-take}
-use borrow.Author.Tests.{ltb-true}
-use Rattle.sets.proofs.Tests.{split}
-use Rattle.layout.specs.Layout.{byteAt, entryFrom, slotFrom, slotsFrom, countFrom, usedOf, settingsOf, settingsFrom}
+use Rattle.settings.specs.Table.{tableOf}
+use Rattle.settings.proofs.Tables.{table-cong}
+use Rattle.layout.specs.Layout.{byteAt, entryFrom, entryIn, countFrom, usedOf, settingsOf, settingsFrom}
 use Rattle.capi.specs.Calls.{askBytes, lookBytes, takeBytes, takeBatch}
 use Rattle.calls.specs.Unused.{usedBytes, Unused-change-nothing, Unused-change-no-call}
 
@@ -33,20 +32,13 @@ module _ (b c : List ℕ) (n : ℕ) (e : take n b ≡ take n c) where
 -- ---- the table
 
 -- u entries are used
-module _ (b c : List ℕ) (n u : ℕ) (fits : 6 + 33 * u ≤ n) (e : take n b ≡ take n c) where
-  same-slot : (k : ℕ) → slotFrom b u k ≡ slotFrom c u k
-  unfolding slotFrom
-  same-slot k =
-      split (ltb k u)
-      (λ y.
-      let l = ltb-true k u y in
-      rw y (ap entryFrom (same-part b c n e (6 + k * 33) 33 (omega arith))))
-      (λ z. rw z)
+module _ (b c : List ℕ) (n u : ℕ) (fits : 6 + 34 * u ≤ n) (e : take n b ≡ take n c) where
+  same-entry : (k : ℕ) → k < u → entryIn b k ≡ entryIn c k
+  unfolding entryIn
+  same-entry k l = ap entryFrom (same-part b c n e (6 + k * 34) 34 (omega arith))
 
-  same-slots : (k m : ℕ) → slotsFrom b u k m ≡ slotsFrom c u k m
-  unfolding slotsFrom
-  same-slots k zero = refl
-  same-slots k (suc m) = rw (same-slot k, same-slots (k + 1) m)
+  same-table : tableOf (entryIn b) u ≡ tableOf (entryIn c) u
+  same-table = table-cong (entryIn b) (entryIn c) u same-entry
 
 -- ---- the settings
 
@@ -55,8 +47,8 @@ unfolding Unused-change-nothing settingsFrom settingsOf
 unused-change-nothing b c h =
     let byte : (i : ℕ) → i < 6 → byteAt b i ≡ byteAt c i = λ i l. same-byte b c (usedBytes b) (h .front) i (omega arith) in
     let count : countFrom b ≡ countFrom c = rw (h .size, byte 5 (omega arith)) in
-    let table : slotsFrom b (usedOf (countFrom b)) 0 16 ≡ slotsFrom c (usedOf (countFrom c)) 0 16 =
-    same-slots b c (usedBytes b) (usedOf (countFrom b)) (omega arith) (h .front) 0 16 ∙ ap (λ (n : ℕ). slotsFrom c (usedOf n) 0 16) count in
+    let table : tableOf (entryIn b) (usedOf (countFrom b)) ≡ tableOf (entryIn c) (usedOf (countFrom c)) =
+    same-table b c (usedBytes b) (usedOf (countFrom b)) (omega arith) (h .front) ∙ ap (λ (n : ℕ). tableOf (entryIn c) (usedOf n)) count in
     cc (byte 0 (omega arith), byte 1 (omega arith), byte 2 (omega arith), byte 3 (omega arith), byte 4 (omega arith))
 
 pub unused-change-no-call : Unused-change-no-call

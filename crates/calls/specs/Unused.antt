@@ -7,9 +7,9 @@ use Rattle.arrival.specs.Arrive.{Lent}
 use Rattle.layout.specs.Layout.{countFrom, usedOf, settingsFrom}
 use Rattle.capi.specs.Calls.{askBytes, lookBytes, takeBytes, takeBatch}
 
--- how many bytes of settings are read: the first 6, and 33 for each used entry
+-- how many bytes of settings are read: the first 6, and 34 for each used entry
 abbrev pub usedBytes : List ℕ → ℕ
-usedBytes b = 6 + 33 * usedOf (countFrom b)
+usedBytes b = 6 + 34 * usedOf (countFrom b)
 
 -- two strings of one length that agree in the bytes that are read
 pub record Alike (b c : List ℕ) : Type 0 where
