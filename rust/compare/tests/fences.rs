@@ -395,6 +395,10 @@ fn stores_keep_their_bounds() {
         let count = usize::from(settings.plain.get(5).map_or(0, |&n| n.min(16)));
         let mut bytes = store.plain;
         bytes.resize(2 + 22 * count, 0);
+        if r.one_in(2) {
+            let bit = r.below(8 * bytes.len() as u64) as usize;
+            bytes[bit / 8] ^= 0x80 >> (bit % 8);
+        }
         let bytes = any_length(&mut r, bytes);
         let store = Twin::read(&mut r, bytes);
         let settings = any_length(&mut r, vec![9; proved::SETTINGS_BYTES]);
