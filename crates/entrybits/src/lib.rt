@@ -86,6 +86,13 @@ fn marks(a: u64, b: u64, c: u64, d: u64, e: u64, f: u64, n: u64) -> u64
     a * 256 + b * 128 + c * 64 + d * 32 + e * 16 + f * 8 + n
 }
 
+// The last 6: "don't restart", and five zeros.
+fn last_six(no_restart: bool) -> u64
+    ensures { λ r. ⌜ (r ≡ bit «no_restart» * 32) × (r < 64) ⌝ }
+{
+    bit_of(no_restart) * 32
+}
+
 // Fields of 42, 32, 32, 32, 32 and 6 bits as bytes.
 fn bytes_of(h: u64, s: u32, t: u32, y: u32, z: u32, tail: u64) -> [u8; 22]
     requires { ⌜ (h < 2 ^ 42) × (tail < 64) ⌝ }
@@ -156,7 +163,7 @@ pub fn pack(e: Entry) -> [u8; 22]
         slot_of(e, 1),
         slot_of(e, 2),
         slot_of(e, 3),
-        bit_of(e.no_restart) * 32,
+        last_six(e.no_restart),
     )
 }
 

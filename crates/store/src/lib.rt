@@ -167,37 +167,30 @@ fn head_in(s: &[u8]) -> u64
     (s[0] as u64) * 256 + (s[1] as u64)
 }
 
-fn read_table(s: &[u8], n: usize) -> [Entry; 16]
+// The entries of a store, and whether one of them is no entry of its version.
+pub struct Scanned {
+    pub table: [Entry; 16],
+    pub stray: bool,
+}
+
+// The first n entries of a store of that version.
+fn scan(s: &[u8], version: u8, n: usize) -> Scanned
     requires { ⌜ (n ≤ 16) × (2 + 22 * n ≤ length (now s)) ⌝ }
-    ensures { λ r. ⌜ r ≡ tableOf (entryOf (now (s .entry))) n ⌝ }
+    ensures { λ r. ⌜ (r .table ≡ tableOf (entryOf (now (s .entry))) n) × (r .stray ≡ any n (strayAt (now (s .entry)) version)) ⌝ }
 {
     let e = Entry::blank();
     let mut table = [e; Settings::ENTRIES];
+    let mut stray = false;
     let mut k: usize = 0;
     while k < n {
         let a = HEAD + ENTRY * k;
         let z = a + ENTRY;
+        stray = stray | entrybits::stray(&s[a..z], version);
         let e = entrybits::unpack(&s[a..z]);
         table[k] = e;
         k += 1;
     }
-    table
-}
-
-// Is one of the first n entries no entry of the version?
-fn any_stray(s: &[u8], version: u8, n: usize) -> bool
-    requires { ⌜ (n ≤ 16) × (2 + 22 * n ≤ length (now s)) ⌝ }
-    ensures { λ r. ⌜ r ≡ any n (strayAt (now (s .entry)) version) ⌝ }
-{
-    let mut bad = false;
-    let mut k: usize = 0;
-    while k < n {
-        let a = HEAD + ENTRY * k;
-        let z = a + ENTRY;
-        bad = bad | entrybits::stray(&s[a..z], version);
-        k += 1;
-    }
-    bad
+    Scanned { table, stray }
 }
 
 fn arch_of(b: bool) -> Arch
@@ -253,8 +246,10 @@ fn read_head(b: &[u8], x: u64, flash_len: usize) -> Reading
     if b.len() != HEAD + ENTRY * n {
         return refuse(StoreAnswer::BadLength);
     }
-    let table = read_table(b, n);
-    if !(x / 1 % 4 == 0) | any_stray(b, version, n) | ((version == 2) & !any_restart(table, n)) {
+    let scanned = scan(b, version, n);
+    let table = scanned.table;
+    let stray = scanned.stray;
+    if !(x / 1 % 4 == 0) | stray | ((version == 2) & !any_restart(table, n)) {
         return refuse(StoreAnswer::BadBits);
     }
     let settings = settings_of(x, table);

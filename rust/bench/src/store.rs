@@ -25,6 +25,16 @@ impl Packer<'_> {
     fn put(&mut self, width: u32, value: u32) {
         self.bits = self.bits << width | u64::from(value);
         self.held += width;
+        if self.held >= 32 {
+            self.held -= 32;
+            let word = (self.bits >> self.held) as u32;
+            self.out[self.at..self.at + 4].copy_from_slice(&word.to_be_bytes());
+            self.at += 4;
+        }
+    }
+
+    /// Writes what is held, whole bytes.
+    fn end(mut self) {
         while self.held >= 8 {
             self.held -= 8;
             self.out[self.at] = (self.bits >> self.held) as u8;
@@ -42,13 +52,26 @@ struct Unpacker<'a> {
 
 impl Unpacker<'_> {
     fn take(&mut self, width: u32) -> u32 {
-        while self.held < width {
-            self.bits = self.bits << 8 | u64::from(self.bytes[self.at]);
-            self.at += 1;
-            self.held += 8;
+        if self.held < width {
+            self.fill();
         }
         self.held -= width;
         (self.bits >> self.held & ((1 << width) - 1)) as u32
+    }
+
+    /// Four bytes more, or those that are left.
+    fn fill(&mut self) {
+        if let Some(&word) = self.bytes[self.at..].first_chunk() {
+            self.bits = self.bits << 32 | u64::from(u32::from_be_bytes(word));
+            self.at += 4;
+            self.held += 32;
+            return;
+        }
+        for &byte in &self.bytes[self.at..] {
+            self.bits = self.bits << 8 | u64::from(byte);
+            self.held += 8;
+        }
+        self.at = self.bytes.len();
     }
 }
 
@@ -164,6 +187,7 @@ fn plain_write(s: &StoredSettings, flash_len: usize, out: &mut [u8]) -> Result<u
         p.put(1, stored.no_restart.into());
         p.put(5, 0);
     }
+    p.end();
     Ok(len)
 }
 

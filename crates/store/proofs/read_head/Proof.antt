@@ -39,11 +39,8 @@ returns-3 c =
     let a = c .before .before .before .before .before .args in
     c .refuse3 .ensures ∙ read-41 (a .b .now) (a .flash-len) (a .x) (c .before .before .before .if1 .left) (omega arith) (λ e. omega (arith, e))
 
-read-table-requires : tie.Need-read-table-requires
-read-table-requires c κs = search needs
-
-any-stray-requires : tie.Need-any-stray-requires
-any-stray-requires c κs = search needs
+scan-requires : tie.Need-scan-requires
+scan-requires c κs = search needs
 
 any-restart-requires : tie.Need-any-restart-requires
 any-restart-requires c κs = search needs
@@ -55,7 +52,7 @@ returns-4 : tie.Need-returns-4
 returns-4 c =
     let a = c .before .before .before .before .before .before .before .before .before .args in
     c .refuse4 .ensures
-    ∙ read-42 (a .b .now) (a .flash-len) (a .x) (c .before .before .before .before .before .before .before .if1 .left) (omega arith) (omega arith) (c .before .before .before .before .read-table .ensures) (c .before .before .before .any-stray .ensures) (c .before .before .any-restart .ensures) (c .before .if4 .taken)
+    ∙ read-42 (a .b .now) (a .flash-len) (a .x) (c .before .before .before .before .before .before .before .if1 .left) (omega arith) (omega arith) (c .before .before .before .before .scan .ensures .0) (c .before .before .before .before .scan .ensures .1) (c .before .before .any-restart .ensures) (c .before .if4 .taken)
 
 settings-of-requires : tie.Need-settings-of-requires
 settings-of-requires c κs = search needs
@@ -70,12 +67,12 @@ returns-5 : tie.Need-returns-5
 returns-5 c =
     let a = c .before .before .before .before .before .before .before .before .before .before .before .before .args in
     c .refuse5 .ensures
-    ∙ read-2 (a .b .now) (a .flash-len) (a .x) (c .before .before .before .before .before .before .before .before .before .before .if1 .left) (omega arith) (omega arith) (c .before .before .before .before .before .before .before .read-table .ensures) (c .before .before .before .before .before .before .any-stray .ensures) (c .before .before .before .before .before .any-restart .ensures) (c .before .before .before .before .if4 .left) (c .before .before .before .settings-of .ensures) (is-off _ (c .before .before .good2 .ensures) (c .before .if5 .taken))
+    ∙ read-2 (a .b .now) (a .flash-len) (a .x) (c .before .before .before .before .before .before .before .before .before .before .if1 .left) (omega arith) (omega arith) (c .before .before .before .before .before .before .before .scan .ensures .0) (c .before .before .before .before .before .before .before .scan .ensures .1) (c .before .before .before .before .before .any-restart .ensures) (c .before .before .before .before .if4 .left) (c .before .before .before .settings-of .ensures) (is-off _ (c .before .before .good2 .ensures) (c .before .if5 .taken))
 
 returns-6 : tie.Need-returns-6
 returns-6 c =
     let a = c .before .before .before .before .before .before .before .before .before .before .before .args in
-    read-good (a .b .now) (a .flash-len) (a .x) (c .before .before .before .before .before .before .before .before .before .if1 .left) (omega arith) (omega arith) (c .before .before .before .before .before .before .read-table .ensures) (c .before .before .before .before .before .any-stray .ensures) (c .before .before .before .before .any-restart .ensures) (c .before .before .before .if4 .left) (c .before .before .settings-of .ensures) (is-on _ (c .before .good2 .ensures) (c .if5 .left))
+    read-good (a .b .now) (a .flash-len) (a .x) (c .before .before .before .before .before .before .before .before .before .if1 .left) (omega arith) (omega arith) (c .before .before .before .before .before .before .scan .ensures .0) (c .before .before .before .before .before .before .scan .ensures .1) (c .before .before .before .before .any-restart .ensures) (c .before .before .before .if4 .left) (c .before .before .settings-of .ensures) (is-on _ (c .before .good2 .ensures) (c .if5 .left))
 
 pub read-head-spec : {M : Type 1} → statement M
 read-head-spec =
@@ -90,8 +87,7 @@ read-head-spec =
     add-if3
     refuse-requires-3
     returns-3
-    read-table-requires
-    any-stray-requires
+    scan-requires
     any-restart-requires
     refuse-requires-4
     returns-4
