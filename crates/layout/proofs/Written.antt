@@ -61,11 +61,10 @@ length-row t k =
     omega (arith, length-append (numberBytes e) (flagBytes e), length-numbers e, length-flags e)
 
 -- the numbers, and then the flags, copied after them
-pub row-put : (b : List ℕ) (t : List Entry) (k : ℕ) {e : Entry} {c f ys : List ℕ} → length b ≡ 34 → e ≡ entryAt t k
-    → c ≡ over b 0 (numberBytes e) → f ≡ flagBytes e → ys ≡ take (length f) f ++ drop (length f) (take (24 + 10 - 24) (drop 24 c))
-    → putMid 24 (24 + 10 - 24) c ys ≡ rowBytes t k
-unfolding rowBytes
-row-put b t k {e} {c} {f} {ys} hb he hc hf hy =
+pub row-put : (b : List ℕ) (e : Entry) {c f ys : List ℕ} → length b ≡ 34 → c ≡ over b 0 (numberBytes e) → f ≡ flagBytes e
+    → ys ≡ take (length f) f ++ drop (length f) (take (24 + 10 - 24) (drop 24 c))
+    → putMid 24 (24 + 10 - 24) c ys ≡ numberBytes e ++ flagBytes e
+row-put b e {c} {f} {ys} hb hc hf hy =
     let n = numberBytes e in
     let g = flagBytes e in
     let ln = length-numbers e in
@@ -76,7 +75,10 @@ row-put b t k {e} {c} {f} {ys} hb he hc hf hy =
     copied-over 24 10 c f ys lf (omega arith) hy
     ∙ rw (hc, hf) (over-next b 0 n 24 g at (omega (arith, lg)))
     ∙ over-whole b (n ++ g) (omega (arith, length-append n g, ln, lg))
-    ∙ rw he
+
+pub row-is : (t : List Entry) (k : ℕ) {e : Entry} {ys : List ℕ} → e ≡ entryAt t k → ys ≡ numberBytes e ++ flagBytes e → ys ≡ rowBytes t k
+unfolding rowBytes
+row-is t k he hy = hy ∙ rw he
 
 -- ---- the table
 

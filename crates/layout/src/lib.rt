@@ -1,6 +1,7 @@
 // Settings and transfers as bytes: how they go in, and how they come back. Every byte slice is read; include/uf2_receiver.h has the
 // layout for C.
 ghost use mathlib.Core.Path.{_≡_};
+ghost use mathlib.Core.List.{_++_};
 ghost use Prim.Native.Nat.{_≤_, _<_};
 ghost use lib.ListN.{length};
 ghost use Rattle.sets.specs.Over.{over};
@@ -233,11 +234,10 @@ fn flags(e: Entry) -> [u8; 10]
     ]
 }
 
-fn write_entry(bytes: &mut [u8], table: [Entry; Settings::ENTRIES], k: usize)
-    requires { ⌜ (length (now bytes) ≡ 34) × (k < 16) ⌝ }
-    ensures { λ _. ⌜ now (bytes .exit) ≡ rowBytes table k ⌝ }
+fn write_entry(bytes: &mut [u8], e: Entry)
+    requires { ⌜ length (now bytes) ≡ 34 ⌝ }
+    ensures { λ _. ⌜ now (bytes .exit) ≡ numberBytes e ++ flagBytes e ⌝ }
 {
-    let e = table[k];
     put_numbers(bytes, e);
     bytes::copy(&flags(e), &mut bytes[NUMBERS..ENTRY]);
 }
@@ -250,7 +250,8 @@ fn write_table(bytes: &mut [u8], table: [Entry; Settings::ENTRIES])
     while k < Settings::ENTRIES {
         let from = ENTRY * k;
         let to = from + ENTRY;
-        write_entry(&mut bytes[from..to], table, k);
+        let e = table[k];
+        write_entry(&mut bytes[from..to], e);
         k += 1;
     }
 }

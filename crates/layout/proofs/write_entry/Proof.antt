@@ -1,15 +1,8 @@
 -- `layout::write_entry` meets its contract. Assumes nothing.
-use mathlib.Core.Path.{refl}
 use Rattle.layout.proofs.Written.{row-put}
 use borrow.Author.Needs.{needs}
 use Rattle.layout.proofs.write_entry.Statement.{statement}
 use Rattle.layout.proofs.write_entry.Tie as tie
-
-mul-e : tie.Need-mul-e
-mul-e c = search needs
-
-array-copy-out-e : tie.Need-array-copy-out-e
-array-copy-out-e c = search needs
 
 put-numbers-requires : tie.Need-put-numbers-requires
 put-numbers-requires c κs = search needs
@@ -37,15 +30,13 @@ same-length c = search needs
 
 returns : tie.Need-returns
 returns c =
-    let start = c .before .before .before .before .before .before .before .before .before .before .before .before in
-    row-put (start .args .bytes .now) (start .args .t2) (start .args .k) (start .pre .0) refl (c .before .before .before .before .before .before .before .before .put-numbers .ensures) (c .before .before .before .before .before .flags .ensures) (c .before .before .copy .ensures .1)
+    let start = c .before .before .before .before .before .before .before .before .before .before .before in
+    row-put (start .args .bytes .now) (start .args .e) (start .pre) (c .before .before .before .before .before .before .before .before .put-numbers .ensures) (c .before .before .before .before .before .flags .ensures) (c .before .before .copy .ensures .1)
 
 pub write-entry-spec : {M : Type 1} → statement M
 write-entry-spec =
     tie.close
     (tie.spec
-    mul-e
-    array-copy-out-e
     put-numbers-requires
     flags-requires
     slice-aggregate-copy

@@ -6,7 +6,7 @@ use lib.ListN.{length}
 use Rattle.sets.specs.Over.{over}
 use Rattle.sets.specs.Rows.{rows}
 use Rattle.layout.specs.Layout.{rowBytes}
-use Rattle.layout.proofs.Written.{rows-first, rows-next, rows-long, rows-whole}
+use Rattle.layout.proofs.Written.{row-is, rows-first, rows-next, rows-long, rows-whole}
 use borrow.Author.Needs.{needs}
 use Rattle.layout.proofs.write_table.Statement.{statement}
 use Rattle.layout.proofs.write_table.Tie as tie
@@ -25,6 +25,12 @@ mul-from c = search needs
 
 add-to : tie.Need-add-to Inv-loop μ-loop
 add-to c = search needs
+
+mul-e : tie.Need-mul-e Inv-loop μ-loop
+mul-e c = search needs
+
+array-copy-out-e : tie.Need-array-copy-out-e Inv-loop μ-loop
+array-copy-out-e c = search needs
 
 sub-write-entry : tie.Need-sub-write-entry Inv-loop μ-loop
 sub-write-entry c = search needs
@@ -46,11 +52,12 @@ loop-less c = search needs
 
 loop-again : tie.Need-loop-again Inv-loop μ-loop
 loop-again c =
-    let start = c .before .before .before .before .before .before .before in
+    let start = c .before .before .before .before .before .before .before .before in
     let a = start .args in
-    let l = c .before .before .before .before .before .loop in
-    let one = rows-next (a .table) (a .bytes .now) (l .bytes) _ (l .k) (start .pre) (omega arith) (l .inv .2) (c .before .before .write-entry .ensures) in
-    (omega arith, rows-long (a .table) (a .bytes .now) _ (l .k + 1) (start .pre) (omega arith) one, one)
+    let l = c .before .before .before .before .before .before .loop in
+    let row = row-is (a .t2) (l .k) refl (c .before .before .write-entry .ensures) in
+    let one = rows-next (a .t2) (a .bytes .now) (l .bytes) _ (l .k) (start .pre) (omega arith) (l .inv .2) row in
+    (omega arith, rows-long (a .t2) (a .bytes .now) _ (l .k + 1) (start .pre) (omega arith) one, one)
 
 same-length : tie.Need-same-length Inv-loop μ-loop
 same-length c = search needs
@@ -59,7 +66,7 @@ returns : tie.Need-returns Inv-loop μ-loop
 returns c =
     let start = c .before .before .before in
     let l = c .before .loop in
-    rows-whole (start .args .table) (start .args .bytes .now) (l .bytes) (l .k) (start .pre) (omega arith) (l .inv .2)
+    rows-whole (start .args .t2) (start .args .bytes .now) (l .bytes) (l .k) (start .pre) (omega arith) (l .inv .2)
 
 pub write-table-spec : {M : Type 1} → statement M
 write-table-spec =
@@ -70,6 +77,8 @@ write-table-spec =
     loop-holds
     mul-from
     add-to
+    mul-e
+    array-copy-out-e
     sub-write-entry
     part-write-entry-start
     part-write-entry-end
