@@ -62,7 +62,7 @@ static inline uint32_t uf2_get32(const uint8_t *at) {
 
 /* ---- Settings. A flag is on if its byte is not 0. A slice of another length is no settings, and is answered
  * UF2_ANSWER_BAD_SETTINGS. All zeros with the byte at UF2_SETTINGS_ARM_AT set: Arm alone, no partition table. */
-#define UF2_SETTINGS_SIZE 534
+#define UF2_SETTINGS_SIZE 550
 #define UF2_SETTINGS_ARM_AT 0         /* flag: Arm enabled */
 #define UF2_SETTINGS_RISCV_AT 1       /* flag: RISC-V enabled */
 #define UF2_SETTINGS_CURRENT_AT 2     /* current architecture: 0 Arm, else RISC-V */
@@ -73,7 +73,7 @@ static inline uint32_t uf2_get32(const uint8_t *at) {
 
 /* An entry of the table. Entry k begins at UF2_SETTINGS_ENTRY_AT(k) of the settings; the other offsets are counted from there. */
 #define UF2_MAX_ENTRIES 16
-#define UF2_ENTRY_SIZE 33
+#define UF2_ENTRY_SIZE 34
 #define UF2_SETTINGS_ENTRY_AT(k) (UF2_SETTINGS_TABLE_AT + (k) * UF2_ENTRY_SIZE)
 #define UF2_ENTRY_FIRST_AT 0               /* 32 bits: first sector */
 #define UF2_ENTRY_SECTORS_AT 4             /* 32 bits: number of sectors */
@@ -87,6 +87,7 @@ static inline uint32_t uf2_get32(const uint8_t *at) {
 #define UF2_ENTRY_NOT_BOOTABLE_RISCV_AT 30 /* flag */
 #define UF2_ENTRY_LINK_AT 31               /* enum uf2_link; any other number makes a used entry bad */
 #define UF2_ENTRY_LINK_INDEX_AT 32         /* the entry that it is owned by or B of */
+#define UF2_ENTRY_NO_RESTART_AT 33         /* flag: don't restart. No answer depends on it */
 
 enum uf2_link { UF2_LINK_NONE = 0, UF2_LINK_OWNED_BY = 1, UF2_LINK_B_OF = 2 };
 

@@ -118,6 +118,9 @@ static void passes(void) {
     CHECK(chosen(UF2_FAMILY_ARM_S) == 0 && chosen(UF2_FAMILY_RISCV) == 0);
     entry(0)[UF2_ENTRY_NOT_BOOTABLE_ARM_AT] = 1;
     CHECK(chosen(UF2_FAMILY_ARM_S) == 1 && chosen(UF2_FAMILY_RISCV) == 0);
+    /* no answer depends on it */
+    entry(0)[UF2_ENTRY_NO_RESTART_AT] = entry(1)[UF2_ENTRY_NO_RESTART_AT] = 1;
+    CHECK(chosen(UF2_FAMILY_ARM_S) == 1 && chosen(UF2_FAMILY_RISCV) == 0);
     entry(0)[UF2_ENTRY_NOT_BOOTABLE_ARM_AT] = 0;
     entry(0)[UF2_ENTRY_NOT_BOOTABLE_RISCV_AT] = 1;
     /* the other architecture's image is looked for among the bootable only where auto switch is on */

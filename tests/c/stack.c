@@ -3,10 +3,11 @@
  * than the header says. Linked so that memcpy and memset are found at the start: else the first call of each also runs the dynamic
  * linker, on the same stack.
  *
- *     gcc -std=c99 -Wl,-z,now -Iinclude tests/c/stack.c target/staticlib/libcapi.a target/staticlib/libtagsapi.a -o stack
+ *     gcc -std=c99 -Wl,-z,now -Iinclude tests/c/stack.c target/staticlib/libcapi.a target/staticlib/libtagsapi.a target/staticlib/libstoreapi.a -o stack
  */
 #define _XOPEN_SOURCE 700
 #include "uf2_receiver.h"
+#include "uf2_store.h"
 #include "uf2_tags.h"
 
 #include <stdio.h>
@@ -67,6 +68,17 @@ static void call_tag(void) {
 
 static void call_tag_find(void) {
     uf2_tag_find(arrivals, UF2_ARRIVAL_SIZE, UF2_TAG_TYPE_VERSION, tag, sizeof tag);
+}
+
+static uint8_t store[UF2_STORE_MAX_SIZE];
+static uint32_t stored;
+
+static void call_store_write(void) {
+    stored = uf2_store_write(settings, sizeof settings, sizeof flash, store, sizeof store);
+}
+
+static void call_store_read(void) {
+    stored = uf2_store_read(store, sizeof store, sizeof flash, settings, sizeof settings);
 }
 
 static const char *line;
@@ -182,6 +194,13 @@ int main(void) {
     tell("uf2_tag", used(call_tag) - empty);
     tell("uf2_tag_find", used(call_tag_find) - empty);
     if (uf2_get32(tag + UF2_TAG_START_AT) != 300)
+        return 1;
+    table(16);
+    tell("uf2_store_write", used(call_store_write) - empty);
+    if (stored != UF2_STORE_DONE)
+        return 1;
+    tell("uf2_store_read", used(call_store_read) - empty);
+    if (stored != UF2_STORE_DONE)
         return 1;
     return worst <= UF2_STACK_SIZE ? 0 : 1;
 }

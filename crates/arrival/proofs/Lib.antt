@@ -21,3 +21,4 @@ pub mod Regions
 pub mod Tally
 pub mod Before
 pub mod Stopped
+pub mod Alike

@@ -10,3 +10,4 @@ pub mod Regions
 pub mod Ram
 pub mod Before
 pub mod Stopped
+pub mod Alike

@@ -1,18 +1,26 @@
 -- The claims of specs/Unused.antt hold. Assumes nothing.
-use Prim.Native.Nat.{ℕ, zero, suc, _+_, _*_, _≤_, _<_}
+use Prim.Native.Nat.{ℕ, zero, suc, _+_, _*_, _/_, _≤_, _<_}
 use mathlib.Core.Path.{_≡_, refl, sym, ap, _∙_}
 use mathlib.Core.List.{List, [], _∷_}
 use native.Mathlib.Nat.{suc-add, zero-add}
 use native.Mathlib.Omega.{arith}
-use lib.Dec.{ltb}
-use lib.ListN.{take, drop}
+use lib.ListN.{length, take, drop}
 use lib.Seq.{take-nil, take-take, getD-take}
-use borrow.Author.Tests.{ltb-true}
-use Rattle.sets.proofs.Tests.{split}
-use Rattle.layout.specs.Layout.{byteAt, entryFrom, slotFrom, slotsFrom, countFrom, usedOf, settingsOf, settingsFrom}
+use Rattle.settings.specs.declared.Entry.{Entry}
+use Rattle.settings.specs.declared.Settings.{Settings}
+use Rattle.settings.specs.Settings.{entryAt}
+use Rattle.settings.specs.Table.{tableOf}
+use Rattle.settings.specs.Alike.{AlikeEntry, Alike}
+use Rattle.settings.proofs.Tables.{table-cong}
+use Rattle.arrival.specs.Arrive.{World}
+use Rattle.arrival.specs.Alike.{Alike-settings-answer-alike}
+use Rattle.arrival.proofs.Alike.{alike-settings-answer-alike, alike-left, alike-answers, alike-discards}
+use Rattle.receiver.specs.Receiver.{world}
+use Rattle.batch.specs.Batch.{arrivalsOf, fewer, batchOf}
+use Rattle.layout.specs.Layout.{byteAt, entryFrom, entryIn, countFrom, usedOf, settingsOf, settingsFrom, transferFrom}
 use Rattle.capi.specs.Calls.{askBytes}
 use Rattle.callbytes.specs.Calls.{lookBytes, takeBytes, takeBatch}
-use Rattle.calls.specs.Unused.{usedBytes, Unused-change-nothing, Unused-change-no-call}
+use Rattle.calls.specs.Unused.{usedBytes, Unused-change-nothing, Alike-change-no-call, Unused-change-no-call}
 
 -- ---- parts of the bytes that agree
 
@@ -34,20 +42,13 @@ module _ (b c : List ℕ) (n : ℕ) (e : take n b ≡ take n c) where
 -- ---- the table
 
 -- u entries are used
-module _ (b c : List ℕ) (n u : ℕ) (fits : 6 + 33 * u ≤ n) (e : take n b ≡ take n c) where
-  same-slot : (k : ℕ) → slotFrom b u k ≡ slotFrom c u k
-  unfolding slotFrom
-  same-slot k =
-      split (ltb k u)
-      (λ y.
-      let l = ltb-true k u y in
-      rw y (ap entryFrom (same-part b c n e (6 + k * 33) 33 (omega arith))))
-      (λ z. rw z)
+module _ (b c : List ℕ) (n u : ℕ) (fits : 6 + 34 * u ≤ n) (e : take n b ≡ take n c) where
+  same-entry : (k : ℕ) → k < u → entryIn b k ≡ entryIn c k
+  unfolding entryIn
+  same-entry k l = ap entryFrom (same-part b c n e (6 + k * 34) 34 (omega arith))
 
-  same-slots : (k m : ℕ) → slotsFrom b u k m ≡ slotsFrom c u k m
-  unfolding slotsFrom
-  same-slots k zero = refl
-  same-slots k (suc m) = rw (same-slot k, same-slots (k + 1) m)
+  same-table : tableOf (entryIn b) u ≡ tableOf (entryIn c) u
+  same-table = table-cong (entryIn b) (entryIn c) u same-entry
 
 -- ---- the settings
 
@@ -56,12 +57,50 @@ unfolding Unused-change-nothing settingsFrom settingsOf
 unused-change-nothing b c h =
     let byte : (i : ℕ) → i < 6 → byteAt b i ≡ byteAt c i = λ i l. same-byte b c (usedBytes b) (h .front) i (omega arith) in
     let count : countFrom b ≡ countFrom c = rw (h .size, byte 5 (omega arith)) in
-    let table : slotsFrom b (usedOf (countFrom b)) 0 16 ≡ slotsFrom c (usedOf (countFrom c)) 0 16 =
-    same-slots b c (usedBytes b) (usedOf (countFrom b)) (omega arith) (h .front) 0 16 ∙ ap (λ (n : ℕ). slotsFrom c (usedOf n) 0 16) count in
+    let table : tableOf (entryIn b) (usedOf (countFrom b)) ≡ tableOf (entryIn c) (usedOf (countFrom c)) =
+    same-table b c (usedBytes b) (usedOf (countFrom b)) (omega arith) (h .front) ∙ ap (λ (n : ℕ). tableOf (entryIn c) (usedOf n)) count in
     cc (byte 0 (omega arith), byte 1 (omega arith), byte 2 (omega arith), byte 3 (omega arith), byte 4 (omega arith))
 
+-- ---- the calls
+
+alike-itself : (s : Settings) → Alike s s
+alike-itself s =
+    let entry : (e : Entry) → AlikeEntry e e =
+    λ e.
+    record {
+      first = refl;
+      sectors = refl;
+      link = refl;
+      accepts-data = refl;
+      accepts-arm-s = refl;
+      accepts-riscv = refl;
+      accepts-arm-ns = refl;
+      not-bootable-arm = refl;
+      not-bootable-riscv = refl;
+      user-count = refl;
+      users = λ i l. refl;
+    } in
+    record { arm = refl; riscv = refl; current = refl; auto-switch = refl; absolute = refl; count = refl; entries = λ k l. entry (entryAt (s .table) k) }
+
+batch-alike : (s t : Settings) → Alike s t → (w : World) (a r : List ℕ) → batchOf s w a r ≡ batchOf t w a r
+unfolding batchOf
+batch-alike s t h w a r =
+    let l = arrivalsOf (fewer (length a / 512) (length r)) a in
+    rw (alike-left s t h l w, alike-answers s t h l w, alike-discards s t h l w)
+
+pub alike-change-no-call : Alike-change-no-call
+unfolding Alike-change-no-call Alike-settings-answer-alike askBytes lookBytes takeBytes takeBatch
+alike-change-no-call b c e =
+    let same = alike-settings-answer-alike (settingsFrom b) (settingsFrom c) e in
+    record {
+      ask = λ len f l. rw (same .place len f);
+      look = λ t a h. rw (same .look (world (transferFrom t) h) a);
+      take = λ t a h. rw (same .take (world (transferFrom t) h) a);
+      take-all = λ t a r h. rw (batch-alike (settingsFrom b) (settingsFrom c) e (world (transferFrom t) h) a r);
+    }
+
 pub unused-change-no-call : Unused-change-no-call
-unfolding Unused-change-no-call Unused-change-nothing askBytes lookBytes takeBytes takeBatch
+unfolding Unused-change-no-call Unused-change-nothing Alike-change-no-call
 unused-change-no-call b c h =
     let e = unused-change-nothing b c h in
-    record { ask = λ len f l. rw e; look = λ t a h. rw e; take = λ t a h. rw e; take-all = λ t a r h. rw e }
+    alike-change-no-call b c (rw e (alike-itself (settingsFrom c)))

@@ -1,25 +1,27 @@
--- Settings as bytes: those of entries past the count change nothing. Proved in proofs/Unused.antt. Assumes nothing.
+-- Settings as bytes: those of entries past the count change nothing, and "don't restart" and slots that are not used change no call (02, L5).
+-- Proved in proofs/Unused.antt. Assumes nothing.
 use Prim.Native.Nat.{ℕ, _+_, _*_}
 use mathlib.Core.Path.{_≡_}
 use mathlib.Core.List.{List}
 use lib.ListN.{length, take}
+use Rattle.settings.specs.Alike.{Alike}
 use Rattle.arrival.specs.Arrive.{Lent}
 use Rattle.layout.specs.Layout.{countFrom, usedOf, settingsFrom}
 use Rattle.capi.specs.Calls.{askBytes}
 use Rattle.callbytes.specs.Calls.{lookBytes, takeBytes, takeBatch}
 
--- how many bytes of settings are read: the first 6, and 33 for each used entry
+-- how many bytes of settings are read: the first 6, and 34 for each used entry
 abbrev pub usedBytes : List ℕ → ℕ
-usedBytes b = 6 + 33 * usedOf (countFrom b)
+usedBytes b = 6 + 34 * usedOf (countFrom b)
 
 -- two strings of one length that agree in the bytes that are read
-pub record Alike (b c : List ℕ) : Type 0 where
+pub record SameUsed (b c : List ℕ) : Type 0 where
   pub size : length b ≡ length c
   pub front : take (usedBytes b) b ≡ take (usedBytes b) c
 
 -- they are the same settings
 unfoldable pub Unused-change-nothing : Type 0
-Unused-change-nothing = (b c : List ℕ) → Alike b c → settingsFrom b ≡ settingsFrom c
+Unused-change-nothing = (b c : List ℕ) → SameUsed b c → settingsFrom b ≡ settingsFrom c
 
 -- every call answers and leaves the same with the one as with the other
 pub record Same-calls (b c : List ℕ) : Type 0 where
@@ -28,6 +30,10 @@ pub record Same-calls (b c : List ℕ) : Type 0 where
   pub take : (t a : List ℕ) (h : Lent) → takeBytes b t a h ≡ takeBytes c t a h
   pub take-all : (t a r : List ℕ) (h : Lent) → takeBatch b t a r h ≡ takeBatch c t a r h
 
--- so they change no call
+-- settings that are read as alike but for "don't restart", entries that are not used and slots that are not used
+unfoldable pub Alike-change-no-call : Type 0
+Alike-change-no-call = (b c : List ℕ) → Alike (settingsFrom b) (settingsFrom c) → Same-calls b c
+
+-- so bytes of entries past the count change no call
 unfoldable pub Unused-change-no-call : Type 0
-Unused-change-no-call = (b c : List ℕ) → Alike b c → Same-calls b c
+Unused-change-no-call = (b c : List ℕ) → SameUsed b c → Same-calls b c

@@ -1,6 +1,5 @@
 -- An entry's fields: their bounds, and their bytes. Assumes nothing.
 use mathlib.Core.Path.{_≡_, refl, sym, ap}
-use mathlib.Core.Bool.{Bool}
 use mathlib.Core.List.{[], _∷_}
 use Prim.Native.Nat.{ℕ, _+_, _*_, _%_, _^_, _<_, _≤_}
 use native.Mathlib.Omega.{arith}
@@ -62,21 +61,21 @@ coarse f s k i a b c d m n u x y z w r h t pf ps pk pi pa pb pc pd pm pn pu px p
     (solo 32 x px (solo 32 y py (solo 32 z pz (solo 32 w pw (pair 1 5 r 0 t pr (omega arith) (omega arith) done)))))
 
 -- the six large fields of an entry have its bytes
-pub entry-joined : (e : Entry) (restart : Bool) (l m k i a b c d f g r x y z w : ℕ)
+pub entry-joined : (e : Entry) (l m k i a b c d f g t x y z w : ℕ)
     → (l ≡ e .first % 8192 * 1048576 + e .sectors % 16384 * 64 + k * 16 + i) → (m ≡ a * 256 + b * 128 + c * 64 + d * 32 + f * 16 + g * 8 + e .«user_count» % 8)
     → k ≡ kindOf (e .link) → i ≡ indexOf (e .link) % 16 → a ≡ bit (e .«data») → b ≡ bit (e .«arm_s») → c ≡ bit (e .riscv) → d ≡ bit (e .«arm_ns»)
     → f ≡ bit (e .«not_bootable_arm») → g ≡ bit (e .«not_bootable_riscv»)
-    → x ≡ slot e 0 → y ≡ slot e 1 → z ≡ slot e 2 → w ≡ slot e 3 → r ≡ bit restart
+    → x ≡ slot e 0 → y ≡ slot e 1 → z ≡ slot e 2 → w ≡ slot e 3 → t ≡ bit (e .«no_restart») * 32
     → x < 2 ^ 32 → y < 2 ^ 32 → z < 2 ^ 32 → w < 2 ^ 32
-    → chunkBytes (l * 512 + m) x y z w (r * 32) ≡ packedEntry e restart
+    → chunkBytes (l * 512 + m) x y z w t ≡ packedEntry e
 unfolding chunkBytes packedEntry bytesOf entryFields
-entry-joined e restart l m k i a b c d f g r x y z w el em ek ei ea eb ec ed ef eg ex ey ez ew er px py pz pw =
-    rw (← ex, ← ey, ← ez, ← ew, ← ek, ← ei, ← ea, ← eb, ← ec, ← ed, ← ef, ← eg, ← er)
+entry-joined e l m k i a b c d f g t x y z w el em ek ei ea eb ec ed ef eg ex ey ez ew et px py pz pw =
+    rw (← ex, ← ey, ← ez, ← ew, ← ek, ← ei, ← ea, ← eb, ← ec, ← ed, ← ef, ← eg)
     (ap (unpacked (octets 22))
     (sym
     (coarse-packed
-    (coarse (e .first % 8192) (e .sectors % 16384) k i a b c d f g (e .«user_count» % 8) x y z w r (l * 512 + m) (r * 32)
+    (coarse (e .first % 8192) (e .sectors % 16384) k i a b c d f g (e .«user_count» % 8) x y z w (bit (e .«no_restart»)) (l * 512 + m) t
     (omega arith) (omega arith) (omega (arith, kind-lt (e .link))) (omega arith)
     (omega (arith, bit-lt (e .«data»))) (omega (arith, bit-lt (e .«arm_s»))) (omega (arith, bit-lt (e .riscv))) (omega (arith, bit-lt (e .«arm_ns»)))
     (omega (arith, bit-lt (e .«not_bootable_arm»))) (omega (arith, bit-lt (e .«not_bootable_riscv»)))
-    (omega arith) px py pz pw (omega (arith, bit-lt restart)) (rw (el, em) refl) refl))))
+    (omega arith) px py pz pw (omega (arith, bit-lt (e .«no_restart»))) (rw (el, em) refl) et))))

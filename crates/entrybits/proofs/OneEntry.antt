@@ -11,7 +11,7 @@ use lib.Dec.{ltb, leb, eqb}
 use borrow.Author.Tests.{lt-ltb, le-ltb, le-leb, lt-leb, eq-eqb, ne-eqb, eqb-true, eqb-false}
 use Rattle.packing.specs.Packing.{octets, fieldsOf, Fit, none, one}
 use Rattle.packing.specs.Packing.{bit}
-use Rattle.entrybits.specs.EntryBits.{kindOf, indexOf, linkOf, slot, entryWidths, entryFields, packedEntry, entryFrom, restartFrom, strayFrom, neatEntry}
+use Rattle.entrybits.specs.EntryBits.{kindOf, indexOf, linkOf, slot, entryWidths, entryFields, packedEntry, entryFrom, strayFrom, neatEntry}
 use Rattle.settings.specs.declared.Entry.{Entry}
 use Rattle.settings.specs.declared.Link.{Link}
 use Rattle.settings.specs.declared.Link.the-variants.{Unlinked, OwnedBy, BOf}
@@ -33,9 +33,9 @@ pub record Fits (e : Entry) : Type 0 where
   pub index : indexOf (e .link) < 16
   pub users : e .«user_count» ≤ 4
 
-pub entry-back : (e : Entry) (restart : Bool) → Fits e → entryFrom (entryFields e restart) ≡ neatEntry e
+pub entry-back : (e : Entry) → Fits e → entryFrom (entryFields e) ≡ neatEntry e
 unfolding entryFrom entryFields neatEntry
-entry-back e restart p =
+entry-back e p =
     let first : e .first % 8192 ≡ e .first = mod-eq-of-lt (p .first) in
     let sectors : e .sectors % 16384 ≡ e .sectors = mod-eq-of-lt (p .sectors) in
     let index : indexOf (e .link) % 16 ≡ indexOf (e .link) = mod-eq-of-lt (p .index) in
@@ -52,11 +52,8 @@ entry-back e restart p =
       on-bit (e .«not_bootable_arm»),
       on-bit (e .«not_bootable_riscv»),
       link-back (e .link),
+      on-bit (e .«no_restart»),
     )
-
-pub restart-back : (e : Entry) (restart : Bool) → restartFrom (entryFields e restart) ≡ restart
-unfolding restartFrom entryFields
-restart-back e restart = on-bit restart
 
 -- ---- back
 
@@ -104,8 +101,8 @@ slot-forth n k x q = by-case (decLt k n)
     by-case (no h) = rw (le-ltb k n (omega arith)) (sym (eqb-true x 0 (not-false (eqb x 0) (rw (le-leb n k (omega arith)) at q))))
 
 -- fields with nothing stray are those of the entry that is read from them
-pub fields-forth : (version : ℕ) (f : List ℕ) → Fit entryWidths f → strayFrom version f ≡ false → entryFields (entryFrom f) (restartFrom f) ≡ f
-unfolding strayFrom entryFields entryFrom restartFrom slot
+pub fields-forth : (version : ℕ) (f : List ℕ) → Fit entryWidths f → strayFrom version f ≡ false → entryFields (entryFrom f) ≡ f
+unfolding strayFrom entryFields entryFrom slot
 fields-forth version f
     (one {v = a} ha (one {v = b} hb (one {v = k} hk (one {v = i} hi (one {v = d} hd (one {v = e} he (one {v = g} hg (one {v = h} hh (one {v = m} hm (one {v = n} hn (one {v = u} hu (one {v = x} hx (one {v = y} hy (one {v = z} hz (one {v = w} hw (one {v = r} hr (one {v = t} ht none)))))))))))))))))
     s =
@@ -143,33 +140,29 @@ fields-forth version f
 abbrev pub Narrow : Entry → Type 0
 Narrow e = (k : ℕ) → slot e k < 2 ^ 32
 
-pub entry-fit : (e : Entry) (restart : Bool) → Narrow e → Fit entryWidths (entryFields e restart)
+pub entry-fit : (e : Entry) → Narrow e → Fit entryWidths (entryFields e)
 unfolding entryFields
-entry-fit e restart s =
+entry-fit e s =
     one {w = 13} {v = e .first % 8192} (omega arith) (one {w = 14} {v = e .sectors % 16384} (omega arith) (one {w = 2} {v = kindOf (e .link)} (omega (arith, kind-lt (e .link))) (one {w = 4} {v = indexOf (e .link) % 16} (omega arith)
     (one {w = 1} (bit-lt (e .«data»)) (one {w = 1} (bit-lt (e .«arm_s»)) (one {w = 1} (bit-lt (e .riscv)) (one {w = 1} (bit-lt (e .«arm_ns»)) (one {w = 1} (bit-lt (e .«not_bootable_arm»)) (one {w = 1} (bit-lt (e .«not_bootable_riscv»))
-    (one {w = 3} {v = e .«user_count» % 8} (omega arith) (one {w = 32} (s 0) (one {w = 32} (s 1) (one {w = 32} (s 2) (one {w = 32} (s 3) (one {w = 1} (bit-lt restart) (one {w = 5} {v = 0} (omega arith) none))))))))))))))))
+    (one {w = 3} {v = e .«user_count» % 8} (omega arith) (one {w = 32} (s 0) (one {w = 32} (s 1) (one {w = 32} (s 2) (one {w = 32} (s 3) (one {w = 1} (bit-lt (e .«no_restart»)) (one {w = 5} {v = 0} (omega arith) none))))))))))))))))
 
 -- an entry that is written and read is the entry, its unused slots zero
-pub entry-read : (e : Entry) (restart : Bool) → Fits e → Narrow e → entryFrom (fieldsOf entryWidths 22 (packedEntry e restart)) ≡ neatEntry e
+pub entry-read : (e : Entry) → Fits e → Narrow e → entryFrom (fieldsOf entryWidths 22 (packedEntry e)) ≡ neatEntry e
 unfolding packedEntry
-entry-read e restart p s = rw (fields-bytes entryWidths 22 even (entry-fit e restart s)) (entry-back e restart p)
-
-pub restart-read : (e : Entry) (restart : Bool) → Narrow e → restartFrom (fieldsOf entryWidths 22 (packedEntry e restart)) ≡ restart
-unfolding packedEntry
-restart-read e restart s = rw (fields-bytes entryWidths 22 even (entry-fit e restart s)) (restart-back e restart)
+entry-read e p s = rw (fields-bytes entryWidths 22 even (entry-fit e s)) (entry-back e p)
 
 -- bytes that are read with nothing stray are the bytes of the entry read: it has no other
 pub entry-only : (version : ℕ) (bs : List ℕ) → Fit (octets 22) bs → strayFrom version (fieldsOf entryWidths 22 bs) ≡ false
-    → packedEntry (entryFrom (fieldsOf entryWidths 22 bs)) (restartFrom (fieldsOf entryWidths 22 bs)) ≡ bs
+    → packedEntry (entryFrom (fieldsOf entryWidths 22 bs)) ≡ bs
 unfolding packedEntry
 entry-only version bs f s = rw (fields-forth version (fieldsOf entryWidths 22 bs) (fields-fit entryWidths 22 even f) s) (bytes-fields entryWidths 22 even f)
 
 -- ---- an entry's own fields are not stray
 
-pub entry-neat : (version : ℕ) (e : Entry) (restart : Bool) → e .«user_count» ≤ 4 → (version ≡ 1 → restart ≡ false) → strayFrom version (entryFields e restart) ≡ false
+pub entry-neat : (version : ℕ) (e : Entry) → e .«user_count» ≤ 4 → (version ≡ 1 → e .«no_restart» ≡ false) → strayFrom version (entryFields e) ≡ false
 unfolding strayFrom entryFields slot
-entry-neat version e restart p q =
+entry-neat version e p q =
     let users : e .«user_count» % 8 ≡ e .«user_count» = mod-eq-of-lt (omega arith) in
     rw (users, le-ltb 4 (e .«user_count») p, no-three (e .link), no-index (e .link), free 0, free 1, free 2, free 3, old (ℕ-discrete version 1)) refl
   where
@@ -190,13 +183,13 @@ entry-neat version e restart p q =
         by-case (yes h) = rw (lt-leb (e .«user_count») k h) refl
         by-case (no h) = rw (le-leb (e .«user_count») k (omega arith), le-ltb k (e .«user_count») (omega arith)) refl
 
-    old : Dec (version ≡ 1) → eqb version 1 && not (eqb (bit restart) 0) ≡ false
+    old : Dec (version ≡ 1) → eqb version 1 && not (eqb (bit (e .«no_restart»)) 0) ≡ false
     old (yes h) = rw (eq-eqb version 1 h, q h) refl
     old (no h) = rw (ne-eqb version 1 h) refl
 
 -- in version 1 nothing that is read has the flag
-pub old-unmarked : (f : List ℕ) → Fit entryWidths f → strayFrom 1 f ≡ false → restartFrom f ≡ false
-unfolding strayFrom restartFrom
+pub old-unmarked : (f : List ℕ) → Fit entryWidths f → strayFrom 1 f ≡ false → entryFrom f .«no_restart» ≡ false
+unfolding strayFrom entryFrom
 old-unmarked f
     (one {v = a} ha (one {v = b} hb (one {v = k} hk (one {v = i} hi (one {v = d} hd (one {v = e} he (one {v = g} hg (one {v = h} hh (one {v = m} hm (one {v = n} hn (one {v = u} hu (one {v = x} hx (one {v = y} hy (one {v = z} hz (one {v = w} hw (one {v = r} hr (one {v = t} ht none)))))))))))))))))
     s =

@@ -1,7 +1,7 @@
 -- 22 bytes as a list of 22, and what is read of a part, by its length. Assumes nothing.
 use mathlib.Core.Path.{_≡_, refl, sym, ap, _∙_}
 use mathlib.Core.Logic.{_≢_}
-use mathlib.Core.Bool.{Bool, true, false}
+use mathlib.Core.Bool.{Bool, true}
 use mathlib.Core.List.{List, [], _∷_}
 use Prim.Native.Nat.{ℕ, zero, suc, _<_}
 use lib.ListN.{length, getD}
@@ -10,7 +10,7 @@ use Rattle.settings.specs.declared.Entry.{Entry}
 use Rattle.settings.specs.Settings.{blankEntry}
 use Rattle.packing.specs.Packing.{octets, fieldsOf, Fit, none, one}
 use Rattle.entrybits.specs.declared.Chunks.{Chunks}
-use Rattle.entrybits.specs.EntryBits.{entryWidths, entryFrom, restartFrom, strayFrom, entryIn, restartIn, strayIn}
+use Rattle.entrybits.specs.EntryBits.{entryWidths, entryFrom, strayFrom, entryIn, strayIn}
 use Rattle.entrybits.specs.Chunks.{chunksOf, chunkFields}
 use Rattle.entrybits.proofs.ReadBack.{entry-fields}
 
@@ -50,10 +50,6 @@ module _ (b : List ℕ) where
   unfolding entryIn
   entry-other h {e} q = q ∙ rw (ne-eqb (length b) 22 h)
 
-  pub restart-other : length b ≢ 22 → false ≡ restartIn b
-  unfolding restartIn
-  restart-other h = rw (ne-eqb (length b) 22 h)
-
   pub stray-other : (version : ℕ) → length b ≢ 22 → true ≡ strayIn version b
   unfolding strayIn
   stray-other version h = rw (ne-eqb (length b) 22 h)
@@ -65,10 +61,6 @@ module _ (b : List ℕ) where
     pub entry-part : {e : Entry} → e ≡ entryFrom (chunkFields c) → e ≡ entryIn b
     unfolding entryIn
     entry-part {e} q = q ∙ ap entryFrom same ∙ rw (eq-eqb (length b) 22 n)
-
-    pub restart-part : {r : Bool} → r ≡ restartFrom (chunkFields c) → r ≡ restartIn b
-    unfolding restartIn
-    restart-part {r} q = q ∙ ap restartFrom same ∙ rw (eq-eqb (length b) 22 n)
 
     pub stray-part : (version : ℕ) {r : Bool} → r ≡ strayFrom version (chunkFields c) → r ≡ strayIn version b
     unfolding strayIn

@@ -1,6 +1,6 @@
 -- One entry of the packed store (02, L5). Assumes nothing.
 use Prim.Native.Nat.{ℕ, _+_, _%_}
-use mathlib.Core.Bool.{Bool, true, false, _&&_, _||_, cond, not}
+use mathlib.Core.Bool.{Bool, true, _&&_, _||_, cond, not}
 use mathlib.Core.List.{List, [], _∷_}
 use lib.ListN.{length, getD}
 use lib.Dec.{ltb, leb, eqb}
@@ -32,17 +32,17 @@ slot e k = cond (ltb k (e .«user_count»)) (getD (e .users) k 0) 0
 abbrev pub entryWidths : List ℕ
 entryWidths = 13 ∷ 14 ∷ 2 ∷ 4 ∷ 1 ∷ 1 ∷ 1 ∷ 1 ∷ 1 ∷ 1 ∷ 3 ∷ 32 ∷ 32 ∷ 32 ∷ 32 ∷ 1 ∷ 5 ∷ []
 
--- an entry's fields, with "don't restart"; a number that is too large for its field is kept to the field's width
-unfoldable pub entryFields : Entry → Bool → List ℕ
-entryFields e restart =
+-- an entry's fields; a number that is too large for its field is kept to the field's width
+unfoldable pub entryFields : Entry → List ℕ
+entryFields e =
     e .first % 8192 ∷ e .sectors % 16384 ∷ kindOf (e .link) ∷ indexOf (e .link) % 16
     ∷ bit (e .«data») ∷ bit (e .«arm_s») ∷ bit (e .riscv) ∷ bit (e .«arm_ns»)
     ∷ bit (e .«not_bootable_arm») ∷ bit (e .«not_bootable_riscv») ∷ e .«user_count» % 8
-    ∷ slot e 0 ∷ slot e 1 ∷ slot e 2 ∷ slot e 3 ∷ bit restart ∷ 0 ∷ []
+    ∷ slot e 0 ∷ slot e 1 ∷ slot e 2 ∷ slot e 3 ∷ bit (e .«no_restart») ∷ 0 ∷ []
 
 -- "Each entry has 176 bits"
-unfoldable pub packedEntry : Entry → Bool → List ℕ
-packedEntry e restart = bytesOf entryWidths 22 (entryFields e restart)
+unfoldable pub packedEntry : Entry → List ℕ
+packedEntry e = bytesOf entryWidths 22 (entryFields e)
 
 -- ---- read
 
@@ -64,10 +64,8 @@ entryFrom f =
       «not_bootable_arm» = on (getD f 8 0);
       «not_bootable_riscv» = on (getD f 9 0);
       link = linkOf (getD f 2 0) (getD f 3 0);
+      «no_restart» = on (getD f 15 0);
     }
-
-unfoldable pub restartFrom : List ℕ → Bool
-restartFrom f = on (getD f 15 0)
 
 -- a slot that is not used holds a family
 abbrev pub slotStray : List ℕ → ℕ → Bool
@@ -87,12 +85,9 @@ strayFrom version f =
     || eqb version 1 && not (eqb (getD f 15 0) 0)
     || not (eqb (getD f 16 0) 0)
 
--- of 22 bytes; of another length a blank entry, no flag, and stray
+-- of 22 bytes; of another length a blank entry, and stray
 unfoldable pub entryIn : List ℕ → Entry
 entryIn b = cond (eqb (length b) 22) (entryFrom (fieldsOf entryWidths 22 b)) blankEntry
-
-unfoldable pub restartIn : List ℕ → Bool
-restartIn b = cond (eqb (length b) 22) (restartFrom (fieldsOf entryWidths 22 b)) false
 
 unfoldable pub strayIn : ℕ → List ℕ → Bool
 strayIn version b = cond (eqb (length b) 22) (strayFrom version (fieldsOf entryWidths 22 b)) true
@@ -114,4 +109,5 @@ neatEntry e =
       «not_bootable_arm» = e .«not_bootable_arm»;
       «not_bootable_riscv» = e .«not_bootable_riscv»;
       link = e .link;
+      «no_restart» = e .«no_restart»;
     }

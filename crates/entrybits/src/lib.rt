@@ -1,4 +1,4 @@
-// One entry of the packed store of settings: 22 bytes, its fields most significant bit first. The flag "don't restart" stands beside the entry.
+// One entry of the packed store of settings: 22 bytes, its fields most significant bit first.
 ghost use mathlib.Core.Path.{_≡_};
 ghost use mathlib.Core.List.{[], _∷_};
 ghost use Prim.Native.Nat.{_+_, _*_, _<_, _^_};
@@ -11,10 +11,8 @@ ghost use Rattle.entrybits.specs.EntryBits.{
   slot,
   packedEntry,
   entryFrom,
-  restartFrom,
   strayFrom,
   entryIn,
-  restartIn,
   strayIn,
 };
 ghost use Rattle.entrybits.specs.Chunks.{Joined, chunkBytes, chunksOf, chunkFields, regrouped};
@@ -88,6 +86,13 @@ fn marks(a: u64, b: u64, c: u64, d: u64, e: u64, f: u64, n: u64) -> u64
     a * 256 + b * 128 + c * 64 + d * 32 + e * 16 + f * 8 + n
 }
 
+// The last 6: "don't restart", and five zeros.
+fn last_six(no_restart: bool) -> u64
+    ensures { λ r. ⌜ (r ≡ bit «no_restart» * 32) × (r < 64) ⌝ }
+{
+    bit_of(no_restart) * 32
+}
+
 // Fields of 42, 32, 32, 32, 32 and 6 bits as bytes.
 fn bytes_of(h: u64, s: u32, t: u32, y: u32, z: u32, tail: u64) -> [u8; 22]
     requires { ⌜ (h < 2 ^ 42) × (tail < 64) ⌝ }
@@ -130,8 +135,8 @@ fn bytes_of(h: u64, s: u32, t: u32, y: u32, z: u32, tail: u64) -> [u8; 22]
 }
 
 // The bytes of an entry. A number that is too large for its field is kept to the field's width; those of good settings are not.
-pub fn pack(e: Entry, no_restart: bool) -> [u8; 22]
-    ensures { λ r. ⌜ r ≡ packedEntry e «no_restart» ⌝ }
+pub fn pack(e: Entry) -> [u8; 22]
+    ensures { λ r. ⌜ r ≡ packedEntry e ⌝ }
 {
     let link = e.link;
     let first = e.first as u64;
@@ -158,7 +163,7 @@ pub fn pack(e: Entry, no_restart: bool) -> [u8; 22]
         slot_of(e, 1),
         slot_of(e, 2),
         slot_of(e, 3),
-        bit_of(no_restart) * 32,
+        last_six(e.no_restart),
     )
 }
 
@@ -232,6 +237,7 @@ fn entry_of(c: Chunks) -> Entry
         not_bootable_arm: h / 16 % 2 == 1,
         not_bootable_riscv: h / 8 % 2 == 1,
         link,
+        no_restart: c.tail / 32 % 2 == 1,
     }
 }
 
@@ -252,12 +258,6 @@ fn stray_of(version: u8, c: Chunks) -> bool
         | !(c.tail / 1 % 32 == 0)
 }
 
-fn restart_of(c: Chunks) -> bool
-    ensures { λ r. ⌜ r ≡ restartFrom (chunkFields c) ⌝ }
-{
-    c.tail / 32 % 2 == 1
-}
-
 // The entry of 22 bytes; of another length, a blank one.
 pub fn unpack(bytes: &[u8]) -> Entry
     ensures { λ r. ⌜ r ≡ entryIn (now (bytes .entry)) ⌝ }
@@ -266,16 +266,6 @@ pub fn unpack(bytes: &[u8]) -> Entry
         return Entry::blank();
     }
     entry_of(chunks_in(bytes))
-}
-
-// "Don't restart" in 22 bytes.
-pub fn unpack_no_restart(bytes: &[u8]) -> bool
-    ensures { λ r. ⌜ r ≡ restartIn (now (bytes .entry)) ⌝ }
-{
-    if bytes.len() != ENTRY {
-        return false;
-    }
-    restart_of(chunks_in(bytes))
 }
 
 // Are 22 bytes no entry of a version: stray bits, kind 3, or a user count over 4?

@@ -60,6 +60,7 @@ entryWith from sectors arm n users shut link =
       «not_bootable_arm» = shut;
       «not_bootable_riscv» = false;
       link = link;
+      «no_restart» = false;
     }
 
 -- an unowned entry that accepts arm-s: its first sector, how many, and whether it is not bootable for Arm

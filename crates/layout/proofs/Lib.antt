@@ -1,4 +1,5 @@
 -- The laws of `specs/`.
 pub mod Table
+pub mod Written
 pub mod Transfers
 pub mod Refused

@@ -14,12 +14,13 @@ use Rattle.settings.specs.declared.Entry.{Entry}
 use Rattle.settings.specs.declared.Link.the-variants.{OwnedBy}
 use Rattle.settings.specs.Settings.{entryAt, goodSettings}
 use Rattle.settings.specs.Parts.{wrongEntry}
+use Rattle.settings.specs.Table.{tableOf}
+use Rattle.settings.proofs.Tables.{table-at}
 use Rattle.settings.proofs.Laws.{good-over, good-wrong, wrong-link, link-up}
 use Rattle.transfer.specs.declared.Head.{Head}
 use Rattle.transfer.specs.declared.State.the-variants.{Idle}
 use Rattle.transfer.specs.Transfer.{goodState}
-use Rattle.layout.specs.Layout.{byteAt, linkFrom, entryFrom, entryBytes, slotFrom, slotsFrom, countFrom, usedOf, settingsOf, settingsFrom, stateOf, stateFrom}
-use Rattle.layout.proofs.Table.{slots-at, slot-used}
+use Rattle.layout.specs.Layout.{byteAt, linkFrom, entryFrom, entryBytes, entryIn, countFrom, usedOf, settingsOf, settingsFrom, stateOf, stateFrom}
 
 -- ---- no state
 
@@ -54,9 +55,9 @@ idle-read b e z = simp (eq-eqb (length b) 14 e, z)
 
 -- ---- no settings
 
-pub settings-length : (b : List ℕ) (len : ℕ) → length b ≢ 534 → goodSettings (settingsFrom b) len ≡ false
+pub settings-length : (b : List ℕ) (len : ℕ) → length b ≢ 550 → goodSettings (settingsFrom b) len ≡ false
 unfolding settingsFrom settingsOf
-settings-length b len h = good-over (settingsFrom b) len (rw (ne-eqb (length b) 534 h) (omega arith))
+settings-length b len h = good-over (settingsFrom b) len (rw (ne-eqb (length b) 550 h) (omega arith))
 
 -- ---- a used entry's link of another tag
 
@@ -70,23 +71,23 @@ owned-wrong : (table : List Entry) (len k : ℕ) → k ≤ 255 → entryAt table
 owned-wrong table len k l e =
     wrong-link table len k (link-up table k (rw e refl) (rw e l))
 
-entry-link : (e : List ℕ) → entryFrom e .link ≡ linkFrom (byteAt e 31) (byteAt e 32)
-unfolding entryFrom
-entry-link e = refl
+entry-link : (b : List ℕ) (k : ℕ) → entryIn b k .link ≡ linkFrom (byteAt (entryBytes b k) 31) (byteAt (entryBytes b k) 32)
+unfolding entryIn entryFrom
+entry-link b k = refl
 
 -- settings of which entry k is used and has a link of another tag than 0, 1 and 2
-pub link-tag : (b : List ℕ) (len k : ℕ) → length b ≡ 534 → k < byteAt b 5 → 2 < byteAt (entryBytes b k) 31 → goodSettings (settingsFrom b) len ≡ false
+pub link-tag : (b : List ℕ) (len k : ℕ) → length b ≡ 550 → k < byteAt b 5 → 2 < byteAt (entryBytes b k) 31 → goodSettings (settingsFrom b) len ≡ false
 unfolding settingsFrom settingsOf
 link-tag b len k e used tag =
     let n = byteAt b 5 in
     let s = settingsFrom b in
-    let same : countFrom b ≡ n = rw (eq-eqb (length b) 534 e) refl in
+    let same : countFrom b ≡ n = rw (eq-eqb (length b) 550 e) refl in
     (split (leb n 16)
     (λ q.
     let l = leb-true n 16 q in
-    let t = slotsFrom b n 0 16 in
+    let t = tableOf (entryIn b) n in
     let u : usedOf (countFrom b) ≡ n = ap usedOf same ∙ rw q refl in
-    let at : entryAt t k ≡ entryFrom (entryBytes b k) = slots-at b n 0 16 k (omega arith) ∙ ap (slotFrom b n) (omega arith) ∙ slot-used b n k used in
-    let own : entryAt t k .link ≡ OwnedBy 255 = ap (λ (x : Entry). x .link) at ∙ entry-link (entryBytes b k) ∙ other-link _ _ tag in
+    let at : entryAt t k ≡ entryIn b k = table-at (entryIn b) n k l used in
+    let own : entryAt t k .link ≡ OwnedBy 255 = ap (λ (x : Entry). x .link) at ∙ entry-link b k ∙ other-link _ _ tag in
     good-wrong s len (rw (u, same) (any-hit (wrongEntry t len) n k used (owned-wrong t len k (omega arith) own))))
     (λ q. good-over s len (rw same (leb-false n 16 q))))

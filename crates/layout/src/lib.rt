@@ -1,8 +1,12 @@
-// Settings and transfers as bytes: how they go in, and how a transfer comes back. Every byte slice is read; include/uf2_receiver.h has
-// the layout for C.
+// Settings and transfers as bytes: how they go in, and how they come back. Every byte slice is read; include/uf2_receiver.h has the
+// layout for C.
 ghost use mathlib.Core.Path.{_≡_};
-ghost use Prim.Native.Nat.{_≤_};
+ghost use mathlib.Core.List.{_++_};
+ghost use Prim.Native.Nat.{_≤_, _<_};
 ghost use lib.ListN.{length};
+ghost use Rattle.sets.specs.Over.{over};
+ghost use Rattle.sets.specs.Rows.{rows};
+ghost use Rattle.settings.specs.Settings.{linkTarget};
 ghost use Rattle.layout.specs.Layout.{
   linkFrom,
   usersFrom,
@@ -12,6 +16,14 @@ ghost use Rattle.layout.specs.Layout.{
   countFrom,
   usedOf,
   settingsFrom,
+  flagByte,
+  archByte,
+  linkTag,
+  numberBytes,
+  flagBytes,
+  rowBytes,
+  switchBytes,
+  withSettings,
   kindFrom,
   noState,
   stateOf,
@@ -31,11 +43,14 @@ use transfer::State;
 use transfer::Transfer;
 
 // The bytes of settings, those before their table, and those of an entry.
-const SETTINGS: usize = 534;
+const SETTINGS: usize = 550;
 
 const HEAD: usize = 6;
 
-const ENTRY: usize = 33;
+const ENTRY: usize = 34;
+
+// Those of its numbers.
+const NUMBERS: usize = 24;
 
 // The bytes of a transfer.
 const TRANSFER: usize = 14;
@@ -72,9 +87,9 @@ fn users(e: &[u8]) -> [u32; 4]
     [a, b, c, d]
 }
 
-// The entry of 33 bytes.
+// The entry of 34 bytes.
 fn entry(e: &[u8]) -> Entry
-    requires { ⌜ length (now e) ≡ 33 ⌝ }
+    requires { ⌜ length (now e) ≡ 34 ⌝ }
     ensures { λ r. ⌜ r ≡ entryFrom (now (e .entry)) ⌝ }
 {
     let users = users(e);
@@ -91,6 +106,7 @@ fn entry(e: &[u8]) -> Entry
         not_bootable_arm: e[29] != 0,
         not_bootable_riscv: e[30] != 0,
         link,
+        no_restart: e[33] != 0,
     }
 }
 
@@ -150,6 +166,120 @@ pub fn read_settings(bytes: &[u8]) -> Settings
         count,
         table,
     }
+}
+
+fn flag(on: bool) -> u8
+    ensures { λ r. ⌜ r ≡ flagByte on ⌝ }
+{
+    if on { 1 } else { 0 }
+}
+
+fn arch_byte(a: Arch) -> u8
+    ensures { λ r. ⌜ r ≡ archByte a ⌝ }
+{
+    match a {
+        Arch::Arm => 0,
+        Arch::RiscV => 1,
+    }
+}
+
+fn link_tag(link: Link) -> u8
+    ensures { λ r. ⌜ r ≡ linkTag link ⌝ }
+{
+    match link {
+        Link::Unlinked => 0,
+        Link::OwnedBy(_) => 1,
+        Link::BOf(_) => 2,
+    }
+}
+
+fn link_index(link: Link) -> u8
+    ensures { λ r. ⌜ r ≡ linkTarget link ⌝ }
+{
+    match link {
+        Link::Unlinked => 0,
+        Link::OwnedBy(k) => k,
+        Link::BOf(k) => k,
+    }
+}
+
+fn put_numbers(bytes: &mut [u8], e: Entry)
+    requires { ⌜ length (now bytes) ≡ 34 ⌝ }
+    ensures { λ _. ⌜ now (bytes .exit) ≡ over (now (bytes .entry)) 0 (numberBytes e) ⌝ }
+{
+    let users = e.users;
+    block::put(bytes, 0, e.first);
+    block::put(bytes, 4, e.sectors);
+    block::put(bytes, 8, users[0]);
+    block::put(bytes, 12, users[1]);
+    block::put(bytes, 16, users[2]);
+    block::put(bytes, 20, users[3]);
+}
+
+fn flags(e: Entry) -> [u8; 10]
+    ensures { λ r. ⌜ r ≡ flagBytes e ⌝ }
+{
+    let link = e.link;
+    [
+        flag(e.data),
+        flag(e.arm_s),
+        flag(e.riscv),
+        flag(e.arm_ns),
+        e.user_count,
+        flag(e.not_bootable_arm),
+        flag(e.not_bootable_riscv),
+        link_tag(link),
+        link_index(link),
+        flag(e.no_restart),
+    ]
+}
+
+fn write_entry(bytes: &mut [u8], e: Entry)
+    requires { ⌜ length (now bytes) ≡ 34 ⌝ }
+    ensures { λ _. ⌜ now (bytes .exit) ≡ numberBytes e ++ flagBytes e ⌝ }
+{
+    put_numbers(bytes, e);
+    bytes::copy(&flags(e), &mut bytes[NUMBERS..ENTRY]);
+}
+
+fn write_table(bytes: &mut [u8], table: [Entry; Settings::ENTRIES])
+    requires { ⌜ length (now bytes) ≡ 544 ⌝ }
+    ensures { λ _. ⌜ now (bytes .exit) ≡ rows (rowBytes table) 16 ⌝ }
+{
+    let mut k: usize = 0;
+    while k < Settings::ENTRIES {
+        let from = ENTRY * k;
+        let to = from + ENTRY;
+        let e = table[k];
+        write_entry(&mut bytes[from..to], e);
+        k += 1;
+    }
+}
+
+fn switches(s: Settings) -> [u8; 6]
+    ensures { λ r. ⌜ r ≡ switchBytes s ⌝ }
+{
+    let current = s.current;
+    [
+        flag(s.arm),
+        flag(s.riscv),
+        arch_byte(current),
+        flag(s.auto_switch),
+        flag(s.absolute),
+        s.count,
+    ]
+}
+
+// Writes settings, where there are bytes for them.
+pub fn write_settings(bytes: &mut [u8], s: Settings)
+    ensures { λ _. ⌜ now (bytes .exit) ≡ withSettings (now (bytes .entry)) s ⌝ }
+{
+    if bytes.len() != SETTINGS {
+        return;
+    }
+    let table = s.table;
+    bytes::copy(&switches(s), &mut bytes[0..HEAD]);
+    write_table(&mut bytes[HEAD..SETTINGS], table);
 }
 
 // The kind of a number that is one; of any other number nothing is made.

@@ -2,3 +2,4 @@
 pub mod First
 pub mod Laws
 pub mod Theorems
+pub mod Alike

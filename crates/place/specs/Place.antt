@@ -7,6 +7,7 @@ use mathlib.Core.List.{List}
 use lib.Dec.{leb, eqb}
 use Rattle.sets.specs.Sets.{any}
 use Rattle.settings.specs.Settings.{familyRp2040, familyAbsolute, familyData, familyArmS, familyRiscV, familyArmNs, hasUser, entryAt, isA, isUnowned, accepts, enabled, goodSettings}
+use Rattle.settings.specs.Alike.{Alike}
 use Rattle.settings.specs.declared.Settings.{Settings}
 use Rattle.settings.specs.declared.Entry.{Entry}
 use Rattle.settings.specs.declared.Arch.{Arch}
@@ -187,3 +188,9 @@ abbrev pub Place-inside : Type 0
 Place-inside =
     (s : Settings) (len f : ℕ) → flashLength len ≡ true → goodSettings s len ≡ true → (a n : ℕ) → placeOf s len f ≡ At a n
     → Inside len a n
+
+-- settings that are alike but for "don't restart" and what is not used have the same places, the same families in RAM and the same answers (02, L5)
+abbrev pub Alike-places : Type 0
+Alike-places =
+    (s t : Settings) (len f : ℕ) → Alike s t
+    → (placeOf s len f ≡ placeOf t len f) × (ramFamily s f ≡ ramFamily t f) × (askOf s len f ≡ askOf t len f)

@@ -1,2 +1,4 @@
 pub mod Settings
 pub mod Parts
+pub mod Table
+pub mod Alike

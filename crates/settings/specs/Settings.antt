@@ -93,6 +93,7 @@ blankWith us =
       «not_bootable_arm» = false;
       «not_bootable_riscv» = false;
       link = Unlinked;
+      «no_restart» = false;
     }
 
 -- what stands past the table's end, where no test looks

@@ -30,6 +30,8 @@ pub struct Entry {
     pub not_bootable_arm: bool,
     pub not_bootable_riscv: bool,
     pub link: Link,
+    // "don't restart": kept for the board, and no answer depends on it
+    pub no_restart: bool,
 }
 
 // The table stands first, so that nothing unused stands before it and settings are copied as one piece.
@@ -63,6 +65,7 @@ impl Entry {
             not_bootable_arm: false,
             not_bootable_riscv: false,
             link: Link::Unlinked,
+            no_restart: false,
         }
     }
 }

@@ -7,6 +7,7 @@ mod file;
 mod hex;
 mod once;
 mod region;
+mod store;
 mod table;
 mod tags;
 mod trace;
@@ -58,7 +59,7 @@ fn sixteen() -> Settings {
 fn read(bytes: &[u8]) -> Settings {
     let mut table = [Entry::EMPTY; 16];
     let used = usize::from(bytes[5]);
-    for (e, b) in table.iter_mut().zip(bytes[6..].chunks_exact(33)).take(used) {
+    for (e, b) in table.iter_mut().zip(bytes[6..].chunks_exact(34)).take(used) {
         let field = |at: usize| u32::from_le_bytes([b[at], b[at + 1], b[at + 2], b[at + 3]]);
         *e = Entry {
             first: field(0),
@@ -211,6 +212,7 @@ fn main() {
     trace::rows();
     hex::rows();
     tags::row();
+    store::rows(&sixteen());
     println!("\n| work, proved | the first | the second | ratio |\n|---|---|---|---|");
     file::table_rows();
     region::beside_rows();

@@ -7,6 +7,7 @@ pub mod hex;
 mod pair;
 pub mod plain;
 pub mod region;
+pub mod store;
 pub mod tags;
 
 pub use buffers::{Buffers, Ram};
@@ -73,7 +74,7 @@ pub fn proved_settings(s: &Settings) -> proved::Settings {
     }
 }
 
-fn proved_entry(e: &Entry) -> proved::Entry {
+pub fn proved_entry(e: &Entry) -> proved::Entry {
     proved::Entry {
         first: e.first,
         sectors: e.sectors,
@@ -90,6 +91,8 @@ fn proved_entry(e: &Entry) -> proved::Entry {
             Link::OwnedBy(k) => proved::Link::OwnedBy(k),
             Link::BOf(k) => proved::Link::BOf(k),
         },
+        // no answer depends on it: some entries have it wherever the two are compared
+        no_restart: e.data,
     }
 }
 

@@ -2,10 +2,15 @@
 //! and a refusal leaves every byte that was lent.
 
 use compare::{any_settings, arm_only, page, proved_settings, proved_transfer, Buffers, Random};
-use proved::{bytes, SETTINGS_BYTES, TRANSFER_BYTES};
+use proved::{bytes, ENTRIES, SETTINGS_BYTES, TRANSFER_BYTES};
 use reference::{Kind, Transfer};
 
 const LEN: usize = 16_384;
+
+/// Where byte i of entry k stands.
+fn at(k: usize, i: usize) -> usize {
+    6 + (SETTINGS_BYTES - 6) / ENTRIES * k + i
+}
 
 fn buffers() -> Buffers {
     Buffers::filled(LEN, 5)
@@ -135,7 +140,7 @@ fn links_of_every_kind() {
         let k = r.below(16) as usize;
         let kind = 3 + r.below(253) as u8;
         let mut b = proved_settings(&s).bytes();
-        b[6 + 33 * k + 31] = kind;
+        b[at(k, 31)] = kind;
         let mut changed = s;
         changed.table[k].link = reference::Link::OwnedBy(255);
         let wanted = reference::ask_place(&changed, 40 * 4096, reference::ARM_S);
@@ -157,13 +162,19 @@ fn any_bytes() {
     for _ in 0..20_000 {
         let s = any_settings(&mut r, 40);
         let mut b = proved_settings(&s).bytes();
-        let flags = (0..5).chain(
-            (0..16).flat_map(|k| (24..31).filter(|&i| i != 28).map(move |i| 6 + 33 * k + i)),
-        );
+        let flags = (0..5)
+            .chain((0..ENTRIES).flat_map(|k| (24..31).filter(|&i| i != 28).map(move |i| at(k, i))));
         for i in flags {
             if b[i] != 0 {
                 b[i] = 1 + r.below(255) as u8;
             }
+        }
+        // no answer depends on "don't restart", or on a slot that is not used
+        for k in 0..ENTRIES {
+            b[at(k, 33)] = r.of(&[0, 1, 255]);
+            let used = usize::from(b[at(k, 28)].min(4));
+            let slots = at(k, 8 + 4 * used)..at(k, 24);
+            b[slots].fill(r.draw() as u8);
         }
         let family = r.of(&compare::FAMILIES);
         let wanted = reference::ask_place(&s, 40 * 4096, family);

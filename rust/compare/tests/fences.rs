@@ -10,9 +10,11 @@ use compare::fence::{Fenced, Side};
 use compare::hex::{any_reader, any_record, any_text};
 use compare::plain::any_plain;
 use compare::region::any_region;
+use compare::store::{any_stored, proved_stored};
 use compare::{any_arrival, any_settings, any_transfer, Buffers, Ram, Random, FAMILIES};
 use compare::{proved_settings, proved_transfer};
 use proved::bytes;
+use proved::store::bytes::{read, write};
 
 /// The number of calls of each test.
 fn number() -> usize {
@@ -407,6 +409,48 @@ fn reports_keep_their_bounds() {
         added += usize::from(alone < 70);
     }
     assert!(added > number() / 20, "{added}");
+}
+
+#[test]
+fn stores_keep_their_bounds() {
+    let mut r = Random(37);
+    let mut answers = [0; 43];
+    for _ in 0..number() {
+        let (settings, len) = any_stored(&mut r);
+        let settings = any_length(&mut r, proved_stored(&settings).bytes().to_vec());
+        let settings = Twin::read(&mut r, settings);
+        let any = r.below(360) as usize;
+        let room = r.of(&[2, 24, 354, any]);
+        let mut store = Twin::written(&mut r, vec![9; room]);
+        let fenced = write(settings.fenced.bytes(), len, store.fenced.bytes_mut());
+        let plain = write(&settings.plain, len, &mut store.plain);
+        assert_eq!(fenced, plain);
+        settings.check("settings");
+        store.check("store");
+        answers[plain as usize] += 1;
+
+        let count = usize::from(settings.plain.get(5).map_or(0, |&n| n.min(16)));
+        let mut bytes = store.plain;
+        bytes.resize(2 + 22 * count, 0);
+        if r.one_in(2) {
+            let bit = r.below(8 * bytes.len() as u64) as usize;
+            bytes[bit / 8] ^= 0x80 >> (bit % 8);
+        }
+        let bytes = any_length(&mut r, bytes);
+        let store = Twin::read(&mut r, bytes);
+        let settings = any_length(&mut r, vec![9; proved::SETTINGS_BYTES]);
+        let mut settings = Twin::written(&mut r, settings);
+        let fenced = read(store.fenced.bytes(), len, settings.fenced.bytes_mut());
+        let plain = read(&store.plain, len, &mut settings.plain);
+        assert_eq!(fenced, plain);
+        settings.check("settings");
+        store.check("store");
+        answers[plain as usize] += 1;
+    }
+    let often = number() / 400;
+    for answer in [0, 1, 2, 40, 41, 42] {
+        assert!(answers[answer] >= often, "{answers:?}");
+    }
 }
 
 #[test]

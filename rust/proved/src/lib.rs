@@ -45,6 +45,7 @@ pub mod bytes;
 mod ffi;
 pub mod hex;
 mod settings;
+pub mod store;
 pub mod tags;
 mod transfer;
 

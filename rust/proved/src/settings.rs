@@ -3,7 +3,7 @@
 /// The entries of a partition table, used or not.
 pub const ENTRIES: usize = 16;
 const HEAD_BYTES: usize = 6;
-const ENTRY_BYTES: usize = 33;
+const ENTRY_BYTES: usize = 34;
 
 /// The bytes of settings, as the C interface takes them.
 pub const SETTINGS_BYTES: usize = HEAD_BYTES + ENTRIES * ENTRY_BYTES;
@@ -53,6 +53,8 @@ pub struct Entry {
     pub not_bootable_riscv: bool,
     /// How it is linked to another entry.
     pub link: Link,
+    /// Don't restart: kept for the board, and no answer depends on it.
+    pub no_restart: bool,
 }
 
 /// What decides where a family's blocks go. Bad settings are answered `BadSettings`.
@@ -88,6 +90,7 @@ impl Entry {
         not_bootable_arm: false,
         not_bootable_riscv: false,
         link: Link::Unlinked,
+        no_restart: false,
     };
 
     fn bytes(&self) -> [u8; ENTRY_BYTES] {
@@ -114,8 +117,36 @@ impl Entry {
             self.not_bootable_riscv.into(),
             kind,
             index,
+            self.no_restart.into(),
         ]);
         bytes
+    }
+
+    /// The entry of such bytes, unless its link is none.
+    fn from_bytes(bytes: &[u8; ENTRY_BYTES]) -> Option<Entry> {
+        let field = |at: usize| {
+            let [a, b, c, d] = [bytes[at], bytes[at + 1], bytes[at + 2], bytes[at + 3]];
+            u32::from_le_bytes([a, b, c, d])
+        };
+        Some(Entry {
+            first: field(0),
+            sectors: field(4),
+            data: bytes[24] != 0,
+            arm_s: bytes[25] != 0,
+            riscv: bytes[26] != 0,
+            arm_ns: bytes[27] != 0,
+            user_count: bytes[28],
+            users: [field(8), field(12), field(16), field(20)],
+            not_bootable_arm: bytes[29] != 0,
+            not_bootable_riscv: bytes[30] != 0,
+            link: match (bytes[31], bytes[32]) {
+                (0, _) => Link::Unlinked,
+                (1, k) => Link::OwnedBy(k),
+                (2, k) => Link::BOf(k),
+                _ => return None,
+            },
+            no_restart: bytes[33] != 0,
+        })
     }
 }
 
@@ -149,5 +180,29 @@ impl Settings {
             part.copy_from_slice(&entry.bytes());
         }
         bytes
+    }
+
+    /// The settings of such bytes, every entry of the table as its bytes have it; `None` where one has a link that is none.
+    pub fn from_bytes(bytes: &[u8; SETTINGS_BYTES]) -> Option<Settings> {
+        let mut table = [Entry::BLANK; ENTRIES];
+        for (entry, part) in table
+            .iter_mut()
+            .zip(bytes[HEAD_BYTES..].chunks_exact(ENTRY_BYTES))
+        {
+            *entry = Entry::from_bytes(part.try_into().ok()?)?;
+        }
+        Some(Settings {
+            arm: bytes[0] != 0,
+            riscv: bytes[1] != 0,
+            current: if bytes[2] == 0 {
+                Arch::Arm
+            } else {
+                Arch::RiscV
+            },
+            auto_switch: bytes[3] != 0,
+            absolute: bytes[4] != 0,
+            count: bytes[5],
+            table,
+        })
     }
 }

@@ -24,7 +24,7 @@ cast-t8 c = search needs
 
 returns : tie.Need-returns
 unfolding entryFrom chunkFields unpacked total
-returns c = rw (c .link-of .ensures) refl
+returns c = rw (c .before .link-of .ensures) refl
 
 pub entry-of-spec : {M : Type 1} → statement M
 entry-of-spec = tie.close (tie.spec cast-link-of link-of-requires cast-t9 cast-t10 cast-t8 returns)

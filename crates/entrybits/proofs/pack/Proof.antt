@@ -64,11 +64,8 @@ slot-of-requires-3 c κs = search needs
 slot-of-requires-4 : tie.Need-slot-of-requires-4
 slot-of-requires-4 c κs = search needs
 
-bit-of-requires-7 : tie.Need-bit-of-requires-7
-bit-of-requires-7 c κs = search needs
-
-mul-bytes-of-2 : tie.Need-mul-bytes-of-2
-mul-bytes-of-2 c = search needs
+last-six-requires : tie.Need-last-six-requires
+last-six-requires c κs = search needs
 
 bytes-of-requires : tie.Need-bytes-of-requires
 bytes-of-requires c κs = search needs
@@ -77,10 +74,10 @@ returns : tie.Need-returns
 returns c =
     let start = c .before .before .before .before .before .before .before .before .before .before .before .before .before .before .before .before .before .before .before in
     c .bytes-of .ensures
-    ∙ entry-joined (start .args .e) (start .args .no-restart) _ _ _ _ _ _ _ _ _ _ _ _ _ _ _
+    ∙ entry-joined (start .args .e) _ _ _ _ _ _ _ _ _ _ _ _ _ _ _
     (c .before .before .before .before .before .before .before .before .before .before .before .before .before .lead .ensures .0) (c .before .before .before .before .before .before .marks .ensures .0) (c .before .before .before .before .before .before .before .before .before .before .before .before .before .before .before .kind-of .ensures .0) (ap (λ (k : ℕ). k % 16) (c .before .before .before .before .before .before .before .before .before .before .before .before .before .before .index-of .ensures))
     (c .before .before .before .before .before .before .before .before .before .before .before .before .bit-of .ensures .0) (c .before .before .before .before .before .before .before .before .before .before .before .bit-of2 .ensures .0) (c .before .before .before .before .before .before .before .before .before .before .bit-of3 .ensures .0) (c .before .before .before .before .before .before .before .before .before .bit-of4 .ensures .0) (c .before .before .before .before .before .before .before .before .bit-of5 .ensures .0) (c .before .before .before .before .before .before .before .bit-of6 .ensures .0)
-    (c .before .before .before .before .before .slot-of .ensures) (c .before .before .before .before .slot-of2 .ensures) (c .before .before .before .slot-of3 .ensures) (c .before .before .slot-of4 .ensures) (c .before .bit-of7 .ensures .0)
+    (c .before .before .before .before .before .slot-of .ensures) (c .before .before .before .before .slot-of2 .ensures) (c .before .before .before .slot-of3 .ensures) (c .before .before .slot-of4 .ensures) (c .before .last-six .ensures .0)
     (omega arith) (omega arith) (omega arith) (omega arith)
 
 pub pack-spec : {M : Type 1} → statement M
@@ -106,7 +103,6 @@ pack-spec =
     slot-of-requires-2
     slot-of-requires-3
     slot-of-requires-4
-    bit-of-requires-7
-    mul-bytes-of-2
+    last-six-requires
     bytes-of-requires
     returns)

@@ -43,10 +43,13 @@ shared-slice-read-t23 c = search needs
 shared-slice-read-t26 : tie.Need-shared-slice-read-t26
 shared-slice-read-t26 c = search needs
 
+shared-slice-read-t29 : tie.Need-shared-slice-read-t29
+shared-slice-read-t29 c = search needs
+
 returns : tie.Need-returns
 unfolding entryFrom
 returns c =
-    let f = c .before .before .before .before .before .before .before in
+    let f = c .before .before .before .before .before .before .before .before in
     let l = f .before .before in
     simp (l .before .before .before .users .ensures, l .link .ensures, f .before .field .ensures, f .field2 .ensures)
 
@@ -67,4 +70,5 @@ entry-spec =
     shared-slice-read-t21
     shared-slice-read-t23
     shared-slice-read-t26
+    shared-slice-read-t29
     returns)

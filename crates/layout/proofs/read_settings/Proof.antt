@@ -2,15 +2,16 @@
 use Prim.Native.Nat.{_≤_, _-_}
 use mathlib.Core.Path.{_≡_, ap, _∙_}
 use native.Mathlib.Omega.{arith}
-use Rattle.layout.specs.Layout.{countFrom, usedOf, settingsOf}
-use Rattle.layout.proofs.Table.{Read, read-none, entry-part, read-more, used-whole, settings-read}
+use Rattle.settings.proofs.Tables.{Filled, filled-none, filled-more}
+use Rattle.layout.specs.Layout.{entryIn, countFrom, usedOf, settingsOf}
+use Rattle.layout.proofs.Table.{entry-part, used-whole, settings-read}
 use borrow.Author.Needs.{needs}
 use Rattle.layout.proofs.read_settings.Statement.{statement}
 use Rattle.layout.proofs.read_settings.Tie as tie
 
 abbrev Inv-loop : tie.InvT-loop
 Inv-loop bytes arm riscv current auto-switch absolute count n table₀ k₀ table k =
-    (k ≤ n) × (n ≤ 16) × (n ≡ usedOf (countFrom bytes)) × Read bytes k table
+    (k ≤ n) × (n ≤ 16) × (n ≡ usedOf (countFrom bytes)) × Filled (entryIn bytes) k table
 
 abbrev μ-loop : tie.MeasureT-loop
 μ-loop bytes arm riscv current auto-switch absolute count n table₀ k₀ table k = n - k
@@ -45,7 +46,7 @@ blank-requires c κs = search needs
 loop-holds : tie.Need-loop-holds Inv-loop μ-loop
 loop-holds c =
     let used = c .before .used in
-    (search needs, used .ensures .1, used .ensures .0 ∙ ap usedOf (c .before .before .count .ensures), read-none _ (c .blank .ensures))
+    (search needs, used .ensures .1, used .ensures .0 ∙ ap usedOf (c .before .before .count .ensures), filled-none _ (c .blank .ensures))
 
 mul-from : tie.Need-mul-from Inv-loop μ-loop
 mul-from c = search needs
@@ -83,7 +84,7 @@ loop-less c = search needs
 loop-again : tie.Need-loop-again Inv-loop μ-loop
 loop-again c =
     let at = c .before .before .before .loop in
-    (search needs, at .inv .1, at .inv .2, read-more _ (at .k) (at .table) (omega arith) (at .inv .3) (entry-part _ (at .k) (c .entry .ensures)))
+    (search needs, at .inv .1, at .inv .2, filled-more _ (at .k) (at .table) (omega arith) (at .inv .3) (entry-part _ (at .k) (c .entry .ensures)))
 
 returns : tie.Need-returns Inv-loop μ-loop
 unfolding settingsOf

@@ -1,0 +1,5 @@
+-- The claims of `specs/` hold.
+pub mod Parts
+pub mod Compared
+pub mod Written
+pub mod Encoding

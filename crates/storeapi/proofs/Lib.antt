@@ -1,0 +1,3 @@
+-- The laws and claims of `specs/`.
+mod Laws
+pub mod Claims
