@@ -86,11 +86,11 @@ pub fn look(
             discarded: false,
         },
         Verdict::Accepts(acceptance) => {
-            let accepted = acceptance.accepted;
-            let answer = accepted.answer;
+            let would = acceptance.accepted;
+            let answer = would.answer;
             Preview {
                 answer,
-                discarded: accepted.discarded,
+                discarded: would.discarded,
             }
         }
     }
