@@ -4,8 +4,8 @@
  * 33 for its own data, 35 for the end and 34 for every other line, and that the image is whole. Then the same file into an image that
  * is too small for the data: 32 instead of 33, the same end, and the image is not whole.
  *
- *     rt staticlib capi
- *     gcc -std=c99 -Iinclude include/example.c target/staticlib/libcapi.a -o example
+ *     rt staticlib capi && rt staticlib lookapi && rt staticlib takeapi
+ *     gcc -std=c99 -Iinclude include/example.c target/staticlib/lib*.a -o example
  */
 #include "uf2_receiver.h"
 

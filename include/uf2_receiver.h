@@ -1,16 +1,27 @@
-/* The update receiver for C: every function is proved to do what crates/capi/specs says, for every input.
+/* The update receiver for C: every function is proved to do what crates/callbytes/specs and crates/capi/specs say, for every input.
  *
- * Built for: x86-64 Linux. `rt staticlib capi` writes target/staticlib/libcapi.a, code for the System V calling convention that calls
+ * Built for: x86-64 Linux. `rt staticlib NAME` writes target/staticlib/libNAME.a, code for the System V calling convention that calls
  * nothing but memcpy and memset, allocates nothing and keeps nothing between calls, so that calls on different buffers may run at the
- * same time. A call needs at most UF2_STACK_SIZE bytes of stack (measured: docs/BENCHMARKS.md).
+ * same time. A call needs at most UF2_STACK_SIZE bytes of stack (measured: docs/BENCHMARKS.md). Each library stands alone: link those of
+ * the calls that you use, in any order, or all of them (gcc .. target/staticlib/lib*.a). A call for one arrival is a library of its own,
+ * since it is then compiled as one piece.
+ *
+ *     acceptapi   uf2_accept
+ *     takeapi     uf2_take
+ *     lookapi     uf2_look
+ *     capi        uf2_new, uf2_ask, uf2_take_all, uhex_new, uhex_line
+ *
+ * Which call is for whom: uf2_take where flash is memory that can be stored to (an erase sets 4,096 bytes to 0xFF, a payload is copied to
+ * its place); uf2_accept where flash can be read as memory, and is written by a driver that erases sectors and programs pages; uf2_take_all
+ * for a host that has many arrivals at once, and the flash as memory. All three answer alike.
  *
  * A slice is a pointer to bytes and then their number (`uf2_len`, 64 bits), and no function keeps a pointer. A pointer is never null,
  * also of an empty slice, and points to as many bytes as the number says; it may have any alignment. Slices that a function writes (no
- * `const`) overlap no other slice of the call. Flash is memory that can be stored to: an erase sets 4,096 bytes to 0xFF, a payload is
- * copied to its place. Where flash needs a driver, lend a copy of it in memory and write it back afterwards.
+ * `const`) overlap no other slice of the call.
  *
  * Names: `.._SIZE` is a number of bytes, `.._AT` the offset of a byte in a slice, `UF2_ANSWER_..` and `UHEX_ANSWER_..` what a call says,
- * `UF2_STATE_..` and `UHEX_STATE_..` where a transfer or a reader stands, `UF2_KIND_..` what a transfer writes to. */
+ * `UF2_STATE_..` and `UHEX_STATE_..` where a transfer or a reader stands, `UF2_KIND_..` what a transfer writes to, `UF2_PLAN_..` what is
+ * left to do to the flash. */
 #ifndef UF2_RECEIVER_H
 #define UF2_RECEIVER_H
 
@@ -122,7 +133,7 @@ enum uf2_state { UF2_STATE_IDLE = 0, UF2_STATE_RUNNING = 1, UF2_STATE_DONE = 2 }
  * total has that transfer's kind, unless the buffer of this kind is empty; every other comment is of kind flash. */
 enum uf2_answer {
     UF2_ANSWER_FOUND = 0,        /* of uf2_ask alone */
-    UF2_ANSWER_BAD_BUFFERS = 1,  /* arrival, flash, a map or a RAM buffer has a wrong length */
+    UF2_ANSWER_BAD_BUFFERS = 1,  /* arrival, flash, a map, a RAM buffer or a plan has a wrong length */
     UF2_ANSWER_BAD_SETTINGS = 2,
     UF2_ANSWER_BAD_STATE = 3,    /* the transfer's numbers fit no transfer */
     UF2_ANSWER_NOT_BLOCK = 4,    /* a magic number differs */
@@ -177,6 +188,46 @@ uint32_t uf2_look(const uint8_t *settings, uf2_len settings_len, const uint8_t *
 uint32_t uf2_take(const uint8_t *settings, uf2_len settings_len, uint8_t *transfer, uf2_len transfer_len, const uint8_t *arrival,
                   uf2_len arrival_len, uint8_t *flash, uf2_len flash_len, uint8_t *seen, uf2_len seen_len, uint8_t *sectors,
                   uf2_len sectors_len, uint8_t *main_ram, uf2_len main_ram_len, uint8_t *xip_ram, uf2_len xip_ram_len);
+
+/* ---- A plan for the flash's driver: written by uf2_accept. Three numbers of 32 bits; sector and page are offsets in the flash, and all
+ * three are 0 where nothing is planned. */
+#define UF2_PLAN_SIZE 12
+#define UF2_PLAN_DEED_AT 0   /* enum uf2_plan */
+#define UF2_PLAN_SECTOR_AT 4 /* the sector of the page: UF2_SECTOR_SIZE bytes from here */
+#define UF2_PLAN_PAGE_AT 8   /* the page: UF2_PAYLOAD_SIZE bytes from here */
+
+/* The bytes of an arrival that the page gets. */
+#define UF2_PAYLOAD_AT 32
+#define UF2_PAYLOAD_SIZE 256
+
+enum uf2_plan {
+    UF2_PLAN_NOTHING = 0, /* a refusal, a comment, a kept block, or one for RAM, which is stored already */
+    UF2_PLAN_PROGRAM = 1, /* program the page */
+    UF2_PLAN_ERASE = 2    /* erase the sector, then program the page */
+};
+
+/* An arrival accepted, with the flash left to a driver: the result that uf2_take would return on the same bytes. It makes every check of a
+ * take, and leaves transfer, both maps and the RAM buffers exactly as the take does; of the flash it reads alone, and `plan` says what the
+ * take would have done to it. Where plan_len is not UF2_PLAN_SIZE the answer is UF2_ANSWER_BAD_BUFFERS, and nothing changes. Perform the
+ * plan before the next call that is lent the same flash.
+ *
+ * What the driver may rely on (crates/plans/specs, for every input):
+ * - the plan performed gives the flash that the take would leave, byte for byte, one after the other over every list of arrivals;
+ * - page and sector lie in the flash, in the place of the block's family; the page is a multiple of UF2_PAYLOAD_SIZE and lies in that
+ *   sector, which is a multiple of UF2_SECTOR_SIZE;
+ * - from a fresh transfer on, in each transfer a sector is planned to be erased at most once, and with its first page: no page is planned
+ *   into a sector that was not erased in this transfer.
+ * A page is planned once if no two blocks of the file name the same address, as in a file of UF2 they should not. Where two do, the second
+ * is planned too, since the take stores it: a flash that cannot store it over the first is a driver that fails.
+ *
+ * Where the driver fails: drop the transfer (uf2_new), and let the file be sent again from its first block. Transfer and maps say already
+ * that the page is there, and that its sector was erased: a transfer that went on would answer UF2_ANSWER_AGAIN to the same block, and end
+ * as UF2_ANSWER_COMPLETED with a page that is not in the flash. A fresh transfer clears both maps with its first block, so that each sector
+ * is erased anew. The same holds where power fails between this call and the end of its plan, if the transfer was kept. */
+uint32_t uf2_accept(const uint8_t *settings, uf2_len settings_len, uint8_t *transfer, uf2_len transfer_len, const uint8_t *arrival,
+                    uf2_len arrival_len, const uint8_t *flash, uf2_len flash_len, uint8_t *seen, uf2_len seen_len, uint8_t *sectors,
+                    uf2_len sectors_len, uint8_t *main_ram, uf2_len main_ram_len, uint8_t *xip_ram, uf2_len xip_ram_len, uint8_t *plan,
+                    uf2_len plan_len);
 
 /* Arrivals taken one after the other, each UF2_ARRIVAL_SIZE bytes: as many whole ones as there are bytes in `results`, which get the
  * results that uf2_take would return; the number of them. The other bytes of `results` stay as they were lent, and so does the transfer

@@ -3,7 +3,7 @@
  * What a board links is include/uf2_receiver.h.
  *
  * Built for: x86-64 Linux. `rt staticlib toolsapi` writes target/staticlib/libtoolsapi.a, and `rt staticlib traceapi` libtraceapi.a, which has
- * uf2_replay and uf2_figures. Both link beside libcapi.a; they call nothing but memcpy and memset, allocate nothing and keep nothing between calls.
+ * uf2_replay and uf2_figures. Both link beside the libraries of uf2_receiver.h; they call nothing but memcpy and memset, allocate nothing and keep nothing between calls.
  *
  * A slice is a pointer to bytes and then their number, and no function keeps a pointer. A pointer is never null, also of an empty slice, and
  * points to as many bytes as the number says; it may have any alignment. A slice that a function writes (no `const`) overlaps no other

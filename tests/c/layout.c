@@ -1,7 +1,7 @@
-/* The header's numbers against the library: every offset of settings, transfers, places and readers, and every answer, by its name.
+/* The header's numbers against the library: every offset of settings, transfers, places, plans and readers, and every answer, by its name.
  * Prints what does not hold, and fails.
  *
- *     gcc -std=c99 -Iinclude tests/c/layout.c target/staticlib/libcapi.a -o layout
+ *     gcc -std=c99 -Iinclude tests/c/layout.c target/staticlib/lib*.a -o layout
  */
 #include "uf2_receiver.h"
 
@@ -235,6 +235,58 @@ static void arrivals(void) {
     result = take();
     CHECK(result == UF2_ANSWER_COMPLETED && !UF2_RESULT_IS_DISCARDED(result) && stands(UF2_STATE_DONE, 2, 2));
     CHECK(take() == UF2_ANSWER_FINISHED && !UF2_ANSWER_IS_ACCEPTED(UF2_ANSWER_FINISHED));
+}
+
+/* ---- plans */
+
+static uint8_t plan[UF2_PLAN_SIZE + 1];
+
+static uint32_t accept_of(uf2_len plan_len) {
+    return uf2_accept(settings, sizeof settings, transfer, sizeof transfer, arrival, sizeof arrival, flash, sizeof flash, seen, sizeof seen,
+                      sectors, sizeof sectors, main_ram, main_len, xip_ram, xip_len, plan, plan_len);
+}
+
+/* The answer, with the plan written over bytes that are none. */
+static uint32_t accept(void) {
+    memset(plan, 0xA5, sizeof plan);
+    return accept_of(UF2_PLAN_SIZE);
+}
+
+static int planned(int deed, uint32_t sector, uint32_t page) {
+    return uf2_get32(plan + UF2_PLAN_DEED_AT) == (uint32_t)deed && uf2_get32(plan + UF2_PLAN_SECTOR_AT) == sector &&
+           uf2_get32(plan + UF2_PLAN_PAGE_AT) == page && plan[UF2_PLAN_SIZE] == 0xA5;
+}
+
+static void plans(void) {
+    static uint8_t old[sizeof flash];
+
+    /* the place of arm-s is the last but one sector, so that an offset in the flash is none in the place */
+    table(16);
+    entry(14)[UF2_ENTRY_ARM_S_AT] = 1;
+    uf2_new(transfer, sizeof transfer);
+    memset(flash, 0x5A, sizeof flash);
+    memcpy(old, flash, sizeof flash);
+    memset(plan, 0xA5, sizeof plan);
+    block(2, 4);
+    CHECK(accept_of(UF2_PLAN_SIZE - 1) == UF2_ANSWER_BAD_BUFFERS && stands(UF2_STATE_IDLE, 0, 0) && plan[0] == 0xA5);
+    CHECK(accept_of(UF2_PLAN_SIZE + 1) == UF2_ANSWER_BAD_BUFFERS && stands(UF2_STATE_IDLE, 0, 0) && plan[0] == 0xA5);
+    CHECK(accept() == UF2_ANSWER_WRITTEN && stands(UF2_STATE_RUNNING, 4, 1));
+    CHECK(planned(UF2_PLAN_ERASE, 14 * UF2_SECTOR_SIZE, 14 * UF2_SECTOR_SIZE + 2 * UF2_PAYLOAD_SIZE));
+    CHECK(accept() == UF2_ANSWER_AGAIN && planned(UF2_PLAN_NOTHING, 0, 0));
+    block(1, 4);
+    CHECK(accept() == UF2_ANSWER_WRITTEN);
+    CHECK(planned(UF2_PLAN_PROGRAM, 14 * UF2_SECTOR_SIZE, 14 * UF2_SECTOR_SIZE + UF2_PAYLOAD_SIZE));
+    block(0, 4);
+    uf2_put32(arrival + FLAGS_AT, 0x2001);
+    CHECK(accept() == UF2_ANSWER_NOTED && planned(UF2_PLAN_NOTHING, 0, 0));
+    block(3, 3);
+    CHECK(accept() == UF2_ANSWER_BAD_NUMBERS && planned(UF2_PLAN_NOTHING, 0, 0));
+    block(0, 1);
+    uf2_put32(arrival + ADDRESS_AT, UF2_XIP_RAM_START);
+    memset(arrival + UF2_PAYLOAD_AT, 7, UF2_PAYLOAD_SIZE);
+    CHECK(accept() == (UF2_ANSWER_COMPLETED | UF2_RESULT_DISCARDED) && planned(UF2_PLAN_NOTHING, 0, 0));
+    CHECK(xip_ram[0] == 7 && xip_ram[UF2_PAYLOAD_SIZE - 1] == 7);
+    CHECK(memcmp(flash, old, sizeof flash) == 0);
 }
 
 /* ---- RAM windows */
@@ -477,6 +529,7 @@ int main(void) {
     entries();
     passes();
     arrivals();
+    plans();
     windows();
     kinds();
     refusals();

@@ -3,7 +3,7 @@
  * than the header says. Linked so that memcpy and memset are found at the start: else the first call of each also runs the dynamic
  * linker, on the same stack.
  *
- *     gcc -std=c99 -Wl,-z,now -Iinclude tests/c/stack.c target/staticlib/libcapi.a target/staticlib/libtagsapi.a target/staticlib/libstoreapi.a -o stack
+ *     gcc -std=c99 -Wl,-z,now -Iinclude tests/c/stack.c target/staticlib/lib*.a -o stack
  */
 #define _XOPEN_SOURCE 700
 #include "uf2_receiver.h"
@@ -45,6 +45,13 @@ static void call_look(void) {
 static void call_take(void) {
     uf2_take(settings, sizeof settings, transfer, sizeof transfer, arrivals, UF2_ARRIVAL_SIZE, flash, sizeof flash, seen, sizeof seen,
              sectors, sizeof sectors, main_ram, sizeof main_ram, xip_ram, sizeof xip_ram);
+}
+
+static uint8_t plan[UF2_PLAN_SIZE];
+
+static void call_accept(void) {
+    uf2_accept(settings, sizeof settings, transfer, sizeof transfer, arrivals, UF2_ARRIVAL_SIZE, flash, sizeof flash, seen, sizeof seen,
+               sectors, sizeof sectors, main_ram, sizeof main_ram, xip_ram, sizeof xip_ram, plan, sizeof plan);
 }
 
 static void call_take_all(void) {
@@ -148,7 +155,7 @@ int main(void) {
     static const char *const file[] = {":020000040000FA\n", ":0400000A9900C0DEBB\n", ":040000001122334452\r\n",
                                        ":10000000000102030405060708090A0B0C0D0E0F78\n", "x"};
     static const uint32_t starts[] = {UF2_FLASH_START, UF2_MAIN_RAM_START, UF2_XIP_RAM_START};
-    size_t ask = 0, look = 0, one = 0, all = 0, hex = 0, i;
+    size_t ask = 0, look = 0, one = 0, accept = 0, all = 0, hex = 0, i;
     uint8_t counts[] = {0, 16, 17}, k;
 
     empty = used(nothing);
@@ -166,6 +173,14 @@ int main(void) {
             look = larger(look, used(call_look) - empty);
             one = larger(one, used(call_take) - empty);
         }
+        /* the same four, accepted from a fresh transfer */
+        uf2_new(transfer, sizeof transfer);
+        for (i = 0; i < 4; i++) {
+            arrivals[15] = (uint8_t)(i == 2 ? 0xFF : starts[k % 3] >> 24);
+            arrivals[0] = (uint8_t)(i == 3 ? 0 : 0x55);
+            accept = larger(accept, used(call_accept) - empty);
+        }
+        arrivals[15] = (uint8_t)(starts[k % 3] >> 24);
         arrivals[0] = 0x55;
         /* again, written, completed; then finished */
         all = larger(all, used(call_take_all) - empty);
@@ -176,6 +191,7 @@ int main(void) {
     tell("uf2_ask", ask);
     tell("uf2_look", look);
     tell("uf2_take", one);
+    tell("uf2_accept", accept);
     tell("uf2_take_all", all);
     tell("uhex_new", used(call_hex_new) - empty);
     for (i = 0; i < sizeof file / sizeof file[0]; i++) {

@@ -123,6 +123,17 @@ impl Buffers {
         }
     }
 
+    /// The flash for reading, and what is beside it.
+    pub fn lend_beside(&mut self) -> (&[u8], proved::Beside<'_>) {
+        let beside = proved::Beside {
+            seen: &mut self.seen,
+            sectors: &mut self.sectors,
+            main: &mut self.main,
+            xip: &mut self.xip,
+        };
+        (&self.flash, beside)
+    }
+
     /// A look of the reference, with these: answer and "discarded".
     pub fn plain_look(&self, s: &Settings, t: Transfer, arrival: &[u8]) -> (u8, bool) {
         let Buffers {
@@ -149,6 +160,18 @@ impl Buffers {
     /// A take of the proved receiver over bytes, with these: the result.
     pub fn take(&mut self, settings: &[u8], transfer: &mut [u8], arrival: &[u8]) -> u32 {
         proved::bytes::take(settings, transfer, arrival, &mut self.lend())
+    }
+
+    /// An arrival accepted by the proved receiver over bytes, with these: the result.
+    pub fn accept(
+        &mut self,
+        settings: &[u8],
+        transfer: &mut [u8],
+        arrival: &[u8],
+        plan: &mut [u8],
+    ) -> u32 {
+        let (flash, mut beside) = self.lend_beside();
+        proved::bytes::accept(settings, transfer, arrival, flash, &mut beside, plan)
     }
 
     /// Many takes of the proved receiver over bytes, with these: their number.

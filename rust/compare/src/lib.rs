@@ -4,6 +4,7 @@ pub mod before_ram;
 mod buffers;
 pub mod fence;
 pub mod hex;
+pub mod nor;
 mod pair;
 pub mod plain;
 pub mod region;

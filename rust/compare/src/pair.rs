@@ -1,7 +1,8 @@
-//! Both receivers, each with buffers of its own.
+//! Both receivers, each with buffers of its own, and the proved one a second time, with a flash that a driver writes.
 
 use reference::{Settings, Transfer};
 
+use crate::nor::Driven;
 use crate::{proved_settings, proved_transfer, Buffers};
 
 /// Both receivers, one settings and one transfer.
@@ -11,6 +12,7 @@ pub struct Pair {
     pub transfer: Transfer,
     pub ours: Buffers,
     pub theirs: Buffers,
+    pub driven: Driven,
 }
 
 impl Pair {
@@ -20,12 +22,18 @@ impl Pair {
             settings,
             transfer,
             ours: buffers.clone(),
-            theirs: buffers,
+            theirs: buffers.clone(),
+            driven: Driven::new(buffers),
         }
     }
 
+    /// The same transfer, with other buffers.
+    pub fn lend(&mut self, buffers: Buffers) {
+        *self = Pair::new(self.settings, self.transfer, buffers);
+    }
+
     /// Both look at the arrival and take it; says what all four answered. A look leaves every buffer as it was: ours are the reference's
-    /// before it, by the last take, and after it.
+    /// before it, by the last take, and after it. Accepted and performed on a NOR flash, it ends as the take does.
     pub fn take(&mut self, arrival: &[u8]) -> u8 {
         self.told(arrival).0
     }
@@ -49,6 +57,12 @@ impl Pair {
         assert_eq!(got, looked, "the look said it");
         assert_eq!(t, proved_transfer(wanted.transfer), "transfer");
         assert!(self.ours == self.theirs, "buffers");
+
+        let mut after = proved_transfer(self.transfer);
+        let accepted = self.driven.take(&self.proved, &mut after, arrival);
+        assert_eq!(accepted, got, "accepted as taken");
+        assert_eq!(after, t, "transfer of the accepted");
+        assert!(self.driven.holds(&self.ours), "buffers of the accepted");
         self.transfer = wanted.transfer;
         (wanted.answer, wanted.discarded)
     }

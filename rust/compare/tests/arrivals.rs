@@ -17,6 +17,8 @@ struct Met {
     comments: [usize; 3],
     /// A running transfer discarded by one that differs in kind alone.
     kind_changes: usize,
+    /// What was planned for a driver, by the deed's number.
+    plans: [usize; 3],
 }
 
 impl Met {
@@ -98,12 +100,16 @@ fn arrivals_agree() {
                 break;
             }
         }
+        for (sum, n) in met.plans.iter_mut().zip(pair.driven.plans) {
+            *sum += n;
+        }
     }
     // every answer but 1 came, and often; none is 6
     let often = arrivals_asked() / 500;
     let all = (2..18).filter(|&n| n != 6);
     assert!(all.map(|n| met.answers[n]).all(|n| n > often), "{met:?}");
     assert_eq!(met.answers[6], 0);
+    assert!(met.plans.iter().all(|&n| n > often), "{met:?}");
     // and every kind, with changes between them
     let kinds = met.data.iter().chain([&met.comments[0], &met.kind_changes]);
     assert!(kinds.copied().all(|n| n > often), "{met:?}");

@@ -218,6 +218,61 @@ fn takes_keep_their_bounds() {
     assert!(answers[1..].iter().all(|&n| n >= often), "{answers:?}");
 }
 
+/// The flash for reading, and what is lent beside it.
+fn beside(lent: proved::Buffers<'_>) -> (&[u8], proved::Beside<'_>) {
+    let beside = proved::Beside {
+        seen: lent.seen,
+        sectors: lent.sectors,
+        main: lent.main,
+        xip: lent.xip,
+    };
+    (lent.flash, beside)
+}
+
+/// The flash lies in pages that cannot be written.
+#[test]
+fn acceptances_keep_their_bounds_and_write_no_flash() {
+    let mut r = Random(37);
+    let (mut answers, mut planned) = ([0; 18], [0; 3]);
+    for _ in 0..number() {
+        let mut c = Call::any(&mut r, 1, false);
+        let flash = std::mem::take(&mut c.buffers[0].plain);
+        c.buffers[0] = Twin::read(&mut r, flash);
+        let plan = any_length(&mut r, vec![9; proved::PLAN_BYTES]);
+        let mut plan = Twin::written(&mut r, plan);
+        let (flash, mut others) = beside(fenced(&mut c.buffers));
+        let fenced = bytes::accept(
+            c.settings.fenced.bytes(),
+            c.transfer.fenced.bytes_mut(),
+            c.arrival.fenced.bytes(),
+            flash,
+            &mut others,
+            plan.fenced.bytes_mut(),
+        );
+        let (flash, mut others) = beside(plain(&mut c.buffers));
+        let alone = bytes::accept(
+            &c.settings.plain,
+            &mut c.transfer.plain,
+            &c.arrival.plain,
+            flash,
+            &mut others,
+            &mut plan.plain,
+        );
+        assert_eq!(fenced, alone);
+        c.check();
+        plan.check("plan");
+        answers[alone as usize % 128] += 1;
+        match &plan.plain[..] {
+            [deed @ 0..=2, _, _, _, ..] if plan.plain.len() == 12 => planned[*deed as usize] += 1,
+            other => assert!(other.len() != 12 && alone == 1, "{other:?}"),
+        }
+    }
+    let often = number() / 4_000;
+    answers[6] = often; // no answer has this number
+    assert!(answers[1..].iter().all(|&n| n >= often), "{answers:?}");
+    assert!(planned.iter().all(|&n| n >= often), "{planned:?}");
+}
+
 #[test]
 fn many_takes_keep_their_bounds() {
     let mut r = Random(32);

@@ -471,10 +471,10 @@ fn a_stopped_update_then_a_good_one() {
         for k in order {
             pair.take(&stopped.blocks[k]);
         }
-        r.fill(&mut pair.ours.seen);
-        r.fill(&mut pair.ours.sectors);
-        pair.theirs = pair.ours.clone();
-        let lent = pair.ours.clone();
+        let mut lent = pair.ours.clone();
+        r.fill(&mut lent.seen);
+        r.fill(&mut lent.sectors);
+        pair.lend(lent.clone());
         let n = file.blocks.len();
         let mut order: Vec<usize> = (0..n)
             .chain((0..n / 2).map(|_| r.below(n as u64) as usize))

@@ -4,7 +4,7 @@
 //! Every call is safe: a Rust slice is a pointer to as many bytes as it says, never null, and one that is written overlaps no other.
 
 use crate::ffi::{self, len};
-use crate::Buffers;
+use crate::{Beside, Buffers};
 
 /// The bytes of a place: its start and its length, 32 bits each, the lowest byte first.
 pub const PLACE_BYTES: usize = 8;
@@ -72,6 +72,40 @@ pub fn take(settings: &[u8], transfer: &mut [u8], arrival: &[u8], buffers: &mut 
             len(buffers.main),
             buffers.xip.as_mut_ptr(),
             len(buffers.xip),
+        )
+    }
+}
+
+/// An arrival accepted, with the flash left to a driver: what [`take`] would return, and in the [`PLAN_BYTES`](crate::PLAN_BYTES) of `plan` what
+/// is left to do to the flash. Another length of `plan` is answered 1, and nothing changes.
+pub fn accept(
+    settings: &[u8],
+    transfer: &mut [u8],
+    arrival: &[u8],
+    flash: &[u8],
+    beside: &mut Beside,
+    plan: &mut [u8],
+) -> u32 {
+    unsafe {
+        ffi::uf2_accept(
+            settings.as_ptr(),
+            len(settings),
+            transfer.as_mut_ptr(),
+            len(transfer),
+            arrival.as_ptr(),
+            len(arrival),
+            flash.as_ptr(),
+            len(flash),
+            beside.seen.as_mut_ptr(),
+            len(beside.seen),
+            beside.sectors.as_mut_ptr(),
+            len(beside.sectors),
+            beside.main.as_mut_ptr(),
+            len(beside.main),
+            beside.xip.as_mut_ptr(),
+            len(beside.xip),
+            plan.as_mut_ptr(),
+            len(plan),
         )
     }
 }

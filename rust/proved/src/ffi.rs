@@ -1,4 +1,4 @@
-//! The functions of libcapi.a (include/uf2_receiver.h). A slice is a pointer and then a length.
+//! The functions of the static libraries (include/uf2_receiver.h). A slice is a pointer and then a length.
 
 /// A length as the library takes it (`uf2_len`): 64 bits on every machine.
 pub type Len = u64;
@@ -56,6 +56,27 @@ extern "C" {
         main_len: Len,
         xip: *mut u8,
         xip_len: Len,
+    ) -> u32;
+
+    pub fn uf2_accept(
+        settings: *const u8,
+        settings_len: Len,
+        transfer: *mut u8,
+        transfer_len: Len,
+        arrival: *const u8,
+        arrival_len: Len,
+        flash: *const u8,
+        flash_len: Len,
+        seen: *mut u8,
+        seen_len: Len,
+        sectors: *mut u8,
+        sectors_len: Len,
+        main: *mut u8,
+        main_len: Len,
+        xip: *mut u8,
+        xip_len: Len,
+        plan: *mut u8,
+        plan_len: Len,
     ) -> u32;
 
     pub fn uf2_take_all(

@@ -1,11 +1,12 @@
 //! The proved receiver for Rust: safe calls of its C interface (include/uf2_receiver.h).
 //!
 //! UF2 blocks go through [`look`] and [`take`], lines of Universal Hex through [`hex::Reader::line`]. Nothing has to be checked before a call: every
-//! settings, transfer, reader and length gets an answer, and nothing is allocated or kept between calls. It links
-//! `target/staticlib/libcapi.a`, which `rt staticlib capi` writes: code for x86-64 Linux.
+//! settings, transfer, reader and length gets an answer, and nothing is allocated or kept between calls. It links the libraries `capi`,
+//! `lookapi`, `takeapi`, `acceptapi` and `tagsapi`, each of which `rt staticlib NAME` writes to `target/staticlib`: code for x86-64 Linux.
 //!
-//! A block goes to flash or, where its address lies in the window of a RAM that is lent, to that RAM ([`Kind`]). Flash is memory that can be
-//! stored to. Where flash needs a driver, lend a copy of it in memory and write it back afterwards.
+//! A block goes to flash or, where its address lies in the window of a RAM that is lent, to that RAM ([`Kind`]). [`take`] and [`take_all`] are
+//! for flash that is memory, which can be stored to. Where flash is read as memory and written by a driver, [`take_through`] takes an arrival
+//! through a [`FlashDriver`], or [`accept`] hands back the [`Plan`] of what is left to do. All of them answer alike.
 //!
 //! ```
 //! use proved::{Answer, Buffers, Settings, Transfer};
@@ -26,6 +27,64 @@
 //! assert_eq!(outcome.answer, Answer::NotBlock); // this block is all zeros
 //! ```
 //!
+//! # A flash with a driver
+//!
+//! ```
+//! use proved::{Answer, Beside, FlashDriver, Settings, Transfer, PAGE_BYTES, SECTOR_BYTES};
+//!
+//! /// NOR flash: an erase sets bits to 1, and programming clears them.
+//! struct Nor(Vec<u8>);
+//!
+//! /// A bit that had to go from 0 to 1.
+//! #[derive(Debug)]
+//! struct NotErased;
+//!
+//! impl AsRef<[u8]> for Nor {
+//!     fn as_ref(&self) -> &[u8] {
+//!         &self.0
+//!     }
+//! }
+//!
+//! impl FlashDriver for Nor {
+//!     type Error = NotErased;
+//!
+//!     fn erase(&mut self, sector: u32) -> Result<(), NotErased> {
+//!         self.0[sector as usize..][..SECTOR_BYTES].fill(0xFF);
+//!         Ok(())
+//!     }
+//!
+//!     fn program(&mut self, page: u32, bytes: &[u8; PAGE_BYTES]) -> Result<(), NotErased> {
+//!         for (old, &new) in self.0[page as usize..].iter_mut().zip(bytes) {
+//!             *old &= new;
+//!             if *old != new {
+//!                 return Err(NotErased);
+//!             }
+//!         }
+//!         Ok(())
+//!     }
+//! }
+//!
+//! # fn main() -> Result<(), NotErased> {
+//! # let mut block = [7; proved::ARRIVAL_BYTES];
+//! # for (at, x) in [(0, 0x0A32_4655_u32), (4, 0x9E5D_5157), (8, 0x2000), (12, 0x1000_0100), (16, 256), (20, 0), (24, 1), (28, proved::family::ARM_S), (508, 0x0AB1_6F30)] {
+//! #     block[at..at + 4].copy_from_slice(&x.to_le_bytes());
+//! # }
+//! let mut transfer = Transfer::new();
+//! let mut nor = Nor(vec![0; 32_768]);
+//! let mut beside = Beside {
+//!     seen: &mut [0; proved::SEEN_MAP_BYTES],
+//!     sectors: &mut [0; proved::SECTOR_MAP_BYTES],
+//!     main: &mut [], // a board without RAM for images
+//!     xip: &mut [],
+//! };
+//! // an error is the driver's: the transfer is then a fresh one, and the file has to be sent again
+//! let outcome = proved::take_through(&Settings::ARM, &mut transfer, &block, &mut nor, &mut beside)?;
+//! assert_eq!(outcome.answer, Answer::Completed); // the only block of its file, at page 1
+//! assert_eq!(nor.0[255..257], [0xFF, 7]);
+//! # Ok(())
+//! # }
+//! ```
+//!
 //! # What a region costs
 //!
 //! A block with flag 0x4000 names a region of flash and its MD5. Each take of such a block, where it would store, hashes the region once, and a
@@ -42,6 +101,7 @@
 #![deny(missing_docs)]
 
 pub mod bytes;
+mod driver;
 mod ffi;
 pub mod hex;
 mod settings;
@@ -49,6 +109,9 @@ pub mod store;
 pub mod tags;
 mod transfer;
 
+pub use driver::{
+    accept, take_through, Beside, FlashDriver, Plan, PAGE_BYTES, PAYLOAD_AT, PLAN_BYTES,
+};
 pub use settings::{Arch, Entry, Link, Settings, ENTRIES, SETTINGS_BYTES};
 pub use transfer::{Answer, Kind, Outcome, Transfer, TRANSFER_BYTES};
 
@@ -178,5 +241,5 @@ pub fn take_all(
 /// The library returned what is proved not to be returned.
 #[cold]
 fn unknown(number: u32) -> ! {
-    panic!("libcapi.a returned {number}, none of its answers: it is not the proved library of this version");
+    panic!("the library returned {number}, none of its answers: it is not the proved one of this version");
 }
