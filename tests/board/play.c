@@ -1,6 +1,11 @@
 #include "play.h"
 
-#include <string.h>
+#include <stddef.h>
+
+/* These three of the C library, and no header of it, so that a machine without one can play. */
+void *memcpy(void *to, const void *from, size_t n);
+void *memset(void *to, int byte, size_t n);
+int memcmp(const void *one, const void *other, size_t n);
 
 /* What it lends is small enough for a board under emulation; the RAM buffers have the one length that they may have. Behind each buffer
  * there are some bytes more, so that a length that is too large can be lent truly. */
