@@ -155,12 +155,15 @@ static uint32_t ticks(void (*prepare)(void), void (*call)(void)) {
     return (clock_now() - from) & CLOCK_MASK;
 }
 
-static void instructions(const char *what, void (*prepare)(void), void (*call)(void), uint32_t each) {
+/* What the latest call answered. */
+static uint32_t answer;
+
+static void instructions(const char *what, uint32_t meant, void (*prepare)(void), void (*call)(void), uint32_t each) {
     uint64_t n;
     ticks(prepare, call); /* whatever the emulator does the first time */
     n = ticks(prepare, call);
     n -= ticks(prepare, nothing);
-    say_row(what, (uint32_t)(n * (2 * KNOWN) / known_ticks / TIMES / each), " instructions");
+    say_row(what, (uint32_t)(n * (2 * KNOWN) / known_ticks / TIMES / each), answer == meant ? " instructions" : " instructions, but with another answer than is meant");
 }
 
 #define FLASH_SIZE 32768u
@@ -171,13 +174,14 @@ static uint8_t flash[FLASH_SIZE], seen[UF2_SEEN_MAP_SIZE], sectors[UF2_SECTOR_MA
 static const uint8_t *arrival = arrivals;
 
 static void take(void) {
-    uf2_take(settings, sizeof settings, transfer, sizeof transfer, arrival, UF2_ARRIVAL_SIZE, flash, sizeof flash, seen, sizeof seen, sectors,
-             sizeof sectors, xip_ram, 0, xip_ram, sizeof xip_ram);
+    answer = uf2_take(settings, sizeof settings, transfer, sizeof transfer, arrival, UF2_ARRIVAL_SIZE, flash, sizeof flash, seen, sizeof seen, sectors,
+                      sizeof sectors, xip_ram, 0, xip_ram, sizeof xip_ram);
 }
 
 static void take_all(void) {
     uf2_take_all(settings, sizeof settings, transfer, sizeof transfer, arrivals, sizeof arrivals, results, sizeof results, flash, sizeof flash, seen,
                  sizeof seen, sectors, sizeof sectors, xip_ram, 0, xip_ram, sizeof xip_ram);
+    answer = results[BLOCKS - 1];
 }
 
 /* A running transfer of which block 1 is the next, its sector erased, or not, or a new one. */
@@ -241,7 +245,7 @@ static const char *line;
 static uint32_t line_len;
 
 static void read_line(void) {
-    uhex_line(reader, sizeof reader, (const uint8_t *)line, line_len, image, sizeof image);
+    answer = uhex_line(reader, sizeof reader, (const uint8_t *)line, line_len, image, sizeof image);
 }
 
 static void before_line(void) {
@@ -262,39 +266,57 @@ static void lines(void) {
     read_line();
     memcpy(reader_kept, reader, sizeof reader);
     set_line(":10000000000102030405060708090A0B0C0D0E0F78\n");
-    instructions("a line of 16 data bytes, stored", before_line, read_line, 1);
+    instructions("a line of 16 data bytes, stored", UHEX_ANSWER_STORED, before_line, read_line, 1);
     set_line(":20000000000102030405060708090A0B0C0D0E0F000102030405060708090A0B0C0D0E0FF0\n");
-    instructions("a line of 32 data bytes, stored", before_line, read_line, 1);
+    instructions("a line of 32 data bytes, stored", UHEX_ANSWER_STORED, before_line, read_line, 1);
 }
 
 static uint8_t one_flash[16 * UF2_SECTOR_SIZE];
 
 static void take_16(void) {
-    uf2_take(settings, sizeof settings, transfer, sizeof transfer, arrival, UF2_ARRIVAL_SIZE, one_flash, sizeof one_flash, seen, sizeof seen, sectors,
-             sizeof sectors, xip_ram, 0, xip_ram, sizeof xip_ram);
+    answer = uf2_take(settings, sizeof settings, transfer, sizeof transfer, arrival, UF2_ARRIVAL_SIZE, one_flash, sizeof one_flash, seen, sizeof seen,
+                      sectors, sizeof sectors, xip_ram, 0, xip_ram, sizeof xip_ram);
+}
+
+void uf2_md5(const uint8_t *bytes, uf2_len bytes_len, uint8_t *digest, uf2_len digest_len);
+
+/* Block 1 names its sector, with the digest of what stands there. */
+static void name_region(void) {
+    uint8_t *block = arrivals + UF2_ARRIVAL_SIZE;
+    uf2_put32(block + 8, 0x6000u);
+    uf2_put32(block + 484, UF2_FLASH_START);
+    uf2_put32(block + 488, UF2_SECTOR_SIZE);
+    uf2_md5(flash, UF2_SECTOR_SIZE, block + 492, 16);
+}
+
+/* A file that fills the last of 16 entries, of which block 0 is there. */
+static void begin_in_table(void) {
+    uint32_t k;
+    make_table();
+    for (k = 0; k < BLOCKS; k++)
+        uf2_put32(arrivals + UF2_ARRIVAL_SIZE * k + 24, BLOCKS);
+    uf2_new(transfer, sizeof transfer);
+    arrival = arrivals;
+    take_16();
+    memcpy(kept, transfer, sizeof kept);
+    arrival = arrivals + UF2_ARRIVAL_SIZE;
 }
 
 static void arrivals_taken(void) {
     make_blocks();
     settings[UF2_SETTINGS_ARM_AT] = 1;
     begin_file();
-    instructions("an arrival, stored in an erased sector", before_page, take, 1);
-    instructions("an arrival that erases its sector", before_sector, take, 1);
-    instructions("an arrival that has come before", before_again, take, 1);
-    instructions("an arrival that begins a file: both maps cleared, a sector erased", before_file, take, 1);
-    instructions("an arrival of 16 in one call, that of a new file among them", before_file, take_all, BLOCKS);
-    make_table();
-    uf2_new(transfer, sizeof transfer);
+    instructions("an arrival, stored in an erased sector", UF2_ANSWER_WRITTEN, before_page, take, 1);
+    instructions("an arrival that erases its sector", UF2_ANSWER_WRITTEN, before_sector, take, 1);
+    instructions("an arrival that has come before", UF2_ANSWER_AGAIN, before_again, take, 1);
+    name_region();
+    instructions("an arrival that is kept, a region of 4 KiB", UF2_ANSWER_KEPT, before_page, take, 1);
+    make_blocks();
     arrival = arrivals;
-    {
-        uint32_t k;
-        for (k = 0; k < BLOCKS; k++)
-            uf2_put32(arrivals + UF2_ARRIVAL_SIZE * k + 24, BLOCKS);
-    }
-    take_16();
-    memcpy(kept, transfer, sizeof kept);
-    arrival = arrivals + UF2_ARRIVAL_SIZE;
-    instructions("the same as the first, with 16 entries", before_page, take_16, 1);
+    instructions("an arrival that begins a file: both maps cleared, a sector erased", UF2_ANSWER_WRITTEN, before_file, take, 1);
+    instructions("an arrival of 16 in one call, the first as above", UF2_ANSWER_WRITTEN, before_file, take_all, BLOCKS);
+    begin_in_table();
+    instructions("an arrival, stored in an erased sector, 16 entries", UF2_ANSWER_WRITTEN, before_page, take_16, 1);
 }
 
 int main(void) {

@@ -112,6 +112,9 @@ static uint32_t make_entry(uint8_t *at, uint32_t k, uint32_t first) {
     at[UF2_ENTRY_NOT_BOOTABLE_RISCV_AT] = (uint8_t)one_in(4);
     at[UF2_ENTRY_LINK_AT] = (uint8_t)(one_in(100) ? below(256) : k > 0 && one_in(4) ? 1 + below(2) : 0);
     at[UF2_ENTRY_LINK_INDEX_AT] = (uint8_t)(k > 0 && !one_in(20) ? 0 : below(17));
+#ifdef UF2_ENTRY_NO_RESTART_AT
+    at[UF2_ENTRY_NO_RESTART_AT] = (uint8_t)one_in(3);
+#endif
     return first + sectors;
 }
 
