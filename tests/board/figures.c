@@ -169,17 +169,17 @@ static void instructions(const char *what, uint32_t meant, void (*prepare)(void)
 #define FLASH_SIZE 32768u
 #define BLOCKS 16u
 
-static uint8_t settings[UF2_SETTINGS_SIZE], transfer[UF2_TRANSFER_SIZE], kept[UF2_TRANSFER_SIZE], arrivals[BLOCKS * UF2_ARRIVAL_SIZE], results[BLOCKS];
+static uint8_t plain_settings[UF2_SETTINGS_SIZE], transfer[UF2_TRANSFER_SIZE], kept[UF2_TRANSFER_SIZE], arrivals[BLOCKS * UF2_ARRIVAL_SIZE], results[BLOCKS];
 static uint8_t flash[FLASH_SIZE], seen[UF2_SEEN_MAP_SIZE], sectors[UF2_SECTOR_MAP_SIZE], xip_ram[UF2_XIP_RAM_SIZE];
 static const uint8_t *arrival = arrivals;
 
 static void take(void) {
-    answer = uf2_take(settings, sizeof settings, transfer, sizeof transfer, arrival, UF2_ARRIVAL_SIZE, flash, sizeof flash, seen, sizeof seen, sectors,
+    answer = uf2_take(plain_settings, sizeof plain_settings, transfer, sizeof transfer, arrival, UF2_ARRIVAL_SIZE, flash, sizeof flash, seen, sizeof seen, sectors,
                       sizeof sectors, xip_ram, 0, xip_ram, sizeof xip_ram);
 }
 
 static void take_all(void) {
-    uf2_take_all(settings, sizeof settings, transfer, sizeof transfer, arrivals, sizeof arrivals, results, sizeof results, flash, sizeof flash, seen,
+    uf2_take_all(plain_settings, sizeof plain_settings, transfer, sizeof transfer, arrivals, sizeof arrivals, results, sizeof results, flash, sizeof flash, seen,
                  sizeof seen, sectors, sizeof sectors, xip_ram, 0, xip_ram, sizeof xip_ram);
     answer = results[BLOCKS - 1];
 }
@@ -230,13 +230,13 @@ static void begin_file(void) {
 /* 16 entries, of which the family's is the last. */
 static void make_table(void) {
     uint32_t k;
-    memset(settings, 0, sizeof settings);
-    settings[UF2_SETTINGS_ARM_AT] = 1;
-    settings[UF2_SETTINGS_COUNT_AT] = UF2_MAX_ENTRIES;
+    memset(plain_settings, 0, sizeof plain_settings);
+    plain_settings[UF2_SETTINGS_ARM_AT] = 1;
+    plain_settings[UF2_SETTINGS_COUNT_AT] = UF2_MAX_ENTRIES;
     for (k = 0; k < UF2_MAX_ENTRIES; k++) {
-        uf2_put32(settings + UF2_SETTINGS_ENTRY_AT(k) + UF2_ENTRY_FIRST_AT, k);
-        uf2_put32(settings + UF2_SETTINGS_ENTRY_AT(k) + UF2_ENTRY_SECTORS_AT, 1);
-        settings[UF2_SETTINGS_ENTRY_AT(k) + UF2_ENTRY_ARM_S_AT] = k == UF2_MAX_ENTRIES - 1;
+        uf2_put32(plain_settings + UF2_SETTINGS_ENTRY_AT(k) + UF2_ENTRY_FIRST_AT, k);
+        uf2_put32(plain_settings + UF2_SETTINGS_ENTRY_AT(k) + UF2_ENTRY_SECTORS_AT, 1);
+        plain_settings[UF2_SETTINGS_ENTRY_AT(k) + UF2_ENTRY_ARM_S_AT] = k == UF2_MAX_ENTRIES - 1;
     }
 }
 
@@ -274,7 +274,7 @@ static void lines(void) {
 static uint8_t one_flash[16 * UF2_SECTOR_SIZE];
 
 static void take_16(void) {
-    answer = uf2_take(settings, sizeof settings, transfer, sizeof transfer, arrival, UF2_ARRIVAL_SIZE, one_flash, sizeof one_flash, seen, sizeof seen,
+    answer = uf2_take(plain_settings, sizeof plain_settings, transfer, sizeof transfer, arrival, UF2_ARRIVAL_SIZE, one_flash, sizeof one_flash, seen, sizeof seen,
                       sectors, sizeof sectors, xip_ram, 0, xip_ram, sizeof xip_ram);
 }
 
@@ -304,7 +304,7 @@ static void begin_in_table(void) {
 
 static void arrivals_taken(void) {
     make_blocks();
-    settings[UF2_SETTINGS_ARM_AT] = 1;
+    plain_settings[UF2_SETTINGS_ARM_AT] = 1;
     begin_file();
     instructions("an arrival, stored in an erased sector", UF2_ANSWER_WRITTEN, before_page, take, 1);
     instructions("an arrival that erases its sector", UF2_ANSWER_WRITTEN, before_sector, take, 1);

@@ -13,7 +13,7 @@ void say(const char *line) {
 }
 #endif
 
-static char text[512];
+static char text[640];
 static unsigned at;
 
 static void put(const char *word) {
@@ -45,7 +45,7 @@ static void say_end(const char *name, const struct play_end *end) {
     put_number(end->calls);
     put(" ");
     put_hash(end->hash);
-    for (i = 0; i < 64; i++)
+    for (i = 0; i < 128; i++)
         if (end->answers[i] > 0) {
             put(" ");
             put_number(i);

@@ -9,13 +9,14 @@ int memcmp(const void *one, const void *other, size_t n);
 
 /* What it lends is small enough for a board under emulation; the RAM buffers have the one length that they may have. Behind each buffer
  * there are some bytes more, so that a length that is too large can be lent truly. */
-#define FLASH_SIZE 32768u
 #define IMAGE_SIZE 1024u
 #define LINE_ROOM 640u
-#define MORE 8u
+#define MORE PLAY_MORE
 #define MAX_ARRIVALS 4u
 
-const char *const play_names[PLAY_KINDS] = {"uf2_new", "uf2_ask", "uf2_look", "uf2_take", "uf2_take_all", "uf2_accept", "uhex_new", "uhex_line"};
+const char *const play_names[PLAY_KINDS] = {"uf2_new", "uf2_ask", "uf2_look", "uf2_take", "uf2_take_all", "uf2_accept", "uhex_new", "uhex_line",
+                                            "uf2_tag_first", "uf2_tag", "uf2_tag_find", "uf2_make_check", "uf2_make", "uf2_make_block", "uf2_md5",
+                                            "uhex_join", "uf2_replay"};
 
 struct play_end play_ends[PLAY_KINDS];
 
@@ -23,29 +24,34 @@ struct play_end play_ends[PLAY_KINDS];
 
 static uint32_t seed;
 
-static uint32_t any(void) {
+uint32_t any(void) {
     seed ^= seed << 13;
     seed ^= seed >> 17;
     seed ^= seed << 5;
     return seed;
 }
 
-static uint32_t below(uint32_t n) {
+uint32_t below(uint32_t n) {
     return any() % n;
 }
 
-static int one_in(uint32_t n) {
+uint32_t any_size(void) {
+    uint32_t by = below(32);
+    return any() >> by;
+}
+
+int one_in(uint32_t n) {
     return below(n) == 0;
 }
 
 static struct play_end *end;
 
-static void add(uint32_t word) {
+void add(uint32_t word) {
     end->hash = (end->hash ^ word) * 0x100000001b3u;
     end->hash ^= end->hash >> 32;
 }
 
-static void add_bytes(const uint8_t *at, uint32_t n) {
+void add_bytes(const uint8_t *at, uint32_t n) {
     uint32_t i = 0;
     for (; n - i >= 4; i += 4)
         add(uf2_get32(at + i));
@@ -53,31 +59,34 @@ static void add_bytes(const uint8_t *at, uint32_t n) {
         add(at[i]);
 }
 
-static void begin(enum play_kind kind) {
+void begin(enum play_kind kind) {
     end = &play_ends[kind];
     end->hash = 0xcbf29ce484222325u;
     seed = 0x9e3779b9u + (uint32_t)kind;
 }
 
-static void count(uint32_t result) {
+void go_on(enum play_kind kind) {
+    end = &play_ends[kind];
+}
+
+void count(uint32_t answer) {
     end->calls++;
-    end->answers[UF2_RESULT_ANSWER(result) & 63u]++;
+    end->answers[answer & 127u]++;
+    add(answer);
+}
+
+static void count_result(uint32_t result) {
     end->discarded += UF2_RESULT_IS_DISCARDED(result);
-    add(result);
+    count(result);
 }
 
 /* ---- a board: settings, what is lent, and the lengths of a call */
 
-struct buffers {
-    uint8_t transfer[UF2_TRANSFER_SIZE + MORE], flash[FLASH_SIZE + MORE], seen[UF2_SEEN_MAP_SIZE + MORE];
-    uint8_t sectors[UF2_SECTOR_MAP_SIZE + MORE], main_ram[UF2_MAIN_RAM_SIZE + MORE], xip_ram[UF2_XIP_RAM_SIZE + MORE];
-};
-
-enum length { L_SETTINGS, L_TRANSFER, L_ARRIVAL, L_FLASH, L_SEEN, L_SECTORS, L_MAIN, L_XIP, LENGTHS };
-
-static struct buffers board;
-static uint8_t settings[UF2_SETTINGS_SIZE + MORE], arrivals[MAX_ARRIVALS * UF2_ARRIVAL_SIZE + UF2_ARRIVAL_SIZE], results[8];
-static uint32_t right[LENGTHS], lent[LENGTHS];
+struct play_buffers board;
+uint8_t settings[UF2_SETTINGS_SIZE + MORE];
+static uint8_t arrivals[MAX_ARRIVALS * UF2_ARRIVAL_SIZE + UF2_ARRIVAL_SIZE], results[8];
+uint32_t lent[LENGTHS];
+static uint32_t right[LENGTHS];
 static uf2_len arrivals_len, results_len, taken;
 static uint32_t result;
 
@@ -101,8 +110,8 @@ static uint32_t any_family(void) {
 /* An entry from a sector on; sometimes its sectors, users or link make the settings bad. The next free sector. */
 static uint32_t make_entry(uint8_t *at, uint32_t k, uint32_t first) {
     uint32_t i, sectors = 1 + below(2);
-    uf2_put32(at + UF2_ENTRY_FIRST_AT, one_in(100) ? any() >> below(32) : first);
-    uf2_put32(at + UF2_ENTRY_SECTORS_AT, one_in(100) ? any() >> below(32) : sectors);
+    uf2_put32(at + UF2_ENTRY_FIRST_AT, one_in(100) ? any_size() : first);
+    uf2_put32(at + UF2_ENTRY_SECTORS_AT, one_in(100) ? any_size() : sectors);
     for (i = 0; i < 4; i++)
         uf2_put32(at + UF2_ENTRY_USERS_AT + 4 * i, one_in(200) ? any_family() : 0x11111111u * (1 + below(6)));
     for (i = UF2_ENTRY_DATA_AT; i <= UF2_ENTRY_ARM_NS_AT; i++)
@@ -144,7 +153,7 @@ static void right_lengths(void) {
     right[L_SETTINGS] = UF2_SETTINGS_SIZE;
     right[L_TRANSFER] = UF2_TRANSFER_SIZE;
     right[L_ARRIVAL] = UF2_ARRIVAL_SIZE;
-    right[L_FLASH] = FLASH_SIZE;
+    right[L_FLASH] = PLAY_FLASH_SIZE;
     right[L_SEEN] = UF2_SEEN_MAP_SIZE;
     right[L_SECTORS] = UF2_SECTOR_MAP_SIZE;
     right[L_MAIN] = UF2_MAIN_RAM_SIZE;
@@ -157,9 +166,9 @@ static uint32_t ask(uint32_t family) {
 }
 
 /* Another board: its settings, mostly good ones, its flash, and which RAM it has. */
-static void make_board(void) {
+void make_board(void) {
     right_lengths();
-    right[L_FLASH] = one_in(4) ? UF2_SECTOR_SIZE * (1 + below(FLASH_SIZE / UF2_SECTOR_SIZE)) : FLASH_SIZE;
+    right[L_FLASH] = one_in(4) ? UF2_SECTOR_SIZE * (1 + below(PLAY_FLASH_SIZE / UF2_SECTOR_SIZE)) : PLAY_FLASH_SIZE;
     right[L_MAIN] = one_in(8) ? 0 : UF2_MAIN_RAM_SIZE;
     right[L_XIP] = one_in(8) ? 0 : UF2_XIP_RAM_SIZE;
     do
@@ -168,7 +177,7 @@ static void make_board(void) {
 }
 
 /* The lengths of a call: those of the board, or one of them wrong. */
-static void make_lengths(void) {
+void make_lengths(void) {
     uint32_t which = below(LENGTHS);
     memcpy(lent, right, sizeof lent);
     if (one_in(50))
@@ -176,7 +185,7 @@ static void make_lengths(void) {
 }
 
 /* Another file: of flash within its family's place, or of a RAM. */
-static void make_file(void) {
+void make_file(void) {
     file.kind = below(4) % 3;
     file.place_start = 0;
     file.place_len = right[L_FLASH];
@@ -202,15 +211,15 @@ static void make_transfer(void) {
     uint8_t *at = board.transfer;
     at[UF2_TRANSFER_STATE_AT] = (uint8_t)(one_in(8) ? below(256) : below(3));
     uf2_put32(at + UF2_TRANSFER_FAMILY_AT, one_in(4) ? any_family() : file.family);
-    uf2_put32(at + UF2_TRANSFER_TOTAL_AT, one_in(4) ? any() >> below(32) : file.total);
-    uf2_put32(at + UF2_TRANSFER_COUNT_AT, one_in(4) ? any() >> below(32) : below(file.total + 1));
+    uf2_put32(at + UF2_TRANSFER_TOTAL_AT, one_in(4) ? any_size() : file.total);
+    uf2_put32(at + UF2_TRANSFER_COUNT_AT, one_in(4) ? any_size() : below(file.total + 1));
     at[UF2_TRANSFER_KIND_AT] = (uint8_t)(one_in(8) ? below(256) : one_in(4) ? below(3) : file.kind);
 }
 
 /* Where a flash block of an address is stored. */
 static uint32_t offset_of(uint32_t address) {
     uint32_t start = file.family == UF2_FAMILY_ABSOLUTE ? 0 : file.place_start;
-    return (start + (address - UF2_FLASH_START)) % FLASH_SIZE;
+    return (start + (address - UF2_FLASH_START)) % PLAY_FLASH_SIZE;
 }
 
 void uf2_md5(const uint8_t *bytes, uf2_len bytes_len, uint8_t *digest, uf2_len digest_len);
@@ -218,19 +227,19 @@ void uf2_md5(const uint8_t *bytes, uf2_len bytes_len, uint8_t *digest, uf2_len d
 /* A region in a block: mostly the sectors around it with the digest of what stands there. */
 static void make_region(uint8_t *at, uint32_t address) {
     uint32_t start = address - (address - UF2_FLASH_START) % UF2_SECTOR_SIZE, len = UF2_SECTOR_SIZE * (1 + one_in(4));
-    uint32_t offset = offset_of(start);
+    uint32_t which, offset = offset_of(start);
     uf2_put32(at + 484, one_in(8) ? start + below(4) * 2048u : start);
-    uf2_put32(at + 488, one_in(8) ? any() >> below(32) : len);
-    if (offset + len <= FLASH_SIZE)
+    uf2_put32(at + 488, one_in(8) ? any_size() : len);
+    if (offset + len <= PLAY_FLASH_SIZE)
         uf2_md5(board.flash + offset, len, at + 492, 16);
-    if (one_in(8))
-        at[492 + below(16)] ^= (uint8_t)(1u << below(8));
+    if (one_in(8)) {
+        which = 492 + below(16);
+        at[which] ^= (uint8_t)(1u << below(8));
+    }
 }
 
-static uint32_t made_address;
-
 /* A block of the file; sometimes a field of it is wrong. */
-static void make_arrival(uint8_t *at) {
+uint32_t make_arrival(uint8_t *at) {
     uint32_t i, number = below(file.total), flags = 0x2000u, address = file.address + 256 * number;
     static const uint16_t fields[] = {0, 4, 8, 12, 16, 20, 24, 28, 508};
     if (one_in(8))
@@ -256,9 +265,9 @@ static void make_arrival(uint8_t *at) {
     uf2_put32(at + 8, flags);
     if (one_in(10)) {
         i = fields[below(sizeof fields / sizeof fields[0])];
-        uf2_put32(at + i, one_in(3) ? any() >> below(32) : uf2_get32(at + i) ^ 1u << below(32));
+        uf2_put32(at + i, one_in(3) ? any_size() : uf2_get32(at + i) ^ 1u << below(32));
     }
-    made_address = uf2_get32(at + 12);
+    return uf2_get32(at + 12);
 }
 
 /* What comes before a call: now and then another board, another file or another transfer. */
@@ -274,7 +283,7 @@ static void make_state(uint32_t i) {
     make_lengths();
 }
 
-static void add_all(const struct buffers *at) {
+void add_all(const struct play_buffers *at) {
     add_bytes(at->flash, sizeof at->flash);
     add_bytes(at->seen, sizeof at->seen);
     add_bytes(at->sectors, sizeof at->sectors);
@@ -283,7 +292,7 @@ static void add_all(const struct buffers *at) {
 }
 
 /* What a block at an address can have changed: its sector, or its page of RAM with a byte to either side. */
-static void add_block(const struct buffers *at, uint32_t address) {
+void add_block(const struct play_buffers *at, uint32_t address) {
     uint32_t offset;
     if (address >= UF2_MAIN_RAM_START && address - UF2_MAIN_RAM_START < UF2_MAIN_RAM_SIZE - 256) {
         offset = address - UF2_MAIN_RAM_START;
@@ -298,13 +307,13 @@ static void add_block(const struct buffers *at, uint32_t address) {
 }
 
 /* The maps as far as a file here reaches, and the transfer. */
-static void add_small(const struct buffers *at) {
+static void add_small(const struct play_buffers *at) {
     add_bytes(at->transfer, sizeof at->transfer);
     add_bytes(at->seen, 8);
     add_bytes(at->sectors, 4);
 }
 
-static void random_bytes(uint8_t *at, uint32_t n) {
+void random_bytes(uint8_t *at, uint32_t n) {
     uint32_t i;
     for (i = 0; i + 4 <= n; i += 4)
         uf2_put32(at + i, any());
@@ -349,7 +358,7 @@ static void play_ask(void) {
         place_len = one_in(20) ? below(UF2_PLACE_SIZE + MORE + 1) : UF2_PLACE_SIZE;
         random_bytes(place, sizeof place);
         play_call(PLAY_ASK, call_ask);
-        count(result);
+        count_result(result);
         add_bytes(place, sizeof place);
     }
 }
@@ -372,23 +381,23 @@ static void call_take_all(void) {
 
 /* Each arrival is looked at, and then taken. */
 static void play_look_and_take(void) {
-    uint32_t i;
+    uint32_t i, address;
     begin(PLAY_LOOK);
     begin(PLAY_TAKE);
     fresh_board();
     for (i = 0; i < PLAY_COUNT; i++) {
         make_state(i);
-        make_arrival(arrivals);
-        end = &play_ends[PLAY_LOOK];
+        address = make_arrival(arrivals);
+        go_on(PLAY_LOOK);
         play_call(PLAY_LOOK, call_look);
-        count(result);
+        count_result(result);
         add_small(&board);
-        end = &play_ends[PLAY_TAKE];
+        go_on(PLAY_TAKE);
         play_call(PLAY_TAKE, call_take);
-        count(result);
+        count_result(result);
         add_small(&board);
         if (UF2_ANSWER_IS_ACCEPTED(UF2_RESULT_ANSWER(result)))
-            add_block(&board, made_address);
+            add_block(&board, address);
         if (i % 512 == 511)
             add_all(&board);
     }
@@ -403,8 +412,7 @@ static void play_take_all(void) {
         make_state(i);
         n = below(MAX_ARRIVALS + 1);
         for (k = 0; k < n; k++) {
-            make_arrival(arrivals + UF2_ARRIVAL_SIZE * k);
-            addresses[k] = made_address;
+            addresses[k] = make_arrival(arrivals + UF2_ARRIVAL_SIZE * k);
         }
         arrivals_len = UF2_ARRIVAL_SIZE * n + (one_in(8) ? below(UF2_ARRIVAL_SIZE) : 0);
         results_len = one_in(8) ? below(sizeof results + 1) : n;
@@ -417,7 +425,7 @@ static void play_take_all(void) {
         add_small(&board);
         for (k = 0; k < n && k < taken; k++) {
             result = results[k];
-            end->answers[UF2_RESULT_ANSWER(result) & 63u]++;
+            end->answers[UF2_RESULT_ANSWER(result)]++;
             end->discarded += UF2_RESULT_IS_DISCARDED(result);
             if (UF2_ANSWER_IS_ACCEPTED(UF2_RESULT_ANSWER(result)))
                 add_block(&board, addresses[k]);
@@ -430,7 +438,7 @@ static void play_take_all(void) {
 
 #ifdef UF2_PLAN_SIZE
 /* The same arrivals taken on one board, and on another accepted, with the plan performed as a driver would. */
-static struct buffers driven;
+static struct play_buffers driven;
 static uint8_t plan[UF2_PLAN_SIZE + MORE];
 static uf2_len plan_len;
 
@@ -464,18 +472,18 @@ static int same_block(uint32_t address) {
 }
 
 static int play_accept(void) {
-    uint32_t i, accepted;
+    uint32_t i, accepted, address;
     begin(PLAY_ACCEPT);
     fresh_board();
     memcpy(&driven, &board, sizeof board);
     for (i = 0; i < PLAY_COUNT; i++) {
         make_state(i);
         memcpy(driven.transfer, board.transfer, sizeof board.transfer);
-        make_arrival(arrivals);
+        address = make_arrival(arrivals);
         plan_len = one_in(40) ? below(UF2_PLAN_SIZE + MORE + 1) : UF2_PLAN_SIZE;
         random_bytes(plan, sizeof plan);
         play_call(PLAY_ACCEPT, call_accept);
-        count(result);
+        count_result(result);
         add_bytes(plan, sizeof plan);
         if (plan_len != UF2_PLAN_SIZE) {
             if (result != UF2_ANSWER_BAD_BUFFERS)
@@ -487,7 +495,7 @@ static int play_accept(void) {
             perform();
         accepted = result;
         call_take();
-        if (result != accepted || !same_block(made_address))
+        if (result != accepted || !same_block(address))
             return 0;
         if (i % 512 == 511) {
             add_all(&driven);
@@ -663,9 +671,8 @@ static void play_lines(void) {
         reader_len = one_in(100) ? below(UHEX_READER_SIZE + MORE + 1) : UHEX_READER_SIZE;
         image_len = one_in(100) ? 0 : one_in(10) ? 1 + below(IMAGE_SIZE) : IMAGE_SIZE;
         play_call(PLAY_LINE, call_line);
-        end->calls++;
-        end->answers[UHEX_RESULT_ANSWER(result) & 63u]++;
-        add(result);
+        count(UHEX_RESULT_ANSWER(result));
+        add(UHEX_RESULT_POSITION(result));
         add_bytes(reader, sizeof reader);
         add_bytes(image, sizeof image);
     }
@@ -673,7 +680,7 @@ static void play_lines(void) {
 
 /* ---- all */
 
-static int met(enum play_kind kind, uint32_t from, uint32_t to, uint32_t but) {
+int met(enum play_kind kind, uint32_t from, uint32_t to, uint32_t but) {
     uint32_t i;
     for (i = from; i <= to; i++)
         if (i != but && play_ends[kind].answers[i] == 0)
@@ -691,6 +698,7 @@ int play(void) {
     good = play_accept();
     play_hex_new();
     play_lines();
+    good = play_tools() && good;
     good = good && met(PLAY_ASK, 0, 2, 6) && play_ends[PLAY_ASK].answers[UF2_ANSWER_NO_PLACE] > 0;
     good = good && met(PLAY_LOOK, 1, 17, 6) && met(PLAY_TAKE, 1, 17, 6) && met(PLAY_TAKE_ALL, 1, 17, 6) && met(PLAY_LINE, 18, 36, 0);
 #ifdef UF2_PLAN_SIZE
