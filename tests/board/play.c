@@ -124,7 +124,8 @@ static uint32_t make_entry(uint8_t *at, uint32_t k, uint32_t first) {
 #ifdef UF2_ENTRY_NO_RESTART_AT
     at[UF2_ENTRY_NO_RESTART_AT] = (uint8_t)one_in(3);
 #endif
-    return first + sectors;
+    /* the next may share its sectors */
+    return one_in(40) ? first : first + sectors;
 }
 
 static void make_settings(void) {
@@ -675,7 +676,7 @@ static void play_lines(void) {
         if (one_in(10))
             spoil_line();
         reader_len = one_in(100) ? below(UHEX_READER_SIZE + MORE + 1) : UHEX_READER_SIZE;
-        image_len = one_in(100) ? 0 : one_in(10) ? 1 + below(IMAGE_SIZE) : IMAGE_SIZE;
+        image_len = one_in(50) ? below(2) : one_in(10) ? 1 + below(IMAGE_SIZE) : IMAGE_SIZE;
         play_call(PLAY_LINE, call_line);
         count(UHEX_RESULT_ANSWER(result));
         add(UHEX_RESULT_POSITION(result));
