@@ -1,10 +1,11 @@
 /* The update receiver for C: every function is proved to do what crates/callbytes/specs and crates/capi/specs say, for every input.
  *
- * Built for: x86-64 Linux. `rt staticlib NAME` writes target/staticlib/libNAME.a, code for the System V calling convention that calls
- * nothing but memcpy and memset, allocates nothing and keeps nothing between calls, so that calls on different buffers may run at the
- * same time. A call needs at most UF2_STACK_SIZE bytes of stack (measured: docs/BENCHMARKS.md). Each library stands alone: link those of
- * the calls that you use, in any order, or all of them (gcc .. target/staticlib/lib*.a). A call for one arrival is a library of its own,
- * since it is then compiled as one piece.
+ * Built for: x86-64 Linux, for which `rt staticlib NAME` writes target/staticlib/libNAME.a (System V calling convention); Cortex-M33,
+ * RV32IMAC, AArch64 and WebAssembly, by `tools/target` (docs/BOARD.md). The code calls nothing but memcpy and memset (Cortex-M33: under
+ * Arm's names for them), allocates nothing and keeps nothing between calls, so that calls on different buffers may run at the same time. A
+ * call needs at most UF2_STACK_SIZE bytes of stack (measured: docs/BENCHMARKS.md). Each library stands alone: link those of the calls that
+ * you use, in any order, or all of them (gcc .. target/staticlib/lib*.a). A call for one arrival is a library of its own, since it is then
+ * compiled as one piece.
  *
  *     acceptapi   uf2_accept
  *     takeapi     uf2_take
