@@ -1,0 +1,117 @@
+// One list of arrivals played into the proved receiver and, where one is chosen, into a wrong one beside it.
+import { Library } from './wasm.js';
+import { ProvedReceiver } from './proved.js';
+import { FAMILY } from './board.js';
+import { N } from './numbers.js';
+import { Run } from './run.js';
+import { WRONG } from './wrong/all.js';
+import { arrivalList } from './arrivals.js';
+import { expectedPages } from './pages.js';
+import { inSlices } from './slices.js';
+import { GOALS, shortestDifference } from './search.js';
+
+// What a wrong receiver does not get wrong itself: whether the settings are good, and MD5. Both are the library's.
+async function helpersFor(module, proved, flashLength) {
+  const library = await Library.open(module);
+  const digest = library.lend(N.UF2_MD5_SIZE);
+  let message = null;
+  return {
+    goodSettings: ![N.UF2_ANSWER_BAD_BUFFERS, N.UF2_ANSWER_BAD_SETTINGS].includes(proved.place(FAMILY.data).answer),
+    md5: (bytes) => {
+      message = message ?? library.lend(flashLength);
+      message.bytes.set(bytes);
+      library.call('uf2_md5', message.first(bytes.length), digest);
+      return digest.bytes.slice();
+    },
+  };
+}
+
+async function provedReceiver(module, board) {
+  return new ProvedReceiver(await Library.open(module), board);
+}
+
+export class Session {
+  // `plan` has the pieces of a file and how they are sent (arrivals.js); `wrongId` names a wrong receiver or is null.
+  static async open(module, board, plan, wrongId) {
+    const proved = await provedReceiver(module, board);
+    const chosen = WRONG.find((item) => item.id === wrongId);
+    const wrong = chosen ? new chosen.make(board, await helpersFor(module, proved, board.flash)) : null;
+    return new Session(module, board, plan, proved, chosen ?? null, wrong);
+  }
+
+  constructor(module, board, plan, proved, chosen, wrong) {
+    Object.assign(this, { module, board, plan, chosen });
+    this.arrivals = arrivalList(plan);
+    this.expected = expectedPages(plan.pieces, proved);
+    this.proved = new Run(proved, this.arrivals);
+    this.wrong = wrong ? new Run(wrong, this.arrivals) : null;
+    this.target = 0;
+    this.moving = false;
+  }
+
+  get position() {
+    return this.proved.position;
+  }
+
+  get runs() {
+    return this.wrong ? [this.proved, this.wrong] : [this.proved];
+  }
+
+  // Moves both receivers to a position, in slices. A later call changes where a move that is under way goes to.
+  async moveTo(target, between) {
+    this.target = Math.max(0, Math.min(this.arrivals.length, target));
+    if (this.moving) return;
+    this.moving = true;
+    try {
+      await inSlices((stop) => this.runs.every((run) => run.moveTo(this.target, stop)), between);
+    } finally {
+      this.moving = false;
+    }
+  }
+
+  // The index of the first arrival, below the position, that the two answer differently, or -1.
+  firstDifference() {
+    if (!this.wrong) return -1;
+    const [a, b] = this.runs;
+    for (let k = 0; k < this.position; k++) if (a.answers[k] !== b.answers[k] || a.discards[k] !== b.discards[k]) return k;
+    return -1;
+  }
+
+  // The different arrivals of the list, at most so many: the alphabet of a search.
+  alphabet(most) {
+    const found = [];
+    const known = new Set();
+    const all = [...this.plan.pieces.slice(0, most).map((bytes, piece) => ({ piece, bytes })), ...this.plan.extras.map(({ bytes }, extra) => ({ extra, bytes }))];
+    for (const arrival of all) {
+      const key = arrival.bytes.join();
+      if (!known.has(key)) found.push(arrival);
+      known.add(key);
+    }
+    return found;
+  }
+
+  // The shortest list of arrivals in which the wrong receiver differs from the proved one as `goal` says, or null.
+  async search(goal, limits, between) {
+    const first = await provedReceiver(this.module, this.board);
+    const second = new this.chosen.make(this.board, await helpersFor(this.module, first, this.board.flash));
+    const alphabet = this.alphabet(limits.letters);
+    const steps = shortestDifference(first, second, alphabet.map((arrival) => arrival.bytes), GOALS[goal], limits);
+    let found = null;
+    let progress = { tried: 0, depth: 1 };
+    const whole = await inSlices(
+      (stop) => {
+        for (;;) {
+          const { done, value } = steps.next();
+          if (done) {
+            found = value;
+            return true;
+          }
+          progress = value;
+          if (stop()) return false;
+        }
+      },
+      () => between(progress),
+    );
+    return whole && found ? found.map((k) => alphabet[k]) : null;
+  }
+}

@@ -1,0 +1,198 @@
+// A memory as a grid of pages on a canvas: squares of 4 by 4 pages are sectors. A page can be chosen with the mouse or the arrow keys.
+import { STATUS_NAMES } from '../pages.js';
+import { text } from '../text.js';
+
+const SIDE = 4;
+const PER_SECTOR = SIDE * SIDE;
+const MOST_CELL = 44;
+const MOST_HEIGHT = 400;
+
+// Colours that the colour-blind can tell apart (after Okabe and Ito); each status has a mark besides.
+export const COLOURS = {
+  lent: { fill: '#d4d4d4', ink: '#333333' },
+  erased: { fill: '#ffffff', ink: '#777777' },
+  stored: { fill: '#0072b2', ink: '#ffffff' },
+  kept: { fill: '#7fd6b8', ink: '#00382a' },
+  left: { fill: '#e3b3cd', ink: '#4a1030' },
+  waiting: { fill: '#ffffff', ink: '#0072b2' },
+  missing: { fill: '#b23c00', ink: '#ffffff' },
+};
+
+function gapOf(cell) {
+  return cell >= 14 ? 6 : cell >= 5 ? 3 : 1;
+}
+
+// How many sectors stand side by side, and how large a page is drawn, so that all pages fit.
+export function layoutOf(pages, width, mostHeight = MOST_HEIGHT) {
+  const sectors = Math.max(1, Math.ceil(pages / PER_SECTOR));
+  for (let across = 1; ; across++) {
+    const rough = Math.min(MOST_CELL, Math.floor((width - across) / (SIDE * across)));
+    const cell = Math.max(1, Math.min(MOST_CELL, Math.floor((width - gapOf(rough) * (across + 1)) / (SIDE * across))));
+    const gap = gapOf(cell);
+    const down = Math.ceil(sectors / across);
+    const height = down * (SIDE * cell + gap) + gap;
+    if (height <= mostHeight || cell === 1 || across === sectors) {
+      return { cell, gap, across, down, width: across * (SIDE * cell + gap) + gap, height };
+    }
+  }
+}
+
+export function cellAt(layout, page) {
+  const sector = Math.floor(page / PER_SECTOR);
+  const within = page % PER_SECTOR;
+  const step = SIDE * layout.cell + layout.gap;
+  return {
+    x: layout.gap + (sector % layout.across) * step + (within % SIDE) * layout.cell,
+    y: layout.gap + Math.floor(sector / layout.across) * step + Math.floor(within / SIDE) * layout.cell,
+  };
+}
+
+export function pageAt(layout, x, y, pages) {
+  const step = SIDE * layout.cell + layout.gap;
+  const [i, j] = [x, y].map((at) => Math.floor((at - layout.gap) / step));
+  const [u, v] = [x - layout.gap - i * step, y - layout.gap - j * step].map((at) => Math.floor(at / layout.cell));
+  if (i < 0 || j < 0 || i >= layout.across || u < 0 || v < 0 || u >= SIDE || v >= SIDE) return -1;
+  const page = (j * layout.across + i) * PER_SECTOR + v * SIDE + u;
+  return page < pages ? page : -1;
+}
+
+export class Grid {
+  // `onChoose(page)` is called when a page is chosen.
+  constructor(canvas, onChoose) {
+    this.canvas = canvas;
+    this.chosen = -1;
+    this.cells = new Uint8Array(0);
+    this.drawn = null;
+    this.labels = new Map();
+    canvas.addEventListener('click', (event) => {
+      const box = canvas.getBoundingClientRect();
+      const scale = this.layout.width / box.width; // style may shrink the canvas
+      this.choose(pageAt(this.layout, (event.clientX - box.left) * scale, (event.clientY - box.top) * scale, this.cells.length), onChoose);
+    });
+    canvas.addEventListener('keydown', (event) => {
+      const step = { ArrowLeft: -1, ArrowRight: 1, ArrowUp: -SIDE, ArrowDown: SIDE, PageUp: -PER_SECTOR, PageDown: PER_SECTOR }[event.key];
+      if (step === undefined) return;
+      event.preventDefault();
+      event.stopPropagation();
+      const next = this.chosen < 0 ? 0 : this.chosen + step;
+      this.choose(Math.max(0, Math.min(this.cells.length - 1, next)), onChoose);
+    });
+  }
+
+  choose(page, onChoose) {
+    this.chosen = page;
+    this.drawn = null;
+    this.draw(this.cells, this.labels);
+    onChoose(page);
+  }
+
+  // Draws the cells (one status a page); `labels` has the numbers of the blocks that belong to pages. Only what has changed is drawn again.
+  draw(cells, labels) {
+    const width = Math.max(160, Math.floor(this.canvas.parentElement.clientWidth));
+    const ratio = window.devicePixelRatio || 1;
+    const fresh = !this.drawn || this.drawn.length !== cells.length || this.width !== width || this.ratio !== ratio;
+    if (fresh) {
+      this.layout = layoutOf(cells.length, width);
+      this.canvas.width = this.layout.width * ratio;
+      this.canvas.height = this.layout.height * ratio;
+      this.canvas.style.width = `${this.layout.width}px`;
+      this.canvas.style.height = `${this.layout.height}px`;
+      Object.assign(this, { width, ratio });
+    }
+    const context = this.canvas.getContext('2d');
+    context.setTransform(ratio, 0, 0, ratio, 0, 0);
+    if (fresh) this.drawBorders(context, cells.length);
+    for (let page = 0; page < cells.length; page++) {
+      if (fresh || this.drawn[page] !== cells[page]) this.drawCell(context, page, cells[page], labels.get(page));
+    }
+    this.cells = cells;
+    this.labels = labels;
+    this.drawn = cells.slice();
+    if (this.chosen >= 0 && this.chosen < cells.length) this.drawChosen(context);
+  }
+
+  drawBorders(context, pages) {
+    const { cell, gap, width, height } = this.layout;
+    context.fillStyle = '#ffffff';
+    context.fillRect(0, 0, width, height);
+    context.fillStyle = '#222222';
+    const line = Math.max(1, gap / 3);
+    for (let page = 0; page < pages; page += PER_SECTOR) {
+      const { x, y } = cellAt(this.layout, page);
+      context.fillRect(x - line, y - line, SIDE * cell + 2 * line, SIDE * cell + 2 * line);
+    }
+  }
+
+  drawCell(context, page, status, label) {
+    const name = STATUS_NAMES[status];
+    const { fill, ink } = COLOURS[name];
+    const { cell } = this.layout;
+    const { x, y } = cellAt(this.layout, page);
+    const line = cell >= 6 ? 1 : 0;
+    context.fillStyle = fill;
+    context.fillRect(x, y, cell, cell);
+    if (line) {
+      context.strokeStyle = '#8a8a8a';
+      context.lineWidth = 1;
+      context.strokeRect(x + 0.5, y + 0.5, cell - 1, cell - 1);
+    }
+    if (cell < 9) return;
+    context.fillStyle = ink;
+    context.textAlign = 'center';
+    context.textBaseline = 'middle';
+    const mark = text.grid.marks[name];
+    if (label === undefined || cell < 24) {
+      context.font = `${Math.round(cell * 0.55)}px sans-serif`;
+      context.fillText(mark, x + cell / 2, y + cell / 2 + 0.5);
+      return;
+    }
+    context.font = `bold ${Math.round(cell * 0.46)}px sans-serif`;
+    context.fillText(label, x + cell / 2, y + cell * 0.62, cell - 4);
+    context.font = `${Math.round(cell * 0.3)}px sans-serif`;
+    context.fillText(mark, x + cell * 0.78, y + cell * 0.22);
+  }
+
+  drawChosen(context) {
+    const { cell } = this.layout;
+    const { x, y } = cellAt(this.layout, this.chosen);
+    const line = Math.max(2, cell / 10);
+    context.strokeStyle = '#000000';
+    context.lineWidth = line;
+    context.strokeRect(x + line / 2, y + line / 2, cell - line, cell - line);
+    context.strokeStyle = '#ffd400';
+    context.lineWidth = line / 2;
+    context.strokeRect(x + line, y + line, cell - 2 * line, cell - 2 * line);
+  }
+}
+
+// The first bits of a map as a row of squares, with numbers where there is room.
+export function drawBits(canvas, bits, width) {
+  const ratio = window.devicePixelRatio || 1;
+  const room = Math.max(160, Math.floor(width));
+  let cell = 28;
+  while (cell > 2 && Math.ceil(bits.length / Math.floor(room / cell)) * cell > 84) cell--;
+  const across = Math.max(1, Math.floor(room / cell));
+  const down = Math.max(1, Math.ceil(bits.length / across));
+  canvas.width = room * ratio;
+  canvas.height = down * cell * ratio;
+  canvas.style.width = `${room}px`;
+  canvas.style.height = `${down * cell}px`;
+  const context = canvas.getContext('2d');
+  context.setTransform(ratio, 0, 0, ratio, 0, 0);
+  context.textAlign = 'center';
+  context.textBaseline = 'middle';
+  context.font = `bold ${Math.round(cell * 0.5)}px sans-serif`;
+  bits.forEach((on, k) => {
+    const x = (k % across) * cell;
+    const y = Math.floor(k / across) * cell;
+    const { fill, ink } = on ? COLOURS.stored : COLOURS.waiting;
+    context.fillStyle = fill;
+    context.fillRect(x, y, cell - 1, cell - 1);
+    if (cell < 6) return;
+    context.strokeStyle = '#8a8a8a';
+    context.strokeRect(x + 0.5, y + 0.5, cell - 2, cell - 2);
+    if (cell < 18) return;
+    context.fillStyle = ink;
+    context.fillText(String(k), x + cell / 2 - 0.5, y + cell / 2, cell - 4);
+  });
+}

@@ -1,0 +1,130 @@
+// A receiver as the class sees it: lamp, state, answer, seen map and the grids of its memories.
+import { byId, element, letters, setText } from './dom.js';
+import { COLOURS, Grid, drawBits } from './grid.js';
+import { STATUS_NAMES, cells } from '../pages.js';
+import { PAYLOAD } from '../block.js';
+import { SECTOR } from '../board.js';
+import { isMarked } from '../bytes.js';
+import { lampOf, verdictOf } from '../verdict.js';
+import { reasonWords, stateWords } from '../words.js';
+import { text } from '../text.js';
+
+const MEMORIES = ['flash', 'main', 'xip'];
+
+function gridPart(panel, memory) {
+  const canvas = element('canvas', { className: 'grid', tabIndex: 0, role: 'img' });
+  const cell = element('p', { className: 'cell', 'aria-live': 'polite' });
+  const size = element('span', { className: 'hint' });
+  const legend = element('ul', { className: 'legend' });
+  const box = element('div', { className: 'canvas-box' }, canvas);
+  const part = element('div', { className: 'memory', 'data-memory': memory }, element('h3', {}, `${text.grid.title[memory]} `, size), box, legend, cell);
+  const grid = new Grid(canvas, () => panel.tellCell(memory));
+  return { part, canvas, cell, size, legend, grid };
+}
+
+export class Panel {
+  constructor(articleId) {
+    this.article = byId(articleId);
+    const make = (tag, className, extra = {}) => element(tag, { className, ...extra });
+    this.lamp = make('div', 'lamp', { role: 'img' });
+    this.lampWords = make('p', 'lamp-words');
+    this.alarm = make('p', 'alarm');
+    this.state = make('p', 'state');
+    this.number = make('span', 'number');
+    this.answerName = make('span', 'answer-name');
+    this.reason = make('p', 'reason');
+    this.verdict = make('div', 'verdict', { role: 'status', 'aria-live': 'polite' });
+    this.seenWords = make('h3', 'seen-words');
+    this.seen = element('canvas', { className: 'seen', role: 'img' });
+    this.grids = Object.fromEntries(MEMORIES.map((memory) => [memory, gridPart(this, memory)]));
+    this.partitions = make('p', 'hint partitions');
+    const lampRow = element('div', { className: 'lamp-row' }, this.lamp, element('div', {}, element('p', { className: 'hint', textContent: text.lamp.label }), this.lampWords, this.state));
+    const answer = element('div', { className: 'answer' }, element('p', {}, this.number, ' ', this.answerName), this.reason);
+    this.article
+      .querySelector('.slot')
+      .replaceChildren(lampRow, this.alarm, answer, this.verdict, this.seenWords, element('div', { className: 'canvas-box' }, this.seen), this.grids.flash.part, this.partitions, this.grids.main.part, this.grids.xip.part);
+  }
+
+  // Shows a run at its position. `expected` are the pages of the file, `all` the number of arrivals.
+  show(run, expected, all, board) {
+    this.run = run;
+    const verdict = verdictOf(run, expected, all);
+    this.showLamp(lampOf(run, verdict));
+    setText(this.state, `${stateWords(run.receiver.transfer)} · ${text.state.arrivals(run.position)}`);
+    this.showAnswer(run);
+    this.verdict.dataset.kind = verdict.kind;
+    this.verdict.replaceChildren(element('p', { textContent: verdict.words }), ...verdict.pages.map((words) => element('p', { className: 'page', textContent: words })));
+    this.showSeen(run, expected);
+    for (const memory of MEMORIES) this.showGrid(memory, run, expected, run.position === all && all > 0);
+    const table = board.entries.map((entry, k) => text.grid.partition(k, entry)).join('; ');
+    setText(this.partitions, table ? `${text.grid.partitions}: ${table}.` : '');
+    return verdict;
+  }
+
+  showLamp(lamp) {
+    this.lamp.dataset.state = lamp.state;
+    this.lamp.dataset.wrongly = lamp.wrongly;
+    setText(this.lamp, lamp.mark);
+    this.lamp.setAttribute('aria-label', lamp.words);
+    setText(this.lampWords, lamp.words);
+    setText(this.alarm, lamp.alarm);
+  }
+
+  showAnswer(run) {
+    const { last, reason } = run;
+    setText(this.number, last ? String(last.answer) : '');
+    setText(this.answerName, last ? (text.answer.names[last.answer] ?? '') : text.answer.none);
+    this.answerName.dataset.accepted = last ? last.answer >= 14 : '';
+    const why = last ? reasonWords(last.answer, reason) : '';
+    setText(this.reason, last?.discarded ? `${why} (${text.answer.discarded})` : why);
+    this.reason.title = reason ? text.reasonNumber(reason.cause) : '';
+  }
+
+  showSeen(run, expected) {
+    const { transfer } = run.receiver;
+    const total = transfer.state === 'idle' ? (expected[0]?.total ?? 0) : transfer.total;
+    const map = run.receiver.bytes('seen');
+    const bits = Array.from({ length: Math.min(total, 131072) }, (_, k) => isMarked(map, k));
+    const marked = bits.flatMap((on, k) => (on ? [k] : []));
+    setText(this.seenWords, text.state.seen(marked.length, total));
+    this.seen.setAttribute('aria-label', text.state.seenLabel(marked.length > 200 ? String(marked.length) : marked.join(', ') || text.state.seenNone));
+    drawBits(this.seen, bits, this.seen.parentElement.clientWidth);
+  }
+
+  showGrid(memory, run, expected, ended) {
+    const { part, canvas, size, legend, grid } = this.grids[memory];
+    const length = run.receiver.bytes(memory).length;
+    part.hidden = length === 0;
+    if (length === 0) return;
+    const status = cells(run, expected, memory, ended);
+    const labels = new Map(expected.filter((page) => page.storage?.memory === memory).map((page) => [Math.floor(page.storage.at / PAYLOAD), String(page.number)]));
+    grid.draw(status, labels);
+    const counts = STATUS_NAMES.map((name, k) => [name, status.reduce((sum, s) => sum + (s === k ? 1 : 0), 0)]).filter(([, count]) => count > 0);
+    setText(size, text.grid.size(status.length, memory === 'flash' ? length / SECTOR : 0));
+    canvas.setAttribute('aria-label', text.grid.label(text.grid.title[memory], counts.map(([name, k]) => text.grid.count(text.grid.status[name], k)).join(', ')));
+    legend.replaceChildren(
+      ...counts.map(([name, k]) => {
+        const swatch = element('span', { className: 'swatch', textContent: text.grid.marks[name], 'aria-hidden': 'true' });
+        swatch.style.background = COLOURS[name].fill;
+        swatch.style.color = COLOURS[name].ink;
+        return element('li', { 'data-status': name, 'data-count': k }, swatch, ` ${text.grid.count(text.grid.status[name], k)}`);
+      }),
+    );
+    this.tellCell(memory);
+  }
+
+  // What the chosen page of a memory is, in words.
+  tellCell(memory) {
+    const { grid, cell } = this.grids[memory];
+    const page = grid.chosen;
+    if (page < 0 || page >= grid.cells.length) {
+      setText(cell, '');
+      return;
+    }
+    const at = page * PAYLOAD;
+    const sector = memory === 'flash' ? Math.floor(at / SECTOR) : null;
+    const bytes = this.run.receiver.bytes(memory).subarray(at, at + 24);
+    const words = text.grid.cell(page, at, sector, text.grid.status[STATUS_NAMES[grid.cells[page]]]);
+    setText(cell, `${words} ${text.grid.bytes(letters(bytes))}`);
+  }
+}

@@ -1,0 +1,58 @@
+// The proved library as WebAssembly. One `Library` is one instance with memory of its own.
+
+// A part of an instance's memory. In the library a length is 64 bits wide, so JavaScript hands it over as a BigInt.
+class Slice {
+  constructor(library, at, length) {
+    this.library = library;
+    this.at = at;
+    this.length = length;
+  }
+
+  // The bytes, as they stand now. Memory that grows has a new buffer, so a view is never kept.
+  get bytes() {
+    return new Uint8Array(this.library.memory.buffer, this.at, this.length);
+  }
+
+  // The first bytes of the slice, as a slice.
+  first(length) {
+    return new Slice(this.library, this.at, length);
+  }
+}
+
+const PAGE = 65536;
+
+export class Library {
+  static async open(module) {
+    return new Library(await WebAssembly.instantiate(module));
+  }
+
+  constructor(instance) {
+    this.calls = instance.exports;
+    this.memory = instance.exports.memory;
+    this.end = this.memory.buffer.byteLength;
+  }
+
+  has(name) {
+    return typeof this.calls[name] === 'function';
+  }
+
+  // So many bytes of memory, zeros, that nothing else uses.
+  lend(length) {
+    const at = this.end;
+    this.end += Math.max(16, Math.ceil(length / 16) * 16);
+    const missing = this.end - this.memory.buffer.byteLength;
+    if (missing > 0) this.memory.grow(Math.ceil(missing / PAGE));
+    return new Slice(this, at, length);
+  }
+
+  // A call of the library: a slice becomes its address and its length, any other argument stays.
+  call(name, ...args) {
+    const words = args.flatMap((arg) => (arg instanceof Slice ? [arg.at, BigInt(arg.length)] : [arg]));
+    return this.calls[name](...words);
+  }
+}
+
+export function fromBase64(text) {
+  const raw = atob(text);
+  return Uint8Array.from(raw, (c) => c.charCodeAt(0));
+}
