@@ -1,7 +1,6 @@
 // A hex file read line by line: by the proved reader for V1 and for V2, and by the reader of the wrong section. What each line did is kept.
 import { N } from './numbers.js';
 import { get16 } from './bytes.js';
-import { Library } from './wasm.js';
 import { recordOf } from './hexrecord.js';
 import { WrongSectionReader } from './wrong/other_board_stored.js';
 
@@ -20,10 +19,6 @@ export function lineStarts(bytes) {
 
 // The proved reader of a board, with its image.
 export class ProvedReader {
-  static async open(module, board, imageSize) {
-    return new ProvedReader(await Library.open(module), board, imageSize);
-  }
-
   constructor(library, board, imageSize) {
     this.library = library;
     this.board = board;
@@ -60,9 +55,10 @@ export class ProvedReader {
 
 // What each line did: for each reader the answers, the positions of bad characters and the bytes stored so far; the section and the address of its data.
 export class HexFile {
-  static async open(module, bytes, imageSize, ownBoard) {
-    const v1 = await ProvedReader.open(module, N.UHEX_BOARD_V1, imageSize);
-    const v2 = await ProvedReader.open(module, N.UHEX_BOARD_V2, imageSize);
+  // `library` is lent until the file is not used any more.
+  static open(library, bytes, imageSize, ownBoard) {
+    const v1 = new ProvedReader(library, N.UHEX_BOARD_V1, imageSize);
+    const v2 = new ProvedReader(library, N.UHEX_BOARD_V2, imageSize);
     const wrong = new WrongSectionReader(ownBoard === 'v1' ? N.UHEX_BOARD_V1 : N.UHEX_BOARD_V2, imageSize, ownBoard === 'v1' ? v1 : v2);
     return new HexFile(bytes, { v1, v2, wrong });
   }

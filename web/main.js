@@ -6,7 +6,7 @@ import { TraceView } from './views/trace.js';
 import { looksLikeTrace } from './trace.js';
 import { isBlock, piecesOf } from './block.js';
 import { newBoard } from './board.js';
-import { fromBase64 } from './wasm.js';
+import { Libraries, fromBase64 } from './wasm.js';
 import { isWorker, serve } from './worker.js';
 import { text } from './text.js';
 
@@ -19,15 +19,15 @@ function say(words) {
 }
 
 class Page {
-  constructor(module) {
+  constructor(libraries) {
     this.shown = 'transfer';
-    const transfer = new TransferView(module, say);
+    const transfer = new TransferView(libraries, say);
     const show = (pieces, name) => {
       this.open('transfer');
       return transfer.openPieces(pieces, name);
     };
-    const trace = new TraceView(module, say, () => transfer.board ?? newBoard(), show);
-    this.views = { transfer, hex: new HexView(module, say), trace };
+    const trace = new TraceView(libraries, say, () => transfer.board ?? newBoard(), show);
+    this.views = { transfer, hex: new HexView(libraries, say), trace };
     for (const name of NAMES) byId(`tab-${name}`).addEventListener('click', () => this.open(name));
     byId('tabs').addEventListener('keydown', (event) => this.tabKey(event));
     document.addEventListener('keydown', (event) => this.key(event));
@@ -111,7 +111,7 @@ async function startPage() {
   document.documentElement.lang = text.language;
   if (typeof WebAssembly !== 'object') return say(text.noWasm);
   const module = await WebAssembly.compile(fromBase64(byId('library').textContent.trim()));
-  const page = new Page(module);
+  const page = new Page(new Libraries(module));
   page.open('transfer');
   await page.views.transfer.openLesson('lostPage');
   document.documentElement.dataset.ready = 'yes';

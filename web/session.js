@@ -1,5 +1,4 @@
 // One list of arrivals played into the proved receiver and, where one is chosen, into a wrong one beside it.
-import { Library } from './wasm.js';
 import { ProvedReceiver } from './proved.js';
 import { FAMILY } from './board.js';
 import { N } from './numbers.js';
@@ -11,8 +10,7 @@ import { inSlices } from './slices.js';
 import { GOALS, shortestDifference } from './search.js';
 
 // What a wrong receiver does not get wrong itself: whether the settings are good, and MD5. Both are the library's.
-async function helpersFor(module, proved, flashLength) {
-  const library = await Library.open(module);
+function helpersFor(library, proved, flashLength) {
   const digest = library.lend(N.UF2_MD5_SIZE);
   let message = null;
   return {
@@ -26,27 +24,36 @@ async function helpersFor(module, proved, flashLength) {
   };
 }
 
-async function provedReceiver(module, board) {
-  return new ProvedReceiver(await Library.open(module), board);
+// The proved receiver and the chosen wrong one, each with an instance of the library.
+function receiversOf(libraries, board, chosen) {
+  const proved = new ProvedReceiver(libraries[0], board);
+  const wrong = chosen ? new chosen.make(board, helpersFor(libraries[1], proved, board.flash)) : null;
+  return { proved, wrong };
 }
 
 export class Session {
-  // `plan` has the pieces of a file and how they are sent (arrivals.js); `wrongId` names a wrong receiver or is null.
-  static async open(module, board, plan, wrongId) {
-    const proved = await provedReceiver(module, board);
-    const chosen = WRONG.find((item) => item.id === wrongId);
-    const wrong = chosen ? new chosen.make(board, await helpersFor(module, proved, board.flash)) : null;
-    return new Session(module, board, plan, proved, chosen ?? null, wrong);
+  // `plan` has the pieces of a file and how they are sent (arrivals.js); `wrongId` names a wrong receiver or is null. `close()` gives the instances back.
+  static async open(pool, board, plan, wrongId) {
+    const libraries = [await pool.take(), await pool.take()];
+    return new Session(pool, libraries, board, plan, WRONG.find((item) => item.id === wrongId) ?? null);
   }
 
-  constructor(module, board, plan, proved, chosen, wrong) {
-    Object.assign(this, { module, board, plan, chosen });
+  constructor(pool, libraries, board, plan, chosen) {
+    Object.assign(this, { pool, libraries, board, plan, chosen });
+    const { proved, wrong } = receiversOf(libraries, board, chosen);
     this.arrivals = arrivalList(plan);
     this.expected = expectedPages(plan.pieces, proved);
     this.proved = new Run(proved, this.arrivals);
     this.wrong = wrong ? new Run(wrong, this.arrivals) : null;
     this.target = 0;
     this.moving = false;
+    this.closed = false;
+  }
+
+  // The receivers are not used any more. A move that is under way ends first.
+  close() {
+    this.closed = true;
+    if (!this.moving) this.libraries.splice(0).forEach((library) => this.pool.give(library));
   }
 
   get position() {
@@ -60,12 +67,13 @@ export class Session {
   // Moves both receivers to a position, in slices. A later call changes where a move that is under way goes to.
   async moveTo(target, between) {
     this.target = Math.max(0, Math.min(this.arrivals.length, target));
-    if (this.moving) return;
+    if (this.moving || this.closed) return;
     this.moving = true;
     try {
-      await inSlices((stop) => this.runs.every((run) => run.moveTo(this.target, stop)), between);
+      await inSlices((stop) => this.closed || this.runs.every((run) => run.moveTo(this.target, stop)), between);
     } finally {
       this.moving = false;
+      if (this.closed) this.close();
     }
   }
 
@@ -92,26 +100,27 @@ export class Session {
 
   // The shortest list of arrivals in which the wrong receiver differs from the proved one as `goal` says, or null.
   async search(goal, limits, between) {
-    const first = await provedReceiver(this.module, this.board);
-    const second = new this.chosen.make(this.board, await helpersFor(this.module, first, this.board.flash));
+    return this.pool.use((one) => this.pool.use((two) => this.searchWith([one, two], goal, limits, between)));
+  }
+
+  async searchWith(libraries, goal, limits, between) {
+    const { proved, wrong } = receiversOf(libraries, this.board, this.chosen);
     const alphabet = this.alphabet(limits.letters);
-    const steps = shortestDifference(first, second, alphabet.map((arrival) => arrival.bytes), GOALS[goal], limits);
+    const steps = shortestDifference(proved, wrong, alphabet.map((arrival) => arrival.bytes), GOALS[goal], limits);
     let found = null;
     let progress = { tried: 0, depth: 1 };
-    const whole = await inSlices(
-      (stop) => {
-        for (;;) {
-          const { done, value } = steps.next();
-          if (done) {
-            found = value;
-            return true;
-          }
-          progress = value;
-          if (stop()) return false;
+    const work = (stop) => {
+      for (;;) {
+        const { done, value } = steps.next();
+        if (done) {
+          found = value;
+          return true;
         }
-      },
-      () => between(progress),
-    );
+        progress = value;
+        if (stop()) return false;
+      }
+    };
+    const whole = await inSlices(work, () => between(progress));
     return whole && found ? found.map((k) => alphabet[k]) : null;
   }
 }

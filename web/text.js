@@ -30,12 +30,12 @@ export const text = {
 
   controls: {
     label: 'Playing',
-    start: 'To the start',
+    start: 'Start',
     back: 'Back',
     play: 'Play',
     pause: 'Pause',
     step: 'Step',
-    end: 'To the end',
+    end: 'End',
     speed: 'Speed',
     position: (k, all) => `Arrival ${n(k)} of ${n(all)}`,
     busy: (k, all) => `Working: ${n(k)} of ${n(all)} arrivals`,
@@ -81,7 +81,15 @@ export const text = {
     },
   },
 
-  proved: { title: 'The proved receiver', mark: 'PROVED', answersFrom: 'Its answers come from the proved library.' },
+  proved: {
+    title: 'The proved receiver',
+    mark: 'PROVED',
+    what: 'What is proved of it',
+    claim:
+      'For every valid file and every list of its blocks, in any order, with repeats or losses, mixed with foreign arrivals: the set of blocks that came decides flash, maps and state, and nothing else does. "Completed" comes exactly when the set is whole.',
+    theorem: 'Theorem',
+    where: 'List-ends, crates/arrival (demand 3)',
+  },
 
   wrong: {
     title: 'Beside it',
@@ -143,16 +151,20 @@ export const text = {
     idle: { mark: '–', name: 'dark', words: 'no update has begun' },
     running: { mark: '…', name: 'amber', words: 'an update is under way' },
     done: { mark: '✓', name: 'green', words: 'the update is complete' },
-    false: (k) => `GREEN, AND ${k === 1 ? 'A PAGE IS' : n(k) + ' PAGES ARE'} MISSING`,
-    falseElsewhere: 'GREEN, AND THE FILE IS NOT WHERE IT BELONGS',
   },
 
   state: {
     idle: 'Idle',
     running: (count, total) => `Running: ${n(count)} of ${n(total)} counted`,
     done: (total) => `Done: ${blocks(total)}`,
+    names: { idle: 'Idle', running: 'Running', done: 'Done' },
+    of: (family, memory) => `${family}, into ${memory}`,
+    counted: 'counted',
+    arrived: 'arrivals',
+    marked: 'marked',
+    countOf: (count, total) => `${n(count)} of ${n(total)}`,
+    number: (x) => n(x),
     into: { flash: 'flash', main: 'main RAM', xip: 'XIP RAM' },
-    arrivals: (k) => `${n(k)} ${k === 1 ? 'arrival' : 'arrivals'} so far`,
     seen: (k, all) => `Seen map: ${n(k)} marked${all ? ` of ${n(all)}` : ''}`,
     seenLabel: (list) => `Seen map. Marked block numbers: ${list}.`,
     seenNone: 'none',
@@ -260,9 +272,10 @@ export const text = {
     noPlace: (name) => `Not completed: this board has no place for the family ${name}.`,
     notDone: (k, all) => `Not completed: ${n(k)} of ${n(all)} blocks have been counted.`,
     commentsMissing: 'Not completed: every page stands at its address, and blocks without a page are missing.',
-    falselyDone: (k) => `It says "Completed", and ${k === 1 ? 'a page is' : n(k) + ' pages are'} missing.`,
-    misplaced: 'It says "Completed", and the file is not where it belongs.',
-    damaged: 'It says "Completed", the file is there, and it has changed bytes that are not its own.',
+    falselyDone: (k) => `GREEN, AND ${k === 1 ? 'A PAGE IS' : n(k) + ' PAGES ARE'} MISSING`,
+    misplaced: 'GREEN, AND THE FILE IS NOT WHERE IT BELONGS',
+    damaged: 'GREEN, AND BYTES OUTSIDE OF THE FILE HAVE CHANGED',
+    misplacedPages: (name) => `The board has no place for the family ${name}. The pages went somewhere else.`,
     page: (number, address) => `Page of block ${n(number)}, for ${hex(address)}: `,
     stands: {
       erased: 'there stands 0xFF, erased.',
@@ -286,7 +299,7 @@ export const text = {
       waiting: 'still to come',
       missing: 'missing',
     },
-    marks: { lent: '', erased: '□', stored: '■', kept: '=', left: '◆', waiting: '○', missing: '✕' },
+    marks: { lent: '·', erased: '□', stored: '■', kept: '=', left: '◆', waiting: '○', missing: '✕' },
     count: (name, k) => `${name}: ${n(k)}`,
     label: (title, counts) => `${title}, page by page. ${counts}. Arrow keys go from page to page.`,
     cell: (page, at, sector, status) => `Page ${n(page)}, byte ${n(at)}${sector === null ? '' : `, sector ${n(sector)}`}: ${status}.`,
@@ -404,7 +417,7 @@ export const text = {
   hex: {
     title: 'Universal Hex, a line at a time',
     intro:
-      'One file has a section for each board. The panel must read its own section and pass over the other. Both proved readers get every line; the wrong one stores every section.',
+      'One file has a section for each board. The panel must read its own section and pass over the other. Both proved readers get every line; the wrong one stores the other section instead.',
     sample: 'Sample, made here by the proved joiner of two plain hex files',
     useSample: 'Use the sample',
     own: 'A hex file',
@@ -493,6 +506,6 @@ export const text = {
     shortRecord: 'short',
     shown: (a, b, all) => `Records ${n(a)} to ${n(b)} of ${n(all)} are shown.`,
     name: "the site's trace",
-    sampleName: 'Sample',
+    sampleName: 'Sample, on the board of lesson 1',
   },
 };

@@ -1,6 +1,5 @@
 // A site's trace: records of one byte, which has the answer that the site got, and an arrival. The replay is the library's.
 import { N } from './numbers.js';
-import { Library } from './wasm.js';
 import { ProvedReceiver, readTransfer } from './proved.js';
 import { isBlock } from './block.js';
 import { get64 } from './bytes.js';
@@ -30,8 +29,7 @@ export function looksLikeTrace(trace) {
 }
 
 // The replay of a trace on a board, by the proved library: where it stops, and the state and maps there. Run in a worker, since it is one long call.
-export async function replay(module, board, trace) {
-  const library = await Library.open(module);
+export function replay(library, board, trace) {
   const receiver = new ProvedReceiver(library, board);
   const { settings, flash, seen, sectors, main, xip, transfer } = receiver.slices;
   const input = library.lend(trace.length);

@@ -32,7 +32,7 @@ export function verdictOf(run, expected, arrivals) {
   const found = (kind, words) => ({ kind, words, pages, missing });
   const homeless = expected.length > 0 && expected.every((page) => page.storage === null);
   if (done) {
-    if (homeless) return { ...found('misplaced', text.verdict.misplaced), pages: [] };
+    if (homeless) return { ...found('misplaced', text.verdict.misplaced), pages: [text.verdict.misplacedPages(familyName(expected[0].family))] };
     if (missing.length > 0) return found('falselyDone', text.verdict.falselyDone(missing.length));
     if (strayChange(run, expected)) return found('misplaced', text.verdict.damaged);
     return found('completed', text.verdict.completed);
@@ -48,6 +48,5 @@ export function lampOf(run, verdict) {
   const { state } = run.receiver.transfer;
   const wrongly = state === 'done' && (verdict.kind === 'falselyDone' || verdict.kind === 'misplaced');
   const { name, words } = text.lamp[state];
-  const alarm = !wrongly ? '' : verdict.kind === 'falselyDone' ? text.lamp.false(verdict.missing.length) : text.lamp.falseElsewhere;
-  return { state, wrongly, words: `${name}: ${words}`, mark: text.lamp[state].mark, alarm };
+  return { state, wrongly, words: `${name}: ${words}`, mark: text.lamp[state].mark };
 }

@@ -29,7 +29,13 @@ export class Library {
   constructor(instance) {
     this.calls = instance.exports;
     this.memory = instance.exports.memory;
-    this.end = this.memory.buffer.byteLength;
+    this.base = this.memory.buffer.byteLength;
+    this.end = this.base;
+  }
+
+  // Takes back everything that was lent.
+  clear() {
+    this.end = this.base;
   }
 
   has(name) {
@@ -42,13 +48,42 @@ export class Library {
     this.end += Math.max(16, Math.ceil(length / 16) * 16);
     const missing = this.end - this.memory.buffer.byteLength;
     if (missing > 0) this.memory.grow(Math.ceil(missing / PAGE));
-    return new Slice(this, at, length);
+    const slice = new Slice(this, at, length);
+    slice.bytes.fill(0);
+    return slice;
   }
 
   // A call of the library: a slice becomes its address and its length, any other argument stays.
   call(name, ...args) {
     const words = args.flatMap((arg) => (arg instanceof Slice ? [arg.at, BigInt(arg.length)] : [arg]));
     return this.calls[name](...words);
+  }
+}
+
+// Instances that are used again: a browser sets aside gigabytes of addresses for the memory of each, and has room for few.
+export class Libraries {
+  constructor(module) {
+    this.module = module;
+    this.free = [];
+  }
+
+  async take() {
+    return this.free.pop() ?? Library.open(this.module);
+  }
+
+  give(library) {
+    library.clear();
+    this.free.push(library);
+  }
+
+  // Lends an instance to `act` and takes it back.
+  async use(act) {
+    const library = await this.take();
+    try {
+      return await act(library);
+    } finally {
+      this.give(library);
+    }
   }
 }
 

@@ -1,5 +1,6 @@
 // The replay of a trace in a worker, so that a long one does not hold up the page. The worker has the same code as the page.
 import { replay } from './trace.js';
+import { Library } from './wasm.js';
 
 export function isWorker() {
   return typeof document === 'undefined';
@@ -9,7 +10,7 @@ export function isWorker() {
 export function serve() {
   self.onmessage = async ({ data }) => {
     try {
-      self.postMessage({ result: await replay(data.module, data.board, data.trace) });
+      self.postMessage({ result: replay(await Library.open(data.module), data.board, data.trace) });
     } catch (error) {
       self.postMessage({ error: String(error) });
     }
@@ -17,11 +18,11 @@ export function serve() {
 }
 
 // A replay in a worker made of the page's own code; here where the browser allows no worker.
-export function replayAside(module, board, trace) {
+export function replayAside(libraries, board, trace) {
   const code = document.getElementById('code').textContent;
   return new Promise((done, fail) => {
     let worker;
-    const here = () => replay(module, board, trace).then(done, fail);
+    const here = () => libraries.use((library) => replay(library, board, trace)).then(done, fail);
     try {
       worker = new Worker(URL.createObjectURL(new Blob([code], { type: 'text/javascript' })));
     } catch {
@@ -37,6 +38,6 @@ export function replayAside(module, board, trace) {
       worker.terminate();
       here();
     };
-    worker.postMessage({ module, board, trace });
+    worker.postMessage({ module: libraries.module, board, trace });
   });
 }

@@ -2,7 +2,6 @@
 import { byId, element, fileBytes, fillSelect, setText } from './dom.js';
 import { LINK, SECTOR, newEntry, settingsFrom } from '../board.js';
 import { N } from '../numbers.js';
-import { Library } from '../wasm.js';
 import { familyFrom, familyName } from '../words.js';
 import { text } from '../text.js';
 
@@ -18,8 +17,8 @@ function tick(checked, label) {
 }
 
 export class BoardForm {
-  constructor(module, onApply) {
-    this.module = module;
+  constructor(libraries, onApply) {
+    this.libraries = libraries;
     fillSelect(byId('lent'), Object.entries(text.setup.lents));
     fillSelect(byId('current'), Object.entries(text.setup.archs));
     byId('add-entry').addEventListener('click', () => {
@@ -117,12 +116,15 @@ export class BoardForm {
   // Settings from a packed store, by the proved library, for the flash that the form says.
   async readStore(file) {
     if (!file) return;
-    const library = await Library.open(this.module);
+    const bytes = await fileBytes(file);
+    await this.libraries.use((library) => this.readStoreWith(library, bytes));
+  }
+
+  readStoreWith(library, bytes) {
     if (!library.has('uf2_store_read')) {
       this.note(text.setup.storeMissing);
       return;
     }
-    const bytes = await fileBytes(file);
     const store = library.lend(bytes.length);
     store.bytes.set(bytes);
     const settings = library.lend(N.UF2_SETTINGS_SIZE);

@@ -136,11 +136,12 @@ export class Grid {
       context.lineWidth = 1;
       context.strokeRect(x + 0.5, y + 0.5, cell - 1, cell - 1);
     }
+    if (name === 'missing' && cell >= 6) this.drawCross(context, x, y, cell);
     if (cell < 9) return;
     context.fillStyle = ink;
     context.textAlign = 'center';
     context.textBaseline = 'middle';
-    const mark = text.grid.marks[name];
+    const mark = name === 'missing' ? '' : text.grid.marks[name];
     if (label === undefined || cell < 24) {
       context.font = `${Math.round(cell * 0.55)}px sans-serif`;
       context.fillText(mark, x + cell / 2, y + cell / 2 + 0.5);
@@ -150,6 +151,18 @@ export class Grid {
     context.fillText(label, x + cell / 2, y + cell * 0.62, cell - 4);
     context.font = `${Math.round(cell * 0.3)}px sans-serif`;
     context.fillText(mark, x + cell * 0.78, y + cell * 0.22);
+  }
+
+  // A missing page is crossed out, so that it is found without its colour.
+  drawCross(context, x, y, cell) {
+    context.strokeStyle = 'rgba(255, 255, 255, 0.5)';
+    context.lineWidth = Math.max(1, cell / 14);
+    context.beginPath();
+    context.moveTo(x + 2, y + 2);
+    context.lineTo(x + cell - 2, y + cell - 2);
+    context.moveTo(x + cell - 2, y + 2);
+    context.lineTo(x + 2, y + cell - 2);
+    context.stroke();
   }
 
   drawChosen(context) {

@@ -3,7 +3,6 @@ import { byId, element, fileBytes, fillSelect, letters, setText } from './dom.js
 import { Player } from './player.js';
 import { fillTable } from './table.js';
 import { HexFile } from '../hexlines.js';
-import { Library } from '../wasm.js';
 import { joinHex, plainHex } from '../maker.js';
 import { inSlices } from '../slices.js';
 import { N } from '../numbers.js';
@@ -18,8 +17,8 @@ function sampleFile(library) {
 }
 
 export class HexView {
-  constructor(module, say) {
-    this.module = module;
+  constructor(libraries, say) {
+    this.libraries = libraries;
     this.say = say;
     this.position = 0;
     this.opened = 0;
@@ -43,7 +42,7 @@ export class HexView {
   }
 
   async openSample() {
-    this.bytes = sampleFile(await Library.open(this.module));
+    this.bytes = await this.libraries.use(sampleFile);
     this.name = text.hex.sample;
     await this.read();
   }
@@ -71,7 +70,8 @@ export class HexView {
     const opened = ++this.opened;
     this.player.pause();
     const size = Math.max(1, Math.min(N.UHEX_IMAGE_MAX_SIZE, Math.floor(Number(byId('hex-image').value)) || 1));
-    const file = await HexFile.open(this.module, this.bytes, size, byId('hex-own').value);
+    const library = await this.libraries.take();
+    const file = HexFile.open(library, this.bytes, size, byId('hex-own').value);
     const whole = await inSlices(
       (stop) => file.readOn(stop),
       () => {
@@ -79,8 +79,12 @@ export class HexView {
         return opened === this.opened;
       },
     );
-    if (!whole || opened !== this.opened) return;
-    this.file = file;
+    if (!whole || opened !== this.opened) {
+      this.libraries.give(library);
+      return;
+    }
+    if (this.library) this.libraries.give(this.library);
+    Object.assign(this, { file, library });
     setText(byId('hex-note'), this.name);
     await this.goTo(0);
   }

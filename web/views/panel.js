@@ -6,7 +6,7 @@ import { PAYLOAD } from '../block.js';
 import { SECTOR } from '../board.js';
 import { isMarked } from '../bytes.js';
 import { lampOf, verdictOf } from '../verdict.js';
-import { reasonWords, stateWords } from '../words.js';
+import { familyName, reasonWords } from '../words.js';
 import { text } from '../text.js';
 
 const MEMORIES = ['flash', 'main', 'xip'];
@@ -28,8 +28,8 @@ export class Panel {
     const make = (tag, className, extra = {}) => element(tag, { className, ...extra });
     this.lamp = make('div', 'lamp', { role: 'img' });
     this.lampWords = make('p', 'lamp-words');
-    this.alarm = make('p', 'alarm');
     this.state = make('p', 'state');
+    this.stats = Object.fromEntries(['counted', 'arrived', 'marked'].map((name) => [name, make('span', 'stat-number')]));
     this.number = make('span', 'number');
     this.answerName = make('span', 'answer-name');
     this.reason = make('p', 'reason');
@@ -39,10 +39,11 @@ export class Panel {
     this.grids = Object.fromEntries(MEMORIES.map((memory) => [memory, gridPart(this, memory)]));
     this.partitions = make('p', 'hint partitions');
     const lampRow = element('div', { className: 'lamp-row' }, this.lamp, element('div', {}, element('p', { className: 'hint', textContent: text.lamp.label }), this.lampWords, this.state));
+    const stats = element('div', { className: 'stats' }, ...Object.entries(this.stats).map(([name, number]) => element('p', { 'data-stat': name }, number, ` ${text.state[name]}`)));
     const answer = element('div', { className: 'answer' }, element('p', {}, this.number, ' ', this.answerName), this.reason);
     this.article
       .querySelector('.slot')
-      .replaceChildren(lampRow, this.alarm, answer, this.verdict, this.seenWords, element('div', { className: 'canvas-box' }, this.seen), this.grids.flash.part, this.partitions, this.grids.main.part, this.grids.xip.part);
+      .replaceChildren(lampRow, stats, answer, this.verdict, this.seenWords, element('div', { className: 'canvas-box' }, this.seen), this.grids.flash.part, this.partitions, this.grids.main.part, this.grids.xip.part);
   }
 
   // Shows a run at its position. `expected` are the pages of the file, `all` the number of arrivals.
@@ -50,10 +51,10 @@ export class Panel {
     this.run = run;
     const verdict = verdictOf(run, expected, all);
     this.showLamp(lampOf(run, verdict));
-    setText(this.state, `${stateWords(run.receiver.transfer)} · ${text.state.arrivals(run.position)}`);
+    this.showState(run);
     this.showAnswer(run);
     this.verdict.dataset.kind = verdict.kind;
-    this.verdict.replaceChildren(element('p', { textContent: verdict.words }), ...verdict.pages.map((words) => element('p', { className: 'page', textContent: words })));
+    this.verdict.replaceChildren(element('p', { className: 'words', textContent: verdict.words }), ...verdict.pages.map((words) => element('p', { className: 'page', textContent: words })));
     this.showSeen(run, expected);
     for (const memory of MEMORIES) this.showGrid(memory, run, expected, run.position === all && all > 0);
     const table = board.entries.map((entry, k) => text.grid.partition(k, entry)).join('; ');
@@ -67,7 +68,14 @@ export class Panel {
     setText(this.lamp, lamp.mark);
     this.lamp.setAttribute('aria-label', lamp.words);
     setText(this.lampWords, lamp.words);
-    setText(this.alarm, lamp.alarm);
+  }
+
+  showState(run) {
+    const { state, family, total, count, kind } = run.receiver.transfer;
+    const idle = state === 'idle';
+    setText(this.state, idle ? text.state.names.idle : `${text.state.names[state]}: ${text.state.of(familyName(family), text.state.into[kind])}`);
+    setText(this.stats.counted, idle ? text.state.number(0) : text.state.countOf(count, total));
+    setText(this.stats.arrived, text.state.number(run.position));
   }
 
   showAnswer(run) {
@@ -86,6 +94,7 @@ export class Panel {
     const map = run.receiver.bytes('seen');
     const bits = Array.from({ length: Math.min(total, 131072) }, (_, k) => isMarked(map, k));
     const marked = bits.flatMap((on, k) => (on ? [k] : []));
+    setText(this.stats.marked, text.state.number(marked.length));
     setText(this.seenWords, text.state.seen(marked.length, total));
     this.seen.setAttribute('aria-label', text.state.seenLabel(marked.length > 200 ? String(marked.length) : marked.join(', ') || text.state.seenNone));
     drawBits(this.seen, bits, this.seen.parentElement.clientWidth);

@@ -1,7 +1,6 @@
 // The view of a site's trace: where the replay stops, what was recorded there and what we answer.
 import { byId, element, fileBytes, setText } from './dom.js';
 import { fillTable } from './table.js';
-import { Library } from '../wasm.js';
 import { CountsArrivals } from '../wrong/counts_arrivals.js';
 import { isBlock } from '../block.js';
 import { lessonParts, LESSONS } from '../lessons.js';
@@ -27,8 +26,8 @@ function sampleTrace(library) {
 
 export class TraceView {
   // `board()` is the board that is set; `show(pieces, name)` shows arrivals in the view of a transfer.
-  constructor(module, say, board, show) {
-    Object.assign(this, { module, say, board, show });
+  constructor(libraries, say, board, show) {
+    Object.assign(this, { libraries, say, board, show });
     this.opened = 0;
     byId('trace-sample').addEventListener('click', () => this.openSample());
     byId('trace-file').addEventListener('change', (event) => event.target.files[0] && this.openFile(event.target.files[0]));
@@ -37,7 +36,7 @@ export class TraceView {
   }
 
   async openSample() {
-    const { board, trace } = sampleTrace(await Library.open(this.module));
+    const { board, trace } = await this.libraries.use(sampleTrace);
     await this.replay(trace, text.trace.sampleName, board);
   }
 
@@ -59,7 +58,7 @@ export class TraceView {
     const opened = ++this.opened;
     this.say('');
     setText(byId('trace-note'), text.trace.busy);
-    const result = await replayAside(this.module, board, trace);
+    const result = await replayAside(this.libraries, board, trace);
     if (opened !== this.opened) return;
     this.records = recordsOf(trace);
     this.result = result;

@@ -5,7 +5,6 @@ import { Panel } from './panel.js';
 import { Player } from './player.js';
 import { fillTable } from './table.js';
 import { Session } from '../session.js';
-import { Library } from '../wasm.js';
 import { newPlan } from '../arrivals.js';
 import { isBlock, piecesOf, readBlock } from '../block.js';
 import { LESSONS, lessonParts, samplePieces } from '../lessons.js';
@@ -22,11 +21,11 @@ const LIMITS = { letters: 8, depth: 10, tries: 60000 };
 const SEARCH_FLASH = 1048576;
 
 export class TransferView {
-  constructor(module, say) {
-    this.module = module;
+  constructor(libraries, say) {
+    this.libraries = libraries;
     this.say = say;
     this.panels = { proved: new Panel('proved'), wrong: new Panel('wrong') };
-    this.form = new BoardForm(module, (board) => this.change({ board }));
+    this.form = new BoardForm(libraries, (board) => this.change({ board }));
     this.player = new Player({ start: 'to-start', back: 'back', play: 'play', step: 'step', end: 'to-end', speed: 'speed' }, this);
     this.firstBlock = 0;
     this.opened = 0;
@@ -68,9 +67,9 @@ export class TransferView {
 
   async openLesson(id) {
     const lesson = LESSONS.find((item) => item.id === id);
-    const library = await Library.open(this.module);
+    const parts = await this.libraries.use((library) => lessonParts(library, lesson));
     this.firstBlock = 0;
-    await this.change(lessonParts(library, lesson), id);
+    await this.change(parts, id);
   }
 
   changePlan(fields) {
@@ -81,8 +80,12 @@ export class TransferView {
   async change({ board = this.board, plan = this.plan, wrongId = this.wrongId }, lessonId = 'own') {
     const opened = ++this.opened;
     this.player.pause();
-    const session = await Session.open(this.module, board, plan, wrongId);
-    if (opened !== this.opened) return;
+    const session = await Session.open(this.libraries, board, plan, wrongId);
+    if (opened !== this.opened) {
+      session.close();
+      return;
+    }
+    this.session?.close();
     Object.assign(this, { session, board, plan, wrongId, lessonId });
     this.form.show(board);
     const bad = [N.UF2_ANSWER_BAD_BUFFERS, N.UF2_ANSWER_BAD_SETTINGS].includes(session.proved.receiver.place(FAMILY.data).answer);
@@ -131,7 +134,7 @@ export class TransferView {
       return;
     }
     const pages = Math.max(1, Math.min(131072, Math.floor(Number(byId('pages').value)) || 1));
-    const { pieces } = samplePieces(await Library.open(this.module), pages, family);
+    const { pieces } = await this.libraries.use((library) => samplePieces(library, pages, family));
     this.firstBlock = 0;
     const board = { ...this.board, flash: Math.max(this.board.flash, this.need(pieces)) };
     await this.change({ board, plan: newPlan(pieces) });
