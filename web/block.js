@@ -32,6 +32,8 @@ export function readBlock(piece) {
   };
 }
 
+export const PAYLOAD_AT = AT.data;
+
 export function payloadOf(piece) {
   return piece.subarray(AT.data, AT.data + PAYLOAD);
 }

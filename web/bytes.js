@@ -33,6 +33,12 @@ export function same(a, b) {
   return true;
 }
 
+// Whether `length` bytes of `a` from `at` on are those of `b` from `from` on.
+export function sameAt(a, at, b, from, length) {
+  for (let k = 0; k < length; k++) if (a[at + k] !== b[from + k]) return false;
+  return true;
+}
+
 export function hex(x, digits = 8) {
   return '0x' + x.toString(16).toUpperCase().padStart(digits, '0');
 }

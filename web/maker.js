@@ -8,8 +8,8 @@ export function sampleImage(pages, title) {
   const image = new Uint8Array(pages * PAYLOAD);
   const encoder = new TextEncoder();
   for (let k = 0; k < pages; k++) {
-    const words = encoder.encode(`${title}, page ${k}. `);
-    for (let i = 0; i < PAYLOAD; i++) image[k * PAYLOAD + i] = words[i % words.length];
+    const words = `${title}, page ${k}. `;
+    encoder.encodeInto(words.repeat(Math.ceil(PAYLOAD / words.length)).slice(0, PAYLOAD), image.subarray(k * PAYLOAD));
   }
   return image;
 }

@@ -1,7 +1,7 @@
 // What was done to each page of a board's memories, and what of it a file expects. Display only: it follows what the receiver did.
 import { SECTOR } from './board.js';
-import { PAYLOAD, payloadOf, readBlock } from './block.js';
-import { isMarked, same } from './bytes.js';
+import { PAYLOAD, PAYLOAD_AT, readBlock } from './block.js';
+import { isMarked, same, sameAt } from './bytes.js';
 
 export const STATUS = { lent: 0, erased: 1, stored: 2, kept: 3, left: 4, waiting: 5, missing: 6 };
 export const STATUS_NAMES = Object.keys(STATUS);
@@ -43,71 +43,74 @@ export class Pages {
   }
 }
 
-// The pages that a file's data blocks are for: number, memory, byte, payload. The proved receiver says where. A file may hold blocks of several
-// families or totals: the most frequent pair is the file that is meant. Of two blocks with one number the first counts.
+// The pages that a file's data blocks are for: number, memory, byte, and the arrival that has its bytes. The proved receiver says where. A file may hold
+// blocks of several families or totals: the most frequent pair is the file that is meant. Of two blocks with one number the first counts.
 export function expectedPages(pieces, receiver) {
-  const groups = new Map();
+  const groups = [];
+  let group = null;
   for (const piece of pieces) {
     const block = readBlock(piece);
     if (!block || block.comment) continue;
-    const head = `${block.family} ${block.total}`;
-    if (!groups.has(head)) groups.set(head, new Map());
-    const group = groups.get(head);
-    if (!group.has(block.number)) group.set(block.number, { ...block, storage: receiver.storage(block), payload: payloadOf(piece) });
+    const isHead = (other) => other.family === block.family && other.total === block.total;
+    if (!group || !isHead(group)) {
+      group = groups.find(isHead);
+      if (!group) groups.push((group = { family: block.family, total: block.total, pages: new Map() }));
+    }
+    if (group.pages.has(block.number)) continue;
+    const { number, address, family, total } = block;
+    group.pages.set(number, { number, address, family, total, storage: receiver.storage(block), piece });
   }
-  const largest = [...groups.values()].reduce((a, b) => (b.size > a.size ? b : a), new Map());
-  return [...largest.values()].sort((a, b) => a.number - b.number);
+  const largest = groups.reduce((a, b) => (b.pages.size > a.pages.size ? b : a), { pages: new Map() });
+  return [...largest.pages.values()].sort((a, b) => a.number - b.number);
 }
 
-function stands(receiver, page) {
-  const { memory, at } = page.storage;
-  return receiver.bytes(memory).subarray(at, at + PAYLOAD);
-}
-
-// Whether a page's bytes are where they belong.
-export function holds(receiver, page) {
-  return page.storage !== null && same(stands(receiver, page), page.payload);
+// Whether a page was stored or kept, and its bytes are where they belong. `memory` are the bytes and `marks` the marks of its memory.
+function isThere(page, memory, marks) {
+  const { at } = page.storage;
+  const status = marks[Math.floor(at / PAYLOAD)];
+  return (status === STATUS.stored || status === STATUS.kept) && sameAt(memory, at, page.piece, PAYLOAD_AT, PAYLOAD);
 }
 
 // What stands where a page belongs: nothing has an address, or erased bytes, the bytes as lent, another page of the file, or other bytes.
 export function standsThere(receiver, page, lent, expected) {
   if (!page.storage) return { what: 'nowhere' };
   const { memory, at } = page.storage;
-  const bytes = stands(receiver, page);
-  const before = memory === 'flash' ? lent.subarray(at, at + PAYLOAD) : new Uint8Array(PAYLOAD);
+  const bytes = receiver.bytes(memory).slice(at, at + PAYLOAD);
   const start = bytes.slice(0, 16);
-  if (same(bytes, before) && !bytes.every((x) => x === 0xff)) return { what: 'lent', start };
   if (bytes.every((x) => x === 0xff)) return { what: 'erased', start };
-  const other = expected.find((q) => q !== page && same(q.payload, bytes));
+  const before = memory === 'flash' ? lent.subarray(at, at + PAYLOAD) : new Uint8Array(PAYLOAD);
+  if (same(bytes, before)) return { what: 'lent', start };
+  const other = expected.find((q) => q !== page && sameAt(bytes, 0, q.piece, PAYLOAD_AT, PAYLOAD));
   return other ? { what: 'block', number: other.number, start } : { what: 'other', start };
 }
 
-// The cells of a memory's grid: what was done to each page, and which pages of the file are still to come (`waiting`) or, once the list has ended
-// or the receiver says that it is done, are not there (`missing`).
+// The cells of a memory's grid: what was done to each page, and which pages of the file are still to come (`waiting`) or, once the list has ended, the
+// receiver says that it is done or the page has been marked, are not there (`missing`).
 export function cells(run, expected, memory, ended) {
-  const receiver = run.receiver;
-  const out = run.pages.marks[memory].slice();
-  const done = receiver.transfer.state === 'done';
+  const { receiver } = run;
+  const { transfer } = receiver;
+  const marks = run.pages.marks[memory];
+  const out = marks.slice();
+  const bytes = receiver.bytes(memory);
   const seen = receiver.bytes('seen');
+  const over = ended || transfer.state === 'done';
   for (const page of expected) {
-    if (!page.storage || page.storage.memory !== memory) continue;
-    const k = Math.floor(page.storage.at / PAYLOAD);
-    const there = (out[k] === STATUS.stored || out[k] === STATUS.kept) && holds(receiver, page);
-    if (!there) out[k] = ended || done || (isMarked(seen, page.number) && isFileOf(receiver.transfer, page)) ? STATUS.missing : STATUS.waiting;
+    if (!page.storage || page.storage.memory !== memory || isThere(page, bytes, marks)) continue;
+    const own = transfer.state !== 'idle' && transfer.family === page.family && transfer.total === page.total;
+    out[Math.floor(page.storage.at / PAYLOAD)] = over || (own && isMarked(seen, page.number)) ? STATUS.missing : STATUS.waiting;
   }
   return out;
 }
 
-function isFileOf(transfer, page) {
-  return transfer.state !== 'idle' && transfer.family === page.family && transfer.total === page.total;
-}
-
 // The pages of the file that are not there now.
 export function missingPages(run, expected) {
-  return expected.filter((page) => {
-    if (!page.storage) return true;
-    const k = Math.floor(page.storage.at / PAYLOAD);
-    const status = run.pages.marks[page.storage.memory][k];
-    return !((status === STATUS.stored || status === STATUS.kept) && holds(run.receiver, page));
-  });
+  const bytes = { flash: run.receiver.bytes('flash'), main: run.receiver.bytes('main'), xip: run.receiver.bytes('xip') };
+  return expected.filter(({ storage }, k) => !storage || !isThere(expected[k], bytes[storage.memory], run.pages.marks[storage.memory]));
+}
+
+// How many cells have each status.
+export function countCells(status) {
+  const counts = new Array(STATUS_NAMES.length).fill(0);
+  for (let k = 0; k < status.length; k++) counts[status[k]]++;
+  return counts;
 }

@@ -1,9 +1,9 @@
 // The proved receiver: a board lent to the library, one arrival after another. Every answer here is the library's.
 import { N } from './numbers.js';
-import { get32, get64, isMarked } from './bytes.js';
+import { get32, get64, isMarked, same } from './bytes.js';
+import { wordsOf } from './wasm.js';
 import { ARRIVAL, isBlock, payloadOf, readBlock } from './block.js';
 import { SECTOR, lentFlash, settingsBytes } from './board.js';
-import { same } from './bytes.js';
 
 const STATES = { [N.UF2_STATE_IDLE]: 'idle', [N.UF2_STATE_RUNNING]: 'running', [N.UF2_STATE_DONE]: 'done' };
 const KINDS = { [N.UF2_KIND_FLASH]: 'flash', [N.UF2_KIND_MAIN_RAM]: 'main', [N.UF2_KIND_XIP_RAM]: 'xip' };
@@ -49,6 +49,7 @@ export class ProvedReceiver {
     };
     this.slices.settings.bytes.set(settingsBytes(board));
     this.places = new Map();
+    this.words = new Map();
     this.reset();
   }
 
@@ -83,21 +84,26 @@ export class ProvedReceiver {
     return this.places.get(family);
   }
 
-  lentArguments(arrival) {
+  // The words of a call on an arrival, which are the same for all arrivals of one length.
+  lentWords(arrival) {
     const s = this.slices;
     s.arrival.bytes.set(arrival);
-    return [s.settings, s.transfer, s.arrival.first(arrival.length), s.flash, s.seen, s.sectors, s.main, s.xip];
+    const { length } = arrival;
+    if (!this.words.has(length)) {
+      this.words.set(length, wordsOf([s.settings, s.transfer, s.arrival.first(length), s.flash, s.seen, s.sectors, s.main, s.xip]));
+    }
+    return this.words.get(length);
   }
 
   // Why the arrival would be answered as it would be, or null where this library does not say.
   why(arrival) {
     if (!this.library.has('uf2_why')) return null;
-    this.library.call('uf2_why', ...this.lentArguments(arrival), this.slices.reason);
+    this.library.calls.uf2_why(...this.lentWords(arrival), ...this.slices.reason.words);
     return readReason(this.slices.reason.bytes);
   }
 
   look(arrival) {
-    const result = this.library.call('uf2_look', ...this.lentArguments(arrival));
+    const result = this.library.calls.uf2_look(...this.lentWords(arrival));
     return { answer: result & 127, discarded: result >= N.UF2_RESULT_DISCARDED };
   }
 
@@ -120,7 +126,7 @@ export class ProvedReceiver {
     const page = block && !block.comment ? this.storage(block) : null;
     const sector = page && page.memory === 'flash' ? Math.floor(page.at / SECTOR) : -1;
     const wasMarked = sector >= 0 && isMarked(this.slices.sectors.bytes, sector);
-    const result = this.library.call('uf2_take', ...this.lentArguments(arrival));
+    const result = this.library.calls.uf2_take(...this.lentWords(arrival));
     const answer = result & 127;
     const discarded = result >= N.UF2_RESULT_DISCARDED;
     const taken = { answer, discarded, cleared: false, erased: -1, page: null, kept: false };

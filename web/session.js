@@ -6,7 +6,7 @@ import { Run } from './run.js';
 import { WRONG } from './wrong/all.js';
 import { arrivalList } from './arrivals.js';
 import { expectedPages } from './pages.js';
-import { inSlices } from './slices.js';
+import { inSlices, nextFrame } from './slices.js';
 import { GOALS, shortestDifference } from './search.js';
 
 // What a wrong receiver does not get wrong itself: whether the settings are good, and MD5. Both are the library's.
@@ -34,17 +34,24 @@ function receiversOf(libraries, board, chosen) {
 export class Session {
   // `plan` has the pieces of a file and how they are sent (arrivals.js); `wrongId` names a wrong receiver or is null. `close()` gives the instances back.
   static async open(pool, board, plan, wrongId) {
-    const libraries = [await pool.take(), await pool.take()];
-    return new Session(pool, libraries, board, plan, WRONG.find((item) => item.id === wrongId) ?? null);
+    const session = new Session(pool, board, plan, WRONG.find((item) => item.id === wrongId) ?? null);
+    session.libraries = [await pool.take(), await pool.take()];
+    // a large file is prepared in steps, with a frame drawn between them
+    const pause = plan.pieces.length > 8192 ? nextFrame : () => {};
+    const { proved, wrong } = receiversOf(session.libraries, board, session.chosen);
+    await pause();
+    session.arrivals = arrivalList(plan);
+    await pause();
+    session.expected = expectedPages(plan.pieces, proved);
+    await pause();
+    session.proved = new Run(proved, session.arrivals);
+    await pause();
+    session.wrong = wrong ? new Run(wrong, session.arrivals) : null;
+    return session;
   }
 
-  constructor(pool, libraries, board, plan, chosen) {
-    Object.assign(this, { pool, libraries, board, plan, chosen });
-    const { proved, wrong } = receiversOf(libraries, board, chosen);
-    this.arrivals = arrivalList(plan);
-    this.expected = expectedPages(plan.pieces, proved);
-    this.proved = new Run(proved, this.arrivals);
-    this.wrong = wrong ? new Run(wrong, this.arrivals) : null;
+  constructor(pool, board, plan, chosen) {
+    Object.assign(this, { pool, board, plan, chosen });
     this.target = 0;
     this.moving = false;
     this.closed = false;

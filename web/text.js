@@ -1,7 +1,8 @@
 // Every word that the page shows, in English. To translate the page, translate this file: keys stay, texts change. `${..}` is filled in by the page.
 import { hex } from './bytes.js';
 
-const n = (x) => Number(x).toLocaleString('en-US');
+const decimal = new Intl.NumberFormat('en-US');
+const n = (x) => decimal.format(x);
 const h = (x) => hex(BigInt(x));
 const blocks = (k) => `${n(k)} ${k === 1 ? 'block' : 'blocks'}`;
 

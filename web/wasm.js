@@ -6,17 +6,26 @@ class Slice {
     this.library = library;
     this.at = at;
     this.length = length;
+    this.words = [at, BigInt(length)];
+    this.view = null;
   }
 
-  // The bytes, as they stand now. Memory that grows has a new buffer, so a view is never kept.
+  // The bytes, as they stand now. Memory that grows has a new buffer, and then the view is made anew.
   get bytes() {
-    return new Uint8Array(this.library.memory.buffer, this.at, this.length);
+    const { buffer } = this.library.memory;
+    if (this.view === null || this.view.buffer !== buffer) this.view = new Uint8Array(buffer, this.at, this.length);
+    return this.view;
   }
 
   // The first bytes of the slice, as a slice.
   first(length) {
     return new Slice(this.library, this.at, length);
   }
+}
+
+// The words of a call: a slice is its address and its length, any other argument stays.
+export function wordsOf(args) {
+  return args.flatMap((arg) => (arg instanceof Slice ? arg.words : [arg]));
 }
 
 const PAGE = 65536;
@@ -53,10 +62,9 @@ export class Library {
     return slice;
   }
 
-  // A call of the library: a slice becomes its address and its length, any other argument stays.
+  // A call of the library.
   call(name, ...args) {
-    const words = args.flatMap((arg) => (arg instanceof Slice ? [arg.at, BigInt(arg.length)] : [arg]));
-    return this.calls[name](...words);
+    return this.calls[name](...wordsOf(args));
   }
 }
 

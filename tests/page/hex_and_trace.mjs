@@ -35,7 +35,7 @@ await check('the answers of tests/hexlines', async () => {
     hex.readOn(() => false);
     const lines = Array.from({ length: hex.count }, (_, k) => {
       const position = hex.positions[board][k];
-      return `${k} ${hex.answers[board][k]}${position ? ` ${position}` : ''}`;
+      return `${k} ${hex.answers[board][k]}${position ? ` position ${position}` : ''}`;
     });
     const expected = storedText(`tests/hexlines/${name}.out`).trimEnd().split('\n');
     assert.deepEqual(['line answer', ...lines], expected.slice(0, -1), name);

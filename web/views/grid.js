@@ -56,6 +56,19 @@ export function pageAt(layout, x, y, pages) {
   return page < pages ? page : -1;
 }
 
+// A canvas of so many pixels of the page, whatever the screen's are.
+function sized(canvas, width, height, ratio) {
+  canvas.width = width * ratio;
+  canvas.height = height * ratio;
+  canvas.style.width = `${width}px`;
+  canvas.style.height = `${height}px`;
+  const context = canvas.getContext('2d');
+  context.setTransform(ratio, 0, 0, ratio, 0, 0);
+  context.textAlign = 'center';
+  context.textBaseline = 'middle';
+  return context;
+}
+
 export class Grid {
   // `onChoose(page)` is called when a page is chosen.
   constructor(canvas, onChoose) {
@@ -93,14 +106,10 @@ export class Grid {
     const fresh = !this.drawn || this.drawn.length !== cells.length || this.width !== width || this.ratio !== ratio;
     if (fresh) {
       this.layout = layoutOf(cells.length, width);
-      this.canvas.width = this.layout.width * ratio;
-      this.canvas.height = this.layout.height * ratio;
-      this.canvas.style.width = `${this.layout.width}px`;
-      this.canvas.style.height = `${this.layout.height}px`;
+      sized(this.canvas, this.layout.width, this.layout.height, ratio);
       Object.assign(this, { width, ratio });
     }
     const context = this.canvas.getContext('2d');
-    context.setTransform(ratio, 0, 0, ratio, 0, 0);
     if (fresh) this.drawBorders(context, cells.length);
     for (let page = 0; page < cells.length; page++) {
       if (fresh || this.drawn[page] !== cells[page]) this.drawCell(context, page, cells[page], labels.get(page));
@@ -139,8 +148,6 @@ export class Grid {
     if (name === 'missing' && cell >= 6) this.drawCross(context, x, y, cell);
     if (cell < 9) return;
     context.fillStyle = ink;
-    context.textAlign = 'center';
-    context.textBaseline = 'middle';
     const mark = name === 'missing' ? '' : text.grid.marks[name];
     if (label === undefined || cell < 24) {
       context.font = `${Math.round(cell * 0.55)}px sans-serif`;
@@ -178,34 +185,29 @@ export class Grid {
   }
 }
 
-// The first bits of a map as a row of squares, with numbers where there is room.
-export function drawBits(canvas, bits, width) {
+// Some bits as a row of squares, with numbers where there is room.
+export function drawBits(canvas, isOn, count, width) {
   const ratio = window.devicePixelRatio || 1;
   const room = Math.max(160, Math.floor(width));
   let cell = 28;
-  while (cell > 2 && Math.ceil(bits.length / Math.floor(room / cell)) * cell > 84) cell--;
+  while (cell > 1 && Math.ceil(count / Math.floor(room / cell)) * cell > 84) cell--;
   const across = Math.max(1, Math.floor(room / cell));
-  const down = Math.max(1, Math.ceil(bits.length / across));
-  canvas.width = room * ratio;
-  canvas.height = down * cell * ratio;
-  canvas.style.width = `${room}px`;
-  canvas.style.height = `${down * cell}px`;
-  const context = canvas.getContext('2d');
-  context.setTransform(ratio, 0, 0, ratio, 0, 0);
-  context.textAlign = 'center';
-  context.textBaseline = 'middle';
+  const down = Math.max(1, Math.ceil(count / across));
+  const context = sized(canvas, room, down * cell, ratio);
+  context.fillStyle = COLOURS.waiting.fill;
+  context.fillRect(0, 0, room, down * cell);
   context.font = `bold ${Math.round(cell * 0.5)}px sans-serif`;
-  bits.forEach((on, k) => {
+  const side = cell > 3 ? cell - 1 : cell;
+  context.fillStyle = COLOURS.stored.fill;
+  for (let k = 0; k < count; k++) if (isOn(k)) context.fillRect((k % across) * cell, Math.floor(k / across) * cell, side, side);
+  if (cell < 6) return;
+  context.strokeStyle = '#8a8a8a';
+  for (let k = 0; k < count; k++) {
     const x = (k % across) * cell;
     const y = Math.floor(k / across) * cell;
-    const { fill, ink } = on ? COLOURS.stored : COLOURS.waiting;
-    context.fillStyle = fill;
-    context.fillRect(x, y, cell - 1, cell - 1);
-    if (cell < 6) return;
-    context.strokeStyle = '#8a8a8a';
     context.strokeRect(x + 0.5, y + 0.5, cell - 2, cell - 2);
-    if (cell < 18) return;
-    context.fillStyle = ink;
+    if (cell < 18) continue;
+    context.fillStyle = isOn(k) ? COLOURS.stored.ink : COLOURS.waiting.ink;
     context.fillText(String(k), x + cell / 2 - 0.5, y + cell / 2, cell - 4);
-  });
+  }
 }

@@ -1,7 +1,7 @@
 // A receiver as the class sees it: lamp, state, answer, seen map and the grids of its memories.
 import { byId, element, letters, setText } from './dom.js';
 import { COLOURS, Grid, drawBits } from './grid.js';
-import { STATUS_NAMES, cells } from '../pages.js';
+import { STATUS_NAMES, cells, countCells } from '../pages.js';
 import { PAYLOAD } from '../block.js';
 import { SECTOR } from '../board.js';
 import { isMarked } from '../bytes.js';
@@ -11,8 +11,16 @@ import { text } from '../text.js';
 
 const MEMORIES = ['flash', 'main', 'xip'];
 
+// Numbers are drawn in pages where pages are few and large.
+const MOST_LABELS = 4096;
+const NO_LABELS = new Map();
+
+function labelsOf(expected, memory) {
+  return new Map(expected.filter((page) => page.storage?.memory === memory).map((page) => [Math.floor(page.storage.at / PAYLOAD), String(page.number)]));
+}
+
 function gridPart(panel, memory) {
-  const canvas = element('canvas', { className: 'grid', tabIndex: 0, role: 'img' });
+  const canvas = element('canvas', { className: 'grid', tabIndex: 0, role: 'img', 'aria-label': text.grid.title[memory] });
   const cell = element('p', { className: 'cell', 'aria-live': 'polite' });
   const size = element('span', { className: 'hint' });
   const legend = element('ul', { className: 'legend' });
@@ -92,12 +100,17 @@ export class Panel {
     const { transfer } = run.receiver;
     const total = transfer.state === 'idle' ? (expected[0]?.total ?? 0) : transfer.total;
     const map = run.receiver.bytes('seen');
-    const bits = Array.from({ length: Math.min(total, 131072) }, (_, k) => isMarked(map, k));
-    const marked = bits.flatMap((on, k) => (on ? [k] : []));
-    setText(this.stats.marked, text.state.number(marked.length));
-    setText(this.seenWords, text.state.seen(marked.length, total));
-    this.seen.setAttribute('aria-label', text.state.seenLabel(marked.length > 200 ? String(marked.length) : marked.join(', ') || text.state.seenNone));
-    drawBits(this.seen, bits, this.seen.parentElement.clientWidth);
+    const bits = Math.min(total, map.length * 8);
+    const few = [];
+    let count = 0;
+    for (let k = 0; k < bits; k++) {
+      if (!isMarked(map, k)) continue;
+      if (++count <= 200) few.push(k);
+    }
+    setText(this.stats.marked, text.state.number(count));
+    setText(this.seenWords, text.state.seen(count, total));
+    this.seen.setAttribute('aria-label', text.state.seenLabel(count > 200 ? text.state.number(count) : few.join(', ') || text.state.seenNone));
+    drawBits(this.seen, (k) => isMarked(map, k), bits, this.seen.parentElement.clientWidth);
   }
 
   showGrid(memory, run, expected, ended) {
@@ -106,9 +119,8 @@ export class Panel {
     part.hidden = length === 0;
     if (length === 0) return;
     const status = cells(run, expected, memory, ended);
-    const labels = new Map(expected.filter((page) => page.storage?.memory === memory).map((page) => [Math.floor(page.storage.at / PAYLOAD), String(page.number)]));
-    grid.draw(status, labels);
-    const counts = STATUS_NAMES.map((name, k) => [name, status.reduce((sum, s) => sum + (s === k ? 1 : 0), 0)]).filter(([, count]) => count > 0);
+    grid.draw(status, status.length > MOST_LABELS ? NO_LABELS : labelsOf(expected, memory));
+    const counts = countCells(status).flatMap((count, k) => (count > 0 ? [[STATUS_NAMES[k], count]] : []));
     setText(size, text.grid.size(status.length, memory === 'flash' ? length / SECTOR : 0));
     canvas.setAttribute('aria-label', text.grid.label(text.grid.title[memory], counts.map(([name, k]) => text.grid.count(text.grid.status[name], k)).join(', ')));
     legend.replaceChildren(
