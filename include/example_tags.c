@@ -22,7 +22,7 @@ static void print(const uint8_t *block, const uint8_t *tag) {
 
 int main(void) {
     uint8_t block[UF2_ARRIVAL_SIZE] = {0}, tag[UF2_TAG_SIZE];
-    size_t place;
+    uf2_len place;
     uint32_t answer;
 
     uf2_put32(block, 0x0A324655u);

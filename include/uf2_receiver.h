@@ -1,8 +1,8 @@
 /* The update receiver for C: every function is proved to do what crates/capi/specs says, for every input.
  *
- * Built for: x86-64 Linux. `rt staticlib capi` writes target/staticlib/libcapi.a, code for the System V calling convention that calls
- * nothing but memcpy and memset, allocates nothing and keeps nothing between calls, so that calls on different buffers may run at the
- * same time. A call needs at most UF2_STACK_SIZE bytes of stack (measured: docs/BENCHMARKS.md).
+ * Built for: x86-64 Linux, for which `rt staticlib capi` writes target/staticlib/libcapi.a (System V calling convention); Cortex-M33, RV32IMAC,
+ * AArch64 and WebAssembly, by `tools/target` (docs/BOARD.md). The code calls nothing but memcpy and memset (Cortex-M33: under Arm's names for
+ * them), allocates nothing and keeps nothing between calls, so that calls on different buffers may run at the same time. A call needs at most UF2_STACK_SIZE bytes of stack (measured: docs/BENCHMARKS.md).
  *
  * A slice is a pointer to bytes and then their number (`uf2_len`, 64 bits), and no function keeps a pointer. A pointer is never null,
  * also of an empty slice, and points to as many bytes as the number says; it may have any alignment. Slices that a function writes (no

@@ -1,0 +1,85 @@
+/* The play: pseudo-random inputs handed to every call, every answer and every lent byte hashed. play.c has the calls of
+ * include/uf2_receiver.h, play_tools.c those of uf2_tags.h and uf2_tools.h. It is the same
+ * on every machine, so that a library of another machine that gives the same hashes has answered as the host's does. */
+#ifndef PLAY_H
+#define PLAY_H
+
+#include "uf2_receiver.h"
+
+/* Calls of each kind. */
+#ifndef PLAY_COUNT
+#define PLAY_COUNT 20000
+#endif
+
+enum play_kind {
+    PLAY_NEW, PLAY_ASK, PLAY_LOOK, PLAY_TAKE, PLAY_TAKE_ALL, PLAY_ACCEPT, PLAY_HEX_NEW, PLAY_LINE,
+    PLAY_TAG_FIRST, PLAY_TAG, PLAY_TAG_FIND, PLAY_MAKE_CHECK, PLAY_MAKE, PLAY_MAKE_BLOCK, PLAY_MD5, PLAY_JOIN, PLAY_REPLAY, PLAY_KINDS
+};
+
+extern const char *const play_names[PLAY_KINDS];
+
+/* What came of the calls of one kind: the hash, their number, and how often each answer was given. */
+struct play_end {
+    uint64_t hash;
+    uint32_t calls;
+    uint32_t answers[128];
+    uint32_t discarded;
+};
+
+extern struct play_end play_ends[PLAY_KINDS];
+
+/* Makes a call: `call` takes its arguments from the play's own variables. main.c only calls it; figures.c measures it. */
+void play_call(enum play_kind kind, void (*call)(void));
+
+/* ---- for the parts of the play */
+
+/* Any number, one of any size, one below n, and whether one chance in n came. C does not say which operand or argument comes first, so none of
+ * these stands beside another in one expression, unless the other is chosen by it. */
+uint32_t any(void);
+uint32_t any_size(void);
+uint32_t below(uint32_t n);
+int one_in(uint32_t n);
+
+/* Begins the calls of a kind; takes a word, or bytes, into its hash; counts a call by its answer. */
+void begin(enum play_kind kind);
+void go_on(enum play_kind kind);
+void add(uint32_t word);
+void add_bytes(const uint8_t *at, uint32_t n);
+void count(uint32_t answer);
+
+void random_bytes(uint8_t *at, uint32_t n);
+
+/* Whether every answer from one to another, but one, was given by the calls of a kind. */
+int met(enum play_kind kind, uint32_t from, uint32_t to, uint32_t but);
+
+/* A board as play.c makes them: settings, buffers and the lengths of a call. */
+#define PLAY_FLASH_SIZE 32768u
+#define PLAY_MORE 8u
+
+struct play_buffers {
+    uint8_t transfer[UF2_TRANSFER_SIZE + PLAY_MORE], flash[PLAY_FLASH_SIZE + PLAY_MORE], seen[UF2_SEEN_MAP_SIZE + PLAY_MORE];
+    uint8_t sectors[UF2_SECTOR_MAP_SIZE + PLAY_MORE], main_ram[UF2_MAIN_RAM_SIZE + PLAY_MORE], xip_ram[UF2_XIP_RAM_SIZE + PLAY_MORE];
+};
+
+enum length { L_SETTINGS, L_TRANSFER, L_ARRIVAL, L_FLASH, L_SEEN, L_SECTORS, L_MAIN, L_XIP, LENGTHS };
+
+extern struct play_buffers board;
+extern uint8_t settings[UF2_SETTINGS_SIZE + PLAY_MORE];
+extern uint32_t lent[LENGTHS];
+
+void make_board(void);
+void make_file(void);
+void make_lengths(void);
+/* Makes a block of the file. Its address. */
+uint32_t make_arrival(uint8_t *at);
+/* What a block at an address can have changed, and all. */
+void add_block(const struct play_buffers *at, uint32_t address);
+void add_all(const struct play_buffers *at);
+
+/* The part of play_tools.c. Whether each answer was given. */
+int play_tools(void);
+
+/* Plays all kinds. Whether each answer that a call can give was given, and uf2_accept with its plan performed did what uf2_take does. */
+int play(void);
+
+#endif

@@ -1,0 +1,334 @@
+/* The calls of include/uf2_tags.h and include/uf2_tools.h. */
+#include "play.h"
+
+#include "uf2_tags.h"
+#include "uf2_tools.h"
+
+#include <stddef.h>
+
+void *memset(void *to, int byte, size_t n);
+
+static uint8_t block[UF2_ARRIVAL_SIZE + PLAY_MORE];
+static uf2_len block_len;
+static uint32_t result;
+
+/* ---- extension tags */
+
+static uint8_t tag[UF2_TAG_SIZE + PLAY_MORE];
+static uf2_len tag_len, tag_place, first_place;
+static uint32_t tag_type;
+
+static const uint32_t types[] = {UF2_TAG_TYPE_VERSION, UF2_TAG_TYPE_DEVICE, UF2_TAG_TYPE_PAGE_SIZE, UF2_TAG_TYPE_SHA2, UF2_TAG_TYPE_DEVICE_TYPE};
+
+static uint32_t any_type(void) {
+    return types[below(sizeof types / sizeof types[0])];
+}
+
+static void call_tag_first(void) {
+    first_place = uf2_tag_first(block, block_len);
+}
+
+static void call_tag(void) {
+    result = uf2_tag(block, block_len, tag_place, tag, tag_len);
+}
+
+static void call_tag_find(void) {
+    result = uf2_tag_find(block, block_len, tag_type, tag, tag_len);
+}
+
+/* A block with tags behind its payload, mostly good ones to their end. */
+static void make_tags(void) {
+    uint32_t size = one_in(20) ? any_size() : 4 * below(120), at = 32 + size, len, flags;
+    random_bytes(block, sizeof block);
+    uf2_put32(block, 0x0A324655u);
+    uf2_put32(block + 4, one_in(30) ? any() : 0x9E5D5157u);
+    flags = one_in(20) ? 0x2000u : 0xA000u;
+    if (one_in(4))
+        flags |= 0x4000u;
+    uf2_put32(block + 8, flags);
+    uf2_put32(block + 16, size);
+    uf2_put32(block + 508, 0x0AB16F30u);
+    while (at >= 32 && at <= 504) {
+        len = one_in(40) ? below(4) : 4 + below(24);
+        uf2_put32(block + at, one_in(6) ? one_in(8) ? any() << 8 : 0 : any_type() << 8 | len);
+        at += (len + 3) & ~3u;
+    }
+    block_len = one_in(50) ? below(UF2_ARRIVAL_SIZE + PLAY_MORE + 1) : UF2_ARRIVAL_SIZE;
+    tag_len = one_in(50) ? below(UF2_TAG_SIZE + PLAY_MORE + 1) : UF2_TAG_SIZE;
+}
+
+static void play_tags(void) {
+    uint32_t i;
+    begin(PLAY_TAG_FIRST);
+    begin(PLAY_TAG);
+    begin(PLAY_TAG_FIND);
+    for (i = 0; i < PLAY_COUNT; i++) {
+        /* the tags of a block one after the other, as long as there are some */
+        if (i == 0 || play_ends[PLAY_TAG].answers[UF2_TAG_FOUND] == 0 || result != UF2_TAG_FOUND || one_in(10)) {
+            make_tags();
+            go_on(PLAY_TAG_FIRST);
+            play_call(PLAY_TAG_FIRST, call_tag_first);
+            tag_place = one_in(8) ? below(520) : first_place;
+        } else {
+            go_on(PLAY_TAG_FIRST);
+            play_call(PLAY_TAG_FIRST, call_tag_first);
+            tag_place = uf2_get32(tag + UF2_TAG_NEXT_AT);
+        }
+        count(0);
+        add((uint32_t)first_place);
+        add((uint32_t)(first_place >> 32));
+        tag_type = one_in(8) ? any() : any_type();
+        go_on(PLAY_TAG_FIND);
+        random_bytes(tag, sizeof tag);
+        play_call(PLAY_TAG_FIND, call_tag_find);
+        count(result);
+        add_bytes(tag, sizeof tag);
+        /* a place of 64 bits whose lower half alone would be right */
+        if (one_in(60))
+            tag_place += (uf2_len)1 << 32;
+        go_on(PLAY_TAG);
+        random_bytes(tag, sizeof tag);
+        play_call(PLAY_TAG, call_tag);
+        count(result);
+        add_bytes(tag, sizeof tag);
+    }
+}
+
+/* ---- files made of images */
+
+#define IMAGE_PAGES 4u
+
+static uint8_t image[IMAGE_PAGES * UF2_MAKE_PAGE_SIZE], output[4096];
+static uf2_len image_len, output_len;
+static uint32_t family, start;
+
+static void call_make_check(void) {
+    result = uf2_make_check(image_len, start, output_len);
+}
+
+static void call_make(void) {
+    result = uf2_make(image, image_len, family, start, output, output_len);
+}
+
+static void call_make_block(void) {
+    uf2_make_block(start, result, family, ~family, image, image_len, block, block_len);
+}
+
+static uint32_t any_start(void) {
+    uint32_t at = UF2_FLASH_START + 256 * below(131072);
+    return one_in(8) ? any() : one_in(8) ? UF2_FLASH_END - 256 * below(4) : one_in(10) ? at + below(256) : at;
+}
+
+static void play_make(void) {
+    uint32_t i, word;
+    begin(PLAY_MAKE_CHECK);
+    for (i = 0; i < PLAY_COUNT; i++) {
+        image_len = (uf2_len)256 * below(one_in(2) ? 131080 : 9);
+        if (one_in(8))
+            image_len += below(256);
+        output_len = UF2_MAKE_OUTPUT_SIZE(image_len);
+        if (one_in(2))
+            output_len += below(1000);
+        else if (one_in(4) && output_len > 0)
+            output_len--;
+        if (one_in(20))
+            image_len += (uf2_len)1 << 32 << below(32);
+        start = any_start();
+        play_call(PLAY_MAKE_CHECK, call_make_check);
+        count(result);
+    }
+    begin(PLAY_MAKE);
+    random_bytes(image, sizeof image);
+    random_bytes(output, sizeof output);
+    for (i = 0; i < PLAY_COUNT; i++) {
+        image_len = UF2_MAKE_PAGE_SIZE * below(IMAGE_PAGES + 1);
+        if (one_in(8))
+            image_len += below(256);
+        if (image_len > sizeof image)
+            image_len = sizeof image;
+        output_len = one_in(8) ? below(2048) : 2048;
+        family = any();
+        start = any_start();
+        play_call(PLAY_MAKE, call_make);
+        count(result);
+        add_bytes(output, 2052);
+    }
+    begin(PLAY_MAKE_BLOCK);
+    for (i = 0; i < PLAY_COUNT; i++) {
+        start = any();
+        result = any();
+        family = any();
+        image_len = one_in(8) ? below(260) : UF2_MAKE_PAGE_SIZE;
+        block_len = one_in(8) ? below(520) : UF2_MAKE_BLOCK_SIZE;
+        word = below(64);
+        uf2_put32(image + 4 * word, any());
+        play_call(PLAY_MAKE_BLOCK, call_make_block);
+        count(0);
+        add_bytes(block, sizeof block);
+    }
+}
+
+static uint8_t digest[UF2_MD5_SIZE + PLAY_MORE];
+static uf2_len digest_len;
+
+static void call_md5(void) {
+    uf2_md5(image, image_len, digest, digest_len);
+}
+
+static void play_md5(void) {
+    uint32_t i, word;
+    begin(PLAY_MD5);
+    for (i = 0; i < PLAY_COUNT; i++) {
+        word = below(64);
+        uf2_put32(image + 4 * word, any());
+        image_len = one_in(16) ? below(sizeof image + 1) : below(200);
+        digest_len = one_in(8) ? below(UF2_MD5_SIZE + PLAY_MORE + 1) : UF2_MD5_SIZE;
+        play_call(PLAY_MD5, call_md5);
+        count(0);
+        add_bytes(digest, sizeof digest);
+    }
+}
+
+/* ---- one file from two */
+
+static uint8_t files[2][512];
+static uint32_t file_lens[2];
+static uint64_t joined;
+
+static void call_join(void) {
+    joined = uhex_join(files[0], file_lens[0], files[1], file_lens[1], output, output_len);
+}
+
+static void put_line(uint32_t k, uint32_t type, uint32_t address, const uint8_t *data, uint32_t len) {
+    static const char digits[] = "0123456789ABCDEF";
+    uint32_t i, byte, sum = 0;
+    uint8_t *to = files[k] + file_lens[k];
+    *to++ = ':';
+    for (i = 0; i < len + 5; i++) {
+        byte = i == 0 ? len : i == 1 ? address >> 8 & 255u : i == 2 ? address & 255u : i == 3 ? type : i < len + 4 ? data[i - 4] : (0u - sum) & 255u;
+        sum += byte;
+        *to++ = (uint8_t)digits[byte >> 4 & 15u];
+        *to++ = (uint8_t)digits[byte & 15u];
+    }
+    if (one_in(3))
+        *to++ = '\r';
+    *to++ = '\n';
+    file_lens[k] = (uint32_t)(to - files[k]);
+}
+
+/* A plain Intel Hex file of a few lines; sometimes something in it is wrong. */
+static void make_plain(uint32_t k) {
+    uint8_t data[36];
+    uint32_t i, type, address, lines = one_in(20) ? 0 : 1 + below(3);
+    random_bytes(data, sizeof data);
+    file_lens[k] = 0;
+    if (one_in(3)) {
+        data[0] = 0;
+        data[1] = (uint8_t)below(3);
+        put_line(k, one_in(30) ? below(8) : 2 + 2 * below(2), 0, data, 2);
+    }
+    for (i = 0; i < lines; i++) {
+        type = one_in(40) ? below(8) : 0;
+        address = one_in(20) ? 65536 - below(40) : below(60000);
+        put_line(k, type, address, data, one_in(30) ? 33 : below(33));
+    }
+    if (!one_in(20))
+        put_line(k, 1, 0, data, 0);
+    if (one_in(30))
+        put_line(k, 0, 0, data, 4);
+    if (one_in(8) && file_lens[k] > 0) {
+        i = below(file_lens[k]);
+        files[k][i] = (uint8_t)(one_in(2) ? any() : '0' + below(10));
+    }
+    if (one_in(20) && file_lens[k] > 0)
+        file_lens[k] = below(file_lens[k]);
+}
+
+static void play_join(void) {
+    uint32_t i;
+    begin(PLAY_JOIN);
+    random_bytes(output, sizeof output);
+    for (i = 0; i < PLAY_COUNT; i++) {
+        if (i % 2 == 0 || one_in(4))
+            make_plain(0);
+        if (i % 2 == 1 || one_in(4))
+            make_plain(1);
+        output_len = one_in(8) ? below(sizeof output) : sizeof output;
+        play_call(PLAY_JOIN, call_join);
+        count(UHEX_JOIN_ANSWER(joined));
+        add((uint32_t)joined);
+        add((uint32_t)(joined >> 32));
+        if (UHEX_JOIN_ANSWER(joined) == 0)
+            add_bytes(output, UHEX_JOIN_LENGTH(joined) + 4 <= sizeof output ? UHEX_JOIN_LENGTH(joined) + 4 : sizeof output);
+        if (i % 128 == 127)
+            add_bytes(output, sizeof output);
+    }
+}
+
+/* ---- a trace */
+
+#define RECORDS 3u
+
+static uint8_t trace[RECORDS * UF2_RECORD_SIZE + PLAY_MORE], where[UF2_INDEX_SIZE + PLAY_MORE];
+static uf2_len trace_len, where_len;
+
+static void call_replay(void) {
+    result = uf2_replay(settings, lent[L_SETTINGS], trace, trace_len, board.flash, lent[L_FLASH], board.seen, lent[L_SEEN], board.sectors,
+                        lent[L_SECTORS], board.main_ram, lent[L_MAIN], board.xip_ram, lent[L_XIP], board.transfer, lent[L_TRANSFER], where,
+                        where_len);
+}
+
+/* What a site's host sent and got: the answers are those of takes from Idle, but for a few. */
+static void play_replay(void) {
+    uint32_t i, k, n, addresses[RECORDS];
+    begin(PLAY_REPLAY);
+    for (i = 0; i < PLAY_COUNT; i++) {
+        if (i % 64 == 0)
+            make_board();
+        if (i % 64 == 0 || one_in(3))
+            make_file();
+        make_lengths();
+        memset(board.seen, 0, 16);
+        memset(board.sectors, 0, 8);
+        uf2_new(board.transfer, UF2_TRANSFER_SIZE);
+        n = below(RECORDS + 1);
+        for (k = 0; k < n; k++) {
+            uint8_t *record = trace + UF2_RECORD_SIZE * k;
+            addresses[k] = make_arrival(record + 1);
+            result = uf2_take(settings, lent[L_SETTINGS], board.transfer, UF2_TRANSFER_SIZE, record + 1, UF2_ARRIVAL_SIZE, board.flash, lent[L_FLASH],
+                              board.seen, lent[L_SEEN], board.sectors, lent[L_SECTORS], board.main_ram, lent[L_MAIN], board.xip_ram, lent[L_XIP]);
+            record[0] = (uint8_t)(one_in(12) ? any() : UF2_RECORD(result));
+        }
+        trace_len = UF2_RECORD_SIZE * n - (n > 0 && one_in(16) ? 1 + below(UF2_RECORD_SIZE - 1) : 0);
+        where_len = one_in(8) ? below(UF2_INDEX_SIZE + PLAY_MORE + 1) : UF2_INDEX_SIZE;
+        random_bytes(where, sizeof where);
+        play_call(PLAY_REPLAY, call_replay);
+        count(result);
+        add_bytes(where, sizeof where);
+        add_bytes(board.transfer, sizeof board.transfer);
+        add_bytes(board.seen, 16);
+        add_bytes(board.sectors, 8);
+        for (k = 0; k < n; k++)
+            add_block(&board, addresses[k]);
+        if (i % 512 == 511)
+            add_all(&board);
+    }
+    add_all(&board);
+}
+
+/* ---- all */
+
+static int met_tags(enum play_kind kind) {
+    const struct play_end *end = &play_ends[kind];
+    return end->answers[UF2_TAG_FOUND] > 0 && end->answers[UF2_TAG_BAD_LENGTH] > 0 && end->answers[UF2_TAG_NOT_BLOCK] > 0 && met(kind, 60, 65, 0);
+}
+
+int play_tools(void) {
+    play_tags();
+    play_make();
+    play_md5();
+    play_join();
+    play_replay();
+    return met_tags(PLAY_TAG) && met_tags(PLAY_TAG_FIND) && play_ends[PLAY_TAG].answers[UF2_TAG_BAD_PLACE] > 0 && met(PLAY_MAKE_CHECK, 50, 53, 0) &&
+           met(PLAY_MAKE, 50, 53, 0) && met(PLAY_JOIN, 20, 26, 0) && met(PLAY_JOIN, 29, 31, 0) && met(PLAY_REPLAY, 0, 2, 9);
+}
