@@ -97,9 +97,14 @@ class Page:
         return self.js(
             """const canvas = document.querySelector(`#${arguments[0]} [data-memory=flash] canvas`);
             const ratio = window.devicePixelRatio;
-            const across = 4;
             const width = canvas.width / ratio;
+            const height = canvas.height / ratio;
             const gap = 6;
+            // 8 sectors, in as many columns as the shape of the canvas says
+            const across = [1, 2, 3, 4, 8].find((n) => {
+                const side = (width - gap * (n + 1)) / (4 * n);
+                return Math.abs(Math.ceil(8 / n) * (4 * side + gap) + gap - height) < 1;
+            });
             const cell = (width - gap * (across + 1)) / (4 * across);
             const sector = Math.floor(arguments[1] / 16);
             const x = gap + (sector % across) * (4 * cell + gap) + (arguments[1] % 4) * cell + 3;
@@ -350,7 +355,7 @@ def beside_the_tool(page):
                 file.write(page.saved())
                 file.flush()
                 told = subprocess.run([TOOL, "load", file.name, "-v", "--flash", "32768", "--absolute"], capture_output=True, text=True).stdout
-            lines = [re.sub(r", a running transfer discarded$", ", discarded", m[1]) for m in re.finditer(r"^\d+ block (.*)$", told, re.M)]
+            lines = [re.sub(r", [a-z ]*discarded$", ", discarded", m[1]) for m in re.finditer(r"^arrival \d+, block (.*)$", told, re.M)]
             equal(rows, lines)
 
 

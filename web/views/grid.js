@@ -5,7 +5,7 @@ import { text } from '../text.js';
 const SIDE = 4;
 const PER_SECTOR = SIDE * SIDE;
 const MOST_CELL = 44;
-const MOST_HEIGHT = 400;
+const MOST_HEIGHT = 420;
 
 // Colours that the colour-blind can tell apart (after Okabe and Ito); each status has a mark besides.
 export const COLOURS = {

@@ -49,9 +49,9 @@ export class Panel {
     const lampRow = element('div', { className: 'lamp-row' }, this.lamp, element('div', {}, element('p', { className: 'hint', textContent: text.lamp.label }), this.lampWords, this.state));
     const stats = element('div', { className: 'stats' }, ...Object.entries(this.stats).map(([name, number]) => element('p', { 'data-stat': name }, number, ` ${text.state[name]}`)));
     const answer = element('div', { className: 'answer' }, element('p', {}, this.number, ' ', this.answerName), this.reason);
-    this.article
-      .querySelector('.slot')
-      .replaceChildren(lampRow, stats, answer, this.verdict, this.seenWords, element('div', { className: 'canvas-box' }, this.seen), this.grids.flash.part, this.partitions, this.grids.main.part, this.grids.xip.part);
+    const told = element('div', { className: 'told' }, lampRow, stats, answer, this.verdict);
+    const drawn = element('div', { className: 'drawn' }, this.seenWords, element('div', { className: 'canvas-box' }, this.seen), this.grids.flash.part, this.partitions, this.grids.main.part, this.grids.xip.part);
+    this.article.querySelector('.slot').replaceChildren(element('div', { className: 'panel' }, told, drawn));
   }
 
   // Shows a run at its position. `expected` are the pages of the file, `all` the number of arrivals.
