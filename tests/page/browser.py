@@ -375,21 +375,23 @@ def hex_and_trace(page):
         assert "Firmware for board V1." in page.text("#hex-wrong .image-words")
         rows = page.js("return [...document.querySelectorAll('#hex-lines tbody tr')].map((row) => [...row.cells].map((cell) => cell.textContent))")
         equal({row[2] for row in rows}, {"a section opens", "V1", "V2", "after the end"})
-        assert any(row[6] == "0x00000000, 16 bytes" for row in rows)
+        assert any(row[3] == "0x00000000 (16)" for row in rows)
 
     @check("a hex file with a bad digit: which character")
     def _():
         page.drop("bad.hex", (ROOT / "tests" / "hexlines" / "refused_22_digit.hex").read_bytes())
         page.until(lambda: page.text("#hex-note") == "bad.hex", "the file")
         page.press("#hex-end")
-        rows = page.js("return [...document.querySelectorAll('#hex-lines tbody tr')].map((row) => row.cells[3].textContent)")
+        rows = page.js("return [...document.querySelectorAll('#hex-lines tbody tr')].map((row) => row.cells[4].textContent)")
         assert "22 BadDigit, character 9" in rows, rows
 
     @check("a site's trace: where it stops, what was recorded and what we answer")
     def _():
         page.press("#tab-trace")
+        page.js("window.workers = []; const made = Worker; Worker = function (...words) { const one = new made(...words); window.workers.push(one); one.addEventListener('error', () => (window.workerFailed = true)); return one; }")
         page.press("#trace-sample")
         page.until(lambda: page.js("return !document.getElementById('trace-result').hidden"), "the replay")
+        equal(page.js("return [window.workers.length, window.workerFailed ?? false]"), [1, False], "a worker")
         assert "At record 3 the answers differ" in page.text("#trace-stop")
         assert "14 Written" in page.text("#trace-recorded") and "13 Again" in page.text("#trace-ours")
         page.press("#tab-transfer")

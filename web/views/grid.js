@@ -5,6 +5,7 @@ import { text } from '../text.js';
 const SIDE = 4;
 const PER_SECTOR = SIDE * SIDE;
 const MOST_CELL = 44;
+const PLAIN_CELL = 5;
 const MOST_HEIGHT = 420;
 
 // Colours that the colour-blind can tell apart (after Okabe and Ito); each status has a mark besides.
@@ -31,7 +32,8 @@ export function layoutOf(pages, width, mostHeight = MOST_HEIGHT) {
     const gap = gapOf(cell);
     const down = Math.ceil(sectors / across);
     const height = down * (SIDE * cell + gap) + gap;
-    if (height <= mostHeight || cell === 1 || across === sectors) {
+    const isWidest = (across + 1) * (SIDE + 1) + 1 > width;
+    if (height <= mostHeight || isWidest || across === sectors) {
       return { cell, gap, across, down, width: across * (SIDE * cell + gap) + gap, height };
     }
   }
@@ -111,8 +113,11 @@ export class Grid {
     }
     const context = this.canvas.getContext('2d');
     if (fresh) this.drawBorders(context, cells.length);
-    for (let page = 0; page < cells.length; page++) {
-      if (fresh || this.drawn[page] !== cells[page]) this.drawCell(context, page, cells[page], labels.get(page));
+    if (this.layout.cell < PLAIN_CELL) this.drawPlain(context, cells);
+    else {
+      for (let page = 0; page < cells.length; page++) {
+        if (fresh || this.drawn[page] !== cells[page]) this.drawCell(context, page, cells[page], labels.get(page));
+      }
     }
     this.cells = cells;
     this.labels = labels;
@@ -130,6 +135,22 @@ export class Grid {
       const { x, y } = cellAt(this.layout, page);
       context.fillRect(x - line, y - line, SIDE * cell + 2 * line, SIDE * cell + 2 * line);
     }
+  }
+
+  // Very many small pages: each status in one go, since a change of colour is what costs. Missing pages come last, and a little larger.
+  drawPlain(context, cells) {
+    const { cell } = this.layout;
+    STATUS_NAMES.forEach((name, status) => {
+      const more = name === 'missing' ? 2 : 0;
+      context.fillStyle = COLOURS[name].fill;
+      context.beginPath();
+      for (let page = 0; page < cells.length; page++) {
+        if (cells[page] !== status || (this.drawn && this.drawn[page] === status && !more)) continue;
+        const { x, y } = cellAt(this.layout, page);
+        context.rect(x - more, y - more, cell + 2 * more, cell + 2 * more);
+      }
+      context.fill();
+    });
   }
 
   drawCell(context, page, status, label) {
@@ -185,12 +206,20 @@ export class Grid {
   }
 }
 
-// Some bits as a row of squares, with numbers where there is room.
-export function drawBits(canvas, isOn, count, width) {
+const MOST_BITS = 96;
+
+// Some bits as a row of squares, with numbers where there is room. Where there are more bits than pixels, a pixel is on if all of its bits are.
+export function drawBits(canvas, isBitOn, bits, width) {
   const ratio = window.devicePixelRatio || 1;
   const room = Math.max(160, Math.floor(width));
+  const group = Math.max(1, Math.ceil(bits / (room * MOST_BITS)));
+  const count = Math.ceil(bits / group);
+  const isOn = (k) => {
+    for (let bit = k * group; bit < Math.min(bits, (k + 1) * group); bit++) if (!isBitOn(bit)) return false;
+    return true;
+  };
   let cell = 28;
-  while (cell > 1 && Math.ceil(count / Math.floor(room / cell)) * cell > 84) cell--;
+  while (cell > 1 && Math.ceil(count / Math.floor(room / cell)) * cell > MOST_BITS) cell--;
   const across = Math.max(1, Math.floor(room / cell));
   const down = Math.max(1, Math.ceil(count / across));
   const context = sized(canvas, room, down * cell, ratio);

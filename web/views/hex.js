@@ -154,7 +154,7 @@ export class HexView {
   showLines() {
     const { file } = this;
     const columns = text.hex.columns;
-    const heads = [columns.line, columns.text, columns.section, columns.v1, columns.v2, columns.wrong, columns.goes];
+    const heads = [columns.line, columns.text, columns.section, columns.goes, columns.v1, columns.v2, columns.wrong];
     const own = byId('hex-own').value;
     const { from, to } = fillTable(byId('hex-lines'), heads, file.count, this.position, (k) => {
       const came = k < this.position;
@@ -163,7 +163,7 @@ export class HexView {
       if (differs) answers[2] += ' ≠';
       const goes = came && file.addresses[k] >= 0 ? text.hex.goes(file.addresses[k], file.lengths[k]) : '';
       const line = { textContent: letters(file.line(k).subarray(0, 90)).replace(/\.+$/, ''), className: 'code' };
-      return { cells: [String(k + 1), line, came ? this.sectionWords(k) : '', ...answers, goes], classes: `${came ? 'came' : 'to-come'}${differs ? ' differs' : ''}`, now: k === this.position - 1 };
+      return { cells: [String(k + 1), line, came ? this.sectionWords(k) : '', goes, ...answers], classes: `${came ? 'came' : 'to-come'}${differs ? ' differs' : ''}`, now: k === this.position - 1 };
     });
     setText(byId('hex-shown'), to - from < file.count ? text.hex.shown(from + 1, to, file.count) : '');
   }
