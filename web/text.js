@@ -305,7 +305,7 @@ export const text = {
     label: (title, counts) => `${title}, page by page. ${counts}. Arrow keys go from page to page.`,
     cell: (page, at, sector, status) => `Page ${n(page)}, byte ${n(at)}${sector === null ? '' : `, sector ${n(sector)}`}: ${status}.`,
     bytes: (words) => `It begins with “${words}”.`,
-    partition: (k, e) => `${k}: sectors ${n(e.first)} to ${n(e.first + e.sectors - 1)}${e.link === 'b' ? `, B of ${e.index}` : e.link === 'owned' ? `, owned by ${e.index}` : ''}`,
+    partition: (_k, e) => `sectors ${n(e.first)} to ${n(e.first + e.sectors - 1)}${e.link === 'b' ? `, B of ${e.index}` : e.link === 'owned' ? `, owned by ${e.index}` : ''}`,
     partitions: 'Partitions',
   },
 
@@ -350,7 +350,7 @@ export const text = {
     mixAdd: 'Add',
     mixNone: 'Nothing is mixed in.',
     mixRemove: (name) => `Remove: ${name}`,
-    mixItem: (name, after) => `${name}, after ${n(after)} arrivals of the file`,
+    mixItem: (name, after) => `${name}, after ${n(after)} ${after === 1 ? 'arrival' : 'arrivals'} of the file`,
     extras: {
       otherBoard: "another board's block (riscv)",
       pastFlash: 'a block with an address past the flash',

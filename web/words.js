@@ -51,3 +51,11 @@ export function pageSentence(page, there) {
   const end = typeof words === 'function' ? words(there.what === 'block' ? there.number : start) : words;
   return text.verdict.page(page.number, page.address) + end;
 }
+
+// The command line that plays a file of arrivals into this board, or null where it has no words for the board: partitions.
+export function commandLine(name, board) {
+  if (board.entries.length > 0) return null;
+  const flags = { '--arm': board.arm, '--riscv': board.riscv, '--auto-switch': board.autoSwitch, '--absolute': board.absolute, '--main-ram': board.main, '--xip-ram': board.xip };
+  const said = Object.keys(flags).filter((flag) => flags[flag]);
+  return ['vantorel load', name, '-v --flash', board.flash, ...said, '--current', board.current].join(' ');
+}

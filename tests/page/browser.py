@@ -354,7 +354,8 @@ def beside_the_tool(page):
             with tempfile.NamedTemporaryFile(suffix=".uf2") as file:
                 file.write(page.saved())
                 file.flush()
-                told = subprocess.run([TOOL, "load", file.name, "-v", "--flash", "32768", "--absolute"], capture_output=True, text=True).stdout
+                words = page.text("#save-hint").split("vantorel ")[1].replace("arrivals.uf2", file.name).split()
+                told = subprocess.run([TOOL, *words], capture_output=True, text=True).stdout
             lines = [re.sub(r", [a-z ]*discarded$", ", discarded", m[1]) for m in re.finditer(r"^arrival \d+, block (.*)$", told, re.M)]
             equal(rows, lines)
 

@@ -19,6 +19,13 @@ export const COLOURS = {
   missing: { fill: '#b23c00', ink: '#ffffff' },
 };
 
+// The borders of sectors: of none, and of partition 0, 1, .. in turn.
+export const BORDERS = ['#222222', '#d55e00', '#56b4e9', '#009e73', '#cc79a7', '#e69f00', '#0072b2'];
+
+export function borderOf(partition) {
+  return partition < 0 ? BORDERS[0] : BORDERS[1 + (partition % (BORDERS.length - 1))];
+}
+
 function gapOf(cell) {
   return cell >= 14 ? 6 : cell >= 5 ? 3 : 1;
 }
@@ -79,6 +86,7 @@ export class Grid {
     this.cells = new Uint8Array(0);
     this.drawn = null;
     this.labels = new Map();
+    this.partitionOf = () => -1;
     canvas.addEventListener('click', (event) => {
       const box = canvas.getBoundingClientRect();
       const scale = this.layout.width / box.width; // style may shrink the canvas
@@ -92,6 +100,12 @@ export class Grid {
       const next = this.chosen < 0 ? 0 : this.chosen + step;
       this.choose(Math.max(0, Math.min(this.cells.length - 1, next)), onChoose);
     });
+  }
+
+  // `partitionOf(sector)` is the partition that a sector belongs to, or -1.
+  partition(partitionOf) {
+    this.partitionOf = partitionOf;
+    this.drawn = null;
   }
 
   choose(page, onChoose) {
@@ -129,10 +143,11 @@ export class Grid {
     const { cell, gap, width, height } = this.layout;
     context.fillStyle = '#ffffff';
     context.fillRect(0, 0, width, height);
-    context.fillStyle = '#222222';
-    const line = Math.max(1, gap / 3);
     for (let page = 0; page < pages; page += PER_SECTOR) {
       const { x, y } = cellAt(this.layout, page);
+      const partition = this.partitionOf(page / PER_SECTOR);
+      const line = partition < 0 ? Math.max(1, gap / 3) : Math.max(1, gap / 2);
+      context.fillStyle = borderOf(partition);
       context.fillRect(x - line, y - line, SIDE * cell + 2 * line, SIDE * cell + 2 * line);
     }
   }

@@ -1,6 +1,6 @@
 // A receiver as the class sees it: lamp, state, answer, seen map and the grids of its memories.
 import { byId, element, letters, setText } from './dom.js';
-import { COLOURS, Grid, drawBits } from './grid.js';
+import { COLOURS, Grid, borderOf, drawBits } from './grid.js';
 import { STATUS_NAMES, cells, countCells } from '../pages.js';
 import { PAYLOAD } from '../block.js';
 import { SECTOR } from '../board.js';
@@ -55,7 +55,7 @@ export class Panel {
   }
 
   // Shows a run at its position. `expected` are the pages of the file, `all` the number of arrivals.
-  show(run, expected, all, board) {
+  show(run, expected, all) {
     this.run = run;
     const verdict = verdictOf(run, expected, all);
     this.showLamp(lampOf(run, verdict));
@@ -65,9 +65,18 @@ export class Panel {
     this.verdict.replaceChildren(element('p', { className: 'words', textContent: verdict.words }), ...verdict.pages.map((words) => element('p', { className: 'page', textContent: words })));
     this.showSeen(run, expected);
     for (const memory of MEMORIES) this.showGrid(memory, run, expected, run.position === all && all > 0);
-    const table = board.entries.map((entry, k) => text.grid.partition(k, entry)).join('; ');
-    setText(this.partitions, table ? `${text.grid.partitions}: ${table}.` : '');
     return verdict;
+  }
+
+  // Another board: the borders of its partitions, and their words.
+  setBoard({ entries }) {
+    this.grids.flash.grid.partition((sector) => entries.findIndex((entry) => sector >= entry.first && sector < entry.first + entry.sectors));
+    const items = entries.map((entry, k) => {
+      const swatch = element('span', { className: 'swatch', textContent: String(k), 'aria-hidden': 'true' });
+      swatch.style.border = `0.25em solid ${borderOf(k)}`;
+      return element('span', { className: 'partition' }, swatch, ` ${text.grid.partition(k, entry)} `);
+    });
+    this.partitions.replaceChildren(...(items.length ? [`${text.grid.partitions}: `, ...items] : []));
   }
 
   showLamp(lamp) {

@@ -12,7 +12,7 @@ import { EXTRAS } from '../maker.js';
 import { FAMILY, newBoard } from '../board.js';
 import { N } from '../numbers.js';
 import { WRONG } from '../wrong/all.js';
-import { answerWords, blockWords, familyFrom } from '../words.js';
+import { answerWords, blockWords, commandLine, familyFrom } from '../words.js';
 import { text } from '../text.js';
 
 const BLOCKS = 96;
@@ -87,6 +87,7 @@ export class TransferView {
     }
     this.session?.close();
     Object.assign(this, { session, board, plan, wrongId, lessonId });
+    for (const panel of Object.values(this.panels)) panel.setBoard(board);
     this.form.show(board);
     const bad = [N.UF2_ANSWER_BAD_BUFFERS, N.UF2_ANSWER_BAD_SETTINGS].includes(session.proved.receiver.place(FAMILY.data).answer);
     if (bad) this.form.note(text.setup.badSettings);
@@ -205,7 +206,8 @@ export class TransferView {
     byId('seed').disabled = this.plan.order !== 'shuffled';
     const items = this.plan.extras.map((extra, k) => this.mixItem(extra, k));
     byId('mix-list').replaceChildren(...(items.length ? items : [element('li', { textContent: text.setup.mixNone })]));
-    setText(byId('save-hint'), text.setup.saveHint(`vantorel load ${text.setup.savedName} -v --flash ${this.board.flash}${this.board.absolute ? ' --absolute' : ''}`));
+    const line = commandLine(text.setup.savedName, this.board);
+    setText(byId('save-hint'), line ? text.setup.saveHint(line) : '');
     const wrong = this.session.chosen;
     byId('wrong').hidden = !wrong;
     if (!wrong) return;
@@ -264,8 +266,8 @@ export class TransferView {
     const { session } = this;
     if (byId('view-transfer').hidden) return;
     setText(byId('position'), text.controls.position(this.position, this.length));
-    this.panels.proved.show(session.proved, session.expected, this.length, this.board);
-    if (session.wrong) this.panels.wrong.show(session.wrong, session.expected, this.length, this.board);
+    this.panels.proved.show(session.proved, session.expected, this.length);
+    if (session.wrong) this.panels.wrong.show(session.wrong, session.expected, this.length);
     const difference = session.firstDifference();
     setText(byId('wrong-difference'), difference < 0 ? text.wrong.noDifference : text.wrong.firstDifference(difference + 1));
     this.showLog();
