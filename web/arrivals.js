@@ -15,7 +15,7 @@ export function shuffled(list, seed) {
   return out;
 }
 
-export function ordered(list, order, seed) {
+function ordered(list, order, seed) {
   if (order === 'reversed') return list.slice().reverse();
   if (order === 'shuffled') return shuffled(list, seed);
   return list.slice();

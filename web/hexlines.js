@@ -18,7 +18,7 @@ export function lineStarts(bytes) {
 }
 
 // The proved reader of a board, with its image.
-export class ProvedReader {
+class ProvedReader {
   constructor(library, board, imageSize) {
     this.library = library;
     this.board = board;

@@ -109,8 +109,11 @@ async function startPage() {
   fillTexts(document);
   document.title = text.title;
   document.documentElement.lang = text.language;
+  window.addEventListener('unhandledrejection', ({ reason }) => say(text.trouble(String(reason))));
+  window.addEventListener('error', ({ message }) => say(text.trouble(message)));
   if (typeof WebAssembly !== 'object') return say(text.noWasm);
-  const module = await WebAssembly.compile(fromBase64(byId('library').textContent.trim()));
+  const module = await WebAssembly.compile(fromBase64(byId('library').textContent.trim())).catch(() => null);
+  if (!module) return say(text.noWasm);
   const page = new Page(new Libraries(module));
   page.open('transfer');
   await page.views.transfer.openLesson('lostPage');

@@ -3,7 +3,7 @@ import { SECTOR } from './board.js';
 import { PAYLOAD, PAYLOAD_AT, readBlock } from './block.js';
 import { isMarked, same, sameAt } from './bytes.js';
 
-export const STATUS = { lent: 0, erased: 1, stored: 2, kept: 3, left: 4, waiting: 5, missing: 6 };
+const STATUS = { lent: 0, erased: 1, stored: 2, kept: 3, left: 4, waiting: 5, missing: 6 };
 export const STATUS_NAMES = Object.keys(STATUS);
 const PER_SECTOR = SECTOR / PAYLOAD;
 

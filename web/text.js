@@ -13,6 +13,7 @@ export const text = {
   subtitle: 'An update receiver that is proved, beside receivers that are wrong',
   loading: 'The proved library is being started ..',
   noWasm: 'This browser cannot run WebAssembly, so the proved receiver cannot be shown. Any current browser can.',
+  trouble: (words) => `The page has failed and must be loaded again (${words}).`,
   tabs: { transfer: 'A transfer', hex: 'Universal Hex', trace: "A site's trace" },
   tools: { smaller: 'Smaller text', larger: 'Larger text', print: 'Print', smallerMark: 'A−', largerMark: 'A+' },
   help: {
@@ -27,7 +28,8 @@ export const text = {
     ],
   },
   footer:
-    'Every answer in the columns "proved" comes from the proved library, which is inside this page as WebAssembly. The wrong receivers are JavaScript and nothing of them is proved. This page uses no network.',
+    'Every answer in the columns marked PROVED comes from the proved library, which is inside this page as WebAssembly. ' +
+    'The wrong receivers are JavaScript, and nothing of them is proved. This page uses no network.',
 
   controls: {
     label: 'Playing',
@@ -87,7 +89,8 @@ export const text = {
     mark: 'PROVED',
     what: 'What is proved of it',
     claim:
-      'For every valid file and every list of its blocks, in any order, with repeats or losses, mixed with foreign arrivals: the set of blocks that came decides flash, maps and state, and nothing else does. "Completed" comes exactly when the set is whole.',
+      'For every valid file and every list of its blocks, in any order, with repeats or losses, mixed with foreign arrivals: ' +
+      'the set of blocks that came decides flash, maps and state, and nothing else does. "Completed" comes exactly when the set is whole.',
     theorem: 'Theorem',
     where: 'List-ends, crates/arrival (demand 3)',
   },
@@ -272,7 +275,6 @@ export const text = {
     nothing: 'Not completed: no block of the file was accepted.',
     noPlace: (name) => `Not completed: this board has no place for the family ${name}.`,
     notDone: (k, all) => `Not completed: ${n(k)} of ${n(all)} blocks have been counted.`,
-    commentsMissing: 'Not completed: every page stands at its address, and blocks without a page are missing.',
     falselyDone: (k) => `GREEN, AND ${k === 1 ? 'A PAGE IS' : n(k) + ' PAGES ARE'} MISSING`,
     misplaced: 'GREEN, AND THE FILE IS NOT WHERE IT BELONGS',
     damaged: 'GREEN, AND BYTES OUTSIDE OF THE FILE HAVE CHANGED',
@@ -412,7 +414,6 @@ export const text = {
     noTrace: (name) => `${name} is no trace: its first record is not one byte and a UF2 block of 512 bytes.`,
     isUf2: (name) => `${name} is a UF2 file and no trace. Open it under "A transfer".`,
     unreadable: (name) => `${name} could not be read.`,
-    fileLabel: 'Choose a file',
   },
 
   hex: {
@@ -482,7 +483,8 @@ export const text = {
   trace: {
     title: "A site's trace, replayed",
     intro:
-      'A trace is what a site’s host really sent, and what the site’s receiver answered: records of 513 bytes. Drop one on this page. The proved library replays it and stops where its own answer differs.',
+      "A trace is what a site's host really sent, and what the site's receiver answered: records of 513 bytes. Drop one on this page. " +
+      'The proved library replays it and stops where its own answer differs.',
     sample: 'Sample: a site whose receiver counts arrivals',
     useSample: 'Use the sample',
     own: 'A trace',

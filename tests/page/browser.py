@@ -340,6 +340,19 @@ def playing(page):
         equal(page.lamp("proved")[0], "running")
 
 
+    @check("pages that stand in the flash already are kept")
+    def _():
+        page.drop("kept.uf2", (ROOT / "tests" / "receive" / "kept.uf2").read_bytes())
+        page.until(lambda: "kept.uf2" in page.text("#file-note"), "the file")
+        page.press("#step")
+        page.until(lambda: page.text("#position").startswith("Arrival 1 "), "one arrival")
+        equal([page.text("#proved .number"), page.text("#proved .answer-name")], ["17", "Kept"])
+        equal(page.grid("proved").get("kept"), 1)
+        page.end()
+        expected = (ROOT / "tests" / "receive" / "kept.out").read_text().split("\n")[1:-2]
+        equal([f"{k} {row[4].split()[0]} {int('discarded' in row[4])}" for k, row in enumerate(page.log())], expected)
+
+
 def beside_the_tool(page):
     if not TOOL.exists():
         print("no rust/target/release/vantorel here: the page's answers were not held to the command line tool's")
@@ -481,6 +494,9 @@ def main():
     driver = browser(1280, 900)
     try:
         driver.set_script_timeout(60)
+        # the page is one file: without a network everything works
+        driver.execute_cdp_cmd("Network.enable", {})
+        driver.execute_cdp_cmd("Network.emulateNetworkConditions", {"offline": True, "latency": 0, "downloadThroughput": 0, "uploadThroughput": 0})
         page = Page(driver)
         lessons(page)
         playing(page)

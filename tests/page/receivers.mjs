@@ -5,7 +5,8 @@ import { readdirSync } from 'node:fs';
 import { chance, check, libraryModule, load, stored, storedText } from './common.mjs';
 
 const { Libraries } = await load('wasm.js');
-const { ProvedReceiver } = await load('proved.js');
+const { ProvedReceiver, readReason } = await load('proved.js');
+const { reasonWords } = await load('words.js');
 const { Student } = await load('wrong/student.js');
 const { WRONG } = await load('wrong/all.js');
 const { FAMILY, newBoard, newEntry, settingsBytes, settingsFrom } = await load('board.js');
@@ -202,4 +203,30 @@ await check('every answer has a name and a sentence, and every reason words', ()
   const upTo = (from, to) => Array.from({ length: to - from + 1 }, (_, k) => from + k);
   const causes = [[101, 108], [201, 209], [301, 305], [401, 403], [501, 501], [701, 701], [801, 807], [901, 901], [1001, 1003], [1101, 1104], [1201, 1201], [1301, 1301], [1401, 1407], [1501, 1501], [1601, 1601], [1701, 1701]];
   assert.deepEqual(Object.keys(text.reasons).map(Number), causes.flatMap(([from, to]) => upTo(from, to)));
+});
+
+await check('a reason in bytes becomes a sentence, and without one the answer has its own', () => {
+  const bytes = new Uint8Array(38);
+  put32(bytes, 0, 806);
+  put32(bytes, 4, FAMILY['arm-s']);
+  bytes.set([2, 1], 22);
+  const reason = readReason(bytes);
+  assert.deepEqual([reason.cause, reason.got, reason.against, reason.marks.slice(0, 3)], [806, 0xe48bff59n, 0n, [2, 1, 0]]);
+  assert.equal(reasonWords(8, reason), 'No A partition accepts its family, 0xE48BFF59: partition 0 does not accept it, partition 1 is "B of" another.');
+  assert.equal(reasonWords(8, null), text.answer.meanings[8]);
+});
+
+// Where the library says why: of arrivals of chance, the reason's row is the answer.
+await check('the reason of an arrival is of its answer, where the library says why', () => {
+  const below = chance(3);
+  if (!board1.has('uf2_why')) return;
+  const receiver = proved(newBoard({ main: true }));
+  const pieces = piecesOf(stored('receive/any_order_with_repeats.uf2'));
+  for (let k = 0; k < 3000; k++) {
+    if (below(12) === 0) receiver.reset();
+    const piece = randomBlock(below, pieces[below(pieces.length)], receiver);
+    const { cause } = receiver.why(piece);
+    assert.ok(text.reasons[cause], String(cause));
+    assert.equal(Math.floor(cause / 100), receiver.take(piece).answer);
+  }
 });

@@ -78,7 +78,9 @@ export class BoardForm {
     });
     this.rows.push({ entry, first, sectors, accepts, marks, users, link, index });
     const cell = (...parts) => element('td', {}, ...parts);
-    return element('tr', {}, cell(String(k)), cell(first), cell(sectors), cell(...accepts.map(([, t]) => t.label)), cell(users), cell(...marks.map(([, t]) => t.label)), cell(link, index), cell(remove));
+    const labels = (ticks) => ticks.map(([, { label }]) => label);
+    const cells = [[String(k)], [first], [sectors], labels(accepts), [users], labels(marks), [link, index], [remove]];
+    return element('tr', {}, ...cells.map((parts) => cell(...parts)));
   }
 
   readEntries() {

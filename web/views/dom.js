@@ -44,10 +44,6 @@ export function letters(bytes) {
   return Array.from(bytes, (x) => (x >= 32 && x < 127 ? String.fromCharCode(x) : '.')).join('');
 }
 
-export function hexBytes(bytes) {
-  return Array.from(bytes, (x) => x.toString(16).toUpperCase().padStart(2, '0')).join(' ');
-}
-
 export async function fileBytes(file) {
   return new Uint8Array(await file.arrayBuffer());
 }

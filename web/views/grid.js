@@ -20,7 +20,7 @@ export const COLOURS = {
 };
 
 // The borders of sectors: of none, and of partition 0, 1, .. in turn.
-export const BORDERS = ['#222222', '#d55e00', '#56b4e9', '#009e73', '#cc79a7', '#e69f00', '#0072b2'];
+const BORDERS = ['#222222', '#d55e00', '#56b4e9', '#009e73', '#cc79a7', '#e69f00', '#0072b2'];
 
 export function borderOf(partition) {
   return partition < 0 ? BORDERS[0] : BORDERS[1 + (partition % (BORDERS.length - 1))];

@@ -46,11 +46,14 @@ export class Panel {
     this.seen = element('canvas', { className: 'seen', role: 'img' });
     this.grids = Object.fromEntries(MEMORIES.map((memory) => [memory, gridPart(this, memory)]));
     this.partitions = make('p', 'hint partitions');
-    const lampRow = element('div', { className: 'lamp-row' }, this.lamp, element('div', {}, element('p', { className: 'hint', textContent: text.lamp.label }), this.lampWords, this.state));
+    const shows = element('p', { className: 'hint', textContent: text.lamp.label });
+    const lampRow = element('div', { className: 'lamp-row' }, this.lamp, element('div', {}, shows, this.lampWords, this.state));
     const stats = element('div', { className: 'stats' }, ...Object.entries(this.stats).map(([name, number]) => element('p', { 'data-stat': name }, number, ` ${text.state[name]}`)));
     const answer = element('div', { className: 'answer' }, element('p', {}, this.number, ' ', this.answerName), this.reason);
     const told = element('div', { className: 'told' }, lampRow, stats, answer, this.verdict);
-    const drawn = element('div', { className: 'drawn' }, this.seenWords, element('div', { className: 'canvas-box' }, this.seen), this.grids.flash.part, this.partitions, this.grids.main.part, this.grids.xip.part);
+    const { flash, main, xip } = this.grids;
+    const seenBox = element('div', { className: 'canvas-box' }, this.seen);
+    const drawn = element('div', { className: 'drawn' }, this.seenWords, seenBox, flash.part, this.partitions, main.part, xip.part);
     this.article.querySelector('.slot').replaceChildren(element('div', { className: 'panel' }, told, drawn));
   }
 

@@ -1,7 +1,7 @@
 // A long table of which a window of rows around the current one is shown.
 import { element } from './dom.js';
 
-export const ROWS = 120;
+const ROWS = 120;
 
 // The rows to be shown, of so many, around a current one.
 export function windowOf(count, current) {

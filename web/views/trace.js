@@ -82,10 +82,14 @@ export class TraceView {
   }
 
   showAnswer(id, said) {
-    const parts = said
-      ? [element('p', {}, element('span', { className: 'number', textContent: said.answer }), ' ', element('span', { className: 'answer-name', textContent: text.answer.names[said.answer] ?? '' })), element('p', { className: 'reason', textContent: `${said.why}${said.discarded ? ` (${text.answer.discarded})` : ''}` })]
-      : [element('p', { textContent: '–' })];
-    byId(id).replaceChildren(...parts);
+    if (!said) {
+      byId(id).replaceChildren(element('p', { textContent: '–' }));
+      return;
+    }
+    const number = element('span', { className: 'number', textContent: said.answer });
+    const name = element('span', { className: 'answer-name', textContent: text.answer.names[said.answer] ?? '' });
+    const why = `${said.why}${said.discarded ? ` (${text.answer.discarded})` : ''}`;
+    byId(id).replaceChildren(element('p', {}, number, ' ', name), element('p', { className: 'reason', textContent: why }));
   }
 
   showRecords() {
