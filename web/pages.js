@@ -64,11 +64,12 @@ export function expectedPages(pieces, receiver) {
   return [...largest.pages.values()].sort((a, b) => a.number - b.number);
 }
 
-// Whether a page was stored or kept, and its bytes are where they belong. `memory` are the bytes and `marks` the marks of its memory.
+// Whether a page was stored and its bytes are where they belong, or was kept: then the flash has what the region names, whatever the payload says.
+// `memory` are the bytes and `marks` the marks of its memory.
 function isThere(page, memory, marks) {
   const { at } = page.storage;
   const status = marks[Math.floor(at / PAYLOAD)];
-  return (status === STATUS.stored || status === STATUS.kept) && sameAt(memory, at, page.piece, PAYLOAD_AT, PAYLOAD);
+  return status === STATUS.kept || (status === STATUS.stored && sameAt(memory, at, page.piece, PAYLOAD_AT, PAYLOAD));
 }
 
 // What stands where a page belongs: nothing has an address, or erased bytes, the bytes as lent, another page of the file, or other bytes.
@@ -106,6 +107,11 @@ export function cells(run, expected, memory, ended) {
 export function missingPages(run, expected) {
   const bytes = { flash: run.receiver.bytes('flash'), main: run.receiver.bytes('main'), xip: run.receiver.bytes('xip') };
   return expected.filter(({ storage }, k) => !storage || !isThere(expected[k], bytes[storage.memory], run.pages.marks[storage.memory]));
+}
+
+// Whether some page was kept.
+export function someKept(run) {
+  return Object.values(run.pages.marks).some((marks) => marks.includes(STATUS.kept));
 }
 
 // How many cells have each status.

@@ -271,6 +271,7 @@ export const text = {
     start: 'Nothing has been sent yet. Press Play, or Step.',
     going: (k, all) => `${n(k)} of ${n(all)} arrivals have come.`,
     completed: 'Completed: every page of the file stands at its address.',
+    completedKept: 'Completed: every page of the file stands at its address, or was kept as it stood.',
     notCompleted: (k, all) => `Not completed: ${n(k)} of ${n(all)} pages ${k === 1 ? 'is' : 'are'} missing.`,
     nothing: 'Not completed: no block of the file was accepted.',
     noPlace: (name) => `Not completed: this board has no place for the family ${name}.`,

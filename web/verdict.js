@@ -1,5 +1,5 @@
 // What can be said of a receiver at a position: what the display shows, and what is missing. Pure, but for reading the receiver's memory.
-import { missingPages, standsThere } from './pages.js';
+import { missingPages, someKept, standsThere } from './pages.js';
 import { SECTOR } from './board.js';
 import { pageSentence, familyName } from './words.js';
 import { text } from './text.js';
@@ -35,7 +35,7 @@ export function verdictOf(run, expected, arrivals) {
     if (homeless) return { ...found('misplaced', text.verdict.misplaced), pages: [text.verdict.misplacedPages(familyName(expected[0].family))] };
     if (missing.length > 0) return found('falselyDone', text.verdict.falselyDone(missing.length));
     if (strayChange(run, expected)) return found('misplaced', text.verdict.damaged);
-    return found('completed', text.verdict.completed);
+    return found('completed', someKept(run) ? text.verdict.completedKept : text.verdict.completed);
   }
   if (homeless) return { ...found('noPlace', text.verdict.noPlace(familyName(expected[0].family))), pages: [] };
   if (transfer.state === 'idle') return found('nothing', text.verdict.nothing);
