@@ -124,7 +124,8 @@ static uint32_t make_entry(uint8_t *at, uint32_t k, uint32_t first) {
 #ifdef UF2_ENTRY_NO_RESTART_AT
     at[UF2_ENTRY_NO_RESTART_AT] = (uint8_t)one_in(3);
 #endif
-    return first + sectors;
+    /* the next may share its sectors */
+    return one_in(40) ? first : first + sectors;
 }
 
 static void make_settings(void) {
@@ -137,7 +138,8 @@ static void make_settings(void) {
     settings[UF2_SETTINGS_ABSOLUTE_AT] = (uint8_t)(below(3) > 0);
     entries = one_in(3) ? 0 : one_in(8) ? below(18) : below(5);
     settings[UF2_SETTINGS_COUNT_AT] = (uint8_t)entries;
-    for (k = 0; k < entries && k < UF2_MAX_ENTRIES; k++)
+    /* those past the count too: they must not be read */
+    for (k = 0; k < UF2_MAX_ENTRIES; k++)
         first = make_entry(settings + UF2_SETTINGS_ENTRY_AT(k), k, first);
 }
 
@@ -184,6 +186,11 @@ void make_lengths(void) {
         lent[which] = one_in(2) ? lent[which] + 1 + below(MORE) : lent[which] - (lent[which] > 0 ? 1 + below(lent[which]) : 0);
 }
 
+/* A number up to the last, which is often it. */
+static uint32_t from_to_end(uint32_t last) {
+    return one_in(4) ? last : below(last + 1);
+}
+
 /* Another file: of flash within its family's place, or of a RAM. */
 void make_file(void) {
     file.kind = below(4) % 3;
@@ -198,12 +205,12 @@ void make_file(void) {
     }
     file.total = 1 + below(one_in(8) ? 40 : 6);
     file.address = UF2_FLASH_START;
-    if (file.kind == UF2_KIND_FLASH && file.place_len / 256 > file.total)
-        file.address += 256 * below(file.place_len / 256 - file.total);
+    if (file.kind == UF2_KIND_FLASH && file.place_len / 256 >= file.total)
+        file.address += 256 * from_to_end(file.place_len / 256 - file.total);
     if (file.kind == UF2_KIND_MAIN_RAM)
-        file.address = UF2_MAIN_RAM_START + below(UF2_MAIN_RAM_SIZE - 256 * 40);
+        file.address = UF2_MAIN_RAM_START + from_to_end(UF2_MAIN_RAM_SIZE - 256 * file.total);
     if (file.kind == UF2_KIND_XIP_RAM)
-        file.address = UF2_XIP_RAM_START + below(UF2_XIP_RAM_SIZE - 256 * 40);
+        file.address = UF2_XIP_RAM_START + from_to_end(UF2_XIP_RAM_SIZE - 256 * file.total);
 }
 
 /* A transfer that no call has made: of this file or another, or none at all. */
@@ -294,10 +301,10 @@ void add_all(const struct play_buffers *at) {
 /* What a block at an address can have changed: its sector, or its page of RAM with a byte to either side. */
 void add_block(const struct play_buffers *at, uint32_t address) {
     uint32_t offset;
-    if (address >= UF2_MAIN_RAM_START && address - UF2_MAIN_RAM_START < UF2_MAIN_RAM_SIZE - 256) {
+    if (address >= UF2_MAIN_RAM_START && address - UF2_MAIN_RAM_START <= UF2_MAIN_RAM_SIZE - 256) {
         offset = address - UF2_MAIN_RAM_START;
         add_bytes(at->main_ram + offset - (offset > 0), 258);
-    } else if (address >= UF2_XIP_RAM_START && address - UF2_XIP_RAM_START < UF2_XIP_RAM_SIZE - 256) {
+    } else if (address >= UF2_XIP_RAM_START && address - UF2_XIP_RAM_START <= UF2_XIP_RAM_SIZE - 256) {
         offset = address - UF2_XIP_RAM_START;
         add_bytes(at->xip_ram + offset - (offset > 0), 258);
     } else {
@@ -669,7 +676,7 @@ static void play_lines(void) {
         if (one_in(10))
             spoil_line();
         reader_len = one_in(100) ? below(UHEX_READER_SIZE + MORE + 1) : UHEX_READER_SIZE;
-        image_len = one_in(100) ? 0 : one_in(10) ? 1 + below(IMAGE_SIZE) : IMAGE_SIZE;
+        image_len = one_in(50) ? below(2) : one_in(10) ? 1 + below(IMAGE_SIZE) : IMAGE_SIZE;
         play_call(PLAY_LINE, call_line);
         count(UHEX_RESULT_ANSWER(result));
         add(UHEX_RESULT_POSITION(result));
