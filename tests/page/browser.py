@@ -329,6 +329,26 @@ def playing(page):
         assert "whole sectors" in page.text("#board-note")
         page.js("document.getElementById('setup').open = false")
 
+    @check("a board from a packed store, or a sentence where the library reads none")
+    def _():
+        page.lesson("lostPage")
+        page.js("document.getElementById('setup').open = true")
+        reads = b"uf2_store_read" in (ROOT / "target" / "wasm" / "receiver.wasm").read_bytes()
+        with tempfile.NamedTemporaryFile(suffix=".store") as file:
+            # version 1, no entries, absolute allowed, Arm enabled and current
+            file.write(bytes([0x10, 0x30]))
+            file.flush()
+            page.get("#store").send_keys(file.name)
+            told = "The store was read: 0 partitions." if reads else "This build of the library does not read packed stores."
+            page.until(lambda: page.text("#board-note") == told, f"{told}: {page.text('#board-note')}")
+        if reads:
+            with tempfile.NamedTemporaryFile(suffix=".store") as file:
+                file.write(bytes([0x30, 0x30]))
+                file.flush()
+                page.get("#store").send_keys(file.name)
+                page.until(lambda: "its version is neither 1 nor 2" in page.text("#board-note"), "a refusal")
+        page.js("document.getElementById('setup').open = false")
+
     @check("the shortest list in which they differ is found and shown")
     def _():
         page.lesson("lostPage")
