@@ -98,7 +98,10 @@ export function cells(run, expected, memory, ended) {
   for (const page of expected) {
     if (!page.storage || page.storage.memory !== memory || isThere(page, bytes, marks)) continue;
     const own = transfer.state !== 'idle' && transfer.family === page.family && transfer.total === page.total;
-    out[Math.floor(page.storage.at / PAYLOAD)] = over || (own && isMarked(seen, page.number)) ? STATUS.missing : STATUS.waiting;
+    const k = Math.floor(page.storage.at / PAYLOAD);
+    // what another file has stored there is shown as long as that file runs
+    if (!over && !own && marks[k] === STATUS.stored) continue;
+    out[k] = over || (own && isMarked(seen, page.number)) ? STATUS.missing : STATUS.waiting;
   }
   return out;
 }
