@@ -152,9 +152,9 @@ export const text = {
 
   lamp: {
     label: 'The display shows',
-    idle: { mark: '–', name: 'dark', words: 'no update has begun' },
-    running: { mark: '…', name: 'amber', words: 'an update is under way' },
-    done: { mark: '✓', name: 'green', words: 'the update is complete' },
+    idle: { mark: '–', name: 'dark', words: 'no update' },
+    running: { mark: '…', name: 'amber', words: 'updating' },
+    done: { mark: '✓', name: 'green', words: 'complete' },
   },
 
   state: {
@@ -165,7 +165,6 @@ export const text = {
     of: (family, memory) => `${family}, into ${memory}`,
     counted: 'counted',
     arrived: 'arrivals',
-    marked: 'marked',
     countOf: (count, total) => `${n(count)} of ${n(total)}`,
     number: (x) => n(x),
     into: { flash: 'flash', main: 'main RAM', xip: 'XIP RAM' },

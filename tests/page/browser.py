@@ -193,7 +193,8 @@ def lessons(page):
         assert "GREEN, AND A PAGE IS MISSING" in page.text("#wrong .verdict")
         equal(page.grid("proved"), {"lent": 112, "erased": 8, "stored": 7, "missing": 1})
         equal([page.colour("proved", k) for k in (0, 4, 5, 7, 40)], [STORED, STORED, MISSING, STORED, LENT], "colours of the grid")
-        equal([page.text(f"#proved [data-stat={name}] .stat-number") for name in ("counted", "arrived", "marked")], ["7 of 8", "8", "7"])
+        equal([page.text(f"#proved [data-stat={name}] .stat-number") for name in ("counted", "arrived")], ["7 of 8", "8"])
+        equal(page.text("#proved .seen-words"), "Seen map: 7 marked of 8")
         equal(page.text("#wrong-edit"), "transfer/counts_arrivals")
         rows = page.log()
         equal([row[4] for row in rows], ["14 Written"] * 3 + ["13 Again"] + ["14 Written"] * 4)
@@ -490,14 +491,22 @@ def large(page):
 
 def shots(driver, page):
     SHOTS.mkdir(parents=True, exist_ok=True)
-    for width, height, name in ((390, 844, "small"), (1920, 1080, "large")):
+    for width, height, name in ((390, 844, "small"), (1366, 768, "middling"), (1920, 1080, "large")):
 
         @check(f"nothing is cut off on a {name} screen")
         def _():
-            driver.set_window_size(width, height)
+            driver.execute_cdp_cmd("Emulation.setDeviceMetricsOverride", {"width": width, "height": height, "deviceScaleFactor": 1, "mobile": False})
             page.open()
             page.lesson("lostPage")
             page.end()
+            page.js("window.scrollTo(0, 0)")
+            if width > 1000:
+                # lamp, answer, seen map and grid of both receivers are seen at once
+                below = page.js(
+                    """return [...document.querySelectorAll('.receiver .lamp, .receiver .answer, .receiver .verdict, .receiver canvas')]
+                        .filter((n) => n.offsetParent !== null && n.closest('#view-transfer') && n.getBoundingClientRect().bottom > innerHeight).map((n) => n.className)"""
+                )
+                equal(below, [], "not seen without scrolling")
             wide = page.js("return [document.documentElement.scrollWidth, window.innerWidth]")
             assert wide[0] <= wide[1], (wide, page.js("return [...document.querySelectorAll('*')].filter((n) => n.getBoundingClientRect().right > innerWidth + 1 && !n.closest('.scroll')).map((n) => n.tagName + '.' + n.className + '#' + n.id)"))
             driver.save_screenshot(str(SHOTS / f"{name}.png"))

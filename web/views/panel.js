@@ -37,7 +37,7 @@ export class Panel {
     this.lamp = make('div', 'lamp', { role: 'img' });
     this.lampWords = make('p', 'lamp-words');
     this.state = make('p', 'state');
-    this.stats = Object.fromEntries(['counted', 'arrived', 'marked'].map((name) => [name, make('span', 'stat-number')]));
+    this.stats = Object.fromEntries(['counted', 'arrived'].map((name) => [name, make('span', 'stat-number')]));
     this.number = make('span', 'number');
     this.answerName = make('span', 'answer-name');
     this.reason = make('p', 'reason');
@@ -119,7 +119,6 @@ export class Panel {
       if (!isMarked(map, k)) continue;
       if (++count <= 200) few.push(k);
     }
-    setText(this.stats.marked, text.state.number(count));
     setText(this.seenWords, text.state.seen(count, total));
     this.seen.setAttribute('aria-label', text.state.seenLabel(count > 200 ? text.state.number(count) : few.join(', ') || text.state.seenNone));
     drawBits(this.seen, (k) => isMarked(map, k), bits, this.seen.parentElement.clientWidth);
