@@ -3,13 +3,16 @@
 // An order of chance that a number fixes, the same as `vantorel load --shuffle SEED` has.
 export function shuffled(list, seed) {
   const out = list.slice();
-  const mask = (1n << 64n) - 1n;
-  let state = ((BigInt(seed) * 0x9e3779b97f4a7c15n) & mask) | 1n;
+  const wrap = (x) => BigInt.asUintN(64, x);
+  let state = wrap(BigInt(seed));
   for (let k = out.length - 1; k >= 1; k--) {
-    state = (state ^ (state << 13n)) & mask;
-    state ^= state >> 7n;
-    state = (state ^ (state << 17n)) & mask;
-    const other = Number(state % BigInt(k + 1));
+    // SplitMix64
+    state = wrap(state + 0x9e3779b97f4a7c15n);
+    let x = state;
+    x = wrap((x ^ (x >> 30n)) * 0xbf58476d1ce4e5b9n);
+    x = wrap((x ^ (x >> 27n)) * 0x94d049bb133111ebn);
+    x ^= x >> 31n;
+    const other = Number(x % BigInt(k + 1));
     [out[k], out[other]] = [out[other], out[k]];
   }
   return out;

@@ -90,9 +90,9 @@ export const text = {
     what: 'What is proved of it',
     claim:
       'For every valid file and every list of its blocks, in any order, with repeats or losses, mixed with foreign arrivals: ' +
-      'the set of blocks that came decides flash, maps and state, and nothing else does. "Completed" comes exactly when the set is whole.',
-    theorem: 'Theorem',
-    where: 'List-ends, crates/arrival (demand 3)',
+      'what was lent and the set of blocks that came decide flash, maps and state, and nothing else does. "Completed" comes exactly when the set is whole.',
+    theorem: 'Theorems',
+    where: 'List-ends and Completed-exactly, crates/arrival/specs/Demand.antt',
   },
 
   wrong: {

@@ -378,6 +378,27 @@ def beside_the_tool(page):
     if not TOOL.exists():
         print("no rust/target/release/vantorel here: the page's answers were not held to the command line tool's")
         return
+
+    @check("shuffled by a seed, the order and the answers are those of vantorel load -v --shuffle")
+    def _():
+        page.lesson("whole")
+        page.press("#blocks-once")
+        page.until(lambda: page.text("#position") == "Arrival 0 of 8", "every block once")
+        page.js("const order = document.getElementById('order'); order.value = 'file'; order.dispatchEvent(new Event('change'))")
+        page.until(lambda: [row[1] for row in page.log()] == [f"{k} of 8" for k in range(8)], "as in the file")
+        with tempfile.NamedTemporaryFile(suffix=".uf2") as file:
+            file.write(page.saved())
+            file.flush()
+            for seed in (1, 7):
+                page.js("const order = document.getElementById('order'); order.value = 'shuffled'; order.dispatchEvent(new Event('change'))")
+                page.until(lambda: page.js("return !document.getElementById('seed').disabled"), "shuffled")
+                page.js("const seed = document.getElementById('seed'); seed.value = arguments[0]; seed.dispatchEvent(new Event('change'))", seed)
+                time.sleep(0.2)
+                page.end()
+                told = subprocess.run([TOOL, "load", file.name, "-v", "--flash", "32768", "--shuffle", str(seed)], capture_output=True, text=True).stdout
+                rows = [row[1].split()[0] + ": " + row[4] for row in page.log()]
+                equal(rows, re.findall(r"^arrival \d+, block (.*)$", told, re.M), f"seed {seed}")
+
     for name in ("lostPage", "order", "foreign", "wrap", "oneMap", "whole"):
 
         @check(f"the answers of lesson {name} are those of vantorel load -v")
