@@ -121,6 +121,7 @@ export class Grid {
     const ratio = window.devicePixelRatio || 1;
     const fresh = !this.drawn || this.drawn.length !== cells.length || this.width !== width || this.ratio !== ratio;
     if (fresh) {
+      this.drawn = null;
       this.layout = layoutOf(cells.length, width);
       sized(this.canvas, this.layout.width, this.layout.height, ratio);
       Object.assign(this, { width, ratio });
@@ -130,7 +131,7 @@ export class Grid {
     if (this.layout.cell < PLAIN_CELL) this.drawPlain(context, cells);
     else {
       for (let page = 0; page < cells.length; page++) {
-        if (fresh || this.drawn[page] !== cells[page]) this.drawCell(context, page, cells[page], labels.get(page));
+        if (!this.drawn || this.drawn[page] !== cells[page]) this.drawCell(context, page, cells[page], labels.get(page));
       }
     }
     this.cells = cells;
