@@ -2,6 +2,8 @@
 import { ProvedReceiver } from './proved.js';
 import { FAMILY } from './board.js';
 import { N } from './numbers.js';
+import { EXTRAS } from './maker.js';
+import { readBlock } from './block.js';
 import { Run } from './run.js';
 import { WRONG } from './wrong/all.js';
 import { arrivalList } from './arrivals.js';
@@ -23,6 +25,9 @@ function helpersFor(library, proved, flashLength) {
     },
   };
 }
+
+// Foreign arrivals that a search may use though they are not mixed in.
+const USUAL = ['otherBoard', 'otherFile', 'wraps'];
 
 // The proved receiver and the chosen wrong one, each with an instance of the library.
 function receiversOf(libraries, board, chosen) {
@@ -92,11 +97,17 @@ export class Session {
     return -1;
   }
 
-  // The different arrivals of the list, at most so many: the alphabet of a search.
-  alphabet(most) {
+  // The different arrivals at hand, the alphabet of a search: the first blocks of the file, what is mixed in and, where `more` is said, the usual foreign ones.
+  alphabet(most, more) {
     const found = [];
     const known = new Set();
-    const all = [...this.plan.pieces.slice(0, most).map((bytes, piece) => ({ piece, bytes })), ...this.plan.extras.map(({ bytes }, extra) => ({ extra, bytes }))];
+    const { pieces, extras } = this.plan;
+    const all = [...pieces.slice(0, most).map((bytes, piece) => ({ piece, bytes })), ...extras.map((extra) => ({ extra, bytes: extra.bytes }))];
+    const block = readBlock(pieces[0]);
+    for (const kind of more && block ? USUAL : []) {
+      const bytes = EXTRAS[kind](pieces[0], block.total);
+      all.push({ extra: { kind, after: 0, bytes }, bytes });
+    }
     for (const arrival of all) {
       const key = arrival.bytes.join();
       if (!known.has(key)) found.push(arrival);
@@ -106,13 +117,18 @@ export class Session {
   }
 
   // The shortest list of arrivals in which the wrong receiver differs from the proved one as `goal` says, or null.
+  // The arrivals at hand are tried first, and then the usual foreign ones besides.
   async search(goal, limits, between) {
-    return this.pool.use((one) => this.pool.use((two) => this.searchWith([one, two], goal, limits, between)));
+    for (const more of [false, true]) {
+      const alphabet = this.alphabet(limits.letters, more);
+      const found = await this.pool.use((one) => this.pool.use((two) => this.searchWith([one, two], alphabet, goal, limits, between)));
+      if (found || between({ tried: 0, depth: 1 }) === false) return found;
+    }
+    return null;
   }
 
-  async searchWith(libraries, goal, limits, between) {
+  async searchWith(libraries, alphabet, goal, limits, between) {
     const { proved, wrong } = receiversOf(libraries, this.board, this.chosen);
-    const alphabet = this.alphabet(limits.letters);
     const steps = shortestDifference(proved, wrong, alphabet.map((arrival) => arrival.bytes), GOALS[goal], limits);
     let found = null;
     let progress = { tried: 0, depth: 1 };

@@ -166,6 +166,19 @@ await check('the shortest list that tells each wrong receiver from the proved on
   assert.deepEqual(shortest, { countsArrivals: 2, trustsFileOrder: 2, erasesAtEachPage: 2, foreignBlockDiscards: 2, addsIn32Bits: 1, choosesABEntry: 1, clearsOneMap: 3 });
 });
 
+await check('the usual foreign arrivals are tried where those at hand tell nothing', async () => {
+  const lengths = {};
+  for (const wrongId of ['foreignBlockDiscards', 'addsIn32Bits', 'clearsOneMap']) {
+    const { board, plan } = await libraries.use((library) => lessonParts(library, LESSONS[2]));
+    const session = await Session.open(libraries, board, plan, wrongId);
+    const found = await session.search('differ', { letters: 4, depth: 6, tries: 20000 }, () => true);
+    lengths[wrongId] = found.length;
+    assert.ok(found.some(({ extra }) => extra && extra.kind));
+    session.close();
+  }
+  assert.deepEqual(lengths, { foreignBlockDiscards: 2, addsIn32Bits: 1, clearsOneMap: 3 });
+});
+
 await check('no list of up to 5 arrivals tells the receiver without an error from the proved one', async () => {
   const board = newBoard();
   const { pieces } = await libraries.use((library) => samplePieces(library, 3));

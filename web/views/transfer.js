@@ -170,7 +170,9 @@ export class TransferView {
       setText(result, text.wrong.notFound(LIMITS.depth));
       return;
     }
-    await this.changePlan({ order: 'list', list: found.map(({ piece, extra }) => (piece === undefined ? { extra } : { piece })) });
+    const extras = [...new Set([...this.plan.extras, ...found.flatMap(({ extra }) => (extra ? [extra] : []))])];
+    const list = found.map(({ piece, extra }) => (extra ? { extra: extras.indexOf(extra) } : { piece }));
+    await this.changePlan({ order: 'list', extras, list });
     await this.goTo(found.length);
     setText(result, text.wrong.found(found.length));
   }
