@@ -1,0 +1,574 @@
+"""The training page in a real browser, opened from disk: each lesson played to its end, its words and its grid read back; the answers beside the command
+line tool's; files that are none; a large file; keys; and screenshots."""
+import base64
+import os
+import pathlib
+import re
+import struct
+import subprocess
+import sys
+import tempfile
+import time
+
+from selenium import webdriver
+from selenium.webdriver.chrome.service import Service
+from selenium.webdriver.common.by import By
+from selenium.webdriver.common.keys import Keys
+from selenium.webdriver.support.ui import Select, WebDriverWait
+
+ROOT = pathlib.Path(__file__).resolve().parent.parent.parent
+PAGE = ROOT / "target" / "web" / "vantorel.html"
+# VANTOREL names the tool where it stands elsewhere
+TOOL = pathlib.Path(os.environ.get("VANTOREL", ROOT / "rust" / "target" / "release" / "vantorel"))
+SHOTS = pathlib.Path(sys.argv[1])
+failed = []
+
+
+def browser(width, height):
+    options = webdriver.ChromeOptions()
+    options.binary_location = "/usr/bin/chromium" if os.path.exists("/usr/bin/chromium") else ""
+    for word in ["--headless=new", "--no-sandbox", "--disable-gpu", "--disable-dev-shm-usage", "--hide-scrollbars", f"--window-size={width},{height}"]:
+        options.add_argument(word)
+    options.set_capability("goog:loggingPrefs", {"browser": "ALL"})
+    return webdriver.Chrome(service=Service("/usr/bin/chromedriver" if os.path.exists("/usr/bin/chromedriver") else "chromedriver"), options=options)
+
+
+class Page:
+    def __init__(self, driver):
+        self.driver = driver
+        self.open()
+
+    def open(self):
+        self.driver.get(PAGE.as_uri())
+        self.until(lambda: self.js("return document.documentElement.dataset.ready") == "yes", "the page is ready")
+
+    def js(self, code, *args):
+        return self.driver.execute_script(code, *args)
+
+    def until(self, true, what, seconds=30):
+        WebDriverWait(self.driver, seconds, 0.05).until(lambda _: true(), what)
+
+    def get(self, selector):
+        return self.driver.find_element(By.CSS_SELECTOR, selector)
+
+    def text(self, selector):
+        return self.js("return document.querySelector(arguments[0]).textContent", selector)
+
+    def press(self, selector):
+        # what a mouse would do; the part is brought into view first
+        element = self.get(selector)
+        self.js("arguments[0].scrollIntoView({ block: 'center' })", element)
+        element.click()
+
+    def choose(self, selector, value):
+        Select(self.get(selector)).select_by_value(value)
+
+    def lesson(self, name):
+        self.js("const lesson = document.getElementById('lesson'); lesson.value = arguments[0]; lesson.dispatchEvent(new Event('change'))", name)
+        self.until(lambda: self.text("#position").startswith("Arrival 0 ") and self.js("return document.getElementById('lesson').value") == name, f"lesson {name}")
+        time.sleep(0.05)
+
+    def end(self):
+        self.press("#to-end")
+        self.until(self.at_end, "the end of the list")
+
+    def at_end(self):
+        match = re.fullmatch(r"Arrival ([\d,]+) of ([\d,]+)", self.text("#position"))
+        return match is not None and match[1] == match[2]
+
+    def log(self):
+        return self.js("return [...document.querySelectorAll('#log tbody tr')].map((row) => [...row.cells].map((cell) => cell.textContent))")
+
+    def verdict(self, side):
+        return self.js("return document.querySelector(`#${arguments[0]} .verdict`).dataset.kind", side)
+
+    def lamp(self, side):
+        return self.js("const lamp = document.querySelector(`#${arguments[0]} .lamp`); return [lamp.dataset.state, lamp.dataset.wrongly]", side)
+
+    # The pages of the flash by status, as the legend counts them.
+    def grid(self, side):
+        rows = self.js(
+            "return [...document.querySelectorAll(`#${arguments[0]} [data-memory=flash] .legend li`)].map((item) => [item.dataset.status, Number(item.dataset.count)])", side
+        )
+        return dict(rows)
+
+    # The colour that the canvas has in the middle of a page's left edge, as three numbers.
+    def colour(self, side, page):
+        return self.js(
+            """const canvas = document.querySelector(`#${arguments[0]} [data-memory=flash] canvas`);
+            const ratio = window.devicePixelRatio;
+            const width = canvas.width / ratio;
+            const height = canvas.height / ratio;
+            const gap = 6;
+            // 8 sectors, in as many columns as the shape of the canvas says
+            const across = [1, 2, 3, 4, 8].find((n) => {
+                const side = (width - gap * (n + 1)) / (4 * n);
+                return Math.abs(Math.ceil(8 / n) * (4 * side + gap) + gap - height) < 1;
+            });
+            const cell = (width - gap * (across + 1)) / (4 * across);
+            const sector = Math.floor(arguments[1] / 16);
+            const x = gap + (sector % across) * (4 * cell + gap) + (arguments[1] % 4) * cell + 3;
+            const y = gap + Math.floor(sector / across) * (4 * cell + gap) + Math.floor((arguments[1] % 16) / 4) * cell + cell / 2;
+            return [...canvas.getContext('2d').getImageData(x * ratio, y * ratio, 1, 1).data].slice(0, 3);""",
+            side,
+            page,
+        )
+
+    # The list of arrivals as bytes, as "Save the arrivals as a file" would write it.
+    def saved(self):
+        text = self.driver.execute_async_script(
+            """const done = arguments[0];
+            const make = URL.createObjectURL;
+            URL.createObjectURL = (blob) => {
+                URL.createObjectURL = make;
+                const reader = new FileReader();
+                reader.onload = () => done(reader.result.split(',')[1]);
+                reader.readAsDataURL(blob);
+                return 'data:,';
+            };
+            HTMLAnchorElement.prototype.click = function () {};
+            document.getElementById('save').click();"""
+        )
+        return base64.b64decode(text)
+
+    # A file handed to the page as if it were dropped.
+    def drop(self, name, content):
+        self.js(
+            """const raw = atob(arguments[1]);
+            const bytes = Uint8Array.from(raw, (c) => c.charCodeAt(0));
+            const data = new DataTransfer();
+            data.items.add(new File([bytes], arguments[0]));
+            document.dispatchEvent(new DragEvent('drop', { dataTransfer: data, bubbles: true, cancelable: true }));""",
+            name,
+            base64.b64encode(content).decode(),
+        )
+
+
+def check(name):
+    def run(test):
+        try:
+            test()
+            print(f"page in a browser, {name} ... ok", flush=True)
+        except Exception as error:  # every failure is told, and the rest is tested too
+            failed.append(name)
+            print(f"page in a browser, {name} ... FAILED: {type(error).__name__}: {str(error).strip()}", flush=True)
+        return test
+
+    return run
+
+
+def equal(got, expected, what=""):
+    if got != expected:
+        raise AssertionError(f"{what}: {got!r}, and not {expected!r}")
+
+
+def block(number, total, address=None, family=0xE48BFF59):
+    address = 0x10000000 + 256 * number if address is None else address
+    head = struct.pack("<8I", 0x0A324655, 0x9E5D5157, 0x2000, address, 256, number, total, family)
+    return head + bytes([number % 251]) * 256 + bytes(220) + struct.pack("<I", 0x0AB16F30)
+
+
+STORED, MISSING, LENT = [0, 0x72, 0xB2], [0xB2, 0x3C, 0], [0xD4, 0xD4, 0xD4]
+
+
+def lessons(page):
+    @check("it opens from disk and asks for nothing else")
+    def _():
+        equal(page.js("return location.protocol"), "file:")
+        equal(page.js("return performance.getEntriesByType('resource').filter((r) => !r.name.startsWith('data:') && !r.name.startsWith('blob:')).length"), 0)
+        equal(page.js("return document.querySelectorAll('[src^=http], link[href^=http]').length"), 0)
+        equal([n for n in page.js("return [...document.querySelectorAll('[data-text]')].filter((n) => n.textContent === '' && n.id !== 'notice').map((n) => n.dataset.text)")], [])
+
+    @check("lesson 1, a lost page: the wrong display turns green, the proved one does not")
+    def _():
+        page.lesson("lostPage")
+        page.end()
+        equal(page.lamp("proved"), ["running", "false"])
+        equal(page.lamp("wrong"), ["done", "true"])
+        equal(page.verdict("proved"), "missing")
+        equal(page.verdict("wrong"), "falselyDone")
+        words = page.text("#proved .verdict")
+        for part in ["1 of 8 pages is missing", "block 5", "0x10000500", "there stands 0xFF, erased"]:
+            assert part in words, words
+        assert "GREEN, AND A PAGE IS MISSING" in page.text("#wrong .verdict")
+        equal(page.grid("proved"), {"lent": 112, "erased": 8, "stored": 7, "missing": 1})
+        equal([page.colour("proved", k) for k in (0, 4, 5, 7, 40)], [STORED, STORED, MISSING, STORED, LENT], "colours of the grid")
+        equal([page.text(f"#proved [data-stat={name}] .stat-number") for name in ("counted", "arrived")], ["7 of 8", "8"])
+        equal(page.text("#proved .seen-words"), "Seen map: 7 marked of 8")
+        equal(page.text("#wrong-edit"), "transfer/counts_arrivals")
+        rows = page.log()
+        equal([row[4] for row in rows], ["14 Written"] * 3 + ["13 Again"] + ["14 Written"] * 4)
+        equal(rows[3][6], "14 Written ≠")
+        equal(rows[7][6], "15 Completed ≠")
+
+    @check("lesson 2, the host shuffles")
+    def _():
+        page.lesson("order")
+        page.end()
+        equal([page.verdict("proved"), page.verdict("wrong")], ["completed", "falselyDone"])
+        assert "block 0" in page.text("#wrong .verdict")
+        equal(page.grid("proved"), {"lent": 112, "erased": 12, "stored": 4})
+
+    @check("lesson 3, pages of one sector")
+    def _():
+        page.lesson("erase")
+        page.end()
+        equal([page.verdict("proved"), page.verdict("wrong")], ["completed", "falselyDone"])
+        assert "7 PAGES ARE MISSING" in page.text("#wrong .verdict")
+        equal(page.grid("wrong"), {"lent": 112, "erased": 8, "stored": 1, "missing": 7})
+
+    @check("lesson 4, another board's blocks")
+    def _():
+        page.lesson("foreign")
+        page.end()
+        equal([page.lamp("proved")[0], page.lamp("wrong")[0]], ["done", "running"])
+        equal([row[4] for row in page.log()][3], "8 NoPlace")
+
+    @check("lesson 5, an address near 4 GiB")
+    def _():
+        page.lesson("wrap")
+        page.end()
+        equal([page.verdict("proved"), page.verdict("wrong")], ["missing", "falselyDone"])
+        equal(page.log()[-1][3:5], ["0xFFFFFF00", "11 BadAddress"])
+        equal(page.colour("wrong", 127), STORED)
+
+    @check("lesson 6, the spare partition")
+    def _():
+        page.lesson("bEntry")
+        page.end()
+        equal([page.lamp("proved")[0], page.lamp("wrong")], ["idle", ["done", "true"]])
+        assert "no place for the family arm-s" in page.text("#proved .verdict")
+
+    @check("lesson 7, a stopped update, then a good one")
+    def _():
+        page.lesson("oneMap")
+        page.end()
+        equal([page.lamp("proved")[0], page.lamp("wrong")[0]], ["done", "running"])
+        assert "discarded" in page.log()[3][4]
+
+    @check("lesson 8, shuffled, repeated and whole")
+    def _():
+        page.lesson("whole")
+        page.end()
+        equal(page.verdict("proved"), "completed")
+        equal(page.js("return document.getElementById('wrong').hidden"), True)
+        assert "every page of the file stands at its address" in page.text("#proved .verdict")
+
+
+def playing(page):
+    @check("step, back, and each position as it was before")
+    def _():
+        page.lesson("lostPage")
+        states = []
+        for k in range(1, 9):
+            page.press("#step")
+            page.until(lambda: page.text("#position") == f"Arrival {k} of 8", f"arrival {k}")
+            states.append((page.grid("proved"), page.grid("wrong"), page.text("#proved .answer"), page.text("#wrong .answer")))
+        for k in range(7, 0, -1):
+            page.press("#back")
+            page.until(lambda: page.text("#position") == f"Arrival {k} of 8", f"back to {k}")
+            equal((page.grid("proved"), page.grid("wrong"), page.text("#proved .answer"), page.text("#wrong .answer")), states[k - 1], f"arrival {k}")
+
+    @check("play and pause, and the keys")
+    def _():
+        page.lesson("lostPage")
+        page.js("const speed = document.getElementById('speed'); speed.value = 10")
+        page.js("document.activeElement.blur()")
+        body = page.get("body")
+        body.send_keys(Keys.ARROW_RIGHT)
+        page.until(lambda: page.text("#position") == "Arrival 1 of 8", "the right arrow")
+        body.send_keys(Keys.ARROW_LEFT)
+        page.until(lambda: page.text("#position") == "Arrival 0 of 8", "the left arrow")
+        body.send_keys(Keys.SPACE)
+        page.until(page.at_end, "played to the end")
+        page.until(lambda: page.text("#play") == "Play", "the button says play")
+        body.send_keys(Keys.HOME)
+        page.until(lambda: page.text("#position") == "Arrival 0 of 8", "Home")
+        body.send_keys(Keys.END)
+        page.until(page.at_end, "End")
+        canvas = page.get("#proved [data-memory=flash] canvas")
+        for _ in range(6):
+            canvas.send_keys(Keys.ARROW_RIGHT)
+        words = page.text("#proved [data-memory=flash] .cell")
+        assert "Page 5" in words and "missing" in words, words
+
+    @check("everything can be reached with the Tab key, and has a name")
+    def _():
+        unnamed = page.js(
+            """return [...document.querySelectorAll('#view-transfer button, #view-transfer select, #view-transfer input, #view-transfer canvas')]
+                .filter((n) => n.offsetParent !== null && n.tabIndex < 0 && !n.disabled).map((n) => n.id || n.className)"""
+        )
+        equal([name for name in unnamed if name != "seen"], [], "not reached")
+        equal(
+            page.js(
+                """return [...document.querySelectorAll('button, select, input, canvas')].filter((n) => !(n.textContent.trim() || n.getAttribute('aria-label') || n.labels?.length))
+                    .map((n) => n.outerHTML.slice(0, 80))"""
+            ),
+            [],
+            "without a name",
+        )
+
+    @check("blocks dropped and repeated by pressing them, and an own board")
+    def _():
+        page.lesson("whole")
+        page.press("#blocks-once")
+        page.until(lambda: page.text("#position") == "Arrival 0 of 8", "every block once")
+        page.press("[data-block='6']")
+        page.until(lambda: page.text("#position") == "Arrival 0 of 9", "block 6 twice")
+        page.press("[data-block='6']")
+        page.until(lambda: page.text("#position") == "Arrival 0 of 7", "block 6 dropped")
+        page.end()
+        assert "Page of block 6" in page.text("#proved .verdict"), page.text("#proved .verdict")
+        page.press("#setup summary")
+        page.press("#add-entry")
+        page.press("#entries input[type=checkbox]")
+        page.press("#apply")
+        page.until(lambda: page.text("#position") == "Arrival 0 of 7", "the board is used")
+        page.end()
+        assert "no place for the family arm-s" in page.text("#proved .verdict"), page.text("#proved .verdict")
+        page.js("document.getElementById('flash').value = 5000; document.getElementById('apply').click()")
+        assert "whole sectors" in page.text("#board-note")
+        page.js("document.getElementById('setup').open = false")
+
+    @check("a board from a packed store, or a sentence where the library reads none")
+    def _():
+        page.lesson("lostPage")
+        page.js("document.getElementById('setup').open = true")
+        reads = b"uf2_store_read" in (ROOT / "target" / "wasm" / "receiver.wasm").read_bytes()
+        with tempfile.NamedTemporaryFile(suffix=".store") as file:
+            # version 1, no entries, absolute allowed, Arm enabled and current
+            file.write(bytes([0x10, 0x30]))
+            file.flush()
+            page.get("#store").send_keys(file.name)
+            told = "The store was read: 0 partitions." if reads else "This build of the library does not read packed stores."
+            page.until(lambda: page.text("#board-note") == told, f"{told}: {page.text('#board-note')}")
+        if reads:
+            with tempfile.NamedTemporaryFile(suffix=".store") as file:
+                file.write(bytes([0x30, 0x30]))
+                file.flush()
+                page.get("#store").send_keys(file.name)
+                page.until(lambda: "its version is neither 1 nor 2" in page.text("#board-note"), "a refusal")
+        page.js("document.getElementById('setup').open = false")
+
+    @check("the shortest list in which they differ is found and shown")
+    def _():
+        page.lesson("lostPage")
+        for goal, length in (("differ", 2), ("falselyDone", 8)):
+            page.choose("#goal", goal)
+            page.press("#find")
+            page.until(lambda: page.text("#find-result").startswith(f"Found: a list of {length} "), f"a list for {goal}: {page.text('#find-result')}")
+        equal(page.lamp("wrong"), ["done", "true"])
+        equal(page.lamp("proved")[0], "running")
+
+
+    @check("pages that stand in the flash already are kept")
+    def _():
+        page.drop("kept.uf2", (ROOT / "tests" / "receive" / "kept.uf2").read_bytes())
+        page.until(lambda: "kept.uf2" in page.text("#file-note"), "the file")
+        page.press("#step")
+        page.until(lambda: page.text("#position").startswith("Arrival 1 "), "one arrival")
+        equal([page.text("#proved .number"), page.text("#proved .answer-name")], ["17", "Kept"])
+        equal(page.grid("proved").get("kept"), 1)
+        page.end()
+        expected = (ROOT / "tests" / "receive" / "kept.out").read_text().split("\n")[1:-2]
+        equal([f"{k} {row[4].split()[0]} {int('discarded' in row[4])}" for k, row in enumerate(page.log())], expected)
+
+
+def beside_the_tool(page):
+    if not TOOL.exists():
+        print("no rust/target/release/vantorel here: the page's answers were not held to the command line tool's")
+        return
+
+    @check("shuffled by a seed, the order and the answers are those of vantorel load -v --shuffle")
+    def _():
+        page.lesson("whole")
+        page.press("#blocks-once")
+        page.until(lambda: page.text("#position") == "Arrival 0 of 8", "every block once")
+        page.js("const order = document.getElementById('order'); order.value = 'file'; order.dispatchEvent(new Event('change'))")
+        page.until(lambda: [row[1] for row in page.log()] == [f"{k} of 8" for k in range(8)], "as in the file")
+        with tempfile.NamedTemporaryFile(suffix=".uf2") as file:
+            file.write(page.saved())
+            file.flush()
+            for seed in (1, 7):
+                page.js("const order = document.getElementById('order'); order.value = 'shuffled'; order.dispatchEvent(new Event('change'))")
+                page.until(lambda: page.js("return !document.getElementById('seed').disabled"), "shuffled")
+                page.js("const seed = document.getElementById('seed'); seed.value = arguments[0]; seed.dispatchEvent(new Event('change'))", seed)
+                time.sleep(0.2)
+                page.end()
+                told = subprocess.run([TOOL, "load", file.name, "-v", "--flash", "32768", "--shuffle", str(seed)], capture_output=True, text=True).stdout
+                rows = [row[1].split()[0] + ": " + row[4] for row in page.log()]
+                equal(rows, re.findall(r"^arrival \d+, block (.*)$", told, re.M), f"seed {seed}")
+
+    for name in ("lostPage", "order", "foreign", "wrap", "oneMap", "whole"):
+
+        @check(f"the answers of lesson {name} are those of vantorel load -v")
+        def _():
+            page.lesson(name)
+            page.end()
+            rows = [(re.match(r"[\d,]+", row[1]) or ["-"])[0] + ": " + row[4] for row in page.log()]
+            with tempfile.NamedTemporaryFile(suffix=".uf2") as file:
+                file.write(page.saved())
+                file.flush()
+                words = page.text("#save-hint").split("vantorel ")[1].replace("arrivals.uf2", file.name).split()
+                told = subprocess.run([TOOL, *words], capture_output=True, text=True).stdout
+            lines = [re.sub(r", [a-z ]*discarded$", ", discarded", m[1]) for m in re.finditer(r"^arrival \d+, block (.*)$", told, re.M)]
+            equal(rows, lines)
+
+
+def hex_and_trace(page):
+    @check("Universal Hex: both boards line by line, and the reader of the wrong section")
+    def _():
+        page.press("#tab-hex")
+        page.until(lambda: page.text("#hex-position").startswith("Line 0 of "), "the sample")
+        page.press("#hex-end")
+        equal(page.text("#hex-v1 .answer-name"), "Ended")
+        for side, words in (("hex-v1", "Firmware for board V1."), ("hex-v2", "Firmware for board V2."), ("hex-wrong", "Firmware for board V2.")):
+            assert words in page.text(f"#{side} .image-words"), side
+        assert "The wrong panel of V1 now holds the data of V2" in page.text("#hex-wrong .verdict")
+        page.choose("#hex-own", "v2")
+        page.until(lambda: page.text("#hex-position").startswith("Line 0 of "), "read again")
+        page.press("#hex-end")
+        assert "Firmware for board V1." in page.text("#hex-wrong .image-words")
+        rows = page.js("return [...document.querySelectorAll('#hex-lines tbody tr')].map((row) => [...row.cells].map((cell) => cell.textContent))")
+        equal({row[2] for row in rows}, {"a section opens", "V1", "V2", "after the end"})
+        assert any(row[3] == "0x00000000 (16)" for row in rows)
+
+    @check("a hex file with a bad digit: which character")
+    def _():
+        page.drop("bad.hex", (ROOT / "tests" / "hexlines" / "refused_22_digit.hex").read_bytes())
+        page.until(lambda: page.text("#hex-note") == "bad.hex", "the file")
+        page.press("#hex-end")
+        rows = page.js("return [...document.querySelectorAll('#hex-lines tbody tr')].map((row) => row.cells[4].textContent)")
+        assert "22 BadDigit, character 9" in rows, rows
+
+    @check("a site's trace: where it stops, what was recorded and what we answer")
+    def _():
+        page.press("#tab-trace")
+        page.js("window.workers = []; const made = Worker; Worker = function (...words) { const one = new made(...words); window.workers.push(one); one.addEventListener('error', () => (window.workerFailed = true)); return one; }")
+        page.press("#trace-sample")
+        page.until(lambda: page.js("return !document.getElementById('trace-result').hidden"), "the replay")
+        equal(page.js("return [window.workers.length, window.workerFailed ?? false]"), [1, False], "a worker")
+        assert "At record 3 the answers differ" in page.text("#trace-stop")
+        assert "14 Written" in page.text("#trace-recorded") and "13 Again" in page.text("#trace-ours")
+        page.press("#tab-transfer")
+        page.lesson("whole")
+        page.end()
+        answers = [int(row[4].split()[0]) for row in page.log()]
+        arrivals = page.saved()
+        trace = b"".join(bytes([answer << 3]) + arrivals[512 * k : 512 * k + 512] for k, answer in enumerate(answers))
+        page.drop("site.trace", trace)
+        page.until(lambda: "site.trace" in page.text("#trace-note"), "the replay of a trace that was dropped")
+        assert "stops nowhere" in page.text("#trace-stop"), page.text("#trace-stop")
+        page.press("#trace-show")
+        page.until(lambda: page.text("#position") == "Arrival 0 of 9", "its arrivals shown")
+
+    @check("a file that is none gets a sentence")
+    def _():
+        for tab, word in (("transfer", "is no UF2 file"), ("hex", "is no UF2 file"), ("trace", "is no")):
+            page.press(f"#tab-{tab}")
+            page.drop("holiday.jpg", bytes(range(1, 200)) * 20)
+            page.until(lambda: "holiday.jpg is no" in page.text("#notice"), f"a sentence under {tab}")
+        page.press("#tab-transfer")
+        page.drop("nothing.uf2", b"")
+        page.until(lambda: "nothing.uf2 is empty" in page.text("#notice"), "an empty file")
+
+
+def large(page):
+    @check("a file of 32 MiB, 65,536 blocks, does not freeze the page")
+    def _():
+        page.press("#tab-transfer")
+        page.lesson("lostPage")
+        page.js(
+            """window.longest = 0;
+            let last = performance.now();
+            const tick = () => { const now = performance.now(); window.longest = Math.max(window.longest, now - last); last = now; window.ticking = setTimeout(tick, 5); };
+            tick();
+            document.getElementById('setup').open = true;"""
+        )
+        total = 65536
+        with tempfile.NamedTemporaryFile(suffix=".uf2") as file:
+            file.write(b"".join(block(k, total) for k in range(total)))
+            file.flush()
+            page.get("#file").send_keys(file.name)
+            page.until(lambda: page.text("#position") == "Arrival 0 of 65,536", "the file is open", 60)
+        page.js("document.getElementById('setup').open = false")
+        page.press("[data-block='7']")
+        page.until(lambda: page.text("#position") == "Arrival 0 of 65,537", "block 7 twice", 60)
+        page.press("[data-block='7']")
+        page.until(lambda: page.text("#position") == "Arrival 0 of 65,535", "block 7 dropped", 60)
+        opening = page.js("return window.longest")
+        page.js(
+            """window.longest = 0;
+            window.told = new Set();
+            const position = document.getElementById('position');
+            new MutationObserver(() => window.told.add(position.textContent)).observe(position, { childList: true });
+            document.getElementById('to-end').click();"""
+        )
+        page.until(lambda: page.at_end(), "the end", 120)
+        playing = page.js("clearTimeout(window.ticking); return window.longest")
+        equal([page.verdict("proved"), page.verdict("wrong")], ["missing", "missing"])
+        assert "Page of block 7" in page.text("#proved .verdict")
+        equal(page.grid("proved"), {"stored": total - 1, "missing": 1})
+        print(f"longest pause: {opening:.0f} ms while it is opened, {playing:.0f} ms while it is played")
+        # the pauses depend on the machine; that it works in slices, and tells how far it is, does not
+        assert page.js("return [...window.told].filter((words) => words.startsWith('Working: ')).length") >= 3
+        page.press("#back")
+        page.until(lambda: page.text("#position") == "Arrival 65,534 of 65,535", "one back", 60)
+
+
+def shots(driver, page):
+    SHOTS.mkdir(parents=True, exist_ok=True)
+    for width, height, name in ((390, 844, "small"), (1366, 768, "middling"), (1920, 1080, "large")):
+
+        @check(f"nothing is cut off on a {name} screen")
+        def _():
+            driver.execute_cdp_cmd("Emulation.setDeviceMetricsOverride", {"width": width, "height": height, "deviceScaleFactor": 1, "mobile": False})
+            page.open()
+            page.lesson("lostPage")
+            page.end()
+            page.js("window.scrollTo(0, 0)")
+            if width > 1000:
+                # lamp, answer, seen map and grid of both receivers are seen at once
+                below = page.js(
+                    """return [...document.querySelectorAll('.receiver .lamp, .receiver .answer, .receiver .verdict, .receiver canvas')]
+                        .filter((n) => n.offsetParent !== null && n.closest('#view-transfer') && n.getBoundingClientRect().bottom > innerHeight).map((n) => n.className)"""
+                )
+                equal(below, [], "not seen without scrolling")
+            wide = page.js("return [document.documentElement.scrollWidth, window.innerWidth]")
+            assert wide[0] <= wide[1], (wide, page.js("return [...document.querySelectorAll('*')].filter((n) => n.getBoundingClientRect().right > innerWidth + 1 && !n.closest('.scroll')).map((n) => n.tagName + '.' + n.className + '#' + n.id)"))
+            driver.save_screenshot(str(SHOTS / f"{name}.png"))
+            for tab in ("hex", "trace"):
+                page.press(f"#tab-{tab}")
+                page.press("#hex-end" if tab == "hex" else "#trace-sample")
+                time.sleep(0.5)
+                driver.save_screenshot(str(SHOTS / f"{name}_{tab}.png"))
+                wide = page.js("return [document.documentElement.scrollWidth, window.innerWidth]")
+                assert wide[0] <= wide[1], (tab, wide)
+
+
+def main():
+    driver = browser(1280, 900)
+    try:
+        driver.set_script_timeout(60)
+        # the page is one file: without a network everything works
+        driver.execute_cdp_cmd("Network.enable", {})
+        driver.execute_cdp_cmd("Network.emulateNetworkConditions", {"offline": True, "latency": 0, "downloadThroughput": 0, "uploadThroughput": 0})
+        page = Page(driver)
+        lessons(page)
+        playing(page)
+        beside_the_tool(page)
+        hex_and_trace(page)
+        large(page)
+        shots(driver, page)
+
+        @check("the browser had nothing to complain of")
+        def _():
+            # the tests themselves read the canvas often
+            told = [entry["message"] for entry in driver.get_log("browser") if entry["level"] in ("SEVERE", "WARNING")]
+            equal([message for message in told if "willReadFrequently" not in message], [])
+    finally:
+        driver.quit()
+    sys.exit(1 if failed else 0)
+
+
+main()

@@ -1,0 +1,149 @@
+// One list of arrivals played into the proved receiver and, where one is chosen, into a wrong one beside it.
+import { ProvedReceiver } from './proved.js';
+import { FAMILY } from './board.js';
+import { N } from './numbers.js';
+import { EXTRAS } from './maker.js';
+import { readBlock } from './block.js';
+import { Run } from './run.js';
+import { WRONG } from './wrong/all.js';
+import { arrivalList } from './arrivals.js';
+import { expectedPages } from './pages.js';
+import { inSlices, nextFrame } from './slices.js';
+import { GOALS, shortestDifference } from './search.js';
+
+// What a wrong receiver does not get wrong itself: whether the settings are good, and MD5. Both are the library's.
+function helpersFor(library, proved, flashLength) {
+  const digest = library.lend(N.UF2_MD5_SIZE);
+  let message = null;
+  return {
+    goodSettings: ![N.UF2_ANSWER_BAD_BUFFERS, N.UF2_ANSWER_BAD_SETTINGS].includes(proved.place(FAMILY.data).answer),
+    md5: (bytes) => {
+      message = message ?? library.lend(flashLength);
+      message.bytes.set(bytes);
+      library.call('uf2_md5', message.first(bytes.length), digest);
+      return digest.bytes.slice();
+    },
+  };
+}
+
+// Foreign arrivals that a search may use though they are not mixed in.
+const USUAL = ['otherBoard', 'otherFile', 'wraps'];
+
+// The proved receiver and the chosen wrong one, each with an instance of the library.
+function receiversOf(libraries, board, chosen) {
+  const proved = new ProvedReceiver(libraries[0], board);
+  const wrong = chosen ? new chosen.make(board, helpersFor(libraries[1], proved, board.flash)) : null;
+  return { proved, wrong };
+}
+
+export class Session {
+  // `plan` has the pieces of a file and how they are sent (arrivals.js); `wrongId` names a wrong receiver or is null. `close()` gives the instances back.
+  static async open(pool, board, plan, wrongId) {
+    const session = new Session(pool, board, plan, WRONG.find((item) => item.id === wrongId) ?? null);
+    session.libraries = [await pool.take(), await pool.take()];
+    // a large file is prepared in steps, with a frame drawn between them
+    const pause = plan.pieces.length > 8192 ? nextFrame : () => {};
+    const { proved, wrong } = receiversOf(session.libraries, board, session.chosen);
+    await pause();
+    session.arrivals = arrivalList(plan);
+    await pause();
+    session.expected = expectedPages(plan.pieces, proved);
+    await pause();
+    session.proved = new Run(proved, session.arrivals);
+    await pause();
+    session.wrong = wrong ? new Run(wrong, session.arrivals) : null;
+    return session;
+  }
+
+  constructor(pool, board, plan, chosen) {
+    Object.assign(this, { pool, board, plan, chosen });
+    this.target = 0;
+    this.moving = false;
+    this.closed = false;
+  }
+
+  // The receivers are not used any more. A move that is under way ends first.
+  close() {
+    this.closed = true;
+    if (!this.moving) this.libraries.splice(0).forEach((library) => this.pool.give(library));
+  }
+
+  get position() {
+    return this.proved.position;
+  }
+
+  get runs() {
+    return this.wrong ? [this.proved, this.wrong] : [this.proved];
+  }
+
+  // Moves both receivers to a position, in slices. A later call changes where a move that is under way goes to.
+  async moveTo(target, between) {
+    this.target = Math.max(0, Math.min(this.arrivals.length, target));
+    if (this.moving || this.closed) return;
+    this.moving = true;
+    try {
+      await inSlices((stop) => this.closed || this.runs.every((run) => run.moveTo(this.target, stop)), between);
+    } finally {
+      this.moving = false;
+      if (this.closed) this.close();
+    }
+  }
+
+  // The index of the first arrival, below the position, that the two answer differently, or -1.
+  firstDifference() {
+    if (!this.wrong) return -1;
+    const [a, b] = this.runs;
+    for (let k = 0; k < this.position; k++) if (a.answers[k] !== b.answers[k] || a.discards[k] !== b.discards[k]) return k;
+    return -1;
+  }
+
+  // The different arrivals at hand, the alphabet of a search: the first blocks of the file, what is mixed in and, where `more` is said, the usual foreign ones.
+  alphabet(most, more) {
+    const found = [];
+    const known = new Set();
+    const { pieces, extras } = this.plan;
+    const all = [...pieces.slice(0, most).map((bytes, piece) => ({ piece, bytes })), ...extras.map((extra) => ({ extra, bytes: extra.bytes }))];
+    const block = readBlock(pieces[0]);
+    for (const kind of more && block ? USUAL : []) {
+      const bytes = EXTRAS[kind](pieces[0], block.total);
+      all.push({ extra: { kind, after: 0, bytes }, bytes });
+    }
+    for (const arrival of all) {
+      const key = arrival.bytes.join();
+      if (!known.has(key)) found.push(arrival);
+      known.add(key);
+    }
+    return found;
+  }
+
+  // The shortest list of arrivals in which the wrong receiver differs from the proved one as `goal` says, or null.
+  // The arrivals at hand are tried first, and then the usual foreign ones besides.
+  async search(goal, limits, between) {
+    for (const more of [false, true]) {
+      const alphabet = this.alphabet(limits.letters, more);
+      const found = await this.pool.use((one) => this.pool.use((two) => this.searchWith([one, two], alphabet, goal, limits, between)));
+      if (found || between({ tried: 0, depth: 1 }) === false) return found;
+    }
+    return null;
+  }
+
+  async searchWith(libraries, alphabet, goal, limits, between) {
+    const { proved, wrong } = receiversOf(libraries, this.board, this.chosen);
+    const steps = shortestDifference(proved, wrong, alphabet.map((arrival) => arrival.bytes), GOALS[goal], limits);
+    let found = null;
+    let progress = { tried: 0, depth: 1 };
+    const work = (stop) => {
+      for (;;) {
+        const { done, value } = steps.next();
+        if (done) {
+          found = value;
+          return true;
+        }
+        progress = value;
+        if (stop()) return false;
+      }
+    };
+    const whole = await inSlices(work, () => between(progress));
+    return whole && found ? found.map((k) => alphabet[k]) : null;
+  }
+}
