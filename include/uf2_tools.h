@@ -2,8 +2,8 @@
  * what crates/toolsapi/specs says, for every input.
  * What a board links is include/uf2_receiver.h.
  *
- * Built for: x86-64 Linux. `rt staticlib toolsapi` writes target/staticlib/libtoolsapi.a, which links beside the libraries of
- * uf2_receiver.h. It calls nothing but memcpy and memset, allocates nothing and keeps nothing between calls.
+ * Built for: x86-64 Linux. `rt staticlib toolsapi` writes target/staticlib/libtoolsapi.a, which links beside libcapi.a. It calls nothing but
+ * memcpy and memset, allocates nothing and keeps nothing between calls.
  *
  * A slice is a pointer to bytes and then their number, and no function keeps a pointer. A pointer is never null, also of an empty slice, and
  * points to as many bytes as the number says; it may have any alignment. A slice that a function writes (no `const`) overlaps no other

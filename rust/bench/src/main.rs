@@ -213,5 +213,6 @@ fn main() {
     tags::row();
     println!("\n| work, proved | the first | the second | ratio |\n|---|---|---|---|");
     file::table_rows();
+    file::accept_rows();
     region::beside_rows();
 }

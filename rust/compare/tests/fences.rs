@@ -230,7 +230,7 @@ fn beside(lent: proved::Buffers<'_>) -> (&[u8], proved::Beside<'_>) {
 /// The flash lies in pages that cannot be written.
 #[test]
 fn acceptances_keep_their_bounds_and_write_no_flash() {
-    let mut r = Random(37);
+    let mut r = Random(38);
     let (mut answers, mut planned) = ([0; 18], [0; 3]);
     for _ in 0..number() {
         let mut c = Call::any(&mut r, 1, false);
