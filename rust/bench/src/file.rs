@@ -1,9 +1,10 @@
 //! A file of blocks as it arrives: `uf2_take_all`, `uf2_take` and `uf2_look` beside plain Rust, and the proved side with a full table beside
-//! itself without one.
+//! itself without one, and `uf2_accept` with its plan performed beside `uf2_take`.
 
 use std::hint::black_box;
 
 use compare::{page, proved_settings, window, Buffers, Ram, Random};
+use proved::{Plan, PAGE_BYTES, PAYLOAD_AT, SECTOR_BYTES};
 use reference::{Entry, Kind, Settings};
 
 use crate::{asked, beside, once, pair, read, settings, sixteen, timed, Work, FLASH};
@@ -43,6 +44,8 @@ enum Way {
     Look,
     /// A look and then a take each; both read the settings at each of the two.
     LookAndTake,
+    /// Accepted, and the plan performed on the flash, which is memory; a take each by the plain side.
+    Accept,
 }
 
 impl Sent {
@@ -108,9 +111,27 @@ fn proved_side(way: Way, settings: &[u8], file: &[u8], results: &mut [u8], lent:
         }
         *r = match way {
             Way::Look => lent.look(black_box(settings), &t, a),
+            Way::Accept => accept_and_perform(black_box(settings), &mut t, a, lent),
             _ => lent.take(black_box(settings), &mut t, a),
         } as u8;
     }
+}
+
+/// An arrival accepted, and its plan performed on flash that is memory.
+fn accept_and_perform(settings: &[u8], t: &mut [u8], a: &[u8], lent: &mut Buffers) -> u32 {
+    let mut plan = [0; proved::PLAN_BYTES];
+    let result = lent.accept(settings, t, a, &mut plan);
+    let page = match Plan::from_bytes(&plan) {
+        Some(Plan::Program { page, .. }) => page,
+        Some(Plan::EraseProgram { sector, page }) => {
+            lent.flash[sector as usize..][..SECTOR_BYTES].fill(0xFF);
+            page
+        }
+        _ => return result,
+    };
+    let payload = &a[PAYLOAD_AT..][..PAGE_BYTES];
+    lent.flash[page as usize..][..PAGE_BYTES].copy_from_slice(payload);
+    result
 }
 
 /// The plain side does the same.
@@ -285,5 +306,25 @@ pub fn table_rows() {
                 (without.work(), || b.round().0),
             );
         }
+    }
+}
+
+/// The proved side alone: an arrival accepted and its plan performed beside a take, a round of each in turn.
+pub fn accept_rows() {
+    let none = settings(0, [Entry::EMPTY; 16]);
+    for (order, shuffled) in ORDERS {
+        let name = format!("an arrival {order}, accept and perform beside a take each");
+        if !asked(&name) {
+            continue;
+        }
+        let sent = flash(WHOLE, shuffled, What::Data);
+        let mut a = Ours::new(&none, sent, Way::Accept);
+        let mut b = Ours::new(&none, sent, Way::Take);
+        beside(
+            &name,
+            (sent.work(), || a.round().0),
+            (sent.work(), || b.round().0),
+        );
+        assert!(a.results == b.results && a.lent == b.lent, "{name}");
     }
 }

@@ -215,6 +215,7 @@ fn main() {
     store::rows(&sixteen());
     println!("\n| work, proved | the first | the second | ratio |\n|---|---|---|---|");
     file::table_rows();
+    file::accept_rows();
     region::beside_rows();
     trace::beside_rows();
 }

@@ -229,15 +229,30 @@ fn beside(lent: proved::Buffers<'_>) -> (&[u8], proved::Beside<'_>) {
     (lent.flash, beside)
 }
 
+/// A running transfer of flash that a block is one of, where it has another block.
+fn joined(a: &[u8]) -> Option<proved::Transfer> {
+    let field = |at: usize| Some(u32::from_le_bytes(*a.get(at..)?.first_chunk()?));
+    Some(proved::Transfer::Running {
+        family: field(28)?,
+        total: field(24).filter(|&total| total > 1)?,
+        count: 1,
+        kind: proved::Kind::Flash,
+    })
+}
+
 /// The flash lies in pages that cannot be written.
 #[test]
 fn acceptances_keep_their_bounds_and_write_no_flash() {
-    let mut r = Random(37);
+    let mut r = Random(38);
     let (mut answers, mut planned) = ([0; 18], [0; 3]);
     for _ in 0..number() {
         let mut c = Call::any(&mut r, 1, false);
         let flash = std::mem::take(&mut c.buffers[0].plain);
         c.buffers[0] = Twin::read(&mut r, flash);
+        // often a block of the running transfer, so that its sector may be marked
+        if let Some(running) = joined(&c.arrival.plain).filter(|_| r.one_in(2)) {
+            c.transfer = Twin::written(&mut r, running.bytes().to_vec());
+        }
         let plan = any_length(&mut r, vec![9; proved::PLAN_BYTES]);
         let mut plan = Twin::written(&mut r, plan);
         let (flash, mut others) = beside(fenced(&mut c.buffers));
