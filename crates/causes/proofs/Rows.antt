@@ -5,12 +5,7 @@ use mathlib.Core.List.{List, [], _∷_, _++_}
 use Rattle.causes.specs.declared.Reason.{Reason}
 use Rattle.causes.specs.declared.Row.{Row}
 use Rattle.causes.specs.declared.Row.the-variants.{Passes, Decides}
-use Rattle.causes.specs.Checks.{rowOf, orLast, Deciding, none, here, later}
-
--- the row before, or what comes next
-abbrev pub orNext : Row → Row → Row
-orNext Passes r = r
-orNext (Decides x) r = Decides x
+use Rattle.causes.specs.Checks.{rowOf, orNext, orLast, Deciding, none, here, later}
 
 module _ (test : Reason → Bool) where
   pub rows-next : (l m : List Reason) → rowOf test (l ++ m) ≡ orNext (rowOf test l) (rowOf test m)

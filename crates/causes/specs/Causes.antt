@@ -5,10 +5,8 @@ use mathlib.Core.Bool.{Bool, false, not, _&&_}
 use lib.Dec.{ltb, leb, eqb}
 use Rattle.transfer.specs.declared.Answer.{Answer}
 use Rattle.transfer.specs.declared.Answer.the-variants as answer
-use Rattle.faults.specs.declared.Fault.{Fault}
-use Rattle.faults.specs.declared.Fault.the-variants as fault
-use Rattle.placing.specs.declared.Shut.{Shut}
-use Rattle.placing.specs.declared.Shut.the-variants.{AbsoluteOff, Rp2040, ArmOff, RiscvOff, NotWithoutTable, NoEntry, NotForRam}
+use Rattle.faults.specs.Faults.{faultNumber}
+use Rattle.placing.specs.Placing.{shutNumber}
 use Rattle.causes.specs.declared.Length.{Length}
 use Rattle.causes.specs.declared.Length.the-variants.{Arrival, FlashRagged, FlashUnder, FlashOver, Seen, Sectors, Main, Xip}
 use Rattle.causes.specs.declared.Bound.{Bound}
@@ -61,17 +59,6 @@ lengthNumber Sectors = 106
 lengthNumber Main = 107
 lengthNumber Xip = 108
 
-abbrev pub faultNumber : Fault → ℕ
-faultNumber fault.ArchOff = 201
-faultNumber fault.CountOver = 202
-faultNumber (fault.NoSectors k) = 203
-faultNumber (fault.PastFlash k) = 204
-faultNumber (fault.Shares k j) = 205
-faultNumber (fault.LinksUp k) = 206
-faultNumber (fault.LinksToB k) = 207
-faultNumber (fault.ManyUsers k) = 208
-faultNumber (fault.ReservedUser k) = 209
-
 abbrev pub boundNumber : Bound → ℕ
 boundNumber CountUnder = 301
 boundNumber CountOver = 302
@@ -83,15 +70,6 @@ abbrev pub magicNumber : Magic → ℕ
 magicNumber First = 401
 magicNumber Second = 402
 magicNumber Last = 403
-
-abbrev pub shutNumber : Shut → ℕ
-shutNumber AbsoluteOff = 801
-shutNumber Rp2040 = 802
-shutNumber ArmOff = 803
-shutNumber RiscvOff = 804
-shutNumber NotWithoutTable = 805
-shutNumber NoEntry = 806
-shutNumber NotForRam = 807
 
 abbrev pub numbersNumber : Numbers → ℕ
 numbersNumber TotalZero = 1001

@@ -28,6 +28,11 @@ unfoldable pub rowOf : (Reason → Bool) → List Reason → Row
 rowOf test [] = Passes
 rowOf test (c ∷ l) = cond (test c) (Decides c) (rowOf test l)
 
+-- the row before, or what comes next
+abbrev pub orNext : Row → Row → Row
+orNext Passes r = r
+orNext (Decides x) r = Decides x
+
 -- the reason of a row, and `last` where every check passes
 abbrev pub orLast : Reason → Row → Reason
 orLast last Passes = last

@@ -1,7 +1,7 @@
 // Why an arrival is answered as it is: the condition that decided, with the number tested and what it is tested against. Here are the conditions,
 // and the rows that are tests of two numbers each: 1, 3 to 7 and 9 to 11.
 ghost use mathlib.Core.Path.{_≡_};
-ghost use Rattle.causes.specs.Causes.{answerOf, causeNumber, lengthNumber, faultNumber, boundNumber, magicNumber, shutNumber, numbersNumber, addressNumber, notKeptNumber, reasonWith};
+ghost use Rattle.causes.specs.Causes.{answerOf, causeNumber, lengthNumber, boundNumber, magicNumber, numbersNumber, addressNumber, notKeptNumber, reasonWith};
 ghost use Rattle.causes.specs.Checks.{byNumbers, rowOf, flashRow, bufferRow, lengthsRow, runningRow, doneRow, stateRow, magicRow, flagsRow, headerRow, payloadRow, numbersRow, addressRow, windowRow};
 use block::Block;
 use faults::Fault;
@@ -102,7 +102,7 @@ pub enum Row {
     Decides(Reason),
 }
 
-fn length_number(x: Length) -> u32
+fn length_number(x: Length) -> u16
     ensures { λ r. ⌜ r ≡ lengthNumber x ⌝ }
 {
     match x {
@@ -117,23 +117,7 @@ fn length_number(x: Length) -> u32
     }
 }
 
-fn fault_number(x: Fault) -> u32
-    ensures { λ r. ⌜ r ≡ faultNumber x ⌝ }
-{
-    match x {
-        Fault::ArchOff => 201,
-        Fault::CountOver => 202,
-        Fault::NoSectors(_) => 203,
-        Fault::PastFlash(_) => 204,
-        Fault::Shares(_, _) => 205,
-        Fault::LinksUp(_) => 206,
-        Fault::LinksToB(_) => 207,
-        Fault::ManyUsers(_) => 208,
-        Fault::ReservedUser(_) => 209,
-    }
-}
-
-fn bound_number(x: Bound) -> u32
+fn bound_number(x: Bound) -> u16
     ensures { λ r. ⌜ r ≡ boundNumber x ⌝ }
 {
     match x {
@@ -145,7 +129,7 @@ fn bound_number(x: Bound) -> u32
     }
 }
 
-fn magic_number(x: Magic) -> u32
+fn magic_number(x: Magic) -> u16
     ensures { λ r. ⌜ r ≡ magicNumber x ⌝ }
 {
     match x {
@@ -155,21 +139,7 @@ fn magic_number(x: Magic) -> u32
     }
 }
 
-fn shut_number(x: Shut) -> u32
-    ensures { λ r. ⌜ r ≡ shutNumber x ⌝ }
-{
-    match x {
-        Shut::AbsoluteOff => 801,
-        Shut::Rp2040 => 802,
-        Shut::ArmOff => 803,
-        Shut::RiscvOff => 804,
-        Shut::NotWithoutTable => 805,
-        Shut::NoEntry => 806,
-        Shut::NotForRam => 807,
-    }
-}
-
-fn numbers_number(x: Numbers) -> u32
+fn numbers_number(x: Numbers) -> u16
     ensures { λ r. ⌜ r ≡ numbersNumber x ⌝ }
 {
     match x {
@@ -179,7 +149,7 @@ fn numbers_number(x: Numbers) -> u32
     }
 }
 
-fn address_number(x: Address) -> u32
+fn address_number(x: Address) -> u16
     ensures { λ r. ⌜ r ≡ addressNumber x ⌝ }
 {
     match x {
@@ -190,7 +160,7 @@ fn address_number(x: Address) -> u32
     }
 }
 
-fn not_kept_number(x: NotKept) -> u32
+fn not_kept_number(x: NotKept) -> u16
     ensures { λ r. ⌜ r ≡ notKeptNumber x ⌝ }
 {
     match x {
@@ -230,17 +200,17 @@ impl Cause {
     }
 
     // The row times 100, and the condition in it.
-    pub fn number(self) -> u32
+    pub fn number(self) -> u16
         ensures { λ r. ⌜ r ≡ causeNumber self ⌝ }
     {
         match self {
             Cause::BadBuffers(x) => length_number(x),
-            Cause::BadSettings(x) => fault_number(x),
+            Cause::BadSettings(x) => x.number(),
             Cause::BadState(x) => bound_number(x),
             Cause::NotBlock(x) => magic_number(x),
             Cause::Container => 501,
             Cause::NoFamily => 701,
-            Cause::NoPlace(x) => shut_number(x),
+            Cause::NoPlace(x) => x.number(),
             Cause::BadPayload => 901,
             Cause::BadNumbers(x) => numbers_number(x),
             Cause::BadAddress(x) => address_number(x),

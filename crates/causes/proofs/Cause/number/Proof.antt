@@ -12,8 +12,8 @@ length-number-requires c κs = search needs
 enum-known-self-2 : tie.Need-enum-known-self-2
 enum-known-self-2 c = search needs
 
-fault-number-requires : tie.Need-fault-number-requires
-fault-number-requires c κs = search needs
+number-requires : tie.Need-number-requires
+number-requires c κs = search needs
 
 enum-known-self-3 : tie.Need-enum-known-self-3
 enum-known-self-3 c = search needs
@@ -36,8 +36,8 @@ enum-told-2 c = search needs
 enum-known-self-5 : tie.Need-enum-known-self-5
 enum-known-self-5 c = search needs
 
-shut-number-requires : tie.Need-shut-number-requires
-shut-number-requires c κs = search needs
+number-requires-2 : tie.Need-number-requires-2
+number-requires-2 c κs = search needs
 
 enum-told-3 : tie.Need-enum-told-3
 enum-told-3 c = search needs
@@ -79,7 +79,7 @@ returns : tie.Need-returns
 returns c = rw (c .before .before .self .given .1) (c .length-number .ensures)
 
 returns-2 : tie.Need-returns-2
-returns-2 c = rw (c .before .before .self2 .given .1) (c .fault-number .ensures)
+returns-2 c = rw (c .before .before .self2 .given .1) (c .number .ensures)
 
 returns-3 : tie.Need-returns-3
 returns-3 c = rw (c .before .before .self3 .given .1) (c .bound-number .ensures)
@@ -94,7 +94,7 @@ returns-6 : tie.Need-returns-6
 returns-6 c = search needs
 
 returns-7 : tie.Need-returns-7
-returns-7 c = rw (c .before .before .self5 .given .1) (c .shut-number .ensures)
+returns-7 c = rw (c .before .before .self5 .given .1) (c .number2 .ensures)
 
 returns-8 : tie.Need-returns-8
 returns-8 c = search needs
@@ -130,7 +130,7 @@ number-spec =
     enum-known-self
     length-number-requires
     enum-known-self-2
-    fault-number-requires
+    number-requires
     enum-known-self-3
     bound-number-requires
     enum-known-self-4
@@ -138,7 +138,7 @@ number-spec =
     enum-told
     enum-told-2
     enum-known-self-5
-    shut-number-requires
+    number-requires-2
     enum-told-3
     enum-known-self-6
     numbers-number-requires
