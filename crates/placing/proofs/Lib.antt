@@ -1,0 +1,2 @@
+-- The laws of `specs/`, for the crates above.
+pub mod Laws
