@@ -3,7 +3,7 @@ ghost use mathlib.Core.Path.{_≡_};
 ghost use Rattle.sets.specs.Numbered.{numbered};
 ghost use mathlib.Core.Bool.{true};
 ghost use Rattle.sets.specs.Sets.{any};
-ghost use Rattle.place.specs.Place.{otherArch, imageOf, isBootable, forOther, usedCount};
+ghost use Rattle.place.specs.Place.{otherArch, imageOf, isMarked, isBootable, forOther, usedCount};
 ghost use Rattle.placing.specs.Placing.{
   shutNumber,
   takesAt,
@@ -190,15 +190,21 @@ fn image(a: Arch) -> u32
     }
 }
 
-// Unowned, and not marked not-bootable for the architecture?
+// Marked not bootable for the architecture?
+fn marked(e: Entry, a: Arch) -> bool
+    ensures { λ r. ⌜ r ≡ isMarked e a ⌝ }
+{
+    match a {
+        Arch::Arm => e.not_bootable_arm,
+        Arch::RiscV => e.not_bootable_riscv,
+    }
+}
+
+// Unowned, and not marked?
 fn bootable(e: Entry, a: Arch) -> bool
     ensures { λ r. ⌜ r ≡ isBootable e a ⌝ }
 {
-    let marked = match a {
-        Arch::Arm => e.not_bootable_arm,
-        Arch::RiscV => e.not_bootable_riscv,
-    };
-    settings::unowned(e) & !marked
+    settings::unowned(e) & !marked(e, a)
 }
 
 // Is the family the other architecture's image, which switching would start?
