@@ -706,6 +706,8 @@ fn a_page_for_ram() {
         assert_eq!(case.why(), plain(1003, u64::from(most) + 1, most.into()));
         case.numbers(most - 1, most);
         assert_eq!(case.why(), plain(1104, end + 1, end));
+        case.address(window + room as u32 - 256);
+        assert_eq!(case.why(), plain(1201, u64::from(most) - 1, most.into()));
         // By byte address: no multiple of 256 is asked for.
         case.address(window + room as u32 - 257);
         assert_eq!(case.why(), plain(1201, u64::from(most) - 1, most.into()));
