@@ -11,6 +11,7 @@ mod place;
 mod ram;
 mod replay;
 mod storing;
+mod why;
 
 use crate::*;
 
