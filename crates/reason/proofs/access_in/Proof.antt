@@ -1,57 +1,46 @@
+-- `reason::access_in` meets its contract. Assumes nothing.
+use Rattle.sets.proofs.Numbered.{answer-is}
 use borrow.Author.Needs.{needs}
 use Rattle.reason.proofs.access_in.Statement.{statement}
 use Rattle.reason.proofs.access_in.Tie as tie
-use Rattle.reason.proofs.access_in.Reads as reads
-use Rattle.reason.proofs.access_in.Lts as lts
-use Rattle.reason.proofs.stub_flash.Reads as stub-flash-reads
-use Rattle.reason.proofs.stub_ram.Reads as stub-ram-reads
 
--- src/lib.rt:169:24
 enum-told : tie.Need-enum-told
 enum-told c = search needs
 
--- src/lib.rt:169:24
-stub-flash-requires : tie.Need-stub-flash-requires
-stub-flash-requires c κs = search needs
+flash-access-requires : tie.Need-flash-access-requires
+flash-access-requires c κs = search needs
 
--- src/lib.rt:170:26
 enum-told-2 : tie.Need-enum-told-2
 enum-told-2 c = search needs
 
--- src/lib.rt:170:26
-stub-ram-requires : tie.Need-stub-ram-requires
-stub-ram-requires c κs = search needs
+ram-access-requires : tie.Need-ram-access-requires
+ram-access-requires c κs = search needs
 
--- src/lib.rt:171:25
 enum-told-3 : tie.Need-enum-told-3
 enum-told-3 c = search needs
 
--- src/lib.rt:171:25
-stub-ram-requires-2 : tie.Need-stub-ram-requires-2
-stub-ram-requires-2 c κs = search needs
+ram-access-requires-2 : tie.Need-ram-access-requires-2
+ram-access-requires-2 c κs = search needs
 
--- src/lib.rt:165:1
 returns : tie.Need-returns
-returns c = ?
+returns c = rw (c .before .enum-told .given .1) (answer-is (c .flash-access .ensures))
 
--- src/lib.rt:165:1
 returns-2 : tie.Need-returns-2
-returns-2 c = ?
+returns-2 c = rw (c .before .enum-told2 .given .1) (answer-is (c .ram-access .ensures))
 
--- src/lib.rt:165:1
 returns-3 : tie.Need-returns-3
-returns-3 c = ?
+returns-3 c = rw (c .before .enum-told3 .given .1) (answer-is (c .ram-access2 .ensures))
 
 pub access-in-spec : {M : Type 1} → statement M
 access-in-spec =
     tie.close
     (tie.spec
     enum-told
-    stub-flash-requires
+    flash-access-requires
     enum-told-2
-    stub-ram-requires
+    ram-access-requires
     enum-told-3
-    stub-ram-requires-2
+    ram-access-requires-2
     returns
     returns-2
     returns-3)

@@ -1,33 +1,26 @@
+-- `reason::early_row` meets its contract. Assumes nothing.
+use Rattle.reason.proofs.Laws.{early-board, early-header}
 use borrow.Author.Needs.{needs}
 use Rattle.reason.proofs.early_row.Statement.{statement}
 use Rattle.reason.proofs.early_row.Tie as tie
-use Rattle.reason.proofs.early_row.Reads as reads
-use Rattle.reason.proofs.early_row.Lts as lts
-use Rattle.causes.proofs.header_row.Reads as header-row-reads
-use Rattle.reason.proofs.board_row.Reads as board-row-reads
 
--- src/lib.rt:146:9
 board-row-requires : tie.Need-board-row-requires
 board-row-requires c κs = search needs
 
--- src/lib.rt:147:25
 enum-known-board : tie.Need-enum-known-board
 enum-known-board c = search needs
 
--- src/lib.rt:148:9
 returns : tie.Need-returns
-returns c = ?
+returns c = early-board _ _ _ _ _ _ (c .before .before .before .board-row .ensures) (c .before .board .given .1)
 
 enum-told : tie.Need-enum-told
 enum-told c = search needs
 
--- src/lib.rt:150:5
 header-row-requires : tie.Need-header-row-requires
 header-row-requires c κs = search needs
 
--- src/lib.rt:136:1
 returns-2 : tie.Need-returns-2
-returns-2 c = ?
+returns-2 c = early-header _ _ _ _ _ _ (c .before .before .before .board-row .ensures) (c .before .enum-told .given .1) (c .header-row .ensures)
 
 pub early-row-spec : {M : Type 1} → statement M
 early-row-spec =

@@ -1,42 +1,31 @@
+-- `reason::explain` meets its contract. Assumes nothing.
+use denote.Ref.{now}
+use Rattle.reason.specs.Why.{worldWith}
+use Rattle.reason.proofs.Laws.{explained}
 use borrow.Author.Needs.{needs}
 use Rattle.reason.proofs.explain.Statement.{statement}
 use Rattle.reason.proofs.explain.Tie as tie
-use Rattle.reason.proofs.explain.Reads as reads
-use Rattle.reason.proofs.explain.Lts as lts
-use Rattle.block.proofs.fields.Reads as fields-reads
-use Rattle.reason.proofs.discards.Reads as discards-reads
-use Rattle.reason.proofs.entries_of.Reads as entries-of-reads
-use Rattle.reason.proofs.kind_of.Reads as kind-of-reads
-use Rattle.reason.proofs.reason_of.Reads as reason-of-reads
-use Rattle.transfer.proofs.Head.new.Reads as new-reads
 
--- src/lib.rt:595:9
 reason-of-requires : tie.Need-reason-of-requires
 reason-of-requires c κs = search needs
 
--- src/lib.rt:602:9
 fields-requires : tie.Need-fields-requires
 fields-requires c κs = search needs
 
--- src/lib.rt:603:9
 kind-of-requires : tie.Need-kind-of-requires
 kind-of-requires c κs = search needs
 
--- src/lib.rt:604:9
 new-requires : tie.Need-new-requires
 new-requires c κs = search needs
 
--- src/lib.rt:605:9
 discards-requires : tie.Need-discards-requires
 discards-requires c κs = search needs
 
--- src/lib.rt:606:9
 entries-of-requires : tie.Need-entries-of-requires
 entries-of-requires c κs = search needs
 
--- src/lib.rt:583:1
 returns : tie.Need-returns
-returns c = ?
+returns c = explained (c .before .before .before .before .before .before .before .before .before .before .before .before .args .settings) (worldWith (c .before .before .before .before .before .before .before .before .before .before .before .before .args .transfer) (now (c .before .before .before .before .before .before .before .before .before .before .before .before .args .flash)) (now (c .before .before .before .before .before .before .before .before .before .before .before .before .args .seen)) (now (c .before .before .before .before .before .before .before .before .before .before .before .before .args .sectors)) (now (c .before .before .before .before .before .before .before .before .before .before .before .before .args .main)) (now (c .before .before .before .before .before .before .before .before .before .before .before .before .args .xip))) (now (c .before .before .before .before .before .before .before .before .before .before .before .before .args .arrival)) (c .before .before .before .before .before .reason-of .ensures) (c .before .before .before .before .fields .ensures) (c .before .before .before .kind-of .ensures) (c .before .before .new .ensures) (c .before .discards .ensures) (c .entries-of .ensures)
 
 pub explain-spec : {M : Type 1} → statement M
 explain-spec =

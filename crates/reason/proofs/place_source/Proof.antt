@@ -1,58 +1,48 @@
+-- `reason::place_source` meets its contract. Assumes nothing.
+use mathlib.Core.Path.{sym, ap, _∙_}
+use Rattle.reason.specs.declared.Placed.the-variants.{Refused}
+use Rattle.reason.specs.Placed.{placedSpot}
+use Rattle.sets.proofs.Numbered.{answer-is}
+use Rattle.reason.proofs.Laws.{placed-row, placed-spot}
 use borrow.Author.Needs.{needs}
 use Rattle.reason.proofs.place_source.Statement.{statement}
 use Rattle.reason.proofs.place_source.Tie as tie
-use Rattle.reason.proofs.place_source.Reads as reads
-use Rattle.reason.proofs.place_source.Lts as lts
-use Rattle.causes.proofs.Reason.new.Reads as new-reads
-use Rattle.reason.proofs.place_row.Reads as place-row-reads
-use Rattle.reason.proofs.stub_locate.Reads as stub-locate-reads
 
--- src/lib.rt:631:9
 place-row-requires : tie.Need-place-row-requires
 place-row-requires c κs = search needs
 
--- src/lib.rt:632:25
 enum-known-row : tie.Need-enum-known-row
 enum-known-row c = search needs
 
--- src/lib.rt:633:9
 returns : tie.Need-returns
-returns c = ?
+returns c = placed-row _ _ _ (c .before .before .before .place-row .ensures) (c .before .row .given .1)
 
 enum-told : tie.Need-enum-told
 enum-told c = search needs
 
--- src/lib.rt:635:11
-stub-locate-requires : tie.Need-stub-locate-requires
-stub-locate-requires c κs = search needs
+locate-requires : tie.Need-locate-requires
+locate-requires c κs = search needs
 
--- src/lib.rt:636:23
 enum-known-y : tie.Need-enum-known-y
 enum-known-y c = search needs
 
--- src/lib.rt:636:45
 new-requires : tie.Need-new-requires
 new-requires c κs = search needs
 
--- src/lib.rt:637:21
 enum-known-rule : tie.Need-enum-known-rule
 enum-known-rule c = search needs
 
--- src/lib.rt:638:23
 enum-known-pass : tie.Need-enum-known-pass
 enum-known-pass c = search needs
 
--- src/lib.rt:628:1
 returns-2 : tie.Need-returns-2
-returns-2 c = ?
+returns-2 c = ap Refused (c .new .ensures) ∙ (ap (placedSpot (c .before .before .before .before .before .before .before .before .args .family)) (sym (c .before .before .y .given .1)) ∙ (placed-spot (c .before .before .before .before .before .before .before .before .args .settings) _ (c .before .before .before .before .before .before .before .before .args .family) (c .before .before .before .before .before .before .before .place-row .ensures) (c .before .before .before .before .before .enum-told .given .1) (answer-is (c .before .before .before .before .locate .ensures))))
 
--- src/lib.rt:628:1
 returns-3 : tie.Need-returns-3
-returns-3 c = ?
+returns-3 c = ap (placedSpot (c .before .before .before .before .before .before .before .args .family)) (sym (c .before .rule .given .1)) ∙ (placed-spot (c .before .before .before .before .before .before .before .args .settings) _ (c .before .before .before .before .before .before .before .args .family) (c .before .before .before .before .before .before .place-row .ensures) (c .before .before .before .before .enum-told .given .1) (answer-is (c .before .before .before .locate .ensures)))
 
--- src/lib.rt:628:1
 returns-4 : tie.Need-returns-4
-returns-4 c = ?
+returns-4 c = ap (placedSpot (c .before .before .before .before .before .before .before .args .family)) (sym (c .before .pass .given .1)) ∙ (placed-spot (c .before .before .before .before .before .before .before .args .settings) _ (c .before .before .before .before .before .before .before .args .family) (c .before .before .before .before .before .before .place-row .ensures) (c .before .before .before .before .enum-told .given .1) (answer-is (c .before .before .before .locate .ensures)))
 
 pub place-source-spec : {M : Type 1} → statement M
 place-source-spec =
@@ -62,7 +52,7 @@ place-source-spec =
     enum-known-row
     returns
     enum-told
-    stub-locate-requires
+    locate-requires
     enum-known-y
     new-requires
     enum-known-rule

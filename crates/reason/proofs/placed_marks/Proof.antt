@@ -1,46 +1,34 @@
+-- `reason::placed_marks` meets its contract. Assumes nothing.
 use borrow.Author.Needs.{needs}
 use Rattle.reason.proofs.placed_marks.Statement.{statement}
 use Rattle.reason.proofs.placed_marks.Tie as tie
-use Rattle.reason.proofs.placed_marks.Reads as reads
-use Rattle.reason.proofs.placed_marks.Lts as lts
-use Rattle.reason.proofs.entries_of.Reads as entries-of-reads
-use Rattle.reason.proofs.no_marks.Reads as no-marks-reads
 
--- src/lib.rt:646:25
 enum-known-placed : tie.Need-enum-known-placed
 enum-known-placed c = search needs
 
--- src/lib.rt:648:13
 entries-of-requires : tie.Need-entries-of-requires
 entries-of-requires c κs = search needs
 
--- src/lib.rt:650:29
 enum-told : tie.Need-enum-told
 enum-told c = search needs
 
--- src/lib.rt:650:29
 no-marks-requires : tie.Need-no-marks-requires
 no-marks-requires c κs = search needs
 
--- src/lib.rt:651:48
 enum-told-2 : tie.Need-enum-told-2
 enum-told-2 c = search needs
 
--- src/lib.rt:651:48
 no-marks-requires-2 : tie.Need-no-marks-requires-2
 no-marks-requires-2 c κs = search needs
 
--- src/lib.rt:642:1
 returns : tie.Need-returns
-returns c = ?
+returns c = rw (c .before .before .placed .given .1) (c .entries-of .ensures)
 
--- src/lib.rt:642:1
 returns-2 : tie.Need-returns-2
-returns-2 c = search needs
+returns-2 c = rw (c .before .enum-told .given .1) (c .no-marks .ensures)
 
--- src/lib.rt:642:1
 returns-3 : tie.Need-returns-3
-returns-3 c = search needs
+returns-3 c = rw (c .before .enum-told2 .given .1) (c .no-marks2 .ensures)
 
 pub placed-marks-spec : {M : Type 1} → statement M
 placed-marks-spec =

@@ -1,69 +1,53 @@
+-- `reason::reason_of` meets its contract. Assumes nothing.
+use Rattle.sets.proofs.Numbered.{answer-is}
+use denote.Ref.{now}
+use Rattle.reason.specs.Why.{worldWith}
+use Rattle.reason.proofs.Laws.{reason-early, reason-block, reason-late}
 use borrow.Author.Needs.{needs}
 use Rattle.reason.proofs.reason_of.Statement.{statement}
 use Rattle.reason.proofs.reason_of.Tie as tie
-use Rattle.reason.proofs.reason_of.Reads as reads
-use Rattle.reason.proofs.reason_of.Lts as lts
-use Rattle.block.proofs.fields.Reads as fields-reads
-use Rattle.place.proofs.find.Reads as find-reads
-use Rattle.reason.proofs.block_row.Reads as block-row-reads
-use Rattle.reason.proofs.early_row.Reads as early-row-reads
-use Rattle.reason.proofs.kind_of.Reads as kind-of-reads
-use Rattle.reason.proofs.late.Reads as late-reads
-use Rattle.transfer.proofs.Head.new.Reads as new-reads
 
--- src/lib.rt:499:9
 early-row-requires : tie.Need-early-row-requires
 early-row-requires c κs = search needs
 
--- src/lib.rt:500:25
 enum-known-early : tie.Need-enum-known-early
 enum-known-early c = search needs
 
--- src/lib.rt:501:9
 returns : tie.Need-returns
-returns c = ?
+returns c = reason-early (c .before .before .before .before .before .before .before .before .before .before .args .settings) (worldWith (c .before .before .before .before .before .before .before .before .before .before .args .transfer) (now (c .before .before .before .before .before .before .before .before .before .before .args .flash)) (now (c .before .before .before .before .before .before .before .before .before .before .args .seen)) (now (c .before .before .before .before .before .before .before .before .before .before .args .sectors)) (now (c .before .before .before .before .before .before .before .before .before .before .args .main)) (now (c .before .before .before .before .before .before .before .before .before .before .args .xip))) (now (c .before .before .before .before .before .before .before .before .before .before .args .arrival)) (c .before .before .before .early-row .ensures) (c .before .early .given .1)
 
 enum-told : tie.Need-enum-told
 enum-told c = search needs
 
--- src/lib.rt:503:9
 fields-requires : tie.Need-fields-requires
 fields-requires c κs = search needs
 
--- src/lib.rt:504:9
 kind-of-requires : tie.Need-kind-of-requires
 kind-of-requires c κs = search needs
 
--- src/lib.rt:505:9
 find-requires : tie.Need-find-requires
 find-requires c κs = search needs
 
--- src/lib.rt:506:9
 block-row-requires : tie.Need-block-row-requires
 block-row-requires c κs = search needs
 
--- src/lib.rt:507:25
 enum-known-row : tie.Need-enum-known-row
 enum-known-row c = search needs
 
--- src/lib.rt:508:9
 returns-2 : tie.Need-returns-2
-returns-2 c = ?
+returns-2 c = reason-block (c .before .before .before .before .before .before .before .before .before .before .before .before .before .before .before .before .args .settings) (worldWith (c .before .before .before .before .before .before .before .before .before .before .before .before .before .before .before .before .args .transfer) (now (c .before .before .before .before .before .before .before .before .before .before .before .before .before .before .before .before .args .flash)) (now (c .before .before .before .before .before .before .before .before .before .before .before .before .before .before .before .before .args .seen)) (now (c .before .before .before .before .before .before .before .before .before .before .before .before .before .before .before .before .args .sectors)) (now (c .before .before .before .before .before .before .before .before .before .before .before .before .before .before .before .before .args .main)) (now (c .before .before .before .before .before .before .before .before .before .before .before .before .before .before .before .before .args .xip))) (now (c .before .before .before .before .before .before .before .before .before .before .before .before .before .before .before .before .args .arrival)) (c .before .before .before .before .before .before .before .before .before .early-row .ensures) (c .before .before .before .before .before .before .before .enum-told .given .1) (c .before .before .before .before .before .before .fields .ensures) (c .before .before .before .before .before .kind-of .ensures) (answer-is (c .before .before .before .before .find .ensures .0)) (c .before .before .before .block-row .ensures) (c .before .row .given .1)
 
 enum-told-2 : tie.Need-enum-told-2
 enum-told-2 c = search needs
 
--- src/lib.rt:510:9
 new-requires : tie.Need-new-requires
 new-requires c κs = search needs
 
--- src/lib.rt:511:5
 late-requires : tie.Need-late-requires
 late-requires c κs = search needs
 
--- src/lib.rt:482:1
 returns-3 : tie.Need-returns-3
-returns-3 c = ?
+returns-3 c = reason-late (c .before .before .before .before .before .before .before .before .before .before .before .before .before .before .before .before .before .args .settings) (worldWith (c .before .before .before .before .before .before .before .before .before .before .before .before .before .before .before .before .before .args .transfer) (now (c .before .before .before .before .before .before .before .before .before .before .before .before .before .before .before .before .before .args .flash)) (now (c .before .before .before .before .before .before .before .before .before .before .before .before .before .before .before .before .before .args .seen)) (now (c .before .before .before .before .before .before .before .before .before .before .before .before .before .before .before .before .before .args .sectors)) (now (c .before .before .before .before .before .before .before .before .before .before .before .before .before .before .before .before .before .args .main)) (now (c .before .before .before .before .before .before .before .before .before .before .before .before .before .before .before .before .before .args .xip))) (now (c .before .before .before .before .before .before .before .before .before .before .before .before .before .before .before .before .before .args .arrival)) (c .before .before .before .before .before .before .before .before .before .before .early-row .ensures) (c .before .before .before .before .before .before .before .before .enum-told .given .1) (c .before .before .before .before .before .before .before .fields .ensures) (c .before .before .before .before .before .before .kind-of .ensures) (answer-is (c .before .before .before .before .before .find .ensures .0)) (c .before .before .before .before .block-row .ensures) (c .before .before .enum-told2 .given .1) (c .before .new .ensures) (c .late .ensures)
 
 pub reason-of-spec : {M : Type 1} → statement M
 reason-of-spec =
