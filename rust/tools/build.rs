@@ -1,4 +1,4 @@
-//! Links target/staticlib/libtoolsapi.a, which `rt staticlib toolsapi` writes.
+//! Links target/staticlib/libtoolsapi.a and libwhyapi.a, which `rt staticlib toolsapi` and `rt staticlib whyapi` write.
 
 use std::path::Path;
 
@@ -6,9 +6,11 @@ fn main() {
     let here = std::env::var("CARGO_MANIFEST_DIR").expect("cargo sets it");
     let folder = Path::new(&here).join("../../target/staticlib");
     println!("cargo:rustc-link-search=native={}", folder.display());
-    println!("cargo:rustc-link-lib=static=toolsapi");
-    println!(
-        "cargo:rerun-if-changed={}",
-        folder.join("libtoolsapi.a").display()
-    );
+    for name in ["toolsapi", "whyapi"] {
+        println!("cargo:rustc-link-lib=static={name}");
+        println!(
+            "cargo:rerun-if-changed={}",
+            folder.join(format!("lib{name}.a")).display()
+        );
+    }
 }
