@@ -1,4 +1,4 @@
-//! Links the static libraries that `rt staticlib toolsapi` and `rt staticlib traceapi` write to target/staticlib.
+//! Links the static libraries that `rt staticlib NAME` writes to target/staticlib, one for each name below.
 
 use std::path::Path;
 
@@ -6,7 +6,7 @@ fn main() {
     let here = std::env::var("CARGO_MANIFEST_DIR").expect("cargo sets it");
     let folder = Path::new(&here).join("../../target/staticlib");
     println!("cargo:rustc-link-search=native={}", folder.display());
-    for name in ["toolsapi", "traceapi"] {
+    for name in ["toolsapi", "traceapi", "whyapi"] {
         println!("cargo:rustc-link-lib=static={name}");
         println!(
             "cargo:rerun-if-changed={}",

@@ -99,8 +99,8 @@ pub fn put(bytes: &mut [u8], at: usize, x: u32)
     bytes[at + 3] = (x / 16777216 % 256) as u8;
 }
 
-// The fields of a block.
-fn fields(arrival: &[u8]) -> Block
+// The fields of a block, whatever its header says.
+pub fn fields(arrival: &[u8]) -> Block
     ensures { λ r. ⌜ r ≡ fieldsOf (now (arrival .entry)) ⌝ }
 {
     Block {

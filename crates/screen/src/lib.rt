@@ -154,7 +154,8 @@ fn in_window(lens: Lengths, kind: Kind, address: usize) -> bool
     here & (from <= address) & (address < from + len)
 }
 
-fn window_of(lens: Lengths, address: usize) -> Window
+// The window that an address lies in.
+pub fn window_of(lens: Lengths, address: usize) -> Window
     ensures { λ r. ⌜ r ≡ windowOf lens address ⌝ }
 {
     if in_window(lens, Kind::Flash, address) {
@@ -170,7 +171,7 @@ fn window_of(lens: Lengths, address: usize) -> Window
 }
 
 // The kind of a data block, and of one in no window.
-fn window_kind(window: Window) -> Kind
+pub fn window_kind(window: Window) -> Kind
     ensures { λ r. ⌜ r ≡ windowKind window ⌝ }
 {
     match window {
@@ -180,7 +181,7 @@ fn window_kind(window: Window) -> Kind
 }
 
 // The kind of a comment: the running transfer's, where that is its own and has a buffer.
-fn note_kind(lens: Lengths, transfer: Transfer, b: Block) -> Kind
+pub fn note_kind(lens: Lengths, transfer: Transfer, b: Block) -> Kind
     ensures { λ r. ⌜ r ≡ noteKind lens (transfer .state) b ⌝ }
 {
     let state = transfer.state;

@@ -138,7 +138,8 @@ impl Answer {
     }
 }
 
-fn same_head(g: Head, h: Head) -> bool
+// Are the heads one? Then two blocks belong to one transfer.
+pub fn same_head(g: Head, h: Head) -> bool
     ensures { λ r. ⌜ r ≡ sameHead g h ⌝ }
 {
     let current = g.kind;

@@ -1,7 +1,8 @@
 //! The update receiver, written from the papers alone so that it can be
 //! compared with another implementation: UF2 arrivals here, lines of Universal
 //! Hex in [`hex`]. Around them stand files to be made ([`make`], [`join`]), the
-//! tags of a block ([`tags`]) and stored settings ([`store`]).
+//! tags of a block ([`tags`]), stored settings ([`store`]) and the reasons of
+//! answers ([`why`]).
 //!
 //! Each arrival gets one of the answers of document 01 and of the requests in
 //! 02. Every function is total: no input makes it panic, and a refusal leaves
@@ -16,6 +17,7 @@ mod place;
 pub mod replay;
 pub mod store;
 pub mod tags;
+pub mod why;
 
 #[cfg(test)]
 mod tests;

@@ -76,20 +76,20 @@ impl Entry {
         u64::from(self.first) + u64::from(self.sectors)
     }
 
-    fn shares_sector(&self, other: &Entry) -> bool {
+    pub(crate) fn shares_sector(&self, other: &Entry) -> bool {
         u64::from(self.first) < other.end() && u64::from(other.first) < self.end()
     }
 
     /// Cut at the array's end, as bad settings may claim more.
-    fn users(&self) -> &[u32] {
+    pub(crate) fn users(&self) -> &[u32] {
         &self.users[..MAX_USERS.min(self.user_count.into())]
     }
 
-    fn is_b(&self) -> bool {
+    pub(crate) fn is_b(&self) -> bool {
         matches!(self.link, Link::BOf(_))
     }
 
-    fn accepts(&self, family: u32) -> bool {
+    pub(crate) fn accepts(&self, family: u32) -> bool {
         match family {
             DATA => self.data,
             ARM_S => self.arm_s,
@@ -108,7 +108,7 @@ impl Entry {
 }
 
 impl Settings {
-    fn enabled(&self, arch: Arch) -> bool {
+    pub(crate) fn enabled(&self, arch: Arch) -> bool {
         match arch {
             Arch::Arm => self.arm,
             Arch::RiscV => self.riscv,
@@ -116,7 +116,7 @@ impl Settings {
     }
 
     /// Cut at the table's end, as bad settings may claim more.
-    fn used(&self) -> &[Entry] {
+    pub(crate) fn used(&self) -> &[Entry] {
         &self.table[..MAX_ENTRIES.min(self.count.into())]
     }
 }

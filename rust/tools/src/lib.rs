@@ -24,6 +24,7 @@ mod ffi;
 mod join;
 pub mod report;
 pub mod trace;
+pub mod why;
 
 pub use join::{join, Board, JoinRefusal, PlainRefusal, HEX_FILE_BYTES};
 

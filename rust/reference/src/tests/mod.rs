@@ -12,6 +12,7 @@ mod place;
 mod ram;
 mod replay;
 mod storing;
+mod why;
 
 use crate::*;
 

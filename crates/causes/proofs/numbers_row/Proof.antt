@@ -1,0 +1,48 @@
+-- `causes::numbers_row` meets its contract. Assumes nothing.
+use mathlib.Core.Path.{_∙_}
+use borrow.Author.Tests.{lt-ltb, le-ltb, le-leb, lt-leb, eq-eqb, ne-eqb}
+use Rattle.causes.specs.Checks.{rowOf, numbersRow}
+use borrow.Author.Needs.{needs}
+use Rattle.causes.proofs.numbers_row.Statement.{statement}
+use Rattle.causes.proofs.numbers_row.Tie as tie
+
+mul-bytes : tie.Need-mul-bytes
+mul-bytes c = search needs
+
+decides-requires : tie.Need-decides-requires
+decides-requires c κs = search needs
+
+returns : tie.Need-returns
+unfolding rowOf numbersRow
+returns c = c .decides .ensures ∙ simp (eq-eqb _ _ (c .before .if1 .taken))
+
+decides-requires-2 : tie.Need-decides-requires-2
+decides-requires-2 c κs = search needs
+
+returns-2 : tie.Need-returns-2
+unfolding rowOf numbersRow
+returns-2 c = c .decides2 .ensures ∙ simp (ne-eqb _ _ (c .before .before .if1 .left), lt-ltb _ _ (c .before .if2 .taken))
+
+decides-requires-3 : tie.Need-decides-requires-3
+decides-requires-3 c κs = search needs
+
+returns-3 : tie.Need-returns-3
+unfolding rowOf numbersRow
+returns-3 c = c .decides3 .ensures ∙ simp (ne-eqb _ _ (c .before .before .before .if1 .left), le-ltb _ _ (c .before .before .if2 .left), le-leb _ _ (c .before .if3 .taken))
+
+returns-4 : tie.Need-returns-4
+unfolding rowOf numbersRow
+returns-4 c = simp (ne-eqb _ _ (c .before .before .if1 .left), le-ltb _ _ (c .before .if2 .left), lt-leb _ _ (c .if3 .left))
+
+pub numbers-row-spec : {M : Type 1} → statement M
+numbers-row-spec =
+    tie.close
+    (tie.spec
+    mul-bytes
+    decides-requires
+    returns
+    decides-requires-2
+    returns-2
+    decides-requires-3
+    returns-3
+    returns-4)

@@ -1,0 +1,320 @@
+// Rows 9 to 17 of a block: beside its place or window, and beside the transfer and the flash.
+ghost use mathlib.Core.Path.{_≡_};
+ghost use Rattle.causes.specs.Checks.{byNumbers, rowOf};
+ghost use Rattle.checks.specs.Block.{startAt, sizeAt, roomOf, addressIn, pageRow, kindOf, bodyRow, raisedOf, isDone, isAgain, within, around, runsOther};
+ghost use Rattle.checks.specs.Parts.{fatePart, regionPart, writtenPart, latePart};
+use block::Block;
+use block::Region;
+use causes::Cause;
+use causes::NotKept;
+use causes::Reason;
+use causes::Row;
+use flash::Flash;
+use place::Place;
+use screen::Lengths;
+use screen::Window;
+use transfer::Head;
+use transfer::Kind;
+use transfer::State;
+use transfer::Transfer;
+
+// Where the address window begins, which is where a place's first byte is seen.
+const WINDOW: usize = 0x10000000;
+
+// Where the windows of RAM end.
+const MAIN_END: usize = 0x20082000;
+
+const XIP_END: usize = 0x14000000;
+
+// ---- rows 9 to 11
+
+fn start_at(place: Place) -> usize
+    ensures { λ r. ⌜ r ≡ startAt place ⌝ }
+{
+    match place {
+        Place::Nowhere => 0,
+        Place::At { start, len: _ } => start,
+    }
+}
+
+fn size_at(place: Place) -> usize
+    ensures { λ r. ⌜ r ≡ sizeAt place ⌝ }
+{
+    match place {
+        Place::Nowhere => 0,
+        Place::At { start: _, len } => len,
+    }
+}
+
+// The bytes that row 10 asks for: of the place, or of the window.
+pub fn room_of(place: Place, kind: Kind) -> usize
+    ensures { λ r. ⌜ r ≡ roomOf place kind ⌝ }
+{
+    match kind {
+        Kind::Flash => size_at(place),
+        Kind::MainRam => Window::MAIN_RAM,
+        Kind::XipRam => Window::XIP_RAM,
+    }
+}
+
+// Row 11 of a data block in the window of its kind.
+fn address_in(kind: Kind, address: u32, size: usize) -> Row
+    ensures { λ r. ⌜ r ≡ rowOf byNumbers (addressIn kind address size) ⌝ }
+{
+    match kind {
+        Kind::Flash => causes::address_row(address, size),
+        Kind::MainRam => causes::window_row(address, MAIN_END),
+        Kind::XipRam => causes::window_row(address, XIP_END),
+    }
+}
+
+// Rows 9 to 11 of a data block in a window.
+fn inside_row(kind: Kind, size: usize, b: Block) -> Row
+    ensures { λ r. ⌜ r ≡ rowOf byNumbers (pageRow (Window.In kind) size b) ⌝ }
+{
+    let payload = causes::payload_row(b.size);
+    if let Row::Decides(x) = payload {
+        return Row::Decides(x);
+    }
+    let numbers = causes::numbers_row(b.total, b.number, size);
+    if let Row::Decides(y) = numbers {
+        return Row::Decides(y);
+    }
+    address_in(kind, b.address, size)
+}
+
+// Rows 9, 11 and 10 of a data block in no window.
+fn outside_row(size: usize, b: Block) -> Row
+    ensures { λ r. ⌜ r ≡ rowOf byNumbers (pageRow Window.Outside size b) ⌝ }
+{
+    let payload = causes::payload_row(b.size);
+    if let Row::Decides(x) = payload {
+        return Row::Decides(x);
+    }
+    let address = causes::address_row(b.address, size);
+    if let Row::Decides(y) = address {
+        return Row::Decides(y);
+    }
+    causes::numbers_row(b.total, b.number, size)
+}
+
+fn page_row(window: Window, size: usize, b: Block) -> Row
+    ensures { λ r. ⌜ r ≡ rowOf byNumbers (pageRow window size b) ⌝ }
+{
+    match window {
+        Window::Outside => outside_row(size, b),
+        Window::In(kind) => inside_row(kind, size, b),
+    }
+}
+
+// Rows 9 to 11; of a comment row 10 alone.
+pub fn body_row(size: usize, lens: Lengths, b: Block) -> Row
+    ensures { λ r. ⌜ r ≡ rowOf byNumbers (bodyRow size lens b) ⌝ }
+{
+    if b.comment {
+        return causes::numbers_row(b.total, b.number, size);
+    }
+    let window = screen::window_of(lens, b.address as usize);
+    page_row(window, size, b)
+}
+
+// The kind of a block.
+pub fn kind_of(lens: Lengths, transfer: Transfer, b: Block) -> Kind
+    ensures { λ r. ⌜ r ≡ kindOf lens (transfer .state) b ⌝ }
+{
+    if b.comment {
+        return screen::note_kind(lens, transfer, b);
+    }
+    let window = screen::window_of(lens, b.address as usize);
+    screen::window_kind(window)
+}
+
+// ---- rows 12 to 17
+
+fn is_done(transfer: Transfer) -> bool
+    ensures { λ r. ⌜ r ≡ isDone (transfer .state) ⌝ }
+{
+    let state = transfer.state;
+    match state {
+        State::Idle => false,
+        State::Running(_) => false,
+        State::Done(_) => true,
+    }
+}
+
+// Does the block belong to the running transfer, with a number that is marked?
+fn is_again(transfer: Transfer, head: Head, marked: bool) -> bool
+    ensures { λ r. ⌜ r ≡ isAgain (transfer .state) head marked ⌝ }
+{
+    let state = transfer.state;
+    match state {
+        State::Idle => false,
+        State::Running(run) => {
+            let current = run.head;
+            transfer::same_head(current, head) & marked
+        }
+        State::Done(_) => false,
+    }
+}
+
+// The count once the block is counted; where it begins a transfer it is the first. It may not fit 32 bits.
+fn raised(transfer: Transfer, head: Head) -> u64
+    ensures { λ r. ⌜ r ≡ raisedOf (transfer .state) head ⌝ }
+{
+    let state = transfer.state;
+    match state {
+        State::Idle => 1,
+        State::Running(run) => {
+            let current = run.head;
+            if transfer::same_head(current, head) {
+                return run.count as u64 + 1;
+            }
+            1
+        }
+        State::Done(_) => 1,
+    }
+}
+
+// Would the block discard a running transfer?
+pub fn runs_other(transfer: Transfer, head: Head) -> bool
+    ensures { λ r. ⌜ r ≡ runsOther (transfer .state) head ⌝ }
+{
+    let state = transfer.state;
+    match state {
+        State::Idle => false,
+        State::Running(run) => {
+            let current = run.head;
+            !transfer::same_head(current, head)
+        }
+        State::Done(_) => false,
+    }
+}
+
+// Rows 12, 13, 15 and 16.
+fn fate_row(transfer: Transfer, head: Head, number: u32, marked: bool, comment: bool) -> Row
+    ensures { λ r. ⌜ r ≡ fatePart (transfer .state) head number marked comment ⌝ }
+{
+    let total = head.total as u64;
+    if is_done(transfer) {
+        return causes::decides(Cause::Finished, number as u64, total);
+    }
+    if is_again(transfer, head, marked) {
+        return causes::decides(Cause::Again, number as u64, total);
+    }
+    let count = raised(transfer, head);
+    if total <= count {
+        return causes::decides(Cause::Completed, count, total);
+    }
+    if comment {
+        return causes::decides(Cause::Noted, count, total);
+    }
+    Row::Passes
+}
+
+// Does a region lie in a place of so many bytes?
+fn is_within(region: Region, size: usize) -> bool
+    ensures { λ r. ⌜ r ≡ within size region ⌝ }
+{
+    let start = region.start as usize;
+    let len = region.len as usize;
+    if start < WINDOW {
+        return false;
+    }
+    let past = start - WINDOW + len;
+    past <= size
+}
+
+// Does it lie around a block at this address?
+fn is_around(region: Region, address: u32) -> bool
+    ensures { λ r. ⌜ r ≡ around address region ⌝ }
+{
+    let at = address as usize;
+    let start = region.start as usize;
+    let past = start + region.len as usize;
+    (start <= at) & (at + Flash::PAYLOAD <= past)
+}
+
+// Why a region's block is written and not kept, in a place of `size` bytes that starts at `start`.
+fn region_row(
+    flash: &[u8],
+    start: usize,
+    size: usize,
+    address: u32,
+    region: Region,
+    count: u64,
+    total: u64,
+) -> Row
+    ensures { λ r. ⌜ r ≡ regionPart (now (flash .entry)) start size address region count total ⌝ }
+{
+    let from = region.start as usize;
+    let len = region.len as usize;
+    if !((from % Flash::SECTOR == 0) & (len % Flash::SECTOR == 0)) {
+        return causes::decides(Cause::Written(NotKept::Ragged), count, total);
+    }
+    if len == 0 {
+        return causes::decides(Cause::Written(NotKept::Empty), count, total);
+    }
+    if !is_within(region, size) {
+        return causes::decides(Cause::Written(NotKept::OutsidePlace), count, total);
+    }
+    if !is_around(region, address) {
+        return causes::decides(Cause::Written(NotKept::NotAround), count, total);
+    }
+    if !region::stands(flash, start, region) {
+        return causes::decides(Cause::Written(NotKept::OtherDigest), count, total);
+    }
+    Row::Passes
+}
+
+// Why a block is written and not kept.
+fn written_row(
+    flash: &[u8],
+    start: usize,
+    size: usize,
+    kind: Kind,
+    arrival: &[u8],
+    count: u64,
+    total: u64,
+) -> Row
+    ensures { λ r. ⌜ r ≡ writtenPart (now (flash .entry)) start size kind (now (arrival .entry)) count total ⌝ }
+{
+    if !block::has_region(arrival) {
+        return causes::decides(Cause::Written(NotKept::NoRegion), count, total);
+    }
+    if !transfer::same_kind(kind, Kind::Flash) {
+        return causes::decides(Cause::Written(NotKept::InRam), count, total);
+    }
+    let region = block::read_region(arrival);
+    let address = block::field(arrival, 12);
+    region_row(flash, start, size, address, region, count, total)
+}
+
+// Rows 12 to 17.
+pub fn late(
+    transfer: Transfer,
+    head: Head,
+    place: Place,
+    comment: bool,
+    number: u32,
+    arrival: &[u8],
+    flash: &[u8],
+    seen: &[u8],
+) -> Reason
+    ensures { λ r. ⌜ r ≡ latePart (transfer .state) head place comment number (now (arrival .entry)) (now (flash .entry)) (now (seen .entry)) ⌝ }
+{
+    let marked = bitmap::marked(seen, number as usize);
+    let fate = fate_row(transfer, head, number, marked, comment);
+    if let Row::Decides(x) = fate {
+        return x;
+    }
+    let count = raised(transfer, head);
+    let total = head.total as u64;
+    let kind = head.kind;
+    let start = start_at(place);
+    let size = size_at(place);
+    let written = written_row(flash, start, size, kind, arrival, count, total);
+    if let Row::Decides(y) = written {
+        return y;
+    }
+    Reason::new(Cause::Kept, count, total)
+}

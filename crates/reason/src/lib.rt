@@ -1,0 +1,329 @@
+// Why an arrival is answered as it is, and why a family has a place or none: the check that decides, first in its row as written.
+ghost use mathlib.Core.Path.{_≡_};
+ghost use Rattle.reason.specs.Why.{reasonOf, discardsOf, noMarks, shutMarks, entriesOf, worldWith, whyOf};
+ghost use Rattle.reason.specs.Placed.{placedOf, placedMarks, whyPlaceOf};
+ghost use Rattle.reason.specs.Parts.{findingRow, accessRow, accessIn, boardPart, earlyPart, blockPart, placePart};
+ghost use Rattle.faults.specs.Faults.{firstFault};
+use block::Block;
+use causes::Cause;
+use causes::Reason;
+use causes::Row;
+use faults::Finding;
+use place::Place;
+use placing::Access;
+use placing::Rule;
+use placing::Shut;
+use placing::Spot;
+use screen::Lengths;
+use settings::Settings;
+use transfer::Head;
+use transfer::Kind;
+use transfer::Transfer;
+
+// Why an arrival is answered as it is: the reason, whether a running transfer is discarded and, where no entry of a table takes the family, a mark for
+// each used entry: 1 "B of", else 2 "doesn't accept".
+pub struct Why {
+    pub reason: Reason,
+    pub discarded: bool,
+    pub entries: [u8; 16],
+}
+
+// Where a place comes from: the rule that gives the whole flash, or the pass, 1 to 4, and the entry; or why there is none.
+pub enum Placed {
+    Refused(Reason),
+    Whole(Rule),
+    Entry { pass: u8, entry: u8 },
+}
+
+// The same with the marks of the entries.
+pub struct WhyPlace {
+    pub placed: Placed,
+    pub entries: [u8; 16],
+}
+
+// ---- rows 1 to 7
+
+// Row 2.
+fn settings_row(settings: Settings, flash_len: usize) -> Row
+    ensures { λ r. ⌜ r ≡ findingRow settings «flash_len» (firstFault settings «flash_len») ⌝ }
+{
+    match faults::first(settings, flash_len) {
+        Finding::Sound => Row::Passes,
+        Finding::Bad(x) => {
+            let n = faults::numbers(settings, flash_len, x);
+            causes::decides(Cause::BadSettings(x), n.got, n.against)
+        }
+    }
+}
+
+// Rows 1 to 3.
+fn board_row(
+    settings: Settings,
+    transfer: Transfer,
+    arrival: usize,
+    lens: Lengths,
+    seen: usize,
+    sectors: usize,
+) -> Row
+    ensures { λ r. ⌜ r ≡ boardPart settings (transfer .state) arrival lens seen sectors ⌝ }
+{
+    let first = causes::lengths_row(arrival, lens, seen, sectors);
+    if let Row::Decides(x) = first {
+        return Row::Decides(x);
+    }
+    let second = settings_row(settings, lens.flash);
+    if let Row::Decides(y) = second {
+        return Row::Decides(y);
+    }
+    causes::state_row(transfer)
+}
+
+// Rows 1 to 7.
+fn early_row(
+    settings: Settings,
+    transfer: Transfer,
+    arrival: &[u8],
+    lens: Lengths,
+    seen: usize,
+    sectors: usize,
+) -> Row
+    ensures { λ r. ⌜ r ≡ earlyPart settings (transfer .state) (now (arrival .entry)) lens seen sectors ⌝ }
+{
+    let board = board_row(settings, transfer, arrival.len(), lens, seen, sectors);
+    if let Row::Decides(x) = board {
+        return Row::Decides(x);
+    }
+    causes::header_row(arrival)
+}
+
+// ---- rows 8 to 11
+
+fn access_row(access: Access, family: u32) -> Row
+    ensures { λ r. ⌜ r ≡ accessRow family access ⌝ }
+{
+    match access {
+        Access::Granted => Row::Passes,
+        Access::Denied(x) => causes::decides(Cause::NoPlace(x), family as u64, 0),
+    }
+}
+
+// What shuts a family out, by the kind of its block.
+fn access_in(settings: Settings, kind: Kind, family: u32) -> Access
+    ensures { λ r. ⌜ r ≡ accessIn settings kind family ⌝ }
+{
+    match kind {
+        Kind::Flash => placing::flash_access(settings, family),
+        Kind::MainRam => placing::ram_access(settings, family),
+        Kind::XipRam => placing::ram_access(settings, family),
+    }
+}
+
+// Rows 8 to 11, where `place` is the family's in the flash.
+fn block_row(settings: Settings, place: Place, kind: Kind, lens: Lengths, b: Block) -> Row
+    ensures { λ r. ⌜ r ≡ blockPart settings place kind lens b ⌝ }
+{
+    let access = access_in(settings, kind, b.family);
+    let shut = access_row(access, b.family);
+    if let Row::Decides(x) = shut {
+        return Row::Decides(x);
+    }
+    let size = checks::room_of(place, kind);
+    checks::body_row(size, lens, b)
+}
+
+// ---- an arrival
+
+// The check that decides.
+fn reason_of(
+    settings: Settings,
+    transfer: Transfer,
+    arrival: &[u8],
+    flash: &[u8],
+    seen: &[u8],
+    sectors: &[u8],
+    main: &[u8],
+    xip: &[u8],
+) -> Reason
+    ensures { λ r. ⌜ r ≡ reasonOf settings (worldWith transfer (now (flash .entry)) (now (seen .entry)) (now (sectors .entry)) (now (main .entry)) (now (xip .entry))) (now (arrival .entry)) ⌝ }
+{
+    let lens = Lengths {
+        flash: flash.len(),
+        main: main.len(),
+        xip: xip.len(),
+    };
+    let early = early_row(settings, transfer, arrival, lens, seen.len(), sectors.len());
+    if let Row::Decides(x) = early {
+        return x;
+    }
+    let b = block::fields(arrival);
+    let kind = checks::kind_of(lens, transfer, b);
+    let place = place::find(settings, flash.len(), b.family);
+    let row = block_row(settings, place, kind, lens, b);
+    if let Row::Decides(y) = row {
+        return y;
+    }
+    let head = Head::new(kind, b.family, b.total);
+    checks::late(
+        transfer,
+        head,
+        place,
+        b.comment,
+        b.number,
+        arrival,
+        flash,
+        seen,
+    )
+}
+
+// Is a running transfer discarded, of a block of this head?
+fn discards(transfer: Transfer, head: Head, cause: Cause) -> bool
+    ensures { λ r. ⌜ r ≡ discardsOf (transfer .state) head cause ⌝ }
+{
+    match cause {
+        Cause::BadBuffers(_) => false,
+        Cause::BadSettings(_) => false,
+        Cause::BadState(_) => false,
+        Cause::NotBlock(_) => false,
+        Cause::Container => false,
+        Cause::NoFamily => false,
+        Cause::NoPlace(_) => false,
+        Cause::BadPayload => false,
+        Cause::BadNumbers(_) => false,
+        Cause::BadAddress(_) => false,
+        Cause::Finished => false,
+        Cause::Again => false,
+        Cause::Written(_) => checks::runs_other(transfer, head),
+        Cause::Completed => checks::runs_other(transfer, head),
+        Cause::Noted => checks::runs_other(transfer, head),
+        Cause::Kept => checks::runs_other(transfer, head),
+    }
+}
+
+fn no_marks() -> [u8; 16]
+    ensures { λ r. ⌜ r ≡ noMarks ⌝ }
+{
+    [0; 16]
+}
+
+// The marks of the entries, where no entry of a table takes the family.
+fn shut_marks(settings: Settings, family: u32, shut: Shut) -> [u8; 16]
+    ensures { λ r. ⌜ r ≡ shutMarks settings family shut ⌝ }
+{
+    match shut {
+        Shut::AbsoluteOff => no_marks(),
+        Shut::Rp2040 => no_marks(),
+        Shut::ArmOff => no_marks(),
+        Shut::RiscvOff => no_marks(),
+        Shut::NotWithoutTable => no_marks(),
+        Shut::NoEntry => placing::marks(settings, family),
+        Shut::NotForRam => no_marks(),
+    }
+}
+
+fn entries_of(settings: Settings, family: u32, cause: Cause) -> [u8; 16]
+    ensures { λ r. ⌜ r ≡ entriesOf settings family cause ⌝ }
+{
+    match cause {
+        Cause::BadBuffers(_) => no_marks(),
+        Cause::BadSettings(_) => no_marks(),
+        Cause::BadState(_) => no_marks(),
+        Cause::NotBlock(_) => no_marks(),
+        Cause::Container => no_marks(),
+        Cause::NoFamily => no_marks(),
+        Cause::NoPlace(x) => shut_marks(settings, family, x),
+        Cause::BadPayload => no_marks(),
+        Cause::BadNumbers(_) => no_marks(),
+        Cause::BadAddress(_) => no_marks(),
+        Cause::Finished => no_marks(),
+        Cause::Again => no_marks(),
+        Cause::Written(_) => no_marks(),
+        Cause::Completed => no_marks(),
+        Cause::Noted => no_marks(),
+        Cause::Kept => no_marks(),
+    }
+}
+
+// Why an arrival is answered as it is. Nothing changes.
+pub fn explain(
+    settings: Settings,
+    transfer: Transfer,
+    arrival: &[u8],
+    flash: &[u8],
+    seen: &[u8],
+    sectors: &[u8],
+    main: &[u8],
+    xip: &[u8],
+) -> Why
+    ensures { λ r. ⌜ r ≡ whyOf settings (worldWith transfer (now (flash .entry)) (now (seen .entry)) (now (sectors .entry)) (now (main .entry)) (now (xip .entry))) (now (arrival .entry)) ⌝ }
+{
+    let reason = reason_of(settings, transfer, arrival, flash, seen, sectors, main, xip);
+    let cause = reason.cause;
+    let lens = Lengths {
+        flash: flash.len(),
+        main: main.len(),
+        xip: xip.len(),
+    };
+    let b = block::fields(arrival);
+    let kind = checks::kind_of(lens, transfer, b);
+    let head = Head::new(kind, b.family, b.total);
+    let discarded = discards(transfer, head, cause);
+    let entries = entries_of(settings, b.family, cause);
+    Why {
+        reason,
+        discarded,
+        entries,
+    }
+}
+
+// ---- a place asked for alone
+
+// Rows 1 and 2.
+fn place_row(settings: Settings, flash_len: usize) -> Row
+    ensures { λ r. ⌜ r ≡ placePart settings «flash_len» ⌝ }
+{
+    let first = causes::flash_row(flash_len);
+    if let Row::Decides(x) = first {
+        return Row::Decides(x);
+    }
+    settings_row(settings, flash_len)
+}
+
+// Where the place comes from, or why there is none.
+fn place_source(settings: Settings, flash_len: usize, family: u32) -> Placed
+    ensures { λ r. ⌜ r ≡ placedOf settings «flash_len» family ⌝ }
+{
+    let row = place_row(settings, flash_len);
+    if let Row::Decides(x) = row {
+        return Placed::Refused(x);
+    }
+    match placing::locate(settings, family) {
+        Spot::Refused(y) => Placed::Refused(Reason::new(Cause::NoPlace(y), family as u64, 0)),
+        Spot::Whole(rule) => Placed::Whole(rule),
+        Spot::Entry { pass, entry } => Placed::Entry { pass, entry },
+    }
+}
+
+fn placed_marks(settings: Settings, family: u32, placed: Placed) -> [u8; 16]
+    ensures { λ r. ⌜ r ≡ placedMarks settings family placed ⌝ }
+{
+    match placed {
+        Placed::Refused(x) => {
+            let cause = x.cause;
+            entries_of(settings, family, cause)
+        }
+        Placed::Whole(_) => no_marks(),
+        Placed::Entry { pass: _, entry: _ } => no_marks(),
+    }
+}
+
+// Why a family has a place in a flash of so many bytes, or none.
+pub fn explain_place(settings: Settings, flash_len: usize, family: u32) -> WhyPlace
+    ensures { λ r. ⌜ r ≡ whyPlaceOf settings «flash_len» family ⌝ }
+{
+    let found = place_source(settings, flash_len, family);
+    let entries = placed_marks(settings, family, found);
+    WhyPlace {
+        placed: found,
+        entries,
+    }
+}

@@ -1,0 +1,5 @@
+-- The claims proved.
+pub mod Answers
+pub mod Steps
+pub mod Agree
+pub mod Theorems

@@ -1,0 +1,41 @@
+-- What is claimed of reasons (02, L6): "Show that the reason is the true one: every earlier check passes, this one doesn't, and the answer is the
+-- receiver's." For every settings, transfer, buffers and arrival. proofs/ proves each claim, in lower case. Assumes nothing.
+use Prim.Native.Nat.{ℕ}
+use mathlib.Core.Path.{_≡_}
+use mathlib.Core.Bool.{Bool, true, _&&_}
+use mathlib.Core.List.{List, [], _∷_}
+use lib.Dec.{ltb}
+use Rattle.settings.specs.declared.Settings.{Settings}
+use Rattle.transfer.specs.declared.Kind.{Kind}
+use Rattle.transfer.specs.declared.State.{State}
+use Rattle.screen.specs.declared.Lengths.{Lengths}
+use Rattle.arrival.specs.Arrive.{World, lookOf}
+use Rattle.causes.specs.Causes.{answerOf, causeNumber}
+use Rattle.causes.specs.Checks.{Deciding, lengthsRow, stateRow, headerRow, numbersRow, addressRow}
+use Rattle.causes.specs.declared.Reason.{Reason}
+use Rattle.reason.specs.Why.{placeRow, checksOf, lastOf, holdsIn, reasonOf}
+
+-- "every earlier check passes, this one doesn't": in the one list of all checks, each of which tests the condition and the numbers that it names; or all
+-- pass, and the block is kept
+unfoldable pub Reason-is-true : Type 0
+Reason-is-true = (s : Settings) (w : World) (a : List ℕ) → Deciding (holdsIn s w a) (lastOf w a) (checksOf s w a) (reasonOf s w a)
+
+-- "and the answer is the receiver's": the look's, and so the take's (`Facts.antt` of arrival)
+unfoldable pub Answer-is-the-receivers : Type 0
+Answer-is-the-receivers = (s : Settings) (w : World) (a : List ℕ) → answerOf (reasonOf s w a .cause) ≡ lookOf s w a .answer
+
+-- ---- the order: "first in its row as written"
+
+-- the conditions' numbers rise along a row
+abbrev pub risesFrom : ℕ → List Reason → Bool
+risesFrom n [] = true
+risesFrom n (c ∷ l) = ltb n (causeNumber (c .cause)) && risesFrom (causeNumber (c .cause)) l
+
+-- of rows 1, 3, 4 with 5 and 7, 8, 10 and 11; row 2's are 01's by `faultsOf`
+pub record In-order : Type 0 where
+  pub lengths : (a : ℕ) (n : Lengths) (m k : ℕ) → risesFrom 100 (lengthsRow a n m k) ≡ true
+  pub state : (t : State) → risesFrom 300 (stateRow t) ≡ true
+  pub header : (a : List ℕ) → risesFrom 400 (headerRow a) ≡ true
+  pub place : (k : Kind) (f : ℕ) → risesFrom 800 (placeRow k f) ≡ true
+  pub numbers : (total number size : ℕ) → risesFrom 1000 (numbersRow total number size) ≡ true
+  pub address : (x size : ℕ) → risesFrom 1100 (addressRow x size) ≡ true

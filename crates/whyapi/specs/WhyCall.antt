@@ -1,0 +1,209 @@
+-- What a call for a reason answers and writes. Assumes nothing.
+use Prim.Native.Nat.{ℕ, _+_, _*_, _/_, _%_}
+use mathlib.Core.Bool.{Bool, false, not, cond, _&&_}
+use mathlib.Core.List.{List}
+use lib.Dec.{ltb, eqb}
+use lib.ListN.{length, getD, replicate}
+use denote.Ref.{RefT, now}
+use denote.Triple.Both.{Both}
+use Rattle.block.specs.Write.{putAt}
+use Rattle.transfer.specs.Transfer.{numberOf}
+use Rattle.layout.specs.Layout.{byteAt, settingsFrom, transferFrom}
+use Rattle.faults.specs.declared.Fault.{Fault}
+use Rattle.faults.specs.declared.Fault.the-variants.{ArchOff, CountOver, NoSectors, PastFlash, Shares, LinksUp, LinksToB, ManyUsers, ReservedUser}
+use Rattle.causes.specs.Causes.{answerOf, causeNumber}
+use Rattle.causes.specs.declared.Cause.{Cause}
+use Rattle.causes.specs.declared.Cause.the-variants.{BadBuffers, BadSettings, BadState, NotBlock, Container, NoFamily, NoPlace, BadPayload, BadNumbers, BadAddress, Finished, Again, Written, Completed, Noted, Kept}
+use Rattle.reason.specs.Why.{worldWith, whyOf}
+use Rattle.reason.specs.Placed.{placedNumber, whyPlaceOf}
+use Rattle.reason.specs.declared.Why.{Why}
+use Rattle.reason.specs.declared.WhyPlace.{WhyPlace}
+use Rattle.reason.specs.declared.Placed.{Placed}
+use Rattle.reason.specs.declared.Placed.the-variants.{Refused, Whole, Entry}
+use Rattle.placing.specs.declared.Rule.{Rule}
+use Rattle.placing.specs.declared.Rule.the-variants.{Absolute, NoTable}
+use Rattle.whyapi.specs.declared.Told.{Told}
+
+-- ---- what is told of a reason
+
+-- the entry that a fault is of, and the other that it names; 0 where there is none
+abbrev pub faultEntry : Fault → ℕ
+faultEntry ArchOff = 0
+faultEntry CountOver = 0
+faultEntry (NoSectors k) = k
+faultEntry (PastFlash k) = k
+faultEntry (Shares k j) = k
+faultEntry (LinksUp k) = k
+faultEntry (LinksToB k) = k
+faultEntry (ManyUsers k) = k
+faultEntry (ReservedUser k) = k
+
+abbrev pub faultOther : Fault → ℕ
+faultOther ArchOff = 0
+faultOther CountOver = 0
+faultOther (NoSectors k) = 0
+faultOther (PastFlash k) = 0
+faultOther (Shares k j) = j
+faultOther (LinksUp k) = 0
+faultOther (LinksToB k) = 0
+faultOther (ManyUsers k) = 0
+faultOther (ReservedUser k) = 0
+
+abbrev pub entryOf : Cause → ℕ
+entryOf (BadBuffers x) = 0
+entryOf (BadSettings x) = faultEntry x
+entryOf (BadState x) = 0
+entryOf (NotBlock x) = 0
+entryOf Container = 0
+entryOf NoFamily = 0
+entryOf (NoPlace x) = 0
+entryOf BadPayload = 0
+entryOf (BadNumbers x) = 0
+entryOf (BadAddress x) = 0
+entryOf Finished = 0
+entryOf Again = 0
+entryOf (Written x) = 0
+entryOf Completed = 0
+entryOf Noted = 0
+entryOf Kept = 0
+
+abbrev pub otherOf : Cause → ℕ
+otherOf (BadBuffers x) = 0
+otherOf (BadSettings x) = faultOther x
+otherOf (BadState x) = 0
+otherOf (NotBlock x) = 0
+otherOf Container = 0
+otherOf NoFamily = 0
+otherOf (NoPlace x) = 0
+otherOf BadPayload = 0
+otherOf (BadNumbers x) = 0
+otherOf (BadAddress x) = 0
+otherOf Finished = 0
+otherOf Again = 0
+otherOf (Written x) = 0
+otherOf Completed = 0
+otherOf Noted = 0
+otherOf Kept = 0
+
+abbrev pub toldWith : ℕ → ℕ → ℕ → ℕ → ℕ → List ℕ → Told
+toldWith number g a entry other marks = record { number = number; got = g; against = a; entry = entry; other = other; marks = marks }
+
+abbrev pub toldOf : Why → Told
+toldOf y =
+    toldWith (causeNumber (y .reason .cause)) (y .reason .got) (y .reason .against) (entryOf (y .reason .cause)) (otherOf (y .reason .cause)) (y .entries)
+
+-- ---- bytes that are no settings or no transfer are named as that, and no number is told that nobody handed in
+
+-- without an entry and marks
+abbrev pub bare : ℕ → ℕ → ℕ → Told
+bare number g a = toldWith number g a 0 0 (replicate 16 0)
+
+-- 210: a wrong length, and the right one; such bytes are bad settings (layout's `countFrom`)
+unfoldable pub settingsTold : ℕ → Told → Told
+settingsTold len x = cond (eqb len 534) x (bare 210 len 534)
+
+-- 306: a wrong length, and the right one; 307: a state byte over 2, or of a transfer that is not Idle a kind byte over 2 (layout's `stateOf`)
+unfoldable pub transferTold : List ℕ → Told → Told
+transferTold b x =
+    cond (eqb (length b) 14)
+    (cond (ltb 2 (byteAt b 0)) (bare 307 (byteAt b 0) 2) (cond (not (eqb (byteAt b 0) 0) && ltb 2 (byteAt b 13)) (bare 307 (byteAt b 13) 2) x))
+    (bare 306 (length b) 14)
+
+-- in the row of the answer that they earn
+abbrev pub byteTold : Cause → ℕ → List ℕ → Told → Told
+byteTold (BadBuffers x) s t y = y
+byteTold (BadSettings x) s t y = settingsTold s y
+byteTold (BadState x) s t y = transferTold t y
+byteTold (NotBlock x) s t y = y
+byteTold Container s t y = y
+byteTold NoFamily s t y = y
+byteTold (NoPlace x) s t y = y
+byteTold BadPayload s t y = y
+byteTold (BadNumbers x) s t y = y
+byteTold (BadAddress x) s t y = y
+byteTold Finished s t y = y
+byteTold Again s t y = y
+byteTold (Written x) s t y = y
+byteTold Completed s t y = y
+byteTold Noted s t y = y
+byteTold Kept s t y = y
+
+-- ---- 38 bytes: 0 the condition's number, 4 the number tested, 12 what it is tested against, the lowest byte first; 20 the entry, 21 the other; 22 a
+-- mark for each of 16 entries
+
+-- the number of four bytes, the lowest first
+abbrev pub word : ℕ → ℕ → ℕ → ℕ → ℕ
+word a b c d = a + 256 * b + 65536 * c + 16777216 * d
+
+unfoldable pub numbersOver : List ℕ → ℕ → ℕ → ℕ → List ℕ
+numbersOver l number g a =
+    putAt (putAt (putAt (putAt (putAt l 0 number) 4 (g % 4294967296)) 8 (g / 4294967296)) 12 (a % 4294967296)) 16 (a / 4294967296)
+
+-- the last four bytes are written with the two before them once more, as 38 is no multiple of four
+unfoldable pub marksOver : List ℕ → ℕ → ℕ → List ℕ → List ℕ
+marksOver l entry other m =
+    putAt
+    (putAt
+    (putAt
+    (putAt
+    (putAt l 20 (word entry other (getD m 0 0) (getD m 1 0)))
+    24 (word (getD m 2 0) (getD m 3 0) (getD m 4 0) (getD m 5 0)))
+    28 (word (getD m 6 0) (getD m 7 0) (getD m 8 0) (getD m 9 0)))
+    32 (word (getD m 10 0) (getD m 11 0) (getD m 12 0) (getD m 13 0)))
+    34 (word (getD m 12 0) (getD m 13 0) (getD m 14 0) (getD m 15 0))
+
+-- of another length they stay
+unfoldable pub toldOver : List ℕ → Told → List ℕ
+toldOver l x = cond (eqb (length l) 38) (marksOver (numbersOver l (x .number) (x .got) (x .against)) (x .entry) (x .other) (x .marks)) l
+
+-- ---- the call
+
+-- what is returned, and what the bytes of the reason hold
+pub record Call : Type 0 where
+  pub result : ℕ
+  pub reason : List ℕ
+
+abbrev pub callReturn : ℕ → List ℕ → Call
+callReturn n l = record { result = n; reason = l }
+
+-- the answer's number, and 128 more where a running transfer is discarded: what `uf2_look` returns
+abbrev pub returned : ℕ → Bool → ℕ
+returned n d = cond d (n + 128) n
+
+-- of a reason, with the bytes of settings and transfer
+unfoldable pub whyCall : ℕ → List ℕ → Why → List ℕ → Call
+whyCall s t y l =
+    callReturn (returned (numberOf (answerOf (y .reason .cause))) (y .discarded)) (toldOver l (byteTold (y .reason .cause) s t (toldOf y)))
+
+-- a lent slice of bytes, as a contract names it
+abbrev pub Slice : Type 0
+Slice = Both (RefT (List ℕ)) (RefT (List ℕ))
+
+abbrev pub whyCallOf : Slice → Slice → Slice → Slice → Slice → Slice → Slice → Slice → List ℕ → Call
+whyCallOf s t a f m k u x l =
+    whyCall (length (now (s .entry))) (now (t .entry))
+    (whyOf (settingsFrom (now (s .entry))) (worldWith (transferFrom (now (t .entry))) (now (f .entry)) (now (m .entry)) (now (k .entry)) (now (u .entry)) (now (x .entry))) (now (a .entry)))
+    l
+
+-- ---- a place asked for alone
+
+-- "the whole-flash rule": 1 absolute, 2 no table
+abbrev pub ruleNumber : Rule → ℕ
+ruleNumber Absolute = 1
+ruleNumber NoTable = 2
+
+-- "it names the pass and the entry, or the whole-flash rule"
+abbrev pub placeTold : Placed → List ℕ → Told
+placeTold (Refused x) m = toldOf (record { reason = x; discarded = false; entries = m })
+placeTold (Whole r) m = toldWith (ruleNumber r) 0 0 0 0 m
+placeTold (Entry p k) m = toldWith 3 p 0 k 0 m
+
+-- bytes that are no settings, where that is the answer
+unfoldable pub placeShown : ℕ → ℕ → Told → Told
+placeShown n len x = cond (eqb n 2) (settingsTold len x) x
+
+unfoldable pub placeCall : ℕ → WhyPlace → List ℕ → Call
+placeCall s y l = callReturn (placedNumber (y .placed)) (toldOver l (placeShown (placedNumber (y .placed)) s (placeTold (y .placed) (y .entries))))
+
+abbrev pub placeCallOf : List ℕ → ℕ → ℕ → List ℕ → Call
+placeCallOf s len f l = placeCall (length s) (whyPlaceOf (settingsFrom s) len f) l

@@ -1,0 +1,363 @@
+// Reasons for C: why an arrival is answered as it is, and why a family has a place or none. A library of its own.
+ghost use mathlib.Core.Path.{_≡_};
+ghost use Rattle.whyapi.specs.WhyCall.{
+  word,
+  faultEntry,
+  faultOther,
+  entryOf,
+  otherOf,
+  toldWith,
+  toldOf,
+  settingsTold,
+  transferTold,
+  byteTold,
+  numbersOver,
+  marksOver,
+  toldOver,
+  returned,
+  callReturn,
+  whyCallOf,
+  ruleNumber,
+  placeTold,
+  placeShown,
+  placeCallOf,
+};
+ghost use Rattle.reason.specs.Placed.{placedNumber};
+use causes::Cause;
+use faults::Fault;
+use placing::Rule;
+use reason::Placed;
+use reason::Why;
+
+// What is written of a reason.
+pub struct Told {
+    pub number: u32,
+    pub got: u64,
+    pub against: u64,
+    pub entry: u8,
+    pub other: u8,
+    pub marks: [u8; 16],
+}
+
+// The bytes of a reason, of settings and of a transfer.
+const REASON: usize = 38;
+
+const SETTINGS: usize = 534;
+
+const TRANSFER: usize = 14;
+
+const WORD: u64 = 4294967296;
+
+// The number of four bytes, the lowest first.
+fn word(a: u8, b: u8, c: u8, d: u8) -> u32
+    ensures { λ r. ⌜ r ≡ word a b c d ⌝ }
+{
+    (a as u32) + 256 * (b as u32) + 65536 * (c as u32) + 16777216 * (d as u32)
+}
+
+fn fault_entry(x: Fault) -> u8
+    ensures { λ r. ⌜ r ≡ faultEntry x ⌝ }
+{
+    match x {
+        Fault::ArchOff => 0,
+        Fault::CountOver => 0,
+        Fault::NoSectors(k) => k,
+        Fault::PastFlash(k) => k,
+        Fault::Shares(k, _) => k,
+        Fault::LinksUp(k) => k,
+        Fault::LinksToB(k) => k,
+        Fault::ManyUsers(k) => k,
+        Fault::ReservedUser(k) => k,
+    }
+}
+
+fn fault_other(x: Fault) -> u8
+    ensures { λ r. ⌜ r ≡ faultOther x ⌝ }
+{
+    match x {
+        Fault::ArchOff => 0,
+        Fault::CountOver => 0,
+        Fault::NoSectors(_) => 0,
+        Fault::PastFlash(_) => 0,
+        Fault::Shares(_, j) => j,
+        Fault::LinksUp(_) => 0,
+        Fault::LinksToB(_) => 0,
+        Fault::ManyUsers(_) => 0,
+        Fault::ReservedUser(_) => 0,
+    }
+}
+
+// The entry that a cause is of.
+fn entry_of(cause: Cause) -> u8
+    ensures { λ r. ⌜ r ≡ entryOf cause ⌝ }
+{
+    match cause {
+        Cause::BadBuffers(_) => 0,
+        Cause::BadSettings(x) => fault_entry(x),
+        Cause::BadState(_) => 0,
+        Cause::NotBlock(_) => 0,
+        Cause::Container => 0,
+        Cause::NoFamily => 0,
+        Cause::NoPlace(_) => 0,
+        Cause::BadPayload => 0,
+        Cause::BadNumbers(_) => 0,
+        Cause::BadAddress(_) => 0,
+        Cause::Finished => 0,
+        Cause::Again => 0,
+        Cause::Written(_) => 0,
+        Cause::Completed => 0,
+        Cause::Noted => 0,
+        Cause::Kept => 0,
+    }
+}
+
+// The other entry that it names.
+fn other_of(cause: Cause) -> u8
+    ensures { λ r. ⌜ r ≡ otherOf cause ⌝ }
+{
+    match cause {
+        Cause::BadBuffers(_) => 0,
+        Cause::BadSettings(x) => fault_other(x),
+        Cause::BadState(_) => 0,
+        Cause::NotBlock(_) => 0,
+        Cause::Container => 0,
+        Cause::NoFamily => 0,
+        Cause::NoPlace(_) => 0,
+        Cause::BadPayload => 0,
+        Cause::BadNumbers(_) => 0,
+        Cause::BadAddress(_) => 0,
+        Cause::Finished => 0,
+        Cause::Again => 0,
+        Cause::Written(_) => 0,
+        Cause::Completed => 0,
+        Cause::Noted => 0,
+        Cause::Kept => 0,
+    }
+}
+
+fn told_with(number: u32, got: u64, against: u64, entry: u8, other: u8, marks: [u8; 16]) -> Told
+    ensures { λ r. ⌜ r ≡ toldWith number got against entry other marks ⌝ }
+{
+    Told {
+        number,
+        got,
+        against,
+        entry,
+        other,
+        marks,
+    }
+}
+
+// A reason as it is written.
+fn told_of(why: Why) -> Told
+    ensures { λ r. ⌜ r ≡ toldOf why ⌝ }
+{
+    let reason = why.reason;
+    let cause = reason.cause;
+    let marks = why.entries;
+    let number = cause.number() as u32;
+    let entry = entry_of(cause);
+    let other = other_of(cause);
+    told_with(number, reason.got, reason.against, entry, other, marks)
+}
+
+// Bytes that are no settings: no number of theirs is told.
+fn settings_told(len: usize, told: Told) -> Told
+    ensures { λ r. ⌜ r ≡ settingsTold len told ⌝ }
+{
+    if len != SETTINGS {
+        return told_with(210, len as u64, SETTINGS as u64, 0, 0, [0; 16]);
+    }
+    told
+}
+
+// Bytes that are no transfer.
+fn transfer_told(bytes: &[u8], told: Told) -> Told
+    ensures { λ r. ⌜ r ≡ transferTold (now (bytes .entry)) told ⌝ }
+{
+    if bytes.len() != TRANSFER {
+        return told_with(306, bytes.len() as u64, TRANSFER as u64, 0, 0, [0; 16]);
+    }
+    let tag = bytes[0];
+    let kind = bytes[13];
+    if 2 < tag {
+        return told_with(307, tag as u64, 2, 0, 0, [0; 16]);
+    }
+    if (tag != 0) & (2 < kind) {
+        return told_with(307, kind as u64, 2, 0, 0, [0; 16]);
+    }
+    told
+}
+
+// What is told of a reason, by the bytes that settings and transfer were read from.
+fn byte_told(cause: Cause, settings: usize, transfer: &[u8], told: Told) -> Told
+    ensures { λ r. ⌜ r ≡ byteTold cause settings (now (transfer .entry)) told ⌝ }
+{
+    match cause {
+        Cause::BadBuffers(_) => told,
+        Cause::BadSettings(_) => settings_told(settings, told),
+        Cause::BadState(_) => transfer_told(transfer, told),
+        Cause::NotBlock(_) => told,
+        Cause::Container => told,
+        Cause::NoFamily => told,
+        Cause::NoPlace(_) => told,
+        Cause::BadPayload => told,
+        Cause::BadNumbers(_) => told,
+        Cause::BadAddress(_) => told,
+        Cause::Finished => told,
+        Cause::Again => told,
+        Cause::Written(_) => told,
+        Cause::Completed => told,
+        Cause::Noted => told,
+        Cause::Kept => told,
+    }
+}
+
+// The condition's number and the two numbers.
+fn put_numbers(out: &mut [u8], number: u32, got: u64, against: u64)
+    ensures { λ _. ⌜ now (out .exit) ≡ numbersOver (now (out .entry)) number got against ⌝ }
+{
+    let low = got % WORD;
+    let high = got / WORD;
+    let against_low = against % WORD;
+    let against_high = against / WORD;
+    block::put(out, 0, number);
+    block::put(out, 4, low as u32);
+    block::put(out, 8, high as u32);
+    block::put(out, 12, against_low as u32);
+    block::put(out, 16, against_high as u32);
+}
+
+// The entries and the marks, four bytes at a time.
+fn put_marks(out: &mut [u8], entry: u8, other: u8, marks: [u8; 16])
+    ensures { λ _. ⌜ now (out .exit) ≡ marksOver (now (out .entry)) entry other marks ⌝ }
+{
+    let a = word(entry, other, marks[0], marks[1]);
+    let b = word(marks[2], marks[3], marks[4], marks[5]);
+    let c = word(marks[6], marks[7], marks[8], marks[9]);
+    let d = word(marks[10], marks[11], marks[12], marks[13]);
+    let e = word(marks[12], marks[13], marks[14], marks[15]);
+    block::put(out, 20, a);
+    block::put(out, 24, b);
+    block::put(out, 28, c);
+    block::put(out, 32, d);
+    block::put(out, 34, e);
+}
+
+// A reason, where there are bytes for it.
+fn put_told(out: &mut [u8], told: Told)
+    ensures { λ _. ⌜ now (out .exit) ≡ toldOver (now (out .entry)) told ⌝ }
+{
+    if out.len() != REASON {
+        return;
+    }
+    let marks = told.marks;
+    put_numbers(out, told.number, told.got, told.against);
+    put_marks(out, told.entry, told.other, marks);
+}
+
+// The answer's number, and 128 more where a running transfer is discarded.
+fn returned(number: u8, discarded: bool) -> u32
+    ensures { λ r. ⌜ r ≡ returned number discarded ⌝ }
+{
+    if discarded {
+        return number as u32 + 128;
+    }
+    number as u32
+}
+
+// Why an arrival is answered as it is: what `uf2_look` returns, and the reason. Nothing else is written.
+#[no_mangle]
+pub extern "C" fn uf2_why(
+    settings: &[u8],
+    transfer: &[u8],
+    arrival: &[u8],
+    flash: &[u8],
+    seen: &[u8],
+    sectors: &[u8],
+    main: &[u8],
+    xip: &[u8],
+    out: &mut [u8],
+) -> u32
+    ensures { λ r. ⌜ callReturn r (now (out .exit)) ≡ whyCallOf settings transfer arrival flash seen sectors main xip (now (out .entry)) ⌝ }
+{
+    let s = layout::read_settings(settings);
+    let t = layout::read_transfer(transfer);
+    let why = reason::explain(s, t, arrival, flash, seen, sectors, main, xip);
+    let told = told_of(why);
+    let reason = why.reason;
+    let cause = reason.cause;
+    let answer = cause.answer();
+    let shown = byte_told(cause, settings.len(), transfer, told);
+    put_told(out, shown);
+    returned(answer.number(), why.discarded)
+}
+
+fn rule_number(rule: Rule) -> u32
+    ensures { λ r. ⌜ r ≡ ruleNumber rule ⌝ }
+{
+    match rule {
+        Rule::Absolute => 1,
+        Rule::NoTable => 2,
+    }
+}
+
+// What is written of a place: the refusal; or 1 where absolute is allowed, 2 where there is no table, or 3 with the pass and the entry.
+fn place_told(placed: Placed, marks: [u8; 16]) -> Told
+    ensures { λ r. ⌜ r ≡ placeTold placed marks ⌝ }
+{
+    match placed {
+        Placed::Refused(x) => told_of(Why {
+            reason: x,
+            discarded: false,
+            entries: marks,
+        }),
+        Placed::Whole(rule) => told_with(rule_number(rule), 0, 0, 0, 0, marks),
+        Placed::Entry { pass, entry } => told_with(3, pass as u64, 0, entry, 0, marks),
+    }
+}
+
+// The refusal's number, and 0 for a place that is found.
+fn place_number(placed: Placed) -> u8
+    ensures { λ r. ⌜ r ≡ placedNumber placed ⌝ }
+{
+    match placed {
+        Placed::Refused(x) => {
+            let cause = x.cause;
+            cause.answer().number()
+        }
+        Placed::Whole(_) => 0,
+        Placed::Entry { pass: _, entry: _ } => 0,
+    }
+}
+
+// Bytes that are no settings are named as that.
+fn place_shown(number: u8, len: usize, told: Told) -> Told
+    ensures { λ r. ⌜ r ≡ placeShown number len told ⌝ }
+{
+    if number == 2 {
+        return settings_told(len, told);
+    }
+    told
+}
+
+// Why a family has a place in a flash of so many bytes, or none: 0, 1, 2 or 8, and the reason.
+#[no_mangle]
+pub extern "C" fn uf2_why_place(
+    settings: &[u8],
+    flash_len: usize,
+    family: u32,
+    out: &mut [u8],
+) -> u32
+    ensures { λ r. ⌜ callReturn r (now (out .exit)) ≡ placeCallOf (now (settings .entry)) «flash_len» family (now (out .entry)) ⌝ }
+{
+    let s = layout::read_settings(settings);
+    let why = reason::explain_place(s, flash_len, family);
+    let placed = why.placed;
+    let marks = why.entries;
+    let number = place_number(placed);
+    let told = place_told(placed, marks);
+    let shown = place_shown(number, settings.len(), told);
+    put_told(out, shown);
+    number as u32
+}

@@ -1,0 +1,53 @@
+/* Why a block was not taken, asked from C: of an arrival that is short, of one for a family that a board without a table does not take, of one that is
+ * written; of bytes that are no settings; and of places. */
+#include <stdio.h>
+#include <string.h>
+
+#include "uf2_receiver.h"
+#include "uf2_tools.h"
+#include "uf2_why.h"
+
+static uint8_t settings[UF2_SETTINGS_SIZE], transfer[UF2_TRANSFER_SIZE], flash[32768];
+static uint8_t seen[UF2_SEEN_MAP_SIZE], sectors[UF2_SECTOR_MAP_SIZE];
+
+static void told(const char *name, uint32_t result, const uint8_t *reason) {
+    printf("%s: %u, %u %u %u\n", name, (unsigned)result, (unsigned)uf2_get32(reason + UF2_REASON_CAUSE_AT),
+           (unsigned)uf2_get32(reason + UF2_REASON_GOT_AT), (unsigned)uf2_get32(reason + UF2_REASON_AGAINST_AT));
+}
+
+static void arrival(const char *name, uf2_len settings_len, const uint8_t *block, uf2_len block_len) {
+    uint8_t reason[UF2_REASON_SIZE], none = 0;
+    uint32_t result = uf2_why(settings, settings_len, transfer, sizeof transfer, block, block_len, flash, sizeof flash, seen, sizeof seen, sectors,
+                              sizeof sectors, &none, 0, &none, 0, reason, sizeof reason);
+    uint32_t looked = uf2_look(settings, settings_len, transfer, sizeof transfer, block, block_len, flash, sizeof flash, seen, sizeof seen, sectors,
+                               sizeof sectors, &none, 0, &none, 0);
+    told(name, result, reason);
+    if (result != looked) {
+        printf("and a look says %u\n", (unsigned)looked);
+    }
+}
+
+static void place(const char *name, uint32_t family) {
+    uint8_t reason[UF2_REASON_SIZE];
+    told(name, uf2_why_place(settings, sizeof settings, sizeof flash, family, reason, sizeof reason), reason);
+}
+
+int main(void) {
+    static uint8_t image[2 * UF2_MAKE_PAGE_SIZE], file[2 * UF2_MAKE_BLOCK_SIZE];
+    uint8_t kept[4] = {1, 2, 3, 4};
+    settings[UF2_SETTINGS_ARM_AT] = 1;
+    uf2_new(transfer, sizeof transfer);
+    uf2_make(image, sizeof image, UF2_FAMILY_ARM_S, 0x10000000u, file, sizeof file);
+    arrival("short", sizeof settings, file, 511);
+    arrival("written", sizeof settings, file, 512);
+    arrival("no settings", sizeof settings - 1, file, 512);
+    uf2_put32(file + 24, 129);
+    arrival("too many", sizeof settings, file, 512);
+    uf2_put32(file + 28, UF2_FAMILY_RISCV);
+    arrival("for another", sizeof settings, file, 512);
+    place("arm-s", UF2_FAMILY_ARM_S);
+    place("riscv", UF2_FAMILY_RISCV);
+    uf2_why_place(settings, sizeof settings, sizeof flash, UF2_FAMILY_ARM_S, kept, sizeof kept);
+    printf("%u %u %u %u\n", kept[0], kept[1], kept[2], kept[3]);
+    return 0;
+}
