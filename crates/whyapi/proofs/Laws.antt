@@ -19,9 +19,9 @@ use Rattle.reason.specs.declared.WhyPlace.{WhyPlace}
 use Rattle.whyapi.specs.declared.Told.{Told}
 use Rattle.whyapi.specs.WhyCall.{toldOf, byteTold, numbersOver, marksOver, toldOver, Call, callReturn, returned, whyCall, placeTold, placeShown, placeCall}
 
--- 534 is layout's length of settings: bytes of any other are those whose count is 255
-pub no-settings : (b : List ℕ) → length b ≢ 534 → countFrom b ≡ 255
-no-settings b n = rw (ne-eqb (length b) 534 n)
+-- 550 is layout's length of settings: bytes of any other are those whose count is 255
+pub no-settings : (b : List ℕ) → length b ≢ 550 → countFrom b ≡ 255
+no-settings b n = rw (ne-eqb (length b) 550 n)
 
 -- ---- 38 bytes
 

@@ -100,7 +100,7 @@ bare number g a = toldWith number g a 0 0 (replicate 16 0)
 
 -- 210: a wrong length, and the right one; such bytes are bad settings (layout's `countFrom`)
 unfoldable pub settingsTold : ℕ → Told → Told
-settingsTold len x = cond (eqb len 534) x (bare 210 len 534)
+settingsTold len x = cond (eqb len 550) x (bare 210 len 550)
 
 -- 306: a wrong length, and the right one; 307: a state byte over 2, or of a transfer that is not Idle a kind byte over 2 (layout's `stateOf`)
 unfoldable pub transferTold : List ℕ → Told → Told

@@ -42,7 +42,7 @@ pub struct Told {
 // The bytes of a reason, of settings and of a transfer.
 const REASON: usize = 38;
 
-const SETTINGS: usize = 534;
+const SETTINGS: usize = 550;
 
 const TRANSFER: usize = 14;
 
