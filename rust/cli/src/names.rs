@@ -28,6 +28,7 @@ pub fn meaning(answer: Answer) -> &'static str {
         Answer::Written => "stored",
         Answer::Completed => "the file is whole now",
         Answer::Noted => "a comment, counted",
+        Answer::Kept => "counted, and not stored, since the flash has it already",
     }
 }
 
