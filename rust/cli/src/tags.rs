@@ -1,104 +1,174 @@
-//! `vantorel tags`: the extension tags of each block that has any.
+//! `vantorel tags`: the extension tags of each block that has any, and the firmware's version.
 
-use crate::args::Args;
+use crate::args::{Args, Opt};
+use crate::block::{pieces, Block};
 use crate::json::Json;
+use crate::number::count;
+use crate::out::Out;
 use crate::{files, End, Outcome};
-use proved::tags::{kind, Refusal, Tags};
-use proved::ARRIVAL_BYTES;
+use proved::tags::{self, kind, Refusal, Tag, Tags};
 
+/// Its page of help.
 pub const HELP: &str = "\
 vantorel tags FILE.uf2 [--json]
 
-Lists the extension tags of each block that has any: the block's place in the file, the tag's type, and its contents as text where they are text.
-Exit status 1 where a block is no UF2 block or its tags are broken.
+Lists the extension tags of each block that has any: the piece's place in the file, the block's number, the tag's type, and its contents, as text
+where they are text and else in hex; then the firmware's version.
+
+  --json  the same for scripts
+
+Exit status 0 where every piece of the file is a block whose tags can be read, 1 where one is not, 2 for a wrong command line or a file
+that cannot be read.
 
     vantorel tags display.uf2
 
 ";
 
-fn name(kind: u32) -> &'static str {
-    match kind {
+/// Its options.
+pub const OPTIONS: &[Opt] = &[Opt::Flag("--json")];
+
+/// A tag or a refusal, and the piece of the file that it is in.
+struct Found<'a> {
+    piece: usize,
+    block: Option<u32>,
+    tag: Result<Tag<'a>, Refusal>,
+}
+
+fn type_name(number: u32) -> &'static str {
+    match number {
         kind::VERSION => "version",
         kind::DEVICE => "device",
         kind::PAGE_SIZE => "page size",
         kind::SHA2 => "SHA-2",
         kind::DEVICE_TYPE => "device type",
-        _ => "unknown",
+        _ => "another type",
     }
 }
 
-/// Text as it stands, else the bytes in hex.
-fn contents(bytes: &[u8]) -> String {
-    let text = bytes.strip_suffix(&[0]).unwrap_or(bytes);
-    match std::str::from_utf8(text) {
-        Ok(text) if !text.is_empty() && text.chars().all(|c| !c.is_control()) => {
-            format!("\"{text}\"")
+/// Text as it stands, without the zeros that fill it up; none where the bytes are no text.
+fn text(bytes: &[u8]) -> Option<&str> {
+    let end = bytes.iter().rposition(|&b| b != 0).map_or(0, |k| k + 1);
+    let text = std::str::from_utf8(&bytes[..end]).ok()?;
+    (!text.is_empty() && !text.contains(char::is_control)).then_some(text)
+}
+
+/// The contents of a tag: a text, or the bytes in hex.
+fn contents(tag: &Tag) -> String {
+    let of_text = matches!(tag.kind, kind::VERSION | kind::DEVICE);
+    match text(tag.contents) {
+        Some(text) if of_text || text.len() > 4 => format!("{text:?}"),
+        _ => hex(tag.contents),
+    }
+}
+
+fn hex(bytes: &[u8]) -> String {
+    let bytes: Vec<String> = bytes.iter().map(|b| format!("{b:02x}")).collect();
+    bytes.join(" ")
+}
+
+impl Found<'_> {
+    fn line(&self) -> String {
+        let block = match self.block {
+            Some(number) => format!("piece {}, block {number}", self.piece),
+            None => format!("piece {}", self.piece),
+        };
+        match &self.tag {
+            Ok(tag) => format!(
+                "{block}: {} (0x{:06x}): {}",
+                type_name(tag.kind),
+                tag.kind,
+                contents(tag)
+            ),
+            Err(why) => format!("{block}: {} {why:?}: {why}", why.number()),
         }
-        _ => bytes
-            .iter()
-            .map(|b| format!("{b:02x}"))
-            .collect::<Vec<_>>()
-            .join(" "),
+    }
+
+    fn json(&self) -> Json {
+        let mut fields = vec![("piece", self.piece.into()), ("block", self.block.into())];
+        match &self.tag {
+            Ok(tag) => fields.extend([
+                ("type", tag.kind.into()),
+                ("name", type_name(tag.kind).into()),
+                ("text", text(tag.contents).into()),
+                ("hex", hex(tag.contents).into()),
+            ]),
+            Err(why) => fields.extend([
+                ("refusal", u32::from(why.number()).into()),
+                ("name", format!("{why:?}").into()),
+            ]),
+        }
+        Json::Object(fields)
     }
 }
 
-fn why(refusal: Refusal) -> String {
-    format!("{refusal:?}")
+/// The tags of a file, and what is refused.
+fn all(file: &[u8]) -> Vec<Found<'_>> {
+    let mut found = Vec::new();
+    for (piece, bytes) in pieces(file).enumerate() {
+        let block = Block::read(bytes).map(|block| block.number);
+        found.extend(Tags::new(bytes).map(|tag| Found { piece, block, tag }));
+    }
+    found
 }
 
-pub fn run(mut args: Args) -> Outcome {
-    let json = args.flag("--json")?;
-    let [name_of_file] = args.files(["FILE.uf2"])?;
-    let file = files::read(&name_of_file)?;
-    let (mut found, mut broken, mut list) = (0, 0, Vec::new());
-    for (k, piece) in file.chunks(ARRIVAL_BYTES).enumerate() {
-        for tag in Tags::new(piece) {
-            match tag {
-                Ok(tag) => {
-                    found += 1;
-                    if json {
-                        list.push(Json::Object(vec![
-                            ("piece", Json::Number(k as u64)),
-                            ("type", Json::Number(tag.kind.into())),
-                            ("name", Json::text(name(tag.kind))),
-                            ("contents", Json::text(contents(tag.contents))),
-                        ]));
-                    } else {
-                        println!(
-                            "piece {k}: {} (0x{:06x}): {}",
-                            name(tag.kind),
-                            tag.kind,
-                            contents(tag.contents)
-                        );
-                    }
-                }
-                Err(refusal) => {
-                    broken += 1;
-                    if json {
-                        list.push(Json::Object(vec![
-                            ("piece", Json::Number(k as u64)),
-                            ("refusal", Json::text(why(refusal))),
-                        ]));
-                    } else {
-                        println!("piece {k}: {}", why(refusal));
-                    }
-                }
+/// The versions that the blocks of a file name, each once, in the order of the file.
+fn versions(file: &[u8]) -> Vec<String> {
+    let mut versions = Vec::new();
+    for piece in pieces(file) {
+        if let Ok(Some(tag)) = tags::find(piece, kind::VERSION) {
+            let version = text(tag.contents).map_or_else(|| hex(tag.contents), String::from);
+            if !versions.contains(&version) {
+                versions.push(version);
             }
         }
     }
-    if json {
-        println!(
-            "{}",
-            Json::Object(vec![
-                ("tags", Json::List(list)),
-                ("broken", Json::Number(broken))
-            ])
-        );
-    } else {
-        println!(
-            "{}: {found} tags, {broken} broken",
-            files::short(&name_of_file)
-        );
+    versions
+}
+
+/// Runs the command.
+pub fn run(args: &Args, out: &mut Out) -> Outcome {
+    let [name] = args.files(["FILE.uf2"])?;
+    let file = files::read(name)?;
+    let found = all(&file);
+    let versions = versions(&file);
+    let refused = found.iter().filter(|found| found.tag.is_err()).count();
+    let whole = refused == 0 && !file.is_empty();
+    if args.flag("--json") {
+        out.line(Json::Object(vec![
+            ("file", name.into()),
+            ("pieces", pieces(&file).len().into()),
+            ("tags", Json::list(found.iter().map(Found::json))),
+            ("versions", Json::list(versions)),
+            ("refused", refused.into()),
+            ("whole", whole.into()),
+        ]));
+        return Ok(if whole { End::Whole } else { End::Short });
     }
-    Ok(if broken == 0 { End::Whole } else { End::Short })
+    for found in &found {
+        out.line(found.line());
+    }
+    out.line(format_args!(
+        "{}: {}, {}",
+        files::short(name),
+        count(pieces(&file).len() as u64, "piece"),
+        count((found.len() - refused) as u64, "tag")
+    ));
+    out.line(match versions.as_slice() {
+        [] => "version: the file names none".into(),
+        [version] => format!("version: {version}"),
+        many => format!(
+            "version: the file names {}: {}",
+            many.len(),
+            many.join(", ")
+        ),
+    });
+    if file.is_empty() {
+        out.line("NOT WHOLE: the file is empty.");
+    } else if refused > 0 {
+        let pieces = count(refused as u64, "piece");
+        out.line(format_args!(
+            "NOT WHOLE: of {pieces} the tags cannot be read, as said above. Get the file again."
+        ));
+    }
+    Ok(if whole { End::Whole } else { End::Short })
 }
