@@ -182,12 +182,12 @@ mod tests {
             "-v --flash=2M a.uf2",
             "-v --flash 2M -- a.uf2",
         ] {
-            let args = parse(line).ok().expect(line);
+            let args = parse(line).expect(line);
             assert_eq!(args.number("--flash").ok().flatten(), Some(2_097_152));
             assert!(args.flag("-v") && !args.flag("--json"));
             assert_eq!(args.files(["FILE"]).ok(), Some(["a.uf2"]));
         }
-        let args = parse("-- -v").ok().expect("a file");
+        let args = parse("-- -v").expect("a file");
         assert_eq!(args.files(["FILE"]).ok(), Some(["-v"]));
     }
 
@@ -205,7 +205,7 @@ mod tests {
             let told = parse(line).err().expect(line);
             assert!(told.contains(why), "{line}: {told}");
         }
-        let args = parse("a b --flash x").ok().expect("words");
+        let args = parse("a b --flash x").expect("words");
         assert!(args.files(["FILE"]).is_err());
         assert!(args.files(["A", "B", "C"]).is_err());
         assert!(args.number("--flash").is_err());

@@ -203,7 +203,7 @@ fn verdict(read: &Read) -> String {
         }
         (None, 0) => "WHOLE: the file was read to its end, and nothing was left out.".into(),
         (None, n) => format!(
-            "NOT WHOLE: the file was read to its end, but {} for this board {} left out, outside of the image: the image is not whole.",
+            "NOT WHOLE: the file was read to its end, but {} for this board {} left out, outside of the image.",
             count(n as u64, "record"),
             if n == 1 { "was" } else { "were" }
         ),

@@ -59,7 +59,7 @@ fn own_data_left_out() {
         "{}",
         ran.out
     );
-    assert!(ran.out.ends_with("NOT WHOLE: the file was read to its end, but 1 record for this board was left out, outside of the image: the image is not whole.\n"));
+    assert!(ran.out.ends_with("NOT WHOLE: the file was read to its end, but 1 record for this board was left out, outside of the image.\n"));
     assert_eq!(folder.get("v1.bin").len(), 0x110);
     let ran = folder.ends(1, "hex both.hex --board v1 --bytes 1");
     assert!(
