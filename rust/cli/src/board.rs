@@ -190,7 +190,7 @@ impl Board {
         let why = match self.length {
             Length::Said => "",
             Length::Needed => " (none was said: as large as the file needs)",
-            Length::Plain => " (none was said, and the file needs none)",
+            Length::Plain => " (none was said: that of `receive`)",
         };
         let mut parts = vec![format!("board: a flash of {len} bytes{why}")];
         parts.push(self.architectures());
@@ -270,7 +270,7 @@ mod tests {
         let plain = board("", None);
         assert_eq!(
             plain.line(),
-            "board: a flash of 32768 bytes (none was said, and the file needs none), Arm, absolute allowed, no partition table, no RAM"
+            "board: a flash of 32768 bytes (none was said: that of `receive`), Arm, absolute allowed, no partition table, no RAM"
         );
         assert!(plain.flash.iter().all(|&byte| byte == 0xFF));
     }

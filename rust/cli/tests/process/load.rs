@@ -170,7 +170,7 @@ fn nothing_is_taken() {
     let folder = blink();
     folder.put("empty", []);
     let ran = folder.ends(1, "load empty");
-    assert!(ran.out.starts_with("empty: 0 pieces of 512 bytes, 0 arrivals\nboard: a flash of 32768 bytes (none was said, and the file needs none), Arm"));
+    assert!(ran.out.starts_with("empty: 0 pieces of 512 bytes, 0 arrivals\nboard: a flash of 32768 bytes (none was said: that of `receive`), Arm"));
     assert!(ran.out.ends_with("sectors erased: none\nNOT COMPLETE: no block came. The display was never told that it is complete.\n"));
     let ran = folder.ends(1, "load blink.bin");
     assert!(ran.out.ends_with("NOT COMPLETE: no block was taken (32 times: not a UF2 block). The display was never told that it is complete.\n"), "{}", ran.out);

@@ -129,7 +129,7 @@ fn small_traces() {
     folder.put("empty", []);
     let ran = folder.ends(0, "replay empty");
     assert!(ran.out.starts_with(
-        "empty: 0 records\nboard: a flash of 32768 bytes (none was said, and the file needs none)"
+        "empty: 0 records\nboard: a flash of 32768 bytes (none was said: that of `receive`)"
     ));
     let block = block(FAMILY, 0x1000_0000, 0, 1, ARM_S, 7);
     folder.put("one", [&[15 << 3], &block[..]].concat());
