@@ -66,6 +66,18 @@ impl Job<'_> {
         format!("{} {why:?}: {name} {reason}", why.number())
     }
 
+    /// What was made.
+    fn words(&self, blocks: usize) -> String {
+        format!(
+            "{}: {} of family {}, for 0x{:08x} to 0x{:08x}",
+            files::short(self.out),
+            count(blocks as u64, "block"),
+            families::words(self.family),
+            self.start,
+            u64::from(self.start) + self.len as u64 - 1
+        )
+    }
+
     fn json(&self, blocks: usize, refusal: Option<MakeRefusal>) -> Json {
         Json::Object(vec![
             ("image", self.name.into()),
@@ -115,19 +127,11 @@ pub fn run(args: &Args, out: &mut Out) -> Outcome {
     }
     if args.flag("--json") {
         out.line(job.json(made.unwrap_or(0), made.err()));
+    } else if let Ok(blocks) = made {
+        out.line(job.words(blocks));
     }
     match made {
-        Ok(_) if args.flag("--json") => Ok(End::Whole),
-        Ok(blocks) => {
-            out.line(format_args!(
-                "{}: {} of family {}, for 0x{start:08x} to 0x{:08x}",
-                files::short(to),
-                count(blocks as u64, "block"),
-                families::words(family),
-                u64::from(start) + image.len() as u64 - 1
-            ));
-            Ok(End::Whole)
-        }
+        Ok(_) => Ok(End::Whole),
         Err(why) => {
             out.note(format_args!("nothing was made: {}", job.refusal(why)));
             Ok(End::Short)

@@ -125,50 +125,83 @@ fn versions(file: &[u8]) -> Vec<String> {
     versions
 }
 
+/// What was found in a file.
+struct Listed<'a> {
+    name: &'a str,
+    pieces: usize,
+    found: Vec<Found<'a>>,
+    versions: Vec<String>,
+}
+
+impl Listed<'_> {
+    fn refused(&self) -> usize {
+        self.found.iter().filter(|found| found.tag.is_err()).count()
+    }
+
+    fn whole(&self) -> bool {
+        self.refused() == 0 && self.pieces > 0
+    }
+
+    fn words(&self, out: &mut Out) {
+        for found in &self.found {
+            out.line(found.line());
+        }
+        out.line(format_args!(
+            "{}: {}, {}",
+            files::short(self.name),
+            count(self.pieces as u64, "piece"),
+            count((self.found.len() - self.refused()) as u64, "tag")
+        ));
+        out.line(match self.versions.as_slice() {
+            [] => "version: the file names none".into(),
+            [version] => format!("version: {version}"),
+            many => format!(
+                "version: the file names {}: {}",
+                many.len(),
+                many.join(", ")
+            ),
+        });
+        if self.pieces == 0 {
+            out.line("NOT WHOLE: the file is empty.");
+        } else if !self.whole() {
+            out.line(format_args!(
+                "NOT WHOLE: of {} the tags cannot be read, as said above. Get the file again.",
+                count(self.refused() as u64, "piece")
+            ));
+        }
+    }
+
+    fn json(&self) -> Json {
+        let versions = self.versions.iter().map(String::as_str);
+        Json::Object(vec![
+            ("file", self.name.into()),
+            ("pieces", self.pieces.into()),
+            ("tags", Json::list(self.found.iter().map(Found::json))),
+            ("versions", Json::list(versions)),
+            ("refused", self.refused().into()),
+            ("whole", self.whole().into()),
+        ])
+    }
+}
+
 /// Runs the command.
 pub fn run(args: &Args, out: &mut Out) -> Outcome {
     let [name] = args.files(["FILE.uf2"])?;
     let file = files::read(name)?;
-    let found = all(&file);
-    let versions = versions(&file);
-    let refused = found.iter().filter(|found| found.tag.is_err()).count();
-    let whole = refused == 0 && !file.is_empty();
+    let listed = Listed {
+        name,
+        pieces: pieces(&file).len(),
+        found: all(&file),
+        versions: versions(&file),
+    };
     if args.flag("--json") {
-        out.line(Json::Object(vec![
-            ("file", name.into()),
-            ("pieces", pieces(&file).len().into()),
-            ("tags", Json::list(found.iter().map(Found::json))),
-            ("versions", Json::list(versions)),
-            ("refused", refused.into()),
-            ("whole", whole.into()),
-        ]));
-        return Ok(if whole { End::Whole } else { End::Short });
+        out.line(listed.json());
+    } else {
+        listed.words(out);
     }
-    for found in &found {
-        out.line(found.line());
-    }
-    out.line(format_args!(
-        "{}: {}, {}",
-        files::short(name),
-        count(pieces(&file).len() as u64, "piece"),
-        count((found.len() - refused) as u64, "tag")
-    ));
-    out.line(match versions.as_slice() {
-        [] => "version: the file names none".into(),
-        [version] => format!("version: {version}"),
-        many => format!(
-            "version: the file names {}: {}",
-            many.len(),
-            many.join(", ")
-        ),
-    });
-    if file.is_empty() {
-        out.line("NOT WHOLE: the file is empty.");
-    } else if refused > 0 {
-        let pieces = count(refused as u64, "piece");
-        out.line(format_args!(
-            "NOT WHOLE: of {pieces} the tags cannot be read, as said above. Get the file again."
-        ));
-    }
-    Ok(if whole { End::Whole } else { End::Short })
+    Ok(if listed.whole() {
+        End::Whole
+    } else {
+        End::Short
+    })
 }

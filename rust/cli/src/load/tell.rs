@@ -108,13 +108,7 @@ pub fn words(load: &Load, out: &mut Out) {
         count(load.sent.len() as u64, "arrival"),
     ));
     out.line(load.board.line());
-    for (answer, n) in load.counts().values() {
-        let name = names::answer(*answer);
-        out.line(format_args!(
-            "  {name:14}{n:7}  {}",
-            names::meaning(*answer)
-        ));
-    }
+    answers(load, out);
     if load.discards() > 0 {
         out.line(format_args!(
             "a running transfer was discarded: {}",
@@ -137,6 +131,16 @@ pub fn words(load: &Load, out: &mut Out) {
     }
     written(load, out);
     out.line(verdict(load));
+}
+
+fn answers(load: &Load, out: &mut Out) {
+    for (answer, n) in load.counts().values() {
+        let name = names::answer(*answer);
+        out.line(format_args!(
+            "  {name:14}{n:7}  {}",
+            names::meaning(*answer)
+        ));
+    }
 }
 
 fn sectors(load: &Load, out: &mut Out) {
