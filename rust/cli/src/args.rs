@@ -154,6 +154,14 @@ impl Args {
         }
     }
 
+    /// The names of files: at least one.
+    pub fn some_files(&self, what: &str) -> Result<&[String], Trouble> {
+        if self.files.is_empty() {
+            return self.wrong(format!("{what} is missing"));
+        }
+        Ok(&self.files)
+    }
+
     /// A wrong command line, in one sentence.
     pub fn wrong<T>(&self, why: impl AsRef<str>) -> Result<T, Trouble> {
         Err(Trouble(format!(

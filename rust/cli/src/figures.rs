@@ -1,33 +1,89 @@
 //! `vantorel figures`: exact figures over many traces, in words and for scripts.
 
+use crate::args::{Args, Opt};
+use crate::block::need;
+use crate::board::{Board, Options};
 use crate::json::Json;
-use crate::names;
 use crate::number::count;
+use crate::out::Out;
+use crate::progress::Progress;
+use crate::replay::arrivals;
+use crate::{files, names, End, Outcome, Trouble};
 use proved::Answer;
+use tools::report::{add, Report};
 use tools::trace::Stop;
 
-/// The figures over some traces.
-#[derive(Clone, Copy, PartialEq, Eq, Debug)]
-pub struct Figures {
-    /// The records replayed, those before a stop.
-    pub records: u32,
-    /// How many of them had each answer, in the order of the numbers: 1 to 5, then 7 to 17.
-    pub counts: [u32; 16],
-    /// How many of them discarded a running transfer.
-    pub discards: u32,
-    /// The different numbers marked at the last trace's end.
-    pub marked: u32,
-    /// The smallest number missing there, where the transfer was running.
-    pub missing: Option<u32>,
+/// Its page of help.
+pub const HELP: &str = "\
+vantorel figures TRACE.. [BOARD] [--json]
+
+Replays traces, each into a fresh board, and adds up exact figures: the records replayed, how many had each answer, and how many discarded a running
+transfer; and at the end of the last trace, how many blocks are marked and which is the first that is missing. A trace that stops is in the
+figures with the records before the stop.
+
+  --json  the same for scripts
+
+Exit status 0 where every trace was replayed to its end, 1 where one was not, 2 for a wrong command line or a file that cannot be read.
+
+    vantorel figures monday.trace tuesday.trace --flash 2M
+
+";
+
+/// Its options, beside those of a board.
+pub const OPTIONS: &[Opt] = &[Opt::Flag("--json")];
+
+/// Adds the traces up, each from the board as it is said; and the board after the last one.
+fn figures(
+    options: &Options,
+    traces: &[(&str, Vec<u8>)],
+) -> Result<(Report, Vec<Played>, Board), Trouble> {
+    let need = need(traces.iter().flat_map(|(_, trace)| arrivals(trace)));
+    let mut report = Report::FRESH;
+    let mut board = options.board(need)?;
+    let mut played = Vec::new();
+    let progress = Progress::start("figures", traces.len() as u64);
+    for (name, trace) in traces {
+        board = options.board(need)?;
+        let settings = board.settings.clone();
+        let stop = add(&mut report, &settings, trace, &mut board.buffers());
+        played.push(Played {
+            name: files::short(name),
+            stop: stop.map_err(|refusal| refusal.number()),
+        });
+        progress.done(played.len() as u64);
+    }
+    Ok((report, played, board))
+}
+
+/// Runs the command.
+pub fn run(args: &Args, out: &mut Out) -> Outcome {
+    let options = Options::read(args)?;
+    let mut traces = Vec::new();
+    for name in args.some_files("TRACE")? {
+        traces.push((name.as_str(), files::read(name)?));
+    }
+    let (report, played, board) = figures(&options, &traces)?;
+    if args.flag("--json") {
+        out.line(json(&report, &played, &board));
+    } else {
+        out.line(board.line());
+        for line in words(&report, &played) {
+            out.line(line);
+        }
+    }
+    Ok(if whole(&played) {
+        End::Whole
+    } else {
+        End::Short
+    })
 }
 
 /// What came of one trace.
-#[derive(Clone, PartialEq, Eq, Debug)]
-pub struct Played {
+struct Played {
     /// Its name.
-    pub name: String,
+    name: String,
     /// Where it stopped, or the number of the refusal.
-    pub stop: Result<Stop, u8>,
+    stop: Result<Stop, u8>,
 }
 
 impl Played {
@@ -65,7 +121,7 @@ impl Played {
 }
 
 /// The answers in the order of their numbers, with their counts.
-fn counts(figures: &Figures) -> impl Iterator<Item = (Answer, u32)> {
+fn counts(figures: &Report) -> impl Iterator<Item = (Answer, u32)> {
     let answers = (1..).filter_map(Answer::from_number);
     // the counts come first: they end, and the numbers do not
     let counts = figures.counts.into_iter().zip(answers);
@@ -73,7 +129,7 @@ fn counts(figures: &Figures) -> impl Iterator<Item = (Answer, u32)> {
 }
 
 /// The report in words, line by line.
-pub fn words(figures: &Figures, traces: &[Played]) -> Vec<String> {
+fn words(figures: &Report, traces: &[Played]) -> Vec<String> {
     let mut lines: Vec<String> = traces.iter().map(Played::words).collect();
     lines.push(format!(
         "{}, {} replayed",
@@ -97,7 +153,7 @@ pub fn words(figures: &Figures, traces: &[Played]) -> Vec<String> {
 }
 
 /// The same for scripts, every answer with its count, 0 too.
-pub fn json(figures: &Figures, traces: &[Played]) -> Json {
+fn json(figures: &Report, traces: &[Played], board: &Board) -> Json {
     let answers = counts(figures).map(|(answer, n)| {
         Json::Object(vec![
             ("answer", u32::from(answer.number()).into()),
@@ -106,6 +162,7 @@ pub fn json(figures: &Figures, traces: &[Played]) -> Json {
         ])
     });
     Json::Object(vec![
+        ("board", board.json()),
         ("traces", Json::list(traces.iter().map(Played::json))),
         ("records", figures.records.into()),
         ("answers", Json::list(answers)),
@@ -116,7 +173,7 @@ pub fn json(figures: &Figures, traces: &[Played]) -> Json {
 }
 
 /// Whether every trace was replayed to its end.
-pub fn whole(traces: &[Played]) -> bool {
+fn whole(traces: &[Played]) -> bool {
     traces.iter().all(|trace| trace.stop == Ok(Stop::None))
 }
 
@@ -124,13 +181,13 @@ pub fn whole(traces: &[Played]) -> bool {
 mod tests {
     use super::*;
 
-    fn example() -> (Figures, Vec<Played>) {
+    fn example() -> (Report, Vec<Played>) {
         let mut counts = [0; 16];
         counts[3] = 1; // 4 NotBlock
         counts[5] = 2; // 7 NoFamily
         counts[12] = 5; // 14 Written
         counts[15] = 1; // 17 Kept
-        let figures = Figures {
+        let figures = Report {
             records: 9,
             counts,
             discards: 1,
@@ -173,7 +230,7 @@ mod tests {
             ]
         );
         assert!(!whole(&traces) && whole(&traces[..1]));
-        let done = Figures {
+        let done = Report {
             missing: None,
             marked: 1,
             ..figures
@@ -182,15 +239,5 @@ mod tests {
             words(&done, &[]).last().map(String::as_str),
             Some("at the end of the last trace: 1 block marked")
         );
-    }
-
-    #[test]
-    fn for_scripts() {
-        let (figures, traces) = example();
-        let text = json(&figures, &traces[..2]).to_string();
-        assert!(text.starts_with("{\"traces\": [{\"trace\": \"a\", \"stop\": \"none\", \"index\": null, \"refusal\": null}, {\"trace\": \"b\", \"stop\": \"bad\", \"index\": 3,"));
-        assert!(text.contains("{\"answer\": 17, \"name\": \"Kept\", \"count\": 1}"));
-        assert_eq!(text.matches("\"count\"").count(), 16);
-        assert!(text.ends_with("\"discards\": 1, \"marked\": 6, \"missing\": 17}"));
     }
 }

@@ -6,7 +6,7 @@ mod args;
 mod block;
 mod board;
 mod families;
-pub mod figures;
+mod figures;
 mod files;
 mod hex;
 mod join;
@@ -73,6 +73,13 @@ const COMMANDS: &[Command] = &[
         help: &[replay::HELP, board::HELP],
         options: &[replay::OPTIONS, board::OPTIONS],
         run: replay::run,
+    },
+    Command {
+        name: "figures",
+        does: "adds up exact figures over many traces",
+        help: &[figures::HELP, board::HELP],
+        options: &[figures::OPTIONS, board::OPTIONS],
+        run: figures::run,
     },
     Command {
         name: "tags",

@@ -4,7 +4,7 @@ use crate::common::{told, Folder, TOOL};
 use crate::load::blink;
 use std::process::{Command, Stdio};
 
-const COMMANDS: [&str; 6] = ["load", "make", "replay", "tags", "hex", "join"];
+const COMMANDS: [&str; 7] = ["load", "make", "replay", "figures", "tags", "hex", "join"];
 
 #[test]
 fn help_for_the_tool() {
@@ -42,7 +42,11 @@ fn help_for_each_command() {
         assert_eq!(folder.ends(0, &format!("help {command}")).out, page);
         assert_eq!(folder.ends(0, &format!("{command} x --what -h")).out, page);
         let board = page.contains("--flash BYTES");
-        assert_eq!(board, ["load", "replay"].contains(&command), "{page}");
+        assert_eq!(
+            board,
+            ["load", "replay", "figures"].contains(&command),
+            "{page}"
+        );
         // every option of the usage has a line of its own
         let usage = page.lines().next().unwrap_or_default();
         let options = usage.split(['[', ']', ' ']).filter(|w| w.starts_with('-'));

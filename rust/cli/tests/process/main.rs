@@ -2,6 +2,7 @@
 
 mod common;
 mod docs;
+mod figures;
 mod hex;
 mod join;
 mod line;

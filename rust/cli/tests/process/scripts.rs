@@ -72,6 +72,13 @@ fn of_loads_and_replays() {
             "\"ours\": {\"answer\": 10, \"name\": \"BadNumbers\", \"discarded\": false}",
         ],
     );
+    let text = json(&folder, 0, "figures t.trace");
+    has(&text, &[
+        "\"traces\": [{\"trace\": \"t.trace\", \"stop\": \"none\", \"index\": null, \"refusal\": null}], \"records\": 64",
+        "{\"answer\": 1, \"name\": \"BadBuffers\", \"count\": 0}",
+        "{\"answer\": 15, \"name\": \"Completed\", \"count\": 1}",
+        "\"discards\": 0, \"marked\": 64, \"missing\": null",
+    ]);
     folder.put("short.trace", [32; 100]);
     let text = json(&folder, 1, "replay short.trace");
     has(
