@@ -2,7 +2,7 @@
 
 use crate::args::{Args, Opt};
 use crate::json::Json;
-use crate::{files, Trouble};
+use crate::{files, settings, Trouble};
 use proved::{
     Answer, Arch, Buffers, Settings, FLASH_MAX_BYTES, MAIN_RAM_BYTES, SECTOR_BYTES,
     SECTOR_MAP_BYTES, SEEN_MAP_BYTES, XIP_RAM_BYTES,
@@ -13,6 +13,7 @@ pub const HELP: &str = "\
 BOARD, where no option is said, is the board of `receive`: Arm alone, the family absolute allowed, no partition table, no RAM, an erased flash;
 but the flash is as large as the file needs, in whole sectors of 4,096 bytes.
   --flash BYTES         the flash's length: 4096, 0x8000, 64K, 2M; whole sectors, at most 32M
+  --settings STORE      the settings of a packed store, with its partition table, in the place of the five options that follow
   --arm --riscv         the architectures that are enabled; Arm, where neither is said
   --current NAME        the current one, arm or riscv; Arm, where both are enabled
   --auto-switch         an image for the other architecture is placed as well
@@ -24,6 +25,7 @@ but the flash is as large as the file needs, in whole sectors of 4,096 bytes.
 /// The options of a board.
 pub const OPTIONS: &[Opt] = &[
     Opt::Value("--flash"),
+    Opt::Value("--settings"),
     Opt::Flag("--arm"),
     Opt::Flag("--riscv"),
     Opt::Value("--current"),
@@ -78,8 +80,29 @@ pub struct Options {
     words: Vec<String>,
 }
 
+/// The options that `--settings` stands for.
+const SWITCHES: &[Opt] = &[
+    Opt::Flag("--arm"),
+    Opt::Flag("--riscv"),
+    Opt::Value("--current"),
+    Opt::Flag("--auto-switch"),
+    Opt::Flag("--absolute"),
+];
+
+/// The settings of a store.
+fn stored(args: &Args, name: &str, flash: Option<usize>) -> Result<Settings, Trouble> {
+    if let Some(word) = args.said_of(SWITCHES).first() {
+        return args.wrong(format!("--settings has what {word} says: say one of them"));
+    }
+    let flash = flash.unwrap_or(FLASH_MAX_BYTES);
+    proved::store::read(&files::read(name)?, flash).map_err(|why| {
+        let why = settings::refusal(why, flash);
+        Trouble(format!("cannot read {name} as a store: {why}"))
+    })
+}
+
 /// The settings that the options say; those of `receive` where they say none.
-fn settings(args: &Args) -> Result<Settings, Trouble> {
+fn switches(args: &Args) -> Result<Settings, Trouble> {
     let (arm, riscv) = (args.flag("--arm"), args.flag("--riscv"));
     let current = match args.value("--current") {
         None => None,
@@ -118,14 +141,25 @@ fn flash_len(args: &Args) -> Result<Option<usize>, Trouble> {
 impl Options {
     /// Reads the options, and the file of `--start-image`.
     pub fn read(args: &Args) -> Result<Options, Trouble> {
+        let flash = flash_len(args)?;
+        let settings = match args.value("--settings") {
+            Some(name) => stored(args, name, flash)?,
+            None => switches(args)?,
+        };
         Ok(Options {
-            settings: settings(args)?,
-            flash: flash_len(args)?,
+            settings,
+            flash,
             main: args.flag("--main-ram"),
             xip: args.flag("--xip-ram"),
             image: args.value("--start-image").map(files::read).transpose()?,
             words: args.said_of(OPTIONS),
         })
+    }
+
+    /// How large a flash the partition table needs; none where there is no table.
+    fn table(&self) -> Option<u64> {
+        let settings = settings::Settings::from_proved(&self.settings);
+        (self.settings.count > 0).then(|| settings::need(&settings))
     }
 
     /// The flash, where its length was not said: what the file and the start image need.
@@ -140,6 +174,7 @@ impl Options {
 
     /// The board, for a file whose pages need a flash of so many bytes.
     pub fn board(&self, need: Option<u64>) -> Result<Board, Trouble> {
+        let need = need.max(self.table());
         let len = self.flash.unwrap_or_else(|| self.needed(need));
         let mut flash = vec![0xFF; len];
         if let Some(image) = &self.image {

@@ -19,7 +19,7 @@ mod out;
 mod progress;
 pub mod reason;
 mod replay;
-pub mod settings;
+mod settings;
 mod state;
 mod tags;
 pub mod why;
@@ -101,6 +101,13 @@ const COMMANDS: &[Command] = &[
         help: &[join::HELP],
         options: &[join::OPTIONS],
         run: join::run,
+    },
+    Command {
+        name: "settings",
+        does: "shows a store of a board's settings, and packs one from a text",
+        help: &[settings::HELP],
+        options: &[settings::OPTIONS],
+        run: settings::run,
     },
 ];
 

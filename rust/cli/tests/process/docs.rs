@@ -5,6 +5,23 @@ use crate::tags::display;
 use std::path::Path;
 use std::process::{Command, Stdio};
 
+const BOARD: &str = "\
+# a display with two slots for its firmware
+arm = true
+current = \"arm\"
+
+[[partition]]
+first = 2
+sectors = 16
+accepts = [\"arm-s\", 0x12345678]
+
+[[partition]]
+first = 18
+sectors = 16
+accepts = [\"arm-s\"]
+b-of = 0
+";
+
 /// The files that the examples of the page are run on.
 fn folder() -> Folder {
     let folder = Folder::new();
@@ -12,6 +29,7 @@ fn folder() -> Folder {
     folder.put("blink-v1.hex", plain(0, &pages(1)));
     folder.put("blink-v2.hex", plain(0, &pages(2)));
     folder.put("display.uf2", display());
+    folder.put("board.toml", BOARD);
     folder
 }
 

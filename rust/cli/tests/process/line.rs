@@ -4,7 +4,9 @@ use crate::common::{told, Folder, TOOL};
 use crate::load::blink;
 use std::process::{Command, Stdio};
 
-const COMMANDS: [&str; 7] = ["load", "make", "replay", "figures", "tags", "hex", "join"];
+const COMMANDS: [&str; 8] = [
+    "load", "make", "replay", "figures", "tags", "hex", "join", "settings",
+];
 
 #[test]
 fn help_for_the_tool() {
@@ -41,7 +43,7 @@ fn help_for_each_command() {
         assert!(page.contains("Exit status 0 where "), "{page}");
         assert_eq!(folder.ends(0, &format!("help {command}")).out, page);
         assert_eq!(folder.ends(0, &format!("{command} x --what -h")).out, page);
-        let board = page.contains("--flash BYTES");
+        let board = page.contains("\nBOARD, where no option is said");
         assert_eq!(
             board,
             ["load", "replay", "figures"].contains(&command),

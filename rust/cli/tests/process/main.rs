@@ -11,4 +11,5 @@ mod make;
 mod real;
 mod replay;
 mod scripts;
+mod settings;
 mod tags;

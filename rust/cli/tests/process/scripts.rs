@@ -123,6 +123,25 @@ fn of_files_made_and_tags() {
 }
 
 #[test]
+fn of_settings() {
+    let folder = Folder::new();
+    folder.put("a.toml", "arm = true\ncurrent = \"arm\"\n[[partition]]\nfirst = 1\nsectors = 2\naccepts = [\"data\", 7]\n");
+    let text = json(&folder, 0, "settings pack a.toml -o a.store");
+    has(&text, &["\"out\": \"a.store\", \"written\": true, \"bytes\": 24, \"faults\": [], \"refusal\": null"]);
+    let text = json(&folder, 0, "settings show a.store");
+    has(&text, &[
+        "{\"arm\": true, \"riscv\": false, \"current\": \"arm\"",
+        "\"partitions\": [{\"first\": 1, \"sectors\": 2, \"accepts\": [\"data\"], \"users\": [7]",
+        "\"owned_by\": null, \"b_of\": null, \"dont_restart\": false}]",
+    ]);
+    let text = json(&folder, 1, "settings pack a.toml -o b.store --flash 4096");
+    has(
+        &text,
+        &["\"written\": false, \"bytes\": 0, \"faults\": [], \"refusal\": 2"],
+    );
+}
+
+#[test]
 fn of_hex_files() {
     let folder = Folder::new();
     folder.put("v1.hex", plain(0, &[1; 20]));
