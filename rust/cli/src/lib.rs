@@ -10,19 +10,19 @@ mod figures;
 mod files;
 mod hex;
 mod join;
-pub mod json;
+mod json;
 mod load;
 mod make;
 mod names;
 mod number;
 mod out;
 mod progress;
-pub mod reason;
+mod reason;
 mod replay;
 mod settings;
 mod state;
 mod tags;
-pub mod why;
+mod why;
 
 use args::{Args, Opt};
 use out::Out;
@@ -59,6 +59,13 @@ const COMMANDS: &[Command] = &[
         help: &[load::HELP, board::HELP],
         options: &[load::OPTIONS, board::OPTIONS],
         run: load::run,
+    },
+    Command {
+        name: "why",
+        does: "says why an arrival was not taken, or why a family has its place",
+        help: &[why::HELP, board::HELP],
+        options: &[why::OPTIONS, board::OPTIONS],
+        run: why::run,
     },
     Command {
         name: "make",

@@ -5,7 +5,7 @@ use crate::args::{Args, Opt};
 use crate::json::Json;
 use crate::number::count;
 use crate::out::Out;
-use crate::{files, End, Outcome, Trouble};
+use crate::{files, why, End, Outcome, Trouble};
 use proved::store::{self, Refusal};
 use proved::{FLASH_MAX_BYTES, SECTOR_BYTES};
 
@@ -133,9 +133,26 @@ fn written(args: &Args, to: &str, parsed: &Parsed, said: Option<usize>, out: &mu
     match result {
         Ok(_) => Ok(End::Whole),
         Err(why) => {
-            out.note(format_args!("nothing was written: {}", refusal(why, flash)));
+            let reason = reason(why, parsed, flash);
+            out.note(format_args!(
+                "nothing was written: {}{reason}",
+                refusal(why, flash)
+            ));
             Ok(End::Short)
         }
+    }
+}
+
+/// Which condition makes the settings bad, and in which line its partition begins.
+fn reason(refusal: Refusal, parsed: &Parsed, flash: usize) -> String {
+    if refusal != Refusal::BadSettings {
+        return String::new();
+    }
+    let reason = why::of_family(&parsed.settings.proved(), flash, proved::family::ARM_S);
+    let line = parsed.lines.get(usize::from(reason.entry));
+    match (reason.cause, line) {
+        (203..=209, Some(line)) => format!(": {} (line {line})", why::words(&reason)),
+        _ => format!(": {}", why::words(&reason)),
     }
 }
 

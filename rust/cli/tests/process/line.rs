@@ -4,8 +4,8 @@ use crate::common::{told, Folder, TOOL};
 use crate::load::blink;
 use std::process::{Command, Stdio};
 
-const COMMANDS: [&str; 8] = [
-    "load", "make", "replay", "figures", "tags", "hex", "join", "settings",
+const COMMANDS: [&str; 9] = [
+    "load", "make", "replay", "figures", "tags", "hex", "join", "settings", "why",
 ];
 
 #[test]
@@ -46,7 +46,7 @@ fn help_for_each_command() {
         let board = page.contains("\nBOARD, where no option is said");
         assert_eq!(
             board,
-            ["load", "replay", "figures"].contains(&command),
+            ["load", "why", "replay", "figures"].contains(&command),
             "{page}"
         );
         // every option of the usage has a line of its own

@@ -13,3 +13,4 @@ mod replay;
 mod scripts;
 mod settings;
 mod tags;
+mod why;

@@ -136,7 +136,7 @@ fn texts_that_are_bad() {
     let ran = folder.ends(1, "settings pack board.toml -o out.store --flash 8192");
     assert_eq!(
         ran.err,
-        "vantorel: nothing was written: 2 BadSettings: bad settings: they are not good for a flash of 8192 bytes\n"
+        "vantorel: nothing was written: 2 BadSettings: bad settings: they are not good for a flash of 8192 bytes: partition 0 ends at byte 24576 of the flash, which has only 8192 bytes (line 6)\n"
     );
     assert_eq!(folder.names(), ["bad.toml", "board.toml"]);
 }
