@@ -7,8 +7,9 @@ use compare::{
 use reference::why::{why, why_place};
 use tools::why::{explain, explain_place, Lent};
 
-/// The sectors of the flash.
+/// The sectors of the flash, and its pages.
 const SECTORS: u64 = 16;
+const PAGES: u64 = 16 * SECTORS;
 
 #[test]
 fn reasons_agree() {
@@ -16,10 +17,11 @@ fn reasons_agree() {
     let mut met = std::collections::BTreeSet::new();
     let mut lent = Ram::EVERY.map(|ram| Buffers::any(&mut r, SECTORS, ram));
     for i in 0..arrivals_asked() {
-        let buffers = &mut lent[i % Ram::EVERY.len()];
-        let settings = any_settings(&mut r, SECTORS as u32);
-        let transfer = any_transfer(&mut r);
-        let arrival = any_arrival(&mut r, SECTORS);
+        let at = i % Ram::EVERY.len();
+        let (ram, buffers) = (Ram::EVERY[at], &mut lent[at]);
+        let settings = any_settings(&mut r, SECTORS);
+        let transfer = any_transfer(&mut r, PAGES);
+        let arrival = any_arrival(&mut r, PAGES, ram);
         let wanted = why(
             &settings,
             transfer,
