@@ -1,15 +1,34 @@
 -- The claims about reasons. Assumes nothing.
-use mathlib.Core.Path.{_≡_, refl}
-use mathlib.Core.Bool.{true}
-use Prim.Native.Nat.{ℕ}
+use mathlib.Core.Path.{_≡_, refl, sym, ap, _∙_}
+use mathlib.Core.List.{List}
+use Prim.Native.Nat.{ℕ, _<_}
+use Rattle.causes.specs.Checks.{Deciding, none, here, later, flashRow, bufferRow, lengthsRow, runningRow, doneRow, stateRow, magicRow, flagsRow, headerRow, numbersRow, addressRow}
+use Rattle.reason.specs.Why.{shutRow, placeRow, checksOf, lastOf, testOf, holdsIn, reasonOf, entriesOf, whyOf}
+use Rattle.reasons.specs.Claims.{Reason-is-true, Answer-is-the-receivers, Marks-are-true, risesFrom, In-order}
+use mathlib.Core.Bool.{Bool, true, false, not, _&&_}
+use mathlib.Core.Logic.{_⊎_, inl, inr, ⊎-elim}
+use native.Mathlib.Omega.{arith}
+use lib.Dec.{leb, eqb}
+use lib.ListN.{getD}
+use borrow.Author.Tests.{leb-true, lt-ltb, not-true}
+use Rattle.sets.specs.Sets.{any}
+use Rattle.sets.proofs.Tests.{split, and-right}
+use Rattle.sets.proofs.Laws.{any-all}
+use Rattle.sets.proofs.TabLaws.{getD-tab}
+use Rattle.block.specs.Block.{fieldAt}
+use Rattle.settings.specs.Settings.{familyAbsolute, entryAt, isA, accepts}
+use Rattle.settings.specs.declared.Settings.{Settings}
+use Rattle.place.specs.Place.{usedCount}
+use Rattle.placing.specs.Placing.{noTable, takesAt, shutIn, markFor, markOf, marksOf, Marked}
+use Rattle.placing.specs.declared.Shut.the-variants.{NoEntry}
+use Rattle.causes.specs.declared.Cause.{Cause}
+use Rattle.causes.specs.declared.Cause.the-variants.{Kept}
+use Rattle.causes.specs.declared.Reason.{Reason}
 use Rattle.transfer.specs.declared.Kind.{Kind}
 use Rattle.transfer.specs.declared.Kind.the-variants.{Flash, MainRam, XipRam}
 use Rattle.transfer.specs.declared.State.{State}
 use Rattle.transfer.specs.declared.State.the-variants.{Idle, Running, Done}
-use Rattle.causes.specs.Checks.{flashRow, bufferRow, lengthsRow, runningRow, doneRow, stateRow, magicRow, flagsRow, headerRow, numbersRow, addressRow}
 use Rattle.causes.proofs.Rows.{deciding}
-use Rattle.reason.specs.Why.{shutRow, placeRow, checksOf, lastOf, holdsIn, reasonOf}
-use Rattle.reasons.specs.Claims.{Reason-is-true, Answer-is-the-receivers, risesFrom, In-order}
 use Rattle.reasons.proofs.Agree.{answers-agree}
 
 pub reason-is-true : Reason-is-true
@@ -43,3 +62,37 @@ in-order =
       numbers = λ t k z. refl;
       address = λ x z. refl;
     }
+
+-- ---- the marks
+
+never : _≡_ {A = ℕ} 0 1 → ⊥
+never e = omega arith
+
+-- what decides holds, unless every check passes
+decided-holds : (test : Reason → Bool) (last : Reason) {l : List Reason} {r : Reason} → Deciding test last l r → (r ≡ last) ⊎ (test r ≡ true)
+decided-holds test last none = inl refl
+decided-holds test last (here h) = inr h
+decided-holds test last (later h d) = decided-holds test last d
+
+marked-entry : (s : Settings) (f k : ℕ) → takesAt (s .table) f k ≡ false → Marked (entryAt (s .table) k) f (markFor (entryAt (s .table) k) f)
+unfolding takesAt
+marked-entry s f k h =
+    let e = entryAt (s .table) k in
+    split (isA e) (λ a. let b : accepts e f ≡ false = rw a at h in inr (rw (a, b), a, b)) (λ a. inl (rw a, a))
+
+used-low : (n k : ℕ) → k < usedCount n → k < 16
+used-low n k l = split (leb n 16) (λ h. let m = leb-true n 16 h in let q : k < n = rw h at l in omega arith) (λ h. rw h at l)
+
+pub marks-are-true : Marks-are-true
+unfolding Reason-is-true Marks-are-true whyOf marksOf markOf
+marks-are-true s w a h k l =
+    let f = fieldAt a 28 in
+    let n = usedCount (s .count) in
+    let t : shutIn s f NoEntry ≡ true =
+    ⊎-elim
+    (λ e. let q : reasonOf s w a .cause ≡ Kept = ap (λ (r : Reason). r .cause) e in let z : _≡_ {A = ℕ} 0 1 = cc in absurd (never z))
+    (λ e. ap (λ (c : Cause). testOf s w a c (reasonOf s w a .got) (reasonOf s w a .against)) (sym h) ∙ e)
+    (decided-holds (holdsIn s w a) (lastOf w a) (reason-is-true s w a)) in
+    let none = not-true _ (and-right (not (noTable s) && not (eqb f familyAbsolute)) (not (any n (takesAt (s .table) f))) t) in
+    rw (ap (λ (c : Cause). getD (entriesOf s f c) k 0) h, getD-tab 16 (markOf s f) k (used-low (s .count) k l), lt-ltb k n l)
+    (marked-entry s f k (any-all (takesAt (s .table) f) n none k l))

@@ -1,6 +1,14 @@
 -- What is claimed of reasons (02, L6): "Show that the reason is the true one: every earlier check passes, this one doesn't, and the answer is the
 -- receiver's." For every settings, transfer, buffers and arrival. proofs/ proves each claim, in lower case. Assumes nothing.
-use Prim.Native.Nat.{ℕ}
+use Prim.Native.Nat.{ℕ, _<_}
+use lib.ListN.{getD}
+use Rattle.block.specs.Block.{fieldAt}
+use Rattle.settings.specs.Settings.{entryAt}
+use Rattle.place.specs.Place.{usedCount}
+use Rattle.placing.specs.Placing.{Marked}
+use Rattle.placing.specs.declared.Shut.the-variants.{NoEntry}
+use Rattle.causes.specs.declared.Cause.the-variants.{NoPlace}
+use Rattle.reason.specs.Why.{placeRow, checksOf, lastOf, holdsIn, reasonOf, whyOf}
 use mathlib.Core.Path.{_≡_}
 use mathlib.Core.Bool.{Bool, true, _&&_}
 use mathlib.Core.List.{List, [], _∷_}
@@ -13,7 +21,6 @@ use Rattle.arrival.specs.Arrive.{World, lookOf}
 use Rattle.causes.specs.Causes.{answerOf, causeNumber}
 use Rattle.causes.specs.Checks.{Deciding, lengthsRow, stateRow, headerRow, numbersRow, addressRow}
 use Rattle.causes.specs.declared.Reason.{Reason}
-use Rattle.reason.specs.Why.{placeRow, checksOf, lastOf, holdsIn, reasonOf}
 
 -- "every earlier check passes, this one doesn't": in the one list of all checks, each of which tests the condition and the numbers that it names; or all
 -- pass, and the block is kept
@@ -23,6 +30,12 @@ Reason-is-true = (s : Settings) (w : World) (a : List ℕ) → Deciding (holdsIn
 -- "and the answer is the receiver's": the look's, and so the take's (`Facts.antt` of arrival)
 unfoldable pub Answer-is-the-receivers : Type 0
 Answer-is-the-receivers = (s : Settings) (w : World) (a : List ℕ) → answerOf (reasonOf s w a .cause) ≡ lookOf s w a .answer
+
+-- "for each used entry "B of" or else "doesn't accept""
+unfoldable pub Marks-are-true : Type 0
+Marks-are-true =
+    (s : Settings) (w : World) (a : List ℕ) → reasonOf s w a .cause ≡ NoPlace NoEntry → (k : ℕ) → k < usedCount (s .count)
+    → Marked (entryAt (s .table) k) (fieldAt a 28) (getD (whyOf s w a .entries) k 0)
 
 -- ---- the order: "first in its row as written"
 
