@@ -3,3 +3,4 @@ pub mod Answers
 pub mod Steps
 pub mod Agree
 pub mod Theorems
+pub mod Places

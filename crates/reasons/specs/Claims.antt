@@ -8,6 +8,10 @@ use Rattle.place.specs.Place.{usedCount}
 use Rattle.placing.specs.Placing.{Marked}
 use Rattle.placing.specs.declared.Shut.the-variants.{NoEntry}
 use Rattle.causes.specs.declared.Cause.the-variants.{NoPlace}
+use Rattle.place.specs.Place.{askOf, placeAnswerNumber}
+use Rattle.reason.specs.declared.Placed.{Placed}
+use Rattle.reason.specs.declared.Placed.the-variants.{Refused, Whole, Entry}
+use Rattle.reason.specs.Placed.{placeChecks, holdsOf, placedOf, placedNumber}
 use Rattle.reason.specs.Why.{placeRow, checksOf, lastOf, holdsIn, reasonOf, whyOf}
 use mathlib.Core.Path.{_≡_}
 use mathlib.Core.Bool.{Bool, true, _&&_}
@@ -36,6 +40,23 @@ unfoldable pub Marks-are-true : Type 0
 Marks-are-true =
     (s : Settings) (w : World) (a : List ℕ) → reasonOf s w a .cause ≡ NoPlace NoEntry → (k : ℕ) → k < usedCount (s .count)
     → Marked (entryAt (s .table) k) (fieldAt a 28) (getD (whyOf s w a .entries) k 0)
+
+-- ---- a place asked for alone
+
+-- "the answer is the receiver's": 1, 2 or 8, or 0 for a place that is found
+unfoldable pub Place-answer-is-the-receivers : Type 0
+Place-answer-is-the-receivers = (s : Settings) (len f : ℕ) → placedNumber (placedOf s len f) ≡ placeAnswerNumber (askOf s len f)
+
+-- the reason of a refusal, or y where the place is found
+abbrev pub refusalOr : Reason → Placed → Reason
+refusalOr y (Refused x) = x
+refusalOr y (Whole r) = y
+refusalOr y (Entry p k) = y
+
+-- "every earlier check passes, this one doesn't", or all pass and it is found; where it is found: `Place-is-true` of placing
+unfoldable pub Place-reason-is-true : Type 0
+Place-reason-is-true =
+    (s : Settings) (len f : ℕ) (y : Reason) → Deciding (holdsOf s len f) y (placeChecks s len f) (refusalOr y (placedOf s len f))
 
 -- ---- the order: "first in its row as written"
 
