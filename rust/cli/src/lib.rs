@@ -1,0 +1,173 @@
+//! vantorel: one command over the proved library. File names, options, exit status and words are here; every answer comes from the library.
+
+#![deny(missing_docs)]
+
+mod args;
+mod block;
+mod board;
+mod families;
+pub mod figures;
+mod files;
+mod hex;
+mod join;
+pub mod json;
+mod load;
+mod make;
+mod names;
+mod number;
+mod out;
+mod progress;
+pub mod reason;
+mod replay;
+pub mod settings;
+mod state;
+mod tags;
+pub mod why;
+
+use args::{Args, Opt};
+use out::Out;
+use std::ffi::OsString;
+use std::process::ExitCode;
+
+/// How a command ends: exit status 0 or 1.
+enum End {
+    /// The job is whole.
+    Whole,
+    /// It is not, and what is missing was said.
+    Short,
+}
+
+/// A wrong command line, or a file that cannot be read or written: exit status 2, with one sentence.
+struct Trouble(String);
+
+/// What a command comes to.
+type Outcome = Result<End, Trouble>;
+
+/// A command: its name, what it does in a line, its page of help, its options, and the function.
+struct Command {
+    name: &'static str,
+    does: &'static str,
+    help: &'static [&'static str],
+    options: &'static [&'static [Opt]],
+    run: fn(&Args, &mut Out) -> Outcome,
+}
+
+const COMMANDS: &[Command] = &[
+    Command {
+        name: "load",
+        does: "plays a UF2 file into a board and says what came of it",
+        help: &[load::HELP, board::HELP],
+        options: &[load::OPTIONS, board::OPTIONS],
+        run: load::run,
+    },
+    Command {
+        name: "make",
+        does: "makes a UF2 file of an image",
+        help: &[make::HELP],
+        options: &[make::OPTIONS],
+        run: make::run,
+    },
+    Command {
+        name: "replay",
+        does: "replays a trace and says where its answers differ from ours",
+        help: &[replay::HELP, board::HELP],
+        options: &[replay::OPTIONS, board::OPTIONS],
+        run: replay::run,
+    },
+    Command {
+        name: "tags",
+        does: "lists the extension tags of a UF2 file, and its version",
+        help: &[tags::HELP],
+        options: &[tags::OPTIONS],
+        run: tags::run,
+    },
+    Command {
+        name: "hex",
+        does: "reads a Universal Hex file for one board",
+        help: &[hex::HELP],
+        options: &[hex::OPTIONS],
+        run: hex::run,
+    },
+    Command {
+        name: "join",
+        does: "writes one Universal Hex file from two Intel Hex files",
+        help: &[join::HELP],
+        options: &[join::OPTIONS],
+        run: join::run,
+    },
+];
+
+fn help(out: &mut Out) {
+    out.line("vantorel: UF2 and Universal Hex files, by a library that is proved to do what its specification says\n");
+    for command in COMMANDS {
+        out.line(format_args!(
+            "  vantorel {:9}{}",
+            command.name, command.does
+        ));
+    }
+    out.line("\n`vantorel COMMAND --help` says more, with an example. Numbers are decimal (4096, 64K, 2M) or hex (0x1000); families have names:");
+    out.line("rp2040, absolute, data, arm-s, riscv, arm-ns. With --json each command prints one JSON object instead of words.");
+    out.line("Exit status: 0 the job is whole, 1 it is not, 2 a wrong command line or a file that cannot be read or written.\n");
+    out.line("    vantorel load blink.uf2 --drop 17");
+}
+
+fn command(name: &str) -> Result<&'static Command, Trouble> {
+    let found = COMMANDS.iter().find(|command| command.name == name);
+    found.ok_or_else(|| Trouble(format!("no command '{name}'; `vantorel --help` lists them")))
+}
+
+fn is_help(word: &String) -> bool {
+    word == "--help" || word == "-h"
+}
+
+fn run(words: Vec<String>, out: &mut Out) -> Outcome {
+    let mut words = words.into_iter();
+    let Some(name) = words.next() else {
+        help(out);
+        return Err(Trouble("say a command".into()));
+    };
+    let words: Vec<String> = words.collect();
+    if is_help(&name) || (name == "help" && words.is_empty()) {
+        help(out);
+        return Ok(End::Whole);
+    }
+    let (name, asked) = match words.first() {
+        Some(of) if name == "help" => (of.clone(), true),
+        _ => (
+            name,
+            words.iter().take_while(|word| *word != "--").any(is_help),
+        ),
+    };
+    let command = command(&name)?;
+    if asked {
+        out.text(command.help.concat());
+        return Ok(End::Whole);
+    }
+    let args = Args::parse(command.name, command.options, words)?;
+    (command.run)(&args, out)
+}
+
+/// Runs the words of a command line.
+pub fn main(words: impl Iterator<Item = OsString>) -> ExitCode {
+    let mut out = Out::new();
+    let words: Result<Vec<String>, OsString> = words.map(OsString::into_string).collect();
+    let outcome = match words {
+        Ok(words) => run(words, &mut out),
+        Err(word) => Err(Trouble(format!("{word:?} is not text in UTF-8"))),
+    };
+    let status = match outcome {
+        Ok(End::Whole) => 0,
+        Ok(End::Short) => 1,
+        Err(Trouble(why)) => {
+            out.note(why);
+            2
+        }
+    };
+    match out.end() {
+        Ok(()) => ExitCode::from(status),
+        Err(why) => {
+            eprintln!("vantorel: cannot write to standard output: {why}");
+            ExitCode::from(2)
+        }
+    }
+}

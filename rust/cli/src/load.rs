@@ -1,0 +1,130 @@
+//! `vantorel load`: a file's blocks played into a board.
+
+mod missing;
+mod order;
+mod play;
+mod tell;
+
+use crate::args::{Args, Opt};
+use crate::block::{need, pieces};
+use crate::board::{Board, Options};
+use crate::out::Out;
+use crate::{files, number, state, End, Outcome, Trouble};
+use proved::{Kind, Transfer};
+
+/// Its page of help.
+pub const HELP: &str = "\
+vantorel load FILE.uf2 [BOARD] [--shuffle SEED] [--repeat K] [--drop K,..] [--image OUT] [--record TRACE] [-v] [--json]
+
+Plays the file's blocks into a board, one after the other, and says what came of it: the answers by name and how many, the blocks that are
+missing and where they would stand, the sectors erased, the state, and whether the display was told that the file is complete.
+
+  --shuffle SEED  in an order of chance; the same number gives the same order
+  --repeat K      each block K times, one after the other
+  --drop K,..     without the blocks of these numbers
+  --image OUT     writes the memory that the file goes to, flash or RAM, as it is afterwards
+  --record TRACE  writes a trace of what was sent with the answers, for `vantorel replay`
+  -v              a line for each arrival too: its place in the order, the block's number, the answer
+  --json          the same for scripts
+
+Exit status 0 where the file was completed, 1 where it was not, 2 for a wrong command line or a file that cannot be read or written.
+
+    vantorel load blink.uf2 --drop 17
+
+";
+
+/// Its options, beside those of a board.
+pub const OPTIONS: &[Opt] = &[
+    Opt::Value("--shuffle"),
+    Opt::Value("--repeat"),
+    Opt::Value("--drop"),
+    Opt::Value("--image"),
+    Opt::Value("--record"),
+    Opt::Flag("-v"),
+    Opt::Flag("--json"),
+];
+
+/// The numbers of `--drop`, with commas between them.
+fn dropped(args: &Args) -> Result<Vec<u32>, Trouble> {
+    let Some(text) = args.value("--drop") else {
+        return Ok(Vec::new());
+    };
+    let numbers: Option<Vec<u32>> = text.split(',').map(number::parse_u32).collect();
+    match numbers {
+        Some(numbers) => Ok(numbers),
+        None => args.wrong(format!(
+            "--drop wants block numbers with commas between them, such as 3,17, and not '{text}'"
+        )),
+    }
+}
+
+fn repeated(args: &Args) -> Result<usize, Trouble> {
+    match args.number("--repeat")? {
+        None => Ok(1),
+        Some(k @ 1..=1000) => Ok(k as usize),
+        Some(_) => args.wrong("--repeat wants a number from 1 to 1000"),
+    }
+}
+
+/// The arrivals of a file: its pieces in the order in which they are sent.
+fn arrivals<'a>(args: &Args, file: &'a [u8]) -> Result<Vec<&'a [u8]>, Trouble> {
+    let drop = dropped(args)?;
+    let pieces: Vec<&[u8]> = pieces(file).collect();
+    let kept = match order::without(&pieces, &drop) {
+        Ok(kept) => kept,
+        Err(k) => return args.wrong(format!("--drop {k}: the file has no block of this number")),
+    };
+    let mut sent = order::repeated(&kept, repeated(args)?);
+    if let Some(seed) = args.number("--shuffle")? {
+        order::shuffle(&mut sent, seed);
+    }
+    Ok(sent)
+}
+
+/// The memory that a transfer goes to.
+fn memory(board: &Board, transfer: Transfer) -> &[u8] {
+    match state::kind(transfer) {
+        Kind::Flash => &board.flash,
+        Kind::MainRam => &board.main,
+        Kind::XipRam => &board.xip,
+    }
+}
+
+/// Runs the command.
+pub fn run(args: &Args, out: &mut Out) -> Outcome {
+    let options = Options::read(args)?;
+    let [name] = args.files(["FILE.uf2"])?;
+    let (image, record) = (args.value("--image"), args.value("--record"));
+    files::apart(&[image, record], &[name])?;
+    let file = files::read(name)?;
+    let sent = arrivals(args, &file)?;
+    let mut board = options.board(need(pieces(&file)))?;
+    let played = play::play(&sent, &mut board);
+    let lost = missing::missing(&file, &mut board, played.transfer);
+    if let Some(image) = image {
+        files::write(image, memory(&board, played.transfer))?;
+    }
+    if let Some(record) = record {
+        files::write(record, &play::trace(&sent, &played.outcomes))?;
+    }
+    let load = tell::Load {
+        name,
+        pieces: pieces(&file).len(),
+        sent: &sent,
+        board: &board,
+        played: &played,
+        lost: &lost,
+        image,
+        record,
+        each: args.flag("-v"),
+    };
+    if args.flag("--json") {
+        out.line(tell::json(&load));
+    } else {
+        tell::words(&load, out);
+    }
+    Ok(match played.transfer {
+        Transfer::Done { .. } => End::Whole,
+        _ => End::Short,
+    })
+}

@@ -1,0 +1,259 @@
+//! What came of a load, in words and for scripts.
+
+use super::missing::Missing;
+use super::play::Played;
+use crate::block::Block;
+use crate::board::Board;
+use crate::json::Json;
+use crate::number::{count, ranges};
+use crate::out::Out;
+use crate::{files, names, state};
+use proved::{Answer, Kind, Outcome, Transfer, ARRIVAL_BYTES};
+use std::collections::BTreeMap;
+
+/// Missing blocks that get a line each; the others are counted.
+const LISTED: usize = 20;
+
+/// A load that was done.
+pub struct Load<'a> {
+    /// The file's name.
+    pub name: &'a str,
+    /// How many pieces it has.
+    pub pieces: usize,
+    /// The arrivals.
+    pub sent: &'a [&'a [u8]],
+    /// The board afterwards.
+    pub board: &'a Board,
+    /// What came of the arrivals.
+    pub played: &'a Played,
+    /// What is missing.
+    pub lost: &'a [Missing],
+    /// The image that was written.
+    pub image: Option<&'a str>,
+    /// The trace that was written.
+    pub record: Option<&'a str>,
+    /// Whether each arrival is told.
+    pub each: bool,
+}
+
+impl Load<'_> {
+    /// How many arrivals had each answer, by its number.
+    fn counts(&self) -> BTreeMap<u8, (Answer, u64)> {
+        let mut counts = BTreeMap::new();
+        for Outcome { answer, .. } in &self.played.outcomes {
+            counts.entry(answer.number()).or_insert((*answer, 0)).1 += 1;
+        }
+        counts
+    }
+
+    fn discards(&self) -> u64 {
+        let discarded = self.played.outcomes.iter().filter(|o| o.discarded);
+        discarded.count() as u64
+    }
+
+    /// The answer that most of the refused arrivals had.
+    fn commonest_refusal(&self) -> Option<(Answer, u64)> {
+        let counts = self.counts().into_values();
+        counts
+            .filter(|(answer, _)| !answer.is_accepted())
+            .max_by_key(|(_, n)| *n)
+    }
+
+    /// Arrivals that are no part of the file that was completed.
+    fn strangers(&self) -> u64 {
+        let Transfer::Done { family, total, .. } = self.played.transfer else {
+            return 0;
+        };
+        let stranger = |(piece, outcome): &(&&[u8], &Outcome)| match outcome.answer {
+            Answer::Finished => Block::read(piece)
+                .is_none_or(|block| block.family != family || block.total != total),
+            answer => answer.number() < Answer::Finished.number(),
+        };
+        let arrivals = self.sent.iter().zip(&self.played.outcomes);
+        arrivals.filter(stranger).count() as u64
+    }
+
+    fn short_pieces(&self) -> u64 {
+        let short = self
+            .sent
+            .iter()
+            .filter(|piece| piece.len() != ARRIVAL_BYTES);
+        short.count() as u64
+    }
+}
+
+fn each(load: &Load, out: &mut Out) {
+    let arrivals = load.sent.iter().zip(&load.played.outcomes);
+    for (k, (piece, outcome)) in arrivals.enumerate() {
+        let block = match Block::read(piece) {
+            Some(block) => format!("block {}", block.number),
+            None => "no block".into(),
+        };
+        out.line(format_args!(
+            "arrival {k}, {block}: {}",
+            names::outcome(*outcome)
+        ));
+    }
+}
+
+/// Prints what came of it.
+pub fn words(load: &Load, out: &mut Out) {
+    if load.each {
+        each(load, out);
+    }
+    out.line(format_args!(
+        "{}: {} of 512 bytes, {}",
+        files::short(load.name),
+        count(load.pieces as u64, "piece"),
+        count(load.sent.len() as u64, "arrival"),
+    ));
+    out.line(load.board.line());
+    answers(load, out);
+    if load.discards() > 0 {
+        out.line(format_args!(
+            "a running transfer was discarded: {}",
+            count(load.discards(), "time")
+        ));
+    }
+    out.line(format_args!(
+        "state: {}",
+        state::words(load.played.transfer)
+    ));
+    sectors(load, out);
+    for block in load.lost.iter().take(LISTED) {
+        out.line(block.words());
+    }
+    if load.lost.len() > LISTED {
+        out.line(format_args!(
+            "missing: and {} more",
+            load.lost.len() - LISTED
+        ));
+    }
+    written(load, out);
+    out.line(verdict(load));
+}
+
+fn answers(load: &Load, out: &mut Out) {
+    for (answer, n) in load.counts().values() {
+        let name = names::answer(*answer);
+        out.line(format_args!(
+            "  {name:14}{n:7}  {}",
+            names::meaning(*answer)
+        ));
+    }
+}
+
+fn sectors(load: &Load, out: &mut Out) {
+    if state::kind(load.played.transfer) != Kind::Flash {
+        return;
+    }
+    let erased = state::marked(&load.board.sectors).count();
+    match erased {
+        0 => out.line("sectors erased: none"),
+        _ => out.line(format_args!(
+            "sectors erased: {erased} ({})",
+            ranges(state::marked(&load.board.sectors))
+        )),
+    }
+}
+
+fn written(load: &Load, out: &mut Out) {
+    if let Some(image) = load.image {
+        let memory = state::memory(state::kind(load.played.transfer));
+        out.line(format_args!("written: {image}, the {memory} as it is now"));
+    }
+    let Some(record) = load.record else { return };
+    out.line(format_args!(
+        "written: {record}, a trace; `vantorel replay {record} {}` replays it",
+        load.board.words.join(" ")
+    ));
+    if load.short_pieces() > 0 {
+        out.line(format_args!(
+            "left out of the trace: {} of under 512 bytes, since a record holds a whole arrival",
+            count(load.short_pieces(), "piece")
+        ));
+    }
+}
+
+/// The last sentence: whether the display was told that the file is complete, and what is missing.
+fn verdict(load: &Load) -> String {
+    const NEVER: &str = "The display was never told that it is complete.";
+    match load.played.transfer {
+        Transfer::Done { total, .. } => {
+            let strangers = match load.strangers() {
+                0 => String::new(),
+                n => format!(" {} not taken: see above.", were(n, "arrival")),
+            };
+            let blocks = if total == 1 {
+                "its one block".into()
+            } else {
+                format!("all {total} blocks")
+            };
+            format!("COMPLETE: {blocks} came, and the display was told so.{strangers}")
+        }
+        Transfer::Idle => match load.commonest_refusal() {
+            None => format!("NOT COMPLETE: no block came. {NEVER}"),
+            Some((answer, n)) => format!(
+                "NOT COMPLETE: no block was taken ({}: {}). {NEVER}",
+                count(n, "time"),
+                names::meaning(answer)
+            ),
+        },
+        Transfer::Running { total, .. } => format!(
+            "NOT COMPLETE: {}. {NEVER} Send the file again, whole.",
+            lacking(load.lost, total)
+        ),
+    }
+}
+
+fn were(n: u64, thing: &str) -> String {
+    let verb = if n == 1 { "was" } else { "were" };
+    format!("{} {verb}", count(n, thing))
+}
+
+fn lacking(lost: &[Missing], total: u32) -> String {
+    match lost {
+        [block] => format!("1 of {total} blocks is missing, block {}", block.number),
+        _ => format!("{} of {total} blocks are missing", lost.len()),
+    }
+}
+
+fn takes(load: &Load) -> Json {
+    if !load.each {
+        return Json::Null;
+    }
+    let arrivals = load.sent.iter().zip(&load.played.outcomes);
+    Json::list(arrivals.map(|(piece, outcome)| {
+        let block = Block::read(piece).map(|block| block.number);
+        Json::Object(vec![
+            ("block", block.into()),
+            ("outcome", names::outcome_json(*outcome)),
+        ])
+    }))
+}
+
+/// The same for scripts.
+pub fn json(load: &Load) -> Json {
+    let answers = load.counts().into_values().map(|(answer, n)| {
+        Json::Object(vec![
+            ("answer", u32::from(answer.number()).into()),
+            ("name", format!("{answer:?}").into()),
+            ("count", n.into()),
+        ])
+    });
+    let whole = matches!(load.played.transfer, Transfer::Done { .. });
+    Json::Object(vec![
+        ("file", load.name.into()),
+        ("pieces", load.pieces.into()),
+        ("arrivals", load.sent.len().into()),
+        ("board", load.board.json()),
+        ("answers", Json::list(answers)),
+        ("discards", load.discards().into()),
+        ("completed", whole.into()),
+        ("transfer", state::json(load.played.transfer)),
+        ("sectors", Json::list(state::marked(&load.board.sectors))),
+        ("missing", Json::list(load.lost.iter().map(Missing::json))),
+        ("takes", takes(load)),
+        ("verdict", verdict(load).into()),
+    ])
+}

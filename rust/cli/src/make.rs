@@ -1,0 +1,140 @@
+//! `vantorel make`: a UF2 file of an image.
+
+use crate::args::{Args, Opt};
+use crate::json::Json;
+use crate::number::{self, count};
+use crate::out::Out;
+use crate::{families, files, End, Outcome, Trouble};
+use tools::{MakeRefusal, BLOCK_BYTES, PAGE_BYTES};
+
+/// Its page of help.
+pub const HELP: &str = "\
+vantorel make IMAGE -o OUT.uf2 --family NAME|NUMBER --start ADDRESS [--json]
+
+Makes the UF2 file that brings the bytes of IMAGE to the addresses from --start on. The image is whole pages of 256 bytes, the start a multiple
+of 256 from 0x10000000 on, and the image ends at 0x12000000 at the latest.
+
+  -o OUT.uf2       the file to write
+  --family FAMILY  arm-s, riscv, data .., or a number such as 0xe48bff59
+  --start ADDRESS  where the image's first byte goes, such as 0x10000000
+  --json           the same for scripts
+
+Exit status 0 where the file was made, 1 where no file can be made of the image, 2 for a wrong command line or a file that cannot be
+read or written.
+
+    vantorel make blink.bin -o blink.uf2 --family arm-s --start 0x10000000
+
+";
+
+/// Its options.
+pub const OPTIONS: &[Opt] = &[
+    Opt::Value("-o"),
+    Opt::Value("--family"),
+    Opt::Value("--start"),
+    Opt::Flag("--json"),
+];
+
+/// A file to make.
+struct Job<'a> {
+    name: &'a str,
+    out: &'a str,
+    len: usize,
+    family: u32,
+    start: u32,
+}
+
+impl Job<'_> {
+    /// Why it is not made, in a sentence.
+    fn refusal(&self, why: MakeRefusal) -> String {
+        let Job {
+            name, len, start, ..
+        } = self;
+        let reason = match why {
+            MakeRefusal::BadImage if *len == 0 => "is empty".into(),
+            MakeRefusal::BadImage => format!(
+                "has {len} bytes, which is no whole number of pages of 256 bytes; fill it up to {}",
+                len.next_multiple_of(PAGE_BYTES)
+            ),
+            MakeRefusal::BadStart => format!(
+                "cannot start at 0x{start:08x}: the start is a multiple of 256 from 0x10000000 to 0x11ffff00 (hex numbers begin with 0x)"
+            ),
+            MakeRefusal::PastWindow => {
+                format!("has {len} bytes, and from 0x{start:08x} on it would pass 0x12000000")
+            }
+            MakeRefusal::ShortOutput => "needs more room for its blocks than was lent".into(),
+        };
+        format!("{} {why:?}: {name} {reason}", why.number())
+    }
+
+    /// What was made.
+    fn words(&self, blocks: usize) -> String {
+        format!(
+            "{}: {} of family {}, for 0x{:08x} to 0x{:08x}",
+            files::short(self.out),
+            count(blocks as u64, "block"),
+            families::words(self.family),
+            self.start,
+            u64::from(self.start) + self.len as u64 - 1
+        )
+    }
+
+    fn json(&self, blocks: usize, refusal: Option<MakeRefusal>) -> Json {
+        Json::Object(vec![
+            ("image", self.name.into()),
+            ("out", self.out.into()),
+            ("made", refusal.is_none().into()),
+            ("blocks", blocks.into()),
+            ("family", self.family.into()),
+            ("start", self.start.into()),
+            ("refusal", refusal.map(|why| why.number()).into()),
+        ])
+    }
+}
+
+fn start(args: &Args) -> Result<u32, Trouble> {
+    let text = args.needed("--start", "the address of the image's first byte")?;
+    match number::parse_u32(text) {
+        Some(start) => Ok(start),
+        None => args.wrong(format!(
+            "--start wants an address, such as 0x10000000, and not '{text}'"
+        )),
+    }
+}
+
+/// Runs the command.
+pub fn run(args: &Args, out: &mut Out) -> Outcome {
+    let to = args.needed("-o", "the name of the file to make")?;
+    let family = families::parse(args.needed("--family", "a name or a number")?);
+    let family = family.or_else(|why| args.wrong(why))?;
+    let start = start(args)?;
+    let [name] = args.files(["IMAGE"])?;
+    files::apart(&[Some(to)], &[name])?;
+    let image = files::read(name)?;
+    let job = Job {
+        name,
+        out: to,
+        len: image.len(),
+        family,
+        start,
+    };
+    let mut file = vec![0; image.len().div_ceil(PAGE_BYTES) * BLOCK_BYTES];
+    let made = tools::make(&image, family, start, &mut file);
+    if made == Err(MakeRefusal::BadStart) {
+        return args.wrong(job.refusal(MakeRefusal::BadStart));
+    }
+    if let Ok(blocks) = made {
+        files::write(to, &file[..blocks * BLOCK_BYTES])?;
+    }
+    if args.flag("--json") {
+        out.line(job.json(made.unwrap_or(0), made.err()));
+    } else if let Ok(blocks) = made {
+        out.line(job.words(blocks));
+    }
+    match made {
+        Ok(_) => Ok(End::Whole),
+        Err(why) => {
+            out.note(format_args!("nothing was made: {}", job.refusal(why)));
+            Ok(End::Short)
+        }
+    }
+}

@@ -1,0 +1,380 @@
+//! `vantorel load`.
+
+use crate::common::{block, pages, set, stored, Folder, ABSOLUTE, ARM_S, FAMILY, RISCV};
+
+/// A folder with an image of 64 pages and the file of it.
+pub fn blink() -> Folder {
+    let folder = Folder::new();
+    folder.put("blink.bin", pages(64));
+    folder.ends(
+        0,
+        "make blink.bin -o blink.uf2 --family arm-s --start 0x10000000",
+    );
+    folder
+}
+
+const BOARD: &str = "board: a flash of 16384 bytes (none was said: as large as the file needs), Arm, absolute allowed, no partition table, no RAM";
+
+#[test]
+fn a_file_that_is_whole() {
+    let folder = blink();
+    let ran = folder.ends(0, "load blink.uf2 --image out.bin");
+    assert_eq!(
+        ran.out,
+        format!(
+            "blink.uf2: 64 pieces of 512 bytes, 64 arrivals\n\
+             {BOARD}\n\
+             \x20 14 Written         63  stored, others are missing\n\
+             \x20 15 Completed        1  the last one that was missing: the file is complete\n\
+             state: done: 64 blocks of family arm-s (0xe48bff59), into flash\n\
+             sectors erased: 4 (0 to 3)\n\
+             written: out.bin, the flash as it is now\n\
+             COMPLETE: all 64 blocks came, and the display was told so.\n"
+        )
+    );
+    assert_eq!(ran.err, "");
+    assert!(folder.get("out.bin") == pages(64));
+}
+
+/// The trainer's first lesson.
+#[test]
+fn a_page_is_lost() {
+    let folder = blink();
+    let ran = folder.ends(1, "load blink.uf2 --drop 17 --image out.bin");
+    assert_eq!(
+        ran.out,
+        format!(
+            "blink.uf2: 64 pieces of 512 bytes, 63 arrivals\n\
+             {BOARD}\n\
+             \x20 14 Written         63  stored, others are missing\n\
+             state: running: 63 of 64 blocks of family arm-s (0xe48bff59) came, into flash\n\
+             sectors erased: 4 (0 to 3)\n\
+             missing: block 17, whose page would stand in flash from 0x00001100 to 0x000011ff (address 0x10001100)\n\
+             written: out.bin, the flash as it is now\n\
+             NOT COMPLETE: 1 of 64 blocks is missing, block 17. The display was never told that it is complete. Send the file again, whole.\n"
+        )
+    );
+    let mut lost = pages(64);
+    lost[0x1100..0x1200].fill(0xFF);
+    assert!(folder.get("out.bin") == lost);
+}
+
+/// Repeats do not stand in for the block that never came.
+#[test]
+fn repeats_do_not_count() {
+    let folder = blink();
+    let ran = folder.ends(1, "load blink.uf2 --drop 0x11 --repeat 3 --shuffle 5");
+    assert!(ran.out.contains("  13 Again          126  "), "{}", ran.out);
+    assert!(ran.out.contains("running: 63 of 64 blocks"), "{}", ran.out);
+    assert!(ran.out.contains("missing: block 17, "), "{}", ran.out);
+}
+
+#[test]
+fn shuffled_with_repeats_it_is_the_image() {
+    let folder = blink();
+    let mut orders = Vec::new();
+    for seed in [0, 1, 7, 99] {
+        let line = format!("load blink.uf2 -v --shuffle {seed} --repeat 3 --image out.bin");
+        let ran = folder.ends(0, &line);
+        assert!(folder.get("out.bin") == pages(64), "{seed}");
+        assert!(ran.out.contains("192 arrivals"));
+        assert!(ran.out == folder.ends(0, &line).out, "the same order again");
+        orders.push(ran.out);
+    }
+    orders.dedup();
+    assert_eq!(orders.len(), 4);
+}
+
+#[test]
+fn a_line_an_arrival() {
+    let folder = Folder::new();
+    folder.put("image", pages(2));
+    folder.ends(0, "make image -o two.uf2 --family data --start 0x10000000");
+    let two = folder.get("two.uf2");
+    let sent = [
+        &two[..512],
+        &two[..512],
+        &[0; 512],
+        &two[512..],
+        &two[..512],
+        &two[..100],
+    ];
+    folder.put("sent.uf2", sent.concat());
+    let ran = folder.ends(0, "load sent.uf2 -v");
+    let lines: Vec<&str> = ran.out.lines().take(6).collect();
+    assert_eq!(
+        lines,
+        [
+            "arrival 0, block 0: 14 Written",
+            "arrival 1, block 0: 13 Again",
+            "arrival 2, no block: 4 NotBlock",
+            "arrival 3, block 1: 15 Completed",
+            "arrival 4, block 0: 12 Finished",
+            "arrival 5, no block: 1 BadBuffers",
+        ]
+    );
+    assert!(ran.out.ends_with("COMPLETE: all 2 blocks came, and the display was told so. 2 arrivals were not taken: see above.\n"));
+}
+
+/// Each stored input of the program `receive`, into its board: the same answers, one by one, and the same end.
+#[test]
+fn the_answers_of_receive() {
+    let folder = Folder::new();
+    let inputs = stored("receive", "uf2");
+    assert!(inputs.len() > 10);
+    for (path, wrote) in inputs {
+        folder.put("in.uf2", std::fs::read(&path).expect("an input"));
+        let ran = folder.run("load in.uf2 --flash 32768 -v");
+        let told = ran.out.lines().filter(|line| line.starts_with("arrival "));
+        let told: Vec<String> = told
+            .enumerate()
+            .filter_map(|(k, line)| {
+                let (_, outcome) = line.split_once(": ")?;
+                let discarded = u8::from(outcome.contains("discarded"));
+                Some(format!("{k} {} {discarded}", outcome.split(' ').next()?))
+            })
+            .collect();
+        let wanted: Vec<&str> = wrote.lines().skip(1).collect();
+        let (end, wanted) = wanted.split_last().expect("a last line");
+        assert_eq!(told, wanted, "{}", path.display());
+        let state = end.split(' ').nth(1).expect("a state");
+        assert!(
+            ran.out.contains(&format!("\nstate: {state}: ")),
+            "{}",
+            path.display()
+        );
+        assert_eq!(ran.status, i32::from(state != "done"), "{}", path.display());
+    }
+}
+
+#[test]
+fn many_are_missing() {
+    let folder = blink();
+    let numbers: Vec<String> = (10..40).map(|k| k.to_string()).collect();
+    let ran = folder.ends(1, &format!("load blink.uf2 --drop {}", numbers.join(",")));
+    assert_eq!(ran.out.matches("missing: block ").count(), 20);
+    assert!(ran.out.contains("missing: and 10 more\n"));
+    assert!(ran.out.contains("NOT COMPLETE: 30 of 64 blocks are missing. The display was never told that it is complete."));
+    folder.put("cut.uf2", &folder.get("blink.uf2")[..63 * 512]);
+    let ran = folder.ends(1, "load cut.uf2");
+    assert!(
+        ran.out
+            .contains("missing: block 63, which the file does not have\n"),
+        "{}",
+        ran.out
+    );
+}
+
+#[test]
+fn nothing_is_taken() {
+    let folder = blink();
+    folder.put("empty", []);
+    let ran = folder.ends(1, "load empty");
+    assert!(ran.out.starts_with("empty: 0 pieces of 512 bytes, 0 arrivals\nboard: a flash of 32768 bytes (none was said: that of `receive`), Arm"));
+    assert!(ran.out.ends_with("sectors erased: none\nNOT COMPLETE: no block came. The display was never told that it is complete.\n"));
+    let ran = folder.ends(1, "load blink.bin");
+    assert!(ran.out.ends_with("NOT COMPLETE: no block was taken (32 times: not a UF2 block). The display was never told that it is complete.\n"), "{}", ran.out);
+    let ran = folder.ends(1, "load blink.uf2 --flash 4096");
+    assert!(ran.out.contains("board: a flash of 4096 bytes, Arm"));
+    assert!(ran.out.contains("  10 BadNumbers      64  "), "{}", ran.out);
+    let ran = folder.ends(1, "load blink.uf2 --current riscv");
+    assert!(
+        ran.out
+            .contains("the board's settings are not good for its flash"),
+        "{}",
+        ran.out
+    );
+}
+
+#[test]
+fn the_switches_of_a_board() {
+    let folder = Folder::new();
+    for (name, family) in [("arm", ARM_S), ("riscv", RISCV), ("absolute", ABSOLUTE)] {
+        folder.put(name, block(FAMILY, 0x1000_0000, 0, 1, family, 7));
+    }
+    for (line, status) in [
+        ("load arm", 0),
+        ("load riscv", 1),
+        ("load absolute", 0),
+        ("load absolute --arm", 1),
+        ("load absolute --arm --absolute", 0),
+        ("load riscv --riscv", 0),
+        ("load arm --riscv", 1),
+        ("load arm --arm --riscv --current riscv", 0),
+        ("load riscv --arm --riscv --auto-switch", 0),
+    ] {
+        let ran = folder.ends(status, line);
+        assert_eq!(ran.out.contains("8 NoPlace"), status == 1, "{line}");
+    }
+}
+
+#[test]
+fn a_file_for_ram() {
+    let folder = Folder::new();
+    let blocks = [0, 1, 2].map(|k| block(FAMILY, 0x2000_0000 + 256 * k, k, 3, ARM_S, k as u8));
+    folder.put("ram.uf2", blocks.concat());
+    let ran = folder.ends(0, "load ram.uf2 --main-ram --image out.bin");
+    assert!(ran.out.contains("state: done: 3 blocks of family arm-s (0xe48bff59), into main RAM\nwritten: out.bin, the main RAM"), "{}", ran.out);
+    let image = folder.get("out.bin");
+    assert_eq!(image.len(), 532_480);
+    assert!(image[256..512].iter().all(|&b| b == 1) && image[512..768].iter().all(|&b| b == 2));
+    let ran = folder.ends(1, "load ram.uf2 --main-ram --drop 1");
+    assert!(ran.out.contains("missing: block 1, whose page would stand in main RAM from 0x00000100 to 0x000001ff (address 0x20000100)"), "{}", ran.out);
+    let ran = folder.ends(1, "load ram.uf2 --xip-ram");
+    assert!(ran.out.contains("  11 BadAddress       3  "), "{}", ran.out);
+}
+
+#[test]
+fn what_the_flash_held_before() {
+    let folder = Folder::new();
+    folder.put("before", [0x55; 8193]);
+    folder.put("one.uf2", block(FAMILY, 0x1000_1000, 0, 1, ARM_S, 7));
+    let ran = folder.ends(0, "load one.uf2 --start-image before --image out.bin");
+    assert!(
+        ran.out.contains("a flash of 12288 bytes (none was said"),
+        "{}",
+        ran.out
+    );
+    let flash = folder.get("out.bin");
+    assert!(flash[..4096].iter().all(|&b| b == 0x55));
+    assert!(flash[4096..4352].iter().all(|&b| b == 7));
+    assert!(flash[4352..8192].iter().all(|&b| b == 0xFF));
+    assert_eq!(flash[8192..8194], [0x55, 0xFF]);
+    folder.wrong(
+        "load one.uf2 --start-image before --flash 8192",
+        "the start image has 8193 bytes, and the flash only 8192",
+    );
+    folder.wrong(
+        "load one.uf2 --start-image none",
+        "cannot read none: No such file or directory",
+    );
+}
+
+/// Comments, a transfer that is discarded, and a block that the board refuses though the file needs it.
+#[test]
+fn files_of_other_kinds() {
+    let folder = Folder::new();
+    let comment = block(FAMILY | 1, 0, 1, 3, ARM_S, 9);
+    let good = block(FAMILY, 0x1000_0000, 0, 3, ARM_S, 7);
+    let bad = block(FAMILY, 0x1000_0080, 2, 3, ARM_S, 7);
+    folder.put("file", [&good[..], &comment, &bad].concat());
+    let ran = folder.ends(1, "load file");
+    assert!(
+        ran.out.contains("  16 Noted            1  a comment"),
+        "{}",
+        ran.out
+    );
+    assert!(
+        ran.out
+            .contains("missing: block 2, which the board refuses: 11 BadAddress, "),
+        "{}",
+        ran.out
+    );
+    let ran = folder.ends(1, "load file --drop 1,2");
+    assert!(
+        ran.out
+            .contains("missing: block 1, a comment, which is counted and stands nowhere"),
+        "{}",
+        ran.out
+    );
+    let other = block(FAMILY, 0x1000_0000, 0, 1, RISCV, 7);
+    folder.put("two", [&good[..], &other].concat());
+    let ran = folder.ends(0, "load two --arm --riscv -v");
+    assert!(ran
+        .out
+        .contains("arrival 1, block 0: 15 Completed, and a running transfer was discarded\n"));
+    assert!(ran
+        .out
+        .contains("a running transfer was discarded: 1 time\n"));
+    assert!(
+        ran.out
+            .contains("COMPLETE: its one block came, and the display was told so.\n"),
+        "{}",
+        ran.out
+    );
+    // a file of another family after the one that was completed
+    folder.put("after", [&other[..], &good].concat());
+    let ran = folder.ends(0, "load after --arm --riscv");
+    assert!(
+        ran.out
+            .ends_with("told so. 1 arrival was not taken: see above.\n"),
+        "{}",
+        ran.out
+    );
+    let mut container = other.clone();
+    set(&mut container, 8, 0x3000);
+    let mut none = other;
+    set(&mut none, 8, 0);
+    folder.put("refused", [container, none].concat());
+    let ran = folder.ends(1, "load refused");
+    assert!(
+        ran.out.contains("  5 Container         1  ")
+            && ran.out.contains("  7 NoFamily          1  "),
+        "{}",
+        ran.out
+    );
+}
+
+#[test]
+fn wrong_words() {
+    let folder = blink();
+    let how = "; `vantorel load --help` says how";
+    for (line, why) in [
+        ("load", "FILE.uf2 is missing"),
+        ("load a b", "'b' is one word too many"),
+        (
+            "load blink.uf2 --drop x",
+            "--drop wants block numbers with commas between them, such as 3,17, and not 'x'",
+        ),
+        (
+            "load blink.uf2 --drop 1,",
+            "--drop wants block numbers with commas between them, such as 3,17, and not '1,'",
+        ),
+        (
+            "load blink.uf2 --drop 64",
+            "--drop 64: the file has no block of this number",
+        ),
+        (
+            "load blink.uf2 --repeat 0",
+            "--repeat wants a number from 1 to 1000",
+        ),
+        (
+            "load blink.uf2 --shuffle seven",
+            "--shuffle wants a number, such as 4096, 0x1000, 64K or 2M, and not 'seven'",
+        ),
+        (
+            "load blink.uf2 --flash 1000",
+            "--flash is whole sectors of 4,096 bytes, from 4096 to 32M, and not 1000 bytes",
+        ),
+        (
+            "load blink.uf2 --flash 0",
+            "--flash is whole sectors of 4,096 bytes, from 4096 to 32M, and not 0 bytes",
+        ),
+        (
+            "load blink.uf2 --flash 33M",
+            "--flash is whole sectors of 4,096 bytes, from 4096 to 32M, and not 34603008 bytes",
+        ),
+        (
+            "load blink.uf2 --current x86",
+            "--current is arm or riscv, and not 'x86'",
+        ),
+        ("load blink.uf2 --flash", "--flash wants a value"),
+        ("load blink.uf2 -v -v", "-v is said twice"),
+        ("load blink.uf2 --fast", "no option '--fast'"),
+    ] {
+        folder.wrong(line, &format!("load: {why}{how}"));
+    }
+    folder.wrong(
+        "load none.uf2",
+        "cannot read none.uf2: No such file or directory",
+    );
+    folder.wrong(
+        "load blink.uf2 --image x/y",
+        "cannot write x/y: No such file or directory",
+    );
+    folder.wrong(
+        "load blink.uf2 --image x --record x",
+        "x is named twice: an output would replace another file of this command",
+    );
+    assert_eq!(folder.names(), ["blink.bin", "blink.uf2"]);
+}

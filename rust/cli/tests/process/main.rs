@@ -1,0 +1,13 @@
+//! The tool as a person runs it: as a process, with files, exit status and text compared.
+
+mod common;
+mod docs;
+mod hex;
+mod join;
+mod line;
+mod load;
+mod make;
+mod real;
+mod replay;
+mod scripts;
+mod tags;

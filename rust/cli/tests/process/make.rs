@@ -1,0 +1,156 @@
+//! `vantorel make`.
+
+use crate::common::{pages, Folder};
+
+#[test]
+fn a_file_is_made() {
+    let folder = Folder::new();
+    folder.put("blink.bin", pages(3));
+    let ran = folder.ends(
+        0,
+        "make blink.bin -o a.uf2 --family arm-s --start 0x10000100",
+    );
+    assert_eq!(
+        ran.out,
+        "a.uf2: 3 blocks of family arm-s (0xe48bff59), for 0x10000100 to 0x100003ff\n"
+    );
+    assert_eq!(ran.err, "");
+    let file = folder.get("a.uf2");
+    assert_eq!(file.len(), 3 * 512);
+    for (k, page) in pages(3).chunks(256).enumerate() {
+        let block = &file[k * 512..][..512];
+        assert_eq!(&block[32..288], page);
+        assert_eq!(block[20..24], (k as u32).to_le_bytes());
+        assert_eq!(block[12..16], (0x1000_0100 + 256 * k as u32).to_le_bytes());
+    }
+    // the same by other words
+    folder.ends(
+        0,
+        "make --start=268435712 --family 0xe48bff59 -o b.uf2 blink.bin",
+    );
+    folder.ends(
+        0,
+        "make --start 0x10000100 --family 3834380121 -o c.uf2 -- blink.bin",
+    );
+    assert!(folder.get("b.uf2") == file && folder.get("c.uf2") == file);
+    // a file that is there is replaced
+    folder.ends(
+        0,
+        "make blink.bin -o b.uf2 --family data --start 0x10000000",
+    );
+    assert!(folder.get("b.uf2") != file);
+    assert_eq!(folder.names(), ["a.uf2", "b.uf2", "blink.bin", "c.uf2"]);
+}
+
+#[test]
+fn images_of_which_no_file_is_made() {
+    let folder = Folder::new();
+    folder.put("empty", []);
+    folder.put("ragged", [7; 300]);
+    folder.put("two", [7; 512]);
+    for (image, start, why) in [
+        ("empty", "0x10000000", "50 BadImage: empty is empty"),
+        (
+            "ragged",
+            "0x10000000",
+            "50 BadImage: ragged has 300 bytes, which is no whole number of pages of 256 bytes; fill it up to 512",
+        ),
+        (
+            "two",
+            "0x11ffff00",
+            "52 PastWindow: two has 512 bytes, and from 0x11ffff00 on it would pass 0x12000000",
+        ),
+    ] {
+        let line = format!("make {image} -o out.uf2 --family data --start {start}");
+        let ran = folder.ends(1, &line);
+        assert_eq!(ran.err, format!("vantorel: nothing was made: {why}\n"));
+        assert_eq!(ran.out, "");
+        let ran = folder.ends(1, &format!("{line} --json"));
+        assert!(ran.out.contains("\"made\": false"), "{}", ran.out);
+    }
+    assert_eq!(folder.names(), ["empty", "ragged", "two"]);
+}
+
+#[test]
+fn wrong_words() {
+    let folder = Folder::new();
+    folder.put("one", [7; 256]);
+    let how = "; `vantorel make --help` says how";
+    for (line, why) in [
+        ("make one", "-o is missing: the name of the file to make"),
+        ("make one -o out", "--family is missing: a name or a number"),
+        ("make one -o out --family data", "--start is missing: the address of the image's first byte"),
+        ("make -o out --family data --start 0x10000000", "IMAGE is missing"),
+        ("make one two -o out --family data --start 0x10000000", "'two' is one word too many"),
+        (
+            "make one -o out --family e48bff59 --start 0x10000000",
+            "no family 'e48bff59': it is one of rp2040, absolute, data, arm-s, riscv, arm-ns, or a number of 32 bits, such as 0xe48bff59",
+        ),
+        (
+            "make one -o out --family data --start 1000000x",
+            "--start wants an address, such as 0x10000000, and not '1000000x'",
+        ),
+        (
+            "make one -o out --family data --start 10000000",
+            "51 BadStart: one cannot start at 0x00989680: the start is a multiple of 256 from 0x10000000 to 0x11ffff00 (hex numbers begin with 0x)",
+        ),
+        ("make one -o out --family data --start 0x10000000 -v", "no option '-v'"),
+    ] {
+        folder.wrong(line, &format!("make: {why}{how}"));
+    }
+    assert_eq!(folder.names(), ["one"]);
+}
+
+#[test]
+fn files_that_cannot_be_read_or_written() {
+    let folder = Folder::new();
+    folder.put("one", [7; 256]);
+    std::fs::create_dir(folder.path().join("folder")).expect("a folder");
+    let line =
+        |image: &str, out: &str| format!("make {image} -o {out} --family data --start 0x10000000");
+    for (image, out, why) in [
+        ("none", "out", "cannot read none: No such file or directory"),
+        ("folder", "out", "cannot read folder: Is a directory"),
+        ("one", "folder", "cannot write folder: it is a directory"),
+        (
+            "one",
+            "nowhere/out",
+            "cannot write nowhere/out: No such file or directory",
+        ),
+        (
+            "one",
+            "one",
+            "one is named twice: an output would replace another file of this command",
+        ),
+        (
+            "one",
+            "./one",
+            "./one is named twice: an output would replace another file of this command",
+        ),
+        (
+            "one",
+            "folder/../one",
+            "folder/../one is named twice: an output would replace another file of this command",
+        ),
+    ] {
+        folder.wrong(&line(image, out), why);
+    }
+    assert_eq!(folder.get("one"), [7; 256]);
+    assert_eq!(folder.names(), ["folder", "one"]);
+    // a device is written to, and stays a device
+    folder.ends(0, &line("one", "/dev/null"));
+    assert!(!std::fs::metadata("/dev/null").expect("a device").is_file());
+}
+
+/// What a link points to is replaced, and the link stays.
+#[cfg(unix)]
+#[test]
+fn a_link_stays() {
+    let folder = Folder::new();
+    folder.put("one", [7; 256]);
+    folder.put("real", []);
+    std::os::unix::fs::symlink("real", folder.path().join("link")).expect("a link");
+    folder.ends(0, "make one -o link --family data --start 0x10000000");
+    assert_eq!(folder.get("real").len(), 512);
+    assert!(folder.path().join("link").is_symlink());
+}

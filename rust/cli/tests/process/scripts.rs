@@ -1,0 +1,145 @@
+//! What `--json` prints: one line that is JSON, and its values.
+
+use crate::common::{plain, Folder};
+use crate::load::blink;
+use crate::tags::display;
+use std::io::Write;
+use std::process::{Command, Stdio};
+
+/// Whether Python takes it as JSON; true where there is no Python.
+fn is_json(text: &str) -> bool {
+    let python = Command::new("python3")
+        .args(["-m", "json.tool"])
+        .stdin(Stdio::piped())
+        .stdout(Stdio::null())
+        .spawn();
+    let Ok(mut python) = python else {
+        return true;
+    };
+    let written = python
+        .stdin
+        .take()
+        .map(|mut input| input.write_all(text.as_bytes()));
+    assert!(matches!(written, Some(Ok(()))));
+    python.wait().expect("it ends").success()
+}
+
+fn json(folder: &Folder, status: i32, line: &str) -> String {
+    let ran = folder.ends(status, &format!("{line} --json"));
+    assert_eq!(ran.out.lines().count(), 1, "{line}");
+    assert!(is_json(&ran.out), "{line}: {}", ran.out);
+    ran.out
+}
+
+fn has(text: &str, parts: &[&str]) {
+    for part in parts {
+        assert!(text.contains(part), "{part}: {text}");
+    }
+}
+
+#[test]
+fn of_loads_and_replays() {
+    let folder = blink();
+    let text = json(&folder, 0, "load blink.uf2 --record t.trace");
+    has(&text, &[
+        "\"file\": \"blink.uf2\", \"pieces\": 64, \"arrivals\": 64",
+        "\"board\": {\"flash\": 16384, \"flash_said\": false, \"arm\": true",
+        "{\"answer\": 14, \"name\": \"Written\", \"count\": 63}",
+        "\"completed\": true",
+        "\"transfer\": {\"state\": \"done\", \"family\": 3834380121, \"total\": 64, \"count\": 64, \"memory\": \"flash\"}",
+        "\"sectors\": [0, 1, 2, 3]",
+        "\"missing\": [], \"takes\": null",
+    ]);
+    let text = json(&folder, 1, "load blink.uf2 --drop 17 -v");
+    has(&text, &[
+        "\"completed\": false",
+        "\"missing\": [{\"block\": 17, \"in_file\": true, \"offset\": 4352, \"address\": 268439808, \"refused\": null}]",
+        "\"takes\": [{\"block\": 0, \"outcome\": {\"answer\": 14, \"name\": \"Written\", \"discarded\": false}}",
+    ]);
+    let text = json(&folder, 1, "load blink.bin");
+    has(&text, &["\"transfer\": {\"state\": \"idle\"}"]);
+    let text = json(&folder, 0, "replay t.trace");
+    has(
+        &text,
+        &["\"records\": 64", "\"stop\": \"none\", \"index\": null"],
+    );
+    let text = json(&folder, 1, "replay t.trace --flash 4096");
+    has(
+        &text,
+        &[
+            "\"stop\": \"differs\", \"index\": 0",
+            "\"recorded\": {\"answer\": 14, \"name\": \"Written\", \"discarded\": false}",
+            "\"ours\": {\"answer\": 10, \"name\": \"BadNumbers\", \"discarded\": false}",
+        ],
+    );
+    folder.put("short.trace", [32; 100]);
+    let text = json(&folder, 1, "replay short.trace");
+    has(
+        &text,
+        &["\"stop\": \"bad\", \"index\": 0, \"recorded\": null, \"ours\": null"],
+    );
+}
+
+#[test]
+fn of_files_made_and_tags() {
+    let folder = blink();
+    let text = json(
+        &folder,
+        0,
+        "make blink.bin -o a\"b.uf2 --family 7 --start 0x10000000",
+    );
+    has(&text, &["\"out\": \"a\\\"b.uf2\", \"made\": true, \"blocks\": 64, \"family\": 7, \"start\": 268435456, \"refusal\": null"]);
+    folder.put("ragged", [1; 3]);
+    let text = json(
+        &folder,
+        1,
+        "make ragged -o out --family 7 --start 0x10000000",
+    );
+    has(
+        &text,
+        &["\"made\": false, \"blocks\": 0", "\"refusal\": 50"],
+    );
+    folder.put("display.uf2", display());
+    let text = json(&folder, 0, "tags display.uf2");
+    has(&text, &[
+        "{\"piece\": 0, \"block\": 0, \"type\": 10471356, \"name\": \"version\", \"text\": \"0.1.2\", \"hex\": \"30 2e 31 2e 32\"}",
+        "\"versions\": [\"0.1.2\"], \"refused\": 0, \"whole\": true",
+    ]);
+    let text = json(&folder, 1, "tags ragged");
+    has(
+        &text,
+        &[
+            "{\"piece\": 0, \"block\": null, \"refusal\": 1, \"name\": \"BadLength\"}",
+            "\"whole\": false",
+        ],
+    );
+}
+
+#[test]
+fn of_hex_files() {
+    let folder = Folder::new();
+    folder.put("v1.hex", plain(0, &[1; 20]));
+    folder.put("bad.hex", ":0000000GFF\n");
+    let text = json(&folder, 0, "join v1.hex v1.hex -o both.hex");
+    has(&text, &["\"written\": true", "\"refusal\": null"]);
+    let text = json(&folder, 1, "join v1.hex bad.hex -o no.hex");
+    has(&text, &["\"refusal\": {\"answer\": 22, \"name\": \"BadDigit\", \"board\": \"V2\", \"file\": \"bad.hex\", \"line\": 1, \"position\": 8}"]);
+    let text = json(&folder, 0, "hex both.hex --board v1");
+    has(
+        &text,
+        &["\"left_out\": [], \"failed\": null, \"ended\": true, \"whole\": true"],
+    );
+    let text = json(&folder, 1, "hex both.hex --board v1 --bytes 16");
+    has(
+        &text,
+        &[
+            "\"left_out\": [{\"line\": 4, \"address\": 16}]",
+            "\"ended\": true, \"whole\": false",
+        ],
+    );
+    let text = json(&folder, 1, "hex bad.hex --board v1");
+    has(
+        &text,
+        &["\"failed\": {\"line\": 1, \"answer\": 22, \"name\": \"BadDigit\", \"position\": 8}"],
+    );
+}
