@@ -94,7 +94,8 @@ impl Args {
         Ok(())
     }
 
-    fn is_said(&self, name: &str) -> bool {
+    /// Whether an option is there, with a value or without.
+    pub fn is_said(&self, name: &str) -> bool {
         self.said.iter().any(|(said, _)| *said == name)
     }
 
@@ -151,6 +152,14 @@ impl Args {
                 self.wrong(format!("{} is missing", what[names.len()]))
             }
             Err(names) => self.wrong(format!("'{}' is one word too many", names[N])),
+        }
+    }
+
+    /// The names of files: one or more.
+    pub fn some_files(&self, what: &str) -> Result<Vec<&str>, Trouble> {
+        match self.files.as_slice() {
+            [] => self.wrong(format!("{what} is missing")),
+            names => Ok(names.iter().map(String::as_str).collect()),
         }
     }
 

@@ -6,23 +6,23 @@ mod args;
 mod block;
 mod board;
 mod families;
-pub mod figures;
+mod figures;
 mod files;
 mod hex;
 mod join;
-pub mod json;
+mod json;
 mod load;
 mod make;
 mod names;
 mod number;
 mod out;
 mod progress;
-pub mod reason;
+mod reason;
 mod replay;
-pub mod settings;
+mod settings;
 mod state;
 mod tags;
-pub mod why;
+mod why;
 
 use args::{Args, Opt};
 use out::Out;
@@ -61,6 +61,13 @@ const COMMANDS: &[Command] = &[
         run: load::run,
     },
     Command {
+        name: "why",
+        does: "says why an arrival was not taken, and why a family has a place or none",
+        help: &[why::HELP, board::HELP],
+        options: &[why::OPTIONS, board::OPTIONS],
+        run: why::run,
+    },
+    Command {
         name: "make",
         does: "makes a UF2 file of an image",
         help: &[make::HELP],
@@ -73,6 +80,13 @@ const COMMANDS: &[Command] = &[
         help: &[replay::HELP, board::HELP],
         options: &[replay::OPTIONS, board::OPTIONS],
         run: replay::run,
+    },
+    Command {
+        name: "figures",
+        does: "replays traces and counts our answers over all of them",
+        help: &[figures::HELP, board::HELP],
+        options: &[figures::OPTIONS, board::OPTIONS],
+        run: figures::run,
     },
     Command {
         name: "tags",
@@ -94,6 +108,13 @@ const COMMANDS: &[Command] = &[
         help: &[join::HELP],
         options: &[join::OPTIONS],
         run: join::run,
+    },
+    Command {
+        name: "settings",
+        does: "shows a board's stored settings, and packs a store from a text",
+        help: &[settings::command::HELP],
+        options: &[settings::command::OPTIONS],
+        run: settings::command::run,
     },
 ];
 

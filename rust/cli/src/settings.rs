@@ -23,11 +23,12 @@
 //! ```
 
 mod build;
+pub mod command;
 mod lex;
 mod show;
 
 pub use build::{parse, Parsed};
-pub use show::show;
+pub use show::{need, show};
 
 use std::fmt;
 
@@ -151,7 +152,6 @@ impl Settings {
 }
 
 impl Partition {
-    // `dont_restart` joins both ways when an entry of the wrapper has it (a store of version 2)
     fn proved(&self) -> proved::Entry {
         let mut users = [0; USERS];
         for (slot, user) in users.iter_mut().zip(&self.users) {
@@ -174,6 +174,7 @@ impl Partition {
                 Link::OwnedBy(k) => proved::Link::OwnedBy(k),
                 Link::BOf(k) => proved::Link::BOf(k),
             },
+            no_restart: self.dont_restart,
         }
     }
 
@@ -191,7 +192,7 @@ impl Partition {
                 proved::Link::OwnedBy(k) => Link::OwnedBy(k),
                 proved::Link::BOf(k) => Link::BOf(k),
             },
-            dont_restart: false,
+            dont_restart: entry.no_restart,
         }
     }
 }

@@ -1,156 +1,200 @@
 //! `vantorel why`: the reason of each arrival that was not taken, and of a family's place.
 
+mod tell;
+
+use crate::args::{Args, Opt};
+use crate::block::{need, pieces, Block};
+use crate::board::{Board, Options};
 use crate::json::Json;
-use crate::{families, names, reason};
-use proved::{Answer, Outcome, Place};
+use crate::number::{self, count};
+use crate::out::Out;
+use crate::progress::Progress;
+use crate::{families, files, state, End, Trouble};
+use proved::Transfer;
+use tools::why::{explain, explain_place, Lent, Reason};
 
-/// A reason as the library tells it.
-#[derive(Clone, Copy, PartialEq, Eq, Debug)]
-pub struct Reason {
-    /// The condition that decided: row times 100 plus its number in the row; 1 to 3 for a place that was found.
-    pub cause: u32,
-    /// The number that was tested.
-    pub got: u64,
-    /// What it was tested against.
-    pub against: u64,
-    /// The partition that it is about.
-    pub entry: u8,
-    /// The other partition, where two share a sector.
-    pub other: u8,
-    /// Why each partition does not take a family: 1 a B partition, 2 it does not accept.
-    pub marks: [u8; 16],
+/// Its page of help.
+pub const HELP: &str = "\
+vantorel why FILE.uf2 [BOARD] [--block K] [--json]
+vantorel why place FAMILY [BOARD] [--json]
+
+Plays the file's blocks into a board, one after the other, and says for each arrival that was not taken which condition decided, with the number
+that was tested and what it was tested against. With `place`, it says where in the flash a family's blocks go and by which rule, or what shut
+the family out. A file that is named place is ./place.
+
+  --block K  the arrivals of the block of this number only, and those that were taken too
+  --json     the same for scripts
+
+Exit status 0 where every arrival that it tells of was taken, or the family has a place; 1 where one was not, or it has none; 2 for a wrong
+command line or a file that cannot be read.
+
+    vantorel why blink.uf2 --flash 4096
+    vantorel why place riscv --settings board.store
+
+";
+
+/// Its options, beside those of a board.
+pub const OPTIONS: &[Opt] = &[Opt::Value("--block"), Opt::Flag("--json")];
+
+/// Runs the command.
+pub fn run(args: &Args, out: &mut Out) -> crate::Outcome {
+    let options = Options::read(args)?;
+    let words = args.some_files("FILE.uf2, or place FAMILY,")?;
+    if words.first() == Some(&"place") {
+        let [_, name] = args.files(["place", "FAMILY"])?;
+        return place(args, &options, name, out);
+    }
+    let [name] = args.files(["FILE.uf2"])?;
+    arrivals(args, &options, name, out)
 }
 
-impl Reason {
-    /// The reason in words.
-    pub fn words(&self) -> String {
-        reason::words(
-            self.cause,
-            self.got,
-            self.against,
-            self.entry,
-            self.other,
-            &self.marks,
-        )
+/// Of a family: its place, or why it has none.
+fn place(args: &Args, options: &Options, name: &str, out: &mut Out) -> crate::Outcome {
+    if args.value("--block").is_some() {
+        return args.wrong("--block is for the blocks of a file, and not for a place");
     }
-
-    fn json(&self) -> Json {
-        Json::Object(vec![
-            ("cause", self.cause.into()),
-            ("got", self.got.into()),
-            ("against", self.against.into()),
-            ("entry", u32::from(self.entry).into()),
-            ("other", u32::from(self.other).into()),
-            ("marks", Json::list(self.marks.map(u32::from))),
-            ("words", self.words().into()),
-        ])
+    let family = families::parse(name).or_else(|why| args.wrong(why))?;
+    let board = options.board(None)?;
+    let place = proved::ask(&board.settings, board.flash.len(), family);
+    let why = explain_place(&board.settings.bytes(), board.flash.len(), family);
+    if args.flag("--json") {
+        let place = tell::place_json(family, place, &why.reason);
+        out.line(Json::Object(vec![
+            ("board", board.json()),
+            ("place", place),
+        ]));
+    } else {
+        out.line(board.line());
+        out.line(tell::place(family, place, &why.reason));
     }
+    Ok(if place.is_ok() {
+        End::Whole
+    } else {
+        End::Short
+    })
 }
 
-/// A line about an arrival: its place in the order, the block's number where it is one, the answer and the reason.
-pub fn arrival(k: usize, block: Option<u32>, outcome: Outcome, reason: &Reason) -> String {
-    let block = match block {
-        Some(number) => format!("block {number}"),
-        None => "no block".into(),
+/// An arrival that is told of.
+struct Told {
+    arrival: usize,
+    block: Option<u32>,
+    outcome: proved::Outcome,
+    reason: Reason,
+}
+
+/// The block of `--block`, which the file must have.
+fn asked(args: &Args, file: &[u8]) -> Result<Option<u32>, Trouble> {
+    let Some(text) = args.value("--block") else {
+        return Ok(None);
     };
-    format!(
-        "arrival {k}, {block}: {}: {}",
-        names::outcome(outcome),
-        reason.words()
-    )
-}
-
-/// The same for scripts.
-pub fn arrival_json(k: usize, block: Option<u32>, outcome: Outcome, reason: &Reason) -> Json {
-    Json::Object(vec![
-        ("arrival", k.into()),
-        ("block", block.into()),
-        ("outcome", names::outcome_json(outcome)),
-        ("reason", reason.json()),
-    ])
-}
-
-/// A line about the place of a family.
-pub fn place(family: u32, place: Result<Place, Answer>, reason: &Reason) -> String {
-    let family = families::words(family);
-    match place {
-        Ok(place) => format!(
-            "family {family}: flash 0x{:08x} to 0x{:08x}: {}",
-            place.start,
-            (u64::from(place.start) + u64::from(place.len)).saturating_sub(1),
-            reason.words()
-        ),
-        Err(answer) => format!(
-            "family {family}: no place, {}: {}",
-            names::answer(answer),
-            reason.words()
-        ),
-    }
-}
-
-/// The same for scripts.
-pub fn place_json(family: u32, place: Result<Place, Answer>, reason: &Reason) -> Json {
-    Json::Object(vec![
-        ("family", family.into()),
-        ("start", place.ok().map(|place| place.start).into()),
-        ("bytes", place.ok().map(|place| place.len).into()),
-        (
-            "answer",
-            place.err().map(|answer| u32::from(answer.number())).into(),
-        ),
-        ("reason", reason.json()),
-    ])
-}
-
-#[cfg(test)]
-mod tests {
-    use super::*;
-
-    const REASON: Reason = Reason {
-        cause: 901,
-        got: 476,
-        against: 256,
-        entry: 0,
-        other: 0,
-        marks: [0; 16],
+    let Some(number) = number::parse_u32(text) else {
+        return args.wrong(format!(
+            "--block wants a block's number, such as 17, and not '{text}'"
+        ));
     };
-
-    #[test]
-    fn of_an_arrival() {
-        let outcome = Outcome {
-            answer: Answer::BadPayload,
-            discarded: false,
-        };
-        assert_eq!(
-            arrival(3, Some(17), outcome, &REASON),
-            "arrival 3, block 17: 9 BadPayload: the payload has 476 bytes, and must have 256"
-        );
-        assert!(arrival(3, None, outcome, &REASON).starts_with("arrival 3, no block: 9"));
-        let json = arrival_json(3, Some(17), outcome, &REASON).to_string();
-        assert!(json.contains("\"cause\": 901, \"got\": 476, \"against\": 256"));
+    let mut blocks = pieces(file).filter_map(Block::read);
+    if blocks.any(|block| block.number == number) {
+        return Ok(Some(number));
     }
+    args.wrong(format!(
+        "--block {number}: the file has no block of this number"
+    ))
+}
 
-    #[test]
-    fn of_a_place() {
-        let found = Reason { cause: 2, ..REASON };
-        let all = Place {
-            start: 0,
-            len: 32768,
-        };
-        assert_eq!(
-            place(proved::family::ARM_S, Ok(all), &found),
-            "family arm-s (0xe48bff59): flash 0x00000000 to 0x00007fff: the whole flash, since the board has no partition table"
-        );
-        let none = Reason {
-            cause: 802,
-            got: 0xe48b_ff56,
-            ..REASON
-        };
-        assert_eq!(
-            place(proved::family::RP2040, Err(Answer::NoPlace), &none),
-            "family rp2040 (0xe48bff56): no place, 8 NoPlace: the family rp2040 (0xe48bff56) is of another chip, and never has a place"
-        );
-        let json = place_json(proved::family::RP2040, Err(Answer::NoPlace), &none).to_string();
-        assert!(json.contains("\"start\": null, \"bytes\": null, \"answer\": 8"));
+/// Why an arrival is answered as it is, from where the transfer stands.
+fn reason(settings: &[u8], transfer: Transfer, piece: &[u8], board: &Board) -> Reason {
+    let lent = Lent {
+        flash: &board.flash,
+        seen: &board.seen,
+        sectors: &board.sectors,
+        main: &board.main,
+        xip: &board.xip,
+    };
+    explain(settings, &transfer.bytes(), piece, lent).reason
+}
+
+/// Plays a file: what is told of it, and where the transfer stands.
+fn play(file: &[u8], asked: Option<u32>, board: &mut Board) -> (Vec<Told>, Transfer) {
+    let settings = board.settings.clone();
+    let bytes = settings.bytes();
+    let (mut transfer, mut told) = (Transfer::new(), Vec::new());
+    let progress = Progress::start("why", pieces(file).len() as u64);
+    for (k, piece) in pieces(file).enumerate() {
+        let block = Block::read(piece).map(|block| block.number);
+        // a block that is taken changes what a reason speaks of: it is asked before
+        let before =
+            (asked.is_some() && block == asked).then(|| reason(&bytes, transfer, piece, board));
+        let outcome = proved::take(&settings, &mut transfer, piece, &mut board.buffers());
+        let refused = asked.is_none() && !outcome.answer.is_accepted();
+        let after = refused.then(|| reason(&bytes, transfer, piece, board));
+        if let Some(reason) = before.or(after) {
+            told.push(Told {
+                arrival: k,
+                block,
+                outcome,
+                reason,
+            });
+        }
+        progress.done(k as u64 + 1);
+    }
+    (told, transfer)
+}
+
+/// Of a file: the arrivals that were not taken, or those of one block.
+fn arrivals(args: &Args, options: &Options, name: &str, out: &mut Out) -> crate::Outcome {
+    let file = files::read(name)?;
+    let asked = asked(args, &file)?;
+    let mut board = options.board(need(pieces(&file)))?;
+    let (told, transfer) = play(&file, asked, &mut board);
+    let refused = told.iter().filter(|x| !x.outcome.answer.is_accepted());
+    let refused = refused.count();
+    let all = match asked {
+        Some(_) => told.len(),
+        None => pieces(&file).len(),
+    };
+    let verdict = verdict(refused as u64, all as u64, asked);
+    if args.flag("--json") {
+        let arrivals = told
+            .iter()
+            .map(|x| tell::arrival_json(x.arrival, x.block, x.outcome, &x.reason));
+        out.line(Json::Object(vec![
+            ("file", name.into()),
+            ("pieces", pieces(&file).len().into()),
+            ("board", board.json()),
+            ("block", asked.into()),
+            ("arrivals", Json::list(arrivals)),
+            ("refused", refused.into()),
+            ("transfer", state::json(transfer)),
+            ("verdict", verdict.into()),
+        ]));
+    } else {
+        out.line(board.line());
+        for x in &told {
+            out.line(tell::arrival(x.arrival, x.block, x.outcome, &x.reason));
+        }
+        out.line(format_args!("state: {}", state::words(transfer)));
+        out.line(verdict);
+    }
+    Ok(if refused == 0 && all > 0 {
+        End::Whole
+    } else {
+        End::Short
+    })
+}
+
+/// The last sentence: how many arrivals were not taken.
+fn verdict(refused: u64, all: u64, asked: Option<u32>) -> String {
+    let of = match asked {
+        Some(k) => format!(" of block {k}"),
+        None => String::new(),
+    };
+    match (refused, all) {
+        (_, 0) => "no block came: the file is empty.".into(),
+        (0, 1) => format!("TAKEN: the one arrival{of}."),
+        (0, _) => format!("TAKEN: every one of {}{of}.", count(all, "arrival")),
+        _ => format!(
+            "NOT TAKEN: {refused} of {}{of}, for the reasons above.",
+            count(all, "arrival")
+        ),
     }
 }
