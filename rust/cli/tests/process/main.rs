@@ -2,6 +2,7 @@
 
 mod common;
 mod docs;
+mod figures;
 mod hex;
 mod join;
 mod line;
@@ -10,4 +11,6 @@ mod make;
 mod real;
 mod replay;
 mod scripts;
+mod settings;
 mod tags;
+mod why;
