@@ -1,6 +1,7 @@
 //! docs/TOOL.md: what it says that the tool prints is what it prints.
 
 use crate::common::{pages, plain, told, Folder, TOOL};
+use crate::settings::TEXT;
 use crate::tags::display;
 use std::path::Path;
 use std::process::{Command, Stdio};
@@ -12,6 +13,7 @@ fn folder() -> Folder {
     folder.put("blink-v1.hex", plain(0, &pages(1)));
     folder.put("blink-v2.hex", plain(0, &pages(2)));
     folder.put("display.uf2", display());
+    folder.put("board.toml", TEXT);
     folder
 }
 
@@ -40,7 +42,7 @@ fn examples_print_what_is_said() {
     let page = Path::new(env!("CARGO_MANIFEST_DIR")).join("../../docs/TOOL.md");
     let page = std::fs::read_to_string(page).expect("the page");
     let examples = examples(&page);
-    assert!(examples.len() >= 12, "{}", examples.len());
+    assert!(examples.len() >= 30, "{}", examples.len());
     let tool = Path::new(TOOL).parent().expect("a folder");
     let path = std::env::var("PATH").unwrap_or_default();
     for (command, text) in examples {
