@@ -4,12 +4,12 @@ mod tell;
 
 use crate::args::{Args, Opt};
 use crate::block::need;
-use crate::board::Options;
+use crate::board::{Board, Options};
 use crate::json::Json;
 use crate::out::Out;
 use crate::progress::Progress;
 use crate::replay::arrivals;
-use crate::{files, End, Outcome};
+use crate::{files, End, Outcome, Trouble};
 use tell::Played;
 use tools::report::{add, Report};
 
@@ -32,34 +32,44 @@ Exit status 0 where every trace was replayed to its end, 1 where one was not, 2 
 /// Its options, beside those of a board.
 pub const OPTIONS: &[Opt] = &[Opt::Flag("--json")];
 
-/// Runs the command.
-pub fn run(args: &Args, out: &mut Out) -> Outcome {
-    let options = Options::read(args)?;
-    let names = args.some_files("TRACE")?;
-    let mut traces = Vec::new();
-    for name in &names {
-        traces.push(files::read(name)?);
-    }
-    let need = need(traces.iter().flat_map(|trace| arrivals(trace)));
+/// Adds each trace to the figures, replayed into a board of its own; the board of the last one.
+fn replayed(
+    options: &Options,
+    traces: &[(&str, Vec<u8>)],
+    report: &mut Report,
+) -> Result<(Vec<Played>, Board), Trouble> {
+    let need = need(traces.iter().flat_map(|(_, trace)| arrivals(trace)));
     let mut board = options.board(need)?;
-    let settings = board.settings.clone();
-    let mut report = Report::FRESH;
     let mut played = Vec::new();
     let progress = Progress::start("figures", traces.len() as u64);
-    for (name, trace) in names.iter().zip(&traces) {
-        // maps are cleared by the replay itself, and no transfer is kept; flash and RAM are a fresh board's again
+    for (name, trace) in traces {
         if !played.is_empty() {
             board = options.board(need)?;
         }
-        let stop = add(&mut report, &settings, trace, &mut board.buffers());
+        let settings = board.settings.clone();
+        let stop = add(report, &settings, trace, &mut board.buffers());
         let name = files::short(name);
         played.push(Played { name, stop });
         progress.done(played.len() as u64);
     }
-    drop(progress);
+    Ok((played, board))
+}
+
+/// Runs the command.
+pub fn run(args: &Args, out: &mut Out) -> Outcome {
+    let options = Options::read(args)?;
+    let mut traces = Vec::new();
+    for name in args.some_files("TRACE")? {
+        traces.push((name, files::read(name)?));
+    }
+    let mut report = Report::FRESH;
+    let (played, board) = replayed(&options, &traces, &mut report)?;
     if args.flag("--json") {
-        let [figures, board] = [tell::json(&report, &played), board.json()];
-        out.line(Json::Object(vec![("board", board), ("figures", figures)]));
+        let figures = tell::json(&report, &played);
+        out.line(Json::Object(vec![
+            ("board", board.json()),
+            ("figures", figures),
+        ]));
     } else {
         out.line(board.line());
         for line in tell::words(&report, &played) {

@@ -140,42 +140,79 @@ fn play(file: &[u8], asked: Option<u32>, board: &mut Board) -> (Vec<Told>, Trans
     (told, transfer)
 }
 
+/// A file that was played.
+struct Looked<'a> {
+    name: &'a str,
+    pieces: usize,
+    board: &'a Board,
+    asked: Option<u32>,
+    told: &'a [Told],
+    transfer: Transfer,
+}
+
+impl Looked<'_> {
+    fn refused(&self) -> usize {
+        let told = self.told.iter();
+        told.filter(|x| !x.outcome.answer.is_accepted()).count()
+    }
+
+    /// The arrivals that it is about: all, or those of one block.
+    fn all(&self) -> usize {
+        match self.asked {
+            Some(_) => self.told.len(),
+            None => self.pieces,
+        }
+    }
+
+    fn verdict(&self) -> String {
+        verdict(self.refused() as u64, self.all() as u64, self.asked)
+    }
+
+    fn words(&self, out: &mut Out) {
+        out.line(self.board.line());
+        for x in self.told {
+            out.line(tell::arrival(x.arrival, x.block, x.outcome, &x.reason));
+        }
+        out.line(format_args!("state: {}", state::words(self.transfer)));
+        out.line(self.verdict());
+    }
+
+    fn json(&self) -> Json {
+        let told = self.told.iter();
+        let told = told.map(|x| tell::arrival_json(x.arrival, x.block, x.outcome, &x.reason));
+        Json::Object(vec![
+            ("file", self.name.into()),
+            ("pieces", self.pieces.into()),
+            ("board", self.board.json()),
+            ("block", self.asked.into()),
+            ("arrivals", Json::list(told)),
+            ("refused", self.refused().into()),
+            ("transfer", state::json(self.transfer)),
+            ("verdict", self.verdict().into()),
+        ])
+    }
+}
+
 /// Of a file: the arrivals that were not taken, or those of one block.
 fn arrivals(args: &Args, options: &Options, name: &str, out: &mut Out) -> crate::Outcome {
     let file = files::read(name)?;
     let asked = asked(args, &file)?;
     let mut board = options.board(need(pieces(&file)))?;
     let (told, transfer) = play(&file, asked, &mut board);
-    let refused = told.iter().filter(|x| !x.outcome.answer.is_accepted());
-    let refused = refused.count();
-    let all = match asked {
-        Some(_) => told.len(),
-        None => pieces(&file).len(),
+    let looked = Looked {
+        name,
+        pieces: pieces(&file).len(),
+        board: &board,
+        asked,
+        told: &told,
+        transfer,
     };
-    let verdict = verdict(refused as u64, all as u64, asked);
     if args.flag("--json") {
-        let arrivals = told
-            .iter()
-            .map(|x| tell::arrival_json(x.arrival, x.block, x.outcome, &x.reason));
-        out.line(Json::Object(vec![
-            ("file", name.into()),
-            ("pieces", pieces(&file).len().into()),
-            ("board", board.json()),
-            ("block", asked.into()),
-            ("arrivals", Json::list(arrivals)),
-            ("refused", refused.into()),
-            ("transfer", state::json(transfer)),
-            ("verdict", verdict.into()),
-        ]));
+        out.line(looked.json());
     } else {
-        out.line(board.line());
-        for x in &told {
-            out.line(tell::arrival(x.arrival, x.block, x.outcome, &x.reason));
-        }
-        out.line(format_args!("state: {}", state::words(transfer)));
-        out.line(verdict);
+        looked.words(out);
     }
-    Ok(if refused == 0 && all > 0 {
+    Ok(if looked.refused() == 0 && looked.all() > 0 {
         End::Whole
     } else {
         End::Short
