@@ -173,7 +173,7 @@ fn of_settings() {
         "\"refusal\": null}",
     ]);
     let text = json(&folder, 1, "settings show board.toml");
-    has(&text, &["\"settings\": null, \"refusal\": 40}"]);
+    has(&text, &["\"settings\": null, \"refusal\": 41}"]);
     let text = json(&folder, 0, "settings pack board.toml -o x.store");
     has(&text, &["{\"text\": \"board.toml\", \"out\": \"x.store\", \"written\": true, \"bytes\": 68, \"faults\": []}"]);
     folder.put("bad.toml", "arm = 1\n");

@@ -2,7 +2,7 @@
 
 use crate::common::{block, pages, set, Folder, ABSOLUTE, ARM_S, FAMILY, RISCV};
 use crate::load::blink;
-use crate::settings::display;
+use crate::settings::{display, TEXT};
 
 /// Arrivals for a flash of 4,096 bytes: most of them refused, each for another reason.
 fn refused() -> Vec<u8> {
@@ -215,7 +215,7 @@ fn places() {
     let stored = "board: a flash of 1048576 bytes (none was said: as large as the file and the partitions need), Arm and RISC-V, Arm current, 3 partitions, no RAM";
     for (family, status, told) in [
         ("arm-s", 0, "family arm-s (0xe48bff59): flash 0x00002000 to 0x00041fff: partition 0, by pass 1: the first that accepts the family, is not owned by another and is bootable on the current architecture"),
-        ("riscv", 0, "family riscv (0xe48bff5a): flash 0x00002000 to 0x00041fff: partition 0, by pass 1: the first that accepts the family, is not owned by another and is bootable on the current architecture"),
+        ("riscv", 0, "family riscv (0xe48bff5a): flash 0x00002000 to 0x00041fff: partition 0, by pass 3: the first that accepts the family and is not owned by another"),
         ("data", 0, "family data (0xe48bff58): flash 0x00082000 to 0x000fffff: partition 2, by pass 4: the first that accepts the family; it is owned by another"),
         ("0x12345678", 0, "family 0x12345678: flash 0x00082000 to 0x000fffff: partition 2, by pass 4: the first that accepts the family; it is owned by another"),
         ("arm-ns", 1, "family arm-ns (0xe48bff5b): no place, 8 NoPlace: no A partition accepts the family arm-ns (0xe48bff5b): partition 0 does not accept it, partition 1 is a B partition, partition 2 does not accept it"),
@@ -223,6 +223,20 @@ fn places() {
     ] {
         let ran = folder.ends(status, &format!("why place {family} --settings board.store"));
         assert_eq!(ran.out, format!("{stored}\n{told}\n"));
+    }
+    // the image of the other architecture, on a board that switches by itself: marked for it, and not marked
+    let switching = TEXT.replace(
+        "current = \"arm\"\n",
+        "current = \"arm\"\nauto-switch = true\n",
+    );
+    for (text, pass) in [
+        (switching.clone(), "pass 3: the first that accepts the family and is not owned by another"),
+        (switching.replace("not-bootable = [\"riscv\"]\n", ""), "pass 2: the first that accepts the family, is not owned by another and is bootable on the other architecture, to which the board may switch"),
+    ] {
+        folder.put("switch.toml", text);
+        folder.ends(0, "settings pack switch.toml -o switch.store");
+        let ran = folder.ends(0, "why place riscv --settings switch.store");
+        assert!(ran.out.ends_with(&format!("partition 0, by {pass}\n")), "{}", ran.out);
     }
     let ran = folder.ends(1, "why place data --settings board.store --flash 64K");
     assert!(ran.out.ends_with("family data (0xe48bff58): no place, 2 BadSettings: partition 0 ends at byte 270336 of the flash, which has only 65536 bytes\n"), "{}", ran.out);
