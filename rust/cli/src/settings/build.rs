@@ -1,6 +1,6 @@
 //! Settings of the items of a text.
 
-use super::lex::{items, Item, Value};
+use super::lex::{items, quoted, Item, Value};
 use super::{Arch, Fault, Link, Partition, Settings, ACCEPTED, PARTITIONS, USERS};
 
 /// Settings, and the line in which each partition begins.
@@ -145,7 +145,7 @@ impl Section {
         for (line, key, _) in self.pairs {
             faults.push(Fault {
                 line,
-                why: format!("no key '{key}' here; the keys are {known}"),
+                why: format!("no key '{}' here; the keys are {known}", quoted(&key)),
             });
         }
     }
@@ -178,7 +178,7 @@ fn current(head: &mut Section, end: usize, faults: &mut Vec<Fault>) -> (Arch, us
             Some(arch) => return (arch, line),
             None => Fault {
                 line,
-                why: format!("{WANTED}, and not \"{text}\""),
+                why: format!("{WANTED}, and not \"{}\"", quoted(&text)),
             },
         },
         Some((line, value)) => Fault {
@@ -266,7 +266,8 @@ fn accept(partition: &mut Partition, value: Value) -> Result<(), String> {
             let slot = ACCEPTED.iter().position(|name| *name == text);
             match slot.and_then(|k| partition.accepts.get_mut(k)) {
                 None => Err(format!(
-                    "a partition cannot accept \"{text}\": the names are data, arm-s, riscv and arm-ns, and others are numbers, such as 0x12345678"
+                    "a partition cannot accept \"{}\": the names are data, arm-s, riscv and arm-ns, and others are numbers, such as 0x12345678",
+                    quoted(&text)
                 )),
                 Some(true) => Err(format!("\"{text}\" is accepted twice")),
                 Some(slot) => {

@@ -44,6 +44,9 @@ cannot be read or written.
 
 ";
 
+/// Errors of a text that get a line each; the others are counted.
+const LISTED: usize = 20;
+
 /// Its options.
 pub const OPTIONS: &[Opt] = &[Opt::Value("-o"), Opt::Value("--flash"), Opt::Flag("--json")];
 
@@ -190,8 +193,11 @@ fn packed(args: &Args, name: &str, flash: usize, out: &mut Out) -> Outcome {
     let Err(faults) = packed else {
         return Ok(End::Whole);
     };
-    for fault in &faults {
+    for fault in faults.iter().take(LISTED) {
         out.note(format_args!("{name}, {fault}"));
+    }
+    if faults.len() > LISTED {
+        out.note(format_args!("{name}, and {} more", faults.len() - LISTED));
     }
     out.note(format_args!(
         "nothing was written: {} in {name}",

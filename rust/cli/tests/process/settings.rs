@@ -184,6 +184,39 @@ fn errors_of_a_text() {
     refused(&many, &["line 51: a table has at most 16 partitions"]);
 }
 
+/// A file that is no text at all: nothing of it reaches the terminal, and its errors are counted.
+#[test]
+fn a_file_that_is_no_text() {
+    let folder = Folder::new();
+    let long = "x".repeat(100);
+    folder.put("a.toml", format!("\x1b[2J\x07 = 1\n{long}\n"));
+    let ran = folder.ends(1, "settings pack a.toml -o a.store");
+    let lines: Vec<&str> = ran.err.lines().collect();
+    assert_eq!(
+        lines[..2],
+        [
+            "vantorel: a.toml, line 1: '\\u{1b}[2J\\u{7}' is no key".to_string(),
+            format!(
+                "vantorel: a.toml, line 2: '{}..' is neither key = value nor [[partition]]",
+                &long[..60]
+            ),
+        ]
+    );
+    let many = [b"\xFF\n".repeat(50), b"current = \"arm\"\n".to_vec()];
+    folder.put("a.toml", many.concat());
+    let ran = folder.ends(1, "settings pack a.toml -o a.store");
+    let lines: Vec<&str> = ran.err.lines().collect();
+    assert_eq!(lines.len(), 22, "{}", ran.err);
+    assert_eq!(
+        lines[19..],
+        [
+            "vantorel: a.toml, line 20: it is not text in UTF-8",
+            "vantorel: a.toml, and 30 more",
+            "vantorel: nothing was written: 50 errors in a.toml",
+        ]
+    );
+}
+
 /// What only the library knows to be wrong has a line too: that of the partition, or of the current architecture.
 #[test]
 fn settings_that_are_bad() {
