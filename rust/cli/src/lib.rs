@@ -122,7 +122,7 @@ fn help(out: &mut Out) {
     out.line("vantorel: UF2 and Universal Hex files, by a library that is proved to do what its specification says\n");
     for command in COMMANDS {
         out.line(format_args!(
-            "  vantorel {:9}{}",
+            "  vantorel {:10}{}",
             command.name, command.does
         ));
     }

@@ -86,6 +86,23 @@ fn packed_and_shown() {
     folder.ends(0, "settings show board.store --flash 1M");
 }
 
+/// The text that the page of help shows is one.
+#[test]
+fn the_text_of_the_help() {
+    let folder = Folder::new();
+    let page = folder.ends(0, "settings --help").out;
+    let lines = page.lines().filter_map(|line| line.strip_prefix("    "));
+    let text: Vec<&str> = lines
+        .filter(|line| !line.starts_with("vantorel "))
+        .collect();
+    folder.put("help.toml", text.join("\n"));
+    let ran = folder.ends(0, "settings pack help.toml -o help.store");
+    assert_eq!(
+        ran.out,
+        "help.store: a store of 46 bytes, 2 partitions, a flash of 532480 bytes or more\n"
+    );
+}
+
 /// A packed store shown and packed again is the same.
 #[test]
 fn shown_and_packed_again() {
