@@ -79,7 +79,12 @@ fn places_agree() {
             let told = got.reason;
             assert_eq!(
                 (got.result, told.cause, told.got, told.against),
-                (u32::from(wanted.answer), wanted.cause, wanted.got, wanted.against),
+                (
+                    u32::from(wanted.answer),
+                    wanted.cause,
+                    wanted.got,
+                    wanted.against
+                ),
                 "{s:?} {len} {family:x}"
             );
             assert_eq!(
