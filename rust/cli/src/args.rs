@@ -94,7 +94,8 @@ impl Args {
         Ok(())
     }
 
-    fn is_said(&self, name: &str) -> bool {
+    /// Whether an option is there, with a value or without.
+    pub fn is_said(&self, name: &str) -> bool {
         self.said.iter().any(|(said, _)| *said == name)
     }
 
@@ -154,12 +155,12 @@ impl Args {
         }
     }
 
-    /// The names of files: at least one.
-    pub fn some_files(&self, what: &str) -> Result<&[String], Trouble> {
-        if self.files.is_empty() {
-            return self.wrong(format!("{what} is missing"));
+    /// The names of files: one or more.
+    pub fn some_files(&self, what: &str) -> Result<Vec<&str>, Trouble> {
+        match self.files.as_slice() {
+            [] => self.wrong(format!("{what} is missing")),
+            names => Ok(names.iter().map(String::as_str).collect()),
         }
-        Ok(&self.files)
     }
 
     /// A wrong command line, in one sentence.

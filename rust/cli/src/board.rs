@@ -2,7 +2,8 @@
 
 use crate::args::{Args, Opt};
 use crate::json::Json;
-use crate::{files, settings, Trouble};
+use crate::settings::{self, command::stored};
+use crate::{files, Trouble};
 use proved::{
     Answer, Arch, Buffers, Settings, FLASH_MAX_BYTES, MAIN_RAM_BYTES, SECTOR_BYTES,
     SECTOR_MAP_BYTES, SEEN_MAP_BYTES, XIP_RAM_BYTES,
@@ -11,9 +12,9 @@ use proved::{
 /// The part of a page of help that is about the board.
 pub const HELP: &str = "\
 BOARD, where no option is said, is the board of `receive`: Arm alone, the family absolute allowed, no partition table, no RAM, an erased flash;
-but the flash is as large as the file needs, in whole sectors of 4,096 bytes.
+but the flash is as large as the file and the partitions of --settings need, in whole sectors of 4,096 bytes.
   --flash BYTES         the flash's length: 4096, 0x8000, 64K, 2M; whole sectors, at most 32M
-  --settings STORE      the settings of a packed store, with its partition table, in the place of the five options that follow
+  --settings STORE      the settings of a store, which `vantorel settings pack` writes; none of the next five options stands beside it
   --arm --riscv         the architectures that are enabled; Arm, where neither is said
   --current NAME        the current one, arm or riscv; Arm, where both are enabled
   --auto-switch         an image for the other architecture is placed as well
@@ -34,6 +35,15 @@ pub const OPTIONS: &[Opt] = &[
     Opt::Flag("--main-ram"),
     Opt::Flag("--xip-ram"),
     Opt::Value("--start-image"),
+];
+
+/// The options that say settings one by one.
+const SWITCHES: [&str; 5] = [
+    "--arm",
+    "--riscv",
+    "--current",
+    "--auto-switch",
+    "--absolute",
 ];
 
 /// The flash of `receive`, for a file that needs none.
@@ -66,6 +76,8 @@ enum Length {
     Said,
     /// It is what the file needs.
     Needed,
+    /// It is what the file and the partition table need.
+    Table,
     /// The file needs no flash: that of `receive`.
     Plain,
 }
@@ -80,25 +92,17 @@ pub struct Options {
     words: Vec<String>,
 }
 
-/// The options that `--settings` stands for.
-const SWITCHES: &[Opt] = &[
-    Opt::Flag("--arm"),
-    Opt::Flag("--riscv"),
-    Opt::Value("--current"),
-    Opt::Flag("--auto-switch"),
-    Opt::Flag("--absolute"),
-];
-
-/// The settings of a store.
-fn stored(args: &Args, name: &str, flash: Option<usize>) -> Result<Settings, Trouble> {
-    if let Some(word) = args.said_of(SWITCHES).first() {
-        return args.wrong(format!("--settings has what {word} says: say one of them"));
+/// The settings of a store, or those that the options say.
+fn settings(args: &Args) -> Result<Settings, Trouble> {
+    let Some(name) = args.value("--settings") else {
+        return switches(args);
+    };
+    match SWITCHES.iter().find(|option| args.is_said(option)) {
+        None => stored(name),
+        Some(option) => args.wrong(format!(
+            "{option} and --settings do not go together: a store says every switch"
+        )),
     }
-    let flash = flash.unwrap_or(FLASH_MAX_BYTES);
-    proved::store::read(&files::read(name)?, flash).map_err(|why| {
-        let why = settings::refusal(why, flash);
-        Trouble(format!("cannot read {name} as a store: {why}"))
-    })
 }
 
 /// The settings that the options say; those of `receive` where they say none.
@@ -124,7 +128,8 @@ fn switches(args: &Args) -> Result<Settings, Trouble> {
     })
 }
 
-fn flash_len(args: &Args) -> Result<Option<usize>, Trouble> {
+/// The flash that is said.
+pub fn flash_len(args: &Args) -> Result<Option<usize>, Trouble> {
     let Some(x) = args.number("--flash")? else {
         return Ok(None);
     };
@@ -141,14 +146,9 @@ fn flash_len(args: &Args) -> Result<Option<usize>, Trouble> {
 impl Options {
     /// Reads the options, and the file of `--start-image`.
     pub fn read(args: &Args) -> Result<Options, Trouble> {
-        let flash = flash_len(args)?;
-        let settings = match args.value("--settings") {
-            Some(name) => stored(args, name, flash)?,
-            None => switches(args)?,
-        };
         Ok(Options {
-            settings,
-            flash,
+            settings: settings(args)?,
+            flash: flash_len(args)?,
             main: args.flag("--main-ram"),
             xip: args.flag("--xip-ram"),
             image: args.value("--start-image").map(files::read).transpose()?,
@@ -156,16 +156,11 @@ impl Options {
         })
     }
 
-    /// How large a flash the partition table needs; none where there is no table.
-    fn table(&self) -> Option<u64> {
-        let settings = settings::Settings::from_proved(&self.settings);
-        (self.settings.count > 0).then(|| settings::need(&settings))
-    }
-
-    /// The flash, where its length was not said: what the file and the start image need.
+    /// The flash, where its length was not said: what the file, the start image and the partitions need.
     fn needed(&self, need: Option<u64>) -> usize {
         let image = self.image.as_ref().map_or(0, Vec::len);
-        let need = need.unwrap_or(FLASH_BYTES as u64);
+        let table = settings::need(&settings::Settings::from_proved(&self.settings));
+        let need = need.unwrap_or(FLASH_BYTES as u64).max(table);
         let need = usize::try_from(need).unwrap_or(FLASH_MAX_BYTES).max(image);
         need.min(FLASH_MAX_BYTES)
             .next_multiple_of(SECTOR_BYTES)
@@ -174,7 +169,6 @@ impl Options {
 
     /// The board, for a file whose pages need a flash of so many bytes.
     pub fn board(&self, need: Option<u64>) -> Result<Board, Trouble> {
-        let need = need.max(self.table());
         let len = self.flash.unwrap_or_else(|| self.needed(need));
         let mut flash = vec![0xFF; len];
         if let Some(image) = &self.image {
@@ -194,6 +188,7 @@ impl Options {
             settings: self.settings.clone(),
             length: match (self.flash, need) {
                 (Some(_), _) => Length::Said,
+                _ if self.settings.count > 0 => Length::Table,
                 (None, Some(_)) => Length::Needed,
                 (None, None) => Length::Plain,
             },
@@ -225,6 +220,7 @@ impl Board {
         let why = match self.length {
             Length::Said => "",
             Length::Needed => " (none was said: as large as the file needs)",
+            Length::Table => " (none was said: as large as the file and the partitions need)",
             Length::Plain => " (none was said: that of `receive`)",
         };
         let mut parts = vec![format!("board: a flash of {len} bytes{why}")];

@@ -62,7 +62,7 @@ const COMMANDS: &[Command] = &[
     },
     Command {
         name: "why",
-        does: "says why an arrival was not taken, or why a family has its place",
+        does: "says why an arrival was not taken, and why a family has a place or none",
         help: &[why::HELP, board::HELP],
         options: &[why::OPTIONS, board::OPTIONS],
         run: why::run,
@@ -83,7 +83,7 @@ const COMMANDS: &[Command] = &[
     },
     Command {
         name: "figures",
-        does: "adds up exact figures over many traces",
+        does: "replays traces and counts our answers over all of them",
         help: &[figures::HELP, board::HELP],
         options: &[figures::OPTIONS, board::OPTIONS],
         run: figures::run,
@@ -111,10 +111,10 @@ const COMMANDS: &[Command] = &[
     },
     Command {
         name: "settings",
-        does: "shows a store of a board's settings, and packs one from a text",
-        help: &[settings::HELP],
-        options: &[settings::OPTIONS],
-        run: settings::run,
+        does: "shows a board's stored settings, and packs a store from a text",
+        help: &[settings::command::HELP],
+        options: &[settings::command::OPTIONS],
+        run: settings::command::run,
     },
 ];
 
@@ -122,7 +122,7 @@ fn help(out: &mut Out) {
     out.line("vantorel: UF2 and Universal Hex files, by a library that is proved to do what its specification says\n");
     for command in COMMANDS {
         out.line(format_args!(
-            "  vantorel {:9}{}",
+            "  vantorel {:10}{}",
             command.name, command.does
         ));
     }

@@ -5,6 +5,7 @@ mod number;
 
 use crate::families;
 use number::{address, bytes, flags, magic};
+use tools::why::Reason;
 
 /// What is told of a condition beside its number.
 struct Told<'a> {
@@ -30,8 +31,20 @@ impl Told<'_> {
     }
 }
 
+/// A reason in words.
+pub fn of(why: &Reason) -> String {
+    words(
+        why.cause,
+        why.got,
+        why.against,
+        why.entry,
+        why.other,
+        &why.marks,
+    )
+}
+
 /// The reason of a cause, in a sentence without its full stop. A cause that the papers do not have is named as one.
-pub fn words(cause: u32, got: u64, against: u64, entry: u8, other: u8, marks: &[u8; 16]) -> String {
+fn words(cause: u32, got: u64, against: u64, entry: u8, other: u8, marks: &[u8; 16]) -> String {
     let told = Told {
         got,
         against,

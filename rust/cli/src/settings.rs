@@ -23,15 +23,12 @@
 //! ```
 
 mod build;
-mod command;
+pub mod command;
 mod lex;
 mod show;
 
-pub(crate) use command::{refusal, run, HELP, OPTIONS};
-
-use build::{parse, Parsed};
-pub(crate) use show::need;
-use show::show;
+pub use build::{parse, Parsed};
+pub use show::{need, show};
 
 use std::fmt;
 

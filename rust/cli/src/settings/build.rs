@@ -1,6 +1,6 @@
 //! Settings of the items of a text.
 
-use super::lex::{items, Item, Value};
+use super::lex::{items, quoted, Item, Value};
 use super::{Arch, Fault, Link, Partition, Settings, ACCEPTED, PARTITIONS, USERS};
 
 /// Settings, and the line in which each partition begins.
@@ -8,6 +8,8 @@ use super::{Arch, Fault, Link, Partition, Settings, ACCEPTED, PARTITIONS, USERS}
 pub struct Parsed {
     /// The settings. Whether they are good for a board is for the library to say.
     pub settings: Settings,
+    /// The line that says the current architecture.
+    pub current: usize,
     /// The line of each partition's header.
     pub lines: Vec<usize>,
 }
@@ -19,7 +21,7 @@ pub fn parse(text: &[u8]) -> Result<Parsed, Vec<Fault>> {
     let mut sections = sections(items).into_iter();
     let head = sections.next().unwrap_or_default();
     let (mut partitions, mut lines) = (Vec::new(), Vec::new());
-    let mut settings = switches(head, end, &mut faults);
+    let (mut settings, current) = switches(head, end, &mut faults);
     for section in sections {
         lines.push(section.line);
         if lines.len() == PARTITIONS + 1 {
@@ -30,7 +32,11 @@ pub fn parse(text: &[u8]) -> Result<Parsed, Vec<Fault>> {
     settings.partitions = partitions;
     faults.sort_by_key(|fault| fault.line);
     if faults.is_empty() {
-        Ok(Parsed { settings, lines })
+        Ok(Parsed {
+            settings,
+            current,
+            lines,
+        })
     } else {
         Err(faults)
     }
@@ -139,7 +145,7 @@ impl Section {
         for (line, key, _) in self.pairs {
             faults.push(Fault {
                 line,
-                why: format!("no key '{key}' here; the keys are {known}"),
+                why: format!("no key '{}' here; the keys are {known}", quoted(&key)),
             });
         }
     }
@@ -160,7 +166,8 @@ fn architecture(text: &str) -> Option<Arch> {
     }
 }
 
-fn current(head: &mut Section, end: usize, faults: &mut Vec<Fault>) -> Arch {
+/// The current architecture, and its line.
+fn current(head: &mut Section, end: usize, faults: &mut Vec<Fault>) -> (Arch, usize) {
     const WANTED: &str = "current is \"arm\" or \"riscv\"";
     let fault = match head.take("current", faults) {
         None => Fault {
@@ -168,10 +175,10 @@ fn current(head: &mut Section, end: usize, faults: &mut Vec<Fault>) -> Arch {
             why: format!("the text ends, and current is missing: {WANTED}"),
         },
         Some((line, Value::Text(text))) => match architecture(&text) {
-            Some(arch) => return arch,
+            Some(arch) => return (arch, line),
             None => Fault {
                 line,
-                why: format!("{WANTED}, and not \"{text}\""),
+                why: format!("{WANTED}, and not \"{}\"", quoted(&text)),
             },
         },
         Some((line, value)) => Fault {
@@ -180,14 +187,16 @@ fn current(head: &mut Section, end: usize, faults: &mut Vec<Fault>) -> Arch {
         },
     };
     faults.push(fault);
-    Arch::Arm
+    (Arch::Arm, end)
 }
 
-fn switches(mut head: Section, end: usize, faults: &mut Vec<Fault>) -> Settings {
+/// The settings without partitions, and the line of the current architecture.
+fn switches(mut head: Section, end: usize, faults: &mut Vec<Fault>) -> (Settings, usize) {
+    let (current, line) = current(&mut head, end, faults);
     let settings = Settings {
         arm: head.flag("arm", faults),
         riscv: head.flag("riscv", faults),
-        current: current(&mut head, end, faults),
+        current,
         auto_switch: head.flag("auto-switch", faults),
         absolute: head.flag("absolute", faults),
         partitions: Vec::new(),
@@ -196,7 +205,7 @@ fn switches(mut head: Section, end: usize, faults: &mut Vec<Fault>) -> Settings 
         "arm, riscv, current, auto-switch and absolute, and those of a partition after [[partition]]",
         faults,
     );
-    settings
+    (settings, line)
 }
 
 fn partition(mut section: Section, faults: &mut Vec<Fault>) -> Partition {
@@ -257,7 +266,8 @@ fn accept(partition: &mut Partition, value: Value) -> Result<(), String> {
             let slot = ACCEPTED.iter().position(|name| *name == text);
             match slot.and_then(|k| partition.accepts.get_mut(k)) {
                 None => Err(format!(
-                    "a partition cannot accept \"{text}\": the names are data, arm-s, riscv and arm-ns, and others are numbers, such as 0x12345678"
+                    "a partition cannot accept \"{}\": the names are data, arm-s, riscv and arm-ns, and others are numbers, such as 0x12345678",
+                    quoted(&text)
                 )),
                 Some(true) => Err(format!("\"{text}\" is accepted twice")),
                 Some(slot) => {

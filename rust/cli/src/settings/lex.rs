@@ -55,6 +55,22 @@ pub fn items(bytes: &[u8]) -> (Vec<(usize, Item)>, Vec<Fault>) {
     (items, faults)
 }
 
+/// A part of a text as a sentence quotes it: what no terminal should get is escaped, and what is long is cut.
+pub fn quoted(text: &str) -> String {
+    const MOST: usize = 60;
+    let shown = text.chars().take(MOST);
+    let shown: String = shown
+        .map(|c| match c.is_control() {
+            true => c.escape_default().to_string(),
+            false => c.to_string(),
+        })
+        .collect();
+    match text.chars().nth(MOST) {
+        Some(_) => format!("{shown}.."),
+        None => shown,
+    }
+}
+
 /// A line without what follows a # outside of quotes.
 fn without_comment(line: &str) -> &str {
     let mut quoted = false;
@@ -77,17 +93,21 @@ fn item(line: &str) -> Result<Option<Item>, String> {
         return match name.map(str::trim) {
             Some("partition") => Ok(Some(Item::Partition)),
             _ => Err(format!(
-                "'{line}' is no header; the only one is [[partition]]"
+                "'{}' is no header; the only one is [[partition]]",
+                quoted(line)
             )),
         };
     }
     let Some((key, text)) = line.split_once('=') else {
-        return Err(format!("'{line}' is neither key = value nor [[partition]]"));
+        return Err(format!(
+            "'{}' is neither key = value nor [[partition]]",
+            quoted(line)
+        ));
     };
     let key = key.trim();
     let good = |c: char| c.is_ascii_alphanumeric() || c == '-' || c == '_';
     if key.is_empty() || !key.chars().all(good) {
-        return Err(format!("'{key}' is no key"));
+        return Err(format!("'{}' is no key", quoted(key)));
     }
     Ok(Some(Item::Pair(key.into(), value(text.trim())?)))
 }
@@ -122,11 +142,11 @@ fn single(text: &str) -> Result<Value, String> {
     if let Some(rest) = text.strip_prefix('"') {
         return match rest.strip_suffix('"') {
             Some(inner) if !inner.contains(['"', '\\']) => Ok(Value::Text(inner.into())),
-            _ => Err(format!("{text} is no text between double quotes")),
+            _ => Err(format!("{} is no text between double quotes", quoted(text))),
         };
     }
     number(text).map(Value::Number).ok_or_else(|| {
-        format!("'{text}' is no value: a value is true, false, a number such as 64 or 0x40, a text between double quotes, or a list of these in [ ]")
+        format!("'{}' is no value: a value is true, false, a number such as 64 or 0x40, a text between double quotes, or a list of these in [ ]", quoted(text))
     })
 }
 

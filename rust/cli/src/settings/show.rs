@@ -38,7 +38,7 @@ fn name(arch: Arch) -> &'static str {
 }
 
 /// How much flash the partitions need.
-pub(crate) fn need(settings: &Settings) -> u64 {
+pub fn need(settings: &Settings) -> u64 {
     let ends = settings.partitions.iter().map(end);
     ends.max().unwrap_or(0)
 }

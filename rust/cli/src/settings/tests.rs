@@ -58,7 +58,7 @@ fn faults(text: &str) -> Vec<String> {
 fn a_text() {
     let parsed = parse(EXAMPLE.as_bytes()).expect("good");
     assert_eq!(parsed.settings, example());
-    assert_eq!(parsed.lines, [6, 11]);
+    assert_eq!((parsed.current, &parsed.lines[..]), (3, &[6, 11][..]));
     let lines = EXAMPLE.replace('\n', "\r\n");
     assert_eq!(parse(lines.as_bytes()), Ok(parsed.clone()));
     let marked = format!("\u{feff}{EXAMPLE}");

@@ -1,26 +1,10 @@
 //! docs/TOOL.md: what it says that the tool prints is what it prints.
 
 use crate::common::{pages, plain, told, Folder, TOOL};
+use crate::settings::TEXT;
 use crate::tags::display;
 use std::path::Path;
 use std::process::{Command, Stdio};
-
-const BOARD: &str = "\
-# a display with two slots for its firmware
-arm = true
-current = \"arm\"
-
-[[partition]]
-first = 2
-sectors = 16
-accepts = [\"arm-s\", 0x12345678]
-
-[[partition]]
-first = 18
-sectors = 16
-accepts = [\"arm-s\"]
-b-of = 0
-";
 
 /// The files that the examples of the page are run on.
 fn folder() -> Folder {
@@ -29,7 +13,7 @@ fn folder() -> Folder {
     folder.put("blink-v1.hex", plain(0, &pages(1)));
     folder.put("blink-v2.hex", plain(0, &pages(2)));
     folder.put("display.uf2", display());
-    folder.put("board.toml", BOARD);
+    folder.put("board.toml", TEXT);
     folder
 }
 
@@ -58,7 +42,7 @@ fn examples_print_what_is_said() {
     let page = Path::new(env!("CARGO_MANIFEST_DIR")).join("../../docs/TOOL.md");
     let page = std::fs::read_to_string(page).expect("the page");
     let examples = examples(&page);
-    assert!(examples.len() >= 12, "{}", examples.len());
+    assert!(examples.len() >= 30, "{}", examples.len());
     let tool = Path::new(TOOL).parent().expect("a folder");
     let path = std::env::var("PATH").unwrap_or_default();
     for (command, text) in examples {

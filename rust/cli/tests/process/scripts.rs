@@ -2,6 +2,7 @@
 
 use crate::common::{plain, Folder};
 use crate::load::blink;
+use crate::settings;
 use crate::tags::display;
 use std::io::Write;
 use std::process::{Command, Stdio};
@@ -72,13 +73,6 @@ fn of_loads_and_replays() {
             "\"ours\": {\"answer\": 10, \"name\": \"BadNumbers\", \"discarded\": false}",
         ],
     );
-    let text = json(&folder, 0, "figures t.trace");
-    has(&text, &[
-        "\"traces\": [{\"trace\": \"t.trace\", \"stop\": \"none\", \"index\": null, \"refusal\": null}], \"records\": 64",
-        "{\"answer\": 1, \"name\": \"BadBuffers\", \"count\": 0}",
-        "{\"answer\": 15, \"name\": \"Completed\", \"count\": 1}",
-        "\"discards\": 0, \"marked\": 64, \"missing\": null",
-    ]);
     folder.put("short.trace", [32; 100]);
     let text = json(&folder, 1, "replay short.trace");
     has(
@@ -123,25 +117,6 @@ fn of_files_made_and_tags() {
 }
 
 #[test]
-fn of_settings() {
-    let folder = Folder::new();
-    folder.put("a.toml", "arm = true\ncurrent = \"arm\"\n[[partition]]\nfirst = 1\nsectors = 2\naccepts = [\"data\", 7]\n");
-    let text = json(&folder, 0, "settings pack a.toml -o a.store");
-    has(&text, &["\"out\": \"a.store\", \"written\": true, \"bytes\": 24, \"faults\": [], \"refusal\": null"]);
-    let text = json(&folder, 0, "settings show a.store");
-    has(&text, &[
-        "{\"arm\": true, \"riscv\": false, \"current\": \"arm\"",
-        "\"partitions\": [{\"first\": 1, \"sectors\": 2, \"accepts\": [\"data\"], \"users\": [7]",
-        "\"owned_by\": null, \"b_of\": null, \"dont_restart\": false}]",
-    ]);
-    let text = json(&folder, 1, "settings pack a.toml -o b.store --flash 4096");
-    has(
-        &text,
-        &["\"written\": false, \"bytes\": 0, \"faults\": [], \"refusal\": 2"],
-    );
-}
-
-#[test]
 fn of_hex_files() {
     let folder = Folder::new();
     folder.put("v1.hex", plain(0, &[1; 20]));
@@ -167,5 +142,72 @@ fn of_hex_files() {
     has(
         &text,
         &["\"failed\": {\"line\": 1, \"answer\": 22, \"name\": \"BadDigit\", \"position\": 8}"],
+    );
+}
+
+#[test]
+fn of_figures() {
+    let folder = blink();
+    folder.ends(1, "load blink.uf2 --drop 3 --record t.trace");
+    folder.put("bad.trace", [1; 513]);
+    let text = json(&folder, 1, "figures t.trace bad.trace t.trace");
+    has(&text, &[
+        "{\"board\": {\"flash\": 16384, ",
+        "\"traces\": [{\"trace\": \"t.trace\", \"stop\": \"none\", \"index\": null, \"refusal\": null}, {\"trace\": \"bad.trace\", \"stop\": \"bad\", \"index\": 0, \"refusal\": null}, ",
+        "\"records\": 126",
+        "{\"answer\": 14, \"name\": \"Written\", \"count\": 126}",
+        "{\"answer\": 17, \"name\": \"Kept\", \"count\": 0}",
+        "\"discards\": 0, \"marked\": 63, \"missing\": 3}}",
+    ]);
+}
+
+#[test]
+fn of_settings() {
+    let folder = settings::display();
+    let text = json(&folder, 0, "settings show board.store");
+    has(&text, &[
+        "{\"store\": \"board.store\", \"bytes\": 68, \"flash\": 33554432, \"settings\": {\"arm\": true, \"riscv\": true, \"current\": \"arm\", \"auto_switch\": false, \"absolute\": false",
+        "{\"first\": 66, \"sectors\": 64, \"accepts\": [\"arm-s\", \"riscv\"], \"users\": [], \"not_bootable_arm\": false, \"not_bootable_riscv\": false, \"owned_by\": null, \"b_of\": 0, \"dont_restart\": true}",
+        "\"users\": [305419896], ",
+        "\"owned_by\": 0, \"b_of\": null",
+        "\"refusal\": null}",
+    ]);
+    let text = json(&folder, 1, "settings show board.toml");
+    has(&text, &["\"settings\": null, \"refusal\": 41}"]);
+    let text = json(&folder, 0, "settings pack board.toml -o x.store");
+    has(&text, &["{\"text\": \"board.toml\", \"out\": \"x.store\", \"written\": true, \"bytes\": 68, \"faults\": []}"]);
+    folder.put("bad.toml", "arm = 1\n");
+    let text = json(&folder, 1, "settings pack bad.toml -o x.store");
+    has(&text, &[
+        "\"written\": false, \"bytes\": 0, \"faults\": [{\"line\": 1, \"why\": \"arm is true or false, and not a number\"}, {\"line\": 2, ",
+    ]);
+}
+
+#[test]
+fn of_reasons() {
+    let folder = settings::display();
+    let text = json(&folder, 1, "why blink.uf2 --flash 4096 --block 17");
+    has(&text, &[
+        "{\"file\": \"blink.uf2\", \"pieces\": 64, \"board\": {\"flash\": 4096, ",
+        "\"block\": 17, \"arrivals\": [{\"arrival\": 17, \"block\": 17, \"outcome\": {\"answer\": 10, \"name\": \"BadNumbers\", \"discarded\": false}, \"reason\": {\"cause\": 1002, \"got\": 16384, \"against\": 4096, ",
+        "\"refused\": 1, \"transfer\": {\"state\": \"idle\"}, \"verdict\": \"NOT TAKEN: 1 of 1 arrival of block 17, ",
+    ]);
+    let text = json(&folder, 0, "why blink.uf2");
+    has(
+        &text,
+        &["\"block\": null, \"arrivals\": [], \"refused\": 0"],
+    );
+    let text = json(&folder, 0, "why place data --settings board.store");
+    has(&text, &[
+        "\"partitions\": 3, ",
+        "\"place\": {\"family\": 3834380120, \"start\": 532480, \"bytes\": 516096, \"answer\": null, \"reason\": {\"cause\": 3, \"got\": 4, \"against\": 0, \"entry\": 2, ",
+    ]);
+    let text = json(&folder, 1, "why place arm-ns --settings board.store");
+    has(
+        &text,
+        &[
+            "\"start\": null, \"bytes\": null, \"answer\": 8, \"reason\": {\"cause\": 806, ",
+            "\"marks\": [2, 1, 2, 0, 0, ",
+        ],
     );
 }

@@ -1,0 +1,189 @@
+//! What came of the traces, in words and for scripts.
+
+use crate::json::Json;
+use crate::names;
+use crate::number::count;
+use proved::Answer;
+use tools::report::{FiguresRefusal, Report};
+use tools::trace::Stop;
+
+/// What came of one trace.
+#[derive(Clone, PartialEq, Eq, Debug)]
+pub struct Played {
+    /// Its name.
+    pub name: String,
+    /// Where it stopped, or why it was not replayed.
+    pub stop: Result<Stop, FiguresRefusal>,
+}
+
+impl Played {
+    fn words(&self) -> String {
+        let name = &self.name;
+        match self.stop {
+            Ok(Stop::None) => format!("{name}: none, every record was replayed"),
+            Ok(Stop::Bad(k)) => {
+                format!("{name}: bad at record {k}; the records before it are in the figures")
+            }
+            Ok(Stop::Differs(k)) => {
+                format!("{name}: differs at record {k}; the records before it are in the figures")
+            }
+            Err(why @ FiguresRefusal::TooMany) => format!(
+                "{name}: {} {why:?}, not replayed: with its records the figures would pass 4294967295",
+                why.number()
+            ),
+            Err(why @ FiguresRefusal::BadReport) => format!(
+                "{name}: {} {why:?}, not replayed: the figures before it are broken",
+                why.number()
+            ),
+        }
+    }
+
+    fn json(&self) -> Json {
+        let (word, index) = match self.stop {
+            Ok(Stop::None) => ("none", None),
+            Ok(Stop::Bad(k)) => ("bad", Some(k)),
+            Ok(Stop::Differs(k)) => ("differs", Some(k)),
+            Err(_) => ("refused", None),
+        };
+        Json::Object(vec![
+            ("trace", self.name.as_str().into()),
+            ("stop", word.into()),
+            ("index", index.into()),
+            (
+                "refusal",
+                self.stop.err().map(|why| u32::from(why.number())).into(),
+            ),
+        ])
+    }
+}
+
+/// The answers in the order of their numbers, with their counts.
+fn counts(figures: &Report) -> impl Iterator<Item = (Answer, u32)> {
+    let answers = (1..).filter_map(Answer::from_number);
+    // the counts come first: they end, and the numbers do not
+    let counts = figures.counts.into_iter().zip(answers);
+    counts.map(|(n, answer)| (answer, n))
+}
+
+/// The report in words, line by line.
+pub fn words(figures: &Report, traces: &[Played]) -> Vec<String> {
+    let mut lines: Vec<String> = traces.iter().map(Played::words).collect();
+    lines.push(format!(
+        "{}, {} replayed",
+        count(traces.len() as u64, "trace"),
+        count(figures.records.into(), "record")
+    ));
+    for (answer, n) in counts(figures).filter(|(_, n)| *n > 0) {
+        let name = names::answer(answer);
+        lines.push(format!("  {name:14}{n:10}  {}", names::meaning(answer)));
+    }
+    lines.push(format!("running transfers discarded: {}", figures.discards));
+    lines.push(format!(
+        "at the end of the last trace: {} marked{}",
+        count(figures.marked.into(), "block"),
+        match figures.missing {
+            Some(k) => format!(", and block {k} is the first that is missing"),
+            None => String::new(),
+        }
+    ));
+    lines
+}
+
+/// The same for scripts, every answer with its count, 0 too.
+pub fn json(figures: &Report, traces: &[Played]) -> Json {
+    let answers = counts(figures).map(|(answer, n)| {
+        Json::Object(vec![
+            ("answer", u32::from(answer.number()).into()),
+            ("name", format!("{answer:?}").into()),
+            ("count", n.into()),
+        ])
+    });
+    Json::Object(vec![
+        ("traces", Json::list(traces.iter().map(Played::json))),
+        ("records", figures.records.into()),
+        ("answers", Json::list(answers)),
+        ("discards", figures.discards.into()),
+        ("marked", figures.marked.into()),
+        ("missing", figures.missing.into()),
+    ])
+}
+
+/// Whether every trace was replayed to its end.
+pub fn whole(traces: &[Played]) -> bool {
+    traces.iter().all(|trace| trace.stop == Ok(Stop::None))
+}
+
+#[cfg(test)]
+mod tests {
+    use super::*;
+
+    fn example() -> (Report, Vec<Played>) {
+        let mut counts = [0; 16];
+        counts[3] = 1; // 4 NotBlock
+        counts[5] = 2; // 7 NoFamily
+        counts[12] = 5; // 14 Written
+        counts[15] = 1; // 17 Kept
+        let figures = Report {
+            records: 9,
+            counts,
+            discards: 1,
+            marked: 6,
+            missing: Some(17),
+        };
+        let stops = [
+            Ok(Stop::None),
+            Ok(Stop::Bad(3)),
+            Ok(Stop::Differs(4)),
+            Err(FiguresRefusal::TooMany),
+            Err(FiguresRefusal::BadReport),
+        ];
+        let played = ["a", "b", "c", "d", "e"].iter().zip(stops);
+        let played = played.map(|(name, stop)| Played {
+            name: name.to_string(),
+            stop,
+        });
+        (figures, played.collect())
+    }
+
+    #[test]
+    fn in_words() {
+        let (figures, traces) = example();
+        assert_eq!(
+            words(&figures, &traces),
+            [
+                "a: none, every record was replayed",
+                "b: bad at record 3; the records before it are in the figures",
+                "c: differs at record 4; the records before it are in the figures",
+                "d: 70 TooMany, not replayed: with its records the figures would pass 4294967295",
+                "e: 71 BadReport, not replayed: the figures before it are broken",
+                "5 traces, 9 records replayed",
+                "  4 NotBlock             1  not a UF2 block",
+                "  7 NoFamily             2  the block names no family",
+                "  14 Written             5  stored, others are missing",
+                "  17 Kept                1  counted and not stored, since the flash has it already; others are missing",
+                "running transfers discarded: 1",
+                "at the end of the last trace: 6 blocks marked, and block 17 is the first that is missing",
+            ]
+        );
+        assert!(!whole(&traces) && whole(&traces[..1]));
+        let done = Report {
+            missing: None,
+            marked: 1,
+            ..figures
+        };
+        assert_eq!(
+            words(&done, &[]).last().map(String::as_str),
+            Some("at the end of the last trace: 1 block marked")
+        );
+    }
+
+    #[test]
+    fn for_scripts() {
+        let (figures, traces) = example();
+        let text = json(&figures, &traces[..2]).to_string();
+        assert!(text.starts_with("{\"traces\": [{\"trace\": \"a\", \"stop\": \"none\", \"index\": null, \"refusal\": null}, {\"trace\": \"b\", \"stop\": \"bad\", \"index\": 3,"));
+        assert!(text.contains("{\"answer\": 17, \"name\": \"Kept\", \"count\": 1}"));
+        assert_eq!(text.matches("\"count\"").count(), 16);
+        assert!(text.ends_with("\"discards\": 1, \"marked\": 6, \"missing\": 17}"));
+    }
+}
