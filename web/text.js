@@ -125,12 +125,12 @@ export const text = {
       erasesAtEachPage: {
         name: 'It erases at each page',
         does: 'The second page of a sector wipes out the first: of 16 pages one is left.',
-        promise: 'contract of erase_new: preparedAt',
+        promise: 'contract of flash_page: sectorWriting',
       },
       foreignBlockDiscards: {
         name: 'A foreign block discards',
         does: 'A file for another board, plugged in by mistake, throws away the update under way.',
-        promise: 'contract of take_known: answers 1 to 13 leave the transfer',
+        promise: 'contract of accept_known: answers 1 to 13 leave the transfer',
       },
       addsIn32Bits: {
         name: 'It adds in 32 bits',
@@ -145,7 +145,7 @@ export const text = {
       clearsOneMap: {
         name: 'It clears one map only',
         does: 'Blocks of the new file that carry a number of the old one are answered "Again" and never stored.',
-        promise: 'contract of accept: acceptOf',
+        promise: 'contract of enter: enteringOf',
       },
     },
   },

@@ -11,9 +11,9 @@ import { ClearsOneMap } from './clears_one_map.js';
 export const WRONG = [
   { id: 'countsArrivals', make: CountsArrivals, edit: 'transfer/counts_arrivals' },
   { id: 'trustsFileOrder', make: TrustsFileOrder, edit: 'arrival/trusts_file_order' },
-  { id: 'erasesAtEachPage', make: ErasesAtEachPage, edit: 'receiver/erases_at_each_page' },
+  { id: 'erasesAtEachPage', make: ErasesAtEachPage, edit: 'plan/erases_at_each_page' },
   { id: 'foreignBlockDiscards', make: ForeignBlockDiscards, edit: 'receiver/refusal_discards' },
   { id: 'addsIn32Bits', make: AddsIn32Bits, edit: 'screen/address_in_32_bits' },
   { id: 'choosesABEntry', make: ChoosesABEntry, edit: 'place/takes_b_of' },
-  { id: 'clearsOneMap', make: ClearsOneMap, edit: 'receiver/seen_map_not_cleared' },
+  { id: 'clearsOneMap', make: ClearsOneMap, edit: 'plan/seen_map_not_cleared' },
 ];
