@@ -11,6 +11,7 @@ mod store;
 mod table;
 mod tags;
 mod trace;
+mod why;
 
 use std::cell::Cell;
 use std::hint::black_box;
@@ -213,6 +214,7 @@ fn main() {
     hex::rows();
     tags::row();
     store::rows(&sixteen());
+    why::rows(&sixteen());
     println!("\n| work, proved | the first | the second | ratio |\n|---|---|---|---|");
     file::table_rows();
     file::accept_rows();
