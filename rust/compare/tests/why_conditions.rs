@@ -126,18 +126,19 @@ fn place(s: &Settings, len: usize, family: u32) -> Why {
     got
 }
 
+type Base = fn() -> Case;
 type Edit = fn(&mut Case);
 
 /// What makes a condition fail in a case where it does not, what is told of it alone, and others that fail beside it.
 struct Run {
-    base: fn() -> Case,
+    base: Base,
     told: Numbers,
     fails: Edit,
     earlier: Option<(u32, Edit)>,
     later: Option<(u32, Edit)>,
 }
 
-fn run(base: fn() -> Case, cause: u32, got: u64, against: u64, fails: Edit) -> Run {
+fn run(base: Base, cause: u32, got: u64, against: u64, fails: Edit) -> Run {
     Run {
         base,
         told: (cause, got, against, 0, 0, [0; 16]),
@@ -328,7 +329,7 @@ fn row_1() -> Vec<Run> {
     ]
 }
 
-/// The earlier condition stands in a later entry, and the later one in an earlier.
+/// From 204 on the earlier condition stands in a later entry, and the later one in an earlier.
 fn row_2() -> Vec<Run> {
     vec![
         run(table, 201, 0, 0, |c| c.settings.arm = false)
@@ -444,7 +445,7 @@ fn rows_4_to_7() -> Vec<Run> {
 
 /// Of two families one alone is a block's, so that the earlier one is row 7's and the later row 9's.
 fn row_8() -> Vec<Run> {
-    let shut: [(fn() -> Case, u32, u32, Edit); 6] = [
+    let shut: [(Base, u32, u32, Edit); 6] = [
         (page, 801, ABSOLUTE, |c| {
             c.settings.absolute = false;
             c.put(28, ABSOLUTE);
