@@ -1,6 +1,6 @@
 -- Rows one after the other, the reason of an arrival and of a place, by cases as the code asks them. Assumes nothing.
 use mathlib.Core.Path.{_≡_, refl, sym, ap, _∙_}
-use mathlib.Core.Bool.{Bool}
+use mathlib.Core.Bool.{Bool, true}
 use mathlib.Core.List.{List, _++_}
 use Prim.Native.Nat.{ℕ}
 use lib.ListN.{length}
@@ -8,6 +8,7 @@ use Rattle.bitmap.specs.Bitmap.{markedIn}
 use Rattle.block.specs.Block.{fieldAt, hasFlag, fieldsOf}
 use Rattle.block.specs.declared.Block.{Block}
 use Rattle.settings.specs.declared.Settings.{Settings}
+use Rattle.settings.specs.Settings.{goodSettings}
 use Rattle.place.specs.Place.{placeOf}
 use Rattle.place.specs.declared.Place.{Place}
 use Rattle.transfer.specs.Transfer.{headWith}
@@ -17,6 +18,7 @@ use Rattle.transfer.specs.declared.State.{State}
 use Rattle.screen.specs.declared.Lengths.{Lengths}
 use Rattle.arrival.specs.Arrive.{World, lengthsOf}
 use Rattle.faults.specs.Faults.{firstFault, testedOf}
+use Rattle.faults.proofs.Theorems.{sound-is-good}
 use Rattle.faults.specs.declared.Fault.{Fault}
 use Rattle.faults.specs.declared.Finding.{Finding}
 use Rattle.faults.specs.declared.Finding.the-variants.{Sound, Bad}
@@ -63,6 +65,10 @@ module _ (s : Settings) (len : ℕ) {r : Finding} (e : r ≡ firstFault s len) w
   pub finding-bad : {x : Fault} → r ≡ Bad x → {n : Tested} → n ≡ testedOf s len x → {q : Row} → q ≡ Decides (reasonWith (BadSettings x) (n .got) (n .against))
       → q ≡ findingRow s len (firstFault s len)
   finding-bad {x} h t k = k ∙ (ap (λ (n : Tested). Decides (reasonWith (BadSettings x) (n .got) (n .against))) t ∙ ap (findingRow s len) (sym h ∙ e))
+
+-- good settings have no fault
+pub finding-good : (s : Settings) (len : ℕ) → goodSettings s len ≡ true → Passes ≡ findingRow s len (firstFault s len)
+finding-good s len g = ap (findingRow s len) (sym (sound-is-good s len .1 g))
 
 -- ---- rows 1 to 7
 
