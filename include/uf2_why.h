@@ -47,6 +47,7 @@ enum uf2_cause {
     UF2_CAUSE_MANY_USERS = 208,         /* user families, 4 */
     UF2_CAUSE_RESERVED_USER = 209,      /* the first such family, 0xe48bff56 */
     UF2_CAUSE_NO_SETTINGS = 210,        /* the settings' bytes, how many they must be */
+    UF2_CAUSE_NO_LINK_KIND = 211,       /* the link kind's byte of the first used entry that has none, 2 */
     UF2_CAUSE_COUNT_UNDER_1 = 301,      /* Running: count, 1 */
     UF2_CAUSE_COUNT_NOT_BELOW = 302,    /* Running: count, total */
     UF2_CAUSE_RUNNING_TOTAL_OVER = 303, /* total, 131072 */

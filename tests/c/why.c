@@ -1,5 +1,5 @@
 /* Why a block was not taken, asked from C: of an arrival that is short, of one for a family that a board without a table does not take, of one that is
- * written; of bytes that are no settings; and of places. */
+ * written; of bytes that are no settings, by their length and by a link of no kind; and of places. */
 #include <stdio.h>
 #include <string.h>
 
@@ -41,6 +41,11 @@ int main(void) {
     arrival("short", sizeof settings, file, 511);
     arrival("written", sizeof settings, file, 512);
     arrival("no settings", sizeof settings - 1, file, 512);
+    settings[UF2_SETTINGS_COUNT_AT] = 1;
+    settings[UF2_SETTINGS_TABLE_AT + UF2_ENTRY_LINK_AT] = 9;
+    arrival("no link", sizeof settings, file, 512);
+    place("no place", UF2_FAMILY_ARM_S);
+    settings[UF2_SETTINGS_COUNT_AT] = 0;
     uf2_put32(file + 24, 129);
     arrival("too many", sizeof settings, file, 512);
     uf2_put32(file + 28, UF2_FAMILY_RISCV);

@@ -6,9 +6,10 @@ use lib.Dec.{ltb, eqb}
 use lib.ListN.{length, getD, replicate}
 use denote.Ref.{RefT, now}
 use denote.Triple.Both.{Both}
+use Rattle.sets.specs.Sets.{least}
 use Rattle.block.specs.Write.{putAt}
 use Rattle.transfer.specs.Transfer.{numberOf}
-use Rattle.layout.specs.Layout.{byteAt, settingsFrom, transferFrom}
+use Rattle.layout.specs.Layout.{byteAt, entryBytes, usedOf, settingsFrom, transferFrom}
 use Rattle.faults.specs.declared.Fault.{Fault}
 use Rattle.faults.specs.declared.Fault.the-variants.{ArchOff, CountOver, NoSectors, PastFlash, Shares, LinksUp, LinksToB, ManyUsers, ReservedUser}
 use Rattle.causes.specs.Causes.{answerOf, causeNumber}
@@ -98,9 +99,26 @@ toldOf y =
 abbrev pub bare : ℕ → ℕ → ℕ → Told
 bare number g a = toldWith number g a 0 0 (replicate 16 0)
 
--- 210: a wrong length, and the right one; such bytes are bad settings (layout's `countFrom`)
-unfoldable pub settingsTold : ℕ → Told → Told
-settingsTold len x = cond (eqb len 550) x (bare 210 len 550)
+-- the link kind's byte of entry k, at layout's offset
+unfoldable pub linkByte : List ℕ → ℕ → ℕ
+linkByte b k = byteAt (entryBytes b k) 31
+
+-- it is no kind (layout's `linkFrom`)
+unfoldable pub linkOver : List ℕ → ℕ → Bool
+linkOver b k = ltb 2 (linkByte b k)
+
+-- of n used entries the first whose link is of no kind, and n where each has one
+unfoldable pub badLink : List ℕ → ℕ → ℕ
+badLink b n = least n (linkOver b)
+
+-- 211: the link kind's byte of entry k of n used ones, and 2; such an entry makes the settings bad (`link-answers` of proofs/Laws.antt)
+unfoldable pub linkTold : List ℕ → ℕ → ℕ → Told → Told
+linkTold b n k x = cond (ltb k n) (toldWith 211 (linkByte b k) 2 k 0 (replicate 16 0)) x
+
+-- 210: a wrong length, and the right one; such bytes are bad settings (layout's `countFrom`). With a count over 16 no entry is used
+unfoldable pub settingsTold : List ℕ → Told → Told
+settingsTold b x =
+    cond (eqb (length b) 550) (linkTold b (usedOf (byteAt b 5)) (badLink b (usedOf (byteAt b 5))) x) (bare 210 (length b) 550)
 
 -- 306: a wrong length, and the right one; 307: a state byte over 2, or of a transfer that is not Idle a kind byte over 2 (layout's `stateOf`)
 unfoldable pub transferTold : List ℕ → Told → Told
@@ -110,7 +128,7 @@ transferTold b x =
     (bare 306 (length b) 14)
 
 -- in the row of the answer that they earn
-abbrev pub byteTold : Cause → ℕ → List ℕ → Told → Told
+abbrev pub byteTold : Cause → List ℕ → List ℕ → Told → Told
 byteTold (BadBuffers x) s t y = y
 byteTold (BadSettings x) s t y = settingsTold s y
 byteTold (BadState x) s t y = transferTold t y
@@ -171,7 +189,7 @@ abbrev pub returned : ℕ → Bool → ℕ
 returned n d = cond d (n + 128) n
 
 -- of a reason, with the bytes of settings and transfer
-unfoldable pub whyCall : ℕ → List ℕ → Why → List ℕ → Call
+unfoldable pub whyCall : List ℕ → List ℕ → Why → List ℕ → Call
 whyCall s t y l =
     callReturn (returned (numberOf (answerOf (y .reason .cause))) (y .discarded)) (toldOver l (byteTold (y .reason .cause) s t (toldOf y)))
 
@@ -181,7 +199,7 @@ Slice = Both (RefT (List ℕ)) (RefT (List ℕ))
 
 abbrev pub whyCallOf : Slice → Slice → Slice → Slice → Slice → Slice → Slice → Slice → List ℕ → Call
 whyCallOf s t a f m k u x l =
-    whyCall (length (now (s .entry))) (now (t .entry))
+    whyCall (now (s .entry)) (now (t .entry))
     (whyOf (settingsFrom (now (s .entry))) (worldWith (transferFrom (now (t .entry))) (now (f .entry)) (now (m .entry)) (now (k .entry)) (now (u .entry)) (now (x .entry))) (now (a .entry)))
     l
 
@@ -199,11 +217,11 @@ placeTold (Whole r) m = toldWith (ruleNumber r) 0 0 0 0 m
 placeTold (Entry p k) m = toldWith 3 p 0 k 0 m
 
 -- bytes that are no settings, where that is the answer
-unfoldable pub placeShown : ℕ → ℕ → Told → Told
-placeShown n len x = cond (eqb n 2) (settingsTold len x) x
+unfoldable pub placeShown : ℕ → List ℕ → Told → Told
+placeShown n s x = cond (eqb n 2) (settingsTold s x) x
 
-unfoldable pub placeCall : ℕ → WhyPlace → List ℕ → Call
+unfoldable pub placeCall : List ℕ → WhyPlace → List ℕ → Call
 placeCall s y l = callReturn (placedNumber (y .placed)) (toldOver l (placeShown (placedNumber (y .placed)) s (placeTold (y .placed) (y .entries))))
 
 abbrev pub placeCallOf : List ℕ → ℕ → ℕ → List ℕ → Call
-placeCallOf s len f l = placeCall (length s) (whyPlaceOf (settingsFrom s) len f) l
+placeCallOf s len f l = placeCall s (whyPlaceOf (settingsFrom s) len f) l

@@ -1,5 +1,8 @@
 // Reasons for C: why an arrival is answered as it is, and why a family has a place or none. A library of its own.
 ghost use mathlib.Core.Path.{_≡_};
+ghost use Prim.Native.Nat.{_≤_, _<_};
+ghost use lib.ListN.{length};
+ghost use Rattle.layout.specs.Layout.{usedOf};
 ghost use Rattle.whyapi.specs.WhyCall.{
   word,
   faultEntry,
@@ -8,6 +11,9 @@ ghost use Rattle.whyapi.specs.WhyCall.{
   otherOf,
   toldWith,
   toldOf,
+  linkByte,
+  badLink,
+  linkTold,
   settingsTold,
   transferTold,
   byteTold,
@@ -45,6 +51,13 @@ const REASON: usize = 38;
 const SETTINGS: usize = 550;
 
 const TRANSFER: usize = 14;
+
+// The bytes of settings before the table, those of an entry, and the entries.
+const HEAD: usize = 6;
+
+const ENTRY: usize = 34;
+
+const ENTRIES: usize = 16;
 
 const WORD: u64 = 4294967296;
 
@@ -161,14 +174,65 @@ fn told_of(why: Why) -> Told
     told_with(number, reason.got, reason.against, entry, other, marks)
 }
 
-// Bytes that are no settings: no number of theirs is told.
-fn settings_told(len: usize, told: Told) -> Told
-    ensures { λ r. ⌜ r ≡ settingsTold len told ⌝ }
+// How many entries are used; none with a count over 16.
+fn used(count: u8) -> usize
+    ensures { λ r. ⌜ r ≡ usedOf count ⌝ }
+    ensures low { λ r. ⌜ r ≤ 16 ⌝ }
 {
-    if len != SETTINGS {
-        return told_with(210, len as u64, SETTINGS as u64, 0, 0, [0; 16]);
+    let n = count as usize;
+    if n <= ENTRIES { n } else { 0 }
+}
+
+// The link kind's byte of entry k.
+fn link_byte(bytes: &[u8], k: usize) -> u8
+    requires { ⌜ length (now bytes) ≡ 550 ⌝ }
+    requires { ⌜ k < 16 ⌝ }
+    ensures { λ r. ⌜ r ≡ linkByte (now (bytes .entry)) k ⌝ }
+{
+    let at = HEAD + k * ENTRY;
+    let e = &bytes[at..at + ENTRY];
+    e[31]
+}
+
+// Of n used entries the first whose link is of no kind, and n where each has one.
+fn bad_link(bytes: &[u8], n: usize) -> usize
+    requires { ⌜ length (now bytes) ≡ 550 ⌝ }
+    requires { ⌜ n ≤ 16 ⌝ }
+    ensures { λ r. ⌜ r ≡ badLink (now (bytes .entry)) n ⌝ }
+{
+    let mut k: usize = 0;
+    while k < n {
+        if 2 < link_byte(bytes, k) {
+            return k;
+        }
+        k += 1;
+    }
+    n
+}
+
+// What is told where the link of entry k, of n used ones, is of no kind.
+fn link_told(bytes: &[u8], n: usize, k: usize, told: Told) -> Told
+    requires { ⌜ length (now bytes) ≡ 550 ⌝ }
+    requires { ⌜ n ≤ 16 ⌝ }
+    ensures { λ r. ⌜ r ≡ linkTold (now (bytes .entry)) n k told ⌝ }
+{
+    if k < n {
+        let kind = link_byte(bytes, k);
+        return told_with(211, kind as u64, 2, k as u8, 0, [0; 16]);
     }
     told
+}
+
+// Bytes that are no settings: no number is told that is not theirs.
+fn settings_told(bytes: &[u8], told: Told) -> Told
+    ensures { λ r. ⌜ r ≡ settingsTold (now (bytes .entry)) told ⌝ }
+{
+    if bytes.len() != SETTINGS {
+        return told_with(210, bytes.len() as u64, SETTINGS as u64, 0, 0, [0; 16]);
+    }
+    let n = used(bytes[5]);
+    let k = bad_link(bytes, n);
+    link_told(bytes, n, k, told)
 }
 
 // Bytes that are no transfer.
@@ -190,8 +254,8 @@ fn transfer_told(bytes: &[u8], told: Told) -> Told
 }
 
 // What is told of a reason, by the bytes that settings and transfer were read from.
-fn byte_told(cause: Cause, settings: usize, transfer: &[u8], told: Told) -> Told
-    ensures { λ r. ⌜ r ≡ byteTold cause settings (now (transfer .entry)) told ⌝ }
+fn byte_told(cause: Cause, settings: &[u8], transfer: &[u8], told: Told) -> Told
+    ensures { λ r. ⌜ r ≡ byteTold cause (now (settings .entry)) (now (transfer .entry)) told ⌝ }
 {
     match cause {
         Cause::BadBuffers(_) => told,
@@ -288,7 +352,7 @@ pub extern "C" fn uf2_why(
     let reason = why.reason;
     let cause = reason.cause;
     let answer = cause.answer();
-    let shown = byte_told(cause, settings.len(), transfer, told);
+    let shown = byte_told(cause, settings, transfer, told);
     put_told(out, shown);
     returned(answer.number(), why.discarded)
 }
@@ -332,11 +396,11 @@ fn place_number(placed: Placed) -> u8
 }
 
 // Bytes that are no settings are named as that.
-fn place_shown(number: u8, len: usize, told: Told) -> Told
-    ensures { λ r. ⌜ r ≡ placeShown number len told ⌝ }
+fn place_shown(number: u8, settings: &[u8], told: Told) -> Told
+    ensures { λ r. ⌜ r ≡ placeShown number (now (settings .entry)) told ⌝ }
 {
     if number == 2 {
-        return settings_told(len, told);
+        return settings_told(settings, told);
     }
     told
 }
@@ -357,7 +421,7 @@ pub extern "C" fn uf2_why_place(
     let marks = why.entries;
     let number = place_number(placed);
     let told = place_told(placed, marks);
-    let shown = place_shown(number, settings.len(), told);
+    let shown = place_shown(number, settings, told);
     put_told(out, shown);
     number as u32
 }

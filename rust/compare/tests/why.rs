@@ -118,6 +118,7 @@ fn bytes_that_are_none() {
     };
     let right = settings.len() as u64;
     assert_eq!(told(&settings[1..], &idle), (2, 210, right - 1, right));
+    links_of_no_kind(&settings, lent);
     assert_eq!(told(&settings, &idle[1..]), (3, 306, 13, 14));
     let mut state = idle;
     state[0] = 3;
@@ -126,4 +127,39 @@ fn bytes_that_are_none() {
     state[13] = 9;
     assert_eq!(told(&settings, &state), (3, 307, 9, 2));
     assert_eq!(told(&settings, &idle).1, 401);
+}
+
+/// Where a used entry has a link of no kind that is told, before anything else of row 2, with the first such entry; row 1 stands before it.
+fn links_of_no_kind(settings: &[u8], lent: Lent) {
+    let idle = [0; proved::TRANSFER_BYTES];
+    let told = |settings: &[u8], arrival: &[u8]| {
+        let why = explain(settings, &idle, arrival, lent);
+        let placed = explain_place(settings, lent.flash.len(), 0xe48b_ff59);
+        let (r, p) = (why.reason, placed.reason);
+        if why.result == 2 {
+            assert_eq!((placed.result, p.cause, p.got), (2, r.cause, r.got));
+            assert_eq!((p.against, p.entry, p.marks), (r.against, r.entry, r.marks));
+        }
+        assert_eq!((r.other, r.marks), (0, [0; 16]));
+        (why.result, r.cause, r.got, r.against, r.entry)
+    };
+    for k in 0..16_u8 {
+        for kind in 3..=255 {
+            let mut bytes = settings.to_vec();
+            bytes[5] = 16;
+            bytes[6 + 34 * usize::from(k) + 31] = kind;
+            bytes[6 + 34 * 15 + 31] = if k < 15 { 3 } else { kind };
+            let of_entry = (2, 211, u64::from(kind), 2, k);
+            assert_eq!(told(&bytes, &[0; 512]), of_entry);
+            bytes[0] = 0; // the current architecture is off
+            assert_eq!(told(&bytes, &[0; 512]), of_entry);
+            assert_eq!(told(&bytes, &[0; 511]), (1, 101, 511, 512, 0));
+            bytes[5] = 17;
+            assert_eq!(told(&bytes, &[0; 512]).1, 201);
+            bytes[0] = 1;
+            assert_eq!(told(&bytes, &[0; 512]), (2, 202, 17, 16, 0));
+            bytes[5] = k; // entry k is not used
+            assert_ne!(told(&bytes, &[0; 512]).1, 211);
+        }
+    }
 }

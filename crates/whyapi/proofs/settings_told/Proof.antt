@@ -1,7 +1,5 @@
 -- `whyapi::settings_told` meets its contract. Assumes nothing.
-use mathlib.Core.Path.{_∙_}
-use borrow.Author.Tests.{eq-eqb, ne-eqb}
-use Rattle.whyapi.specs.WhyCall.{settingsTold}
+use Rattle.whyapi.proofs.Laws.{short-told, whole-told}
 use borrow.Author.Needs.{needs}
 use Rattle.whyapi.proofs.settings_told.Statement.{statement}
 use Rattle.whyapi.proofs.settings_told.Tie as tie
@@ -10,12 +8,31 @@ told-with-requires : tie.Need-told-with-requires
 told-with-requires c κs = search needs
 
 returns : tie.Need-returns
-unfolding settingsTold
-returns c = c .told-with .ensures ∙ simp (ne-eqb _ _ (c .before .if1 .taken))
+returns c = short-told _ _ (c .before .if1 .taken) (c .told-with .ensures)
+
+shared-slice-read-used : tie.Need-shared-slice-read-used
+shared-slice-read-used c = search needs
+
+used-requires : tie.Need-used-requires
+used-requires c κs = search needs
+
+bad-link-requires : tie.Need-bad-link-requires
+bad-link-requires c κs = search needs
+
+link-told-requires : tie.Need-link-told-requires
+link-told-requires c κs = search needs
 
 returns-2 : tie.Need-returns-2
-unfolding settingsTold
-returns-2 c = simp (eq-eqb _ _ (c .if1 .left))
+returns-2 c = whole-told _ _ (c .before .before .before .before .if1 .left) (c .before .before .used .ensures .0) (c .before .bad-link .ensures) (c .link-told .ensures)
 
 pub settings-told-spec : {M : Type 1} → statement M
-settings-told-spec = tie.close (tie.spec told-with-requires returns returns-2)
+settings-told-spec =
+    tie.close
+    (tie.spec
+    told-with-requires
+    returns
+    shared-slice-read-used
+    used-requires
+    bad-link-requires
+    link-told-requires
+    returns-2)
