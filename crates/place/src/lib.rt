@@ -107,7 +107,11 @@ fn allows(w: PassQuery, pass: usize, e: Entry) -> bool
 fn takes(w: PassQuery, pass: usize, e: Entry) -> bool
     ensures { λ r. ⌜ r ≡ passTakes w pass e ⌝ }
 {
-    settings::is_a(e) & settings::accepts_family(e, w.family) & allows(w, pass, e)
+    // shuts most entries out, before their families are compared
+    if !allows(w, pass, e) {
+        return false;
+    }
+    settings::is_a(e) & settings::accepts_family(e, w.family)
 }
 
 // Four passes over n entries, first to last, ending at the first match.
