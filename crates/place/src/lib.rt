@@ -127,9 +127,11 @@ pub fn ram_family(settings: Settings, family: u32) -> bool
         return true;
     }
     let n = passes::used_count(settings.count);
+    // copied only where it is looked at
+    let table = settings.table;
     let mut i: usize = 0;
     while i < n {
-        let e = settings.table[i];
+        let e = table[i];
         if settings::has_user(e, family) {
             return true;
         }
