@@ -28,9 +28,9 @@ use Rattle.arrival.specs.Windows.{lies}
 use Rattle.arrival.specs.Demand.{File, ValidFile, Foreign, isCommentOf, addressOf, nothing, own, other, answerNumber, isData, sameBytes, among, seenOf, howMany, Ends, List-counts, List-ends}
 use Rattle.arrival.specs.Stopped.{ForeignToBoth}
 use Rattle.arrival.proofs.Demand.{list-counts, list-ends}
-use Rattle.examples.specs.Boards.{arrivalOf, commentOf, plain, headTo, armHead}
-use Rattle.examples.specs.Examples.{blockOfThree}
-use Rattle.examples.specs.Instance.{file, start, arrivals, Hypotheses-are-met, annotated, annotatedArrivals, Met-with-a-comment, remarks, Met-by-comments-alone, ramBlock, ramFile, ramStart, ramArrivals, Met-in-RAM, stopped, Met-by-a-stopped-transfer}
+use Rattle.boards.specs.Boards.{arrivalOf, commentOf, plain, headTo, armHead}
+use Rattle.boards.specs.Tables.{blockOfThree}
+use Rattle.instances.specs.Instance.{file, start, arrivals, Hypotheses-are-met, annotated, annotatedArrivals, Met-with-a-comment, remarks, Met-by-comments-alone, ramBlock, ramFile, ramStart, ramArrivals, Met-in-RAM, stopped, Met-by-a-stopped-transfer}
 
 -- what holds of 0, 1 and 2 holds below 3
 three : (P : ℕ → Type 0) → P 0 → P 1 → P 2 → (k : ℕ) → k < 3 → P k

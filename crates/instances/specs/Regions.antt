@@ -14,7 +14,7 @@ use Rattle.transfer.specs.declared.State.the-variants.{Idle}
 use Rattle.arrival.specs.Arrive.{World}
 use Rattle.arrival.specs.Demand.{File, ValidFile, isGuarded}
 use Rattle.arrival.specs.Regions.{Regions, Complete}
-use Rattle.examples.specs.Boards.{plain, lentFilled, lentTo}
+use Rattle.boards.specs.Boards.{plain, lentFilled, lentTo}
 
 -- the final bytes of the region: a sector of 0xFF, of which some are payloads
 abbrev pub finalBytes : List ℕ

@@ -11,8 +11,8 @@ use Rattle.transfer.specs.declared.State.the-variants.{Idle, Running}
 use Rattle.arrival.specs.Arrive.{World}
 use Rattle.arrival.specs.Demand.{File, ValidFile, Sent, Mixed}
 use Rattle.arrival.specs.Stopped.{Stopped, ForeignToBoth}
-use Rattle.examples.specs.Boards.{arrivalOf, commentOf, plain, headTo, lentTo, lentRam}
-use Rattle.examples.specs.Examples.{blockOfThree}
+use Rattle.boards.specs.Boards.{arrivalOf, commentOf, plain, headTo, lentTo, lentRam}
+use Rattle.boards.specs.Tables.{blockOfThree}
 
 -- three blocks of arm-s, at pages 0, 1 and 2
 abbrev pub file : File

@@ -37,8 +37,8 @@ use Rattle.arrival.specs.Demand.{File, ValidFile, answerNumber, addressOf, isDa
 use Rattle.arrival.specs.Regions.{regionStart, regionLength, regionIn, inRegion, Final, Regions, NoOther, Regions-end}
 use Rattle.arrival.proofs.Kept.{standing-kept, flag-0x4000-decides-14-or-17}
 use Rattle.arrival.proofs.Regions.{regions-end}
-use Rattle.examples.specs.Boards.{plain, lentTo}
-use Rattle.examples.specs.Regions.{finalBytes, namingBlock, namingFile, erasedStart, Met-where-it-stands, Met-where-it-is-written}
+use Rattle.boards.specs.Boards.{plain, lentTo}
+use Rattle.instances.specs.Regions.{finalBytes, namingBlock, namingFile, erasedStart, Met-where-it-stands, Met-where-it-is-written}
 
 -- ---- what a block says
 
