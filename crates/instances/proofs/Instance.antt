@@ -25,9 +25,9 @@ use Rattle.screen.specs.Screen.{windowOf, noteKind, placed, strayed, noted, dat
 use Rattle.arrival.specs.Arrive.{World, rightLengths, standsAt, afterScreening, decide, done, receiveOf}
 use Rattle.arrival.specs.Lists.{receiveAll}
 use Rattle.arrival.specs.Windows.{lies}
-use Rattle.arrival.specs.Demand.{File, ValidFile, Foreign, isCommentOf, addressOf, nothing, own, other, answerNumber, isData, sameBytes, among, seenOf, howMany, Ends, List-counts, List-ends}
-use Rattle.arrival.specs.Stopped.{ForeignToBoth}
-use Rattle.arrival.proofs.Demand.{list-counts, list-ends}
+use Rattle.demand.specs.Demand.{File, ValidFile, Foreign, isCommentOf, addressOf, nothing, own, other, answerNumber, isData, sameBytes, among, seenOf, howMany, Ends, List-counts, List-ends}
+use Rattle.demand.specs.Stopped.{ForeignToBoth}
+use Rattle.demand.proofs.Demand.{list-counts, list-ends}
 use Rattle.boards.specs.Boards.{arrivalOf, commentOf, plain, headTo, armHead}
 use Rattle.boards.specs.Tables.{blockOfThree}
 use Rattle.instances.specs.Instance.{file, start, arrivals, Hypotheses-are-met, annotated, annotatedArrivals, Met-with-a-comment, remarks, Met-by-comments-alone, ramBlock, ramFile, ramStart, ramArrivals, Met-in-RAM, stopped, Met-by-a-stopped-transfer}

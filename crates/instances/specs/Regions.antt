@@ -12,8 +12,8 @@ use Rattle.settings.specs.Settings.{familyArmS}
 use Rattle.transfer.specs.declared.Kind.the-variants.{Flash}
 use Rattle.transfer.specs.declared.State.the-variants.{Idle}
 use Rattle.arrival.specs.Arrive.{World}
-use Rattle.arrival.specs.Demand.{File, ValidFile, isGuarded}
-use Rattle.arrival.specs.Regions.{Regions, Complete}
+use Rattle.demand.specs.Demand.{File, ValidFile, isGuarded}
+use Rattle.demand.specs.Regions.{Regions, Complete}
 use Rattle.boards.specs.Boards.{plain, lentFilled, lentTo}
 
 -- the final bytes of the region: a sector of 0xFF, of which some are payloads

@@ -15,13 +15,13 @@ use Rattle.transfer.specs.Transfer.{sameKind}
 use Rattle.transfer.specs.declared.Kind.{Kind}
 use Rattle.transfer.specs.declared.Kind.the-variants.{Flash, MainRam, XipRam}
 use Rattle.screen.specs.declared.Lengths.{Lengths}
 use Rattle.arrival.specs.Arrive.{Held, World, bufferOf, lengthsOf}
-use Rattle.arrival.specs.Demand.{File, isData, changedBy, Contents}
+use Rattle.demand.specs.Demand.{File, isData, changedBy, Contents}
 use Rattle.arrival.proofs.Count.{Blocks, count}
 use Rattle.arrival.proofs.Cells.{touched, cell, cell-owned, cell-free}
 use Rattle.arrival.proofs.Heads.{same-kind}
 use Rattle.arrival.proofs.Effect.{lengthIn, length-in, payloadIn, kindIn, spans-is, Valid, layout, sectorsOf, owned-touches, apart-of}
-use Rattle.arrival.proofs.Files.{blocksOf}
+use Rattle.demand.proofs.Files.{blocksOf}
 
 any-each : (n : ℕ) (c : Bool) (S P : Set) → any n (λ k. S k && (c && P k)) ≡ c && any n (λ k. S k && P k)
 any-each n true S P = refl

@@ -14,10 +14,10 @@ use Rattle.md5.specs.Md5.{md5Of}
 use Rattle.settings.specs.declared.Settings.{Settings}
 use Rattle.transfer.specs.declared.Kind.the-variants.{Flash}
 use Rattle.transfer.specs.declared.State.the-variants.{Idle}
 use Rattle.arrival.specs.Arrive.{World}
 use Rattle.arrival.specs.Lists.{receiveAll, AtEach}
 use Rattle.arrival.specs.Kept.{digestIn}
-use Rattle.arrival.specs.Demand.{File, isData, ValidFile, Sent, seenOf, howMany, originOf, storageOf, holds, liesIn, isGuarded, Contents, Same-count}
+use Rattle.demand.specs.Demand.{File, isData, ValidFile, Sent, seenOf, howMany, originOf, storageOf, holds, liesIn, isGuarded, Contents, Same-count}
 
 -- ---- the region that block i names
 

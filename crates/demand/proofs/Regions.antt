@@ -27,23 +27,23 @@ use Rattle.transfer.specs.Transfer.{sameKind}
 use Rattle.transfer.specs.declared.Kind.{Kind}
 use Rattle.transfer.specs.declared.Kind.the-variants.{Flash, MainRam, XipRam}
 use Rattle.transfer.specs.declared.State.the-variants.{Idle}
 use Rattle.arrival.specs.Arrive.{Held, World, lengthsOf, standsAt, standing}
 use Rattle.arrival.specs.Windows.{windowStart}
 use Rattle.arrival.specs.Lists.{receiveAll, AtEach}
 use Rattle.arrival.specs.Kept.{digestIn}
-use Rattle.arrival.specs.Demand.{File, isData, addressOf, ValidFile, Foreign, Sent, seenOf, startOf, originOf, storageOf, holds, liesIn, Contents, sizeOf, isGuarded, Plain}
-use Rattle.arrival.specs.Regions.{regionStart, regionLength, regionIn, inRegion, Final, Regions, NoOther, Complete, Regions-end, Whole-same, Whole-alike}
+use Rattle.demand.specs.Demand.{File, isData, addressOf, ValidFile, Foreign, Sent, seenOf, startOf, originOf, storageOf, holds, liesIn, Contents, sizeOf, isGuarded, Plain}
+use Rattle.demand.specs.Regions.{regionStart, regionLength, regionIn, inRegion, Final, Regions, NoOther, Complete, Regions-end, Whole-same, Whole-alike}
 use Rattle.arrival.proofs.Heads.{kind-same}
 use Rattle.arrival.proofs.Windows.{lies-true}
 use Rattle.arrival.proofs.Cells.{touched, cell, cell-owned, cell-free}
 use Rattle.arrival.proofs.Count.{Blocks, count, After, untouched, some-seen}
 use Rattle.arrival.proofs.Effect.{spans-true, spans-is, Valid, layout, apart-of}
 use Rattle.arrival.proofs.Screening.{flashOf}
-use Rattle.arrival.proofs.Contents.{byteIn, As, contents-of}
-use Rattle.arrival.proofs.Runs.{run-after}
-use Rattle.arrival.proofs.Files.{Located, blocksOf, board, valid, located, opens, steady}
-use Rattle.arrival.proofs.Guards.{every, final, Finished, Guard, Guards, Inv, invariant, whole-flash}
-use Rattle.arrival.proofs.Demand.{ends, same-set, same-count, others}
+use Rattle.demand.proofs.Contents.{byteIn, As, contents-of}
+use Rattle.demand.proofs.Runs.{run-after}
+use Rattle.demand.proofs.Files.{Located, blocksOf, board, valid, located, opens, steady}
+use Rattle.demand.proofs.Guards.{every, final, Finished, Guard, Guards, Inv, invariant, whole-flash}
+use Rattle.demand.proofs.Demand.{ends, same-set, same-count, others}
 
 -- a part of a list, by its elements
 part-at : (f : List ℕ) (lo len i : ℕ) → i < len → getD (take len (drop lo f)) i 0 ≡ getD f (lo + i) 0

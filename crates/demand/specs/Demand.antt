@@ -26,27 +26,17 @@ use Rattle.transfer.specs.declared.Head.{Head}
 use Rattle.transfer.specs.declared.State.the-variants.{Idle, Done}
 use Rattle.transfer.specs.declared.Answer.{Answer}
 use Rattle.transfer.specs.declared.Answer.the-variants.{Finished, Again, Written, Completed, Noted}
 use Rattle.arrival.specs.Arrive.{World, bufferOf, lengthsOf, outcomeNumber, receiveOf}
 use Rattle.arrival.specs.Windows.{windowStart, lies}
 use Rattle.arrival.specs.Lists.{receiveAll, answersOf}
 use Rattle.arrival.specs.Kept.{soft}
+pub use Rattle.arrival.specs.File.{File, isData, headIn, isFound, startOf, originOf}
 
 -- ---- a valid file
-
--- a file of `total` blocks of one family and one kind (02, L8): the arrival that is block k
-pub record File : Type 0 where
-  pub total : ℕ
-  pub family : ℕ
-  pub kind : Kind
-  pub block : ℕ → List ℕ
 
 -- "Whether a block earns 1 to 11 is asked with the fixed settings and what is lent at the start."
 abbrev pub answerNumber : Settings → World → List ℕ → ℕ
 answerNumber s w a = outcomeNumber (receiveOf s w a)
-
--- "blocks are data or comments" (02, L3): block k is data, its flag 0x1 being clear
-abbrev pub isData : File → ℕ → Bool
-isData F k = not (hasFlag (F .block k) 0x1)
 
 -- the address of block k
 abbrev pub addressOf : File → ℕ → ℕ
@@ -68,13 +58,6 @@ pub record ValidFile (s : Settings) (w : World) (F : File) : Type 0 where
   pub passes : (k : ℕ) → k < F .total → 12 ≤ answerNumber s w (F .block k)
 
 -- ---- a list of its blocks
-
--- the header yields a block
-abbrev pub isFound : Header → Bool
-isFound header.NotBlock = false
-isFound header.Container = false
-isFound header.NoFamily = false
-isFound (header.Found b) = true
 
 -- "a comment of its family and total"
 abbrev pub isCommentOf : File → List ℕ → Bool
@@ -124,17 +107,6 @@ abbrev pub isWhole : File → Set → Bool
 isWhole F S = eqb (howMany F S) (F .total)
 
 -- ---- where it goes
-
--- where a place starts
-abbrev pub startOf : Place → ℕ
-startOf Nowhere = 0
-startOf (At start size) = start
-
--- what a kind's window starts at in its buffer: flash's at the start of the family's place, RAM's at 0
-abbrev pub originOf : Settings → World → Kind → ℕ → ℕ
-originOf s w Flash f = startOf (placeOf s (length (w .held .flash)) f)
-originOf s w MainRam f = 0
-originOf s w XipRam f = 0
 
 -- "Storage address = place start + block address - 0x10000000" (01's term: storage address); in RAM "counted from the window's start" (02, L8)
 abbrev pub storageOf : Settings → World → File → ℕ → ℕ
@@ -186,10 +158,6 @@ repliesTo s w F S [] = []
 repliesTo s w F S (a ∷ l) = replyTo s w F S a ∷ repliesTo s w F (withArrival s w S a) l
 
 -- ---- the end of the list
-
--- "Running (family, n, m)", "Done (family, n)": the family and the n, and the kind, "which the transfer carries once it isn't Idle"
-abbrev pub headIn : File → Head
-headIn F = headWith (F .kind) (F .family) (F .total)
 
 -- The four bullets of 01, with S the set of blocks seen and v the world after the list: of transfer and seen map, of the sector map, of the
 -- buffers.

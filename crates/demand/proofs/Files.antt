@@ -28,18 +28,18 @@ use Rattle.screen.specs.declared.Body.the-variants.{Page}
 use Rattle.screen.specs.declared.Placed.{Placed}
 use Rattle.screen.specs.declared.Screening.{Screening}
 use Rattle.screen.specs.declared.Screening.the-variants.{Refused, Passed}
 use Rattle.arrival.specs.Arrive.{World, Outcome, bufferOf, standing, deedOf, unchanged, done, receiveOf}
 use Rattle.arrival.specs.Windows.{windowStart, windowEnd, kindOf}
-use Rattle.arrival.specs.Demand.{File, answerNumber, isData, addressOf, ValidFile, isFound, Foreign, originOf, storageOf, headIn}
+use Rattle.demand.specs.Demand.{File, answerNumber, isData, addressOf, ValidFile, isFound, Foreign, originOf, storageOf, headIn}
 use Rattle.arrival.proofs.Heads.{kind-same}
 use Rattle.arrival.proofs.Windows.{window-one, lies-true}
 use Rattle.arrival.proofs.Pages.{arrive}
 use Rattle.arrival.proofs.Count.{Blocks, bodyOf, placedOf, Opens, Carried}
 use Rattle.arrival.proofs.Effect.{Fits, Valid, spans-true, spans-is}
 use Rattle.arrival.proofs.Screening.{flashOf, lens, Board, Passing, Good, screen-good, screen-turn, note-counted, room-origin, passing-few, passing-fits}
 use Rattle.arrival.proofs.DecisionFacts.{Rows, stopped, through, rows, raised-number}
-use Rattle.arrival.proofs.Lists.{receive-refused, receive-passed, Reached}
-use Rattle.arrival.proofs.Runs.{Steady}
+use Rattle.demand.proofs.Lists.{receive-refused, receive-passed, Reached}
+use Rattle.demand.proofs.Runs.{Steady}
 
 -- ---- an arrival that earns 4 or more has passed rows 1 to 3
 

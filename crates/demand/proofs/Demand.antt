@@ -28,19 +28,19 @@ use Rattle.transfer.specs.declared.Deed.{Deed}
 use Rattle.transfer.specs.declared.Deed.the-variants.{Stores, Notes, Keeps}
 use Rattle.transfer.specs.declared.State.the-variants.{Idle}
 use Rattle.screen.specs.declared.Lengths.{Lengths}
 use Rattle.arrival.specs.Arrive.{Held, World, Outcome, bufferOf, lengthsOf, standsAt, doneTo, receiveOf}
 use Rattle.arrival.specs.Lists.{receiveAll, answersOf}
 use Rattle.arrival.specs.Kept.{soft}
-use Rattle.arrival.specs.Demand.{File, answerNumber, ValidFile, Foreign, Sent, nothing, own, other, seenOf, isWhole, unfinished, replyTo, withArrival, repliesTo, Counts, Ends, sizeOf, Plain, List-counts, Other-kinds-stay, List-answers, List-ends, Plain-answers, isCompleted, Completed-exactly, SameSet, Same-set-same-end, Either-first, Same-count, Same-set-same-count, Either-first-same-count}
+use Rattle.demand.specs.Demand.{File, answerNumber, ValidFile, Foreign, Sent, nothing, own, other, seenOf, isWhole, unfinished, replyTo, withArrival, repliesTo, Counts, Ends, sizeOf, Plain, List-counts, Other-kinds-stay, List-answers, List-ends, Plain-answers, isCompleted, Completed-exactly, SameSet, Same-set-same-end, Either-first, Same-count, Same-set-same-count, Either-first-same-count}
 use Rattle.arrival.proofs.Pages.{apply}
 use Rattle.arrival.proofs.Count.{Blocks, count, headBy, deedBy, Any, Invariant, After, untouched, begun, verdict, Stepped, nothing-seen, some-seen, still-running, whole-done, seen-map, after-carried, invariant-of, after, after-is}
 use Rattle.arrival.proofs.Cells.{cell, cell-none, getD-buffer}
 use Rattle.arrival.proofs.Effect.{kindIn, Valid, layout, sectorsOf, Unkept, paged-other, effect, effect-buffer, lengths-effect, grows}
 use Rattle.arrival.proofs.Facts.{wiped-buffer}
-use Rattle.arrival.proofs.Contents.{byteIn, As, touchedIn, sectors-in, contents-of}
-use Rattle.arrival.proofs.Lists.{Reached, reached-next, reached-after}
-use Rattle.arrival.proofs.Runs.{mixed-append, mixed-split, seen-nothing, seen-append, seen-own, seen-other, along-any, own-step, other-step, run-after}
-use Rattle.arrival.proofs.Files.{blocksOf, board, valid, opens, foreign-is, steady}
+use Rattle.demand.proofs.Contents.{byteIn, As, touchedIn, sectors-in, contents-of}
+use Rattle.demand.proofs.Lists.{Reached, reached-next, reached-after}
+use Rattle.demand.proofs.Runs.{mixed-append, mixed-split, seen-nothing, seen-append, seen-own, seen-other, along-any, own-step, other-step, run-after}
+use Rattle.demand.proofs.Files.{blocksOf, board, valid, opens, foreign-is, steady}
 
 -- ---- transfer and seen map, with regions or without
 

@@ -10,11 +10,11 @@ use borrow.Author.Tests.{eqb-true, eqb-false, lt-ltb, ltb-true}
 use Rattle.sets.specs.Sets.{Set, add}
 use Rattle.sets.proofs.Tests.{split, clash, is-false, eqb-same, and-left, and-right}
 use Rattle.settings.specs.declared.Settings.{Settings}
 use Rattle.arrival.specs.Arrive.{Held, World, receiveOf}
 use Rattle.arrival.specs.Lists.{receiveAll, AtEach}
-use Rattle.arrival.specs.Demand.{File, Mixed, nothing, own, other, sameBytes, among, seenOf}
+use Rattle.demand.specs.Demand.{File, Mixed, nothing, own, other, sameBytes, among, seenOf}
 use Rattle.arrival.proofs.Count.{Blocks, count, bytesOf, coming, Any, Invariant, Opens, After, Stepped, block-step, Carried, after-carried}
-use Rattle.arrival.proofs.Lists.{Reached, reached-next}
+use Rattle.demand.proofs.Lists.{Reached, reached-next}
 
 -- the bytes of two arrivals
 pub same-true : (a b : List ℕ) → sameBytes a b ≡ true → a ≡ b
