@@ -92,7 +92,7 @@ export const text = {
       'For every valid file and every list of its blocks, in any order, with repeats or losses, mixed with foreign arrivals: ' +
       'what was lent and the set of blocks that came decide flash, maps and state, and nothing else does. "Completed" comes exactly when the set is whole.',
     theorem: 'Theorems',
-    where: 'List-ends and Completed-exactly, crates/arrival/specs/Demand.antt',
+    where: 'List-ends and Completed-exactly, crates/demand/specs/Demand.antt',
   },
 
   wrong: {

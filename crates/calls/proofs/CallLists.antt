@@ -31,16 +31,16 @@ use Rattle.arrival.specs.Lists.{receiveAll, answersOf, discardsOf, Delivery, pl
 use Rattle.arrival.specs.Facts.{Refusals-change-nothing, Look-tells}
 use Rattle.arrival.specs.Windows.{headOf}
 use Rattle.arrival.specs.Tally.{anyAccepted, Count-is-marks}
-use Rattle.arrival.specs.Demand.{File, seenOf, howMany, headIn, Counts, Contents, Ends, List-counts, List-ends, Completed-exactly, Same-set-same-end, Either-first}
-use Rattle.arrival.specs.Regions.{Regions-end}
-use Rattle.arrival.specs.Stopped.{EndsAlike, Stopped-then-good}
+use Rattle.demand.specs.Demand.{File, seenOf, howMany, headIn, Counts, Contents, Ends, List-counts, List-ends, Completed-exactly, Same-set-same-end, Either-first}
+use Rattle.demand.specs.Regions.{Regions-end}
+use Rattle.demand.specs.Stopped.{EndsAlike, Stopped-then-good}
 use Rattle.arrival.proofs.DecisionFacts.{AcceptFacts, DecisionFacts, kept, took, took-number, decision-facts}
 use Rattle.arrival.proofs.Facts.{refusals-change-nothing, look-tells}
 use Rattle.arrival.proofs.Tally.{count-is-marks}
-use Rattle.arrival.proofs.Demand.{list-counts, list-ends, completed-exactly, same-set-same-end, either-first}
-use Rattle.arrival.proofs.Runs.{mixed-map}
-use Rattle.arrival.proofs.Regions.{regions-end}
-use Rattle.arrival.proofs.Stopped.{stopped-then-good}
+use Rattle.demand.proofs.Demand.{list-counts, list-ends, completed-exactly, same-set-same-end, either-first}
+use Rattle.demand.proofs.Runs.{mixed-map}
+use Rattle.demand.proofs.Regions.{regions-end}
+use Rattle.demand.proofs.Stopped.{stopped-then-good}
 use Rattle.layout.specs.Layout.{byteAt, stateFrom, settingsFrom, transferBytes, headBytes, stateBytes, withTransfer}
 use Rattle.layout.proofs.Refused.{state-length}
 use Rattle.layout.proofs.Transfers.{Small, written-back}
