@@ -15,7 +15,8 @@ use Rattle.settings.specs.Table.{tableOf}
 use Rattle.settings.proofs.Laws.{good-count}
 use Rattle.settings.proofs.Tables.{table-at, table-cong}
 use Rattle.layout.specs.Layout.{settingsFrom, settingsBytes, withSettings}
-use Rattle.layout.proofs.Written.{Typed, settings-back}
+use Rattle.entrybytes.proofs.Entries.{Typed}
+use Rattle.layout.proofs.Written.{settings-back}
 use Rattle.entrybits.specs.EntryBits.{slot, neatEntry}
 use Rattle.entrybits.proofs.OneEntry.{Fits}
 use Rattle.store.specs.declared.StoreAnswer.the-variants.{Good}
