@@ -19,9 +19,9 @@ use Rattle.entrybytes.proofs.Entries.{Typed}
 use Rattle.layout.proofs.Written.{settings-back}
 use Rattle.entrybits.specs.EntryBits.{slot, neatEntry}
 use Rattle.entrybits.proofs.OneEntry.{Fits}
-use Rattle.store.specs.declared.StoreAnswer.the-variants.{Good}
+use Rattle.storewrite.specs.declared.StoreAnswer.the-variants.{Good}
 use Rattle.store.specs.Store.{storeOf, readOf, found, writeCall, writeOf}
-use Rattle.store.proofs.Cases.{write-good}
+use Rattle.storewrite.proofs.Cases.{write-good}
 use Rattle.encoding.specs.Claims.{neatAt, neat}
 use Rattle.encoding.proofs.Written.{good-fields, store-length}
 use Rattle.encoding.proofs.Encoding.{Found, read-found, read-is-the-encoding}
