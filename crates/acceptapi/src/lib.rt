@@ -71,7 +71,7 @@ pub extern "C" fn uf2_accept(
         return 1;
     }
     let s = layout::read_settings(settings);
-    let t = layout::read_transfer(transfer);
+    let t = transferbytes::read_transfer(transfer);
     let r = receiver::accept(s, t, arrival, flash, seen, sectors, main, xip);
     let receipt = r.receipt;
     let answer = receipt.answer;

@@ -42,8 +42,8 @@ use Rattle.demand.proofs.Runs.{mixed-map}
 use Rattle.demand.proofs.Regions.{regions-end}
 use Rattle.demand.proofs.Stopped.{stopped-then-good}
 use Rattle.layout.specs.Layout.{byteAt, stateFrom, settingsFrom, transferBytes, headBytes, stateBytes, withTransfer}
-use Rattle.layout.proofs.Refused.{state-length}
-use Rattle.layout.proofs.Transfers.{Small, written-back}
+use Rattle.transferbytes.proofs.Refused.{state-length}
+use Rattle.transferbytes.proofs.Transfers.{Small, written-back}
 use Rattle.batch.specs.Batch.{resultOf, isAcceptance, arrivalsOf, resultsOf, anyAcceptance, storedFrom, fewer, batchOf}
 use Rattle.batch.proofs.Laws.{number-most}
 use Rattle.callbytes.specs.Calls as calls

@@ -19,7 +19,7 @@ const PLACE: usize = 8;
 pub extern "C" fn uf2_new(transfer: &mut [u8])
     ensures { λ _. ⌜ now (transfer .exit) ≡ withTransfer (now (transfer .entry)) (fresh .state) ⌝ }
 {
-    layout::write_transfer(transfer, Transfer::new());
+    transferbytes::write_transfer(transfer, Transfer::new());
 }
 
 // Writes the place that was found.
@@ -65,7 +65,7 @@ pub extern "C" fn uf2_take_all(
     ensures { λ r. ⌜ batchReturn r transfer results (leftAt flash seen sectors main xip) ≡ batchCallOf settings transfer arrivals results (lentAt flash seen sectors main xip) ⌝ }
 {
     let s = layout::read_settings(settings);
-    let t = layout::read_transfer(transfer);
+    let t = transferbytes::read_transfer(transfer);
     let b = batch::take_all(s, t, arrivals, results, flash, seen, sectors, main, xip);
     let next = b.transfer;
     callbytes::keep(transfer, b.accepted, next);

@@ -18,7 +18,7 @@ pub extern "C" fn uf2_take(
     ensures { λ r. ⌜ takeReturn r transfer (leftAt flash seen sectors main xip) ≡ takeCallOf settings transfer arrival (lentAt flash seen sectors main xip) ⌝ }
 {
     let s = layout::read_settings(settings);
-    let t = layout::read_transfer(transfer);
+    let t = transferbytes::read_transfer(transfer);
     let r = receiver::take(s, t, arrival, flash, seen, sectors, main, xip);
     let answer = r.answer;
     let next = r.transfer;

@@ -68,7 +68,7 @@ pub extern "C" fn uf2_replay(
     let r = trace::replay(s, trace, flash, seen, sectors, main, xip);
     let end = r.transfer;
     let stop = r.stop;
-    layout::write_transfer(transfer, end);
+    transferbytes::write_transfer(transfer, end);
     put_stop(index, stop);
     number(stop)
 }

@@ -300,7 +300,7 @@ pub extern "C" fn uf2_why(
     ensures { λ r. ⌜ callReturn r (now (out .exit)) ≡ whyCallOf settings transfer arrival flash seen sectors main xip (now (out .entry)) ⌝ }
 {
     let s = layout::read_settings(settings);
-    let t = layout::read_transfer(transfer);
+    let t = transferbytes::read_transfer(transfer);
     let why = reason::explain(s, t, arrival, flash, seen, sectors, main, xip);
     tell(why, settings, transfer, out)
 }
