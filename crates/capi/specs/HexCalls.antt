@@ -7,7 +7,7 @@ use Rattle.grammar.specs.Answers.{numberOf, positionOf, isFailure}
 use Rattle.grammar.specs.declared.Answer.{Answer}
 use Rattle.grammar.specs.declared.ReaderState.{ReaderState}
 use Rattle.grammar.specs.declared.ReaderState.the-variants.{Between, Opened, Inside, Padded, Ended, Failed}
-use Rattle.unihex.specs.declared.Reader.{Reader}
+use Rattle.hexreader.specs.declared.Reader.{Reader}
 use Rattle.unihex.specs.Line.{LineOutcome, lineOf}
 use Rattle.readers.specs.Readers.{readerFrom, readerWritten}
 

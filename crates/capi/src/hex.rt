@@ -1,11 +1,11 @@
 // The calls for Universal Hex. A reader is bytes in the layout of `readers`.
 ghost use mathlib.Core.Path.{_≡_};
-ghost use Rattle.unihex.specs.Reader.{freshOf};
+ghost use Rattle.hexreader.specs.Reader.{freshOf};
 ghost use Rattle.readers.specs.Readers.{readerWritten};
 ghost use Rattle.capi.specs.HexCalls.{hasFailed, changes, keptReader, lineReturn, lineCallOf};
 use grammar::Answer;
 use grammar::ReaderState;
-use unihex::Reader;
+use hexreader::Reader;
 
 // A fresh reader of a board, where there are bytes for it.
 #[no_mangle]
@@ -50,9 +50,9 @@ fn keep_reader(reader: &mut [u8], changed: bool, next: Reader)
 pub extern "C" fn uhex_line(reader: &mut [u8], line: &[u8], image: &mut [u8]) -> u32
     ensures { λ r. ⌜ lineReturn r (now (reader .exit)) (now (image .exit)) ≡ lineCallOf (now (reader .entry)) (now (line .entry)) (now (image .entry)) ⌝ }
 {
-    let was = readers::read_reader(reader);
+    let was = readerbytes::read_reader(reader);
     let state = was.state;
-    let read = was.line(line, image);
+    let read = unihex::line(was, line, image);
     let next = read.reader;
     let answer = read.answer;
     keep_reader(reader, changes(has_failed(state), answer), next);
