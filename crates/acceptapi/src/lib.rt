@@ -78,6 +78,6 @@ pub extern "C" fn uf2_accept(
     let next = receipt.transfer;
     let planned = r.plan;
     tell(planned, plan);
-    callbytes::keep(transfer, batch::is_acceptance(answer), next);
-    batch::result(answer, receipt.discarded) as u32
+    callbytes::keep(transfer, results::is_acceptance(answer), next);
+    results::result(answer, receipt.discarded) as u32
 }

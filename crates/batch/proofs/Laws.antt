@@ -8,52 +8,50 @@ use lib.ListN.{length, take, drop, set, length-take, length-drop}
 use lib.Seq.{drop-drop}
 use Rattle.block.specs.Block.{fieldAt}
 use Rattle.settings.specs.declared.Settings.{Settings}
+use Rattle.place.specs.Place.{StartsLow}
 use Rattle.transfer.specs.Transfer.{numberOf}
 use Rattle.transfer.specs.declared.Transfer.{Transfer}
 use Rattle.transfer.specs.declared.Answer.{Answer}
-use Rattle.transfer.specs.declared.Answer.the-variants.{BadBuffers, BadSettings, BadState, NotBlock, Container, NoFamily, NoPlace, BadPayload, BadNumbers, BadAddress, Finished, Again, Written, Completed, Noted, Kept}
-use Rattle.screen.specs.Screen.{roomsOf}
 use Rattle.arrival.specs.Arrive.{Lent, World, Outcome, receiveOf}
 use Rattle.arrival.specs.Lists.{receiveAll, answersOf, discardsOf}
 use Rattle.receiver.specs.declared.Receipt.{Receipt}
 use Rattle.receiver.specs.Receiver.{world, outcome, receiveKnown}
 use Rattle.receiver.proofs.KnownLaws.{known-is}
+use Rattle.results.specs.Results.{resultOf, isAcceptance}
+use Rattle.judged.specs.declared.Judged.{Judged}
+use Rattle.judged.specs.Judged.{judgedOf, judgedNext}
+use Rattle.judged.proofs.Laws.{next-is}
 use Rattle.batch.specs.declared.Batch.{Batch}
-use Rattle.batch.specs.declared.FamilyRooms.{FamilyRooms}
 use Rattle.batch.specs.declared.Turn.{Turn}
-use Rattle.batch.specs.Batch.{resultOf, isAcceptance, arrivalsOf, resultsOf, anyAcceptance, storedFrom, BatchEnd, batchLeft, fewer, batchOf}
-use Rattle.batch.specs.Parts.{Knows, Judges, TurnEnd, turnLeft, turnOf}
-
--- the numbers fit five bits, and leave room for 128 more in a byte
-pub number-most : (a : Answer) → numberOf a ≤ 31
-number-most BadBuffers = omega arith
-number-most BadSettings = omega arith
-number-most BadState = omega arith
-number-most NotBlock = omega arith
-number-most Container = omega arith
-number-most NoFamily = omega arith
-number-most NoPlace = omega arith
-number-most BadPayload = omega arith
-number-most BadNumbers = omega arith
-number-most BadAddress = omega arith
-number-most Finished = omega arith
-number-most Again = omega arith
-number-most Written = omega arith
-number-most Completed = omega arith
-number-most Noted = omega arith
-number-most Kept = omega arith
+use Rattle.batch.specs.Batch.{arrivalsOf, resultsOf, anyAcceptance, storedFrom, BatchEnd, batchLeft, fewer, batchOf}
+use Rattle.batch.specs.Parts.{lensOf, Judges, TurnEnd, turnLeft, turnOf}
 
 -- ---- one arrival of many
 
--- what was judged before and what is kept of the family are the arrival's
-pub turn-known : (s : Settings) (u : Transfer) (a : List ℕ) (h : Lent) {f : ℕ} {right good : Bool} {k : FamilyRooms} {o : Outcome} → Judges s h right good → length a ≡ 512 → f ≡ fieldAt a 28 → k .family ≡ f → Knows s (length (h .flash)) k → o ≡ receiveKnown (record { right = right; good = good; rooms = k .rooms }) (world u h) a → o ≡ receiveOf s (world u h) a
-turn-known s u a h judges whole hf hk knows ho =
-    let rooms = knows .0 ∙ ap (roomsOf s (length (h .flash))) (hk ∙ hf) in
-    ho ∙ known-is s (world u h) a (rw (judges .0, judges .1, rooms, whole), knows .1)
+-- what is known of a family, by its name
+pub judges-of : (s : Settings) (h : Lent) {f : ℕ} {j : Judged} → j ≡ judgedOf s (lensOf h) (length (h .seen)) (length (h .sectors)) f → StartsLow (j .known .rooms .flash) → Judges s h j
+judges-of s h e low =
+    record { said = e ∙ ap (λ (j : Judged). judgedOf s (lensOf h) (length (h .seen)) (length (h .sectors)) (j .family)) (sym e); low = low }
+
+-- what is known of the family before is known of the next one
+next-judged : (s : Settings) (h : Lent) (f : ℕ) {b j : Judged} → Judges s h b → j ≡ judgedNext b s (length (h .flash)) f → j ≡ judgedOf s (lensOf h) (length (h .seen)) (length (h .sectors)) f
+next-judged s h f {b} q hj =
+    hj
+    ∙ ap (λ (b : Judged). judgedNext b s (length (h .flash)) f) (q .said)
+    ∙ next-is s (lensOf h) (length (h .seen)) (length (h .sectors)) (b .family) f
+
+pub turn-judged : (s : Settings) (h : Lent) (f : ℕ) {b j : Judged} → Judges s h b → j ≡ judgedNext b s (length (h .flash)) f → (StartsLow (b .known .rooms .flash) → StartsLow (j .known .rooms .flash)) → Judges s h j
+turn-judged s h f q hj low = judges-of s h (next-judged s h f q hj) (low (q .low))
+
+-- and so the arrival is taken as by itself
+pub turn-known : (s : Settings) (u : Transfer) (a : List ℕ) (h : Lent) {b : Judged} {f : ℕ} {j : Judged} {o : Outcome} → Judges s h b → length a ≡ 512 → f ≡ fieldAt a 28 → j ≡ judgedNext b s (length (h .flash)) f → StartsLow (j .known .rooms .flash) → o ≡ receiveKnown (j .known) (world u h) a → o ≡ receiveOf s (world u h) a
+turn-known s u a h {f = f} q whole hf hj low ho =
+    let e = ap (λ (j : Judged). j .known) (next-judged s h f q hj) in
+    ho ∙ known-is s (world u h) a (rw (e, hf, whole), low)
 
 -- what is handed back of it
-pub turn-told : (k : FamilyRooms) {r : Receipt} {g : Lent} {o : Outcome} {x : ℕ} {b : Bool} → outcome r g ≡ o → x ≡ resultOf (numberOf (r .answer)) (r .discarded) → b ≡ isAcceptance (numberOf (r .answer)) → turnLeft (record { kept = k; transfer = r .transfer; result = x; accepted = b }) g ≡ turnOf o
-turn-told k ho hx hb = rw (hx, hb) (ap turnOf ho)
+pub turn-told : (j : Judged) {r : Receipt} {g : Lent} {o : Outcome} {x : ℕ} {b : Bool} → outcome r g ≡ o → x ≡ resultOf (numberOf (r .answer)) (r .discarded) → b ≡ isAcceptance (numberOf (r .answer)) → turnLeft (record { judged = j; transfer = r .transfer; result = x; accepted = b }) g ≡ turnOf o
+turn-told j ho hx hb = rw (hx, hb) (ap turnOf ho)
 
 -- ---- lengths stay
 
@@ -67,19 +65,19 @@ SameLengths h g =
     × (length (h .xip) ≡ length (g .xip))
 
 -- the buffers h are as long as those that were lent, g, and so judged as they were
-pub record Stays (s : Settings) (g : Lent) (right good : Bool) (h : Lent) : Type 0 where
+pub record Stays (s : Settings) (g : Lent) (b : Judged) (h : Lent) : Type 0 where
   pub lengths : SameLengths h g
-  pub judged : Judges s h right good
+  pub judged : Judges s h b
 
-pub stays-first : (s : Settings) (g : Lent) {right good : Bool} → Judges s g right good → Stays s g right good g
+pub stays-first : (s : Settings) (g : Lent) {b : Judged} → Judges s g b → Stays s g b g
 stays-first s g q = record { lengths = (refl, refl, refl, refl, refl); judged = q }
 
-pub stays-on : (s : Settings) (g h k : Lent) {right good : Bool} → Stays s g right good h → SameLengths k h → Stays s g right good k
-stays-on s g h k q e =
+pub stays-on : (s : Settings) (g h k : Lent) {b j : Judged} → Stays s g b h → SameLengths k h → Judges s h j → Stays s g j k
+stays-on s g h k q e x =
     let l = q .lengths in
     record {
       lengths = (e .0 ∙ l .0, e .1 ∙ l .1, e .2 ∙ l .2, e .3 ∙ l .3, e .4 ∙ l .4);
-      judged = (rw (e .0, e .1, e .2, e .3, e .4) (q .judged .0), rw (e .0) (q .judged .1));
+      judged = record { said = rw (e .0, e .1, e .2, e .3, e .4) (x .said); low = x .low };
     }
 
 pub arrival-size : (n i : ℕ) (a : List ℕ) → i < n → n ≤ length a / 512 → length (take (i * 512 + 512 - i * 512) (drop (i * 512) a)) ≡ 512

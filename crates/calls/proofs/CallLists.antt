@@ -44,8 +44,9 @@ use Rattle.demand.proofs.Stopped.{stopped-then-good}
 use Rattle.layout.specs.Layout.{byteAt, stateFrom, settingsFrom, transferBytes, headBytes, stateBytes, withTransfer}
 use Rattle.transferbytes.proofs.Refused.{state-length}
 use Rattle.transferbytes.proofs.Transfers.{Small, written-back}
-use Rattle.batch.specs.Batch.{resultOf, isAcceptance, arrivalsOf, resultsOf, anyAcceptance, storedFrom, fewer, batchOf}
-use Rattle.batch.proofs.Laws.{number-most}
+use Rattle.results.specs.Results.{resultOf, isAcceptance}
+use Rattle.batch.specs.Batch.{arrivalsOf, resultsOf, anyAcceptance, storedFrom, fewer, batchOf}
+use Rattle.results.proofs.Laws.{number-most}
 use Rattle.callbytes.specs.Calls as calls
 use Rattle.callbytes.specs.Calls.{lookResult, lookBytes, takeBytes, takeBatch}
 use Rattle.calls.specs.CallLists.{CallerState, call, leftBy, callAll, returnsOf, worldOf, AllBytes, Calls-are-arrivals, Calls-count, Calls-end, Calls-regions, Calls-completed, Calls-same-set, Calls-either-first, Calls-stopped, Calls-are-one-call, Look-is-take, Call, looks, takes, playCalls, takenBy, Looks-change-nothing, Look-then-take}

@@ -37,8 +37,8 @@ use Rattle.readers.proofs.Answers.{position-most}
 use Rattle.readers.proofs.Refused.{length-bad}
 use Rattle.readers.proofs.Written.{SmallState, Small}
 use Rattle.layout.specs.Layout.{byteAt}
-use Rattle.capi.specs.HexCalls.{lineResult, lineCallOf}
-use Rattle.capi.proofs.HexLaws.{line-next}
+use Rattle.hexbytes.specs.HexCalls.{lineResult, lineCallOf}
+use Rattle.hexbytes.proofs.Laws.{line-next}
 use Rattle.calls.specs.HexTurns.{LentSession, callLine, leftByLine, callLines, lineReturns, sessionOf, Calls-are-lines}
 use Rattle.calls.proofs.CallLists.{number-low}
 

@@ -21,5 +21,5 @@ pub extern "C" fn uf2_look(
     let t = transferbytes::read_transfer(transfer);
     let p = receiver::look(s, t, arrival, flash, seen, sectors, main, xip);
     let answer = p.answer;
-    batch::result(answer, p.discarded) as u32
+    results::result(answer, p.discarded) as u32
 }

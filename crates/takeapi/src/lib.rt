@@ -22,6 +22,6 @@ pub extern "C" fn uf2_take(
     let r = receiver::take(s, t, arrival, flash, seen, sectors, main, xip);
     let answer = r.answer;
     let next = r.transfer;
-    callbytes::keep(transfer, batch::is_acceptance(answer), next);
-    batch::result(answer, r.discarded) as u32
+    callbytes::keep(transfer, results::is_acceptance(answer), next);
+    results::result(answer, r.discarded) as u32
 }
