@@ -9,6 +9,7 @@ use lib.Seq.{drop-drop}
 use Rattle.block.specs.Block.{fieldAt}
 use Rattle.settings.specs.declared.Settings.{Settings}
 use Rattle.place.specs.Place.{StartsLow}
+use Rattle.screen.specs.Screen.{roomsOf}
 use Rattle.transfer.specs.Transfer.{numberOf}
 use Rattle.transfer.specs.declared.Transfer.{Transfer}
 use Rattle.transfer.specs.declared.Answer.{Answer}
@@ -18,40 +19,38 @@ use Rattle.receiver.specs.declared.Receipt.{Receipt}
 use Rattle.receiver.specs.Receiver.{world, outcome, receiveKnown}
 use Rattle.receiver.proofs.KnownLaws.{known-is}
 use Rattle.results.specs.Results.{resultOf, isAcceptance}
+use Rattle.judged.specs.declared.FamilyRooms.{FamilyRooms}
 use Rattle.judged.specs.declared.Judged.{Judged}
-use Rattle.judged.specs.Judged.{judgedOf, judgedNext}
+use Rattle.judged.specs.Judged.{roomsAt, roomsNext, judgedOf}
 use Rattle.judged.proofs.Laws.{next-is}
 use Rattle.batch.specs.declared.Batch.{Batch}
 use Rattle.batch.specs.declared.Turn.{Turn}
 use Rattle.batch.specs.Batch.{arrivalsOf, resultsOf, anyAcceptance, storedFrom, BatchEnd, batchLeft, fewer, batchOf}
-use Rattle.batch.specs.Parts.{lensOf, Judges, TurnEnd, turnLeft, turnOf}
+use Rattle.batch.specs.Parts.{Knows, lensOf, Judges, TurnEnd, turnLeft, turnOf}
 
 -- ---- one arrival of many
 
--- what is known of a family, by its name
-pub judges-of : (s : Settings) (h : Lent) {f : ℕ} {j : Judged} → j ≡ judgedOf s (lensOf h) (length (h .seen)) (length (h .sectors)) f → StartsLow (j .known .rooms .flash) → Judges s h j
-judges-of s h e low =
-    record { said = e ∙ ap (λ (j : Judged). judgedOf s (lensOf h) (length (h .seen)) (length (h .sectors)) (j .family)) (sym e); low = low }
+-- what the settings say of a family, by its name
+pub knows-of : (s : Settings) (len : ℕ) {f : ℕ} {k : FamilyRooms} → k ≡ roomsAt s len f → StartsLow (k .rooms .flash) → Knows s len k
+knows-of s len e low = record { said = e ∙ ap (λ (k : FamilyRooms). roomsAt s len (k .family)) (sym e); low = low }
 
--- what is known of the family before is known of the next one
-next-judged : (s : Settings) (h : Lent) (f : ℕ) {b j : Judged} → Judges s h b → j ≡ judgedNext b s (length (h .flash)) f → j ≡ judgedOf s (lensOf h) (length (h .seen)) (length (h .sectors)) f
-next-judged s h f {b} q hj =
-    hj
-    ∙ ap (λ (b : Judged). judgedNext b s (length (h .flash)) f) (q .said)
-    ∙ next-is s (lensOf h) (length (h .seen)) (length (h .sectors)) (b .family) f
+-- what is kept of the family before serves the next one
+next-kept : (s : Settings) (len f : ℕ) {b k : FamilyRooms} → Knows s len b → k ≡ roomsNext b s len f → k ≡ roomsAt s len f
+next-kept s len f {b} q hk =
+    hk ∙ ap (λ (b : FamilyRooms). roomsNext b s len f) (q .said) ∙ next-is s len (b .family) f
 
-pub turn-judged : (s : Settings) (h : Lent) (f : ℕ) {b j : Judged} → Judges s h b → j ≡ judgedNext b s (length (h .flash)) f → (StartsLow (b .known .rooms .flash) → StartsLow (j .known .rooms .flash)) → Judges s h j
-turn-judged s h f q hj low = judges-of s h (next-judged s h f q hj) (low (q .low))
+pub turn-knows : (s : Settings) (len f : ℕ) {b k : FamilyRooms} → Knows s len b → k ≡ roomsNext b s len f → (StartsLow (b .rooms .flash) → StartsLow (k .rooms .flash)) → Knows s len k
+turn-knows s len f q hk low = knows-of s len (next-kept s len f q hk) (low (q .low))
 
--- and so the arrival is taken as by itself
-pub turn-known : (s : Settings) (u : Transfer) (a : List ℕ) (h : Lent) {b : Judged} {f : ℕ} {j : Judged} {o : Outcome} → Judges s h b → length a ≡ 512 → f ≡ fieldAt a 28 → j ≡ judgedNext b s (length (h .flash)) f → StartsLow (j .known .rooms .flash) → o ≡ receiveKnown (j .known) (world u h) a → o ≡ receiveOf s (world u h) a
-turn-known s u a h {f = f} q whole hf hj low ho =
-    let e = ap (λ (j : Judged). j .known) (next-judged s h f q hj) in
-    ho ∙ known-is s (world u h) a (rw (e, hf, whole), low)
+-- and so, with what was judged before, the arrival is taken as by itself
+pub turn-known : (s : Settings) (u : Transfer) (a : List ℕ) (h : Lent) {f : ℕ} {right good : Bool} {b k : FamilyRooms} {o : Outcome} → Judges s h right good → length a ≡ 512 → f ≡ fieldAt a 28 → Knows s (length (h .flash)) b → k ≡ roomsNext b s (length (h .flash)) f → StartsLow (k .rooms .flash) → o ≡ receiveKnown (record { right = right; good = good; rooms = k .rooms }) (world u h) a → o ≡ receiveOf s (world u h) a
+turn-known s u a h {f = f} judges whole hf knows hk low ho =
+    let rooms = ap (λ (k : FamilyRooms). k .rooms) (next-kept s (length (h .flash)) f knows hk) ∙ ap (roomsOf s (length (h .flash))) hf in
+    ho ∙ known-is s (world u h) a (rw (judges .0, judges .1, rooms, whole), low)
 
 -- what is handed back of it
-pub turn-told : (j : Judged) {r : Receipt} {g : Lent} {o : Outcome} {x : ℕ} {b : Bool} → outcome r g ≡ o → x ≡ resultOf (numberOf (r .answer)) (r .discarded) → b ≡ isAcceptance (numberOf (r .answer)) → turnLeft (record { judged = j; transfer = r .transfer; result = x; accepted = b }) g ≡ turnOf o
-turn-told j ho hx hb = rw (hx, hb) (ap turnOf ho)
+pub turn-told : (k : FamilyRooms) {r : Receipt} {g : Lent} {o : Outcome} {x : ℕ} {b : Bool} → outcome r g ≡ o → x ≡ resultOf (numberOf (r .answer)) (r .discarded) → b ≡ isAcceptance (numberOf (r .answer)) → turnLeft (record { kept = k; transfer = r .transfer; result = x; accepted = b }) g ≡ turnOf o
+turn-told k ho hx hb = rw (hx, hb) (ap turnOf ho)
 
 -- ---- lengths stay
 
@@ -65,19 +64,23 @@ SameLengths h g =
     × (length (h .xip) ≡ length (g .xip))
 
 -- the buffers h are as long as those that were lent, g, and so judged as they were
-pub record Stays (s : Settings) (g : Lent) (b : Judged) (h : Lent) : Type 0 where
+pub record Stays (s : Settings) (g : Lent) (right good : Bool) (h : Lent) : Type 0 where
   pub lengths : SameLengths h g
-  pub judged : Judges s h b
+  pub judged : Judges s h right good
 
-pub stays-first : (s : Settings) (g : Lent) {b : Judged} → Judges s g b → Stays s g b g
+stays-first : (s : Settings) (g : Lent) {right good : Bool} → Judges s g right good → Stays s g right good g
 stays-first s g q = record { lengths = (refl, refl, refl, refl, refl); judged = q }
 
-pub stays-on : (s : Settings) (g h k : Lent) {b j : Judged} → Stays s g b h → SameLengths k h → Judges s h j → Stays s g j k
-stays-on s g h k q e x =
+-- as they are judged first
+pub stays-judged : (s : Settings) (g : Lent) (f : ℕ) {j : Judged} → j ≡ judgedOf s (lensOf g) (length (g .seen)) (length (g .sectors)) f → Stays s g (j .right) (j .good) g
+stays-judged s g f e = stays-first s g (ap (λ (j : Judged). j .right) e, ap (λ (j : Judged). j .good) e)
+
+pub stays-on : (s : Settings) (g h k : Lent) {right good : Bool} → Stays s g right good h → SameLengths k h → Stays s g right good k
+stays-on s g h k q e =
     let l = q .lengths in
     record {
       lengths = (e .0 ∙ l .0, e .1 ∙ l .1, e .2 ∙ l .2, e .3 ∙ l .3, e .4 ∙ l .4);
-      judged = record { said = rw (e .0, e .1, e .2, e .3, e .4) (x .said); low = x .low };
+      judged = (rw (e .0, e .1, e .2, e .3, e .4) (q .judged .0), rw (e .0) (q .judged .1));
     }
 
 pub arrival-size : (n i : ℕ) (a : List ℕ) → i < n → n ≤ length a / 512 → length (take (i * 512 + 512 - i * 512) (drop (i * 512) a)) ≡ 512

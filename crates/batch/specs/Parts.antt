@@ -3,25 +3,31 @@ use Prim.Native.Nat.{ℕ}
 use mathlib.Core.Path.{_≡_}
 use mathlib.Core.Bool.{Bool}
 use lib.ListN.{length}
+use Rattle.settings.specs.Settings.{goodSettings}
 use Rattle.settings.specs.declared.Settings.{Settings}
 use Rattle.place.specs.Place.{StartsLow}
 use Rattle.transfer.specs.Transfer.{numberOf}
 use Rattle.screen.specs.declared.Lengths.{Lengths}
-use Rattle.arrival.specs.Arrive.{Lent, World, Outcome}
+use Rattle.arrival.specs.Arrive.{Lent, World, Outcome, rightLengths}
 use Rattle.receiver.specs.Receiver.{world}
 use Rattle.results.specs.Results.{resultOf, isAcceptance}
-use Rattle.judged.specs.Judged.{judgedOf}
-use Rattle.judged.specs.declared.Judged.{Judged}
+use Rattle.judged.specs.Judged.{roomsAt}
+use Rattle.judged.specs.declared.FamilyRooms.{FamilyRooms}
 use Rattle.batch.specs.declared.Turn.{Turn}
+
+-- what is kept of a family is what the settings say of it with a flash of len bytes
+pub record Knows (s : Settings) (len : ℕ) (b : FamilyRooms) : Type 0 where
+  pub said : b ≡ roomsAt s len (b .family)
+  pub low : StartsLow (b .rooms .flash)
 
 -- the lengths that row 1 asks for, but for the maps'
 abbrev pub lensOf : Lent → Lengths
 lensOf h = record { flash = length (h .flash); main = length (h .main); xip = length (h .xip) }
 
--- what is known of a family is what the settings and the lengths of what is lent say of it
-pub record Judges (s : Settings) (h : Lent) (b : Judged) : Type 0 where
-  pub said : b ≡ judgedOf s (lensOf h) (length (h .seen)) (length (h .sectors)) (b .family)
-  pub low : StartsLow (b .known .rooms .flash)
+-- row 1's word, for whole arrivals, and row 2's, of what is lent
+abbrev pub Judges : Settings → Lent → Bool → Bool → Type 0
+Judges s h right good =
+    (right ≡ rightLengths 512 (lensOf h) (length (h .seen)) (length (h .sectors))) × (good ≡ goodSettings s (length (h .flash)))
 
 -- what one arrival of many comes to: what it leaves, its result, and whether its block was accepted
 pub record TurnEnd : Type 0 where

@@ -6,13 +6,14 @@ ghost use lib.ListN.{length};
 ghost use Rattle.arrival.specs.Arrive.{receiveOf};
 ghost use Rattle.receiver.specs.Receiver.{lent, lentAt, leftAt, world};
 ghost use Rattle.batch.specs.Batch.{fewer, batchLeft, batchOf};
-ghost use Rattle.batch.specs.Parts.{Judges, turnLeft, turnOf};
+ghost use Rattle.batch.specs.Parts.{Knows, Judges, turnLeft, turnOf};
 use block::Block;
-use judged::Judged;
+use judged::FamilyRooms;
 use screen::Lengths;
 use settings::Family;
 use settings::Settings;
 use transfer::Transfer;
+use verdict::Known;
 
 // What arrivals come to, beside their results: how many were taken, the next transfer, and whether a block was accepted.
 pub struct Batch {
@@ -28,18 +29,20 @@ fn at_most(a: usize, b: usize) -> usize
     if a <= b { a } else { b }
 }
 
-// What one arrival of many comes to: what is known of its family, the next transfer, its result, and whether its block was accepted.
+// What one arrival of many comes to: what the settings say of its family, the next transfer, its result, and whether its block was accepted.
 struct Turn {
-    judged: Judged,
+    kept: FamilyRooms,
     transfer: Transfer,
     result: u8,
     accepted: bool,
 }
 
-// One whole arrival of many. `before` is what is known of the family before.
+// One whole arrival of many. `right` and `good` are the words of rows 1 and 2.
 fn take_next(
+    right: bool,
+    good: bool,
     settings: Settings,
-    before: Judged,
+    before: FamilyRooms,
     transfer: Transfer,
     arrival: &[u8],
     flash: &mut [u8],
@@ -48,19 +51,21 @@ fn take_next(
     main: &mut [u8],
     xip: &mut [u8],
 ) -> Turn
-    requires { ⌜ Judges settings (lent (now flash) (now seen) (now sectors) (now main) (now xip)) before ⌝ }
+    requires { ⌜ Judges settings (lent (now flash) (now seen) (now sectors) (now main) (now xip)) right good ⌝ }
+    requires knows { ⌜ Knows settings (length (now flash)) before ⌝ }
     requires whole { ⌜ length (now arrival) ≡ 512 ⌝ }
     ensures { λ r. ⌜ turnLeft r (leftAt flash seen sectors main xip) ≡ turnOf (receiveOf settings (world transfer (lentAt flash seen sectors main xip)) (now (arrival .entry))) ⌝ }
-    ensures judges { λ r. ⌜ Judges settings (lentAt flash seen sectors main xip) (r .judged) ⌝ }
+    ensures knows { λ r. ⌜ Knows settings (length (now (flash .entry))) (r .kept) ⌝ }
 {
     let family = block::field(arrival, 28);
-    let judged = judged::next(before, settings, flash.len(), family);
-    let known = judged.known;
+    let kept = judged::next(before, settings, flash.len(), family);
+    let rooms = kept.rooms;
+    let known = Known { right, good, rooms };
     let r = receiver::take_known(known, transfer, arrival, flash, seen, sectors, main, xip);
     let answer = r.answer;
     let next = r.transfer;
     Turn {
-        judged,
+        kept,
         transfer: next,
         result: results::result(answer, r.discarded),
         accepted: results::is_acceptance(answer),
@@ -87,7 +92,8 @@ pub fn take_all(
         main: main.len(),
         xip: xip.len(),
     };
-    let mut judged = judged::judge(settings, lens, seen.len(), sectors.len(), Family::DATA);
+    let first = judged::judge(settings, lens, seen.len(), sectors.len(), Family::DATA);
+    let mut kept = first.kept;
     let mut next = transfer;
     let mut accepted = false;
     let mut i: usize = 0;
@@ -96,8 +102,10 @@ pub fn take_all(
         let to = from + Block::ARRIVAL;
         let after = i + 1;
         let turn = take_next(
+            first.right,
+            first.good,
             settings,
-            judged,
+            kept,
             next,
             &arrivals[from..to],
             flash,
@@ -106,7 +114,7 @@ pub fn take_all(
             main,
             xip,
         );
-        judged = turn.judged;
+        kept = turn.kept;
         next = turn.transfer;
         results[i] = turn.result;
         accepted = accepted | turn.accepted;

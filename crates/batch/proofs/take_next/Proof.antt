@@ -1,6 +1,6 @@
 -- `batch::take_next` meets its contract. Assumes nothing.
 use Rattle.sets.proofs.Numbered.{answer-is}
-use Rattle.batch.proofs.Laws.{turn-judged, turn-known, turn-told}
+use Rattle.batch.proofs.Laws.{turn-knows, turn-known, turn-told}
 use borrow.Author.Needs.{needs}
 use Rattle.batch.proofs.take_next.Statement.{statement}
 use Rattle.batch.proofs.take_next.Tie as tie
@@ -40,9 +40,9 @@ returns c =
     let got = c .before .before .before .before .before .before .before .before .before .before .before .before .before in
     let kept = got .before .before .before .before .before .before .before in
     let start = kept .before .before .before .before .before .before .before .before in
-    let judges = turn-judged _ _ (kept .before .field .result) (start .pre .0) (kept .next .ensures .0) (kept .next .ensures .1) in
-    let took = turn-known _ _ _ _ (start .pre .0) (start .pre .1) (kept .before .field .ensures) (kept .next .ensures .0) (judges .low) (answer-is (got .take-known .ensures)) in
-    (turn-told (kept .next .result) took (c .before .result .ensures) (c .is-acceptance .ensures), judges)
+    let knows = turn-knows _ _ (kept .before .field .result) (start .pre .1 .0) (kept .next .ensures .0) (kept .next .ensures .1) in
+    let took = turn-known _ _ _ _ (start .pre .0) (start .pre .1 .1) (kept .before .field .ensures) (start .pre .1 .0) (kept .next .ensures .0) (knows .low) (answer-is (got .take-known .ensures)) in
+    (turn-told (kept .next .result) took (c .before .result .ensures) (c .is-acceptance .ensures), knows)
 
 pub take-next-spec : {M : Type 1} → statement M
 take-next-spec =

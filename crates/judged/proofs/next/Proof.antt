@@ -11,7 +11,7 @@ rooms-for-requires : tie.Need-rooms-for-requires
 rooms-for-requires c κs = search needs
 
 returns-2 : tie.Need-returns-2
-returns-2 c = (simp (ne-eqb _ _ (c .before .before .if1 .left), c .before .rooms-for .ensures .0), λ low. c .before .rooms-for .ensures .1)
+returns-2 c = (simp (ne-eqb _ _ (c .before .if1 .left), c .rooms-for .ensures .0), λ low. c .rooms-for .ensures .1)
 
 pub next-spec : {M : Type 1} → statement M
 next-spec = tie.close (tie.spec returns rooms-for-requires returns-2)
