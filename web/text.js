@@ -125,7 +125,7 @@ export const text = {
       erasesAtEachPage: {
         name: 'It erases at each page',
         does: 'The second page of a sector wipes out the first: of 16 pages one is left.',
-        promise: 'contract of flash_page: sectorWriting',
+        promise: 'contract of flash_page: sectorPagedOf',
       },
       foreignBlockDiscards: {
         name: 'A foreign block discards',
@@ -135,7 +135,7 @@ export const text = {
       addsIn32Bits: {
         name: 'It adds in 32 bits',
         does: '0xFFFFFF00 + 256 becomes 0 and looks small: a page is written where it does not belong.',
-        promise: 'contract of fits_place: row 11 of placed',
+        promise: 'contract of at_address: row 11, addressed',
       },
       choosesABEntry: {
         name: 'It chooses a "B of" entry',
