@@ -92,7 +92,7 @@ export const text = {
       'For every valid file and every list of its blocks, in any order, with repeats or losses, mixed with foreign arrivals: ' +
       'what was lent and the set of blocks that came decide flash, maps and state, and nothing else does. "Completed" comes exactly when the set is whole.',
     theorem: 'Theorems',
-    where: 'List-ends and Completed-exactly, crates/arrival/specs/Demand.antt',
+    where: 'List-ends and Completed-exactly, crates/demand/specs/Demand.antt',
   },
 
   wrong: {
@@ -125,7 +125,7 @@ export const text = {
       erasesAtEachPage: {
         name: 'It erases at each page',
         does: 'The second page of a sector wipes out the first: of 16 pages one is left.',
-        promise: 'contract of flash_page: sectorWriting',
+        promise: 'contract of flash_page: sectorPagedOf',
       },
       foreignBlockDiscards: {
         name: 'A foreign block discards',
@@ -135,7 +135,7 @@ export const text = {
       addsIn32Bits: {
         name: 'It adds in 32 bits',
         does: '0xFFFFFF00 + 256 becomes 0 and looks small: a page is written where it does not belong.',
-        promise: 'contract of fits_place: row 11 of placed',
+        promise: 'contract of at_address: row 11, addressed',
       },
       choosesABEntry: {
         name: 'It chooses a "B of" entry',

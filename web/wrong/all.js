@@ -13,7 +13,7 @@ export const WRONG = [
   { id: 'trustsFileOrder', make: TrustsFileOrder, edit: 'arrival/trusts_file_order' },
   { id: 'erasesAtEachPage', make: ErasesAtEachPage, edit: 'plan/erases_at_each_page' },
   { id: 'foreignBlockDiscards', make: ForeignBlockDiscards, edit: 'receiver/refusal_discards' },
-  { id: 'addsIn32Bits', make: AddsIn32Bits, edit: 'screen/address_in_32_bits' },
-  { id: 'choosesABEntry', make: ChoosesABEntry, edit: 'place/takes_b_of' },
-  { id: 'clearsOneMap', make: ClearsOneMap, edit: 'plan/seen_map_not_cleared' },
+  { id: 'addsIn32Bits', make: AddsIn32Bits, edit: 'screening/address_in_32_bits' },
+  { id: 'choosesABEntry', make: ChoosesABEntry, edit: 'passes/takes_b_of' },
+  { id: 'clearsOneMap', make: ClearsOneMap, edit: 'entering/seen_map_not_cleared' },
 ];

@@ -71,13 +71,13 @@ pub extern "C" fn uf2_accept(
         return 1;
     }
     let s = layout::read_settings(settings);
-    let t = layout::read_transfer(transfer);
+    let t = transferbytes::read_transfer(transfer);
     let r = receiver::accept(s, t, arrival, flash, seen, sectors, main, xip);
     let receipt = r.receipt;
     let answer = receipt.answer;
     let next = receipt.transfer;
     let planned = r.plan;
     tell(planned, plan);
-    callbytes::keep(transfer, batch::is_acceptance(answer), next);
-    batch::result(answer, receipt.discarded) as u32
+    callbytes::keep(transfer, results::is_acceptance(answer), next);
+    results::result(answer, receipt.discarded) as u32
 }

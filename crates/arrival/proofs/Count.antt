@@ -27,7 +27,7 @@ use Rattle.screen.specs.declared.Body.{Body}
 use Rattle.screen.specs.declared.Body.the-variants.{Page, Note}
 use Rattle.screen.specs.declared.Placed.{Placed}
 use Rattle.arrival.specs.Arrive.{Held, World, Outcome, accepts, deedOf, stepped, clearedIf, wipedIf, acceptOf, done}
-use Rattle.arrival.specs.Demand.{File, isData, headIn}
+use Rattle.arrival.specs.File.{File, isData, headIn}
 use Rattle.arrival.proofs.Heads.{same-head}
 use Rattle.arrival.proofs.Pages.{arrive, apply, took-held}
 

@@ -20,7 +20,7 @@ use Rattle.transfer.specs.declared.Kind.{Kind}
 use Rattle.transfer.specs.declared.Kind.the-variants.{Flash, MainRam, XipRam}
 use Rattle.screen.specs.declared.Lengths.{Lengths}
 use Rattle.arrival.specs.Arrive.{Held, bufferOf, lengthsOf, clearedIf, wipedIf, preparedAt, pagedAt}
-use Rattle.arrival.specs.Demand.{isData}
+use Rattle.arrival.specs.File.{isData}
 use Rattle.arrival.proofs.Heads.{kind-same}
 use Rattle.arrival.proofs.Cells.{Layout, Apart, touched, touched-add, touched-none, Leaves, buffer, length-buffer, buffer-none, buffer-add}
 use Rattle.arrival.proofs.Pages.{apply}

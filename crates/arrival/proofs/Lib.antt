@@ -1,9 +1,9 @@
-mod Heads
-mod Windows
-mod Pages
-mod Count
-mod Cells
-mod Effect
+pub mod Heads
+pub mod Windows
+pub mod Pages
+pub mod Count
+pub mod Cells
+pub mod Effect
 pub mod Screening
 pub mod DecisionFacts
 pub mod Facts
@@ -11,14 +11,6 @@ pub mod Ram
 pub mod RamRows
 pub mod Comments
 pub mod Kept
-mod Lists
-pub mod Runs
-mod Files
-mod Contents
-mod Guards
-pub mod Demand
-pub mod Regions
 pub mod Tally
 pub mod Before
-pub mod Stopped
 pub mod Alike

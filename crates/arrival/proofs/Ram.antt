@@ -17,7 +17,7 @@ use Rattle.transfer.specs.declared.Kind.the-variants.{Flash, MainRam, XipRam}
 use Rattle.transfer.specs.declared.Accepted.{Accepted}
 use Rattle.screen.specs.declared.Placed.{Placed}
 use Rattle.arrival.specs.Arrive.{Held, World, Decision, bufferOf, accepts, clearedIf, wipedIf, done, receiveOf}
-use Rattle.arrival.specs.Demand.{originOf}
+use Rattle.arrival.specs.File.{originOf}
 use Rattle.arrival.specs.Windows.{windowStart, kindOf, headOf}
 use Rattle.arrival.specs.Tally.{clears}
 use Rattle.arrival.specs.Ram.{Other-kinds-kept, Ram-kept, Ram-stored, Ram-marks-nothing}

@@ -42,7 +42,7 @@ use Rattle.screen.specs.declared.Screening.{Screening}
 use Rattle.screen.specs.declared.Screening.the-variants.{Refused, Passed}
 use Rattle.arrival.specs.Arrive.{World, bufferOf, lengthsOf, ramLength, deedOf}
 use Rattle.arrival.specs.Windows.{windowStart, windowEnd, kindOf}
-use Rattle.arrival.specs.Demand.{isFound, startOf, originOf}
+use Rattle.arrival.specs.File.{isFound, startOf, originOf}
 use Rattle.arrival.proofs.Windows.{start-is, end-is, data-kind, data-window, comment-kind}
 use Rattle.arrival.proofs.Effect.{Fits}
 

@@ -1,13 +1,11 @@
 pub mod Arrive
 pub mod Windows
+pub mod File
 pub mod Lists
 pub mod Facts
 pub mod Tally
 pub mod Comments
 pub mod Kept
-pub mod Demand
-pub mod Regions
 pub mod Ram
 pub mod Before
-pub mod Stopped
 pub mod Alike

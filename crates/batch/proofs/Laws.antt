@@ -8,48 +8,45 @@ use lib.ListN.{length, take, drop, set, length-take, length-drop}
 use lib.Seq.{drop-drop}
 use Rattle.block.specs.Block.{fieldAt}
 use Rattle.settings.specs.declared.Settings.{Settings}
+use Rattle.place.specs.Place.{StartsLow}
+use Rattle.screen.specs.Screen.{roomsOf}
 use Rattle.transfer.specs.Transfer.{numberOf}
 use Rattle.transfer.specs.declared.Transfer.{Transfer}
 use Rattle.transfer.specs.declared.Answer.{Answer}
-use Rattle.transfer.specs.declared.Answer.the-variants.{BadBuffers, BadSettings, BadState, NotBlock, Container, NoFamily, NoPlace, BadPayload, BadNumbers, BadAddress, Finished, Again, Written, Completed, Noted, Kept}
-use Rattle.screen.specs.Screen.{roomsOf}
 use Rattle.arrival.specs.Arrive.{Lent, World, Outcome, receiveOf}
 use Rattle.arrival.specs.Lists.{receiveAll, answersOf, discardsOf}
 use Rattle.receiver.specs.declared.Receipt.{Receipt}
 use Rattle.receiver.specs.Receiver.{world, outcome, receiveKnown}
 use Rattle.receiver.proofs.KnownLaws.{known-is}
+use Rattle.results.specs.Results.{resultOf, isAcceptance}
+use Rattle.judged.specs.declared.FamilyRooms.{FamilyRooms}
+use Rattle.judged.specs.declared.Judged.{Judged}
+use Rattle.judged.specs.Judged.{roomsAt, roomsNext, judgedOf}
+use Rattle.judged.proofs.Laws.{next-is}
 use Rattle.batch.specs.declared.Batch.{Batch}
-use Rattle.batch.specs.declared.FamilyRooms.{FamilyRooms}
 use Rattle.batch.specs.declared.Turn.{Turn}
-use Rattle.batch.specs.Batch.{resultOf, isAcceptance, arrivalsOf, resultsOf, anyAcceptance, storedFrom, BatchEnd, batchLeft, fewer, batchOf}
-use Rattle.batch.specs.Parts.{Knows, Judges, TurnEnd, turnLeft, turnOf}
-
--- the numbers fit five bits, and leave room for 128 more in a byte
-pub number-most : (a : Answer) → numberOf a ≤ 31
-number-most BadBuffers = omega arith
-number-most BadSettings = omega arith
-number-most BadState = omega arith
-number-most NotBlock = omega arith
-number-most Container = omega arith
-number-most NoFamily = omega arith
-number-most NoPlace = omega arith
-number-most BadPayload = omega arith
-number-most BadNumbers = omega arith
-number-most BadAddress = omega arith
-number-most Finished = omega arith
-number-most Again = omega arith
-number-most Written = omega arith
-number-most Completed = omega arith
-number-most Noted = omega arith
-number-most Kept = omega arith
+use Rattle.batch.specs.Batch.{arrivalsOf, resultsOf, anyAcceptance, storedFrom, BatchEnd, batchLeft, fewer, batchOf}
+use Rattle.batch.specs.Parts.{Knows, lensOf, Judges, TurnEnd, turnLeft, turnOf}
 
 -- ---- one arrival of many
 
--- what was judged before and what is kept of the family are the arrival's
-pub turn-known : (s : Settings) (u : Transfer) (a : List ℕ) (h : Lent) {f : ℕ} {right good : Bool} {k : FamilyRooms} {o : Outcome} → Judges s h right good → length a ≡ 512 → f ≡ fieldAt a 28 → k .family ≡ f → Knows s (length (h .flash)) k → o ≡ receiveKnown (record { right = right; good = good; rooms = k .rooms }) (world u h) a → o ≡ receiveOf s (world u h) a
-turn-known s u a h judges whole hf hk knows ho =
-    let rooms = knows .0 ∙ ap (roomsOf s (length (h .flash))) (hk ∙ hf) in
-    ho ∙ known-is s (world u h) a (rw (judges .0, judges .1, rooms, whole), knows .1)
+-- what the settings say of a family, by its name
+pub knows-of : (s : Settings) (len : ℕ) {f : ℕ} {k : FamilyRooms} → k ≡ roomsAt s len f → StartsLow (k .rooms .flash) → Knows s len k
+knows-of s len e low = record { said = e ∙ ap (λ (k : FamilyRooms). roomsAt s len (k .family)) (sym e); low = low }
+
+-- what is kept of the family before serves the next one
+next-kept : (s : Settings) (len f : ℕ) {b k : FamilyRooms} → Knows s len b → k ≡ roomsNext b s len f → k ≡ roomsAt s len f
+next-kept s len f {b} q hk =
+    hk ∙ ap (λ (b : FamilyRooms). roomsNext b s len f) (q .said) ∙ next-is s len (b .family) f
+
+pub turn-knows : (s : Settings) (len f : ℕ) {b k : FamilyRooms} → Knows s len b → k ≡ roomsNext b s len f → (StartsLow (b .rooms .flash) → StartsLow (k .rooms .flash)) → Knows s len k
+turn-knows s len f q hk low = knows-of s len (next-kept s len f q hk) (low (q .low))
+
+-- and so, with what was judged before, the arrival is taken as by itself
+pub turn-known : (s : Settings) (u : Transfer) (a : List ℕ) (h : Lent) {f : ℕ} {right good : Bool} {b k : FamilyRooms} {o : Outcome} → Judges s h right good → length a ≡ 512 → f ≡ fieldAt a 28 → Knows s (length (h .flash)) b → k ≡ roomsNext b s (length (h .flash)) f → StartsLow (k .rooms .flash) → o ≡ receiveKnown (record { right = right; good = good; rooms = k .rooms }) (world u h) a → o ≡ receiveOf s (world u h) a
+turn-known s u a h {f = f} judges whole hf knows hk low ho =
+    let rooms = ap (λ (k : FamilyRooms). k .rooms) (next-kept s (length (h .flash)) f knows hk) ∙ ap (roomsOf s (length (h .flash))) hf in
+    ho ∙ known-is s (world u h) a (rw (judges .0, judges .1, rooms, whole), low)
 
 -- what is handed back of it
 pub turn-told : (k : FamilyRooms) {r : Receipt} {g : Lent} {o : Outcome} {x : ℕ} {b : Bool} → outcome r g ≡ o → x ≡ resultOf (numberOf (r .answer)) (r .discarded) → b ≡ isAcceptance (numberOf (r .answer)) → turnLeft (record { kept = k; transfer = r .transfer; result = x; accepted = b }) g ≡ turnOf o
@@ -71,8 +68,12 @@ pub record Stays (s : Settings) (g : Lent) (right good : Bool) (h : Lent) : Type
   pub lengths : SameLengths h g
   pub judged : Judges s h right good
 
-pub stays-first : (s : Settings) (g : Lent) {right good : Bool} → Judges s g right good → Stays s g right good g
+stays-first : (s : Settings) (g : Lent) {right good : Bool} → Judges s g right good → Stays s g right good g
 stays-first s g q = record { lengths = (refl, refl, refl, refl, refl); judged = q }
+
+-- as they are judged first
+pub stays-judged : (s : Settings) (g : Lent) (f : ℕ) {j : Judged} → j ≡ judgedOf s (lensOf g) (length (g .seen)) (length (g .sectors)) f → Stays s g (j .right) (j .good) g
+stays-judged s g f e = stays-first s g (ap (λ (j : Judged). j .right) e, ap (λ (j : Judged). j .good) e)
 
 pub stays-on : (s : Settings) (g h k : Lent) {right good : Bool} → Stays s g right good h → SameLengths k h → Stays s g right good k
 stays-on s g h k q e =

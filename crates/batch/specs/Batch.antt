@@ -10,15 +10,8 @@ use Rattle.transfer.specs.declared.Answer.{Answer}
 use Rattle.arrival.specs.Arrive.{Lent, World}
 use Rattle.arrival.specs.Lists.{receiveAll, answersOf, discardsOf}
 use Rattle.receiver.specs.Receiver.{world}
+pub use Rattle.results.specs.Results.{resultOf, isAcceptance}
 use Rattle.batch.specs.declared.Batch.{Batch}
-
--- the answer's number, and 128 more where a running transfer was discarded
-abbrev pub resultOf : ℕ → Bool → ℕ
-resultOf n discarded = cond discarded (n + 128) n
-
--- answers 14 and more accept the block
-abbrev pub isAcceptance : ℕ → Bool
-isAcceptance n = leb 14 n
 
 -- the first n arrivals of 512 bytes
 unfoldable pub arrivalsOf : ℕ → List ℕ → List (List ℕ)

@@ -7,17 +7,18 @@ use Rattle.settings.specs.Settings.{goodSettings}
 use Rattle.settings.specs.declared.Settings.{Settings}
 use Rattle.place.specs.Place.{StartsLow}
 use Rattle.transfer.specs.Transfer.{numberOf}
-use Rattle.screen.specs.Screen.{roomsOf}
 use Rattle.screen.specs.declared.Lengths.{Lengths}
 use Rattle.arrival.specs.Arrive.{Lent, World, Outcome, rightLengths}
 use Rattle.receiver.specs.Receiver.{world}
-use Rattle.batch.specs.Batch.{resultOf, isAcceptance}
-use Rattle.batch.specs.declared.FamilyRooms.{FamilyRooms}
+use Rattle.results.specs.Results.{resultOf, isAcceptance}
+use Rattle.judged.specs.Judged.{roomsAt}
+use Rattle.judged.specs.declared.FamilyRooms.{FamilyRooms}
 use Rattle.batch.specs.declared.Turn.{Turn}
 
--- a family and what the settings say of it with a flash of len bytes, as they are kept from one arrival to the next
-abbrev pub Knows : Settings → ℕ → FamilyRooms → Type 0
-Knows s len k = (k .rooms ≡ roomsOf s len (k .family)) × StartsLow (k .rooms .flash)
+-- what is kept of a family is what the settings say of it with a flash of len bytes
+pub record Knows (s : Settings) (len : ℕ) (b : FamilyRooms) : Type 0 where
+  pub said : b ≡ roomsAt s len (b .family)
+  pub low : StartsLow (b .rooms .flash)
 
 -- the lengths that row 1 asks for, but for the maps'
 abbrev pub lensOf : Lent → Lengths

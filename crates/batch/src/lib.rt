@@ -1,19 +1,17 @@
 // Arrivals taken one after the other. Settings and the lengths of what is lent are the same for all of them: they are judged once, and what
-// the settings say of a family is asked once for a run of arrivals of one family.
+// the settings say of a family is asked once for a run of arrivals of one family (`judged`).
 ghost use mathlib.Core.Path.{_≡_};
 ghost use Prim.Native.Nat.{_≤_};
 ghost use lib.ListN.{length};
-ghost use Rattle.transfer.specs.Transfer.{numberOf};
 ghost use Rattle.arrival.specs.Arrive.{receiveOf};
 ghost use Rattle.receiver.specs.Receiver.{lent, lentAt, leftAt, world};
-ghost use Rattle.batch.specs.Batch.{resultOf, isAcceptance, fewer, batchLeft, batchOf};
+ghost use Rattle.batch.specs.Batch.{fewer, batchLeft, batchOf};
 ghost use Rattle.batch.specs.Parts.{Knows, Judges, turnLeft, turnOf};
 use block::Block;
+use judged::FamilyRooms;
 use screen::Lengths;
-use screen::Rooms;
 use settings::Family;
 use settings::Settings;
-use transfer::Answer;
 use transfer::Transfer;
 use verdict::Known;
 
@@ -24,45 +22,11 @@ pub struct Batch {
     pub accepted: bool,
 }
 
-// The result of an arrival: its answer's number, and 128 more where a running transfer was discarded.
-pub fn result(answer: Answer, discarded: bool) -> u8
-    ensures { λ r. ⌜ r ≡ resultOf (numberOf answer) discarded ⌝ }
-{
-    let n = answer.number();
-    if discarded { n + 128 } else { n }
-}
-
-// Is the block accepted?
-pub fn is_acceptance(answer: Answer) -> bool
-    ensures { λ r. ⌜ r ≡ isAcceptance (numberOf answer) ⌝ }
-{
-    14 <= answer.number()
-}
-
 fn at_most(a: usize, b: usize) -> usize
     ensures { λ r. ⌜ r ≡ fewer a b ⌝ }
     ensures low { λ r. ⌜ (r ≤ a) × (r ≤ b) ⌝ }
 {
     if a <= b { a } else { b }
-}
-
-// A family, and what the settings say of it.
-struct FamilyRooms {
-    family: u32,
-    rooms: Rooms,
-}
-
-// What the settings say of a family, asked anew where it is not the family before.
-fn rooms_for(before: FamilyRooms, settings: Settings, flash_len: usize, family: u32) -> FamilyRooms
-    requires { ⌜ Knows settings «flash_len» before ⌝ }
-    ensures { λ r. ⌜ r .family ≡ family ⌝ }
-    ensures knows { λ r. ⌜ Knows settings «flash_len» r ⌝ }
-{
-    if before.family == family {
-        return before;
-    }
-    let rooms = screen::rooms_for(settings, flash_len, family);
-    FamilyRooms { family, rooms }
 }
 
 // What one arrival of many comes to: what the settings say of its family, the next transfer, its result, and whether its block was accepted.
@@ -94,7 +58,7 @@ fn take_next(
     ensures knows { λ r. ⌜ Knows settings (length (now (flash .entry))) (r .kept) ⌝ }
 {
     let family = block::field(arrival, 28);
-    let kept = rooms_for(before, settings, flash.len(), family);
+    let kept = judged::next(before, settings, flash.len(), family);
     let rooms = kept.rooms;
     let known = Known { right, good, rooms };
     let r = receiver::take_known(known, transfer, arrival, flash, seen, sectors, main, xip);
@@ -103,8 +67,8 @@ fn take_next(
     Turn {
         kept,
         transfer: next,
-        result: result(answer, r.discarded),
-        accepted: is_acceptance(answer),
+        result: results::result(answer, r.discarded),
+        accepted: results::is_acceptance(answer),
     }
 }
 
@@ -128,13 +92,8 @@ pub fn take_all(
         main: main.len(),
         xip: xip.len(),
     };
-    let right = verdict::lengths_right(Block::ARRIVAL, lens, seen.len(), sectors.len());
-    let good = settings::good(settings, flash.len());
-    let rooms = screen::rooms_for(settings, flash.len(), Family::DATA);
-    let mut kept = FamilyRooms {
-        family: Family::DATA,
-        rooms,
-    };
+    let first = judged::judge(settings, lens, seen.len(), sectors.len(), Family::DATA);
+    let mut kept = first.kept;
     let mut next = transfer;
     let mut accepted = false;
     let mut i: usize = 0;
@@ -143,8 +102,8 @@ pub fn take_all(
         let to = from + Block::ARRIVAL;
         let after = i + 1;
         let turn = take_next(
-            right,
-            good,
+            first.right,
+            first.good,
             settings,
             kept,
             next,

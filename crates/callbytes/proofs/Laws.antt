@@ -17,7 +17,8 @@ use Rattle.receiver.specs.declared.Planned.{Planned}
 use Rattle.receiver.specs.Receiver.{world, outcome, accepting, previewed}
 use Rattle.layout.specs.Layout.{settingsFrom, transferFrom}
 use Rattle.batch.specs.declared.Batch.{Batch}
-use Rattle.batch.specs.Batch.{resultOf, isAcceptance, batchLeft, batchOf}
+use Rattle.results.specs.Results.{resultOf, isAcceptance}
+use Rattle.batch.specs.Batch.{batchLeft, batchOf}
 use Rattle.callbytes.specs.Calls.{arrivalCall, lookResult, lookBytes, keptTransfer, arrivalCallOf, takeBytes, planBytes, plannedCall, plannedCallOf, acceptBytes, batchCall, batchCallEnd, takeBatch}
 
 module _ (s t a : List ℕ) (h : Lent) where

@@ -12,7 +12,8 @@ use Rattle.plan.specs.declared.Plan.{Plan}
 use Rattle.plan.specs.declared.Plan.the-variants.{Nothing, Program, EraseProgram}
 use Rattle.plan.specs.Plan.{Accepting, acceptingOf}
 use Rattle.receiver.specs.Receiver.{Slice, world}
-use Rattle.batch.specs.Batch.{resultOf, isAcceptance, BatchEnd, batchOf}
+use Rattle.results.specs.Results.{resultOf, isAcceptance}
+use Rattle.batch.specs.Batch.{BatchEnd, batchOf}
 use Rattle.block.specs.Write.{le32}
 use Rattle.layout.specs.Layout.{settingsFrom, transferFrom, withTransfer}
 

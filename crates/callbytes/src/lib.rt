@@ -8,6 +8,6 @@ pub fn keep(transfer: &mut [u8], accepted: bool, next: Transfer)
     ensures { λ _. ⌜ now (transfer .exit) ≡ keptTransfer (now (transfer .entry)) accepted (next .state) ⌝ }
 {
     if accepted {
-        layout::write_transfer(transfer, next);
+        transferbytes::write_transfer(transfer, next);
     }
 }

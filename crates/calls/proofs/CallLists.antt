@@ -31,21 +31,22 @@ use Rattle.arrival.specs.Lists.{receiveAll, answersOf, discardsOf, Delivery, pl
 use Rattle.arrival.specs.Facts.{Refusals-change-nothing, Look-tells}
 use Rattle.arrival.specs.Windows.{headOf}
 use Rattle.arrival.specs.Tally.{anyAccepted, Count-is-marks}
-use Rattle.arrival.specs.Demand.{File, seenOf, howMany, headIn, Counts, Contents, Ends, List-counts, List-ends, Completed-exactly, Same-set-same-end, Either-first}
-use Rattle.arrival.specs.Regions.{Regions-end}
-use Rattle.arrival.specs.Stopped.{EndsAlike, Stopped-then-good}
+use Rattle.demand.specs.Demand.{File, seenOf, howMany, headIn, Counts, Contents, Ends, List-counts, List-ends, Completed-exactly, Same-set-same-end, Either-first}
+use Rattle.demand.specs.Regions.{Regions-end}
+use Rattle.demand.specs.Stopped.{EndsAlike, Stopped-then-good}
 use Rattle.arrival.proofs.DecisionFacts.{AcceptFacts, DecisionFacts, kept, took, took-number, decision-facts}
 use Rattle.arrival.proofs.Facts.{refusals-change-nothing, look-tells}
 use Rattle.arrival.proofs.Tally.{count-is-marks}
-use Rattle.arrival.proofs.Demand.{list-counts, list-ends, completed-exactly, same-set-same-end, either-first}
-use Rattle.arrival.proofs.Runs.{mixed-map}
-use Rattle.arrival.proofs.Regions.{regions-end}
-use Rattle.arrival.proofs.Stopped.{stopped-then-good}
+use Rattle.demand.proofs.Demand.{list-counts, list-ends, completed-exactly, same-set-same-end, either-first}
+use Rattle.demand.proofs.Runs.{mixed-map}
+use Rattle.demand.proofs.Regions.{regions-end}
+use Rattle.demand.proofs.Stopped.{stopped-then-good}
 use Rattle.layout.specs.Layout.{byteAt, stateFrom, settingsFrom, transferBytes, headBytes, stateBytes, withTransfer}
-use Rattle.layout.proofs.Refused.{state-length}
-use Rattle.layout.proofs.Transfers.{Small, written-back}
-use Rattle.batch.specs.Batch.{resultOf, isAcceptance, arrivalsOf, resultsOf, anyAcceptance, storedFrom, fewer, batchOf}
-use Rattle.batch.proofs.Laws.{number-most}
+use Rattle.transferbytes.proofs.Refused.{state-length}
+use Rattle.transferbytes.proofs.Transfers.{Small, written-back}
+use Rattle.results.specs.Results.{resultOf, isAcceptance}
+use Rattle.batch.specs.Batch.{arrivalsOf, resultsOf, anyAcceptance, storedFrom, fewer, batchOf}
+use Rattle.results.proofs.Laws.{number-most}
 use Rattle.callbytes.specs.Calls as calls
 use Rattle.callbytes.specs.Calls.{lookResult, lookBytes, takeBytes, takeBatch}
 use Rattle.calls.specs.CallLists.{CallerState, call, leftBy, callAll, returnsOf, worldOf, AllBytes, Calls-are-arrivals, Calls-count, Calls-end, Calls-regions, Calls-completed, Calls-same-set, Calls-either-first, Calls-stopped, Calls-are-one-call, Look-is-take, Call, looks, takes, playCalls, takenBy, Looks-change-nothing, Look-then-take}

@@ -24,9 +24,9 @@ use Rattle.grammar.specs.declared.ReaderState.{ReaderState}
 use Rattle.grammar.specs.declared.ReaderState.the-variants.{Between, Opened, Inside, Padded, Ended, Failed}
 use Rattle.grammar.specs.declared.Role.{Role}
 use Rattle.grammar.specs.declared.Role.the-variants.{Opening, Naming, Address, Data, Padding, Other, Closing, Ending, Refused}
-use Rattle.unihex.specs.declared.Reader.{Reader}
-use Rattle.unihex.specs.declared.Effect.{Effect}
-use Rattle.unihex.specs.declared.Effect.the-variants.{Fails, Passes, Stores, Ends}
+use Rattle.hexreader.specs.declared.Reader.{Reader}
+use Rattle.hexreader.specs.declared.Effect.{Effect}
+use Rattle.hexreader.specs.declared.Effect.the-variants.{Fails, Passes, Stores, Ends}
 use Rattle.unihex.specs.Reader.{badFailure, badReader, withState, withUpper, withSection, withData, movedTo, givenOf, effectOf}
 use Rattle.unihex.specs.Line.{LineOutcome, outside, storing, effectOutcome, recordOutcome, parsedLine, liveLine, haltOf, haltLine, badImage, lineOf}
 use Rattle.hexfile.specs.Facts.{Stays-good}
@@ -37,8 +37,8 @@ use Rattle.readers.proofs.Answers.{position-most}
 use Rattle.readers.proofs.Refused.{length-bad}
 use Rattle.readers.proofs.Written.{SmallState, Small}
 use Rattle.layout.specs.Layout.{byteAt}
-use Rattle.capi.specs.HexCalls.{lineResult, lineCallOf}
-use Rattle.capi.proofs.HexLaws.{line-next}
+use Rattle.hexbytes.specs.HexCalls.{lineResult, lineCallOf}
+use Rattle.hexbytes.proofs.Laws.{line-next}
 use Rattle.calls.specs.HexTurns.{LentSession, callLine, leftByLine, callLines, lineReturns, sessionOf, Calls-are-lines}
 use Rattle.calls.proofs.CallLists.{number-low}
 

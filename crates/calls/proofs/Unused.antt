@@ -18,7 +18,7 @@ use Rattle.arrival.proofs.Alike.{alike-settings-answer-alike, alike-left, alike
 use Rattle.receiver.specs.Receiver.{world}
 use Rattle.batch.specs.Batch.{arrivalsOf, fewer, batchOf}
 use Rattle.layout.specs.Layout.{byteAt, entryFrom, entryIn, countFrom, usedOf, settingsOf, settingsFrom, transferFrom}
-use Rattle.capi.specs.Calls.{askBytes}
+use Rattle.placebytes.specs.Calls.{askBytes}
 use Rattle.callbytes.specs.Calls.{lookBytes, takeBytes, takeBatch}
 use Rattle.calls.specs.Unused.{usedBytes, Unused-change-nothing, Alike-change-no-call, Unused-change-no-call}
 

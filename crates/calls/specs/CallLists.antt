@@ -11,9 +11,9 @@ use Rattle.transfer.specs.Transfer.{kindNumber, running}
 use Rattle.transfer.specs.declared.State.the-variants.{Idle, Done}
 use Rattle.arrival.specs.Arrive.{Lent, World}
 use Rattle.arrival.specs.Lists.{receiveAll, answersOf, discardsOf}
-use Rattle.arrival.specs.Demand.{File, ValidFile, Mixed, Sent, seenOf, howMany, isWhole, headIn, Counts, Contents, Ends, Plain, SameSet}
-use Rattle.arrival.specs.Regions.{Regions, Complete}
-use Rattle.arrival.specs.Stopped.{Stopped, ForeignToBoth, EndsAlike}
+use Rattle.demand.specs.Demand.{File, ValidFile, Mixed, Sent, seenOf, howMany, isWhole, headIn, Counts, Contents, Ends, Plain, SameSet}
+use Rattle.demand.specs.Regions.{Regions, Complete}
+use Rattle.demand.specs.Stopped.{Stopped, ForeignToBoth, EndsAlike}
 use Rattle.receiver.specs.Receiver.{world}
 use Rattle.layout.specs.Layout.{byteAt, settingsFrom, transferFrom, stateBytes}
 use Rattle.batch.specs.Batch.{arrivalsOf, resultsOf, storedFrom}

@@ -5,7 +5,7 @@ use mathlib.Core.List.{List, [], _∷_, map}
 use Rattle.record.specs.Write.{Bytes}
 use Rattle.hexfile.specs.Lines.{Session, readAll, lineAnswers}
 use Rattle.readers.specs.Readers.{readerFrom}
-use Rattle.capi.specs.HexCalls.{LineReturn, lineResult, lineCallOf}
+use Rattle.hexbytes.specs.HexCalls.{LineReturn, lineResult, lineCallOf}
 
 -- what the caller holds between two calls
 pub record LentSession : Type 0 where

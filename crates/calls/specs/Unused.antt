@@ -7,7 +7,7 @@ use lib.ListN.{length, take}
 use Rattle.settings.specs.Alike.{Alike}
 use Rattle.arrival.specs.Arrive.{Lent}
 use Rattle.layout.specs.Layout.{countFrom, usedOf, settingsFrom}
-use Rattle.capi.specs.Calls.{askBytes}
+use Rattle.placebytes.specs.Calls.{askBytes}
 use Rattle.callbytes.specs.Calls.{lookBytes, takeBytes, takeBatch}
 
 -- how many bytes of settings are read: the first 6, and 34 for each used entry

@@ -1,11 +1,9 @@
 // The calls for Universal Hex. A reader is bytes in the layout of `readers`.
 ghost use mathlib.Core.Path.{_≡_};
-ghost use Rattle.unihex.specs.Reader.{freshOf};
+ghost use Rattle.hexreader.specs.Reader.{freshOf};
 ghost use Rattle.readers.specs.Readers.{readerWritten};
-ghost use Rattle.capi.specs.HexCalls.{hasFailed, changes, keptReader, lineReturn, lineCallOf};
-use grammar::Answer;
-use grammar::ReaderState;
-use unihex::Reader;
+ghost use Rattle.hexbytes.specs.HexCalls.{lineReturn, lineCallOf};
+use hexreader::Reader;
 
 // A fresh reader of a board, where there are bytes for it.
 #[no_mangle]
@@ -15,46 +13,10 @@ pub extern "C" fn uhex_new(own: u16, reader: &mut [u8])
     readers::write_reader(reader, Reader::fresh(own));
 }
 
-fn has_failed(state: ReaderState) -> bool
-    ensures { λ r. ⌜ r ≡ hasFailed state ⌝ }
-{
-    match state {
-        ReaderState::Between => false,
-        ReaderState::Opened => false,
-        ReaderState::Inside(_) => false,
-        ReaderState::Padded(_) => false,
-        ReaderState::Ended => false,
-        ReaderState::Failed(_) => true,
-    }
-}
-
-// An answer that changes a reader, which had failed before or not.
-fn changes(failed: bool, answer: Answer) -> bool
-    ensures { λ r. ⌜ r ≡ changes failed answer ⌝ }
-{
-    let n = answer.number();
-    ((32 <= n) & (n <= 35)) | (answer.is_failure() & !failed)
-}
-
-// The next reader, where it changed.
-fn keep_reader(reader: &mut [u8], changed: bool, next: Reader)
-    ensures { λ _. ⌜ now (reader .exit) ≡ keptReader (now (reader .entry)) changed next ⌝ }
-{
-    if changed {
-        readers::write_reader(reader, next);
-    }
-}
-
 // One line as it is handed, its ending included: the answer's number, and 256 times the position of a bad digit.
 #[no_mangle]
 pub extern "C" fn uhex_line(reader: &mut [u8], line: &[u8], image: &mut [u8]) -> u32
     ensures { λ r. ⌜ lineReturn r (now (reader .exit)) (now (image .exit)) ≡ lineCallOf (now (reader .entry)) (now (line .entry)) (now (image .entry)) ⌝ }
 {
-    let was = readers::read_reader(reader);
-    let state = was.state;
-    let read = was.line(line, image);
-    let next = read.reader;
-    let answer = read.answer;
-    keep_reader(reader, changes(has_failed(state), answer), next);
-    answer.number() as u32 + 256 * (answer.position() as u32)
+    hexbytes::line(reader, line, image)
 }

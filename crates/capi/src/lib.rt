@@ -1,40 +1,20 @@
 // The C interface: its calls. Settings and transfers are bytes in the layout of `layout`, everything else numbers and slices of bytes.
 ghost use mathlib.Core.Path.{_≡_};
-ghost use lib.ListN.{length};
 ghost use Rattle.transfer.specs.Transfer.{fresh};
 ghost use Rattle.receiver.specs.Receiver.{lentAt, leftAt};
 ghost use Rattle.layout.specs.Layout.{withTransfer};
 ghost use Rattle.callbytes.specs.Calls.{batchCallOf, batchReturn};
-ghost use Rattle.capi.specs.Calls.{Low, placeCall, placeCallOf, askBytes};
-use place::PlaceAnswer;
+ghost use Rattle.placebytes.specs.Calls.{placeCall, askBytes};
 use transfer::Transfer;
 
 mod hex;
-
-// The bytes of a place: its start and its length.
-const PLACE: usize = 8;
 
 // A fresh transfer, where there are bytes for it.
 #[no_mangle]
 pub extern "C" fn uf2_new(transfer: &mut [u8])
     ensures { λ _. ⌜ now (transfer .exit) ≡ withTransfer (now (transfer .entry)) (fresh .state) ⌝ }
 {
-    layout::write_transfer(transfer, Transfer::new());
-}
-
-// Writes the place that was found.
-fn tell(asked: PlaceAnswer, place: &mut [u8]) -> u32
-    requires { ⌜ length (now place) ≡ 8 ⌝ }
-    requires low { ⌜ Low asked ⌝ }
-    ensures { λ r. ⌜ placeCall r (now (place .exit)) ≡ placeCallOf (now (place .entry)) asked ⌝ }
-{
-    let n = place::number(asked) as u32;
-    let PlaceAnswer::Found { start, len } = asked else {
-        return n;
-    };
-    block::put(place, 0, start as u32);
-    block::put(place, 4, len as u32);
-    n
+    transferbytes::write_transfer(transfer, Transfer::new());
 }
 
 // A place asked for alone: 0 and its start and length in `place`, or 1, 2 or 8.
@@ -42,11 +22,7 @@ fn tell(asked: PlaceAnswer, place: &mut [u8]) -> u32
 pub extern "C" fn uf2_ask(settings: &[u8], flash_len: usize, family: u32, place: &mut [u8]) -> u32
     ensures { λ r. ⌜ placeCall r (now (place .exit)) ≡ askBytes (now (settings .entry)) «flash_len» family (now (place .entry)) ⌝ }
 {
-    if place.len() != PLACE {
-        return 1;
-    }
-    let s = layout::read_settings(settings);
-    tell(place::ask(s, flash_len, family), place)
+    placebytes::ask(settings, flash_len, family, place)
 }
 
 // Whole arrivals are taken one after the other, as many as there are results for: their number, and the result of each.
@@ -65,7 +41,7 @@ pub extern "C" fn uf2_take_all(
     ensures { λ r. ⌜ batchReturn r transfer results (leftAt flash seen sectors main xip) ≡ batchCallOf settings transfer arrivals results (lentAt flash seen sectors main xip) ⌝ }
 {
     let s = layout::read_settings(settings);
-    let t = layout::read_transfer(transfer);
+    let t = transferbytes::read_transfer(transfer);
     let b = batch::take_all(s, t, arrivals, results, flash, seen, sectors, main, xip);
     let next = b.transfer;
     callbytes::keep(transfer, b.accepted, next);

@@ -243,6 +243,41 @@ pub fn decides(cause: Cause, got: u64, against: u64) -> Row
     Row::Decides(Reason::new(cause, got, against))
 }
 
+// Row 1: this length is wrong.
+fn bad_length(x: Length, got: usize, against: usize) -> Row
+    ensures { λ r. ⌜ r ≡ Row.Decides (reasonWith (Cause.BadBuffers x) got against) ⌝ }
+{
+    decides(Cause::BadBuffers(x), got as u64, against as u64)
+}
+
+// Row 3: this bound is not kept.
+fn bad_state(x: Bound, got: u32, against: u32) -> Row
+    ensures { λ r. ⌜ r ≡ Row.Decides (reasonWith (Cause.BadState x) got against) ⌝ }
+{
+    decides(Cause::BadState(x), got as u64, against as u64)
+}
+
+// Row 4: this magic number differs.
+fn not_block(x: Magic, got: u32, against: u32) -> Row
+    ensures { λ r. ⌜ r ≡ Row.Decides (reasonWith (Cause.NotBlock x) got against) ⌝ }
+{
+    decides(Cause::NotBlock(x), got as u64, against as u64)
+}
+
+// Row 10.
+fn bad_numbers(x: Numbers, got: u64, against: u64) -> Row
+    ensures { λ r. ⌜ r ≡ Row.Decides (reasonWith (Cause.BadNumbers x) got against) ⌝ }
+{
+    decides(Cause::BadNumbers(x), got, against)
+}
+
+// Row 11.
+fn bad_address(x: Address, got: u64, against: u64) -> Row
+    ensures { λ r. ⌜ r ≡ Row.Decides (reasonWith (Cause.BadAddress x) got against) ⌝ }
+{
+    decides(Cause::BadAddress(x), got, against)
+}
+
 // ---- row 1
 
 // The flash's length, which a place asked for alone has too.
@@ -250,25 +285,13 @@ pub fn flash_row(len: usize) -> Row
     ensures { λ r. ⌜ r ≡ rowOf byNumbers (flashRow len) ⌝ }
 {
     if len % Flash::SECTOR != 0 {
-        return decides(
-            Cause::BadBuffers(Length::FlashRagged),
-            len as u64,
-            Flash::SECTOR as u64,
-        );
+        return bad_length(Length::FlashRagged, len, Flash::SECTOR);
     }
     if len < Flash::MIN {
-        return decides(
-            Cause::BadBuffers(Length::FlashUnder),
-            len as u64,
-            Flash::MIN as u64,
-        );
+        return bad_length(Length::FlashUnder, len, Flash::MIN);
     }
     if Flash::MAX < len {
-        return decides(
-            Cause::BadBuffers(Length::FlashOver),
-            len as u64,
-            Flash::MAX as u64,
-        );
+        return bad_length(Length::FlashOver, len, Flash::MAX);
     }
     Row::Passes
 }
@@ -278,24 +301,16 @@ fn buffer_row(seen: usize, sectors: usize, main: usize, xip: usize) -> Row
     ensures { λ r. ⌜ r ≡ rowOf byNumbers (bufferRow seen sectors main xip) ⌝ }
 {
     if seen != 16384 {
-        return decides(Cause::BadBuffers(Length::Seen), seen as u64, 16384);
+        return bad_length(Length::Seen, seen, 16384);
     }
     if sectors != 1024 {
-        return decides(Cause::BadBuffers(Length::Sectors), sectors as u64, 1024);
+        return bad_length(Length::Sectors, sectors, 1024);
     }
     if (main != 0) & (main != Window::MAIN_RAM) {
-        return decides(
-            Cause::BadBuffers(Length::Main),
-            main as u64,
-            Window::MAIN_RAM as u64,
-        );
+        return bad_length(Length::Main, main, Window::MAIN_RAM);
     }
     if (xip != 0) & (xip != Window::XIP_RAM) {
-        return decides(
-            Cause::BadBuffers(Length::Xip),
-            xip as u64,
-            Window::XIP_RAM as u64,
-        );
+        return bad_length(Length::Xip, xip, Window::XIP_RAM);
     }
     Row::Passes
 }
@@ -305,11 +320,7 @@ pub fn lengths_row(arrival: usize, lens: Lengths, seen: usize, sectors: usize) -
     ensures { λ r. ⌜ r ≡ rowOf byNumbers (lengthsRow arrival lens seen sectors) ⌝ }
 {
     if arrival != Block::ARRIVAL {
-        return decides(
-            Cause::BadBuffers(Length::Arrival),
-            arrival as u64,
-            Block::ARRIVAL as u64,
-        );
+        return bad_length(Length::Arrival, arrival, Block::ARRIVAL);
     }
     let r = flash_row(lens.flash);
     if let Row::Decides(x) = r {
@@ -326,21 +337,13 @@ fn running_row(run: Run) -> Row
     let total = run.head.total;
     let count = run.count;
     if count < 1 {
-        return decides(Cause::BadState(Bound::CountUnder), count as u64, 1);
+        return bad_state(Bound::CountUnder, count, 1);
     }
     if total <= count {
-        return decides(
-            Cause::BadState(Bound::CountOver),
-            count as u64,
-            total as u64,
-        );
+        return bad_state(Bound::CountOver, count, total);
     }
     if Transfer::LIMIT < total {
-        return decides(
-            Cause::BadState(Bound::RunningOver),
-            total as u64,
-            Transfer::LIMIT as u64,
-        );
+        return bad_state(Bound::RunningOver, total, Transfer::LIMIT);
     }
     Row::Passes
 }
@@ -350,14 +353,10 @@ fn done_row(head: Head) -> Row
 {
     let total = head.total;
     if total < 1 {
-        return decides(Cause::BadState(Bound::DoneUnder), total as u64, 1);
+        return bad_state(Bound::DoneUnder, total, 1);
     }
     if Transfer::LIMIT < total {
-        return decides(
-            Cause::BadState(Bound::DoneOver),
-            total as u64,
-            Transfer::LIMIT as u64,
-        );
+        return bad_state(Bound::DoneOver, total, Transfer::LIMIT);
     }
     Row::Passes
 }
@@ -380,25 +379,13 @@ fn magic_row(first: u32, second: u32, last: u32) -> Row
     ensures { λ r. ⌜ r ≡ rowOf byNumbers (magicRow first second last) ⌝ }
 {
     if first != Block::MAGIC_FIRST {
-        return decides(
-            Cause::NotBlock(Magic::First),
-            first as u64,
-            Block::MAGIC_FIRST as u64,
-        );
+        return not_block(Magic::First, first, Block::MAGIC_FIRST);
     }
     if second != Block::MAGIC_SECOND {
-        return decides(
-            Cause::NotBlock(Magic::Second),
-            second as u64,
-            Block::MAGIC_SECOND as u64,
-        );
+        return not_block(Magic::Second, second, Block::MAGIC_SECOND);
     }
     if last != Block::MAGIC_LAST {
-        return decides(
-            Cause::NotBlock(Magic::Last),
-            last as u64,
-            Block::MAGIC_LAST as u64,
-        );
+        return not_block(Magic::Last, last, Block::MAGIC_LAST);
     }
     Row::Passes
 }
@@ -448,17 +435,13 @@ pub fn numbers_row(total: u32, number: u32, size: usize) -> Row
 {
     let bytes = total as u64 * 256;
     if total == 0 {
-        return decides(Cause::BadNumbers(Numbers::TotalZero), total as u64, 0);
+        return bad_numbers(Numbers::TotalZero, total as u64, 0);
     }
     if (size as u64) < bytes {
-        return decides(Cause::BadNumbers(Numbers::TotalPast), bytes, size as u64);
+        return bad_numbers(Numbers::TotalPast, bytes, size as u64);
     }
     if total <= number {
-        return decides(
-            Cause::BadNumbers(Numbers::NumberPast),
-            number as u64,
-            total as u64,
-        );
+        return bad_numbers(Numbers::NumberPast, number as u64, total as u64);
     }
     Row::Passes
 }
@@ -469,15 +452,15 @@ pub fn address_row(address: u32, size: usize) -> Row
 {
     let at = address as u64;
     if at < 0x10000000 {
-        return decides(Cause::BadAddress(Address::Below), at, 0x10000000);
+        return bad_address(Address::Below, at, 0x10000000);
     }
     if at % 256 != 0 {
-        return decides(Cause::BadAddress(Address::Ragged), at, 256);
+        return bad_address(Address::Ragged, at, 256);
     }
     let low = at - 0x10000000;
     let past = low + 256;
     if (size as u64) < past {
-        return decides(Cause::BadAddress(Address::Past), past, size as u64);
+        return bad_address(Address::Past, past, size as u64);
     }
     Row::Passes
 }
@@ -488,7 +471,7 @@ pub fn window_row(address: u32, end: usize) -> Row
 {
     let past = address as u64 + 256;
     if (end as u64) < past {
-        return decides(Cause::BadAddress(Address::PastWindow), past, end as u64);
+        return bad_address(Address::PastWindow, past, end as u64);
     }
     Row::Passes
 }

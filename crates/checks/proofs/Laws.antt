@@ -1,15 +1,17 @@
 -- Rows 12 to 17 by cases, as the code asks them. Assumes nothing.
 use mathlib.Core.Path.{_≡_, refl, sym, ap, _∙_}
 use mathlib.Core.Bool.{Bool, true, false, cond, _&&_, not}
+use mathlib.Core.Logic.{_≢_}
 use mathlib.Core.List.{List}
 use Prim.Native.Nat.{ℕ, _+_, _<_, _≤_}
 use lib.Dec.{leb}
-use borrow.Author.Tests.{le-leb, lt-leb}
+use borrow.Author.Tests.{eq-eqb, ne-eqb, le-leb, lt-leb}
 use Rattle.bitmap.specs.Bitmap.{markedIn}
 use Rattle.block.specs.Block.{fieldAt, hasFlag}
 use Rattle.block.specs.Region.{regionOf}
 use Rattle.block.specs.declared.Block.{Block}
 use Rattle.block.specs.declared.Region.{Region}
+use Rattle.region.specs.Regions.{standsIn}
 use Rattle.screen.specs.Screen.{windowOf, windowKind, noteKind}
 use Rattle.screen.specs.declared.Lengths.{Lengths}
 use Rattle.screen.specs.declared.Window.{Window}
@@ -23,12 +25,12 @@ use Rattle.transfer.specs.declared.State.{State}
 use Rattle.transfer.specs.declared.State.the-variants.{Running}
 use Rattle.causes.specs.Causes.{reasonWith}
 use Rattle.causes.specs.Checks.{byNumbers, rowOf, orNext, orLast, numbersRow}
-use Rattle.causes.specs.declared.NotKept.the-variants.{NoRegion, InRam}
+use Rattle.causes.specs.declared.NotKept.the-variants.{NoRegion, InRam, Ragged, Empty, OutsidePlace, NotAround, OtherDigest}
 use Rattle.causes.specs.declared.Cause.the-variants.{Finished, Again, Written, Completed, Noted, Kept}
 use Rattle.causes.specs.declared.Reason.{Reason}
 use Rattle.causes.specs.declared.Row.{Row}
 use Rattle.causes.specs.declared.Row.the-variants.{Passes, Decides}
-use Rattle.checks.specs.Block.{startAt, sizeAt, pageRow, kindOf, bodyRow, raisedOf, isDone, isAgain}
+use Rattle.checks.specs.Block.{startAt, sizeAt, pageRow, kindOf, bodyRow, raisedOf, isDone, isAgain, ragged, within, around}
 use Rattle.checks.specs.Parts.{fatePart, regionPart, writtenPart, latePart}
 
 -- ---- the kind of a block, and rows 9 to 11
@@ -99,6 +101,35 @@ module _ (t : State) (g : Head) (number : ℕ) (m cm : Bool) where
       fate-passes l h = rw (d, a, ← e, lt-leb (g .total) n l, h)
 
 -- ---- row 14
+
+module _ (flash : List ℕ) (start size at : ℕ) (g : Region) (n total : ℕ) where
+  pub region-ragged : ragged g ≡ true → Decides (reasonWith (Written Ragged) n total) ≡ regionPart flash start size at g n total
+  unfolding regionPart
+  region-ragged h = rw h
+
+  module _ (p : ragged g ≡ false) where
+    pub region-empty : g .len ≡ 0 → Decides (reasonWith (Written Empty) n total) ≡ regionPart flash start size at g n total
+    unfolding regionPart
+    region-empty h = rw (p, eq-eqb (g .len) 0 h)
+
+    module _ (q : g .len ≢ 0) where
+      pub region-outside : within size g ≡ false → Decides (reasonWith (Written OutsidePlace) n total) ≡ regionPart flash start size at g n total
+      unfolding regionPart
+      region-outside h = rw (p, ne-eqb (g .len) 0 q, h)
+
+      module _ (w : within size g ≡ true) where
+        pub region-apart : around at g ≡ false → Decides (reasonWith (Written NotAround) n total) ≡ regionPart flash start size at g n total
+        unfolding regionPart
+        region-apart h = rw (p, ne-eqb (g .len) 0 q, w, h)
+
+        module _ (a : around at g ≡ true) where
+          pub region-other : standsIn flash start g ≡ false → Decides (reasonWith (Written OtherDigest) n total) ≡ regionPart flash start size at g n total
+          unfolding regionPart
+          region-other h = rw (p, ne-eqb (g .len) 0 q, w, a, h)
+
+          pub region-passes : standsIn flash start g ≡ true → Passes ≡ regionPart flash start size at g n total
+          unfolding regionPart
+          region-passes h = rw (p, ne-eqb (g .len) 0 q, w, a, h)
 
 module _ (flash : List ℕ) (start size : ℕ) (k : Kind) (a : List ℕ) (n total : ℕ) where
   pub written-bare : hasFlag a 0x4000 ≡ false → Decides (reasonWith (Written NoRegion) n total) ≡ writtenPart flash start size k a n total

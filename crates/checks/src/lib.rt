@@ -1,5 +1,6 @@
 // Rows 9 to 17 of a block: beside its place or window, and beside the transfer and the flash.
 ghost use mathlib.Core.Path.{_≡_};
+ghost use Rattle.causes.specs.Causes.{reasonWith};
 ghost use Rattle.causes.specs.Checks.{byNumbers, rowOf};
 ghost use Rattle.checks.specs.Block.{startAt, sizeAt, roomOf, addressIn, pageRow, kindOf, bodyRow, raisedOf, isDone, isAgain, within, around, runsOther};
 ghost use Rattle.checks.specs.Parts.{fatePart, regionPart, writtenPart, latePart};
@@ -234,6 +235,13 @@ fn is_around(region: Region, address: u32) -> bool
     (start <= at) & (at + Flash::PAYLOAD <= past)
 }
 
+// Row 14.
+fn not_kept(x: NotKept, count: u64, total: u64) -> Row
+    ensures { λ r. ⌜ r ≡ Row.Decides (reasonWith (Cause.Written x) count total) ⌝ }
+{
+    causes::decides(Cause::Written(x), count, total)
+}
+
 // Why a region's block is written and not kept, in a place of `size` bytes that starts at `start`.
 fn region_row(
     flash: &[u8],
@@ -249,19 +257,19 @@ fn region_row(
     let from = region.start as usize;
     let len = region.len as usize;
     if !((from % Flash::SECTOR == 0) & (len % Flash::SECTOR == 0)) {
-        return causes::decides(Cause::Written(NotKept::Ragged), count, total);
+        return not_kept(NotKept::Ragged, count, total);
     }
     if len == 0 {
-        return causes::decides(Cause::Written(NotKept::Empty), count, total);
+        return not_kept(NotKept::Empty, count, total);
     }
     if !is_within(region, size) {
-        return causes::decides(Cause::Written(NotKept::OutsidePlace), count, total);
+        return not_kept(NotKept::OutsidePlace, count, total);
     }
     if !is_around(region, address) {
-        return causes::decides(Cause::Written(NotKept::NotAround), count, total);
+        return not_kept(NotKept::NotAround, count, total);
     }
     if !region::stands(flash, start, region) {
-        return causes::decides(Cause::Written(NotKept::OtherDigest), count, total);
+        return not_kept(NotKept::OtherDigest, count, total);
     }
     Row::Passes
 }
@@ -279,10 +287,10 @@ fn written_row(
     ensures { λ r. ⌜ r ≡ writtenPart (now (flash .entry)) start size kind (now (arrival .entry)) count total ⌝ }
 {
     if !block::has_region(arrival) {
-        return causes::decides(Cause::Written(NotKept::NoRegion), count, total);
+        return not_kept(NotKept::NoRegion, count, total);
     }
     if !transfer::same_kind(kind, Kind::Flash) {
-        return causes::decides(Cause::Written(NotKept::InRam), count, total);
+        return not_kept(NotKept::InRam, count, total);
     }
     let region = block::read_region(arrival);
     let address = block::field(arrival, 12);

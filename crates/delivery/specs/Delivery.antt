@@ -13,7 +13,7 @@ use Rattle.transfer.specs.declared.Kind.the-variants.{Flash}
 use Rattle.transfer.specs.declared.State.the-variants.{Idle, Done}
 use Rattle.arrival.specs.Arrive.{World, rightLengths, lengthsOf}
 use Rattle.arrival.specs.Lists.{receiveAll}
-use Rattle.arrival.specs.Demand.{File, ValidFile, Sent, seenOf, headIn}
+use Rattle.demand.specs.Demand.{File, ValidFile, Sent, seenOf, headIn}
 use Rattle.uf2file.specs.Uf2file.{makeOf}
 use Rattle.uf2file.specs.declared.MakeAnswer.the-variants.{Made}
 

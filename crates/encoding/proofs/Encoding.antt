@@ -26,8 +26,8 @@ use Rattle.entrybits.specs.EntryBits.{slot, entryWidths, packedEntry, entryFrom
 use Rattle.entrybits.proofs.ReadBack.{even}
 use Rattle.entrybits.proofs.OneEntry.{entry-only, old-unmarked}
 use Rattle.entrybits.proofs.Parts.{part-fit}
-use Rattle.store.specs.declared.StoreAnswer.{StoreAnswer}
-use Rattle.store.specs.declared.StoreAnswer.the-variants.{BadBuffers, BadSettings, BadVersion, BadLength, BadBits, Good}
+use Rattle.storewrite.specs.declared.StoreAnswer.{StoreAnswer}
+use Rattle.storewrite.specs.declared.StoreAnswer.the-variants.{BadBuffers, BadSettings, BadVersion, BadLength, BadBits, Good}
 use Rattle.store.specs.declared.Reading.{Reading}
 use Rattle.store.specs.Store.{restartAt, versionOf, headWidths, archBit, headFields, rowAt, storeOf, headIn, partIn, entryOf, archFrom, settingsIn, strayAt, straysIn, refusal, found, readHead, readOf}
 use Rattle.encoding.specs.Claims.{Narrow, Bytes, neat, Read-is-the-encoding, One-encoding, No-other-bytes}

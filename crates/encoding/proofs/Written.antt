@@ -31,7 +31,7 @@ use Rattle.entrybits.proofs.ReadBack.{even}
 use Rattle.entrybits.proofs.OneEntry.{entry-back as fields-back}
 use Rattle.entrybits.proofs.OneEntry.{Fits, entry-fit, entry-neat}
 use Rattle.store.specs.Store.{archBit, archFrom, entryOf, found, headFields, headIn, headWidths, noSettings, partIn, readHead, readOf, restartAt, rowAt, settingsIn, storeOf, strayAt, straysIn, versionOf}
-use Rattle.store.proofs.Rows.{length-row}
+use Rattle.storewrite.proofs.Rows.{length-row}
 use Rattle.encoding.specs.Claims.{Narrow, neat, neatAt, Written-reads-back, No-settings-are-bad}
 use Rattle.encoding.proofs.Compared.{Few, good-neat}
 

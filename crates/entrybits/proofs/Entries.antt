@@ -9,7 +9,7 @@ use Rattle.packing.specs.Packing.{total, packed, unpacked, octets, bytesOf, non
 use Rattle.packing.specs.Packing.{bit}
 use Rattle.packing.proofs.Widths.{bit-lt}
 use Rattle.entrybits.specs.EntryBits.{kindOf, indexOf, linkOf, slot, entryWidths, entryFields, packedEntry}
-use Rattle.entrybits.specs.Chunks.{chunkWidths, chunkBytes}
+use Rattle.entrychunks.specs.Chunks.{chunkWidths, chunkBytes}
 use Rattle.settings.specs.declared.Entry.{Entry}
 use Rattle.settings.specs.declared.Link.{Link}
 use Rattle.settings.specs.declared.Link.the-variants.{Unlinked, OwnedBy, BOf}

@@ -1,5 +1,4 @@
 -- The laws of `specs/`.
-pub mod Groups
 pub mod ReadBack
 pub mod Entries
 pub mod OneEntry

@@ -1,2 +1,2 @@
 pub mod EntryBits
-pub mod Chunks
+pub mod Fields

@@ -1,4 +1,4 @@
--- Every example of the tables holds: one equation each, computed. Assumes nothing.
+-- Every example of the table holds: one equation, computed. Assumes nothing.
 use mathlib.Core.Path.{refl}
 use Rattle.fill.specs.Many.{many}
 use Rattle.sets.specs.Bytes.{lowFirst, numberIn}
@@ -13,20 +13,8 @@ use Rattle.transfer.specs.Transfer.{goodState, sameHead, counted, raised, accep
 use Rattle.screen.specs.Screen.{windowOf, noteKind, placed, strayed, noted, dataFound, noteFound, found, screenIn, screenOf}
 use Rattle.arrival.specs.Arrive.{rightLengths, standsAt, afterScreening, decide, clearedIf, wipedIf, preparedAt, pagedAt, acceptOf, done, receiveOf}
 use Rattle.arrival.specs.Lists.{receiveAll, answersOf, discardsOf}
-use Rattle.examples.specs.Examples.{examples, Examples-hold, commentExamples, Comment-examples-hold, windowExamples, Window-examples-hold, ramExamples, Ram-examples-hold}
+use Rattle.examples.specs.Examples.{examples, Examples-hold}
 
 pub examples-hold : Examples-hold
 unfolding Examples-hold examples many any bit withBit markedIn withMark unmarked flashLength over eraseAt payloadOf storeAt lowFirst numberIn fieldAt fieldsOf flaggedOf headerOf hasUser accepts overlap overlapAt sharesSector reservedUser badEntry goodSettings passQueryOf passAllows passTakes firstOf entryIf inPass chosen chosenEntry placeOf ramFamily askOf goodState sameHead counted raised accepted stepOf windowOf noteKind placed strayed noted dataFound noteFound found screenIn screenOf rightLengths standsAt afterScreening decide clearedIf wipedIf preparedAt pagedAt acceptOf done receiveOf receiveAll answersOf discardsOf
 examples-hold = refl
-
-pub comment-examples-hold : Comment-examples-hold
-unfolding Comment-examples-hold commentExamples many any bit withBit markedIn withMark unmarked flashLength over eraseAt payloadOf storeAt lowFirst numberIn fieldAt fieldsOf flaggedOf headerOf hasUser accepts overlap overlapAt sharesSector reservedUser badEntry goodSettings passQueryOf passAllows passTakes firstOf entryIf inPass chosen chosenEntry placeOf ramFamily askOf goodState sameHead counted raised accepted stepOf windowOf noteKind placed strayed noted dataFound noteFound found screenIn screenOf rightLengths standsAt afterScreening decide clearedIf wipedIf preparedAt pagedAt acceptOf done receiveOf receiveAll answersOf discardsOf
-comment-examples-hold = refl
-
-pub window-examples-hold : Window-examples-hold
-unfolding Window-examples-hold windowExamples many any bit withBit markedIn withMark unmarked flashLength over eraseAt payloadOf storeAt lowFirst numberIn fieldAt fieldsOf flaggedOf headerOf hasUser accepts overlap overlapAt sharesSector reservedUser badEntry goodSettings passQueryOf passAllows passTakes firstOf entryIf inPass chosen chosenEntry placeOf ramFamily askOf goodState sameHead counted raised accepted stepOf windowOf noteKind placed strayed noted dataFound noteFound found screenIn screenOf rightLengths standsAt afterScreening decide clearedIf wipedIf preparedAt pagedAt acceptOf done receiveOf receiveAll answersOf discardsOf
-window-examples-hold = refl
-
-pub ram-examples-hold : Ram-examples-hold
-unfolding Ram-examples-hold ramExamples many any bit withBit markedIn withMark unmarked flashLength over eraseAt payloadOf storeAt lowFirst numberIn fieldAt fieldsOf flaggedOf headerOf hasUser accepts overlap overlapAt sharesSector reservedUser badEntry goodSettings passQueryOf passAllows passTakes firstOf entryIf inPass chosen chosenEntry placeOf ramFamily askOf goodState sameHead counted raised accepted stepOf windowOf noteKind placed strayed noted dataFound noteFound found screenIn screenOf rightLengths standsAt afterScreening decide clearedIf wipedIf preparedAt pagedAt acceptOf done receiveOf receiveAll answersOf discardsOf
-ram-examples-hold = refl

@@ -1,4 +1,2 @@
--- The proofs of the examples.
+-- The proof of the examples.
 pub mod Examples
-pub mod Instance
-pub mod Regions

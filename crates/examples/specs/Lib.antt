@@ -1,4 +1,1 @@
-pub mod Boards
 pub mod Examples
-pub mod Instance
-pub mod Regions

@@ -1,1 +1,1 @@
-// The worked examples that 01 marks P, and a file that meets the hypotheses of demand 3. No code: specs/ says them, proofs/ computes them.
+// The worked examples that 01 marks P. No code: specs/ says them, proofs/ computes them.

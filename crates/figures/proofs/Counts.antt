@@ -18,8 +18,8 @@ use Rattle.transfer.specs.declared.Answer.{Answer}
 use Rattle.transfer.specs.declared.Answer.the-variants.{BadBuffers, BadSettings, BadState, NotBlock, Container, NoFamily, NoPlace, BadPayload, BadNumbers, BadAddress, Finished, Again, Written, Completed, Noted, Kept}
 use Rattle.arrival.specs.Arrive.{World, receiveOf}
 use Rattle.arrival.specs.Lists.{answersOf, discardsOf}
-use Rattle.report.specs.Report.{sumTo, slotOf, countOne, countAll, howManyYes}
-use Rattle.report.proofs.Sums.{sum-raised, slot-low, length-one}
+use Rattle.counts.specs.Counts.{sumTo, slotOf, countOne, countAll, howManyYes}
+use Rattle.counts.proofs.Sums.{sum-raised, slot-low, length-one}
 use Rattle.report.proofs.Adds.{number-range}
 use Rattle.figures.specs.Claims.{sumOf, timesOf, timesYes, placeOf}
 

@@ -23,10 +23,10 @@ use Rattle.arrival.specs.Arrive.{Lent, World, Decision, acceptOf, done, receive
 use Rattle.arrival.specs.Lists.{receiveAll}
 use Rattle.arrival.specs.Tally.{clears}
 use Rattle.arrival.proofs.DecisionFacts.{DecisionFacts, kept, took, decision-facts}
-use Rattle.trace.specs.Trace.{begun, replayOf}
+use Rattle.replay.specs.Replay.{begun, replayOf}
 use Rattle.replays.specs.Claims.{Ends-before-the-stop}
 use Rattle.replays.proofs.Replays.{ends-before-the-stop}
-use Rattle.report.specs.Report.{isMissing, missingAt}
+use Rattle.counts.specs.Counts.{isMissing, missingAt}
 use Rattle.report.proofs.Adds.{replay-count}
 use Rattle.figures.specs.Claims.{arrivalsIn, MissingFacts}
 

@@ -13,12 +13,13 @@ use Rattle.transfer.specs.Transfer.{numberOf}
 use Rattle.transfer.specs.declared.Answer.{Answer}
 use Rattle.arrival.specs.Arrive.{Lent, lentOf}
 use Rattle.arrival.specs.Lists.{answersOf, discardsOf}
-use Rattle.trace.specs.Trace.{begun, replayOf}
-use Rattle.trace.specs.declared.Stop.{Stop}
-use Rattle.report.specs.declared.Report.{Report}
+use Rattle.replay.specs.Replay.{begun, replayOf}
+use Rattle.piece.specs.declared.Stop.{Stop}
+use Rattle.counts.specs.declared.Report.{Report}
 use Rattle.report.specs.declared.FiguresAnswer.{FiguresAnswer}
 use Rattle.report.specs.declared.FiguresAnswer.the-variants.{BadReport, TooMany, Replayed}
-use Rattle.report.specs.Report.{freshReport, sumTo, goodReport, withRoom, countAll, addedTo, FiguresOutcome, figuresOutcome, figuresNumber, addOf}
+use Rattle.counts.specs.Counts.{freshReport, sumTo, goodReport, withRoom, countAll}
+use Rattle.report.specs.Report.{addedTo, FiguresOutcome, figuresOutcome, figuresNumber, addOf}
 use Rattle.report.proofs.Adds.{replay-count}
 use Rattle.figures.specs.Claims.{sumOf, Sound, Refused-71, Refused-70, Else-replayed, Refusals-leave-all, timesOf, timesYes, placeOf, countIn, arrivalsIn, Adds, Replay-adds, EndFacts, Replay-ends, Job, doneBy, addAll, toldBy, allAnswers, allDiscards, From-fresh}
 use Rattle.figures.proofs.Counts.{place-is, place-low, sum-is, yes-is, length-all, counts-at, sum-at, times-append, yes-append, yes-most, length-answers, length-discards}

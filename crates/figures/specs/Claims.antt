@@ -17,13 +17,14 @@ use Rattle.transfer.specs.declared.Answer.{Answer}
 use Rattle.transfer.specs.declared.Answer.the-variants.{BadBuffers, BadSettings, BadState, NotBlock, Container, NoFamily, NoPlace, BadPayload, BadNumbers, BadAddress, Finished, Again, Written, Completed, Noted, Kept}
 use Rattle.arrival.specs.Arrive.{Lent, World}
 use Rattle.arrival.specs.Lists.{answersOf, discardsOf}
-use Rattle.trace.specs.Trace.{begun, replayOf}
-use Rattle.trace.specs.declared.Stop.{Stop}
+use Rattle.replay.specs.Replay.{begun, replayOf}
+use Rattle.piece.specs.declared.Stop.{Stop}
 use Rattle.replays.specs.Pieces.{arrivalsTo, recordsBefore}
-use Rattle.report.specs.Report.{freshReport, FiguresOutcome, addOf}
-use Rattle.report.specs.declared.Report.{Report}
-use Rattle.report.specs.declared.Missing.{Missing}
-use Rattle.report.specs.declared.Missing.the-variants as missing
+use Rattle.counts.specs.Counts.{freshReport}
+use Rattle.report.specs.Report.{FiguresOutcome, addOf}
+use Rattle.counts.specs.declared.Report.{Report}
+use Rattle.counts.specs.declared.Missing.{Missing}
+use Rattle.counts.specs.declared.Missing.the-variants as missing
 use Rattle.report.specs.declared.FiguresAnswer.{FiguresAnswer}
 use Rattle.report.specs.declared.FiguresAnswer.the-variants.{BadReport, TooMany, Replayed}
 

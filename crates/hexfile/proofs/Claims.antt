@@ -19,7 +19,7 @@ use Rattle.grammar.specs.declared.Answer.{Answer}
 use Rattle.grammar.specs.declared.Answer.the-variants.{Repeated, AfterEnd, Passed}
 use Rattle.grammar.specs.declared.ReaderState.{ReaderState}
 use Rattle.grammar.specs.declared.ReaderState.the-variants.{Ended, Failed}
-use Rattle.unihex.specs.declared.Reader.{Reader}
+use Rattle.hexreader.specs.declared.Reader.{Reader}
 use Rattle.unihex.specs.Reader.{badFailure, badReader, withState, movedTo}
 use Rattle.unihex.specs.Line.{LineOutcome, lineOutcome, addressOf, badImage}
 use Rattle.hexfile.specs.Facts.{Ready, Length-kept, Bad-exactly, Failed-repeats, After-end, Failures-fail, movesOffset, moveOf, Offset-moves, Own-kept, Stays-good, End-ends, Passed-or-repeated, Stores-own-data}

@@ -23,8 +23,8 @@ use Rattle.grammar.specs.declared.Answer.{Answer}
 use Rattle.grammar.specs.declared.Answer.the-variants as answer
 use Rattle.grammar.specs.declared.ReaderState.{ReaderState}
 use Rattle.grammar.specs.declared.ReaderState.the-variants.{Between, Opened, Inside, Padded, Ended, Failed}
-use Rattle.unihex.specs.declared.Reader.{Reader}
-use Rattle.unihex.specs.declared.Effect.the-variants.{Stores}
+use Rattle.hexreader.specs.declared.Reader.{Reader}
+use Rattle.hexreader.specs.declared.Effect.the-variants.{Stores}
 use Rattle.unihex.specs.Reader.{badFailure, badReader, withState, withData, movedTo, givenOf, effectOf}
 use Rattle.unihex.specs.Line.{LineOutcome, lineOutcome, failedBy, failing, addressOf, storing, effectOutcome, recordOutcome, parsedLine, liveLine, haltOf, haltLine, badImage, lineOf}
 use Rattle.hexfile.specs.Facts.{readsOn, Only-33-stores, Length-kept, Ready, Bad-changes-nothing, Bad-exactly, Failed-repeats, After-end, Failures-fail, movesOffset, moveOf, Offset-moves, Own-kept, Stays-good, End-ends, End-or-missing, Passed-or-repeated, OwnData, StoreIn, Stores-own-data, Own-data-is-stored, Elsewhere-unchanged, Other-board-unchanged, Bad-digit-at, Bad-digit-answered, Bad-position}

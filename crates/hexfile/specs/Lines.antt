@@ -13,7 +13,7 @@ use Rattle.grammar.specs.Grammar.{isExtendedLinear, isBlockStart, dataKind}
 use Rattle.grammar.specs.declared.Answer.{Answer}
 use Rattle.grammar.specs.declared.ReaderState.{ReaderState}
 use Rattle.grammar.specs.declared.ReaderState.the-variants.{Between, Opened, Inside, Padded, Ended, Failed}
-use Rattle.unihex.specs.declared.Reader.{Reader}
+use Rattle.hexreader.specs.declared.Reader.{Reader}
 use Rattle.unihex.specs.Reader.{freshOf}
 use Rattle.unihex.specs.Line.{LineOutcome, addressOf, lineOf}
 use Rattle.hexfile.specs.Facts.{movesOffset, moveOf}

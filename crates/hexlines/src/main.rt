@@ -3,9 +3,9 @@ ghost use Prim.Native.Nat.{_+_, _≤_};
 ghost use lib.ListN.{length};
 use grammar::Answer;
 use grammar::Boards;
+use hexreader::Reader;
 use libc::STDIN_FILENO;
 use libc::STDOUT_FILENO;
-use unihex::Reader;
 
 // The bytes of the input that count, one more than a file may have: what comes after them lies behind a line that is answered 36, behind
 // an earlier failure, or behind the 01.
@@ -67,7 +67,7 @@ fn run(input: &[u8], own: u16, image: &mut [u8], waiting: &mut [u8]) -> Reader
     let mut index: u64 = 0;
     while at < input.len() {
         let e = textlines::line_end(input, at);
-        let read = reader.line(&input[at..e], image);
+        let read = unihex::line(reader, &input[at..e], image);
         let answer = read.answer;
         reader = read.reader;
         used = add(waiting, used, index, answer);

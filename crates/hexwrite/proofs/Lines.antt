@@ -49,6 +49,21 @@ length-put out at l =
     (λ y. rw y (length-over out at l (leb-true (at + length l) (length out) y)))
     (λ n. rw n refl)
 
+-- past the end of the room nothing is written
+line-past : (out : List ℕ) (at : ℕ) (l : List ℕ) → length out ≤ at → putLine out at l ≡ out
+unfolding putLine
+line-past out at [] h = split (leb (at + 0) (length out)) (λ y. rw y (over-nothing out at)) (λ n. rw n refl)
+line-past out at (x ∷ l) h =
+    split (leb (at + length (x ∷ l)) (length out))
+    (λ y. absurd (omega (arith, leb-true (at + length (x ∷ l)) (length out) y)))
+    (λ n. rw n refl)
+
+pub put-past : (out : List ℕ) (at : ℕ) (ls : List (List ℕ)) → length out ≤ at → putLines out at ls ≡ out
+unfolding putLines
+put-past out at [] h = refl
+put-past out at (l ∷ ls) h =
+    ap (λ (o : List ℕ). putLines o (at + length l) ls) (line-past out at l h) ∙ put-past out (at + length l) ls (omega arith)
+
 pub put-fits : (out : List ℕ) (at : ℕ) (ls : List (List ℕ)) → at + length (flatten ls) ≤ length out → putLines out at ls ≡ over out at (flatten ls)
 unfolding putLines flatten putLine
 put-fits out at [] h = sym (over-nothing out at)

@@ -13,8 +13,10 @@ use Rattle.unihex.specs.Line.{storing, effectOutcome, recordOutcome, parsedLine
 use Rattle.hexfile.specs.Lines.{readAll, lineAnswers, storesOf}
 use Rattle.plain.specs.Line.{dataTaken, recordTaken, lineTaken, takenOf}
 use Rattle.plain.specs.File.{recordsFrom, recordsOf, linesVerdict, verdictOf}
-use Rattle.joiner.specs.Pieces.{splitOf, splitAll, piecesOf}
-use Rattle.joiner.specs.Text.{bodyLines, startLines, fillLines, sectionLines, fileLines, fileText}
+use Rattle.datalines.specs.Pieces.{splitOf, splitAll, piecesOf}
+use Rattle.datalines.specs.Lines.{bodyLines}
+use Rattle.filling.specs.Fill.{fillLines}
+use Rattle.joiner.specs.Text.{startLines, sectionLines, fileLines, fileText}
 use Rattle.joiner.specs.Join.{writtenOf, joinOf}
 use Rattle.joined.specs.Instance.{small, crossing, lines, Two-are-joined, Fills-at, Sections-at}
 

@@ -16,7 +16,7 @@ use Rattle.wholefile.specs.Instance.{item, lineFor}
 use Rattle.wholefile.proofs.OneRecord.{not-data, data-not}
 use Rattle.wholefile.proofs.Runs.{size-append}
 use Rattle.wholefile.proofs.Claims.{says-one}
-use Rattle.joiner.specs.Text.{upperOf, firstUpper}
+use Rattle.datalines.specs.Lines.{upperOf, firstUpper}
 use Rattle.joined.specs.PlainFile.{at, dataFrom, WithData, Cuts, none, one, PlainPieces}
 use Rattle.joined.specs.Form.{word, filler, UppersAsNeeded, no-more, same, changed, Form}
 use Rattle.joined.specs.Claims.{linearData, SectionOf, TwoSections, Output-is-one}

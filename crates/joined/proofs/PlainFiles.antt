@@ -17,7 +17,7 @@ use Rattle.plain.specs.Line.{freshPlain}
 use Rattle.plain.specs.declared.Verdict.{Verdict}
 use Rattle.plain.specs.declared.Verdict.the-variants.{Fine, Bad}
 use Rattle.plain.specs.File.{recordsOf, linesVerdict, isSome, dataVerdict, thenVerdict, verdictOf}
-use Rattle.joiner.specs.Pieces.{splitAll, piecesOf}
+use Rattle.datalines.specs.Pieces.{splitAll, piecesOf}
 use Rattle.joined.specs.PlainFile.{PlainFile, dataFrom, WithData, PlainPieces}
 use Rattle.joined.specs.Refusals.{BadText, lines, no-data}
 use Rattle.joined.proofs.Sections.{Pieces}

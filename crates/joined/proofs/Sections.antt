@@ -18,7 +18,9 @@ use Rattle.wholefile.specs.State.{between, body, placeAfter, State, after, stat
 use Rattle.wholefile.specs.Instance.{item}
 use Rattle.wholefile.proofs.OneRecord.{not-data, data-not, data-kind, no-gift, a-gift}
 use Rattle.wholefile.proofs.Runs.{size-append, stays-body}
-use Rattle.joiner.specs.Text.{wordBytes, upperOf, bodyLines, firstUpper, startLines, missing, pads, padLine, fillLines, sectionLines}
+use Rattle.datalines.specs.Lines.{wordBytes, upperOf, bodyLines, firstUpper}
+use Rattle.filling.specs.Fill.{missing, pads, padLine, fillLines}
+use Rattle.joiner.specs.Text.{startLines, sectionLines}
 use Rattle.joined.specs.Form.{word, UppersAsNeeded, no-more, same, changed, Form}
 use Rattle.joined.specs.PlainFile.{at, within}
 use Rattle.joined.specs.Claims.{linearData}

@@ -10,7 +10,8 @@ use Rattle.grammar.specs.declared.Answer.the-variants.{FileTooLong}
 use Rattle.textlines.specs.Lines.{linesOf}
 use Rattle.hexfile.specs.Lines.{freshSession, readAll, lineAnswers, storesOf}
 use Rattle.joiner.specs.declared.Joined.the-variants.{Written, Refused}
-use Rattle.joiner.specs.Text.{fillLines, sectionLines}
+use Rattle.filling.specs.Fill.{fillLines}
+use Rattle.joiner.specs.Text.{sectionLines}
 use Rattle.joiner.specs.Join.{refusal, joinOf}
 use Rattle.joined.specs.PlainFile.{at}
 

@@ -21,14 +21,14 @@ use Rattle.hexwrite.proofs.Lines.{put-one, put-append, put-fits, length-flatten
 use Rattle.plain.specs.declared.Verdict.{Verdict}
 use Rattle.plain.specs.declared.Verdict.the-variants.{Fine, Bad}
 use Rattle.plain.specs.File.{verdictOf}
-use Rattle.joiner.specs.declared.Tally.{Tally}
+use Rattle.datalines.specs.declared.Body.{Body}
+use Rattle.datalines.specs.Pieces.{piecesOf}
+use Rattle.datalines.specs.Lines.{firstUpper, dataLength}
+use Rattle.datalines.specs.Scan.{bodyOf}
 use Rattle.joiner.specs.declared.Joined.{Joined}
 use Rattle.joiner.specs.declared.Joined.the-variants.{Written, Refused}
-use Rattle.joiner.specs.Pieces.{piecesOf}
-use Rattle.joiner.specs.Text.{firstUpper, sectionLines, fileLines, fileText}
-use Rattle.joiner.specs.Tally.{freshTally, tallyAll, sectionSize}
-use Rattle.joiner.specs.Join.{JoinCall, joinCall, joinNumber, refusal, refusedBy, onVerdict, writtenOf, Fits, joinOf}
-use Rattle.joiner.proofs.Tallied.{fresh-first}
+use Rattle.joiner.specs.Text.{sectionLines, sectionSize, fileLines, fileText}
+use Rattle.joiner.specs.Join.{joinCall, joinNumber, refusal, refusedBy, secondOf, writtenOf, Fits, joinOf}
 use Rattle.joiner.proofs.Sectioned.{length-section}
 
 -- ---- the file
@@ -51,12 +51,11 @@ module _ (a b : List Store) where
         length-line endOfFile 0 [],
       )
 
-  pub file-length : (s t : Tally) {m n : ℕ} → s ≡ tallyAll freshTally a → t ≡ tallyAll freshTally b → m ≡ sectionSize (s .len) → n ≡ sectionSize (t .len)
-      → m + (n + 12) ≡ length (fileText a b)
-  file-length s t e f p q =
-      let x : sectionSize (s .len) ≡ length (flatten (sectionLines 0x9900 a)) = rw e (sym (length-section 0x9900 a)) in
-      let y : sectionSize (t .len) ≡ length (flatten (sectionLines 0x9903 b)) = rw f (sym (length-section 0x9903 b)) in
-      rw (p, x, q, y) (sym length-file)
+  pub file-length : {k l m n : ℕ} → k ≡ dataLength a → l ≡ dataLength b → m ≡ sectionSize k → n ≡ sectionSize l → m + (n + 12) ≡ length (fileText a b)
+  file-length e f p q =
+      let x : sectionSize (dataLength a) ≡ length (flatten (sectionLines 0x9900 a)) = sym (length-section 0x9900 a) in
+      let y : sectionSize (dataLength b) ≡ length (flatten (sectionLines 0x9903 b)) = sym (length-section 0x9903 b) in
+      rw (p, e, x, q, f, y) (sym length-file)
 
   pub file-put : (out : List ℕ) {one two three : List ℕ} {mid last : ℕ} → Fits (fileText a b) out
       → one ≡ putLines out 0 (sectionLines 0x9900 a) → mid ≡ 0 + length (flatten (sectionLines 0x9900 a))
@@ -73,8 +72,20 @@ module _ (a b : List Store) where
       ∙ sym (put-append out 0 first (second ++ (lastLine ∷ [])))
       ∙ put-fits out 0 (fileLines a b) all
 
-pub first-is : (s : Tally) (a : List Store) → s ≡ tallyAll freshTally a → s .first ≡ firstUpper a
-first-is s a e = rw e (fresh-first a)
+-- ---- what a file comes to
+
+module _ (r : Body) (s : List ℕ) (e : r ≡ bodyOf s) where
+  pub body-verdict : r .verdict ≡ verdictOf s
+  unfolding bodyOf
+  body-verdict = ap (λ (x : Body). x .verdict) e
+
+  pub body-first : r .first ≡ firstUpper (piecesOf s)
+  unfolding bodyOf
+  body-first = ap (λ (x : Body). x .first) e
+
+  pub body-length : r .len ≡ dataLength (piecesOf s)
+  unfolding bodyOf
+  body-length = ap (λ (x : Body). x .len) e
 
 -- ---- whether it fits
 
@@ -97,19 +108,20 @@ module _ (text out : List ℕ) (n : ℕ) (e : n ≡ length text) where
 -- ---- the call
 
 module _ (a b out : List ℕ) where
+  pub second-bad : {v : Verdict} {k : ℕ} {x : Answer} {r : Joined} → v ≡ verdictOf b → v ≡ Bad k x → r ≡ refusedBy 0x9903 v → joinCall r out ≡ secondOf a b out
+  second-bad e f g = rw (← e, f) (ap (λ (y : Joined). joinCall y out) (g ∙ rw f refl))
+
+  pub second-fine : {v : Verdict} {r : Joined} {o : List ℕ} → v ≡ verdictOf b → v ≡ Fine → joinCall r o ≡ writtenOf (fileText (piecesOf a) (piecesOf b)) out
+      → joinCall r o ≡ secondOf a b out
+  second-fine e f g = rw (← e, f) g
+
   abbrev Joins : Joined → List ℕ → Type 0
   Joins r o = numbered joinNumber (joinCall r o) ≡ numbered joinNumber (joinOf a b out)
 
-  pub joins-first : {v : Verdict} {k : ℕ} {x : Answer} {r : Joined} → v ≡ verdictOf a → v ≡ Bad k x → r ≡ refusedBy 0x9900 v → Joins r out
+  pub joins-bad : {v : Verdict} {k : ℕ} {x : Answer} {r : Joined} → v ≡ verdictOf a → v ≡ Bad k x → r ≡ refusedBy 0x9900 v → Joins r out
   unfolding joinOf
-  joins-first e f g = ap (numbered joinNumber) (rw (← e, f) (ap (λ (y : Joined). joinCall y out) (g ∙ rw f refl)))
+  joins-bad e f g = ap (numbered joinNumber) (rw (← e, f) (ap (λ (y : Joined). joinCall y out) (g ∙ rw f refl)))
 
-  pub joins-second : {u v : Verdict} {k : ℕ} {x : Answer} {r : Joined} → u ≡ verdictOf a → u ≡ Fine → v ≡ verdictOf b → v ≡ Bad k x
-      → r ≡ refusedBy 0x9903 v → Joins r out
+  pub joins-fine : {v : Verdict} {r : Joined} {o : List ℕ} → v ≡ verdictOf a → v ≡ Fine → joinCall r o ≡ secondOf a b out → Joins r o
   unfolding joinOf
-  joins-second d h e f g = ap (numbered joinNumber) (rw (← d, h, ← e, f) (ap (λ (y : Joined). joinCall y out) (g ∙ rw f refl)))
-
-  pub joins-both : {u v : Verdict} {r : Joined} {o : List ℕ} → u ≡ verdictOf a → u ≡ Fine → v ≡ verdictOf b → v ≡ Fine
-      → joinCall r o ≡ writtenOf (fileText (piecesOf a) (piecesOf b)) out → Joins r o
-  unfolding joinOf
-  joins-both d h e f g = ap (numbered joinNumber) (rw (← d, h, ← e, f) g)
+  joins-fine e f g = ap (numbered joinNumber) (rw (← e, f) g)

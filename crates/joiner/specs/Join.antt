@@ -14,7 +14,7 @@ use Rattle.plain.specs.File.{verdictOf}
 use Rattle.joiner.specs.declared.Refusal.{Refusal}
 use Rattle.joiner.specs.declared.Joined.{Joined}
 use Rattle.joiner.specs.declared.Joined.the-variants.{Written, Refused}
-use Rattle.joiner.specs.Pieces.{piecesOf}
+use Rattle.datalines.specs.Pieces.{piecesOf}
 use Rattle.joiner.specs.Text.{fileText}
 
 -- what is answered, and what the room holds
@@ -64,8 +64,10 @@ pub record Fits (text out : List ℕ) : Type 0 where
   pub short : length text ≤ 4194304
   pub room : length text ≤ length out
 
+-- after V1's input, which is fine
+abbrev pub secondOf : List ℕ → List ℕ → List ℕ → JoinCall
+secondOf a b out = onVerdict 0x9903 (verdictOf b) out (writtenOf (fileText (piecesOf a) (piecesOf b)) out)
+
 -- "V1's input whole first"
 unfoldable pub joinOf : List ℕ → List ℕ → List ℕ → JoinCall
-joinOf a b out =
-    onVerdict 0x9900 (verdictOf a) out
-    (onVerdict 0x9903 (verdictOf b) out (writtenOf (fileText (piecesOf a) (piecesOf b)) out))
+joinOf a b out = onVerdict 0x9900 (verdictOf a) out (secondOf a b out)

@@ -8,7 +8,7 @@ use Rattle.grammar.specs.declared.Answer.{Answer}
 use Rattle.grammar.specs.declared.Boards.{Boards}
 use Rattle.grammar.specs.declared.ReaderState.{ReaderState}
 use Rattle.grammar.specs.declared.ReaderState.the-variants.{Between, Opened, Inside, Padded, Ended, Failed}
-use Rattle.unihex.specs.declared.Reader.{Reader}
+use Rattle.hexreader.specs.declared.Reader.{Reader}
 use Rattle.lines.specs.Ascii.{ascii}
 use Rattle.lines.specs.Lines.{decimalOf, pairText, flagDigit}
 

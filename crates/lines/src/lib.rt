@@ -9,9 +9,9 @@ ghost use Rattle.lines.specs.Lines.{decimalOf, pairText, answerLine, cou
 ghost use Rattle.sets.specs.Over.{over};
 use grammar::Answer;
 use grammar::ReaderState;
+use hexreader::Reader;
 use transfer::State;
 use transfer::Transfer;
-use unihex::Reader;
 
 // Puts a part at an index, and answers the index after it.
 fn put(out: &mut [u8], at: usize, part: &[u8]) -> usize

@@ -18,8 +18,8 @@ pub extern "C" fn uf2_look(
     ensures { λ r. ⌜ r ≡ lookCallOf settings transfer arrival (lentAt flash seen sectors main xip) ⌝ }
 {
     let s = layout::read_settings(settings);
-    let t = layout::read_transfer(transfer);
+    let t = transferbytes::read_transfer(transfer);
     let p = receiver::look(s, t, arrival, flash, seen, sectors, main, xip);
     let answer = p.answer;
-    batch::result(answer, p.discarded) as u32
+    results::result(answer, p.discarded) as u32
 }

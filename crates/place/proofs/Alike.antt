@@ -13,8 +13,9 @@ use Rattle.settings.specs.declared.Settings.{Settings}
 use Rattle.settings.specs.Settings.{entryAt}
 use Rattle.settings.specs.Alike.{AlikeEntry, Alike}
 use Rattle.settings.proofs.Alike.{user-alike, accepts-alike, enabled-alike, alike-good}
-use Rattle.place.specs.Place.{otherArch, isMarked, passQueryOf, passAllows, passTakes, firstOf, entryIf, inPass, chosen, usedCount, chosenEntry, placeOfChoice, placeOf, userOf, ramFamily, askOf, Alike-places}
-use Rattle.place.specs.declared.PassQuery.{PassQuery}
+use Rattle.place.specs.Place.{passQueryOf, passAllows, passTakes, firstOf, entryIf, inPass, chosen, usedCount, chosenEntry, placeOfChoice, placeOf, userOf, ramFamily, askOf, Alike-places}
+use Rattle.passes.specs.Passes.{otherArch, isMarked}
+use Rattle.passes.specs.declared.PassQuery.{PassQuery}
 use Rattle.place.specs.declared.Choice.{Choice}
 use Rattle.place.specs.declared.Choice.the-variants.{Nothing, Entry}
 use Rattle.place.proofs.Laws.{used-least}

@@ -10,7 +10,7 @@ use native.Mathlib.Omega.{arith}
 use Rattle.settings.specs.declared.Entry as settings
 use Rattle.settings.specs.Settings.{entryAt}
 use Rattle.place.specs.Place.{orElse, firstOf, passTakes, entryIf}
-use Rattle.place.specs.declared.PassQuery.{PassQuery}
+use Rattle.passes.specs.declared.PassQuery.{PassQuery}
 use Rattle.place.specs.declared.Choice.{Choice}
 use Rattle.place.specs.declared.Choice.the-variants.{Nothing, Entry}
 

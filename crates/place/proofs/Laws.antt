@@ -14,7 +14,7 @@ use Rattle.settings.specs.declared.Entry as settings
 use Rattle.settings.specs.declared.Settings.{Settings}
 use Rattle.settings.specs.Settings.{familyRp2040, familyAbsolute, familyData, familyArmNs, entryAt, goodSettings}
 use Rattle.place.specs.Place.{passTakes, entryIf, inPass, chosen, usedCount, passQueryOf, chosenEntry, getsWhole, wholeIf, placeOfChoice, placeOf, userOf, ramFamily, foundAt, askOf}
-use Rattle.place.specs.declared.PassQuery.{PassQuery}
+use Rattle.passes.specs.declared.PassQuery.{PassQuery}
 use Rattle.place.specs.declared.Choice.{Choice}
 use Rattle.place.specs.declared.Choice.the-variants.{Nothing, Entry}
 use Rattle.place.specs.declared.Place.the-variants.{Nowhere}

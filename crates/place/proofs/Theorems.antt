@@ -13,7 +13,7 @@ use Rattle.settings.specs.declared.Settings.{Settings}
 use Rattle.settings.specs.Settings.{familyRp2040, familyAbsolute, entryAt, isA, accepts, goodSettings}
 use Rattle.settings.proofs.Laws.{good-count, good-fits}
 use Rattle.place.specs.Place.{passAllows, passTakes, inPass, chosen, usedCount, passQueryOf, chosenEntry, getsWhole, wholeIf, placeOfChoice, placeOf, Accepting, Inside, No-place, Place-inside}
-use Rattle.place.specs.declared.PassQuery.{PassQuery}
+use Rattle.passes.specs.declared.PassQuery.{PassQuery}
 use Rattle.place.specs.declared.Choice.{Choice}
 use Rattle.place.specs.declared.Choice.the-variants.{Nothing, Entry}
 use Rattle.place.specs.declared.Place.the-variants.{Nowhere, At}

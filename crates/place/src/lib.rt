@@ -3,15 +3,7 @@ ghost use mathlib.Core.Path.{_≡_};
 ghost use Prim.Native.Nat.{_≤_};
 ghost use Rattle.sets.specs.Numbered.{numbered};
 ghost use Rattle.place.specs.Place.{
-  otherArch,
-  imageOf,
-  isMarked,
-  isBootable,
-  passAllows,
-  passTakes,
   chosen,
-  usedCount,
-  passQueryOf,
   getsWhole,
   wholeIf,
   bytesOf,
@@ -23,7 +15,7 @@ ghost use Rattle.place.specs.Place.{
   placeAnswerNumber,
 };
 use flash::Flash;
-use settings::Arch;
+use passes::PassQuery;
 use settings::Entry;
 use settings::Family;
 use settings::Settings;
@@ -48,68 +40,6 @@ pub enum PlaceAnswer {
     Found { start: usize, len: usize },
 }
 
-// What the passes have to know of the settings: the family, the current architecture, and whether the family is its image
-// or, where switching is on, the other's.
-struct PassQuery {
-    family: u32,
-    current: Arch,
-    for_current: bool,
-    for_other: bool,
-}
-
-fn other(a: Arch) -> Arch
-    ensures { λ r. ⌜ r ≡ otherArch a ⌝ }
-{
-    match a {
-        Arch::Arm => Arch::RiscV,
-        Arch::RiscV => Arch::Arm,
-    }
-}
-
-fn image(a: Arch) -> u32
-    ensures { λ r. ⌜ r ≡ imageOf a ⌝ }
-{
-    match a {
-        Arch::Arm => Family::ARM_S,
-        Arch::RiscV => Family::RISCV,
-    }
-}
-
-// Marked not bootable for the architecture?
-fn marked(e: Entry, a: Arch) -> bool
-    ensures { λ r. ⌜ r ≡ isMarked e a ⌝ }
-{
-    match a {
-        Arch::Arm => e.not_bootable_arm,
-        Arch::RiscV => e.not_bootable_riscv,
-    }
-}
-
-fn bootable(e: Entry, a: Arch) -> bool
-    ensures { λ r. ⌜ r ≡ isBootable e a ⌝ }
-{
-    settings::unowned(e) & !marked(e, a)
-}
-
-// What a pass asks besides; 01's passes 1 to 4 are counted from 0.
-fn allows(w: PassQuery, pass: usize, e: Entry) -> bool
-    ensures { λ r. ⌜ r ≡ passAllows w pass e ⌝ }
-{
-    let current = w.current;
-    match pass {
-        0 => w.for_current & bootable(e, current),
-        1 => w.for_other & bootable(e, other(current)),
-        2 => settings::unowned(e),
-        _ => true,
-    }
-}
-
-fn takes(w: PassQuery, pass: usize, e: Entry) -> bool
-    ensures { λ r. ⌜ r ≡ passTakes w pass e ⌝ }
-{
-    settings::is_a(e) & settings::accepts_family(e, w.family) & allows(w, pass, e)
-}
-
 // Four passes over n entries, first to last, ending at the first match.
 fn choose(table: [Entry; Settings::ENTRIES], n: usize, w: PassQuery) -> Choice
     requires { ⌜ n ≤ 16 ⌝ }
@@ -123,7 +53,7 @@ fn choose(table: [Entry; Settings::ENTRIES], n: usize, w: PassQuery) -> Choice
         let mut i: usize = 0;
         while i < n {
             let e = table[i];
-            if takes(w, pass, e) {
+            if passes::takes(w, pass, e) {
                 break 'search Choice::Entry(i);
             }
             i += 1;
@@ -131,32 +61,6 @@ fn choose(table: [Entry; Settings::ENTRIES], n: usize, w: PassQuery) -> Choice
         pass += 1;
     };
     found
-}
-
-// How many entries are looked at, of the 16 that there are.
-fn used_count(count: u8) -> usize
-    ensures { λ r. ⌜ r ≡ usedCount count ⌝ }
-{
-    let n = count as usize;
-    if n <= Settings::ENTRIES {
-        n
-    } else {
-        Settings::ENTRIES
-    }
-}
-
-fn query(settings: Settings, family: u32) -> PassQuery
-    ensures { λ r. ⌜ r ≡ passQueryOf settings family ⌝ }
-{
-    let current = settings.current;
-    let o = other(current);
-    let on = settings::is_enabled(settings, o);
-    PassQuery {
-        family,
-        current,
-        for_current: family == image(current),
-        for_other: settings.auto_switch & on & (family == image(o)),
-    }
 }
 
 // The families that get the whole flash where there is no table.
@@ -204,9 +108,9 @@ pub fn find(settings: Settings, flash_len: usize, family: u32) -> Place
     if count == 0 {
         return whole_if(gets_whole(settings.arm, settings.riscv, family), flash_len);
     }
-    let w = query(settings, family);
+    let w = passes::query(settings, family);
     let table = settings.table;
-    match choose(table, used_count(count), w) {
+    match choose(table, passes::used_count(count), w) {
         Choice::Nothing => Place::Nowhere,
         Choice::Entry(k) => {
             let e = table[k];
@@ -222,10 +126,12 @@ pub fn ram_family(settings: Settings, family: u32) -> bool
     if (Family::DATA <= family) & (family <= Family::ARM_NS) {
         return true;
     }
-    let n = used_count(settings.count);
+    let n = passes::used_count(settings.count);
+    // copied only where it is looked at
+    let table = settings.table;
     let mut i: usize = 0;
     while i < n {
-        let e = settings.table[i];
+        let e = table[i];
         if settings::has_user(e, family) {
             return true;
         }

@@ -17,7 +17,8 @@ use Rattle.sets.proofs.TabLaws.{is-tab}
 use Rattle.settings.specs.declared.Entry as settings
 use Rattle.settings.specs.declared.Settings.{Settings}
 use Rattle.settings.specs.Settings.{familyRp2040, familyAbsolute, familyData, familyArmS, familyRiscV, entryAt, isA, accepts}
-use Rattle.place.specs.Place.{forCurrent, forOther, passQueryOf, passAllows, passTakes, usedCount, ramFamily}
+use Rattle.passes.specs.declared.PassQuery.{PassQuery}
+use Rattle.place.specs.Place.{passQueryOf, passAllows, passTakes, usedCount, ramFamily}
 use Rattle.placing.specs.declared.Shut.{Shut}
 use Rattle.placing.specs.declared.Shut.the-variants.{AbsoluteOff, Rp2040, ArmOff, RiscvOff, NotWithoutTable, NoEntry, NotForRam}
 use Rattle.placing.specs.declared.Access.{Access}
@@ -25,7 +26,7 @@ use Rattle.placing.specs.declared.Access.the-variants.{Granted, Denied}
 use Rattle.placing.specs.declared.Spot.{Spot}
 use Rattle.placing.specs.declared.Spot.the-variants as spot
 use Rattle.placing.specs.declared.Rule.the-variants.{Absolute, NoTable}
-use Rattle.placing.specs.Parts.{deniedIf, withoutAccess, allowedBy}
+use Rattle.placing.specs.Parts.{deniedIf, withoutAccess}
 use Rattle.placing.specs.Placing.{noTable, takesAt, shutIn, firstShut, flashAccess, ramAccess, markFor, markOf, marksOf, takenIn, passHas, passOf, entryIn, tableSpot, grantedSpot, spotBy, spotOf}
 
 -- ---- the rules for the flash, by cases
@@ -78,12 +79,9 @@ unfolding takesAt
 takes-by table f k p q h = rw (← p, ← q) h
 
 module _ (s : Settings) (f p k : ℕ) where
-  pub taken-by : {a b d m o v : Bool} → a ≡ isA (entryAt (s .table) k) → b ≡ accepts (entryAt (s .table) k) f → m ≡ forCurrent s f → o ≡ forOther s f → d ≡ allowedBy (s .current) m o p (entryAt (s .table) k) → a && b && d ≡ v → takenIn s f p k ≡ v
-  unfolding takenIn passTakes passAllows passQueryOf allowedBy
-  taken-by x y z w g h = three x y (rw (z, w) at g) h
-    where
-      three : {a b d a' b' d' v : Bool} → a ≡ a' → b ≡ b' → d ≡ d' → a && b && d ≡ v → a' && b' && d' ≡ v
-      three p q r h = rw (← p, ← q, ← r) h
+  pub taken-by : {w : PassQuery} {b v : Bool} → w ≡ passQueryOf s f → b ≡ passTakes w p (entryAt (s .table) k) → b ≡ v → takenIn s f p k ≡ v
+  unfolding takenIn
+  taken-by q e h = ap (λ (w : PassQuery). passTakes w p (entryAt (s .table) k)) (sym q) ∙ sym e ∙ h
 
   -- what a pass takes is an A entry that accepts the family
   pub taken-takes : takenIn s f p k ≡ true → takesAt (s .table) f k ≡ true

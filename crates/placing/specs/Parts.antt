@@ -1,11 +1,8 @@
 -- The definitions of a place, cut as the code checks them. Assumes nothing.
 use Prim.Native.Nat.{ℕ}
-use mathlib.Core.Bool.{Bool, true, cond, not, _&&_}
+use mathlib.Core.Bool.{Bool, cond, not}
 use lib.Dec.{eqb}
-use Rattle.settings.specs.declared.Arch.{Arch}
-use Rattle.settings.specs.declared.Entry.{Entry}
-use Rattle.settings.specs.Settings.{familyData, familyArmS, familyRiscV, isUnowned}
-use Rattle.place.specs.Place.{otherArch, isBootable}
+use Rattle.settings.specs.Settings.{familyData, familyArmS, familyRiscV}
 use Rattle.placing.specs.declared.Shut.{Shut}
 use Rattle.placing.specs.declared.Shut.the-variants.{ArmOff, RiscvOff, NotWithoutTable}
 use Rattle.placing.specs.declared.Access.{Access}
@@ -21,11 +18,3 @@ withoutAccess arm riscv f =
     (cond (eqb f familyArmS) (deniedIf (not arm) ArmOff)
     (cond (eqb f familyRiscV) (deniedIf (not riscv) RiscvOff)
     (Denied NotWithoutTable)))
-
--- what pass p + 1 asks of an A entry that accepts the family, by the current architecture, whether the family is its image, and whether it is the image
--- of the other, to which switching is on
-unfoldable pub allowedBy : Arch → Bool → Bool → ℕ → Entry → Bool
-allowedBy a mine others p e =
-    cond (eqb p 0) (mine && isBootable e a)
-    (cond (eqb p 1) (others && isBootable e (otherArch a))
-    (cond (eqb p 2) (isUnowned e) true))

@@ -3,7 +3,7 @@ ghost use mathlib.Core.Path.{_≡_};
 ghost use Rattle.sets.specs.Numbered.{numbered};
 ghost use mathlib.Core.Bool.{true};
 ghost use Rattle.sets.specs.Sets.{any};
-ghost use Rattle.place.specs.Place.{otherArch, imageOf, isMarked, isBootable, forOther, usedCount};
+ghost use Rattle.place.specs.Place.{usedCount};
 ghost use Rattle.placing.specs.Placing.{
   shutNumber,
   takesAt,
@@ -16,8 +16,7 @@ ghost use Rattle.placing.specs.Placing.{
   spotOf,
   spotNumber,
 };
-ghost use Rattle.placing.specs.Parts.{deniedIf, withoutAccess, allowedBy};
-use settings::Arch;
+ghost use Rattle.placing.specs.Parts.{deniedIf, withoutAccess};
 use settings::Entry;
 use settings::Family;
 use settings::Settings;
@@ -77,23 +76,11 @@ fn denied_if(yes: bool, shut: Shut) -> Access
     }
 }
 
-// How many entries are looked at, of the 16 that there are.
-fn used_count(count: u8) -> usize
-    ensures { λ r. ⌜ r ≡ usedCount count ⌝ }
-{
-    let n = count as usize;
-    if n <= Settings::ENTRIES {
-        n
-    } else {
-        Settings::ENTRIES
-    }
-}
-
 // Does an A entry that is used accept the family?
 fn any_takes(settings: Settings, family: u32) -> bool
     ensures { λ r. ⌜ r ≡ any (usedCount (settings .count)) (takesAt (settings .table) family) ⌝ }
 {
-    let n = used_count(settings.count);
+    let n = passes::used_count(settings.count);
     let mut k: usize = 0;
     while k < n {
         let e = settings.table[k];
@@ -162,7 +149,7 @@ pub fn marks(settings: Settings, family: u32) -> [u8; 16]
     ensures { λ r. ⌜ r ≡ marksOf settings family ⌝ }
 {
     let mut out: [u8; 16] = [0; 16];
-    let n = used_count(settings.count);
+    let n = passes::used_count(settings.count);
     let mut k: usize = 0;
     while k < n {
         let e = settings.table[k];
@@ -172,71 +159,13 @@ pub fn marks(settings: Settings, family: u32) -> [u8; 16]
     out
 }
 
-fn other(a: Arch) -> Arch
-    ensures { λ r. ⌜ r ≡ otherArch a ⌝ }
-{
-    match a {
-        Arch::Arm => Arch::RiscV,
-        Arch::RiscV => Arch::Arm,
-    }
-}
-
-fn image(a: Arch) -> u32
-    ensures { λ r. ⌜ r ≡ imageOf a ⌝ }
-{
-    match a {
-        Arch::Arm => Family::ARM_S,
-        Arch::RiscV => Family::RISCV,
-    }
-}
-
-// Marked not bootable for the architecture?
-fn marked(e: Entry, a: Arch) -> bool
-    ensures { λ r. ⌜ r ≡ isMarked e a ⌝ }
-{
-    match a {
-        Arch::Arm => e.not_bootable_arm,
-        Arch::RiscV => e.not_bootable_riscv,
-    }
-}
-
-// Unowned, and not marked?
-fn bootable(e: Entry, a: Arch) -> bool
-    ensures { λ r. ⌜ r ≡ isBootable e a ⌝ }
-{
-    settings::unowned(e) & !marked(e, a)
-}
-
-// Is the family the other architecture's image, which switching would start?
-fn for_other(settings: Settings, family: u32) -> bool
-    ensures { λ r. ⌜ r ≡ forOther settings family ⌝ }
-{
-    let current = settings.current;
-    let o = other(current);
-    settings.auto_switch & settings::is_enabled(settings, o) & (family == image(o))
-}
-
-// What a pass asks of an A entry that accepts the family; 01's passes 1 to 4 are counted from 0.
-fn allows(e: Entry, current: Arch, mine: bool, others: bool, pass: usize) -> bool
-    ensures { λ r. ⌜ r ≡ allowedBy current mine others pass e ⌝ }
-{
-    match pass {
-        0 => mine & bootable(e, current),
-        1 => others & bootable(e, other(current)),
-        2 => settings::unowned(e),
-        _ => true,
-    }
-}
-
 // The first pass that takes an entry, and the first entry that it takes.
 fn in_table(settings: Settings, family: u32) -> Spot
     requires { ⌜ any (usedCount (settings .count)) (takesAt (settings .table) family) ≡ true ⌝ }
     ensures { λ r. ⌜ r ≡ tableSpot settings family ⌝ }
 {
-    let current = settings.current;
-    let n = used_count(settings.count);
-    let mine = family == image(current);
-    let others = for_other(settings, family);
+    let n = passes::used_count(settings.count);
+    let w = passes::query(settings, family);
     let mut pass: usize = 0;
     let found = 'search: loop {
         if 4 <= pass {
@@ -245,10 +174,7 @@ fn in_table(settings: Settings, family: u32) -> Spot
         let mut k: usize = 0;
         while k < n {
             let e = settings.table[k];
-            if settings::is_a(e)
-                & settings::accepts_family(e, family)
-                & allows(e, current, mine, others, pass)
-            {
+            if passes::takes(w, pass, e) {
                 break 'search Spot::Entry {
                     pass: pass as u8 + 1,
                     entry: k as u8,

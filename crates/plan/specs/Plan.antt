@@ -2,7 +2,7 @@
 use Prim.Native.Nat.{ℕ, _/_}
 use mathlib.Core.Bool.{cond}
 use mathlib.Core.List.{List}
-use Rattle.bitmap.specs.Bitmap.{markedIn}
+use Rattle.bitmap.specs.Bitmap.{markedIn, withMark}
 use Rattle.flash.specs.Flash.{eraseAt, payloadOf, storeAt}
 use Rattle.settings.specs.declared.Settings.{Settings}
 use Rattle.transfer.specs.declared.Kind.{Kind}
@@ -24,6 +24,18 @@ planNumber (EraseProgram q at) = 2
 -- a page of flash is programmed, in a sector that is erased first where the sector map does not mark it
 abbrev pub sectorPlan : ℕ → List ℕ → Plan
 sectorPlan at k = cond (markedIn k (at / 4096)) (Program at) (EraseProgram (at / 4096) at)
+
+-- the plan, and the sector map as it is left, as one value, which the contract names
+pub record SectorPaged : Type 0 where
+  pub plan : Plan
+  pub sectors : List ℕ
+
+abbrev pub sectorPaged : Plan → List ℕ → SectorPaged
+sectorPaged r k = record { plan = r; sectors = k }
+
+-- a page of flash: the plan, and its sector marked
+abbrev pub sectorPagedOf : ℕ → List ℕ → SectorPaged
+sectorPagedOf at k = sectorPaged (sectorPlan at k) (withMark k (at / 4096))
 
 -- a page of RAM is stored at once, so that nothing is left to do
 abbrev pub pagePlan : Kind → ℕ → List ℕ → Plan

@@ -1,6 +1,6 @@
 -- A reader that is read, field by field. Assumes nothing.
 use Prim.Native.Nat.{ℕ, _≤_}
-use mathlib.Core.Path.{_≡_, refl, ap, _∙_}
+use mathlib.Core.Path.{_≡_}
 use mathlib.Core.List.{List}
 use lib.ListN.{length}
 use borrow.Author.Tests.{eq-eqb, le-leb}
@@ -8,8 +8,8 @@ use Rattle.block.specs.Block.{fieldAt}
 use Rattle.layout.specs.Layout.{byteAt}
 use Rattle.grammar.specs.declared.Boards.{Boards}
 use Rattle.grammar.specs.declared.ReaderState.{ReaderState}
-use Rattle.unihex.specs.declared.Reader.{Reader}
-use Rattle.readers.specs.Readers.{halfAt, readerStateFrom, boardsFrom, fieldsFrom, readerFrom}
+use Rattle.hexreader.specs.declared.Reader.{Reader}
+use Rattle.readers.specs.Readers.{halfAt, stateAt, boardsFrom, fieldsFrom, readerFrom}
 
 abbrev readerOf : ℕ → ℕ → ReaderState → ℕ → Boards → Boards → Reader
 readerOf own offset s upper «sections_seen» «data_seen» =
@@ -24,8 +24,8 @@ module _ (b : List ℕ) (l : length b ≡ 16) (k : byteAt b 8 ≤ 5) where
   unfolding readerFrom
   read-good = rw (eq-eqb (length b) 16 l, le-leb (byteAt b 8) 5 k)
 
-  pub read-fields : {own offset board upper : ℕ} {s : ReaderState} → own ≡ halfAt b 0 → offset ≡ fieldAt b 4 → board ≡ halfAt b 10 → s ≡ readerStateFrom (byteAt b 8) (byteAt b 9) board → upper ≡ halfAt b 2
-      → readerOf own offset s upper (boardsFrom (byteAt b 12) (byteAt b 13)) (boardsFrom (byteAt b 14) (byteAt b 15)) ≡ readerFrom b
-  unfolding fieldsFrom
-  read-fields ho hf hb hs hu =
-      rw read-good (same-reader ho hf (hs ∙ ap (readerStateFrom (byteAt b 8) (byteAt b 9)) hb) hu refl refl)
+-- the fields one by one, as the code reads them
+pub read-fields : (b : List ℕ) {own offset upper : ℕ} {s : ReaderState} {v w : Boards} → own ≡ halfAt b 0 → offset ≡ fieldAt b 4 → s ≡ stateAt b → upper ≡ halfAt b 2
+    → v ≡ boardsFrom (byteAt b 12) (byteAt b 13) → w ≡ boardsFrom (byteAt b 14) (byteAt b 15) → readerOf own offset s upper v w ≡ fieldsFrom b
+unfolding fieldsFrom
+read-fields b ho hf hs hu hv hw = same-reader ho hf hs hu hv hw

@@ -10,8 +10,8 @@ use lib.ListN.{length}
 use borrow.Author.Tests.{eq-eqb, ne-eqb, lt-leb}
 use Rattle.layout.specs.Layout.{byteAt}
 use Rattle.grammar.specs.Boards.{isV1, isV2}
-use Rattle.unihex.specs.declared.Reader.{Reader}
-use Rattle.unihex.specs.Reader.{badFailure, badReader}
+use Rattle.hexreader.specs.declared.Reader.{Reader}
+use Rattle.hexreader.specs.Reader.{badFailure, badReader}
 use Rattle.readers.specs.Readers.{halfAt, readerStateFrom, fieldsFrom, noReader, readerFrom}
 use Rattle.readers.proofs.Answers.{keptNumber, kept-from}
 use Rattle.readers.proofs.Read.{read-good}

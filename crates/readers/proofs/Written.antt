@@ -18,7 +18,7 @@ use Rattle.grammar.specs.Answers.{positionOf}
 use Rattle.grammar.specs.declared.Boards.{Boards}
 use Rattle.grammar.specs.declared.ReaderState.{ReaderState}
 use Rattle.grammar.specs.declared.ReaderState.the-variants.{Between, Opened, Inside, Padded, Ended, Failed}
-use Rattle.unihex.specs.declared.Reader.{Reader}
+use Rattle.hexreader.specs.declared.Reader.{Reader}
 use Rattle.readers.specs.Readers.{halfAt, readerStateFrom, boardsFrom, fieldsFrom, readerFrom, le16, stateCodeOf, flagOf, stateCodeBytes, boardsBytes, readerBytes, readerWritten}
 use Rattle.readers.proofs.Answers.{answer-back}
 use Rattle.readers.proofs.Read.{same-reader}

@@ -14,8 +14,8 @@ use Rattle.grammar.specs.declared.Answer.the-variants.{BadReader, BadImage, NoC
 use Rattle.grammar.specs.declared.Boards.{Boards}
 use Rattle.grammar.specs.declared.ReaderState.{ReaderState}
 use Rattle.grammar.specs.declared.ReaderState.the-variants as state
-use Rattle.unihex.specs.Reader.{freshOf}
-use Rattle.unihex.specs.declared.Reader.{Reader}
+use Rattle.hexreader.specs.Reader.{freshOf}
+use Rattle.hexreader.specs.declared.Reader.{Reader}
 use Rattle.readers.specs.declared.StateCode.{StateCode}
 
 -- ---- read
@@ -64,19 +64,21 @@ readerStateFrom kind failure half =
     (cond (eqb kind 4) state.Ended
     (state.Failed (record { answer = answerFrom failure half }))))))
 
+-- 8 where it stands, 9 the remembered failure, 10 board of the section or position of the failure
+abbrev pub stateAt : List ℕ → ReaderState
+stateAt b = readerStateFrom (byteAt b 8) (byteAt b 9) (halfAt b 10)
+
 -- of V1 and of V2, each a flag
 abbrev pub boardsFrom : ℕ → ℕ → Boards
 boardsFrom a b = record { v1 = isOn a; v2 = isOn b }
 
--- 0 own board, 2 upper address, 4 offset, 8 where it stands, 9 the remembered failure, 10 board of the section or position of
--- the failure, 12 V1's section came,
--- 13 V2's, 14 V1 gave a data byte, 15 V2 did
+-- 0 own board, 2 upper address, 4 offset, 8 to 11 its state, 12 V1's section came, 13 V2's, 14 V1 gave a data byte, 15 V2 did
 unfoldable pub fieldsFrom : List ℕ → Reader
 fieldsFrom b =
     record {
       own = halfAt b 0;
       offset = fieldAt b 4;
-      state = readerStateFrom (byteAt b 8) (byteAt b 9) (halfAt b 10);
+      state = stateAt b;
       upper = halfAt b 2;
       «sections_seen» = boardsFrom (byteAt b 12) (byteAt b 13);
       «data_seen» = boardsFrom (byteAt b 14) (byteAt b 15);

@@ -1,21 +1,8 @@
-// Hex readers as bytes: how a reader goes in, and how it comes back. Every byte slice is read; include/uf2_receiver.h has the layout
-// for C.
+// Hex readers as bytes: how a reader is written. include/uf2_receiver.h has the layout for C; `readerbytes` reads it.
 ghost use mathlib.Core.Path.{_≡_};
-ghost use Prim.Native.Nat.{_+_, _*_};
-ghost use Rattle.readers.specs.Readers.{
-  answerFrom,
-  readerStateFrom,
-  readerFrom,
-  stateCodeOf,
-  flagOf,
-  readerBytes,
-  readerWritten,
-};
-use grammar::Answer;
-use grammar::Boards;
-use grammar::Failure;
+ghost use Rattle.readers.specs.Readers.{stateCodeOf, flagOf, readerBytes, readerWritten};
 use grammar::ReaderState;
-use unihex::Reader;
+use hexreader::Reader;
 
 // The bytes of a reader.
 const READER: usize = 16;
@@ -25,99 +12,6 @@ struct StateCode {
     kind: u8,
     failure: u8,
     half: u16,
-}
-
-// Two bytes as a number, low first.
-fn joined(low: u8, high: u8) -> u16
-    ensures { λ r. ⌜ r ≡ low + 256 * high ⌝ }
-{
-    (low as u16) + 256 * (high as u16)
-}
-
-// The answer of a number. Any other number is read as 18, which no reader remembers.
-fn answer(n: u8, position: u16) -> Answer
-    ensures { λ r. ⌜ r ≡ answerFrom n position ⌝ }
-{
-    if (n < 18) | (36 < n) {
-        return Answer::BadReader;
-    }
-    let all = [
-        Answer::BadReader,
-        Answer::BadImage,
-        Answer::NoColon,
-        Answer::BadShape,
-        Answer::BadDigit(position),
-        Answer::TooLong,
-        Answer::BadLength,
-        Answer::BadSum,
-        Answer::OutOfPlace,
-        Answer::Unaligned,
-        Answer::Repeated,
-        Answer::Crosses,
-        Answer::MissingBoard,
-        Answer::AfterEnd,
-        Answer::Outside,
-        Answer::Stored,
-        Answer::Passed,
-        Answer::Ended,
-        Answer::FileTooLong,
-    ];
-    let k = (n - 18) as usize;
-    all[k]
-}
-
-// Any kind over 4 is read as a failure.
-fn state_from(kind: u8, failure: u8, half: u16) -> ReaderState
-    ensures { λ r. ⌜ r ≡ readerStateFrom kind failure half ⌝ }
-{
-    if kind == 0 {
-        return ReaderState::Between;
-    }
-    if kind == 1 {
-        return ReaderState::Opened;
-    }
-    if kind == 2 {
-        return ReaderState::Inside(half);
-    }
-    if kind == 3 {
-        return ReaderState::Padded(half);
-    }
-    if kind == 4 {
-        return ReaderState::Ended;
-    }
-    let answer = answer(failure, half);
-    let failure = Failure { answer };
-    ReaderState::Failed(failure)
-}
-
-// The reader that bytes are.
-pub fn read_reader(bytes: &[u8]) -> Reader
-    ensures { λ r. ⌜ r ≡ readerFrom (now (bytes .entry)) ⌝ }
-{
-    if bytes.len() != READER {
-        return Reader::fresh(0);
-    }
-    if 5 < bytes[8] {
-        return Reader::fresh(0);
-    }
-    let half = joined(bytes[10], bytes[11]);
-    let state = state_from(bytes[8], bytes[9], half);
-    let sections_seen = Boards {
-        v1: bytes[12] != 0,
-        v2: bytes[13] != 0,
-    };
-    let data_seen = Boards {
-        v1: bytes[14] != 0,
-        v2: bytes[15] != 0,
-    };
-    Reader {
-        own: joined(bytes[0], bytes[1]),
-        offset: block::field(bytes, 4),
-        state,
-        upper: joined(bytes[2], bytes[3]),
-        sections_seen,
-        data_seen,
-    }
 }
 
 fn state_code(state: ReaderState) -> StateCode

@@ -185,28 +185,12 @@ fn reason_of(
     )
 }
 
-// Is a running transfer discarded, of a block of this head?
+// Is a running transfer discarded, of a block of this head? By those answers alone that accept it.
 fn discards(transfer: Transfer, head: Head, cause: Cause) -> bool
     ensures { λ r. ⌜ r ≡ discardsOf (transfer .state) head cause ⌝ }
 {
-    match cause {
-        Cause::BadBuffers(_) => false,
-        Cause::BadSettings(_) => false,
-        Cause::BadState(_) => false,
-        Cause::NotBlock(_) => false,
-        Cause::Container => false,
-        Cause::NoFamily => false,
-        Cause::NoPlace(_) => false,
-        Cause::BadPayload => false,
-        Cause::BadNumbers(_) => false,
-        Cause::BadAddress(_) => false,
-        Cause::Finished => false,
-        Cause::Again => false,
-        Cause::Written(_) => checks::runs_other(transfer, head),
-        Cause::Completed => checks::runs_other(transfer, head),
-        Cause::Noted => checks::runs_other(transfer, head),
-        Cause::Kept => checks::runs_other(transfer, head),
-    }
+    let number = cause.answer().number();
+    (14 <= number) & checks::runs_other(transfer, head)
 }
 
 fn no_marks() -> [u8; 16]
@@ -219,38 +203,19 @@ fn no_marks() -> [u8; 16]
 fn shut_marks(settings: Settings, family: u32, shut: Shut) -> [u8; 16]
     ensures { λ r. ⌜ r ≡ shutMarks settings family shut ⌝ }
 {
-    match shut {
-        Shut::AbsoluteOff => no_marks(),
-        Shut::Rp2040 => no_marks(),
-        Shut::ArmOff => no_marks(),
-        Shut::RiscvOff => no_marks(),
-        Shut::NotWithoutTable => no_marks(),
-        Shut::NoEntry => placing::marks(settings, family),
-        Shut::NotForRam => no_marks(),
-    }
+    let Shut::NoEntry = shut else {
+        return no_marks();
+    };
+    placing::marks(settings, family)
 }
 
 fn entries_of(settings: Settings, family: u32, cause: Cause) -> [u8; 16]
     ensures { λ r. ⌜ r ≡ entriesOf settings family cause ⌝ }
 {
-    match cause {
-        Cause::BadBuffers(_) => no_marks(),
-        Cause::BadSettings(_) => no_marks(),
-        Cause::BadState(_) => no_marks(),
-        Cause::NotBlock(_) => no_marks(),
-        Cause::Container => no_marks(),
-        Cause::NoFamily => no_marks(),
-        Cause::NoPlace(x) => shut_marks(settings, family, x),
-        Cause::BadPayload => no_marks(),
-        Cause::BadNumbers(_) => no_marks(),
-        Cause::BadAddress(_) => no_marks(),
-        Cause::Finished => no_marks(),
-        Cause::Again => no_marks(),
-        Cause::Written(_) => no_marks(),
-        Cause::Completed => no_marks(),
-        Cause::Noted => no_marks(),
-        Cause::Kept => no_marks(),
-    }
+    let Cause::NoPlace(x) = cause else {
+        return no_marks();
+    };
+    shut_marks(settings, family, x)
 }
 
 // Why an arrival is answered as it is. Nothing changes.

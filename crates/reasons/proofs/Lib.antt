@@ -2,5 +2,7 @@
 pub mod Answers
 pub mod Steps
 pub mod Agree
+pub mod Discards
+mod Ranks
 pub mod Theorems
 pub mod Places

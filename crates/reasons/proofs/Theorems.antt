@@ -30,6 +30,7 @@ use Rattle.transfer.specs.declared.State.{State}
 use Rattle.transfer.specs.declared.State.the-variants.{Idle, Running, Done}
 use Rattle.causes.proofs.Rows.{deciding}
 use Rattle.reasons.proofs.Agree.{answers-agree}
+use Rattle.reasons.proofs.Ranks.{faults-rank}
 
 pub reason-is-true : Reason-is-true
 unfolding Reason-is-true reasonOf
@@ -55,6 +56,7 @@ pub in-order : In-order
 unfolding lengthsRow flashRow bufferRow headerRow magicRow flagsRow numbersRow addressRow
 in-order =
     record {
+      faults = faults-rank;
       lengths = λ a n m k. refl;
       state = states;
       header = λ a. refl;

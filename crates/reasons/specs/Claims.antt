@@ -1,10 +1,13 @@
 -- What is claimed of reasons (02, L6): "Show that the reason is the true one: every earlier check passes, this one doesn't, and the answer is the
 -- receiver's." For every settings, transfer, buffers and arrival. proofs/ proves each claim, in lower case. Assumes nothing.
-use Prim.Native.Nat.{ℕ, _<_}
+use Prim.Native.Nat.{ℕ, _+_, _*_, _<_}
 use lib.ListN.{getD}
 use Rattle.block.specs.Block.{fieldAt}
 use Rattle.settings.specs.Settings.{entryAt}
 use Rattle.place.specs.Place.{usedCount}
+use Rattle.faults.specs.Faults.{faultNumber, faultsOf}
+use Rattle.faults.specs.declared.Fault.{Fault}
+use Rattle.faults.specs.declared.Fault.the-variants.{ArchOff, CountOver, NoSectors, PastFlash, Shares, LinksUp, LinksToB, ManyUsers, ReservedUser}
 use Rattle.placing.specs.Placing.{Marked}
 use Rattle.placing.specs.declared.Shut.the-variants.{NoEntry}
 use Rattle.causes.specs.declared.Cause.the-variants.{NoPlace}
@@ -34,6 +37,10 @@ Reason-is-true = (s : Settings) (w : World) (a : List ℕ) → Deciding (holdsIn
 -- "and the answer is the receiver's": the look's, and so the take's (`Facts.antt` of arrival)
 unfoldable pub Answer-is-the-receivers : Type 0
 Answer-is-the-receivers = (s : Settings) (w : World) (a : List ℕ) → answerOf (reasonOf s w a .cause) ≡ lookOf s w a .answer
+
+-- and so is its "discarded"
+unfoldable pub Discard-is-the-receivers : Type 0
+Discard-is-the-receivers = (s : Settings) (w : World) (a : List ℕ) → whyOf s w a .discarded ≡ lookOf s w a .discarded
 
 -- "for each used entry "B of" or else "doesn't accept""
 unfoldable pub Marks-are-true : Type 0
@@ -65,8 +72,28 @@ abbrev pub risesFrom : ℕ → List Reason → Bool
 risesFrom n [] = true
 risesFrom n (c ∷ l) = ltb n (causeNumber (c .cause)) && risesFrom (causeNumber (c .cause)) l
 
--- of rows 1, 3, 4 with 5 and 7, 8, 10 and 11; row 2's are 01's by `faultsOf`
+-- where a fault of row 2 stands: by its condition, "then the first field, map or entry": by its entry, then by the other that it is held to
+abbrev pub standsWith : Fault → ℕ → ℕ → ℕ
+standsWith x k j = faultNumber x * 256 + k * 16 + j + 1
+
+abbrev pub rankOf : Fault → ℕ
+rankOf ArchOff = standsWith ArchOff 0 0
+rankOf CountOver = standsWith CountOver 0 0
+rankOf (NoSectors k) = standsWith (NoSectors k) k 0
+rankOf (PastFlash k) = standsWith (PastFlash k) k 0
+rankOf (Shares k j) = standsWith (Shares k j) k j
+rankOf (LinksUp k) = standsWith (LinksUp k) k 0
+rankOf (LinksToB k) = standsWith (LinksToB k) k 0
+rankOf (ManyUsers k) = standsWith (ManyUsers k) k 0
+rankOf (ReservedUser k) = standsWith (ReservedUser k) k 0
+
+abbrev pub ranksFrom : ℕ → List Fault → Bool
+ranksFrom n [] = true
+ranksFrom n (x ∷ l) = ltb n (rankOf x) && ranksFrom (rankOf x) l
+
+-- of row 2, and of rows 1, 3, 4 with 5 and 7, 8, 10 and 11
 pub record In-order : Type 0 where
+  pub faults : (s : Settings) → ranksFrom 0 (faultsOf s) ≡ true
   pub lengths : (a : ℕ) (n : Lengths) (m k : ℕ) → risesFrom 100 (lengthsRow a n m k) ≡ true
   pub state : (t : State) → risesFrom 300 (stateRow t) ≡ true
   pub header : (a : List ℕ) → risesFrom 400 (headerRow a) ≡ true

@@ -15,8 +15,9 @@ use Rattle.verdict.specs.declared.Known.{Known}
 use Rattle.plan.specs.declared.Plan.{Plan}
 use Rattle.plan.specs.declared.Plan.the-variants.{Nothing}
 use Rattle.plan.specs.Plan.{decisionPlan, performed, withFlash, outcomeWith, Accepting, acceptingBy, performedOn}
-use Rattle.plan.specs.Parts.{beside, entering, enteringOf}
-use Rattle.plan.proofs.Laws.{entered, performs-by}
+use Rattle.plan.proofs.Laws.{performs-by}
+use Rattle.entering.specs.Entering.{beside, entering, enteringOf}
+use Rattle.entering.proofs.Laws.{entered}
 use Rattle.receiver.specs.Receiver.{lent, world, refusal, outcome, receiveKnown, acceptKnown}
 use Rattle.receiver.specs.declared.Receipt.{Receipt}
 

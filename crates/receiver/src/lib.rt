@@ -121,7 +121,7 @@ fn accept_known(
             let accepted = acceptance.accepted;
             let next = accepted.transfer;
             let given = accepted.answer;
-            let plan = plan::enter(placed, deed, accepted, arrival, seen, sectors, main, xip);
+            let plan = entering::enter(placed, deed, accepted, arrival, seen, sectors, main, xip);
             Planned {
                 receipt: Receipt {
                     transfer: next,

@@ -10,9 +10,9 @@ use lib.Seq.{take-all, getD-take}
 use borrow.Author.Tests.{lt-ltb, le-ltb, eq-eqb, ne-eqb, ltb-true, ltb-false, eqb-false}
 use Rattle.sets.proofs.Tests.{split, or-left, or-right}
 use Rattle.record.specs.declared.ParseResult.the-variants.{NoColon, BadShape, BadDigit, TooLong, BadLength, BadSum}
-use Rattle.record.specs.Record.{allDigits, firstBad, bytesOf, Decoding, lenOf, total, badShape, good, refused, lineOfBytes, lineOfText}
-use Rattle.record.proofs.Digits.{length-bytes}
-use Rattle.record.proofs.FirstBad.{bad-some, bad-all}
+use Rattle.record.specs.Record.{allDigits, firstBad, bytesOf, lenOf, total, badShape, good, refused, lineOfBytes, lineOfText}
+use Rattle.digits.proofs.Digits.{length-bytes, Decoding, rest}
+use Rattle.digits.proofs.FirstBad.{bad-some, bad-all}
 
 -- ---- rows 23 to 25, of n characters and their bytes
 
@@ -96,10 +96,6 @@ shaped n e =
       most = ltb-false 521 n (or-right (ltb n 11) (ltb 521 n) (or-left size _ e));
       odd = omega arith;
     }
-
--- a part that goes to the end, as the code lends it
-pub rest : (k : ℕ) (l : List ℕ) → take (length l - k) (drop k l) ≡ drop k l
-rest k l = take-all (length l - k) (drop k l) (omega (arith, length-drop k l))
 
 module _ (t : List ℕ) where
   pub is-empty : length t ≡ 0 → refused NoColon ≡ lineOfText t

@@ -14,7 +14,7 @@ use Rattle.record.specs.declared.ParseResult.{ParseResult}
 use Rattle.record.specs.declared.ParseResult.the-variants.{Good, NoColon, BadShape, BadDigit, TooLong, BadLength, BadSum}
 use Rattle.record.specs.Record.{textOf, digitOf, isDigit, allDigits, firstBad, bytesOf, lenOf, dataOf, recordOf, total, noColon, badShape, badLength, badSum, good, refused, lineOfBytes, lineOfText, readOf, parsedNumber}
 use Rattle.record.specs.Write.{Bytes}
-use Rattle.record.proofs.Digits.{length-bytes}
+use Rattle.digits.proofs.Digits.{length-bytes}
 use Rattle.record.proofs.Data32.{length-data32, data32-take}
 
 -- a row that a good line has passed

@@ -1,9 +1,6 @@
 -- The laws of `specs/`.
 pub mod Endings
 pub mod Sums
-pub mod Digits
-pub mod Table
-pub mod FirstBad
 pub mod Data32
 pub mod Checks
 pub mod Good

@@ -14,7 +14,7 @@ use Rattle.record.specs.declared.ParseResult.{ParseResult}
 use Rattle.record.specs.declared.ParseResult.the-variants.{NoColon, BadShape, BadDigit, TooLong, BadLength, BadSum}
 use Rattle.record.specs.Record.{textOf, isDigit, allDigits, firstBad, bytesOf, lenOf, noColon, badShape, badLength, badSum, refused, lineOfBytes, lineOfText, readOf, parsedNumber}
 use Rattle.record.proofs.Checks.{shaped}
-use Rattle.record.proofs.FirstBad.{bad-all, bad-is, bad-first}
+use Rattle.digits.proofs.FirstBad.{bad-all, bad-is, bad-first}
 
 -- a row that a line with this number has passed
 other-row : (b : Bool) (q : ParseResult) (x : Line) (p : ℕ) → (parsedNumber q ≡ 22 → ⊥) → cond b (refused q) x .parsed ≡ BadDigit p

@@ -1,4 +1,3 @@
 pub mod Types
 pub mod Record
-pub mod Table
 pub mod Write

@@ -1,11 +1,13 @@
 -- One line of Intel Hex, by the bytes of its text (01, "Universal Hex, a line at a time", rows 20 to 25). Assumes nothing.
-use Prim.Native.Nat.{ℕ, suc, _+_, _-_, _*_, _/_, _%_}
+use Prim.Native.Nat.{ℕ, _+_, _-_, _*_, _%_}
 use mathlib.Core.Path.{_≡_}
-use mathlib.Core.Bool.{Bool, true, _&&_, _||_, not, cond}
+use mathlib.Core.Bool.{Bool, _&&_, _||_, not, cond}
 use mathlib.Core.List.{List, [], _∷_}
 use lib.Dec.{ltb, leb, eqb}
 use lib.ListN.{length, getD, take, drop}
 use Rattle.sets.specs.Tab.{tab}
+pub use Rattle.digits.specs.Digits.{isDigit}
+unfoldable pub use Rattle.digits.specs.Digits.{digitOf, allDigits, firstBad, bytesOf}
 use Rattle.record.specs.declared.Record.{Record}
 use Rattle.record.specs.declared.ParseResult.{ParseResult}
 use Rattle.record.specs.declared.Line.{Line}
@@ -27,40 +29,6 @@ textLen l =
 -- and those characters
 unfoldable pub textOf : List ℕ → List ℕ
 textOf l = take (textLen l) l
-
--- ---- digits and bytes
-
--- the value of a hex digit ("upper and lower case are fine"), or 16 where the character is none
-unfoldable pub digitOf : ℕ → ℕ
-digitOf c =
-    cond (leb 48 c && leb c 57) (c - 48)
-    (cond (leb 65 c && leb c 70) (c - 55)
-    (cond (leb 97 c && leb c 102) (c - 87) 16))
-
--- the character is a hex digit
-abbrev pub isDigit : ℕ → Bool
-isDigit c = ltb (digitOf c) 16
-
--- row 22 is passed: every character is one
-unfoldable pub allDigits : List ℕ → Bool
-allDigits [] = true
-allDigits (c ∷ l) = isDigit c && allDigits l
-
--- the index of the first character that is none, or how many there are
-unfoldable pub firstBad : List ℕ → ℕ
-firstBad [] = 0
-firstBad (c ∷ l) = cond (isDigit c) (suc (firstBad l)) 0
-
--- two digits a byte, high first; the remainder by 16 is the digit itself, and a character that is none never gets that far: row 22
--- refuses it first
-unfoldable pub bytesOf : List ℕ → List ℕ
-bytesOf [] = []
-bytesOf (c ∷ []) = []
-bytesOf (c ∷ d ∷ l) = (16 * (digitOf c % 16) + digitOf d % 16) ∷ bytesOf l
-
--- `out` begins with the bytes that the digits l say, as many as it has room for
-abbrev pub Decoding : List ℕ → List ℕ → Type 0
-Decoding l out = take (length l / 2) out ≡ take (length out) (bytesOf l)
 
 -- ---- the fields of a record, by its bytes: length, address (two, high first), type, data, checksum
 

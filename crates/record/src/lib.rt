@@ -1,9 +1,9 @@
 // One line of Intel Hex: its ending dropped, its checks, and the record that it says.
 ghost use mathlib.Core.Path.{_≡_};
-ghost use Prim.Native.Nat.{_+_, _*_, _/_, _%_, _<_, _≤_, min};
-ghost use lib.ListN.{length, take};
-ghost use Rattle.record.specs.Table.{TellsDigits};
-ghost use Rattle.record.specs.Record.{digitOf, textLen, total, allDigits, firstBad, bytesOf, Decoding, lenOf, wordFrom, good, refused, lineOfBytes, lineOfText, readOf, parsedNumber, rowOf};
+ghost use mathlib.Core.Bool.{false};
+ghost use Prim.Native.Nat.{_+_, _/_, _%_, _<_, _≤_};
+ghost use lib.ListN.{length, getD, take};
+ghost use Rattle.record.specs.Record.{textLen, total, lenOf, wordFrom, badShape, good, refused, lineOfBytes, lineOfText, readOf, parsedNumber, rowOf};
 
 // A good record: its type, its address field, and how many bytes of data it has.
 pub struct Record {
@@ -73,36 +73,6 @@ impl ParseResult {
     }
 }
 
-// The value of each byte as a hex digit, 16 where it is none: sixteen bytes a row.
-const DIGITS: [u8; 256] = *b"\
-    \x10\x10\x10\x10\x10\x10\x10\x10\x10\x10\x10\x10\x10\x10\x10\x10\
-    \x10\x10\x10\x10\x10\x10\x10\x10\x10\x10\x10\x10\x10\x10\x10\x10\
-    \x10\x10\x10\x10\x10\x10\x10\x10\x10\x10\x10\x10\x10\x10\x10\x10\
-    \x00\x01\x02\x03\x04\x05\x06\x07\x08\x09\x10\x10\x10\x10\x10\x10\
-    \x10\x0a\x0b\x0c\x0d\x0e\x0f\x10\x10\x10\x10\x10\x10\x10\x10\x10\
-    \x10\x10\x10\x10\x10\x10\x10\x10\x10\x10\x10\x10\x10\x10\x10\x10\
-    \x10\x0a\x0b\x0c\x0d\x0e\x0f\x10\x10\x10\x10\x10\x10\x10\x10\x10\
-    \x10\x10\x10\x10\x10\x10\x10\x10\x10\x10\x10\x10\x10\x10\x10\x10\
-    \x10\x10\x10\x10\x10\x10\x10\x10\x10\x10\x10\x10\x10\x10\x10\x10\
-    \x10\x10\x10\x10\x10\x10\x10\x10\x10\x10\x10\x10\x10\x10\x10\x10\
-    \x10\x10\x10\x10\x10\x10\x10\x10\x10\x10\x10\x10\x10\x10\x10\x10\
-    \x10\x10\x10\x10\x10\x10\x10\x10\x10\x10\x10\x10\x10\x10\x10\x10\
-    \x10\x10\x10\x10\x10\x10\x10\x10\x10\x10\x10\x10\x10\x10\x10\x10\
-    \x10\x10\x10\x10\x10\x10\x10\x10\x10\x10\x10\x10\x10\x10\x10\x10\
-    \x10\x10\x10\x10\x10\x10\x10\x10\x10\x10\x10\x10\x10\x10\x10\x10\
-    \x10\x10\x10\x10\x10\x10\x10\x10\x10\x10\x10\x10\x10\x10\x10\x10\
-    ";
-
-// The value of a hex digit, or 16 where the character is none. The table is lent: a constant that is indexed in a loop is built anew at
-// each turn.
-fn digit(table: &[u8; 256], c: u8) -> u8
-    requires { ⌜ TellsDigits (now table) ⌝ }
-    ensures { λ r. ⌜ r ≡ digitOf c ⌝ }
-{
-    let k = c as usize;
-    table[k]
-}
-
 // How many characters are left when the ending is dropped.
 fn text_len(line: &[u8]) -> usize
     ensures { λ r. ⌜ r ≡ textLen (now (line .entry)) ⌝ }
@@ -135,89 +105,6 @@ pub fn sum(bytes: &[u8]) -> u8
         i += 1;
     }
     s
-}
-
-// Are the characters digits? No loop leaves at a character that is none: the values met are or-ed, and judged once, at the end.
-fn all_digits(table: &[u8; 256], chars: &[u8]) -> bool
-    requires { ⌜ TellsDigits (now table) ⌝ }
-    ensures { λ r. ⌜ r ≡ allDigits (now (chars .entry)) ⌝ }
-{
-    let mut met: u8 = 0;
-    let mut i = 0;
-    while i < chars.len() {
-        let value = digit(table, chars[i]);
-        met = met | value;
-        i += 1;
-    }
-    met < 16
-}
-
-// Are the characters digits? Their bytes, two characters each, fill `out`.
-fn pairs(table: &[u8; 256], chars: &[u8], out: &mut [u8]) -> bool
-    requires { ⌜ TellsDigits (now table) × (length (now chars) ≡ 2 * length (now out)) ⌝ }
-    ensures { λ r. ⌜ r ≡ allDigits (now (chars .entry)) ⌝ }
-    ensures bytes { λ _. ⌜ now (out .exit) ≡ bytesOf (now (chars .entry)) ⌝ }
-{
-    let mut found: u8 = 0;
-    let mut i = 0;
-    while i < out.len() {
-        let high = digit(table, chars[2 * i]);
-        let low = digit(table, chars[2 * i + 1]);
-        found = found | high | low;
-        out[i] = 16 * (high % 16) + low % 16;
-        i += 1;
-    }
-    found < 16
-}
-
-// The lesser of two numbers.
-fn least(a: usize, b: usize) -> usize
-    ensures { λ r. ⌜ r ≡ min a b ⌝ }
-{
-    if a < b { a } else { b }
-}
-
-// Are the characters digits? Their bytes go to `out` as far as it has room.
-fn decode(table: &[u8; 256], chars: &[u8], out: &mut [u8]) -> bool
-    requires { ⌜ TellsDigits (now table) × (length (now chars) % 2 ≡ 0) ⌝ }
-    ensures { λ r. ⌜ r ≡ allDigits (now (chars .entry)) ⌝ }
-    ensures bytes { λ _. ⌜ Decoding (now (chars .entry)) (now (out .exit)) ⌝ }
-{
-    let room = least(chars.len() / 2, out.len());
-    let e = 2 * room;
-    let good = pairs(table, &chars[..e], &mut out[..room]);
-    good & all_digits(table, &chars[e..])
-}
-
-// The index of the first character that is no digit, or how many there are. Only a line with such a character gets here.
-fn first_bad(table: &[u8; 256], chars: &[u8]) -> usize
-    requires { ⌜ TellsDigits (now table) ⌝ }
-    ensures { λ r. ⌜ r ≡ firstBad (now (chars .entry)) ⌝ }
-{
-    let mut i = 0;
-    while i < chars.len() {
-        let value = digit(table, chars[i]);
-        if 16 <= value {
-            return i;
-        }
-        i += 1;
-    }
-    i
-}
-
-// The index of the first character that is no digit, or how many there are; the bytes that the characters say go to `out` as far as it
-// has room. This function alone makes a copy of the table: once a line.
-fn judge(chars: &[u8], out: &mut [u8]) -> usize
-    requires { ⌜ length (now chars) % 2 ≡ 0 ⌝ }
-    ensures { λ r. ⌜ r ≡ firstBad (now (chars .entry)) ⌝ }
-    ensures bytes { λ _. ⌜ Decoding (now (chars .entry)) (now (out .exit)) ⌝ }
-{
-    let table = DIGITS;
-    let good = decode(&table, chars, out);
-    if good {
-        return chars.len();
-    }
-    first_bad(&table, chars)
 }
 
 // Two bytes as a number, high first.
@@ -274,6 +161,20 @@ fn read_bytes(n: usize, bytes: &[u8]) -> Line
     good_line(all, used)
 }
 
+// Rows 22 to 25 of a text that has passed rows 20 and 21.
+fn read_digits(t: &[u8]) -> Line
+    requires { ⌜ (0 < length (now t)) × (getD (now t) 0 0 ≡ 58) × (badShape (length (now t)) ≡ false) ⌝ }
+    ensures { λ r. ⌜ r ≡ lineOfText (now (t .entry)) ⌝ }
+{
+    let n = t.len();
+    let mut bytes = [0u8; Record::BYTES];
+    let bad = digits::judge(&t[1..], &mut bytes);
+    if bad < n - 1 {
+        return refusal(ParseResult::BadDigit((bad + 1) as u16));
+    }
+    read_bytes(n, &bytes)
+}
+
 // Rows 20 to 25 of a text, which has no ending.
 fn read_text(t: &[u8]) -> Line
     ensures { λ r. ⌜ r ≡ lineOfText (now (t .entry)) ⌝ }
@@ -288,12 +189,7 @@ fn read_text(t: &[u8]) -> Line
     if (n < 11) | (521 < n) | (n % 2 == 0) {
         return refusal(ParseResult::BadShape);
     }
-    let mut bytes = [0u8; Record::BYTES];
-    let bad = judge(&t[1..], &mut bytes);
-    if bad < n - 1 {
-        return refusal(ParseResult::BadDigit((bad + 1) as u16));
-    }
-    read_bytes(n, &bytes)
+    read_digits(t)
 }
 
 // A line as it is handed, its ending included.

@@ -13,7 +13,7 @@ use Rattle.sets.proofs.Laws.{one-le}
 use Rattle.sets.proofs.Tests.{split, clash}
 use Rattle.transfer.specs.Transfer.{numberOf}
 use Rattle.transfer.specs.declared.Answer.{Answer}
-use Rattle.trace.specs.Trace.{recorded, isBad, agrees}
+use Rattle.piece.specs.Piece.{recorded, isBad, agrees}
 use Rattle.replays.specs.Pieces.{written, IsRecord}
 
 -- ---- not bad

@@ -21,10 +21,12 @@ use Rattle.settings.specs.declared.Settings.{Settings}
 use Rattle.transfer.specs.Transfer.{numberOf}
 use Rattle.arrival.specs.Arrive.{Lent, World, receiveOf}
 use Rattle.arrival.specs.Lists.{receiveAll}
-use Rattle.trace.specs.Trace.{recorded, isBad, agrees, pieceOf, piecesOf, TraceOutcome, traceOutcome, replayFrom, begun, replayOf}
-use Rattle.trace.specs.declared.Stop.{Stop}
-use Rattle.trace.specs.declared.Stop.the-variants.{None, Bad, Differs}
-use Rattle.trace.proofs.Laws.{pieces-none, pieces-next}
+use Rattle.piece.specs.Piece.{recorded, isBad, agrees}
+use Rattle.trace.specs.Trace.{pieceOf}
+use Rattle.replay.specs.Replay.{piecesOf, TraceOutcome, traceOutcome, replayFrom, begun, replayOf}
+use Rattle.piece.specs.declared.Stop.{Stop}
+use Rattle.piece.specs.declared.Stop.the-variants.{None, Bad, Differs}
+use Rattle.replay.proofs.Laws.{pieces-none, pieces-next}
 use Rattle.replays.specs.Pieces.{IsRecord, pieceAt, arrivalAt, arrivalsTo, recordsBefore}
 use Rattle.replays.specs.Claims.{ourRecord, after, IsOurs, Begins-idle, StoppedAt, Stop-is-the-first, EndsAfter, Ends-before-the-stop, recordingOf, AllWhole, Recording-replays}
 use Rattle.replays.proofs.Records.{good, good-record, record-good, not-bad, agree-written, written-agree}

@@ -11,9 +11,9 @@ use Rattle.transfer.specs.Transfer.{numberOf}
 use Rattle.transfer.specs.declared.State.the-variants.{Idle}
 use Rattle.arrival.specs.Arrive.{Lent, World, lentOf, receiveOf}
 use Rattle.arrival.specs.Lists.{receiveAll}
-use Rattle.trace.specs.Trace.{TraceOutcome, traceOutcome, begun, replayOf}
-use Rattle.trace.specs.declared.Stop.{Stop}
-use Rattle.trace.specs.declared.Stop.the-variants.{None, Bad, Differs}
+use Rattle.replay.specs.Replay.{TraceOutcome, traceOutcome, begun, replayOf}
+use Rattle.piece.specs.declared.Stop.{Stop}
+use Rattle.piece.specs.declared.Stop.the-variants.{None, Bad, Differs}
 use Rattle.replays.specs.Pieces.{written, IsRecord, pieceAt, arrivalAt, arrivalsTo, recordsBefore}
 
 -- ---- our own records

@@ -3,8 +3,8 @@ use Prim.Native.Nat.{ℕ, zero, suc, _+_, _*_, _/_, _≤_}
 use mathlib.Core.Path.{_≡_}
 use mathlib.Core.List.{List, [], _∷_, _++_}
 use lib.ListN.{length, take, drop}
-use Rattle.trace.specs.declared.Stop.{Stop}
-use Rattle.trace.specs.declared.Stop.the-variants.{None, Bad, Differs}
+use Rattle.piece.specs.declared.Stop.{Stop}
+use Rattle.piece.specs.declared.Stop.the-variants.{None, Bad, Differs}
 
 -- ---- a record as it is written
 

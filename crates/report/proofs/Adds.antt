@@ -17,28 +17,29 @@ use Rattle.bitmap.specs.Bitmap.{unmarked, marks}
 use Rattle.bitmap.proofs.MapLaws.{map-none, marks-map}
 use Rattle.settings.specs.declared.Settings.{Settings}
 use Rattle.transfer.specs.Transfer.{numberOf, countOf}
-use Rattle.transfer.specs.declared.Transfer.{Transfer}
-use Rattle.transfer.specs.declared.State.{State}
 use Rattle.transfer.specs.declared.State.the-variants.{Idle}
+use Rattle.transfer.specs.declared.Transfer.{Transfer}
 use Rattle.transfer.specs.declared.Answer.{Answer}
 use Rattle.transfer.specs.declared.Answer.the-variants.{BadBuffers, BadSettings, BadState, NotBlock, Container, NoFamily, NoPlace, BadPayload, BadNumbers, BadAddress, Finished, Again, Written, Completed, Noted, Kept}
-use Rattle.arrival.specs.Arrive.{Lent, World, Outcome, lentOf, unchanged, receiveOf}
+use Rattle.arrival.specs.Arrive.{Lent, World, Outcome, lentOf, receiveOf}
 use Rattle.arrival.specs.Lists.{receiveAll, answersOf, discardsOf, Delivery, playAll}
 use Rattle.arrival.specs.Facts.{Refusals-change-nothing}
 use Rattle.arrival.specs.Tally.{isAccepted, anyAccepted, Count-is-marks}
 use Rattle.arrival.proofs.Facts.{refusals-change-nothing}
 use Rattle.arrival.proofs.Tally.{count-is-marks}
 use Rattle.receiver.specs.Receiver.{world}
-use Rattle.trace.specs.Trace.{TraceOutcome, traceOutcome, begun, replayOf}
-use Rattle.trace.specs.declared.Stop.{Stop}
-use Rattle.trace.specs.declared.Stop.the-variants.{None, Bad, Differs}
+use Rattle.piece.specs.declared.Stop.{Stop}
+use Rattle.piece.specs.declared.Stop.the-variants.{None, Bad, Differs}
+use Rattle.counts.specs.declared.Report.{Report}
+use Rattle.counts.specs.Counts.{sumTo, goodReport, withRoom, howManyYes, recordedAt, tallyTo, withTally, endedOf}
+use Rattle.replay.specs.Replay.{TraceOutcome, traceOutcome, begun, replayOf, beforeStop, TallyOutcome, tallyOutcome, withCounts}
 use Rattle.replays.specs.Pieces.{pieceAt, arrivalAt, arrivalsTo, recordsBefore}
-use Rattle.replays.specs.Claims.{after, IsOurs, EndsAfter, Ends-before-the-stop}
+use Rattle.replays.specs.Claims.{after, IsOurs, Ends-before-the-stop}
 use Rattle.replays.proofs.Replays.{ends-before-the-stop}
-use Rattle.report.specs.declared.Report.{Report}
 use Rattle.report.specs.declared.FiguresAnswer.the-variants.{BadReport, TooMany, Replayed}
-use Rattle.report.specs.Report.{sumTo, goodReport, withRoom, countAll, howManyYes, missingAt, replayedIn, addedTo, figuresOutcome, addOf}
-use Rattle.report.specs.Counting.{beforeStop, recordedAt, numbersTo, discardsTo, Countable, countedOf, endedOf}
+use Rattle.report.specs.Report.{replayedIn, addedTo, FiguresOutcome, figuresOutcome, addOf}
+use Rattle.report.specs.Counting.{talliedBy, replayedBy}
+use Rattle.report.proofs.Counted.{numbersTo, discardsTo, Countable, countedOf, zeros, tally-is}
 
 -- ---- the numbers of our answers
 
@@ -120,27 +121,24 @@ module _ (s : Settings) (h : Lent) (t : List ℕ) where
   whole zero f = omega arith
   whole (suc n) f = omega (arith, f n (omega arith) .0, length-take 513 (drop (513 * n) t), length-drop (513 * n) t)
 
-  -- what a call of the replay told
-  module _ {x : Stop} {w : World} (e : traceOutcome x w ≡ replayOf s h t) where
-    stop-is : x ≡ replayOf s h t .stop
-    stop-is = ap (λ (o : TraceOutcome). o .stop) e
+  -- the records before the stop
+  abbrev replayed : ℕ
+  replayed = recordsBefore t (replayOf s h t .stop)
 
-    before : (k : ℕ) → k < recordsBefore t x → IsOurs s h t k
-    unfolding Ends-before-the-stop
-    before k l = ends-before-the-stop s h t .ours k (subst (λ (y : Stop). k < recordsBefore t y) stop-is l)
+  each-ours : (k : ℕ) → k < replayed → IsOurs s h t k
+  unfolding Ends-before-the-stop
+  each-ours = ends-before-the-stop s h t .ours
 
-    pub countable : (r : Report) {n : ℕ} → goodReport r ≡ true → withRoom r (length t / 513) ≡ true → n ≡ beforeStop (length t / 513) x → Countable r t n
-    unfolding goodReport withRoom
-    countable r {n} g m q =
-        let f : (k : ℕ) → k < n → IsOurs s h t k = λ k l. before k (subst (λ (m : ℕ). k < m) (q ∙ before-is t x) l) in
-        let long = whole n f in
-        record {
-          whole = long;
-          ours = λ k l. let b = number-range (ours k .answer) in rw (answer-is k (f k l)) (b .0, b .1);
-          sum = eqb-true (sumTo 16 (r .counts)) (r .records) (and-left (eqb (sumTo 16 (r .counts)) (r .records)) (leb (r .discards) (r .records)) g);
-          few = leb-true (r .discards) (r .records) (and-right (eqb (sumTo 16 (r .counts)) (r .records)) (leb (r .discards) (r .records)) g);
-          room = omega (arith, leb-true (r .records + length t / 513) 4294967295 m);
-        }
+  countable : (r : Report) → goodReport r ≡ true → withRoom r (length t / 513) ≡ true → Countable r t replayed
+  unfolding goodReport withRoom
+  countable r g m =
+      let long = whole replayed each-ours in
+      record {
+        ours = λ k l. let b = number-range (ours k .answer) in rw (answer-is k (each-ours k l)) b;
+        sum = eqb-true (sumTo 16 (r .counts)) (r .records) (and-left (eqb (sumTo 16 (r .counts)) (r .records)) (leb (r .discards) (r .records)) g);
+        few = leb-true (r .discards) (r .records) (and-right (eqb (sumTo 16 (r .counts)) (r .records)) (leb (r .discards) (r .records)) g);
+        room = omega (arith, long, leb-true (r .records + length t / 513) 4294967295 m);
+      }
 
 -- ---- the count is the marks
 
@@ -193,17 +191,35 @@ module _ (r : Report) (s : Settings) (h : Lent) (t : List ℕ) where
   unfolding addOf
   add-many g m = rw (g, m)
 
-  module _ {x : Stop} {u : Transfer} {k : Lent} (e : traceOutcome x (world u k) ≡ replayOf s h t) where
-    added-is : {n : ℕ} → n ≡ beforeStop (length t / 513) x → endedOf (countedOf r t n) (u .state) (k .seen) ≡ addedTo r s h t
-    unfolding endedOf countedOf addedTo
-    added-is q =
-        let m = recordsBefore t (replayOf s h t .stop) in
-        let f : (k : ℕ) → k < m → IsOurs s h t k = unfold Ends-before-the-stop in ends-before-the-stop s h t .ours in
-        rw (q ∙ before-is t x ∙ ap (recordsBefore t) (stop-is s h t e), length-arrivals t m, ← numbers-are s h t m f, ← discards-are s h t m f, ← replay-count s h t, ← e)
+  -- the records are counted, and the end is the replay's
+  tallied-is : goodReport r ≡ true → withRoom r (length t / 513) ≡ true → talliedBy r t (replayOf s h t) ≡ addedTo r s h t
+  unfolding talliedBy endedOf addedTo
+  tallied-is g m =
+      let n = replayed s h t in
+      let f = each-ours s h t in
+      rw (before-is t (replayOf s h t .stop), tally-is r t n (countable s h t r g m), length-arrivals t n, ← numbers-are s h t n f, ← discards-are s h t n f, ← replay-count s h t)
+      (unfold countedOf in refl)
 
-    pub add-replayed : {n : ℕ} {c d : Report} → goodReport r ≡ true → withRoom r (length t / 513) ≡ true → n ≡ beforeStop (length t / 513) x
-        → c ≡ countedOf r t n → d ≡ endedOf c (u .state) (k .seen) → figuresOutcome (Replayed x) d k ≡ addOf r s h t
-    unfolding addOf
-    add-replayed {n} g m q hc hd =
-        let full = hd ∙ ap (λ (y : Report). endedOf y (u .state) (k .seen)) hc ∙ added-is q in
-        rw (g, m, full) (ap (λ (o : TraceOutcome). figuresOutcome (Replayed (o .stop)) (addedTo r s h t) (lentOf (o .world))) e)
+  pub add-replayed : {o : FiguresOutcome} → goodReport r ≡ true → withRoom r (length t / 513) ≡ true → o ≡ replayedBy r s h t → o ≡ addOf r s h t
+  unfolding addOf replayedBy
+  add-replayed g m e = e ∙ rw (g, m, tallied-is g m)
+
+-- ---- a trace that is replayed, as the code comes to it
+
+module _ (r : Report) (s : Settings) (h : Lent) (t : List ℕ) {x : Stop} {u : Transfer} {k : Lent} {l : List ℕ} (e : tallyOutcome (traceOutcome x (world u k)) l ≡ withCounts zeros t (replayOf s h t)) where
+  alone : traceOutcome x (world u k) ≡ replayOf s h t
+  unfolding withCounts
+  alone = ap (λ (o : TallyOutcome). o .outcome) e
+
+  stop-alone : x ≡ replayOf s h t .stop
+  stop-alone = ap (λ (o : TraceOutcome). o .stop) alone
+
+  counts-alone : l ≡ tallyTo zeros t (beforeStop (length t / 513) x)
+  unfolding withCounts
+  counts-alone = ap (λ (o : TallyOutcome). o .tally) e ∙ ap (λ (y : Stop). tallyTo zeros t (beforeStop (length t / 513) y)) (sym stop-alone)
+
+  pub replayed-is : {n : ℕ} {c d : Report} → n ≡ beforeStop (length t / 513) x → c ≡ withTally r l n → d ≡ endedOf c (u .state) (k .seen) → figuresOutcome (Replayed x) d k ≡ replayedBy r s h t
+  unfolding replayedBy talliedBy
+  replayed-is hn hc hd =
+      rw (hd, hc, counts-alone, hn)
+      (ap (λ (o : TraceOutcome). figuresOutcome (Replayed (o .stop)) (endedOf (withTally r (tallyTo zeros t (beforeStop (length t / 513) (o .stop))) (beforeStop (length t / 513) (o .stop))) (o .world .transfer) (o .world .seen)) (lentOf (o .world))) alone)

@@ -1,4 +1,3 @@
 -- The laws of `specs/`.
-pub mod Sums
 pub mod Counted
 pub mod Adds

@@ -1,55 +1,23 @@
--- Counts as the code makes them: from the bytes that the records begin with. Assumes nothing.
-use Prim.Native.Nat.{ℕ, zero, suc, _+_, _*_, _/_, _%_, _≤_, _<_}
-use mathlib.Core.Path.{_≡_}
-use mathlib.Core.List.{List, [], _∷_, _++_}
-use lib.ListN.{length, getD}
-use Rattle.transfer.specs.Transfer.{countOf}
-use Rattle.transfer.specs.declared.State.{State}
-use Rattle.trace.specs.declared.Stop.{Stop}
-use Rattle.trace.specs.declared.Stop.the-variants.{None, Bad, Differs}
-use Rattle.report.specs.declared.Report.{Report}
-use Rattle.report.specs.Report.{sumTo, countAll, missingAt}
+-- What a replayed trace adds, as the code counts it: from the bytes that the records begin with. Assumes nothing.
+use Prim.Native.Nat.{ℕ, _/_}
+use mathlib.Core.List.{List}
+use lib.ListN.{length, replicate}
+use Rattle.settings.specs.declared.Settings.{Settings}
+use Rattle.arrival.specs.Arrive.{Lent, lentOf}
+use Rattle.counts.specs.declared.Report.{Report}
+use Rattle.counts.specs.Counts.{tallyTo, withTally, endedOf}
+use Rattle.replay.specs.Replay.{TraceOutcome, replayOf, beforeStop}
+use Rattle.report.specs.declared.FiguresAnswer.the-variants.{Replayed}
+use Rattle.report.specs.Report.{FiguresOutcome, figuresOutcome}
 
--- how many records stand before the stop, of a trace with n whole pieces
-abbrev pub beforeStop : ℕ → Stop → ℕ
-beforeStop n None = n
-beforeStop n (Bad i) = i
-beforeStop n (Differs i) = i
+-- the records before the stop, in a tally from zero
+unfoldable pub talliedBy : Report → List ℕ → TraceOutcome → Report
+talliedBy r t o =
+    let n = beforeStop (length t / 513) (o .stop) in
+    endedOf (withTally r (tallyTo (replicate 33 0) t n) n) (o .world .transfer) (o .world .seen)
 
--- the byte of record k
-abbrev pub recordedAt : List ℕ → ℕ → ℕ
-recordedAt t k = getD t (513 * k) 0
-
--- the recorded answers of the first n records
-unfoldable pub numbersTo : List ℕ → ℕ → List ℕ
-numbersTo t zero = []
-numbersTo t (suc n) = numbersTo t n ++ (recordedAt t n / 8 ∷ [])
-
--- how many of them discarded
-unfoldable pub discardsTo : List ℕ → ℕ → ℕ
-discardsTo t zero = 0
-discardsTo t (suc n) = discardsTo t n + recordedAt t n / 4 % 2
-
--- the first n records can be counted: they are there, have answers of ours, and every figure stays within 32 bits
-pub record Countable (r : Report) (t : List ℕ) (n : ℕ) : Type 0 where
-  pub whole : 513 * n ≤ length t
-  pub ours : (k : ℕ) → k < n → (1 ≤ recordedAt t k / 8) × (recordedAt t k / 8 ≤ 17)
-  pub sum : sumTo 16 (r .counts) ≡ r .records
-  pub few : r .discards ≤ r .records
-  pub room : r .records + n ≤ 4294967295
-
--- the report with the first n records counted
-unfoldable pub countedOf : Report → List ℕ → ℕ → Report
-countedOf r t n =
-    record {
-      records = r .records + n;
-      counts = countAll (r .counts) (numbersTo t n);
-      discards = r .discards + discardsTo t n;
-      marked = r .marked;
-      missing = r .missing;
-    }
-
--- the report with the end that a transfer and a seen map show
-unfoldable pub endedOf : Report → State → List ℕ → Report
-endedOf r x m =
-    record { records = r .records; counts = r .counts; discards = r .discards; marked = countOf x; missing = missingAt x m }
+-- what comes of a trace that is replayed, whatever the report
+unfoldable pub replayedBy : Report → Settings → Lent → List ℕ → FiguresOutcome
+replayedBy r s h t =
+    let o = replayOf s h t in
+    figuresOutcome (Replayed (o .stop)) (talliedBy r t o) (lentOf (o .world))

@@ -15,10 +15,10 @@ use Rattle.sets.proofs.TabLaws.{is-tab}
 use Rattle.block.specs.Block.{fieldAt}
 use Rattle.block.specs.Write.{le32}
 use Rattle.block.proofs.WriteLaws.{field-le32}
-use Rattle.report.specs.declared.Missing.{Missing}
-use Rattle.report.specs.declared.Missing.the-variants as missing
-use Rattle.report.specs.declared.Report.{Report}
-use Rattle.report.specs.Report.{sumTo, goodReport}
+use Rattle.counts.specs.declared.Missing.{Missing}
+use Rattle.counts.specs.declared.Missing.the-variants as missing
+use Rattle.counts.specs.declared.Report.{Report}
+use Rattle.counts.specs.Counts.{sumTo, goodReport}
 use Rattle.reports.specs.Reports.{missingFrom, countAt, countsFrom, fieldsFrom, reportFrom, flagOf, missingNumber, wordOf, wordBytes, reportBytes, reportWritten}
 
 -- every figure of a report is of 32 bits, and it has 16 counts

@@ -19,8 +19,8 @@ use Rattle.sets.proofs.TabLaws.{is-tab}
 use Rattle.block.specs.Block.{fieldAt}
 use Rattle.block.specs.Write.{putAt}
 use Rattle.block.proofs.WriteLaws.{put-over}
-use Rattle.report.specs.declared.Missing.{Missing}
-use Rattle.report.specs.declared.Report.{Report}
+use Rattle.counts.specs.declared.Missing.{Missing}
+use Rattle.counts.specs.declared.Report.{Report}
 use Rattle.reports.specs.Reports.{missingFrom, countAt, countsFrom, fieldsFrom, noReport, reportFrom, flagOf, missingNumber, wordOf, wordBytes, reportBytes, reportWritten}
 
 -- ---- the counts, one after the other

@@ -8,9 +8,9 @@ use Rattle.sets.specs.Tab.{tab}
 use Rattle.sets.specs.Rows.{rows}
 use Rattle.block.specs.Block.{fieldAt}
 use Rattle.block.specs.Write.{le32}
-use Rattle.report.specs.declared.Missing.{Missing}
-use Rattle.report.specs.declared.Missing.the-variants as missing
-use Rattle.report.specs.declared.Report.{Report}
+use Rattle.counts.specs.declared.Missing.{Missing}
+use Rattle.counts.specs.declared.Missing.the-variants as missing
+use Rattle.counts.specs.declared.Report.{Report}
 
 -- ---- read
 

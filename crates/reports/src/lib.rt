@@ -10,8 +10,8 @@ ghost use Rattle.reports.specs.Reports.{
   wordOf,
   reportWritten,
 };
-use report::Missing;
-use report::Report;
+use counts::Missing;
+use counts::Report;
 
 // The bytes of a report: 21 words of four bytes.
 const REPORT: usize = 84;

@@ -5,7 +5,7 @@ use mathlib.Core.List.{List, [], _∷_}
 use mathlib.Core.Logic.{_≢_, ⊎-elim}
 use types.Run.{OneOf}
 use denote.Enum.Declared.{tagOf}
-use Prim.Native.Nat.{ℕ, _+_, _-_, _*_, _%_, _<_, _≤_}
+use Prim.Native.Nat.{ℕ, _+_, _*_, _<_, _≤_}
 use native.Mathlib.Omega.{arith}
 use lib.Dec.{ltb, leb, eqb}
 use borrow.Author.Tests.{le-leb, le-ltb, lt-leb, eq-eqb, ne-eqb, ltb-false, leb-false, eqb-false}
@@ -22,20 +22,16 @@ use Rattle.transfer.specs.Transfer.{headWith}
 use Rattle.transfer.specs.declared.Head.{Head}
 use Rattle.transfer.specs.declared.Kind.{Kind}
 use Rattle.transfer.specs.declared.Kind.the-variants.{Flash, MainRam, XipRam}
-use Rattle.transfer.specs.declared.Run.{Run}
 use Rattle.transfer.specs.declared.State.{State}
-use Rattle.transfer.specs.declared.State.the-variants.{Running}
 use Rattle.transfer.specs.declared.Answer.the-variants.{NoPlace, BadPayload, BadNumbers, BadAddress}
-use Rattle.screen.specs.Screen.{baseOf, extentOf, isLent, inWindow, windowOf, noteKind, roomIn, badNumbers, badAddress, placed, strayed, noted, windowKind, dataFound, noteFound, found, afterHeader, lowPlace, lowRooms, screenIn, screenAt, screeningNumber}
-use Rattle.screen.specs.Parts.{alignmentOf, Above}
+use Rattle.screen.specs.Screen.{baseOf, extentOf, isLent, inWindow, windowOf, ownKind, noteKind, roomIn, badNumbers, strayed, noted, windowKind, dataFound, noteFound, found, afterHeader, lowPlace, lowRooms, screenIn, screenAt, screeningNumber}
 use Rattle.screen.specs.declared.Lengths.{Lengths}
 use Rattle.screen.specs.declared.Rooms.{Rooms}
 use Rattle.screen.specs.declared.Window.{Window}
 use Rattle.screen.specs.declared.Window.the-variants.{Outside, In}
-use Rattle.screen.specs.declared.Body.the-variants.{Page, Note}
+use Rattle.screen.specs.declared.Body.the-variants.{Note}
 use Rattle.screen.specs.declared.Screening.{Screening}
 use Rattle.screen.specs.declared.Screening.the-variants.{Refused, Passed}
-use Rattle.screen.proofs.Windows.{WindowFacts, window-facts, InRoom, in-room}
 
 -- ---- the window of an address, as the code asks it
 
@@ -92,64 +88,6 @@ module _ (size : ℕ) (b : Block) where
   pub numbers-last : b .total ≢ 0 → b .total * 256 ≤ size → leb (b .total) (b .number) ≡ badNumbers size b
   numbers-last n m = rw (ne-eqb (b .total) 0 n, le-ltb size (b .total * 256) m)
 
--- ---- row 11, of an address that is not below its window
-
-pub some-alignment : (k : Kind) → 1 ≤ alignmentOf k
-some-alignment Flash = omega arith
-some-alignment MainRam = omega arith
-some-alignment XipRam = omega arith
-
-module _ (size : ℕ) (b : Block) where
-  aligned : (k : Kind) → InRoom k size b → b .address % alignmentOf k ≡ 0
-  aligned Flash r = r .whole refl
-  aligned MainRam r = omega arith
-  aligned XipRam r = omega arith
-
-  address-right : (k : Kind) → baseOf k ≤ b .address → b .address % alignmentOf k ≡ 0 → b .address - baseOf k + 256 ≤ size → badAddress k size b ≡ false
-  address-right Flash l w i =
-      rw (
-        le-ltb (b .address) 0x10000000 l,
-        eq-eqb (b .address % 256) 0 w,
-        le-ltb size (b .address - 0x10000000 + 256) i,
-      )
-  address-right MainRam l w i = le-ltb size (b .address - 0x20000000 + 256) i
-  address-right XipRam l w i = le-ltb size (b .address - 0x13ffc000 + 256) i
-
--- ---- a data block in a window
-
-module _ (k : Kind) (start size : ℕ) (b : Block) where
-  pub placed-payload : b .size ≢ 256 → placed k start size b ≡ Refused BadPayload
-  unfolding placed
-  placed-payload n = rw (ne-eqb (b .size) 256 n)
-
-  module _ (p : b .size ≡ 256) where
-    pub placed-numbers : badNumbers size b ≡ true → placed k start size b ≡ Refused BadNumbers
-    unfolding placed
-    placed-numbers h = rw (eq-eqb (b .size) 256 p, h)
-
-    module _ (n : badNumbers size b ≡ false) where
-      address-true : badAddress k size b ≡ true → placed k start size b ≡ Refused BadAddress
-      unfolding placed
-      address-true h = rw (eq-eqb (b .size) 256 p, n, h)
-
-      address-wrong : (InRoom k size b → ⊥) → placed k start size b ≡ Refused BadAddress
-      address-wrong a = split (badAddress k size b) address-true (λ h. absurd (a (in-room k size b h)))
-
-      pub placed-ragged : {step : ℕ} → step ≡ alignmentOf k → b .address % step ≢ 0 → placed k start size b ≡ Refused BadAddress
-      placed-ragged e w = address-wrong (λ r. w (ap (λ (m : ℕ). b .address % m) e ∙ aligned size b k r))
-
-      module _ {from : ℕ} (f : from ≡ baseOf k) (l : baseOf k ≤ b .address) where
-        pub placed-past : {past : ℕ} → size < past - from → past ≡ b .address + 256 → placed k start size b ≡ Refused BadAddress
-        placed-past h q = address-wrong (λ r. omega (arith, h, q, f, l, r .inside))
-
-        pub placed-passed : {step : ℕ} → step ≡ alignmentOf k → b .address % step ≡ 0 → {past : ℕ} → past - from ≤ size → past ≡ b .address + 256
-            → {g : Head} → g ≡ headWith k (b .family) (b .total)
-            → Passed (record { head = g; number = b .number; body = Page (start + (b .address - from)) }) ≡ placed k start size b
-        unfolding placed
-        placed-passed e w i q h =
-            let whole = sym (ap (λ (m : ℕ). b .address % m) e) ∙ w in
-            rw (eq-eqb (b .size) 256 p, n, address-right size b k l whole (omega (arith, f, l, i, q)), h, f)
-
 -- ---- a data block in no window
 
 module _ (b : Block) where
@@ -173,19 +111,17 @@ module _ (k : Kind) (size : ℕ) (b : Block) where
   unfolding noted
   noted-passed h e = rw (h, e)
 
--- ---- the kind of a comment
+-- ---- the kind of a comment while a transfer runs
 
-module _ (n : Lengths) (r : Run) (b : Block) {here : Bool} (h : here ≡ isLent n (r .head .kind)) where
+module _ (n : Lengths) (h : Head) (f total : ℕ) {lent : Bool} (e : lent ≡ isLent n (h .kind)) where
   abbrev Own : Bool
-  Own = eqb (r .head .family) (b .family) && eqb (r .head .total) (b .total)
+  Own = eqb (h .family) f && eqb (h .total) total
 
-  pub note-own : Own && here ≡ true → noteKind n (Running r) b ≡ r .head .kind
-  unfolding noteKind
-  note-own q = ap (λ (c : Bool). cond c (r .head .kind) Flash) (ap (λ (x : Bool). Own && x) (sym h) ∙ q)
+  pub own-taken : Own && lent ≡ true → ownKind n h f total ≡ h .kind
+  own-taken q = ap (λ (c : Bool). cond c (h .kind) Flash) (ap (λ (x : Bool). Own && x) (sym e) ∙ q)
 
-  pub note-other : Own && here ≡ false → noteKind n (Running r) b ≡ Flash
-  unfolding noteKind
-  note-other q = ap (λ (c : Bool). cond c (r .head .kind) Flash) (ap (λ (x : Bool). Own && x) (sym h) ∙ q)
+  pub own-other : Own && lent ≡ false → ownKind n h f total ≡ Flash
+  own-other q = ap (λ (c : Bool). cond c (h .kind) Flash) (ap (λ (x : Bool). Own && x) (sym e) ∙ q)
 
 -- ---- a block
 
@@ -212,13 +148,6 @@ module _ (r : Rooms) (n : Lengths) (t : State) (b : Block) where
       → {x : Screening} → x ≡ dataFound u p b → x ≡ found r n t b
   check-window h {u} e q i y =
       y ∙ ap (λ (p : Place). dataFound u p b) (i ∙ ap (roomIn r) q) ∙ ap dataAt e ∙ sym (found-data h)
-
-above : (n : Lengths) (x : ℕ) (u : Window) → WindowFacts n x u → Above u x
-above n x Outside f = tt
-above n x (In k) f = f .low
-
-pub window-above : (n : Lengths) (x : ℕ) {u : Window} → u ≡ windowOf n x → Above u x
-window-above n x e = rw e (above n x (windowOf n x) (window-facts n x))
 
 -- ---- a place that is handed in
 

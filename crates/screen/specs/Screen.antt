@@ -14,6 +14,7 @@ use Rattle.place.specs.Place.{wholeIf, placeOf, ramFamily}
 use Rattle.place.specs.declared.Place.{Place}
 use Rattle.place.specs.declared.Place.the-variants.{Nowhere, At}
 use Rattle.transfer.specs.Transfer.{headWith, numberOf}
+use Rattle.transfer.specs.declared.Head.{Head}
 use Rattle.transfer.specs.declared.Kind.{Kind}
 use Rattle.transfer.specs.declared.Kind.the-variants.{Flash, MainRam, XipRam}
 use Rattle.transfer.specs.declared.State.{State}
@@ -63,11 +64,14 @@ windowOf n address =
 
 -- ---- the kind of a block
 
--- "A comment with the running transfer's family and total takes its kind, unless that kind's buffer is empty; any other is flash."
+-- "A comment with the running transfer's family and total takes its kind, unless that kind's buffer is empty"
+abbrev pub ownKind : Lengths → Head → ℕ → ℕ → Kind
+ownKind n h f total = cond (eqb (h .family) f && eqb (h .total) total && isLent n (h .kind)) (h .kind) Flash
+
+-- "any other is flash."
 unfoldable pub noteKind : Lengths → State → Block → Kind
 noteKind n Idle b = Flash
-noteKind n (Running r) b =
-    cond (eqb (r .head .family) (b .family) && eqb (r .head .total) (b .total) && isLent n (r .head .kind)) (r .head .kind) Flash
+noteKind n (Running r) b = ownKind n (r .head) (b .family) (b .total)
 noteKind n (Done g) b = Flash
 
 -- ---- row 8

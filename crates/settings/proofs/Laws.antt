@@ -142,12 +142,15 @@ module _ (s : Settings) (len : ℕ) where
       right-any e (omega arith)
       (ap (λ (n : ℕ). any n (badEntry (s .table) (s .count) len)) z ∙ any-zero (badEntry (s .table) (s .count) len))
 
-  -- what is left to ask where no entry is wrong by itself or by its link
-  pub good-rest : enabled s (s .current) ≡ true → s .count ≤ 16 → any (s .count) (wrongEntry (s .table) len) ≡ false → goodSettings s len ≡ not (any (s .count) (sharesBelow (s .table)))
-  good-rest e l h =
+  -- what is left to ask of the entries
+  pub good-rest : enabled s (s .current) ≡ true → s .count ≤ 16 → goodSettings s len ≡ not (any (s .count) (wrongEntry (s .table) len) || any (s .count) (sharesBelow (s .table)))
+  good-rest e l =
+      split (any (s .count) (wrongEntry (s .table) len))
+      (λ h. rw h (good-wrong h))
+      (λ h.
       split (any (s .count) (sharesBelow (s .table)))
-      (λ q. rw q (bad-any (below-bad (s .table) (s .count) len q)))
-      (λ q. rw q (right-any e l (right-all (s .table) (s .count) len q h)))
+      (λ q. rw (h, q) (bad-any (below-bad (s .table) (s .count) len q)))
+      (λ q. rw (h, q) (right-any e l (right-all (s .table) (s .count) len q h))))
 
 -- ---- what good settings tell
 

@@ -1,5 +1,6 @@
 // The settings: what the device may run, and its partition table; whether they are good for a flash length.
 ghost use mathlib.Core.Path.{_≡_};
+ghost use mathlib.Core.Bool.{_||_};
 ghost use Prim.Native.Nat.{_≤_};
 ghost use Rattle.sets.specs.Sets.{any};
 ghost use Rattle.settings.specs.Settings.{isA, isUnowned, linkTarget, hasUser, accepts, isReserved, reservedUser, overlap, enabled, goodSettings, blankEntry, armOnly};
@@ -214,33 +215,6 @@ fn target(e: Entry) -> u8
     }
 }
 
-// Is a used entry wrong by itself or by its link?
-fn any_wrong(table: [Entry; Settings::ENTRIES], count: usize, flash_len: usize) -> bool
-    requires { ⌜ count ≤ 16 ⌝ }
-    ensures { λ r. ⌜ r ≡ any count (wrongEntry table «flash_len») ⌝ }
-{
-    let mut k: usize = 0;
-    while k < count {
-        let e = table[k];
-        let next = k + 1;
-        if alone_bad(e, flash_len) {
-            return true;
-        }
-        if !unowned(e) {
-            let j = target(e) as usize;
-            if k <= j {
-                return true;
-            }
-            let o = table[j];
-            if !is_a(o) {
-                return true;
-            }
-        }
-        k = next;
-    }
-    false
-}
-
 // Do two used entries share a sector? Each is held against those before it.
 fn any_shares(table: [Entry; Settings::ENTRIES], count: usize) -> bool
     requires { ⌜ count ≤ 16 ⌝ }
@@ -260,6 +234,41 @@ fn any_shares(table: [Entry; Settings::ENTRIES], count: usize) -> bool
         k += 1;
     }
     false
+}
+
+// Is a used entry wrong by itself or by its link, or do two of them share a sector? Where each begins past the one before, none do.
+fn any_bad(table: [Entry; Settings::ENTRIES], count: usize, flash_len: usize) -> bool
+    requires { ⌜ count ≤ 16 ⌝ }
+    ensures { λ r. ⌜ r ≡ (any count (wrongEntry table «flash_len») || any count (sharesBelow table)) ⌝ }
+{
+    let mut rising = true;
+    let mut past: usize = 0;
+    let mut k: usize = 0;
+    while k < count {
+        let e = table[k];
+        let next = k + 1;
+        let first = e.first as usize;
+        rising = rising & (past <= first);
+        past = first + e.sectors as usize;
+        if alone_bad(e, flash_len) {
+            return true;
+        }
+        if !unowned(e) {
+            let j = target(e) as usize;
+            if k <= j {
+                return true;
+            }
+            let o = table[j];
+            if !is_a(o) {
+                return true;
+            }
+        }
+        k = next;
+    }
+    if rising {
+        return false;
+    }
+    any_shares(table, count)
 }
 
 pub fn is_enabled(settings: Settings, arch: Arch) -> bool
@@ -288,8 +297,5 @@ pub fn good(settings: Settings, flash_len: usize) -> bool
         return false;
     }
     let table = settings.table;
-    if any_wrong(table, count, flash_len) {
-        return false;
-    }
-    !any_shares(table, count)
+    !any_bad(table, count, flash_len)
 }

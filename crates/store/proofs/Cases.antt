@@ -1,7 +1,7 @@
--- Each case of `writeOf` and `readOf`, from the facts that lead to it. Assumes nothing.
+-- Each case of `readOf`, from the facts that lead to it. Assumes nothing.
 use mathlib.Core.Path.{_≡_, sym, ap, _∙_}
 use mathlib.Core.Logic.{_≢_}
-use mathlib.Core.Bool.{Bool, true, false, cond, not, _&&_, _||_, true≢false}
+use mathlib.Core.Bool.{Bool, true, false, cond, not, _&&_, _||_}
 use mathlib.Core.List.{List, [], _∷_}
 use Prim.Native.Nat.{ℕ, _+_, _*_, _/_, _%_, _<_, _≤_}
 use native.Mathlib.Omega.{arith}
@@ -9,48 +9,17 @@ use lib.Dec.{eqb}
 use lib.ListN.{length, getD}
 use borrow.Author.Tests.{lt-ltb, le-ltb, eq-eqb, ne-eqb}
 use Rattle.sets.specs.Sets.{any}
-use Rattle.sets.specs.Over.{over}
 use Rattle.flash.specs.Flash.{flashLength}
 use Rattle.settings.specs.declared.Entry.{Entry}
 use Rattle.settings.specs.declared.Settings.{Settings}
 use Rattle.settings.specs.Settings.{goodSettings}
 use Rattle.settings.specs.Table.{tableOf}
 use Rattle.packing.specs.Packing.{total, packed, unpacked, octets, fieldsOf}
-use Rattle.store.specs.declared.StoreAnswer.the-variants.{BadBuffers, BadSettings, BadVersion, BadLength, BadBits, Good}
+use Rattle.storewrite.specs.declared.StoreAnswer.the-variants.{BadBuffers, BadSettings, BadVersion, BadLength, BadBits, Good}
+use Rattle.storewrite.specs.Written.{restartsIn}
+use Rattle.storewrite.proofs.Cases.{restarts-few}
 use Rattle.store.specs.declared.Reading.{Reading}
-use Rattle.store.specs.Store.{restartAt, headWidths, storeOf, headIn, entryOf, settingsOf, settingsIn, strayAt, straysIn, refusal, found, readHead, readOf, writeCall, writeOf}
-
--- a test whose denial decides
-pub is-off : (a : Bool) {b : Bool} → a ≡ b → not a ≡ true → b ≡ false
-is-off true e h = absurd (true≢false (sym h))
-is-off false e h = sym e
-
-pub is-on : (a : Bool) {b : Bool} → a ≡ b → not a ≡ false → b ≡ true
-is-on true e h = sym e
-is-on false e h = absurd (true≢false h)
-
--- ---- writing
-
-module _ (s : Settings) (len : ℕ) (out : List ℕ) where
-  pub write-1 : flashLength len ≡ false → writeCall BadBuffers out ≡ writeOf s len out
-  unfolding writeOf
-  write-1 h = rw h
-
-  module _ (p : flashLength len ≡ true) where
-    pub write-2 : goodSettings s len ≡ false → writeCall BadSettings out ≡ writeOf s len out
-    unfolding writeOf
-    write-2 h = rw (p, h)
-
-    module _ (q : goodSettings s len ≡ true) where
-      pub write-41 : length out < 2 + 22 * s .count → writeCall BadLength out ≡ writeOf s len out
-      unfolding writeOf
-      write-41 h = rw (p, q, lt-ltb (length out) (2 + 22 * s .count) h)
-
-      pub write-good : 2 + 22 * s .count ≤ length out → {b : List ℕ} → b ≡ over out 0 (storeOf s) → writeCall Good b ≡ writeOf s len out
-      unfolding writeOf
-      write-good h {b} e = rw (p, q, le-ltb (length out) (2 + 22 * s .count) h, e)
-
--- ---- reading
+use Rattle.store.specs.Store.{restartAt, headWidths, headIn, entryOf, settingsOf, settingsIn, strayAt, straysIn, refusal, found, readHead, readOf}
 
 -- the head's two bytes
 pub head-two : (b : List ℕ) → 2 ≤ length b → headIn b ≡ unpacked headWidths (getD b 0 0 * 256 + getD b 1 0)
@@ -90,10 +59,12 @@ module _ (b : List ℕ) (len x : ℕ) where
       read-41 h = rw (r, le-ltb 16 (x / 128 % 32) s, ne-eqb (length b) (2 + 22 * (x / 128 % 32)) h)
 
       module _ (w : length b ≡ 2 + 22 * (x / 128 % 32)) {table : List Entry} (ht : table ≡ tableOf (entryOf b) (x / 128 % 32)) {y v : Bool}
-          (k : y ≡ any (x / 128 % 32) (strayAt b (x / 4096 % 16))) (m : v ≡ any (x / 128 % 32) (restartAt table)) where
+          (k : y ≡ any (x / 128 % 32) (strayAt b (x / 4096 % 16))) (m : v ≡ restartsIn table (x / 128 % 32)) where
         strays : straysIn (unpacked headWidths x) b ≡ not (eqb (x / 1 % 4) 0) || y || eqb (x / 4096 % 16) 2 && not v
         unfolding straysIn unpacked total
-        strays = rw (k, m, ht)
+        strays =
+            let few : v ≡ any (x / 128 % 32) (restartAt table) = m ∙ restarts-few table (x / 128 % 32) s in
+            rw (k, few, ht)
 
         reach : readHead (unpacked headWidths x) b len
             ≡ cond (straysIn (unpacked headWidths x) b) (refusal BadBits)

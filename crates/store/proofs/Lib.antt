@@ -1,4 +1,3 @@
 -- The laws of `specs/`.
-pub mod Searches
-pub mod Rows
+pub mod Parts
 pub mod Cases

@@ -1,56 +1,25 @@
--- The packed store of settings (02, L5). Assumes nothing.
+-- The packed store of settings (02, L5), read. Assumes nothing.
 use Prim.Native.Nat.{ℕ, _+_, _*_}
 use mathlib.Core.Bool.{Bool, true, false, _&&_, _||_, cond, not}
-use mathlib.Core.List.{List, [], _∷_, _++_}
+use mathlib.Core.List.{List}
 use lib.ListN.{length, getD, take, drop, replicate}
 use lib.Dec.{ltb, eqb}
 use Rattle.sets.specs.Sets.{any}
-use Rattle.sets.specs.Over.{over}
-use Rattle.sets.specs.Rows.{rows}
 use Rattle.flash.specs.Flash.{flashLength}
 use Rattle.settings.specs.declared.Arch.{Arch}
 use Rattle.settings.specs.declared.Arch.the-variants.{Arm, RiscV}
 use Rattle.settings.specs.declared.Entry.{Entry}
 use Rattle.settings.specs.declared.Settings.{Settings}
-use Rattle.settings.specs.Settings.{entryAt, blankEntry, goodSettings}
+use Rattle.settings.specs.Settings.{blankEntry, goodSettings}
 use Rattle.settings.specs.Table.{tableOf}
-use Rattle.packing.specs.Packing.{bytesOf, fieldsOf, bit, on}
-use Rattle.entrybits.specs.EntryBits.{packedEntry, entryIn, strayIn}
-use Rattle.store.specs.declared.StoreAnswer.{StoreAnswer}
-use Rattle.store.specs.declared.StoreAnswer.the-variants.{BadBuffers, BadSettings, BadVersion, BadLength, BadBits, Good}
+use Rattle.packing.specs.Packing.{fieldsOf, on}
+use Rattle.entrybits.specs.EntryBits.{entryIn, strayIn}
+use Rattle.storewrite.specs.declared.StoreAnswer.{StoreAnswer}
+use Rattle.storewrite.specs.declared.StoreAnswer.the-variants.{BadBuffers, BadSettings, BadVersion, BadLength, BadBits, Good}
 use Rattle.store.specs.declared.Reading.{Reading}
-
--- ---- written
-
--- entry k has "don't restart"
-unfoldable pub restartAt : List Entry → ℕ → Bool
-restartAt table k = entryAt table k .«no_restart»
-
--- "version 2 is used exactly if some used entry has it"
-unfoldable pub versionOf : Settings → ℕ
-versionOf s = cond (any (s .count) (restartAt (s .table))) 2 1
-
--- "Head of 16 bits: version 4, count 5, auto switch, absolute, Arm, RISC-V, current (1 is RISC-V), two zeros."
-abbrev pub headWidths : List ℕ
-headWidths = 4 ∷ 5 ∷ 1 ∷ 1 ∷ 1 ∷ 1 ∷ 1 ∷ 2 ∷ []
-
-abbrev pub archBit : Arch → ℕ
-archBit Arm = 0
-archBit RiscV = 1
-
-unfoldable pub headFields : Settings → List ℕ
-headFields s =
-    versionOf s ∷ s .count ∷ bit (s .«auto_switch») ∷ bit (s .absolute) ∷ bit (s .arm) ∷ bit (s .riscv) ∷ archBit (s .current) ∷ 0 ∷ []
-
--- the bytes of entry k
-unfoldable pub rowAt : List Entry → ℕ → List ℕ
-rowAt table k = packedEntry (entryAt table k)
-
--- the head, and then the used entries
-unfoldable pub storeOf : Settings → List ℕ
-storeOf s = bytesOf headWidths 2 (headFields s) ++ rows (rowAt (s .table)) (s .count)
-
--- ---- read
+-- the store as it is written
+pub use Rattle.storewrite.specs.Written.{headWidths, archBit, storeNumber, WriteCall, writeCall, writeNumber}
+unfoldable pub use Rattle.storewrite.specs.Written.{restartAt, versionOf, headFields, rowAt, storeOf, writeOf}
 
 -- the head's fields, and the bytes of entry k
 unfoldable pub headIn : List ℕ → List ℕ
@@ -131,36 +100,6 @@ readOf b len =
     (cond (ltb (length b) 2) (refusal BadLength)
     (readHead (headIn b) b len))
 
--- the numbers of the answers; settings that are read or written have 0
-abbrev pub storeNumber : StoreAnswer → ℕ
-storeNumber BadBuffers = 1
-storeNumber BadSettings = 2
-storeNumber BadVersion = 40
-storeNumber BadLength = 41
-storeNumber BadBits = 42
-storeNumber Good = 0
-
 -- the number of what is read
 abbrev pub readNumber : Reading → ℕ
 readNumber r = storeNumber (r .answer)
-
--- ---- a call that writes
-
--- what is answered, and what the output holds
-pub record WriteCall : Type 0 where
-  pub answer : StoreAnswer
-  pub output : List ℕ
-
-abbrev pub writeCall : StoreAnswer → List ℕ → WriteCall
-writeCall x l = record { answer = x; output = l }
-
-abbrev pub writeNumber : WriteCall → ℕ
-writeNumber w = storeNumber (w .answer)
-
--- "Writing: 2, then 41 for too short a buffer, nothing written; bytes past the store stay."
-unfoldable pub writeOf : Settings → ℕ → List ℕ → WriteCall
-writeOf s len out =
-    cond (not (flashLength len)) (writeCall BadBuffers out)
-    (cond (not (goodSettings s len)) (writeCall BadSettings out)
-    (cond (ltb (length out) (2 + 22 * s .count)) (writeCall BadLength out)
-    (writeCall Good (over out 0 (storeOf s)))))

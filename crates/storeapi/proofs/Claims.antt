@@ -15,12 +15,13 @@ use Rattle.settings.specs.Table.{tableOf}
 use Rattle.settings.proofs.Laws.{good-count}
 use Rattle.settings.proofs.Tables.{table-at, table-cong}
 use Rattle.layout.specs.Layout.{settingsFrom, settingsBytes, withSettings}
-use Rattle.layout.proofs.Written.{Typed, settings-back}
+use Rattle.entrybytes.proofs.Entries.{Typed}
+use Rattle.layout.proofs.Written.{settings-back}
 use Rattle.entrybits.specs.EntryBits.{slot, neatEntry}
 use Rattle.entrybits.proofs.OneEntry.{Fits}
-use Rattle.store.specs.declared.StoreAnswer.the-variants.{Good}
+use Rattle.storewrite.specs.declared.StoreAnswer.the-variants.{Good}
 use Rattle.store.specs.Store.{storeOf, readOf, found, writeCall, writeOf}
-use Rattle.store.proofs.Cases.{write-good}
+use Rattle.storewrite.proofs.Cases.{write-good}
 use Rattle.encoding.specs.Claims.{neatAt, neat}
 use Rattle.encoding.proofs.Written.{good-fields, store-length}
 use Rattle.encoding.proofs.Encoding.{Found, read-found, read-is-the-encoding}

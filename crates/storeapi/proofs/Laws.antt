@@ -7,7 +7,7 @@ use lib.ListN.{length}
 use borrow.Author.Tests.{eq-eqb, ne-eqb}
 use Rattle.settings.specs.declared.Settings.{Settings}
 use Rattle.layout.specs.Layout.{settingsFrom, withSettings}
-use Rattle.store.specs.declared.StoreAnswer.{StoreAnswer}
+use Rattle.storewrite.specs.declared.StoreAnswer.{StoreAnswer}
 use Rattle.store.specs.declared.Reading.{Reading}
 use Rattle.store.specs.Store.{storeNumber, readOf, writeCall, writeOf}
 use Rattle.storeapi.specs.Calls.{StoreCall, storeCall, keptSettings, toldOf, storeReadCall, writtenCall, storeWriteCall}

@@ -44,6 +44,6 @@ pub extern "C" fn uf2_store_write(settings: &[u8], flash_len: usize, store: &mut
     ensures { λ r. ⌜ storeCall r (now (store .exit)) ≡ storeWriteCall (now (settings .entry)) «flash_len» (now (store .entry)) ⌝ }
 {
     let s = layout::read_settings(settings);
-    let answer = store::write(s, flash_len, store);
+    let answer = storewrite::write(s, flash_len, store);
     answer.number() as u32
 }

@@ -5,7 +5,9 @@ use native.Mathlib.Omega.{arith}
 use lib.ListN.{length, take, drop}
 use Rattle.sets.specs.Bytes.{lowFirst, numberIn}
 use Rattle.block.specs.Block.{fieldAt, isBlock}
-use Rattle.tags.specs.Tag.{firstPlace, kindAt, tagOf, contentsOf, roomEnd, badPayload, badPlace, sized, tagAt, seek, findOf}
+use Rattle.tag.specs.Tag.{tagOf, contentsOf, sized}
+use Rattle.tagroom.specs.Room.{firstPlace, kindAt, roomEnd, badPayload, badPlace, tagAt}
+use Rattle.tags.specs.Search.{seek, findOf}
 use Rattle.taglist.specs.Laid.{AllProper, itemBytes, laid}
 use Rattle.taglist.specs.Acme.{acme, Acme-reads, items, Acme-holds}
 

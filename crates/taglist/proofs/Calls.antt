@@ -14,13 +14,16 @@ use Rattle.sets.proofs.Tests.{split, or-right}
 use Rattle.block.specs.Block.{fieldAt, hasFlag, flaggedOf, isBlock, headerOf}
 use Rattle.block.specs.declared.Header.the-variants.{NotBlock as no-header}
 use Rattle.block.proofs.Laws.{header-is-block, flagged-other}
-use Rattle.tags.specs.declared.Tag.{Tag}
-use Rattle.tags.specs.declared.Answer.{Answer}
-use Rattle.tags.specs.declared.Answer.the-variants.{End, BadLength, BadPlace, NotBlock, BadPayload, ShortTag, TypedEnd, PastRoom, NoRoom}
-use Rattle.tags.specs.Tag.{firstPlace, kindAt, tagOf, contentsOf, roomEnd, badPayload, badPlace, sized, tagAt, answerNumber, isTag, nextPlace, stops, seek, findOf}
-use Rattle.tags.specs.Reader.{started}
-use Rattle.tags.proofs.Laws.{tag-here, room-end, at-other, not-false}
-use Rattle.tags.proofs.Search.{stays, moves, going-on, the-tag}
+use Rattle.tag.specs.declared.Tag.{Tag}
+use Rattle.tag.specs.declared.Answer.{Answer}
+use Rattle.tag.specs.declared.Answer.the-variants.{End, BadLength, BadPlace, NotBlock, BadPayload, ShortTag, TypedEnd, PastRoom, NoRoom}
+use Rattle.tag.specs.Tag.{tagOf, contentsOf, sized, answerNumber, isTag}
+use Rattle.tag.proofs.Laws.{the-tag}
+use Rattle.tagroom.specs.Room.{firstPlace, kindAt, roomEnd, badPayload, badPlace, tagAt}
+use Rattle.tagroom.proofs.Laws.{tag-here, room-end, at-other, not-false}
+use Rattle.tags.specs.Reader.{nextPlace, started}
+use Rattle.tags.specs.Search.{stops, seek, findOf}
+use Rattle.tags.proofs.Search.{stays, moves, going-on}
 use Rattle.taglist.specs.Calls.{answerOf, after, Repeats, Tag-lies, Never-3, Ends-by, Four-is-row-4, Other, Stopping, Find-first}
 use Rattle.taglist.proofs.Places.{placeIn, reader, after-place, place-stays, place-far, tag-room, place-fine}
 

@@ -11,10 +11,13 @@ use Rattle.sets.specs.Bytes.{lowFirst, numberIn}
 use Rattle.sets.proofs.BytesLaws.{number-back, length-low}
 use Rattle.sets.proofs.Tests.{split}
 use Rattle.block.specs.Block.{fieldAt, hasFlag}
-use Rattle.tags.specs.declared.Tag.{Tag}
-use Rattle.tags.specs.declared.Answer.the-variants.{Tag as a-tag, End}
-use Rattle.tags.specs.Tag.{firstPlace, kindAt, tagOf, contentsOf, roomEnd, sized, tagAt, nextPlace}
-use Rattle.tags.proofs.Laws.{Carries, at-tag, sized-end, sized-tag}
+use Rattle.tag.specs.declared.Tag.{Tag}
+use Rattle.tag.specs.declared.Answer.the-variants.{Tag as a-tag, End}
+use Rattle.tag.specs.Tag.{tagOf, contentsOf, sized}
+use Rattle.tag.proofs.Laws.{sized-end, sized-tag}
+use Rattle.tagroom.specs.Room.{firstPlace, kindAt, roomEnd, tagAt}
+use Rattle.tagroom.proofs.Laws.{Carries, at-stands, stands-tag}
+use Rattle.tags.specs.Reader.{nextPlace}
 use Rattle.taglist.specs.Laid.{Item, Proper, AllProper, itemBytes, laid, Reads, Tags-read-back}
 use Rattle.taglist.proofs.Places.{reader, payload-fine, place-fine}
 
@@ -68,7 +71,7 @@ record Spot (b : List ℕ) (at : ℕ) : Type 0 where
 call : (b : List ℕ) (at : ℕ) → Spot b at → at + 4 ≤ roomEnd b → tagAt b at ≡ sized (getD b at 0) (kindAt b at) at (roomEnd b)
 call b at s h =
     let c = s .carries in
-    sym (at-tag b at (c .whole) (c .magic) (c .flag) (payload-fine (fieldAt b 16) (c .small) (c .even)) (place-fine (firstPlace b) at (s .from) (s .even)) h)
+    sym (stands-tag b at (place-fine (firstPlace b) at (s .from) (s .even)) h ∙ at-stands b at (c .whole) (c .magic) (c .flag) (payload-fine (fieldAt b 16) (c .small) (c .even)))
 
 module _ (b : List ℕ) (pre rest : List ℕ) (i : Item) (e : b ≡ pre ++ (itemBytes i ++ rest)) (p : Proper i) (s : Spot b (length pre)) (h : length pre + length (itemBytes i) ≤ roomEnd b) where
   abbrev tag : Tag

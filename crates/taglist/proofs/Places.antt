@@ -8,8 +8,10 @@ use denote.Ref.{RefT, now}
 use Rattle.sets.proofs.Tests.{split, clash}
 use Rattle.tags.specs.declared.Tags.{Tags}
 use borrow.Author.Tests.{le-ltb, eq-eqb}
-use Rattle.tags.specs.Tag.{badPayload, badPlace, tagAt, isTag, nextPlace}
-use Rattle.tags.proofs.Laws.{room-end}
+use Rattle.tag.specs.Tag.{isTag}
+use Rattle.tagroom.specs.Room.{badPayload, badPlace, tagAt}
+use Rattle.tagroom.proofs.Laws.{room-end}
+use Rattle.tags.specs.Reader.{nextPlace}
 use Rattle.tags.proofs.Search.{stays, moves}
 use Rattle.taglist.specs.Calls.{after}
 

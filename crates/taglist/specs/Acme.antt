@@ -3,9 +3,11 @@ use Prim.Native.Nat.{ℕ}
 use mathlib.Core.Path.{_≡_}
 use mathlib.Core.List.{List, [], _∷_, _++_}
 use lib.ListN.{replicate}
-use Rattle.tags.specs.declared.Tag.{Tag}
-use Rattle.tags.specs.declared.Answer.the-variants.{Tag as a-tag, End}
-use Rattle.tags.specs.Tag.{firstPlace, tagAt, contentsOf, findOf}
+use Rattle.tag.specs.declared.Tag.{Tag}
+use Rattle.tag.specs.declared.Answer.the-variants.{Tag as a-tag, End}
+use Rattle.tag.specs.Tag.{contentsOf}
+use Rattle.tagroom.specs.Room.{firstPlace, tagAt}
+use Rattle.tags.specs.Search.{findOf}
 use Rattle.taglist.specs.Laid.{Item, AllProper, Holds}
 
 -- the magic numbers, flags 0x8000 and 0x2000, the payload's size; the payload; 000's three lines; the room's rest and the last magic number

@@ -9,12 +9,14 @@ use denote.Ref.{RefT, now}
 use Rattle.sets.specs.Bytes.{numberIn}
 use Rattle.block.specs.Block.{fieldAt, hasFlag, headerOf}
 use Rattle.block.specs.declared.Header as header
-use Rattle.tags.specs.declared.Tag.{Tag}
+use Rattle.tag.specs.declared.Tag.{Tag}
 use Rattle.tags.specs.declared.Tags.{Tags}
-use Rattle.tags.specs.declared.Answer.{Answer}
-use Rattle.tags.specs.declared.Answer.the-variants.{Tag as a-tag, BadPlace, NotBlock}
-use Rattle.tags.specs.Tag.{contentsOf, tagAt, isTag, findOf}
+use Rattle.tag.specs.declared.Answer.{Answer}
+use Rattle.tag.specs.declared.Answer.the-variants.{Tag as a-tag, BadPlace, NotBlock}
+use Rattle.tag.specs.Tag.{contentsOf, isTag}
+use Rattle.tagroom.specs.Room.{tagAt}
 use Rattle.tags.specs.Reader.{started, stepped}
+use Rattle.tags.specs.Search.{findOf}
 
 -- what the next call of a reader answers
 abbrev pub answerOf : Tags → Answer

@@ -7,10 +7,10 @@ use lib.ListN.{length}
 use denote.Ref.{RefT, now}
 use Rattle.sets.specs.Bytes.{lowFirst}
 use Rattle.block.specs.Block.{fieldAt, hasFlag, isBlock}
-use Rattle.tags.specs.declared.Tag.{Tag}
+use Rattle.tag.specs.declared.Tag.{Tag}
 use Rattle.tags.specs.declared.Tags.{Tags}
-use Rattle.tags.specs.declared.Answer.the-variants.{Tag as a-tag, End}
-use Rattle.tags.specs.Tag.{contentsOf}
+use Rattle.tag.specs.declared.Answer.the-variants.{Tag as a-tag, End}
+use Rattle.tag.specs.Tag.{contentsOf}
 use Rattle.tags.specs.Reader.{started, stepped}
 use Rattle.taglist.specs.Calls.{answerOf}
 

@@ -8,8 +8,8 @@ use lib.Seq.{take-all, take-length, take-nil}
 use lib.Dec.{leb}
 use borrow.Author.Tests.{leb-true, leb-false}
 use Rattle.sets.proofs.Tests.{split}
-use Rattle.tags.specs.declared.Tag.{Tag}
-use Rattle.tags.specs.Tag.{contentsOf}
+use Rattle.tag.specs.declared.Tag.{Tag}
+use Rattle.tag.specs.Tag.{contentsOf}
 
 take-least : (n : ℕ) (l : List ℕ) → take (min n (length l)) l ≡ take n l
 take-least n l =

@@ -1,52 +1,22 @@
 -- The search for a type over the tags. Assumes nothing.
 use mathlib.Core.Path.{_≡_, refl, sym, ap, _∙_}
 use mathlib.Core.Bool.{Bool, true, false, cond}
-use mathlib.Core.Logic.{⊎-elim}
-use mathlib.Core.List.{List, [], _∷_}
+use mathlib.Core.List.{List}
 use Prim.Native.Nat.{ℕ, zero, suc, _+_, _-_, _*_, _/_, _%_, _<_, _≤_}
 use native.Mathlib.Omega.{arith}
 use lib.ListN.{getD}
 use lib.Dec.{eqb}
-use types.Run.{OneOf}
-use denote.Enum.Declared.{tagOf as caseOf}
 use Rattle.sets.proofs.Tests.{clash, split}
-use Rattle.tags.specs.declared.Tag.{Tag}
+use Rattle.tag.specs.declared.Tag.{Tag}
+use Rattle.tag.specs.declared.Answer.{Answer}
+use Rattle.tag.specs.declared.Answer.the-variants.{Tag as a-tag}
+use Rattle.tag.specs.Tag.{tagOf, isTag}
+use Rattle.tag.proofs.Laws.{on-other, the-tag}
+use Rattle.tagroom.specs.Room.{firstPlace, roomEnd, tagAt}
+use Rattle.tagroom.proofs.Laws.{tag-here, room-end}
 use Rattle.tags.specs.declared.Move.{Move}
-use Rattle.tags.specs.declared.Answer.{Answer}
-use Rattle.tags.specs.declared.Answer.the-variants.{Tag as a-tag, End, BadLength, BadPlace, NotBlock, BadPayload, ShortTag, TypedEnd, PastRoom, NoRoom}
-use Rattle.tags.specs.Tag.{firstPlace, tagOf, roomEnd, tagAt, isTag, onTag, nextPlace, stepAt, stops, seek, findOf}
-use Rattle.tags.proofs.Answer.{the-type}
-use Rattle.tags.proofs.Laws.{tag-here, room-end}
-
--- ---- answers that are no tag
-
--- by the case, as a `let .. else` tells it
-pub not-tag : (a : Answer) → OneOf (1 ∷ 2 ∷ 3 ∷ 4 ∷ 5 ∷ 6 ∷ 7 ∷ 8 ∷ 9 ∷ []) (caseOf the-type a) → isTag a ≡ false
-not-tag (a-tag t) h = absurd (none h)
-  where
-    none : OneOf (1 ∷ 2 ∷ 3 ∷ 4 ∷ 5 ∷ 6 ∷ 7 ∷ 8 ∷ 9 ∷ []) 0 → ⊥
-    none x = ⊎-elim (λ y. omega arith) (⊎-elim (λ y. omega arith) (⊎-elim (λ y. omega arith) (⊎-elim (λ y. omega arith) (⊎-elim (λ y. omega arith) (⊎-elim (λ y. omega arith) (⊎-elim (λ y. omega arith) (⊎-elim (λ y. omega arith) (λ y. omega arith)))))))) x
-not-tag End h = refl
-not-tag BadLength h = refl
-not-tag BadPlace h = refl
-not-tag NotBlock h = refl
-not-tag BadPayload h = refl
-not-tag ShortTag h = refl
-not-tag TypedEnd h = refl
-not-tag PastRoom h = refl
-not-tag NoRoom h = refl
-
-pub on-other : {A : Type 0} (d : A) (f : Tag → A) (a : Answer) → isTag a ≡ false → onTag d f a ≡ d
-on-other d f (a-tag t) n = clash true refl n
-on-other d f End n = refl
-on-other d f BadLength n = refl
-on-other d f BadPlace n = refl
-on-other d f NotBlock n = refl
-on-other d f BadPayload n = refl
-on-other d f ShortTag n = refl
-on-other d f TypedEnd n = refl
-on-other d f PastRoom n = refl
-on-other d f NoRoom n = refl
+use Rattle.tags.specs.Reader.{nextPlace, stepAt}
+use Rattle.tags.specs.Search.{stops, seek, findOf}
 
 -- what is no tag leaves the place
 pub stays : (at : ℕ) (a : Answer) → isTag a ≡ false → nextPlace at a ≡ at
@@ -59,23 +29,6 @@ stops-other kind a n = on-other true (λ (t : Tag). eqb (t .kind) kind) a n
 -- so that an answer at which no search stops is a tag
 pub going-on : (kind : ℕ) (a : Answer) → stops kind a ≡ false → isTag a ≡ true
 going-on kind a e = split (isTag a) (λ y. y) (λ n. clash (stops kind a) (stops-other kind a n) e)
-
--- the tag that an answer is
-pub record IsTag (a : Answer) : Type 0 where
-  pub tag : Tag
-  pub same : a ≡ a-tag tag
-
-pub the-tag : (a : Answer) → isTag a ≡ true → IsTag a
-the-tag (a-tag t) y = record { tag = t; same = refl }
-the-tag End y = clash false y refl
-the-tag BadLength y = clash false y refl
-the-tag BadPlace y = clash false y refl
-the-tag NotBlock y = clash false y refl
-the-tag BadPayload y = clash false y refl
-the-tag ShortTag y = clash false y refl
-the-tag TypedEnd y = clash false y refl
-the-tag PastRoom y = clash false y refl
-the-tag NoRoom y = clash false y refl
 
 -- what a tag moves the place by
 pub record Moves (b : List ℕ) (at next : ℕ) : Type 0 where

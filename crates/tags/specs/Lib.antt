@@ -1,2 +1,2 @@
-pub mod Tag
 pub mod Reader
+pub mod Search

@@ -12,12 +12,15 @@ use Rattle.sets.proofs.OverLaws.{over-whole}
 use Rattle.block.specs.Block.{fieldAt}
 use Rattle.block.specs.Write.{le32, putAt}
 use Rattle.block.proofs.WriteLaws.{put-over, put-after, field-le32}
-use Rattle.tags.specs.declared.Tag.{Tag}
-use Rattle.tags.specs.declared.Answer.{Answer}
-use Rattle.tags.specs.declared.Answer.the-variants.{Tag as a-tag}
-use Rattle.tags.specs.Tag.{tagOf, tagAt, findOf, answerNumber, isTag}
-use Rattle.tags.proofs.Laws.{tag-here, room-end}
-use Rattle.tags.proofs.Search.{on-other, find-at}
+use Rattle.tag.specs.declared.Tag.{Tag}
+use Rattle.tag.specs.declared.Answer.{Answer}
+use Rattle.tag.specs.declared.Answer.the-variants.{Tag as a-tag}
+use Rattle.tag.specs.Tag.{tagOf, answerNumber, isTag}
+use Rattle.tag.proofs.Laws.{on-other}
+use Rattle.tagroom.specs.Room.{tagAt}
+use Rattle.tagroom.proofs.Laws.{tag-here, room-end}
+use Rattle.tags.specs.Search.{findOf}
+use Rattle.tags.proofs.Search.{find-at}
 use Rattle.tagsapi.specs.Calls.{TagCall, tagCall, tagBytes, tagCallOf, Low, tagAtCall, tagFindCall}
 
 -- ---- a tag is low

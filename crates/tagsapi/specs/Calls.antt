@@ -6,10 +6,12 @@ use mathlib.Core.List.{List, _++_}
 use lib.Dec.{eqb}
 use lib.ListN.{length}
 use Rattle.block.specs.Write.{le32}
-use Rattle.tags.specs.declared.Tag.{Tag}
-use Rattle.tags.specs.declared.Answer.{Answer}
-use Rattle.tags.specs.declared.Answer.the-variants.{Tag as a-tag}
-use Rattle.tags.specs.Tag.{tagAt, findOf, answerNumber, onTag}
+use Rattle.tag.specs.declared.Tag.{Tag}
+use Rattle.tag.specs.declared.Answer.{Answer}
+use Rattle.tag.specs.declared.Answer.the-variants.{Tag as a-tag}
+use Rattle.tag.specs.Tag.{answerNumber, onTag}
+use Rattle.tagroom.specs.Room.{tagAt}
+use Rattle.tags.specs.Search.{findOf}
 
 -- what is returned, and what the 16 bytes of `tag` hold
 pub record TagCall : Type 0 where

@@ -1,9 +1,9 @@
 // The extension tags of a block for C: a library beside that of `capi`.
 ghost use mathlib.Core.Path.{_≡_};
 ghost use lib.ListN.{length};
-ghost use Rattle.tags.specs.Tag.{firstPlace};
+ghost use Rattle.tagroom.specs.Room.{firstPlace};
 ghost use Rattle.tagsapi.specs.Calls.{Low, tagBytes, tagCall, tagCallOf, tagAtCall, tagFindCall};
-use tags::Answer;
+use tag::Answer;
 
 // The bytes of a tag: type, start, length and next place.
 const TAG: usize = 16;
@@ -37,7 +37,7 @@ fn tell(answer: Answer, tag: &mut [u8]) -> u32
 pub extern "C" fn uf2_tag_first(block: &[u8]) -> usize
     ensures { λ r. ⌜ r ≡ firstPlace (now (block .entry)) ⌝ }
 {
-    tags::first_place(block)
+    tagroom::first_place(block)
 }
 
 // What stands at a place: 0 and the tag in `tag`, or the number of the end or of a refusal.
@@ -48,7 +48,7 @@ pub extern "C" fn uf2_tag(block: &[u8], place: usize, tag: &mut [u8]) -> u32
     if tag.len() != TAG {
         return 1;
     }
-    tell(tags::tag_at(block, place), tag)
+    tell(tagroom::tag_at(block, place), tag)
 }
 
 // The first tag of a type: 0 and the tag in `tag`, or the number of the end or of the refusal before any.

@@ -18,10 +18,10 @@ pub extern "C" fn uf2_take(
     ensures { λ r. ⌜ takeReturn r transfer (leftAt flash seen sectors main xip) ≡ takeCallOf settings transfer arrival (lentAt flash seen sectors main xip) ⌝ }
 {
     let s = layout::read_settings(settings);
-    let t = layout::read_transfer(transfer);
+    let t = transferbytes::read_transfer(transfer);
     let r = receiver::take(s, t, arrival, flash, seen, sectors, main, xip);
     let answer = r.answer;
     let next = r.transfer;
-    callbytes::keep(transfer, batch::is_acceptance(answer), next);
-    batch::result(answer, r.discarded) as u32
+    callbytes::keep(transfer, results::is_acceptance(answer), next);
+    results::result(answer, r.discarded) as u32
 }

@@ -5,7 +5,8 @@ ghost use Prim.Native.Nat.{_≤_};
 ghost use lib.ListN.{length};
 ghost use Rattle.block.specs.Write.{le32};
 ghost use Rattle.md5.specs.Md5.{digestBytes};
-ghost use Rattle.uf2file.specs.Uf2file.{checkOf, makeNumber, blockOver};
+ghost use Rattle.uf2block.specs.Uf2block.{blockOver};
+ghost use Rattle.uf2file.specs.Uf2file.{checkOf, makeNumber};
 ghost use Rattle.toolsapi.specs.Tools.{makeResult, makeBytes, digestOver};
 ghost use Rattle.toolsapi.specs.Join.{boardCode, refusalResult, joinedResult, joinReturn, joinBytes};
 use grammar::Boards;
@@ -35,7 +36,7 @@ pub extern "C" fn uf2_make_block(
 )
     ensures { λ _. ⌜ now (block .exit) ≡ blockOver (now (block .entry)) address number total family (now (page .entry)) ⌝ }
 {
-    uf2file::write_block(block, address, number, total, family, page);
+    uf2block::write_block(block, address, number, total, family, page);
 }
 
 // The whole file of an image: 0, or 50 to 53 and nothing is written.

@@ -5,30 +5,9 @@ use denote.Ref.{now}
 use Rattle.arrival.specs.Arrive.{Lent}
 use Rattle.receiver.specs.Receiver.{Slice}
 use Rattle.layout.specs.Layout.{settingsFrom}
-use Rattle.report.specs.declared.Report.{Report}
-use Rattle.report.specs.declared.FiguresAnswer.{FiguresAnswer}
-use Rattle.report.specs.declared.FiguresAnswer.the-variants.{BadReport, TooMany, Replayed}
 use Rattle.report.specs.Report.{FiguresOutcome, addOf}
-use Rattle.reports.specs.Reports.{reportFrom, reportWritten}
-use Rattle.traceapi.specs.ReplayCall.{stopNumber, withStop}
-
--- 71, 70, or where the replay stopped: "none", "bad", "differs"
-abbrev pub figuresResult : FiguresAnswer → ℕ
-figuresResult BadReport = 71
-figuresResult TooMany = 70
-figuresResult (Replayed x) = stopNumber x
-
--- "Both leave report and buffers": the bytes of the report stay, whatever they are
-abbrev pub keptReport : List ℕ → FiguresAnswer → Report → List ℕ
-keptReport b BadReport r = b
-keptReport b TooMany r = b
-keptReport b (Replayed x) r = reportWritten b r
-
--- and so do those of the index
-abbrev pub keptIndex : List ℕ → FiguresAnswer → List ℕ
-keptIndex i BadReport = i
-keptIndex i TooMany = i
-keptIndex i (Replayed x) = withStop i x
+use Rattle.reports.specs.Reports.{reportFrom}
+use Rattle.tracebytes.specs.Kept.{figuresResult, keptReport, keptIndex}
 
 -- what is returned, and what the lent buffers hold
 pub record FiguresCall : Type 0 where

@@ -1,37 +1,12 @@
 -- What the call that replays a trace (02, L10) answers and leaves. Assumes nothing.
 use Prim.Native.Nat.{ℕ}
-use mathlib.Core.Bool.{cond}
 use mathlib.Core.List.{List}
-use lib.Dec.{eqb}
-use lib.ListN.{length}
 use denote.Ref.{now}
-use Rattle.sets.specs.Bytes.{lowFirst}
 use Rattle.arrival.specs.Arrive.{Lent, lentOf}
 use Rattle.receiver.specs.Receiver.{Slice}
 use Rattle.layout.specs.Layout.{settingsFrom, withTransfer}
-use Rattle.trace.specs.declared.Stop.{Stop}
-use Rattle.trace.specs.declared.Stop.the-variants.{None, Bad, Differs}
-use Rattle.trace.specs.Trace.{TraceOutcome, replayOf}
-
--- ---- where it stops
-
--- "none", "bad", "differs"
-abbrev pub stopNumber : Stop → ℕ
-stopNumber None = 0
-stopNumber (Bad i) = 1
-stopNumber (Differs i) = 2
-
--- an index in 8 bytes, the lowest first; of another length they stay
-unfoldable pub indexOver : List ℕ → ℕ → List ℕ
-indexOver l i = cond (eqb (length l) 8) (lowFirst 8 i) l
-
--- ""bad" and its index from 0", ""differs" and its index"; "none" has no index, and the bytes stay
-abbrev pub withStop : List ℕ → Stop → List ℕ
-withStop l None = l
-withStop l (Bad i) = indexOver l i
-withStop l (Differs i) = indexOver l i
-
--- ---- the call
+use Rattle.replay.specs.Replay.{TraceOutcome, replayOf}
+use Rattle.tracebytes.specs.Kept.{stopNumber, withStop}
 
 -- what is returned, and what the lent buffers hold
 pub record ReplayCall : Type 0 where

@@ -1,48 +1,7 @@
 // The call that adds a trace to a report. The report is bytes in the layout of `reports`, settings in that of `layout`.
 ghost use mathlib.Core.Path.{_≡_};
 ghost use Rattle.receiver.specs.Receiver.{lentAt, leftAt};
-ghost use Rattle.traceapi.specs.FiguresCall.{
-  figuresResult,
-  keptReport,
-  keptIndex,
-  figuresReturn,
-  figuresCallOf,
-};
-use report::FiguresAnswer;
-use report::Report;
-
-// What came of the trace: its stop, or 70 or 71.
-fn result(answer: FiguresAnswer) -> u32
-    ensures { λ r. ⌜ r ≡ figuresResult answer ⌝ }
-{
-    match answer {
-        FiguresAnswer::BadReport => 71,
-        FiguresAnswer::TooMany => 70,
-        FiguresAnswer::Replayed(stop) => crate::replay::number(stop),
-    }
-}
-
-// The next report, where the trace was replayed.
-fn keep_report(report: &mut [u8], answer: FiguresAnswer, next: Report)
-    ensures { λ _. ⌜ now (report .exit) ≡ keptReport (now (report .entry)) answer next ⌝ }
-{
-    match answer {
-        FiguresAnswer::BadReport => {}
-        FiguresAnswer::TooMany => {}
-        FiguresAnswer::Replayed(_) => reports::write_report(report, next),
-    }
-}
-
-// The index of its stop.
-fn keep_index(index: &mut [u8], answer: FiguresAnswer)
-    ensures { λ _. ⌜ now (index .exit) ≡ keptIndex (now (index .entry)) answer ⌝ }
-{
-    match answer {
-        FiguresAnswer::BadReport => {}
-        FiguresAnswer::TooMany => {}
-        FiguresAnswer::Replayed(stop) => crate::replay::put_stop(index, stop),
-    }
-}
+ghost use Rattle.traceapi.specs.FiguresCall.{figuresReturn, figuresCallOf};
 
 // One trace more: where its replay stopped, as `uf2_replay` has it, or 70 or 71, which leave report and buffers.
 #[no_mangle]
@@ -64,7 +23,7 @@ pub extern "C" fn uf2_figures(
     let added = report::add(was, s, trace, flash, seen, sectors, main, xip);
     let answer = added.answer;
     let next = added.report;
-    keep_report(report, answer, next);
-    keep_index(index, answer);
-    result(answer)
+    tracebytes::keep_report(report, answer, next);
+    tracebytes::keep_index(index, answer);
+    tracebytes::result(answer)
 }

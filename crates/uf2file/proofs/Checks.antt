@@ -5,77 +5,41 @@ use mathlib.Core.Bool.{Bool, true, false, not, cond, _||_, true≢false}
 use Prim.Native.Nat.{ℕ, _+_, _*_, _/_, _%_, _<_, _≤_}
 use native.Mathlib.Omega.{arith}
 use lib.Dec.{eqb, ltb, leb}
-use borrow.Author.Tests.{eq-eqb, ne-eqb, lt-ltb, le-ltb, le-leb, lt-leb, eqb-true, eqb-false, ltb-false}
+use borrow.Author.Tests.{lt-ltb, le-ltb, eqb-true, eqb-false, ltb-false, leb-false}
 use Rattle.sets.proofs.Tests.{or-left, or-right}
 use Rattle.uf2file.specs.declared.MakeAnswer.{MakeAnswer}
 use Rattle.uf2file.specs.declared.MakeAnswer.the-variants.{BadImage, BadStart, PastWindow, ShortOutput, Made}
-use Rattle.uf2file.specs.Uf2file.{checkOf}
+use Rattle.uf2file.specs.Uf2file.{badImage, badStart, checkOf}
+
+-- a start that is not refused is below the window's end
+pub start-low : (start : ℕ) → badStart start ≡ false → start < 0x12000000
+start-low start e =
+    leb-false 0x12000000 start
+    (or-left (leb 0x12000000 start) (not (eqb (start % 256) 0)) (or-right (ltb start 0x10000000) (leb 0x12000000 start || not (eqb (start % 256) 0)) e))
 
 module _ (n start room : ℕ) where
-  pub empty : n ≡ 0 → BadImage ≡ checkOf n start room
+  pub image-bad : badImage n ≡ true → BadImage ≡ checkOf n start room
   unfolding checkOf
-  empty h = rw (eq-eqb n 0 h)
+  image-bad h = rw h
 
-  module _ (p : n ≢ 0) where
-    pub ragged : (n % 256 ≢ 0) → BadImage ≡ checkOf n start room
+  module _ (p : badImage n ≡ false) where
+    pub start-bad : badStart start ≡ true → BadStart ≡ checkOf n start room
     unfolding checkOf
-    ragged h = rw (ne-eqb n 0 p, ne-eqb (n % 256) 0 h)
+    start-bad h = rw (p, h)
 
-    module _ (q : n % 256 ≡ 0) where
-      pub below : start < 0x10000000 → BadStart ≡ checkOf n start room
+    module _ (q : badStart start ≡ false) where
+      pub past : 0x12000000 < start + n → PastWindow ≡ checkOf n start room
       unfolding checkOf
-      below h = rw (ne-eqb n 0 p, eq-eqb (n % 256) 0 q, lt-ltb start 0x10000000 h)
+      past h = rw (p, q, lt-ltb 0x12000000 (start + n) h)
 
-      module _ (r : 0x10000000 ≤ start) where
-        pub above : 0x12000000 ≤ start → BadStart ≡ checkOf n start room
+      module _ (u : start + n ≤ 0x12000000) where
+        pub short : room < 512 * (n / 256) → ShortOutput ≡ checkOf n start room
         unfolding checkOf
-        above h = rw (ne-eqb n 0 p, eq-eqb (n % 256) 0 q, le-ltb start 0x10000000 r, le-leb 0x12000000 start h)
+        short h = rw (p, q, le-ltb 0x12000000 (start + n) u, lt-ltb room (512 * (n / 256)) h)
 
-        module _ (s : start < 0x12000000) where
-          pub unaligned : (start % 256 ≢ 0) → BadStart ≡ checkOf n start room
-          unfolding checkOf
-          unaligned h = rw (ne-eqb n 0 p, eq-eqb (n % 256) 0 q, le-ltb start 0x10000000 r, lt-leb 0x12000000 start s, ne-eqb (start % 256) 0 h)
-
-          module _ (t : start % 256 ≡ 0) where
-            pub past : 0x12000000 < start + n → PastWindow ≡ checkOf n start room
-            unfolding checkOf
-            past h =
-                rw (
-                  ne-eqb n 0 p,
-                  eq-eqb (n % 256) 0 q,
-                  le-ltb start 0x10000000 r,
-                  lt-leb 0x12000000 start s,
-                  eq-eqb (start % 256) 0 t,
-                  lt-ltb 0x12000000 (start + n) h,
-                )
-
-            module _ (u : start + n ≤ 0x12000000) where
-              pub short : room < 512 * (n / 256) → ShortOutput ≡ checkOf n start room
-              unfolding checkOf
-              short h =
-                  rw (
-                    ne-eqb n 0 p,
-                    eq-eqb (n % 256) 0 q,
-                    le-ltb start 0x10000000 r,
-                    lt-leb 0x12000000 start s,
-                    eq-eqb (start % 256) 0 t,
-                    le-ltb 0x12000000 (start + n) u,
-                    lt-ltb room (512 * (n / 256)) h,
-                  )
-
-              pub passes : 512 * (n / 256) ≤ room → {m : ℕ} → m ≡ n / 256 → Made m ≡ checkOf n start room
-              unfolding checkOf
-              passes h {m} e =
-                  rw (
-                    ne-eqb n 0 p,
-                    eq-eqb (n % 256) 0 q,
-                    le-ltb start 0x10000000 r,
-                    lt-leb 0x12000000 start s,
-                    eq-eqb (start % 256) 0 t,
-                    le-ltb 0x12000000 (start + n) u,
-                    le-ltb room (512 * (n / 256)) h,
-                    e,
-                  )
+        pub passes : 512 * (n / 256) ≤ room → {m : ℕ} → m ≡ n / 256 → Made m ≡ checkOf n start room
+        unfolding checkOf
+        passes h {m} e = rw (p, q, le-ltb 0x12000000 (start + n) u, le-ltb room (512 * (n / 256)) h, e)
 
 -- what holds where m blocks are made
 pub record Right (n start room m : ℕ) : Type 0 where

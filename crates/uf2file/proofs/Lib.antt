@@ -1,5 +1,4 @@
 -- The laws of `specs/`, and the claims proved.
 pub mod Checks
-pub mod Blocks
 pub mod Files
 pub mod ReadBack

@@ -1,12 +1,11 @@
-// A UF2 file made of an image of whole pages: the checks, one block, and the whole file.
+// A UF2 file made of an image of whole pages: the checks, and the whole file.
 ghost use mathlib.Core.Path.{_≡_};
 ghost use Prim.Native.Nat.{_+_, _*_, _≤_};
 ghost use lib.ListN.{length};
 ghost use Rattle.sets.specs.Over.{over};
 ghost use Rattle.uf2file.specs.Uf2file.{
-  leadBytes,
-  blockBytes,
-  blockOver,
+  badImage,
+  badStart,
   fileBytes,
   checkOf,
   makeNumber,
@@ -46,25 +45,28 @@ impl MakeAnswer {
     }
 }
 
+fn bad_image(len: usize) -> bool
+    ensures { λ r. ⌜ r ≡ badImage len ⌝ }
+{
+    (len == 0) | (len % PAGE != 0)
+}
+
+fn bad_start(start: usize) -> bool
+    ensures { λ r. ⌜ r ≡ badStart start ⌝ }
+{
+    (start < WINDOW) | ((WINDOW_END <= start) | (start % PAGE != 0))
+}
+
 // What would come of an image of so many bytes. The start's distance from the window's end is compared, since the sum of start and length
 // need not fit.
 pub fn check(image_len: usize, start: u32, output_len: usize) -> MakeAnswer
     ensures { λ r. ⌜ r ≡ checkOf «image_len» start «output_len» ⌝ }
 {
-    if image_len == 0 {
-        return MakeAnswer::BadImage;
-    }
-    if image_len % PAGE != 0 {
-        return MakeAnswer::BadImage;
-    }
     let first = start as usize;
-    if first < WINDOW {
-        return MakeAnswer::BadStart;
+    if bad_image(image_len) {
+        return MakeAnswer::BadImage;
     }
-    if WINDOW_END <= first {
-        return MakeAnswer::BadStart;
-    }
-    if first % PAGE != 0 {
+    if bad_start(first) {
         return MakeAnswer::BadStart;
     }
     if WINDOW_END - first < image_len {
@@ -74,46 +76,8 @@ pub fn check(image_len: usize, start: u32, output_len: usize) -> MakeAnswer
     if output_len < Block::ARRIVAL * pages {
         return MakeAnswer::ShortOutput;
     }
-    MakeAnswer::Made(pages as u32)
-}
-
-// The fields before the data.
-fn put_lead(out: &mut [u8], address: u32, number: u32, total: u32, family: u32)
-    requires { ⌜ length (now out) ≡ 512 ⌝ }
-    ensures { λ _. ⌜ now (out .exit) ≡ over (now (out .entry)) 0 (leadBytes address number total family) ⌝ }
-{
-    block::put(out, 0, Block::MAGIC_FIRST);
-    block::put(out, 4, Block::MAGIC_SECOND);
-    block::put(out, 8, Block::FLAG_FAMILY);
-    block::put(out, 12, address);
-    block::put(out, 16, 256);
-    block::put(out, 20, number);
-    block::put(out, 24, total);
-    block::put(out, 28, family);
-}
-
-fn put_block(out: &mut [u8], address: u32, number: u32, total: u32, family: u32, page: &[u8])
-    requires { ⌜ length (now out) ≡ 512 ⌝ }
-    requires size { ⌜ length (now page) ≡ 256 ⌝ }
-    ensures { λ _. ⌜ now (out .exit) ≡ blockBytes address number total family (now (page .entry)) ⌝ }
-{
-    put_lead(out, address, number, total, family);
-    bytes::copy(page, &mut out[32..288]);
-    fill::fill(&mut out[288..508], 0);
-    block::put(out, 508, Block::MAGIC_LAST);
-}
-
-// Writes one block, for a tool that makes a file page by page. Where the output has not 512 bytes or the page not 256, nothing is written.
-pub fn write_block(out: &mut [u8], address: u32, number: u32, total: u32, family: u32, page: &[u8])
-    ensures { λ _. ⌜ now (out .exit) ≡ blockOver (now (out .entry)) address number total family (now (page .entry)) ⌝ }
-{
-    if out.len() != Block::ARRIVAL {
-        return;
-    }
-    if page.len() != PAGE {
-        return;
-    }
-    put_block(out, address, number, total, family, page);
+    let count = pages as u32;
+    MakeAnswer::Made(count)
 }
 
 // Writes a block for each page.
@@ -131,7 +95,7 @@ fn write_blocks(image: &[u8], family: u32, start: u32, total: u32, output: &mut 
         let from = Block::ARRIVAL * i;
         let to = from + Block::ARRIVAL;
         let address = start + 256 * k;
-        put_block(
+        uf2block::write_block(
             &mut output[from..to],
             address,
             k,

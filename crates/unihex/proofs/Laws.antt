@@ -1,17 +1,17 @@
--- Laws of a good record, one for each way that the code leaves. Assumes nothing.
-use Prim.Native.Nat.{ℕ, _+_, _%_, _≤_, _<_}
+-- Laws of a line, one for each way that the code leaves. Assumes nothing.
+use Prim.Native.Nat.{ℕ, _+_, _≤_, _<_}
 use mathlib.Core.Path.{_≡_, refl, ap, sym, _∙_}
-use mathlib.Core.Logic.{_≢_, ⊎-elim}
+use mathlib.Core.Logic.{⊎-elim}
 use types.Run.{OneOf}
 use denote.Enum.Declared.{tagOf}
 use native.Mathlib.Omega.{arith}
-use mathlib.Core.Bool.{Bool, true, false, _||_, not}
+use mathlib.Core.Bool.{Bool, true, false, _||_, not, cond}
 use mathlib.Core.List.{List, [], _∷_}
 use lib.ListN.{length, take}
 use lib.Dec.{ltb}
-use borrow.Author.Tests.{ltb-false, lt-ltb, le-ltb, eq-eqb}
+use borrow.Author.Tests.{ltb-false, lt-ltb, le-ltb}
 use Rattle.sets.specs.Over.{over}
-use Rattle.sets.proofs.Tests.{or-left, or-right}
+use Rattle.sets.proofs.Tests.{split, or-left, or-right}
 use Rattle.record.specs.declared.Record.{Record}
 use Rattle.record.proofs.ParseResult.{the-type}
 use Rattle.record.specs.declared.ParseResult.{ParseResult}
@@ -20,80 +20,74 @@ use Rattle.record.specs.declared.Line.{Line}
 use Rattle.record.specs.Record.{wordOf, readOf}
 use Rattle.grammar.specs.Answers.{numberOf, refusalOf}
 use Rattle.grammar.specs.Grammar.{roleOf}
-use Rattle.grammar.specs.Boards.{isV1, isV2, hasBoard, bothBoards}
+use Rattle.grammar.specs.Boards.{isV1, isV2}
 use Rattle.grammar.specs.declared.Answer.{Answer}
 use Rattle.grammar.specs.declared.Answer.the-variants as answer
-use Rattle.grammar.specs.declared.Answer.the-variants.{BadReader, BadImage, Repeated, MissingBoard, Outside, Stored, Passed, FileTooLong}
-use Rattle.grammar.specs.declared.ReaderState.the-variants.{Opened, Inside, Ended}
+use Rattle.grammar.specs.declared.Answer.the-variants.{BadReader, BadImage, Outside, Stored, Passed, FileTooLong}
 use Rattle.grammar.specs.declared.Role.{Role}
-use Rattle.grammar.specs.declared.Role.the-variants.{Opening, Naming, Ending}
-use Rattle.unihex.specs.declared.Reader.{Reader}
+use Rattle.hexreader.specs.declared.Reader.{Reader}
+use Rattle.hexreader.specs.declared.Effect.{Effect}
+use Rattle.hexreader.specs.declared.Effect.the-variants.{Fails, Passes, Stores, Ends}
+use Rattle.hexreader.specs.Reader.{badFailure, badReader, movedTo, effectOf}
 use Rattle.unihex.specs.declared.Halt.{Halt}
 use Rattle.unihex.specs.declared.Reply.{Reply}
-use Rattle.unihex.specs.declared.Effect.{Effect}
-use Rattle.unihex.specs.declared.Effect.the-variants.{Fails, Passes, Stores, Ends}
-use Rattle.unihex.specs.Reader.{badFailure, badReader, withState, withUpper, withSection, movedTo, effectOf}
-use Rattle.unihex.specs.Line.{LineOutcome, lineOutcome, reply, failedBy, failing, addressOf, storing, effectOutcome, recordOutcome, parsedLine, liveLine, haltOf, haltLine, badImage, lineOf, lineNumber}
-
-pub opening-passes : (r q s : Reader) (w : ℕ) → r .offset % 512 ≡ 0 → q ≡ withUpper r w → s ≡ withState q Opened → Passes s ≡ effectOf r Opening 0 0 w
-unfolding effectOf
-opening-passes r q s w h e f = simp (eq-eqb _ _ h) (ap Passes (f ∙ ap (λ (x : Reader). withState x Opened) e))
-
-pub naming-repeats : (r : Reader) (w : ℕ) (b : Bool) → b ≡ hasBoard (r .«sections_seen») w → b ≡ true → Fails Repeated ≡ effectOf r Naming 0 0 w
-unfolding effectOf
-naming-repeats r w b e h = simp (sym e ∙ h)
-
-pub naming-passes : (r q s : Reader) (w : ℕ) (b : Bool) → b ≡ hasBoard (r .«sections_seen») w → b ≡ false → q ≡ withSection r w → s ≡ withState q (Inside w) → Passes s ≡ effectOf r Naming 0 0 w
-unfolding effectOf
-naming-passes r q s w b e h f g =
-    simp (sym e ∙ h) (ap Passes (g ∙ ap (λ (x : Reader). withState x (Inside w)) f))
-
-pub ending-ends : (r q : Reader) (b : Bool) → b ≡ bothBoards (r .«data_seen») → b ≡ true → q ≡ withState r Ended → Ends q ≡ effectOf r Ending 0 0 0
-unfolding effectOf
-ending-ends r q b e h f = simp (sym e ∙ h) (ap Ends f)
-
-pub ending-misses : (r : Reader) (b : Bool) → b ≡ bothBoards (r .«data_seen») → b ≡ false → Fails MissingBoard ≡ effectOf r Ending 0 0 0
-unfolding effectOf
-ending-misses r b e h = simp (sym e ∙ h)
+use Rattle.unihex.specs.Line.{LineOutcome, lineOutcome, reply, failedBy, failing, addressOf, outside, storedAt, storing, effectOutcome, recordEffect, recordOutcome, parsedLine, liveLine, haltOf, haltLine, badImage, lineOf, lineNumber}
 
 -- ---- own data
 
-pub store-outside : (r q : Reader) (rec : Record) (d : List ℕ) (e : ℕ) (img : List ℕ) → q ≡ movedTo r e → length img < addressOf r rec + rec .len → lineOutcome q Outside img ≡ storing r rec d e img
-unfolding storing
-store-outside r q rec d e img h p = simp (lt-ltb _ _ p) (ap (λ (x : Reader). lineOutcome x Outside img) h)
+-- of bytes from an address on, the answer and the image
+module _ (at n : ℕ) (b img : List ℕ) where
+  pub at-outside : length img < at + n → (Outside ≡ cond (ltb (length img) (at + n)) Outside Stored) × (img ≡ storedAt at n b img)
+  at-outside h = (rw (lt-ltb (length img) (at + n) h), rw (lt-ltb (length img) (at + n) h))
 
-pub store-inside : (r q : Reader) (rec : Record) (d : List ℕ) (e : ℕ) (img new : List ℕ) → q ≡ movedTo r e → addressOf r rec + rec .len ≤ length img
-    → new ≡ over img (addressOf r rec) (take (rec .len) d) → lineOutcome q Stored new ≡ storing r rec d e img
-unfolding storing
-store-inside r q rec d e img new h p k =
-    simp (le-ltb _ _ p) (ap (λ (x : Reader). lineOutcome x Stored new) h ∙ ap (lineOutcome (movedTo r e) Stored) k)
+  pub at-inside : (new : List ℕ) → at + n ≤ length img → new ≡ over img at (take n b) → (Stored ≡ cond (ltb (length img) (at + n)) Outside Stored) × (new ≡ storedAt at n b img)
+  at-inside new h e = (rw (le-ltb (length img) (at + n) h), rw (le-ltb (length img) (at + n) h) e)
 
--- ---- a good record, by its step
+-- both, as the code stores a record's data
+pub stored-by : (r : Reader) (rec : Record) (d : List ℕ) (e : ℕ) (img new : List ℕ) (a : Answer) (x : Reply)
+    → a ≡ cond (outside r rec img) Outside Stored → new ≡ storedAt (addressOf r rec) (rec .len) d img → x ≡ reply (movedTo r e) a
+    → lineOutcome (x .reader) (x .answer) new ≡ storing r rec d e img
+unfolding storing
+stored-by r rec d e img new a x h k f =
+    ap (λ (y : Reply). lineOutcome (y .reader) (y .answer) new) f
+    ∙ ap (λ (b : Answer). lineOutcome (movedTo r e) b new) h
+    ∙ ap (lineOutcome (movedTo r e) (cond (outside r rec img) Outside Stored)) k
+    ∙ split (outside r rec img) (λ y. rw y) (λ y. rw y)
+
+-- ---- a good record, by its effect
 
 pub effect-fails : (r : Reader) (rec : Record) (d : List ℕ) (e : ℕ) (img : List ℕ) (a : Answer) (x : Reply) → x ≡ reply (failedBy a r) a → lineOutcome (x .reader) (x .answer) img ≡ effectOutcome r rec d e img (Fails a)
 unfolding effectOutcome
 effect-fails r rec d e img a x h = ap (λ (y : Reply). lineOutcome (y .reader) (y .answer) img) h
 
-pub effect-passes : (r q next : Reader) (rec : Record) (d : List ℕ) (e : ℕ) (img : List ℕ) → next ≡ movedTo q e → lineOutcome next Passed img ≡ effectOutcome r rec d e img (Passes q)
+pub effect-passes : (r q : Reader) (rec : Record) (d : List ℕ) (e : ℕ) (img : List ℕ) (x : Reply) → x ≡ reply (movedTo q e) Passed → lineOutcome (x .reader) (x .answer) img ≡ effectOutcome r rec d e img (Passes q)
 unfolding effectOutcome
-effect-passes r q next rec d e img h = ap (λ (y : Reader). lineOutcome y Passed img) h
+effect-passes r q rec d e img x h = ap (λ (y : Reply). lineOutcome (y .reader) (y .answer) img) h
 
-pub effect-ends : (r q next : Reader) (rec : Record) (d : List ℕ) (e : ℕ) (img : List ℕ) → next ≡ movedTo q e → lineOutcome next answer.Ended img ≡ effectOutcome r rec d e img (Ends q)
+pub effect-ends : (r q : Reader) (rec : Record) (d : List ℕ) (e : ℕ) (img : List ℕ) (x : Reply) → x ≡ reply (movedTo q e) answer.Ended → lineOutcome (x .reader) (x .answer) img ≡ effectOutcome r rec d e img (Ends q)
 unfolding effectOutcome
-effect-ends r q next rec d e img h = ap (λ (y : Reader). lineOutcome y answer.Ended img) h
+effect-ends r q rec d e img x h = ap (λ (y : Reply). lineOutcome (y .reader) (y .answer) img) h
 
 pub effect-stores : (r q : Reader) (rec : Record) (d : List ℕ) (e : ℕ) (img : List ℕ) (o : LineOutcome) → o ≡ storing q rec d e img → o ≡ effectOutcome r rec d e img (Stores q)
 unfolding effectOutcome
 effect-stores r q rec d e img o h = h
 
-pub applied-by : (r : Reader) (rec : Record) (d : List ℕ) (e : ℕ) (img : List ℕ) (role : Role) (word : ℕ) (s t : Effect) (o : LineOutcome)
-    → role ≡ roleOf (r .state) (rec .kind) (rec .len) → word ≡ wordOf d → s ≡ effectOf r role (rec .address) (rec .len) word → s ≡ t
-    → o ≡ effectOutcome r rec d e img t → o ≡ recordOutcome r rec d e img
+-- an effect, by its case
+pub performed-by : (r : Reader) (rec : Record) (d : List ℕ) (e : ℕ) (img : List ℕ) (s t : Effect) (o : LineOutcome) → s ≡ t → o ≡ effectOutcome r rec d e img t
+    → o ≡ effectOutcome r rec d e img s
+performed-by r rec d e img s t o f g = g ∙ ap (effectOutcome r rec d e img) (sym f)
+
+pub effect-by : (r : Reader) (rec : Record) (d : List ℕ) (role : Role) (word : ℕ) (s : Effect) → role ≡ roleOf (r .state) (rec .kind) (rec .len) → word ≡ wordOf d
+    → s ≡ effectOf r role (rec .address) (rec .len) word → s ≡ recordEffect r rec d
+effect-by r rec d role word s a b k =
+    k
+    ∙ ap (λ (x : Role). effectOf r x (rec .address) (rec .len) word) a
+    ∙ ap (effectOf r (roleOf (r .state) (rec .kind) (rec .len)) (rec .address) (rec .len)) b
+
+pub applied-by : (r : Reader) (rec : Record) (d : List ℕ) (e : ℕ) (img : List ℕ) (s : Effect) (o : LineOutcome) → s ≡ recordEffect r rec d → o ≡ effectOutcome r rec d e img s
+    → o ≡ recordOutcome r rec d e img
 unfolding recordOutcome
-applied-by r rec d e img role word s t o a b k f g =
-    g
-    ∙ ap (effectOutcome r rec d e img) (sym f ∙ k ∙ ap (λ (x : Role). effectOf r x (rec .address) (rec .len) word) a)
-    ∙ ap (λ (w : ℕ). effectOutcome r rec d e img (effectOf r (roleOf (r .state) (rec .kind) (rec .len)) (rec .address) (rec .len) w)) b
+applied-by r rec d e img s o f g = g ∙ ap (effectOutcome r rec d e img) f
 
 -- ---- a line of a reader that is neither failed nor at the end
 

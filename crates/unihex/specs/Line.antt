@@ -14,13 +14,13 @@ use Rattle.grammar.specs.declared.Answer.{Answer}
 use Rattle.grammar.specs.declared.Answer.the-variants as answer
 use Rattle.grammar.specs.declared.ReaderState.{ReaderState}
 use Rattle.grammar.specs.declared.ReaderState.the-variants.{Between, Opened, Inside, Padded, Ended, Failed}
-use Rattle.unihex.specs.declared.Reader.{Reader}
+use Rattle.hexreader.specs.declared.Reader.{Reader}
+use Rattle.hexreader.specs.declared.Effect.{Effect}
+use Rattle.hexreader.specs.declared.Effect.the-variants.{Fails, Passes, Stores, Ends}
+use Rattle.hexreader.specs.Reader.{badReader, withState, movedTo, effectOf}
 use Rattle.unihex.specs.declared.Halt.{Halt}
 use Rattle.unihex.specs.declared.Halt.the-variants.{No, By}
 use Rattle.unihex.specs.declared.Reply.{Reply}
-use Rattle.unihex.specs.declared.Effect.{Effect}
-use Rattle.unihex.specs.declared.Effect.the-variants.{Fails, Passes, Stores, Ends}
-use Rattle.unihex.specs.Reader.{badReader, withState, movedTo, effectOf}
 
 -- the next reader and the answer, as the code hands them back
 abbrev pub reply : Reader → Answer → Reply
@@ -54,6 +54,10 @@ addressOf r rec = 65536 * r .upper + rec .address
 abbrev pub outside : Reader → Record → List ℕ → Bool
 outside r rec img = ltb (length img) (addressOf r rec + rec .len)
 
+-- the image with the first n of some bytes from an address on, where they are wholly in it
+abbrev pub storedAt : ℕ → ℕ → List ℕ → List ℕ → List ℕ
+storedAt at n b img = cond (ltb (length img) (at + n)) img (over img at (take n b))
+
 -- own data, of a line that ends at offset e
 unfoldable pub storing : Reader → Record → List ℕ → ℕ → List ℕ → LineOutcome
 storing r rec d e img =
@@ -67,10 +71,13 @@ effectOutcome r rec d e img (Passes q) = lineOutcome (movedTo q e) answer.Passed
 effectOutcome r rec d e img (Stores q) = storing q rec d e img
 effectOutcome r rec d e img (Ends q) = lineOutcome (movedTo q e) answer.Ended img
 
+-- what it does, by its fields and its data
+abbrev pub recordEffect : Reader → Record → List ℕ → Effect
+recordEffect r rec d = effectOf r (roleOf (r .state) (rec .kind) (rec .len)) (rec .address) (rec .len) (wordOf d)
+
 -- rows 26 to 30 and 32 to 35
 unfoldable pub recordOutcome : Reader → Record → List ℕ → ℕ → List ℕ → LineOutcome
-recordOutcome r rec d e img =
-    effectOutcome r rec d e img (effectOf r (roleOf (r .state) (rec .kind) (rec .len)) (rec .address) (rec .len) (wordOf d))
+recordOutcome r rec d e img = effectOutcome r rec d e img (recordEffect r rec d)
 
 -- ---- a line
 

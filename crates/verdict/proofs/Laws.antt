@@ -5,16 +5,12 @@ use mathlib.Core.List.{List}
 use Prim.Native.Nat.{ℕ}
 use lib.ListN.{length}
 use Rattle.bitmap.specs.Bitmap.{markedIn}
-use Rattle.block.specs.Block.{fieldAt, hasFlag}
-use Rattle.block.specs.Region.{regionOf}
-use Rattle.block.specs.declared.Region.{Region}
-use Rattle.region.specs.Regions.{goodRegion, standsIn}
+use Rattle.block.specs.Block.{fieldAt}
 use Rattle.settings.specs.Settings.{goodSettings}
 use Rattle.settings.specs.declared.Settings.{Settings}
-use Rattle.place.specs.declared.Place.{Place}
-use Rattle.place.specs.declared.Place.the-variants.{Nowhere, At}
 use Rattle.transfer.specs.Transfer.{goodState, withDeed, stepOf}
 use Rattle.transfer.proofs.Laws.{stays-any, accepts-any}
+use Rattle.transfer.specs.declared.State.{State}
 use Rattle.transfer.specs.declared.Transfer.{Transfer}
 use Rattle.transfer.specs.declared.Unchanged.{Unchanged}
 use Rattle.transfer.specs.declared.Deed.{Deed}
@@ -28,31 +24,12 @@ use Rattle.screen.specs.Screen.{roomsOf, screenAt}
 use Rattle.screen.specs.declared.Rooms.{Rooms}
 use Rattle.screen.specs.declared.Lengths.{Lengths}
 use Rattle.screen.specs.declared.Placed.{Placed}
+use Rattle.screen.specs.declared.Screening.{Screening}
 use Rattle.screen.specs.declared.Screening.the-variants.{Refused, Passed}
 use Rattle.arrival.specs.Arrive.{Lent, Decision, lengthsOf, rightLengths, standsAt, deedOf, afterScreening, stays, accepts}
 use Rattle.verdict.specs.Lending.{world}
-use Rattle.verdict.specs.Verdict.{knownOf, knownDecision}
+use Rattle.verdict.specs.Verdict.{acceptedAs, knownOf, knownDecision}
 use Rattle.verdict.specs.declared.Known.{Known}
-
--- ---- what stands
-
-module _ (f a : List ℕ) (start size : ℕ) where
-  pub stands-bare : hasFlag a 0x4000 ≡ false → false ≡ standsAt f (At start size) a
-  unfolding standsAt
-  stands-bare h = rw h
-
-  module _ (h : hasFlag a 0x4000 ≡ true) {g : Region} (e : g ≡ regionOf a) {x : ℕ} (q : x ≡ fieldAt a 12) where
-    pub stands-bad : goodRegion size x g ≡ false → false ≡ standsAt f (At start size) a
-    unfolding standsAt
-    stands-bad n = rw (h, sym e, sym q, n)
-
-    pub stands-good : goodRegion size x g ≡ true → {r : Bool} → r ≡ standsIn f start g → r ≡ standsAt f (At start size) a
-    unfolding standsAt
-    stands-good n r = r ∙ rw (h, sym e, sym q, n)
-
-pub stands-nowhere : (f a : List ℕ) {p : Place} → p ≡ Nowhere → false ≡ standsAt f p a
-unfolding standsAt
-stands-nowhere f a e = rw e
 
 -- ---- rows 12 to 17
 
@@ -67,13 +44,27 @@ module _ (t : Transfer) (p : Placed) (seen : List ℕ) (kept : Bool) {m : Bool} 
       rw z
 
   -- and what is accepted is accepted
-  pub settled-accepts : {s : Step} → s ≡ stepOf (t .state) (p .head) m Stores → {y : Accepted} → s ≡ Accepts y → {d : Deed} → d ≡ deedOf kept p → {z : Accepted} → z ≡ withDeed d y
-      → accepts p d z ≡ afterScreening (t .state) seen kept (Passed p)
+  pub settled-accepts : {s : Step} → s ≡ stepOf (t .state) (p .head) m Stores → {y : Accepted} → s ≡ Accepts y
+      → {d : Decision} → d ≡ acceptedAs kept p y → d ≡ afterScreening (t .state) seen kept (Passed p)
   unfolding afterScreening
-  settled-accepts q {y} w f g =
+  settled-accepts q {y} w g =
       let v : stepOf (t .state) (p .head) (markedIn seen (p .number)) (deedOf kept p) ≡ Accepts (withDeed (deedOf kept p) y) =
       ap (λ (b : Bool). stepOf (t .state) (p .head) b (deedOf kept p)) (sym e) ∙ accepts-any (t .state) (p .head) m (deedOf kept p) (sym q ∙ w) in
-      rw (v, g, f)
+      rw v g
+
+-- the deed and what is done, call by call
+pub accepted-by : (kept : Bool) (p : Placed) (y : Accepted) {d : Deed} → d ≡ deedOf kept p → {z : Accepted} → z ≡ withDeed d y → accepts p d z ≡ acceptedAs kept p y
+accepted-by kept p y f g = rw (g, f)
+
+-- ---- rows 4 to 17
+
+module _ (t : State) (seen : List ℕ) (kept : Bool) {c : Screening} where
+  pub screened-refused : {x : Answer} → c ≡ Refused x → stays x ≡ afterScreening t seen kept c
+  unfolding afterScreening
+  screened-refused q = rw q
+
+  pub screened-passed : {p : Placed} → c ≡ Passed p → {d : Decision} → d ≡ afterScreening t seen kept (Passed p) → d ≡ afterScreening t seen kept c
+  screened-passed q y = rw q y
 
 -- ---- every row
 
@@ -99,11 +90,6 @@ module _ (known : Known) (t : Transfer) (a : List ℕ) (h : Lent) where
       unfolding knownDecision
       judge-state n = rw (l, g, n)
 
-      module _ (n : goodState (t .state) ≡ true) where
-        pub judge-refused : {x : Answer} → screenAt (known .rooms) sizes (t .state) a ≡ Refused x → stays x ≡ knownDecision known (world t h) a
-        unfolding knownDecision afterScreening
-        judge-refused q = rw (l, g, n, q)
-
-        pub judge-passed : {d : Decision} {p : Placed} → screenAt (known .rooms) sizes (t .state) a ≡ Passed p → d ≡ afterScreening (t .state) (h .seen) (standsAt (h .flash) (known .rooms .flash) a) (Passed p) → d ≡ knownDecision known (world t h) a
-        unfolding knownDecision
-        judge-passed q y = rw (l, g, n, q) y
+      pub judge-screened : goodState (t .state) ≡ true → {d : Decision} → d ≡ afterScreening (t .state) (h .seen) (standsAt (h .flash) (known .rooms .flash) a) (screenAt (known .rooms) sizes (t .state) a) → d ≡ knownDecision known (world t h) a
+      unfolding knownDecision
+      judge-screened n y = rw (l, g, n) y

@@ -8,11 +8,11 @@ use Rattle.settings.specs.Settings.{goodSettings}
 use Rattle.settings.specs.declared.Settings.{Settings}
 use Rattle.screen.specs.Screen.{roomsOf, screenAt}
 use Rattle.screen.specs.declared.Lengths.{Lengths}
-use Rattle.transfer.specs.Transfer.{numberOf, goodState}
-use Rattle.transfer.specs.declared.Deed.{Deed}
-use Rattle.transfer.specs.declared.Deed.the-variants.{Stores, Keeps}
+use Rattle.screen.specs.declared.Placed.{Placed}
+use Rattle.transfer.specs.Transfer.{numberOf, goodState, withDeed}
+use Rattle.transfer.specs.declared.Accepted.{Accepted}
 use Rattle.transfer.specs.declared.Answer.the-variants.{BadBuffers, BadSettings, BadState}
-use Rattle.arrival.specs.Arrive.{World, Decision, stays, accepts, lengthsOf, rightLengths, standsAt, afterScreening}
+use Rattle.arrival.specs.Arrive.{World, Decision, stays, accepts, lengthsOf, rightLengths, standsAt, deedOf, afterScreening}
 use Rattle.verdict.specs.declared.Known.{Known}
 use Rattle.verdict.specs.declared.Verdict.{Verdict}
 use Rattle.verdict.specs.declared.Verdict.the-variants.{Leaves, Accepts}
@@ -27,9 +27,9 @@ abbrev pub decisionNumber : Decision → ℕ
 decisionNumber (stays x) = numberOf x
 decisionNumber (accepts p d t) = numberOf (t .answer)
 
--- what a page does, where it is kept or not
-abbrev pub pageDeed : Bool → Deed
-pageDeed kept = cond kept Keeps Stores
+-- a block is accepted that would do y to the transfer if it were stored; `kept`: what it would store stands in the flash
+abbrev pub acceptedAs : Bool → Placed → Accepted → Decision
+acceptedAs kept p y = accepts p (deedOf kept p) (withDeed (deedOf kept p) y)
 
 -- what they say: row 1's word for buffers of lengths n, a seen map of m bytes and a sector map of k, row 2's word, and what row 8 asks of the settings
 abbrev pub knownOf : Settings → Lengths → ℕ → ℕ → List ℕ → Known

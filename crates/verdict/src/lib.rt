@@ -1,15 +1,13 @@
 // What an arrival comes to: the checks in their order, and what an accepted block does. Nothing is written.
 ghost use mathlib.Core.Path.{_≡_};
-ghost use mathlib.Core.Bool.{_&&_};
 ghost use Rattle.sets.specs.Numbered.{numbered};
 ghost use Rattle.place.specs.Place.{StartsLow};
-ghost use Rattle.transfer.specs.Transfer.{sameKind};
-ghost use Rattle.arrival.specs.Arrive.{rightLengths, standsAt, deedOf, afterScreening};
+ghost use Rattle.screen.specs.Screen.{screenAt};
+ghost use Rattle.arrival.specs.Arrive.{rightLengths, standsAt, afterScreening};
 ghost use Rattle.verdict.specs.Lending.{lentAt, world};
-ghost use Rattle.verdict.specs.Verdict.{pageDeed, decision, decisionNumber, knownOf, knownDecision};
+ghost use Rattle.verdict.specs.Verdict.{decision, decisionNumber, acceptedAs, knownOf, knownDecision};
 use block::Block;
 use place::Place;
-use screen::Body;
 use screen::Lengths;
 use screen::Placed;
 use screen::Rooms;
@@ -19,7 +17,6 @@ use settings::Settings;
 use transfer::Accepted;
 use transfer::Answer;
 use transfer::Deed;
-use transfer::Kind;
 use transfer::Step;
 use transfer::Transfer;
 
@@ -62,54 +59,29 @@ pub fn lengths_right(a: usize, lens: Lengths, m: usize, k: usize) -> bool
         & ((lens.xip == 0) | (lens.xip == Window::XIP_RAM))
 }
 
-// Does the region of an arrival, if it names one, count in a place of the flash, and have its digest there?
-fn stands_in(start: usize, size: usize, flash: &[u8], arrival: &[u8]) -> bool
-    ensures { λ r. ⌜ r ≡ standsAt (now (flash .entry)) (Place.At start size) (now (arrival .entry)) ⌝ }
+// What the settings and the lengths say of an arrival.
+pub fn known_of(settings: Settings, lens: Lengths, m: usize, k: usize, arrival: &[u8]) -> Known
+    ensures { λ r. ⌜ r ≡ knownOf settings lens m k (now (arrival .entry)) ⌝ }
+    ensures low { λ r. ⌜ StartsLow (r .rooms .flash) ⌝ }
 {
-    if !block::has_region(arrival) {
-        return false;
-    }
-    let region = block::read_region(arrival);
-    let address = block::field(arrival, 12);
-    if !region::good(region, size, address) {
-        return false;
-    }
-    region::stands(flash, start, region)
+    let right = lengths_right(arrival.len(), lens, m, k);
+    let good = settings::good(settings, lens.flash);
+    let family = block::field(arrival, 28);
+    let rooms = screen::rooms_for(settings, lens.flash, family);
+    Known { right, good, rooms }
 }
 
-fn stands_at(place: Place, flash: &[u8], arrival: &[u8]) -> bool
-    ensures { λ r. ⌜ r ≡ standsAt (now (flash .entry)) place (now (arrival .entry)) ⌝ }
+// A block that rows 12 and 13 let through, with what it would do to the transfer if it were stored.
+fn accept(placed: Placed, place: Place, stored: Accepted, arrival: &[u8], flash: &[u8]) -> Verdict
+    ensures { λ r. ⌜ decision r ≡ acceptedAs (standsAt (now (flash .entry)) place (now (arrival .entry))) placed stored ⌝ }
 {
-    match place {
-        Place::Nowhere => false,
-        Place::At { start, len } => stands_in(start, len, flash, arrival),
-    }
-}
-
-// A page is stored; in flash it is kept where it stands. The flash is read only there.
-fn page_deed(kind: Kind, place: Place, flash: &[u8], arrival: &[u8]) -> Deed
-    ensures { λ r. ⌜ r ≡ pageDeed (sameKind kind Kind.Flash && standsAt (now (flash .entry)) place (now (arrival .entry))) ⌝ }
-{
-    if !transfer::same_kind(kind, Kind::Flash) {
-        return Deed::Stores;
-    }
-    if stands_at(place, flash, arrival) {
-        return Deed::Keeps;
-    }
-    Deed::Stores
-}
-
-// What a block does once it is accepted, where `place` is its family's.
-fn deed_of(placed: Placed, place: Place, flash: &[u8], arrival: &[u8]) -> Deed
-    ensures { λ r. ⌜ r ≡ deedOf (standsAt (now (flash .entry)) place (now (arrival .entry))) placed ⌝ }
-{
-    let named = placed.head;
-    let kind = named.kind;
-    let body = placed.body;
-    match body {
-        Body::Page(_) => page_deed(kind, place, flash, arrival),
-        Body::Note => Deed::Notes,
-    }
+    let deed = deeds::deed_of(placed, place, flash, arrival);
+    let accepted = transfer::doing(stored, deed);
+    Verdict::Accepts(Acceptance {
+        placed,
+        deed,
+        accepted,
+    })
 }
 
 // Rows 12 to 17, of a block that has passed the screening. The flash is read where it is accepted, and not for 12 and 13.
@@ -132,28 +104,27 @@ fn settle(
             let given = unchanged.answer;
             Verdict::Leaves(given)
         }
-        Step::Accepts(stored) => {
-            let deed = deed_of(placed, place, flash, arrival);
-            let accepted = transfer::doing(stored, deed);
-            Verdict::Accepts(Acceptance {
-                placed,
-                deed,
-                accepted,
-            })
-        }
+        Step::Accepts(stored) => accept(placed, place, stored, arrival, flash),
     }
 }
 
-// What the settings and the lengths say of an arrival.
-pub fn known_of(settings: Settings, lens: Lengths, m: usize, k: usize, arrival: &[u8]) -> Known
-    ensures { λ r. ⌜ r ≡ knownOf settings lens m k (now (arrival .entry)) ⌝ }
-    ensures low { λ r. ⌜ StartsLow (r .rooms .flash) ⌝ }
+// Rows 4 to 17.
+fn screened(
+    rooms: Rooms,
+    lens: Lengths,
+    transfer: Transfer,
+    arrival: &[u8],
+    flash: &[u8],
+    seen: &[u8],
+) -> Verdict
+    ensures { λ r. ⌜ decision r ≡ afterScreening (transfer .state) (now (seen .entry)) (standsAt (now (flash .entry)) (rooms .flash) (now (arrival .entry))) (screenAt rooms lens (transfer .state) (now (arrival .entry))) ⌝ }
 {
-    let right = lengths_right(arrival.len(), lens, m, k);
-    let good = settings::good(settings, lens.flash);
-    let family = block::field(arrival, 28);
-    let rooms = screen::rooms_for(settings, lens.flash, family);
-    Known { right, good, rooms }
+    let place = rooms.flash;
+    let screening = screening::screen(rooms, lens, transfer, arrival);
+    match screening {
+        Screening::Refused(answer) => Verdict::Leaves(answer),
+        Screening::Passed(placed) => settle(transfer, placed, place, arrival, flash, seen),
+    }
 }
 
 // Every check, in its order. What the settings and the lengths say is handed in.
@@ -178,18 +149,10 @@ pub fn judge(
     if !transfer.sound() {
         return Verdict::Leaves(Answer::BadState);
     }
-    let rooms = known.rooms;
     let lens = Lengths {
         flash: flash.len(),
         main: main.len(),
         xip: xip.len(),
     };
-    let screening = screen::screen(rooms, lens, transfer, arrival);
-    match screening {
-        Screening::Refused(answer) => Verdict::Leaves(answer),
-        Screening::Passed(placed) => {
-            let place = rooms.flash;
-            settle(transfer, placed, place, arrival, flash, seen)
-        }
-    }
+    screened(known.rooms, lens, transfer, arrival, flash, seen)
 }

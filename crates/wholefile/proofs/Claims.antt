@@ -18,7 +18,7 @@ use Rattle.grammar.specs.Boards.{isV1, isV2}
 use Rattle.grammar.specs.declared.Answer.{Answer}
 use Rattle.grammar.specs.declared.Answer.the-variants as answer
 use Rattle.grammar.specs.declared.ReaderState.the-variants as state
-use Rattle.unihex.specs.declared.Reader.{Reader}
+use Rattle.hexreader.specs.declared.Reader.{Reader}
 use Rattle.unihex.specs.Reader.{badFailure, badReader, withState, movedTo}
 use Rattle.unihex.specs.Line.{LineOutcome, lineOutcome, badImage, lineOf}
 use Rattle.hexfile.specs.Facts.{Ready, Other-board-unchanged}

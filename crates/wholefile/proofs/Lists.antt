@@ -20,9 +20,9 @@ use Rattle.grammar.specs.declared.Answer.the-variants as answer
 use Rattle.grammar.specs.declared.Failure.{Failure}
 use Rattle.grammar.specs.declared.ReaderState.{ReaderState}
 use Rattle.grammar.specs.declared.ReaderState.the-variants as state
-use Rattle.unihex.specs.declared.Reader.{Reader}
+use Rattle.hexreader.specs.declared.Reader.{Reader}
 use Rattle.unihex.specs.Reader.{badFailure, badReader, withState, movedTo}
-use Rattle.unihex.specs.declared.Effect.{Effect}
+use Rattle.hexreader.specs.declared.Effect.{Effect}
 use Rattle.unihex.specs.Line.{LineOutcome, lineOutcome, failing, badImage, effectOutcome, lineOf}
 use Rattle.hexfile.specs.Facts.{Ready, movesOffset, Length-kept, Stays-good, Failures-fail}
 use Rattle.hexfile.specs.Lines.{Session, readLine, next, readAll, lineAnswers, storeOf, isStored, storesOf}

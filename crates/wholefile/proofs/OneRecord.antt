@@ -22,9 +22,9 @@ use Rattle.grammar.specs.declared.Answer.{Answer}
 use Rattle.grammar.specs.declared.Answer.the-variants as answer
 use Rattle.grammar.specs.declared.ReaderState.{ReaderState}
 use Rattle.grammar.specs.declared.ReaderState.the-variants.{Between, Opened, Inside, Padded, Ended}
-use Rattle.unihex.specs.declared.Reader.{Reader}
-use Rattle.unihex.specs.declared.Effect.{Effect}
-use Rattle.unihex.specs.declared.Effect.the-variants.{Fails, Passes, Stores, Ends}
+use Rattle.hexreader.specs.declared.Reader.{Reader}
+use Rattle.hexreader.specs.declared.Effect.{Effect}
+use Rattle.hexreader.specs.declared.Effect.the-variants.{Fails, Passes, Stores, Ends}
 use Rattle.unihex.specs.Reader.{withState, withUpper, withSection, withData, movedTo, givenOf, effectOf}
 use Rattle.unihex.specs.Line as unihex
 use Rattle.unihex.specs.Line.{LineOutcome, lineOutcome, storing, effectOutcome, recordOutcome, parsedLine, liveLine, haltLine, haltOf, lineOf}

@@ -12,7 +12,7 @@ use Rattle.grammar.specs.declared.Answer.the-variants.{Outside, Stored, Passed}
 use Rattle.grammar.specs.declared.Boards.{Boards}
 use Rattle.grammar.specs.declared.ReaderState.{ReaderState}
 use Rattle.grammar.specs.declared.ReaderState.the-variants.{Between, Opened, Inside, Padded}
-use Rattle.unihex.specs.declared.Reader.{Reader}
+use Rattle.hexreader.specs.declared.Reader.{Reader}
 use Rattle.wholefile.specs.Items.{Item, wordOf}
 use Rattle.wholefile.specs.Whole.{dataTypeOf}
 

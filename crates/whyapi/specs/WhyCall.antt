@@ -1,12 +1,13 @@
 -- What a call for a reason answers and writes. Assumes nothing.
-use Prim.Native.Nat.{ℕ, _+_, _*_, _/_, _%_}
+use Prim.Native.Nat.{ℕ, _+_, _/_, _%_}
 use mathlib.Core.Bool.{Bool, false, not, cond, _&&_}
-use mathlib.Core.List.{List}
+use mathlib.Core.List.{List, _∷_}
 use lib.Dec.{ltb, eqb}
-use lib.ListN.{length, getD, replicate}
+use lib.ListN.{length, replicate}
 use denote.Ref.{RefT, now}
 use denote.Triple.Both.{Both}
 use Rattle.sets.specs.Sets.{least}
+use Rattle.sets.specs.Over.{over}
 use Rattle.block.specs.Write.{putAt}
 use Rattle.transfer.specs.Transfer.{numberOf}
 use Rattle.layout.specs.Layout.{byteAt, entryBytes, usedOf, settingsFrom, transferFrom}
@@ -50,41 +51,30 @@ faultOther (LinksToB k) = 0
 faultOther (ManyUsers k) = 0
 faultOther (ReservedUser k) = 0
 
+-- what bad settings give, by their fault, and 0 for every other cause
+abbrev pub onFault : (Fault → ℕ) → Cause → ℕ
+onFault f (BadBuffers x) = 0
+onFault f (BadSettings x) = f x
+onFault f (BadState x) = 0
+onFault f (NotBlock x) = 0
+onFault f Container = 0
+onFault f NoFamily = 0
+onFault f (NoPlace x) = 0
+onFault f BadPayload = 0
+onFault f (BadNumbers x) = 0
+onFault f (BadAddress x) = 0
+onFault f Finished = 0
+onFault f Again = 0
+onFault f (Written x) = 0
+onFault f Completed = 0
+onFault f Noted = 0
+onFault f Kept = 0
+
 abbrev pub entryOf : Cause → ℕ
-entryOf (BadBuffers x) = 0
-entryOf (BadSettings x) = faultEntry x
-entryOf (BadState x) = 0
-entryOf (NotBlock x) = 0
-entryOf Container = 0
-entryOf NoFamily = 0
-entryOf (NoPlace x) = 0
-entryOf BadPayload = 0
-entryOf (BadNumbers x) = 0
-entryOf (BadAddress x) = 0
-entryOf Finished = 0
-entryOf Again = 0
-entryOf (Written x) = 0
-entryOf Completed = 0
-entryOf Noted = 0
-entryOf Kept = 0
+entryOf c = onFault faultEntry c
 
 abbrev pub otherOf : Cause → ℕ
-otherOf (BadBuffers x) = 0
-otherOf (BadSettings x) = faultOther x
-otherOf (BadState x) = 0
-otherOf (NotBlock x) = 0
-otherOf Container = 0
-otherOf NoFamily = 0
-otherOf (NoPlace x) = 0
-otherOf BadPayload = 0
-otherOf (BadNumbers x) = 0
-otherOf (BadAddress x) = 0
-otherOf Finished = 0
-otherOf Again = 0
-otherOf (Written x) = 0
-otherOf Completed = 0
-otherOf Noted = 0
-otherOf Kept = 0
+otherOf c = onFault faultOther c
 
 abbrev pub toldWith : ℕ → ℕ → ℕ → ℕ → ℕ → List ℕ → Told
 toldWith number g a entry other marks = record { number = number; got = g; against = a; entry = entry; other = other; marks = marks }
@@ -127,48 +117,19 @@ transferTold b x =
     (cond (ltb 2 (byteAt b 0)) (bare 307 (byteAt b 0) 2) (cond (not (eqb (byteAt b 0) 0) && ltb 2 (byteAt b 13)) (bare 307 (byteAt b 13) 2) x))
     (bare 306 (length b) 14)
 
--- in the row of the answer that they earn
-abbrev pub byteTold : Cause → List ℕ → List ℕ → Told → Told
-byteTold (BadBuffers x) s t y = y
-byteTold (BadSettings x) s t y = settingsTold s y
-byteTold (BadState x) s t y = transferTold t y
-byteTold (NotBlock x) s t y = y
-byteTold Container s t y = y
-byteTold NoFamily s t y = y
-byteTold (NoPlace x) s t y = y
-byteTold BadPayload s t y = y
-byteTold (BadNumbers x) s t y = y
-byteTold (BadAddress x) s t y = y
-byteTold Finished s t y = y
-byteTold Again s t y = y
-byteTold (Written x) s t y = y
-byteTold Completed s t y = y
-byteTold Noted s t y = y
-byteTold Kept s t y = y
+-- in the row of the answer that they earn, by its number
+unfoldable pub byteTold : ℕ → List ℕ → List ℕ → Told → Told
+byteTold n s t y = cond (eqb n 2) (settingsTold s y) (cond (eqb n 3) (transferTold t y) y)
 
 -- ---- 38 bytes: 0 the condition's number, 4 the number tested, 12 what it is tested against, the lowest byte first; 20 the entry, 21 the other; 22 a
 -- mark for each of 16 entries
-
--- the number of four bytes, the lowest first
-abbrev pub word : ℕ → ℕ → ℕ → ℕ → ℕ
-word a b c d = a + 256 * b + 65536 * c + 16777216 * d
 
 unfoldable pub numbersOver : List ℕ → ℕ → ℕ → ℕ → List ℕ
 numbersOver l number g a =
     putAt (putAt (putAt (putAt (putAt l 0 number) 4 (g % 4294967296)) 8 (g / 4294967296)) 12 (a % 4294967296)) 16 (a / 4294967296)
 
--- the last four bytes are written with the two before them once more, as 38 is no multiple of four
-unfoldable pub marksOver : List ℕ → ℕ → ℕ → List ℕ → List ℕ
-marksOver l entry other m =
-    putAt
-    (putAt
-    (putAt
-    (putAt
-    (putAt l 20 (word entry other (getD m 0 0) (getD m 1 0)))
-    24 (word (getD m 2 0) (getD m 3 0) (getD m 4 0) (getD m 5 0)))
-    28 (word (getD m 6 0) (getD m 7 0) (getD m 8 0) (getD m 9 0)))
-    32 (word (getD m 10 0) (getD m 11 0) (getD m 12 0) (getD m 13 0)))
-    34 (word (getD m 12 0) (getD m 13 0) (getD m 14 0) (getD m 15 0))
+abbrev pub marksOver : List ℕ → ℕ → ℕ → List ℕ → List ℕ
+marksOver l entry other m = over l 20 (entry ∷ other ∷ m)
 
 -- of another length they stay
 unfoldable pub toldOver : List ℕ → Told → List ℕ
@@ -191,7 +152,7 @@ returned n d = cond d (n + 128) n
 -- of a reason, with the bytes of settings and transfer
 unfoldable pub whyCall : List ℕ → List ℕ → Why → List ℕ → Call
 whyCall s t y l =
-    callReturn (returned (numberOf (answerOf (y .reason .cause))) (y .discarded)) (toldOver l (byteTold (y .reason .cause) s t (toldOf y)))
+    callReturn (returned (numberOf (answerOf (y .reason .cause))) (y .discarded)) (toldOver l (byteTold (numberOf (answerOf (y .reason .cause))) s t (toldOf y)))
 
 -- a lent slice of bytes, as a contract names it
 abbrev pub Slice : Type 0

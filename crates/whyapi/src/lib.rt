@@ -4,7 +4,6 @@ ghost use Prim.Native.Nat.{_≤_, _<_};
 ghost use lib.ListN.{length};
 ghost use Rattle.layout.specs.Layout.{usedOf};
 ghost use Rattle.whyapi.specs.WhyCall.{
-  word,
   faultEntry,
   faultOther,
   entryOf,
@@ -22,6 +21,7 @@ ghost use Rattle.whyapi.specs.WhyCall.{
   toldOver,
   returned,
   callReturn,
+  whyCall,
   whyCallOf,
   ruleNumber,
   placeTold,
@@ -61,13 +61,6 @@ const ENTRIES: usize = 16;
 
 const WORD: u64 = 4294967296;
 
-// The number of four bytes, the lowest first.
-fn word(a: u8, b: u8, c: u8, d: u8) -> u32
-    ensures { λ r. ⌜ r ≡ word a b c d ⌝ }
-{
-    (a as u32) + 256 * (b as u32) + 65536 * (c as u32) + 16777216 * (d as u32)
-}
-
 fn fault_entry(x: Fault) -> u8
     ensures { λ r. ⌜ r ≡ faultEntry x ⌝ }
 {
@@ -87,65 +80,30 @@ fn fault_entry(x: Fault) -> u8
 fn fault_other(x: Fault) -> u8
     ensures { λ r. ⌜ r ≡ faultOther x ⌝ }
 {
-    match x {
-        Fault::ArchOff => 0,
-        Fault::CountOver => 0,
-        Fault::NoSectors(_) => 0,
-        Fault::PastFlash(_) => 0,
-        Fault::Shares(_, j) => j,
-        Fault::LinksUp(_) => 0,
-        Fault::LinksToB(_) => 0,
-        Fault::ManyUsers(_) => 0,
-        Fault::ReservedUser(_) => 0,
-    }
+    let Fault::Shares(_, j) = x else {
+        return 0;
+    };
+    j
 }
 
 // The entry that a cause is of.
 fn entry_of(cause: Cause) -> u8
     ensures { λ r. ⌜ r ≡ entryOf cause ⌝ }
 {
-    match cause {
-        Cause::BadBuffers(_) => 0,
-        Cause::BadSettings(x) => fault_entry(x),
-        Cause::BadState(_) => 0,
-        Cause::NotBlock(_) => 0,
-        Cause::Container => 0,
-        Cause::NoFamily => 0,
-        Cause::NoPlace(_) => 0,
-        Cause::BadPayload => 0,
-        Cause::BadNumbers(_) => 0,
-        Cause::BadAddress(_) => 0,
-        Cause::Finished => 0,
-        Cause::Again => 0,
-        Cause::Written(_) => 0,
-        Cause::Completed => 0,
-        Cause::Noted => 0,
-        Cause::Kept => 0,
-    }
+    let Cause::BadSettings(x) = cause else {
+        return 0;
+    };
+    fault_entry(x)
 }
 
 // The other entry that it names.
 fn other_of(cause: Cause) -> u8
     ensures { λ r. ⌜ r ≡ otherOf cause ⌝ }
 {
-    match cause {
-        Cause::BadBuffers(_) => 0,
-        Cause::BadSettings(x) => fault_other(x),
-        Cause::BadState(_) => 0,
-        Cause::NotBlock(_) => 0,
-        Cause::Container => 0,
-        Cause::NoFamily => 0,
-        Cause::NoPlace(_) => 0,
-        Cause::BadPayload => 0,
-        Cause::BadNumbers(_) => 0,
-        Cause::BadAddress(_) => 0,
-        Cause::Finished => 0,
-        Cause::Again => 0,
-        Cause::Written(_) => 0,
-        Cause::Completed => 0,
-        Cause::Noted => 0,
-        Cause::Kept => 0,
-    }
+    let Cause::BadSettings(x) = cause else {
+        return 0;
+    };
+    fault_other(x)
 }
 
 fn told_with(number: u32, got: u64, against: u64, entry: u8, other: u8, marks: [u8; 16]) -> Told
@@ -253,28 +211,17 @@ fn transfer_told(bytes: &[u8], told: Told) -> Told
     told
 }
 
-// What is told of a reason, by the bytes that settings and transfer were read from.
-fn byte_told(cause: Cause, settings: &[u8], transfer: &[u8], told: Told) -> Told
-    ensures { λ r. ⌜ r ≡ byteTold cause (now (settings .entry)) (now (transfer .entry)) told ⌝ }
+// What is told of a reason, by its answer's number and the bytes that settings and transfer were read from.
+fn byte_told(number: u8, settings: &[u8], transfer: &[u8], told: Told) -> Told
+    ensures { λ r. ⌜ r ≡ byteTold number (now (settings .entry)) (now (transfer .entry)) told ⌝ }
 {
-    match cause {
-        Cause::BadBuffers(_) => told,
-        Cause::BadSettings(_) => settings_told(settings, told),
-        Cause::BadState(_) => transfer_told(transfer, told),
-        Cause::NotBlock(_) => told,
-        Cause::Container => told,
-        Cause::NoFamily => told,
-        Cause::NoPlace(_) => told,
-        Cause::BadPayload => told,
-        Cause::BadNumbers(_) => told,
-        Cause::BadAddress(_) => told,
-        Cause::Finished => told,
-        Cause::Again => told,
-        Cause::Written(_) => told,
-        Cause::Completed => told,
-        Cause::Noted => told,
-        Cause::Kept => told,
+    if number == 2 {
+        return settings_told(settings, told);
     }
+    if number == 3 {
+        return transfer_told(transfer, told);
+    }
+    told
 }
 
 // The condition's number and the two numbers.
@@ -292,20 +239,14 @@ fn put_numbers(out: &mut [u8], number: u32, got: u64, against: u64)
     block::put(out, 16, against_high as u32);
 }
 
-// The entries and the marks, four bytes at a time.
+// The entries and the marks.
 fn put_marks(out: &mut [u8], entry: u8, other: u8, marks: [u8; 16])
+    requires { ⌜ length (now out) ≡ 38 ⌝ }
     ensures { λ _. ⌜ now (out .exit) ≡ marksOver (now (out .entry)) entry other marks ⌝ }
 {
-    let a = word(entry, other, marks[0], marks[1]);
-    let b = word(marks[2], marks[3], marks[4], marks[5]);
-    let c = word(marks[6], marks[7], marks[8], marks[9]);
-    let d = word(marks[10], marks[11], marks[12], marks[13]);
-    let e = word(marks[12], marks[13], marks[14], marks[15]);
-    block::put(out, 20, a);
-    block::put(out, 24, b);
-    block::put(out, 28, c);
-    block::put(out, 32, d);
-    block::put(out, 34, e);
+    let pair = [entry, other];
+    bytes::copy(&pair, &mut out[20..22]);
+    bytes::copy(&marks, &mut out[22..38]);
 }
 
 // A reason, where there are bytes for it.
@@ -330,6 +271,19 @@ fn returned(number: u8, discarded: bool) -> u32
     number as u32
 }
 
+// What a call returns of a reason, which it writes.
+fn tell(why: Why, settings: &[u8], transfer: &[u8], out: &mut [u8]) -> u32
+    ensures { λ r. ⌜ callReturn r (now (out .exit)) ≡ whyCall (now (settings .entry)) (now (transfer .entry)) why (now (out .entry)) ⌝ }
+{
+    let reason = why.reason;
+    let cause = reason.cause;
+    let number = cause.answer().number();
+    let told = told_of(why);
+    let shown = byte_told(number, settings, transfer, told);
+    put_told(out, shown);
+    returned(number, why.discarded)
+}
+
 // Why an arrival is answered as it is: what `uf2_look` returns, and the reason. Nothing else is written.
 #[no_mangle]
 pub extern "C" fn uf2_why(
@@ -346,15 +300,9 @@ pub extern "C" fn uf2_why(
     ensures { λ r. ⌜ callReturn r (now (out .exit)) ≡ whyCallOf settings transfer arrival flash seen sectors main xip (now (out .entry)) ⌝ }
 {
     let s = layout::read_settings(settings);
-    let t = layout::read_transfer(transfer);
+    let t = transferbytes::read_transfer(transfer);
     let why = reason::explain(s, t, arrival, flash, seen, sectors, main, xip);
-    let told = told_of(why);
-    let reason = why.reason;
-    let cause = reason.cause;
-    let answer = cause.answer();
-    let shown = byte_told(cause, settings, transfer, told);
-    put_told(out, shown);
-    returned(answer.number(), why.discarded)
+    tell(why, settings, transfer, out)
 }
 
 fn rule_number(rule: Rule) -> u32

@@ -30,38 +30,76 @@ fn recorded(s: &Settings, shuffled: bool, lent: &mut Buffers) -> Vec<u8> {
     trace
 }
 
-/// A replay's stop is "none", and its transfer is done: 2 of each side.
-fn row(name: &str, shuffled: bool) {
+/// A trace with the settings that it was recorded under, on both sides, and the buffers as it left them.
+struct Site {
+    plain: Settings,
+    proved: proved::Settings,
+    trace: Vec<u8>,
+    buffers: Buffers,
+}
+
+impl Site {
+    fn new(shuffled: bool) -> Self {
+        let plain = settings(0, [Entry::EMPTY; 16]);
+        let mut buffers = Buffers::filled(FLASH, 0);
+        let trace = recorded(&plain, shuffled, &mut buffers);
+        Site {
+            proved: proved_settings(&plain),
+            plain,
+            trace,
+            buffers,
+        }
+    }
+
+    fn work(&self) -> Work {
+        Work {
+            rounds: ROUNDS,
+            calls: RECORDS as usize,
+            bytes: Some(self.trace.len()),
+        }
+    }
+
+    /// The proved replay: 2 where its stop is "none" and its transfer is done.
+    fn replay(&self, lent: &mut Buffers) -> (f64, u64) {
+        lent.flash.fill(0);
+        timed(|| {
+            let end = tools::trace::replay(black_box(&self.proved), &self.trace, &mut lent.lend());
+            let done = matches!(end.transfer, proved::Transfer::Done { .. });
+            u64::from(end.stop == tools::trace::Stop::None) + u64::from(done)
+        })
+    }
+
+    /// The proved report: its marks are the file's blocks, each replayed: twice their number.
+    fn report(&self, lent: &mut Buffers) -> (f64, u64) {
+        lent.flash.fill(0);
+        timed(|| {
+            let mut report = tools::report::Report::FRESH;
+            let lent = &mut lent.lend();
+            tools::report::add(&mut report, black_box(&self.proved), &self.trace, lent)
+                .expect("a fresh report");
+            u64::from(report.records) + u64::from(report.marked)
+        })
+    }
+}
+
+/// A trace replayed.
+fn replayed(name: &str, shuffled: bool) {
     if !asked(name) {
         return;
     }
-    let s = settings(0, [Entry::EMPTY; 16]);
-    let p = proved_settings(&s);
-    let mut ours = Buffers::filled(FLASH, 0);
-    let trace = recorded(&s, shuffled, &mut ours);
-    let mut theirs = ours.clone();
-    let work = Work {
-        rounds: ROUNDS,
-        calls: RECORDS as usize,
-        bytes: Some(trace.len()),
-    };
+    let site = Site::new(shuffled);
+    let (mut ours, mut theirs) = (site.buffers.clone(), site.buffers.clone());
     pair(
         name,
-        work,
-        || {
-            ours.flash.fill(0);
-            timed(|| {
-                let end = tools::trace::replay(black_box(&p), &trace, &mut ours.lend());
-                let done = matches!(end.transfer, proved::Transfer::Done { .. });
-                u64::from(end.stop == tools::trace::Stop::None) + u64::from(done)
-            })
-        },
+        site.work(),
+        || site.replay(&mut ours),
         || {
             theirs.flash.fill(0);
             let [flash, seen, sectors, main, xip] = theirs.each();
             timed(|| {
-                let s = black_box(&s);
-                let end = reference::replay::replay(s, &trace, flash, seen, sectors, main, xip);
+                let s = black_box(&site.plain);
+                let end =
+                    reference::replay::replay(s, &site.trace, flash, seen, sectors, main, xip);
                 let done = matches!(end.transfer, reference::Transfer::Done { .. });
                 u64::from(end.stop == reference::replay::Stop::None) + u64::from(done)
             })
@@ -70,41 +108,25 @@ fn row(name: &str, shuffled: bool) {
     assert!(ours == theirs, "{name}: the two leave the same");
 }
 
-/// A report's marks are the file's blocks, each replayed: twice their number of each side.
-fn figures(name: &str, shuffled: bool) {
+/// A trace added to a fresh report.
+fn reported(name: &str, shuffled: bool) {
     if !asked(name) {
         return;
     }
-    let s = settings(0, [Entry::EMPTY; 16]);
-    let p = proved_settings(&s);
-    let mut ours = Buffers::filled(FLASH, 0);
-    let trace = recorded(&s, shuffled, &mut ours);
-    let mut theirs = ours.clone();
-    let work = Work {
-        rounds: ROUNDS,
-        calls: RECORDS as usize,
-        bytes: Some(trace.len()),
-    };
+    let site = Site::new(shuffled);
+    let (mut ours, mut theirs) = (site.buffers.clone(), site.buffers.clone());
     pair(
         name,
-        work,
-        || {
-            ours.flash.fill(0);
-            timed(|| {
-                let mut report = tools::report::Report::FRESH;
-                let lent = &mut ours.lend();
-                tools::report::add(&mut report, black_box(&p), &trace, lent)
-                    .expect("a fresh report");
-                u64::from(report.records) + u64::from(report.marked)
-            })
-        },
+        site.work(),
+        || site.report(&mut ours),
         || {
             theirs.flash.fill(0);
             let [flash, seen, sectors, main, xip] = theirs.each();
             timed(|| {
                 let mut report = reference::figures::Report::FRESH;
-                let s = black_box(&s);
-                reference::figures::add(&mut report, s, &trace, flash, seen, sectors, main, xip)
+                let s = black_box(&site.plain);
+                let trace = &site.trace;
+                reference::figures::add(&mut report, s, trace, flash, seen, sectors, main, xip)
                     .expect("a fresh report");
                 u64::from(report.records) + u64::from(report.marked)
             })
@@ -114,10 +136,10 @@ fn figures(name: &str, shuffled: bool) {
 }
 
 pub fn rows() {
-    row("a record replayed, 131,072 in order", false);
-    row("a record replayed, 131,072 shuffled", true);
-    figures("a record in a report, 131,072 in order", false);
-    figures("a record in a report, 131,072 shuffled", true);
+    replayed("a record replayed, 131,072 in order", false);
+    replayed("a record replayed, 131,072 shuffled", true);
+    reported("a record in a report, 131,072 in order", false);
+    reported("a record in a report, 131,072 shuffled", true);
 }
 
 /// A trace added to a fresh report beside the same trace replayed, both proved: each side tells twice the number of the records.
@@ -125,36 +147,15 @@ fn beside(name: &str, shuffled: bool) {
     if !asked(name) {
         return;
     }
-    let s = settings(0, [Entry::EMPTY; 16]);
-    let p = proved_settings(&s);
-    let mut reported = Buffers::filled(FLASH, 0);
-    let trace = recorded(&s, shuffled, &mut reported);
-    let mut replayed = reported.clone();
-    let work = Work {
-        rounds: ROUNDS,
-        calls: RECORDS as usize,
-        bytes: Some(trace.len()),
-    };
+    let site = Site::new(shuffled);
+    let (mut reported, mut replayed) = (site.buffers.clone(), site.buffers.clone());
     pair(
         name,
-        work,
+        site.work(),
+        || site.report(&mut reported),
         || {
-            reported.flash.fill(0);
-            timed(|| {
-                let mut report = tools::report::Report::FRESH;
-                let lent = &mut reported.lend();
-                tools::report::add(&mut report, black_box(&p), &trace, lent)
-                    .expect("a fresh report");
-                u64::from(report.records) + u64::from(report.marked)
-            })
-        },
-        || {
-            replayed.flash.fill(0);
-            timed(|| {
-                let end = tools::trace::replay(black_box(&p), &trace, &mut replayed.lend());
-                let done = matches!(end.transfer, proved::Transfer::Done { .. });
-                u64::from(done) * 2 * u64::from(RECORDS)
-            })
+            let (time, told) = site.replay(&mut replayed);
+            (time, told * u64::from(RECORDS))
         },
     );
     assert!(reported == replayed, "{name}: the two leave the same");

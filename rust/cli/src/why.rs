@@ -15,14 +15,15 @@ use tools::why::{explain, explain_place, Lent, Reason};
 
 /// Its page of help.
 pub const HELP: &str = "\
-vantorel why FILE.uf2 [BOARD] [--block K] [--json]
+vantorel why FILE.uf2 [BOARD] [--block K] [-v] [--json]
 vantorel why place FAMILY [BOARD] [--json]
 
 Plays the file's blocks into a board, one after the other, and says for each arrival that was not taken which condition decided, with the number
-that was tested and what it was tested against. With `place`, it says where in the flash a family's blocks go and by which rule, or what shut
+that was tested and what it was tested against; blocks that come one after the other and have one reason share a line. With `place`, it says where in the flash a family's blocks go and by which rule, or what shut
 the family out. A file that is named place is ./place.
 
   --block K  the arrivals of the block of this number only, and those that were taken too
+  -v         a line for each arrival, though the next has the same reason
   --json     the same for scripts
 
 Exit status 0 where every arrival that it tells of was taken, or the family has a place; 1 where one was not, or it has none; 2 for a wrong
@@ -34,7 +35,7 @@ command line or a file that cannot be read.
 ";
 
 /// Its options, beside those of a board.
-pub const OPTIONS: &[Opt] = &[Opt::Value("--block"), Opt::Flag("--json")];
+pub const OPTIONS: &[Opt] = &[Opt::Value("--block"), Opt::Flag("-v"), Opt::Flag("--json")];
 
 /// Runs the command.
 pub fn run(args: &Args, out: &mut Out) -> crate::Outcome {
@@ -80,6 +81,36 @@ struct Told {
     block: Option<u32>,
     outcome: proved::Outcome,
     reason: Reason,
+}
+
+impl Told {
+    fn said(&self) -> String {
+        tell::said(self.outcome, &self.reason)
+    }
+
+    /// Does it come right after another, as the block with the next number or as no block too?
+    fn follows(&self, last: &Told) -> bool {
+        let next = match (last.block, self.block) {
+            (Some(number), Some(next)) => number.checked_add(1) == Some(next),
+            (None, None) => true,
+            _ => false,
+        };
+        next && self.arrival == last.arrival + 1
+    }
+}
+
+/// A line for each arrival, or one for those that follow each other and of which the same is said.
+fn lines(told: &[Told], each: bool) -> Vec<String> {
+    let one_line = |last: &Told, x: &Told| !each && x.follows(last) && x.said() == last.said();
+    let runs = told.chunk_by(one_line);
+    let line = |run: &[Told]| {
+        let (first, last) = (&run[0], &run[run.len() - 1]);
+        if run.len() == 1 {
+            return tell::arrival(first.arrival, first.block, &first.said());
+        }
+        tell::arrivals(first.arrival, last.arrival, first.block, &first.said())
+    };
+    runs.map(line).collect()
 }
 
 /// The block of `--block`, which the file must have.
@@ -148,6 +179,7 @@ struct Looked<'a> {
     asked: Option<u32>,
     told: &'a [Told],
     transfer: Transfer,
+    each: bool,
 }
 
 impl Looked<'_> {
@@ -170,8 +202,8 @@ impl Looked<'_> {
 
     fn words(&self, out: &mut Out) {
         out.line(self.board.line());
-        for x in self.told {
-            out.line(tell::arrival(x.arrival, x.block, x.outcome, &x.reason));
+        for line in lines(self.told, self.each) {
+            out.line(line);
         }
         out.line(format_args!("state: {}", state::words(self.transfer)));
         out.line(self.verdict());
@@ -206,6 +238,7 @@ fn arrivals(args: &Args, options: &Options, name: &str, out: &mut Out) -> crate:
         asked,
         told: &told,
         transfer,
+        each: args.flag("-v"),
     };
     if args.flag("--json") {
         out.line(looked.json());

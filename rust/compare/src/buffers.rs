@@ -153,16 +153,19 @@ impl Buffers {
     }
 
     /// A look of the proved receiver over bytes, with these: the result.
+    #[inline]
     pub fn look(&mut self, settings: &[u8], transfer: &[u8], arrival: &[u8]) -> u32 {
         proved::bytes::look(settings, transfer, arrival, &self.lend())
     }
 
     /// A take of the proved receiver over bytes, with these: the result.
+    #[inline]
     pub fn take(&mut self, settings: &[u8], transfer: &mut [u8], arrival: &[u8]) -> u32 {
         proved::bytes::take(settings, transfer, arrival, &mut self.lend())
     }
 
     /// An arrival accepted by the proved receiver over bytes, with these: the result.
+    #[inline]
     pub fn accept(
         &mut self,
         settings: &[u8],
@@ -175,6 +178,7 @@ impl Buffers {
     }
 
     /// Many takes of the proved receiver over bytes, with these: their number.
+    #[inline]
     pub fn take_all(
         &mut self,
         settings: &[u8],

@@ -1,6 +1,9 @@
 //! The calls as they are, for settings and transfers that are bytes already, of any length and content. What the library returns is handed
 //! on as it is.
 //!
+//! Each is inlined: a slice handed on by the stack, stored as its pointer and then its length, would be read back in one wide load, and that
+//! waits until every store before it is in the cache, the page of the arrival before among them.
+//!
 //! Every call is safe: a Rust slice is a pointer to as many bytes as it says, never null, and one that is written overlaps no other.
 
 use crate::ffi::{self, len};
@@ -10,11 +13,13 @@ use crate::{Beside, Buffers};
 pub const PLACE_BYTES: usize = 8;
 
 /// A fresh transfer, where there are [`TRANSFER_BYTES`](crate::TRANSFER_BYTES); else nothing changes.
+#[inline]
 pub fn new(transfer: &mut [u8]) {
     unsafe { ffi::uf2_new(transfer.as_mut_ptr(), len(transfer)) }
 }
 
 /// 0 and a place in the [`PLACE_BYTES`] of `place`; or the number of a refusal, and `place` stays.
+#[inline]
 pub fn ask(settings: &[u8], flash_len: usize, family: u32, place: &mut [u8]) -> u32 {
     unsafe {
         ffi::uf2_ask(
@@ -29,6 +34,7 @@ pub fn ask(settings: &[u8], flash_len: usize, family: u32, place: &mut [u8]) -> 
 }
 
 /// A look at an arrival: what [`take`] would return on the same bytes. It changes nothing.
+#[inline]
 pub fn look(settings: &[u8], transfer: &[u8], arrival: &[u8], buffers: &Buffers) -> u32 {
     unsafe {
         ffi::uf2_look(
@@ -53,6 +59,7 @@ pub fn look(settings: &[u8], transfer: &[u8], arrival: &[u8], buffers: &Buffers)
 }
 
 /// An arrival taken: the answer's number, and 128 more where a running transfer was discarded.
+#[inline]
 pub fn take(settings: &[u8], transfer: &mut [u8], arrival: &[u8], buffers: &mut Buffers) -> u32 {
     unsafe {
         ffi::uf2_take(
@@ -78,6 +85,7 @@ pub fn take(settings: &[u8], transfer: &mut [u8], arrival: &[u8], buffers: &mut 
 
 /// An arrival accepted, with the flash left to a driver: what [`take`] would return, and in the [`PLAN_BYTES`](crate::PLAN_BYTES) of `plan` what
 /// is left to do to the flash. Another length of `plan` is answered 1, and nothing changes.
+#[inline]
 pub fn accept(
     settings: &[u8],
     transfer: &mut [u8],
@@ -112,6 +120,7 @@ pub fn accept(
 
 /// Whole arrivals taken one after the other, as many as there are bytes in `results`, which get what [`take`] would return; their
 /// number.
+#[inline]
 pub fn take_all(
     settings: &[u8],
     transfer: &mut [u8],

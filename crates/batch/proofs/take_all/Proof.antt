@@ -1,45 +1,40 @@
--- `batch::take_all` meets its contract. The invariant: what is still to be taken leads to the same end, and what is kept is what the settings
--- say of its family. Assumes nothing.
+-- `batch::take_all` meets its contract. The invariant: what is still to be taken leads to the same end, and what is kept of a
+-- family is what the settings say of it. Assumes nothing.
 use Prim.Native.Nat.{_≤_, _-_, _*_}
-use mathlib.Core.Path.{_≡_, refl, sym, _∙_}
+use mathlib.Core.Path.{_≡_, refl, sym, ap, _∙_}
 use native.Mathlib.Omega.{arith}
 use lib.ListN.{length, drop, length-set}
 use Rattle.receiver.specs.Receiver.{lent, world}
+use Rattle.judged.specs.declared.Judged.{Judged}
 use Rattle.batch.specs.Batch.{arrivalsOf, batchOf}
 use Rattle.batch.specs.Parts.{Knows}
-use Rattle.batch.proofs.Laws.{Stays, stays-first, stays-on, arrival-size, endFrom, end-starts, end-more, end-ran}
+use Rattle.batch.proofs.Laws.{knows-of, Stays, stays-judged, stays-on, arrival-size, endFrom, end-starts, end-more, end-ran}
 use borrow.Author.Needs.{needs}
 use Rattle.batch.proofs.take_all.Statement.{statement}
 use Rattle.batch.proofs.take_all.Tie as tie
 
 abbrev Inv-loop : tie.InvT-loop
-Inv-loop settings arrivals results₀ flash₀ seen₀ sectors₀ main₀ xip₀ n right good kept₀ next₀ accepted₀ i₀ results flash seen sectors main xip kept next accepted i =
+Inv-loop settings arrivals results₀ flash₀ seen₀ sectors₀ main₀ xip₀ n first kept₀ next₀ accepted₀ i₀ results flash seen sectors main xip kept next accepted i =
     (i ≤ n)
     × (length results ≡ length results₀)
-    × Stays settings (lent flash₀ seen₀ sectors₀ main₀ xip₀) right good (lent flash seen sectors main xip)
+    × Stays settings (lent flash₀ seen₀ sectors₀ main₀ xip₀) (first .right) (first .good) (lent flash seen sectors main xip)
     × Knows settings (length flash) kept
     × (endFrom n settings (world next (lent flash seen sectors main xip)) accepted results i (arrivalsOf (n - i) (drop (i * 512) arrivals)) ≡ batchOf settings (world next₀ (lent flash₀ seen₀ sectors₀ main₀ xip₀)) arrivals results₀)
 
 abbrev μ-loop : tie.MeasureT-loop
-μ-loop settings arrivals results₀ flash₀ seen₀ sectors₀ main₀ xip₀ n right good kept₀ next₀ accepted₀ i₀ results flash seen sectors main xip kept next accepted i =
+μ-loop settings arrivals results₀ flash₀ seen₀ sectors₀ main₀ xip₀ n first kept₀ next₀ accepted₀ i₀ results flash seen sectors main xip kept next accepted i =
     n - i
 
 at-most-requires : tie.Need-at-most-requires Inv-loop μ-loop
 at-most-requires c κs = search needs
 
-lengths-right-requires : tie.Need-lengths-right-requires Inv-loop μ-loop
-lengths-right-requires c κs = search needs
-
-good-requires : tie.Need-good-requires Inv-loop μ-loop
-good-requires c κs = search needs
-
-rooms-for-requires : tie.Need-rooms-for-requires Inv-loop μ-loop
-rooms-for-requires c κs = search needs
+judge-requires : tie.Need-judge-requires Inv-loop μ-loop
+judge-requires c κs = search needs
 
 loop-holds : tie.Need-loop-holds Inv-loop μ-loop
 loop-holds c =
-    let made = c .before .before .before in
-    (search needs, refl, stays-first _ _ (c .before .before .lengths-right .ensures, c .before .good2 .ensures), c .rooms-for .ensures, end-starts _ _ _ _ (made .at-most .ensures .0))
+    let judged = c .before .judge .ensures in
+    (search needs, refl, stays-judged _ _ _ (judged .0), knows-of _ _ (ap (λ (j : Judged). j .kept) (judged .0)) (judged .1), end-starts _ _ _ _ (c .before .before .at-most .ensures .0))
 
 mul-from : tie.Need-mul-from Inv-loop μ-loop
 mul-from c = search needs
@@ -63,14 +58,14 @@ take-next-requires : tie.Need-take-next-requires Inv-loop μ-loop
 take-next-requires c κs =
     let round = c .before .before .before .before .before .before in
     let at = round .before .loop in
-    let made = round .before .before .before .before .before in
+    let made = round .before .before .before .before in
     (at .inv .2 .judged, (at .inv .3, arrival-size _ _ (made .before .before .before .before .before .before .before .before .args .arrivals .now) (round .loop-test .taken) (made .at-most .ensures .1 .0)))
 
 slice-write-results : tie.Need-slice-write-results Inv-loop μ-loop
 slice-write-results c =
     let round = c .before .before .before .before .before .before .before .before .before .before .before .before .before .before .before .before .before .before .before in
     let at = round .before .loop in
-    let made = round .before .before .before .before .before in
+    let made = round .before .before .before .before in
     omega (arith, at .inv .1, round .loop-test .taken, made .at-most .ensures .1 .1)
 
 loop-less : tie.Need-loop-less Inv-loop μ-loop
@@ -83,8 +78,7 @@ loop-again c =
     let round = got .before .before .before .before .before .before .before in
     let at = round .before .loop in
     let took = got .take-next .ensures in
-    let flash-same = lengths .before .before .before .before .before .before .before .before .flash .given in
-    (search needs, simp length-set (at .inv .1), stays-on _ _ _ _ (at .inv .2) (flash-same, lengths .before .before .before .before .before .before .seen .given, lengths .before .before .before .before .sectors .given, lengths .before .before .main .given, lengths .xip .given), rw (sym flash-same) at (took .1), end-more _ _ _ _ _ _ _ _ (got .take-next .result) (round .loop-test .taken) (took .0) ∙ at .inv .4)
+    (search needs, simp length-set (at .inv .1), stays-on _ _ _ _ (at .inv .2) (lengths .before .before .before .before .before .before .before .before .flash .given, lengths .before .before .before .before .before .before .seen .given, lengths .before .before .before .before .sectors .given, lengths .before .before .main .given, lengths .xip .given), rw (sym (lengths .before .before .before .before .before .before .before .before .flash .given)) at (took .1), end-more _ _ _ _ _ _ _ _ (got .take-next .result) (round .loop-test .taken) (took .0) ∙ at .inv .4)
 
 same-length : tie.Need-same-length Inv-loop μ-loop
 same-length c = search needs
@@ -114,9 +108,7 @@ take-all-spec =
     Inv-loop
     μ-loop
     at-most-requires
-    lengths-right-requires
-    good-requires
-    rooms-for-requires
+    judge-requires
     loop-holds
     mul-from
     add-to

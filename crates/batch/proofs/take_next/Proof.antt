@@ -1,6 +1,6 @@
 -- `batch::take_next` meets its contract. Assumes nothing.
 use Rattle.sets.proofs.Numbered.{answer-is}
-use Rattle.batch.proofs.Laws.{turn-known, turn-told}
+use Rattle.batch.proofs.Laws.{turn-knows, turn-known, turn-told}
 use borrow.Author.Needs.{needs}
 use Rattle.batch.proofs.take_next.Statement.{statement}
 use Rattle.batch.proofs.take_next.Tie as tie
@@ -8,8 +8,8 @@ use Rattle.batch.proofs.take_next.Tie as tie
 field-requires : tie.Need-field-requires
 field-requires c κs = search needs
 
-rooms-for-requires : tie.Need-rooms-for-requires
-rooms-for-requires c κs = c .before .before .before .before .before .before .before .pre .1 .0
+next-requires : tie.Need-next-requires
+next-requires c κs = search needs
 
 take-known-requires : tie.Need-take-known-requires
 take-known-requires c κs = search needs
@@ -40,16 +40,16 @@ returns c =
     let got = c .before .before .before .before .before .before .before .before .before .before .before .before .before in
     let kept = got .before .before .before .before .before .before .before in
     let start = kept .before .before .before .before .before .before .before .before in
-    let knows = kept .rooms-for .ensures in
-    let took = turn-known _ _ _ _ (start .pre .0) (start .pre .1 .1) (kept .before .field .ensures) (knows .0) (knows .1) (answer-is (got .take-known .ensures)) in
-    (turn-told (kept .rooms-for .result) took (c .before .result .ensures) (c .is-acceptance .ensures), knows .1)
+    let knows = turn-knows _ _ (kept .before .field .result) (start .pre .1 .0) (kept .next .ensures .0) (kept .next .ensures .1) in
+    let took = turn-known _ _ _ _ (start .pre .0) (start .pre .1 .1) (kept .before .field .ensures) (start .pre .1 .0) (kept .next .ensures .0) (knows .low) (answer-is (got .take-known .ensures)) in
+    (turn-told (kept .next .result) took (c .before .result .ensures) (c .is-acceptance .ensures), knows)
 
 pub take-next-spec : {M : Type 1} → statement M
 take-next-spec =
     tie.close
     (tie.spec
     field-requires
-    rooms-for-requires
+    next-requires
     take-known-requires
     result-requires
     is-acceptance-requires

@@ -6,29 +6,29 @@ use borrow.Author.Needs.{needs}
 use Rattle.causes.proofs.address_row.Statement.{statement}
 use Rattle.causes.proofs.address_row.Tie as tie
 
-decides-requires : tie.Need-decides-requires
-decides-requires c κs = search needs
+bad-address-requires : tie.Need-bad-address-requires
+bad-address-requires c κs = search needs
 
 returns : tie.Need-returns
 unfolding rowOf addressRow
-returns c = c .decides .ensures ∙ simp (lt-ltb _ _ (c .before .if1 .taken))
+returns c = c .bad-address .ensures ∙ simp (lt-ltb _ _ (c .before .if1 .taken))
 
-decides-requires-2 : tie.Need-decides-requires-2
-decides-requires-2 c κs = search needs
+bad-address-requires-2 : tie.Need-bad-address-requires-2
+bad-address-requires-2 c κs = search needs
 
 returns-2 : tie.Need-returns-2
 unfolding rowOf addressRow
-returns-2 c = c .decides2 .ensures ∙ simp (le-ltb _ _ (c .before .before .if1 .left), ne-eqb _ _ (c .before .if2 .taken))
+returns-2 c = c .bad-address2 .ensures ∙ simp (le-ltb _ _ (c .before .before .if1 .left), ne-eqb _ _ (c .before .if2 .taken))
 
 add-past : tie.Need-add-past
 add-past c = search needs
 
-decides-requires-3 : tie.Need-decides-requires-3
-decides-requires-3 c κs = search needs
+bad-address-requires-3 : tie.Need-bad-address-requires-3
+bad-address-requires-3 c κs = search needs
 
 returns-3 : tie.Need-returns-3
 unfolding rowOf addressRow
-returns-3 c = c .decides3 .ensures ∙ simp (le-ltb _ _ (c .before .before .before .if1 .left), eq-eqb _ _ (c .before .before .if2 .left), lt-ltb _ _ (c .before .if3 .taken))
+returns-3 c = c .bad-address3 .ensures ∙ simp (le-ltb _ _ (c .before .before .before .if1 .left), eq-eqb _ _ (c .before .before .if2 .left), lt-ltb _ _ (c .before .if3 .taken))
 
 returns-4 : tie.Need-returns-4
 unfolding rowOf addressRow
@@ -38,11 +38,11 @@ pub address-row-spec : {M : Type 1} → statement M
 address-row-spec =
     tie.close
     (tie.spec
-    decides-requires
+    bad-address-requires
     returns
-    decides-requires-2
+    bad-address-requires-2
     returns-2
     add-past
-    decides-requires-3
+    bad-address-requires-3
     returns-3
     returns-4)

@@ -6,26 +6,26 @@ use borrow.Author.Needs.{needs}
 use Rattle.causes.proofs.flash_row.Statement.{statement}
 use Rattle.causes.proofs.flash_row.Tie as tie
 
-decides-requires : tie.Need-decides-requires
-decides-requires c κs = search needs
+bad-length-requires : tie.Need-bad-length-requires
+bad-length-requires c κs = search needs
 
 returns : tie.Need-returns
 unfolding rowOf flashRow
-returns c = c .decides .ensures ∙ simp (ne-eqb _ _ (c .before .if1 .taken))
+returns c = c .bad-length .ensures ∙ simp (ne-eqb _ _ (c .before .if1 .taken))
 
-decides-requires-2 : tie.Need-decides-requires-2
-decides-requires-2 c κs = search needs
+bad-length-requires-2 : tie.Need-bad-length-requires-2
+bad-length-requires-2 c κs = search needs
 
 returns-2 : tie.Need-returns-2
 unfolding rowOf flashRow
-returns-2 c = c .decides2 .ensures ∙ simp (eq-eqb _ _ (c .before .before .if1 .left), lt-ltb _ _ (c .before .if2 .taken))
+returns-2 c = c .bad-length2 .ensures ∙ simp (eq-eqb _ _ (c .before .before .if1 .left), lt-ltb _ _ (c .before .if2 .taken))
 
-decides-requires-3 : tie.Need-decides-requires-3
-decides-requires-3 c κs = search needs
+bad-length-requires-3 : tie.Need-bad-length-requires-3
+bad-length-requires-3 c κs = search needs
 
 returns-3 : tie.Need-returns-3
 unfolding rowOf flashRow
-returns-3 c = c .decides3 .ensures ∙ simp (eq-eqb _ _ (c .before .before .before .if1 .left), le-ltb _ _ (c .before .before .if2 .left), lt-ltb _ _ (c .before .if3 .taken))
+returns-3 c = c .bad-length3 .ensures ∙ simp (eq-eqb _ _ (c .before .before .before .if1 .left), le-ltb _ _ (c .before .before .if2 .left), lt-ltb _ _ (c .before .if3 .taken))
 
 returns-4 : tie.Need-returns-4
 unfolding rowOf flashRow
@@ -35,10 +35,10 @@ pub flash-row-spec : {M : Type 1} → statement M
 flash-row-spec =
     tie.close
     (tie.spec
-    decides-requires
+    bad-length-requires
     returns
-    decides-requires-2
+    bad-length-requires-2
     returns-2
-    decides-requires-3
+    bad-length-requires-3
     returns-3
     returns-4)

@@ -8,12 +8,12 @@ use borrow.Author.Needs.{needs}
 use Rattle.causes.proofs.lengths_row.Statement.{statement}
 use Rattle.causes.proofs.lengths_row.Tie as tie
 
-decides-requires : tie.Need-decides-requires
-decides-requires c κs = search needs
+bad-length-requires : tie.Need-bad-length-requires
+bad-length-requires c κs = search needs
 
 returns : tie.Need-returns
 unfolding rowOf lengthsRow
-returns c = c .decides .ensures ∙ simp (ne-eqb _ _ (c .before .if1 .taken))
+returns c = c .bad-length .ensures ∙ simp (ne-eqb _ _ (c .before .if1 .taken))
 
 flash-row-requires : tie.Need-flash-row-requires
 flash-row-requires c κs = search needs
@@ -39,7 +39,7 @@ pub lengths-row-spec : {M : Type 1} → statement M
 lengths-row-spec =
     tie.close
     (tie.spec
-    decides-requires
+    bad-length-requires
     returns
     flash-row-requires
     enum-known-r

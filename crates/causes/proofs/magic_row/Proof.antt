@@ -6,35 +6,26 @@ use borrow.Author.Needs.{needs}
 use Rattle.causes.proofs.magic_row.Statement.{statement}
 use Rattle.causes.proofs.magic_row.Tie as tie
 
-cast-decides : tie.Need-cast-decides
-cast-decides c = search needs
-
-decides-requires : tie.Need-decides-requires
-decides-requires c κs = search needs
+not-block-requires : tie.Need-not-block-requires
+not-block-requires c κs = search needs
 
 returns : tie.Need-returns
 unfolding rowOf magicRow
-returns c = c .decides .ensures ∙ simp (ne-eqb _ _ (c .before .if1 .taken))
+returns c = c .not-block .ensures ∙ simp (ne-eqb _ _ (c .before .if1 .taken))
 
-cast-decides-2 : tie.Need-cast-decides-2
-cast-decides-2 c = search needs
-
-decides-requires-2 : tie.Need-decides-requires-2
-decides-requires-2 c κs = search needs
+not-block-requires-2 : tie.Need-not-block-requires-2
+not-block-requires-2 c κs = search needs
 
 returns-2 : tie.Need-returns-2
 unfolding rowOf magicRow
-returns-2 c = c .decides2 .ensures ∙ simp (eq-eqb _ _ (c .before .before .if1 .left), ne-eqb _ _ (c .before .if2 .taken))
+returns-2 c = c .not-block2 .ensures ∙ simp (eq-eqb _ _ (c .before .before .if1 .left), ne-eqb _ _ (c .before .if2 .taken))
 
-cast-decides-3 : tie.Need-cast-decides-3
-cast-decides-3 c = search needs
-
-decides-requires-3 : tie.Need-decides-requires-3
-decides-requires-3 c κs = search needs
+not-block-requires-3 : tie.Need-not-block-requires-3
+not-block-requires-3 c κs = search needs
 
 returns-3 : tie.Need-returns-3
 unfolding rowOf magicRow
-returns-3 c = c .decides3 .ensures ∙ simp (eq-eqb _ _ (c .before .before .before .if1 .left), eq-eqb _ _ (c .before .before .if2 .left), ne-eqb _ _ (c .before .if3 .taken))
+returns-3 c = c .not-block3 .ensures ∙ simp (eq-eqb _ _ (c .before .before .before .if1 .left), eq-eqb _ _ (c .before .before .if2 .left), ne-eqb _ _ (c .before .if3 .taken))
 
 returns-4 : tie.Need-returns-4
 unfolding rowOf magicRow
@@ -44,13 +35,10 @@ pub magic-row-spec : {M : Type 1} → statement M
 magic-row-spec =
     tie.close
     (tie.spec
-    cast-decides
-    decides-requires
+    not-block-requires
     returns
-    cast-decides-2
-    decides-requires-2
+    not-block-requires-2
     returns-2
-    cast-decides-3
-    decides-requires-3
+    not-block-requires-3
     returns-3
     returns-4)

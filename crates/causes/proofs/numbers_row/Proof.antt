@@ -9,26 +9,26 @@ use Rattle.causes.proofs.numbers_row.Tie as tie
 mul-bytes : tie.Need-mul-bytes
 mul-bytes c = search needs
 
-decides-requires : tie.Need-decides-requires
-decides-requires c κs = search needs
+bad-numbers-requires : tie.Need-bad-numbers-requires
+bad-numbers-requires c κs = search needs
 
 returns : tie.Need-returns
 unfolding rowOf numbersRow
-returns c = c .decides .ensures ∙ simp (eq-eqb _ _ (c .before .if1 .taken))
+returns c = c .bad-numbers .ensures ∙ simp (eq-eqb _ _ (c .before .if1 .taken))
 
-decides-requires-2 : tie.Need-decides-requires-2
-decides-requires-2 c κs = search needs
+bad-numbers-requires-2 : tie.Need-bad-numbers-requires-2
+bad-numbers-requires-2 c κs = search needs
 
 returns-2 : tie.Need-returns-2
 unfolding rowOf numbersRow
-returns-2 c = c .decides2 .ensures ∙ simp (ne-eqb _ _ (c .before .before .if1 .left), lt-ltb _ _ (c .before .if2 .taken))
+returns-2 c = c .bad-numbers2 .ensures ∙ simp (ne-eqb _ _ (c .before .before .if1 .left), lt-ltb _ _ (c .before .if2 .taken))
 
-decides-requires-3 : tie.Need-decides-requires-3
-decides-requires-3 c κs = search needs
+bad-numbers-requires-3 : tie.Need-bad-numbers-requires-3
+bad-numbers-requires-3 c κs = search needs
 
 returns-3 : tie.Need-returns-3
 unfolding rowOf numbersRow
-returns-3 c = c .decides3 .ensures ∙ simp (ne-eqb _ _ (c .before .before .before .if1 .left), le-ltb _ _ (c .before .before .if2 .left), le-leb _ _ (c .before .if3 .taken))
+returns-3 c = c .bad-numbers3 .ensures ∙ simp (ne-eqb _ _ (c .before .before .before .if1 .left), le-ltb _ _ (c .before .before .if2 .left), le-leb _ _ (c .before .if3 .taken))
 
 returns-4 : tie.Need-returns-4
 unfolding rowOf numbersRow
@@ -39,10 +39,10 @@ numbers-row-spec =
     tie.close
     (tie.spec
     mul-bytes
-    decides-requires
+    bad-numbers-requires
     returns
-    decides-requires-2
+    bad-numbers-requires-2
     returns-2
-    decides-requires-3
+    bad-numbers-requires-3
     returns-3
     returns-4)

@@ -6,41 +6,26 @@ use borrow.Author.Needs.{needs}
 use Rattle.causes.proofs.running_row.Statement.{statement}
 use Rattle.causes.proofs.running_row.Tie as tie
 
-cast-decides : tie.Need-cast-decides
-cast-decides c = search needs
-
-decides-requires : tie.Need-decides-requires
-decides-requires c κs = search needs
+bad-state-requires : tie.Need-bad-state-requires
+bad-state-requires c κs = search needs
 
 returns : tie.Need-returns
 unfolding rowOf runningRow
-returns c = c .decides .ensures ∙ simp (lt-ltb _ _ (c .before .if1 .taken))
+returns c = c .bad-state .ensures ∙ simp (lt-ltb _ _ (c .before .if1 .taken))
 
-cast-decides-2 : tie.Need-cast-decides-2
-cast-decides-2 c = search needs
-
-cast-decides-3 : tie.Need-cast-decides-3
-cast-decides-3 c = search needs
-
-decides-requires-2 : tie.Need-decides-requires-2
-decides-requires-2 c κs = search needs
+bad-state-requires-2 : tie.Need-bad-state-requires-2
+bad-state-requires-2 c κs = search needs
 
 returns-2 : tie.Need-returns-2
 unfolding rowOf runningRow
-returns-2 c = c .decides2 .ensures ∙ simp (le-ltb _ _ (c .before .before .if1 .left), le-leb _ _ (c .before .if2 .taken))
+returns-2 c = c .bad-state2 .ensures ∙ simp (le-ltb _ _ (c .before .before .if1 .left), le-leb _ _ (c .before .if2 .taken))
 
-cast-decides-4 : tie.Need-cast-decides-4
-cast-decides-4 c = search needs
-
-cast-decides-5 : tie.Need-cast-decides-5
-cast-decides-5 c = search needs
-
-decides-requires-3 : tie.Need-decides-requires-3
-decides-requires-3 c κs = search needs
+bad-state-requires-3 : tie.Need-bad-state-requires-3
+bad-state-requires-3 c κs = search needs
 
 returns-3 : tie.Need-returns-3
 unfolding rowOf runningRow
-returns-3 c = c .decides3 .ensures ∙ simp (le-ltb _ _ (c .before .before .before .if1 .left), lt-leb _ _ (c .before .before .if2 .left), lt-ltb _ _ (c .before .if3 .taken))
+returns-3 c = c .bad-state3 .ensures ∙ simp (le-ltb _ _ (c .before .before .before .if1 .left), lt-leb _ _ (c .before .before .if2 .left), lt-ltb _ _ (c .before .if3 .taken))
 
 returns-4 : tie.Need-returns-4
 unfolding rowOf runningRow
@@ -50,15 +35,10 @@ pub running-row-spec : {M : Type 1} → statement M
 running-row-spec =
     tie.close
     (tie.spec
-    cast-decides
-    decides-requires
+    bad-state-requires
     returns
-    cast-decides-2
-    cast-decides-3
-    decides-requires-2
+    bad-state-requires-2
     returns-2
-    cast-decides-4
-    cast-decides-5
-    decides-requires-3
+    bad-state-requires-3
     returns-3
     returns-4)

@@ -9,16 +9,16 @@ use Rattle.causes.proofs.window_row.Tie as tie
 add-past : tie.Need-add-past
 add-past c = search needs
 
-decides-requires : tie.Need-decides-requires
-decides-requires c κs = search needs
+bad-address-requires : tie.Need-bad-address-requires
+bad-address-requires c κs = search needs
 
 returns : tie.Need-returns
 unfolding rowOf windowRow
-returns c = c .decides .ensures ∙ simp (lt-ltb _ _ (c .before .if1 .taken))
+returns c = c .bad-address .ensures ∙ simp (lt-ltb _ _ (c .before .if1 .taken))
 
 returns-2 : tie.Need-returns-2
 unfolding rowOf windowRow
 returns-2 c = simp (le-ltb _ _ (c .if1 .left))
 
 pub window-row-spec : {M : Type 1} → statement M
-window-row-spec = tie.close (tie.spec add-past decides-requires returns returns-2)
+window-row-spec = tie.close (tie.spec add-past bad-address-requires returns returns-2)

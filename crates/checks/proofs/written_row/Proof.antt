@@ -9,20 +9,20 @@ use Rattle.checks.proofs.written_row.Tie as tie
 has-region-requires : tie.Need-has-region-requires
 has-region-requires c κs = search needs
 
-decides-requires : tie.Need-decides-requires
-decides-requires c κs = search needs
+not-kept-requires : tie.Need-not-kept-requires
+not-kept-requires c κs = search needs
 
 returns : tie.Need-returns
-returns c = c .decides .ensures ∙ written-bare _ _ _ _ _ _ _ (sym (c .before .before .has-region .ensures) ∙ not-true _ (c .before .if1 .taken))
+returns c = c .not-kept .ensures ∙ written-bare _ _ _ _ _ _ _ (sym (c .before .before .has-region .ensures) ∙ not-true _ (c .before .if1 .taken))
 
 same-kind-requires : tie.Need-same-kind-requires
 same-kind-requires c κs = search needs
 
-decides-requires-2 : tie.Need-decides-requires-2
-decides-requires-2 c κs = search needs
+not-kept-requires-2 : tie.Need-not-kept-requires-2
+not-kept-requires-2 c κs = search needs
 
 returns-2 : tie.Need-returns-2
-returns-2 c = c .decides2 .ensures ∙ written-ram _ _ _ _ _ _ _ (sym (c .before .before .before .before .has-region .ensures) ∙ not-false _ (c .before .before .before .if1 .left)) (sym (c .before .before .same-kind .ensures) ∙ not-true _ (c .before .if2 .taken))
+returns-2 c = c .not-kept2 .ensures ∙ written-ram _ _ _ _ _ _ _ (sym (c .before .before .before .before .has-region .ensures) ∙ not-false _ (c .before .before .before .if1 .left)) (sym (c .before .before .same-kind .ensures) ∙ not-true _ (c .before .if2 .taken))
 
 read-region-requires : tie.Need-read-region-requires
 read-region-requires c κs = search needs
@@ -41,10 +41,10 @@ written-row-spec =
     tie.close
     (tie.spec
     has-region-requires
-    decides-requires
+    not-kept-requires
     returns
     same-kind-requires
-    decides-requires-2
+    not-kept-requires-2
     returns-2
     read-region-requires
     field-requires

@@ -2,6 +2,7 @@
 use Prim.Native.Nat.{ℕ, _%_}
 use mathlib.Core.Path.{ap, _∙_}
 use native.Mathlib.Omega.{arith}
+use Rattle.entrychunks.proofs.ReadBack.{kept-whole}
 use Rattle.entrybits.proofs.Entries.{entry-joined}
 use borrow.Author.Needs.{needs}
 use Rattle.entrybits.proofs.pack.Statement.{statement}
@@ -46,11 +47,11 @@ bit-of-requires-6 c κs = search needs
 marks-requires : tie.Need-marks-requires
 marks-requires c κs = search needs
 
-mul-bytes-of : tie.Need-mul-bytes-of
-mul-bytes-of c = search needs
+mul-write : tie.Need-mul-write
+mul-write c = search needs
 
-add-bytes-of : tie.Need-add-bytes-of
-add-bytes-of c = search needs
+add-write : tie.Need-add-write
+add-write c = search needs
 
 slot-of-requires : tie.Need-slot-of-requires
 slot-of-requires c κs = search needs
@@ -67,13 +68,14 @@ slot-of-requires-4 c κs = search needs
 last-six-requires : tie.Need-last-six-requires
 last-six-requires c κs = search needs
 
-bytes-of-requires : tie.Need-bytes-of-requires
-bytes-of-requires c κs = search needs
+write-requires : tie.Need-write-requires
+write-requires c κs = search needs
 
 returns : tie.Need-returns
 returns c =
     let start = c .before .before .before .before .before .before .before .before .before .before .before .before .before .before .before .before .before .before .before in
-    c .bytes-of .ensures
+    c .write .ensures
+    ∙ kept-whole _ _ _ _ _ _ (omega (arith, c .before .before .before .before .before .before .before .before .before .before .before .before .before .lead .ensures .1, c .before .before .before .before .before .before .marks .ensures .1)) (c .before .last-six .ensures .1)
     ∙ entry-joined (start .args .e) _ _ _ _ _ _ _ _ _ _ _ _ _ _ _
     (c .before .before .before .before .before .before .before .before .before .before .before .before .before .lead .ensures .0) (c .before .before .before .before .before .before .marks .ensures .0) (c .before .before .before .before .before .before .before .before .before .before .before .before .before .before .before .kind-of .ensures .0) (ap (λ (k : ℕ). k % 16) (c .before .before .before .before .before .before .before .before .before .before .before .before .before .before .index-of .ensures))
     (c .before .before .before .before .before .before .before .before .before .before .before .before .bit-of .ensures .0) (c .before .before .before .before .before .before .before .before .before .before .before .bit-of2 .ensures .0) (c .before .before .before .before .before .before .before .before .before .before .bit-of3 .ensures .0) (c .before .before .before .before .before .before .before .before .before .bit-of4 .ensures .0) (c .before .before .before .before .before .before .before .before .bit-of5 .ensures .0) (c .before .before .before .before .before .before .before .bit-of6 .ensures .0)
@@ -97,12 +99,12 @@ pack-spec =
     bit-of-requires-5
     bit-of-requires-6
     marks-requires
-    mul-bytes-of
-    add-bytes-of
+    mul-write
+    add-write
     slot-of-requires
     slot-of-requires-2
     slot-of-requires-3
     slot-of-requires-4
     last-six-requires
-    bytes-of-requires
+    write-requires
     returns)

@@ -8,14 +8,14 @@ use Rattle.entrybits.proofs.stray.Tie as tie
 returns : tie.Need-returns
 returns c = stray-other _ _ (λ e. omega (arith, e))
 
-chunks-in-requires : tie.Need-chunks-in-requires
-chunks-in-requires c κs = search needs
+read-requires : tie.Need-read-requires
+read-requires c κs = search needs
 
 stray-of-requires : tie.Need-stray-of-requires
 stray-of-requires c κs = search needs
 
 returns-2 : tie.Need-returns-2
-returns-2 c = stray-part _ (omega arith) (λ i. omega (arith, c .before .before .before .shared-slice-known .given i)) (c .before .chunks-in .ensures) _ (c .stray-of .ensures)
+returns-2 c = stray-part _ (omega arith) (λ i. omega (arith, c .before .before .before .shared-slice-known .given i)) (c .before .read .ensures) _ (c .stray-of .ensures)
 
 pub stray-spec : {M : Type 1} → statement M
-stray-spec = tie.close (tie.spec returns chunks-in-requires stray-of-requires returns-2)
+stray-spec = tie.close (tie.spec returns read-requires stray-of-requires returns-2)

@@ -11,15 +11,15 @@ blank-requires c κs = search needs
 returns : tie.Need-returns
 returns c = entry-other _ (λ e. omega (arith, e)) (c .blank .ensures)
 
-chunks-in-requires : tie.Need-chunks-in-requires
-chunks-in-requires c κs = search needs
+read-requires : tie.Need-read-requires
+read-requires c κs = search needs
 
 entry-of-requires : tie.Need-entry-of-requires
 entry-of-requires c κs = search needs
 
 returns-2 : tie.Need-returns-2
-returns-2 c = entry-part _ (omega arith) (λ i. omega (arith, c .before .before .before .shared-slice-known .given i)) (c .before .chunks-in .ensures) (c .entry-of .ensures)
+returns-2 c = entry-part _ (omega arith) (λ i. omega (arith, c .before .before .before .shared-slice-known .given i)) (c .before .read .ensures) (c .entry-of .ensures)
 
 pub unpack-spec : {M : Type 1} → statement M
 unpack-spec =
-    tie.close (tie.spec blank-requires returns chunks-in-requires entry-of-requires returns-2)
+    tie.close (tie.spec blank-requires returns read-requires entry-of-requires returns-2)

@@ -1,5 +1,5 @@
 -- `joiner::join` meets its contract. Assumes nothing.
-use Rattle.joiner.proofs.Files.{joins-first, joins-second, joins-both}
+use Rattle.joiner.proofs.Files.{body-verdict, body-first, body-length, joins-bad, joins-fine}
 use borrow.Author.Needs.{needs}
 use Rattle.joiner.proofs.join.Statement.{statement}
 use Rattle.joiner.proofs.join.Tie as tie
@@ -19,35 +19,20 @@ refused-requires c κs = search needs
 returns : tie.Need-returns
 returns c =
     let a = c .before .before .before .before .before .before .before .args in
-    joins-first (a .v1 .now) (a .v2 .now) (a .out .now) (c .before .before .before .scan-file .ensures .verdict) (c .before .enum-told2 .given .1) (c .refused .ensures)
+    joins-bad (a .v1 .now) (a .v2 .now) (a .out .now) (body-verdict _ _ (c .before .before .before .scan-file .ensures .0)) (c .before .enum-told2 .given .1) (c .refused .ensures)
 
-scan-file-requires-2 : tie.Need-scan-file-requires-2
-scan-file-requires-2 c κs = search needs
-
-enum-told-3 : tie.Need-enum-told-3
-enum-told-3 c = search needs
-
-enum-told-4 : tie.Need-enum-told-4
-enum-told-4 c = search needs
-
-refused-requires-2 : tie.Need-refused-requires-2
-refused-requires-2 c κs = search needs
-
-returns-2 : tie.Need-returns-2
-returns-2 c =
-    let a = c .before .before .before .before .before .before .before .before .before .before .args in
-    joins-second (a .v1 .now) (a .v2 .now) (a .out .now) (c .before .before .before .before .before .before .scan-file .ensures .verdict) (c .before .before .before .before .enum-told .given .1) (c .before .before .before .scan-file2 .ensures .verdict) (c .before .enum-told4 .given .1) (c .refused2 .ensures)
-
-write-file-requires : tie.Need-write-file-requires
-write-file-requires c κs = search needs
+join-fine-requires : tie.Need-join-fine-requires
+join-fine-requires c κs =
+    let body = c .before .before .before .scan-file .ensures in
+    (body-first _ _ (body .0), body-length _ _ (body .0), body .1)
 
 same-length : tie.Need-same-length
 same-length c = search needs
 
-returns-3 : tie.Need-returns-3
-returns-3 c =
-    let a = c .before .before .before .before .before .before .before .before .before .before .before .before .before .before .before .args in
-    joins-both (a .v1 .now) (a .v2 .now) (a .out .now) (c .before .before .before .before .before .before .before .before .before .before .before .scan-file .ensures .verdict) (c .before .before .before .before .before .before .before .before .before .enum-told .given .1) (c .before .before .before .before .before .before .before .before .scan-file2 .ensures .verdict) (c .before .before .before .before .before .before .enum-told3 .given .1) (c .before .before .write-file .ensures)
+returns-2 : tie.Need-returns-2
+returns-2 c =
+    let a = c .before .before .before .before .before .before .before .before .before .before .args in
+    joins-fine (a .v1 .now) (a .v2 .now) (a .out .now) (body-verdict _ _ (c .before .before .before .before .before .before .scan-file .ensures .0)) (c .before .before .before .before .enum-told .given .1) (c .before .before .join-fine .ensures)
 
 pub join-spec : {M : Type 1} → statement M
 join-spec =
@@ -58,11 +43,6 @@ join-spec =
     enum-told-2
     refused-requires
     returns
-    scan-file-requires-2
-    enum-told-3
-    enum-told-4
-    refused-requires-2
-    returns-2
-    write-file-requires
+    join-fine-requires
     same-length
-    returns-3)
+    returns-2)

@@ -1,6 +1,7 @@
 -- `joiner::put_section` meets its contract. Assumes nothing.
 use Rattle.joiner.proofs.Sectioned.{section-put}
-use Rattle.joiner.specs.Pieces.{piecesOf}
+use Rattle.joiner.proofs.Files.{body-length}
+use Rattle.datalines.specs.Pieces.{piecesOf}
 use borrow.Author.Needs.{needs}
 use Rattle.joiner.proofs.put_section.Statement.{statement}
 use Rattle.joiner.proofs.put_section.Tie as tie
@@ -23,31 +24,27 @@ put-body-requires c κs = search needs
 add-n : tie.Need-add-n
 add-n c = search needs
 
-missing-after-requires : tie.Need-missing-after-requires
-missing-after-requires c κs = search needs
-
 add-put-fill : tie.Need-add-put-fill
 add-put-fill c = search needs
 
 put-fill-requires : tie.Need-put-fill-requires
 put-fill-requires c κs = search needs
 
+section-len-requires : tie.Need-section-len-requires
+section-len-requires c κs = search needs
+
 add-result : tie.Need-add-result
 add-result c = search needs
-
-add-result-2 : tie.Need-add-result-2
-add-result-2 c = search needs
-
-add-result-3 : tie.Need-add-result-3
-add-result-3 c = search needs
 
 same-length : tie.Need-same-length
 same-length c = search needs
 
 returns : tie.Need-returns
 returns c =
-    let a = c .before .before .before .before .before .before .before .before .before .before .before .before .before .before .before .before .before .before .before .before .before .args in
-    section-put (a .board) (piecesOf (a .text .now)) (a .out .now) (a .at) (a .kind) (a .first) _ (c .before .before .before .before .before .before .before .before .before .before .before .before .before .before .before .before .before .before .before .before .before .pre .1) (c .before .before .before .before .before .before .before .before .before .before .before .before .before .before .before .before .before .before .before .before .before .pre .2) (c .before .before .before .before .before .before .before .before .before .put-body .ensures .tally) (c .before .before .before .before .before .before .before .before .before .before .before .before .before .before .before .before .before .put-word .ensures) (c .before .before .before .before .before .before .before .before .before .before .before .before .before .put-word2 .ensures) (c .before .before .before .before .before .before .before .before .before .put-body .ensures .lines) (c .before .before .before .before .missing-after .ensures) (c .before .before .put-fill .ensures)
+    let x = c .before .before .before .before .before .before .before .before .before .before .before .before .before .before .before .before .before .before .before in
+    let a = x .args in
+    let body = c .before .before .before .before .before .before .before .put-body .ensures in
+    section-put (a .board) (piecesOf (a .text .now)) (a .out .now) (a .at) (a .kind) (a .first) _ (x .pre .1) (x .pre .2) (body-length _ _ (body .0)) (c .before .before .before .before .before .before .before .before .before .before .before .before .before .before .before .put-word .ensures) (c .before .before .before .before .before .before .before .before .before .before .before .put-word2 .ensures) (body .1 .1) (c .before .before .before .put-fill .ensures) (c .section-len .ensures)
 
 pub put-section-spec : {M : Type 1} → statement M
 put-section-spec =
@@ -59,11 +56,9 @@ put-section-spec =
     add-put-body
     put-body-requires
     add-n
-    missing-after-requires
     add-put-fill
     put-fill-requires
+    section-len-requires
     add-result
-    add-result-2
-    add-result-3
     same-length
     returns)

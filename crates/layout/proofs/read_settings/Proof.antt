@@ -16,23 +16,23 @@ Inv-loop bytes arm riscv current auto-switch absolute count n table₀ k₀ tabl
 abbrev μ-loop : tie.MeasureT-loop
 μ-loop bytes arm riscv current auto-switch absolute count n table₀ k₀ table k = n - k
 
+on-requires : tie.Need-on-requires Inv-loop μ-loop
+on-requires c κs = search needs
+
+on-requires-2 : tie.Need-on-requires-2 Inv-loop μ-loop
+on-requires-2 c κs = search needs
+
 byte-requires : tie.Need-byte-requires Inv-loop μ-loop
 byte-requires c κs = search needs
-
-byte-requires-2 : tie.Need-byte-requires-2 Inv-loop μ-loop
-byte-requires-2 c κs = search needs
-
-byte-requires-3 : tie.Need-byte-requires-3 Inv-loop μ-loop
-byte-requires-3 c κs = search needs
 
 arch-requires : tie.Need-arch-requires Inv-loop μ-loop
 arch-requires c κs = search needs
 
-byte-requires-4 : tie.Need-byte-requires-4 Inv-loop μ-loop
-byte-requires-4 c κs = search needs
+on-requires-3 : tie.Need-on-requires-3 Inv-loop μ-loop
+on-requires-3 c κs = search needs
 
-byte-requires-5 : tie.Need-byte-requires-5 Inv-loop μ-loop
-byte-requires-5 c κs = search needs
+on-requires-4 : tie.Need-on-requires-4 Inv-loop μ-loop
+on-requires-4 c κs = search needs
 
 count-requires : tie.Need-count-requires Inv-loop μ-loop
 count-requires c κs = search needs
@@ -67,7 +67,7 @@ part-entry-end : tie.Need-part-entry-end Inv-loop μ-loop
 part-entry-end c = let whole = used-whole (c .before .before .before .before .before .before .before .before .before .before .before .before .args .bytes .now) (c .before .loop .inv .2) (omega arith) in omega arith
 
 entry-requires : tie.Need-entry-requires Inv-loop μ-loop
-entry-requires c κs = let whole = used-whole (c .before .before .before .before .before .before .before .before .before .before .before .before .before .args .bytes .now) (c .before .before .loop .inv .2) (omega arith) in search needs
+entry-requires c κs = search needs
 
 mul-table : tie.Need-mul-table Inv-loop μ-loop
 mul-table c = search needs
@@ -95,12 +95,12 @@ returns c =
     let e : at .k ≡ made .used .result = omega arith in
     settings-read _ (at .table) (at .inv .2) (rw e at (at .inv .3))
     (simp (
-      arch .before .before .before .byte .ensures,
-      arch .before .before .byte2 .ensures,
-      arch .before .byte3 .ensures,
+      arch .before .before .before .on .ensures,
+      arch .before .before .on2 .ensures,
+      arch .before .byte .ensures,
       arch .arch .ensures,
-      made .before .before .before .byte4 .ensures,
-      made .before .before .byte5 .ensures,
+      made .before .before .before .on3 .ensures,
+      made .before .before .on4 .ensures,
       made .before .count .ensures,
     ))
 
@@ -110,12 +110,12 @@ read-settings-spec =
     (tie.spec
     Inv-loop
     μ-loop
+    on-requires
+    on-requires-2
     byte-requires
-    byte-requires-2
-    byte-requires-3
     arch-requires
-    byte-requires-4
-    byte-requires-5
+    on-requires-3
+    on-requires-4
     count-requires
     used-requires
     blank-requires

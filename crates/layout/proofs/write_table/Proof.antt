@@ -1,6 +1,6 @@
 -- `layout::write_table` meets its contract. The invariant: the first k entries are written. Assumes nothing.
 use Prim.Native.Nat.{_+_, _-_, _≤_}
-use mathlib.Core.Path.{_≡_, refl}
+use mathlib.Core.Path.{_≡_, refl, _∙_}
 use native.Mathlib.Omega.{arith}
 use lib.ListN.{length}
 use Rattle.sets.specs.Over.{over}
@@ -55,7 +55,7 @@ loop-again c =
     let start = c .before .before .before .before .before .before .before .before in
     let a = start .args in
     let l = c .before .before .before .before .before .before .loop in
-    let row = row-is (a .t2) (l .k) refl (c .before .before .write-entry .ensures) in
+    let row = row-is (a .t2) (l .bytes) (l .k) (l .inv .1 ∙ start .pre) (omega arith) (c .before .before .write-entry .ensures) in
     let one = rows-next (a .t2) (a .bytes .now) (l .bytes) _ (l .k) (start .pre) (omega arith) (l .inv .2) row in
     (omega arith, rows-long (a .t2) (a .bytes .now) _ (l .k + 1) (start .pre) (omega arith) one, one)
 

@@ -12,10 +12,10 @@ use Rattle.place.proofs.ram_family.Statement.{statement}
 use Rattle.place.proofs.ram_family.Tie as tie
 
 abbrev Inv-loop : tie.InvT-loop
-Inv-loop family settings n i₀ i = (i ≤ n) × (any i (userOf (settings .table) family) ≡ false)
+Inv-loop family n table i₀ i = (i ≤ n) × (any i (userOf table family) ≡ false)
 
 abbrev μ-loop : tie.MeasureT-loop
-μ-loop family settings n i₀ i = n - i
+μ-loop family n table i₀ i = n - i
 
 returns : tie.Need-returns Inv-loop μ-loop
 returns c = ram-named _ _ (c .if1 .taken)
@@ -28,11 +28,11 @@ loop-holds c = (search needs, any-zero _)
 
 mul-e : tie.Need-mul-e Inv-loop μ-loop
 mul-e c =
-    omega (arith, c .before .before .used-count .ensures, used-most (c .before .before .before .before .args .t1 .count))
+    omega (arith, c .before .before .before .used-count .ensures, used-most (c .before .before .before .before .before .args .settings .count))
 
-element-copy-out-e : tie.Need-element-copy-out-e Inv-loop μ-loop
-element-copy-out-e c =
-    omega (arith, c .before .before .used-count .ensures, used-most (c .before .before .before .before .args .t1 .count))
+array-copy-out-e : tie.Need-array-copy-out-e Inv-loop μ-loop
+array-copy-out-e c =
+    omega (arith, c .before .before .before .used-count .ensures, used-most (c .before .before .before .before .before .args .settings .count))
 
 has-user-requires : tie.Need-has-user-requires Inv-loop μ-loop
 has-user-requires c κs = search needs
@@ -40,8 +40,8 @@ has-user-requires c κs = search needs
 returns-2 : tie.Need-returns-2 Inv-loop μ-loop
 returns-2 c =
     let d = c .before .before .before in
-    let e = d .before .before in
-    let below : d .before .loop .i < usedCount (e .before .before .args .t1 .count) = omega (arith, e .used-count .ensures) in
+    let e = d .before .before .before in
+    let below : d .before .loop .i < usedCount (e .before .before .args .settings .count) = omega (arith, e .used-count .ensures) in
     sym (any-hit _ _ _ below (sym (c .before .has-user .ensures) ∙ c .if2 .taken)) ∙ ram-other _ _ (e .before .if1 .left)
 
 add-i : tie.Need-add-i Inv-loop μ-loop
@@ -58,8 +58,8 @@ loop-again c = (
 
 returns-3 : tie.Need-returns-3 Inv-loop μ-loop
 returns-3 c =
-    let e = c .before .before in
-    let last : c .before .loop .i ≡ usedCount (e .before .before .args .t1 .count) = omega (arith, e .used-count .ensures) in
+    let e = c .before .before .before in
+    let last : c .before .loop .i ≡ usedCount (e .before .before .args .settings .count) = omega (arith, e .used-count .ensures) in
     sym (rw last at (c .before .loop .inv .1)) ∙ ram-other _ _ (e .before .if1 .left)
 
 pub ram-family-spec : {M : Type 1} → statement M
@@ -72,7 +72,7 @@ ram-family-spec =
     used-count-requires
     loop-holds
     mul-e
-    element-copy-out-e
+    array-copy-out-e
     has-user-requires
     returns-2
     add-i

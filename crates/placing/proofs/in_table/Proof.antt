@@ -1,9 +1,8 @@
 -- The invariant: no pass before this one takes an entry; inside, this pass takes none before k.
 use Prim.Native.Nat.{_<_, _≤_, _-_}
-use mathlib.Core.Path.{_≡_, ap}
+use mathlib.Core.Path.{_≡_}
 use mathlib.Core.Bool.{false}
 use native.Mathlib.Omega.{arith}
-use lib.Dec.{eqb}
 use Rattle.sets.specs.Sets.{any}
 use Rattle.sets.proofs.Tests.{clash}
 use Rattle.sets.proofs.Laws.{any-zero, any-more}
@@ -16,25 +15,22 @@ use Rattle.placing.proofs.in_table.Statement.{statement}
 use Rattle.placing.proofs.in_table.Tie as tie
 
 abbrev Inv-loop : tie.InvT-loop
-Inv-loop family settings current n mine others pass k₀ k = (k ≤ n) × (any k (takenIn settings family pass) ≡ false)
+Inv-loop family settings n w pass k₀ k = (k ≤ n) × (any k (takenIn settings family pass) ≡ false)
 
 abbrev μ-loop : tie.MeasureT-loop
-μ-loop family settings current n mine others pass k₀ k = n - k
+μ-loop family settings n w pass k₀ k = n - k
 
 abbrev Inv-search : tie.InvT-search
-Inv-search family settings current n mine others pass₀ pass = (pass ≤ 4) × (any pass (passHas settings family) ≡ false)
+Inv-search family settings n w pass₀ pass = (pass ≤ 4) × (any pass (passHas settings family) ≡ false)
 
 abbrev μ-search : tie.MeasureT-search
-μ-search family settings current n mine others pass₀ pass = 4 - pass
+μ-search family settings n w pass₀ pass = 4 - pass
 
 used-count-requires : tie.Need-used-count-requires Inv-loop μ-loop Inv-search μ-search
 used-count-requires c κs = search needs
 
-image-requires : tie.Need-image-requires Inv-loop μ-loop Inv-search μ-search
-image-requires c κs = search needs
-
-for-other-requires : tie.Need-for-other-requires Inv-loop μ-loop Inv-search μ-search
-for-other-requires c κs = search needs
+query-requires : tie.Need-query-requires Inv-loop μ-loop Inv-search μ-search
+query-requires c κs = search needs
 
 search-holds : tie.Need-search-holds Inv-loop μ-loop Inv-search μ-search
 search-holds c = (search needs, any-zero _)
@@ -43,28 +39,22 @@ loop-holds : tie.Need-loop-holds Inv-loop μ-loop Inv-search μ-search
 loop-holds c = (search needs, any-zero _)
 
 mul-e : tie.Need-mul-e Inv-loop μ-loop Inv-search μ-search
-mul-e c = omega (arith, c .before .before .before .before .before .before .used-count .ensures, used-most (c .before .before .before .before .before .before .before .args .t1 .count))
+mul-e c = omega (arith, c .before .before .before .before .before .used-count .ensures, used-most (c .before .before .before .before .before .before .args .t1 .count))
 
 element-copy-out-e : tie.Need-element-copy-out-e Inv-loop μ-loop Inv-search μ-search
-element-copy-out-e c = omega (arith, c .before .before .before .before .before .before .used-count .ensures, used-most (c .before .before .before .before .before .before .before .args .t1 .count))
+element-copy-out-e c = omega (arith, c .before .before .before .before .before .used-count .ensures, used-most (c .before .before .before .before .before .before .args .t1 .count))
 
-is-a-requires : tie.Need-is-a-requires Inv-loop μ-loop Inv-search μ-search
-is-a-requires c κs = search needs
+takes-requires : tie.Need-takes-requires Inv-loop μ-loop Inv-search μ-search
+takes-requires c κs = search needs
 
-accepts-family-requires : tie.Need-accepts-family-requires Inv-loop μ-loop Inv-search μ-search
-accepts-family-requires c κs = search needs
+cast-t21 : tie.Need-cast-t21 Inv-loop μ-loop Inv-search μ-search
+cast-t21 c = search needs
 
-allows-requires : tie.Need-allows-requires Inv-loop μ-loop Inv-search μ-search
-allows-requires c κs = search needs
+add-t22 : tie.Need-add-t22 Inv-loop μ-loop Inv-search μ-search
+add-t22 c = search needs
 
-cast-t27 : tie.Need-cast-t27 Inv-loop μ-loop Inv-search μ-search
-cast-t27 c = search needs
-
-add-t28 : tie.Need-add-t28 Inv-loop μ-loop Inv-search μ-search
-add-t28 c = search needs
-
-cast-t29 : tie.Need-cast-t29 Inv-loop μ-loop Inv-search μ-search
-cast-t29 c = record { fits = omega (arith, c .before .before .before .before .before .before .before .before .before .before .before .used-count .ensures, used-most (c .before .before .before .before .before .before .before .before .before .before .before .before .args .t1 .count)) }
+cast-t23 : tie.Need-cast-t23 Inv-loop μ-loop Inv-search μ-search
+cast-t23 c = record { fits = omega (arith, c .before .before .before .before .before .before .before .before .used-count .ensures, used-most (c .before .before .before .before .before .before .before .before .before .args .t1 .count)) }
 
 add-k : tie.Need-add-k Inv-loop μ-loop Inv-search μ-search
 add-k c = search needs
@@ -74,10 +64,11 @@ loop-less c = search needs
 
 loop-again : tie.Need-loop-again Inv-loop μ-loop Inv-search μ-search
 loop-again c =
-    let a = c .before .before .before .before .before .before .before .before .before .before .before .before .args in
-    let p = c .before .before .before .before .before .before .before .before .search .pass in
-    let k = c .before .before .before .before .before .before .loop .k in
-    (search needs, any-more _ _ (c .before .before .before .before .before .before .loop .inv .1) (taken-by (a .t1) (a .family) p k (c .before .before .before .is-a .ensures) (c .before .before .accepts-family .ensures) (ap (eqb (a .family)) (c .before .before .before .before .before .before .before .before .before .before .image .ensures)) (c .before .before .before .before .before .before .before .before .before .for-other .ensures) (c .before .allows .ensures) (c .if2 .left)))
+    let a = c .before .before .before .before .before .before .before .before .before .args in
+    let p = c .before .before .before .before .before .before .search .pass in
+    let k = c .before .before .before .before .loop .k in
+    let passed = taken-by (a .t1) (a .family) p k (c .before .before .before .before .before .before .before .query .ensures) (c .before .takes .ensures) (c .if2 .left) in
+    (search needs, any-more _ _ (c .before .before .before .before .loop .inv .1) passed)
 
 add-pass : tie.Need-add-pass Inv-loop μ-loop Inv-search μ-search
 add-pass c = search needs
@@ -88,21 +79,22 @@ search-less c = search needs
 search-again : tie.Need-search-again Inv-loop μ-loop Inv-search μ-search
 unfolding passHas
 search-again c =
-    let last : c .before .loop .k ≡ usedCount (c .before .before .before .before .before .before .before .args .t1 .count) = omega (arith, c .before .before .before .before .before .before .used-count .ensures) in
+    let last : c .before .loop .k ≡ usedCount (c .before .before .before .before .before .before .args .t1 .count) = omega (arith, c .before .before .before .before .before .used-count .ensures) in
     (search needs, any-more _ _ (c .before .before .before .search .inv .1) (rw last at (c .before .loop .inv .1)))
 
 returns : tie.Need-returns Inv-loop μ-loop Inv-search μ-search
 returns c =
     let last : c .before .search .pass ≡ 4 = omega arith in
-    clash _ (takes-pass _ _ (c .before .before .before .before .before .pre)) (rw last at (c .before .search .inv .1))
+    clash _ (takes-pass _ _ (c .before .before .before .before .pre)) (rw last at (c .before .search .inv .1))
 
 returns-2 : tie.Need-returns-2 Inv-loop μ-loop Inv-search μ-search
 returns-2 c =
-    let a = c .before .before .before .before .before .before .before .before .before .before .before .before .args in
-    let p = c .before .before .before .before .before .before .before .before .search .pass in
-    let k = c .before .before .before .before .before .before .loop .k in
-    let below : k < usedCount (a .t1 .count) = omega (arith, c .before .before .before .before .before .before .before .before .before .before .before .used-count .ensures) in
-    spot-found (a .t1) (a .family) p k (c .before .before .before .before .before .before .before .if1 .left) below (c .before .before .before .before .before .before .before .before .search .inv .1) (c .before .before .before .before .before .before .loop .inv .1) (taken-by (a .t1) (a .family) p k (c .before .before .before .is-a .ensures) (c .before .before .accepts-family .ensures) (ap (eqb (a .family)) (c .before .before .before .before .before .before .before .before .before .before .image .ensures)) (c .before .before .before .before .before .before .before .before .before .for-other .ensures) (c .before .allows .ensures) (c .if2 .taken))
+    let a = c .before .before .before .before .before .before .before .before .before .args in
+    let p = c .before .before .before .before .before .before .search .pass in
+    let k = c .before .before .before .before .loop .k in
+    let below : k < usedCount (a .t1 .count) = omega (arith, c .before .before .before .before .before .before .before .before .used-count .ensures) in
+    let taken = taken-by (a .t1) (a .family) p k (c .before .before .before .before .before .before .before .query .ensures) (c .before .takes .ensures) (c .if2 .taken) in
+    spot-found (a .t1) (a .family) p k (c .before .before .before .before .before .if1 .left) below (c .before .before .before .before .before .before .search .inv .1) (c .before .before .before .before .loop .inv .1) taken
 
 pub in-table-spec : {M : Type 1} → statement M
 in-table-spec =
@@ -113,18 +105,15 @@ in-table-spec =
     Inv-search
     μ-search
     used-count-requires
-    image-requires
-    for-other-requires
+    query-requires
     search-holds
     loop-holds
     mul-e
     element-copy-out-e
-    is-a-requires
-    accepts-family-requires
-    allows-requires
-    cast-t27
-    add-t28
-    cast-t29
+    takes-requires
+    cast-t21
+    add-t22
+    cast-t23
     add-k
     loop-less
     loop-again

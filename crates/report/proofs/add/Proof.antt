@@ -3,7 +3,7 @@ use mathlib.Core.Path.{sym, ap, _∙_}
 use borrow.Author.Tests.{not-true, not-false}
 use Rattle.sets.specs.Numbered.{numbered}
 use Rattle.report.specs.Report.{outcomeNumber}
-use Rattle.report.proofs.Adds.{countable, add-bad, add-many, add-replayed}
+use Rattle.report.proofs.Adds.{add-bad, add-many, add-replayed}
 use borrow.Author.Needs.{needs}
 use Rattle.report.proofs.add.Statement.{statement}
 use Rattle.report.proofs.add.Tie as tie
@@ -18,27 +18,10 @@ has-room-requires : tie.Need-has-room-requires
 has-room-requires c κs = search needs
 
 returns-2 : tie.Need-returns-2
-returns-2 c =
-    let room = c .before in
-    let judged = room .before .before in
-    ap (numbered outcomeNumber) (add-many _ _ _ _ (sym (judged .is-good .ensures) ∙ not-false _ (room .before .if1 .left)) (sym (room .has-room .ensures) ∙ not-true _ (c .if2 .taken)))
+returns-2 c = ap (numbered outcomeNumber) (add-many _ _ _ _ (sym (c .before .before .before .is-good .ensures) ∙ not-false _ (c .before .before .if1 .left)) (sym (c .before .has-room .ensures) ∙ not-true _ (c .if2 .taken)))
 
-replay-requires : tie.Need-replay-requires
-replay-requires c κs = search needs
-
-before-stop-requires : tie.Need-before-stop-requires
-before-stop-requires c κs = search needs
-
-count-records-requires : tie.Need-count-records-requires
-count-records-requires c κs =
-    let before = c in
-    let replayed = before .before .before .before .before .before .before .before .before .before .before .before .before in
-    let room = replayed .before .before .before .before .before .before .before in
-    let judged = room .before .before in
-    countable _ _ _ (replayed .replay .ensures) _ (sym (judged .is-good .ensures) ∙ not-false _ (room .before .if1 .left)) (sym (room .has-room .ensures) ∙ not-false _ (replayed .before .before .before .before .before .before .if2 .left)) (c .before-stop .ensures)
-
-with-end-requires : tie.Need-with-end-requires
-with-end-requires c κs = search needs
+add-replayed-requires : tie.Need-add-replayed-requires
+add-replayed-requires c κs = search needs
 
 same-length : tie.Need-same-length
 same-length c = search needs
@@ -57,13 +40,9 @@ same-length-5 c = search needs
 
 returns-3 : tie.Need-returns-3
 returns-3 c =
-    let ended = c in
-    let counted = ended .before .before in
-    let before = counted .before in
-    let replayed = before .before .before .before .before .before .before .before .before .before .before .before .before in
-    let room = replayed .before .before .before .before .before .before .before in
-    let judged = room .before .before in
-    ap (numbered outcomeNumber) (add-replayed _ _ _ _ (replayed .replay .ensures) (sym (judged .is-good .ensures) ∙ not-false _ (room .before .if1 .left)) (sym (room .has-room .ensures) ∙ not-false _ (replayed .before .before .before .before .before .before .if2 .left)) (before .before-stop .ensures) (counted .count-records .ensures) (c .with-end .ensures))
+    let added = c .before .before .before .before .before .before .before .before .before .before in
+    let room = added .before .before .before .before .before .before .before in
+    ap (numbered outcomeNumber) (add-replayed _ _ _ _ (sym (room .before .before .is-good .ensures) ∙ not-false _ (room .before .if1 .left)) (sym (room .has-room .ensures) ∙ not-false _ (added .before .before .before .before .before .before .if2 .left)) (added .add-replayed .ensures))
 
 pub add-spec : {M : Type 1} → statement M
 add-spec =
@@ -73,10 +52,7 @@ add-spec =
     returns
     has-room-requires
     returns-2
-    replay-requires
-    before-stop-requires
-    count-records-requires
-    with-end-requires
+    add-replayed-requires
     same-length
     same-length-2
     same-length-3

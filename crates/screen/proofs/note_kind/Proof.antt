@@ -1,7 +1,5 @@
 -- `screen::note_kind` meets its contract. Assumes nothing.
-use mathlib.Core.Path.{sym}
 use Rattle.screen.specs.Screen.{noteKind}
-use Rattle.screen.proofs.Laws.{note-own, note-other}
 use borrow.Author.Needs.{needs}
 use Rattle.screen.proofs.note_kind.Statement.{statement}
 use Rattle.screen.proofs.note_kind.Tie as tie
@@ -12,29 +10,23 @@ enum-told c = search needs
 enum-known-state : tie.Need-enum-known-state
 enum-known-state c = search needs
 
-is-lent-requires : tie.Need-is-lent-requires
-is-lent-requires c κs = search needs
-
-returns : tie.Need-returns
-returns c =
-    let d = c .before .before .before .before .before in
-    rw (d .before .before .before .state .given .1) (sym (note-own _ _ _ (d .is-lent .ensures) (c .if1 .taken)))
+own-kind-requires : tie.Need-own-kind-requires
+own-kind-requires c κs = search needs
 
 enum-told-2 : tie.Need-enum-told-2
 enum-told-2 c = search needs
 
+returns : tie.Need-returns
+unfolding noteKind
+returns c = rw (c .enum-told .given .1)
+
 returns-2 : tie.Need-returns-2
 unfolding noteKind
-returns-2 c = rw (c .enum-told .given .1)
+returns-2 c = rw (c .before .before .state .given .1) (c .own-kind .ensures)
 
 returns-3 : tie.Need-returns-3
-returns-3 c =
-    let d = c .before .before .before .before .before in
-    rw (d .before .before .before .state .given .1) (sym (note-other _ _ _ (d .is-lent .ensures) (c .if1 .left)))
-
-returns-4 : tie.Need-returns-4
 unfolding noteKind
-returns-4 c = rw (c .enum-told2 .given .1)
+returns-3 c = rw (c .enum-told2 .given .1)
 
 pub note-kind-spec : {M : Type 1} → statement M
 note-kind-spec =
@@ -42,9 +34,8 @@ note-kind-spec =
     (tie.spec
     enum-told
     enum-known-state
-    is-lent-requires
-    returns
+    own-kind-requires
     enum-told-2
+    returns
     returns-2
-    returns-3
-    returns-4)
+    returns-3)

@@ -3,7 +3,8 @@ use mathlib.Core.Path.{ap, _∙_}
 use native.Mathlib.Omega.{arith}
 use Rattle.sets.specs.Numbered.{numbered}
 use Rattle.store.specs.Store.{readNumber}
-use Rattle.store.proofs.Cases.{is-off, is-on, read-1, read-short, read-on}
+use Rattle.store.proofs.Cases.{read-1, read-short, read-on}
+use Rattle.storewrite.proofs.Cases.{is-off, is-on}
 use borrow.Author.Needs.{needs}
 use Rattle.store.proofs.read.Statement.{statement}
 use Rattle.store.proofs.read.Tie as tie

@@ -1,7 +1,8 @@
 -- `store::read_head` meets its contract. Assumes nothing.
 use mathlib.Core.Path.{_∙_}
 use native.Mathlib.Omega.{arith}
-use Rattle.store.proofs.Cases.{is-off, is-on, read-40, read-many, read-41, read-42, read-2, read-good}
+use Rattle.store.proofs.Cases.{read-40, read-many, read-41, read-42, read-2, read-good}
+use Rattle.storewrite.proofs.Cases.{is-off, is-on}
 use borrow.Author.Needs.{needs}
 use Rattle.store.proofs.read_head.Statement.{statement}
 use Rattle.store.proofs.read_head.Tie as tie
@@ -42,8 +43,8 @@ returns-3 c =
 scan-requires : tie.Need-scan-requires
 scan-requires c κs = search needs
 
-any-restart-requires : tie.Need-any-restart-requires
-any-restart-requires c κs = search needs
+restarts-requires : tie.Need-restarts-requires
+restarts-requires c κs = search needs
 
 refuse-requires-4 : tie.Need-refuse-requires-4
 refuse-requires-4 c κs = search needs
@@ -52,7 +53,7 @@ returns-4 : tie.Need-returns-4
 returns-4 c =
     let a = c .before .before .before .before .before .before .before .before .before .args in
     c .refuse4 .ensures
-    ∙ read-42 (a .b .now) (a .flash-len) (a .x) (c .before .before .before .before .before .before .before .if1 .left) (omega arith) (omega arith) (c .before .before .before .before .scan .ensures .0) (c .before .before .before .before .scan .ensures .1) (c .before .before .any-restart .ensures) (c .before .if4 .taken)
+    ∙ read-42 (a .b .now) (a .flash-len) (a .x) (c .before .before .before .before .before .before .before .if1 .left) (omega arith) (omega arith) (c .before .before .before .before .scan .ensures .0) (c .before .before .before .before .scan .ensures .1) (c .before .before .restarts .ensures) (c .before .if4 .taken)
 
 settings-of-requires : tie.Need-settings-of-requires
 settings-of-requires c κs = search needs
@@ -67,12 +68,12 @@ returns-5 : tie.Need-returns-5
 returns-5 c =
     let a = c .before .before .before .before .before .before .before .before .before .before .before .before .args in
     c .refuse5 .ensures
-    ∙ read-2 (a .b .now) (a .flash-len) (a .x) (c .before .before .before .before .before .before .before .before .before .before .if1 .left) (omega arith) (omega arith) (c .before .before .before .before .before .before .before .scan .ensures .0) (c .before .before .before .before .before .before .before .scan .ensures .1) (c .before .before .before .before .before .any-restart .ensures) (c .before .before .before .before .if4 .left) (c .before .before .before .settings-of .ensures) (is-off _ (c .before .before .good2 .ensures) (c .before .if5 .taken))
+    ∙ read-2 (a .b .now) (a .flash-len) (a .x) (c .before .before .before .before .before .before .before .before .before .before .if1 .left) (omega arith) (omega arith) (c .before .before .before .before .before .before .before .scan .ensures .0) (c .before .before .before .before .before .before .before .scan .ensures .1) (c .before .before .before .before .before .restarts .ensures) (c .before .before .before .before .if4 .left) (c .before .before .before .settings-of .ensures) (is-off _ (c .before .before .good2 .ensures) (c .before .if5 .taken))
 
 returns-6 : tie.Need-returns-6
 returns-6 c =
     let a = c .before .before .before .before .before .before .before .before .before .before .before .args in
-    read-good (a .b .now) (a .flash-len) (a .x) (c .before .before .before .before .before .before .before .before .before .if1 .left) (omega arith) (omega arith) (c .before .before .before .before .before .before .scan .ensures .0) (c .before .before .before .before .before .before .scan .ensures .1) (c .before .before .before .before .any-restart .ensures) (c .before .before .before .if4 .left) (c .before .before .settings-of .ensures) (is-on _ (c .before .good2 .ensures) (c .if5 .left))
+    read-good (a .b .now) (a .flash-len) (a .x) (c .before .before .before .before .before .before .before .before .before .if1 .left) (omega arith) (omega arith) (c .before .before .before .before .before .before .scan .ensures .0) (c .before .before .before .before .before .before .scan .ensures .1) (c .before .before .before .before .restarts .ensures) (c .before .before .before .if4 .left) (c .before .before .settings-of .ensures) (is-on _ (c .before .good2 .ensures) (c .if5 .left))
 
 pub read-head-spec : {M : Type 1} → statement M
 read-head-spec =
@@ -88,7 +89,7 @@ read-head-spec =
     refuse-requires-3
     returns-3
     scan-requires
-    any-restart-requires
+    restarts-requires
     refuse-requires-4
     returns-4
     settings-of-requires

@@ -6,8 +6,8 @@ use Rattle.sets.specs.Sets.{any}
 use Rattle.settings.specs.Table.{tableOf}
 use Rattle.settings.proofs.Tables.{Filled, filled-none, filled-more, filled-table}
 use Rattle.store.specs.Store.{entryOf, strayAt}
-use Rattle.store.proofs.Searches.{any-first, any-next}
-use Rattle.store.proofs.Rows.{entry-at, stray-at}
+use Rattle.storewrite.proofs.Searches.{any-first, any-next}
+use Rattle.store.proofs.Parts.{entry-at, stray-at}
 use borrow.Author.Needs.{needs}
 use Rattle.store.proofs.scan.Statement.{statement}
 use Rattle.store.proofs.scan.Tie as tie

@@ -2,9 +2,9 @@
 use mathlib.Core.Path.{sym, ap, _∙_}
 use Rattle.sets.specs.Numbered.{numbered}
 use Rattle.sets.proofs.Numbered.{answer-is}
-use Rattle.tags.specs.Tag.{answerNumber}
-use Prim.Native.Nat.{_-_}
+use Rattle.tag.specs.Tag.{answerNumber}
 use Rattle.tags.proofs.Search.{Going, go-first, step-stop, step-on, step-less}
+use Prim.Native.Nat.{_-_}
 use borrow.Author.Needs.{needs}
 use Rattle.tags.proofs.find.Statement.{statement}
 use Rattle.tags.proofs.find.Tie as tie

@@ -41,17 +41,18 @@ use denote.Exit.{yes}
 use denote.Triple.Clauses.{ensured, lasts}
 use Rattle.sets.specs.Numbered.{numbered}
 use Rattle.sets.proofs.Numbered.{answer-is}
-use Rattle.tags.specs.Tag.{tagAt, firstPlace, answerNumber}
+use Rattle.tag.specs.Tag.{answerNumber}
+use Rattle.tagroom.specs.Room.{tagAt, firstPlace}
 use Rattle.tags.specs.Reader.{started, stepped, stepNumber}
 use Rattle.tags.specs.declared.Tags.{Tags}
 use Rattle.tags.specs.declared.Step.{Step}
-use Rattle.tags.specs.declared.Answer.{Answer}
+use Rattle.tag.specs.declared.Answer.{Answer}
 use Rattle.tags.proofs.Tags as T
 use Rattle.tags.proofs.Tags.Laws as T′
 use Rattle.tags.proofs.Step as P
 use Rattle.tags.proofs.Step.Laws as P′
-use Rattle.tags.proofs.Answer as S
-use Rattle.tags.proofs.Answer.Laws as S′
+use Rattle.tag.proofs.Answer as S
+use Rattle.tag.proofs.Answer.Laws as S′
 use Rattle.tags.proofs.Tags.new as new
 use Rattle.tags.proofs.Tags.new.Symbol as new-def
 use Rattle.tags.proofs.Tags.new.Symbol.{name as #tags·new}

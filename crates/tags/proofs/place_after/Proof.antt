@@ -1,8 +1,9 @@
 -- `tags::place_after` meets its contract. Assumes nothing.
 use mathlib.Core.Path.{sym, ap}
-use Rattle.tags.specs.declared.Answer.{Answer}
-use Rattle.tags.specs.Tag.{nextPlace}
-use Rattle.tags.proofs.Search.{not-tag, stays}
+use Rattle.tag.specs.declared.Answer.{Answer}
+use Rattle.tag.proofs.Laws.{not-tag}
+use Rattle.tags.specs.Reader.{nextPlace}
+use Rattle.tags.proofs.Search.{stays}
 use borrow.Author.Needs.{needs}
 use Rattle.tags.proofs.place_after.Statement.{statement}
 use Rattle.tags.proofs.place_after.Tie as tie

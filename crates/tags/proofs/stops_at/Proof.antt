@@ -1,8 +1,9 @@
 -- `tags::stops_at` meets its contract. Assumes nothing.
 use mathlib.Core.Path.{sym, ap}
-use Rattle.tags.specs.declared.Answer.{Answer}
-use Rattle.tags.specs.Tag.{stops}
-use Rattle.tags.proofs.Search.{not-tag, stops-other}
+use Rattle.tag.specs.declared.Answer.{Answer}
+use Rattle.tag.proofs.Laws.{not-tag}
+use Rattle.tags.specs.Search.{stops}
+use Rattle.tags.proofs.Search.{stops-other}
 use borrow.Author.Needs.{needs}
 use Rattle.tags.proofs.stops_at.Statement.{statement}
 use Rattle.tags.proofs.stops_at.Tie as tie

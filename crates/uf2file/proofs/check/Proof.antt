@@ -1,56 +1,40 @@
 -- `uf2file::check` meets its contract. Assumes nothing.
-use mathlib.Core.Path.{refl}
+use mathlib.Core.Path.{refl, sym, _∙_}
 use native.Mathlib.Omega.{arith}
-use Rattle.uf2file.proofs.Checks.{empty, ragged, below, above, unaligned, past, short, passes}
+use Rattle.uf2file.proofs.Checks.{start-low, image-bad, start-bad, past, short, passes}
 use borrow.Author.Needs.{needs}
 use Rattle.uf2file.proofs.check.Statement.{statement}
 use Rattle.uf2file.proofs.check.Tie as tie
 
+bad-image-requires : tie.Need-bad-image-requires
+bad-image-requires c κs = search needs
+
 returns : tie.Need-returns
-returns c = empty _ _ _ (omega arith)
+returns c = image-bad _ _ _ (sym (c .before .bad-image .ensures) ∙ c .if1 .taken)
+
+bad-start-requires : tie.Need-bad-start-requires
+bad-start-requires c κs = search needs
 
 returns-2 : tie.Need-returns-2
-returns-2 c = ragged _ _ _ (λ e. omega (arith, e)) (λ e. omega (arith, e))
+returns-2 c = start-bad _ _ _ (sym (c .before .before .before .bad-image .ensures) ∙ c .before .before .if1 .left) (sym (c .before .bad-start .ensures) ∙ c .if2 .taken)
+
+sub-if3 : tie.Need-sub-if3
+sub-if3 c = omega (arith, start-low (c .before .before .before .before .args .start) (sym (c .before .bad-start .ensures) ∙ c .if2 .left))
 
 returns-3 : tie.Need-returns-3
-returns-3 c = below _ _ _ (λ e. omega (arith, e)) (omega arith) (omega arith)
+returns-3 c = past _ _ _ (sym (c .before .before .before .before .bad-image .ensures) ∙ c .before .before .before .if1 .left) (sym (c .before .before .bad-start .ensures) ∙ c .before .if2 .left) (omega (arith, start-low (c .before .before .before .before .before .args .start) (sym (c .before .before .bad-start .ensures) ∙ c .before .if2 .left)))
+
+mul-if4 : tie.Need-mul-if4
+mul-if4 c = search needs
 
 returns-4 : tie.Need-returns-4
-returns-4 c = above _ _ _ (λ e. omega (arith, e)) (omega arith) (omega arith) (omega arith)
+returns-4 c = short _ _ _ (sym (c .before .before .before .before .before .bad-image .ensures) ∙ c .before .before .before .before .if1 .left) (sym (c .before .before .before .bad-start .ensures) ∙ c .before .before .if2 .left) (omega (arith, start-low (c .before .before .before .before .before .before .args .start) (sym (c .before .before .before .bad-start .ensures) ∙ c .before .before .if2 .left))) (omega arith)
+
+cast-count : tie.Need-cast-count
+cast-count c = search needs
 
 returns-5 : tie.Need-returns-5
-returns-5 c = unaligned _ _ _ (λ e. omega (arith, e)) (omega arith) (omega arith) (omega arith) (λ e. omega (arith, e))
-
-sub-if6 : tie.Need-sub-if6
-sub-if6 c = search needs
-
-returns-6 : tie.Need-returns-6
-returns-6 c = past _ _ _ (λ e. omega (arith, e)) (omega arith) (omega arith) (omega arith) (omega arith) (omega arith)
-
-mul-if7 : tie.Need-mul-if7
-mul-if7 c = search needs
-
-returns-7 : tie.Need-returns-7
-returns-7 c = short _ _ _ (λ e. omega (arith, e)) (omega arith) (omega arith) (omega arith) (omega arith) (omega arith) (omega arith)
-
-cast-t8 : tie.Need-cast-t8
-cast-t8 c = search needs
-
-returns-8 : tie.Need-returns-8
-returns-8 c = passes _ _ _ (λ e. omega (arith, e)) (omega arith) (omega arith) (omega arith) (omega arith) (omega arith) (omega arith) refl
+returns-5 c = passes _ _ _ (sym (c .before .before .before .before .before .bad-image .ensures) ∙ c .before .before .before .before .if1 .left) (sym (c .before .before .before .bad-start .ensures) ∙ c .before .before .if2 .left) (omega (arith, start-low (c .before .before .before .before .before .before .args .start) (sym (c .before .before .before .bad-start .ensures) ∙ c .before .before .if2 .left))) (omega arith) refl
 
 pub check-spec : {M : Type 1} → statement M
-check-spec =
-    tie.close
-    (tie.spec
-    returns
-    returns-2
-    returns-3
-    returns-4
-    returns-5
-    sub-if6
-    returns-6
-    mul-if7
-    returns-7
-    cast-t8
-    returns-8)
+check-spec = tie.close (tie.spec bad-image-requires returns bad-start-requires returns-2 sub-if3 returns-3 mul-if4 returns-4 cast-count returns-5)

@@ -42,26 +42,26 @@ mul-address c = search needs
 add-address : tie.Need-add-address Inv-loop μ-loop
 add-address c = search needs
 
-sub-put-block : tie.Need-sub-put-block Inv-loop μ-loop
-sub-put-block c = search needs
+sub-write-block : tie.Need-sub-write-block Inv-loop μ-loop
+sub-write-block c = search needs
 
-part-put-block-start : tie.Need-part-put-block-start Inv-loop μ-loop
-part-put-block-start c = search needs
+part-write-block-start : tie.Need-part-write-block-start Inv-loop μ-loop
+part-write-block-start c = search needs
 
-part-put-block-end : tie.Need-part-put-block-end Inv-loop μ-loop
-part-put-block-end c = search needs
+part-write-block-end : tie.Need-part-write-block-end Inv-loop μ-loop
+part-write-block-end c = search needs
 
-sub-put-block-2 : tie.Need-sub-put-block-2 Inv-loop μ-loop
-sub-put-block-2 c = search needs
+sub-write-block-2 : tie.Need-sub-write-block-2 Inv-loop μ-loop
+sub-write-block-2 c = search needs
 
-part-put-block-start-2 : tie.Need-part-put-block-start-2 Inv-loop μ-loop
-part-put-block-start-2 c = search needs
+part-write-block-start-2 : tie.Need-part-write-block-start-2 Inv-loop μ-loop
+part-write-block-start-2 c = search needs
 
-part-put-block-end-2 : tie.Need-part-put-block-end-2 Inv-loop μ-loop
-part-put-block-end-2 c = search needs
+part-write-block-end-2 : tie.Need-part-write-block-end-2 Inv-loop μ-loop
+part-write-block-end-2 c = search needs
 
-put-block-requires : tie.Need-put-block-requires Inv-loop μ-loop
-put-block-requires c κs = search needs
+write-block-requires : tie.Need-write-block-requires Inv-loop μ-loop
+write-block-requires c κs = search needs
 
 add-k : tie.Need-add-k Inv-loop μ-loop
 add-k c = search needs
@@ -76,7 +76,7 @@ loop-again c =
     let l = c .before .before .before .before .before .before .loop in
     let one =
     blocks-more (a .image .now) (a .family) (a .start) (a .total) (start .pre .0) (a .output .now) (l .output) _ (l .k) _ (start .pre .1 .1) (omega arith) (omega arith)
-    (l .inv .2) (c .before .before .put-block .ensures) in
+    (l .inv .2) (c .before .before .write-block .ensures) in
     (omega arith, blocks-long (a .image .now) (a .family) (a .start) (a .total) (start .pre .0) (a .output .now) _ (l .k + 1) (start .pre .1 .1) (omega arith) one, one)
 
 same-length : tie.Need-same-length Inv-loop μ-loop
@@ -103,13 +103,13 @@ write-blocks-spec =
     add-to
     mul-address
     add-address
-    sub-put-block
-    part-put-block-start
-    part-put-block-end
-    sub-put-block-2
-    part-put-block-start-2
-    part-put-block-end-2
-    put-block-requires
+    sub-write-block
+    part-write-block-start
+    part-write-block-end
+    sub-write-block-2
+    part-write-block-start-2
+    part-write-block-end-2
+    write-block-requires
     add-k
     loop-less
     loop-again

@@ -1,5 +1,5 @@
 -- `unihex::bad_failure` meets its contract. Assumes nothing.
-use Rattle.unihex.specs.Reader.{badFailure}
+use Rattle.hexreader.specs.Reader.{badFailure}
 use borrow.Author.Needs.{needs}
 use Rattle.unihex.proofs.bad_failure.Statement.{statement}
 use Rattle.unihex.proofs.bad_failure.Tie as tie

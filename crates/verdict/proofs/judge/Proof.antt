@@ -2,9 +2,8 @@
 use mathlib.Core.Path.{sym, ap, _∙_}
 use borrow.Author.Tests.{not-true, not-false}
 use Rattle.sets.specs.Numbered.{numbered}
-use Rattle.sets.proofs.Numbered.{answer-is}
 use Rattle.verdict.specs.Verdict.{decisionNumber}
-use Rattle.verdict.proofs.Laws.{judge-lengths, judge-settings, judge-state, judge-refused, judge-passed}
+use Rattle.verdict.proofs.Laws.{judge-lengths, judge-settings, judge-state, judge-screened}
 use borrow.Author.Needs.{needs}
 use Rattle.verdict.proofs.judge.Statement.{statement}
 use Rattle.verdict.proofs.judge.Tie as tie
@@ -24,35 +23,16 @@ returns-3 c =
     let first = second .before .before in
     ap (numbered decisionNumber) (judge-state _ _ _ _ (not-false _ (first .if1 .left)) (not-false _ (second .if2 .left)) (sym (c .before .sound .ensures) ∙ not-true _ (c .if3 .taken)))
 
-screen-requires : tie.Need-screen-requires
-screen-requires c κs = search needs
-
-enum-known-screening : tie.Need-enum-known-screening
-enum-known-screening c = search needs
-
-enum-known-screening-2 : tie.Need-enum-known-screening-2
-enum-known-screening-2 c = search needs
-
-settle-requires : tie.Need-settle-requires
-settle-requires c κs = search needs
+screened-requires : tie.Need-screened-requires
+screened-requires c κs = search needs
 
 returns-4 : tie.Need-returns-4
 returns-4 c =
-    let screened = c .before .before .before in
-    let third = screened .before .before in
+    let third = c .before in
     let second = third .before .before in
     let first = second .before .before in
     let sound = sym (third .before .sound .ensures) ∙ not-false _ (third .if3 .left) in
-    ap (numbered decisionNumber) (judge-refused _ _ _ _ (not-false _ (first .if1 .left)) (not-false _ (second .if2 .left)) sound (sym (answer-is (screened .screen .ensures)) ∙ c .before .screening .given .1))
-
-returns-5 : tie.Need-returns-5
-returns-5 c =
-    let screened = c .before .before .before .before in
-    let third = screened .before .before in
-    let second = third .before .before in
-    let first = second .before .before in
-    let sound = sym (third .before .sound .ensures) ∙ not-false _ (third .if3 .left) in
-    ap (numbered decisionNumber) (judge-passed _ _ _ _ (not-false _ (first .if1 .left)) (not-false _ (second .if2 .left)) sound (sym (answer-is (screened .screen .ensures)) ∙ c .before .before .screening2 .given .1) (c .settle .ensures))
+    ap (numbered decisionNumber) (judge-screened _ _ _ _ (not-false _ (first .if1 .left)) (not-false _ (second .if2 .left)) sound (c .screened .ensures))
 
 pub judge-spec : {M : Type 1} → statement M
 judge-spec =
@@ -62,9 +42,5 @@ judge-spec =
     returns-2
     sound-requires
     returns-3
-    screen-requires
-    enum-known-screening
-    enum-known-screening-2
-    settle-requires
-    returns-4
-    returns-5)
+    screened-requires
+    returns-4)

@@ -20,20 +20,17 @@ enum-known-trial c = search needs
 enum-known-trial-2 : tie.Need-enum-known-trial-2
 enum-known-trial-2 c = search needs
 
-deed-of-requires : tie.Need-deed-of-requires
-deed-of-requires c κs = search needs
-
-doing-requires : tie.Need-doing-requires
-doing-requires c κs = search needs
+accept-requires : tie.Need-accept-requires
+accept-requires c κs = search needs
 
 returns : tie.Need-returns
 returns c = settled-stays _ (c .before .before .before .before .before .before .before .before .before .before .args .placed) _ _ (c .before .before .before .before .marked .ensures) (answer-is (c .before .before .before .step .ensures)) (c .before .trial .given .1)
 
 returns-2 : tie.Need-returns-2
 returns-2 c =
-    let trial = c .before .before .before in
+    let trial = c .before .before in
     let stepped = trial .before .before in
-    settled-accepts _ _ _ _ (stepped .before .marked .ensures) (answer-is (stepped .step .ensures)) (trial .trial2 .given .1) (c .before .deed-of .ensures) (c .doing .ensures)
+    settled-accepts _ _ _ _ (stepped .before .marked .ensures) (answer-is (stepped .step .ensures)) (trial .trial2 .given .1) (c .accept .ensures)
 
 pub settle-spec : {M : Type 1} → statement M
 settle-spec =
@@ -44,7 +41,6 @@ settle-spec =
     step-requires
     enum-known-trial
     enum-known-trial-2
-    deed-of-requires
-    doing-requires
+    accept-requires
     returns
     returns-2)

@@ -1,6 +1,6 @@
 -- `whyapi::uf2_why` meets its contract. Assumes nothing.
 use denote.Ref.{now}
-use Rattle.whyapi.proofs.Laws.{why-told, why-call}
+use Rattle.whyapi.proofs.Laws.{why-call}
 use borrow.Author.Needs.{needs}
 use Rattle.whyapi.proofs.uf2_why.Statement.{statement}
 use Rattle.whyapi.proofs.uf2_why.Tie as tie
@@ -14,42 +14,14 @@ read-transfer-requires c κs = search needs
 explain-requires : tie.Need-explain-requires
 explain-requires c κs = search needs
 
-told-of-requires : tie.Need-told-of-requires
-told-of-requires c κs = search needs
-
-answer-requires : tie.Need-answer-requires
-answer-requires c κs = search needs
-
-byte-told-requires : tie.Need-byte-told-requires
-byte-told-requires c κs = search needs
-
-put-told-requires : tie.Need-put-told-requires
-put-told-requires c κs = search needs
-
-number-requires : tie.Need-number-requires
-number-requires c κs = search needs
-
-returned-requires : tie.Need-returned-requires
-returned-requires c κs = search needs
+tell-requires : tie.Need-tell-requires
+tell-requires c κs = search needs
 
 same-length : tie.Need-same-length
 same-length c = search needs
 
 returns : tie.Need-returns
-returns c = why-call (now (c .before .before .before .before .before .before .before .before .before .before .before .before .before .before .before .before .before .before .before .before .before .before .args .settings)) (now (c .before .before .before .before .before .before .before .before .before .before .before .before .before .before .before .before .before .before .before .before .before .before .args .transfer)) (now (c .before .before .before .before .before .before .before .before .before .before .before .before .before .before .before .before .before .before .before .before .before .before .args .arrival)) (now (c .before .before .before .before .before .before .before .before .before .before .before .before .before .before .before .before .before .before .before .before .before .before .args .flash)) (now (c .before .before .before .before .before .before .before .before .before .before .before .before .before .before .before .before .before .before .before .before .before .before .args .seen)) (now (c .before .before .before .before .before .before .before .before .before .before .before .before .before .before .before .before .before .before .before .before .before .before .args .sectors)) (now (c .before .before .before .before .before .before .before .before .before .before .before .before .before .before .before .before .before .before .before .before .before .before .args .main)) (now (c .before .before .before .before .before .before .before .before .before .before .before .before .before .before .before .before .before .before .before .before .before .before .args .xip)) (c .before .before .before .before .before .before .before .before .before .before .before .before .read-settings .ensures) (c .before .before .before .before .before .before .before .before .before .before .before .read-transfer .ensures) _ (c .before .before .before .before .before .before .before .before .before .before .explain .ensures) (why-told _ _ _ (c .before .before .before .before .before .before .before .before .before .before .explain .result) (c .before .before .before .before .before .before .before .before .before .told-of .ensures) (c .before .before .before .before .before .before .before .answer .ensures) (c .before .before .before .before .before .before .byte-told .ensures) (c .before .before .before .before .put-told .ensures) (c .before .number .ensures) (c .returned .ensures))
+returns c = let a = c .before .before .before .before .before .before .before .before .before .before .before .before .before .before .before .before .args in why-call (now (a .settings)) (now (a .transfer)) (now (a .arrival)) (now (a .flash)) (now (a .seen)) (now (a .sectors)) (now (a .main)) (now (a .xip)) (c .before .before .before .before .before .before .read-settings .ensures) (c .before .before .before .before .before .read-transfer .ensures) _ (c .before .before .before .before .explain .ensures) (c .before .before .tell .ensures)
 
 pub uf2-why-spec : {M : Type 1} → statement M
-uf2-why-spec =
-    tie.close
-    (tie.spec
-    read-settings-requires
-    read-transfer-requires
-    explain-requires
-    told-of-requires
-    answer-requires
-    byte-told-requires
-    put-told-requires
-    number-requires
-    returned-requires
-    same-length
-    returns)
+uf2-why-spec = tie.close (tie.spec read-settings-requires read-transfer-requires explain-requires tell-requires same-length returns)

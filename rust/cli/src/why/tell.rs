@@ -17,17 +17,29 @@ fn reason_json(why: &Reason) -> Json {
     ])
 }
 
-/// A line about an arrival: its place in the order, the block's number where it is one, the answer and the reason.
-pub fn arrival(k: usize, block: Option<u32>, outcome: Outcome, reason: &Reason) -> String {
-    let block = match block {
-        Some(number) => format!("block {number}"),
-        None => "no block".into(),
-    };
-    format!(
-        "arrival {k}, {block}: {}: {}",
-        names::outcome(outcome),
-        reason::of(reason)
-    )
+/// What is said of an arrival: the answer and the reason.
+pub fn said(outcome: Outcome, reason: &Reason) -> String {
+    format!("{}: {}", names::outcome(outcome), reason::of(reason))
+}
+
+/// A line about an arrival: its place in the order, the block's number where it is one, and what is said of it.
+pub fn arrival(k: usize, block: Option<u32>, said: &str) -> String {
+    match block {
+        Some(number) => format!("arrival {k}, block {number}: {said}"),
+        None => format!("arrival {k}, no block: {said}"),
+    }
+}
+
+/// A line about arrivals one after the other, with the numbers of their blocks one after the other where they are blocks.
+pub fn arrivals(first: usize, last: usize, block: Option<u32>, said: &str) -> String {
+    let more = (last - first) as u64;
+    match block {
+        Some(number) => format!(
+            "arrivals {first} to {last}, blocks {number} to {}: {said}",
+            u64::from(number) + more
+        ),
+        None => format!("arrivals {first} to {last}, no blocks: {said}"),
+    }
 }
 
 /// The same for scripts.
@@ -92,10 +104,18 @@ mod tests {
             discarded: false,
         };
         assert_eq!(
-            arrival(3, Some(17), outcome, &REASON),
+            arrival(3, Some(17), &said(outcome, &REASON)),
             "arrival 3, block 17: 9 BadPayload: the payload has 476 bytes, and must have 256"
         );
-        assert!(arrival(3, None, outcome, &REASON).starts_with("arrival 3, no block: 9"));
+        assert_eq!(arrival(3, None, "said"), "arrival 3, no block: said");
+        assert_eq!(
+            arrivals(3, 5, Some(17), "said"),
+            "arrivals 3 to 5, blocks 17 to 19: said"
+        );
+        assert_eq!(
+            arrivals(3, 5, None, "said"),
+            "arrivals 3 to 5, no blocks: said"
+        );
         let json = arrival_json(3, Some(17), outcome, &REASON).to_string();
         assert!(json.contains("\"cause\": 901, \"got\": 476, \"against\": 256"));
     }

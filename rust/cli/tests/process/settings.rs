@@ -349,7 +349,7 @@ fn a_board_of_a_store() {
     let ran = folder.ends(1, "load blink.uf2 --settings board.store --flash 64K");
     assert!(ran.out.contains("  2 BadSettings      64  "), "{}", ran.out);
     let ran = folder.ends(1, "why blink.uf2 --settings board.store --flash 64K");
-    assert!(ran.out.contains("arrival 63, block 63: 2 BadSettings: partition 0 ends at byte 270336 of the flash, which has only 65536 bytes\n"), "{}", ran.out);
+    assert!(ran.out.contains("arrivals 0 to 63, blocks 0 to 63: 2 BadSettings: partition 0 ends at byte 270336 of the flash, which has only 65536 bytes\n"), "{}", ran.out);
 }
 
 #[test]

@@ -85,7 +85,7 @@ fn the_answers_of_load() {
         "blink.bin",
     ] {
         let load = folder.run(&format!("load {line} -v")).out;
-        let why = folder.run(&format!("why {line}")).out;
+        let why = folder.run(&format!("why {line} -v")).out;
         let taken = ["14 Written", "15 Completed", "16 Noted", "17 Kept"];
         let load = load.lines().filter(|x| x.starts_with("arrival "));
         let load = load.filter(|x| !taken.iter().any(|answer| x.contains(answer)));
@@ -97,6 +97,43 @@ fn the_answers_of_load() {
             assert!(!why.contains("UNKNOWN"), "{why}");
         }
     }
+}
+
+/// Blocks one after the other that have one reason share a line; a reason, a number or an arrival between them ends it.
+#[test]
+fn one_line_for_one_reason() {
+    let folder = blink();
+    let ran = folder.ends(1, "why blink.uf2 --riscv");
+    let lines: Vec<&str> = ran.out.lines().skip(1).collect();
+    assert_eq!(
+        lines,
+        [
+            "arrivals 0 to 63, blocks 0 to 63: 8 NoPlace: Arm is not enabled, and the board has no partition table: no place for the family arm-s (0xe48bff59)",
+            "state: idle: no block was taken",
+            "NOT TAKEN: 64 of 64 arrivals, for the reasons above.",
+        ]
+    );
+    let good = |number| block(FAMILY, 0x1000_0000 + 256 * number, number, 64, ARM_S, 7);
+    let other = block(FAMILY, 0x1000_0000, 9, 64, RISCV, 7);
+    let order = [good(0), good(1), good(1), good(2), other, good(3), good(5)];
+    let none = vec![0; 1024];
+    folder.put("order.uf2", [order.concat(), none].concat());
+    let ran = folder.ends(1, "why order.uf2 --flash 4096");
+    let numbers = |line: &str| line.split_once(": ").unwrap_or_default().0.to_string();
+    let numbers: Vec<String> = ran.out.lines().skip(1).map(numbers).collect();
+    assert_eq!(
+        numbers,
+        [
+            "arrivals 0 to 1, blocks 0 to 1",
+            "arrivals 2 to 3, blocks 1 to 2",
+            "arrival 4, block 9",
+            "arrival 5, block 3",
+            "arrival 6, block 5",
+            "arrivals 7 to 8, no blocks",
+            "state",
+            "NOT TAKEN",
+        ]
+    );
 }
 
 #[test]

@@ -46,18 +46,17 @@ use denote.Exit.{yes}
 use denote.Triple.Clauses.{ensured, lasts}
 use Rattle.sets.specs.Numbered.{numbered}
 use Rattle.sets.proofs.Numbered.{answer-is}
-use Rattle.tags.specs.Tag.{stepAt, moveNumber}
-use Rattle.tags.specs.Reader.{stepNumber}
+use Rattle.tags.specs.Reader.{stepAt, moveNumber, stepNumber}
 use Rattle.tags.specs.declared.Tags.{Tags}
 use Rattle.tags.specs.declared.Move.{Move}
-use Rattle.tags.specs.declared.Answer.{Answer}
+use Rattle.tag.specs.declared.Answer.{Answer}
 use Rattle.tags.specs.declared.Step.{Step}
 use Rattle.tags.proofs.Tags as T
 use Rattle.tags.proofs.Tags.Laws as T′
 use Rattle.tags.proofs.Move as F
 use Rattle.tags.proofs.Move.Laws as F′
-use Rattle.tags.proofs.Answer as S
-use Rattle.tags.proofs.Answer.Laws as S′
+use Rattle.tag.proofs.Answer as S
+use Rattle.tag.proofs.Answer.Laws as S′
 use Rattle.tags.proofs.Step as P
 use Rattle.tags.proofs.Step.Laws as P′
 use Rattle.tags.proofs.step_at as step

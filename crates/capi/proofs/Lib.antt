@@ -1,4 +1,0 @@
--- The laws of `specs/`.
-pub mod Places
-pub mod Laws
-pub mod HexLaws

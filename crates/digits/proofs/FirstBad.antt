@@ -1,0 +1,84 @@
+-- The first character that is no digit. Assumes nothing.
+use Prim.Native.Nat.{ℕ, zero, suc, _+_, _≤_, _<_}
+use mathlib.Core.Path.{_≡_, refl, sym, ap, _∙_}
+use mathlib.Core.Bool.{Bool, true, false, _&&_, cond}
+use mathlib.Core.List.{List, [], _∷_}
+use native.Mathlib.Numerals.{add-one}
+use native.Mathlib.Omega.{arith}
+use lib.Dec.{ltb}
+use lib.ListN.{length, getD, drop, drop-of-length-le}
+use lib.Seq.{drop-cons}
+use borrow.Author.Tests.{lt-ltb, le-ltb}
+use Rattle.sets.proofs.Tests.{split, clash, and-right}
+use Rattle.digits.specs.Digits.{digitOf, isDigit, allDigits, firstBad}
+
+-- ---- beside row 22's test
+
+pub bad-none : (l : List ℕ) → allDigits l ≡ true → length l ≡ firstBad l
+unfolding allDigits firstBad
+bad-none [] e = refl
+bad-none (c ∷ l) e =
+    split (isDigit c)
+    (λ y. rw y (ap suc (bad-none l (and-right (isDigit c) (allDigits l) e))))
+    (λ z. clash (isDigit c && allDigits l) e (rw z))
+
+pub bad-most : (l : List ℕ) → firstBad l ≤ length l
+unfolding firstBad
+bad-most [] = omega arith
+bad-most (c ∷ l) =
+    let h : firstBad l ≤ length l = bad-most l in
+    split (isDigit c) (λ y. rw y (omega arith)) (λ z. rw z (omega arith))
+
+-- below their number there is one
+pub bad-some : (l : List ℕ) → firstBad l < length l → allDigits l ≡ false
+bad-some l h = split (allDigits l) (λ y. absurd (omega (arith, bad-none l y))) (λ z. z)
+
+pub bad-all : (l : List ℕ) → length l ≤ firstBad l → allDigits l ≡ true
+unfolding allDigits firstBad
+bad-all [] h = refl
+bad-all (c ∷ l) h =
+    split (isDigit c)
+    (λ y.
+    let k : suc (length l) ≤ suc (firstBad l) = rw y at h in
+    rw y (bad-all l (omega arith)))
+    (λ z. let k : suc (length l) ≤ 0 = rw z at h in absurd (omega arith))
+
+-- the character there is none, every one before it is one
+pub bad-is : (l : List ℕ) → firstBad l < length l → isDigit (getD l (firstBad l) 0) ≡ false
+unfolding firstBad
+bad-is [] h = absurd (omega arith)
+bad-is (c ∷ l) h =
+    split (isDigit c)
+    (λ y.
+    let k : suc (firstBad l) < suc (length l) = rw y at h in
+    rw y (bad-is l (omega arith)))
+    (λ z. rw z z)
+
+pub bad-first : (l : List ℕ) (i : ℕ) → i < firstBad l → isDigit (getD l i 0) ≡ true
+unfolding firstBad
+bad-first [] i h = absurd (omega arith)
+bad-first (c ∷ l) zero h =
+    split (isDigit c) (λ y. y) (λ z. let k : 0 < 0 = rw z at h in absurd (omega arith))
+bad-first (c ∷ l) (suc i) h =
+    split (isDigit c)
+    (λ y. let k : suc i < suc (firstBad l) = rw y at h in bad-first l i (omega arith))
+    (λ z. let k : suc i < 0 = rw z at h in absurd (omega arith))
+
+-- ---- from an index on, as the code looks
+
+module _ (l : List ℕ) (i : ℕ) where
+  pub bad-here : {v : ℕ} → i < length l → v ≡ digitOf (getD l i 0) → 16 ≤ v → firstBad (drop i l) ≡ 0
+  unfolding firstBad
+  bad-here h e n =
+      let z : isDigit (getD l i 0) ≡ false = le-ltb (digitOf (getD l i 0)) 16 (rw e at n) in
+      rw (drop-cons l i 0 h, z)
+
+  pub bad-next : {v : ℕ} → i < length l → v ≡ digitOf (getD l i 0) → v < 16 → firstBad (drop i l) ≡ suc (firstBad (drop (i + 1) l))
+  unfolding firstBad
+  bad-next h e n =
+      let y : isDigit (getD l i 0) ≡ true = lt-ltb (digitOf (getD l i 0)) 16 (rw e at n) in
+      rw (add-one, drop-cons l i 0 h, y)
+
+  pub bad-end : length l ≤ i → firstBad (drop i l) ≡ 0
+  unfolding firstBad
+  bad-end h = rw (drop-of-length-le l h)

@@ -1,0 +1,13 @@
+-- `digits::digit` meets its contract: the table's rule at the character. Assumes nothing.
+use borrow.Author.Needs.{needs}
+use Rattle.digits.proofs.digit.Statement.{statement}
+use Rattle.digits.proofs.digit.Tie as tie
+
+element-copy-out-result : tie.Need-element-copy-out-result
+element-copy-out-result c = search needs
+
+returns : tie.Need-returns
+returns c = c .before .pre .rule (c .before .args .c) (search needs)
+
+pub digit-spec : {M : Type 1} → statement M
+digit-spec = tie.close (tie.spec element-copy-out-result returns)

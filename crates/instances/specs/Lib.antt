@@ -1,0 +1,4 @@
+pub mod Comments
+pub mod Ram
+pub mod Instance
+pub mod Regions
