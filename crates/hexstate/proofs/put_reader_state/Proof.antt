@@ -1,8 +1,10 @@
--- `lines::put_reader_state` meets its contract. Assumes nothing.
-use Rattle.lines.specs.HexLines.{readerStateText}
+-- `hexstate::put_reader_state` meets its contract. Assumes nothing.
+use Rattle.hexstate.specs.HexState.{readerStateText}
+use native.Mathlib.Omega.{arith}
+use Rattle.textparts.proofs.Laws.{put-fits}
 use borrow.Author.Needs.{needs}
-use Rattle.lines.proofs.put_reader_state.Statement.{statement}
-use Rattle.lines.proofs.put_reader_state.Tie as tie
+use Rattle.hexstate.proofs.put_reader_state.Statement.{statement}
+use Rattle.hexstate.proofs.put_reader_state.Tie as tie
 
 enum-told : tie.Need-enum-told
 enum-told c = search needs
@@ -57,23 +59,23 @@ put-failed-requires c κs = search needs
 
 returns : tie.Need-returns
 unfolding readerStateText
-returns c = rw (c .before .before .before .enum-told .given .1) (c .put .ensures)
+returns c = rw (c .before .before .before .enum-told .given .1) (put-fits _ _ _ (omega arith) (c .put .ensures))
 
 returns-2 : tie.Need-returns-2
 unfolding readerStateText
-returns-2 c = rw (c .before .before .before .enum-told2 .given .1) (c .put2 .ensures)
+returns-2 c = rw (c .before .before .before .enum-told2 .given .1) (put-fits _ _ _ (omega arith) (c .put2 .ensures))
 
 returns-3 : tie.Need-returns-3
 unfolding readerStateText
-returns-3 c = rw (c .before .before .before .enum-told3 .given .1) (c .put3 .ensures)
+returns-3 c = rw (c .before .before .before .enum-told3 .given .1) (put-fits _ _ _ (omega arith) (c .put3 .ensures))
 
 returns-4 : tie.Need-returns-4
 unfolding readerStateText
-returns-4 c = rw (c .before .before .before .enum-told4 .given .1) (c .put4 .ensures)
+returns-4 c = rw (c .before .before .before .enum-told4 .given .1) (put-fits _ _ _ (omega arith) (c .put4 .ensures))
 
 returns-5 : tie.Need-returns-5
 unfolding readerStateText
-returns-5 c = rw (c .before .before .before .enum-told5 .given .1) (c .put5 .ensures)
+returns-5 c = rw (c .before .before .before .enum-told5 .given .1) (put-fits _ _ _ (omega arith) (c .put5 .ensures))
 
 returns-6 : tie.Need-returns-6
 unfolding readerStateText

@@ -1,31 +1,14 @@
--- The lines of text of the program for lines of Universal Hex, in ASCII. Assumes nothing.
+-- The lines of text of the program for lines of Universal Hex, in ASCII: the last one, "state ended offset 1552 v1 1 v2 1",
+-- "state failed 24 offset 36 v1 0 v2 0", "state failed 22 position 9 offset 80 v1 1 v2 0". Assumes nothing.
 use Prim.Native.Nat.{ℕ}
-use mathlib.Core.Bool.{cond}
-use mathlib.Core.List.{List, [], _∷_, _++_}
-use lib.Dec.{eqb}
-use Rattle.grammar.specs.Answers.{numberOf, positionOf}
-use Rattle.grammar.specs.declared.Answer.{Answer}
+use mathlib.Core.List.{List, _∷_, _++_}
 use Rattle.grammar.specs.declared.Boards.{Boards}
 use Rattle.grammar.specs.declared.ReaderState.{ReaderState}
 use Rattle.grammar.specs.declared.ReaderState.the-variants.{Between, Opened, Inside, Padded, Ended, Failed}
 use Rattle.hexreader.specs.declared.Reader.{Reader}
-use Rattle.lines.specs.Ascii.{ascii}
-use Rattle.lines.specs.Lines.{decimalOf, pairText, flagDigit}
-
--- " position " and the position of a bad digit, or nothing
-unfoldable pub positionText : ℕ → List ℕ
-positionText p = cond (eqb p 0) [] (ascii " position " ++ decimalOf p)
-
--- the line of an answer: "0 34", "3 22 position 9"
-unfoldable pub hexAnswerLine : ℕ → Answer → List ℕ
-hexAnswerLine index a = pairText index (numberOf a) ++ positionText (positionOf a) ++ ascii "\n"
-
--- ---- the last line: "state ended offset 1552 v1 1 v2 1", "state failed 24 offset 36 v1 0 v2 0",
--- "state failed 22 position 9 offset 80 v1 1 v2 0"
-
--- "state failed ", the number of the remembered answer, and its position
-unfoldable pub failedText : Answer → List ℕ
-failedText a = ascii "state failed " ++ decimalOf (numberOf a) ++ positionText (positionOf a)
+use Rattle.textparts.specs.Ascii.{ascii}
+use Rattle.textparts.specs.Parts.{decimalOf, flagDigit}
+use Rattle.hexanswer.specs.HexAnswer.{failedText}
 
 -- "state between", "state opened", "state inside", "state padded", "state ended", or that of a failed reader
 unfoldable pub readerStateText : ReaderState → List ℕ

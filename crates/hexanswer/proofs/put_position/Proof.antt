@@ -1,8 +1,8 @@
--- `lines::put_position` meets its contract. Assumes nothing.
-use Rattle.lines.proofs.Laws.{position-none, position-some}
+-- `hexanswer::put_position` meets its contract. Assumes nothing.
+use Rattle.hexanswer.proofs.Laws.{position-none, position-some}
 use borrow.Author.Needs.{needs}
-use Rattle.lines.proofs.put_position.Statement.{statement}
-use Rattle.lines.proofs.put_position.Tie as tie
+use Rattle.hexanswer.proofs.put_position.Statement.{statement}
+use Rattle.hexanswer.proofs.put_position.Tie as tie
 
 returns : tie.Need-returns
 returns c = position-none _ _ _ (c .if1 .taken)

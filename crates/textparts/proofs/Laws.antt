@@ -1,26 +1,41 @@
--- A text that grows at the start of a list, and `io`'s decimal digits as `decimalOf` has them. Assumes nothing.
+-- A part put into a room, a text that grows at the start of a list, and `io`'s decimal digits as `decimalOf` has them. Assumes nothing.
 use mathlib.Core.Path.{_≡_, refl, sym, _∙_}
 use mathlib.Core.Bool.{Bool, true, false, cond}
 use mathlib.Core.List.{List, [], _∷_, _++_, append-assoc}
 use Prim.Native.Nat.{ℕ, zero, suc, _+_, _-_, _/_, _%_, _^_, _<_, _≤_}
 use native.Mathlib.Nat.{pow-le-pow-right}
 use native.Mathlib.Omega.{arith}
-use lib.Dec.{ltb, eqb}
-use lib.ListN.{length, drop, length-append, take-append-drop}
+use lib.Dec.{ltb, leb}
+use lib.ListN.{length, drop, length-append, length-take, length-drop}
 use lib.Seq.{length-take-le, take-at, drop-drop, drop-append-add}
-use borrow.Author.Tests.{lt-ltb, le-ltb, ltb-true, ltb-false, eq-eqb, ne-eqb}
+use borrow.Author.Tests.{lt-ltb, le-ltb, ltb-true, ltb-false, le-leb, lt-leb, leb-true}
 use Rattle.sets.specs.Over.{over}
 use Rattle.sets.proofs.Tests.{split}
-use Rattle.sets.proofs.OverLaws.{over-next}
+use Rattle.sets.proofs.OverLaws.{length-over}
 use Rattle.io.specs.Counts.{Counts}
 use Rattle.io.specs.Digits.{glyph, digits, Fewest}
-use Rattle.grammar.specs.Answers.{numberOf, positionOf}
-use Rattle.grammar.specs.declared.Answer.{Answer}
-use Rattle.grammar.specs.declared.ReaderState.{ReaderState}
-use Rattle.grammar.specs.declared.ReaderState.the-variants.{Between, Opened, Inside, Padded, Ended, Failed}
-use Rattle.lines.specs.HexLines.{positionText, hexAnswerLine, failedText, readerStateText}
-use Rattle.lines.specs.Ascii.{ascii}
-use Rattle.lines.specs.Lines.{digit, decimalBy, decimalOf, pairText}
+use Rattle.textparts.specs.Parts.{endOf, putPart, digit, decimalBy, decimalOf, pairText}
+
+-- ---- a part put at an index
+
+module _ (out : List ℕ) (at : ℕ) (p : List ℕ) where
+  pub no-room : length out < at + length p → (at ≡ endOf out at p) × (out ≡ putPart out at p)
+  unfolding endOf putPart
+  no-room l = rw (lt-leb (at + length p) (length out) l) (refl, refl)
+
+  pub has-room : at + length p ≤ length out → (at + length p ≡ endOf out at p) × (over out at p ≡ putPart out at p)
+  unfolding endOf putPart
+  has-room l = rw (le-leb (at + length p) (length out) l) (refl, refl)
+
+  pub put-fits : {zs : List ℕ} {e : ℕ} → at + length p ≤ length out → (e ≡ endOf out at p) × (zs ≡ putPart out at p) → (e ≡ at + length p) × (zs ≡ over out at p)
+  put-fits l h = let f = has-room l in (h .0 ∙ sym (f .0), h .1 ∙ sym (f .1))
+
+  pub length-put : length (putPart out at p) ≡ length out
+  unfolding putPart
+  length-put =
+      split (leb (at + length p) (length out))
+      (λ y. rw y (length-over out at p (leb-true (at + length p) (length out) y)))
+      (λ n. rw n refl)
 
 -- ---- a text that grows
 
@@ -31,22 +46,39 @@ over-more xs t p =
     let e : 0 + length t + length p ≡ 0 + length (t ++ p) = omega (arith, length-append t p) in
     rw (take-at t d (length t) refl, drop-append-add t d (length p), drop-drop (length p) (0 + length t) xs, e) (sym (append-assoc t p _))
 
--- the list xs with the text t in front, whose end is at e
+-- where the text t fits into ys: ys is xs with t in front, whose end is at e
 abbrev pub Grown : List ℕ → List ℕ → List ℕ → ℕ → Type 0
-Grown xs t ys e = (e ≡ length t) × (ys ≡ over xs 0 t)
+Grown xs t ys e = length t ≤ length ys → (e ≡ length t) × (ys ≡ over xs 0 t)
 
 pub grown-none : (xs : List ℕ) → Grown xs [] xs 0
 unfolding over
-grown-none xs = (refl, refl)
+grown-none xs l = (refl, refl)
 
-pub grown-more : (xs t p : List ℕ) {ys zs : List ℕ} {at e : ℕ} → Grown xs t ys at → (e ≡ at + length p) × (zs ≡ over ys at p) → Grown xs (t ++ p) zs e
-grown-more xs t p g h = (
-  omega (arith, g .0, h .0, length-append t p),
-  h .1 ∙ rw (g .0, g .1) (over-more xs t p),
-)
+length-most : (d : List ℕ) (at : ℕ) (s : List ℕ) → length (over d at s) ≤ length d + length s
+unfolding over
+length-most d at s = simp (length-append, length-take, length-drop) (omega arith)
 
-pub grown-counts : (xs t : List ℕ) {ys : List ℕ} {e : ℕ} → Grown xs t ys e → e ≤ length ys → (e ≡ length t) × ((ys ≡ over xs 0 t) × Counts e ys)
-grown-counts xs t {ys} {e} g l = (g .0, (g .1, (l, sym (length-take-le e ys l))))
+-- a part replaced after it
+pub grown-over : (xs t p : List ℕ) {ys zs : List ℕ} {at e : ℕ} → Grown xs t ys at → (e ≡ at + length p) × (zs ≡ over ys at p) → Grown xs (t ++ p) zs e
+grown-over xs t p {ys} {zs} {at} {e} g h l =
+    let n = length-append t p in
+    let m : length zs ≤ length ys + length p = rw (h .1) (length-most ys at p) in
+    let k = g (omega (arith, n, m)) in
+    (omega (arith, k .0, h .0, n), h .1 ∙ rw (k .0, k .1) (over-more xs t p))
+
+-- a part put after it
+pub grown-more : (xs t p : List ℕ) {ys zs : List ℕ} {at e : ℕ} → Grown xs t ys at → (e ≡ endOf ys at p) × (zs ≡ putPart ys at p) → Grown xs (t ++ p) zs e
+grown-more xs t p {ys} {zs} {at} {e} g h l =
+    let n = length-append t p in
+    let s : length zs ≡ length ys = rw (h .1) (length-put ys at p) in
+    let k = g (omega (arith, n, s)) in
+    grown-over xs t p g (put-fits ys at p (omega (arith, n, k .0, s)) h) l
+
+pub grown-counts : (xs t : List ℕ) {ys : List ℕ} {e : ℕ} → Grown xs t ys e → length t ≤ length ys → (e ≡ length t) × ((ys ≡ over xs 0 t) × Counts e ys)
+grown-counts xs t {ys} {e} g l =
+    let k = g l in
+    let m : e ≤ length ys = omega (arith, k .0) in
+    (k .0, (k .1, (m, sym (length-take-le e ys m))))
 
 -- ---- decimal digits
 
@@ -99,46 +131,5 @@ pub decimal-is : (n k : ℕ) {t : List ℕ} → n < 2 ^ 64 → Fewest 10 1 n k �
 unfolding decimalOf
 decimal-is n k l f e = e ∙ digits-by 20 k n (digits-short n k l f) f
 
--- ---- a bad digit's position
-
-over-none : (xs : List ℕ) (at : ℕ) → xs ≡ over xs at []
-unfolding over
-over-none xs at = let e : at + 0 ≡ at = omega arith in rw e (sym (take-append-drop at xs))
-
-pub position-none : (xs : List ℕ) (at p : ℕ) → p ≡ 0 → (at ≡ at + length (positionText p)) × (xs ≡ over xs at (positionText p))
-unfolding positionText
-position-none xs at p e = rw (eq-eqb p 0 e) (omega arith, over-none xs at)
-
-pub position-some : (xs : List ℕ) (at p : ℕ) {ys zs : List ℕ} {b e : ℕ} → (p ≡ 0 → ⊥) → at + 30 ≤ length xs
-    → (b ≡ at + length (ascii " position ")) × (ys ≡ over xs at (ascii " position ")) → (e ≡ b + length (decimalOf p)) × (zs ≡ over ys b (decimalOf p))
-    → (e ≡ at + length (positionText p)) × (zs ≡ over xs at (positionText p))
-unfolding positionText
-position-some xs at p n h x y =
-    rw (ne-eqb p 0 n) (
-      y .0 ∙ rw (x .0) (simp length-append (omega arith)),
-      y .1 ∙ rw (x .1, x .0) (over-next xs at (ascii " position ") (at + 10) (decimalOf p) refl (omega (arith, decimal-short p))),
-    )
-
--- ---- how long the parts of a line are
-
 pub pair-short : (index answer : ℕ) → length (pairText index answer) ≤ 41
 pair-short index answer = simp length-append (omega (arith, decimal-short index, decimal-short answer))
-
-pub position-short : (p : ℕ) → length (positionText p) ≤ 30
-unfolding positionText
-position-short p =
-    split (eqb p 0) (λ y. rw y (omega arith)) (λ n. rw n (simp length-append (omega (arith, decimal-short p))))
-
-pub hex-answer-short : (index : ℕ) (a : Answer) → length (hexAnswerLine index a) ≤ 72
-unfolding hexAnswerLine
-hex-answer-short index a =
-    simp length-append (omega (arith, decimal-short index, decimal-short (numberOf a), position-short (positionOf a)))
-
-pub state-short : (s : ReaderState) → length (readerStateText s) ≤ 63
-unfolding readerStateText failedText
-state-short Between = omega arith
-state-short Opened = omega arith
-state-short (Inside b) = omega arith
-state-short (Padded b) = omega arith
-state-short Ended = omega arith
-state-short (Failed f) = simp length-append (omega (arith, decimal-short (numberOf (f .answer)), position-short (positionOf (f .answer))))
