@@ -147,7 +147,7 @@ pub fn ask(settings: Settings, flash_len: usize, family: u32) -> PlaceAnswer
     if !flash::right_length(flash_len) {
         return PlaceAnswer::BadBuffers;
     }
-    if !settings::good(settings, flash_len) {
+    if !validity::good(settings, flash_len) {
         return PlaceAnswer::BadSettings;
     }
     match find(settings, flash_len, family) {

@@ -60,7 +60,7 @@ fn fault_row(settings: Settings, flash_len: usize) -> Row
 fn settings_row(settings: Settings, flash_len: usize) -> Row
     ensures { λ r. ⌜ r ≡ findingRow settings «flash_len» (firstFault settings «flash_len») ⌝ }
 {
-    if settings::good(settings, flash_len) {
+    if validity::good(settings, flash_len) {
         return Row::Passes;
     }
     fault_row(settings, flash_len)

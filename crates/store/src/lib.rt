@@ -128,7 +128,7 @@ fn read_head(b: &[u8], x: u64, flash_len: usize) -> Reading
         return refuse(StoreAnswer::BadBits);
     }
     let settings = settings_of(x, table);
-    if !settings::good(settings, flash_len) {
+    if !validity::good(settings, flash_len) {
         return refuse(StoreAnswer::BadSettings);
     }
     Reading {

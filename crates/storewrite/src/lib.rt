@@ -142,7 +142,7 @@ pub fn write(settings: Settings, flash_len: usize, out: &mut [u8]) -> StoreAnswe
     if !flash::right_length(flash_len) {
         return StoreAnswer::BadBuffers;
     }
-    if !settings::good(settings, flash_len) {
+    if !validity::good(settings, flash_len) {
         return StoreAnswer::BadSettings;
     }
     let n = settings.count as usize;

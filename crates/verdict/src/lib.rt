@@ -65,7 +65,7 @@ pub fn known_of(settings: Settings, lens: Lengths, m: usize, k: usize, arrival: 
     ensures low { λ r. ⌜ StartsLow (r .rooms .flash) ⌝ }
 {
     let right = lengths_right(arrival.len(), lens, m, k);
-    let good = settings::good(settings, lens.flash);
+    let good = validity::good(settings, lens.flash);
     let family = block::field(arrival, 28);
     let rooms = screen::rooms_for(settings, lens.flash, family);
     Known { right, good, rooms }

@@ -5,11 +5,11 @@ use mathlib.Core.Bool.{false}
 use native.Mathlib.Omega.{arith}
 use Rattle.sets.specs.Sets.{any}
 use Rattle.sets.proofs.Laws.{any-zero, any-more, any-hit}
 use Rattle.settings.specs.Settings.{overlapAt}
 use Rattle.settings.specs.Parts.{sharesBelow}
 use borrow.Author.Needs.{needs}
-use Rattle.settings.proofs.any_shares.Statement.{statement}
-use Rattle.settings.proofs.any_shares.Tie as tie
+use Rattle.validity.proofs.any_shares.Statement.{statement}
+use Rattle.validity.proofs.any_shares.Tie as tie
 
 abbrev Inv-loop2 : tie.InvT-loop2
 Inv-loop2 count table k first sectors j₀ j = (j ≤ k) × (any j (overlapAt table k) ≡ false)

@@ -6,13 +6,13 @@ use native.Mathlib.Omega.{arith}
 use borrow.Author.Tests.{not-true, not-false}
 use Rattle.sets.specs.Sets.{any}
 use Rattle.sets.proofs.Laws.{any-zero, any-more}
 use Rattle.settings.specs.Settings.{isA, entryAt}
 use Rattle.settings.specs.Parts.{wrongEntry}
-use Rattle.settings.proofs.Rising.{Apart, apart-none, rising-more, wrong-hit}
+use Rattle.validity.proofs.Rising.{Apart, apart-none, rising-more, wrong-hit}
 use Rattle.settings.proofs.Laws.{wrong-alone, wrong-link, right-entry, link-up, link-to-b, link-none, link-right}
 use borrow.Author.Needs.{needs}
-use Rattle.settings.proofs.any_bad.Statement.{statement}
-use Rattle.settings.proofs.any_bad.Tie as tie
+use Rattle.validity.proofs.any_bad.Statement.{statement}
+use Rattle.validity.proofs.any_bad.Tie as tie
 
 abbrev Inv-loop : tie.InvT-loop
 Inv-loop count flash-len table rising₀ past₀ k₀ rising past k =

@@ -1,9 +1,9 @@
--- `settings::sectors_overlap` meets its contract. Assumes nothing.
+-- `sectors::sectors_overlap` meets its contract. Assumes nothing.
 use mathlib.Core.Path.{sym}
 use Rattle.settings.proofs.Overlap.{overlap-before, overlap-after, overlap-rest}
 use borrow.Author.Needs.{needs}
-use Rattle.settings.proofs.sectors_overlap.Statement.{statement}
-use Rattle.settings.proofs.sectors_overlap.Tie as tie
+use Rattle.sectors.proofs.sectors_overlap.Statement.{statement}
+use Rattle.sectors.proofs.sectors_overlap.Tie as tie
 
 add-to : tie.Need-add-to
 add-to c = search needs

@@ -1,11 +1,11 @@
--- `settings::good` meets its contract. Assumes nothing.
+-- `validity::good` meets its contract. Assumes nothing.
 use mathlib.Core.Path.{sym, ap, _∙_}
 use mathlib.Core.Bool.{not}
 use borrow.Author.Tests.{not-true, not-false}
 use Rattle.settings.proofs.Laws.{good-off, good-none, good-over, good-rest}
 use borrow.Author.Needs.{needs}
-use Rattle.settings.proofs.good.Statement.{statement}
-use Rattle.settings.proofs.good.Tie as tie
+use Rattle.validity.proofs.good.Statement.{statement}
+use Rattle.validity.proofs.good.Tie as tie
 
 cast-count : tie.Need-cast-count
 cast-count c = search needs
