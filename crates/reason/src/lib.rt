@@ -47,7 +47,7 @@ pub struct WhyPlace {
 fn fault_row(settings: Settings, flash_len: usize) -> Row
     ensures { λ r. ⌜ r ≡ findingRow settings «flash_len» (firstFault settings «flash_len») ⌝ }
 {
-    match faults::first(settings, flash_len) {
+    match firstfault::first(settings, flash_len) {
         Finding::Sound => Row::Passes,
         Finding::Bad(x) => {
             let n = faults::numbers(settings, flash_len, x);

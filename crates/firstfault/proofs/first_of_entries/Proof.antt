@@ -2,12 +2,12 @@
 use Prim.Native.Nat.{_≤_, _-_}
 use mathlib.Core.Path.{_≡_, sym, _∙_}
 use native.Mathlib.Omega.{arith}
 use Rattle.faults.specs.declared.Finding.the-variants.{Sound}
 use Rattle.faults.specs.Faults.{each, conditionAt, conditionFor, firstIn}
 use Rattle.faults.proofs.Laws.{each-zero, each-more, each-hit}
 use borrow.Author.Needs.{needs}
-use Rattle.faults.proofs.first_of_entries.Statement.{statement}
-use Rattle.faults.proofs.first_of_entries.Tie as tie
+use Rattle.firstfault.proofs.first_of_entries.Statement.{statement}
+use Rattle.firstfault.proofs.first_of_entries.Tie as tie
 
 abbrev Inv-loop : tie.InvT-loop
 Inv-loop settings flash-len n rule k₀ k = (k ≤ n) × (firstIn settings flash-len (each (conditionAt n rule) k) ≡ Sound)

@@ -1,13 +1,13 @@
--- `faults::condition_at` meets its contract. Assumes nothing.
+-- `firstfault::condition_at` meets its contract. Assumes nothing.
 use mathlib.Core.Path.{ap, _∙_}
 use mathlib.Core.Bool.{Bool}
 use Rattle.settings.specs.Settings.{entryAt, isReserved}
 use Rattle.faults.specs.Faults.{badIf}
 use Rattle.faults.specs.declared.Fault.the-variants.{LinksUp, LinksToB, ReservedUser}
 use Rattle.faults.proofs.Laws.{up-by, reserved-user, condition-0, condition-1, condition-2, condition-3, condition-4, condition-5, condition-6}
 use borrow.Author.Needs.{needs}
-use Rattle.faults.proofs.condition_at.Statement.{statement}
-use Rattle.faults.proofs.condition_at.Tie as tie
+use Rattle.firstfault.proofs.condition_at.Statement.{statement}
+use Rattle.firstfault.proofs.condition_at.Tie as tie
 
 mul-e : tie.Need-mul-e
 mul-e c = search needs

@@ -1,11 +1,11 @@
--- `faults::shares` meets its contract. Assumes nothing.
+-- `firstfault::shares` meets its contract. Assumes nothing.
 use mathlib.Core.Path.{_∙_}
 use native.Mathlib.Omega.{arith}
 use Rattle.settings.specs.Settings.{sharesWith}
 use Rattle.faults.proofs.Laws.{least-most, shared-by}
 use borrow.Author.Needs.{needs}
-use Rattle.faults.proofs.shares.Statement.{statement}
-use Rattle.faults.proofs.shares.Tie as tie
+use Rattle.firstfault.proofs.shares.Statement.{statement}
+use Rattle.firstfault.proofs.shares.Tie as tie
 
 first-other-requires : tie.Need-first-other-requires
 first-other-requires c κs = search needs

@@ -1,12 +1,12 @@
--- `faults::first` meets its contract. Assumes nothing.
+-- `firstfault::first` meets its contract. Assumes nothing.
 use mathlib.Core.Path.{sym, ap, _∙_}
 use borrow.Author.Tests.{not-true, not-false}
 use Rattle.sets.specs.Numbered.{numbered}
 use Rattle.faults.specs.Faults.{findingNumber}
 use Rattle.faults.proofs.Laws.{first-off, first-over, first-entries}
 use borrow.Author.Needs.{needs}
-use Rattle.faults.proofs.first.Statement.{statement}
-use Rattle.faults.proofs.first.Tie as tie
+use Rattle.firstfault.proofs.first.Statement.{statement}
+use Rattle.firstfault.proofs.first.Tie as tie
 
 is-enabled-requires : tie.Need-is-enabled-requires
 is-enabled-requires c κs = search needs

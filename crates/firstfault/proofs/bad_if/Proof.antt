@@ -1,7 +1,7 @@
--- `faults::bad_if` meets its contract. Assumes nothing.
+-- `firstfault::bad_if` meets its contract. Assumes nothing.
 use borrow.Author.Needs.{needs}
-use Rattle.faults.proofs.bad_if.Statement.{statement}
-use Rattle.faults.proofs.bad_if.Tie as tie
+use Rattle.firstfault.proofs.bad_if.Statement.{statement}
+use Rattle.firstfault.proofs.bad_if.Tie as tie
 
 returns : tie.Need-returns
 returns c = simp (c .if1 .taken)
