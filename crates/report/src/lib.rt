@@ -2,9 +2,9 @@
 ghost use mathlib.Core.Path.{_≡_};
 ghost use Rattle.sets.specs.Numbered.{numbered};
 ghost use Rattle.receiver.specs.Receiver.{lentAt, leftAt};
-ghost use Rattle.replay.specs.Replay.{beforeStop};
 ghost use Rattle.report.specs.Report.{figuresNumber, figuresOutcome, outcomeNumber, addOf};
-ghost use Rattle.report.specs.Counting.{replayedBy};
+ghost use Rattle.report.specs.declared.FiguresAnswer.the-variants.{Replayed};
+use adding::Counted;
 use counts::Report;
 use piece::Stop;
 use settings::Settings;
@@ -34,47 +34,14 @@ impl FiguresAnswer {
     }
 }
 
-// How many records stand before the stop, of a trace with so many whole pieces.
-fn before_stop(stop: Stop, pieces: usize) -> usize
-    ensures { λ r. ⌜ r ≡ beforeStop pieces stop ⌝ }
+// What came of a trace that was replayed.
+fn told(counted: Counted) -> Added
+    ensures { λ r. ⌜ (r .report ≡ counted .report) × (r .answer ≡ Replayed (counted .stop)) ⌝ }
 {
-    match stop {
-        Stop::None => pieces,
-        Stop::Bad(index) => index,
-        Stop::Differs(index) => index,
-    }
-}
-
-// Adds a trace that is replayed, whatever the report: its records are counted as they are replayed.
-fn add_replayed(
-    report: Report,
-    settings: Settings,
-    trace: &[u8],
-    flash: &mut [u8],
-    seen: &mut [u8],
-    sectors: &mut [u8],
-    main: &mut [u8],
-    xip: &mut [u8],
-) -> Added
-    ensures { λ r. ⌜ figuresOutcome (r .answer) (r .report) (leftAt flash seen sectors main xip) ≡ replayedBy report settings (lentAt flash seen sectors main xip) (now (trace .entry)) ⌝ }
-{
-    let pieces = trace.len() / piece::RECORD;
-    let mut tally = [0usize; counts::TALLY];
-    let replayed = replay::replay_counted(
-        settings,
-        trace,
-        &mut tally,
-        flash,
-        seen,
-        sectors,
-        main,
-        xip,
-    );
-    let stop = replayed.stop;
-    let transfer = replayed.transfer;
-    let counted = counts::with_tally(report, tally, before_stop(stop, pieces));
+    let report = counted.report;
+    let stop = counted.stop;
     Added {
-        report: counts::with_end(counted, transfer, seen),
+        report,
         answer: FiguresAnswer::Replayed(stop),
     }
 }
@@ -105,5 +72,5 @@ pub fn add(
             answer: FiguresAnswer::TooMany,
         };
     }
-    add_replayed(report, settings, trace, flash, seen, sectors, main, xip)
+    told(adding::add_replayed(report, settings, trace, flash, seen, sectors, main, xip))
 }

@@ -23,6 +23,9 @@ returns-2 c = ap (numbered outcomeNumber) (add-many _ _ _ _ (sym (c .before .bef
 add-replayed-requires : tie.Need-add-replayed-requires
 add-replayed-requires c κs = search needs
 
+told-requires : tie.Need-told-requires
+told-requires c κs = search needs
+
 same-length : tie.Need-same-length
 same-length c = search needs
 
@@ -40,9 +43,9 @@ same-length-5 c = search needs
 
 returns-3 : tie.Need-returns-3
 returns-3 c =
-    let added = c .before .before .before .before .before .before .before .before .before .before in
+    let added = c .before .before .before .before .before .before .before .before .before .before .before in
     let room = added .before .before .before .before .before .before .before in
-    ap (numbered outcomeNumber) (add-replayed _ _ _ _ (sym (room .before .before .is-good .ensures) ∙ not-false _ (room .before .if1 .left)) (sym (room .has-room .ensures) ∙ not-false _ (added .before .before .before .before .before .before .if2 .left)) (added .add-replayed .ensures))
+    ap (numbered outcomeNumber) (add-replayed _ _ _ _ (sym (room .before .before .is-good .ensures) ∙ not-false _ (room .before .if1 .left)) (sym (room .has-room .ensures) ∙ not-false _ (added .before .before .before .before .before .before .if2 .left)) (added .add-replayed .ensures) (c .told .ensures .0) (c .told .ensures .1))
 
 pub add-spec : {M : Type 1} → statement M
 add-spec =
@@ -53,6 +56,7 @@ add-spec =
     has-room-requires
     returns-2
     add-replayed-requires
+    told-requires
     same-length
     same-length-2
     same-length-3

@@ -1,8 +1,8 @@
--- `report::add_replayed` meets its contract. Assumes nothing.
-use Rattle.report.proofs.Adds.{replayed-is}
+-- `adding::add_replayed` meets its contract. Assumes nothing.
+use Rattle.adding.proofs.Laws.{replayed-is}
 use borrow.Author.Needs.{needs}
-use Rattle.report.proofs.add_replayed.Statement.{statement}
-use Rattle.report.proofs.add_replayed.Tie as tie
+use Rattle.adding.proofs.add_replayed.Statement.{statement}
+use Rattle.adding.proofs.add_replayed.Tie as tie
 
 slice-aggregate-replay-counted : tie.Need-slice-aggregate-replay-counted
 slice-aggregate-replay-counted c = search needs
