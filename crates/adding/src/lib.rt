@@ -26,7 +26,7 @@ pub fn add_replayed(
     ensures { λ r. ⌜ countedOutcome (r .stop) (r .report) (leftAt flash seen sectors main xip) ≡ countedBy report settings (lentAt flash seen sectors main xip) (now (trace .entry)) ⌝ }
 {
     let pieces = trace.len() / piece::RECORD;
-    let mut tally = [0usize; counts::TALLY];
+    let mut tally = [0usize; tally::TALLY];
     let replayed = replay::replay_counted(
         settings,
         trace,
@@ -41,7 +41,7 @@ pub fn add_replayed(
     let transfer = replayed.transfer;
     let counted = counts::with_tally(report, tally, ends::before_stop(stop, pieces));
     Counted {
-        report: counts::with_end(counted, transfer, seen),
+        report: missing::with_end(counted, transfer, seen),
         stop,
     }
 }

@@ -14,7 +14,7 @@ use Rattle.piece.specs.declared.Stop.the-variants.{None}
 use Rattle.piece.specs.Piece.{isReplayed, stopOf}
 pub use Rattle.ends.specs.Ends.{beforeStop}
 use Rattle.trace.specs.Trace.{PieceOutcome, pieceOf}
-use Rattle.counts.specs.Counts.{tallyTo}
+use Rattle.tally.specs.Tally.{tallyTo}
 
 -- ---- the pieces of a trace
 

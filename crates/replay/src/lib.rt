@@ -62,7 +62,7 @@ fn run(
                 stop: ends::stop_at(answer, at),
             };
         }
-        counts::count(tally, trace[at]);
+        tally::count(tally, trace[at]);
         t = next;
         at = to;
     }

@@ -5,7 +5,7 @@ use native.Mathlib.Omega.{arith}
 use lib.ListN.{length}
 use borrow.Author.Tests.{not-true, not-false}
 use Rattle.receiver.specs.Receiver.{lent, world}
-use Rattle.counts.specs.Counts.{tallyTo}
+use Rattle.tally.specs.Tally.{tallyTo}
 use Rattle.replay.specs.Replay.{piecesOf, replayFrom}
 use Rattle.replay.proofs.Laws.{left, run-goes-on, run-ends, from-fresh, tally-none, tally-more, stops-counted, tally-ends, whole-next, begins-next, index-next}
 use borrow.Author.Needs.{needs}

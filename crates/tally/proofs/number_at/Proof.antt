@@ -1,9 +1,9 @@
--- `counts::number_at` meets its contract. Assumes nothing.
+-- `tally::number_at` meets its contract. Assumes nothing.
 use native.Mathlib.Omega.{arith}
 use borrow.Author.Tests.{lt-ltb, le-ltb}
 use borrow.Author.Needs.{needs}
-use Rattle.counts.proofs.number_at.Statement.{statement}
-use Rattle.counts.proofs.number_at.Tie as tie
+use Rattle.tally.proofs.number_at.Statement.{statement}
+use Rattle.tally.proofs.number_at.Tie as tie
 
 add-result : tie.Need-add-result
 add-result c = search needs

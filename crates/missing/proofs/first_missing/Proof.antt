@@ -1,4 +1,4 @@
--- `counts::first_missing` meets its contract. Assumes nothing.
+-- `missing::first_missing` meets its contract. Assumes nothing.
 use Prim.Native.Nat.{ℕ}
 use mathlib.Core.Path.{subst}
 use native.Mathlib.Omega.{arith}
@@ -7,10 +7,10 @@ use mathlib.Core.Path.{_≡_, sym, ap, _∙_}
 use mathlib.Core.Bool.{false, not}
 use Rattle.sets.specs.Sets.{any}
 use Rattle.sets.proofs.Laws.{any-zero, any-more, least-is, least-none}
 use Rattle.counts.specs.Counts.{isMissing}
 use borrow.Author.Needs.{needs}
-use Rattle.counts.proofs.first_missing.Statement.{statement}
-use Rattle.counts.proofs.first_missing.Tie as tie
+use Rattle.missing.proofs.first_missing.Statement.{statement}
+use Rattle.missing.proofs.first_missing.Tie as tie
 
 abbrev Inv-loop : tie.InvT-loop
 Inv-loop map total k₀ k = (k ≤ total) × (any k (isMissing map) ≡ false)

@@ -1,9 +1,9 @@
--- `counts::missing_at` meets its contract. Assumes nothing.
+-- `missing::missing_at` meets its contract. Assumes nothing.
 use mathlib.Core.Path.{ap}
 use Rattle.counts.specs.declared.Missing.the-variants.{Number}
 use borrow.Author.Needs.{needs}
-use Rattle.counts.proofs.missing_at.Statement.{statement}
-use Rattle.counts.proofs.missing_at.Tie as tie
+use Rattle.missing.proofs.missing_at.Statement.{statement}
+use Rattle.missing.proofs.missing_at.Tie as tie
 
 enum-told : tie.Need-enum-told
 enum-told c = search needs

@@ -1,8 +1,8 @@
--- `counts::with_end` meets its contract. Assumes nothing.
+-- `missing::with_end` meets its contract. Assumes nothing.
 use Rattle.counts.specs.Counts.{endedOf}
 use borrow.Author.Needs.{needs}
-use Rattle.counts.proofs.with_end.Statement.{statement}
-use Rattle.counts.proofs.with_end.Tie as tie
+use Rattle.missing.proofs.with_end.Statement.{statement}
+use Rattle.missing.proofs.with_end.Tie as tie
 
 marked-at-requires : tie.Need-marked-at-requires
 marked-at-requires c κs = search needs

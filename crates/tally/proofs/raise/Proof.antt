@@ -1,8 +1,8 @@
--- `counts::raise` meets its contract. Assumes nothing.
-use Rattle.counts.proofs.Laws.{raised-in, raised-out}
+-- `tally::raise` meets its contract. Assumes nothing.
+use Rattle.tally.proofs.Laws.{raised-in, raised-out}
 use borrow.Author.Needs.{needs}
-use Rattle.counts.proofs.raise.Statement.{statement}
-use Rattle.counts.proofs.raise.Tie as tie
+use Rattle.tally.proofs.raise.Statement.{statement}
+use Rattle.tally.proofs.raise.Tie as tie
 
 mul-wrapping-add-usize : tie.Need-mul-wrapping-add-usize
 mul-wrapping-add-usize c = search needs

@@ -1,8 +1,8 @@
--- `counts::count` meets its contract. Assumes nothing.
-use Rattle.counts.proofs.Laws.{counted-is}
+-- `tally::count` meets its contract. Assumes nothing.
+use Rattle.tally.proofs.Laws.{counted-is}
 use borrow.Author.Needs.{needs}
-use Rattle.counts.proofs.count.Statement.{statement}
-use Rattle.counts.proofs.count.Tie as tie
+use Rattle.tally.proofs.count.Statement.{statement}
+use Rattle.tally.proofs.count.Tie as tie
 
 cast-raise : tie.Need-cast-raise
 cast-raise c = search needs

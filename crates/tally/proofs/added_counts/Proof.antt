@@ -1,11 +1,11 @@
--- `counts::added_counts` meets its contract. Assumes nothing.
+-- `tally::added_counts` meets its contract. Assumes nothing.
 use Prim.Native.Nat.{_-_, _≤_}
 use mathlib.Core.Path.{_≡_}
-use Rattle.counts.specs.Counts.{addedCounts}
-use Rattle.counts.proofs.Laws.{added-none, added-more, added-all}
+use Rattle.tally.specs.Tally.{addedCounts}
+use Rattle.tally.proofs.Laws.{added-none, added-more, added-all}
 use borrow.Author.Needs.{needs}
-use Rattle.counts.proofs.added_counts.Statement.{statement}
-use Rattle.counts.proofs.added_counts.Tie as tie
+use Rattle.tally.proofs.added_counts.Statement.{statement}
+use Rattle.tally.proofs.added_counts.Tie as tie
 
 abbrev Inv-loop : tie.InvT-loop
 Inv-loop was tally counts₀ k₀ counts k = (k ≤ 16) × (counts ≡ addedCounts was tally k)
