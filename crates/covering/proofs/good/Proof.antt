@@ -1,9 +1,9 @@
--- `region::good` meets its contract. Assumes nothing.
+-- `covering::good` meets its contract. Assumes nothing.
 use native.Mathlib.Omega.{arith}
 use Rattle.region.proofs.Laws.{good-no, good-last}
 use borrow.Author.Needs.{needs}
-use Rattle.region.proofs.good.Statement.{statement}
-use Rattle.region.proofs.good.Tie as tie
+use Rattle.covering.proofs.good.Statement.{statement}
+use Rattle.covering.proofs.good.Tie as tie
 
 cast-start : tie.Need-cast-start
 cast-start c = search needs
