@@ -23,7 +23,7 @@ use Rattle.piece.specs.declared.Stop.the-variants.{None, Bad, Differs}
 use Rattle.piece.specs.Piece.{isReplayed, stopOf}
 use Rattle.trace.specs.declared.PieceReceipt.{PieceReceipt}
 use Rattle.trace.specs.Trace.{PieceOutcome, pieceOutcome, pieceOf}
-use Rattle.trace.proofs.Laws.{piece-taken}
+use Rattle.comparing.proofs.Laws.{piece-taken}
 use Rattle.tally.specs.Tally.{tallied, recordedAt, tallyTo}
 use Rattle.replay.specs.Replay.{cut, piecesOf, TraceOutcome, traceOutcome, wentOn, replayFrom, begun, replayOf, beforeStop, TallyOutcome, tallyOutcome, withCounts}
 

@@ -1,12 +1,12 @@
--- `trace::judge` meets its contract. Assumes nothing.
+-- `comparing::judge` meets its contract. Assumes nothing.
 use mathlib.Core.Path.{sym, _∙_}
 use native.Mathlib.Omega.{arith}
 use Rattle.sets.proofs.Numbered.{answer-is}
 use Rattle.piece.proofs.Laws.{good-length}
-use Rattle.trace.proofs.Laws.{judge-bad, judge-compared}
+use Rattle.comparing.proofs.Laws.{judge-bad, judge-compared}
 use borrow.Author.Needs.{needs}
-use Rattle.trace.proofs.judge.Statement.{statement}
-use Rattle.trace.proofs.judge.Tie as tie
+use Rattle.comparing.proofs.judge.Statement.{statement}
+use Rattle.comparing.proofs.judge.Tie as tie
 
 is-bad-requires : tie.Need-is-bad-requires
 is-bad-requires c κs = search needs

@@ -19,7 +19,7 @@ use Rattle.piece.specs.declared.PieceAnswer.{PieceAnswer}
 use Rattle.piece.specs.declared.PieceAnswer.the-variants as piece
 use Rattle.piece.specs.Piece.{recorded, arrivalIn, isBad, agrees, comparedOf, isReplayed}
 use Rattle.piece.proofs.Laws.{good-length}
-use Rattle.trace.specs.Trace.{PieceOutcome, pieceOutcome, pieceOf}
+use Rattle.comparing.specs.Compared.{PieceOutcome, pieceOutcome, pieceOf}
 
 module _ (s : Settings) (w : World) (p : List ℕ) where
   abbrev ours : Outcome
