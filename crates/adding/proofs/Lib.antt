@@ -1,2 +1,3 @@
 -- The laws of `specs/`.
-pub mod Laws
+pub mod Counted
+pub mod Adds

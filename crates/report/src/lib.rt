@@ -2,46 +2,43 @@
 ghost use mathlib.Core.Path.{_≡_};
 ghost use Rattle.sets.specs.Numbered.{numbered};
 ghost use Rattle.receiver.specs.Receiver.{lentAt, leftAt};
-ghost use Rattle.report.specs.Report.{figuresNumber, figuresOutcome, outcomeNumber, addOf};
-ghost use Rattle.report.specs.declared.FiguresAnswer.the-variants.{Replayed};
-use adding::Counted;
+ghost use Rattle.adding.specs.Report.{figuresOutcome, outcomeNumber, addOf};
+ghost use Rattle.adding.specs.Counting.{replayedBy};
+use adding::Added;
+use adding::FiguresAnswer;
 use counts::Report;
-use piece::Stop;
 use settings::Settings;
 
-// What comes of a trace that is handed to a report.
-pub enum FiguresAnswer {
-    BadReport,
-    TooMany,
-    Replayed(Stop),
-}
-
-// What is handed back: the next report, and what came of the trace.
-pub struct Added {
-    pub report: Report,
-    pub answer: FiguresAnswer,
-}
-
-impl FiguresAnswer {
-    pub fn number(self) -> u8
-        ensures { λ r. ⌜ r ≡ figuresNumber self ⌝ }
-    {
-        match self {
-            FiguresAnswer::BadReport => 71,
-            FiguresAnswer::TooMany => 70,
-            FiguresAnswer::Replayed(_) => 0,
-        }
-    }
-}
-
-// What came of a trace that was replayed.
-fn told(counted: Counted) -> Added
-    ensures { λ r. ⌜ (r .report ≡ counted .report) × (r .answer ≡ Replayed (counted .stop)) ⌝ }
+// Adds a trace that is replayed, whatever the report: its records are counted as they are replayed.
+fn add_replayed(
+    report: Report,
+    settings: Settings,
+    trace: &[u8],
+    flash: &mut [u8],
+    seen: &mut [u8],
+    sectors: &mut [u8],
+    main: &mut [u8],
+    xip: &mut [u8],
+) -> Added
+    ensures { λ r. ⌜ figuresOutcome (r .answer) (r .report) (leftAt flash seen sectors main xip) ≡ replayedBy report settings (lentAt flash seen sectors main xip) (now (trace .entry)) ⌝ }
 {
-    let report = counted.report;
-    let stop = counted.stop;
+    let pieces = trace.len() / piece::RECORD;
+    let mut tally = [0usize; tally::TALLY];
+    let replayed = replay::replay_counted(
+        settings,
+        trace,
+        &mut tally,
+        flash,
+        seen,
+        sectors,
+        main,
+        xip,
+    );
+    let stop = replayed.stop;
+    let transfer = replayed.transfer;
+    let counted = counts::with_tally(report, tally, ends::before_stop(stop, pieces));
     Added {
-        report,
+        report: missing::with_end(counted, transfer, seen),
         answer: FiguresAnswer::Replayed(stop),
     }
 }
@@ -72,5 +69,5 @@ pub fn add(
             answer: FiguresAnswer::TooMany,
         };
     }
-    told(adding::add_replayed(report, settings, trace, flash, seen, sectors, main, xip))
+    add_replayed(report, settings, trace, flash, seen, sectors, main, xip)
 }

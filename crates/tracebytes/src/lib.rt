@@ -3,7 +3,7 @@ ghost use mathlib.Core.Path.{_≡_};
 ghost use Rattle.tracebytes.specs.Kept.{stopNumber, indexOver, withStop, figuresResult, keptReport, keptIndex};
 use counts::Report;
 use piece::Stop;
-use report::FiguresAnswer;
+use adding::FiguresAnswer;
 
 // The bytes of an index.
 const INDEX: usize = 8;

@@ -2,8 +2,8 @@
 use mathlib.Core.Path.{sym, ap, _∙_}
 use borrow.Author.Tests.{not-true, not-false}
 use Rattle.sets.specs.Numbered.{numbered}
-use Rattle.report.specs.Report.{outcomeNumber}
-use Rattle.report.proofs.Adds.{add-bad, add-many, add-replayed}
+use Rattle.adding.specs.Report.{outcomeNumber}
+use Rattle.adding.proofs.Adds.{add-bad, add-many, add-replayed}
 use borrow.Author.Needs.{needs}
 use Rattle.report.proofs.add.Statement.{statement}
 use Rattle.report.proofs.add.Tie as tie
@@ -23,9 +23,6 @@ returns-2 c = ap (numbered outcomeNumber) (add-many _ _ _ _ (sym (c .before .bef
 add-replayed-requires : tie.Need-add-replayed-requires
 add-replayed-requires c κs = search needs
 
-told-requires : tie.Need-told-requires
-told-requires c κs = search needs
-
 same-length : tie.Need-same-length
 same-length c = search needs
 
@@ -43,9 +40,9 @@ same-length-5 c = search needs
 
 returns-3 : tie.Need-returns-3
 returns-3 c =
-    let added = c .before .before .before .before .before .before .before .before .before .before .before in
+    let added = c .before .before .before .before .before .before .before .before .before .before in
     let room = added .before .before .before .before .before .before .before in
-    ap (numbered outcomeNumber) (add-replayed _ _ _ _ (sym (room .before .before .is-good .ensures) ∙ not-false _ (room .before .if1 .left)) (sym (room .has-room .ensures) ∙ not-false _ (added .before .before .before .before .before .before .if2 .left)) (added .add-replayed .ensures) (c .told .ensures .0) (c .told .ensures .1))
+    ap (numbered outcomeNumber) (add-replayed _ _ _ _ (sym (room .before .before .is-good .ensures) ∙ not-false _ (room .before .if1 .left)) (sym (room .has-room .ensures) ∙ not-false _ (added .before .before .before .before .before .before .if2 .left)) (added .add-replayed .ensures))
 
 pub add-spec : {M : Type 1} → statement M
 add-spec =
@@ -56,7 +53,6 @@ add-spec =
     has-room-requires
     returns-2
     add-replayed-requires
-    told-requires
     same-length
     same-length-2
     same-length-3

@@ -12,8 +12,8 @@ use Rattle.counts.specs.declared.Report.{Report}
 use Rattle.counts.specs.Counts.{goodReport, withRoom, countAll, howManyYes, missingAt}
 use Rattle.replay.specs.Replay.{TraceOutcome, begun, replayOf}
 use Rattle.replays.specs.Pieces.{arrivalsTo, recordsBefore}
-use Rattle.report.specs.declared.FiguresAnswer.{FiguresAnswer}
-use Rattle.report.specs.declared.FiguresAnswer.the-variants.{BadReport, TooMany, Replayed}
+use Rattle.adding.specs.declared.FiguresAnswer.{FiguresAnswer}
+use Rattle.adding.specs.declared.FiguresAnswer.the-variants.{BadReport, TooMany, Replayed}
 
 -- ---- one trace more
 

@@ -1,8 +1,8 @@
--- `adding::add_replayed` meets its contract. Assumes nothing.
-use Rattle.adding.proofs.Laws.{replayed-is}
+-- `report::add_replayed` meets its contract. Assumes nothing.
+use Rattle.adding.proofs.Adds.{replayed-is}
 use borrow.Author.Needs.{needs}
-use Rattle.adding.proofs.add_replayed.Statement.{statement}
-use Rattle.adding.proofs.add_replayed.Tie as tie
+use Rattle.report.proofs.add_replayed.Statement.{statement}
+use Rattle.report.proofs.add_replayed.Tie as tie
 
 slice-aggregate-replay-counted : tie.Need-slice-aggregate-replay-counted
 slice-aggregate-replay-counted c = search needs

@@ -18,6 +18,7 @@ use Rattle.bitmap.proofs.MapLaws.{map-none, marks-map}
 use Rattle.settings.specs.declared.Settings.{Settings}
 use Rattle.transfer.specs.Transfer.{numberOf, countOf}
 use Rattle.transfer.specs.declared.State.the-variants.{Idle}
+use Rattle.transfer.specs.declared.Transfer.{Transfer}
 use Rattle.transfer.specs.declared.Answer.{Answer}
 use Rattle.transfer.specs.declared.Answer.the-variants.{BadBuffers, BadSettings, BadState, NotBlock, Container, NoFamily, NoPlace, BadPayload, BadNumbers, BadAddress, Finished, Again, Written, Completed, Noted, Kept}
 use Rattle.arrival.specs.Arrive.{Lent, World, Outcome, lentOf, receiveOf}
@@ -26,20 +27,19 @@ use Rattle.arrival.specs.Facts.{Refusals-change-nothing}
 use Rattle.arrival.specs.Tally.{isAccepted, anyAccepted, Count-is-marks}
 use Rattle.arrival.proofs.Facts.{refusals-change-nothing}
 use Rattle.arrival.proofs.Tally.{count-is-marks}
+use Rattle.receiver.specs.Receiver.{world}
 use Rattle.piece.specs.declared.Stop.{Stop}
 use Rattle.piece.specs.declared.Stop.the-variants.{None, Bad, Differs}
 use Rattle.counts.specs.declared.Report.{Report}
-use Rattle.counts.specs.Counts.{sumTo, goodReport, withRoom, howManyYes, recordedAt, endedOf}
-use Rattle.ends.specs.Ends.{beforeStop}
-use Rattle.replay.specs.Replay.{begun, replayOf}
+use Rattle.counts.specs.Counts.{sumTo, goodReport, withRoom, howManyYes, recordedAt, tallyTo, withTally, endedOf}
+use Rattle.replay.specs.Replay.{TraceOutcome, traceOutcome, begun, replayOf, beforeStop, TallyOutcome, tallyOutcome, withCounts}
 use Rattle.replays.specs.Pieces.{pieceAt, arrivalAt, arrivalsTo, recordsBefore}
 use Rattle.replays.specs.Claims.{after, IsOurs, Ends-before-the-stop}
 use Rattle.replays.proofs.Replays.{ends-before-the-stop}
-use Rattle.adding.specs.Counting.{talliedBy, CountedOutcome, countedOutcome, countedBy}
-use Rattle.report.specs.declared.FiguresAnswer.{FiguresAnswer}
-use Rattle.report.specs.declared.FiguresAnswer.the-variants.{BadReport, TooMany, Replayed}
-use Rattle.report.specs.Report.{replayedIn, addedTo, figuresOutcome, addOf}
-use Rattle.report.proofs.Counted.{numbersTo, discardsTo, Countable, countedOf, tally-is}
+use Rattle.adding.specs.declared.FiguresAnswer.the-variants.{BadReport, TooMany, Replayed}
+use Rattle.adding.specs.Report.{replayedIn, addedTo, FiguresOutcome, figuresOutcome, addOf}
+use Rattle.adding.specs.Counting.{talliedBy, replayedBy}
+use Rattle.adding.proofs.Counted.{numbersTo, discardsTo, Countable, countedOf, zeros, tally-is}
 
 -- ---- the numbers of our answers
 
@@ -200,6 +200,26 @@ module _ (r : Report) (s : Settings) (h : Lent) (t : List ℕ) where
       rw (before-is t (replayOf s h t .stop), tally-is r t n (countable s h t r g m), length-arrivals t n, ← numbers-are s h t n f, ← discards-are s h t n f, ← replay-count s h t)
       (unfold countedOf in refl)
 
-  pub add-replayed : goodReport r ≡ true → withRoom r (length t / 513) ≡ true → {x : Stop} {d : Report} {k : Lent} → countedOutcome x d k ≡ countedBy r s h t → {a : FiguresAnswer} {b : Report} → b ≡ d → a ≡ Replayed x → figuresOutcome a b k ≡ addOf r s h t
-  unfolding addOf countedBy
-  add-replayed g m e hb ha = rw (ha, hb) (ap (λ (o : CountedOutcome). figuresOutcome (Replayed (o .stop)) (o .report) (o .lent)) e ∙ rw (g, m, tallied-is g m))
+  pub add-replayed : {o : FiguresOutcome} → goodReport r ≡ true → withRoom r (length t / 513) ≡ true → o ≡ replayedBy r s h t → o ≡ addOf r s h t
+  unfolding addOf replayedBy
+  add-replayed g m e = e ∙ rw (g, m, tallied-is g m)
+
+-- ---- a trace that is replayed, as the code comes to it
+
+module _ (r : Report) (s : Settings) (h : Lent) (t : List ℕ) {x : Stop} {u : Transfer} {k : Lent} {l : List ℕ} (e : tallyOutcome (traceOutcome x (world u k)) l ≡ withCounts zeros t (replayOf s h t)) where
+  alone : traceOutcome x (world u k) ≡ replayOf s h t
+  unfolding withCounts
+  alone = ap (λ (o : TallyOutcome). o .outcome) e
+
+  stop-alone : x ≡ replayOf s h t .stop
+  stop-alone = ap (λ (o : TraceOutcome). o .stop) alone
+
+  counts-alone : l ≡ tallyTo zeros t (beforeStop (length t / 513) x)
+  unfolding withCounts
+  counts-alone = ap (λ (o : TallyOutcome). o .tally) e ∙ ap (λ (y : Stop). tallyTo zeros t (beforeStop (length t / 513) y)) (sym stop-alone)
+
+  pub replayed-is : {n : ℕ} {c d : Report} → n ≡ beforeStop (length t / 513) x → c ≡ withTally r l n → d ≡ endedOf c (u .state) (k .seen) → figuresOutcome (Replayed x) d k ≡ replayedBy r s h t
+  unfolding replayedBy talliedBy
+  replayed-is hn hc hd =
+      rw (hd, hc, counts-alone, hn)
+      (ap (λ (o : TraceOutcome). figuresOutcome (Replayed (o .stop)) (endedOf (withTally r (tallyTo zeros t (beforeStop (length t / 513) (o .stop))) (beforeStop (length t / 513) (o .stop))) (o .world .transfer) (o .world .seen)) (lentOf (o .world))) alone)

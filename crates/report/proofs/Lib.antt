@@ -1,3 +1,0 @@
--- The laws of `specs/`.
-pub mod Counted
-pub mod Adds
