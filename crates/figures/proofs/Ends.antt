@@ -27,7 +27,7 @@ use Rattle.replay.specs.Replay.{begun, replayOf}
 use Rattle.replays.specs.Claims.{Ends-before-the-stop}
 use Rattle.replays.proofs.Replays.{ends-before-the-stop}
 use Rattle.counts.specs.Counts.{isMissing, missingAt}
-use Rattle.report.proofs.Adds.{replay-count}
+use Rattle.adding.proofs.Adds.{replay-count}
 use Rattle.figures.specs.Claims.{arrivalsIn, MissingFacts}
 
 -- ---- the count of a running transfer is below its total
