@@ -1,8 +1,8 @@
--- `whyapi::used` meets its contract. Assumes nothing.
+-- `told::used` meets its contract. Assumes nothing.
 use borrow.Author.Tests.{le-leb, lt-leb}
 use borrow.Author.Needs.{needs}
-use Rattle.whyapi.proofs.used.Statement.{statement}
-use Rattle.whyapi.proofs.used.Tie as tie
+use Rattle.told.proofs.used.Statement.{statement}
+use Rattle.told.proofs.used.Tie as tie
 
 returns : tie.Need-returns
 returns c = (simp (le-leb _ _ (c .if1 .taken)), search needs)

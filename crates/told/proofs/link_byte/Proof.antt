@@ -1,9 +1,9 @@
--- `whyapi::link_byte` meets its contract. Assumes nothing.
+-- `told::link_byte` meets its contract. Assumes nothing.
 use mathlib.Core.Path.{refl}
-use Rattle.whyapi.proofs.Laws.{link-part}
+use Rattle.told.proofs.Laws.{link-part}
 use borrow.Author.Needs.{needs}
-use Rattle.whyapi.proofs.link_byte.Statement.{statement}
-use Rattle.whyapi.proofs.link_byte.Tie as tie
+use Rattle.told.proofs.link_byte.Statement.{statement}
+use Rattle.told.proofs.link_byte.Tie as tie
 
 mul-at : tie.Need-mul-at
 mul-at c = search needs

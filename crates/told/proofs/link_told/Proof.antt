@@ -1,8 +1,8 @@
--- `whyapi::link_told` meets its contract. Assumes nothing.
-use Rattle.whyapi.proofs.Laws.{link-tells, link-silent}
+-- `told::link_told` meets its contract. Assumes nothing.
+use Rattle.told.proofs.Laws.{link-tells, link-silent}
 use borrow.Author.Needs.{needs}
-use Rattle.whyapi.proofs.link_told.Statement.{statement}
-use Rattle.whyapi.proofs.link_told.Tie as tie
+use Rattle.told.proofs.link_told.Statement.{statement}
+use Rattle.told.proofs.link_told.Tie as tie
 
 link-byte-requires : tie.Need-link-byte-requires
 link-byte-requires c κs = search needs

@@ -1,8 +1,8 @@
--- `whyapi::settings_told` meets its contract. Assumes nothing.
-use Rattle.whyapi.proofs.Laws.{short-told, whole-told}
+-- `told::settings_told` meets its contract. Assumes nothing.
+use Rattle.told.proofs.Laws.{short-told, whole-told}
 use borrow.Author.Needs.{needs}
-use Rattle.whyapi.proofs.settings_told.Statement.{statement}
-use Rattle.whyapi.proofs.settings_told.Tie as tie
+use Rattle.told.proofs.settings_told.Statement.{statement}
+use Rattle.told.proofs.settings_told.Tie as tie
 
 told-with-requires : tie.Need-told-with-requires
 told-with-requires c κs = search needs

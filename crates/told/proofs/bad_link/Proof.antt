@@ -1,15 +1,15 @@
--- `whyapi::bad_link` meets its contract. The invariant: no entry before k has a link of no kind. Assumes nothing.
+-- `told::bad_link` meets its contract. The invariant: no entry before k has a link of no kind. Assumes nothing.
 use Prim.Native.Nat.{_≤_, _-_}
 use mathlib.Core.Path.{_≡_}
 use mathlib.Core.Bool.{false}
 use native.Mathlib.Omega.{arith}
 use Rattle.sets.specs.Sets.{any}
 use Rattle.sets.proofs.Laws.{any-zero}
-use Rattle.whyapi.specs.WhyCall.{linkOver}
-use Rattle.whyapi.proofs.Laws.{link-found, link-more, link-none}
+use Rattle.told.specs.Told.{linkOver}
+use Rattle.told.proofs.Laws.{link-found, link-more, link-none}
 use borrow.Author.Needs.{needs}
-use Rattle.whyapi.proofs.bad_link.Statement.{statement}
-use Rattle.whyapi.proofs.bad_link.Tie as tie
+use Rattle.told.proofs.bad_link.Statement.{statement}
+use Rattle.told.proofs.bad_link.Tie as tie
 
 abbrev Inv-loop : tie.InvT-loop
 Inv-loop bytes n k₀ k = (k ≤ n) × (any k (linkOver bytes) ≡ false)
