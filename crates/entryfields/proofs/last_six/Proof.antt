@@ -1,8 +1,8 @@
--- `entrybits::last_six` meets its contract. Assumes nothing.
+-- `entryfields::last_six` meets its contract. Assumes nothing.
 use native.Mathlib.Omega.{arith}
 use borrow.Author.Needs.{needs}
-use Rattle.entrybits.proofs.last_six.Statement.{statement}
-use Rattle.entrybits.proofs.last_six.Tie as tie
+use Rattle.entryfields.proofs.last_six.Statement.{statement}
+use Rattle.entryfields.proofs.last_six.Tie as tie
 
 bit-of-requires : tie.Need-bit-of-requires
 bit-of-requires c κs = search needs

@@ -1,11 +1,11 @@
--- `storewrite::head_of` meets its contract. Assumes nothing.
+-- `storehead::head_of` meets its contract. Assumes nothing.
 use native.Mathlib.Omega.{arith}
 use Rattle.packing.specs.Packing.{packed, total}
-use Rattle.storewrite.specs.Written.{headFields}
-use Rattle.storewrite.proofs.Rows.{version-is}
+use Rattle.storehead.specs.Head.{headFields}
+use Rattle.storehead.proofs.Laws.{version-is}
 use borrow.Author.Needs.{needs}
-use Rattle.storewrite.proofs.head_of.Statement.{statement}
-use Rattle.storewrite.proofs.head_of.Tie as tie
+use Rattle.storehead.proofs.head_of.Statement.{statement}
+use Rattle.storehead.proofs.head_of.Tie as tie
 
 bit-of-requires : tie.Need-bit-of-requires
 bit-of-requires c κs = search needs
@@ -74,7 +74,7 @@ returns : tie.Need-returns
 unfolding headFields packed total
 returns c =
     let start = c .before .before .before .before .before .before .before in
-    (rw (version-is (start .args .s) (start .args .restart) (start .pre .1)) (omega arith), omega arith)
+    ((λ e. rw (version-is (start .args .s) (start .args .restart) e) (omega arith)), (λ few. omega (arith, few)))
 
 pub head-of-spec : {M : Type 1} → statement M
 head-of-spec =

@@ -1,9 +1,9 @@
--- `entrybits::slot_of` meets its contract. Assumes nothing.
+-- `entrypack::slot_of` meets its contract. Assumes nothing.
 use native.Mathlib.Omega.{arith}
 use Rattle.entrybits.proofs.Entries.{slot-used, slot-free}
 use borrow.Author.Needs.{needs}
-use Rattle.entrybits.proofs.slot_of.Statement.{statement}
-use Rattle.entrybits.proofs.slot_of.Tie as tie
+use Rattle.entrypack.proofs.slot_of.Statement.{statement}
+use Rattle.entrypack.proofs.slot_of.Tie as tie
 
 cast-if1 : tie.Need-cast-if1
 cast-if1 c = search needs

@@ -1,9 +1,9 @@
--- `entrybits::stray` meets its contract. Assumes nothing.
+-- `entrystray::stray` meets its contract. Assumes nothing.
 use native.Mathlib.Omega.{arith}
 use Rattle.entrybits.proofs.Parts.{stray-other, stray-part}
 use borrow.Author.Needs.{needs}
-use Rattle.entrybits.proofs.stray.Statement.{statement}
-use Rattle.entrybits.proofs.stray.Tie as tie
+use Rattle.entrystray.proofs.stray.Statement.{statement}
+use Rattle.entrystray.proofs.stray.Tie as tie
 
 returns : tie.Need-returns
 returns c = stray-other _ _ (λ e. omega (arith, e))

@@ -1,12 +1,12 @@
--- `entrybits::pack` meets its contract. Assumes nothing.
+-- `entrypack::pack` meets its contract. Assumes nothing.
 use Prim.Native.Nat.{ℕ, _%_}
 use mathlib.Core.Path.{ap, _∙_}
 use native.Mathlib.Omega.{arith}
 use Rattle.entrychunks.proofs.ReadBack.{kept-whole}
 use Rattle.entrybits.proofs.Entries.{entry-joined}
 use borrow.Author.Needs.{needs}
-use Rattle.entrybits.proofs.pack.Statement.{statement}
-use Rattle.entrybits.proofs.pack.Tie as tie
+use Rattle.entrypack.proofs.pack.Statement.{statement}
+use Rattle.entrypack.proofs.pack.Tie as tie
 
 cast-first : tie.Need-cast-first
 cast-first c = search needs
