@@ -1,8 +1,8 @@
--- `toolsapi::refusal_result` meets its contract. Assumes nothing.
-use Rattle.toolsapi.specs.Join.{refusalResult}
+-- `joinresult::refusal_result` meets its contract. Assumes nothing.
+use Rattle.joinresult.specs.Result.{refusalResult}
 use borrow.Author.Needs.{needs}
-use Rattle.toolsapi.proofs.refusal_result.Statement.{statement}
-use Rattle.toolsapi.proofs.refusal_result.Tie as tie
+use Rattle.joinresult.proofs.refusal_result.Statement.{statement}
+use Rattle.joinresult.proofs.refusal_result.Tie as tie
 
 number-requires : tie.Need-number-requires
 number-requires c κs = search needs

@@ -1,7 +1,7 @@
--- `toolsapi::joined_result` meets its contract. Assumes nothing.
+-- `joinresult::joined_result` meets its contract. Assumes nothing.
 use borrow.Author.Needs.{needs}
-use Rattle.toolsapi.proofs.joined_result.Statement.{statement}
-use Rattle.toolsapi.proofs.joined_result.Tie as tie
+use Rattle.joinresult.proofs.joined_result.Statement.{statement}
+use Rattle.joinresult.proofs.joined_result.Tie as tie
 
 enum-known-joined : tie.Need-enum-known-joined
 enum-known-joined c = search needs

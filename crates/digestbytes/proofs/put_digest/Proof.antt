@@ -1,8 +1,8 @@
--- `toolsapi::put_digest` meets its contract. Assumes nothing.
-use Rattle.toolsapi.proofs.Laws.{digest-put}
+-- `digestbytes::put_digest` meets its contract. Assumes nothing.
+use Rattle.digestbytes.proofs.Laws.{digest-put}
 use borrow.Author.Needs.{needs}
-use Rattle.toolsapi.proofs.put_digest.Statement.{statement}
-use Rattle.toolsapi.proofs.put_digest.Tie as tie
+use Rattle.digestbytes.proofs.put_digest.Statement.{statement}
+use Rattle.digestbytes.proofs.put_digest.Tie as tie
 
 put-requires : tie.Need-put-requires
 put-requires c κs = search needs
@@ -25,7 +25,7 @@ returns c =
     let second = third .before .before .before .before in
     let first = second .before .before .before .before in
     let start = first .before .before .before in
-    rw (c .before .before .put4 .ensures, third .put3 .ensures, second .put2 .ensures, first .put .ensures) (digest-put (start .args .out .now) (start .args .digest) (start .pre))
+    (λ e. rw (c .before .before .put4 .ensures, third .put3 .ensures, second .put2 .ensures, first .put .ensures) (digest-put (start .args .out .now) (start .args .digest) e))
 
 pub put-digest-spec : {M : Type 1} → statement M
 put-digest-spec =

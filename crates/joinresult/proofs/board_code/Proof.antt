@@ -1,8 +1,8 @@
--- `toolsapi::board_code` meets its contract. Assumes nothing.
+-- `joinresult::board_code` meets its contract. Assumes nothing.
 use native.Mathlib.Omega.{arith}
 use borrow.Author.Tests.{eq-eqb, ne-eqb}
-use Rattle.toolsapi.proofs.board_code.Statement.{statement}
-use Rattle.toolsapi.proofs.board_code.Tie as tie
+use Rattle.joinresult.proofs.board_code.Statement.{statement}
+use Rattle.joinresult.proofs.board_code.Tie as tie
 
 returns : tie.Need-returns
 returns c = (simp (eq-eqb _ _ (c .if1 .taken)), omega arith)
