@@ -6,7 +6,6 @@ ghost use Rattle.whyapi.specs.WhyCall.{
   faultOther,
   entryOf,
   otherOf,
-  toldWith,
   toldOf,
   transferTold,
   byteTold,
