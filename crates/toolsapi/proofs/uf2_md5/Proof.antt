@@ -18,7 +18,7 @@ same-length : tie.Need-same-length
 same-length c = search needs
 
 returns-2 : tie.Need-returns-2
-returns-2 c = digest-told _ _ (omega arith) (c .before .before .put-digest .ensures) (c .before .before .before .hash .ensures)
+returns-2 c = digest-told _ _ (omega arith) (c .before .before .put-digest .ensures (omega arith)) (c .before .before .before .hash .ensures)
 
 pub uf2-md5-spec : {M : Type 1} → statement M
 uf2-md5-spec = tie.close (tie.spec returns hash-requires put-digest-requires same-length returns-2)
