@@ -22,7 +22,7 @@ use verdict::Known;
 use verdict::Verdict;
 
 // One arrival accepted, where what the settings and the lengths say of it is handed in.
-fn accept_known(
+pub fn accept_known(
     known: Known,
     transfer: Transfer,
     arrival: &[u8],
