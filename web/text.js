@@ -130,7 +130,7 @@ export const text = {
       foreignBlockDiscards: {
         name: 'A foreign block discards',
         does: 'A file for another board, plugged in by mistake, throws away the update under way.',
-        promise: 'contract of accept_known: answers 1 to 13 leave the transfer',
+        promise: 'contract of refuse: answers 1 to 13 leave the transfer',
       },
       addsIn32Bits: {
         name: 'It adds in 32 bits',

@@ -6,6 +6,7 @@ ghost use Rattle.callbytes.specs.Calls.{planWords, planBytes, acceptCallOf, acc
 ghost use Rattle.acceptapi.specs.Parts.{Low};
 use flash::Flash;
 use plan::Plan;
+use screen::Lengths;
 
 // The bytes of a plan.
 const PLAN: usize = 12;
@@ -70,9 +71,14 @@ pub extern "C" fn uf2_accept(
     if plan.len() != PLAN {
         return 1;
     }
-    let s = layout::read_settings(settings);
+    let lens = Lengths {
+        flash: flash.len(),
+        main: main.len(),
+        xip: xip.len(),
+    };
+    let known = knownbytes::known_from(settings, lens, seen.len(), sectors.len(), arrival);
     let t = transferbytes::read_transfer(transfer);
-    let r = receiver::accept(s, t, arrival, flash, seen, sectors, main, xip);
+    let r = receiver::accept_known(known, t, arrival, flash, seen, sectors, main, xip);
     let receipt = r.receipt;
     let answer = receipt.answer;
     let next = receipt.transfer;

@@ -15,7 +15,7 @@ use Rattle.transfer.specs.declared.Transfer.{Transfer}
 use Rattle.transfer.specs.declared.Answer.{Answer}
 use Rattle.arrival.specs.Arrive.{Lent, World, Outcome, receiveOf}
 use Rattle.arrival.specs.Lists.{receiveAll, answersOf, discardsOf}
-use Rattle.receiver.specs.declared.Receipt.{Receipt}
+use Rattle.receipts.specs.declared.Receipt.{Receipt}
 use Rattle.receiver.specs.Receiver.{world, outcome, receiveKnown}
 use Rattle.receiver.proofs.KnownLaws.{known-is}
 use Rattle.results.specs.Results.{resultOf, isAcceptance}

@@ -12,9 +12,10 @@ use Rattle.transfer.specs.declared.Transfer.{Transfer}
 use Rattle.arrival.specs.Arrive.{Lent, World, Outcome, receiveOf, lookOf, Forecast}
 use Rattle.arrival.specs.Facts.{Look-tells}
 use Rattle.arrival.proofs.Facts.{look-tells}
-use Rattle.receiver.specs.declared.Preview.{Preview}
-use Rattle.receiver.specs.declared.Receipt.{Receipt}
-use Rattle.receiver.specs.Receiver.{world, outcome, previewed}
+use Rattle.looking.specs.declared.Preview.{Preview}
+use Rattle.receipts.specs.declared.Receipt.{Receipt}
+use Rattle.looking.specs.Looking.{previewed}
+use Rattle.receiver.specs.Receiver.{world, outcome}
 use Rattle.piece.specs.declared.PieceAnswer.{PieceAnswer}
 use Rattle.piece.specs.declared.PieceAnswer.the-variants as piece
 use Rattle.piece.specs.Piece.{recorded, arrivalIn, isBad, agrees, comparedOf, isReplayed}

@@ -22,7 +22,7 @@ pub fn judge(
     if piece::is_bad(piece) {
         return PieceAnswer::Bad;
     }
-    let looked = receiver::look(
+    let looked = looking::look(
         settings,
         transfer,
         &piece[1..],

@@ -64,7 +64,7 @@ fn choose(table: [Entry; Settings::ENTRIES], n: usize, w: PassQuery) -> Choice
 }
 
 // The families that get the whole flash where there is no table.
-fn gets_whole(arm: bool, riscv: bool, family: u32) -> bool
+pub fn gets_whole(arm: bool, riscv: bool, family: u32) -> bool
     ensures { λ r. ⌜ r ≡ getsWhole arm riscv family ⌝ }
 {
     (family == Family::DATA)

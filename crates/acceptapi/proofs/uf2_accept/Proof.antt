@@ -1,5 +1,6 @@
 -- `acceptapi::uf2_accept` meets its contract. Assumes nothing.
-use Rattle.sets.proofs.Numbered.{answer-is}
+use mathlib.Core.Path.{refl, _∙_}
+use Rattle.receiver.proofs.KnownLaws.{accept-is}
 use Rattle.callbytes.proofs.Laws.{accept-short, accept-ran}
 use Rattle.acceptapi.proofs.Laws.{plan-low}
 use borrow.Author.Needs.{needs}
@@ -9,17 +10,19 @@ use Rattle.acceptapi.proofs.uf2_accept.Tie as tie
 returns : tie.Need-returns
 returns c = accept-short _ _ _ _ _ (c .if1 .taken)
 
-read-settings-requires : tie.Need-read-settings-requires
-read-settings-requires c κs = search needs
+known-from-requires : tie.Need-known-from-requires
+known-from-requires c κs = search needs
 
 read-transfer-requires : tie.Need-read-transfer-requires
 read-transfer-requires c κs = search needs
 
-accept-requires : tie.Need-accept-requires
-accept-requires c κs = search needs
+accept-known-requires : tie.Need-accept-known-requires
+accept-known-requires c κs = search needs
 
 tell-requires : tie.Need-tell-requires
-tell-requires c κs = (search needs, plan-low _ _ _ (answer-is (c .before .before .before .before .before .before .before .before .before .before .before .accept .ensures)))
+tell-requires c κs =
+    let got = c .before .before .before .before .before .before .before .before .before .before .before in
+    (search needs, plan-low _ _ _ (got .accept-known .ensures ∙ accept-is _ _ _ (got .before .before .before .before .before .before .before .known-from .ensures)))
 
 is-acceptance-requires : tie.Need-is-acceptance-requires
 is-acceptance-requires c κs = search needs
@@ -52,16 +55,16 @@ same-length-6 : tie.Need-same-length-6
 same-length-6 c = search needs
 
 returns-2 : tie.Need-returns-2
-returns-2 c = let got = c .before .before .before .before .before .before .before .before .before .before .before .before .before .before .before .before .before .before .before .before in let read = got .before .before .before .before .before in accept-ran _ _ _ _ _ (read .before .before .before .if1 .left) (read .before .before .read-settings .ensures) (read .read-transfer .ensures) (answer-is (got .accept .ensures)) (c .before .before .before .before .is-acceptance .ensures) (c .before .before .before .keep .ensures) (c .result .ensures) (c .before .before .before .before .before .before .before .before .tell .ensures)
+returns-2 c = let got = c .before .before .before .before .before .before .before .before .before .before .before .before .before .before .before .before .before .before .before .before in let read = got .before .before .before .before .before in accept-ran _ _ _ _ _ (read .before .before .before .if1 .left) refl (read .read-transfer .ensures) (got .accept-known .ensures ∙ accept-is _ _ _ (read .before .before .known-from .ensures)) (c .before .before .before .before .is-acceptance .ensures) (c .before .before .before .keep .ensures) (c .result .ensures) (c .before .before .before .before .before .before .before .before .tell .ensures)
 
 pub uf2-accept-spec : {M : Type 1} → statement M
 uf2-accept-spec =
     tie.close
     (tie.spec
     returns
-    read-settings-requires
+    known-from-requires
     read-transfer-requires
-    accept-requires
+    accept-known-requires
     tell-requires
     is-acceptance-requires
     keep-requires

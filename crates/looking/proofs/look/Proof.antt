@@ -1,14 +1,13 @@
--- `receiver::look` meets its contract. Assumes nothing.
+-- `looking::look` meets its contract. Assumes nothing.
 use mathlib.Core.Path.{ap, _∙_}
 use Rattle.sets.specs.Numbered.{numbered}
 use Rattle.arrival.specs.Arrive.{forecastNumber}
 use Rattle.sets.proofs.Numbered.{answer-is}
 use Rattle.verdict.specs.Verdict.{decision}
-use Rattle.receiver.proofs.Laws.{look-stays, look-accepts}
-use Rattle.receiver.proofs.KnownLaws.{look-is}
+use Rattle.looking.proofs.Laws.{look-stays, look-accepts, look-is}
 use borrow.Author.Needs.{needs}
-use Rattle.receiver.proofs.look.Statement.{statement}
-use Rattle.receiver.proofs.look.Tie as tie
+use Rattle.looking.proofs.look.Statement.{statement}
+use Rattle.looking.proofs.look.Tie as tie
 
 known-of-requires : tie.Need-known-of-requires
 known-of-requires c κs = search needs
