@@ -1,8 +1,8 @@
--- `entering::page` meets its contract. Assumes nothing.
-use Rattle.entering.proofs.Laws.{sector-beside}
+-- `pages::page` meets its contract. Assumes nothing.
+use Rattle.pages.proofs.Laws.{sector-beside}
 use borrow.Author.Needs.{needs}
-use Rattle.entering.proofs.page.Statement.{statement}
-use Rattle.entering.proofs.page.Tie as tie
+use Rattle.pages.proofs.page.Statement.{statement}
+use Rattle.pages.proofs.page.Tie as tie
 
 enum-told : tie.Need-enum-told
 enum-told c = search needs

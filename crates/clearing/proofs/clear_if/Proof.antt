@@ -1,8 +1,8 @@
--- `entering::clear_if` meets its contract. Assumes nothing.
+-- `clearing::clear_if` meets its contract. Assumes nothing.
 use Rattle.arrival.specs.Arrive.{clearedIf}
 use borrow.Author.Needs.{needs}
-use Rattle.entering.proofs.clear_if.Statement.{statement}
-use Rattle.entering.proofs.clear_if.Tie as tie
+use Rattle.clearing.proofs.clear_if.Statement.{statement}
+use Rattle.clearing.proofs.clear_if.Tie as tie
 
 clear-requires : tie.Need-clear-requires
 clear-requires c κs = search needs
