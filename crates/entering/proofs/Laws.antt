@@ -16,9 +16,9 @@ use Rattle.entering.specs.Entering.{Beside, beside, besideOf, Writing, w
 
 -- ---- what the code writes, call by call
 
-pub enters : (p : Placed) (d : Deed) (t : Accepted) (payload m k u x : List ℕ) {k1 m1 m2 : List ℕ} {r : Plan} {h : Beside} → (m1 ≡ clearedIf (t .clears) m) × (k1 ≡ clearedIf (t .clears) k) → writing r h ≡ deedWriting d (p .head .kind) (atOf (p .body)) payload (beside k1 u x) → m2 ≡ withMark m1 (p .number) → entering r m2 h ≡ enteringOf p d t payload m (beside k u x)
+pub enters : (p : Placed) (d : Deed) (t : Accepted) (payload m k u x : List ℕ) {at : ℕ} {k1 m1 m2 : List ℕ} {r : Plan} {h : Beside} → at ≡ atOf (p .body) → (m1 ≡ clearedIf (t .clears) m) × (k1 ≡ clearedIf (t .clears) k) → writing r h ≡ deedWriting d (p .head .kind) at payload (beside k1 u x) → m2 ≡ withMark m1 (p .number) → entering r m2 h ≡ enteringOf p d t payload m (beside k u x)
 unfolding enteringOf
-enters p d t payload m k u x (cleared, wiped) written marked = cc
+enters p d t payload m k u x at (cleared, wiped) written marked = cc
 
 -- ---- what the code writes is what the meaning has
 

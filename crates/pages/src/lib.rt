@@ -1,11 +1,8 @@
 // The page of an accepted block: stored where it is one of RAM, planned where it is one of flash. What it would write to flash is a plan.
 ghost use mathlib.Core.Path.{_≡_};
 ghost use Rattle.flash.specs.Flash.{payloadOf};
-ghost use Rattle.arrival.specs.Arrive.{atOf};
 ghost use Rattle.pages.specs.Pages.{besideAt, besideLeft, writing, pageWriting, deedWriting};
 use plan::Plan;
-use screen::Body;
-use screen::Placed;
 use transfer::Deed;
 use transfer::Kind;
 
@@ -33,31 +30,18 @@ fn page(
     }
 }
 
-// The storage address of a page. A comment has none, and nothing asks for its.
-fn page_at(body: Body) -> usize
-    ensures { λ r. ⌜ r ≡ atOf body ⌝ }
-{
-    match body {
-        Body::Page(at) => at,
-        Body::Note => 0,
-    }
-}
-
-// Writes a block's page. A comment stores nothing, nor does what is kept.
+// Writes a page. A comment stores nothing, nor does what is kept.
 pub fn write(
     deed: Deed,
-    placed: Placed,
+    kind: Kind,
+    at: usize,
     arrival: &[u8],
     sectors: &mut [u8],
     main: &mut [u8],
     xip: &mut [u8],
 ) -> Plan
-    ensures { λ r. ⌜ writing r (besideLeft sectors main xip) ≡ deedWriting deed (placed .head .kind) (atOf (placed .body)) (payloadOf (now (arrival .entry))) (besideAt sectors main xip) ⌝ }
+    ensures { λ r. ⌜ writing r (besideLeft sectors main xip) ≡ deedWriting deed kind at (payloadOf (now (arrival .entry))) (besideAt sectors main xip) ⌝ }
 {
-    let body = placed.body;
-    let at = page_at(body);
-    let head = placed.head;
-    let kind = head.kind;
     match deed {
         Deed::Stores => page(kind, at, arrival, sectors, main, xip),
         Deed::Notes => Plan::Nothing,

@@ -7,6 +7,9 @@ use Rattle.entering.proofs.enter.Tie as tie
 cast-number : tie.Need-cast-number
 cast-number c = search needs
 
+page-at-requires : tie.Need-page-at-requires
+page-at-requires c κs = search needs
+
 clear-maps-requires : tie.Need-clear-maps-requires
 clear-maps-requires c κs = search needs
 
@@ -31,13 +34,15 @@ same-length-4 c = search needs
 returns : tie.Need-returns
 returns c =
     let w = c .before .before .before .before .before .before .before .before .before .before in
-    enters _ _ _ _ _ _ _ _ (w .before .before .before .before .before .before .before .before .clear-maps .ensures) (w .write .ensures) (c .before .before .mark .ensures)
+    let k = w .before .before .before .before .before .before .before .before in
+    enters _ _ _ _ _ _ _ _ (k .before .before .before .before .page-at .ensures) (k .clear-maps .ensures) (w .write .ensures) (c .before .before .mark .ensures)
 
 pub enter-spec : {M : Type 1} → statement M
 enter-spec =
     tie.close
     (tie.spec
     cast-number
+    page-at-requires
     clear-maps-requires
     write-requires
     mark-requires

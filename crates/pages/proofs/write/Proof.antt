@@ -1,12 +1,8 @@
 -- `pages::write` meets its contract. Assumes nothing.
 use mathlib.Core.Path.{refl}
 use borrow.Author.Needs.{needs}
-use Rattle.pages.proofs.Laws.{page-stored}
 use Rattle.pages.proofs.write.Statement.{statement}
 use Rattle.pages.proofs.write.Tie as tie
-
-page-at-requires : tie.Need-page-at-requires
-page-at-requires c κs = search needs
 
 enum-told : tie.Need-enum-told
 enum-told c = search needs
@@ -30,10 +26,7 @@ same-length-3 : tie.Need-same-length-3
 same-length-3 c = search needs
 
 returns : tie.Need-returns
-returns c =
-    let w = c .before .before .before .before .before .before in
-    let e = w .before .before .before .before in
-    page-stored _ _ _ (e .enum-told .given .1) (e .before .before .before .page-at .ensures) (w .page .ensures)
+returns c = rw (c .before .before .before .before .before .before .before .before .before .before .enum-told .given .1) (c .before .before .before .before .before .before .page .ensures)
 
 returns-2 : tie.Need-returns-2
 returns-2 c = rw (c .enum-told2 .given .1) refl
@@ -45,7 +38,6 @@ pub write-spec : {M : Type 1} → statement M
 write-spec =
     tie.close
     (tie.spec
-    page-at-requires
     enum-told
     page-requires
     enum-told-2
