@@ -1,9 +1,9 @@
--- `acceptapi::tell` meets its contract. Assumes nothing.
+-- `planbytes::tell` meets its contract. Assumes nothing.
 use mathlib.Core.Path.{_∙_}
-use Rattle.acceptapi.proofs.Laws.{plan-put}
+use Rattle.planbytes.proofs.Laws.{plan-put}
 use borrow.Author.Needs.{needs}
-use Rattle.acceptapi.proofs.tell.Statement.{statement}
-use Rattle.acceptapi.proofs.tell.Tie as tie
+use Rattle.planbytes.proofs.tell.Statement.{statement}
+use Rattle.planbytes.proofs.tell.Tie as tie
 
 numbers-requires : tie.Need-numbers-requires
 numbers-requires c κs = search needs
@@ -21,7 +21,7 @@ same-length : tie.Need-same-length
 same-length c = search needs
 
 returns : tie.Need-returns
-returns c = let first = c .before .before .before .before .before .before .before .before .before .before in let start = first .before .before .before .before in c .before .before .put3 .ensures ∙ rw (c .before .before .before .before .before .before .put2 .ensures, first .put .ensures) (plan-put (start .args .bytes .now) _ _ _ (start .pre .0)) ∙ first .before .before .numbers .ensures
+returns c long = let first = c .before .before .before .before .before .before .before .before .before .before in let start = first .before .before .before .before in c .before .before .put3 .ensures ∙ rw (c .before .before .before .before .before .before .put2 .ensures, first .put .ensures) (plan-put (start .args .bytes .now) _ _ _ long) ∙ first .before .before .numbers .ensures
 
 pub tell-spec : {M : Type 1} → statement M
 tell-spec =
