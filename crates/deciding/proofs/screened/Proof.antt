@@ -1,10 +1,10 @@
--- `verdict::screened` meets its contract. Assumes nothing.
+-- `deciding::screened` meets its contract. Assumes nothing.
 use mathlib.Core.Path.{sym, _∙_}
 use Rattle.sets.proofs.Numbered.{answer-is}
-use Rattle.verdict.proofs.Laws.{screened-refused, screened-passed}
+use Rattle.deciding.proofs.Laws.{screened-refused, screened-passed}
 use borrow.Author.Needs.{needs}
-use Rattle.verdict.proofs.screened.Statement.{statement}
-use Rattle.verdict.proofs.screened.Tie as tie
+use Rattle.deciding.proofs.screened.Statement.{statement}
+use Rattle.deciding.proofs.screened.Tie as tie
 
 screen-requires : tie.Need-screen-requires
 screen-requires c κs = search needs

@@ -1,12 +1,12 @@
--- `verdict::judge` meets its contract. Assumes nothing.
+-- `deciding::judge` meets its contract. Assumes nothing.
 use mathlib.Core.Path.{sym, ap, _∙_}
 use borrow.Author.Tests.{not-true, not-false}
 use Rattle.sets.specs.Numbered.{numbered}
 use Rattle.verdict.specs.Verdict.{decisionNumber}
-use Rattle.verdict.proofs.Laws.{judge-lengths, judge-settings, judge-state, judge-screened}
+use Rattle.deciding.proofs.Laws.{judge-lengths, judge-settings, judge-state, judge-screened}
 use borrow.Author.Needs.{needs}
-use Rattle.verdict.proofs.judge.Statement.{statement}
-use Rattle.verdict.proofs.judge.Tie as tie
+use Rattle.deciding.proofs.judge.Statement.{statement}
+use Rattle.deciding.proofs.judge.Tie as tie
 
 returns : tie.Need-returns
 returns c = ap (numbered decisionNumber) (judge-lengths _ _ _ _ (not-true _ (c .if1 .taken)))

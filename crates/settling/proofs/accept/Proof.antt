@@ -1,8 +1,8 @@
--- `verdict::accept` meets its contract. Assumes nothing.
-use Rattle.verdict.proofs.Laws.{accepted-by}
+-- `settling::accept` meets its contract. Assumes nothing.
+use Rattle.settling.proofs.Laws.{accepted-by}
 use borrow.Author.Needs.{needs}
-use Rattle.verdict.proofs.accept.Statement.{statement}
-use Rattle.verdict.proofs.accept.Tie as tie
+use Rattle.settling.proofs.accept.Statement.{statement}
+use Rattle.settling.proofs.accept.Tie as tie
 
 deed-of-requires : tie.Need-deed-of-requires
 deed-of-requires c κs = search needs

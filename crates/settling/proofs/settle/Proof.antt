@@ -1,9 +1,9 @@
--- `verdict::settle` meets its contract. Assumes nothing.
+-- `settling::settle` meets its contract. Assumes nothing.
 use Rattle.sets.proofs.Numbered.{answer-is}
-use Rattle.verdict.proofs.Laws.{settled-stays, settled-accepts}
+use Rattle.settling.proofs.Laws.{settled-stays, settled-accepts}
 use borrow.Author.Needs.{needs}
-use Rattle.verdict.proofs.settle.Statement.{statement}
-use Rattle.verdict.proofs.settle.Tie as tie
+use Rattle.settling.proofs.settle.Statement.{statement}
+use Rattle.settling.proofs.settle.Tie as tie
 
 cast-number : tie.Need-cast-number
 cast-number c = search needs
