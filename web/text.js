@@ -145,7 +145,7 @@ export const text = {
       clearsOneMap: {
         name: 'It clears one map only',
         does: 'Blocks of the new file that carry a number of the old one are answered "Again" and never stored.',
-        promise: 'contract of enter: enteringOf',
+        promise: 'contract of clear_maps: clearedIf',
       },
     },
   },

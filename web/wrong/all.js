@@ -15,5 +15,5 @@ export const WRONG = [
   { id: 'foreignBlockDiscards', make: ForeignBlockDiscards, edit: 'receipts/refusal_discards' },
   { id: 'addsIn32Bits', make: AddsIn32Bits, edit: 'screening/address_in_32_bits' },
   { id: 'choosesABEntry', make: ChoosesABEntry, edit: 'passes/takes_b_of' },
-  { id: 'clearsOneMap', make: ClearsOneMap, edit: 'entering/seen_map_not_cleared' },
+  { id: 'clearsOneMap', make: ClearsOneMap, edit: 'clearing/seen_map_not_cleared' },
 ];

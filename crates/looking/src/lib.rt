@@ -35,7 +35,7 @@ pub fn look(
         xip: xip.len(),
     };
     let known = verdict::known_of(settings, lens, seen.len(), sectors.len(), arrival);
-    let verdict = verdict::judge(known, transfer, arrival, flash, seen, sectors, main, xip);
+    let verdict = deciding::judge(known, transfer, arrival, flash, seen, sectors, main, xip);
     match verdict {
         Verdict::Leaves(answer) => Preview {
             answer,

@@ -34,7 +34,7 @@ pub fn accept_known(
 ) -> Planned
     ensures { λ r. ⌜ accepting r (leftBeside flash seen sectors main xip) ≡ acceptKnown known (world transfer (lentAt flash seen sectors main xip)) (now (arrival .entry)) ⌝ }
 {
-    let verdict = verdict::judge(known, transfer, arrival, flash, seen, sectors, main, xip);
+    let verdict = deciding::judge(known, transfer, arrival, flash, seen, sectors, main, xip);
     match verdict {
         Verdict::Leaves(answer) => receipts::refuse(transfer, answer),
         Verdict::Accepts(acceptance) => receipts::enter(
