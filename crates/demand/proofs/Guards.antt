@@ -21,10 +21,11 @@ use Rattle.transfer.specs.declared.Kind.the-variants.{Flash}
 use Rattle.screen.specs.declared.Lengths.{Lengths}
 use Rattle.arrival.specs.Arrive.{Held, bufferOf, lengthsOf, clearedIf, wipedIf, pagedAt}
 use Rattle.demand.specs.Demand.{isData}
-use Rattle.arrival.proofs.Cells.{touched, touched-add, touched-none, cell, cell-none, cell-step}
+use Rattle.arrivals.proofs.Cells.{touched, touched-add, touched-none, cell, cell-none, cell-step}
 use Rattle.arrival.proofs.Pages.{apply}
 use Rattle.arrival.proofs.Count.{Blocks, count, applied, wipe, Invariant}
-use Rattle.arrival.proofs.Effect.{Fits, spans-true, payloadIn, kindIn, Valid, layout, sectorsOf, owned-touches, apart-of, lengths-paged, paged-other, getD-paged, paged-map}
+use Rattle.arrival.proofs.Paged.{Fits, lengths-paged, paged-other, getD-paged, paged-map}
+use Rattle.arrivals.proofs.Effect.{spans-true, payloadIn, kindIn, Valid, layout, sectorsOf, owned-touches, apart-of}
 use Rattle.arrival.proofs.Facts.{wiped-buffer}
 
 -- ---- what is asked of the blocks

@@ -30,15 +30,15 @@ use Rattle.transfer.specs.declared.State.the-variants.{Idle}
 use Rattle.arrival.specs.Arrive.{Held, World, lengthsOf, standsAt, standing}
 use Rattle.arrival.specs.Windows.{windowStart}
 use Rattle.arrival.specs.Lists.{receiveAll, AtEach}
-use Rattle.arrival.specs.Kept.{digestIn}
+use Rattle.arrival.specs.Standing.{digestIn}
 use Rattle.demand.specs.Demand.{File, isData, addressOf, ValidFile, Foreign, Sent, seenOf, startOf, originOf, storageOf, holds, liesIn, Contents, sizeOf, isGuarded, Plain}
 use Rattle.demand.specs.Regions.{regionStart, regionLength, regionIn, inRegion, Final, Regions, NoOther, Complete, Regions-end, Whole-same, Whole-alike}
 use Rattle.arrival.proofs.Heads.{kind-same}
 use Rattle.arrival.proofs.Windows.{lies-true}
-use Rattle.arrival.proofs.Cells.{touched, cell, cell-owned, cell-free}
+use Rattle.arrivals.proofs.Cells.{touched, cell, cell-owned, cell-free}
 use Rattle.arrival.proofs.Count.{Blocks, count, After, untouched, some-seen}
-use Rattle.arrival.proofs.Effect.{spans-true, spans-is, Valid, layout, apart-of}
-use Rattle.arrival.proofs.Screening.{flashOf}
+use Rattle.arrivals.proofs.Effect.{spans-true, spans-is, Valid, layout, apart-of}
+use Rattle.arrivals.proofs.Screening.{flashOf}
 use Rattle.demand.proofs.Contents.{byteIn, As, contents-of}
 use Rattle.demand.proofs.Runs.{run-after}
 use Rattle.demand.proofs.Files.{Located, blocksOf, board, valid, located, opens, steady}

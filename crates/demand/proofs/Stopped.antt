@@ -34,11 +34,12 @@ use Rattle.demand.specs.Stopped.{Stopped, ForeignToBoth, EndsAlike, Stop
 use Rattle.arrival.proofs.Heads.{kind-same, head-same}
 use Rattle.arrival.proofs.Pages.{arrive}
 use Rattle.arrival.proofs.Count.{Blocks, count, placedOf, Any, Invariant, Opens, After, untouched, reached, some-seen, invariant-of, Carried}
-use Rattle.arrival.proofs.Cells.{touched, cell, cell-owned, getD-buffer}
-use Rattle.arrival.proofs.Effect.{lengthIn, length-in, kindIn, Fits, Valid, layout, sectorsOf, apart-of, Unkept, effect, effect-buffer, length-effect, grows}
+use Rattle.arrivals.proofs.Cells.{touched, cell, cell-owned, getD-buffer}
+use Rattle.arrival.proofs.Paged.{lengthIn, length-in, Fits}
+use Rattle.arrivals.proofs.Effect.{kindIn, Valid, layout, sectorsOf, apart-of, Unkept, effect, effect-buffer, length-effect, grows}
 use Rattle.demand.proofs.Contents.{byteIn, sectors-in, held-in}
-use Rattle.arrival.proofs.Screening.{lens, Board, screen-turn, note-counted}
-use Rattle.arrival.proofs.DecisionFacts.{step-late}
+use Rattle.arrivals.proofs.Screening.{lens, Board, screen-turn, note-counted}
+use Rattle.arrivals.proofs.DecisionFacts.{step-late}
 use Rattle.demand.proofs.Lists.{Reached, receive-refused, receive-passed}
 use Rattle.demand.proofs.Runs.{Steady, mixed-map, along-any, run-after}
 use Rattle.demand.proofs.Files.{earned, blocksOf, board, block-size, comment-flash, screen-block, valid, screen-foreign, foreign-apart, steady}

@@ -16,10 +16,10 @@ use Rattle.transfer.specs.declared.Deed.{Deed}
 use Rattle.transfer.specs.declared.Deed.the-variants.{Stores, Notes, Keeps}
 use Rattle.transfer.specs.declared.Accepted.{Accepted}
 use Rattle.screen.specs.declared.Placed.{Placed}
 use Rattle.arrival.specs.Arrive.{World, Outcome, bufferOf, accepts, decided, clearedIf, wipedIf, receiveOf}
 use Rattle.arrival.specs.Lists.{receiveAll}
 use Rattle.arrival.specs.Windows.{headOf}
-use Rattle.arrival.specs.Tally.{clears}
+use Rattle.arrivals.specs.Tally.{clears}
 
 -- ---- of a decision
 

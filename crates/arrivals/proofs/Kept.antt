@@ -6,7 +6,7 @@ use mathlib.Core.List.{List}
 use native.Mathlib.Omega.{arith}
 use lib.Dec.{ltb}
 use lib.ListN.{length, getD}
-use Rattle.sets.proofs.Tests.{split, clash, is-false, and-left, and-right, both}
+use Rattle.sets.proofs.Tests.{split, is-false, both}
 use Rattle.bitmap.specs.Bitmap.{markedIn, withMark}
 use Rattle.block.specs.Block.{fieldAt, hasFlag}
 use Rattle.block.specs.Region.{regionOf}
@@ -15,13 +15,10 @@ use Rattle.flash.specs.Flash.{payloadOf}
 use Rattle.flash.proofs.Laws.{payload-set}
 use Rattle.md5.specs.Md5.{md5Of}
 use Rattle.md5.specs.declared.Digest.{Digest}
-use Rattle.region.specs.Regions.{goodRegion, sameDigest, partOf, standsIn}
-use Rattle.region.proofs.Laws.{Counting, good-yes, good-true, stands-there, stands-true, digest-true, digest-yes}
+use Rattle.region.specs.Regions.{sameDigest, partOf, standsIn}
+use Rattle.region.proofs.Laws.{Counting, good-yes, stands-there, digest-yes}
 use Rattle.settings.specs.Settings.{goodSettings}
 use Rattle.settings.specs.declared.Settings.{Settings}
-use Rattle.place.specs.Place.{placeOf}
-use Rattle.place.specs.declared.Place.{Place}
-use Rattle.place.specs.declared.Place.the-variants.{Nowhere, At}
 use Rattle.place.proofs.Theorems.{place-inside}
 use Rattle.transfer.specs.Transfer.{numberOf, sameKind, goodState, sameHead, deedAnswer, raised, accepted, stepOf}
 use Rattle.transfer.specs.declared.Kind.{Kind}
@@ -42,16 +39,18 @@ use Rattle.screen.specs.declared.Body.the-variants.{Page, Note}
 use Rattle.screen.specs.declared.Placed.{Placed}
 use Rattle.screen.specs.declared.Screening.{Screening}
 use Rattle.screen.specs.declared.Screening.the-variants.{Refused, Passed}
 use Rattle.arrival.specs.Arrive.{World, Decision, stays, rightLengths, standsAt, standing, bodyDeed, deedOf, stepped, afterScreening, decide, decided, clearedIf, acceptOf, done, receiveOf}
 use Rattle.arrival.specs.Windows.{kindOf}
 use Rattle.arrival.specs.Facts.{flagged}
-use Rattle.arrival.specs.Comments.{Unstored}
-use Rattle.arrival.specs.Kept.{soft, Agree, Flash-decides-14-or-17, Flag-0x4000-decides-14-or-17, Standing, Standing-kept, Kept-stands, Else-as-before}
-use Rattle.arrival.proofs.Heads.{kind-same}
-use Rattle.arrival.proofs.Screening.{flashOf, lens, Board, Passing, passing-deed}
-use Rattle.arrival.proofs.DecisionFacts.{raisedCount, took-answer, deedAt, DecisionFacts, kept, took, decision-facts, decide-same}
-use Rattle.arrival.proofs.Facts.{keepsAt, deed-is, decide-flags, kind-flags}
-use Rattle.arrival.proofs.Comments.{unstored}
+use Rattle.arrivals.specs.Comments.{Unstored}
+use Rattle.arrivals.specs.Kept.{soft, Agree, Flash-decides-14-or-17, Flag-0x4000-decides-14-or-17, Standing-kept, Kept-stands, Else-as-before}
+use Rattle.arrival.specs.Standing.{Standing}
+use Rattle.arrival.proofs.Standing.{keepsAt, standing-of}
+use Rattle.arrivals.proofs.Screening.{flashOf, lens, Board, Passing, passing-deed}
+use Rattle.arrivals.proofs.DecisionFacts.{raisedCount, took-answer, deedAt, DecisionFacts, kept, took, decision-facts, decide-same}
+use Rattle.arrivals.proofs.Bounds.{deed-is}
+use Rattle.arrival.proofs.Facts.{decide-flags, kind-flags}
+use Rattle.arrivals.proofs.Comments.{unstored}
 
 -- ---- what stands tells 14 from 17, and nothing else
 
@@ -154,40 +153,6 @@ flag-0x4000-decides-14-or-17 s w a =
 -- ---- when it is kept
 
 module _ (s : Settings) (w : World) (a : List ℕ) where
-  facts-at : (p : Place) → placeOf s (flashOf w) (fieldAt a 28) ≡ p → hasFlag a 0x1 ≡ false → kindOf w a ≡ Flash
-      → standsAt (w .held .flash) p a ≡ true → Standing s w a
-  unfolding standsAt regionOf
-  facts-at Nowhere e z k h = clash false h refl
-  facts-at (At start size) e z k h =
-      let f = hasFlag a 0x4000 in
-      let b = goodRegion size (fieldAt a 12) (regionOf a) in
-      let t = standsIn (w .held .flash) start (regionOf a) in
-      let g = and-left (f && b) t h in
-      let c = good-true size (fieldAt a 12) (regionOf a) (and-right f b g) in
-      record {
-        data-block = z;
-        flash = k;
-        flag = and-left f b g;
-        start = start;
-        size = size;
-        place = e;
-        first = c .starts;
-        whole = c .ends;
-        some = c .some;
-        window = c .window;
-        within = c .within;
-        before = c .before;
-        behind = c .behind;
-        digest = digest-true (md5Of (partOf (w .held .flash) start (regionOf a))) (regionOf a) (stands-true (w .held .flash) start (regionOf a) (and-right (f && b) t h));
-      }
-
-  pub standing-of : hasFlag a 0x1 ≡ false → keepsAt s w a ≡ true → Standing s w a
-  standing-of z e =
-      let k = sameKind (kindOf w a) Flash in
-      let p = placeOf s (flashOf w) (fieldAt a 28) in
-      let t = standsAt (w .held .flash) p a in
-      facts-at p refl z (kind-same (kindOf w a) Flash (and-left k t e)) (and-right k t e)
-
   pub standing-keeps : Board s w → Standing s w a → keepsAt s w a ≡ true
   unfolding standsAt regionOf
   standing-keeps B q =

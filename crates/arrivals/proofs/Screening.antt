@@ -40,11 +40,11 @@ use Rattle.screen.specs.declared.Body.the-variants.{Page, Note}
 use Rattle.screen.specs.declared.Placed.{Placed}
 use Rattle.screen.specs.declared.Screening.{Screening}
 use Rattle.screen.specs.declared.Screening.the-variants.{Refused, Passed}
 use Rattle.arrival.specs.Arrive.{World, bufferOf, lengthsOf, ramLength, deedOf}
 use Rattle.arrival.specs.Windows.{windowStart, windowEnd, kindOf}
 use Rattle.arrival.specs.File.{isFound, startOf, originOf}
 use Rattle.arrival.proofs.Windows.{start-is, end-is, data-kind, data-window, comment-kind}
-use Rattle.arrival.proofs.Effect.{Fits}
+use Rattle.arrival.proofs.Paged.{Fits}
 
 -- ---- a header that yields a block yields the arrival's fields
 

@@ -36,12 +36,12 @@ use Rattle.screen.specs.declared.Window.{Window}
 use Rattle.screen.specs.declared.Window.the-variants.{Outside, In}
 use Rattle.screen.specs.declared.Screening.{Screening}
 use Rattle.screen.specs.declared.Screening.the-variants.{Refused, Passed}
 use Rattle.arrival.specs.Arrive.{World, Decision, stays, outcomeNumber, rightLengths, standing, deedOf, stepped, afterScreening, decide, decided, acceptOf, unchanged, done, receiveOf}
 use Rattle.arrival.specs.Windows.{lies, kindOf}
-use Rattle.arrival.specs.Before.{placedBefore, notedBefore, foundBefore, screenBefore, decideBefore, receiveBefore, InFlash, strays, Without-RAM, Stays-in-flash}
+use Rattle.arrivals.specs.Before.{placedBefore, notedBefore, foundBefore, screenBefore, decideBefore, receiveBefore, InFlash, strays, Without-RAM, Stays-in-flash}
 use Rattle.arrival.proofs.Windows.{lies-is}
-use Rattle.arrival.proofs.Screening.{Fielded, fielded, flashOf, lens, Board, room-of}
-use Rattle.arrival.proofs.DecisionFacts.{right-true, step-late, DecisionFacts, kept, took, decision-facts, raisedCount, took-state}
+use Rattle.arrivals.proofs.Screening.{Fielded, fielded, flashOf, lens, Board, room-of}
+use Rattle.arrivals.proofs.DecisionFacts.{right-true, step-late, DecisionFacts, kept, took, decision-facts, raisedCount, took-state}
 
 -- ---- rows 4 to 11
 

@@ -21,12 +21,12 @@ use Rattle.transfer.specs.declared.State.{State}
 use Rattle.transfer.specs.declared.State.the-variants.{Idle, Running, Done}
 use Rattle.transfer.specs.declared.Deed.{Deed}
 use Rattle.transfer.specs.declared.Accepted.{Accepted}
 use Rattle.arrival.specs.Arrive.{World, Outcome, Decision, clearedIf, acceptOf, done, receiveOf}
 use Rattle.arrival.specs.Lists.{Delivery, playAll}
 use Rattle.arrival.specs.Windows.{headOf}
-use Rattle.arrival.specs.Tally.{isAccepted, clears, acceptedBy, acceptedOf, anyAccepted, Count-is-marks}
-use Rattle.arrival.proofs.Screening.{passing-few}
-use Rattle.arrival.proofs.DecisionFacts.{AcceptFacts, took-number, deedAt, DecisionFacts, kept, took, decision-facts}
+use Rattle.arrivals.specs.Tally.{isAccepted, clears, acceptedBy, acceptedOf, anyAccepted, Count-is-marks}
+use Rattle.arrivals.proofs.Screening.{passing-few}
+use Rattle.arrivals.proofs.DecisionFacts.{AcceptFacts, took-number, deedAt, DecisionFacts, kept, took, decision-facts}
 
 -- ---- the transfer and the seen map, A being what was accepted since the last clearing
 

@@ -16,16 +16,19 @@ use Rattle.transfer.specs.declared.Kind.{Kind}
 use Rattle.transfer.specs.declared.Kind.the-variants.{Flash, MainRam, XipRam}
 use Rattle.transfer.specs.declared.Accepted.{Accepted}
 use Rattle.screen.specs.declared.Placed.{Placed}
 use Rattle.arrival.specs.Arrive.{Held, World, Decision, bufferOf, accepts, clearedIf, wipedIf, done, receiveOf}
 use Rattle.arrival.specs.File.{originOf}
 use Rattle.arrival.specs.Windows.{windowStart, kindOf, headOf}
-use Rattle.arrival.specs.Tally.{clears}
-use Rattle.arrival.specs.Ram.{Other-kinds-kept, Ram-kept, Ram-stored, Ram-marks-nothing}
+use Rattle.arrivals.specs.Tally.{clears}
+use Rattle.arrivals.specs.Ram.{Other-kinds-kept, Ram-kept, Ram-stored, Ram-marks-nothing}
 use Rattle.arrival.proofs.Heads.{same-kind, kind-same}
-use Rattle.arrival.proofs.Effect.{getD-ram, sectors-ram, spans-is}
-use Rattle.arrival.proofs.Screening.{Board, Passing, room-origin}
-use Rattle.arrival.proofs.DecisionFacts.{deedAt, DecisionFacts, kept, took, decision-facts, took-clears}
-use Rattle.arrival.proofs.Facts.{keepsAt, wiped-buffer, wiped-sectors, left-note, left-page, left-fits, left-other}
+use Rattle.arrival.proofs.Paged.{getD-ram, sectors-ram}
+use Rattle.arrivals.proofs.Effect.{spans-is}
+use Rattle.arrivals.proofs.Screening.{Board, Passing, room-origin}
+use Rattle.arrivals.proofs.DecisionFacts.{deedAt, DecisionFacts, kept, took, decision-facts, took-clears}
+use Rattle.arrival.proofs.Standing.{keepsAt}
+use Rattle.arrival.proofs.Facts.{wiped-buffer, wiped-sectors}
+use Rattle.arrivals.proofs.Bounds.{left-note, left-page, left-fits, left-other}
 
 -- ---- the other kinds
 

@@ -37,12 +37,12 @@ use Rattle.screen.specs.declared.Window.{Window}
 use Rattle.screen.specs.declared.Window.the-variants.{Outside, In}
 use Rattle.screen.specs.declared.Screening.{Screening}
 use Rattle.screen.specs.declared.Screening.the-variants.{Refused, Passed}
 use Rattle.arrival.specs.Arrive.{World, Decision, standing, deedOf, afterScreening, decided, done, receiveOf}
 use Rattle.arrival.specs.Windows.{windowStart, windowEnd, kindOf}
-use Rattle.arrival.specs.Ram.{RamFamily, named, user, Ram-families, Ram-addresses}
+use Rattle.arrivals.specs.Ram.{RamFamily, named, user, Ram-families, Ram-addresses}
 use Rattle.arrival.proofs.Windows.{start-is}
-use Rattle.arrival.proofs.Screening.{Fielded, fielded, comment-is, kind-note, kind-window, flashOf, lens, Board, roomsFor, whole-is}
-use Rattle.arrival.proofs.DecisionFacts.{board-decides, Rows, stopped, through, rows, step-late}
+use Rattle.arrivals.proofs.Screening.{Fielded, fielded, comment-is, kind-note, kind-window, flashOf, lens, Board, roomsFor, whole-is}
+use Rattle.arrivals.proofs.DecisionFacts.{board-decides, Rows, stopped, through, rows, step-late}
 
 -- ---- the families
 

@@ -31,10 +31,10 @@ use Rattle.screen.specs.declared.Lengths.{Lengths}
 use Rattle.screen.specs.declared.Placed.{Placed}
 use Rattle.screen.specs.declared.Screening.{Screening}
 use Rattle.screen.specs.declared.Screening.the-variants.{Refused, Passed}
 use Rattle.arrival.specs.Arrive.{World, Decision, outcomeNumber, done, stays, accepts, ramLength, rightLengths, standing, deedOf, stepped, afterScreening, decide, decided}
-use Rattle.arrival.specs.Tally.{clears}
+use Rattle.arrivals.specs.Tally.{clears}
 use Rattle.arrival.proofs.Heads.{head-same}
-use Rattle.arrival.proofs.Screening.{flashOf, lens, Board, Passing, Good, screen-good}
+use Rattle.arrivals.proofs.Screening.{flashOf, lens, Board, Passing, Good, screen-good}
 
 -- ---- rows 1 to 3
 

@@ -13,9 +13,9 @@ use Rattle.transfer.specs.declared.State.{State}
 use Rattle.screen.specs.Screen.{screenOf}
 use Rattle.screen.specs.declared.Lengths.{Lengths}
 use Rattle.block.specs.Block.{fieldAt}
-use Rattle.arrival.specs.Arrive.{World, Decision, decide, decided, done, forecastOf, lengthsOf, standing, receiveOf, lookOf}
+use Rattle.arrival.specs.Arrive.{World, decide, decided, done, forecastOf, lengthsOf, standing, receiveOf, lookOf}
 use Rattle.arrival.specs.Lists.{receiveAll, answersOf, discardsOf}
-use Rattle.arrival.specs.Alike.{Alike-settings-answer-alike}
+use Rattle.arrivals.specs.Alike.{Alike-settings-answer-alike}
 
 module _ (s t : Settings) (h : Alike s t) where
   screen-alike : (n : Lengths) (x : State) (a : List ℕ) → screenOf s n x a ≡ screenOf t n x a

@@ -19,7 +19,7 @@ use Rattle.flash.specs.Flash.{payloadOf}
 use Rattle.settings.specs.declared.Settings.{Settings}
 use Rattle.place.specs.declared.Place.{Place}
 use Rattle.place.specs.declared.Place.the-variants.{Nowhere, At}
-use Rattle.transfer.specs.Transfer.{numberOf, countOf, sameHead, counted, deedAnswer, raised, accepted}
+use Rattle.transfer.specs.Transfer.{numberOf, countOf, sameHead, counted, deedAnswer, raised}
 use Rattle.transfer.specs.declared.Kind.{Kind}
 use Rattle.transfer.specs.declared.Head.{Head}
 use Rattle.transfer.specs.declared.Run.{Run}
@@ -35,15 +35,17 @@ use Rattle.screen.specs.declared.Rooms.{Rooms}
 use Rattle.screen.specs.declared.Screening.{Screening}
 use Rattle.screen.specs.declared.Placed.{Placed}
 use Rattle.screen.specs.declared.Body.the-variants.{Note}
 use Rattle.arrival.specs.Arrive.{Held, World, Decision, bufferOf, accepts, standing, decide, decided, clearedIf, wipedIf, atOf, acceptOf, done, receiveOf}
 use Rattle.arrival.specs.Lists.{receiveAll}
 use Rattle.arrival.specs.Windows.{headOf}
-use Rattle.arrival.specs.Tally.{clears}
-use Rattle.arrival.specs.Comments.{isNoted, Comments-note, Nothing-stored, Unstored, Comments-store-nothing, Unread, Comments-unread, anyDiscard, First-stands}
+use Rattle.arrivals.specs.Tally.{clears}
+use Rattle.arrivals.specs.Comments.{isNoted, Comments-note, Nothing-stored, Unstored, Comments-store-nothing, Unread, Comments-unread, anyDiscard, First-stands}
 use Rattle.arrival.proofs.Heads.{same-head}
-use Rattle.arrival.proofs.Screening.{lens, Board, Passing, passing-few}
-use Rattle.arrival.proofs.DecisionFacts.{AcceptFacts, deedAt, DecisionFacts, raisedCount, took-state, took-answer, took-clears, took-discarded, kept, took, decision-facts, decide-same}
-use Rattle.arrival.proofs.Facts.{keepsAt, length-cleared, wiped-buffer, wiped-sectors, done-none, left-none, deed-is}
+use Rattle.arrivals.proofs.Screening.{lens, Board, Passing, passing-few}
+use Rattle.arrivals.proofs.DecisionFacts.{AcceptFacts, deedAt, DecisionFacts, raisedCount, took-state, took-answer, took-clears, took-discarded, kept, took, decision-facts, decide-same}
+use Rattle.arrival.proofs.Standing.{keepsAt}
+use Rattle.arrival.proofs.Facts.{length-cleared, wiped-buffer, wiped-sectors, done-none}
+use Rattle.arrivals.proofs.Bounds.{left-none, deed-is}
 
 -- ---- of a decision
 

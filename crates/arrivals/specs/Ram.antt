@@ -13,9 +13,9 @@ use Rattle.settings.specs.declared.Settings.{Settings}
 use Rattle.transfer.specs.Transfer.{numberOf}
 use Rattle.transfer.specs.declared.Kind.{Kind}
 use Rattle.transfer.specs.declared.Kind.the-variants.{Flash}
 use Rattle.arrival.specs.Arrive.{World, bufferOf, clearedIf, receiveOf}
 use Rattle.arrival.specs.Windows.{windowStart, windowEnd, kindOf, headOf}
-use Rattle.arrival.specs.Tally.{clears}
+use Rattle.arrivals.specs.Tally.{clears}
 
 -- an arrival of one kind leaves the buffers of the others whole
 unfoldable pub Other-kinds-kept : Type 0
