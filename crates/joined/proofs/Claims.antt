@@ -18,10 +18,9 @@ use Rattle.textlines.specs.Lines.{linesOf}
 use Rattle.hexfile.specs.Lines.{freshSession, storesOf}
 use Rattle.hexfile.specs.Claims.{Image-is-latest, Image-length-kept}
 use Rattle.hexfile.proofs.Claims.{image-is-latest, image-length-kept}
-use Rattle.wholefile.specs.Items.{Item, Says, none, line}
+use Rattle.wholefile.specs.Items.{Item, Says, none, line, item, lineFor}
 use Rattle.wholefile.specs.Whole.{Section, allItems, File}
 use Rattle.wholefile.specs.State.{State, begin, after, answersFor}
-use Rattle.wholefile.specs.Instance.{item, lineFor}
 use Rattle.wholefile.specs.Claims as wholefile
 use Rattle.wholefile.specs.Claims.{FileEnd, File-ends, Acceptance}
 use Rattle.wholefile.proofs.Claims.{file-ends}

@@ -10,9 +10,8 @@ use lib.ListN.{length, replicate, length-replicate}
 use borrow.Author.Tests.{ne-eqb, ltb-true, ltb-false}
 use Rattle.sets.proofs.Tests.{split, eqb-same}
 use Rattle.stores.specs.Stores.{Store}
-use Rattle.wholefile.specs.Items.{Item, sizeOf, wordOf}
+use Rattle.wholefile.specs.Items.{Item, sizeOf, wordOf, item, lineFor}
 use Rattle.wholefile.specs.Whole.{dataTypeOf, Section, sectionItems, allItems}
-use Rattle.wholefile.specs.Instance.{item, lineFor}
 use Rattle.wholefile.proofs.OneRecord.{not-data, data-not}
 use Rattle.wholefile.proofs.Runs.{size-append}
 use Rattle.wholefile.proofs.Claims.{says-one}

@@ -12,10 +12,9 @@ use Rattle.sets.proofs.Tests.{split, eqb-same}
 use Rattle.stores.specs.Stores.{Store}
 use Rattle.record.specs.Write.{Bytes, recordLine}
 use Rattle.grammar.specs.Grammar.{dataKind}
-use Rattle.wholefile.specs.Items.{Item, sizeOf, wordOf}
+use Rattle.wholefile.specs.Items.{Item, sizeOf, wordOf, item}
 use Rattle.wholefile.specs.Whole.{dataTypeOf, Tail, tail-ends, tail-0C, Body, body-ends, body-04, body-data, body-0C, Section, sectionItems, boardOf, IsSection, anyData}
 use Rattle.wholefile.specs.State.{between, body, placeAfter, State, after, stateAfter, addressOf, storesWith, storesFor}
-use Rattle.wholefile.specs.Instance.{item}
 use Rattle.wholefile.proofs.OneRecord.{not-data, data-not, data-kind, no-gift, a-gift}
 use Rattle.wholefile.proofs.Runs.{size-append, stays-body}
 use Rattle.datalines.specs.Lines.{wordBytes, upperOf, bodyLines, firstUpper}

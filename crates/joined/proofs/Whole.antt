@@ -8,11 +8,10 @@ use native.Mathlib.Omega.{arith}
 use lib.Dec.{eqb}
 use lib.ListN.{length}
 use Rattle.stores.specs.Stores.{Store}
-use Rattle.wholefile.specs.Items.{Item, sizeOf}
+use Rattle.wholefile.specs.Items.{Item, sizeOf, item}
 use Rattle.wholefile.specs.Whole.{Section, sectionItems, Sections, no-section, allItems, howMany, anyGives, File}
 use Rattle.wholefile.specs.Whole as whole
 use Rattle.wholefile.specs.State.{between, begin, stateAfter, storesFor}
-use Rattle.wholefile.specs.Instance.{item}
 use Rattle.wholefile.proofs.Runs.{data-all}
 use Rattle.joiner.specs.Text.{fileLines, fileText}
 use Rattle.joined.specs.PlainFile.{within}

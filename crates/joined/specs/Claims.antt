@@ -10,10 +10,9 @@ use Rattle.grammar.specs.declared.Answer.{Answer}
 use Rattle.grammar.specs.declared.Answer.the-variants.{Ended, FileTooLong}
 use Rattle.textlines.specs.Lines.{linesOf}
 use Rattle.hexfile.specs.Lines.{freshSession, readAll, lineAnswers, storesOf}
-use Rattle.wholefile.specs.Items.{Item, Says, sizeOf, wordOf}
+use Rattle.wholefile.specs.Items.{Item, Says, sizeOf, wordOf, item, lineFor}
 use Rattle.wholefile.specs.Whole.{dataTypeOf, Section, sectionItems, boardOf, File}
 use Rattle.wholefile.specs.Claims.{Setup, Acceptance}
-use Rattle.wholefile.specs.Instance.{item, lineFor}
 use Rattle.joiner.specs.declared.Refusal.{Refusal}
 use Rattle.joiner.specs.declared.Joined.the-variants.{Written, Refused}
 use Rattle.joiner.specs.Join.{joinOf}

@@ -1,22 +1,13 @@
 -- A file of four sections, so that the definition is not empty: V1, a third board, V2, and the third board again with nothing in its section.
 -- Checked in proofs/Instance.antt. Assumes nothing.
-use Prim.Native.Nat.{ℕ, _+_, _*_}
+use Prim.Native.Nat.{ℕ, _+_}
 use mathlib.Core.Path.{_≡_}
 use mathlib.Core.List.{List, [], _∷_, _++_, map}
-use lib.ListN.{length, replicate}
-use Rattle.record.specs.Write.{recordText}
+use lib.ListN.{replicate}
 use Rattle.grammar.specs.Answers.{numberOf}
-use Rattle.wholefile.specs.Items.{Item, Says}
+use Rattle.wholefile.specs.Items.{Item, Says, item, lineFor}
 use Rattle.wholefile.specs.Whole.{Section, allItems, File}
 use Rattle.wholefile.specs.State.{begin, answersFor, imageFor}
-
--- a record whose line ends in LF: 11 characters, two for each data byte, and the LF
-abbrev pub item : ℕ → ℕ → List ℕ → Item
-item kind address d = record { kind = kind; address = address; bytes = d; size = 12 + 2 * length d }
-
--- and that line
-abbrev pub lineFor : Item → List ℕ
-lineFor x = recordText (x .kind) (x .address) (x .bytes) ++ (10 ∷ [])
 
 -- six 0C, the first of n bytes
 abbrev pub padding : ℕ → List Item

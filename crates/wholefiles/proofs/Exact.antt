@@ -2,13 +2,13 @@
 use Prim.{Unit, tt}
 use Prim.Native.Nat.{ℕ, _+_, _*_, _%_, _≤_, _<_}
 use mathlib.Core.Path.{_≡_, refl, sym, ap, subst, _∙_}
-use mathlib.Core.Logic.{_⊎_, _≢_, _↔_, inl, inr, ⊎-elim}
-use mathlib.Core.Bool.{Bool, true, false, not, cond, _&&_, _||_, or-true}
+use mathlib.Core.Logic.{_⊎_, _≢_, inl, inr, ⊎-elim}
+use mathlib.Core.Bool.{Bool, true, false, cond, _&&_, _||_, or-true}
 use mathlib.Core.List.{List}
 use native.Mathlib.Omega.{arith}
 use lib.Dec.{ltb, leb, eqb}
 use lib.ListN.{length}
-use borrow.Author.Tests.{eqb-true, eqb-false, leb-true, leb-false, ltb-true, ltb-false, eq-eqb, ne-eqb, le-leb, le-ltb, lt-ltb, lt-leb}
+use borrow.Author.Tests.{eqb-true, eqb-false, leb-true, leb-false, ltb-true, le-leb, le-ltb, lt-ltb}
 use Rattle.sets.proofs.Tests.{split, clash, and-left, and-right}
 use Rattle.record.specs.Record.{wordOf, readOf}
 use Rattle.record.specs.declared.Record.{Record}
@@ -17,7 +17,6 @@ use Rattle.record.specs.declared.ParseResult.the-variants as parsed
 use Rattle.grammar.specs.Answers.{numberOf}
 use Rattle.grammar.specs.Boards.{hasBoard, bothBoards}
 use Rattle.grammar.specs.Grammar.{isExtendedLinear, isEndOfFile, isBlockStart, dataKind, afterPadding, roleOf}
-use Rattle.grammar.specs.declared.Answer.{Answer}
 use Rattle.grammar.specs.declared.Answer.the-variants as answer
 use Rattle.grammar.specs.declared.ReaderState.{ReaderState}
 use Rattle.grammar.specs.declared.ReaderState.the-variants.{Between, Opened, Inside, Padded, Ended, Failed}
@@ -26,13 +25,12 @@ use Rattle.grammar.specs.declared.Role.the-variants.{Opening, Naming, Address, 
 use Rattle.hexreader.specs.declared.Reader.{Reader}
 use Rattle.hexreader.specs.declared.Effect.{Effect}
 use Rattle.hexreader.specs.declared.Effect.the-variants.{Fails, Passes, Stores, Ends}
-use Rattle.unihex.specs.Reader.{badReader, withData, givenOf, effectOf}
-use Rattle.unihex.specs.Line.{LineOutcome, lineOutcome, addressOf, outside, storing, effectOutcome, parsedLine, liveLine, haltLine, haltOf, badImage, lineOf}
-use Rattle.hexfile.specs.Facts.{Ready}
+use Rattle.unihex.specs.Reader.{withData, givenOf, effectOf}
+use Rattle.unihex.specs.Line.{LineOutcome, addressOf, outside, storing, effectOutcome, parsedLine, liveLine, haltLine, haltOf, badImage, lineOf}
 use Rattle.hexfile.proofs.Facts.{good-line}
 use Rattle.wholefile.specs.Whole.{dataTypeOf}
-use Rattle.wholefile.specs.Exact.{Image-before-reader, Open, Too-long-exactly, Reading, Allowed, opening-04, ending-01, naming-0A, inside-04, inside-data, inside-0E, inside-0C, inside-0B, padded-0E, padded-0C, padded-0B, Out-of-place-exactly, Passed-or-unaligned, Data-or-crosses, Ended-or-missing, Upper-passes, Others-pass}
+use Rattle.wholefiles.specs.Exact.{Image-before-reader, Open, Too-long-exactly, Reading, Allowed, opening-04, ending-01, naming-0A, inside-04, inside-data, inside-0E, inside-0C, inside-0B, padded-0E, padded-0C, padded-0B, Out-of-place-exactly, Passed-or-unaligned, Data-or-crosses, Ended-or-missing, Upper-passes, Others-pass}
 use Rattle.wholefile.proofs.OneRecord.{data-kind, role-data, role-plain}
 
 -- ---- before the record
 

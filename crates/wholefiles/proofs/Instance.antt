@@ -1,6 +1,6 @@
 -- The file of specs/Instance.antt is one. Assumes nothing.
 use Prim.Native.Nat.{ℕ, _+_, _*_, _≤_}
-use mathlib.Core.Path.{_≡_, refl, subst, sym}
+use mathlib.Core.Path.{_≡_, refl, subst}
 use mathlib.Core.Bool.{Bool, true, false}
 use mathlib.Core.List.{List, [], _∷_, map}
 use native.Mathlib.Omega.{arith}
@@ -9,13 +9,12 @@ use Rattle.sets.specs.Over.{over}
 use Rattle.sets.specs.Tab.{from, tab}
 use Rattle.record.specs.Record.{textLen, textOf, digitOf, allDigits, bytesOf, data32, total, lineOfBytes, lineOfText, readOf, onRecord}
 use Rattle.record.specs.Write.{bytesText, recordText}
-use Rattle.record.specs.declared.Record.{Record}
 use Rattle.record.specs.declared.ParseResult.{ParseResult}
 use Rattle.record.specs.declared.ParseResult.the-variants as parsed
-use Rattle.wholefile.specs.Items.{Item, itemOf, Says, none, line, sizeOf}
-use Rattle.wholefile.specs.Whole.{dataTypeOf, tail-ends, tail-0C, body-ends, body-data, body-0E, body-0C, Tail, Body, IsSection, Sections, no-section, section, allItems, howMany, anyData, anyGives, File}
+use Rattle.wholefile.specs.Items.{Item, itemOf, Says, none, line, sizeOf, item, lineFor}
+use Rattle.wholefile.specs.Whole.{dataTypeOf, tail-ends, tail-0C, body-ends, body-data, body-0E, body-0C, Body, IsSection, Sections, no-section, section, allItems, howMany, anyData, anyGives, File}
 use Rattle.wholefile.specs.State.{placeAfter, givesFor, namesFor, answerFor, answersFor, imageWith, imageFor}
-use Rattle.wholefile.specs.Instance.{item, lineFor, padding, sectionOf, bodyV1, bodyOther, bodyV2, sections, items, Items-are-file, Items-read}
+use Rattle.wholefiles.specs.Instance.{padding, sectionOf, bodyV1, bodyOther, bodyV2, sections, items, Items-are-file, Items-read}
 
 -- what lines say, where each says a record
 unfoldable itemsOf : List (List ℕ) → List Item
