@@ -29,21 +29,21 @@ use Rattle.screen.specs.declared.Screening.{Screening}
 use Rattle.screen.specs.declared.Screening.the-variants.{Refused, Passed}
 use Rattle.arrival.specs.Arrive.{Held, World, Outcome, bufferOf, lengthsOf, ramLength, done, receiveOf}
 use Rattle.arrival.specs.Lists.{receiveAll}
 use Rattle.demand.specs.Demand.{File, answerNumber, isData, ValidFile, isFound, Foreign, Mixed, Sent, seenOf, changedBy, headIn, Plain}
-use Rattle.demand.specs.Stopped.{Stopped, ForeignToBoth, EndsAlike, Stopped-then-good, idled, Stopped-is-idle, Stopped-others-stay}
+use Rattle.demands.specs.Stopped.{Stopped, ForeignToBoth, EndsAlike, Stopped-then-good, idled, Stopped-is-idle, Stopped-others-stay}
 use Rattle.arrival.proofs.Heads.{kind-same, head-same}
 use Rattle.arrival.proofs.Pages.{arrive}
 use Rattle.arrival.proofs.Count.{Blocks, count, placedOf, Any, Invariant, Opens, After, untouched, reached, some-seen, invariant-of, Carried}
 use Rattle.arrivals.proofs.Cells.{touched, cell, cell-owned, getD-buffer}
 use Rattle.arrival.proofs.Paged.{lengthIn, length-in, Fits}
 use Rattle.arrivals.proofs.Effect.{kindIn, Valid, layout, sectorsOf, apart-of, Unkept, effect, effect-buffer, length-effect, grows}
 use Rattle.demand.proofs.Contents.{byteIn, sectors-in, held-in}
 use Rattle.arrivals.proofs.Screening.{lens, Board, screen-turn, note-counted}
 use Rattle.arrivals.proofs.DecisionFacts.{step-late}
 use Rattle.demand.proofs.Lists.{Reached, receive-refused, receive-passed}
 use Rattle.demand.proofs.Runs.{Steady, mixed-map, along-any, run-after}
 use Rattle.demand.proofs.Files.{earned, blocksOf, board, block-size, comment-flash, screen-block, valid, screen-foreign, foreign-apart, steady}
 use Rattle.demand.proofs.Demand.{unkept, after-list, ends}
 
 module _ (s : Settings) (v w : World) (F : File) (Z : Stopped F v w) (ok : ValidFile s w F) where
   abbrev P : Blocks

@@ -31,19 +31,19 @@ use Rattle.arrival.specs.Arrive.{Held, World, lengthsOf, standsAt, standing}
 use Rattle.arrival.specs.Windows.{windowStart}
 use Rattle.arrival.specs.Lists.{receiveAll, AtEach}
 use Rattle.arrival.specs.Standing.{digestIn}
 use Rattle.demand.specs.Demand.{File, isData, addressOf, ValidFile, Foreign, Sent, seenOf, startOf, originOf, storageOf, holds, liesIn, Contents, sizeOf, isGuarded, Plain}
-use Rattle.demand.specs.Regions.{regionStart, regionLength, regionIn, inRegion, Final, Regions, NoOther, Complete, Regions-end, Whole-same, Whole-alike}
+use Rattle.demands.specs.Regions.{regionStart, regionLength, regionIn, inRegion, Final, Regions, NoOther, Complete, Regions-end, Whole-same, Whole-alike}
 use Rattle.arrival.proofs.Heads.{kind-same}
 use Rattle.arrival.proofs.Windows.{lies-true}
 use Rattle.arrivals.proofs.Cells.{touched, cell, cell-owned, cell-free}
 use Rattle.arrival.proofs.Count.{Blocks, count, After, untouched, some-seen}
 use Rattle.arrivals.proofs.Effect.{spans-true, spans-is, Valid, layout, apart-of}
 use Rattle.arrivals.proofs.Screening.{flashOf}
 use Rattle.demand.proofs.Contents.{byteIn, As, contents-of}
 use Rattle.demand.proofs.Runs.{run-after}
 use Rattle.demand.proofs.Files.{Located, blocksOf, board, valid, located, opens, steady}
-use Rattle.demand.proofs.Guards.{every, final, Finished, Guard, Guards, Inv, invariant, whole-flash}
+use Rattle.demands.proofs.Guards.{every, final, Finished, Guard, Guards, Inv, invariant, whole-flash}
 use Rattle.demand.proofs.Demand.{ends, same-set, same-count, others}
 
 -- a part of a list, by its elements
 part-at : (f : List ℕ) (lo len i : ℕ) → i < len → getD (take len (drop lo f)) i 0 ≡ getD f (lo + i) 0
