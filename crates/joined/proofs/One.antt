@@ -16,11 +16,11 @@ use Rattle.wholefile.proofs.OneRecord.{not-data, data-not}
 use Rattle.wholefile.proofs.Runs.{size-append}
 use Rattle.wholefile.proofs.Claims.{says-one}
 use Rattle.datalines.specs.Lines.{upperOf, firstUpper}
-use Rattle.joined.specs.PlainFile.{at, dataFrom, WithData, Cuts, none, one, PlainPieces}
+use Rattle.plainfile.specs.PlainFile.{at, dataFrom, WithData, Cuts, none, one, PlainPieces}
 use Rattle.joined.specs.Form.{word, filler, UppersAsNeeded, no-more, same, changed, Form}
 use Rattle.joined.specs.Claims.{linearData, SectionOf, TwoSections, Output-is-one}
 use Rattle.joined.proofs.Sections.{bodyItems, padItem, closeItem, pads-size, pads-linear, word-back}
-use Rattle.joined.proofs.Cuts.{cuts-one}
+use Rattle.plainfile.proofs.Cuts.{cuts-one}
 
 -- ---- the pieces of a plain file
 

@@ -17,8 +17,8 @@ use Rattle.joiner.specs.declared.Refusal.{Refusal}
 use Rattle.joiner.specs.declared.Joined.the-variants.{Written, Refused}
 use Rattle.joiner.specs.Join.{joinOf}
 use Rattle.joined.specs.Form.{Form}
-use Rattle.joined.specs.Refusals.{BadText}
-use Rattle.joined.specs.PlainFile.{at, WithData, Cuts, PlainPieces, within}
+use Rattle.plainfile.specs.Refusals.{BadText}
+use Rattle.plainfile.specs.PlainFile.{at, WithData, Cuts, PlainPieces, within}
 
 -- what holds of every output: of the two files, the lent room, and the lines of the n bytes that were written
 abbrev pub EveryOutput : (List ℕ → List ℕ → List (List ℕ) → Type 0) → Type 0

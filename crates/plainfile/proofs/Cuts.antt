@@ -19,8 +19,8 @@ use Rattle.record.proofs.Good.{says, good-len, good-data, bytes-small}
 use Rattle.wholefile.specs.Items.{Item, itemOf, Says, line, wordOf}
 use Rattle.wholefile.proofs.OneRecord.{len-item}
 use Rattle.datalines.specs.Pieces.{roomOf, splitOf, splitAll}
-use Rattle.joined.specs.PlainFile.{Records, ending-01, data-00, segment-02, start-03, linear-04, start-05, at, baseAfter, dataFrom, Cut, uncut, crossing, Cuts, none, one}
-use Rattle.joined.proofs.Sections.{Piece, Pieces, no-piece, next-piece}
+use Rattle.plainfile.specs.PlainFile.{Records, ending-01, data-00, segment-02, start-03, linear-04, start-05, at, baseAfter, dataFrom, Cut, uncut, crossing, Cuts, none, one}
+use Rattle.plainfile.proofs.Pieces.{Piece, Pieces, no-piece, next-piece}
 
 -- ---- bytes
 

@@ -17,9 +17,9 @@ use Rattle.plain.specs.declared.Verdict.{Verdict}
 use Rattle.plain.specs.declared.Verdict.the-variants.{Fine, Bad}
 use Rattle.plain.specs.Line.{plain, freshPlain, lineTaken, takenOf}
 use Rattle.plain.specs.File.{goesOn, badOf, nextOf, linesVerdict}
-use Rattle.joined.specs.PlainFile.{Records, baseAfter}
-use Rattle.joined.specs.Refusals.{PlainType, Begun, nothing, more, BadLine, BadLines, bad-line, after-the-01, no-01}
-use Rattle.joined.proofs.PlainRead.{Went, Last, View, stops, goes, ends, line-view}
+use Rattle.plainfile.specs.PlainFile.{Records, baseAfter}
+use Rattle.plainfile.specs.Refusals.{PlainType, Begun, nothing, more, BadLine, BadLines, bad-line, after-the-01, no-01}
+use Rattle.plainfile.proofs.PlainRead.{Went, Last, View, stops, goes, ends, line-view}
 
 begun-append : {xs : List Item} (x : Item) → PlainType (x .kind) (length (x .bytes)) → x .kind ≢ 1 → (x .kind ≡ 0 → x .address + length (x .bytes) ≤ 65536)
     → Begun xs → Begun (xs ++ (x ∷ []))

@@ -14,7 +14,7 @@ use Rattle.grammar.specs.declared.Answer.{Answer}
 use Rattle.grammar.specs.declared.Answer.the-variants.{OutOfPlace, Crosses, MissingBoard, AfterEnd, FileTooLong}
 use Rattle.textlines.specs.Lines.{linesOf}
 use Rattle.wholefile.specs.Items.{Item, Says, sizeOf}
-use Rattle.joined.specs.PlainFile.{Records, PlainFile, dataFrom}
+use Rattle.plainfile.specs.PlainFile.{Records, PlainFile, dataFrom}
 
 -- the types of plain Intel Hex, and how many data bytes each has
 pub data PlainType : ℕ → ℕ → Type 0 where

@@ -18,12 +18,12 @@ use Rattle.plain.specs.declared.Verdict.{Verdict}
 use Rattle.plain.specs.declared.Verdict.the-variants.{Fine, Bad}
 use Rattle.plain.specs.File.{recordsOf, linesVerdict, isSome, dataVerdict, thenVerdict, verdictOf}
 use Rattle.datalines.specs.Pieces.{splitAll, piecesOf}
-use Rattle.joined.specs.PlainFile.{PlainFile, dataFrom, WithData, PlainPieces}
-use Rattle.joined.specs.Refusals.{BadText, lines, no-data}
-use Rattle.joined.proofs.Sections.{Pieces}
-use Rattle.joined.proofs.PlainRead.{Reading, plain-reading, plain-fine}
-use Rattle.joined.proofs.BadLines.{bad-is, first-bad}
-use Rattle.joined.proofs.Cuts.{data-all, split-all, split-some}
+use Rattle.plainfile.specs.PlainFile.{PlainFile, dataFrom, WithData, PlainPieces}
+use Rattle.plainfile.specs.Refusals.{BadText, lines, no-data}
+use Rattle.plainfile.proofs.Pieces.{Pieces}
+use Rattle.plainfile.proofs.PlainRead.{Reading, plain-reading, plain-fine}
+use Rattle.plainfile.proofs.BadLines.{bad-is, first-bad}
+use Rattle.plainfile.proofs.Cuts.{data-all, split-all, split-some}
 
 lines-flat : (s : List ℕ) → flatten (linesOf s) ≡ s
 unfolding linesOf flatten

@@ -25,8 +25,8 @@ use Rattle.plain.specs.declared.Taken.the-variants.{Refused, Passed}
 use Rattle.plain.specs.Line.{isEnd, isSegment, isLinear, isStart, plain, movedBy, withBase, dataTaken, recordTaken, fieldsTaken, lineTaken, takenOf}
 use Rattle.plain.specs.declared.Verdict.the-variants.{Fine, Bad}
 use Rattle.plain.specs.File.{goesOn, badOf, nextOf, givesOf, recordsFrom, linesVerdict}
-use Rattle.joined.specs.PlainFile.{Records, ending-01, data-00, segment-02, start-03, linear-04, start-05, baseAfter, dataAt, dataFrom}
-use Rattle.joined.specs.Refusals.{PlainType, type-00, type-01, type-02, type-03, type-04, type-05, BadLine, row-36, rows-20-to-25, row-26, row-29}
+use Rattle.plainfile.specs.PlainFile.{Records, ending-01, data-00, segment-02, start-03, linear-04, start-05, baseAfter, dataAt, dataFrom}
+use Rattle.plainfile.specs.Refusals.{PlainType, type-00, type-01, type-02, type-03, type-04, type-05, BadLine, row-36, rows-20-to-25, row-26, row-29}
 
 -- ---- a line
 
