@@ -1,9 +1,9 @@
--- `readerbytes::state_from` meets its contract. Assumes nothing.
+-- `readerstate::state_from` meets its contract. Assumes nothing.
 use borrow.Author.Tests.{eq-eqb, ne-eqb}
 use Rattle.readers.specs.Readers.{readerStateFrom}
 use borrow.Author.Needs.{needs}
-use Rattle.readerbytes.proofs.state_from.Statement.{statement}
-use Rattle.readerbytes.proofs.state_from.Tie as tie
+use Rattle.readerstate.proofs.state_from.Statement.{statement}
+use Rattle.readerstate.proofs.state_from.Tie as tie
 
 returns : tie.Need-returns
 unfolding readerStateFrom

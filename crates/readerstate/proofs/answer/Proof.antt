@@ -1,10 +1,10 @@
--- `readerbytes::answer` meets its contract. Assumes nothing.
+-- `readerstate::answer` meets its contract. Assumes nothing.
 use mathlib.Core.Path.{refl, sym}
 use Rattle.readers.specs.Readers.{answerFrom, allAnswers}
 use Rattle.readers.proofs.Answers.{answer-none, answer-low, answer-high}
 use borrow.Author.Needs.{needs}
-use Rattle.readerbytes.proofs.answer.Statement.{statement}
-use Rattle.readerbytes.proofs.answer.Tie as tie
+use Rattle.readerstate.proofs.answer.Statement.{statement}
+use Rattle.readerstate.proofs.answer.Tie as tie
 
 returns : tie.Need-returns
 returns c = sym (answer-none _ _ (c .if1 .taken))
