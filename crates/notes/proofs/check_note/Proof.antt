@@ -1,8 +1,8 @@
--- `rooms::check_note` meets its contract. Assumes nothing.
+-- `notes::check_note` meets its contract. Assumes nothing.
 use Rattle.screen.specs.Screen.{noteFound}
 use borrow.Author.Needs.{needs}
-use Rattle.rooms.proofs.check_note.Statement.{statement}
-use Rattle.rooms.proofs.check_note.Tie as tie
+use Rattle.notes.proofs.check_note.Statement.{statement}
+use Rattle.notes.proofs.check_note.Tie as tie
 
 enum-told : tie.Need-enum-told
 enum-told c = search needs

@@ -1,9 +1,9 @@
--- `rooms::note` meets its contract. Assumes nothing.
+-- `notes::note` meets its contract. Assumes nothing.
 use mathlib.Core.Path.{sym, _∙_}
 use Rattle.screen.proofs.Laws.{noted-numbers, noted-passed}
 use borrow.Author.Needs.{needs}
-use Rattle.rooms.proofs.note.Statement.{statement}
-use Rattle.rooms.proofs.note.Tie as tie
+use Rattle.notes.proofs.note.Statement.{statement}
+use Rattle.notes.proofs.note.Tie as tie
 
 bad-numbers-requires : tie.Need-bad-numbers-requires
 bad-numbers-requires c κs = search needs

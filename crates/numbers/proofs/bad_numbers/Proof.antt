@@ -1,9 +1,9 @@
--- `rooms::bad_numbers` meets its contract. Assumes nothing.
+-- `numbers::bad_numbers` meets its contract. Assumes nothing.
 use native.Mathlib.Omega.{arith}
 use Rattle.screen.proofs.Laws.{numbers-wrong, numbers-last}
 use borrow.Author.Needs.{needs}
-use Rattle.rooms.proofs.bad_numbers.Statement.{statement}
-use Rattle.rooms.proofs.bad_numbers.Tie as tie
+use Rattle.numbers.proofs.bad_numbers.Statement.{statement}
+use Rattle.numbers.proofs.bad_numbers.Tie as tie
 
 returns : tie.Need-returns
 returns c = let a = c .before .before .args in numbers-wrong (a .size) (a .b) (λ h. omega arith)
