@@ -1,10 +1,10 @@
--- `block::field` meets its contract. Assumes nothing.
+-- `words::field` meets its contract. Assumes nothing.
 use mathlib.Core.Path.{sym, _∙_}
 use native.Mathlib.Omega.{arith}
-use Rattle.block.proofs.Laws.{field-in, field-past}
+use Rattle.words.proofs.Laws.{field-in, field-past}
 use borrow.Author.Needs.{needs}
-use Rattle.block.proofs.field.Statement.{statement}
-use Rattle.block.proofs.field.Tie as tie
+use Rattle.words.proofs.field.Statement.{statement}
+use Rattle.words.proofs.field.Tie as tie
 
 returns : tie.Need-returns
 returns c = sym (field-past _ _ (omega arith))

@@ -1,7 +1,7 @@
--- `block::joined` meets its contract. Assumes nothing.
+-- `words::joined` meets its contract. Assumes nothing.
 use borrow.Author.Needs.{needs}
-use Rattle.block.proofs.joined.Statement.{statement}
-use Rattle.block.proofs.joined.Tie as tie
+use Rattle.words.proofs.joined.Statement.{statement}
+use Rattle.words.proofs.joined.Tie as tie
 
 mul-result : tie.Need-mul-result
 mul-result c = search needs

@@ -1,11 +1,11 @@
--- `block::put` meets its contract. Assumes nothing.
+-- `words::put` meets its contract. Assumes nothing.
 use mathlib.Core.Path.{sym}
 use lib.ListN.{length-set}
 use native.Mathlib.Omega.{arith}
-use Rattle.block.proofs.WriteLaws.{put-past, put-set}
+use Rattle.words.proofs.WriteLaws.{put-past, put-set}
 use borrow.Author.Needs.{needs}
-use Rattle.block.proofs.put.Statement.{statement}
-use Rattle.block.proofs.put.Tie as tie
+use Rattle.words.proofs.put.Statement.{statement}
+use Rattle.words.proofs.put.Tie as tie
 
 returns : tie.Need-returns
 returns c = sym (put-past _ _ _ (omega arith))
