@@ -9,17 +9,15 @@ use native.Mathlib.Omega.{arith}
 use lib.Dec.{leb, eqb}
 use lib.ListN.{length, getD, set, length-set}
 use lib.Seq.{getD-set-same, getD-set-other}
-use borrow.Author.Tests.{le-leb, lt-leb, leb-true, leb-false, eq-eqb, ne-eqb}
+use borrow.Author.Tests.{leb-true, leb-false, eq-eqb, ne-eqb}
 use Rattle.sets.proofs.Tests.{split}
-use Rattle.sets.specs.Bytes.{numberIn}
 use Rattle.sets.proofs.BytesLaws.{number-four}
 use Rattle.block.specs.declared.Block.{Block}
 use Rattle.block.specs.declared.Header.{Header}
 use Rattle.block.specs.declared.Header.the-variants.{NotBlock, Container, NoFamily, Found}
 use Rattle.block.specs.Block.{fieldAt, fieldsOf, hasFlag, flaggedOf, isBlock, headerOf, headerNumber}
 use Rattle.block.specs.Region.{regionOf}
--- ---- one field, at any offset
-
+-- one field, at any offset
 pub use Rattle.words.proofs.Laws.{field-number, field-in, field-past}
 
 -- ---- the header, by the test that decides

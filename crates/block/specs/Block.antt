@@ -6,7 +6,7 @@ use lib.Dec.{eqb}
 use Rattle.block.specs.declared.Block.{Block}
 use Rattle.block.specs.declared.Header.{Header}
 use Rattle.block.specs.declared.Header.the-variants.{NotBlock, Container, NoFamily, Found}
--- the fields are read by
+-- fields, from `words`
 unfoldable pub use Rattle.words.specs.Field.{fieldAt}
 
 -- "8 flags": is the flag of weight f set?

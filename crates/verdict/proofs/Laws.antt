@@ -9,7 +9,7 @@ use Rattle.block.specs.Block.{fieldAt}
 use Rattle.settings.specs.Settings.{goodSettings}
 use Rattle.settings.specs.declared.Settings.{Settings}
 use Rattle.transfer.specs.Transfer.{goodState, withDeed, stepOf}
-use Rattle.transfer.proofs.Laws.{stays-any, accepts-any}
+use Rattle.retold.proofs.Laws.{stays-any, accepts-any}
 use Rattle.transfer.specs.declared.State.{State}
 use Rattle.transfer.specs.declared.Transfer.{Transfer}
 use Rattle.transfer.specs.declared.Unchanged.{Unchanged}

@@ -1,7 +1,7 @@
--- `transfer::doing` meets its contract. Assumes nothing.
+-- `retold::doing` meets its contract. Assumes nothing.
 use borrow.Author.Needs.{needs}
-use Rattle.transfer.proofs.doing.Statement.{statement}
-use Rattle.transfer.proofs.doing.Tie as tie
+use Rattle.retold.proofs.doing.Statement.{statement}
+use Rattle.retold.proofs.doing.Tie as tie
 
 told-requires : tie.Need-told-requires
 told-requires c κs = search needs

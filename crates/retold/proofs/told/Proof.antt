@@ -1,7 +1,7 @@
--- `transfer::told` meets its contract. Assumes nothing.
+-- `retold::told` meets its contract. Assumes nothing.
 use borrow.Author.Needs.{needs}
-use Rattle.transfer.proofs.told.Statement.{statement}
-use Rattle.transfer.proofs.told.Tie as tie
+use Rattle.retold.proofs.told.Statement.{statement}
+use Rattle.retold.proofs.told.Tie as tie
 
 enum-told : tie.Need-enum-told
 enum-told c = search needs
