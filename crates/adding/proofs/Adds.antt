@@ -23,10 +23,10 @@ use Rattle.transfer.specs.declared.Answer.{Answer}
 use Rattle.transfer.specs.declared.Answer.the-variants.{BadBuffers, BadSettings, BadState, NotBlock, Container, NoFamily, NoPlace, BadPayload, BadNumbers, BadAddress, Finished, Again, Written, Completed, Noted, Kept}
 use Rattle.arrival.specs.Arrive.{Lent, World, Outcome, lentOf, receiveOf}
 use Rattle.arrival.specs.Lists.{receiveAll, answersOf, discardsOf, Delivery, playAll}
-use Rattle.arrival.specs.Facts.{Refusals-change-nothing}
-use Rattle.arrival.specs.Tally.{isAccepted, anyAccepted, Count-is-marks}
-use Rattle.arrival.proofs.Facts.{refusals-change-nothing}
-use Rattle.arrival.proofs.Tally.{count-is-marks}
+use Rattle.arrivals.specs.Bounds.{Refusals-change-nothing}
+use Rattle.arrivals.specs.Tally.{isAccepted, anyAccepted, Count-is-marks}
+use Rattle.arrivals.proofs.Bounds.{refusals-change-nothing}
+use Rattle.arrivals.proofs.Tally.{count-is-marks}
 use Rattle.receiver.specs.Receiver.{world}
 use Rattle.piece.specs.declared.Stop.{Stop}
 use Rattle.piece.specs.declared.Stop.the-variants.{None, Bad, Differs}

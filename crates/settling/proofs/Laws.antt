@@ -5,7 +5,7 @@ use mathlib.Core.List.{List}
 use Prim.Native.Nat.{ℕ}
 use Rattle.bitmap.specs.Bitmap.{markedIn}
 use Rattle.transfer.specs.Transfer.{withDeed, stepOf}
-use Rattle.transfer.proofs.Laws.{stays-any, accepts-any}
+use Rattle.retold.proofs.Laws.{stays-any, accepts-any}
 use Rattle.transfer.specs.declared.Transfer.{Transfer}
 use Rattle.transfer.specs.declared.Unchanged.{Unchanged}
 use Rattle.transfer.specs.declared.Deed.{Deed}

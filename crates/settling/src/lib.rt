@@ -18,7 +18,7 @@ fn accept(placed: Placed, place: Place, stored: Accepted, arrival: &[u8], flash:
     ensures { λ r. ⌜ decision r ≡ acceptedAs (standsAt (now (flash .entry)) place (now (arrival .entry))) placed stored ⌝ }
 {
     let deed = deeds::deed_of(placed, place, flash, arrival);
-    let accepted = transfer::doing(stored, deed);
+    let accepted = retold::doing(stored, deed);
     Verdict::Accepts(Acceptance {
         placed,
         deed,
