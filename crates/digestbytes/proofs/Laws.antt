@@ -6,13 +6,14 @@ use native.Mathlib.Omega.{arith}
 use lib.ListN.{length}
 use Rattle.sets.specs.Bytes.{lowFirst}
 use Rattle.sets.proofs.OverLaws.{over-whole}
-use Rattle.block.specs.Write.{le32, putAt}
+use Rattle.block.specs.Write.{le32}
 use Rattle.block.proofs.WriteLaws.{put-over, put-after}
 use Rattle.md5.specs.declared.Digest.{Digest}
 use Rattle.md5.specs.Md5.{digestBytes}
+use Rattle.digestbytes.specs.Digests.{withDigest}
 
 -- four words after each other, in 16 bytes
-pub digest-put : (out : List ℕ) (x : Digest) → length out ≡ 16 → putAt (putAt (putAt (putAt out 0 (x .a)) 4 (x .b)) 8 (x .c)) 12 (x .d) ≡ digestBytes x
+pub digest-put : (out : List ℕ) (x : Digest) → length out ≡ 16 → withDigest out x ≡ digestBytes x
 unfolding lowFirst digestBytes
 digest-put out x e =
     rw (

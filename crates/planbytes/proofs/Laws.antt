@@ -1,9 +1,11 @@
 -- A plan's numbers fit 32 bits; their low 32 bits are told, and are written one after the other. Assumes nothing.
 use Prim.Native.Nat.{ℕ, _+_, _*_, _/_, _%_, _<_, _≤_, _^_}
 use mathlib.Core.Path.{_≡_, refl, sym, ap, subst, _∙_}
+use mathlib.Core.Logic.{_≢_}
 use mathlib.Core.List.{List, _++_}
 use native.Mathlib.Omega.{arith}
 use lib.ListN.{length}
+use borrow.Author.Tests.{eq-eqb, ne-eqb}
 use Rattle.sets.specs.Bytes.{lowFirst}
 use Rattle.sets.specs.Over.{over}
 use Rattle.sets.proofs.OverLaws.{over-whole}
@@ -17,7 +19,7 @@ use Rattle.plan.specs.Plan.{Accepting, acceptingOf}
 use Rattle.plans.specs.Performed.{PlanLies}
 use Rattle.plans.proofs.Claims.{plans-lie}
 use Rattle.callbytes.specs.Calls.{planWords, planBytes}
-use Rattle.planbytes.specs.Parts.{Low}
+use Rattle.planbytes.specs.Parts.{Low, withPlan}
 
 lies-low : (s : Settings) (w : World) (a : List ℕ) (x : Plan) → PlanLies s w a x → Low x
 lies-low s w a Nothing p = tt
@@ -33,6 +35,12 @@ unfolding lowFirst
 plan-put b d q p e =
     rw (put-over b 0 d (omega arith), put-after b (le32 d) 4 q refl (omega arith), put-after b (le32 d ++ le32 q) 8 p refl (omega arith))
     (over-whole b (planWords d q p) (sym e))
+
+pub plan-whole : (b : List ℕ) (x : Plan) → length b ≡ 12 → withPlan b x ≡ planBytes x
+plan-whole b x e = simp (eq-eqb (length b) 12 e)
+
+pub plan-other : (b : List ℕ) (x : Plan) → length b ≢ 12 → withPlan b x ≡ b
+plan-other b x d = simp (ne-eqb (length b) 12 d)
 
 -- ---- the low 32 bits of a number are its four bytes
 

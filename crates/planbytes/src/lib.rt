@@ -1,10 +1,10 @@
 // What the call for an acceptance hands back, as bytes: the plan, the next transfer and the result.
 ghost use mathlib.Core.Path.{_≡_};
 ghost use Prim.Native.Nat.{_%_};
-ghost use lib.ListN.{length};
 ghost use Rattle.transfer.specs.Transfer.{numberOf};
 ghost use Rattle.results.specs.Results.{resultOf, isAcceptance};
 ghost use Rattle.callbytes.specs.Calls.{planWords, planBytes, keptTransfer};
+ghost use Rattle.planbytes.specs.Parts.{withPlan};
 use flash::Flash;
 use plan::Plan;
 use receipts::Planned;
@@ -45,10 +45,13 @@ fn numbers(plan: Plan) -> Words
     }
 }
 
-// Writes a plan.
+// Writes a plan, where it has its 12 bytes.
 fn tell(plan: Plan, bytes: &mut [u8])
-    ensures { λ _. ⌜ (length (now (bytes .entry)) ≡ 12 → now (bytes .exit) ≡ planBytes plan) ⌝ }
+    ensures { λ _. ⌜ now (bytes .exit) ≡ withPlan (now (bytes .entry)) plan ⌝ }
 {
+    if bytes.len() != 12 {
+        return;
+    }
     let w = numbers(plan);
     block::put(bytes, 0, w.deed);
     block::put(bytes, 4, w.sector);
@@ -58,7 +61,7 @@ fn tell(plan: Plan, bytes: &mut [u8])
 // What an acceptance returns; the plan is written where it has its 12 bytes, and the next transfer where a block was accepted.
 pub fn hand_back(planned: Planned, transfer: &mut [u8], plan: &mut [u8]) -> u32
     ensures { λ r. ⌜ (r ≡ resultOf (numberOf (planned .receipt .answer)) (planned .receipt .discarded)) × (now (transfer .exit) ≡ keptTransfer (now (transfer .entry)) (isAcceptance (numberOf (planned .receipt .answer))) (planned .receipt .transfer .state)) ⌝ }
-    ensures told { λ r. ⌜ (length (now (plan .entry)) ≡ 12 → now (plan .exit) ≡ planBytes (planned .plan)) ⌝ }
+    ensures told { λ _. ⌜ now (plan .exit) ≡ withPlan (now (plan .entry)) (planned .plan) ⌝ }
 {
     let receipt = planned.receipt;
     let answer = receipt.answer;

@@ -2,6 +2,7 @@
 use Prim.Native.Nat.{ℕ}
 use mathlib.Core.Bool.{Bool, cond}
 use mathlib.Core.List.{List, [], _∷_}
+use lib.ListN.{drop}
 use Rattle.sets.specs.Sets.{any}
 use Rattle.settings.specs.declared.Arch.{Arch}
 use Rattle.settings.specs.declared.Arch.the-variants.{Arm, RiscV}
@@ -29,3 +30,10 @@ archBit RiscV = 1
 unfoldable pub headFields : Settings → List ℕ
 headFields s =
     versionOf s ∷ s .count ∷ bit (s .«auto_switch») ∷ bit (s .absolute) ∷ bit (s .arm) ∷ bit (s .riscv) ∷ archBit (s .current) ∷ 0 ∷ []
+
+-- the version by whether a used entry has "don't restart", and the fields with this version
+abbrev pub versionBy : Bool → ℕ
+versionBy restart = cond restart 2 1
+
+abbrev pub headFieldsBy : Bool → Settings → List ℕ
+headFieldsBy restart s = versionBy restart ∷ drop 1 (headFields s)

@@ -1,9 +1,8 @@
 // The head of the packed store of settings: its 16 bits as one number.
 ghost use mathlib.Core.Path.{_≡_};
-ghost use Prim.Native.Nat.{_≤_, _<_};
-ghost use Rattle.sets.specs.Sets.{any};
+ghost use Prim.Native.Nat.{_<_};
 ghost use Rattle.packing.specs.Packing.{packed, bit};
-ghost use Rattle.storehead.specs.Head.{restartAt, headWidths, archBit, headFields};
+ghost use Rattle.storehead.specs.Head.{headWidths, archBit, headFieldsBy};
 use settings::Arch;
 use settings::Settings;
 
@@ -24,8 +23,8 @@ fn arch_bit(a: Arch) -> u64
 
 // The head as one number, where `restart` says whether a used entry has "don't restart".
 pub fn head_of(s: Settings, restart: bool) -> u64
-    ensures { λ r. ⌜ (restart ≡ any (s .count) (restartAt (s .table)) → r ≡ packed headWidths (headFields s)) ⌝ }
-    ensures low { λ r. ⌜ (s .count ≤ 16 → r < 65536) ⌝ }
+    ensures { λ r. ⌜ r ≡ packed headWidths (headFieldsBy restart s) ⌝ }
+    ensures low { λ r. ⌜ r < 65536 ⌝ }
 {
     let current = s.current;
     let a = bit_of(s.auto_switch);

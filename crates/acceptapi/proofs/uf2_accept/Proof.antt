@@ -2,6 +2,7 @@
 use mathlib.Core.Path.{refl, _∙_}
 use Rattle.receiver.proofs.KnownLaws.{accept-is}
 use Rattle.callbytes.proofs.Laws.{accept-short, accept-ran}
+use Rattle.planbytes.proofs.Laws.{plan-whole}
 use borrow.Author.Needs.{needs}
 use Rattle.acceptapi.proofs.uf2_accept.Statement.{statement}
 use Rattle.acceptapi.proofs.uf2_accept.Tie as tie
@@ -45,7 +46,7 @@ returns-2 c =
     let got = told .before .before .before .before .before .before .before .before .before .before .before in
     let read = got .before .before .before .before .before in
     let long = read .before .before .before .if1 .left in
-    accept-ran _ _ _ _ _ long refl (read .read-transfer .ensures) (got .accept-known .ensures ∙ accept-is _ _ _ (read .before .before .known-from .ensures)) refl (told .hand-back .ensures .0 .1) (told .hand-back .ensures .0 .0) (told .hand-back .ensures .1 long)
+    accept-ran _ _ _ _ _ long refl (read .read-transfer .ensures) (got .accept-known .ensures ∙ accept-is _ _ _ (read .before .before .known-from .ensures)) refl (told .hand-back .ensures .0 .1) (told .hand-back .ensures .0 .0) (told .hand-back .ensures .1 ∙ plan-whole _ _ long)
 
 pub uf2-accept-spec : {M : Type 1} → statement M
 uf2-accept-spec =

@@ -1,9 +1,12 @@
 -- `planbytes::tell` meets its contract. Assumes nothing.
-use mathlib.Core.Path.{_∙_}
-use Rattle.planbytes.proofs.Laws.{plan-put}
+use mathlib.Core.Path.{sym, _∙_}
+use Rattle.planbytes.proofs.Laws.{plan-put, plan-whole, plan-other}
 use borrow.Author.Needs.{needs}
 use Rattle.planbytes.proofs.tell.Statement.{statement}
 use Rattle.planbytes.proofs.tell.Tie as tie
+
+returns : tie.Need-returns
+returns c = sym (plan-other _ _ (c .if1 .taken))
 
 numbers-requires : tie.Need-numbers-requires
 numbers-requires c κs = search needs
@@ -20,10 +23,24 @@ put-requires-3 c κs = search needs
 same-length : tie.Need-same-length
 same-length c = search needs
 
-returns : tie.Need-returns
-returns c long = let first = c .before .before .before .before .before .before .before .before .before .before in let start = first .before .before .before .before in c .before .before .put3 .ensures ∙ rw (c .before .before .before .before .before .before .put2 .ensures, first .put .ensures) (plan-put (start .args .bytes .now) _ _ _ long) ∙ first .before .before .numbers .ensures
+returns-2 : tie.Need-returns-2
+returns-2 c =
+    let first = c .before .before .before .before .before .before .before .before .before .before in
+    let guard = first .before .before .before in
+    let long = guard .if1 .left in
+    c .before .before .put3 .ensures
+    ∙ rw (c .before .before .before .before .before .before .put2 .ensures, first .put .ensures) (plan-put (guard .before .before .args .bytes .now) _ _ _ long)
+    ∙ first .before .before .numbers .ensures
+    ∙ sym (plan-whole _ _ long)
 
 pub tell-spec : {M : Type 1} → statement M
 tell-spec =
     tie.close
-    (tie.spec numbers-requires put-requires put-requires-2 put-requires-3 same-length returns)
+    (tie.spec
+    returns
+    numbers-requires
+    put-requires
+    put-requires-2
+    put-requires-3
+    same-length
+    returns-2)

@@ -2,7 +2,7 @@
 use native.Mathlib.Omega.{arith}
 use Rattle.packing.specs.Packing.{packed, total}
 use Rattle.storehead.specs.Head.{headFields}
-use Rattle.storehead.proofs.Laws.{version-is}
+use Rattle.storehead.proofs.Laws.{version-by}
 use borrow.Author.Needs.{needs}
 use Rattle.storehead.proofs.head_of.Statement.{statement}
 use Rattle.storehead.proofs.head_of.Tie as tie
@@ -74,7 +74,7 @@ returns : tie.Need-returns
 unfolding headFields packed total
 returns c =
     let start = c .before .before .before .before .before .before .before in
-    ((λ e. rw (version-is (start .args .s) (start .args .restart) e) (omega arith)), (λ few. omega (arith, few)))
+    (rw (version-by (start .args .restart)) (omega arith), omega arith)
 
 pub head-of-spec : {M : Type 1} → statement M
 head-of-spec =
