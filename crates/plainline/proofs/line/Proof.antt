@@ -1,12 +1,12 @@
--- `plain::Plain::line` meets its contract. Assumes nothing.
+-- `plainline::line` meets its contract. Assumes nothing.
 use Rattle.plain.proofs.Laws.{line-ended, line-long, line-refused, line-record}
 use native.Mathlib.Omega.{arith}
 use mathlib.Core.Path.{ap}
 use Rattle.sets.specs.Numbered.{numbered}
 use Rattle.plain.specs.Line.{takenNumber}
 use borrow.Author.Needs.{needs}
-use Rattle.plain.proofs.Plain.line.Statement.{statement}
-use Rattle.plain.proofs.Plain.line.Tie as tie
+use Rattle.plainline.proofs.line.Statement.{statement}
+use Rattle.plainline.proofs.line.Tie as tie
 
 returns : tie.Need-returns
 returns c = ap (numbered takenNumber) (line-ended _ _ _ _ (c .if1 .taken))

@@ -1,9 +1,9 @@
--- `plain::Plain::data` meets its contract. Assumes nothing.
+-- `plainrecord::data` meets its contract. Assumes nothing.
 use Rattle.plain.specs.Line.{dataTaken}
 use borrow.Author.Tests.{lt-ltb, le-ltb, eq-eqb, ne-eqb}
 use borrow.Author.Needs.{needs}
-use Rattle.plain.proofs.Plain.data.Statement.{statement}
-use Rattle.plain.proofs.Plain.data.Tie as tie
+use Rattle.plainrecord.proofs.data.Statement.{statement}
+use Rattle.plainrecord.proofs.data.Tie as tie
 
 add-if1 : tie.Need-add-if1
 add-if1 c = search needs

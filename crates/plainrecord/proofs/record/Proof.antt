@@ -1,11 +1,11 @@
--- `plain::Plain::record` meets its contract. Assumes nothing.
+-- `plainrecord::record` meets its contract. Assumes nothing.
 use Rattle.plain.specs.declared.Taken.the-variants.{Passed}
 use Rattle.plain.specs.Line.{recordTaken}
 use mathlib.Core.Path.{ap}
 use borrow.Author.Tests.{eq-eqb, ne-eqb}
 use borrow.Author.Needs.{needs}
-use Rattle.plain.proofs.Plain.record.Statement.{statement}
-use Rattle.plain.proofs.Plain.record.Tie as tie
+use Rattle.plainrecord.proofs.record.Statement.{statement}
+use Rattle.plainrecord.proofs.record.Tie as tie
 
 data-requires : tie.Need-data-requires
 data-requires c κs = search needs
