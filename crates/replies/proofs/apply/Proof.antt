@@ -13,7 +13,9 @@ failing-requires : tie.Need-failing-requires
 failing-requires c κs = search needs
 
 returns : tie.Need-returns
-returns c = line-fails _ _ _ _ (c .failing .ensures) ∙ sym (bounded-over _ _ _ _ _ (omega arith))
+returns c =
+    let x = c .before .before .before .before .args in
+    line-fails _ _ _ _ (c .failing .ensures) ∙ sym (bounded-over (x .reader) (x .rec) (x .t3) (x .end) _ (omega arith))
 
 effect-of-requires : tie.Need-effect-of-requires
 effect-of-requires c κs = search needs
