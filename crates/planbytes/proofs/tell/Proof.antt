@@ -6,7 +6,9 @@ use Rattle.planbytes.proofs.tell.Statement.{statement}
 use Rattle.planbytes.proofs.tell.Tie as tie
 
 returns : tie.Need-returns
-returns c = sym (plan-other _ _ (c .if1 .taken))
+returns c =
+    let x = c .before .before .args in
+    sym (plan-other (x .bytes .now) (x .plan) (c .if1 .taken))
 
 numbers-requires : tie.Need-numbers-requires
 numbers-requires c κs = search needs
@@ -28,10 +30,11 @@ returns-2 c =
     let first = c .before .before .before .before .before .before .before .before .before .before in
     let guard = first .before .before .before in
     let long = guard .if1 .left in
+    let x = guard .before .before .args in
     c .before .before .put3 .ensures
-    ∙ rw (c .before .before .before .before .before .before .put2 .ensures, first .put .ensures) (plan-put (guard .before .before .args .bytes .now) _ _ _ long)
+    ∙ rw (c .before .before .before .before .before .before .put2 .ensures, first .put .ensures) (plan-put (x .bytes .now) _ _ _ long)
     ∙ first .before .before .numbers .ensures
-    ∙ sym (plan-whole _ _ long)
+    ∙ sym (plan-whole (x .bytes .now) (x .plan) long)
 
 pub tell-spec : {M : Type 1} → statement M
 tell-spec =
