@@ -130,7 +130,7 @@ export const text = {
       foreignBlockDiscards: {
         name: 'A foreign block discards',
         does: 'A file for another board, plugged in by mistake, throws away the update under way.',
-        promise: 'contract of accept_known: answers 1 to 13 leave the transfer',
+        promise: 'contract of refuse: answers 1 to 13 leave the transfer',
       },
       addsIn32Bits: {
         name: 'It adds in 32 bits',
@@ -145,7 +145,7 @@ export const text = {
       clearsOneMap: {
         name: 'It clears one map only',
         does: 'Blocks of the new file that carry a number of the old one are answered "Again" and never stored.',
-        promise: 'contract of enter: enteringOf',
+        promise: 'contract of clear_maps: clearedIf',
       },
     },
   },

@@ -3,7 +3,7 @@
 use Prim.Native.Nat.{ℕ, _+_, _<_, _≤_}
 use mathlib.Core.Path.{_≡_, refl, sym, ap, subst, _∙_}
 use mathlib.Core.Logic.{_⊎_, inl, inr}
-use mathlib.Core.Bool.{Bool, true, false, cond}
+use mathlib.Core.Bool.{Bool, true, false, cond, _&&_}
 use mathlib.Core.List.{List}
 use native.Mathlib.Omega.{arith}
 use lib.Dec.{eqb, ltb}
@@ -15,7 +15,8 @@ use Rattle.sets.proofs.Laws.{add-idle, size-none, size-lt, size-add, size-some}
 use Rattle.bitmap.specs.Bitmap.{markedIn, withMark, mapOf}
 use Rattle.bitmap.proofs.MapLaws.{map-none, marked-map, mark-map}
 use Rattle.flash.specs.Flash.{payloadOf}
-use Rattle.transfer.specs.Transfer.{running, counted, raised, accepted, stepOf}
+use Rattle.transfer.specs.Transfer.{sameKind, running, counted, raised, accepted, stepOf}
+use Rattle.transfer.specs.declared.Kind.the-variants.{Flash}
 use Rattle.transfer.specs.declared.Head.{Head}
 use Rattle.transfer.specs.declared.State.{State}
 use Rattle.transfer.specs.declared.State.the-variants.{Done}
@@ -26,7 +27,7 @@ use Rattle.transfer.specs.declared.Deed.{Deed}
 use Rattle.screen.specs.declared.Body.{Body}
 use Rattle.screen.specs.declared.Body.the-variants.{Page, Note}
 use Rattle.screen.specs.declared.Placed.{Placed}
-use Rattle.arrival.specs.Arrive.{Held, World, Outcome, accepts, deedOf, stepped, clearedIf, wipedIf, acceptOf, done}
+use Rattle.arrival.specs.Arrive.{Held, World, Outcome, accepts, bodyDeed, deedOf, stepped, clearedIf, wipedIf, atOf, doneTo, acceptOf, done}
 use Rattle.arrival.specs.File.{File, isData, headIn}
 use Rattle.arrival.proofs.Heads.{same-head}
 use Rattle.arrival.proofs.Pages.{arrive, apply, took-held}
@@ -65,6 +66,13 @@ coming F v k = arrive v (F .stands (v .held .flash) k) (placedOf F k) (bytesOf F
 -- what block k does to the buffers and the sector map
 abbrev pub applied : Blocks → ℕ → Held → Held
 applied F k x = apply (F .stands (x .flash) k) (placedOf F k) (bytesOf F k) x
+
+-- by the kind of its file: only a page of flash is kept
+pub applied-is : (F : Blocks) (k : ℕ) (x : Held)
+    → applied F k x
+    ≡ doneTo (bodyDeed (sameKind (F .file .kind) Flash && F .stands (x .flash) k) (bodyOf F k)) (F .file .kind) (atOf (bodyOf F k)) (payloadOf (bytesOf F k)) x
+unfolding apply
+applied-is F k x = refl
 
 abbrev pub wipe : Held → Held
 wipe x = wipedIf true x

@@ -2,15 +2,6 @@ pub mod Heads
 pub mod Windows
 pub mod Pages
 pub mod Count
-pub mod Cells
-pub mod Effect
-pub mod Screening
-pub mod DecisionFacts
+pub mod Paged
 pub mod Facts
-pub mod Ram
-pub mod RamRows
-pub mod Comments
-pub mod Kept
-pub mod Tally
-pub mod Before
-pub mod Alike
+pub mod Standing

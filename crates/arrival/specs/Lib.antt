@@ -3,9 +3,4 @@ pub mod Windows
 pub mod File
 pub mod Lists
 pub mod Facts
-pub mod Tally
-pub mod Comments
-pub mod Kept
-pub mod Ram
-pub mod Before
-pub mod Alike
+pub mod Standing

@@ -15,10 +15,11 @@ use Rattle.transfer.specs.declared.Transfer.{Transfer}
 use Rattle.transfer.specs.declared.Answer.{Answer}
 use Rattle.arrival.specs.Arrive.{Lent, World, Outcome, receiveOf}
 use Rattle.arrival.specs.Lists.{receiveAll, answersOf, discardsOf}
-use Rattle.receiver.specs.declared.Receipt.{Receipt}
+use Rattle.receipts.specs.declared.Receipt.{Receipt}
 use Rattle.receiver.specs.Receiver.{world, outcome, receiveKnown}
 use Rattle.receiver.proofs.KnownLaws.{known-is}
 use Rattle.results.specs.Results.{resultOf, isAcceptance}
+use Rattle.opening.specs.Opening.{lensOf}
 use Rattle.judged.specs.declared.FamilyRooms.{FamilyRooms}
 use Rattle.judged.specs.declared.Judged.{Judged}
 use Rattle.judged.specs.Judged.{roomsAt, roomsNext, judgedOf}
@@ -26,7 +27,7 @@ use Rattle.judged.proofs.Laws.{next-is}
 use Rattle.batch.specs.declared.Batch.{Batch}
 use Rattle.batch.specs.declared.Turn.{Turn}
 use Rattle.batch.specs.Batch.{arrivalsOf, resultsOf, anyAcceptance, storedFrom, BatchEnd, batchLeft, fewer, batchOf}
-use Rattle.batch.specs.Parts.{Knows, lensOf, Judges, TurnEnd, turnLeft, turnOf}
+use Rattle.batch.specs.Parts.{Knows, Judges, TurnEnd, turnLeft, turnOf}
 
 -- ---- one arrival of many
 

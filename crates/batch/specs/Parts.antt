@@ -7,10 +7,10 @@ use Rattle.settings.specs.Settings.{goodSettings}
 use Rattle.settings.specs.declared.Settings.{Settings}
 use Rattle.place.specs.Place.{StartsLow}
 use Rattle.transfer.specs.Transfer.{numberOf}
-use Rattle.screen.specs.declared.Lengths.{Lengths}
 use Rattle.arrival.specs.Arrive.{Lent, World, Outcome, rightLengths}
 use Rattle.receiver.specs.Receiver.{world}
 use Rattle.results.specs.Results.{resultOf, isAcceptance}
+use Rattle.opening.specs.Opening.{lensOf}
 use Rattle.judged.specs.Judged.{roomsAt}
 use Rattle.judged.specs.declared.FamilyRooms.{FamilyRooms}
 use Rattle.batch.specs.declared.Turn.{Turn}
@@ -19,10 +19,6 @@ use Rattle.batch.specs.declared.Turn.{Turn}
 pub record Knows (s : Settings) (len : ℕ) (b : FamilyRooms) : Type 0 where
   pub said : b ≡ roomsAt s len (b .family)
   pub low : StartsLow (b .rooms .flash)
-
--- the lengths that row 1 asks for, but for the maps'
-abbrev pub lensOf : Lent → Lengths
-lensOf h = record { flash = length (h .flash); main = length (h .main); xip = length (h .xip) }
 
 -- row 1's word, for whole arrivals, and row 2's, of what is lent
 abbrev pub Judges : Settings → Lent → Bool → Bool → Type 0

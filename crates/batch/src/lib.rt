@@ -9,7 +9,6 @@ ghost use Rattle.batch.specs.Batch.{fewer, batchLeft, batchOf};
 ghost use Rattle.batch.specs.Parts.{Knows, Judges, turnLeft, turnOf};
 use block::Block;
 use judged::FamilyRooms;
-use screen::Lengths;
 use settings::Family;
 use settings::Settings;
 use transfer::Transfer;
@@ -87,12 +86,7 @@ pub fn take_all(
     ensures { λ r. ⌜ batchLeft r (now (results .exit)) (leftAt flash seen sectors main xip) ≡ batchOf settings (world transfer (lentAt flash seen sectors main xip)) (now (arrivals .entry)) (now (results .entry)) ⌝ }
 {
     let n = at_most(arrivals.len() / Block::ARRIVAL, results.len());
-    let lens = Lengths {
-        flash: flash.len(),
-        main: main.len(),
-        xip: xip.len(),
-    };
-    let first = judged::judge(settings, lens, seen.len(), sectors.len(), Family::DATA);
+    let first = opening::judge_lent(settings, Family::DATA, flash, seen, sectors, main, xip);
     let mut kept = first.kept;
     let mut next = transfer;
     let mut accepted = false;

@@ -9,30 +9,16 @@ use native.Mathlib.Omega.{arith}
 use lib.Dec.{leb, eqb}
 use lib.ListN.{length, getD, set, length-set}
 use lib.Seq.{getD-set-same, getD-set-other}
-use borrow.Author.Tests.{le-leb, lt-leb, leb-true, leb-false, eq-eqb, ne-eqb}
+use borrow.Author.Tests.{leb-true, leb-false, eq-eqb, ne-eqb}
 use Rattle.sets.proofs.Tests.{split}
-use Rattle.sets.specs.Bytes.{numberIn}
 use Rattle.sets.proofs.BytesLaws.{number-four}
 use Rattle.block.specs.declared.Block.{Block}
 use Rattle.block.specs.declared.Header.{Header}
 use Rattle.block.specs.declared.Header.the-variants.{NotBlock, Container, NoFamily, Found}
 use Rattle.block.specs.Block.{fieldAt, fieldsOf, hasFlag, flaggedOf, isBlock, headerOf, headerNumber}
 use Rattle.block.specs.Region.{regionOf}
-
--- ---- one field, at any offset
-
-pub field-number : (a : List ℕ) (at : ℕ) → at + 4 ≤ length a → fieldAt a at ≡ numberIn 4 a at
-unfolding fieldAt
-field-number a at h = rw (le-leb (at + 4) (length a) h) refl
-
--- by the weight of each byte, as the code has it
-pub field-in : (a : List ℕ) (at : ℕ) → at + 4 ≤ length a
-    → fieldAt a at ≡ getD a at 0 + 256 * getD a (at + 1) 0 + 65536 * getD a (at + 2) 0 + 16777216 * getD a (at + 3) 0
-field-in a at h = field-number a at h ∙ number-four a at
-
-pub field-past : (a : List ℕ) (at : ℕ) → length a < at + 4 → fieldAt a at ≡ 0
-unfolding fieldAt
-field-past a at h = rw (lt-leb (at + 4) (length a) h) refl
+-- one field, at any offset
+pub use Rattle.words.proofs.Laws.{field-number, field-in, field-past}
 
 -- ---- the header, by the test that decides
 

@@ -1,17 +1,13 @@
 -- A UF2 block (01, "A UF2 block"): its fields, and what its header says. Assumes nothing.
-use Prim.Native.Nat.{ℕ, _+_, _/_, _%_}
+use Prim.Native.Nat.{ℕ, _/_, _%_}
 use mathlib.Core.Bool.{Bool, not, cond, _&&_}
 use mathlib.Core.List.{List}
-use lib.ListN.{length}
-use lib.Dec.{eqb, leb}
-use Rattle.sets.specs.Bytes.{numberIn}
+use lib.Dec.{eqb}
 use Rattle.block.specs.declared.Block.{Block}
 use Rattle.block.specs.declared.Header.{Header}
 use Rattle.block.specs.declared.Header.the-variants.{NotBlock, Container, NoFamily, Found}
-
--- "Little-endian 32-bit fields": the field at an offset, or 0 where it runs past the end
-unfoldable pub fieldAt : List ℕ → ℕ → ℕ
-fieldAt a at = cond (leb (at + 4) (length a)) (numberIn 4 a at) 0
+-- fields, from `words`
+unfoldable pub use Rattle.words.specs.Field.{fieldAt}
 
 -- "8 flags": is the flag of weight f set?
 abbrev pub hasFlag : List ℕ → ℕ → Bool

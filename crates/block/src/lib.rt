@@ -1,10 +1,10 @@
-// A UF2 block: its little-endian fields, read and written, and the answer of its header.
+// A UF2 block: its fields and the answer of its header. What reads and writes a field is passed on from `words`.
 ghost use mathlib.Core.Path.{_≡_};
-ghost use Prim.Native.Nat.{_+_, _*_};
 ghost use Rattle.sets.specs.Numbered.{numbered};
-ghost use Rattle.block.specs.Block.{fieldAt, hasFlag, fieldsOf, flaggedOf, isBlock, headerOf, headerNumber};
+ghost use Rattle.block.specs.Block.{hasFlag, fieldsOf, flaggedOf, isBlock, headerOf, headerNumber};
 ghost use Rattle.block.specs.Region.{regionOf};
-ghost use Rattle.block.specs.Write.{putAt};
+pub use words::field;
+pub use words::put;
 
 // The fields of a block that a header leaves to the checks after it, and whether it is a comment, which takes a number and holds no page.
 pub struct Block {
@@ -54,26 +54,6 @@ impl Block {
     pub const FLAG_TAGS: u32 = 0x8000;
 }
 
-// The number of four bytes, the lowest first.
-fn joined(a: u8, b: u8, c: u8, d: u8) -> u32
-    ensures { λ r. ⌜ r ≡ a + 256 * b + 65536 * c + 16777216 * d ⌝ }
-{
-    (a as u32) + 256 * (b as u32) + 65536 * (c as u32) + 16777216 * (d as u32)
-}
-
-// The little-endian 32-bit field at an offset, or 0 where it runs past the end.
-pub fn field(bytes: &[u8], at: usize) -> u32
-    ensures { λ r. ⌜ r ≡ fieldAt (now (bytes .entry)) at ⌝ }
-{
-    if bytes.len() < 4 {
-        return 0;
-    }
-    if bytes.len() - 4 < at {
-        return 0;
-    }
-    joined(bytes[at], bytes[at + 1], bytes[at + 2], bytes[at + 3])
-}
-
 // Are all three magic numbers right?
 pub fn is_block(arrival: &[u8]) -> bool
     ensures { λ r. ⌜ r ≡ isBlock (now (arrival .entry)) ⌝ }
@@ -81,22 +61,6 @@ pub fn is_block(arrival: &[u8]) -> bool
     (field(arrival, 0) == Block::MAGIC_FIRST)
         & (field(arrival, 4) == Block::MAGIC_SECOND)
         & (field(arrival, 508) == Block::MAGIC_LAST)
-}
-
-// Writes a little-endian 32-bit field at an offset, and nothing where it would run past the end.
-pub fn put(bytes: &mut [u8], at: usize, x: u32)
-    ensures { λ _. ⌜ now (bytes .exit) ≡ putAt (now (bytes .entry)) at x ⌝ }
-{
-    if bytes.len() < 4 {
-        return;
-    }
-    if bytes.len() - 4 < at {
-        return;
-    }
-    bytes[at] = (x % 256) as u8;
-    bytes[at + 1] = (x / 256 % 256) as u8;
-    bytes[at + 2] = (x / 65536 % 256) as u8;
-    bytes[at + 3] = (x / 16777216 % 256) as u8;
 }
 
 // The fields of a block, whatever its header says.

@@ -11,10 +11,11 @@ use Rattle.transfer.specs.declared.Transfer.{Transfer}
 use Rattle.transfer.specs.Transfer.{numberOf}
 use Rattle.arrival.specs.Arrive.{Lent, receiveOf, lookOf}
 use Rattle.plan.specs.Plan.{Accepting, acceptingOf}
-use Rattle.receiver.specs.declared.Receipt.{Receipt}
-use Rattle.receiver.specs.declared.Preview.{Preview}
-use Rattle.receiver.specs.declared.Planned.{Planned}
-use Rattle.receiver.specs.Receiver.{world, outcome, accepting, previewed}
+use Rattle.receipts.specs.declared.Receipt.{Receipt}
+use Rattle.looking.specs.declared.Preview.{Preview}
+use Rattle.receipts.specs.declared.Planned.{Planned}
+use Rattle.looking.specs.Looking.{previewed}
+use Rattle.receiver.specs.Receiver.{world, outcome, accepting}
 use Rattle.layout.specs.Layout.{settingsFrom, transferFrom}
 use Rattle.batch.specs.declared.Batch.{Batch}
 use Rattle.results.specs.Results.{resultOf, isAcceptance}

@@ -28,19 +28,21 @@ use Rattle.transfer.specs.declared.Answer.{Answer}
 use Rattle.flash.specs.Flash.{payloadOf}
 use Rattle.arrival.specs.Arrive.{World, lentOf, Outcome, Decision, acceptOf, done, receiveOf}
 use Rattle.arrival.specs.Lists.{receiveAll, answersOf, discardsOf, Delivery, playAll}
-use Rattle.arrival.specs.Facts.{Refusals-change-nothing, Look-tells}
+use Rattle.arrivals.specs.Bounds.{Refusals-change-nothing}
+use Rattle.arrival.specs.Facts.{Look-tells}
 use Rattle.arrival.specs.Windows.{headOf}
-use Rattle.arrival.specs.Tally.{anyAccepted, Count-is-marks}
+use Rattle.arrivals.specs.Tally.{anyAccepted, Count-is-marks}
 use Rattle.demand.specs.Demand.{File, seenOf, howMany, headIn, Counts, Contents, Ends, List-counts, List-ends, Completed-exactly, Same-set-same-end, Either-first}
-use Rattle.demand.specs.Regions.{Regions-end}
-use Rattle.demand.specs.Stopped.{EndsAlike, Stopped-then-good}
-use Rattle.arrival.proofs.DecisionFacts.{AcceptFacts, DecisionFacts, kept, took, took-number, decision-facts}
-use Rattle.arrival.proofs.Facts.{refusals-change-nothing, look-tells}
-use Rattle.arrival.proofs.Tally.{count-is-marks}
+use Rattle.demands.specs.Regions.{Regions-end}
+use Rattle.demands.specs.Stopped.{EndsAlike, Stopped-then-good}
+use Rattle.arrivals.proofs.DecisionFacts.{AcceptFacts, DecisionFacts, kept, took, took-number, decision-facts}
+use Rattle.arrivals.proofs.Bounds.{refusals-change-nothing}
+use Rattle.arrival.proofs.Facts.{look-tells}
+use Rattle.arrivals.proofs.Tally.{count-is-marks}
 use Rattle.demand.proofs.Demand.{list-counts, list-ends, completed-exactly, same-set-same-end, either-first}
 use Rattle.demand.proofs.Runs.{mixed-map}
-use Rattle.demand.proofs.Regions.{regions-end}
-use Rattle.demand.proofs.Stopped.{stopped-then-good}
+use Rattle.demands.proofs.Regions.{regions-end}
+use Rattle.demands.proofs.Stopped.{stopped-then-good}
 use Rattle.layout.specs.Layout.{byteAt, stateFrom, settingsFrom, transferBytes, headBytes, stateBytes, withTransfer}
 use Rattle.transferbytes.proofs.Refused.{state-length}
 use Rattle.transferbytes.proofs.Transfers.{Small, written-back}

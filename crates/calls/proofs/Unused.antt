@@ -13,8 +13,8 @@ use Rattle.settings.specs.Table.{tableOf}
 use Rattle.settings.specs.Alike.{AlikeEntry, Alike}
 use Rattle.settings.proofs.Tables.{table-cong}
 use Rattle.arrival.specs.Arrive.{World}
-use Rattle.arrival.specs.Alike.{Alike-settings-answer-alike}
-use Rattle.arrival.proofs.Alike.{alike-settings-answer-alike, alike-left, alike-answers, alike-discards}
+use Rattle.arrivals.specs.Alike.{Alike-settings-answer-alike}
+use Rattle.arrivals.proofs.Alike.{alike-settings-answer-alike, alike-left, alike-answers, alike-discards}
 use Rattle.receiver.specs.Receiver.{world}
 use Rattle.batch.specs.Batch.{arrivalsOf, fewer, batchOf}
 use Rattle.layout.specs.Layout.{byteAt, entryFrom, entryIn, countFrom, usedOf, settingsOf, settingsFrom, transferFrom}

@@ -12,8 +12,8 @@ use Rattle.transfer.specs.declared.State.the-variants.{Idle, Done}
 use Rattle.arrival.specs.Arrive.{Lent, World}
 use Rattle.arrival.specs.Lists.{receiveAll, answersOf, discardsOf}
 use Rattle.demand.specs.Demand.{File, ValidFile, Mixed, Sent, seenOf, howMany, isWhole, headIn, Counts, Contents, Ends, Plain, SameSet}
-use Rattle.demand.specs.Regions.{Regions, Complete}
-use Rattle.demand.specs.Stopped.{Stopped, ForeignToBoth, EndsAlike}
+use Rattle.demands.specs.Regions.{Regions, Complete}
+use Rattle.demands.specs.Stopped.{Stopped, ForeignToBoth, EndsAlike}
 use Rattle.receiver.specs.Receiver.{world}
 use Rattle.layout.specs.Layout.{byteAt, settingsFrom, transferFrom, stateBytes}
 use Rattle.batch.specs.Batch.{arrivalsOf, resultsOf, storedFrom}

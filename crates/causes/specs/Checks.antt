@@ -1,6 +1,6 @@
 -- Checks in their order, and which of them decides (02, L6): "first in its row as written (then the first field, map or entry in 01)". A check is the
 -- reason that it is where it decides, and a test of its condition and its numbers tells whether it does. Assumes nothing.
-use Prim.Native.Nat.{ℕ, _+_, _-_, _*_}
+use Prim.Native.Nat.{ℕ}
 use mathlib.Core.Path.{_≡_}
 use mathlib.Core.Bool.{Bool, true, false, cond}
 use mathlib.Core.List.{List, [], _∷_, _++_}
@@ -9,13 +9,9 @@ use Rattle.transfer.specs.declared.Head.{Head}
 use Rattle.transfer.specs.declared.Run.{Run}
 use Rattle.transfer.specs.declared.State.{State}
 use Rattle.transfer.specs.declared.State.the-variants.{Idle, Running, Done}
-use Rattle.screen.specs.declared.Lengths.{Lengths}
-use Rattle.causes.specs.declared.Length.the-variants.{Arrival, FlashRagged, FlashUnder, FlashOver, Seen, Sectors, Main, Xip}
 use Rattle.causes.specs.declared.Bound.the-variants.{CountUnder, CountOver, RunningOver, DoneUnder, DoneOver}
 use Rattle.causes.specs.declared.Magic.the-variants.{First, Second, Last}
-use Rattle.causes.specs.declared.Numbers.the-variants.{TotalZero, TotalPast, NumberPast}
-use Rattle.causes.specs.declared.Address.the-variants.{Below, Ragged, Past, PastWindow}
-use Rattle.causes.specs.declared.Cause.the-variants.{BadBuffers, BadState, NotBlock, Container, NoFamily, BadPayload, BadNumbers, BadAddress}
+use Rattle.causes.specs.declared.Cause.the-variants.{BadState, NotBlock, Container, NoFamily}
 use Rattle.causes.specs.declared.Reason.{Reason}
 use Rattle.causes.specs.declared.Row.{Row}
 use Rattle.causes.specs.declared.Row.the-variants.{Passes, Decides}
@@ -48,27 +44,6 @@ pub data Deciding (test : Reason → Bool) (last : Reason) : List Reason → Rea
 abbrev pub byNumbers : Reason → Bool
 byNumbers r = numberTest (r .cause) (r .got) (r .against)
 
--- ---- row 1: "arrival, flash or a map has a wrong length", then RAM's two (02, L8)
-
-unfoldable pub flashRow : ℕ → List Reason
-flashRow n =
-    reasonWith (BadBuffers FlashRagged) n 4096
-    ∷ reasonWith (BadBuffers FlashUnder) n 4096
-    ∷ reasonWith (BadBuffers FlashOver) n 33554432
-    ∷ []
-
-unfoldable pub bufferRow : ℕ → ℕ → ℕ → ℕ → List Reason
-bufferRow seen sectors main xip =
-    reasonWith (BadBuffers Seen) seen 16384
-    ∷ reasonWith (BadBuffers Sectors) sectors 1024
-    ∷ reasonWith (BadBuffers Main) main 532480
-    ∷ reasonWith (BadBuffers Xip) xip 16384
-    ∷ []
-
-unfoldable pub lengthsRow : ℕ → Lengths → ℕ → ℕ → List Reason
-lengthsRow arrival n seen sectors =
-    reasonWith (BadBuffers Arrival) arrival 512 ∷ (flashRow (n .flash) ++ bufferRow seen sectors (n .main) (n .xip))
-
 -- ---- row 3: "Running without 1 <= count < total <= 131,072; Done without 1 <= total <= 131,072"
 
 unfoldable pub runningRow : Run → List Reason
@@ -100,29 +75,3 @@ flagsRow flags = reasonWith Container flags 0x1000 ∷ reasonWith NoFamily flags
 
 unfoldable pub headerRow : List ℕ → List Reason
 headerRow a = magicRow (fieldAt a 0) (fieldAt a 4) (fieldAt a 508) ++ flagsRow (fieldAt a 8)
-
--- ---- rows 9 to 11
-
--- row 9: "size isn't 256"
-unfoldable pub payloadRow : ℕ → List Reason
-payloadRow size = reasonWith BadPayload size 256 ∷ []
-
--- row 10, in a place or window of `size` bytes: "total 0, total x 256 over the place, or number >= total"
-unfoldable pub numbersRow : ℕ → ℕ → ℕ → List Reason
-numbersRow total number size =
-    reasonWith (BadNumbers TotalZero) total 0
-    ∷ reasonWith (BadNumbers TotalPast) (total * 256) size
-    ∷ reasonWith (BadNumbers NumberPast) number total
-    ∷ []
-
--- row 11, of an address of flash or in no window, beside a place of `size` bytes
-unfoldable pub addressRow : ℕ → ℕ → List Reason
-addressRow address size =
-    reasonWith (BadAddress Below) address 0x10000000
-    ∷ reasonWith (BadAddress Ragged) address 256
-    ∷ reasonWith (BadAddress Past) (address - 0x10000000 + 256) size
-    ∷ []
-
--- row 11, of an address in a window of RAM with this end
-unfoldable pub windowRow : ℕ → ℕ → List Reason
-windowRow address e = reasonWith (BadAddress PastWindow) (address + 256) e ∷ []

@@ -1,14 +1,11 @@
 // Why an arrival is answered as it is: the condition that decided, with the number tested and what it is tested against. Here are the conditions,
-// and the rows that are tests of two numbers each: 1, 3 to 7 and 9 to 11.
+// and the rows of the transfer's state and of a block's header, which are tests of two numbers each: 3 to 7.
 ghost use mathlib.Core.Path.{_≡_};
 ghost use Rattle.causes.specs.Causes.{answerOf, causeNumber, lengthNumber, boundNumber, magicNumber, numbersNumber, addressNumber, notKeptNumber, reasonWith};
-ghost use Rattle.causes.specs.Checks.{byNumbers, rowOf, flashRow, bufferRow, lengthsRow, runningRow, doneRow, stateRow, magicRow, flagsRow, headerRow, payloadRow, numbersRow, addressRow, windowRow};
+ghost use Rattle.causes.specs.Checks.{byNumbers, rowOf, runningRow, doneRow, stateRow, magicRow, flagsRow, headerRow};
 use block::Block;
 use faults::Fault;
-use flash::Flash;
 use placing::Shut;
-use screen::Lengths;
-use screen::Window;
 use transfer::Answer;
 use transfer::Head;
 use transfer::Run;
@@ -243,13 +240,6 @@ pub fn decides(cause: Cause, got: u64, against: u64) -> Row
     Row::Decides(Reason::new(cause, got, against))
 }
 
-// Row 1: this length is wrong.
-fn bad_length(x: Length, got: usize, against: usize) -> Row
-    ensures { λ r. ⌜ r ≡ Row.Decides (reasonWith (Cause.BadBuffers x) got against) ⌝ }
-{
-    decides(Cause::BadBuffers(x), got as u64, against as u64)
-}
-
 // Row 3: this bound is not kept.
 fn bad_state(x: Bound, got: u32, against: u32) -> Row
     ensures { λ r. ⌜ r ≡ Row.Decides (reasonWith (Cause.BadState x) got against) ⌝ }
@@ -262,71 +252,6 @@ fn not_block(x: Magic, got: u32, against: u32) -> Row
     ensures { λ r. ⌜ r ≡ Row.Decides (reasonWith (Cause.NotBlock x) got against) ⌝ }
 {
     decides(Cause::NotBlock(x), got as u64, against as u64)
-}
-
-// Row 10.
-fn bad_numbers(x: Numbers, got: u64, against: u64) -> Row
-    ensures { λ r. ⌜ r ≡ Row.Decides (reasonWith (Cause.BadNumbers x) got against) ⌝ }
-{
-    decides(Cause::BadNumbers(x), got, against)
-}
-
-// Row 11.
-fn bad_address(x: Address, got: u64, against: u64) -> Row
-    ensures { λ r. ⌜ r ≡ Row.Decides (reasonWith (Cause.BadAddress x) got against) ⌝ }
-{
-    decides(Cause::BadAddress(x), got, against)
-}
-
-// ---- row 1
-
-// The flash's length, which a place asked for alone has too.
-pub fn flash_row(len: usize) -> Row
-    ensures { λ r. ⌜ r ≡ rowOf byNumbers (flashRow len) ⌝ }
-{
-    if len % Flash::SECTOR != 0 {
-        return bad_length(Length::FlashRagged, len, Flash::SECTOR);
-    }
-    if len < Flash::MIN {
-        return bad_length(Length::FlashUnder, len, Flash::MIN);
-    }
-    if Flash::MAX < len {
-        return bad_length(Length::FlashOver, len, Flash::MAX);
-    }
-    Row::Passes
-}
-
-// The maps, then the buffers of RAM, which may be empty.
-fn buffer_row(seen: usize, sectors: usize, main: usize, xip: usize) -> Row
-    ensures { λ r. ⌜ r ≡ rowOf byNumbers (bufferRow seen sectors main xip) ⌝ }
-{
-    if seen != 16384 {
-        return bad_length(Length::Seen, seen, 16384);
-    }
-    if sectors != 1024 {
-        return bad_length(Length::Sectors, sectors, 1024);
-    }
-    if (main != 0) & (main != Window::MAIN_RAM) {
-        return bad_length(Length::Main, main, Window::MAIN_RAM);
-    }
-    if (xip != 0) & (xip != Window::XIP_RAM) {
-        return bad_length(Length::Xip, xip, Window::XIP_RAM);
-    }
-    Row::Passes
-}
-
-// Row 1.
-pub fn lengths_row(arrival: usize, lens: Lengths, seen: usize, sectors: usize) -> Row
-    ensures { λ r. ⌜ r ≡ rowOf byNumbers (lengthsRow arrival lens seen sectors) ⌝ }
-{
-    if arrival != Block::ARRIVAL {
-        return bad_length(Length::Arrival, arrival, Block::ARRIVAL);
-    }
-    let r = flash_row(lens.flash);
-    if let Row::Decides(x) = r {
-        return Row::Decides(x);
-    }
-    buffer_row(seen, sectors, lens.main, lens.xip)
 }
 
 // ---- row 3
@@ -415,63 +340,4 @@ pub fn header_row(arrival: &[u8]) -> Row
         return Row::Decides(x);
     }
     flags_row(block::field(arrival, 8))
-}
-
-// ---- rows 9 to 11
-
-// Row 9.
-pub fn payload_row(size: u32) -> Row
-    ensures { λ r. ⌜ r ≡ rowOf byNumbers (payloadRow size) ⌝ }
-{
-    if size as usize != Flash::PAYLOAD {
-        return decides(Cause::BadPayload, size as u64, Flash::PAYLOAD as u64);
-    }
-    Row::Passes
-}
-
-// Row 10, in a place or a window of so many bytes. The product is of 64 bits, since it may pass 32.
-pub fn numbers_row(total: u32, number: u32, size: usize) -> Row
-    ensures { λ r. ⌜ r ≡ rowOf byNumbers (numbersRow total number size) ⌝ }
-{
-    let bytes = total as u64 * 256;
-    if total == 0 {
-        return bad_numbers(Numbers::TotalZero, total as u64, 0);
-    }
-    if (size as u64) < bytes {
-        return bad_numbers(Numbers::TotalPast, bytes, size as u64);
-    }
-    if total <= number {
-        return bad_numbers(Numbers::NumberPast, number as u64, total as u64);
-    }
-    Row::Passes
-}
-
-// Row 11, of an address of flash or in no window, beside a place of so many bytes. The sum is of 64 bits, since it may pass 32.
-pub fn address_row(address: u32, size: usize) -> Row
-    ensures { λ r. ⌜ r ≡ rowOf byNumbers (addressRow address size) ⌝ }
-{
-    let at = address as u64;
-    if at < 0x10000000 {
-        return bad_address(Address::Below, at, 0x10000000);
-    }
-    if at % 256 != 0 {
-        return bad_address(Address::Ragged, at, 256);
-    }
-    let low = at - 0x10000000;
-    let past = low + 256;
-    if (size as u64) < past {
-        return bad_address(Address::Past, past, size as u64);
-    }
-    Row::Passes
-}
-
-// Row 11, of an address in a RAM window that ends at `end`.
-pub fn window_row(address: u32, end: usize) -> Row
-    ensures { λ r. ⌜ r ≡ rowOf byNumbers (windowRow address «end») ⌝ }
-{
-    let past = address as u64 + 256;
-    if (end as u64) < past {
-        return bad_address(Address::PastWindow, past, end as u64);
-    }
-    Row::Passes
 }

@@ -1,9 +1,9 @@
 -- Rows 12 to 17 by cases, as the code asks them. Assumes nothing.
 use mathlib.Core.Path.{_≡_, refl, sym, ap, _∙_}
-use mathlib.Core.Bool.{Bool, true, false, cond, _&&_, not}
+use mathlib.Core.Bool.{Bool, true, false, cond}
 use mathlib.Core.Logic.{_≢_}
 use mathlib.Core.List.{List}
-use Prim.Native.Nat.{ℕ, _+_, _<_, _≤_}
+use Prim.Native.Nat.{ℕ, _<_, _≤_}
 use lib.Dec.{leb}
 use borrow.Author.Tests.{eq-eqb, ne-eqb, le-leb, lt-leb}
 use Rattle.bitmap.specs.Bitmap.{markedIn}
@@ -16,15 +16,14 @@ use Rattle.screen.specs.Screen.{windowOf, windowKind, noteKind}
 use Rattle.screen.specs.declared.Lengths.{Lengths}
 use Rattle.screen.specs.declared.Window.{Window}
 use Rattle.place.specs.declared.Place.{Place}
-use Rattle.transfer.specs.Transfer.{sameKind, sameHead}
+use Rattle.transfer.specs.Transfer.{sameKind}
 use Rattle.transfer.specs.declared.Kind.{Kind}
 use Rattle.transfer.specs.declared.Kind.the-variants.{Flash}
 use Rattle.transfer.specs.declared.Head.{Head}
-use Rattle.transfer.specs.declared.Run.{Run}
 use Rattle.transfer.specs.declared.State.{State}
-use Rattle.transfer.specs.declared.State.the-variants.{Running}
 use Rattle.causes.specs.Causes.{reasonWith}
-use Rattle.causes.specs.Checks.{byNumbers, rowOf, orNext, orLast, numbersRow}
+use Rattle.causes.specs.Checks.{byNumbers, rowOf, orNext, orLast}
+use Rattle.numberrows.specs.Numbers.{numbersRow}
 use Rattle.causes.specs.declared.NotKept.the-variants.{NoRegion, InRam, Ragged, Empty, OutsidePlace, NotAround, OtherDigest}
 use Rattle.causes.specs.declared.Cause.the-variants.{Finished, Again, Written, Completed, Noted, Kept}
 use Rattle.causes.specs.declared.Reason.{Reason}
@@ -56,24 +55,6 @@ module _ (n : Lengths) (t : State) (b : Block) where
   pub kind-page : b .comment ≡ false → {u : Window} → u ≡ windowOf n (b .address) → {k : Kind} → k ≡ windowKind u → k ≡ kindOf n t b
   unfolding kindOf
   kind-page h q e = e ∙ (ap windowKind q ∙ ap (λ (x : Bool). cond x (noteKind n t b) (windowKind (windowOf n (b .address)))) (sym h))
-
--- ---- the transfer
-
-module _ (h g : Head) where
-  pub again-running : (m : Bool) {b : Bool} → b ≡ sameHead h g → b && m ≡ sameHead h g && m
-  again-running m e = ap (λ (x : Bool). x && m) e
-
-  pub other-running : {b : Bool} → b ≡ sameHead h g → not b ≡ not (sameHead h g)
-  other-running e = ap not e
-
-module _ (r : Run) (g : Head) where
-  pub raised-same : sameHead (r .head) g ≡ true → r .count + 1 ≡ raisedOf (Running r) g
-  unfolding raisedOf
-  raised-same h = rw h
-
-  pub raised-other : sameHead (r .head) g ≡ false → 1 ≡ raisedOf (Running r) g
-  unfolding raisedOf
-  raised-other h = rw h
 
 -- ---- rows 12, 13, 15 and 16
 

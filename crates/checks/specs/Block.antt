@@ -1,8 +1,8 @@
 -- Rows 9 to 17 of a block, each check with the numbers that it tests, and what the checks from 12 on ask of the transfer and the block (02, L6).
 -- Assumes nothing.
 use Prim.Native.Nat.{ℕ, _+_, _-_, _%_}
-use mathlib.Core.Bool.{Bool, true, false, _&&_, not, cond}
-use mathlib.Core.List.{List, [], _∷_, _++_}
+use mathlib.Core.Bool.{Bool, _&&_, not, cond}
+use mathlib.Core.List.{List, [], _∷_}
 use lib.Dec.{leb, eqb}
 use Rattle.block.specs.Block.{fieldAt, hasFlag}
 use Rattle.block.specs.Region.{regionOf}
@@ -11,22 +11,23 @@ use Rattle.block.specs.declared.Region.{Region}
 use Rattle.region.specs.Regions.{standsIn}
 use Rattle.place.specs.declared.Place.{Place}
 use Rattle.place.specs.declared.Place.the-variants.{Nowhere, At}
-use Rattle.transfer.specs.Transfer.{sameKind, sameHead}
+use Rattle.transfer.specs.Transfer.{sameKind}
 use Rattle.transfer.specs.declared.Kind.{Kind}
 use Rattle.transfer.specs.declared.Kind.the-variants.{Flash, MainRam, XipRam}
 use Rattle.transfer.specs.declared.Head.{Head}
 use Rattle.transfer.specs.declared.State.{State}
-use Rattle.transfer.specs.declared.State.the-variants.{Idle, Running, Done}
-use Rattle.screen.specs.Screen.{baseOf, extentOf, windowOf, windowKind, noteKind}
+use Rattle.screen.specs.Screen.{extentOf, windowOf, windowKind, noteKind}
 use Rattle.screen.specs.declared.Lengths.{Lengths}
-use Rattle.screen.specs.declared.Window.{Window}
-use Rattle.screen.specs.declared.Window.the-variants.{Outside, In}
 use Rattle.causes.specs.Causes.{reasonWith}
-use Rattle.causes.specs.Checks.{payloadRow, numbersRow, addressRow, windowRow}
+use Rattle.numberrows.specs.Numbers.{numbersRow}
 use Rattle.causes.specs.declared.NotKept.{NotKept}
 use Rattle.causes.specs.declared.NotKept.the-variants.{NoRegion, InRam, Ragged, Empty, OutsidePlace, NotAround, OtherDigest}
 use Rattle.causes.specs.declared.Cause.the-variants.{Finished, Again, Written, Completed, Noted}
 use Rattle.causes.specs.declared.Reason.{Reason}
+-- rows 9 to 11 of a data block, and how a transfer stands beside a block
+unfoldable pub use Rattle.pagerow.specs.Pages.{addressIn, pageRow}
+unfoldable pub use Rattle.progress.specs.Progress.{raisedOf}
+pub use Rattle.progress.specs.Progress.{isDone, isAgain, runsOther}
 
 -- ---- rows 9 to 11
 
@@ -45,17 +46,6 @@ roomOf p Flash = sizeAt p
 roomOf p MainRam = extentOf MainRam
 roomOf p XipRam = extentOf XipRam
 
--- row 11, of a data block in the window of its kind
-unfoldable pub addressIn : Kind → ℕ → ℕ → List Reason
-addressIn Flash address size = addressRow address size
-addressIn MainRam address size = windowRow address (baseOf MainRam + extentOf MainRam)
-addressIn XipRam address size = windowRow address (baseOf XipRam + extentOf XipRam)
-
--- rows 9 to 11, of a data block; "For an address in no window .. 11 comes before 10" (02, L8)
-unfoldable pub pageRow : Window → ℕ → Block → List Reason
-pageRow Outside size b = payloadRow (b .size) ++ (addressRow (b .address) size ++ numbersRow (b .total) (b .number) size)
-pageRow (In k) size b = payloadRow (b .size) ++ (numbersRow (b .total) (b .number) size ++ addressIn k (b .address) size)
-
 -- the kind of a block: a comment's as 02 (L8) says, a data block's by its window, and "For an address in no window check 8 is flash's"
 unfoldable pub kindOf : Lengths → State → Block → Kind
 kindOf n t b = cond (b .comment) (noteKind n t b) (windowKind (windowOf n (b .address)))
@@ -65,12 +55,6 @@ unfoldable pub bodyRow : ℕ → Lengths → Block → List Reason
 bodyRow size n b = cond (b .comment) (numbersRow (b .total) (b .number) size) (pageRow (windowOf n (b .address)) size b)
 
 -- ---- rows 12 to 17
-
--- "the raised count (..; from 0 where the maps are cleared)"; of a transfer that is done row 12 decides, and nothing is raised
-unfoldable pub raisedOf : State → Head → ℕ
-raisedOf Idle g = 1
-raisedOf (Running r) g = cond (sameHead (r .head) g) (r .count + 1) 1
-raisedOf (Done h) g = 1
 
 -- rows 12 and 13, of a block with this number; then 15 and, of a comment, 16
 unfoldable pub fateRow : State → Head → ℕ → List Reason
@@ -96,18 +80,6 @@ writtenRow raised total =
 
 -- ---- what the checks from 12 on ask
 
--- "transfer Done"
-abbrev pub isDone : State → Bool
-isDone Idle = false
-isDone (Running r) = false
-isDone (Done g) = true
-
--- "Running, same family and total, number marked", and the same kind (02, L8)
-abbrev pub isAgain : State → Head → Bool → Bool
-isAgain Idle g marked = false
-isAgain (Running r) g marked = sameHead (r .head) g && marked
-isAgain (Done h) g marked = false
-
 -- a condition of L9 on region g is not met, of a block at this address, in a place of `size` bytes that starts at `start` in the flash
 abbrev pub ragged : Region → Bool
 ragged g = not (eqb (g .start % 4096) 0 && eqb (g .len % 4096) 0)
@@ -127,9 +99,3 @@ notKept flash start size k a Empty = eqb (regionOf a .len) 0
 notKept flash start size k a OutsidePlace = not (within size (regionOf a))
 notKept flash start size k a NotAround = not (around (fieldAt a 12) (regionOf a))
 notKept flash start size k a OtherDigest = not (standsIn flash start (regionOf a))
-
--- a running transfer of another head, which an accepted block discards
-abbrev pub runsOther : State → Head → Bool
-runsOther Idle g = false
-runsOther (Running r) g = not (sameHead (r .head) g)
-runsOther (Done h) g = false

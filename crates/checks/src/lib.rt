@@ -2,7 +2,7 @@
 ghost use mathlib.Core.Path.{_≡_};
 ghost use Rattle.causes.specs.Causes.{reasonWith};
 ghost use Rattle.causes.specs.Checks.{byNumbers, rowOf};
-ghost use Rattle.checks.specs.Block.{startAt, sizeAt, roomOf, addressIn, pageRow, kindOf, bodyRow, raisedOf, isDone, isAgain, within, around, runsOther};
+ghost use Rattle.checks.specs.Block.{startAt, sizeAt, roomOf, kindOf, bodyRow, within, around};
 ghost use Rattle.checks.specs.Parts.{fatePart, regionPart, writtenPart, latePart};
 use block::Block;
 use block::Region;
@@ -16,16 +16,10 @@ use screen::Lengths;
 use screen::Window;
 use transfer::Head;
 use transfer::Kind;
-use transfer::State;
 use transfer::Transfer;
 
 // Where the address window begins, which is where a place's first byte is seen.
 const WINDOW: usize = 0x10000000;
-
-// Where the windows of RAM end.
-const MAIN_END: usize = 0x20082000;
-
-const XIP_END: usize = 0x14000000;
 
 // ---- rows 9 to 11
 
@@ -58,65 +52,15 @@ pub fn room_of(place: Place, kind: Kind) -> usize
     }
 }
 
-// Row 11 of a data block in the window of its kind.
-fn address_in(kind: Kind, address: u32, size: usize) -> Row
-    ensures { λ r. ⌜ r ≡ rowOf byNumbers (addressIn kind address size) ⌝ }
-{
-    match kind {
-        Kind::Flash => causes::address_row(address, size),
-        Kind::MainRam => causes::window_row(address, MAIN_END),
-        Kind::XipRam => causes::window_row(address, XIP_END),
-    }
-}
-
-// Rows 9 to 11 of a data block in a window.
-fn inside_row(kind: Kind, size: usize, b: Block) -> Row
-    ensures { λ r. ⌜ r ≡ rowOf byNumbers (pageRow (Window.In kind) size b) ⌝ }
-{
-    let payload = causes::payload_row(b.size);
-    if let Row::Decides(x) = payload {
-        return Row::Decides(x);
-    }
-    let numbers = causes::numbers_row(b.total, b.number, size);
-    if let Row::Decides(y) = numbers {
-        return Row::Decides(y);
-    }
-    address_in(kind, b.address, size)
-}
-
-// Rows 9, 11 and 10 of a data block in no window.
-fn outside_row(size: usize, b: Block) -> Row
-    ensures { λ r. ⌜ r ≡ rowOf byNumbers (pageRow Window.Outside size b) ⌝ }
-{
-    let payload = causes::payload_row(b.size);
-    if let Row::Decides(x) = payload {
-        return Row::Decides(x);
-    }
-    let address = causes::address_row(b.address, size);
-    if let Row::Decides(y) = address {
-        return Row::Decides(y);
-    }
-    causes::numbers_row(b.total, b.number, size)
-}
-
-fn page_row(window: Window, size: usize, b: Block) -> Row
-    ensures { λ r. ⌜ r ≡ rowOf byNumbers (pageRow window size b) ⌝ }
-{
-    match window {
-        Window::Outside => outside_row(size, b),
-        Window::In(kind) => inside_row(kind, size, b),
-    }
-}
-
 // Rows 9 to 11; of a comment row 10 alone.
 pub fn body_row(size: usize, lens: Lengths, b: Block) -> Row
     ensures { λ r. ⌜ r ≡ rowOf byNumbers (bodyRow size lens b) ⌝ }
 {
     if b.comment {
-        return causes::numbers_row(b.total, b.number, size);
+        return numberrows::numbers_row(b.total, b.number, size);
     }
     let window = screen::window_of(lens, b.address as usize);
-    page_row(window, size, b)
+    pagerow::page_row(window, size, b)
 }
 
 // The kind of a block.
@@ -132,77 +76,18 @@ pub fn kind_of(lens: Lengths, transfer: Transfer, b: Block) -> Kind
 
 // ---- rows 12 to 17
 
-fn is_done(transfer: Transfer) -> bool
-    ensures { λ r. ⌜ r ≡ isDone (transfer .state) ⌝ }
-{
-    let state = transfer.state;
-    match state {
-        State::Idle => false,
-        State::Running(_) => false,
-        State::Done(_) => true,
-    }
-}
-
-// Does the block belong to the running transfer, with a number that is marked?
-fn is_again(transfer: Transfer, head: Head, marked: bool) -> bool
-    ensures { λ r. ⌜ r ≡ isAgain (transfer .state) head marked ⌝ }
-{
-    let state = transfer.state;
-    match state {
-        State::Idle => false,
-        State::Running(run) => {
-            let current = run.head;
-            transfer::same_head(current, head) & marked
-        }
-        State::Done(_) => false,
-    }
-}
-
-// The count once the block is counted; where it begins a transfer it is the first. It may not fit 32 bits.
-fn raised(transfer: Transfer, head: Head) -> u64
-    ensures { λ r. ⌜ r ≡ raisedOf (transfer .state) head ⌝ }
-{
-    let state = transfer.state;
-    match state {
-        State::Idle => 1,
-        State::Running(run) => {
-            let current = run.head;
-            if transfer::same_head(current, head) {
-                return run.count as u64 + 1;
-            }
-            1
-        }
-        State::Done(_) => 1,
-    }
-}
-
-// Would the block discard a running transfer?
-pub fn runs_other(transfer: Transfer, head: Head) -> bool
-    ensures { λ r. ⌜ r ≡ runsOther (transfer .state) head ⌝ }
-{
-    let state = transfer.state;
-    match state {
-        State::Idle => false,
-        State::Running(run) => {
-            let current = run.head;
-            !transfer::same_head(current, head)
-        }
-        State::Done(_) => false,
-    }
-}
-
 // Rows 12, 13, 15 and 16.
 fn fate_row(transfer: Transfer, head: Head, number: u32, marked: bool, comment: bool) -> Row
     ensures { λ r. ⌜ r ≡ fatePart (transfer .state) head number marked comment ⌝ }
 {
     let total = head.total as u64;
-    if is_done(transfer) {
+    if progress::is_done(transfer) {
         return causes::decides(Cause::Finished, number as u64, total);
     }
-    if is_again(transfer, head, marked) {
+    if progress::is_again(transfer, head, marked) {
         return causes::decides(Cause::Again, number as u64, total);
     }
-    let count = raised(transfer, head);
+    let count = progress::raised(transfer, head);
     if total <= count {
         return causes::decides(Cause::Completed, count, total);
     }
@@ -315,7 +200,7 @@ pub fn late(
     if let Row::Decides(x) = fate {
         return x;
     }
-    let count = raised(transfer, head);
+    let count = progress::raised(transfer, head);
     let total = head.total as u64;
     let kind = head.kind;
     let start = start_at(place);

@@ -178,7 +178,7 @@ fn put_line(out: &mut [u8], at: usize, state: Scan, kind: u8, line: &[u8]) -> St
     let plain = state.plain;
     let tally = state.tally;
     let word = record::word(data[0], data[1]);
-    let taken = plain.line(line.len(), parsed, word);
+    let taken = plainline::line(plain, line.len(), parsed, word);
     match taken {
         Taken::Refused(answer) => Step::Stop(answer),
         Taken::Passed(next) => Step::On(Scan { plain: next, tally }),

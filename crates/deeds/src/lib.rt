@@ -19,7 +19,7 @@ fn stands_in(start: usize, size: usize, flash: &[u8], arrival: &[u8]) -> bool
     }
     let region = block::read_region(arrival);
     let address = block::field(arrival, 12);
-    if !region::good(region, size, address) {
+    if !covering::good(region, size, address) {
         return false;
     }
     region::stands(flash, start, region)

@@ -24,8 +24,8 @@ use Rattle.arrival.specs.Arrive.{World, lengthsOf}
 use Rattle.arrival.specs.Windows.{lies}
 use Rattle.arrival.specs.Lists.{receiveAll}
 use Rattle.demand.specs.Demand.{File, ValidFile, Foreign, Sent, Mixed, nothing, own, isData, addressOf, answerNumber, sameBytes, among, seenOf, startOf, originOf, storageOf, Plain, Ends, List-ends}
-use Rattle.arrival.proofs.Screening.{Board}
-use Rattle.arrival.proofs.DecisionFacts.{right-true}
+use Rattle.arrivals.proofs.Screening.{Board}
+use Rattle.arrivals.proofs.DecisionFacts.{right-true}
 use Rattle.demand.proofs.Demand.{list-ends}
 use Rattle.uf2file.specs.Uf2file.{pageOf, makeOf}
 use Rattle.uf2file.specs.Claims.{Reads}

@@ -24,8 +24,8 @@ use Rattle.screen.specs.declared.Screening.the-variants.{Passed}
 use Rattle.arrival.specs.Arrive.{World, lengthsOf, rightLengths, afterScreening, deedOf, receiveOf}
 use Rattle.arrival.specs.Windows.{lies}
 use Rattle.demand.specs.Demand.{File, ValidFile, isData, addressOf, answerNumber}
-use Rattle.arrival.proofs.Screening.{Board, lens}
-use Rattle.arrival.proofs.DecisionFacts.{board-decides, right-true, step-late}
+use Rattle.arrivals.proofs.Screening.{Board, lens}
+use Rattle.arrivals.proofs.DecisionFacts.{board-decides, right-true, step-late}
 use Rattle.uf2file.specs.Uf2file.{pageOf, makeOf}
 use Rattle.uf2file.specs.Claims.{Reads}
 use Rattle.uf2file.proofs.Checks.{Right, made-right}

@@ -18,9 +18,10 @@ use Rattle.screen.specs.declared.Lengths.{Lengths}
 use Rattle.arrival.specs.Arrive.{Held, World, bufferOf, lengthsOf}
 use Rattle.demand.specs.Demand.{File, isData, changedBy, Contents}
 use Rattle.arrival.proofs.Count.{Blocks, count}
-use Rattle.arrival.proofs.Cells.{touched, cell, cell-owned, cell-free}
+use Rattle.arrivals.proofs.Cells.{touched, cell, cell-owned, cell-free}
 use Rattle.arrival.proofs.Heads.{same-kind}
-use Rattle.arrival.proofs.Effect.{lengthIn, length-in, payloadIn, kindIn, spans-is, Valid, layout, sectorsOf, owned-touches, apart-of}
+use Rattle.arrival.proofs.Paged.{lengthIn, length-in}
+use Rattle.arrivals.proofs.Effect.{payloadIn, kindIn, spans-is, Valid, layout, sectorsOf, owned-touches, apart-of}
 use Rattle.demand.proofs.Files.{blocksOf}
 
 any-each : (n : ℕ) (c : Bool) (S P : Set) → any n (λ k. S k && (c && P k)) ≡ c && any n (λ k. S k && P k)

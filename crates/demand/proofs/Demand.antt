@@ -30,12 +30,13 @@ use Rattle.transfer.specs.declared.State.the-variants.{Idle}
 use Rattle.screen.specs.declared.Lengths.{Lengths}
 use Rattle.arrival.specs.Arrive.{Held, World, Outcome, bufferOf, lengthsOf, standsAt, doneTo, receiveOf}
 use Rattle.arrival.specs.Lists.{receiveAll, answersOf}
-use Rattle.arrival.specs.Kept.{soft}
+use Rattle.arrivals.specs.Kept.{soft}
 use Rattle.demand.specs.Demand.{File, answerNumber, ValidFile, Foreign, Sent, nothing, own, other, seenOf, isWhole, unfinished, replyTo, withArrival, repliesTo, Counts, Ends, sizeOf, Plain, List-counts, Other-kinds-stay, List-answers, List-ends, Plain-answers, isCompleted, Completed-exactly, SameSet, Same-set-same-end, Either-first, Same-count, Same-set-same-count, Either-first-same-count}
 use Rattle.arrival.proofs.Pages.{apply}
 use Rattle.arrival.proofs.Count.{Blocks, count, headBy, deedBy, Any, Invariant, After, untouched, begun, verdict, Stepped, nothing-seen, some-seen, still-running, whole-done, seen-map, after-carried, invariant-of, after, after-is}
-use Rattle.arrival.proofs.Cells.{cell, cell-none, getD-buffer}
-use Rattle.arrival.proofs.Effect.{kindIn, Valid, layout, sectorsOf, Unkept, paged-other, effect, effect-buffer, lengths-effect, grows}
+use Rattle.arrivals.proofs.Cells.{cell, cell-none, getD-buffer}
+use Rattle.arrivals.proofs.Effect.{kindIn, Valid, layout, sectorsOf, Unkept, effect, effect-buffer, lengths-effect, grows}
+use Rattle.arrival.proofs.Paged.{paged-other}
 use Rattle.arrival.proofs.Facts.{wiped-buffer}
 use Rattle.demand.proofs.Contents.{byteIn, As, touchedIn, sectors-in, contents-of}
 use Rattle.demand.proofs.Lists.{Reached, reached-next, reached-after}

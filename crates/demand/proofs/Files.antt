@@ -35,9 +35,10 @@ use Rattle.arrival.proofs.Heads.{kind-same}
 use Rattle.arrival.proofs.Windows.{window-one, lies-true}
 use Rattle.arrival.proofs.Pages.{arrive}
 use Rattle.arrival.proofs.Count.{Blocks, bodyOf, placedOf, Opens, Carried}
-use Rattle.arrival.proofs.Effect.{Fits, Valid, spans-true, spans-is}
-use Rattle.arrival.proofs.Screening.{flashOf, lens, Board, Passing, Good, screen-good, screen-turn, note-counted, room-origin, passing-few, passing-fits}
-use Rattle.arrival.proofs.DecisionFacts.{Rows, stopped, through, rows, raised-number}
+use Rattle.arrival.proofs.Paged.{Fits}
+use Rattle.arrivals.proofs.Effect.{Valid, spans-true, spans-is}
+use Rattle.arrivals.proofs.Screening.{flashOf, lens, Board, Passing, Good, screen-good, screen-turn, note-counted, room-origin, passing-few, passing-fits}
+use Rattle.arrivals.proofs.DecisionFacts.{Rows, stopped, through, rows, raised-number}
 use Rattle.demand.proofs.Lists.{receive-refused, receive-passed, Reached}
 use Rattle.demand.proofs.Runs.{Steady}
 

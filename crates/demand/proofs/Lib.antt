@@ -1,8 +1,5 @@
-mod Lists
+pub mod Lists
 pub mod Runs
-mod Files
-mod Contents
-mod Guards
+pub mod Files
+pub mod Contents
 pub mod Demand
-pub mod Regions
-pub mod Stopped

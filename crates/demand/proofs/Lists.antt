@@ -19,10 +19,10 @@ use Rattle.screen.specs.declared.Screening.the-variants.{Refused, Passed}
 use Rattle.arrival.specs.Arrive.{World, Decision, ramLength, standing, afterScreening, acceptOf, unchanged, done, receiveOf}
 use Rattle.arrival.specs.Facts.{Arrivals-keep-lengths}
 use Rattle.arrival.specs.Lists.{receiveAll}
-use Rattle.arrival.specs.Tally.{clears}
+use Rattle.arrivals.specs.Tally.{clears}
 use Rattle.arrival.proofs.Pages.{arrive}
-use Rattle.arrival.proofs.Screening.{lens, Board, passing-few}
-use Rattle.arrival.proofs.DecisionFacts.{board-decides, DecisionFacts, kept, took, decision-facts, counted-good}
+use Rattle.arrivals.proofs.Screening.{lens, Board, passing-few}
+use Rattle.arrivals.proofs.DecisionFacts.{board-decides, DecisionFacts, kept, took, decision-facts, counted-good}
 use Rattle.arrival.proofs.Facts.{arrivals-keep-lengths}
 
 -- ---- an arrival that has passed rows 1 to 3, by what it is screened to

@@ -29,7 +29,7 @@ use Rattle.transfer.specs.declared.Answer.the-variants.{Finished, Again, Writte
 use Rattle.arrival.specs.Arrive.{World, bufferOf, lengthsOf, outcomeNumber, receiveOf}
 use Rattle.arrival.specs.Windows.{windowStart, lies}
 use Rattle.arrival.specs.Lists.{receiveAll, answersOf}
-use Rattle.arrival.specs.Kept.{soft}
+use Rattle.arrivals.specs.Kept.{soft}
 pub use Rattle.arrival.specs.File.{File, isData, headIn, isFound, startOf, originOf}
 
 -- ---- a valid file

@@ -1,3 +1,1 @@
 pub mod Demand
-pub mod Regions
-pub mod Stopped

@@ -11,18 +11,14 @@ use Rattle.transfer.specs.declared.Accepted.{Accepted}
 use Rattle.screen.specs.declared.Placed.{Placed}
 use Rattle.arrival.specs.Arrive.{Held, World, accepts, clearedIf, wipedIf, pagedAt, atOf, doneTo, acceptOf}
 use Rattle.plan.specs.declared.Plan.{Plan}
-use Rattle.plan.specs.Plan.{SectorPaged, sectorPaged, sectorPagedOf, deedPlan, decisionPlan, withFlash}
-use Rattle.entering.specs.Entering.{Beside, beside, besideOf, Writing, writing, sectorWriting, deedWriting, Entering, entering, enteringOf}
+use Rattle.plan.specs.Plan.{deedPlan, decisionPlan, withFlash}
+use Rattle.entering.specs.Entering.{Beside, beside, besideOf, Writing, writing, deedWriting, Entering, entering, enteringOf}
 
 -- ---- what the code writes, call by call
 
--- a page of flash does not ask for RAM, nor change it
-pub sector-beside : (at : ℕ) (k u x : List ℕ) {k1 : List ℕ} {r : Plan} → sectorPaged r k1 ≡ sectorPagedOf at k → writing r (beside k1 u x) ≡ sectorWriting at (beside k u x)
-sector-beside at k u x e = ap (λ (w : SectorPaged). writing (w .plan) (beside (w .sectors) u x)) e
-
-pub enters : (p : Placed) (d : Deed) (t : Accepted) (payload m k u x : List ℕ) {at : ℕ} {k1 m1 m2 : List ℕ} {r : Plan} {h : Beside} → at ≡ atOf (p .body) → k1 ≡ clearedIf (t .clears) k → m1 ≡ clearedIf (t .clears) m → writing r h ≡ deedWriting d (p .head .kind) at payload (beside k1 u x) → m2 ≡ withMark m1 (p .number) → entering r m2 h ≡ enteringOf p d t payload m (beside k u x)
+pub enters : (p : Placed) (d : Deed) (t : Accepted) (payload m k u x : List ℕ) {at : ℕ} {k1 m1 m2 : List ℕ} {r : Plan} {h : Beside} → at ≡ atOf (p .body) → (m1 ≡ clearedIf (t .clears) m) × (k1 ≡ clearedIf (t .clears) k) → writing r h ≡ deedWriting d (p .head .kind) at payload (beside k1 u x) → m2 ≡ withMark m1 (p .number) → entering r m2 h ≡ enteringOf p d t payload m (beside k u x)
 unfolding enteringOf
-enters p d t payload m k u x at wiped cleared written marked = cc
+enters p d t payload m k u x at (cleared, wiped) written marked = cc
 
 -- ---- what the code writes is what the meaning has
 

@@ -7,7 +7,7 @@ use mathlib.Core.List.{List, [], _∷_, _++_, map}
 use native.Mathlib.Nat.{le-of-suc-le-suc, not-suc-le-zero, eq-or-lt-of-le, le-refl, le-step}
 use native.Mathlib.Numerals.{add-one}
 use native.Mathlib.Omega.{arith}
-use lib.Dec.{ltb, leb, eqb}
+use lib.Dec.{ltb, leb}
 use lib.ListN.{length, getD, length-map, List·getD-eq-default}
 use borrow.Author.Tests.{ne-eqb, eq-eqb, lt-ltb, le-ltb}
 use Rattle.sets.specs.Sets.{any, least}
@@ -15,7 +15,7 @@ use Rattle.sets.proofs.Tests.{split, is-false, clash, and-right}
 use Rattle.sets.proofs.Laws.{any-none, any-all, any-found, any-hit, least-below, least-none}
 use Rattle.settings.specs.declared.Entry.{Entry}
 use Rattle.settings.specs.declared.Settings.{Settings}
-use Rattle.settings.specs.Settings.{isA, isUnowned, linkTarget, emptyEntry, isReserved, reservedAt, entryAt, overlapAt, sharesWith, noSectors, runsPast, linksUp, linksToB, manyUsers, reservedUser, countOver, enabled}
+use Rattle.settings.specs.Settings.{isA, isUnowned, linkTarget, emptyEntry, isReserved, reservedAt, entryAt, sharesWith, noSectors, runsPast, linksUp, linksToB, manyUsers, reservedUser, countOver, enabled}
 use Rattle.faults.specs.declared.Fault.{Fault}
 use Rattle.faults.specs.declared.Fault.the-variants.{ArchOff, CountOver, NoSectors, PastFlash, Shares, LinksUp, LinksToB, ManyUsers, ReservedUser}
 use Rattle.faults.specs.declared.Finding.{Finding}
@@ -76,10 +76,6 @@ reserved-user e =
 pub least-most : (P : ℕ → Bool) (n : ℕ) → least n P ≤ n
 least-most P n = split (any n P) (λ h. omega (arith, least-below P n h .0)) (λ h. omega (arith, least-none P n h))
 
--- another entry, by what the code asks
-pub other-shares : (table : List Entry) (k j : ℕ) {b v : Bool} → b ≡ overlapAt table k j → not (eqb j k) && b ≡ v → sharesWith table k j ≡ v
-other-shares table k j h t = ap (λ (b : Bool). not (eqb j k) && b) (sym h) ∙ t
-
 pub shared-by : (table : List Entry) (n k j : ℕ) → j ≡ least n (sharesWith table k) → badIf (ltb j n) (Shares k j) ≡ firstShared table n k
 unfolding firstShared
 shared-by table n k j h =
@@ -100,6 +96,12 @@ module _ (table : List Entry) (k : ℕ) where
 
   pub up-by : {u : Bool} {j : ℕ} → u ≡ isUnowned (entryAt table k) → j ≡ linkTarget (entryAt table k .link) → not u && leb k j ≡ linksUp table k
   up-by h e = rw (h, e)
+
+  -- past the table's end no entry is linked
+  pub link-from-past : length table ≡ 16 → 16 ≤ k → false ≡ linksToB table k
+  link-from-past l h =
+      let e : entryAt table k ≡ emptyEntry = List·getD-eq-default table emptyEntry (omega (arith, l, h)) in
+      rw e
 
   -- past the table's end there is no entry that is "B of"
   pub link-past : length table ≡ 16 → 16 ≤ linkTarget (entryAt table k .link) → false ≡ linksToB table k

@@ -20,7 +20,7 @@ use Rattle.arrival.specs.Arrive.{World, receiveOf}
 use Rattle.arrival.specs.Lists.{answersOf, discardsOf}
 use Rattle.counts.specs.Counts.{sumTo, slotOf, countOne, countAll, howManyYes}
 use Rattle.counts.proofs.Sums.{sum-raised, slot-low, length-one}
-use Rattle.report.proofs.Adds.{number-range}
+use Rattle.adding.proofs.Adds.{number-range}
 use Rattle.figures.specs.Claims.{sumOf, timesOf, timesYes, placeOf}
 
 -- ---- no two answers have one slot

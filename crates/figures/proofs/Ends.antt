@@ -21,13 +21,13 @@ use Rattle.transfer.specs.declared.State.the-variants.{Idle, Running, Done}
 use Rattle.flash.specs.Flash.{payloadOf}
 use Rattle.arrival.specs.Arrive.{Lent, World, Decision, acceptOf, done, receiveOf}
 use Rattle.arrival.specs.Lists.{receiveAll}
-use Rattle.arrival.specs.Tally.{clears}
-use Rattle.arrival.proofs.DecisionFacts.{DecisionFacts, kept, took, decision-facts}
+use Rattle.arrivals.specs.Tally.{clears}
+use Rattle.arrivals.proofs.DecisionFacts.{DecisionFacts, kept, took, decision-facts}
 use Rattle.replay.specs.Replay.{begun, replayOf}
 use Rattle.replays.specs.Claims.{Ends-before-the-stop}
 use Rattle.replays.proofs.Replays.{ends-before-the-stop}
 use Rattle.counts.specs.Counts.{isMissing, missingAt}
-use Rattle.report.proofs.Adds.{replay-count}
+use Rattle.adding.proofs.Adds.{replay-count}
 use Rattle.figures.specs.Claims.{arrivalsIn, MissingFacts}
 
 -- ---- the count of a running transfer is below its total

@@ -16,11 +16,11 @@ use Rattle.arrival.specs.Lists.{answersOf, discardsOf}
 use Rattle.replay.specs.Replay.{begun, replayOf}
 use Rattle.piece.specs.declared.Stop.{Stop}
 use Rattle.counts.specs.declared.Report.{Report}
-use Rattle.report.specs.declared.FiguresAnswer.{FiguresAnswer}
-use Rattle.report.specs.declared.FiguresAnswer.the-variants.{BadReport, TooMany, Replayed}
+use Rattle.adding.specs.declared.FiguresAnswer.{FiguresAnswer}
+use Rattle.adding.specs.declared.FiguresAnswer.the-variants.{BadReport, TooMany, Replayed}
 use Rattle.counts.specs.Counts.{freshReport, sumTo, goodReport, withRoom, countAll}
-use Rattle.report.specs.Report.{addedTo, FiguresOutcome, figuresOutcome, figuresNumber, addOf}
-use Rattle.report.proofs.Adds.{replay-count}
+use Rattle.adding.specs.Report.{addedTo, FiguresOutcome, figuresOutcome, figuresNumber, addOf}
+use Rattle.adding.proofs.Adds.{replay-count}
 use Rattle.figures.specs.Claims.{sumOf, Sound, Refused-71, Refused-70, Else-replayed, Refusals-leave-all, timesOf, timesYes, placeOf, countIn, arrivalsIn, Adds, Replay-adds, EndFacts, Replay-ends, Job, doneBy, addAll, toldBy, allAnswers, allDiscards, From-fresh}
 use Rattle.figures.proofs.Counts.{place-is, place-low, sum-is, yes-is, length-all, counts-at, sum-at, times-append, yes-append, yes-most, length-answers, length-discards}
 use Rattle.figures.proofs.Ends.{missing-facts}

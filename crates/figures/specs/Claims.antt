@@ -21,12 +21,12 @@ use Rattle.replay.specs.Replay.{begun, replayOf}
 use Rattle.piece.specs.declared.Stop.{Stop}
 use Rattle.replays.specs.Pieces.{arrivalsTo, recordsBefore}
 use Rattle.counts.specs.Counts.{freshReport}
-use Rattle.report.specs.Report.{FiguresOutcome, addOf}
+use Rattle.adding.specs.Report.{FiguresOutcome, addOf}
 use Rattle.counts.specs.declared.Report.{Report}
 use Rattle.counts.specs.declared.Missing.{Missing}
 use Rattle.counts.specs.declared.Missing.the-variants as missing
-use Rattle.report.specs.declared.FiguresAnswer.{FiguresAnswer}
-use Rattle.report.specs.declared.FiguresAnswer.the-variants.{BadReport, TooMany, Replayed}
+use Rattle.adding.specs.declared.FiguresAnswer.{FiguresAnswer}
+use Rattle.adding.specs.declared.FiguresAnswer.the-variants.{BadReport, TooMany, Replayed}
 
 -- ---- a report that is handed in
 

@@ -11,7 +11,7 @@ use Rattle.grammar.specs.Answers.{numberOf, positionOf}
 use Rattle.grammar.specs.declared.Failure.{Failure}
 use Rattle.grammar.specs.declared.ReaderState.{ReaderState}
 use Rattle.grammar.specs.declared.ReaderState.the-variants.{Between, Opened, Inside, Padded, Ended, Failed}
-use Rattle.unihex.specs.declared.Reply.{Reply}
+use Rattle.replies.specs.declared.Reply.{Reply}
 use Rattle.hexreader.specs.declared.Reader.{Reader}
 use Rattle.unihex.specs.Reader.{badReader}
 use Rattle.unihex.specs.Line.{LineOutcome, lineOutcome, badImage, haltLine, lineOf}

@@ -50,7 +50,7 @@ fn add(waiting: &mut [u8], used: usize, index: u64, answer: Answer) -> usize
     ensures { λ r. ⌜ r ≤ length (now (waiting .entry)) ⌝ }
 {
     let mut text = [0u8; 80];
-    let n = lines::hex_answer_line(&mut text, index, answer);
+    let n = hexanswer::hex_answer_line(&mut text, index, answer);
     let at = room(waiting, used, n);
     let e = at + n;
     bytes::copy(&text[..n], &mut waiting[at..e]);
@@ -80,7 +80,7 @@ fn run(input: &[u8], own: u16, image: &mut [u8], waiting: &mut [u8]) -> Reader
 
 fn print_state(reader: Reader) {
     let mut text = [0u8; 128];
-    let n = lines::hex_state_line(&mut text, reader);
+    let n = hexstate::hex_state_line(&mut text, reader);
     io::write_all(STDOUT_FILENO, &text[..n]);
 }
 

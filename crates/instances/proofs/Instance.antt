@@ -26,7 +26,7 @@ use Rattle.arrival.specs.Arrive.{World, rightLengths, standsAt, afterScreening,
 use Rattle.arrival.specs.Lists.{receiveAll}
 use Rattle.arrival.specs.Windows.{lies}
 use Rattle.demand.specs.Demand.{File, ValidFile, Foreign, isCommentOf, addressOf, nothing, own, other, answerNumber, isData, sameBytes, among, seenOf, howMany, Ends, List-counts, List-ends}
-use Rattle.demand.specs.Stopped.{ForeignToBoth}
+use Rattle.demands.specs.Stopped.{ForeignToBoth}
 use Rattle.demand.proofs.Demand.{list-counts, list-ends}
 use Rattle.boards.specs.Boards.{arrivalOf, commentOf, plain, headTo, armHead}
 use Rattle.boards.specs.Tables.{blockOfThree}

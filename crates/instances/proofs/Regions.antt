@@ -32,11 +32,12 @@ use Rattle.arrival.specs.Arrive.{World, rightLengths, standsAt, afterScreening,
 use Rattle.arrival.specs.Windows.{kindOf}
 use Rattle.arrival.specs.Facts.{flagged}
 use Rattle.arrival.specs.Lists.{receiveAll, AtEach}
-use Rattle.arrival.specs.Kept.{soft, digestIn, Standing, Standing-kept, Flag-0x4000-decides-14-or-17}
+use Rattle.arrivals.specs.Kept.{soft, Standing-kept, Flag-0x4000-decides-14-or-17}
+use Rattle.arrival.specs.Standing.{digestIn, Standing}
 use Rattle.demand.specs.Demand.{File, ValidFile, answerNumber, addressOf, isData, nothing, own, sameBytes, among, seenOf, howMany, startOf, originOf, storageOf, holds, liesIn, isGuarded, Contents}
-use Rattle.demand.specs.Regions.{regionStart, regionLength, regionIn, inRegion, Final, Regions, NoOther, Regions-end}
-use Rattle.arrival.proofs.Kept.{standing-kept, flag-0x4000-decides-14-or-17}
-use Rattle.demand.proofs.Regions.{regions-end}
+use Rattle.demands.specs.Regions.{regionStart, regionLength, regionIn, inRegion, Final, Regions, NoOther, Regions-end}
+use Rattle.arrivals.proofs.Kept.{standing-kept, flag-0x4000-decides-14-or-17}
+use Rattle.demands.proofs.Regions.{regions-end}
 use Rattle.boards.specs.Boards.{plain, lentTo}
 use Rattle.instances.specs.Regions.{finalBytes, namingBlock, namingFile, erasedStart, Met-where-it-stands, Met-where-it-is-written}
 

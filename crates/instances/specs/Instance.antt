@@ -10,7 +10,7 @@ use Rattle.transfer.specs.declared.Kind.the-variants.{Flash, XipRam}
 use Rattle.transfer.specs.declared.State.the-variants.{Idle, Running}
 use Rattle.arrival.specs.Arrive.{World}
 use Rattle.demand.specs.Demand.{File, ValidFile, Sent, Mixed}
-use Rattle.demand.specs.Stopped.{Stopped, ForeignToBoth}
+use Rattle.demands.specs.Stopped.{Stopped, ForeignToBoth}
 use Rattle.boards.specs.Boards.{arrivalOf, commentOf, plain, headTo, lentTo, lentRam}
 use Rattle.boards.specs.Tables.{blockOfThree}
 

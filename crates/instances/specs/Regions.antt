@@ -13,7 +13,7 @@ use Rattle.transfer.specs.declared.Kind.the-variants.{Flash}
 use Rattle.transfer.specs.declared.State.the-variants.{Idle}
 use Rattle.arrival.specs.Arrive.{World}
 use Rattle.demand.specs.Demand.{File, ValidFile, isGuarded}
-use Rattle.demand.specs.Regions.{Regions, Complete}
+use Rattle.demands.specs.Regions.{Regions, Complete}
 use Rattle.boards.specs.Boards.{plain, lentFilled, lentTo}
 
 -- the final bytes of the region: a sector of 0xFF, of which some are payloads

@@ -18,10 +18,9 @@ use Rattle.textlines.specs.Lines.{linesOf}
 use Rattle.hexfile.specs.Lines.{freshSession, storesOf}
 use Rattle.hexfile.specs.Claims.{Image-is-latest, Image-length-kept}
 use Rattle.hexfile.proofs.Claims.{image-is-latest, image-length-kept}
-use Rattle.wholefile.specs.Items.{Item, Says, none, line}
+use Rattle.wholefile.specs.Items.{Item, Says, none, line, item, lineFor}
 use Rattle.wholefile.specs.Whole.{Section, allItems, File}
 use Rattle.wholefile.specs.State.{State, begin, after, answersFor}
-use Rattle.wholefile.specs.Instance.{item, lineFor}
 use Rattle.wholefile.specs.Claims as wholefile
 use Rattle.wholefile.specs.Claims.{FileEnd, File-ends, Acceptance}
 use Rattle.wholefile.proofs.Claims.{file-ends}
@@ -34,15 +33,16 @@ use Rattle.joiner.specs.declared.Refusal.{Refusal}
 use Rattle.datalines.specs.Pieces.{piecesOf}
 use Rattle.joiner.specs.Text.{fileLines, fileText}
 use Rattle.joiner.specs.Join.{JoinCall, joinCall, refusal, onVerdict, writtenOf, joinOf}
-use Rattle.joined.specs.Refusals.{BadText}
-use Rattle.joined.specs.PlainFile.{WithData, PlainPieces, within}
+use Rattle.plainfile.specs.Refusals.{BadText}
+use Rattle.plainfile.specs.PlainFile.{WithData, PlainPieces, within}
 use Rattle.joined.specs.Claims.{Joined-reads-back, SectionOf, Joined-is-file, Cuts-change-no-byte, Cuts-are-one, Joined-are-plain, RefusalCase, of-v1, of-v2, of-both, Fitting-is-written, Refused-by-board, Refusal-writes-nothing, Past-output-stays}
 use Rattle.joined.proofs.Written.{written-says, written-lines, written-map}
-use Rattle.joined.proofs.Sections.{Pieces, no-piece, next-piece, section, board-is, section-linear, section-size, section-form}
+use Rattle.plainfile.proofs.Pieces.{Pieces, no-piece, next-piece}
+use Rattle.joined.proofs.Sections.{section, board-is, section-linear, section-size, section-form}
 use Rattle.joined.proofs.Whole.{sections, fileItems, file-written, file-stores, is-file}
 use Rattle.joined.proofs.One.{section-data, section-one, lines-are}
-use Rattle.joined.proofs.PlainFiles.{said-length, PartedText, parted, fine-data, data-fine, bad-text}
-use Rattle.joined.proofs.Cuts.{cuts-byte, cuts-one}
+use Rattle.plainfile.proofs.PlainFiles.{said-length, PartedText, parted, fine-data, data-fine, bad-text}
+use Rattle.plainfile.proofs.Cuts.{cuts-byte, cuts-one}
 
 -- ---- an output
 

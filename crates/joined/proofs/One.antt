@@ -10,18 +10,17 @@ use lib.ListN.{length, replicate, length-replicate}
 use borrow.Author.Tests.{ne-eqb, ltb-true, ltb-false}
 use Rattle.sets.proofs.Tests.{split, eqb-same}
 use Rattle.stores.specs.Stores.{Store}
-use Rattle.wholefile.specs.Items.{Item, sizeOf, wordOf}
+use Rattle.wholefile.specs.Items.{Item, sizeOf, wordOf, item, lineFor}
 use Rattle.wholefile.specs.Whole.{dataTypeOf, Section, sectionItems, allItems}
-use Rattle.wholefile.specs.Instance.{item, lineFor}
 use Rattle.wholefile.proofs.OneRecord.{not-data, data-not}
 use Rattle.wholefile.proofs.Runs.{size-append}
 use Rattle.wholefile.proofs.Claims.{says-one}
 use Rattle.datalines.specs.Lines.{upperOf, firstUpper}
-use Rattle.joined.specs.PlainFile.{at, dataFrom, WithData, Cuts, none, one, PlainPieces}
+use Rattle.plainfile.specs.PlainFile.{at, dataFrom, WithData, Cuts, none, one, PlainPieces}
 use Rattle.joined.specs.Form.{word, filler, UppersAsNeeded, no-more, same, changed, Form}
 use Rattle.joined.specs.Claims.{linearData, SectionOf, TwoSections, Output-is-one}
 use Rattle.joined.proofs.Sections.{bodyItems, padItem, closeItem, pads-size, pads-linear, word-back}
-use Rattle.joined.proofs.Cuts.{cuts-one}
+use Rattle.plainfile.proofs.Cuts.{cuts-one}
 
 -- ---- the pieces of a plain file
 

@@ -12,33 +12,19 @@ use Rattle.sets.proofs.Tests.{split, eqb-same}
 use Rattle.stores.specs.Stores.{Store}
 use Rattle.record.specs.Write.{Bytes, recordLine}
 use Rattle.grammar.specs.Grammar.{dataKind}
-use Rattle.wholefile.specs.Items.{Item, sizeOf, wordOf}
+use Rattle.wholefile.specs.Items.{Item, sizeOf, wordOf, item}
 use Rattle.wholefile.specs.Whole.{dataTypeOf, Tail, tail-ends, tail-0C, Body, body-ends, body-04, body-data, body-0C, Section, sectionItems, boardOf, IsSection, anyData}
 use Rattle.wholefile.specs.State.{between, body, placeAfter, State, after, stateAfter, addressOf, storesWith, storesFor}
-use Rattle.wholefile.specs.Instance.{item}
 use Rattle.wholefile.proofs.OneRecord.{not-data, data-not, data-kind, no-gift, a-gift}
 use Rattle.wholefile.proofs.Runs.{size-append, stays-body}
 use Rattle.datalines.specs.Lines.{wordBytes, upperOf, bodyLines, firstUpper}
 use Rattle.filling.specs.Fill.{missing, pads, padLine, fillLines}
 use Rattle.joiner.specs.Text.{startLines, sectionLines}
 use Rattle.joined.specs.Form.{word, UppersAsNeeded, no-more, same, changed, Form}
-use Rattle.joined.specs.PlainFile.{at, within}
+use Rattle.plainfile.specs.PlainFile.{at, within}
 use Rattle.joined.specs.Claims.{linearData}
+use Rattle.plainfile.proofs.Pieces.{Piece, Pieces, no-piece, next-piece}
 use Rattle.joined.proofs.Written.{Fits, Written, nothing, more, written-append, written-size, written-even}
-
--- ---- pieces
-
--- what one data record holds
-pub record Piece (s : Store) : Type 0 where
-  pub some : 1 ≤ length (s .bytes)
-  pub few : length (s .bytes) ≤ 32
-  pub inside : s .address % 65536 + length (s .bytes) ≤ 65536
-  pub wide : s .address / 65536 < 65536
-  pub bytes : Bytes (s .bytes)
-
-pub data Pieces : List Store → Type 0 where
-  no-piece : Pieces []
-  next-piece : {s : Store} {ss : List Store} → Piece s → Pieces ss → Pieces (s ∷ ss)
 
 -- ---- records of two bytes
 

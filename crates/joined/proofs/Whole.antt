@@ -8,16 +8,16 @@ use native.Mathlib.Omega.{arith}
 use lib.Dec.{eqb}
 use lib.ListN.{length}
 use Rattle.stores.specs.Stores.{Store}
-use Rattle.wholefile.specs.Items.{Item, sizeOf}
+use Rattle.wholefile.specs.Items.{Item, sizeOf, item}
 use Rattle.wholefile.specs.Whole.{Section, sectionItems, Sections, no-section, allItems, howMany, anyGives, File}
 use Rattle.wholefile.specs.Whole as whole
 use Rattle.wholefile.specs.State.{between, begin, stateAfter, storesFor}
-use Rattle.wholefile.specs.Instance.{item}
 use Rattle.wholefile.proofs.Runs.{data-all}
 use Rattle.joiner.specs.Text.{fileLines, fileText}
-use Rattle.joined.specs.PlainFile.{within}
+use Rattle.plainfile.specs.PlainFile.{within}
 use Rattle.joined.proofs.Written.{Written, nothing, more, written-append, written-size}
-use Rattle.joined.proofs.Sections.{Piece, Pieces, next-piece, stores-append, section, section-written, section-size, is-section, section-stores, section-gives}
+use Rattle.plainfile.proofs.Pieces.{Piece, Pieces, next-piece}
+use Rattle.joined.proofs.Sections.{stores-append, section, section-written, section-size, is-section, section-stores, section-gives}
 
 module _ (a b : List Store) where
   abbrev pub sections : List Section

@@ -13,8 +13,7 @@ use Rattle.record.specs.declared.ParseResult.the-variants.{Good}
 use Rattle.record.proofs.Data32.{data32-take}
 use Rattle.record.proofs.Written.{length-text, text-high, length-record, reads-back}
 use Rattle.textlines.specs.Lines.{glue, linesOf}
-use Rattle.wholefile.specs.Items.{Item, itemOf, Says, none, line, sizeOf}
-use Rattle.wholefile.specs.Instance.{item, lineFor}
+use Rattle.wholefile.specs.Items.{Item, itemOf, Says, none, line, sizeOf, item, lineFor}
 
 -- ---- a text is cut into its lines
 

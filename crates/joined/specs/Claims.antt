@@ -10,16 +10,15 @@ use Rattle.grammar.specs.declared.Answer.{Answer}
 use Rattle.grammar.specs.declared.Answer.the-variants.{Ended, FileTooLong}
 use Rattle.textlines.specs.Lines.{linesOf}
 use Rattle.hexfile.specs.Lines.{freshSession, readAll, lineAnswers, storesOf}
-use Rattle.wholefile.specs.Items.{Item, Says, sizeOf, wordOf}
+use Rattle.wholefile.specs.Items.{Item, Says, sizeOf, wordOf, item, lineFor}
 use Rattle.wholefile.specs.Whole.{dataTypeOf, Section, sectionItems, boardOf, File}
 use Rattle.wholefile.specs.Claims.{Setup, Acceptance}
-use Rattle.wholefile.specs.Instance.{item, lineFor}
 use Rattle.joiner.specs.declared.Refusal.{Refusal}
 use Rattle.joiner.specs.declared.Joined.the-variants.{Written, Refused}
 use Rattle.joiner.specs.Join.{joinOf}
 use Rattle.joined.specs.Form.{Form}
-use Rattle.joined.specs.Refusals.{BadText}
-use Rattle.joined.specs.PlainFile.{at, WithData, Cuts, PlainPieces, within}
+use Rattle.plainfile.specs.Refusals.{BadText}
+use Rattle.plainfile.specs.PlainFile.{at, WithData, Cuts, PlainPieces, within}
 
 -- what holds of every output: of the two files, the lent room, and the lines of the n bytes that were written
 abbrev pub EveryOutput : (List ℕ → List ℕ → List (List ℕ) → Type 0) → Type 0

@@ -4,9 +4,8 @@ use mathlib.Core.Path.{_≡_}
 use mathlib.Core.Logic.{_≢_}
 use mathlib.Core.List.{List, [], _∷_, _++_}
 use lib.ListN.{replicate}
-use Rattle.wholefile.specs.Items.{Item}
+use Rattle.wholefile.specs.Items.{Item, item}
 use Rattle.wholefile.specs.Whole.{dataTypeOf, Section}
-use Rattle.wholefile.specs.Instance.{item}
 
 -- "other address fields are 0000": a record that holds a number of 16 bits, high first
 abbrev pub word : ℕ → ℕ → Item

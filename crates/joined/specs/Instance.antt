@@ -13,7 +13,7 @@ use Rattle.joiner.specs.declared.Joined.the-variants.{Written, Refused}
 use Rattle.filling.specs.Fill.{fillLines}
 use Rattle.joiner.specs.Text.{sectionLines}
 use Rattle.joiner.specs.Join.{refusal, joinOf}
-use Rattle.joined.specs.PlainFile.{at}
+use Rattle.plainfile.specs.PlainFile.{at}
 
 -- ---- two files
 

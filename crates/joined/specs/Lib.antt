@@ -1,5 +1,3 @@
-pub mod PlainFile
 pub mod Form
-pub mod Refusals
 pub mod Claims
 pub mod Instance

@@ -27,7 +27,7 @@ pub fn judge(settings: Settings, lens: Lengths, m: usize, k: usize, family: u32)
     ensures low { λ r. ⌜ StartsLow (r .kept .rooms .flash) ⌝ }
 {
     let right = verdict::lengths_right(Block::ARRIVAL, lens, m, k);
-    let good = settings::good(settings, lens.flash);
+    let good = validity::good(settings, lens.flash);
     let rooms = screen::rooms_for(settings, lens.flash, family);
     let kept = FamilyRooms { family, rooms };
     Judged { right, good, kept }

@@ -34,7 +34,7 @@ fn arch(x: u8) -> Arch
 }
 
 // Of bytes that are no settings: over 16, which is bad.
-fn count(bytes: &[u8]) -> u8
+pub fn count(bytes: &[u8]) -> u8
     ensures { λ r. ⌜ r ≡ countFrom (now (bytes .entry)) ⌝ }
 {
     if bytes.len() == SETTINGS {

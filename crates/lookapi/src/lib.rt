@@ -1,6 +1,6 @@
 // A look at an arrival for C: a library of its own, so that the call is compiled as one piece.
 ghost use mathlib.Core.Path.{_≡_};
-ghost use Rattle.receiver.specs.Receiver.{lentAt};
+ghost use Rattle.verdict.specs.Lending.{lentAt};
 ghost use Rattle.callbytes.specs.Calls.{lookCallOf};
 
 // A look at one arrival: what `uf2_take` would return. Nothing is written.
@@ -19,7 +19,7 @@ pub extern "C" fn uf2_look(
 {
     let s = layout::read_settings(settings);
     let t = transferbytes::read_transfer(transfer);
-    let p = receiver::look(s, t, arrival, flash, seen, sectors, main, xip);
+    let p = looking::look(s, t, arrival, flash, seen, sectors, main, xip);
     let answer = p.answer;
     results::result(answer, p.discarded) as u32
 }

@@ -6,141 +6,6 @@ ghost use lib.ListN.{length, getD};
 ghost use Rattle.sets.specs.Bytes.{lowFirst, numberIn};
 ghost use Rattle.md5.specs.Md5.{sines, shifts, rotateLeft, fOf, gOf, hOf, iOf, operationOf, blockOf, blocksOf, padWith, padOf, md5Of};
 
-// The table T, and the shifts of the operations. They are copied once and lent: a constant that is indexed in a loop is built anew at each use.
-const SINES: [u32; 64] = [
-    3614090360,
-    3905402710,
-    606105819,
-    3250441966,
-    4118548399,
-    1200080426,
-    2821735955,
-    4249261313,
-    1770035416,
-    2336552879,
-    4294925233,
-    2304563134,
-    1804603682,
-    4254626195,
-    2792965006,
-    1236535329,
-    4129170786,
-    3225465664,
-    643717713,
-    3921069994,
-    3593408605,
-    38016083,
-    3634488961,
-    3889429448,
-    568446438,
-    3275163606,
-    4107603335,
-    1163531501,
-    2850285829,
-    4243563512,
-    1735328473,
-    2368359562,
-    4294588738,
-    2272392833,
-    1839030562,
-    4259657740,
-    2763975236,
-    1272893353,
-    4139469664,
-    3200236656,
-    681279174,
-    3936430074,
-    3572445317,
-    76029189,
-    3654602809,
-    3873151461,
-    530742520,
-    3299628645,
-    4096336452,
-    1126891415,
-    2878612391,
-    4237533241,
-    1700485571,
-    2399980690,
-    4293915773,
-    2240044497,
-    1873313359,
-    4264355552,
-    2734768916,
-    1309151649,
-    4149444226,
-    3174756917,
-    718787259,
-    3951481745,
-];
-
-const SHIFTS: [u32; 64] = [
-    7,
-    12,
-    17,
-    22,
-    7,
-    12,
-    17,
-    22,
-    7,
-    12,
-    17,
-    22,
-    7,
-    12,
-    17,
-    22,
-    5,
-    9,
-    14,
-    20,
-    5,
-    9,
-    14,
-    20,
-    5,
-    9,
-    14,
-    20,
-    5,
-    9,
-    14,
-    20,
-    4,
-    11,
-    16,
-    23,
-    4,
-    11,
-    16,
-    23,
-    4,
-    11,
-    16,
-    23,
-    4,
-    11,
-    16,
-    23,
-    6,
-    10,
-    15,
-    21,
-    6,
-    10,
-    15,
-    21,
-    6,
-    10,
-    15,
-    21,
-    6,
-    10,
-    15,
-    21,
-];
-
 // The four words A, B, C, D: of the digest, and of the buffer on the way to it.
 pub struct Digest {
     pub a: u32,
@@ -231,15 +96,39 @@ fn block(m: &[u8], ks: &[u32; 64], ns: &[u32; 64], s: Digest) -> Digest
         i += 1;
     }
     while i < 32 {
-        t = step(m, ks, ns, i, mix_g(t.b, t.c, t.d), (5 * i + 1) % 16, t);
+        t = step(
+            m,
+            ks,
+            ns,
+            i,
+            mix_g(t.b, t.c, t.d),
+            schedule::word_g(i as u8),
+            t,
+        );
         i += 1;
     }
     while i < 48 {
-        t = step(m, ks, ns, i, mix_h(t.b, t.c, t.d), (3 * i + 5) % 16, t);
+        t = step(
+            m,
+            ks,
+            ns,
+            i,
+            mix_h(t.b, t.c, t.d),
+            schedule::word_h(i as u8),
+            t,
+        );
         i += 1;
     }
     while i < 64 {
-        t = step(m, ks, ns, i, mix_i(t.b, t.c, t.d), 7 * i % 16, t);
+        t = step(
+            m,
+            ks,
+            ns,
+            i,
+            mix_i(t.b, t.c, t.d),
+            schedule::word_i(i as u8),
+            t,
+        );
         i += 1;
     }
     Digest {
@@ -250,13 +139,13 @@ fn block(m: &[u8], ks: &[u32; 64], ns: &[u32; 64], s: Digest) -> Digest
     }
 }
 
-// The first n blocks of a slice.
+// The first n blocks of a slice. The tables are copied once and lent: a constant that is indexed in a loop is built anew at each use.
 fn blocks(l: &[u8], n: usize, s: Digest) -> Digest
     requires { ⌜ 64 * n ≤ length (now l) ⌝ }
     ensures { λ r. ⌜ r ≡ blocksOf (now (l .entry)) s n ⌝ }
 {
-    let ks = SINES;
-    let ns = SHIFTS;
+    let ks = schedule::sines();
+    let ns = schedule::shifts();
     let mut t = s;
     let mut k = 0;
     while k < n {
@@ -296,16 +185,12 @@ fn last(rest: &[u8], n: usize, e: usize, s: Digest) -> Digest
     blocks(&tail, f / 64, s)
 }
 
-// The length goes into the last part's block, or where it has no room into one more.
+// The last part of a message, with the padding and the length where it goes.
 fn finish(rest: &[u8], n: usize, s: Digest) -> Digest
     requires { ⌜ length (now rest) ≡ n % 64 ⌝ }
     ensures { λ r. ⌜ r ≡ blocksOf (now (rest .entry) ++ padOf n) s ((n % 64 + 72) / 64) ⌝ }
 {
-    if rest.len() < 56 {
-        last(rest, n, 56, s)
-    } else {
-        last(rest, n, 120, s)
-    }
+    last(rest, n, schedule::length_at(n), s)
 }
 
 // The digest of a slice.

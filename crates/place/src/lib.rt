@@ -64,7 +64,7 @@ fn choose(table: [Entry; Settings::ENTRIES], n: usize, w: PassQuery) -> Choice
 }
 
 // The families that get the whole flash where there is no table.
-fn gets_whole(arm: bool, riscv: bool, family: u32) -> bool
+pub fn gets_whole(arm: bool, riscv: bool, family: u32) -> bool
     ensures { λ r. ⌜ r ≡ getsWhole arm riscv family ⌝ }
 {
     (family == Family::DATA)
@@ -147,7 +147,7 @@ pub fn ask(settings: Settings, flash_len: usize, family: u32) -> PlaceAnswer
     if !flash::right_length(flash_len) {
         return PlaceAnswer::BadBuffers;
     }
-    if !settings::good(settings, flash_len) {
+    if !validity::good(settings, flash_len) {
         return PlaceAnswer::BadSettings;
     }
     match find(settings, flash_len, family) {

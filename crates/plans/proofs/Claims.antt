@@ -25,12 +25,13 @@ use Rattle.transfer.specs.declared.Accepted.{Accepted}
 use Rattle.screen.specs.Screen.{roomIn}
 use Rattle.screen.specs.declared.Placed.{Placed}
 use Rattle.arrival.specs.Arrive.{World, Outcome, bufferOf, Decision, stays, accepts, decided, clearedIf, atOf, receiveOf}
-use Rattle.arrival.specs.Facts.{Outside}
+use Rattle.arrivals.specs.Bounds.{Outside}
 use Rattle.arrival.specs.Lists.{receiveAll}
 use Rattle.arrival.specs.Windows.{windowStart, kindOf}
-use Rattle.arrival.proofs.Screening.{flashOf, roomsFor, Board, Passing, passing-room, passing-body, passing-fits}
-use Rattle.arrival.proofs.DecisionFacts.{deedAt, DecisionFacts, kept, took, decision-facts}
-use Rattle.arrival.proofs.Facts.{keepsAt, deed-is}
+use Rattle.arrivals.proofs.Screening.{flashOf, roomsFor, Board, Passing, passing-room, passing-body, passing-fits}
+use Rattle.arrivals.proofs.DecisionFacts.{deedAt, DecisionFacts, kept, took, decision-facts}
+use Rattle.arrival.proofs.Standing.{keepsAt}
+use Rattle.arrivals.proofs.Bounds.{deed-is}
 use Rattle.plan.specs.declared.Plan.{Plan}
 use Rattle.plan.specs.declared.Plan.the-variants.{Nothing, Program, EraseProgram}
 use Rattle.plan.specs.Plan.{deedPlan, decisionPlan, acceptingBy, acceptingOf}

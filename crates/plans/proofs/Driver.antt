@@ -29,9 +29,9 @@ use Rattle.screen.specs.declared.Screening.{Screening}
 use Rattle.screen.specs.declared.Screening.the-variants.{Refused, Passed}
 use Rattle.arrival.specs.Arrive.{Held, World, Decision, stays, accepts, lengthsOf, rightLengths, standing, deedOf, stepped, afterScreening, decide, decided, clearedIf, wipedIf, pagedAt, atOf, doneTo, acceptOf, done, receiveOf}
 use Rattle.arrival.specs.Lists.{Delivery}
-use Rattle.arrival.proofs.Screening.{Board, Passing}
+use Rattle.arrivals.proofs.Screening.{Board, Passing}
 use Rattle.arrival.proofs.Facts.{length-cleared}
-use Rattle.arrival.proofs.DecisionFacts.{deedAt, DecisionFacts, kept, took, decision-facts, took-number, took-state}
+use Rattle.arrivals.proofs.DecisionFacts.{deedAt, DecisionFacts, kept, took, decision-facts, took-number, took-state}
 use Rattle.plan.specs.declared.Plan.{Plan}
 use Rattle.plan.specs.declared.Plan.the-variants.{Nothing, Program, EraseProgram}
 use Rattle.plan.specs.Plan.{sectorPlan, deedPlan, decisionPlan, acceptingBy, acceptingOf}

@@ -11,7 +11,7 @@ use Rattle.place.specs.Place.{placeOf}
 use Rattle.place.specs.declared.Place.{Place}
 use Rattle.place.specs.declared.Place.the-variants.{At}
 use Rattle.arrival.specs.Arrive.{World, Outcome, receiveOf}
-use Rattle.arrival.specs.Facts.{Outside}
+use Rattle.arrivals.specs.Bounds.{Outside}
 use Rattle.arrival.specs.Lists.{receiveAll}
 use Rattle.plan.specs.declared.Plan.{Plan}
 use Rattle.plan.specs.declared.Plan.the-variants.{Nothing, Program, EraseProgram}

@@ -2,10 +2,8 @@
 ghost use mathlib.Core.Path.{_≡_};
 ghost use Prim.Native.Nat.{_+_, _*_};
 ghost use lib.ListN.{length};
-ghost use Rattle.readers.specs.Readers.{answerFrom, readerStateFrom, boardsFrom, stateAt, fieldsFrom, readerFrom};
-use grammar::Answer;
+ghost use Rattle.readers.specs.Readers.{boardsFrom, stateAt, fieldsFrom, readerFrom};
 use grammar::Boards;
-use grammar::Failure;
 use grammar::ReaderState;
 use hexreader::Reader;
 
@@ -17,62 +15,6 @@ fn joined(low: u8, high: u8) -> u16
     ensures { λ r. ⌜ r ≡ low + 256 * high ⌝ }
 {
     (low as u16) + 256 * (high as u16)
-}
-
-// The answer of a number. Any other number is read as 18, which no reader remembers.
-fn answer(n: u8, position: u16) -> Answer
-    ensures { λ r. ⌜ r ≡ answerFrom n position ⌝ }
-{
-    if (n < 18) | (36 < n) {
-        return Answer::BadReader;
-    }
-    let all = [
-        Answer::BadReader,
-        Answer::BadImage,
-        Answer::NoColon,
-        Answer::BadShape,
-        Answer::BadDigit(position),
-        Answer::TooLong,
-        Answer::BadLength,
-        Answer::BadSum,
-        Answer::OutOfPlace,
-        Answer::Unaligned,
-        Answer::Repeated,
-        Answer::Crosses,
-        Answer::MissingBoard,
-        Answer::AfterEnd,
-        Answer::Outside,
-        Answer::Stored,
-        Answer::Passed,
-        Answer::Ended,
-        Answer::FileTooLong,
-    ];
-    let k = (n - 18) as usize;
-    all[k]
-}
-
-// Any kind over 4 is read as a failure.
-fn state_from(kind: u8, failure: u8, half: u16) -> ReaderState
-    ensures { λ r. ⌜ r ≡ readerStateFrom kind failure half ⌝ }
-{
-    if kind == 0 {
-        return ReaderState::Between;
-    }
-    if kind == 1 {
-        return ReaderState::Opened;
-    }
-    if kind == 2 {
-        return ReaderState::Inside(half);
-    }
-    if kind == 3 {
-        return ReaderState::Padded(half);
-    }
-    if kind == 4 {
-        return ReaderState::Ended;
-    }
-    let answer = answer(failure, half);
-    let failure = Failure { answer };
-    ReaderState::Failed(failure)
 }
 
 // Of V1 and of V2, each a flag.
@@ -91,7 +33,7 @@ fn state_at(bytes: &[u8]) -> ReaderState
     ensures { λ r. ⌜ r ≡ stateAt (now (bytes .entry)) ⌝ }
 {
     let half = joined(bytes[10], bytes[11]);
-    state_from(bytes[8], bytes[9], half)
+    readerstate::state_from(bytes[8], bytes[9], half)
 }
 
 // The reader that 16 bytes are.

@@ -30,7 +30,8 @@ use Rattle.placing.specs.declared.Access.the-variants.{Granted, Denied}
 use Rattle.placing.specs.declared.Spot.{Spot}
 use Rattle.placing.specs.declared.Spot.the-variants as spot
 use Rattle.causes.specs.Causes.{reasonWith}
-use Rattle.causes.specs.Checks.{byNumbers, rowOf, orNext, orLast, flashRow, lengthsRow, stateRow, headerRow}
+use Rattle.causes.specs.Checks.{byNumbers, rowOf, orNext, orLast, stateRow, headerRow}
+use Rattle.lengthrow.specs.Lengths.{flashRow, lengthsRow}
 use Rattle.causes.specs.declared.Cause.the-variants.{BadSettings}
 use Rattle.causes.specs.declared.Reason.{Reason}
 use Rattle.causes.specs.declared.Row.{Row}
@@ -44,8 +45,8 @@ use Rattle.reason.specs.declared.Placed.the-variants.{Refused}
 use Rattle.reason.specs.declared.WhyPlace.{WhyPlace}
 use Rattle.reason.specs.Why.{settingsRow, shutReason, shutRow, blockKind, headIn, placeIn, lastOf, reasonOf, discardsOf, entriesOf, whyOf}
 use Rattle.reason.specs.Placed.{placeChecks, holdsOf, placedSpot, placedBy, placedOf, placedMarks, whyPlaceOf}
-use Rattle.reason.specs.Parts.{findingRow, accessRow, accessIn, boardPart, earlyPart, blockPart, placePart}
-use Rattle.reason.proofs.Rows.{or-three, settings-rows, shut-rows, reason-parts}
+use Rattle.checklist.specs.Parts.{findingRow, accessRow, accessIn, boardPart, earlyPart, blockPart, placePart}
+use Rattle.checklist.proofs.Rows.{or-three, settings-rows, shut-rows, reason-parts}
 
 -- ---- rows one after the other
 

@@ -9,7 +9,8 @@ use Rattle.placing.specs.Placing.{shutIn, flashShuts, grantedSpot}
 use Rattle.placing.specs.declared.Spot.{Spot}
 use Rattle.placing.specs.declared.Spot.the-variants as spot
 use Rattle.causes.specs.Causes.{answerOf, numberTest}
-use Rattle.causes.specs.Checks.{rowOf, flashRow}
+use Rattle.causes.specs.Checks.{rowOf}
+use Rattle.lengthrow.specs.Lengths.{flashRow}
 use Rattle.causes.specs.declared.Cause.{Cause}
 use Rattle.causes.specs.declared.Cause.the-variants.{BadBuffers, BadSettings, BadState, NotBlock, Container, NoFamily, NoPlace, BadPayload, BadNumbers, BadAddress, Finished, Again, Written, Completed, Noted, Kept}
 use Rattle.causes.specs.declared.Reason.{Reason}

@@ -2,7 +2,7 @@
 ghost use mathlib.Core.Path.{_≡_};
 ghost use Rattle.reason.specs.Why.{reasonOf, discardsOf, noMarks, shutMarks, entriesOf, worldWith, whyOf};
 ghost use Rattle.reason.specs.Placed.{placedOf, placedMarks, whyPlaceOf};
-ghost use Rattle.reason.specs.Parts.{findingRow, accessRow, accessIn, boardPart, earlyPart, blockPart, placePart};
+ghost use Rattle.checklist.specs.Parts.{findingRow, accessRow, accessIn, boardPart, earlyPart, blockPart, placePart};
 ghost use Rattle.faults.specs.Faults.{firstFault};
 use block::Block;
 use causes::Cause;
@@ -47,7 +47,7 @@ pub struct WhyPlace {
 fn fault_row(settings: Settings, flash_len: usize) -> Row
     ensures { λ r. ⌜ r ≡ findingRow settings «flash_len» (firstFault settings «flash_len») ⌝ }
 {
-    match faults::first(settings, flash_len) {
+    match firstfault::first(settings, flash_len) {
         Finding::Sound => Row::Passes,
         Finding::Bad(x) => {
             let n = faults::numbers(settings, flash_len, x);
@@ -60,7 +60,7 @@ fn fault_row(settings: Settings, flash_len: usize) -> Row
 fn settings_row(settings: Settings, flash_len: usize) -> Row
     ensures { λ r. ⌜ r ≡ findingRow settings «flash_len» (firstFault settings «flash_len») ⌝ }
 {
-    if settings::good(settings, flash_len) {
+    if validity::good(settings, flash_len) {
         return Row::Passes;
     }
     fault_row(settings, flash_len)
@@ -77,7 +77,7 @@ fn board_row(
 ) -> Row
     ensures { λ r. ⌜ r ≡ boardPart settings (transfer .state) arrival lens seen sectors ⌝ }
 {
-    let first = causes::lengths_row(arrival, lens, seen, sectors);
+    let first = lengthrow::lengths_row(arrival, lens, seen, sectors);
     if let Row::Decides(x) = first {
         return Row::Decides(x);
     }
@@ -190,7 +190,7 @@ fn discards(transfer: Transfer, head: Head, cause: Cause) -> bool
     ensures { λ r. ⌜ r ≡ discardsOf (transfer .state) head cause ⌝ }
 {
     let number = cause.answer().number();
-    (14 <= number) & checks::runs_other(transfer, head)
+    (14 <= number) & progress::runs_other(transfer, head)
 }
 
 fn no_marks() -> [u8; 16]
@@ -256,7 +256,7 @@ pub fn explain(
 fn place_row(settings: Settings, flash_len: usize) -> Row
     ensures { λ r. ⌜ r ≡ placePart settings «flash_len» ⌝ }
 {
-    let first = causes::flash_row(flash_len);
+    let first = lengthrow::flash_row(flash_len);
     if let Row::Decides(x) = first {
         return Row::Decides(x);
     }

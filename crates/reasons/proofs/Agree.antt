@@ -47,7 +47,9 @@ use Rattle.placing.specs.declared.Access.{Access}
 use Rattle.placing.specs.declared.Access.the-variants.{Granted, Denied}
 use Rattle.placing.proofs.Theorems.{granted-is-placed, granted-is-for-ram}
 use Rattle.causes.specs.Causes.{answerOf, reasonWith}
-use Rattle.causes.specs.Checks.{byNumbers, rowOf, orNext, orLast, lengthsRow, stateRow, magicRow, flagsRow, headerRow, payloadRow, numbersRow, addressRow}
+use Rattle.causes.specs.Checks.{byNumbers, rowOf, orNext, orLast, stateRow, magicRow, flagsRow, headerRow}
+use Rattle.lengthrow.specs.Lengths.{lengthsRow}
+use Rattle.numberrows.specs.Numbers.{payloadRow, numbersRow, addressRow}
 use Rattle.causes.specs.declared.Magic.the-variants.{First, Second, Last}
 use Rattle.causes.specs.declared.Cause.the-variants.{NotBlock, Container, NoFamily}
 use Rattle.causes.specs.declared.Reason.{Reason}
@@ -57,8 +59,8 @@ use Rattle.causes.proofs.Rows.{rows-next}
 use Rattle.checks.specs.Block.{startAt, sizeAt, roomOf, addressIn, pageRow, kindOf, bodyRow, raisedOf}
 use Rattle.checks.specs.Parts.{fatePart, writtenPart}
 use Rattle.reason.specs.Why.{blockKind, headIn, placeIn, lastOf, reasonOf}
-use Rattle.reason.specs.Parts.{findingRow, accessRow, accessIn, boardPart, earlyPart, blockPart}
-use Rattle.reason.proofs.Rows.{reason-parts}
+use Rattle.checklist.specs.Parts.{findingRow, accessRow, accessIn, boardPart, earlyPart, blockPart}
+use Rattle.checklist.proofs.Rows.{reason-parts}
 use Rattle.reasons.proofs.Answers.{told, told-next, lengths-answer, state-answer, payload-answer, numbers-answer, address-answer, window-answer}
 use Rattle.reasons.proofs.Steps.{settled, settled-refused, note-late, page-late}
 

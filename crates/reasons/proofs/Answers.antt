@@ -20,7 +20,9 @@ use Rattle.screen.specs.Screen.{baseOf, extentOf, badNumbers, badAddress}
 use Rattle.screen.specs.declared.Lengths.{Lengths}
 use Rattle.arrival.specs.Arrive.{ramLength, rightLengths}
 use Rattle.causes.specs.Causes.{answerOf}
-use Rattle.causes.specs.Checks.{byNumbers, rowOf, orNext, flashRow, bufferRow, lengthsRow, runningRow, doneRow, stateRow, payloadRow, numbersRow, addressRow, windowRow}
+use Rattle.causes.specs.Checks.{byNumbers, rowOf, orNext, runningRow, doneRow, stateRow}
+use Rattle.lengthrow.specs.Lengths.{flashRow, bufferRow, lengthsRow}
+use Rattle.numberrows.specs.Numbers.{payloadRow, numbersRow, addressRow, windowRow}
 use Rattle.causes.specs.declared.Reason.{Reason}
 use Rattle.causes.specs.declared.Row.{Row}
 use Rattle.causes.specs.declared.Row.the-variants.{Passes, Decides}

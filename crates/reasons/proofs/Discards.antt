@@ -27,7 +27,7 @@ use Rattle.screen.specs.declared.Screening.{Screening}
 use Rattle.screen.specs.declared.Screening.the-variants.{Refused, Passed}
 use Rattle.arrival.specs.Windows as windows
 use Rattle.arrival.specs.Arrive.{World, Forecast, stays, lengthsOf, rightLengths, standing, deedOf, stepped, afterScreening, decide, decided, forecastOf, lookOf}
-use Rattle.arrival.proofs.Screening.{Good, screen-good, comment-is, kind-window, kind-note}
+use Rattle.arrivals.proofs.Screening.{Good, screen-good, comment-is, kind-window, kind-note}
 use Rattle.causes.specs.Causes.{answerOf}
 use Rattle.causes.specs.declared.Cause.{Cause}
 use Rattle.causes.specs.declared.Cause.the-variants.{BadBuffers, BadSettings, BadState, NotBlock, Container, NoFamily, NoPlace, BadPayload, BadNumbers, BadAddress, Finished, Again, Written, Completed, Noted, Kept}

@@ -24,12 +24,13 @@ use Rattle.placing.specs.declared.Spot.{Spot}
 use Rattle.placing.specs.declared.Spot.the-variants as spot
 use Rattle.placing.proofs.Theorems.{granted-is-placed, spot-is-placed}
 use Rattle.causes.specs.Causes.{answerOf}
-use Rattle.causes.specs.Checks.{byNumbers, rowOf, orNext, orLast, flashRow, Deciding}
+use Rattle.causes.specs.Checks.{byNumbers, rowOf, orNext, orLast, Deciding}
+use Rattle.lengthrow.specs.Lengths.{flashRow}
 use Rattle.causes.proofs.Rows.{deciding}
 use Rattle.causes.specs.declared.Reason.{Reason}
 use Rattle.causes.specs.declared.Row.{Row}
 use Rattle.causes.specs.declared.Row.the-variants.{Passes, Decides}
-use Rattle.reason.specs.Parts.{findingRow, accessRow, placePart}
+use Rattle.checklist.specs.Parts.{findingRow, accessRow, placePart}
 use Rattle.reason.specs.Placed.{placeChecks, holdsOf, placedSpot, placedBy, placedOf, placedNumber}
 use Rattle.reason.specs.declared.Placed.{Placed}
 use Rattle.reason.specs.declared.Placed.the-variants.{Refused, Whole, Entry}

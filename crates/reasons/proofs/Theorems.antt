@@ -2,7 +2,9 @@
 use mathlib.Core.Path.{_≡_, refl, sym, ap, _∙_}
 use mathlib.Core.List.{List}
 use Prim.Native.Nat.{ℕ, _<_}
-use Rattle.causes.specs.Checks.{Deciding, none, here, later, flashRow, bufferRow, lengthsRow, runningRow, doneRow, stateRow, magicRow, flagsRow, headerRow, numbersRow, addressRow}
+use Rattle.causes.specs.Checks.{Deciding, none, here, later, runningRow, doneRow, stateRow, magicRow, flagsRow, headerRow}
+use Rattle.lengthrow.specs.Lengths.{flashRow, bufferRow, lengthsRow}
+use Rattle.numberrows.specs.Numbers.{numbersRow, addressRow}
 use Rattle.reason.specs.Why.{shutRow, placeRow, checksOf, lastOf, testOf, holdsIn, reasonOf, entriesOf, whyOf}
 use Rattle.reasons.specs.Claims.{Reason-is-true, Answer-is-the-receivers, Marks-are-true, risesFrom, In-order}
 use mathlib.Core.Bool.{Bool, true, false, not, _&&_}

@@ -26,7 +26,9 @@ use Rattle.transfer.specs.declared.State.{State}
 use Rattle.screen.specs.declared.Lengths.{Lengths}
 use Rattle.arrival.specs.Arrive.{World, lookOf}
 use Rattle.causes.specs.Causes.{answerOf, causeNumber}
-use Rattle.causes.specs.Checks.{Deciding, lengthsRow, stateRow, headerRow, numbersRow, addressRow}
+use Rattle.causes.specs.Checks.{Deciding, stateRow, headerRow}
+use Rattle.lengthrow.specs.Lengths.{lengthsRow}
+use Rattle.numberrows.specs.Numbers.{numbersRow, addressRow}
 use Rattle.causes.specs.declared.Reason.{Reason}
 
 -- "every earlier check passes, this one doesn't": in the one list of all checks, each of which tests the condition and the numbers that it names; or all

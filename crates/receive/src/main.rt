@@ -3,7 +3,7 @@
 use block::Block;
 use libc::STDIN_FILENO;
 use libc::STDOUT_FILENO;
-use receiver::Receipt;
+use receipts::Receipt;
 use settings::Settings;
 use transfer::Transfer;
 

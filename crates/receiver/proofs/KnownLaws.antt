@@ -1,10 +1,10 @@
--- With what the settings and the lengths truly say handed in, an arrival is looked at, taken and accepted as the meaning has it. Assumes nothing.
+-- With what the settings and the lengths truly say handed in, an arrival is taken and accepted as the meaning has it. Assumes nothing.
 use mathlib.Core.Path.{_≡_, ap}
 use mathlib.Core.List.{List}
 use Prim.Native.Nat.{ℕ}
 use Rattle.flash.specs.Flash.{payloadOf}
 use Rattle.settings.specs.declared.Settings.{Settings}
-use Rattle.arrival.specs.Arrive.{World, done, receiveOf, forecastOf, lookOf}
+use Rattle.arrival.specs.Arrive.{World, done, receiveOf}
 use Rattle.verdict.specs.Verdict.{knownDecision}
 use Rattle.verdict.specs.declared.Known.{Known}
 use Rattle.verdict.proofs.KnownLaws.{Knows, decision-is}
@@ -15,10 +15,6 @@ module _ (s : Settings) (w : World) (a : List ℕ) {k : Known} (e : Knows s w a 
   pub known-is : receiveKnown k w a ≡ receiveOf s w a
   unfolding receiveKnown receiveOf
   known-is = ap (done w (payloadOf a)) (decision-is s w a e)
-
-  pub look-is : forecastOf (knownDecision k w a) ≡ lookOf s w a
-  unfolding lookOf
-  look-is = ap forecastOf (decision-is s w a e)
 
   pub accept-is : acceptKnown k w a ≡ acceptingOf s w a
   unfolding acceptKnown acceptingOf

@@ -1,6 +1,5 @@
 -- One arrival by what it comes to, in the shape of the code's returns. Assumes nothing.
-use mathlib.Core.Path.{_≡_, refl, sym, ap, _∙_}
-use mathlib.Core.Bool.{false}
+use mathlib.Core.Path.{_≡_, sym, ap, _∙_}
 use mathlib.Core.List.{List}
 use Prim.Native.Nat.{ℕ}
 use Rattle.flash.specs.Flash.{payloadOf}
@@ -9,37 +8,32 @@ use Rattle.transfer.specs.declared.Deed.{Deed}
 use Rattle.transfer.specs.declared.Accepted.{Accepted}
 use Rattle.transfer.specs.declared.Answer.{Answer}
 use Rattle.screen.specs.declared.Placed.{Placed}
-use Rattle.arrival.specs.Arrive.{Lent, World, Outcome, Decision, stays, accepts, done, acceptOf, forecast, forecastOf}
+use Rattle.arrival.specs.Arrive.{Lent, World, Outcome, Decision, stays, accepts, done, acceptOf}
 use Rattle.verdict.specs.Verdict.{knownDecision}
 use Rattle.verdict.specs.declared.Known.{Known}
 use Rattle.plan.specs.declared.Plan.{Plan}
-use Rattle.plan.specs.declared.Plan.the-variants.{Nothing}
 use Rattle.plan.specs.Plan.{decisionPlan, performed, withFlash, outcomeWith, Accepting, acceptingBy, performedOn}
 use Rattle.plan.proofs.Laws.{performs-by}
 use Rattle.entering.specs.Entering.{beside, entering, enteringOf}
 use Rattle.entering.proofs.Laws.{entered}
-use Rattle.receiver.specs.Receiver.{lent, world, refusal, outcome, receiveKnown, acceptKnown}
-use Rattle.receiver.specs.declared.Receipt.{Receipt}
+use Rattle.receipts.specs.Receipts.{unplanned, receiptOf}
+use Rattle.receipts.specs.declared.Receipt.{Receipt}
+use Rattle.receipts.specs.declared.Planned.{Planned}
+use Rattle.receiver.specs.Receiver.{lent, world, outcome, accepting, receiveKnown, acceptKnown}
 
 module _ (known : Known) (t : Transfer) (a : List ℕ) (h : Lent) where
   module _ {d : Decision} (k : d ≡ knownDecision known (world t h) a) where
-    -- what is said
-    pub look-stays : {x : Answer} → d ≡ stays x → forecast x false ≡ forecastOf (knownDecision known (world t h) a)
-    look-stays e = ap forecastOf (sym e ∙ k)
-
-    pub look-accepts : {p : Placed} {e : Deed} {y : Accepted} → d ≡ accepts p e y → forecast (y .answer) (y .discarded) ≡ forecastOf (knownDecision known (world t h) a)
-    look-accepts q = ap forecastOf (sym q ∙ k)
-
     -- what is accepted
-    pub accept-stays : {o : Receipt} {x : Answer} → d ≡ stays x → o ≡ refusal t x → record { outcome = outcome o h; plan = Nothing } ≡ acceptKnown known (world t h) a
+    pub accept-stays : {o : Planned} {x : Answer} → d ≡ stays x → o ≡ unplanned t x → accepting o h ≡ acceptKnown known (world t h) a
     unfolding acceptKnown acceptingBy done
-    accept-stays e y = ap (λ (o : Receipt). record { outcome = outcome o h; plan = Nothing }) y ∙ ap (acceptingBy (world t h) a) (sym e ∙ k)
+    accept-stays e y = ap (λ (o : Planned). accepting o h) y ∙ ap (acceptingBy (world t h) a) (sym e ∙ k)
 
-    pub accept-accepts : {p : Placed} {e : Deed} {y : Accepted} → d ≡ accepts p e y → {r : Plan} {m s u x : List ℕ} → entering r m (beside s u x) ≡ enteringOf p e y (payloadOf a) (h .seen) (beside (h .sectors) (h .main) (h .xip)) → record { outcome = outcome (record { transfer = y .transfer; answer = y .answer; discarded = y .discarded }) (lent (h .flash) m s u x); plan = r } ≡ acceptKnown known (world t h) a
+    pub accept-accepts : {p : Placed} {e : Deed} {y : Accepted} → d ≡ accepts p e y → {o : Planned} {m s u x : List ℕ} → (o .receipt ≡ receiptOf y) × (entering (o .plan) m (beside s u x) ≡ enteringOf p e y (payloadOf a) (h .seen) (beside (h .sectors) (h .main) (h .xip))) → accepting o (lent (h .flash) m s u x) ≡ acceptKnown known (world t h) a
     unfolding acceptKnown acceptingBy done
-    accept-accepts {p} {e} {y} q {r} en =
+    accept-accepts {p} {e} {y} q {o} {m} {s} {u} {x} (g, en) =
         let z = entered p e y (payloadOf a) (world t h) en in
-        ap (λ (v : World). record { outcome = record { world = v; answer = y .answer; discarded = y .discarded }; plan = r }) (z .1)
+        ap (λ (r : Receipt). record { outcome = outcome r (lent (h .flash) m s u x); plan = o .plan }) g
+        ∙ ap (λ (v : World). record { outcome = record { world = v; answer = y .answer; discarded = y .discarded }; plan = o .plan }) (z .1)
         ∙ ap (λ (b : Plan). record { outcome = record { world = withFlash (h .flash) (acceptOf (world t h) (payloadOf a) p e y); answer = y .answer; discarded = y .discarded }; plan = b }) (z .0)
         ∙ ap (acceptingBy (world t h) a) (sym q ∙ k)
 

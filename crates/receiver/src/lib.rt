@@ -1,103 +1,28 @@
-// One arrival: looked at, taken, or accepted with a plan for the flash.
+// One arrival: taken, or accepted with a plan for the flash.
 ghost use mathlib.Core.Path.{_≡_};
 ghost use Rattle.sets.specs.Numbered.{numbered};
-ghost use Rattle.arrival.specs.Arrive.{outcomeNumber, receiveOf, forecastNumber, lookOf};
+ghost use Rattle.arrival.specs.Arrive.{outcomeNumber, receiveOf};
 ghost use Rattle.plan.specs.Plan.{acceptingNumber, acceptingOf};
 ghost use Rattle.receiver.specs.Receiver.{
   lentAt,
   leftAt,
   world,
-  refusal,
   outcome,
   accepting,
   leftBeside,
-  previewed,
   receiveKnown,
   acceptKnown,
 };
-use plan::Plan;
+use receipts::Planned;
+use receipts::Receipt;
 use screen::Lengths;
 use settings::Settings;
-use transfer::Answer;
 use transfer::Transfer;
 use verdict::Known;
 use verdict::Verdict;
 
-// What an arrival hands back: the next transfer, the answer, and whether a running transfer was discarded.
-pub struct Receipt {
-    pub transfer: Transfer,
-    pub answer: Answer,
-    pub discarded: bool,
-}
-
-impl Receipt {
-    // The bytes of the seen map and of the sector map.
-    pub const SEEN: usize = Known::SEEN;
-
-    pub const SECTORS: usize = Known::SECTORS;
-}
-
-// What a look says: the answer, and whether a running transfer would be discarded.
-pub struct Preview {
-    pub answer: Answer,
-    pub discarded: bool,
-}
-
-// What an arrival hands back whose flash is written by a driver: the receipt, and what is left to do to the flash.
-pub struct Planned {
-    pub receipt: Receipt,
-    pub plan: Plan,
-}
-
-// Nothing changes, and this is the answer.
-fn refuse(transfer: Transfer, answer: Answer) -> Receipt
-    ensures { λ r. ⌜ r ≡ refusal transfer answer ⌝ }
-{
-    Receipt {
-        transfer,
-        answer,
-        discarded: false,
-    }
-}
-
-// What would happen. Nothing changes.
-pub fn look(
-    settings: Settings,
-    transfer: Transfer,
-    arrival: &[u8],
-    flash: &[u8],
-    seen: &[u8],
-    sectors: &[u8],
-    main: &[u8],
-    xip: &[u8],
-) -> Preview
-    ensures { λ r. ⌜ numbered forecastNumber (previewed r) ≡ numbered forecastNumber (lookOf settings (world transfer (lentAt flash seen sectors main xip)) (now (arrival .entry))) ⌝ }
-{
-    let lens = Lengths {
-        flash: flash.len(),
-        main: main.len(),
-        xip: xip.len(),
-    };
-    let known = verdict::known_of(settings, lens, seen.len(), sectors.len(), arrival);
-    let verdict = verdict::judge(known, transfer, arrival, flash, seen, sectors, main, xip);
-    match verdict {
-        Verdict::Leaves(answer) => Preview {
-            answer,
-            discarded: false,
-        },
-        Verdict::Accepts(acceptance) => {
-            let would = acceptance.accepted;
-            let answer = would.answer;
-            Preview {
-                answer,
-                discarded: would.discarded,
-            }
-        }
-    }
-}
-
 // One arrival accepted, where what the settings and the lengths say of it is handed in.
-fn accept_known(
+pub fn accept_known(
     known: Known,
     transfer: Transfer,
     arrival: &[u8],
@@ -109,28 +34,17 @@ fn accept_known(
 ) -> Planned
     ensures { λ r. ⌜ accepting r (leftBeside flash seen sectors main xip) ≡ acceptKnown known (world transfer (lentAt flash seen sectors main xip)) (now (arrival .entry)) ⌝ }
 {
-    let verdict = verdict::judge(known, transfer, arrival, flash, seen, sectors, main, xip);
+    let verdict = deciding::judge(known, transfer, arrival, flash, seen, sectors, main, xip);
     match verdict {
-        Verdict::Leaves(answer) => Planned {
-            receipt: refuse(transfer, answer),
-            plan: Plan::Nothing,
-        },
-        Verdict::Accepts(acceptance) => {
-            let placed = acceptance.placed;
-            let deed = acceptance.deed;
-            let accepted = acceptance.accepted;
-            let next = accepted.transfer;
-            let given = accepted.answer;
-            let plan = entering::enter(placed, deed, accepted, arrival, seen, sectors, main, xip);
-            Planned {
-                receipt: Receipt {
-                    transfer: next,
-                    answer: given,
-                    discarded: accepted.discarded,
-                },
-                plan,
-            }
-        }
+        Verdict::Leaves(answer) => receipts::refuse(transfer, answer),
+        Verdict::Accepts(acceptance) => receipts::enter(
+            acceptance,
+            arrival,
+            seen,
+            sectors,
+            main,
+            xip,
+        ),
     }
 }
 

@@ -23,8 +23,8 @@ use Rattle.piece.specs.declared.Stop.the-variants.{None, Bad, Differs}
 use Rattle.piece.specs.Piece.{isReplayed, stopOf}
 use Rattle.trace.specs.declared.PieceReceipt.{PieceReceipt}
 use Rattle.trace.specs.Trace.{PieceOutcome, pieceOutcome, pieceOf}
-use Rattle.trace.proofs.Laws.{piece-taken}
-use Rattle.counts.specs.Counts.{tallied, recordedAt, tallyTo}
+use Rattle.comparing.proofs.Laws.{piece-taken}
+use Rattle.tally.specs.Tally.{tallied, recordedAt, tallyTo}
 use Rattle.replay.specs.Replay.{cut, piecesOf, TraceOutcome, traceOutcome, wentOn, replayFrom, begun, replayOf, beforeStop, TallyOutcome, tallyOutcome, withCounts}
 
 -- ---- the pieces that are left
@@ -88,8 +88,8 @@ module _ (s : Settings) (trace : List ℕ) (at i : ℕ) (u : Transfer) (h : Lent
     pub run-stops : isReplayed (r .answer) ≡ false → {x : Stop} → x ≡ stopOf (r .answer) i → traceOutcome x (world (r .transfer) k) ≡ left
     run-stops z hx = sym (turned ∙ rw (z, hx))
 
-    pub run-goes-on : isReplayed (r .answer) ≡ true → replayFrom s (i + 1) (world (r .transfer) k) (piecesOf (drop to trace)) ≡ left
-    run-goes-on y = sym (turned ∙ rw y)
+    pub run-goes-on : {j : ℕ} → j ≡ i + 1 → isReplayed (r .answer) ≡ true → replayFrom s j (world (r .transfer) k) (piecesOf (drop to trace)) ≡ left
+    run-goes-on e y = sym (turned ∙ rw (y, e))
 
   pub run-ends : length trace ≤ at → traceOutcome None (world u h) ≡ left
   unfolding replayFrom
@@ -109,9 +109,9 @@ unfolding tallyTo
 tally-none l t = refl
 
 -- one record more: it begins where `at` stands
-pub tally-more : (l₀ t : List ℕ) (at i : ℕ) {l m : List ℕ} → at ≡ 513 * i → l ≡ tallyTo l₀ t i → m ≡ tallied l (getD t at 0) → m ≡ tallyTo l₀ t (i + 1)
+pub tally-more : (l₀ t : List ℕ) (at i : ℕ) {j : ℕ} {l m : List ℕ} → j ≡ i + 1 → at ≡ 513 * i → l ≡ tallyTo l₀ t i → m ≡ tallied l (getD t at 0) → m ≡ tallyTo l₀ t j
 unfolding tallyTo
-tally-more l₀ t at i e h q = q ∙ rw (add-one i, e, h)
+tally-more l₀ t at i n e h q = q ∙ rw (n, add-one i, e, h)
 
 -- a piece that is replayed is whole
 pub whole-next : (s : Settings) (w : World) (t : List ℕ) (at i : ℕ) {to : ℕ} {x : PieceAnswer} {v : World} → at ≡ 513 * i → to ≡ at + min 513 (length t - at)
@@ -120,6 +120,13 @@ whole-next s w t at i {to} e h q y =
     let p = take (to - at) (drop at t) in
     let long = piece-taken s w p (ap (λ (o : PieceOutcome). isReplayed (o .answer)) (sym q) ∙ y) .long in
     omega (arith, e, h, long, length-take (to - at) (drop at t), length-drop at t)
+
+-- so the next begins at a whole number of pieces, and has the next index
+pub begins-next : (at to : ℕ) → to ≡ 513 * (at / 513 + 1) → to ≡ 513 * (to / 513)
+begins-next at to e = omega (arith, e)
+
+pub index-next : (at to : ℕ) → to ≡ 513 * (at / 513 + 1) → to / 513 ≡ at / 513 + 1
+index-next at to e = omega (arith, e)
 
 stop-before : (x : PieceAnswer) (n i : ℕ) → isReplayed x ≡ false → beforeStop n (stopOf x i) ≡ i
 stop-before piece.Replayed n i z = clash true refl z

@@ -10,10 +10,11 @@ use Rattle.transfer.specs.declared.Transfer.{Transfer}
 use Rattle.arrival.specs.Arrive.{Lent, World}
 use Rattle.receiver.specs.Receiver.{lent, world}
 use Rattle.piece.specs.declared.Stop.{Stop}
-use Rattle.piece.specs.declared.Stop.the-variants.{None, Bad, Differs}
+use Rattle.piece.specs.declared.Stop.the-variants.{None}
 use Rattle.piece.specs.Piece.{isReplayed, stopOf}
+pub use Rattle.ends.specs.Ends.{beforeStop}
 use Rattle.trace.specs.Trace.{PieceOutcome, pieceOf}
-use Rattle.counts.specs.Counts.{tallyTo}
+use Rattle.tally.specs.Tally.{tallyTo}
 
 -- ---- the pieces of a trace
 
@@ -54,12 +55,6 @@ unfoldable pub replayOf : Settings → Lent → List ℕ → TraceOutcome
 replayOf s h t = replayFrom s 0 (begun h) (piecesOf t)
 
 -- ---- with a tally
-
--- how many records stand before the stop, of a trace with n whole pieces
-abbrev pub beforeStop : ℕ → Stop → ℕ
-beforeStop n None = n
-beforeStop n (Bad i) = i
-beforeStop n (Differs i) = i
 
 -- what a replay comes to, and what the lent tally holds
 pub record TallyOutcome : Type 0 where

@@ -41,7 +41,6 @@ fn run(
 {
     let len = trace.len();
     let mut t = Transfer::new();
-    let mut i: usize = 0;
     let mut at: usize = 0;
     while at < len {
         let to = piece_end(at, len);
@@ -60,13 +59,12 @@ fn run(
         if !answer.is_replayed() {
             return TraceReceipt {
                 transfer: next,
-                stop: piece::stop_of(answer, i),
+                stop: ends::stop_at(answer, at),
             };
         }
-        counts::count(tally, trace[at]);
+        tally::count(tally, trace[at]);
         t = next;
         at = to;
-        i += 1;
     }
     TraceReceipt {
         transfer: t,
@@ -87,8 +85,7 @@ pub fn replay_counted(
 ) -> TraceReceipt
     ensures { λ r. ⌜ tallyReturn (r .stop) (r .transfer) (now (tally .exit)) (leftAt flash seen sectors main xip) ≡ countedReplay settings (now (tally .entry)) (now (trace .entry)) (lentAt flash seen sectors main xip) ⌝ }
 {
-    bitmap::clear(seen);
-    bitmap::clear(sectors);
+    ends::clear_maps(seen, sectors);
     run(settings, trace, tally, flash, seen, sectors, main, xip)
 }
 

@@ -2,48 +2,12 @@
 ghost use mathlib.Core.Path.{_≡_};
 ghost use Rattle.sets.specs.Numbered.{numbered};
 ghost use Rattle.receiver.specs.Receiver.{lentAt, leftAt};
-ghost use Rattle.replay.specs.Replay.{beforeStop};
-ghost use Rattle.report.specs.Report.{figuresNumber, figuresOutcome, outcomeNumber, addOf};
-ghost use Rattle.report.specs.Counting.{replayedBy};
+ghost use Rattle.adding.specs.Report.{figuresOutcome, outcomeNumber, addOf};
+ghost use Rattle.adding.specs.Counting.{replayedBy};
+use adding::Added;
+use adding::FiguresAnswer;
 use counts::Report;
-use piece::Stop;
 use settings::Settings;
-
-// What comes of a trace that is handed to a report.
-pub enum FiguresAnswer {
-    BadReport,
-    TooMany,
-    Replayed(Stop),
-}
-
-// What is handed back: the next report, and what came of the trace.
-pub struct Added {
-    pub report: Report,
-    pub answer: FiguresAnswer,
-}
-
-impl FiguresAnswer {
-    pub fn number(self) -> u8
-        ensures { λ r. ⌜ r ≡ figuresNumber self ⌝ }
-    {
-        match self {
-            FiguresAnswer::BadReport => 71,
-            FiguresAnswer::TooMany => 70,
-            FiguresAnswer::Replayed(_) => 0,
-        }
-    }
-}
-
-// How many records stand before the stop, of a trace with so many whole pieces.
-fn before_stop(stop: Stop, pieces: usize) -> usize
-    ensures { λ r. ⌜ r ≡ beforeStop pieces stop ⌝ }
-{
-    match stop {
-        Stop::None => pieces,
-        Stop::Bad(index) => index,
-        Stop::Differs(index) => index,
-    }
-}
 
 // Adds a trace that is replayed, whatever the report: its records are counted as they are replayed.
 fn add_replayed(
@@ -59,7 +23,7 @@ fn add_replayed(
     ensures { λ r. ⌜ figuresOutcome (r .answer) (r .report) (leftAt flash seen sectors main xip) ≡ replayedBy report settings (lentAt flash seen sectors main xip) (now (trace .entry)) ⌝ }
 {
     let pieces = trace.len() / piece::RECORD;
-    let mut tally = [0usize; counts::TALLY];
+    let mut tally = [0usize; tally::TALLY];
     let replayed = replay::replay_counted(
         settings,
         trace,
@@ -72,9 +36,9 @@ fn add_replayed(
     );
     let stop = replayed.stop;
     let transfer = replayed.transfer;
-    let counted = counts::with_tally(report, tally, before_stop(stop, pieces));
+    let counted = counts::with_tally(report, tally, ends::before_stop(stop, pieces));
     Added {
-        report: counts::with_end(counted, transfer, seen),
+        report: missing::with_end(counted, transfer, seen),
         answer: FiguresAnswer::Replayed(stop),
     }
 }

@@ -80,7 +80,7 @@ fn fits_place(kind: Kind, b: Block, start: usize, size: usize) -> Screening
     if b.size as usize != Flash::PAYLOAD {
         return Screening::Refused(Answer::BadPayload);
     }
-    if rooms::bad_numbers(b, size) {
+    if numbers::bad_numbers(b, size) {
         return Screening::Refused(Answer::BadNumbers);
     }
     at_address(kind, b, start, size)
@@ -126,7 +126,7 @@ fn check(rooms: Rooms, lens: Lengths, transfer: Transfer, b: Block) -> Screening
     if b.comment {
         let noted = screen::note_kind(lens, transfer, b);
         let room = rooms::room_in(rooms, noted);
-        return rooms::check_note(noted, room, b);
+        return notes::check_note(noted, room, b);
     }
     let window = screen::window_of(lens, b.address as usize);
     let kind = screen::window_kind(window);

@@ -1,6 +1,5 @@
 -- The laws of `specs/`.
 pub mod Overlap
-pub mod Rising
 pub mod Laws
 pub mod Tables
 pub mod Alike

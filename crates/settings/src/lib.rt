@@ -1,10 +1,7 @@
-// The settings: what the device may run, and its partition table; whether they are good for a flash length.
+// The settings: what the device may run, and its partition table; what one entry of it says by itself.
 ghost use mathlib.Core.Path.{_≡_};
-ghost use mathlib.Core.Bool.{_||_};
-ghost use Prim.Native.Nat.{_≤_};
-ghost use Rattle.sets.specs.Sets.{any};
-ghost use Rattle.settings.specs.Settings.{isA, isUnowned, linkTarget, hasUser, accepts, isReserved, reservedUser, overlap, enabled, goodSettings, blankEntry, armOnly};
-ghost use Rattle.settings.specs.Parts.{aloneBad, wrongEntry, sharesBelow};
+ghost use Rattle.settings.specs.Settings.{isA, isUnowned, linkTarget, hasUser, accepts, isReserved, reservedUser, enabled, blankEntry, armOnly};
+ghost use Rattle.settings.specs.Parts.{aloneBad};
 use flash::Flash;
 
 // What an entry is linked to (01's terms: owned by, B of).
@@ -161,7 +158,7 @@ pub fn accepts_family(e: Entry, family: u32) -> bool
         | has_user(e, family)
 }
 
-fn reserved(family: u32) -> bool
+pub fn reserved(family: u32) -> bool
     ensures { λ r. ⌜ r ≡ isReserved family ⌝ }
 {
     (Family::RP2040 <= family) & (family <= Family::ARM_NS)
@@ -178,25 +175,8 @@ fn reserved_user(e: Entry) -> bool
         | ((3 < n) & reserved(users[3]))
 }
 
-// Have n sectors from f and m sectors from g one in common? In usize no sum wraps.
-fn sectors_overlap(f: u32, n: u32, g: u32, m: u32) -> bool
-    ensures { λ r. ⌜ r ≡ overlap f n g m ⌝ }
-{
-    let from = f as usize;
-    let to = from + n as usize;
-    let other = g as usize;
-    let other_to = other + m as usize;
-    if other_to <= from {
-        return false;
-    }
-    if to <= other {
-        return false;
-    }
-    (0 < n) & (0 < m)
-}
-
 // Is an entry wrong by itself?
-fn alone_bad(e: Entry, flash_len: usize) -> bool
+pub fn alone_bad(e: Entry, flash_len: usize) -> bool
     ensures { λ r. ⌜ r ≡ aloneBad «flash_len» e ⌝ }
 {
     let past = (e.first as usize + e.sectors as usize) * Flash::SECTOR;
@@ -204,7 +184,7 @@ fn alone_bad(e: Entry, flash_len: usize) -> bool
 }
 
 // The index that an entry's link names, 0 where it names none.
-fn target(e: Entry) -> u8
+pub fn target(e: Entry) -> u8
     ensures { λ r. ⌜ r ≡ linkTarget (e .link) ⌝ }
 {
     let link = e.link;
@@ -215,62 +195,6 @@ fn target(e: Entry) -> u8
     }
 }
 
-// Do two used entries share a sector? Each is held against those before it.
-fn any_shares(table: [Entry; Settings::ENTRIES], count: usize) -> bool
-    requires { ⌜ count ≤ 16 ⌝ }
-    ensures { λ r. ⌜ r ≡ any count (sharesBelow table) ⌝ }
-{
-    let mut k: usize = 0;
-    while k < count {
-        let first = table[k].first;
-        let sectors = table[k].sectors;
-        let mut j: usize = 0;
-        while j < k {
-            if sectors_overlap(first, sectors, table[j].first, table[j].sectors) {
-                return true;
-            }
-            j += 1;
-        }
-        k += 1;
-    }
-    false
-}
-
-// Is a used entry wrong by itself or by its link, or do two of them share a sector? Where each begins past the one before, none do.
-fn any_bad(table: [Entry; Settings::ENTRIES], count: usize, flash_len: usize) -> bool
-    requires { ⌜ count ≤ 16 ⌝ }
-    ensures { λ r. ⌜ r ≡ (any count (wrongEntry table «flash_len») || any count (sharesBelow table)) ⌝ }
-{
-    let mut rising = true;
-    let mut past: usize = 0;
-    let mut k: usize = 0;
-    while k < count {
-        let e = table[k];
-        let next = k + 1;
-        let first = e.first as usize;
-        rising = rising & (past <= first);
-        past = first + e.sectors as usize;
-        if alone_bad(e, flash_len) {
-            return true;
-        }
-        if !unowned(e) {
-            let j = target(e) as usize;
-            if k <= j {
-                return true;
-            }
-            let o = table[j];
-            if !is_a(o) {
-                return true;
-            }
-        }
-        k = next;
-    }
-    if rising {
-        return false;
-    }
-    any_shares(table, count)
-}
-
 pub fn is_enabled(settings: Settings, arch: Arch) -> bool
     ensures { λ r. ⌜ r ≡ enabled settings arch ⌝ }
 {
@@ -278,24 +202,4 @@ pub fn is_enabled(settings: Settings, arch: Arch) -> bool
         Arch::Arm => settings.arm,
         Arch::RiscV => settings.riscv,
     }
-}
-
-// Are the settings good for a flash of this many bytes?
-pub fn good(settings: Settings, flash_len: usize) -> bool
-    ensures { λ r. ⌜ r ≡ goodSettings settings «flash_len» ⌝ }
-{
-    let current = settings.current;
-    let count = settings.count as usize;
-    if !is_enabled(settings, current) {
-        return false;
-    }
-    // no table, and so no copy of one
-    if count == 0 {
-        return true;
-    }
-    if Settings::ENTRIES < count {
-        return false;
-    }
-    let table = settings.table;
-    !any_bad(table, count, flash_len)
 }

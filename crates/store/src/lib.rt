@@ -60,7 +60,7 @@ fn scan(s: &[u8], version: u8, n: usize) -> Scanned
     while k < n {
         let a = HEAD + ENTRY * k;
         let z = a + ENTRY;
-        stray = stray | entrybits::stray(&s[a..z], version);
+        stray = stray | entrystray::stray(&s[a..z], version);
         let e = entrybits::unpack(&s[a..z]);
         table[k] = e;
         k += 1;
@@ -128,7 +128,7 @@ fn read_head(b: &[u8], x: u64, flash_len: usize) -> Reading
         return refuse(StoreAnswer::BadBits);
     }
     let settings = settings_of(x, table);
-    if !settings::good(settings, flash_len) {
+    if !validity::good(settings, flash_len) {
         return refuse(StoreAnswer::BadSettings);
     }
     Reading {

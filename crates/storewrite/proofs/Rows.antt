@@ -1,12 +1,10 @@
 -- What is written: the head's two bytes, and the rows after it. Assumes nothing.
 use Prim.Native.Nat.{ℕ, _+_, _-_, _*_, _/_, _%_, _≤_}
 use mathlib.Core.Path.{_≡_, refl, sym, ap, _∙_}
-use mathlib.Core.Bool.{Bool, true, false}
 use mathlib.Core.List.{List, [], _∷_, _++_}
 use native.Mathlib.Omega.{arith}
 use lib.ListN.{length, take, drop, set, take-append-drop}
 use borrow.Rule.Slice.PartMut.{putMid}
-use Rattle.sets.specs.Sets.{any}
 use Rattle.sets.specs.Over.{over}
 use Rattle.sets.specs.Rows.{rows}
 use Rattle.sets.proofs.OverLaws.{length-over, set-over, over-next, copied-over}
@@ -14,15 +12,9 @@ use Rattle.sets.proofs.RowsLaws.{rows-none, rows-more, length-rows}
 use Rattle.settings.specs.declared.Entry.{Entry}
 use Rattle.settings.specs.declared.Settings.{Settings}
 use Rattle.settings.specs.Settings.{entryAt}
-use Rattle.packing.specs.Packing.{total, packed, unpacked, octets, bytesOf, bit}
+use Rattle.packing.specs.Packing.{total, packed, unpacked, octets, bytesOf}
 use Rattle.entrybits.specs.EntryBits.{packedEntry}
-use Rattle.storewrite.specs.Written.{restartAt, versionOf, headWidths, headFields, rowAt, storeOf}
-
--- the version, as the code has it
-pub version-is : (s : Settings) (b : Bool) → b ≡ any (s .count) (restartAt (s .table)) → versionOf s ≡ 1 + bit b
-unfolding versionOf
-version-is s true e = rw (← e)
-version-is s false e = rw (← e)
+use Rattle.storewrite.specs.Written.{headWidths, headFields, rowAt, storeOf}
 
 -- ---- the rows
 

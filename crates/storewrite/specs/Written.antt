@@ -1,48 +1,29 @@
 -- The packed store of settings (02, L5), written. Assumes nothing.
 use Prim.Native.Nat.{ℕ, _+_, _*_}
 use mathlib.Core.Bool.{Bool, _&&_, cond, not}
-use mathlib.Core.List.{List, [], _∷_, _++_}
+use mathlib.Core.List.{List, _++_}
 use lib.ListN.{length}
 use lib.Dec.{ltb, leb}
 use Rattle.sets.specs.Sets.{any}
 use Rattle.sets.specs.Over.{over}
 use Rattle.sets.specs.Rows.{rows}
 use Rattle.flash.specs.Flash.{flashLength}
-use Rattle.settings.specs.declared.Arch.{Arch}
-use Rattle.settings.specs.declared.Arch.the-variants.{Arm, RiscV}
 use Rattle.settings.specs.declared.Entry.{Entry}
 use Rattle.settings.specs.declared.Settings.{Settings}
 use Rattle.settings.specs.Settings.{entryAt, goodSettings}
-use Rattle.packing.specs.Packing.{bytesOf, bit}
+use Rattle.packing.specs.Packing.{bytesOf}
 use Rattle.entrybits.specs.EntryBits.{packedEntry}
 use Rattle.storewrite.specs.declared.StoreAnswer.{StoreAnswer}
 use Rattle.storewrite.specs.declared.StoreAnswer.the-variants.{BadBuffers, BadSettings, BadVersion, BadLength, BadBits, Good}
+-- the head
+pub use Rattle.storehead.specs.Head.{headWidths, archBit}
+unfoldable pub use Rattle.storehead.specs.Head.{restartAt, versionOf, headFields}
 
 -- ---- the store
 
--- entry k has "don't restart"
-unfoldable pub restartAt : List Entry → ℕ → Bool
-restartAt table k = entryAt table k .«no_restart»
-
--- one of the first n entries of a table of 16 has it
+-- one of the first n entries of a table of 16 has "don't restart"
 abbrev pub restartsIn : List Entry → ℕ → Bool
 restartsIn table n = leb n 16 && any n (restartAt table)
-
--- "version 2 is used exactly if some used entry has it"
-unfoldable pub versionOf : Settings → ℕ
-versionOf s = cond (any (s .count) (restartAt (s .table))) 2 1
-
--- "Head of 16 bits: version 4, count 5, auto switch, absolute, Arm, RISC-V, current (1 is RISC-V), two zeros."
-abbrev pub headWidths : List ℕ
-headWidths = 4 ∷ 5 ∷ 1 ∷ 1 ∷ 1 ∷ 1 ∷ 1 ∷ 2 ∷ []
-
-abbrev pub archBit : Arch → ℕ
-archBit Arm = 0
-archBit RiscV = 1
-
-unfoldable pub headFields : Settings → List ℕ
-headFields s =
-    versionOf s ∷ s .count ∷ bit (s .«auto_switch») ∷ bit (s .absolute) ∷ bit (s .arm) ∷ bit (s .riscv) ∷ archBit (s .current) ∷ 0 ∷ []
 
 -- the bytes of entry k
 unfoldable pub rowAt : List Entry → ℕ → List ℕ

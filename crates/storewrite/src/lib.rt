@@ -1,18 +1,14 @@
 // The packed store of settings, written to bytes.
 ghost use mathlib.Core.Path.{_≡_};
-ghost use Prim.Native.Nat.{_+_, _*_, _≤_, _<_};
+ghost use Prim.Native.Nat.{_+_, _*_, _≤_};
 ghost use lib.ListN.{length};
 ghost use Rattle.sets.specs.Sets.{any};
 ghost use Rattle.sets.specs.Numbered.{numbered};
 ghost use Rattle.sets.specs.Over.{over};
 ghost use Rattle.sets.specs.Rows.{rows};
-ghost use Rattle.packing.specs.Packing.{packed, bit};
 ghost use Rattle.storewrite.specs.Written.{
   restartAt,
   restartsIn,
-  headWidths,
-  archBit,
-  headFields,
   rowAt,
   storeOf,
   storeNumber,
@@ -20,7 +16,6 @@ ghost use Rattle.storewrite.specs.Written.{
   writeCall,
   writeOf,
 };
-use settings::Arch;
 use settings::Entry;
 use settings::Settings;
 
@@ -53,21 +48,6 @@ impl StoreAnswer {
     }
 }
 
-fn bit_of(b: bool) -> u64
-    ensures { λ r. ⌜ (r ≡ bit b) × (r < 2) ⌝ }
-{
-    if b { 1 } else { 0 }
-}
-
-fn arch_bit(a: Arch) -> u64
-    ensures { λ r. ⌜ (r ≡ archBit a) × (r < 2) ⌝ }
-{
-    match a {
-        Arch::Arm => 0,
-        Arch::RiscV => 1,
-    }
-}
-
 fn any_restart(table: [Entry; 16], n: usize) -> bool
     requires { ⌜ n ≤ 16 ⌝ }
     ensures { λ r. ⌜ r ≡ any n (restartAt table) ⌝ }
@@ -91,22 +71,6 @@ pub fn restarts(table: [Entry; 16], n: usize) -> bool
     any_restart(table, n)
 }
 
-// The head as one number.
-fn head_of(s: Settings, restart: bool) -> u64
-    requires { ⌜ (s .count ≤ 16) × (restart ≡ any (s .count) (restartAt (s .table))) ⌝ }
-    ensures { λ r. ⌜ (r ≡ packed headWidths (headFields s)) × (r < 65536) ⌝ }
-{
-    let current = s.current;
-    let a = bit_of(s.auto_switch);
-    let b = bit_of(s.absolute);
-    let c = bit_of(s.arm);
-    let d = bit_of(s.riscv);
-    let e = arch_bit(current);
-    let n = s.count as u64;
-    let version = 1 + bit_of(restart);
-    version * 4096 + n * 128 + a * 64 + b * 32 + c * 16 + d * 8 + e * 4
-}
-
 // Writes the used entries, from byte 2 on.
 fn write_rows(out: &mut [u8], table: [Entry; 16], n: usize)
     requires { ⌜ (n ≤ 16) × (2 + 22 * n ≤ length (now out)) ⌝ }
@@ -115,7 +79,7 @@ fn write_rows(out: &mut [u8], table: [Entry; 16], n: usize)
     let mut k: usize = 0;
     while k < n {
         let e = table[k];
-        let row = entrybits::pack(e);
+        let row = entrypack::pack(e);
         let a = HEAD + ENTRY * k;
         let z = a + ENTRY;
         bytes::copy(&row, &mut out[a..z]);
@@ -129,7 +93,7 @@ fn put_store(out: &mut [u8], s: Settings)
 {
     let table = s.table;
     let n = s.count as usize;
-    let x = head_of(s, any_restart(table, n));
+    let x = storehead::head_of(s, any_restart(table, n));
     out[0] = (x / 256 % 256) as u8;
     out[1] = (x / 1 % 256) as u8;
     write_rows(out, table, n);
@@ -142,7 +106,7 @@ pub fn write(settings: Settings, flash_len: usize, out: &mut [u8]) -> StoreAnswe
     if !flash::right_length(flash_len) {
         return StoreAnswer::BadBuffers;
     }
-    if !settings::good(settings, flash_len) {
+    if !validity::good(settings, flash_len) {
         return StoreAnswer::BadSettings;
     }
     let n = settings.count as usize;

@@ -2,6 +2,7 @@
 ghost use mathlib.Core.Path.{_≡_};
 ghost use Rattle.receiver.specs.Receiver.{lentAt, leftAt};
 ghost use Rattle.callbytes.specs.Calls.{takeCallOf, takeReturn};
+use screen::Lengths;
 
 // One arrival is taken: the answer's number, and 128 more where a running transfer was discarded.
 #[no_mangle]
@@ -17,9 +18,14 @@ pub extern "C" fn uf2_take(
 ) -> u32
     ensures { λ r. ⌜ takeReturn r transfer (leftAt flash seen sectors main xip) ≡ takeCallOf settings transfer arrival (lentAt flash seen sectors main xip) ⌝ }
 {
-    let s = layout::read_settings(settings);
+    let lens = Lengths {
+        flash: flash.len(),
+        main: main.len(),
+        xip: xip.len(),
+    };
+    let known = knownbytes::known_from(settings, lens, seen.len(), sectors.len(), arrival);
     let t = transferbytes::read_transfer(transfer);
-    let r = receiver::take(s, t, arrival, flash, seen, sectors, main, xip);
+    let r = receiver::take_known(known, t, arrival, flash, seen, sectors, main, xip);
     let answer = r.answer;
     let next = r.transfer;
     callbytes::keep(transfer, results::is_acceptance(answer), next);

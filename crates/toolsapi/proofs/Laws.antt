@@ -1,17 +1,12 @@
 -- The laws of the calls. Assumes nothing.
 use Prim.Native.Nat.{ℕ}
-use mathlib.Core.Path.{_≡_, refl, sym, ap, _∙_}
+use mathlib.Core.Path.{_≡_, ap, _∙_}
 use mathlib.Core.Logic.{_≢_}
-use mathlib.Core.List.{List, _++_}
-use native.Mathlib.Omega.{arith}
+use mathlib.Core.List.{List}
 use lib.ListN.{length}
 use borrow.Author.Tests.{eq-eqb, ne-eqb}
 use Rattle.sets.specs.Numbered.{numbered}
 use Rattle.sets.proofs.Numbered.{answer-is}
-use Rattle.sets.specs.Bytes.{lowFirst}
-use Rattle.sets.proofs.OverLaws.{over-whole}
-use Rattle.block.specs.Write.{le32, putAt}
-use Rattle.block.proofs.WriteLaws.{put-over, put-after}
 use Rattle.md5.specs.declared.Digest.{Digest}
 use Rattle.md5.specs.Md5.{md5Of, digestBytes}
 use Rattle.uf2file.specs.declared.MakeAnswer.{MakeAnswer}
@@ -25,18 +20,6 @@ pub make-told : (image : List ℕ) (family start : ℕ) (out : List ℕ) {n : �
     → makeCall x b ≡ makeOf image family start out → n ≡ makeNumber x → makeResult n b ≡ makeBytes image family start out
 unfolding makeBytes
 make-told image family start out {n} {x} {b} e h = ap (λ (k : ℕ). makeResult k b) h ∙ ap resultOf e
-
--- four words after each other, in 16 bytes
-pub digest-put : (out : List ℕ) (x : Digest) → length out ≡ 16 → putAt (putAt (putAt (putAt out 0 (x .a)) 4 (x .b)) 8 (x .c)) 12 (x .d) ≡ digestBytes x
-unfolding lowFirst digestBytes
-digest-put out x e =
-    rw (
-      put-over out 0 (x .a) (omega arith),
-      put-after out (le32 (x .a)) 4 (x .b) refl (omega arith),
-      put-after out (le32 (x .a) ++ le32 (x .b)) 8 (x .c) refl (omega arith),
-    )
-    (put-after out ((le32 (x .a) ++ le32 (x .b)) ++ le32 (x .c)) 12 (x .d) refl (omega arith)
-    ∙ over-whole out (((le32 (x .a) ++ le32 (x .b)) ++ le32 (x .c)) ++ le32 (x .d)) (sym e))
 
 module _ (out l : List ℕ) where
   pub digest-other : length out ≢ 16 → out ≡ digestOver out l

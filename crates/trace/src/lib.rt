@@ -12,36 +12,6 @@ pub struct PieceReceipt {
     pub answer: PieceAnswer,
 }
 
-// What comes of a piece: its arrival is looked at where it is a record.
-fn judge(
-    settings: Settings,
-    transfer: Transfer,
-    piece: &[u8],
-    flash: &[u8],
-    seen: &[u8],
-    sectors: &[u8],
-    main: &[u8],
-    xip: &[u8],
-) -> PieceAnswer
-    ensures { λ r. ⌜ r ≡ pieceOf settings (world transfer (lentAt flash seen sectors main xip)) (now (piece .entry)) .answer ⌝ }
-{
-    if piece::is_bad(piece) {
-        return PieceAnswer::Bad;
-    }
-    let looked = receiver::look(
-        settings,
-        transfer,
-        &piece[1..],
-        flash,
-        seen,
-        sectors,
-        main,
-        xip,
-    );
-    let answer = looked.answer;
-    piece::compared(piece[0], answer, looked.discarded)
-}
-
 // One piece of a trace: it is looked at, and taken where it is a record that says what we answer. Else nothing changes.
 pub fn replay_piece(
     settings: Settings,
@@ -55,7 +25,7 @@ pub fn replay_piece(
 ) -> PieceReceipt
     ensures { λ r. ⌜ pieceOutcome (r .answer) (world (r .transfer) (leftAt flash seen sectors main xip)) ≡ pieceOf settings (world transfer (lentAt flash seen sectors main xip)) (now (piece .entry)) ⌝ }
 {
-    let answer = judge(settings, transfer, piece, flash, seen, sectors, main, xip);
+    let answer = comparing::judge(settings, transfer, piece, flash, seen, sectors, main, xip);
     if !answer.is_replayed() {
         return PieceReceipt { transfer, answer };
     }

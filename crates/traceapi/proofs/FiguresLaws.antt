@@ -6,8 +6,8 @@ use Rattle.settings.specs.declared.Settings.{Settings}
 use Rattle.arrival.specs.Arrive.{Lent}
 use Rattle.layout.specs.Layout.{settingsFrom}
 use Rattle.counts.specs.declared.Report.{Report}
-use Rattle.report.specs.declared.Added.{Added}
-use Rattle.report.specs.Report.{figuresOutcome, addOf}
+use Rattle.adding.specs.declared.Added.{Added}
+use Rattle.adding.specs.Report.{figuresOutcome, addOf}
 use Rattle.reports.specs.Reports.{reportFrom}
 use Rattle.tracebytes.specs.Kept.{figuresResult, keptReport, keptIndex}
 use Rattle.traceapi.specs.FiguresCall.{figuresCall, figuresCallEnd, figuresBytes}

@@ -5,7 +5,7 @@ use denote.Ref.{now}
 use Rattle.arrival.specs.Arrive.{Lent}
 use Rattle.receiver.specs.Receiver.{Slice}
 use Rattle.layout.specs.Layout.{settingsFrom}
-use Rattle.report.specs.Report.{FiguresOutcome, addOf}
+use Rattle.adding.specs.Report.{FiguresOutcome, addOf}
 use Rattle.reports.specs.Reports.{reportFrom}
 use Rattle.tracebytes.specs.Kept.{figuresResult, keptReport, keptIndex}
 

@@ -8,8 +8,8 @@ use Rattle.sets.specs.Bytes.{lowFirst}
 use Rattle.piece.specs.declared.Stop.{Stop}
 use Rattle.piece.specs.declared.Stop.the-variants.{None, Bad, Differs}
 use Rattle.counts.specs.declared.Report.{Report}
-use Rattle.report.specs.declared.FiguresAnswer.{FiguresAnswer}
-use Rattle.report.specs.declared.FiguresAnswer.the-variants.{BadReport, TooMany, Replayed}
+use Rattle.adding.specs.declared.FiguresAnswer.{FiguresAnswer}
+use Rattle.adding.specs.declared.FiguresAnswer.the-variants.{BadReport, TooMany, Replayed}
 use Rattle.reports.specs.Reports.{reportWritten}
 
 -- ---- where a replay stops

@@ -1,9 +1,9 @@
 // What the calls for traces share: where a replay stopped and what came of a trace as numbers, and the bytes of index and report.
 ghost use mathlib.Core.Path.{_≡_};
 ghost use Rattle.tracebytes.specs.Kept.{stopNumber, indexOver, withStop, figuresResult, keptReport, keptIndex};
+use adding::FiguresAnswer;
 use counts::Report;
 use piece::Stop;
-use report::FiguresAnswer;
 
 // The bytes of an index.
 const INDEX: usize = 8;

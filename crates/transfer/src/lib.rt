@@ -2,7 +2,7 @@
 ghost use mathlib.Core.Path.{_≡_};
 ghost use Prim.Native.Nat.{_+_};
 ghost use Rattle.sets.specs.Numbered.{numbered};
-ghost use Rattle.transfer.specs.Transfer.{kindNumber, sameKind, headWith, numberOf, fresh, goodState, sameHead, deedAnswer, toldAnswer, withDeed, accepted, stepOf, stepNumber};
+ghost use Rattle.transfer.specs.Transfer.{kindNumber, sameKind, headWith, numberOf, fresh, goodState, sameHead, deedAnswer, accepted, stepOf, stepNumber};
 
 // Where a transfer's pages go: to the flash, to main RAM or to XIP RAM.
 pub enum Kind {
@@ -149,7 +149,7 @@ pub fn same_head(g: Head, h: Head) -> bool
 }
 
 // The answer to a block that does not complete its transfer.
-fn deed_answer(deed: Deed) -> Answer
+pub fn deed_answer(deed: Deed) -> Answer
     ensures { λ r. ⌜ r ≡ deedAnswer deed ⌝ }
 {
     match deed {
@@ -244,31 +244,4 @@ fn go_on(run: Run, head: Head, marked: bool, deed: Deed) -> Step
         });
     }
     Step::Accepts(accept(deed, head, run.count, false, false))
-}
-
-// The answer to a block that does `deed`, where `given` is that to one that stores, and the transfer goes on to `next`.
-fn told(next: Transfer, deed: Deed, given: Answer) -> Answer
-    ensures { λ r. ⌜ r ≡ toldAnswer deed (next .state) given ⌝ }
-{
-    let state = next.state;
-    match state {
-        State::Idle => given,
-        State::Running(_) => deed_answer(deed),
-        State::Done(_) => given,
-    }
-}
-
-// A block that was accepted as one that stores does `deed` instead: the step is not made again.
-pub fn doing(stored: Accepted, deed: Deed) -> Accepted
-    ensures { λ r. ⌜ r ≡ withDeed deed stored ⌝ }
-{
-    let next = stored.transfer;
-    let given = stored.answer;
-    let answer = told(next, deed, given);
-    Accepted {
-        transfer: next,
-        answer,
-        discarded: stored.discarded,
-        clears: stored.clears,
-    }
 }

@@ -5,5 +5,3 @@ pub mod Parse
 pub mod Lists
 pub mod Claims
 pub mod Others
-pub mod Exact
-pub mod Instance

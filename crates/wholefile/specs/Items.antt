@@ -1,9 +1,10 @@
 -- What lines say, as numbers: each record's type, address field and data, and how long its line is. Assumes nothing.
 use Prim.Native.Nat.{ℕ, _+_, _*_}
 use mathlib.Core.Path.{_≡_}
-use mathlib.Core.List.{List, [], _∷_}
+use mathlib.Core.List.{List, [], _∷_, _++_}
 use lib.ListN.{length, getD, take}
 use Rattle.record.specs.Record.{readOf}
+use Rattle.record.specs.Write.{recordText}
 use Rattle.record.specs.declared.Record.{Record}
 use Rattle.record.specs.declared.ParseResult.the-variants.{Good}
 
@@ -33,3 +34,11 @@ sizeOf (x ∷ xs) = x .size + sizeOf xs
 -- an item's first two data bytes, high first
 abbrev pub wordOf : Item → ℕ
 wordOf x = 256 * getD (x .bytes) 0 0 + getD (x .bytes) 1 0
+
+-- a record whose line ends in LF: 11 characters, two for each data byte, and the LF
+abbrev pub item : ℕ → ℕ → List ℕ → Item
+item kind address d = record { kind = kind; address = address; bytes = d; size = 12 + 2 * length d }
+
+-- and that line
+abbrev pub lineFor : Item → List ℕ
+lineFor x = recordText (x .kind) (x .address) (x .bytes) ++ (10 ∷ [])

@@ -2,5 +2,3 @@ pub mod Items
 pub mod Whole
 pub mod State
 pub mod Claims
-pub mod Exact
-pub mod Instance

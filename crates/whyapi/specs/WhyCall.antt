@@ -3,14 +3,13 @@ use Prim.Native.Nat.{ℕ, _+_, _/_, _%_}
 use mathlib.Core.Bool.{Bool, false, not, cond, _&&_}
 use mathlib.Core.List.{List, _∷_}
 use lib.Dec.{ltb, eqb}
-use lib.ListN.{length, replicate}
+use lib.ListN.{length}
 use denote.Ref.{RefT, now}
 use denote.Triple.Both.{Both}
-use Rattle.sets.specs.Sets.{least}
 use Rattle.sets.specs.Over.{over}
 use Rattle.block.specs.Write.{putAt}
 use Rattle.transfer.specs.Transfer.{numberOf}
-use Rattle.layout.specs.Layout.{byteAt, entryBytes, usedOf, settingsFrom, transferFrom}
+use Rattle.layout.specs.Layout.{byteAt, settingsFrom, transferFrom}
 use Rattle.faults.specs.declared.Fault.{Fault}
 use Rattle.faults.specs.declared.Fault.the-variants.{ArchOff, CountOver, NoSectors, PastFlash, Shares, LinksUp, LinksToB, ManyUsers, ReservedUser}
 use Rattle.causes.specs.Causes.{answerOf, causeNumber}
@@ -24,7 +23,10 @@ use Rattle.reason.specs.declared.Placed.{Placed}
 use Rattle.reason.specs.declared.Placed.the-variants.{Refused, Whole, Entry}
 use Rattle.placing.specs.declared.Rule.{Rule}
 use Rattle.placing.specs.declared.Rule.the-variants.{Absolute, NoTable}
-use Rattle.whyapi.specs.declared.Told.{Told}
+use Rattle.told.specs.declared.Told.{Told}
+-- what is told of settings' bytes
+pub use Rattle.told.specs.Told.{toldWith, bare}
+unfoldable pub use Rattle.told.specs.Told.{linkByte, linkOver, badLink, linkTold, settingsTold}
 
 -- ---- what is told of a reason
 
@@ -76,39 +78,11 @@ entryOf c = onFault faultEntry c
 abbrev pub otherOf : Cause → ℕ
 otherOf c = onFault faultOther c
 
-abbrev pub toldWith : ℕ → ℕ → ℕ → ℕ → ℕ → List ℕ → Told
-toldWith number g a entry other marks = record { number = number; got = g; against = a; entry = entry; other = other; marks = marks }
-
 abbrev pub toldOf : Why → Told
 toldOf y =
     toldWith (causeNumber (y .reason .cause)) (y .reason .got) (y .reason .against) (entryOf (y .reason .cause)) (otherOf (y .reason .cause)) (y .entries)
 
 -- ---- bytes that are no settings or no transfer are named as that, and no number is told that nobody handed in
-
--- without an entry and marks
-abbrev pub bare : ℕ → ℕ → ℕ → Told
-bare number g a = toldWith number g a 0 0 (replicate 16 0)
-
--- the link kind's byte of entry k, at layout's offset
-unfoldable pub linkByte : List ℕ → ℕ → ℕ
-linkByte b k = byteAt (entryBytes b k) 31
-
--- it is no kind (layout's `linkFrom`)
-unfoldable pub linkOver : List ℕ → ℕ → Bool
-linkOver b k = ltb 2 (linkByte b k)
-
--- of n used entries the first whose link is of no kind, and n where each has one
-unfoldable pub badLink : List ℕ → ℕ → ℕ
-badLink b n = least n (linkOver b)
-
--- 211: the link kind's byte of entry k of n used ones, and 2; such an entry makes the settings bad (`link-answers` of proofs/Laws.antt)
-unfoldable pub linkTold : List ℕ → ℕ → ℕ → Told → Told
-linkTold b n k x = cond (ltb k n) (toldWith 211 (linkByte b k) 2 k 0 (replicate 16 0)) x
-
--- 210: a wrong length, and the right one; such bytes are bad settings (layout's `countFrom`). With a count over 16 no entry is used
-unfoldable pub settingsTold : List ℕ → Told → Told
-settingsTold b x =
-    cond (eqb (length b) 550) (linkTold b (usedOf (byteAt b 5)) (badLink b (usedOf (byteAt b 5))) x) (bare 210 (length b) 550)
 
 -- 306: a wrong length, and the right one; 307: a state byte over 2, or of a transfer that is not Idle a kind byte over 2 (layout's `stateOf`)
 unfoldable pub transferTold : List ℕ → Told → Told

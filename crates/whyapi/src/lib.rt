@@ -1,19 +1,12 @@
 // Reasons for C: why an arrival is answered as it is, and why a family has a place or none. A library of its own.
 ghost use mathlib.Core.Path.{_≡_};
-ghost use Prim.Native.Nat.{_≤_, _<_};
 ghost use lib.ListN.{length};
-ghost use Rattle.layout.specs.Layout.{usedOf};
 ghost use Rattle.whyapi.specs.WhyCall.{
   faultEntry,
   faultOther,
   entryOf,
   otherOf,
-  toldWith,
   toldOf,
-  linkByte,
-  badLink,
-  linkTold,
-  settingsTold,
   transferTold,
   byteTold,
   numbersOver,
@@ -34,30 +27,12 @@ use faults::Fault;
 use placing::Rule;
 use reason::Placed;
 use reason::Why;
+use told::Told;
 
-// What is written of a reason.
-pub struct Told {
-    pub number: u32,
-    pub got: u64,
-    pub against: u64,
-    pub entry: u8,
-    pub other: u8,
-    pub marks: [u8; 16],
-}
-
-// The bytes of a reason, of settings and of a transfer.
+// The bytes of a reason and of a transfer.
 const REASON: usize = 38;
 
-const SETTINGS: usize = 550;
-
 const TRANSFER: usize = 14;
-
-// The bytes of settings before the table, those of an entry, and the entries.
-const HEAD: usize = 6;
-
-const ENTRY: usize = 34;
-
-const ENTRIES: usize = 16;
 
 const WORD: u64 = 4294967296;
 
@@ -106,19 +81,6 @@ fn other_of(cause: Cause) -> u8
     fault_other(x)
 }
 
-fn told_with(number: u32, got: u64, against: u64, entry: u8, other: u8, marks: [u8; 16]) -> Told
-    ensures { λ r. ⌜ r ≡ toldWith number got against entry other marks ⌝ }
-{
-    Told {
-        number,
-        got,
-        against,
-        entry,
-        other,
-        marks,
-    }
-}
-
 // A reason as it is written.
 fn told_of(why: Why) -> Told
     ensures { λ r. ⌜ r ≡ toldOf why ⌝ }
@@ -129,68 +91,7 @@ fn told_of(why: Why) -> Told
     let number = cause.number() as u32;
     let entry = entry_of(cause);
     let other = other_of(cause);
-    told_with(number, reason.got, reason.against, entry, other, marks)
-}
-
-// How many entries are used; none with a count over 16.
-fn used(count: u8) -> usize
-    ensures { λ r. ⌜ r ≡ usedOf count ⌝ }
-    ensures low { λ r. ⌜ r ≤ 16 ⌝ }
-{
-    let n = count as usize;
-    if n <= ENTRIES { n } else { 0 }
-}
-
-// The link kind's byte of entry k.
-fn link_byte(bytes: &[u8], k: usize) -> u8
-    requires { ⌜ length (now bytes) ≡ 550 ⌝ }
-    requires { ⌜ k < 16 ⌝ }
-    ensures { λ r. ⌜ r ≡ linkByte (now (bytes .entry)) k ⌝ }
-{
-    let at = HEAD + k * ENTRY;
-    let e = &bytes[at..at + ENTRY];
-    e[31]
-}
-
-// Of n used entries the first whose link is of no kind, and n where each has one.
-fn bad_link(bytes: &[u8], n: usize) -> usize
-    requires { ⌜ length (now bytes) ≡ 550 ⌝ }
-    requires { ⌜ n ≤ 16 ⌝ }
-    ensures { λ r. ⌜ r ≡ badLink (now (bytes .entry)) n ⌝ }
-{
-    let mut k: usize = 0;
-    while k < n {
-        if 2 < link_byte(bytes, k) {
-            return k;
-        }
-        k += 1;
-    }
-    n
-}
-
-// What is told where the link of entry k, of n used ones, is of no kind.
-fn link_told(bytes: &[u8], n: usize, k: usize, told: Told) -> Told
-    requires { ⌜ length (now bytes) ≡ 550 ⌝ }
-    requires { ⌜ n ≤ 16 ⌝ }
-    ensures { λ r. ⌜ r ≡ linkTold (now (bytes .entry)) n k told ⌝ }
-{
-    if k < n {
-        let kind = link_byte(bytes, k);
-        return told_with(211, kind as u64, 2, k as u8, 0, [0; 16]);
-    }
-    told
-}
-
-// Bytes that are no settings: no number is told that is not theirs.
-fn settings_told(bytes: &[u8], told: Told) -> Told
-    ensures { λ r. ⌜ r ≡ settingsTold (now (bytes .entry)) told ⌝ }
-{
-    if bytes.len() != SETTINGS {
-        return told_with(210, bytes.len() as u64, SETTINGS as u64, 0, 0, [0; 16]);
-    }
-    let n = used(bytes[5]);
-    let k = bad_link(bytes, n);
-    link_told(bytes, n, k, told)
+    told::told_with(number, reason.got, reason.against, entry, other, marks)
 }
 
 // Bytes that are no transfer.
@@ -198,15 +99,15 @@ fn transfer_told(bytes: &[u8], told: Told) -> Told
     ensures { λ r. ⌜ r ≡ transferTold (now (bytes .entry)) told ⌝ }
 {
     if bytes.len() != TRANSFER {
-        return told_with(306, bytes.len() as u64, TRANSFER as u64, 0, 0, [0; 16]);
+        return told::told_with(306, bytes.len() as u64, TRANSFER as u64, 0, 0, [0; 16]);
     }
     let tag = bytes[0];
     let kind = bytes[13];
     if 2 < tag {
-        return told_with(307, tag as u64, 2, 0, 0, [0; 16]);
+        return told::told_with(307, tag as u64, 2, 0, 0, [0; 16]);
     }
     if (tag != 0) & (2 < kind) {
-        return told_with(307, kind as u64, 2, 0, 0, [0; 16]);
+        return told::told_with(307, kind as u64, 2, 0, 0, [0; 16]);
     }
     told
 }
@@ -216,7 +117,7 @@ fn byte_told(number: u8, settings: &[u8], transfer: &[u8], told: Told) -> Told
     ensures { λ r. ⌜ r ≡ byteTold number (now (settings .entry)) (now (transfer .entry)) told ⌝ }
 {
     if number == 2 {
-        return settings_told(settings, told);
+        return told::settings_told(settings, told);
     }
     if number == 3 {
         return transfer_told(transfer, told);
@@ -324,8 +225,8 @@ fn place_told(placed: Placed, marks: [u8; 16]) -> Told
             discarded: false,
             entries: marks,
         }),
-        Placed::Whole(rule) => told_with(rule_number(rule), 0, 0, 0, 0, marks),
-        Placed::Entry { pass, entry } => told_with(3, pass as u64, 0, entry, 0, marks),
+        Placed::Whole(rule) => told::told_with(rule_number(rule), 0, 0, 0, 0, marks),
+        Placed::Entry { pass, entry } => told::told_with(3, pass as u64, 0, entry, 0, marks),
     }
 }
 
@@ -348,7 +249,7 @@ fn place_shown(number: u8, settings: &[u8], told: Told) -> Told
     ensures { λ r. ⌜ r ≡ placeShown number (now (settings .entry)) told ⌝ }
 {
     if number == 2 {
-        return settings_told(settings, told);
+        return told::settings_told(settings, told);
     }
     told
 }

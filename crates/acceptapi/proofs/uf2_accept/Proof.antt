@@ -1,7 +1,8 @@
 -- `acceptapi::uf2_accept` meets its contract. Assumes nothing.
-use Rattle.sets.proofs.Numbered.{answer-is}
+use mathlib.Core.Path.{refl, _∙_}
+use Rattle.receiver.proofs.KnownLaws.{accept-is}
 use Rattle.callbytes.proofs.Laws.{accept-short, accept-ran}
-use Rattle.acceptapi.proofs.Laws.{plan-low}
+use Rattle.planbytes.proofs.Laws.{plan-whole}
 use borrow.Author.Needs.{needs}
 use Rattle.acceptapi.proofs.uf2_accept.Statement.{statement}
 use Rattle.acceptapi.proofs.uf2_accept.Tie as tie
@@ -9,29 +10,17 @@ use Rattle.acceptapi.proofs.uf2_accept.Tie as tie
 returns : tie.Need-returns
 returns c = accept-short _ _ _ _ _ (c .if1 .taken)
 
-read-settings-requires : tie.Need-read-settings-requires
-read-settings-requires c κs = search needs
+known-from-requires : tie.Need-known-from-requires
+known-from-requires c κs = search needs
 
 read-transfer-requires : tie.Need-read-transfer-requires
 read-transfer-requires c κs = search needs
 
-accept-requires : tie.Need-accept-requires
-accept-requires c κs = search needs
+accept-known-requires : tie.Need-accept-known-requires
+accept-known-requires c κs = search needs
 
-tell-requires : tie.Need-tell-requires
-tell-requires c κs = (search needs, plan-low _ _ _ (answer-is (c .before .before .before .before .before .before .before .before .before .before .before .accept .ensures)))
-
-is-acceptance-requires : tie.Need-is-acceptance-requires
-is-acceptance-requires c κs = search needs
-
-keep-requires : tie.Need-keep-requires
-keep-requires c κs = search needs
-
-result-requires : tie.Need-result-requires
-result-requires c κs = search needs
-
-cast-result : tie.Need-cast-result
-cast-result c = search needs
+hand-back-requires : tie.Need-hand-back-requires
+hand-back-requires c κs = search needs
 
 same-length : tie.Need-same-length
 same-length c = search needs
@@ -52,21 +41,23 @@ same-length-6 : tie.Need-same-length-6
 same-length-6 c = search needs
 
 returns-2 : tie.Need-returns-2
-returns-2 c = let got = c .before .before .before .before .before .before .before .before .before .before .before .before .before .before .before .before .before .before .before .before in let read = got .before .before .before .before .before in accept-ran _ _ _ _ _ (read .before .before .before .if1 .left) (read .before .before .read-settings .ensures) (read .read-transfer .ensures) (answer-is (got .accept .ensures)) (c .before .before .before .before .is-acceptance .ensures) (c .before .before .before .keep .ensures) (c .result .ensures) (c .before .before .before .before .before .before .before .before .tell .ensures)
+returns-2 c =
+    let told = c .before .before .before .before in
+    let got = told .before .before .before .before .before .before .before .before .before .before .before in
+    let read = got .before .before .before .before .before in
+    let x = read .before .before .before .before .before .before .before .before .before .before .before .before .before .args in
+    let long = read .before .before .before .if1 .left in
+    accept-ran _ _ _ _ _ long refl (read .read-transfer .ensures) (got .accept-known .ensures ∙ accept-is _ _ _ (read .before .before .known-from .ensures)) refl (told .hand-back .ensures .0 .1) (told .hand-back .ensures .0 .0) (told .hand-back .ensures .1 ∙ plan-whole (x .plan .now) (got .accept-known .result .plan) long)
 
 pub uf2-accept-spec : {M : Type 1} → statement M
 uf2-accept-spec =
     tie.close
     (tie.spec
     returns
-    read-settings-requires
+    known-from-requires
     read-transfer-requires
-    accept-requires
-    tell-requires
-    is-acceptance-requires
-    keep-requires
-    result-requires
-    cast-result
+    accept-known-requires
+    hand-back-requires
     same-length
     same-length-2
     same-length-3

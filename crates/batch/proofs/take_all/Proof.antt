@@ -28,13 +28,13 @@ abbrev μ-loop : tie.MeasureT-loop
 at-most-requires : tie.Need-at-most-requires Inv-loop μ-loop
 at-most-requires c κs = search needs
 
-judge-requires : tie.Need-judge-requires Inv-loop μ-loop
-judge-requires c κs = search needs
+judge-lent-requires : tie.Need-judge-lent-requires Inv-loop μ-loop
+judge-lent-requires c κs = search needs
 
 loop-holds : tie.Need-loop-holds Inv-loop μ-loop
 loop-holds c =
-    let judged = c .before .judge .ensures in
-    (search needs, refl, stays-judged _ _ _ (judged .0), knows-of _ _ (ap (λ (j : Judged). j .kept) (judged .0)) (judged .1), end-starts _ _ _ _ (c .before .before .at-most .ensures .0))
+    let judged = c .before .judge-lent .ensures in
+    (search needs, refl, stays-judged _ _ _ (judged .0), knows-of _ _ (ap (λ (j : Judged). j .kept) (judged .0)) (judged .1), end-starts _ _ _ _ (c .before .before .before .before .before .before .before .at-most .ensures .0))
 
 mul-from : tie.Need-mul-from Inv-loop μ-loop
 mul-from c = search needs
@@ -58,14 +58,14 @@ take-next-requires : tie.Need-take-next-requires Inv-loop μ-loop
 take-next-requires c κs =
     let round = c .before .before .before .before .before .before in
     let at = round .before .loop in
-    let made = round .before .before .before .before in
+    let made = round .before .before .before .before .before .before .before .before .before in
     (at .inv .2 .judged, (at .inv .3, arrival-size _ _ (made .before .before .before .before .before .before .before .before .args .arrivals .now) (round .loop-test .taken) (made .at-most .ensures .1 .0)))
 
 slice-write-results : tie.Need-slice-write-results Inv-loop μ-loop
 slice-write-results c =
     let round = c .before .before .before .before .before .before .before .before .before .before .before .before .before .before .before .before .before .before .before in
     let at = round .before .loop in
-    let made = round .before .before .before .before in
+    let made = round .before .before .before .before .before .before .before .before .before in
     omega (arith, at .inv .1, round .loop-test .taken, made .at-most .ensures .1 .1)
 
 loop-less : tie.Need-loop-less Inv-loop μ-loop
@@ -108,7 +108,7 @@ take-all-spec =
     Inv-loop
     μ-loop
     at-most-requires
-    judge-requires
+    judge-lent-requires
     loop-holds
     mul-from
     add-to

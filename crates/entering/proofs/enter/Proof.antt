@@ -10,11 +10,8 @@ cast-number c = search needs
 page-at-requires : tie.Need-page-at-requires
 page-at-requires c κs = search needs
 
-clear-if-requires : tie.Need-clear-if-requires
-clear-if-requires c κs = search needs
-
-clear-if-requires-2 : tie.Need-clear-if-requires-2
-clear-if-requires-2 c κs = search needs
+clear-maps-requires : tie.Need-clear-maps-requires
+clear-maps-requires c κs = search needs
 
 write-requires : tie.Need-write-requires
 write-requires c κs = search needs
@@ -35,7 +32,10 @@ same-length-4 : tie.Need-same-length-4
 same-length-4 c = search needs
 
 returns : tie.Need-returns
-returns c = enters _ _ _ _ _ _ _ _ (c .before .before .before .before .before .before .before .before .before .before .before .before .before .before .before .before .before .before .before .before .before .before .before .page-at .ensures) (c .before .before .before .before .before .before .before .before .before .before .before .before .before .before .before .before .before .before .before .before .clear-if .ensures) (c .before .before .before .before .before .before .before .before .before .before .before .before .before .before .before .before .clear-if2 .ensures) (c .before .before .before .before .before .before .before .before .before .before .write .ensures) (c .before .before .mark .ensures)
+returns c =
+    let w = c .before .before .before .before .before .before .before .before .before .before in
+    let k = w .before .before .before .before .before .before .before .before in
+    enters _ _ _ _ _ _ _ _ (k .before .before .before .before .page-at .ensures) (k .clear-maps .ensures) (w .write .ensures) (c .before .before .mark .ensures)
 
 pub enter-spec : {M : Type 1} → statement M
 enter-spec =
@@ -43,8 +43,7 @@ enter-spec =
     (tie.spec
     cast-number
     page-at-requires
-    clear-if-requires
-    clear-if-requires-2
+    clear-maps-requires
     write-requires
     mark-requires
     same-length

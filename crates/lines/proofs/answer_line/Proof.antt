@@ -1,7 +1,8 @@
 -- `lines::answer_line` meets its contract. Assumes nothing.
 use native.Mathlib.Omega.{arith}
+use lib.ListN.{length-append}
 use Rattle.lines.specs.Lines.{answerLine}
-use Rattle.lines.proofs.Laws.{grown-more, grown-counts, pair-short}
+use Rattle.textparts.proofs.Laws.{grown-more, grown-counts, decimal-short}
 use borrow.Author.Needs.{needs}
 use Rattle.lines.proofs.answer_line.Statement.{statement}
 use Rattle.lines.proofs.answer_line.Tie as tie
@@ -16,9 +17,7 @@ slice-aggregate-put : tie.Need-slice-aggregate-put
 slice-aggregate-put c = search needs
 
 put-requires : tie.Need-put-requires
-put-requires c κs =
-    let p = c .before .before in
-    omega (arith, p .put-pair, pair-short (p .before .before .before .args .index) (p .before .before .before .args .answer))
+put-requires c κs = search needs
 
 returns : tie.Need-returns
 unfolding answerLine
@@ -27,7 +26,7 @@ returns c =
     let f = p .before .before in
     let x = f .before .args in
     rw (← f .flag .ensures)
-    (grown-counts _ _ (grown-more _ _ _ (p .put-pair .ensures) (c .put .ensures)) (omega (arith, c .put, p .put-pair, pair-short (x .index) (x .answer))))
+    (grown-counts _ _ (grown-more _ _ _ (λ l. p .put-pair .ensures) (c .put .ensures)) (simp length-append (omega (arith, c, decimal-short (x .index), decimal-short (x .answer)))))
 
 pub answer-line-spec : {M : Type 1} → statement M
 answer-line-spec =

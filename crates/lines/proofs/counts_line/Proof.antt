@@ -1,7 +1,8 @@
 -- `lines::counts_line` meets its contract. Assumes nothing.
 use native.Mathlib.Omega.{arith}
+use lib.ListN.{length-append}
 use Rattle.lines.specs.Lines.{countsLine}
-use Rattle.lines.proofs.Laws.{grown-none, grown-more, grown-counts, decimal-short}
+use Rattle.textparts.proofs.Laws.{grown-none, grown-more, grown-counts, decimal-short}
 use borrow.Author.Needs.{needs}
 use Rattle.lines.proofs.counts_line.Statement.{statement}
 use Rattle.lines.proofs.counts_line.Tie as tie
@@ -22,26 +23,16 @@ slice-aggregate-put-2 : tie.Need-slice-aggregate-put-2
 slice-aggregate-put-2 c = search needs
 
 put-requires-3 : tie.Need-put-requires-3
-put-requires-3 c κs =
-    let p = c .before .before .before .before .before in
-    omega (arith, c .before .before .put-decimal, p, decimal-short (p .before .before .before .before .before .args .total))
+put-requires-3 c κs = search needs
 
 put-decimal-requires-2 : tie.Need-put-decimal-requires-2
-put-decimal-requires-2 c κs =
-    let e = c .before .before .before .before in
-    let p = e .before .before .before in
-    omega (arith, c .before .put3, e .put-decimal, p, decimal-short (p .before .before .before .before .before .args .total))
+put-decimal-requires-2 c κs = search needs
 
 slice-aggregate-put-3 : tie.Need-slice-aggregate-put-3
 slice-aggregate-put-3 c = search needs
 
 put-requires-4 : tie.Need-put-requires-4
-put-requires-4 c κs =
-    let s = c .before .before .before .before in
-    let e = s .before .before .before in
-    let p = e .before .before .before in
-    let x = p .before .before .before .before .before .args in
-    omega (arith, c .before .before .put-decimal2, s .put3, e .put-decimal, p, decimal-short (x .total), decimal-short (x .seen))
+put-requires-4 c κs = search needs
 
 returns : tie.Need-returns
 unfolding countsLine
@@ -55,8 +46,7 @@ returns c =
     let told = grown-more _ _ _ (grown-more _ _ _ named (p .put2 .ensures)) (e .put-decimal .ensures) in
     let x = q .before .before .before .args in
     let g = grown-more _ _ _ (grown-more _ _ _ (grown-more _ _ _ told (s .put3 .ensures)) (n .put-decimal2 .ensures)) (c .put4 .ensures) in
-    grown-counts _ _ g
-    (omega (arith, c .put4, n .put-decimal2, s .put3, e .put-decimal, p .put2, q, decimal-short (x .total), decimal-short (x .seen)))
+    grown-counts _ _ g (simp length-append (omega (arith, c, q .before .before .before .pre, decimal-short (x .total), decimal-short (x .seen))))
 
 pub counts-line-spec : {M : Type 1} → statement M
 counts-line-spec =

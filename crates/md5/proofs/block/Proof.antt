@@ -66,11 +66,13 @@ mix-g-requires :
     tie.Need-mix-g-requires Inv-loop μ-loop Inv-loop2 μ-loop2 Inv-loop3 μ-loop3 Inv-loop4 μ-loop4
 mix-g-requires c κs = search needs
 
-mul-step : tie.Need-mul-step Inv-loop μ-loop Inv-loop2 μ-loop2 Inv-loop3 μ-loop3 Inv-loop4 μ-loop4
-mul-step c = search needs
+cast-word-g :
+    tie.Need-cast-word-g Inv-loop μ-loop Inv-loop2 μ-loop2 Inv-loop3 μ-loop3 Inv-loop4 μ-loop4
+cast-word-g c = search needs
 
-add-step : tie.Need-add-step Inv-loop μ-loop Inv-loop2 μ-loop2 Inv-loop3 μ-loop3 Inv-loop4 μ-loop4
-add-step c = search needs
+word-g-requires :
+    tie.Need-word-g-requires Inv-loop μ-loop Inv-loop2 μ-loop2 Inv-loop3 μ-loop3 Inv-loop4 μ-loop4
+word-g-requires c κs = search needs
 
 step-requires-2 :
     tie.Need-step-requires-2 Inv-loop μ-loop Inv-loop2 μ-loop2 Inv-loop3 μ-loop3 Inv-loop4 μ-loop4
@@ -86,9 +88,9 @@ loop2-less c = search needs
 loop2-again :
     tie.Need-loop2-again Inv-loop μ-loop Inv-loop2 μ-loop2 Inv-loop3 μ-loop3 Inv-loop4 μ-loop4
 loop2-again c =
-    let a = c .before .before .before .before .before .before .before .args in
-    let l = c .before .before .before .loop2 in
-    (omega arith, omega arith, next-g (a .m .now) (a .s) (l .t) _ (l .i) _ _ (l .inv .2) (c .step2 .ensures) (c .before .mix-g .ensures) (omega arith) (omega arith) (omega arith))
+    let a = c .before .before .before .before .before .before .before .before .args in
+    let l = c .before .before .before .before .loop2 in
+    (omega arith, omega arith, next-g (a .m .now) (a .s) (l .t) _ (l .i) _ _ (l .inv .2) (c .step2 .ensures) (c .before .before .mix-g .ensures) (omega (arith, c .before .word-g .ensures)) (omega arith) (omega arith))
 
 loop3-holds :
     tie.Need-loop3-holds Inv-loop μ-loop Inv-loop2 μ-loop2 Inv-loop3 μ-loop3 Inv-loop4 μ-loop4
@@ -98,13 +100,13 @@ mix-h-requires :
     tie.Need-mix-h-requires Inv-loop μ-loop Inv-loop2 μ-loop2 Inv-loop3 μ-loop3 Inv-loop4 μ-loop4
 mix-h-requires c κs = search needs
 
-mul-step-2 :
-    tie.Need-mul-step-2 Inv-loop μ-loop Inv-loop2 μ-loop2 Inv-loop3 μ-loop3 Inv-loop4 μ-loop4
-mul-step-2 c = search needs
+cast-word-h :
+    tie.Need-cast-word-h Inv-loop μ-loop Inv-loop2 μ-loop2 Inv-loop3 μ-loop3 Inv-loop4 μ-loop4
+cast-word-h c = search needs
 
-add-step-2 :
-    tie.Need-add-step-2 Inv-loop μ-loop Inv-loop2 μ-loop2 Inv-loop3 μ-loop3 Inv-loop4 μ-loop4
-add-step-2 c = search needs
+word-h-requires :
+    tie.Need-word-h-requires Inv-loop μ-loop Inv-loop2 μ-loop2 Inv-loop3 μ-loop3 Inv-loop4 μ-loop4
+word-h-requires c κs = search needs
 
 step-requires-3 :
     tie.Need-step-requires-3 Inv-loop μ-loop Inv-loop2 μ-loop2 Inv-loop3 μ-loop3 Inv-loop4 μ-loop4
@@ -120,9 +122,9 @@ loop3-less c = search needs
 loop3-again :
     tie.Need-loop3-again Inv-loop μ-loop Inv-loop2 μ-loop2 Inv-loop3 μ-loop3 Inv-loop4 μ-loop4
 loop3-again c =
-    let a = c .before .before .before .before .before .before .before .before .before .args in
-    let l = c .before .before .before .loop3 in
-    (omega arith, omega arith, next-h (a .m .now) (a .s) (l .t) _ (l .i) _ _ (l .inv .2) (c .step3 .ensures) (c .before .mix-h .ensures) (omega arith) (omega arith) (omega arith))
+    let a = c .before .before .before .before .before .before .before .before .before .before .args in
+    let l = c .before .before .before .before .loop3 in
+    (omega arith, omega arith, next-h (a .m .now) (a .s) (l .t) _ (l .i) _ _ (l .inv .2) (c .step3 .ensures) (c .before .before .mix-h .ensures) (omega (arith, c .before .word-h .ensures)) (omega arith) (omega arith))
 
 loop4-holds :
     tie.Need-loop4-holds Inv-loop μ-loop Inv-loop2 μ-loop2 Inv-loop3 μ-loop3 Inv-loop4 μ-loop4
@@ -132,9 +134,13 @@ mix-i-requires :
     tie.Need-mix-i-requires Inv-loop μ-loop Inv-loop2 μ-loop2 Inv-loop3 μ-loop3 Inv-loop4 μ-loop4
 mix-i-requires c κs = search needs
 
-mul-step-3 :
-    tie.Need-mul-step-3 Inv-loop μ-loop Inv-loop2 μ-loop2 Inv-loop3 μ-loop3 Inv-loop4 μ-loop4
-mul-step-3 c = search needs
+cast-word-i :
+    tie.Need-cast-word-i Inv-loop μ-loop Inv-loop2 μ-loop2 Inv-loop3 μ-loop3 Inv-loop4 μ-loop4
+cast-word-i c = search needs
+
+word-i-requires :
+    tie.Need-word-i-requires Inv-loop μ-loop Inv-loop2 μ-loop2 Inv-loop3 μ-loop3 Inv-loop4 μ-loop4
+word-i-requires c κs = search needs
 
 step-requires-4 :
     tie.Need-step-requires-4 Inv-loop μ-loop Inv-loop2 μ-loop2 Inv-loop3 μ-loop3 Inv-loop4 μ-loop4
@@ -150,9 +156,9 @@ loop4-less c = search needs
 loop4-again :
     tie.Need-loop4-again Inv-loop μ-loop Inv-loop2 μ-loop2 Inv-loop3 μ-loop3 Inv-loop4 μ-loop4
 loop4-again c =
-    let a = c .before .before .before .before .before .before .before .before .before .before .before .args in
-    let l = c .before .before .before .loop4 in
-    (omega arith, omega arith, next-i (a .m .now) (a .s) (l .t) _ (l .i) _ _ (l .inv .2) (c .step4 .ensures) (c .before .mix-i .ensures) (omega arith) (omega arith))
+    let a = c .before .before .before .before .before .before .before .before .before .before .before .before .args in
+    let l = c .before .before .before .before .loop4 in
+    (omega arith, omega arith, next-i (a .m .now) (a .s) (l .t) _ (l .i) _ _ (l .inv .2) (c .step4 .ensures) (c .before .before .mix-i .ensures) (omega (arith, c .before .word-i .ensures)) (omega arith))
 
 sum-requires :
     tie.Need-sum-requires Inv-loop μ-loop Inv-loop2 μ-loop2 Inv-loop3 μ-loop3 Inv-loop4 μ-loop4
@@ -198,23 +204,24 @@ block-spec =
     loop-again
     loop2-holds
     mix-g-requires
-    mul-step
-    add-step
+    cast-word-g
+    word-g-requires
     step-requires-2
     add-i-2
     loop2-less
     loop2-again
     loop3-holds
     mix-h-requires
-    mul-step-2
-    add-step-2
+    cast-word-h
+    word-h-requires
     step-requires-3
     add-i-3
     loop3-less
     loop3-again
     loop4-holds
     mix-i-requires
-    mul-step-3
+    cast-word-i
+    word-i-requires
     step-requires-4
     add-i-4
     loop4-less

@@ -1,8 +1,8 @@
 -- `md5::blocks` meets its contract. Assumes nothing.
-use mathlib.Core.Path.{_≡_, refl, ap, _∙_}
+use mathlib.Core.Path.{_≡_, ap, _∙_}
 use Prim.Native.Nat.{_-_, _≤_}
 use native.Mathlib.Omega.{arith}
-use Rattle.md5.specs.Md5.{blocksOf, sines, shifts}
+use Rattle.md5.specs.Md5.{blocksOf}
 use Rattle.md5.proofs.Laws.{blocks-none, blocks-next}
 use borrow.Author.Needs.{needs}
 use Rattle.md5.proofs.blocks.Statement.{statement}
@@ -13,6 +13,12 @@ Inv-loop l n ks ns t₀ k₀ t k = (k ≤ n) × (t ≡ blocksOf l t₀ k)
 
 abbrev μ-loop : tie.MeasureT-loop
 μ-loop l n ks ns t₀ k₀ t k = n - k
+
+sines-requires : tie.Need-sines-requires Inv-loop μ-loop
+sines-requires c κs = search needs
+
+shifts-requires : tie.Need-shifts-requires Inv-loop μ-loop
+shifts-requires c κs = search needs
 
 loop-holds : tie.Need-loop-holds Inv-loop μ-loop
 loop-holds c = (search needs, blocks-none _ _)
@@ -33,8 +39,7 @@ part-block-end : tie.Need-part-block-end Inv-loop μ-loop
 part-block-end c = search needs
 
 block-requires : tie.Need-block-requires Inv-loop μ-loop
-unfolding sines shifts
-block-requires c κs = (search needs, refl, refl)
+block-requires c κs = search needs
 
 add-k : tie.Need-add-k Inv-loop μ-loop
 add-k c = search needs
@@ -49,7 +54,7 @@ loop-again c =
 
 returns : tie.Need-returns Inv-loop μ-loop
 returns c =
-    let a = c .before .before .before .args in
+    let a = c .before .before .before .before .before .args in
     let e : c .before .loop .k ≡ a .n = omega arith in
     c .before .loop .inv .1 ∙ ap (blocksOf (a .l .now) (a .s)) e
 
@@ -59,6 +64,8 @@ blocks-spec =
     (tie.spec
     Inv-loop
     μ-loop
+    sines-requires
+    shifts-requires
     loop-holds
     mul-a
     add-e

@@ -5,21 +5,17 @@ use borrow.Author.Needs.{needs}
 use Rattle.md5.proofs.finish.Statement.{statement}
 use Rattle.md5.proofs.finish.Tie as tie
 
+length-at-requires : tie.Need-length-at-requires
+length-at-requires c κs = search needs
+
 last-requires : tie.Need-last-requires
 last-requires c κs = search needs
-
-last-requires-2 : tie.Need-last-requires-2
-last-requires-2 c κs = search needs
 
 returns : tie.Need-returns
 returns c =
     let a = c .before .before .before .args in
-    ended (a .rest .now) _ (a .s) (a .n) 56 (omega arith) (omega arith) (c .last .ensures)
-
-returns-2 : tie.Need-returns-2
-returns-2 c =
-    let a = c .before .before .before .args in
-    ended (a .rest .now) _ (a .s) (a .n) 120 (omega arith) (omega arith) (c .last2 .ensures)
+    let e = c .before .length-at .ensures in
+    ended (a .rest .now) _ (a .s) (a .n) _ (omega (arith, e)) (omega (arith, e)) (c .last .ensures)
 
 pub finish-spec : {M : Type 1} → statement M
-finish-spec = tie.close (tie.spec last-requires last-requires-2 returns returns-2)
+finish-spec = tie.close (tie.spec length-at-requires last-requires returns)

@@ -50,7 +50,10 @@ same-length-8 : tie.Need-same-length-8
 same-length-8 c = search needs
 
 returns-2 : tie.Need-returns-2
-returns-2 c = accept-accepts _ _ _ _ (answer-is (c .before .before .before .before .before .before .before .before .before .before .before .before .before .before .before .before .before .before .before .judge .ensures)) (ap decision (c .before .before .before .before .before .before .before .before .before .before .before .before .before .before .before .before .before .verdict2 .given .1)) (c .before .before .before .before .before .before .before .before .enter .ensures)
+returns-2 c =
+    let e = c .before .before .before .before .before .before .before .before in
+    let v = e .before .before .before .before .before .before in
+    accept-accepts _ _ _ _ (answer-is (v .before .before .judge .ensures)) (ap decision (v .verdict2 .given .1)) (e .enter .ensures)
 
 pub accept-known-spec : {M : Type 1} → statement M
 accept-known-spec =

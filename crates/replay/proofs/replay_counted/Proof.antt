@@ -4,11 +4,8 @@ use borrow.Author.Needs.{needs}
 use Rattle.replay.proofs.replay_counted.Statement.{statement}
 use Rattle.replay.proofs.replay_counted.Tie as tie
 
-clear-requires : tie.Need-clear-requires
-clear-requires c κs = search needs
-
-clear-requires-2 : tie.Need-clear-requires-2
-clear-requires-2 c κs = search needs
+clear-maps-requires : tie.Need-clear-maps-requires
+clear-maps-requires c κs = search needs
 
 run-requires : tie.Need-run-requires
 run-requires c κs = search needs
@@ -34,16 +31,14 @@ same-length-6 c = search needs
 returns : tie.Need-returns
 returns c =
     let ran = c .before .before .before .before .before .before .before .before .before .before .before .before in
-    let second = ran .before .before .before .before .before .before .before .before .before in
-    let first = second .before .before .before .before in
-    run-whole _ _ _ _ (first .clear .ensures) (second .clear2 .ensures) (ran .run .ensures)
+    let cleared = ran .before .before .before .before .before .before .before .before .before .before .before in
+    run-whole _ _ _ _ (cleared .clear-maps .ensures .0) (cleared .clear-maps .ensures .1) (ran .run .ensures)
 
 pub replay-counted-spec : {M : Type 1} → statement M
 replay-counted-spec =
     tie.close
     (tie.spec
-    clear-requires
-    clear-requires-2
+    clear-maps-requires
     run-requires
     same-length
     same-length-2

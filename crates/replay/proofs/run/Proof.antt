@@ -1,32 +1,32 @@
 -- `replay::run` meets its contract. The invariant: what the pieces that are left come to is what all come to, and those before are whole and counted. Assumes nothing.
-use Prim.Native.Nat.{_≤_, _-_, _*_}
+use Prim.Native.Nat.{_≤_, _-_, _*_, _/_}
 use mathlib.Core.Path.{_≡_, refl, sym, _∙_}
 use native.Mathlib.Omega.{arith}
 use lib.ListN.{length}
 use borrow.Author.Tests.{not-true, not-false}
 use Rattle.receiver.specs.Receiver.{lent, world}
-use Rattle.counts.specs.Counts.{tallyTo}
+use Rattle.tally.specs.Tally.{tallyTo}
 use Rattle.replay.specs.Replay.{piecesOf, replayFrom}
-use Rattle.replay.proofs.Laws.{left, run-goes-on, run-ends, from-fresh, tally-none, tally-more, stops-counted, tally-ends, whole-next}
+use Rattle.replay.proofs.Laws.{left, run-goes-on, run-ends, from-fresh, tally-none, tally-more, stops-counted, tally-ends, whole-next, begins-next, index-next}
 use borrow.Author.Needs.{needs}
 use Rattle.replay.proofs.run.Statement.{statement}
 use Rattle.replay.proofs.run.Tie as tie
 
 abbrev Inv-loop : tie.InvT-loop
-Inv-loop settings trace tally₀ flash₀ seen₀ sectors₀ main₀ xip₀ len t₀ i₀ at₀ tally flash seen sectors main xip t i at =
+Inv-loop settings trace tally₀ flash₀ seen₀ sectors₀ main₀ xip₀ len t₀ at₀ tally flash seen sectors main xip t at =
     (at ≤ length trace)
-    × (at ≡ 513 * i)
+    × (at ≡ 513 * (at / 513))
     × (length tally ≡ length tally₀)
     × (length flash ≡ length flash₀)
     × (length seen ≡ length seen₀)
     × (length sectors ≡ length sectors₀)
     × (length main ≡ length main₀)
     × (length xip ≡ length xip₀)
-    × (tally ≡ tallyTo tally₀ trace i)
-    × (left settings trace at i t (lent flash seen sectors main xip) ≡ replayFrom settings 0 (world t₀ (lent flash₀ seen₀ sectors₀ main₀ xip₀)) (piecesOf trace))
+    × (tally ≡ tallyTo tally₀ trace (at / 513))
+    × (left settings trace at (at / 513) t (lent flash seen sectors main xip) ≡ replayFrom settings 0 (world t₀ (lent flash₀ seen₀ sectors₀ main₀ xip₀)) (piecesOf trace))
 
 abbrev μ-loop : tie.MeasureT-loop
-μ-loop settings trace tally₀ flash₀ seen₀ sectors₀ main₀ xip₀ len t₀ i₀ at₀ tally flash seen sectors main xip t i at = length trace - at
+μ-loop settings trace tally₀ flash₀ seen₀ sectors₀ main₀ xip₀ len t₀ at₀ tally flash seen sectors main xip t at = length trace - at
 
 new-requires : tie.Need-new-requires Inv-loop μ-loop
 new-requires c κs = search needs
@@ -52,8 +52,8 @@ replay-piece-requires c κs = search needs
 is-replayed-requires : tie.Need-is-replayed-requires Inv-loop μ-loop
 is-replayed-requires c κs = search needs
 
-stop-of-requires : tie.Need-stop-of-requires Inv-loop μ-loop
-stop-of-requires c κs = search needs
+stop-at-requires : tie.Need-stop-at-requires Inv-loop μ-loop
+stop-at-requires c κs = search needs
 
 same-length : tie.Need-same-length Inv-loop μ-loop
 same-length c = search needs
@@ -80,16 +80,13 @@ returns c =
     let test = ended .before in
     let round = test .before in
     let stays = sym (c .before .before .is-replayed .ensures) ∙ not-true _ (c .before .if1 .taken) in
-    from-fresh _ _ _ _ (stops-counted _ _ _ _ _ _ _ (test .loop-test .taken) (ended .piece-end .ensures) (done .replay-piece .ensures) stays (c .stop-of .ensures) (round .loop .inv .8) (round .loop .inv .9)) (round .before .new .ensures)
+    from-fresh _ _ _ _ (stops-counted _ _ _ _ _ _ _ (test .loop-test .taken) (ended .piece-end .ensures) (done .replay-piece .ensures) stays (c .stop-at .ensures) (round .loop .inv .8) (round .loop .inv .9)) (round .before .new .ensures)
 
 shared-slice-read-count : tie.Need-shared-slice-read-count Inv-loop μ-loop
 shared-slice-read-count c = search needs
 
 count-requires : tie.Need-count-requires Inv-loop μ-loop
 count-requires c κs = search needs
-
-add-i : tie.Need-add-i Inv-loop μ-loop
-add-i c = search needs
 
 loop-less : tie.Need-loop-less Inv-loop μ-loop
 loop-less c =
@@ -110,7 +107,9 @@ loop-again c =
     let to = ended .piece-end .ensures in
     let more = test .loop-test .taken in
     let goes = sym (c .before .before .before .before .before .before .is-replayed .ensures) ∙ not-false _ (c .before .before .before .before .before .if1 .left) in
-    (omega (arith, to, more), whole-next _ _ _ _ _ (at .inv .1) to (done .replay-piece .ensures) goes, c .before .tally .given ∙ at .inv .2, flash-left .flash .given ∙ at .inv .3, seen-left .seen .given ∙ at .inv .4, sectors-left .sectors .given ∙ at .inv .5, main-left .main .given ∙ at .inv .6, xip-left .xip .given ∙ at .inv .7, tally-more _ _ _ _ (at .inv .1) (at .inv .8) (c .before .before .count .ensures), run-goes-on _ _ _ _ _ _ more to (done .replay-piece .ensures) goes ∙ at .inv .9)
+    let whole = whole-next _ _ _ _ _ (at .inv .1) to (done .replay-piece .ensures) goes in
+    let next = index-next _ _ whole in
+    (omega (arith, to, more), begins-next _ _ whole, c .before .tally .given ∙ at .inv .2, flash-left .flash .given ∙ at .inv .3, seen-left .seen .given ∙ at .inv .4, sectors-left .sectors .given ∙ at .inv .5, main-left .main .given ∙ at .inv .6, xip-left .xip .given ∙ at .inv .7, tally-more _ _ _ _ next (at .inv .1) (at .inv .8) (c .before .before .count .ensures), run-goes-on _ _ _ _ _ _ more to (done .replay-piece .ensures) next goes ∙ at .inv .9)
 
 same-length-7 : tie.Need-same-length-7 Inv-loop μ-loop
 same-length-7 c = search needs
@@ -149,7 +148,7 @@ run-spec =
     part-replay-piece-end
     replay-piece-requires
     is-replayed-requires
-    stop-of-requires
+    stop-at-requires
     same-length
     same-length-2
     same-length-3
@@ -159,7 +158,6 @@ run-spec =
     returns
     shared-slice-read-count
     count-requires
-    add-i
     loop-less
     loop-again
     same-length-7

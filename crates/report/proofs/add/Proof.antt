@@ -2,8 +2,8 @@
 use mathlib.Core.Path.{sym, ap, _∙_}
 use borrow.Author.Tests.{not-true, not-false}
 use Rattle.sets.specs.Numbered.{numbered}
-use Rattle.report.specs.Report.{outcomeNumber}
-use Rattle.report.proofs.Adds.{add-bad, add-many, add-replayed}
+use Rattle.adding.specs.Report.{outcomeNumber}
+use Rattle.adding.proofs.Adds.{add-bad, add-many, add-replayed}
 use borrow.Author.Needs.{needs}
 use Rattle.report.proofs.add.Statement.{statement}
 use Rattle.report.proofs.add.Tie as tie

@@ -1,5 +1,5 @@
 -- `report::add_replayed` meets its contract. Assumes nothing.
-use Rattle.report.proofs.Adds.{replayed-is}
+use Rattle.adding.proofs.Adds.{replayed-is}
 use borrow.Author.Needs.{needs}
 use Rattle.report.proofs.add_replayed.Statement.{statement}
 use Rattle.report.proofs.add_replayed.Tie as tie

@@ -31,7 +31,7 @@ reserved-requires-4 c κs = search needs
 
 returns : tie.Need-returns
 unfolding any reservedUser
-returns c = cc
+returns c = rw (c .reserved4 .ensures, c .before .reserved3 .ensures, c .before .before .reserved2 .ensures, c .before .before .before .reserved .ensures)
 
 pub reserved-user-spec : {M : Type 1} → statement M
 reserved-user-spec =

@@ -3,6 +3,7 @@ use mathlib.Core.Path.{_∙_}
 use native.Mathlib.Omega.{arith}
 use lib.ListN.{length-set}
 use Rattle.storewrite.proofs.Rows.{head-put}
+use Rattle.storehead.proofs.Laws.{head-is}
 use borrow.Author.Needs.{needs}
 use Rattle.storewrite.proofs.put_store.Statement.{statement}
 use Rattle.storewrite.proofs.put_store.Tie as tie
@@ -37,7 +38,7 @@ same-length c = c .before .before .write-rows .kept .0 ∙ simp length-set
 returns : tie.Need-returns
 returns c =
     let start = c .before .before .before .before .before .before .before .before .before in
-    c .before .before .write-rows .ensures ∙ head-put (start .args .s) (start .args .out .now) _ (start .pre .1) (c .before .before .before .before .head-of .ensures .0)
+    c .before .before .write-rows .ensures ∙ head-put (start .args .s) (start .args .out .now) _ (start .pre .1) (head-is (start .args .s) (c .before .before .before .before .head-of .ensures .0) (c .before .before .before .before .before .any-restart .ensures))
 
 pub put-store-spec : {M : Type 1} → statement M
 put-store-spec =

@@ -1,18 +1,20 @@
 -- `takeapi::uf2_take` meets its contract. Assumes nothing.
+use mathlib.Core.Path.{refl, _∙_}
 use Rattle.sets.proofs.Numbered.{answer-is}
+use Rattle.receiver.proofs.KnownLaws.{known-is}
 use Rattle.callbytes.proofs.Laws.{take-ran}
 use borrow.Author.Needs.{needs}
 use Rattle.takeapi.proofs.uf2_take.Statement.{statement}
 use Rattle.takeapi.proofs.uf2_take.Tie as tie
 
-read-settings-requires : tie.Need-read-settings-requires
-read-settings-requires c κs = search needs
+known-from-requires : tie.Need-known-from-requires
+known-from-requires c κs = search needs
 
 read-transfer-requires : tie.Need-read-transfer-requires
 read-transfer-requires c κs = search needs
 
-take-requires : tie.Need-take-requires
-take-requires c κs = search needs
+take-known-requires : tie.Need-take-known-requires
+take-known-requires c κs = search needs
 
 is-acceptance-requires : tie.Need-is-acceptance-requires
 is-acceptance-requires c κs = search needs
@@ -49,15 +51,15 @@ returns c =
     let kept = c .before .before .before in
     let got = kept .before .before .before .before .before .before .before .before .before .before .before .before .before .before in
     let read = got .before .before .before .before .before .before in
-    take-ran _ _ _ _ (read .before .before .read-settings .ensures) (read .read-transfer .ensures) (answer-is (got .take .ensures)) (kept .before .is-acceptance .ensures) (kept .keep .ensures) (c .result .ensures)
+    take-ran _ _ _ _ refl (read .read-transfer .ensures) (answer-is (got .take-known .ensures) ∙ known-is _ _ _ (read .before .before .known-from .ensures)) (kept .before .is-acceptance .ensures) (kept .keep .ensures) (c .result .ensures)
 
 pub uf2-take-spec : {M : Type 1} → statement M
 uf2-take-spec =
     tie.close
     (tie.spec
-    read-settings-requires
+    known-from-requires
     read-transfer-requires
-    take-requires
+    take-known-requires
     is-acceptance-requires
     keep-requires
     result-requires

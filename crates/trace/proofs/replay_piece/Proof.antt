@@ -3,7 +3,7 @@ use mathlib.Core.Path.{sym, _∙_}
 use native.Mathlib.Omega.{arith}
 use borrow.Author.Tests.{not-true, not-false}
 use Rattle.sets.proofs.Numbered.{answer-is}
-use Rattle.trace.proofs.Laws.{told-left, told-long, told-taken}
+use Rattle.comparing.proofs.Laws.{told-left, told-long, told-taken}
 use borrow.Author.Needs.{needs}
 use Rattle.trace.proofs.replay_piece.Statement.{statement}
 use Rattle.trace.proofs.replay_piece.Tie as tie

@@ -1,7 +1,7 @@
 -- `unihex::line` meets its contract. Assumes nothing.
 use mathlib.Core.Path.{refl}
 use Rattle.unihex.specs.Line.{haltLine}
-use Rattle.unihex.proofs.Laws.{numbered, offset-within, bad-image, bad-reader, line-by}
+use Rattle.unihex.proofs.Laws.{numbered, bad-image, bad-reader, line-by}
 use borrow.Author.Needs.{needs}
 use Rattle.unihex.proofs.line.Statement.{statement}
 use Rattle.unihex.proofs.line.Tie as tie
@@ -22,7 +22,7 @@ enum-told : tie.Need-enum-told
 enum-told c = search needs
 
 live-requires : tie.Need-live-requires
-live-requires c κs = offset-within _ _ (c .before .before .before .before .before .is-bad .ensures) (c .before .before .before .before .if2 .left)
+live-requires c κs = search needs
 
 enum-known-answer : tie.Need-enum-known-answer
 enum-known-answer c = search needs

@@ -1,2 +1,0 @@
--- A plan's numbers fit, and are written.
-pub mod Laws

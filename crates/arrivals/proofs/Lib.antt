@@ -1,0 +1,12 @@
+pub mod Cells
+pub mod Effect
+pub mod Screening
+pub mod DecisionFacts
+pub mod Bounds
+pub mod Ram
+pub mod RamRows
+pub mod Comments
+pub mod Kept
+pub mod Tally
+pub mod Before
+pub mod Alike

@@ -1,0 +1,2 @@
+pub mod Checklist
+pub mod Parts

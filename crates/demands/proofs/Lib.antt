@@ -1,0 +1,3 @@
+mod Guards
+pub mod Regions
+pub mod Stopped

@@ -1,0 +1,2 @@
+-- Settings without a table.
+pub mod Laws

@@ -1,0 +1,5 @@
+pub mod Pieces
+pub mod PlainRead
+pub mod BadLines
+pub mod Cuts
+pub mod PlainFiles

@@ -1,0 +1,2 @@
+pub mod PlainFile
+pub mod Refusals

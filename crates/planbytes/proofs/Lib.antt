@@ -1,0 +1,2 @@
+-- A plan's numbers fit, are told, and are written.
+pub mod Laws

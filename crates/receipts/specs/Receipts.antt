@@ -1,0 +1,31 @@
+-- What an arrival hands back, as the meaning has it. Assumes nothing.
+use mathlib.Core.Bool.{false}
+use Rattle.transfer.specs.declared.Answer.{Answer}
+use Rattle.transfer.specs.declared.Transfer.{Transfer}
+use Rattle.transfer.specs.declared.Accepted.{Accepted}
+use Rattle.arrival.specs.Arrive.{Lent, Outcome}
+use Rattle.verdict.specs.Lending.{world}
+use Rattle.plan.specs.Plan.{Accepting}
+use Rattle.plan.specs.declared.Plan.the-variants.{Nothing}
+use Rattle.receipts.specs.declared.Receipt.{Receipt}
+use Rattle.receipts.specs.declared.Planned.{Planned}
+
+-- "Answers 1 to 13 change nothing, "discarded" is no."
+abbrev pub refusal : Transfer → Answer → Receipt
+refusal t a = record { transfer = t; answer = a; discarded = false }
+
+-- and nothing is planned
+abbrev pub unplanned : Transfer → Answer → Planned
+unplanned t a = record { receipt = refusal t a; plan = Nothing }
+
+-- of a block that is accepted: what it does to the transfer
+abbrev pub receiptOf : Accepted → Receipt
+receiptOf y = record { transfer = y .transfer; answer = y .answer; discarded = y .discarded }
+
+-- what is returned, with the buffers as they are left
+abbrev pub outcome : Receipt → Lent → Outcome
+outcome r h = record { world = world (r .transfer) h; answer = r .answer; discarded = r .discarded }
+
+-- what is returned beside them
+abbrev pub accepting : Planned → Lent → Accepting
+accepting r h = record { outcome = outcome (r .receipt) h; plan = r .plan }

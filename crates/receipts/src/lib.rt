@@ -1,0 +1,71 @@
+// What an arrival hands back: of a refusal, which changes nothing, and of an accepted block, which is entered.
+ghost use mathlib.Core.Path.{_≡_};
+ghost use Rattle.flash.specs.Flash.{payloadOf};
+ghost use Rattle.entering.specs.Entering.{besideAt, besideLeft, entering, enteringOf};
+ghost use Rattle.receipts.specs.Receipts.{unplanned, receiptOf};
+use plan::Plan;
+use transfer::Answer;
+use transfer::Transfer;
+use verdict::Acceptance;
+use verdict::Known;
+
+// What an arrival hands back: the next transfer, the answer, and whether a running transfer was discarded.
+pub struct Receipt {
+    pub transfer: Transfer,
+    pub answer: Answer,
+    pub discarded: bool,
+}
+
+impl Receipt {
+    // The bytes of the seen map and of the sector map.
+    pub const SEEN: usize = Known::SEEN;
+
+    pub const SECTORS: usize = Known::SECTORS;
+}
+
+// What an arrival hands back whose flash is written by a driver: the receipt, and what is left to do to the flash.
+pub struct Planned {
+    pub receipt: Receipt,
+    pub plan: Plan,
+}
+
+// Nothing changes, and this is the answer.
+pub fn refuse(transfer: Transfer, answer: Answer) -> Planned
+    ensures { λ r. ⌜ r ≡ unplanned transfer answer ⌝ }
+{
+    Planned {
+        receipt: Receipt {
+            transfer,
+            answer,
+            discarded: false,
+        },
+        plan: Plan::Nothing,
+    }
+}
+
+// A block that is accepted is entered into the maps, and a RAM block into RAM; this is what the arrival hands back.
+pub fn enter(
+    acceptance: Acceptance,
+    arrival: &[u8],
+    seen: &mut [u8],
+    sectors: &mut [u8],
+    main: &mut [u8],
+    xip: &mut [u8],
+) -> Planned
+    ensures { λ r. ⌜ (r .receipt ≡ receiptOf (acceptance .accepted)) × (entering (r .plan) (now (seen .exit)) (besideLeft sectors main xip) ≡ enteringOf (acceptance .placed) (acceptance .deed) (acceptance .accepted) (payloadOf (now (arrival .entry))) (now (seen .entry)) (besideAt sectors main xip)) ⌝ }
+{
+    let placed = acceptance.placed;
+    let deed = acceptance.deed;
+    let accepted = acceptance.accepted;
+    let next = accepted.transfer;
+    let given = accepted.answer;
+    let plan = entering::enter(placed, deed, accepted, arrival, seen, sectors, main, xip);
+    Planned {
+        receipt: Receipt {
+            transfer: next,
+            answer: given,
+            discarded: accepted.discarded,
+        },
+        plan,
+    }
+}

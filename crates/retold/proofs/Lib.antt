@@ -1,0 +1,2 @@
+-- The laws of a step by what the block does.
+pub mod Laws

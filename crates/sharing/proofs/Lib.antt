@@ -1,0 +1,2 @@
+-- The laws of an entry beside the others.
+pub mod Laws

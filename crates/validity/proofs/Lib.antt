@@ -1,0 +1,2 @@
+-- The laws of the loop over entries.
+pub mod Rising
