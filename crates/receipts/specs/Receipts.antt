@@ -1,12 +1,16 @@
 -- What an arrival hands back, as the meaning has it. Assumes nothing.
+use Prim.Native.Nat.{ℕ}
 use mathlib.Core.Bool.{false}
+use mathlib.Core.List.{List}
 use Rattle.transfer.specs.declared.Answer.{Answer}
 use Rattle.transfer.specs.declared.Transfer.{Transfer}
 use Rattle.transfer.specs.declared.Accepted.{Accepted}
 use Rattle.arrival.specs.Arrive.{Lent, Outcome}
 use Rattle.verdict.specs.Lending.{world}
+use Rattle.verdict.specs.declared.Acceptance.{Acceptance}
 use Rattle.plan.specs.Plan.{Accepting}
 use Rattle.plan.specs.declared.Plan.the-variants.{Nothing}
+use Rattle.entering.specs.Entering.{Beside, Entering, entering, enteringOf}
 use Rattle.receipts.specs.declared.Receipt.{Receipt}
 use Rattle.receipts.specs.declared.Planned.{Planned}
 
@@ -29,3 +33,11 @@ outcome r h = record { world = world (r .transfer) h; answer = r .answer; discar
 -- what is returned beside them
 abbrev pub accepting : Planned → Lent → Accepting
 accepting r h = record { outcome = outcome (r .receipt) h; plan = r .plan }
+
+-- what is returned of a block that is entered, with the seen map and all else beside the flash as they are left
+abbrev pub enterReturn : Planned → List ℕ → Beside → Receipt × Entering
+enterReturn r seen b = (r .receipt, entering (r .plan) seen b)
+
+-- of a block that is accepted: what it does to the transfer, and what it writes beside the flash
+abbrev pub enterOf : Acceptance → List ℕ → List ℕ → Beside → Receipt × Entering
+enterOf y payload seen b = (receiptOf (y .accepted), enteringOf (y .placed) (y .deed) (y .accepted) payload seen b)

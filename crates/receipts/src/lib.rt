@@ -1,8 +1,8 @@
 // What an arrival hands back: of a refusal, which changes nothing, and of an accepted block, which is entered.
 ghost use mathlib.Core.Path.{_≡_};
 ghost use Rattle.flash.specs.Flash.{payloadOf};
-ghost use Rattle.entering.specs.Entering.{besideAt, besideLeft, entering, enteringOf};
-ghost use Rattle.receipts.specs.Receipts.{unplanned, receiptOf};
+ghost use Rattle.entering.specs.Entering.{besideAt, besideLeft};
+ghost use Rattle.receipts.specs.Receipts.{unplanned, enterReturn, enterOf};
 use plan::Plan;
 use transfer::Answer;
 use transfer::Transfer;
@@ -52,7 +52,7 @@ pub fn enter(
     main: &mut [u8],
     xip: &mut [u8],
 ) -> Planned
-    ensures { λ r. ⌜ (r .receipt ≡ receiptOf (acceptance .accepted)) × (entering (r .plan) (now (seen .exit)) (besideLeft sectors main xip) ≡ enteringOf (acceptance .placed) (acceptance .deed) (acceptance .accepted) (payloadOf (now (arrival .entry))) (now (seen .entry)) (besideAt sectors main xip)) ⌝ }
+    ensures { λ r. ⌜ enterReturn r (now (seen .exit)) (besideLeft sectors main xip) ≡ enterOf acceptance (payloadOf (now (arrival .entry))) (now (seen .entry)) (besideAt sectors main xip) ⌝ }
 {
     let placed = acceptance.placed;
     let deed = acceptance.deed;

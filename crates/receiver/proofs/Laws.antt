@@ -14,9 +14,9 @@ use Rattle.verdict.specs.declared.Known.{Known}
 use Rattle.plan.specs.declared.Plan.{Plan}
 use Rattle.plan.specs.Plan.{decisionPlan, performed, withFlash, outcomeWith, Accepting, acceptingBy, performedOn}
 use Rattle.plan.proofs.Laws.{performs-by}
-use Rattle.entering.specs.Entering.{beside, entering, enteringOf}
+use Rattle.entering.specs.Entering.{beside, Entering, enteringOf}
 use Rattle.entering.proofs.Laws.{entered}
-use Rattle.receipts.specs.Receipts.{unplanned, receiptOf}
+use Rattle.receipts.specs.Receipts.{unplanned, receiptOf, enterReturn}
 use Rattle.receipts.specs.declared.Receipt.{Receipt}
 use Rattle.receipts.specs.declared.Planned.{Planned}
 use Rattle.receiver.specs.Receiver.{lent, world, outcome, accepting, receiveKnown, acceptKnown}
@@ -28,11 +28,11 @@ module _ (known : Known) (t : Transfer) (a : List ℕ) (h : Lent) where
     unfolding acceptKnown acceptingBy done
     accept-stays e y = ap (λ (o : Planned). accepting o h) y ∙ ap (acceptingBy (world t h) a) (sym e ∙ k)
 
-    pub accept-accepts : {p : Placed} {e : Deed} {y : Accepted} → d ≡ accepts p e y → {o : Planned} {m s u x : List ℕ} → (o .receipt ≡ receiptOf y) × (entering (o .plan) m (beside s u x) ≡ enteringOf p e y (payloadOf a) (h .seen) (beside (h .sectors) (h .main) (h .xip))) → accepting o (lent (h .flash) m s u x) ≡ acceptKnown known (world t h) a
+    pub accept-accepts : {p : Placed} {e : Deed} {y : Accepted} → d ≡ accepts p e y → {o : Planned} {m s u x : List ℕ} → enterReturn o m (beside s u x) ≡ (receiptOf y, enteringOf p e y (payloadOf a) (h .seen) (beside (h .sectors) (h .main) (h .xip))) → accepting o (lent (h .flash) m s u x) ≡ acceptKnown known (world t h) a
     unfolding acceptKnown acceptingBy done
-    accept-accepts {p} {e} {y} q {o} {m} {s} {u} {x} (g, en) =
-        let z = entered p e y (payloadOf a) (world t h) en in
-        ap (λ (r : Receipt). record { outcome = outcome r (lent (h .flash) m s u x); plan = o .plan }) g
+    accept-accepts {p} {e} {y} q {o} {m} {s} {u} {x} g =
+        let z = entered p e y (payloadOf a) (world t h) (ap (λ (b : Receipt × Entering). b .1) g) in
+        ap (λ (b : Receipt × Entering). record { outcome = outcome (b .0) (lent (h .flash) m s u x); plan = o .plan }) g
         ∙ ap (λ (v : World). record { outcome = record { world = v; answer = y .answer; discarded = y .discarded }; plan = o .plan }) (z .1)
         ∙ ap (λ (b : Plan). record { outcome = record { world = withFlash (h .flash) (acceptOf (world t h) (payloadOf a) p e y); answer = y .answer; discarded = y .discarded }; plan = b }) (z .0)
         ∙ ap (acceptingBy (world t h) a) (sym q ∙ k)

@@ -7,8 +7,9 @@ ghost use Rattle.receiver.specs.Receiver.{
   lentAt,
   leftAt,
   world,
-  outcome,
   accepting,
+  takeReturn,
+  plannedReturn,
   leftBeside,
   receiveKnown,
   acceptKnown,
@@ -60,7 +61,7 @@ pub fn accept(
     main: &mut [u8],
     xip: &mut [u8],
 ) -> Planned
-    ensures { λ r. ⌜ numbered acceptingNumber (accepting r (leftBeside flash seen sectors main xip)) ≡ numbered acceptingNumber (acceptingOf settings (world transfer (lentAt flash seen sectors main xip)) (now (arrival .entry))) ⌝ }
+    ensures { λ r. ⌜ plannedReturn r (leftBeside flash seen sectors main xip) ≡ numbered acceptingNumber (acceptingOf settings (world transfer (lentAt flash seen sectors main xip)) (now (arrival .entry))) ⌝ }
 {
     let lens = Lengths {
         flash: flash.len(),
@@ -82,7 +83,7 @@ pub fn take_known(
     main: &mut [u8],
     xip: &mut [u8],
 ) -> Receipt
-    ensures { λ r. ⌜ numbered outcomeNumber (outcome r (leftAt flash seen sectors main xip)) ≡ numbered outcomeNumber (receiveKnown known (world transfer (lentAt flash seen sectors main xip)) (now (arrival .entry))) ⌝ }
+    ensures { λ r. ⌜ takeReturn r (leftAt flash seen sectors main xip) ≡ numbered outcomeNumber (receiveKnown known (world transfer (lentAt flash seen sectors main xip)) (now (arrival .entry))) ⌝ }
 {
     let planned = accept_known(known, transfer, arrival, flash, seen, sectors, main, xip);
     let plan = planned.plan;
@@ -101,7 +102,7 @@ pub fn take(
     main: &mut [u8],
     xip: &mut [u8],
 ) -> Receipt
-    ensures { λ r. ⌜ numbered outcomeNumber (outcome r (leftAt flash seen sectors main xip)) ≡ numbered outcomeNumber (receiveOf settings (world transfer (lentAt flash seen sectors main xip)) (now (arrival .entry))) ⌝ }
+    ensures { λ r. ⌜ takeReturn r (leftAt flash seen sectors main xip) ≡ numbered outcomeNumber (receiveOf settings (world transfer (lentAt flash seen sectors main xip)) (now (arrival .entry))) ⌝ }
 {
     let lens = Lengths {
         flash: flash.len(),
