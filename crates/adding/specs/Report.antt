@@ -12,6 +12,7 @@ use Rattle.counts.specs.declared.Report.{Report}
 use Rattle.counts.specs.Counts.{goodReport, withRoom, countAll, howManyYes, missingAt}
 use Rattle.replay.specs.Replay.{TraceOutcome, begun, replayOf}
 use Rattle.replays.specs.Pieces.{arrivalsTo, recordsBefore}
+use Rattle.adding.specs.declared.Added.{Added}
 use Rattle.adding.specs.declared.FiguresAnswer.{FiguresAnswer}
 use Rattle.adding.specs.declared.FiguresAnswer.the-variants.{BadReport, TooMany, Replayed}
 
@@ -43,6 +44,10 @@ pub record FiguresOutcome : Type 0 where
 -- all of them as one value, which the contract names
 abbrev pub figuresOutcome : FiguresAnswer → Report → Lent → FiguresOutcome
 figuresOutcome x r h = record { answer = x; report = r; lent = h }
+
+-- what is returned, with the buffers as they are left
+abbrev pub addReturn : Added → Lent → FiguresOutcome
+addReturn r h = figuresOutcome (r .answer) (r .report) h
 
 -- the numbers of the answers, and 0 for a trace that is replayed
 abbrev pub figuresNumber : FiguresAnswer → ℕ

@@ -2,7 +2,7 @@
 ghost use mathlib.Core.Path.{_≡_};
 ghost use Rattle.sets.specs.Numbered.{numbered};
 ghost use Rattle.receiver.specs.Receiver.{lentAt, leftAt};
-ghost use Rattle.adding.specs.Report.{figuresOutcome, outcomeNumber, addOf};
+ghost use Rattle.adding.specs.Report.{addReturn, outcomeNumber, addOf};
 ghost use Rattle.adding.specs.Counting.{replayedBy};
 use adding::Added;
 use adding::FiguresAnswer;
@@ -20,7 +20,7 @@ fn add_replayed(
     main: &mut [u8],
     xip: &mut [u8],
 ) -> Added
-    ensures { λ r. ⌜ figuresOutcome (r .answer) (r .report) (leftAt flash seen sectors main xip) ≡ replayedBy report settings (lentAt flash seen sectors main xip) (now (trace .entry)) ⌝ }
+    ensures { λ r. ⌜ addReturn r (leftAt flash seen sectors main xip) ≡ replayedBy report settings (lentAt flash seen sectors main xip) (now (trace .entry)) ⌝ }
 {
     let pieces = trace.len() / piece::RECORD;
     let mut tally = [0usize; tally::TALLY];
@@ -54,7 +54,7 @@ pub fn add(
     main: &mut [u8],
     xip: &mut [u8],
 ) -> Added
-    ensures { λ r. ⌜ numbered outcomeNumber (figuresOutcome (r .answer) (r .report) (leftAt flash seen sectors main xip)) ≡ numbered outcomeNumber (addOf report settings (lentAt flash seen sectors main xip) (now (trace .entry))) ⌝ }
+    ensures { λ r. ⌜ numbered outcomeNumber (addReturn r (leftAt flash seen sectors main xip)) ≡ numbered outcomeNumber (addOf report settings (lentAt flash seen sectors main xip) (now (trace .entry))) ⌝ }
 {
     if !counts::is_good(report) {
         return Added {

@@ -10,9 +10,9 @@ use reference::{Entry, Kind, Settings};
 
 use crate::{asked, beside, once, pair, read, settings, sixteen, timed, Work, FLASH};
 
-/// The rounds of a file of flash, and of one of RAM, which is 60 times as short.
+/// The rounds of a file of flash, and of a short one: one of RAM is 60 times as short.
 const FILES: usize = 15;
-const RAM_FILES: usize = 500;
+const SHORT_FILES: usize = 500;
 
 /// A file as it arrives: in order or shuffled; of data, of data with a payload size that row 9 refuses, or of comments.
 #[derive(Clone, Copy)]
@@ -60,9 +60,10 @@ impl Sent {
 
     fn work(&self) -> Work {
         Work {
-            rounds: match self.kind {
-                Kind::Flash => FILES,
-                Kind::MainRam | Kind::XipRam => RAM_FILES,
+            rounds: if self.blocks > CACHED {
+                FILES
+            } else {
+                SHORT_FILES
             },
             calls: self.blocks as usize,
             bytes: Some(512 * self.blocks as usize),
@@ -106,23 +107,29 @@ fn proved_side(way: Way, settings: &[u8], file: &[u8], results: &mut [u8], lent:
         lent.take_all(settings, &mut t, file, results);
         return;
     }
+    let mut plan = [0; proved::PLAN_BYTES];
     for (a, r) in file.chunks_exact(512).zip(results) {
         if way == Way::LookAndTake {
             black_box(lent.look(black_box(settings), &t, a));
         }
         *r = match way {
             Way::Look => lent.look(black_box(settings), &t, a),
-            Way::Accept => accept_and_perform(black_box(settings), &mut t, a, lent),
+            Way::Accept => accept_and_perform(black_box(settings), &mut t, a, lent, &mut plan),
             _ => lent.take(black_box(settings), &mut t, a),
         } as u8;
     }
 }
 
 /// An arrival accepted, and its plan performed on flash that is memory.
-fn accept_and_perform(settings: &[u8], t: &mut [u8], a: &[u8], lent: &mut Buffers) -> u32 {
-    let mut plan = [0; proved::PLAN_BYTES];
-    let result = lent.accept(settings, t, a, &mut plan);
-    let page = match Plan::from_bytes(&plan) {
+fn accept_and_perform(
+    settings: &[u8],
+    t: &mut [u8],
+    a: &[u8],
+    lent: &mut Buffers,
+    plan: &mut [u8; proved::PLAN_BYTES],
+) -> u32 {
+    let result = lent.accept(settings, t, a, plan);
+    let page = match Plan::from_bytes(plan) {
         Some(Plan::Program { page, .. }) => page,
         Some(Plan::EraseProgram { sector, page }) => {
             lent.flash[sector as usize..][..SECTOR_BYTES].fill(0xFF);
@@ -131,7 +138,11 @@ fn accept_and_perform(settings: &[u8], t: &mut [u8], a: &[u8], lent: &mut Buffer
         _ => return result,
     };
     let payload = &a[PAYLOAD_AT..][..PAGE_BYTES];
-    lent.flash[page as usize..][..PAGE_BYTES].copy_from_slice(payload);
+    let page = &mut lent.flash[page as usize..][..PAGE_BYTES];
+    // in two halves, which are compiled in place as a take's copy is, and not as a call of the C library
+    let (low, high) = page.split_at_mut(PAGE_BYTES / 2);
+    low.copy_from_slice(&payload[..PAGE_BYTES / 2]);
+    high.copy_from_slice(&payload[PAGE_BYTES / 2..]);
     result
 }
 
@@ -237,6 +248,9 @@ const ORDERS: [(&str, bool); 2] = [("in order", false), ("shuffled", true)];
 const WHOLE: u32 = 131_072;
 const LAST: u32 = (FLASH / 4096 - 15) as u32 * 16;
 
+/// As many as go into 1 MiB, which the caches hold.
+const CACHED: u32 = 4_096;
+
 fn flash(blocks: u32, shuffled: bool, what: What) -> Sent {
     Sent {
         blocks,
@@ -312,32 +326,38 @@ pub fn table_rows() {
 
 /// The proved side alone: an arrival accepted and its plan performed beside a take, a round of each in turn.
 pub fn accept_rows() {
-    let none = settings(0, [Entry::EMPTY; 16]);
-    for (order, shuffled) in ORDERS {
-        let name = format!("an arrival {order}, accept and perform beside a take each");
-        if !asked(&name) {
-            continue;
+    for blocks in [WHOLE, CACHED] {
+        for (order, shuffled) in ORDERS {
+            accept_row(blocks, order, shuffled);
         }
-        let sent = flash(WHOLE, shuffled, What::Data);
-        let a = Ours::new(&none, sent, Way::Accept);
-        let b = Ours::new(&none, sent, Way::Take);
-        // both have the same buffers in turn: where a buffer lies makes a difference of some hundredths
-        let sides = RefCell::new((a, b));
-        let second = || {
-            let (a, b) = &mut *sides.borrow_mut();
-            std::mem::swap(&mut a.lent, &mut b.lent);
-            let (time, _) = b.round();
-            std::mem::swap(&mut a.lent, &mut b.lent);
-            time
-        };
-        beside(
-            &name,
-            (sent.work(), || sides.borrow_mut().0.round().0),
-            (sent.work(), second),
-        );
-        let (mut a, mut b) = sides.into_inner();
-        a.round();
-        b.round();
-        assert!(a.results == b.results && a.lent == b.lent, "{name}");
     }
+}
+
+fn accept_row(blocks: u32, order: &str, shuffled: bool) {
+    let none = settings(0, [Entry::EMPTY; 16]);
+    let name = format!("an arrival of {blocks} {order}, accept and perform beside a take each");
+    if !asked(&name) {
+        return;
+    }
+    let sent = flash(blocks, shuffled, What::Data);
+    let a = Ours::new(&none, sent, Way::Accept);
+    let b = Ours::new(&none, sent, Way::Take);
+    // both have the same buffers in turn: where a buffer lies makes a difference of some hundredths
+    let sides = RefCell::new((a, b));
+    let second = || {
+        let (a, b) = &mut *sides.borrow_mut();
+        std::mem::swap(&mut a.lent, &mut b.lent);
+        let (time, _) = b.round();
+        std::mem::swap(&mut a.lent, &mut b.lent);
+        time
+    };
+    beside(
+        &name,
+        (sent.work(), || sides.borrow_mut().0.round().0),
+        (sent.work(), second),
+    );
+    let (mut a, mut b) = sides.into_inner();
+    a.round();
+    b.round();
+    assert!(a.results == b.results && a.lent == b.lent, "{name}");
 }
