@@ -35,7 +35,9 @@ use Rattle.joiner.specs.Text.{fileLines, fileText}
 use Rattle.joiner.specs.Join.{JoinCall, joinCall, refusal, onVerdict, writtenOf, joinOf}
 use Rattle.plainfile.specs.Refusals.{BadText}
 use Rattle.plainfile.specs.PlainFile.{WithData, PlainPieces, within}
-use Rattle.joined.specs.Claims.{Joined-reads-back, SectionOf, Joined-is-file, Cuts-change-no-byte, Cuts-are-one, Joined-are-plain, RefusalCase, of-v1, of-v2, of-both, Fitting-is-written, Refused-by-board, Refusal-writes-nothing, Past-output-stays}
+use Rattle.plainfile.specs.Claims.{Text-refused-once}
+use Rattle.plainfile.proofs.Claims.{text-refused-once}
+use Rattle.joined.specs.Claims.{Joined-reads-back, SectionOf, Joined-is-file, Cuts-change-no-byte, Cuts-are-one, Joined-are-plain, RefusalCase, of-v1, of-v2, of-both, Fitting-is-written, Refused-by-board, Refusal-is-one, Refusal-writes-nothing, Past-output-stays}
 use Rattle.joined.proofs.Written.{written-says, written-lines, written-map}
 use Rattle.plainfile.proofs.Pieces.{Pieces, no-piece, next-piece}
 use Rattle.joined.proofs.Sections.{section, board-is, section-linear, section-size, section-form}
@@ -273,3 +275,21 @@ refused-by-board a b out r e = by-verdicts (verdictOf a) (verdictOf b) refl refl
     by-verdicts Fine Fine f g e =
         let w = too-long t out r e in
         of-both (ap (λ (z : Refusal). z .board) w) (ap (λ (z : Refusal). z .line) w) (ap (λ (z : Refusal). z .answer) w) (fine-data a f) (fine-data b g)
+
+refusal-one : (q r : Refusal) (b : ℕ) → q .board ≡ b → r .board ≡ b → (q .line ≡ r .line) × (q .answer ≡ r .answer) → q ≡ r
+refusal-one q r b e f w =
+    ap (λ (k : ℕ). refusal k (q .line) (q .answer)) (e ∙ sym f)
+    ∙ ap (λ (k : ℕ). refusal (r .board) k (q .answer)) (w .0)
+    ∙ ap (λ (x : Answer). refusal (r .board) (r .line) x) (w .1)
+
+pub refusal-is-one : Refusal-is-one
+unfolding Refusal-is-one Text-refused-once
+refusal-is-one a b q r (of-v1 e s n) (of-v1 f t m) = refusal-one q r 0x9900 e f (text-refused-once a (q .line) (r .line) (q .answer) (r .answer) s t)
+refusal-is-one a b q r (of-v1 e s n) (of-v2 f w t m) = absurd (n w)
+refusal-is-one a b q r (of-v1 e s n) (of-both f l x w v) = absurd (n w)
+refusal-is-one a b q r (of-v2 e w s n) (of-v1 f t m) = absurd (m w)
+refusal-is-one a b q r (of-v2 e w s n) (of-v2 f v t m) = refusal-one q r 0x9903 e f (text-refused-once b (q .line) (r .line) (q .answer) (r .answer) s t)
+refusal-is-one a b q r (of-v2 e w s n) (of-both f l x u v) = absurd (n v)
+refusal-is-one a b q r (of-both e k y w v) (of-v1 f t m) = absurd (m w)
+refusal-is-one a b q r (of-both e k y w v) (of-v2 f u t m) = absurd (m v)
+refusal-is-one a b q r (of-both e k y w v) (of-both f l x s t) = refusal-one q r 0 e f (k ∙ sym l, y ∙ sym x)

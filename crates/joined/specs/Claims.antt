@@ -114,6 +114,10 @@ pub data RefusalCase (a b : List ℕ) (r : Refusal) : Type 0 where
 unfoldable pub Refused-by-board : Type 0
 Refused-by-board = (a b out : List ℕ) (r : Refusal) → joinOf a b out .answer ≡ Refused r → RefusalCase a b r
 
+-- and these leave one refusal: one board, one line, one answer
+unfoldable pub Refusal-is-one : Type 0
+Refusal-is-one = (a b : List ℕ) (q r : Refusal) → RefusalCase a b q → RefusalCase a b r → q ≡ r
+
 -- ---- the room
 
 -- "A refusal writes nothing"

@@ -33,14 +33,18 @@ record Before (p : Plain) (ks : List (List ℕ)) : Type 0 where
   pub begun : Begun items
   pub extends : (ys : List Item) → Records ys → Records (items ++ ys)
   pub size : sizeOf items ≡ p .offset
+  pub short : sizeOf items ≤ 4194304
 
 none-before : (p : Plain) → p .offset ≡ 0 → Before p []
 unfolding sizeOf
-none-before p e = record { items = []; says = none; begun = nothing; extends = λ ys r. r; size = sym e }
+none-before p e = record { items = []; says = none; begun = nothing; extends = λ ys r. r; size = sym e; short = omega arith }
+
+size-one : (xs : List Item) (x : Item) → sizeOf (xs ++ (x ∷ [])) ≡ sizeOf xs + x .size
+unfolding sizeOf
+size-one xs x = size-append xs (x ∷ []) ∙ omega arith
 
 one-more : (p : Plain) (ks : List (List ℕ)) (l : List ℕ) → Before p ks → (w : Went p l (takenOf p l))
     → Before (plain (p .offset + length l) (baseAfter (p .base) (itemOf l (w .rec))) false) (ks ++ (l ∷ []))
-unfolding sizeOf
 one-more p ks l b w =
     let x = itemOf l (w .rec) in
     let xs = b .items in
@@ -49,7 +53,8 @@ one-more p ks l b w =
       says = says-append (b .says) (line (w .rec) (w .says) none);
       begun = begun-append x (w .type) (w .unlast) (w .inside) (b .begun);
       extends = λ ys r. subst Records (sym (append-assoc xs (x ∷ []) ys)) (b .extends (x ∷ ys) (w .allowed ys r));
-      size = size-append xs (x ∷ []) ∙ omega (arith, b .size);
+      size = omega (arith, size-one xs x, b .size);
+      short = omega (arith, size-one xs x, b .size, w .fits);
     }
 
 pub bad-is : (k j : ℕ) (x y : Answer) → Bad k x ≡ Bad j y → (k ≡ j) × (x ≡ y)
@@ -59,14 +64,14 @@ not-bad : {A : Type 0} (j : ℕ) (x : Answer) → Fine ≡ Bad j x → A
 not-bad j x e = absurd (let z : _≡_ {A = ℕ} 0 1 = cc in omega arith)
 
 -- a line after the 01
-past-end : (p : Plain) (k j : ℕ) (x : Answer) (ks ls : List (List ℕ)) (xs : List Item) → p .ended ≡ true → Says ks xs → Records xs → k ≡ length ks
+past-end : (p : Plain) (k j : ℕ) (x : Answer) (ks ls : List (List ℕ)) (xs : List Item) → p .ended ≡ true → Says ks xs → Records xs → sizeOf xs ≤ 4194304 → k ≡ length ks
     → linesVerdict p k ls ≡ Bad j x → BadLines (ks ++ ls) j x
 unfolding linesVerdict takenOf lineTaken
-past-end p k j x ks [] xs u s r n e = not-bad j x (rw u at e)
-past-end p k j x ks (l ∷ ls) xs u s r n e =
+past-end p k j x ks [] xs u s r m n e = not-bad j x (rw u at e)
+past-end p k j x ks (l ∷ ls) xs u s r m n e =
     let f = bad-is k j AfterEnd x (rw u at e) in
     subst (λ (y : Answer). BadLines (ks ++ (l ∷ ls)) j y) (f .1)
-    (subst (λ (m : ℕ). BadLines (ks ++ (l ∷ ls)) m AfterEnd) (sym n ∙ f .0) (after-the-01 ks l ls xs refl s r))
+    (subst (λ (i : ℕ). BadLines (ks ++ (l ∷ ls)) i AfterEnd) (sym n ∙ f .0) (after-the-01 ks l ls xs refl s r (omega arith)))
 
 bad-lines : (ls : List (List ℕ)) (p : Plain) (k j : ℕ) (x : Answer) (ks : List (List ℕ)) → p .ended ≡ false → Before p ks → k ≡ length ks
     → linesVerdict p k ls ≡ Bad j x → BadLines (ks ++ ls) j x
@@ -75,11 +80,14 @@ bad-lines [] p k j x ks u b n e =
     let f = bad-is k j OutOfPlace x (rw u at e) in
     subst (λ (y : Answer). BadLines (ks ++ []) j y) (f .1)
     (subst (λ (m : ℕ). BadLines (ks ++ []) m OutOfPlace) (sym n ∙ f .0)
-    (subst (λ (z : List (List ℕ)). BadLines z (length ks) OutOfPlace) (sym (append-nil ks)) (no-01 (b .items) (b .says) (b .begun))))
+    (subst (λ (z : List (List ℕ)). BadLines z (length ks) OutOfPlace) (sym (append-nil ks)) (no-01 (b .items) (b .says) (b .begun) (omega (arith, b .short)))))
 bad-lines (l ∷ ls) p k j x ks u b n e = by-view (line-view p l u) (λ q m v w i. bad-lines ls q (suc k) j x m v w i)
   where
     longer : suc k ≡ length (ks ++ (l ∷ []))
     longer = omega (arith, length-append ks (l ∷ []))
+
+    ended-short : (w : Last p l (takenOf p l)) → sizeOf (b .items ++ (itemOf l (w .rec) ∷ [])) ≤ 4194304
+    ended-short w = omega (arith, size-one (b .items) (itemOf l (w .rec)), b .size, w .fits)
 
     by-view : View p l (takenOf p l)
         → ((q : Plain) (m : List (List ℕ)) → q .ended ≡ false → Before q m → suc k ≡ length m → linesVerdict q (suc k) ls ≡ Bad j x → BadLines (m ++ ls) j x)
@@ -88,7 +96,7 @@ bad-lines (l ∷ ls) p k j x ks u b n e = by-view (line-view p l u) (λ q m v w 
         let g = bad-is k j (badOf (takenOf p l)) x (rw f at e) in
         subst (λ (y : Answer). BadLines (ks ++ (l ∷ ls)) j y) (g .1)
         (subst (λ (m : ℕ). BadLines (ks ++ (l ∷ ls)) m (badOf (takenOf p l))) (sym n ∙ g .0)
-        (bad-line ks l ls (b .items) refl (b .says) (b .begun) (subst (λ (m : ℕ). BadLine m l (badOf (takenOf p l))) (sym (b .size)) w)))
+        (bad-line ks l ls (b .items) refl (b .says) (b .begun) (omega (arith, b .short)) (subst (λ (m : ℕ). BadLine m l (badOf (takenOf p l))) (sym (b .size)) w)))
     by-view (goes w) r =
         let q = plain (p .offset + length l) (baseAfter (p .base) (itemOf l (w .rec))) false in
         subst (λ (z : List (List ℕ)). BadLines z j x) (append-assoc ks (l ∷ []) ls)
@@ -97,7 +105,7 @@ bad-lines (l ∷ ls) p k j x ks u b n e = by-view (line-view p l u) (λ q m v w 
         let y = itemOf l (w .rec) in
         subst (λ (z : List (List ℕ)). BadLines z j x) (append-assoc ks (l ∷ []) ls)
         (past-end (nextOf p (takenOf p l)) (suc k) j x (ks ++ (l ∷ [])) ls (b .items ++ (y ∷ [])) (w .next) (says-append (b .says) (line (w .rec) (w .says) none))
-        (b .extends (y ∷ []) (w .ends)) longer (rw (w .on) at e))
+        (b .extends (y ∷ []) (w .ends)) (ended-short w) longer (rw (w .on) at e))
 
 pub first-bad : (ls : List (List ℕ)) (j : ℕ) (x : Answer) → linesVerdict freshPlain 0 ls ≡ Bad j x → BadLines ls j x
 first-bad ls j x e = bad-lines ls freshPlain 0 j x [] refl (none-before freshPlain refl) refl e

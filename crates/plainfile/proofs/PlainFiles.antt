@@ -21,8 +21,9 @@ use Rattle.datalines.specs.Pieces.{splitAll, piecesOf}
 use Rattle.plainfile.specs.PlainFile.{PlainFile, dataFrom, WithData, PlainPieces}
 use Rattle.plainfile.specs.Refusals.{BadText, lines, no-data}
 use Rattle.plainfile.proofs.Pieces.{Pieces}
-use Rattle.plainfile.proofs.PlainRead.{Reading, plain-reading, plain-fine}
+use Rattle.plainfile.proofs.PlainRead.{Reading, plain-reading}
 use Rattle.plainfile.proofs.BadLines.{bad-is, first-bad}
+use Rattle.plainfile.proofs.Past.{plain-fine, first-told}
 use Rattle.plainfile.proofs.Cuts.{data-all, split-all, split-some}
 
 lines-flat : (s : List ℕ) → flatten (linesOf s) ≡ s
@@ -98,23 +99,26 @@ fine-data s e =
     let f = then-fine (linesVerdict freshPlain 0 (linesOf s)) (dataVerdict (length (linesOf s)) (isSome (recordsOf s))) e in
     plain-data s (plain-reading (linesOf s) freshPlain 0 refl (f .0)) (f .1)
 
-data-verdict : (s : List ℕ) (w : WithData s) → Reading freshPlain (linesOf s) → dataVerdict (length (linesOf s)) (isSome (recordsOf s)) ≡ Fine
-unfolding recordsOf
-data-verdict s w r =
-    let e : recordsOf s ≡ dataFrom 0 (w .items) = r .stores ∙ ap (dataFrom 0) (says-one (r .says) (w .file .says)) in
-    rw e (has-data (length (linesOf s)) (dataFrom 0 (w .items)) (w .some))
-  where
-    has-data : (k : ℕ) (ss : List Store) → 1 ≤ length ss → dataVerdict k (isSome ss) ≡ Fine
-    has-data k [] h = absurd (omega arith)
-    has-data k (x ∷ ss) h = refl
+module _ (s : List ℕ) {xs : List Item} (f : PlainFile s xs) where
+  file-fine : linesVerdict freshPlain 0 (linesOf s) ≡ Fine
+  file-fine =
+      let n : length s ≡ sizeOf xs = ap length (sym (lines-flat s)) ∙ sym (said-length (f .says)) in
+      plain-fine (f .says) (f .records) (omega (arith, f .short))
+
+  file-data : recordsOf s ≡ dataFrom 0 xs
+  unfolding recordsOf
+  file-data =
+      let r = plain-reading (linesOf s) freshPlain 0 refl file-fine in
+      r .stores ∙ ap (dataFrom 0) (says-one (r .says) (f .says))
 
 pub data-fine : (s : List ℕ) → WithData s → verdictOf s ≡ Fine
 unfolding verdictOf
 data-fine s w =
-    let f = w .file in
-    let n : length s ≡ sizeOf (w .items) = ap length (sym (lines-flat s)) ∙ sym (said-length (f .says)) in
-    let e : linesVerdict freshPlain 0 (linesOf s) ≡ Fine = plain-fine (f .says) (f .records) freshPlain 0 refl (omega (arith, f .short)) in
-    rw e (data-verdict s w (plain-reading (linesOf s) freshPlain 0 refl e))
+    rw (file-fine s (w .file), file-data s (w .file)) (has-data (length (linesOf s)) (dataFrom 0 (w .items)) (w .some))
+  where
+    has-data : (k : ℕ) (ss : List Store) → 1 ≤ length ss → dataVerdict k (isSome ss) ≡ Fine
+    has-data k [] h = absurd (omega arith)
+    has-data k (x ∷ ss) h = refl
 
 -- ---- one with a refusal
 
@@ -135,3 +139,9 @@ bad-text s k x e = by-lines (linesVerdict freshPlain 0 (linesOf s)) refl e
     by-lines : (v : Verdict) → linesVerdict freshPlain 0 (linesOf s) ≡ v → thenVerdict v (dataVerdict (length (linesOf s)) (isSome (recordsOf s))) ≡ Bad k x → BadText s k x
     by-lines (Bad j y) f e = lines (first-bad (linesOf s) k x (f ∙ e))
     by-lines Fine f e = no-data-bad s k x (plain-reading (linesOf s) freshPlain 0 refl f) e
+
+-- and back: the refusal is told
+pub text-told : (s : List ℕ) (k : ℕ) (x : Answer) → BadText s k x → verdictOf s ≡ Bad k x
+unfolding verdictOf
+text-told s k x (lines b) = rw (first-told (linesOf s) k x b)
+text-told s k x (no-data xs f e) = rw (file-fine s f, file-data s f, e)

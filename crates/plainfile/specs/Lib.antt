@@ -1,2 +1,3 @@
 pub mod PlainFile
 pub mod Refusals
+pub mod Claims

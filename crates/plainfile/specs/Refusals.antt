@@ -39,13 +39,14 @@ pub data BadLine (size : ℕ) (l : List ℕ) : Answer → Type 0 where
   row-29 : size + length l ≤ 4194304 → (rec : Record) → readOf l .parsed ≡ Good rec → rec .kind ≡ 0x00 → 65536 < rec .address + rec .len
       → BadLine size l Crosses
 
--- the first bad one of some lines, by its index from 0; past the last one the number of lines
+-- the first bad one of some lines, by its index from 0; past the last one the number of lines. The lines before it have at most 4,194,304 bytes:
+-- row 36 would have been first
 pub data BadLines (ls : List (List ℕ)) : ℕ → Answer → Type 0 where
   bad-line : {x : Answer} (before : List (List ℕ)) (l : List ℕ) (rest : List (List ℕ)) (xs : List Item) → ls ≡ before ++ (l ∷ rest) → Says before xs → Begun xs
-      → BadLine (sizeOf xs) l x → BadLines ls (length before) x
+      → sizeOf xs ≤ 4194304 → BadLine (sizeOf xs) l x → BadLines ls (length before) x
   after-the-01 : (before : List (List ℕ)) (l : List ℕ) (rest : List (List ℕ)) (xs : List Item) → ls ≡ before ++ (l ∷ rest) → Says before xs → Records xs
-      → BadLines ls (length before) AfterEnd
-  no-01 : (xs : List Item) → Says ls xs → Begun xs → BadLines ls (length ls) OutOfPlace
+      → sizeOf xs ≤ 4194304 → BadLines ls (length before) AfterEnd
+  no-01 : (xs : List Item) → Says ls xs → Begun xs → sizeOf xs ≤ 4194304 → BadLines ls (length ls) OutOfPlace
 
 -- of a text
 pub data BadText (text : List ℕ) : ℕ → Answer → Type 0 where

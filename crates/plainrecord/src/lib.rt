@@ -1,6 +1,7 @@
 // A record of a plain Intel Hex file, of types 00 to 05: data, an address, a start, the end, or out of place.
 ghost use mathlib.Core.Path.{_≡_};
-ghost use Rattle.plain.specs.Line.{dataTaken, recordTaken};
+ghost use Rattle.sets.specs.Numbered.{numbered};
+ghost use Rattle.plain.specs.Line.{takenNumber, dataTaken, recordTaken};
 use grammar::Answer;
 use plain::Plain;
 use plain::Taken;
@@ -28,7 +29,7 @@ fn data(plain: Plain, address: u16, len: u8) -> Taken
 
 // A record, its first two data bytes as a number.
 pub fn record(plain: Plain, kind: u8, address: u16, len: u8, word: u16) -> Taken
-    ensures { λ r. ⌜ r ≡ recordTaken plain kind address len word ⌝ }
+    ensures { λ r. ⌜ numbered takenNumber r ≡ numbered takenNumber (recordTaken plain kind address len word) ⌝ }
 {
     if kind == Record::DATA {
         return data(plain, address, len);

@@ -10,16 +10,16 @@ use Rattle.sets.proofs.Numbered.{answer-is}
 use Rattle.md5.specs.declared.Digest.{Digest}
 use Rattle.md5.specs.Md5.{md5Of, digestBytes}
 use Rattle.uf2file.specs.declared.MakeAnswer.{MakeAnswer}
-use Rattle.uf2file.specs.Uf2file.{makeNumber, makeCall, makeOf}
+use Rattle.uf2file.specs.Uf2file.{makeNumber, makeCall, callNumber, makeOf}
 use Rattle.joiner.specs.declared.Joined.{Joined}
 use Rattle.joiner.specs.Join.{joinCall, joinNumber, joinOf}
 use Rattle.toolsapi.specs.Join.{joinedResult, joinReturn, joinReturnOf, joinBytes}
 use Rattle.toolsapi.specs.Tools.{makeResult, resultOf, makeBytes, digestOver}
 
 pub make-told : (image : List ℕ) (family start : ℕ) (out : List ℕ) {n : ℕ} {x : MakeAnswer} {b : List ℕ}
-    → makeCall x b ≡ makeOf image family start out → n ≡ makeNumber x → makeResult n b ≡ makeBytes image family start out
+    → numbered callNumber (makeCall x b) ≡ numbered callNumber (makeOf image family start out) → n ≡ makeNumber x → makeResult n b ≡ makeBytes image family start out
 unfolding makeBytes
-make-told image family start out {n} {x} {b} e h = ap (λ (k : ℕ). makeResult k b) h ∙ ap resultOf e
+make-told image family start out {n} {x} {b} e h = ap (λ (k : ℕ). makeResult k b) h ∙ ap resultOf (answer-is e)
 
 module _ (out l : List ℕ) where
   pub digest-other : length out ≢ 16 → out ≡ digestOver out l

@@ -61,6 +61,10 @@ pub record MakeCall : Type 0 where
 abbrev pub makeCall : MakeAnswer → List ℕ → MakeCall
 makeCall x l = record { answer = x; output = l }
 
+-- the number of its answer
+abbrev pub callNumber : MakeCall → ℕ
+callNumber c = makeNumber (c .answer)
+
 -- "A refusal writes nothing; output past the last block stays."
 abbrev pub outputOf : MakeAnswer → List ℕ → List ℕ → List ℕ
 outputOf BadImage file out = out

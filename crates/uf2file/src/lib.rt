@@ -3,6 +3,7 @@ ghost use mathlib.Core.Path.{_≡_};
 ghost use Prim.Native.Nat.{_+_, _*_, _≤_};
 ghost use lib.ListN.{length};
 ghost use Rattle.sets.specs.Over.{over};
+ghost use Rattle.sets.specs.Numbered.{numbered};
 ghost use Rattle.uf2file.specs.Uf2file.{
   badImage,
   badStart,
@@ -10,6 +11,7 @@ ghost use Rattle.uf2file.specs.Uf2file.{
   checkOf,
   makeNumber,
   makeCall,
+  callNumber,
   makeOf,
 };
 use block::Block;
@@ -60,7 +62,7 @@ fn bad_start(start: usize) -> bool
 // What would come of an image of so many bytes. The start's distance from the window's end is compared, since the sum of start and length
 // need not fit.
 pub fn check(image_len: usize, start: u32, output_len: usize) -> MakeAnswer
-    ensures { λ r. ⌜ r ≡ checkOf «image_len» start «output_len» ⌝ }
+    ensures { λ r. ⌜ numbered makeNumber r ≡ numbered makeNumber (checkOf «image_len» start «output_len») ⌝ }
 {
     let first = start as usize;
     if bad_image(image_len) {
@@ -109,7 +111,7 @@ fn write_blocks(image: &[u8], family: u32, start: u32, total: u32, output: &mut 
 
 // Makes the file at the start of the output.
 pub fn make(image: &[u8], family: u32, start: u32, output: &mut [u8]) -> MakeAnswer
-    ensures { λ r. ⌜ makeCall r (now (output .exit)) ≡ makeOf (now (image .entry)) family start (now (output .entry)) ⌝ }
+    ensures { λ r. ⌜ numbered callNumber (makeCall r (now (output .exit))) ≡ numbered callNumber (makeOf (now (image .entry)) family start (now (output .entry))) ⌝ }
 {
     let answer = check(image.len(), start, output.len());
     let MakeAnswer::Made(total) = answer else {

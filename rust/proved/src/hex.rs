@@ -71,7 +71,7 @@ pub enum State {
     Padded(u16),
     /// After the 01.
     Ended,
-    /// It failed, by this answer. One that does not make a reader failed makes it a bad reader.
+    /// It failed, by this answer. One that does not make a reader failed makes it a bad reader, and so does a bad digit at a position outside 1 to 520.
     Failed(HexAnswer),
 }
 
@@ -95,7 +95,8 @@ pub struct Reader {
 /// The answers to a line, 18 to 36 in this order. They are asked in this order: 19, 18, a failed reader's own, 31, 36, then 20 and on.
 #[derive(Clone, Copy, PartialEq, Eq, Debug)]
 pub enum HexAnswer {
-    /// The offset is over the limit of a file, or the reader failed by an answer that makes none failed. Nothing changes.
+    /// The offset is over the limit of a file, or the reader failed by an answer that makes none failed, or by a bad digit at a position outside
+    /// 1 to 520. Nothing changes.
     BadReader,
     /// The image's length. Nothing changes.
     BadImage,

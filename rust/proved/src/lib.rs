@@ -2,7 +2,7 @@
 //!
 //! UF2 blocks go through [`look`] and [`take`], lines of Universal Hex through [`hex::Reader::line`]. Nothing has to be checked before a call: every
 //! settings, transfer, reader and length gets an answer, and nothing is allocated or kept between calls. It links the libraries `capi`,
-//! `lookapi`, `takeapi`, `acceptapi` and `tagsapi`, each of which `rt staticlib NAME` writes to `target/staticlib`: code for x86-64 Linux.
+//! `lookapi`, `takeapi`, `acceptapi`, `tagsapi` and `storeapi`, each of which `rt staticlib NAME` writes to `target/staticlib`: code for x86-64 Linux.
 //!
 //! A block goes to flash or, where its address lies in the window of a RAM that is lent, to that RAM ([`Kind`]). [`take`] and [`take_all`] are
 //! for flash that is memory, which can be stored to. Where flash is read as memory and written by a driver, [`take_through`] takes an arrival

@@ -3,6 +3,7 @@ use Rattle.plain.proofs.Laws.{line-ended, line-long, line-refused, line-record}
 use native.Mathlib.Omega.{arith}
 use mathlib.Core.Path.{ap}
 use Rattle.sets.specs.Numbered.{numbered}
+use Rattle.sets.proofs.Numbered.{answer-is}
 use Rattle.plain.specs.Line.{takenNumber}
 use borrow.Author.Needs.{needs}
 use Rattle.plainline.proofs.line.Statement.{statement}
@@ -39,7 +40,7 @@ record-requires : tie.Need-record-requires
 record-requires c κs = search needs
 
 returns-5 : tie.Need-returns-5
-returns-5 c = ap (numbered takenNumber) (line-record _ _ _ _ _ _ _ (c .before .before .before .before .before .before .before .before .if1 .left) (omega arith) (c .before .before .before .parsed .given .1) (c .before .moved-by .ensures) (c .«record» .ensures))
+returns-5 c = ap (numbered takenNumber) (line-record _ _ _ _ _ _ _ (c .before .before .before .before .before .before .before .before .if1 .left) (omega arith) (c .before .before .before .parsed .given .1) (c .before .moved-by .ensures) (answer-is (c .«record» .ensures)))
 
 pub line-spec : {M : Type 1} → statement M
 line-spec =

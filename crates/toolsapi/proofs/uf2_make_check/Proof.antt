@@ -15,7 +15,7 @@ cast-result : tie.Need-cast-result
 cast-result c = search needs
 
 returns : tie.Need-returns
-returns c = c .number .ensures ∙ ap makeNumber (c .before .check .ensures)
+returns c = c .number .ensures ∙ ap (λ p. p .1) (c .before .check .ensures)
 
 pub uf2-make-check-spec : {M : Type 1} → statement M
 uf2-make-check-spec = tie.close (tie.spec check-requires number-requires cast-result returns)
