@@ -41,7 +41,7 @@ use Rattle.arrival.specs.Windows.{lies, kindOf}
 use Rattle.arrivals.specs.Before.{placedBefore, notedBefore, foundBefore, screenBefore, decideBefore, receiveBefore, InFlash, strays, Without-RAM, Stays-in-flash}
 use Rattle.arrival.proofs.Windows.{lies-is}
 use Rattle.arrivals.proofs.Screening.{Fielded, fielded, flashOf, lens, Board, room-of}
-use Rattle.arrivals.proofs.DecisionFacts.{right-true, step-late, DecisionFacts, kept, took, decision-facts, raisedCount, took-state}
+use Rattle.arrivals.proofs.DecisionFacts.{right-true, step-late, DecisionFacts, refused, took, decision-facts, raisedCount, took-state}
 
 -- ---- rows 4 to 11
 
@@ -247,7 +247,7 @@ counted-flash g c e = split (ltb c (g .total)) (λ y. rw y e) (λ z. rw z tt)
 in-flash : (s : Settings) (w : World) (a : List ℕ) {d : Decision} → DecisionFacts s w a d → length (w .held .main) ≡ 0 → length (w .held .xip) ≡ 0
     → InFlash (w .transfer) → InFlash (done w (payloadOf a) d .world .transfer)
 unfolding done acceptOf
-in-flash s w a (kept x h) m p f = f
+in-flash s w a (refused x h) m p f = f
 in-flash s w a (took g k B l q t) m p f =
     let e : g .head .kind ≡ Flash = ap (λ (h : Head). h .kind) (q .head) ∙ only-flash (lens w) m p (kindOf w a) (q .lent) in
     rw (took-state t) (counted-flash (g .head) (raisedCount t) e)

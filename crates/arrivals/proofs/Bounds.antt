@@ -38,14 +38,14 @@ use Rattle.arrival.proofs.Facts.{done-none, wiped-buffer}
 use Rattle.arrival.proofs.Standing.{keepsAt}
 use Rattle.arrivals.proofs.Effect.{spans-true}
 use Rattle.arrivals.proofs.Screening.{flashOf, lens, Board, Passing, Good, screen-good, passing-room, passing-body, passing-fits, passing-deed}
-use Rattle.arrivals.proofs.DecisionFacts.{board-decides, Rows, stopped, through, rows, deedAt, DecisionFacts, kept, took, decision-facts, took-number}
+use Rattle.arrivals.proofs.DecisionFacts.{board-decides, Rows, stopped, through, rows, deedAt, DecisionFacts, refused, took, decision-facts, took-number}
 
 -- ---- answers 1 to 13
 
 stayed : (s : Settings) (w : World) (a : List ℕ) (p : List ℕ) {d : Decision} → DecisionFacts s w a d → numberOf (done w p d .answer) ≤ 13
     → done w p d ≡ unchanged w (done w p d .answer)
 unfolding done
-stayed s w a p (kept x h) n = refl
+stayed s w a p (refused x h) n = refl
 stayed s w a p (took g k B l q t) n = absurd (omega (arith, took-number t))
 
 pub refusals-change-nothing : Refusals-change-nothing
@@ -124,7 +124,7 @@ outside-page start size at p x j e f l h o =
 
 outside-done : (s : Settings) (w : World) (a : List ℕ) (j : ℕ) {d : Decision} → DecisionFacts s w a d → Outside (placeOf s (flashOf w) (fieldAt a 28)) j
     → getD (done w (payloadOf a) d .world .held .flash) j 0 ≡ getD (w .held .flash) j 0
-outside-done s w a j (kept x h) o = unfold done in refl
+outside-done s w a j (refused x h) o = unfold done in refl
 outside-done s w a j (took g k B l q t) o =
     split (sameKind Flash (kindOf w a))
     (λ y. flash (kind-same Flash (kindOf w a) y))

@@ -2,13 +2,13 @@
 use Prim.Native.Nat.{ℕ, _+_, _/_, _%_, _≤_, _<_}
 use mathlib.Core.Path.{_≡_, refl, sym, ap, subst, _∙_}
 use mathlib.Core.Logic.{_≢_, inl, inr, ⊎-elim}
-use mathlib.Core.Bool.{Bool, true, false, not, cond}
+use mathlib.Core.Bool.{Bool, true, false, not, cond, _&&_}
 use mathlib.Core.List.{List, [], _∷_}
 use native.Mathlib.Omega.{arith}
 use lib.Dec.{eqb, ltb, leb}
 use lib.ListN.{length, set, length-set}
-use borrow.Author.Tests.{eqb-true, eqb-false, le-ltb, leb-true, leb-false}
-use Rattle.sets.proofs.Tests.{split, clash, or-left, or-right}
+use borrow.Author.Tests.{eqb-true, eqb-false, le-ltb, leb-true, leb-false, ltb-true, ltb-false}
+use Rattle.sets.proofs.Tests.{split, clash, and-left, and-right, or-left, or-right}
 use Rattle.bitmap.specs.Bitmap.{markedIn, withMark}
 use Rattle.bitmap.proofs.Laws.{marked-past, marked-same, marked-other}
 use Rattle.block.specs.Block.{fieldAt, hasFlag, fieldsOf, flaggedOf, headerOf}
@@ -19,7 +19,7 @@ use Rattle.flash.specs.Flash.{payloadOf}
 use Rattle.settings.specs.declared.Settings.{Settings}
 use Rattle.place.specs.declared.Place.{Place}
 use Rattle.place.specs.declared.Place.the-variants.{Nowhere, At}
-use Rattle.transfer.specs.Transfer.{numberOf, countOf, sameHead, counted, deedAnswer, raised}
+use Rattle.transfer.specs.Transfer.{numberOf, countOf, goodState, sameHead, counted, deedAnswer, raised}
 use Rattle.transfer.specs.declared.Kind.{Kind}
 use Rattle.transfer.specs.declared.Head.{Head}
 use Rattle.transfer.specs.declared.Run.{Run}
@@ -42,7 +42,7 @@ use Rattle.arrivals.specs.Tally.{clears}
 use Rattle.arrivals.specs.Comments.{isNoted, Comments-note, Nothing-stored, Unstored, Comments-store-nothing, Unread, Comments-unread, anyDiscard, First-stands}
 use Rattle.arrival.proofs.Heads.{same-head}
 use Rattle.arrivals.proofs.Screening.{lens, Board, Passing, passing-few}
-use Rattle.arrivals.proofs.DecisionFacts.{AcceptFacts, deedAt, DecisionFacts, raisedCount, took-state, took-answer, took-clears, took-discarded, kept, took, decision-facts, decide-same}
+use Rattle.arrivals.proofs.DecisionFacts.{AcceptFacts, deedAt, DecisionFacts, raisedCount, took-state, took-answer, took-clears, took-discarded, refused, took, decision-facts, decide-same}
 use Rattle.arrival.proofs.Standing.{keepsAt}
 use Rattle.arrival.proofs.Facts.{length-cleared, wiped-buffer, wiped-sectors, done-none}
 use Rattle.arrivals.proofs.Bounds.{left-none, deed-is}
@@ -59,7 +59,7 @@ comments-note s w a p d t e = go (decision-facts s w a) e
     told false false = refl
 
     go : {x : Decision} → DecisionFacts s w a x → x ≡ accepts p d t → isNoted d ≡ hasFlag a 0x1
-    go (kept x h) e = let z : _≡_ {A = ℕ} 0 1 = cc in absurd (omega arith)
+    go (refused x h) e = let z : _≡_ {A = ℕ} 0 1 = cc in absurd (omega arith)
     go (took g k B l q f) e =
         let x : deedAt s w a g ≡ d = cc in
         ap isNoted (sym x ∙ deed-is s w a g k q B) ∙ told (hasFlag a 0x1) (keepsAt s w a)
@@ -76,6 +76,31 @@ raised-told : (e : Deed) (g : Head) (c : ℕ) → numberOf (raised e g c) ≡ co
 unfolding raised counted
 raised-told e g c = split (ltb c (g .total)) (λ y. rw (y, y)) (λ z. rw (z, le-ltb (g .total) (g .total) (omega arith)))
 
+-- a count up to the total is the transfer's, at the total too
+counted-told : (g : Head) (c : ℕ) → c ≤ g .total → countOf (counted g c) ≡ c
+unfolding counted
+counted-told g c h = split (ltb c (g .total)) (λ y. rw y) (λ z. rw z (omega (arith, ltb-false c (g .total) z)))
+
+-- and so is the raised one: a running transfer's is below the total
+raised-room : (t : State) (g : Head) (m : Bool) (d : Deed) (k : Accepted) → goodState t ≡ true → 1 ≤ g .total → AcceptFacts t g m d k
+    → cond (clears t g) 1 (countOf t + 1) ≤ g .total
+unfolding goodState
+raised-room t g m d k good some q =
+    split (clears t g)
+    (λ y. rw y some)
+    (λ z.
+    let r = q .going z in
+    let e : goodState (Running (r .0)) ≡ true = ap goodState (sym (r .1)) ∙ good in
+    let c : countOf t ≡ r .0 .count = ap countOf (r .1) in
+    let n : r .0 .head .total ≡ g .total = ap (λ (h : Head). h .total) (r .2) in
+    rw z (omega (arith, c, n, below (r .0) e)))
+  where
+    below : (r : Run) → goodState (Running r) ≡ true → r .count < r .head .total
+    below r e =
+        let a = leb 1 (r .count) in
+        let b = ltb (r .count) (r .head .total) in
+        ltb-true (r .count) (r .head .total) (and-right a b (and-left (a && b) (leb (r .head .total) 131072) e))
+
 -- an accepted block that does e, which is not to store
 pub unstored : (s : Settings) (w : World) (a : List ℕ) (e : Deed) (g : Placed) (k : Accepted) → Passing s w a g → Board s w
     → AcceptFacts (w .transfer) (g .head) (markedIn (w .seen) (g .number)) (deedAt s w a g) k → deedAt s w a g ≡ e → e ≢ Stores
@@ -85,6 +110,7 @@ unstored s w a e g k q B t f n =
     let m : k .clears ≡ clears (w .transfer) (headOf w a) = took-clears t ∙ ap (clears (w .transfer)) (q .head) in
     let c : ℕ = raisedCount t in
     let left = left-none s w a g k q B e f n in
+    let some : 1 ≤ g .head .total = omega (arith, ap (λ (h : Head). h .total) (q .head), q .below) in
     let r : numberOf (k .answer) ≡ numberOf (raised e (g .head) c) =
     ap numberOf (took-answer t) ∙ ap (λ (x : Deed). numberOf (raised x (g .head) c)) f in
     record {
@@ -96,6 +122,11 @@ unstored s w a e g k q B t f n =
       seen =
           ap (λ (x : Bool). withMark (clearedIf x (w .seen)) (g .number)) m
           ∙ ap (withMark (clearedIf (clears (w .transfer) (headOf w a)) (w .seen))) (q .number);
+      count =
+          ap countOf (took-state t)
+          ∙ counted-told (g .head) c
+          (raised-room (w .transfer) (g .head) (markedIn (w .seen) (g .number)) (deedAt s w a g) k (B .state) some t)
+          ∙ ap (λ (h : Head). cond (clears (w .transfer) h) 1 (countOf (w .transfer) + 1)) (q .head);
       answer =
           r ∙ raised-told e (g .head) c
           ∙ ap (λ (h : Head). cond (ltb (countOf (counted (g .head) c)) (h .total)) (numberOf (deedAnswer e)) 15) (q .head)
@@ -104,7 +135,7 @@ unstored s w a e g k q B t f n =
 
 noting : (s : Settings) (w : World) (a : List ℕ) {d : Decision} → DecisionFacts s w a d → hasFlag a 0x1 ≡ true
     → 14 ≤ numberOf (done w (payloadOf a) d .answer) → Unstored 16 w a (done w (payloadOf a) d)
-noting s w a (kept x h) y n = let m : 14 ≤ numberOf x = unfold done in n in absurd (omega arith)
+noting s w a (refused x h) y n = let m : 14 ≤ numberOf x = unfold done in n in absurd (omega arith)
 noting s w a (took g k B l q t) y n =
     unstored s w a Notes g k q B t (deed-is s w a g k q B ∙ rw y) (λ e. let z : _≡_ {A = ℕ} 0 1 = cc in omega arith)
 
@@ -178,7 +209,7 @@ module _ (s : Settings) (n : Lengths) (t : State) (a : List ℕ) (i x : ℕ) (y 
 payload-unread : (s : Settings) (w : World) (a : List ℕ) (p : List ℕ) {d : Decision} → DecisionFacts s w a d → hasFlag a 0x1 ≡ true
     → done w p d ≡ done w (payloadOf a) d
 unfolding done acceptOf
-payload-unread s w a p (kept x h) y = refl
+payload-unread s w a p (refused x h) y = refl
 payload-unread s w a p (took g k B l q t) y = let e : deedAt s w a g ≡ Notes = deed-is s w a g k q B ∙ rw y in rw e
 
 pub comments-unread : Comments-unread
@@ -232,7 +263,7 @@ no-step (Done h) seen g n d k f s = let r = f .going refl in let e = r .1 in let
 accepted-stands : (s : Settings) (w : World) (a : List ℕ) {d : Decision} → DecisionFacts s w a d → 14 ≤ numberOf (done w (payloadOf a) d .answer)
     → Standing (headOf w a) (fieldAt a 20) (done w (payloadOf a) d .world .transfer) (done w (payloadOf a) d .world .seen)
 unfolding done acceptOf
-accepted-stands s w a (kept x h) n = absurd (omega arith)
+accepted-stands s w a (refused x h) n = absurd (omega arith)
 accepted-stands s w a (took g k B l q t) n =
     let c : ℕ = raisedCount t in
     let room : g .number / 8 < length (clearedIf (k .clears) (w .seen)) =
@@ -244,7 +275,7 @@ stands-next : (s : Settings) (w : World) (b : List ℕ) (g : Head) (n : ℕ) {d 
     → done w (payloadOf b) d .discarded ≡ false → Standing g n (w .transfer) (w .seen)
     → Standing g n (done w (payloadOf b) d .world .transfer) (done w (payloadOf b) d .world .seen)
 unfolding done acceptOf
-stands-next s w b g n (kept x h) e st = st
+stands-next s w b g n (refused x h) e st = st
 stands-next s w b g n (took f k B l q t) e st =
     split (clears (w .transfer) (f .head))
     (λ y. ⊎-elim (λ i. absurd (subst (λ (x : State). Standing g n x (w .seen)) i st)) (λ i. clash true refl (sym (took-discarded t ∙ i) ∙ e)) (t .opening y))
@@ -276,7 +307,7 @@ stands-all s g n (b ∷ l) w e st =
 refused-again : (s : Settings) (v : World) (b : List ℕ) {d : Decision} → DecisionFacts s v b d → Standing (headOf v b) (fieldAt b 20) (v .transfer) (v .seen)
     → numberOf (done v (payloadOf b) d .answer) ≤ 13
 unfolding done
-refused-again s v b (kept x h) st = h
+refused-again s v b (refused x h) st = h
 refused-again s v b (took g k B l q t) st =
     absurd (no-step (v .transfer) (v .seen) (g .head) (g .number) (deedAt s v b g) k t (rw (q .head, q .number) st))
 

@@ -184,7 +184,7 @@ abbrev pub deedAt : Settings → World → List ℕ → Placed → Deed
 deedAt s w a g = deedOf (standing s (w .held .flash) a) g
 
 pub data DecisionFacts (s : Settings) (w : World) (a : List ℕ) : Decision → Type 0 where
-  kept : (x : Answer) → numberOf x ≤ 13 → DecisionFacts s w a (stays x)
+  refused : (x : Answer) → numberOf x ≤ 13 → DecisionFacts s w a (stays x)
   took : (g : Placed) (k : Accepted) → Board s w → length a ≡ 512 → Passing s w a g
       → AcceptFacts (w .transfer) (g .head) (markedIn (w .seen) (g .number)) (deedAt s w a g) k
       → DecisionFacts s w a (accepts g (deedAt s w a g) k)
@@ -195,18 +195,18 @@ decision-facts s w a = go (rows s w a)
     steps : Board s w → length a ≡ 512 → (g : Placed) → Passing s w a g → (st : Step)
         → StepFacts (w .transfer) (g .head) (markedIn (w .seen) (g .number)) (deedAt s w a g) st
         → DecisionFacts s w a (stepped g (deedAt s w a g) st)
-    steps B l g p (Stays x) h = kept (x .answer) h
+    steps B l g p (Stays x) h = refused (x .answer) h
     steps B l g p (Accepts k) h = took g k B l p h
 
     look : Board s w → length a ≡ 512 → (x : Screening) → Good s w a x
         → DecisionFacts s w a (afterScreening (w .transfer) (w .seen) (standing s (w .held .flash) a) x)
-    look B l (Refused x) h = unfold afterScreening in kept x (omega (arith, h))
+    look B l (Refused x) h = unfold afterScreening in refused x (omega (arith, h))
     look B l (Passed g) h =
         unfold afterScreening in steps B l g h (stepOf (w .transfer) (g .head) (markedIn (w .seen) (g .number)) (deedAt s w a g))
         (step-facts (w .transfer) (g .head) (markedIn (w .seen) (g .number)) (deedAt s w a g))
 
     go : Rows s w a → DecisionFacts s w a (decided s w a)
-    go (stopped x h e) = subst (DecisionFacts s w a) (sym e) (kept x (omega arith))
+    go (stopped x h e) = subst (DecisionFacts s w a) (sym e) (refused x (omega arith))
     go (through B l) = subst (DecisionFacts s w a) (sym (board-decides s w a B l)) (look B l (screenOf s (lens w) (w .transfer) a) (screen-good s w a))
 
 -- ---- whether what the arrival would store stands is asked of a page alone

@@ -47,7 +47,7 @@ use Rattle.arrivals.specs.Kept.{soft, Agree, Flash-decides-14-or-17, Fla
 use Rattle.arrival.specs.Standing.{Standing}
 use Rattle.arrival.proofs.Standing.{keepsAt, standing-of}
 use Rattle.arrivals.proofs.Screening.{flashOf, lens, Board, Passing, passing-deed}
-use Rattle.arrivals.proofs.DecisionFacts.{raisedCount, took-answer, deedAt, DecisionFacts, kept, took, decision-facts, decide-same}
+use Rattle.arrivals.proofs.DecisionFacts.{raisedCount, took-answer, deedAt, DecisionFacts, refused, took, decision-facts, decide-same}
 use Rattle.arrivals.proofs.Bounds.{deed-is}
 use Rattle.arrival.proofs.Facts.{decide-flags, kind-flags}
 use Rattle.arrivals.proofs.Comments.{unstored}
@@ -177,7 +177,7 @@ module _ (s : Settings) (w : World) (a : List ℕ) where
 
 keeping : (s : Settings) (w : World) (a : List ℕ) {d : Decision} → DecisionFacts s w a d → Standing s w a
     → 14 ≤ numberOf (done w (payloadOf a) d .answer) → Unstored 17 w a (done w (payloadOf a) d)
-keeping s w a (kept x h) q n = let m : 14 ≤ numberOf x = unfold done in n in absurd (omega arith)
+keeping s w a (refused x h) q n = let m : 14 ≤ numberOf x = unfold done in n in absurd (omega arith)
 keeping s w a (took g k B l p t) q n =
     unstored s w a Keeps g k p B t (deed-is s w a g k p B ∙ rw (q .data-block, standing-keeps s w a B q)) (λ e. let z : _≡_ {A = ℕ} 0 1 = cc in omega arith)
 
@@ -201,7 +201,7 @@ kept-only false true e = (refl, refl)
 kept-only false false e = let z : _≡_ {A = ℕ} 0 1 = cc in absurd (omega arith)
 
 stands : (s : Settings) (w : World) (a : List ℕ) {d : Decision} → DecisionFacts s w a d → numberOf (done w (payloadOf a) d .answer) ≡ 17 → Standing s w a
-stands s w a (kept x h) n = let m : numberOf x ≡ 17 = unfold done in n in absurd (omega arith)
+stands s w a (refused x h) n = let m : numberOf x ≡ 17 = unfold done in n in absurd (omega arith)
 stands s w a (took g k B l p t) n =
     let m : numberOf (k .answer) ≡ 17 = unfold done in n in
     let e : deedAt s w a g ≡ Keeps = raised-kept (deedAt s w a g) (g .head) (raisedCount t) (sym (ap numberOf (took-answer t)) ∙ m) in

@@ -25,7 +25,7 @@ use Rattle.arrival.proofs.Heads.{same-kind, kind-same}
 use Rattle.arrival.proofs.Paged.{getD-ram, sectors-ram}
 use Rattle.arrivals.proofs.Effect.{spans-is}
 use Rattle.arrivals.proofs.Screening.{Board, Passing, room-origin}
-use Rattle.arrivals.proofs.DecisionFacts.{deedAt, DecisionFacts, kept, took, decision-facts, took-clears}
+use Rattle.arrivals.proofs.DecisionFacts.{deedAt, DecisionFacts, refused, took, decision-facts, took-clears}
 use Rattle.arrival.proofs.Standing.{keepsAt}
 use Rattle.arrival.proofs.Facts.{wiped-buffer, wiped-sectors}
 use Rattle.arrivals.proofs.Bounds.{left-note, left-page, left-fits, left-other}
@@ -34,7 +34,7 @@ use Rattle.arrivals.proofs.Bounds.{left-note, left-page, left-fits, lef
 
 others : (s : Settings) (w : World) (a : List ℕ) (k : Kind) {d : Decision} → DecisionFacts s w a d → k ≢ kindOf w a
     → bufferOf k (done w (payloadOf a) d .world .held) ≡ bufferOf k (w .held)
-others s w a k (kept x h) n = unfold done in refl
+others s w a k (refused x h) n = unfold done in refl
 others s w a k (took g c B l q t) n = left-other s w a g c q B k n
 
 pub other-kinds-kept : Other-kinds-kept
@@ -77,7 +77,7 @@ module _ (s : Settings) (w : World) (a : List ℕ) (g : Placed) (c : Accepted) (
 -- each other byte stays
 stay : (s : Settings) (w : World) (a : List ℕ) (k : Kind) (j : ℕ) {d : Decision} → DecisionFacts s w a d → k ≢ Flash
     → spans (fieldAt a 12 - windowStart k) j ≡ false → getD (bufferOf k (done w (payloadOf a) d .world .held)) j 0 ≡ getD (bufferOf k (w .held)) j 0
-stay s w a k j (kept x h) n e = unfold done in refl
+stay s w a k j (refused x h) n e = unfold done in refl
 stay s w a k j (took g c B l q t) n e =
     split (sameKind k (kindOf w a))
     (λ y. own k (kind-same k (kindOf w a) y) n e)
@@ -103,7 +103,7 @@ ram-kept s w a k j n e = stay s w a k j (decision-facts s w a) n e
 store : (s : Settings) (w : World) (a : List ℕ) (i : ℕ) {d : Decision} → DecisionFacts s w a d → 14 ≤ numberOf (done w (payloadOf a) d .answer)
     → hasFlag a 0x1 ≡ false → kindOf w a ≢ Flash → i < 256
     → getD (bufferOf (kindOf w a) (done w (payloadOf a) d .world .held)) (fieldAt a 12 - windowStart (kindOf w a) + i) 0 ≡ getD a (32 + i) 0
-store s w a i (kept x h) m z n b = let r : 14 ≤ numberOf x = unfold done in m in absurd (omega arith)
+store s w a i (refused x h) m z n b = let r : 14 ≤ numberOf x = unfold done in m in absurd (omega arith)
 store s w a i (took g c B l q t) m z n b =
     let x = fieldAt a 12 - windowStart (kindOf w a) in
     page-bytes s w a g c q B l n z (x + i)
@@ -119,7 +119,7 @@ ram-stored s w a i m z n b = store s w a i (decision-facts s w a) m z n b
 no-mark : (s : Settings) (w : World) (a : List ℕ) {d : Decision} → DecisionFacts s w a d → 14 ≤ numberOf (done w (payloadOf a) d .answer)
     → kindOf w a ≢ Flash
     → done w (payloadOf a) d .world .held .sectors ≡ clearedIf (clears (w .transfer) (headOf w a)) (w .held .sectors)
-no-mark s w a (kept x h) m n = let r : 14 ≤ numberOf x = unfold done in m in absurd (omega arith)
+no-mark s w a (refused x h) m n = let r : 14 ≤ numberOf x = unfold done in m in absurd (omega arith)
 no-mark s w a (took g c B l q t) m n =
     split (hasFlag a 0x1)
     (λ y. ap (λ (v : Held). v .sectors) (left-note s w a g c q B y))

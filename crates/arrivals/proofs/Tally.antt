@@ -26,7 +26,7 @@ use Rattle.arrival.specs.Lists.{Delivery, playAll}
 use Rattle.arrival.specs.Windows.{headOf}
 use Rattle.arrivals.specs.Tally.{isAccepted, clears, acceptedBy, acceptedOf, anyAccepted, Count-is-marks}
 use Rattle.arrivals.proofs.Screening.{passing-few}
-use Rattle.arrivals.proofs.DecisionFacts.{AcceptFacts, took-number, deedAt, DecisionFacts, kept, took, decision-facts}
+use Rattle.arrivals.proofs.DecisionFacts.{AcceptFacts, took-number, deedAt, DecisionFacts, refused, took, decision-facts}
 
 -- ---- the transfer and the seen map, A being what was accepted since the last clearing
 
@@ -98,7 +98,7 @@ pub record Keeping (s : Settings) (w : World) (a : List ℕ) (A : Set) (o : Outc
 keeping : (s : Settings) (w : World) (a : List ℕ) (A : Set) {d : Decision} → DecisionFacts s w a d → Kept (w .transfer) (w .seen) A
     → Keeping s w a A (done w (payloadOf a) d)
 unfolding done acceptOf accepted
-keeping s w a A (kept x h) e =
+keeping s w a A (refused x h) e =
     record { held = rw (lt-leb 14 (numberOf x) (omega arith)) e; busy = rw (lt-leb 14 (numberOf x) (omega arith)) }
 keeping s w a A (took g k B l q t) e =
     let b = clears (w .transfer) (g .head) in

@@ -1,6 +1,6 @@
 -- What is claimed of comments (02, L3: "Files with source embedded never finish."), whatever the settings, the transfer, the buffers and the
 -- arrivals. Proved in proofs/Comments.antt. Assumes nothing.
-use Prim.Native.Nat.{ℕ, _≤_, _<_}
+use Prim.Native.Nat.{ℕ, _+_, _≤_, _<_}
 use mathlib.Core.Path.{_≡_}
 use mathlib.Core.Logic.{_⊎_, _≢_}
 use mathlib.Core.Bool.{Bool, true, false, cond, _||_}
@@ -48,6 +48,8 @@ pub record Unstored (n : ℕ) (w : World) (a : List ℕ) (o : Outcome) : Type 0 
   pub buffers : (k : Kind) → bufferOf k (o .world .held) ≡ bufferOf k (w .held)
   pub sectors : o .world .held .sectors ≡ clearedIf (clears (w .transfer) (headOf w a)) (w .held .sectors)
   pub seen : o .world .seen ≡ withMark (clearedIf (clears (w .transfer) (headOf w a)) (w .seen)) (fieldAt a 20)
+  -- from 0 where the maps are cleared
+  pub count : countOf (o .world .transfer) ≡ cond (clears (w .transfer) (headOf w a)) 1 (countOf (w .transfer) + 1)
   pub answer : numberOf (o .answer) ≡ cond (ltb (countOf (o .world .transfer)) (fieldAt a 24)) n 15
 
 -- of a comment that is accepted; one that isn't changes nothing, as every arrival answered up to 13

@@ -35,7 +35,7 @@ use Rattle.arrivals.specs.Tally.{anyAccepted, Count-is-marks}
 use Rattle.demand.specs.Demand.{File, seenOf, howMany, headIn, Counts, Contents, Ends, List-counts, List-ends, Completed-exactly, Same-set-same-end, Either-first}
 use Rattle.demands.specs.Regions.{Regions-end}
 use Rattle.demands.specs.Stopped.{EndsAlike, Stopped-then-good}
-use Rattle.arrivals.proofs.DecisionFacts.{AcceptFacts, DecisionFacts, kept, took, took-number, decision-facts}
+use Rattle.arrivals.proofs.DecisionFacts.{AcceptFacts, DecisionFacts, refused, took, took-number, decision-facts}
 use Rattle.arrivals.proofs.Bounds.{refusals-change-nothing}
 use Rattle.arrival.proofs.Facts.{look-tells}
 use Rattle.arrivals.proofs.Tally.{count-is-marks}
@@ -99,7 +99,7 @@ good-size t g =
 next-state : (s : Settings) (w : World) (a p t : List ℕ) → w .transfer ≡ stateFrom t → Bytes a → {d : Decision} → DecisionFacts s w a d
     → stateFrom (calls.keptTransfer t (isAcceptance (numberOf (done w p d .answer))) (done w p d .world .transfer)) ≡ done w p d .world .transfer
 unfolding done acceptOf
-next-state s w a p t e h (kept x n) = rw (lt-leb 14 (numberOf x) (omega arith)) (sym e)
+next-state s w a p t e h (refused x n) = rw (lt-leb 14 (numberOf x) (omega arith)) (sym e)
 next-state s w a p t e h (took g k B l q m) =
     rw (le-leb 14 (numberOf (k .answer)) (took-number m))
     (written-back t (k .transfer .state) (good-size t (rw e at (B .state))) (took-small w a h (q .head) m))

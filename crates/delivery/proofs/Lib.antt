@@ -1,2 +1,3 @@
 mod Made
 pub mod Delivery
+pub mod Instance

@@ -22,7 +22,7 @@ use Rattle.arrival.specs.Lists.{receiveAll}
 use Rattle.arrivals.specs.Tally.{clears}
 use Rattle.arrival.proofs.Pages.{arrive}
 use Rattle.arrivals.proofs.Screening.{lens, Board, passing-few}
-use Rattle.arrivals.proofs.DecisionFacts.{board-decides, DecisionFacts, kept, took, decision-facts, counted-good}
+use Rattle.arrivals.proofs.DecisionFacts.{board-decides, DecisionFacts, refused, took, decision-facts, counted-good}
 use Rattle.arrival.proofs.Facts.{arrivals-keep-lengths}
 
 -- ---- an arrival that has passed rows 1 to 3, by what it is screened to
@@ -45,7 +45,7 @@ module _ (s : Settings) (w : World) (a : List ℕ) (B : Board s w) (l : length a
 state-next : (s : Settings) (w : World) (a : List ℕ) {d : Decision} → DecisionFacts s w a d → goodState (w .transfer) ≡ true
     → goodState (done w (payloadOf a) d .world .transfer) ≡ true
 unfolding done acceptOf accepted
-state-next s w a (kept x h) e = e
+state-next s w a (refused x h) e = e
 state-next s w a (took g k B l q t) e =
     rw (t .is)
     (counted-good (g .head) (g .number) (cond (clears (w .transfer) (g .head)) 1 (countOf (w .transfer) + 1)) (least (clears (w .transfer) (g .head)))

@@ -140,7 +140,7 @@ seenFrom F S l j = S j || seenOf (F .file) l j
 
 module _ (s : Settings) (w : World) (F : Blocks) (P : List ℕ → Type 0) (R : Steady s w F P) (Inv : Set → Held → Type 0) (Met : List ℕ → Type 0)
     (K : Invariant F (w .held) Inv Met) (d : Bool) (o : Opens F w d) where
-  from-own : (S : Set) (k : ℕ) (l : List (List ℕ)) → k < count F → seenFrom F (add k S) l ≡ seenFrom F S (bytesOf F k ∷ l)
+  pub from-own : (S : Set) (k : ℕ) (l : List (List ℕ)) → k < count F → seenFrom F (add k S) l ≡ seenFrom F S (bytesOf F k ∷ l)
   from-own S k l h =
       fun-ext
       (λ j.
@@ -148,7 +148,7 @@ module _ (s : Settings) (w : World) (F : Blocks) (P : List ℕ → Type 0) (R : 
       ∙ or-assoc (S j) (eqb j k) (seenOf (F .file) l j)
       ∙ sym (ap (λ (T : Set). S j || T j) (seen-own s w F P R k l h)))
 
-  from-other : (S : Set) (a : List ℕ) (l : List (List ℕ)) → P a → seenFrom F S l ≡ seenFrom F S (a ∷ l)
+  pub from-other : (S : Set) (a : List ℕ) (l : List (List ℕ)) → P a → seenFrom F S l ≡ seenFrom F S (a ∷ l)
   from-other S a l f = fun-ext (λ j. ap (λ (T : Set). S j || T j) (sym (seen-other s w F P R a l f)))
 
   -- what a block leaves, and what it is told

@@ -23,7 +23,7 @@ use Rattle.arrival.specs.Arrive.{Held, bufferOf, lengthsOf, clearedIf, wipedIf,
 use Rattle.demand.specs.Demand.{isData}
 use Rattle.arrivals.proofs.Cells.{touched, touched-add, touched-none, cell, cell-none, cell-step}
 use Rattle.arrival.proofs.Pages.{apply}
-use Rattle.arrival.proofs.Count.{Blocks, count, applied, wipe, Invariant}
+use Rattle.arrival.proofs.Count.{Blocks, count, applied, wipe}
 use Rattle.arrival.proofs.Paged.{Fits, lengths-paged, paged-other, getD-paged, paged-map}
 use Rattle.arrivals.proofs.Effect.{spans-true, payloadIn, kindIn, Valid, layout, sectorsOf, owned-touches, apart-of}
 use Rattle.arrival.proofs.Facts.{wiped-buffer}
@@ -55,8 +55,8 @@ pub record Guard (F : Blocks) (n i lo len : ℕ) : Type 0 where
   pub before : lo ≤ F .at i
   pub behind : F .at i + 256 ≤ lo + len
 
--- the blocks that name one, where the flashes met are as `Met` says
-pub record Guards (F : Blocks) (start : Held) (Met : List ℕ → Type 0) : Type 0 where
+-- the blocks that name one, where the flash that block k meets is as `Met` says
+pub record Guards (F : Blocks) (start : Held) (Met : List ℕ → ℕ → Type 0) : Type 0 where
   pub flat : kindIn F ≡ Flash
   pub guarded : ℕ → Bool
   pub lo : ℕ → ℕ
@@ -68,7 +68,7 @@ pub record Guards (F : Blocks) (start : Held) (Met : List ℕ → Type 0) : Type
   -- every sector of it has one
   pub each : (i q : ℕ) → i < count F → guarded i ≡ true → lo i ≤ q * 4096 → q * 4096 < lo i + len i → touched (count F) (layout Flash F) every q ≡ true
   -- what stands in a flash that is met has the final bytes of its region, and what has them stands
-  pub stood : (f : List ℕ) (k : ℕ) → k < count F → isData (F .file) k ≡ true → length f ≡ length (start .flash) → F .stands f k ≡ true → Met f
+  pub stood : (f : List ℕ) (k : ℕ) → k < count F → isData (F .file) k ≡ true → length f ≡ length (start .flash) → F .stands f k ≡ true → Met f k
       → (guarded k ≡ true) × Finished F f (lo k) (len k)
   pub keeps : (f : List ℕ) (k : ℕ) → k < count F → guarded k ≡ true → length f ≡ length (start .flash) → Finished F f (lo k) (len k)
       → F .stands f k ≡ true
@@ -76,21 +76,21 @@ pub record Guards (F : Blocks) (start : Held) (Met : List ℕ → Type 0) : Type
 -- ---- the invariant
 
 -- of sector q, T being the sectors marked
-pub data Sector (F : Blocks) (start : Held) (Met : List ℕ → Type 0) (G : Guards F start Met) (x : Held) (T S : Set) (q : ℕ) : Type 0 where
+pub data Sector (F : Blocks) (start : Held) (Met : List ℕ → ℕ → Type 0) (G : Guards F start Met) (x : Held) (T S : Set) (q : ℕ) : Type 0 where
   settled : (i : ℕ) → i < count F → G .guarded i ≡ true → G .lo i ≤ q * 4096 → q * 4096 < G .lo i + G .len i
       → Finished F (x .flash) (G .lo i) (G .len i) → Sector F start Met G x T S q
   ordinary : ((j : ℕ) → j < length (start .flash) → j / 4096 ≡ q → getD (x .flash) j 0 ≡ byteOf F (start .flash) S j) → T q ≡ sectorsOf F S q
       → Sector F start Met G x T S q
 
-pub record Inv (F : Blocks) (start : Held) (Met : List ℕ → Type 0) (G : Guards F start Met) (S : Set) (x : Held) : Type 0 where
+pub record Inv (F : Blocks) (start : Held) (Met : List ℕ → ℕ → Type 0) (G : Guards F start Met) (S : Set) (x : Held) : Type 0 where
   pub marks : Set
   pub lengths : lengthsOf x ≡ lengthsOf start
   pub sectors : x .sectors ≡ mapOf 1024 marks
   pub others : (u : Kind) → u ≢ Flash → bufferOf u x ≡ bufferOf u start
   pub state : (q : ℕ) → Sector F start Met G x marks S q
 
-module _ (F : Blocks) (start : Held) (Met : List ℕ → Type 0) (G : Guards F start Met) (ok : Valid F start) where
-  begins : Inv F start Met G none (wipe start)
+module _ (F : Blocks) (start : Held) (Met : List ℕ → ℕ → Type 0) (G : Guards F start Met) (ok : Valid F start) where
+  pub begins : Inv F start Met G none (wipe start)
   begins =
       record {
         marks = none;
@@ -253,7 +253,7 @@ module _ (F : Blocks) (start : Held) (Met : List ℕ → Type 0) (G : Guards F s
       unfolding apply
       applied-page y c = rw (there, c, y) (ap (λ (u : Kind). pagedAt u at (payloadIn F k) x) (G .flat))
 
-      goes-on : Met (x .flash) → Inv F start Met G (add k S) (applied F k x)
+      pub goes-on : Met (x .flash) k → Inv F start Met G (add k S) (applied F k x)
       goes-on m =
           split (isData (F .file) k)
           (λ y.
@@ -263,9 +263,6 @@ module _ (F : Blocks) (start : Held) (Met : List ℕ → Type 0) (G : Guards F s
           subst (Inv F start Met G (add k S)) (sym (applied-kept y c)) (kept y (g .0) (g .1)))
           (λ c. subst (Inv F start Met G (add k S)) (sym (applied-page y c)) (stores y c)))
           (λ z. subst (Inv F start Met G (add k S)) (sym (applied-note z)) (noted z))
-
-  pub invariant : Invariant F start (Inv F start Met G) Met
-  invariant = record { few = ok .few; begins = begins; goes-on = λ S k x h new I m. goes-on S k h x I m }
 
   -- ---- at completion
 

@@ -1,3 +1,4 @@
 mod Guards
+mod Runs
 pub mod Regions
 pub mod Stopped

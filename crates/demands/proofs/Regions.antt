@@ -29,10 +29,10 @@ use Rattle.transfer.specs.declared.Kind.the-variants.{Flash, MainRam, XipRam}
 use Rattle.transfer.specs.declared.State.the-variants.{Idle}
 use Rattle.arrival.specs.Arrive.{Held, World, lengthsOf, standsAt, standing}
 use Rattle.arrival.specs.Windows.{windowStart}
-use Rattle.arrival.specs.Lists.{receiveAll, AtEach}
+use Rattle.arrival.specs.Lists.{receiveAll}
 use Rattle.arrival.specs.Standing.{digestIn}
 use Rattle.demand.specs.Demand.{File, isData, addressOf, ValidFile, Foreign, Sent, seenOf, startOf, originOf, storageOf, holds, liesIn, Contents, sizeOf, isGuarded, Plain}
-use Rattle.demands.specs.Regions.{regionStart, regionLength, regionIn, inRegion, Final, Regions, NoOther, Complete, Regions-end, Whole-same, Whole-alike}
+use Rattle.demands.specs.Regions.{regionStart, regionLength, regionIn, inRegion, Final, Regions, NoOther, AtEachArrival, Complete, Regions-end, Whole-same, Whole-alike}
 use Rattle.arrival.proofs.Heads.{kind-same}
 use Rattle.arrival.proofs.Windows.{lies-true}
 use Rattle.arrivals.proofs.Cells.{touched, cell, cell-owned, cell-free}
@@ -40,9 +40,9 @@ use Rattle.arrival.proofs.Count.{Blocks, count, After, untouched, some-seen}
 use Rattle.arrivals.proofs.Effect.{spans-true, spans-is, Valid, layout, apart-of}
 use Rattle.arrivals.proofs.Screening.{flashOf}
 use Rattle.demand.proofs.Contents.{byteIn, As, contents-of}
-use Rattle.demand.proofs.Runs.{run-after}
 use Rattle.demand.proofs.Files.{Located, blocksOf, board, valid, located, opens, steady}
-use Rattle.demands.proofs.Guards.{every, final, Finished, Guard, Guards, Inv, invariant, whole-flash}
+use Rattle.demands.proofs.Guards.{every, final, Finished, Guard, Guards, Inv, begins, goes-on, whole-flash}
+use Rattle.demands.proofs.Runs.{run-met}
 use Rattle.demand.proofs.Demand.{ends, same-set, same-count, others}
 
 -- a part of a list, by its elements
@@ -209,9 +209,9 @@ module _ (s : Settings) (w : World) (F : File) (idle : w .transfer ≡ Idle) (ok
 
   -- ---- what stands
 
-  abbrev Met : List ℕ → Type 0
-  Met f =
-      (i : ℕ) → i < F .total → isGuarded s w F i ≡ true → md5Of (regionIn s w F i f) ≡ digestIn (F .block i) → Final s w F i (regionIn s w F i f)
+  -- the flash that block i meets
+  abbrev Met : List ℕ → ℕ → Type 0
+  Met f i = isGuarded s w F i ≡ true → md5Of (regionIn s w F i f) ≡ digestIn (F .block i) → Final s w F i (regionIn s w F i f)
 
   part-is : (k : ℕ) (f : List ℕ) → partOf f (L .start) (regionOf (F .block k)) ≡ regionIn s w F k f
   unfolding regionOf
@@ -220,7 +220,7 @@ module _ (s : Settings) (w : World) (F : File) (idle : w .transfer ≡ Idle) (ok
   place-at : (f : List ℕ) (k : ℕ) → k < F .total → length f ≡ flashOf w → placeOf s (length f) (fieldAt (F .block k) 28) ≡ At (L .start) (L .size)
   place-at f k h n = (λ i. placeOf s (n i) (ok .families k h i)) ∙ L .place
 
-  stood : (f : List ℕ) (k : ℕ) → k < F .total → isData F k ≡ true → length f ≡ flashOf w → standing s f (F .block k) ≡ true → Met f
+  stood : (f : List ℕ) (k : ℕ) → k < F .total → isData F k ≡ true → length f ≡ flashOf w → standing s f (F .block k) ≡ true → Met f k
       → (isGuarded s w F k ≡ true) × Finished P f (regionStart s w F k) (regionLength F k)
   unfolding standsAt regionOf
   stood f k h y n e m =
@@ -234,7 +234,7 @@ module _ (s : Settings) (w : World) (F : File) (idle : w .transfer ≡ Idle) (ok
       let d : md5Of (regionIn s w F k f) ≡ digestIn (F .block k) =
       ap md5Of (sym (part-is k f))
       ∙ digest-true (md5Of (partOf f (L .start) (regionOf (F .block k)))) (regionOf (F .block k)) (stands-true f (L .start) (regionOf (F .block k)) (and-right (b && t) u r)) in
-      (g, finished k h g f n (m k h g d))
+      (g, finished k h g f n (m g d))
 
   module _ (R : Regions s w F) where
     same : (i k : ℕ) → i < F .total → k < F .total → isGuarded s w F i ≡ true → isData F k ≡ true → regionStart s w F i ≤ storageOf s w F k
@@ -297,11 +297,13 @@ module _ (s : Settings) (w : World) (F : File) (idle : w .transfer ≡ Idle) (ok
           keeps = keeps;
         }
 
-    after-regions : {l : List (List ℕ)} → Sent s w F l → AtEach (NoOther s w F) s w l
+    after-regions : {l : List (List ℕ)} → Sent s w F l → AtEachArrival (NoOther s w F) s w l
         → After P w (Inv P (w .held) Met guards) (seenOf F l) (receiveAll s w l)
     after-regions sent met =
-        run-after s w P (Foreign s w F) (steady s w F idle ok) (Inv P (w .held) Met guards) Met (invariant P (w .held) Met guards sound) false
-        (opens s w F idle ok) sent none w (record { board = board s w F idle ok; lengths = refl }) (untouched refl refl) met
+        run-met s w P (Foreign s w F) (steady s w F idle ok) (sound .few) false (opens s w F idle ok) (Inv P (w .held) Met guards) Met
+        (begins P (w .held) Met guards sound) (λ S k x h I m. goes-on P (w .held) Met guards sound S k h x I m)
+        (NoOther s w F) (λ k v h q late g e. q k h refl (omega (arith, late)) g e)
+        sent none w (record { board = board s w F idle ok; lengths = refl }) (untouched refl refl) met
 
     -- at completion
     module _ {l : List (List ℕ)} (C : Complete s w F l) where

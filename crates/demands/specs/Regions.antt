@@ -1,10 +1,10 @@
 -- Demand 3 of files with regions (02, L9): "Demand 3 for such files speaks of flash at completion only, never of the sector map." What holds of any
 -- file at any time is in Demand.antt (`List-counts`, `Other-kinds-stay`, `List-answers`, `Completed-exactly`). Proved in proofs/Regions.antt.
 -- Assumes nothing.
-use Prim.Native.Nat.{ℕ, _+_, _-_, _*_, _/_, _<_}
+use Prim.Native.Nat.{ℕ, _+_, _-_, _*_, _/_, _≤_, _<_}
 use mathlib.Core.Path.{_≡_}
 use mathlib.Core.Bool.{Bool, true, false, _&&_}
-use mathlib.Core.List.{List}
+use mathlib.Core.List.{List, [], _∷_}
 use lib.Dec.{leb, ltb}
 use lib.ListN.{length, getD, take, drop}
 use Rattle.sets.specs.Sets.{any}
@@ -14,10 +14,10 @@ use Rattle.md5.specs.Md5.{md5Of}
 use Rattle.settings.specs.declared.Settings.{Settings}
 use Rattle.transfer.specs.declared.Kind.the-variants.{Flash}
 use Rattle.transfer.specs.declared.State.the-variants.{Idle}
-use Rattle.arrival.specs.Arrive.{World}
-use Rattle.arrival.specs.Lists.{receiveAll, AtEach}
+use Rattle.arrival.specs.Arrive.{World, receiveOf}
+use Rattle.arrival.specs.Lists.{receiveAll}
 use Rattle.arrival.specs.Standing.{digestIn}
-use Rattle.demand.specs.Demand.{File, isData, ValidFile, Sent, seenOf, howMany, originOf, storageOf, holds, liesIn, isGuarded, Contents, Same-count}
+use Rattle.demand.specs.Demand.{File, answerNumber, isData, ValidFile, Sent, seenOf, howMany, originOf, storageOf, holds, liesIn, isGuarded, Contents, Same-count}
 
 -- ---- the region that block i names
 
@@ -55,18 +55,24 @@ pub record Regions (s : Settings) (w : World) (F : File) : Type 0 where
   -- "that the digest be of the final bytes,"
   pub right : (i : ℕ) → i < F .total → isGuarded s w F i ≡ true → (c : List ℕ) → Final s w F i c → md5Of c ≡ digestIn (F .block i)
 
--- "and of no other content met": where v's flash has the digest of a region, its bytes there are the final ones
-abbrev pub NoOther : Settings → World → File → World → Type 0
-NoOther s w F v =
-    (i : ℕ) → i < F .total → isGuarded s w F i ≡ true → md5Of (regionIn s w F i (v .held .flash)) ≡ digestIn (F .block i)
-    → Final s w F i (regionIn s w F i (v .held .flash))
+-- "and of no other content met": where block i comes to v and is accepted ("that would be 14 or 15"), and v's flash has the digest of its region, the
+-- bytes there are the final ones. Nothing is asked of other regions, nor where no flash is read.
+abbrev pub NoOther : Settings → World → File → World → List ℕ → Type 0
+NoOther s w F v a =
+    (i : ℕ) → i < F .total → F .block i ≡ a → 14 ≤ answerNumber s v a → isGuarded s w F i ≡ true
+    → md5Of (regionIn s w F i (v .held .flash)) ≡ digestIn (F .block i) → Final s w F i (regionIn s w F i (v .held .flash))
+
+-- P of each arrival of the list and the world that it finds
+unfoldable pub AtEachArrival : (World → List ℕ → Type 0) → Settings → World → List (List ℕ) → Type 0
+AtEachArrival P s w [] = Unit {0}
+AtEachArrival P s w (a ∷ l) = P w a × AtEachArrival P s (receiveOf s w a .world) l
 
 -- ---- the claims
 
 -- a list in which the file is whole, and no other content is met
 pub record Complete (s : Settings) (w : World) (F : File) (l : List (List ℕ)) : Type 0 where
   pub sent : Sent s w F l
-  pub met : AtEach (NoOther s w F) s w l
+  pub met : AtEachArrival (NoOther s w F) s w l
   pub whole : howMany F (seenOf F l) ≡ F .total
 
 -- at completion the buffers are as without regions

@@ -20,7 +20,7 @@ pub record Stopped (F : File) (v w : World) : Type 0 where
   pub run : Run
   pub running : v .transfer ≡ Running run
   pub sound : goodState (v .transfer) ≡ true
-  -- "a valid file with another family, total or kind"
+  -- "a valid file of another family, total or kind"
   pub differs : run .head ≢ headIn F
   -- "A file that differs in kind alone holds no comments"
   pub quiet : run .head .family ≡ F .family → run .head .total ≡ F .total → (k : ℕ) → k < F .total → isData F k ≡ true
@@ -42,7 +42,7 @@ pub record EndsAlike (s : Settings) (w : World) (F : File) (l : List (List ℕ))
   pub sectors : x .held .sectors ≡ y .held .sectors
   pub bytes : (u : Kind) (j : ℕ) → changedBy s w F (seenOf F l) u j ≡ true → getD (bufferOf u (x .held)) j 0 ≡ getD (bufferOf u (y .held)) j 0
 
--- "then arrives whole, in any order and with repeats": every list in which at least one of its blocks comes. "Files with regions under L9 are left out."
+-- "arrives whole, in any order and with repeats": here every list in which at least one of its blocks comes; "files with regions under L9 are left out."
 unfoldable pub Stopped-then-good : Type 0
 Stopped-then-good =
     (s : Settings) (v w : World) (F : File) → Stopped F v w → ValidFile s w F → Plain s w F

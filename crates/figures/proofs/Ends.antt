@@ -22,7 +22,7 @@ use Rattle.flash.specs.Flash.{payloadOf}
 use Rattle.arrival.specs.Arrive.{Lent, World, Decision, acceptOf, done, receiveOf}
 use Rattle.arrival.specs.Lists.{receiveAll}
 use Rattle.arrivals.specs.Tally.{clears}
-use Rattle.arrivals.proofs.DecisionFacts.{DecisionFacts, kept, took, decision-facts}
+use Rattle.arrivals.proofs.DecisionFacts.{DecisionFacts, refused, took, decision-facts}
 use Rattle.replay.specs.Replay.{begun, replayOf}
 use Rattle.replays.specs.Claims.{Ends-before-the-stop}
 use Rattle.replays.proofs.Replays.{ends-before-the-stop}
@@ -43,7 +43,7 @@ below-counted g c = split (ltb c (g .total)) (λ y. rw (y, y)) (λ z. rw z)
 
 below-by : (s : Settings) (w : World) (a : List ℕ) {d : Decision} → DecisionFacts s w a d → below (w .transfer) ≡ true → below (done w (payloadOf a) d .world .transfer) ≡ true
 unfolding done acceptOf accepted
-below-by s w a (kept x h) e = e
+below-by s w a (refused x h) e = e
 below-by s w a (took g k B l q t) e =
     rw (t .is) (below-counted (g .head) (cond (clears (w .transfer) (g .head)) 1 (countOf (w .transfer) + 1)))
 

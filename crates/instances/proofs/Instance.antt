@@ -3,12 +3,13 @@ use Prim.Native.Nat.{ℕ, zero, suc, _+_, _*_, _≤_, _<_}
 use mathlib.Core.Path.{_≡_, refl, sym, ap, _∙_}
 use mathlib.Core.Logic.{_≢_}
 use mathlib.Core.Bool.{Bool, true, false, not, cond}
-use mathlib.Core.List.{List}
+use mathlib.Core.List.{List, [], _∷_}
 use native.Mathlib.Omega.{arith}
 use lib.Dec.{eqb, ltb, leb}
-use lib.ListN.{length-replicate}
+use lib.ListN.{length, getD, length-replicate, getD-replicate}
 use borrow.Author.Tests.{leb-true, ltb-true}
 use Rattle.sets.proofs.Tests.{clash, and-left, and-right}
+use Rattle.sets.proofs.Laws.{size-full}
 use Rattle.fill.specs.Many.{many}
 use Rattle.sets.specs.Bytes.{lowFirst, numberIn}
 use Rattle.sets.specs.Sets.{none, any, size}
@@ -25,12 +26,13 @@ use Rattle.screen.specs.Screen.{windowOf, noteKind, placed, strayed, noted, dat
 use Rattle.arrival.specs.Arrive.{World, rightLengths, standsAt, afterScreening, decide, done, receiveOf}
 use Rattle.arrival.specs.Lists.{receiveAll}
 use Rattle.arrival.specs.Windows.{lies}
-use Rattle.demand.specs.Demand.{File, ValidFile, Foreign, isCommentOf, addressOf, nothing, own, other, answerNumber, isData, sameBytes, among, seenOf, howMany, Ends, List-counts, List-ends}
-use Rattle.demands.specs.Stopped.{ForeignToBoth}
-use Rattle.demand.proofs.Demand.{list-counts, list-ends}
+use Rattle.demand.specs.Demand.{File, ValidFile, Foreign, isCommentOf, addressOf, nothing, own, other, answerNumber, isData, sameBytes, among, seenOf, howMany, storageOf, heldBy, touchedBy, changedBy, SameSet, Plain, isGuarded, Ends, List-ends}
+use Rattle.demands.specs.Stopped.{ForeignToBoth, EndsAlike, Stopped-then-good}
+use Rattle.demand.proofs.Demand.{list-ends}
+use Rattle.demands.proofs.Stopped.{stopped-then-good}
 use Rattle.boards.specs.Boards.{arrivalOf, commentOf, plain, headTo, armHead}
 use Rattle.boards.specs.Tables.{blockOfThree}
-use Rattle.instances.specs.Instance.{file, start, arrivals, Hypotheses-are-met, annotated, annotatedArrivals, Met-with-a-comment, remarks, Met-by-comments-alone, ramBlock, ramFile, ramStart, ramArrivals, Met-in-RAM, stopped, Met-by-a-stopped-transfer}
+use Rattle.instances.specs.Instance.{Met, file, start, arrivals, inOrder, Hypotheses-are-met, annotated, annotatedArrivals, annotatedInOrder, Met-with-a-comment, remarks, Met-by-comments-alone, ramBlock, ramFile, ramStart, ramArrivals, ramInOrder, Met-in-RAM, stopped, Met-by-a-stopped-transfer}
 
 -- what holds of 0, 1 and 2 holds below 3
 three : (P : ℕ → Type 0) → P 0 → P 1 → P 2 → (k : ℕ) → k < 3 → P k
@@ -75,19 +77,73 @@ valid =
       passes = λ k h. omega (arith, earned k h);
     }
 
+-- a block with flag 0x2000 alone names no region
+unguarded : Plain plain start file
+unfolding lowFirst numberIn fieldAt
+unguarded = three (λ k. isGuarded plain start file k ≡ false) refl refl refl
+
+-- two lists in which a file is whole have the same set
+both-whole : (F : File) (l m : List (List ℕ)) → howMany F (seenOf F l) ≡ F .total → howMany F (seenOf F m) ≡ F .total → SameSet F l m
+both-whole F l m e f k h =
+    size-full (F .total) (seenOf F l) k (omega (arith, e)) h ∙ sym (size-full (F .total) (seenOf F m) k (omega (arith, f)) h)
+
+whole : howMany file (seenOf file arrivals) ≡ 3
+whole = unfold lowFirst size among sameBytes in refl
+
 pub hypotheses-are-met : Hypotheses-are-met
 unfolding Hypotheses-are-met
-hypotheses-are-met = (
-  valid,
-  own 2 (omega arith) (own 0 (omega arith) (own 2 (omega arith) (other (arrivalOf 0x10010000 0 3 1) (foreign-by start file (arrivalOf 0x10010000 0 3 1) 11 beyond (omega arith) (omega arith) (λ n. absurd (n refl))) (own 1 (omega arith) (own 0 (omega arith) nothing))))),
-)
+hypotheses-are-met =
+    record {
+      idle = refl;
+      valid = valid;
+      unguarded = unguarded;
+      sent = own 2 (omega arith) (own 0 (omega arith) (own 2 (omega arith) (other (arrivalOf 0x10010000 0 3 1) (foreign-by start file (arrivalOf 0x10010000 0 3 1) 11 beyond (omega arith) (omega arith) (λ n. absurd (n refl))) (own 1 (omega arith) (own 0 (omega arith) nothing)))));
+      sent-too = own 0 (omega arith) (own 1 (omega arith) (own 2 (omega arith) nothing));
+      same = both-whole file arrivals inOrder whole (unfold lowFirst size among sameBytes in refl);
+    }
 
--- so the theorem gives its end
-pub ends-done : receiveAll plain start arrivals .transfer ≡ Done (armHead 3)
-ends-done = unfold Hypotheses-are-met List-counts in list-counts plain start file refl valid arrivals (hypotheses-are-met .1) .whole whole
+-- a byte of the flash
+within : (j : ℕ) → j < 65536 → j < length (start .held .flash)
+within j h = rw (length-replicate {A = ℕ} 65536 7) h
+
+-- so the theorem gives its end: a byte of block 1's payload, one of 0xFF beside the payloads, one of another sector as lent
+pub ends-done : (receiveAll plain start arrivals .transfer ≡ Done (armHead 3))
+    × (getD (receiveAll plain start arrivals .held .flash) 300 0 ≡ 1)
+    × (getD (receiveAll plain start arrivals .held .flash) 1000 0 ≡ 255)
+    × (getD (receiveAll plain start arrivals .held .flash) 5000 0 ≡ 7)
+ends-done =
+    let m : Met start file arrivals inOrder = unfold Hypotheses-are-met in hypotheses-are-met in
+    let e : Ends plain start file (seenOf file arrivals) (receiveAll plain start arrivals) =
+    unfold List-ends in list-ends plain start file (m .idle) (m .valid) arrivals (m .sent) (m .unguarded) in (
+      e .counts .whole whole,
+      sym (ap (λ (j : ℕ). getD (receiveAll plain start arrivals .held .flash) j 0) stored) ∙ e .contents .payloads 1 (omega arith) seen page 44 (omega arith) ∙ payload,
+      e .contents .erased 1000 (within 1000 (omega arith)) touched unheld,
+      e .contents .others Flash 5000 unchanged ∙ lent,
+    )
   where
-    whole : howMany file (seenOf file arrivals) ≡ 3
-    whole = unfold lowFirst size among sameBytes in refl
+    stored : storageOf plain start file 1 + 44 ≡ 300
+    stored = unfold lowFirst numberIn fieldAt placeOf in refl
+
+    seen : seenOf file arrivals 1 ≡ true
+    seen = size-full 3 (seenOf file arrivals) 1 (omega (arith, whole)) (omega arith)
+
+    page : isData file 1 ≡ true
+    page = unfold lowFirst numberIn fieldAt in refl
+
+    payload : getD (payloadOf (blockOfThree 1)) 44 0 ≡ 1
+    payload = unfold lowFirst payloadOf in refl
+
+    touched : touchedBy plain start file (seenOf file arrivals) 0 ≡ true
+    touched = unfold lowFirst numberIn fieldAt placeOf any among sameBytes in refl
+
+    unheld : heldBy plain start file (seenOf file arrivals) Flash 1000 ≡ false
+    unheld = unfold lowFirst numberIn fieldAt placeOf any among sameBytes in refl
+
+    unchanged : changedBy plain start file (seenOf file arrivals) Flash 5000 ≡ false
+    unchanged = unfold lowFirst numberIn fieldAt placeOf any among sameBytes in refl
+
+    lent : getD (start .held .flash) 5000 0 ≡ 7
+    lent = getD-replicate 65536 5000 7 0 (omega arith)
 
 -- ---- with a comment
 
@@ -132,21 +188,40 @@ annotated-valid =
     least true = omega arith
     least false = omega arith
 
+annotated-unguarded : Plain plain start annotated
+unfolding lowFirst numberIn fieldAt
+annotated-unguarded = three (λ k. isGuarded plain start annotated k ≡ false) refl refl refl
+
+annotated-whole : howMany annotated (seenOf annotated annotatedArrivals) ≡ 3
+annotated-whole = unfold lowFirst size among sameBytes in refl
+
 pub met-with-a-comment : Met-with-a-comment
 unfolding Met-with-a-comment
-met-with-a-comment = (
-  annotated-valid,
-  own 2 (omega arith) (own 1 (omega arith) (other (arrivalOf 0x10010000 0 3 1) (foreign-by start annotated (arrivalOf 0x10010000 0 3 1) 11 beyond (omega arith) (omega arith) (λ n. absurd (n refl)))
-      (other (commentOf 3 3) (foreign-by start annotated (commentOf 3 3) 10 beyond-total (omega arith) (omega arith) (λ n. absurd (n refl))) (own 1 (omega arith) (own 0 (omega arith) nothing))))),
-)
+met-with-a-comment =
+    record {
+      idle = refl;
+      valid = annotated-valid;
+      unguarded = annotated-unguarded;
+      sent = own 2 (omega arith) (own 1 (omega arith) (other (arrivalOf 0x10010000 0 3 1) (foreign-by start annotated (arrivalOf 0x10010000 0 3 1) 11 beyond (omega arith) (omega arith) (λ n. absurd (n refl)))
+          (other (commentOf 3 3) (foreign-by start annotated (commentOf 3 3) 10 beyond-total (omega arith) (omega arith) (λ n. absurd (n refl))) (own 1 (omega arith) (own 0 (omega arith) nothing)))));
+      sent-too = own 0 (omega arith) (own 1 (omega arith) (own 2 (omega arith) nothing));
+      same = both-whole annotated annotatedArrivals annotatedInOrder annotated-whole (unfold lowFirst size among sameBytes in refl);
+    }
 
--- so its file finishes
-pub annotated-done : receiveAll plain start annotatedArrivals .transfer ≡ Done (armHead 3)
+-- so its file finishes, and a byte where block 1's page would be is 0xFF
+pub annotated-done : (receiveAll plain start annotatedArrivals .transfer ≡ Done (armHead 3))
+    × (getD (receiveAll plain start annotatedArrivals .held .flash) 300 0 ≡ 255)
 annotated-done =
-    unfold Met-with-a-comment List-counts in list-counts plain start annotated refl annotated-valid annotatedArrivals (met-with-a-comment .1) .whole whole
+    let m : Met start annotated annotatedArrivals annotatedInOrder = unfold Met-with-a-comment in met-with-a-comment in
+    let e : Ends plain start annotated (seenOf annotated annotatedArrivals) (receiveAll plain start annotatedArrivals) =
+    unfold List-ends in list-ends plain start annotated (m .idle) (m .valid) annotatedArrivals (m .sent) (m .unguarded) in
+    (e .counts .whole annotated-whole, e .contents .erased 300 (within 300 (omega arith)) touched unheld)
   where
-    whole : howMany annotated (seenOf annotated annotatedArrivals) ≡ 3
-    whole = unfold lowFirst size among sameBytes in refl
+    touched : touchedBy plain start annotated (seenOf annotated annotatedArrivals) 0 ≡ true
+    touched = unfold lowFirst numberIn fieldAt placeOf any among sameBytes in refl
+
+    unheld : heldBy plain start annotated (seenOf annotated annotatedArrivals) Flash 300 ≡ false
+    unheld = unfold lowFirst numberIn fieldAt placeOf any among sameBytes in refl
 
 -- ---- comments alone
 
@@ -177,7 +252,15 @@ remarks-valid =
 
 pub met-by-comments-alone : Met-by-comments-alone
 unfolding Met-by-comments-alone
-met-by-comments-alone = (remarks-valid, own 1 (omega arith) (own 0 (omega arith) nothing))
+met-by-comments-alone =
+    record {
+      idle = refl;
+      valid = remarks-valid;
+      unguarded = unfold lowFirst numberIn fieldAt in two (λ k. isGuarded plain start remarks k ≡ false) refl refl;
+      sent = own 1 (omega arith) (own 0 (omega arith) nothing);
+      sent-too = own 0 (omega arith) (own 1 (omega arith) nothing);
+      same = both-whole remarks (commentOf 1 2 ∷ commentOf 0 2 ∷ []) (commentOf 0 2 ∷ commentOf 1 2 ∷ []) (unfold lowFirst size among sameBytes in refl) (unfold lowFirst size among sameBytes in refl);
+    }
 
 -- ---- a file in RAM
 
@@ -214,26 +297,32 @@ no-comment : (isCommentOf ramFile (arrivalOf 0x13ffff01 0 3 1) ≡ false) × (is
 unfolding lowFirst numberIn fieldAt fieldsOf flaggedOf headerOf
 no-comment = (refl, refl, refl)
 
+ram-whole : howMany ramFile (seenOf ramFile ramArrivals) ≡ 3
+ram-whole = unfold lowFirst size among sameBytes in refl
+
 pub met-in-ram : Met-in-RAM
 unfolding Met-in-RAM
-met-in-ram = (
-  ram-valid,
-  own 2 (omega arith) (own 0 (omega arith)
-      (other (arrivalOf 0x13ffff01 0 3 1) (foreign-by ramStart ramFile (arrivalOf 0x13ffff01 0 3 1) 11 (ram-beyond .0) (omega arith) (omega arith) (λ n. no-comment .0))
-      (other (arrivalOf 0x10010000 0 3 1) (foreign-by ramStart ramFile (arrivalOf 0x10010000 0 3 1) 11 (ram-beyond .1) (omega arith) (omega arith) (λ n. no-comment .1))
-      (other (commentOf 0 257) (foreign-by ramStart ramFile (commentOf 0 257) 10 (ram-beyond .2) (omega arith) (omega arith) (λ n. no-comment .2))
-      (own 2 (omega arith) (own 1 (omega arith) nothing)))))),
-)
+met-in-ram =
+    record {
+      idle = refl;
+      valid = ram-valid;
+      unguarded = λ k h. refl;
+      sent = own 2 (omega arith) (own 0 (omega arith)
+          (other (arrivalOf 0x13ffff01 0 3 1) (foreign-by ramStart ramFile (arrivalOf 0x13ffff01 0 3 1) 11 (ram-beyond .0) (omega arith) (omega arith) (λ n. no-comment .0))
+          (other (arrivalOf 0x10010000 0 3 1) (foreign-by ramStart ramFile (arrivalOf 0x10010000 0 3 1) 11 (ram-beyond .1) (omega arith) (omega arith) (λ n. no-comment .1))
+          (other (commentOf 0 257) (foreign-by ramStart ramFile (commentOf 0 257) 10 (ram-beyond .2) (omega arith) (omega arith) (λ n. no-comment .2))
+          (own 2 (omega arith) (own 1 (omega arith) nothing))))));
+      sent-too = own 0 (omega arith) (own 1 (omega arith) (own 2 (omega arith) nothing));
+      same = both-whole ramFile ramArrivals ramInOrder ram-whole (unfold lowFirst size among sameBytes in refl);
+    }
 
 -- so the theorem gives its end: the transfer carries the kind, and no sector is marked
 pub ram-done : (receiveAll plain ramStart ramArrivals .transfer ≡ Done (headTo XipRam 3)) × (receiveAll plain ramStart ramArrivals .held .sectors ≡ mapOf 1024 none)
 ram-done =
+    let m : Met ramStart ramFile ramArrivals ramInOrder = unfold Met-in-RAM in met-in-ram in
     let e : Ends plain ramStart ramFile (seenOf ramFile ramArrivals) (receiveAll plain ramStart ramArrivals) =
-    unfold Met-in-RAM List-ends in list-ends plain ramStart ramFile refl ram-valid ramArrivals (met-in-ram .1) (λ k h. refl) in
-    (e .counts .whole whole, e .sector-map (omega (arith, whole)))
-  where
-    whole : howMany ramFile (seenOf ramFile ramArrivals) ≡ 3
-    whole = unfold lowFirst size among sameBytes in refl
+    unfold List-ends in list-ends plain ramStart ramFile (m .idle) (m .valid) ramArrivals (m .sent) (m .unguarded) in
+    (e .counts .whole ram-whole, e .sector-map (omega (arith, ram-whole)))
 
 -- ---- a stopped update
 
@@ -243,20 +332,25 @@ stopped-beyond = refl
 
 pub met-by-a-stopped-transfer : Met-by-a-stopped-transfer
 unfolding Met-by-a-stopped-transfer
-met-by-a-stopped-transfer = (
-  record {
-    run = record { head = armHead 5; count = 2 };
-    running = refl;
-    sound = unfold goodState in refl;
-    differs = λ e. absurd (omega (arith, ap (λ (h : Head). h .total) e));
-    quiet = λ f t. absurd (omega (arith, t));
-    idle = refl;
-    lengths = refl;
-    seen-length = length-replicate {A = ℕ} 16384 255 ∙ sym (length-replicate {A = ℕ} 16384 9);
-    sectors-length = length-replicate {A = ℕ} 1024 255 ∙ sym (length-replicate {A = ℕ} 1024 9);
-  },
-  own 2 (omega arith) (own 0 (omega arith) (own 2 (omega arith) (other (arrivalOf 0x10010000 0 3 1) both-starts (own 1 (omega arith) (own 0 (omega arith) nothing))))),
-)
+met-by-a-stopped-transfer =
+    record {
+      before =
+          record {
+            run = record { head = armHead 5; count = 2 };
+            running = refl;
+            sound = unfold goodState in refl;
+            differs = λ e. absurd (omega (arith, ap (λ (h : Head). h .total) e));
+            quiet = λ f t. absurd (omega (arith, t));
+            idle = refl;
+            lengths = refl;
+            seen-length = length-replicate {A = ℕ} 16384 255 ∙ sym (length-replicate {A = ℕ} 16384 9);
+            sectors-length = length-replicate {A = ℕ} 1024 255 ∙ sym (length-replicate {A = ℕ} 1024 9);
+          };
+      valid = valid;
+      unguarded = unguarded;
+      sent = own 2 (omega arith) (own 0 (omega arith) (own 2 (omega arith) (other (arrivalOf 0x10010000 0 3 1) both-starts (own 1 (omega arith) (own 0 (omega arith) nothing)))));
+      some = omega (arith, whole);
+    }
   where
     both-starts : ForeignToBoth plain stopped start file (arrivalOf 0x10010000 0 3 1)
     both-starts =
@@ -265,3 +359,10 @@ met-by-a-stopped-transfer = (
           least = omega (arith, stopped-beyond);
           most = omega (arith, stopped-beyond);
         }
+
+-- so the theorem gives its end: as from Idle
+pub stopped-done : EndsAlike plain start file arrivals (receiveAll plain stopped arrivals) (receiveAll plain start arrivals)
+unfolding Met-by-a-stopped-transfer Stopped-then-good
+stopped-done =
+    let m = met-by-a-stopped-transfer in
+    stopped-then-good plain stopped start file (m .before) (m .valid) (m .unguarded) arrivals (m .sent) (m .some)

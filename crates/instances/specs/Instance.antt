@@ -1,6 +1,7 @@
 -- Files, settings and lists that meet the hypotheses of demand 3, so that they are not empty. Proved in proofs/Instance.antt.
 -- Assumes nothing.
-use Prim.Native.Nat.{ℕ, _+_, _*_}
+use Prim.Native.Nat.{ℕ, _+_, _*_, _≤_}
+use mathlib.Core.Path.{_≡_}
 use mathlib.Core.Bool.{cond}
 use mathlib.Core.List.{List, [], _∷_}
 use lib.Dec.{eqb}
@@ -9,10 +10,20 @@ use Rattle.settings.specs.Settings.{familyArmS}
 use Rattle.transfer.specs.declared.Kind.the-variants.{Flash, XipRam}
 use Rattle.transfer.specs.declared.State.the-variants.{Idle, Running}
 use Rattle.arrival.specs.Arrive.{World}
-use Rattle.demand.specs.Demand.{File, ValidFile, Sent, Mixed}
+use Rattle.demand.specs.Demand.{File, ValidFile, Sent, Mixed, seenOf, howMany, SameSet, Plain}
 use Rattle.demands.specs.Stopped.{Stopped, ForeignToBoth}
 use Rattle.boards.specs.Boards.{arrivalOf, commentOf, plain, headTo, lentTo, lentRam}
 use Rattle.boards.specs.Tables.{blockOfThree}
+
+-- all that is asked of a start, a file, a list l and a list m by the theorems that speak of two lists with the same set (`Same-set-same-end`); those
+-- of two lists (`Either-first`) and of one (`List-ends`) ask less
+pub record Met (w : World) (F : File) (l m : List (List ℕ)) : Type 0 where
+  pub idle : w .transfer ≡ Idle
+  pub valid : ValidFile plain w F
+  pub unguarded : Plain plain w F
+  pub sent : Sent plain w F l
+  pub sent-too : Sent plain w F m
+  pub same : SameSet F l m
 
 -- three blocks of arm-s, at pages 0, 1 and 2
 abbrev pub file : File
@@ -26,9 +37,13 @@ start = lentTo Idle
 abbrev pub arrivals : List (List ℕ)
 arrivals = blockOfThree 2 ∷ blockOfThree 0 ∷ blockOfThree 2 ∷ arrivalOf 0x10010000 0 3 1 ∷ blockOfThree 1 ∷ blockOfThree 0 ∷ []
 
--- the file is valid, and the list is one of its blocks and foreign arrivals
+-- its blocks once each, in order
+abbrev pub inOrder : List (List ℕ)
+inOrder = blockOfThree 0 ∷ blockOfThree 1 ∷ blockOfThree 2 ∷ []
+
+-- the file is valid and names no region, each list is one of its blocks and foreign arrivals, and both have the same set
 unfoldable pub Hypotheses-are-met : Type 0
-Hypotheses-are-met = ValidFile plain start file × Sent plain start file arrivals
+Hypotheses-are-met = Met start file arrivals inOrder
 
 -- the same with a comment as block 1 (02, L3)
 abbrev pub annotated : File
@@ -39,15 +54,19 @@ abbrev pub annotatedArrivals : List (List ℕ)
 annotatedArrivals =
     blockOfThree 2 ∷ commentOf 1 3 ∷ arrivalOf 0x10010000 0 3 1 ∷ commentOf 3 3 ∷ commentOf 1 3 ∷ blockOfThree 0 ∷ []
 
+-- and once each, in order
+abbrev pub annotatedInOrder : List (List ℕ)
+annotatedInOrder = blockOfThree 0 ∷ commentOf 1 3 ∷ blockOfThree 2 ∷ []
+
 unfoldable pub Met-with-a-comment : Type 0
-Met-with-a-comment = ValidFile plain start annotated × Sent plain start annotated annotatedArrivals
+Met-with-a-comment = Met start annotated annotatedArrivals annotatedInOrder
 
 -- two comments and no data, all at one address
 abbrev pub remarks : File
 remarks = record { total = 2; family = familyArmS; kind = Flash; block = λ k. commentOf k 2 }
 
 unfoldable pub Met-by-comments-alone : Type 0
-Met-by-comments-alone = ValidFile plain start remarks × Sent plain start remarks (commentOf 1 2 ∷ commentOf 0 2 ∷ [])
+Met-by-comments-alone = Met start remarks (commentOf 1 2 ∷ commentOf 0 2 ∷ []) (commentOf 0 2 ∷ commentOf 1 2 ∷ [])
 
 -- ---- RAM (02, L8)
 
@@ -67,8 +86,11 @@ abbrev pub ramArrivals : List (List ℕ)
 ramArrivals =
     ramBlock 2 ∷ ramBlock 0 ∷ arrivalOf 0x13ffff01 0 3 1 ∷ arrivalOf 0x10010000 0 3 1 ∷ commentOf 0 257 ∷ ramBlock 2 ∷ ramBlock 1 ∷ []
 
+abbrev pub ramInOrder : List (List ℕ)
+ramInOrder = ramBlock 0 ∷ ramBlock 1 ∷ ramBlock 2 ∷ []
+
 unfoldable pub Met-in-RAM : Type 0
-Met-in-RAM = ValidFile plain ramStart ramFile × Sent plain ramStart ramFile ramArrivals
+Met-in-RAM = Met ramStart ramFile ramArrivals ramInOrder
 
 -- ---- a stopped update (02, L13)
 
@@ -81,6 +103,14 @@ stopped =
       held = record { flash = start .held .flash; sectors = replicate 1024 255; main = start .held .main; xip = start .held .xip };
     }
 
+-- all that `Stopped-then-good` asks
+pub record MetStopped (v w : World) (F : File) (l : List (List ℕ)) : Type 0 where
+  pub before : Stopped F v w
+  pub valid : ValidFile plain w F
+  pub unguarded : Plain plain w F
+  pub sent : Mixed F (ForeignToBoth plain v w F) l
+  pub some : 1 ≤ howMany F (seenOf F l)
+
 -- then the file of three blocks arrives: another total
 unfoldable pub Met-by-a-stopped-transfer : Type 0
-Met-by-a-stopped-transfer = Stopped file stopped start × Mixed file (ForeignToBoth plain stopped start file) arrivals
+Met-by-a-stopped-transfer = MetStopped stopped start file arrivals

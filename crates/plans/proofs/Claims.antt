@@ -29,7 +29,7 @@ use Rattle.arrivals.specs.Bounds.{Outside}
 use Rattle.arrival.specs.Lists.{receiveAll}
 use Rattle.arrival.specs.Windows.{windowStart, kindOf}
 use Rattle.arrivals.proofs.Screening.{flashOf, roomsFor, Board, Passing, passing-room, passing-body, passing-fits}
-use Rattle.arrivals.proofs.DecisionFacts.{deedAt, DecisionFacts, kept, took, decision-facts}
+use Rattle.arrivals.proofs.DecisionFacts.{deedAt, DecisionFacts, refused, took, decision-facts}
 use Rattle.arrival.proofs.Standing.{keepsAt}
 use Rattle.arrivals.proofs.Bounds.{deed-is}
 use Rattle.plan.specs.declared.Plan.{Plan}
@@ -87,7 +87,7 @@ module _ (s : Settings) (w : World) (a : List ℕ) where
     plan-lies Keeps u e f m = tt
 
   pub decided-lies : {d : Decision} → DecisionFacts s w a d → (m : List ℕ) → PlanLies s w a (decisionPlan d m)
-  decided-lies (kept x h) m = tt
+  decided-lies (refused x h) m = tt
   decided-lies (took g k B l q t) m = plan-lies g k B l q (deedAt s w a g) (g .head .kind) refl refl (clearedIf (k .clears) m)
 
 pub plans-lie : Plans-lie

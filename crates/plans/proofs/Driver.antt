@@ -31,7 +31,7 @@ use Rattle.arrival.specs.Arrive.{Held, World, Decision, stays, accepts, lengths
 use Rattle.arrival.specs.Lists.{Delivery}
 use Rattle.arrivals.proofs.Screening.{Board, Passing}
 use Rattle.arrival.proofs.Facts.{length-cleared}
-use Rattle.arrivals.proofs.DecisionFacts.{deedAt, DecisionFacts, kept, took, decision-facts, took-number, took-state}
+use Rattle.arrivals.proofs.DecisionFacts.{deedAt, DecisionFacts, refused, took, decision-facts, took-number, took-state}
 use Rattle.plan.specs.declared.Plan.{Plan}
 use Rattle.plan.specs.declared.Plan.the-variants.{Nothing, Program, EraseProgram}
 use Rattle.plan.specs.Plan.{sectorPlan, deedPlan, decisionPlan, acceptingBy, acceptingOf}
@@ -143,7 +143,7 @@ module _ (s : Settings) (w : World) (a : List ℕ) (E : ℕ → Bool) (T : Tells
   step-obeys : {d : Decision} → DecisionFacts s w a d → Begins (w .transfer) d
       → Allowed (stillErased E (sight d)) (sight d .plan) × Tells (erasedAfter E (sight d)) (done w (payloadOf a) d .world)
   unfolding done acceptOf wipedIf
-  step-obeys (kept x h) b =
+  step-obeys (refused x h) b =
       let z : leb 14 (numberOf x) ≡ false = lt-leb 14 (numberOf x) (omega arith) in
       (tt, refused-tells (leb 14 (numberOf x) && (isIdle (w .transfer) || false)) (rw z))
   step-obeys (took g k B l q t) b =
