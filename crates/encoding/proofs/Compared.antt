@@ -20,7 +20,7 @@ use Rattle.settings.proofs.Alike.{alike-good}
 use Rattle.settings.proofs.Tables.{table-at}
 use Rattle.entrybits.specs.EntryBits.{slot, entryFields, packedEntry, neatEntry}
 use Rattle.entrybits.proofs.Entries.{slot-used}
-use Rattle.store.specs.Store.{restartAt, versionOf, headFields, rowAt, storeOf}
+use Rattle.store.specs.Store.{noRestartAt, versionOf, headFields, rowAt, storeOf}
 use Rattle.encoding.specs.Claims.{neatAt, neat}
 
 -- ---- the same encoding
@@ -59,16 +59,16 @@ module _ (s t : Settings) (h : Compared s t) where
   unfolding rowAt
   row-same k l = packed-same (h .alike .entries k l) (h .no-restart k l)
 
-  restart-same : (k : ℕ) → k < s .count → restartAt (s .table) k ≡ restartAt (t .table) k
-  unfolding restartAt
-  restart-same k l = h .no-restart k l
+  no-restart-same : (k : ℕ) → k < s .count → noRestartAt (s .table) k ≡ noRestartAt (t .table) k
+  unfolding noRestartAt
+  no-restart-same k l = h .no-restart k l
 
   pub compared-store : storeOf s ≡ storeOf t
   unfolding storeOf headFields versionOf
   compared-store =
       let g = h .alike in
       rw (
-        any-cong (s .count) (restartAt (s .table)) (restartAt (t .table)) restart-same,
+        any-cong (s .count) (noRestartAt (s .table)) (noRestartAt (t .table)) no-restart-same,
         rows-cong (rowAt (s .table)) (rowAt (t .table)) (s .count) row-same,
         g .count,
         g .auto-switch,
@@ -116,9 +116,9 @@ same-alike d e q few =
       users = λ i l. (let m : i < 4 = omega arith in slot-used d i l ∙ sym (slot-at d i m) ∙ ap (λ (x : Entry). getD (x .users) i 0) q ∙ slot-at e i m ∙ sym (slot-used e i (omega arith)));
     }
 
-same-restart : (d e : Entry) → neatEntry d ≡ neatEntry e → d .«no_restart» ≡ e .«no_restart»
+same-no-restart : (d e : Entry) → neatEntry d ≡ neatEntry e → d .«no_restart» ≡ e .«no_restart»
 unfolding neatEntry
-same-restart d e q = ap (λ (x : Entry). x .«no_restart») q
+same-no-restart d e q = ap (λ (x : Entry). x .«no_restart») q
 
 -- settings of one canonical form compare equal
 module _ (s t : Settings) (few : Few s) (small : t .count ≤ 16) (q : neat s ≡ neat t) where
@@ -144,7 +144,7 @@ module _ (s t : Settings) (few : Few s) (small : t .count ≤ 16) (q : neat s �
           count = same-count;
           entries = λ k l. same-alike (entryAt (s .table) k) (entryAt (t .table) k) (same-entry k l) (few .users k l);
         };
-        no-restart = λ k l. same-restart (entryAt (s .table) k) (entryAt (t .table) k) (same-entry k l);
+        no-restart = λ k l. same-no-restart (entryAt (s .table) k) (entryAt (t .table) k) (same-entry k l);
       }
 
 -- ---- the canonical form is as good

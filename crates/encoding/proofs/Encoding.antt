@@ -29,7 +29,7 @@ use Rattle.entrybits.proofs.Parts.{part-fit}
 use Rattle.storewrite.specs.declared.StoreAnswer.{StoreAnswer}
 use Rattle.storewrite.specs.declared.StoreAnswer.the-variants.{BadBuffers, BadSettings, BadVersion, BadLength, BadBits, Good}
 use Rattle.store.specs.declared.Reading.{Reading}
-use Rattle.store.specs.Store.{restartAt, versionOf, headWidths, archBit, headFields, rowAt, storeOf, headIn, partIn, entryOf, archFrom, settingsIn, strayAt, straysIn, refusal, found, readHead, readOf}
+use Rattle.store.specs.Store.{noRestartAt, versionOf, headWidths, archBit, headFields, rowAt, storeOf, headIn, partIn, entryOf, archFrom, settingsIn, strayAt, straysIn, refusal, found, readHead, readOf}
 use Rattle.encoding.specs.Claims.{Narrow, Bytes, neat, Read-is-the-encoding, One-encoding, No-other-bytes}
 use Rattle.encoding.proofs.Parts.{rows-parts}
 use Rattle.encoding.proofs.Compared.{Few, compared-store, neat-compared}
@@ -98,9 +98,9 @@ row-of : (t : List Entry) (k : ℕ) {e : Entry} → entryAt t k ≡ e → rowAt 
 unfolding rowAt
 row-of t k h = ap packedEntry h
 
-restart-of : (t : List Entry) (k : ℕ) {e : Entry} → entryAt t k ≡ e → restartAt t k ≡ e .«no_restart»
-unfolding restartAt
-restart-of t k h = ap (λ (x : Entry). x .«no_restart») h
+no-restart-of : (t : List Entry) (k : ℕ) {e : Entry} → entryAt t k ≡ e → noRestartAt t k ≡ e .«no_restart»
+unfolding noRestartAt
+no-restart-of t k h = ap (λ (x : Entry). x .«no_restart») h
 
 -- the slots of fields that fit
 fields-narrow : (f : List ℕ) → Fit entryWidths f → (i : ℕ) → slot (entryFrom f) i < 2 ^ 32
@@ -151,11 +151,11 @@ module _ (b : List ℕ) (low : Bytes b) (n v : ℕ) (few : n ≤ 16) (whole : le
   table-narrow k i l = rw (entry-is k l) (fields-narrow (fieldsOf entryWidths 22 (partIn b k)) (entry-fields k l) i)
 
   -- in version 1 no entry has "don't restart"
-  pub old-table : v ≡ 1 → any n (restartAt table) ≡ false
+  pub old-table : v ≡ 1 → any n (noRestartAt table) ≡ false
   old-table e =
-      any-none (restartAt table) n
+      any-none (noRestartAt table) n
       (λ k l.
-      restart-of table k (entry-is k l)
+      no-restart-of table k (entry-is k l)
       ∙ old-unmarked (fieldsOf entryWidths 22 (partIn b k)) (entry-fields k l) (subst (λ (x : ℕ). strayFrom x (fieldsOf entryWidths 22 (partIn b k)) ≡ false) e (unstray k l)))
 
 -- ---- the head
@@ -193,7 +193,7 @@ version-of v x known needed old = by-case (ℕ-discrete v 1)
         let some : x ≡ true = not-false x (rw two at needed) in
         rw some (sym (eqb-true v 2 two))
 
-version-in : (h b : List ℕ) {v : ℕ} → cond (any (getD h 1 0) (restartAt (tableOf (entryOf b) (getD h 1 0)))) 2 1 ≡ v → versionOf (settingsIn h b) ≡ v
+version-in : (h b : List ℕ) {v : ℕ} → cond (any (getD h 1 0) (noRestartAt (tableOf (entryOf b) (getD h 1 0)))) 2 1 ≡ v → versionOf (settingsIn h b) ≡ v
 unfolding versionOf settingsIn
 version-in h b e = e
 
@@ -220,7 +220,7 @@ module _ (b : List ℕ) (low : Bytes b) (known : not (eqb (getD (headIn b) 0 0) 
   stray = any (getD h 1 0) (strayAt b (getD h 0 0))
 
   abbrev needless : Bool
-  needless = eqb (getD h 0 0) 2 && not (any (getD h 1 0) (restartAt (tableOf (entryOf b) (getD h 1 0))))
+  needless = eqb (getD h 0 0) 2 && not (any (getD h 1 0) (noRestartAt (tableOf (entryOf b) (getD h 1 0))))
 
   parts : (not (eqb (getD h 7 0) 0) || stray ≡ false) × (needless ≡ false)
   unfolding straysIn
@@ -235,7 +235,7 @@ module _ (b : List ℕ) (low : Bytes b) (known : not (eqb (getD (headIn b) 0 0) 
   version : versionOf (settingsIn h b) ≡ getD h 0 0
   version =
       version-in h b
-      (version-of (getD h 0 0) (any (getD h 1 0) (restartAt (tableOf (entryOf b) (getD h 1 0)))) known (parts .1) (old-table b low (getD h 1 0) (getD h 0 0) few whole unstrayed))
+      (version-of (getD h 0 0) (any (getD h 1 0) (noRestartAt (tableOf (entryOf b) (getD h 1 0)))) known (parts .1) (old-table b low (getD h 1 0) (getD h 0 0) few whole unstrayed))
 
   head-fit : Fit (octets 2) (take 2 b)
   head-fit = part-fit 2 (take 2 b) (simp length-take (omega arith)) (low-part 2 0 b low)

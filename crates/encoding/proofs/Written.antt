@@ -30,7 +30,7 @@ use Rattle.entrybits.specs.EntryBits.{indexOf, entryWidths, entryFields, packed
 use Rattle.entrybits.proofs.ReadBack.{even}
 use Rattle.entrybits.proofs.OneEntry.{entry-back as fields-back}
 use Rattle.entrybits.proofs.OneEntry.{Fits, entry-fit, entry-neat}
-use Rattle.store.specs.Store.{archBit, archFrom, entryOf, found, headFields, headIn, headWidths, noSettings, partIn, readHead, readOf, restartAt, rowAt, settingsIn, storeOf, strayAt, straysIn, versionOf}
+use Rattle.store.specs.Store.{archBit, archFrom, entryOf, found, headFields, headIn, headWidths, noSettings, partIn, readHead, readOf, noRestartAt, rowAt, settingsIn, storeOf, strayAt, straysIn, versionOf}
 use Rattle.storewrite.proofs.Rows.{length-row}
 use Rattle.encoding.specs.Claims.{Narrow, neat, neatAt, Written-reads-back, No-settings-are-bad}
 use Rattle.encoding.proofs.Compared.{Few, good-neat}
@@ -74,21 +74,21 @@ good-few s len right good = record { entries = good-count s len good; users = λ
 module _ (s : Settings) where
   version-known : eqb (versionOf s) 1 || eqb (versionOf s) 2 ≡ true
   unfolding versionOf
-  version-known = split (any (s .count) (restartAt (s .table))) (λ e. rw e) (λ e. rw e)
+  version-known = split (any (s .count) (noRestartAt (s .table))) (λ e. rw e) (λ e. rw e)
 
   version-low : versionOf s < 16
   unfolding versionOf
-  version-low = split (any (s .count) (restartAt (s .table))) (λ e. rw e (omega arith)) (λ e. rw e (omega arith))
+  version-low = split (any (s .count) (noRestartAt (s .table))) (λ e. rw e (omega arith)) (λ e. rw e (omega arith))
 
   -- in version 1 no used entry has "don't restart"
-  version-old : versionOf s ≡ 1 → any (s .count) (restartAt (s .table)) ≡ false
+  version-old : versionOf s ≡ 1 → any (s .count) (noRestartAt (s .table)) ≡ false
   unfolding versionOf
-  version-old v = split (any (s .count) (restartAt (s .table))) (λ e. let z : _≡_ {A = ℕ} 2 1 = rw e at v in absurd (omega arith)) (λ e. e)
+  version-old v = split (any (s .count) (noRestartAt (s .table))) (λ e. let z : _≡_ {A = ℕ} 2 1 = rw e at v in absurd (omega arith)) (λ e. e)
 
   -- version 2 is not needless
-  version-needed : eqb (versionOf s) 2 && not (any (s .count) (restartAt (s .table))) ≡ false
+  version-needed : eqb (versionOf s) 2 && not (any (s .count) (noRestartAt (s .table))) ≡ false
   unfolding versionOf
-  version-needed = split (any (s .count) (restartAt (s .table))) (λ e. rw e) (λ e. rw e)
+  version-needed = split (any (s .count) (noRestartAt (s .table))) (λ e. rw e) (λ e. rw e)
 
 -- ---- the bytes, part by part
 
@@ -147,8 +147,8 @@ module _ (s : Settings) (few : s .count ≤ 16) (fits : (k : ℕ) → k < s .cou
       rw (part-back k l, eq-eqb (length (rowAt (s .table) k)) 22 (length-row (s .table) k), row-fields k l) (fields-back (entryAt (s .table) k) (fits k l))
 
   old-entry : versionOf s ≡ 1 → (k : ℕ) → k < s .count → entryAt (s .table) k .«no_restart» ≡ false
-  unfolding restartAt
-  old-entry v k l = any-all (restartAt (s .table)) (s .count) (version-old s v) k l
+  unfolding noRestartAt
+  old-entry v k l = any-all (noRestartAt (s .table)) (s .count) (version-old s v) k l
 
   stray-back : (k : ℕ) → k < s .count → strayAt (storeOf s) (versionOf s) k ≡ false
   unfolding strayAt strayIn
@@ -156,9 +156,9 @@ module _ (s : Settings) (few : s .count ≤ 16) (fits : (k : ℕ) → k < s .cou
       rw (part-back k l, eq-eqb (length (rowAt (s .table) k)) 22 (length-row (s .table) k), row-fields k l)
       (entry-neat (versionOf s) (entryAt (s .table) k) (fits k l .users) (λ v. old-entry v k l))
 
-  restart-back : (k : ℕ) → k < s .count → restartAt (tableOf (entryOf (storeOf s)) (s .count)) k ≡ restartAt (s .table) k
-  unfolding restartAt neatAt neatEntry
-  restart-back k l = ap (λ (e : Entry). e .«no_restart») (table-at (entryOf (storeOf s)) (s .count) k few l ∙ entry-back k l)
+  no-restart-back : (k : ℕ) → k < s .count → noRestartAt (tableOf (entryOf (storeOf s)) (s .count)) k ≡ noRestartAt (s .table) k
+  unfolding noRestartAt neatAt neatEntry
+  no-restart-back k l = ap (λ (e : Entry). e .«no_restart») (table-at (entryOf (storeOf s)) (s .count) k few l ∙ entry-back k l)
 
   settings-back : settingsIn (headFields s) (storeOf s) ≡ neat s
   unfolding settingsIn headFields neat
@@ -177,7 +177,7 @@ module _ (s : Settings) (few : s .count ≤ 16) (fits : (k : ℕ) → k < s .cou
   none-stray =
       rw (
         any-none (strayAt (storeOf s) (versionOf s)) (s .count) stray-back,
-        any-cong (s .count) (restartAt (tableOf (entryOf (storeOf s)) (s .count))) (restartAt (s .table)) restart-back,
+        any-cong (s .count) (noRestartAt (tableOf (entryOf (storeOf s)) (s .count))) (noRestartAt (s .table)) no-restart-back,
       )
       (version-needed s)
 

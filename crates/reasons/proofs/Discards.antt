@@ -95,7 +95,7 @@ module _ (s : Settings) (w : World) (a : List ℕ) where
   kindIf c = cond c (noteKind (lengthsOf (w .held)) (w .transfer) (fieldsOf a)) (windowKind (windowOf (lengthsOf (w .held)) (fieldsOf a .address)))
 
   -- the kind of the claims about arrivals is that of the checks
-  kinds : kindOf (lengthsOf (w .held)) (w .transfer) (fieldsOf a) ≡ windows.kindOf w a
+  pub kinds : kindOf (lengthsOf (w .held)) (w .transfer) (fieldsOf a) ≡ windows.kindOf w a
   unfolding kindOf
   kinds =
       split (hasFlag a 0x1) (λ y. ap kindIf (comment-is a ∙ y) ∙ sym (kind-note s w a y)) (λ z. ap kindIf (comment-is a ∙ z) ∙ sym (kind-window s w a z))

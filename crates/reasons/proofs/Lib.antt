@@ -6,3 +6,4 @@ pub mod Discards
 mod Ranks
 pub mod Theorems
 pub mod Places
+pub mod Counts

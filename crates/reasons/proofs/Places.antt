@@ -1,43 +1,50 @@
 -- A place asked for alone: its answer is the receiver's, and its reason the true one. Assumes nothing.
 use mathlib.Core.Path.{_≡_, refl, sym, ap, subst, _∙_}
-use mathlib.Core.Bool.{Bool, true, false, cond, not}
-use mathlib.Core.List.{List}
-use Prim.Native.Nat.{ℕ}
+use mathlib.Core.Bool.{true, cond, not}
+use mathlib.Core.Logic.{_⊎_, ⊎-elim}
+use Prim.Native.Nat.{ℕ, _<_}
+use lib.ListN.{getD}
 use native.Mathlib.Omega.{arith}
 use Rattle.sets.proofs.Tests.{split}
 use Rattle.flash.specs.Flash.{flashLength}
 use Rattle.settings.specs.declared.Settings.{Settings}
-use Rattle.settings.specs.Settings.{goodSettings}
-use Rattle.place.specs.Place.{placeOf, foundAt, askOf, placeAnswerNumber}
+use Rattle.settings.specs.Settings.{entryAt, goodSettings}
+use Rattle.place.specs.Place.{usedCount, placeOf, foundAt, askOf, placeAnswerNumber}
 use Rattle.place.specs.declared.Place.{Place}
 use Rattle.place.specs.declared.Place.the-variants.{Nowhere, At}
-use Rattle.place.specs.declared.PlaceAnswer.{PlaceAnswer}
+use Rattle.place.specs.declared.PlaceAnswer.the-variants as ask
+use Rattle.placing.specs.declared.Rule.the-variants.{Absolute, NoTable}
 use Rattle.place.proofs.Laws.{ask-length, ask-settings, ask-place}
 use Rattle.transfer.specs.Transfer.{numberOf}
 use Rattle.transfer.specs.declared.Answer.{Answer}
 use Rattle.transfer.specs.declared.Answer.the-variants as answer
 use Rattle.faults.specs.Faults.{firstFault}
-use Rattle.placing.specs.Placing.{flashAccess, grantedSpot, spotBy, spotOf, spotPlace}
+use Rattle.placing.specs.Placing.{shutIn, Marked, flashAccess, grantedSpot, spotBy, spotOf, spotPlace, SpotTrue}
+use Rattle.placing.specs.declared.Shut.the-variants.{NoEntry}
 use Rattle.placing.specs.declared.Access.{Access}
 use Rattle.placing.specs.declared.Access.the-variants.{Granted, Denied}
 use Rattle.placing.specs.declared.Spot.{Spot}
 use Rattle.placing.specs.declared.Spot.the-variants as spot
-use Rattle.placing.proofs.Theorems.{granted-is-placed, spot-is-placed}
-use Rattle.causes.specs.Causes.{answerOf}
+use Rattle.placing.proofs.Theorems.{granted-is-placed, spot-is-placed, place-is-true}
+use Rattle.causes.specs.Causes.{answerOf, reasonWith}
 use Rattle.causes.specs.Checks.{byNumbers, rowOf, orNext, orLast, Deciding}
 use Rattle.lengthrow.specs.Lengths.{flashRow}
 use Rattle.causes.proofs.Rows.{deciding}
+use Rattle.causes.specs.declared.Cause.{Cause}
+use Rattle.causes.specs.declared.Cause.the-variants.{NoPlace, Kept}
 use Rattle.causes.specs.declared.Reason.{Reason}
 use Rattle.causes.specs.declared.Row.{Row}
 use Rattle.causes.specs.declared.Row.the-variants.{Passes, Decides}
 use Rattle.checklist.specs.Parts.{findingRow, accessRow, placePart}
-use Rattle.reason.specs.Placed.{placeChecks, holdsOf, placedSpot, placedBy, placedOf, placedNumber}
+use Rattle.reason.specs.Why.{entriesOf}
+use Rattle.reason.specs.Placed.{placeChecks, placeTest, holdsOf, placedSpot, placedBy, placedOf, placedNumber, placedMarks, whyPlaceOf}
 use Rattle.reason.specs.declared.Placed.{Placed}
 use Rattle.reason.specs.declared.Placed.the-variants.{Refused, Whole, Entry}
 use Rattle.reason.proofs.Laws.{place-parts}
-use Rattle.reasons.specs.Claims.{Place-answer-is-the-receivers, refusalOr, Place-reason-is-true}
+use Rattle.reasons.specs.Claims.{Place-answer-is-the-receivers, refusalOr, Place-reason-is-true, FoundTrue, Found-place-is-true, placeNamed, Found-place-is-the-receivers, Place-marks-are-true}
 use Rattle.reasons.proofs.Answers.{told, told-next, flash-answer}
 use Rattle.reasons.proofs.Agree.{finding-answer, flash-shut, flash-open}
+use Rattle.reasons.proofs.Theorems.{never, decided-holds, marks-shut}
 
 -- a row whose answer is the same whatever comes after it decides, and one that leaves what comes after it passes
 number-decides : (r : Row) (q : Placed) (x : Answer) → told r answer.Kept ≡ x → told r answer.Noted ≡ x → placedNumber (placedBy r q) ≡ numberOf x
@@ -47,6 +54,10 @@ number-decides (Decides z) q x e h = ap numberOf e
 number-passes : (r : Row) (q : Placed) → told r answer.Kept ≡ answer.Kept → told r answer.Noted ≡ answer.Noted → placedNumber (placedBy r q) ≡ placedNumber q
 number-passes Passes q e h = refl
 number-passes (Decides z) q e h = let v : answer.Kept ≡ answer.Noted = sym e ∙ h in absurd (let u : _≡_ {A = ℕ} 0 1 = cc in omega arith)
+
+-- the reason of no refusal
+abbrev no-reason : Reason
+no-reason = reasonWith Kept 0 0
 
 module _ (s : Settings) (len f : ℕ) where
   abbrev row : Row
@@ -86,9 +97,6 @@ module _ (s : Settings) (len f : ℕ) where
       let open-is : (y : Answer) → told row y ≡ y = λ y. row-told y ∙ rw (l, g) (flash-open s len f y e) in
       number-passes row (placedSpot f (grantedSpot s f)) (open-is answer.Kept) (open-is answer.Noted)
       ∙ granted-found (granted-is-placed s len f .1 (λ h. let q : Nowhere ≡ At a n = sym h ∙ e in let z : _≡_ {A = ℕ} 0 1 = cc in omega arith)) (grantedSpot s f) refl no-reason .0
-    where
-      no-reason : Reason
-      no-reason = record { cause = Rattle.causes.specs.declared.Cause.the-variants.Kept; got = 0; against = 0 }
 
   answer-is-asked : placedNumber (placedOf s len f) ≡ placeAnswerNumber (askOf s len f)
   unfolding placedOf
@@ -116,10 +124,91 @@ module _ (s : Settings) (len f : ℕ) where
       by-row Passes e =
           sym (granted-found (access-granted (placePart s len) (flashAccess s f) (sym (place-parts s len f) ∙ e)) (grantedSpot s f) refl y .1)
 
+  -- ---- where no entry takes the family
+
+  marks-true : (x : Reason) → placedOf s len f ≡ Refused x → x .cause ≡ NoPlace NoEntry → (k : ℕ) → k < usedCount (s .count)
+      → Marked (entryAt (s .table) k) f (getD (placedMarks s f (placedOf s len f)) k 0)
+  marks-true x e h k l =
+      let d = subst (λ (p : Placed). Deciding (holdsOf s len f) no-reason (placeChecks s len f) (refusalOr no-reason p)) e (reason-decides no-reason) in
+      let t : shutIn s f NoEntry ≡ true =
+      ⊎-elim
+      (λ q. let c : NoPlace NoEntry ≡ Kept = sym h ∙ ap (λ (r : Reason). r .cause) q in let z : _≡_ {A = ℕ} 0 1 = cc in absurd (never z))
+      (λ q. ap (λ (c : Cause). placeTest s len f c (x .got) (x .against)) (sym h) ∙ q)
+      (decided-holds (holdsOf s len f) no-reason d) in
+      rw (e, ap (λ (c : Cause). getD (entriesOf s f c) k 0) h) (marks-shut s f t k l)
+
+  -- ---- where it is found
+
+  -- what a spot tells is told of the place
+  spot-found : (z : Spot) → SpotTrue s f z → FoundTrue s f (placedSpot f z)
+  spot-found (spot.Refused x) t = tt
+  spot-found (spot.Whole Absolute) t = t
+  spot-found (spot.Whole NoTable) t = t
+  spot-found (spot.Entry p k) t = t
+
+  -- where every row passes, the spot is the one of the place
+  passed-spot : row ≡ Passes → spotOf s f ≡ grantedSpot s f
+  unfolding spotOf
+  passed-spot e = ap (λ (x : Access). spotBy x (grantedSpot s f)) (access-granted (placePart s len) (flashAccess s f) (sym (place-parts s len f) ∙ e))
+
+  found-true : FoundTrue s f (placedOf s len f)
+  unfolding placedOf
+  found-true = by-row row refl
+    where
+      by-row : (r : Row) → row ≡ r → FoundTrue s f (placedBy r (placedSpot f (grantedSpot s f)))
+      by-row (Decides x) e = tt
+      by-row Passes e = spot-found (grantedSpot s f) (subst (SpotTrue s f) (passed-spot e) (place-is-true s f))
+
+  -- the place that is named is the spot's
+  spot-named : (z : Spot) → placeNamed s len (placedSpot f z) ≡ spotPlace s len z
+  spot-named (spot.Refused x) = refl
+  spot-named (spot.Whole r) = refl
+  spot-named (spot.Entry p k) = refl
+
+  -- where the receiver finds a place rows 1 and 2 pass
+  asked-found : (a n : ℕ) → askOf s len f ≡ ask.Found a n → (flashLength len ≡ true) × (goodSettings s len ≡ true) × (placeOf s len f ≡ At a n)
+  asked-found a n e =
+      split (flashLength len)
+      (λ l.
+      split (goodSettings s len)
+      (λ g. (l, g, same (placeOf s len f) (sym (ask-place s len f l g) ∙ e)))
+      (λ g. let h : ask.BadSettings ≡ ask.Found a n = sym (ask-settings s len f l g) ∙ e in let z : _≡_ {A = ℕ} 0 1 = cc in absurd (omega arith)))
+      (λ l. let h : ask.BadBuffers ≡ ask.Found a n = sym (ask-length s len f l) ∙ e in let z : _≡_ {A = ℕ} 0 1 = cc in absurd (omega arith))
+    where
+      same : (p : Place) → foundAt p ≡ ask.Found a n → p ≡ At a n
+      same Nowhere h = absurd (let z : _≡_ {A = ℕ} 0 1 = cc in omega arith)
+      same (At b m) h = let x : b ≡ a = cc in let y : m ≡ n = cc in rw (x, y)
+
+  found-named : (a n : ℕ) → askOf s len f ≡ ask.Found a n → placeNamed s len (placedOf s len f) ≡ At a n
+  unfolding placedOf
+  found-named a n e = by-row row refl
+    where
+      open-is : (y : Answer) → told row y ≡ y
+      open-is y = let q = asked-found a n e in row-told y ∙ rw (q .0, q .1) (flash-open s len f y (q .2))
+
+      by-row : (r : Row) → row ≡ r → placeNamed s len (placedBy r (placedSpot f (grantedSpot s f))) ≡ At a n
+      by-row (Decides x) h =
+          let told-is : (y : Answer) → answerOf (x .cause) ≡ y = λ y. ap (λ (r : Row). told r y) (sym h) ∙ open-is y in
+          let v : answer.Kept ≡ answer.Noted = sym (told-is answer.Kept) ∙ told-is answer.Noted in
+          let z : _≡_ {A = ℕ} 0 1 = cc in absurd (omega arith)
+      by-row Passes h = spot-named (grantedSpot s f) ∙ (ap (spotPlace s len) (sym (passed-spot h)) ∙ (spot-is-placed s len f ∙ asked-found a n e .2))
+
+pub found-place-is-true : Found-place-is-true
+unfolding Found-place-is-true whyPlaceOf
+found-place-is-true s len f = found-true s len f
+
+pub found-place-is-the-receivers : Found-place-is-the-receivers
+unfolding Found-place-is-the-receivers whyPlaceOf
+found-place-is-the-receivers s len f a n e = found-named s len f a n e
+
+pub place-marks-are-true : Place-marks-are-true
+unfolding Place-marks-are-true whyPlaceOf
+place-marks-are-true s len f x e h k l = marks-true s len f x e h k l
+
 pub place-answer-is-the-receivers : Place-answer-is-the-receivers
-unfolding Place-answer-is-the-receivers
+unfolding Place-answer-is-the-receivers whyPlaceOf
 place-answer-is-the-receivers s len f = answer-is-asked s len f
 
 pub place-reason-is-true : Place-reason-is-true
-unfolding Place-reason-is-true
+unfolding Place-reason-is-true whyPlaceOf
 place-reason-is-true s len f y = reason-decides s len f y

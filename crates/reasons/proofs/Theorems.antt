@@ -5,6 +5,7 @@ use Prim.Native.Nat.{ℕ, _<_}
 use Rattle.causes.specs.Checks.{Deciding, none, here, later, runningRow, doneRow, stateRow, magicRow, flagsRow, headerRow}
 use Rattle.lengthrow.specs.Lengths.{flashRow, bufferRow, lengthsRow}
 use Rattle.numberrows.specs.Numbers.{numbersRow, addressRow}
+use Rattle.checks.specs.Block.{writtenRow}
 use Rattle.reason.specs.Why.{shutRow, placeRow, checksOf, lastOf, testOf, holdsIn, reasonOf, entriesOf, whyOf}
 use Rattle.reasons.specs.Claims.{Reason-is-true, Answer-is-the-receivers, Marks-are-true, risesFrom, In-order}
 use mathlib.Core.Bool.{Bool, true, false, not, _&&_}
@@ -35,11 +36,11 @@ use Rattle.reasons.proofs.Agree.{answers-agree}
 use Rattle.reasons.proofs.Ranks.{faults-rank}
 
 pub reason-is-true : Reason-is-true
-unfolding Reason-is-true reasonOf
+unfolding Reason-is-true reasonOf whyOf
 reason-is-true s w a = deciding (holdsIn s w a) (lastOf w a) (checksOf s w a)
 
 pub answer-is-the-receivers : Answer-is-the-receivers
-unfolding Answer-is-the-receivers
+unfolding Answer-is-the-receivers whyOf
 answer-is-the-receivers s w a = answers-agree s w a
 
 states : (t : State) → risesFrom 300 (stateRow t) ≡ true
@@ -55,7 +56,7 @@ places MainRam f = refl
 places XipRam f = refl
 
 pub in-order : In-order
-unfolding lengthsRow flashRow bufferRow headerRow magicRow flagsRow numbersRow addressRow
+unfolding lengthsRow flashRow bufferRow headerRow magicRow flagsRow numbersRow addressRow writtenRow
 in-order =
     record {
       faults = faults-rank;
@@ -65,15 +66,16 @@ in-order =
       place = places;
       numbers = λ t k z. refl;
       address = λ x z. refl;
+      written = λ r t. refl;
     }
 
 -- ---- the marks
 
-never : _≡_ {A = ℕ} 0 1 → ⊥
+pub never : _≡_ {A = ℕ} 0 1 → ⊥
 never e = omega arith
 
 -- what decides holds, unless every check passes
-decided-holds : (test : Reason → Bool) (last : Reason) {l : List Reason} {r : Reason} → Deciding test last l r → (r ≡ last) ⊎ (test r ≡ true)
+pub decided-holds : (test : Reason → Bool) (last : Reason) {l : List Reason} {r : Reason} → Deciding test last l r → (r ≡ last) ⊎ (test r ≡ true)
 decided-holds test last none = inl refl
 decided-holds test last (here h) = inr h
 decided-holds test last (later h d) = decided-holds test last d
@@ -87,16 +89,21 @@ marked-entry s f k h =
 used-low : (n k : ℕ) → k < usedCount n → k < 16
 used-low n k l = split (leb n 16) (λ h. let m = leb-true n 16 h in let q : k < n = rw h at l in omega arith) (λ h. rw h at l)
 
+-- where the rule about entries holds, each used entry has its mark
+pub marks-shut : (s : Settings) (f : ℕ) → shutIn s f NoEntry ≡ true → (k : ℕ) → k < usedCount (s .count) → Marked (entryAt (s .table) k) f (getD (marksOf s f) k 0)
+unfolding marksOf markOf
+marks-shut s f t k l =
+    let n = usedCount (s .count) in
+    let none = not-true _ (and-right (not (noTable s) && not (eqb f familyAbsolute)) (not (any n (takesAt (s .table) f))) t) in
+    rw (getD-tab 16 (markOf s f) k (used-low (s .count) k l), lt-ltb k n l) (marked-entry s f k (any-all (takesAt (s .table) f) n none k l))
+
 pub marks-are-true : Marks-are-true
-unfolding Reason-is-true Marks-are-true whyOf marksOf markOf
+unfolding Reason-is-true Marks-are-true whyOf
 marks-are-true s w a h k l =
     let f = fieldAt a 28 in
-    let n = usedCount (s .count) in
     let t : shutIn s f NoEntry ≡ true =
     ⊎-elim
     (λ e. let q : reasonOf s w a .cause ≡ Kept = ap (λ (r : Reason). r .cause) e in let z : _≡_ {A = ℕ} 0 1 = cc in absurd (never z))
     (λ e. ap (λ (c : Cause). testOf s w a c (reasonOf s w a .got) (reasonOf s w a .against)) (sym h) ∙ e)
     (decided-holds (holdsIn s w a) (lastOf w a) (reason-is-true s w a)) in
-    let none = not-true _ (and-right (not (noTable s) && not (eqb f familyAbsolute)) (not (any n (takesAt (s .table) f))) t) in
-    rw (ap (λ (c : Cause). getD (entriesOf s f c) k 0) h, getD-tab 16 (markOf s f) k (used-low (s .count) k l), lt-ltb k n l)
-    (marked-entry s f k (any-all (takesAt (s .table) f) n none k l))
+    rw (ap (λ (c : Cause). getD (entriesOf s f c) k 0) h) (marks-shut s f t k l)

@@ -16,10 +16,10 @@ use Rattle.settings.specs.Settings.{goodSettings}
 use Rattle.settings.specs.Table.{tableOf}
 use Rattle.packing.specs.Packing.{total, packed, unpacked, octets, fieldsOf}
 use Rattle.storewrite.specs.declared.StoreAnswer.the-variants.{BadBuffers, BadSettings, BadVersion, BadLength, BadBits, Good}
-use Rattle.storewrite.specs.Written.{restartsIn}
-use Rattle.storewrite.proofs.Cases.{restarts-few}
+use Rattle.storewrite.specs.Written.{noRestartIn}
+use Rattle.storewrite.proofs.Cases.{no-restart-few}
 use Rattle.store.specs.declared.Reading.{Reading}
-use Rattle.store.specs.Store.{restartAt, headWidths, headIn, entryOf, settingsOf, settingsIn, strayAt, straysIn, refusal, found, readHead, readOf}
+use Rattle.store.specs.Store.{noRestartAt, headWidths, headIn, entryOf, settingsOf, settingsIn, strayAt, straysIn, refusal, found, readHead, readOf}
 
 -- the head's two bytes
 pub head-two : (b : List ℕ) → 2 ≤ length b → headIn b ≡ unpacked headWidths (getD b 0 0 * 256 + getD b 1 0)
@@ -59,11 +59,11 @@ module _ (b : List ℕ) (len x : ℕ) where
       read-41 h = rw (r, le-ltb 16 (x / 128 % 32) s, ne-eqb (length b) (2 + 22 * (x / 128 % 32)) h)
 
       module _ (w : length b ≡ 2 + 22 * (x / 128 % 32)) {table : List Entry} (ht : table ≡ tableOf (entryOf b) (x / 128 % 32)) {y v : Bool}
-          (k : y ≡ any (x / 128 % 32) (strayAt b (x / 4096 % 16))) (m : v ≡ restartsIn table (x / 128 % 32)) where
+          (k : y ≡ any (x / 128 % 32) (strayAt b (x / 4096 % 16))) (m : v ≡ noRestartIn table (x / 128 % 32)) where
         strays : straysIn (unpacked headWidths x) b ≡ not (eqb (x / 1 % 4) 0) || y || eqb (x / 4096 % 16) 2 && not v
         unfolding straysIn unpacked total
         strays =
-            let few : v ≡ any (x / 128 % 32) (restartAt table) = m ∙ restarts-few table (x / 128 % 32) s in
+            let few : v ≡ any (x / 128 % 32) (noRestartAt table) = m ∙ no-restart-few table (x / 128 % 32) s in
             rw (k, few, ht)
 
         reach : readHead (unpacked headWidths x) b len

@@ -19,7 +19,7 @@ use Rattle.storewrite.specs.declared.StoreAnswer.the-variants.{BadBuffers, BadS
 use Rattle.store.specs.declared.Reading.{Reading}
 -- the store as it is written
 pub use Rattle.storewrite.specs.Written.{headWidths, archBit, storeNumber, WriteCall, writeCall, writeNumber}
-unfoldable pub use Rattle.storewrite.specs.Written.{restartAt, versionOf, headFields, rowAt, storeOf, writeOf}
+unfoldable pub use Rattle.storewrite.specs.Written.{noRestartAt, versionOf, headFields, rowAt, storeOf, writeOf}
 
 -- the head's fields, and the bytes of entry k
 unfoldable pub headIn : List ℕ → List ℕ
@@ -61,7 +61,7 @@ unfoldable pub straysIn : List ℕ → List ℕ → Bool
 straysIn h b =
     not (eqb (getD h 7 0) 0)
     || any (getD h 1 0) (strayAt b (getD h 0 0))
-    || eqb (getD h 0 0) 2 && not (any (getD h 1 0) (restartAt (tableOf (entryOf b) (getD h 1 0))))
+    || eqb (getD h 0 0) 2 && not (any (getD h 1 0) (noRestartAt (tableOf (entryOf b) (getD h 1 0))))
 
 -- "Refusals return no settings": settings in which nothing is enabled, which are bad for every flash
 abbrev pub noSettings : Settings

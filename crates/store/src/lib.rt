@@ -124,7 +124,7 @@ fn read_head(b: &[u8], x: u64, flash_len: usize) -> Reading
     let scanned = scan(b, version, n);
     let table = scanned.table;
     let stray = scanned.stray;
-    if !(x / 1 % 4 == 0) | stray | ((version == 2) & !storewrite::restarts(table, n)) {
+    if !(x / 1 % 4 == 0) | stray | ((version == 2) & !storewrite::no_restart_in(table, n)) {
         return refuse(StoreAnswer::BadBits);
     }
     let settings = settings_of(x, table);

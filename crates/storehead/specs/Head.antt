@@ -12,12 +12,12 @@ use Rattle.settings.specs.Settings.{entryAt}
 use Rattle.packing.specs.Packing.{bit}
 
 -- entry k has "don't restart"
-unfoldable pub restartAt : List Entry → ℕ → Bool
-restartAt table k = entryAt table k .«no_restart»
+unfoldable pub noRestartAt : List Entry → ℕ → Bool
+noRestartAt table k = entryAt table k .«no_restart»
 
 -- "version 2 is used exactly if some used entry has it"
 unfoldable pub versionOf : Settings → ℕ
-versionOf s = cond (any (s .count) (restartAt (s .table))) 2 1
+versionOf s = cond (any (s .count) (noRestartAt (s .table))) 2 1
 
 -- "Head of 16 bits: version 4, count 5, auto switch, absolute, Arm, RISC-V, current (1 is RISC-V), two zeros."
 abbrev pub headWidths : List ℕ
@@ -33,7 +33,7 @@ headFields s =
 
 -- the version by whether a used entry has "don't restart", and the fields with this version
 abbrev pub versionBy : Bool → ℕ
-versionBy restart = cond restart 2 1
+versionBy noRestart = cond noRestart 2 1
 
 abbrev pub headFieldsBy : Bool → Settings → List ℕ
-headFieldsBy restart s = versionBy restart ∷ drop 1 (headFields s)
+headFieldsBy noRestart s = versionBy noRestart ∷ drop 1 (headFields s)

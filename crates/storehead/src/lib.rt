@@ -21,9 +21,9 @@ fn arch_bit(a: Arch) -> u64
     }
 }
 
-// The head as one number, where `restart` says whether a used entry has "don't restart".
-pub fn head_of(s: Settings, restart: bool) -> u64
-    ensures { λ r. ⌜ r ≡ packed headWidths (headFieldsBy restart s) ⌝ }
+// The head as one number, where `no_restart` says whether a used entry has "don't restart".
+pub fn head_of(s: Settings, no_restart: bool) -> u64
+    ensures { λ r. ⌜ r ≡ packed headWidths (headFieldsBy «no_restart» s) ⌝ }
     ensures low { λ r. ⌜ r < 65536 ⌝ }
 {
     let current = s.current;
@@ -33,6 +33,6 @@ pub fn head_of(s: Settings, restart: bool) -> u64
     let d = bit_of(s.riscv);
     let e = arch_bit(current);
     let n = s.count as u64;
-    let version = 1 + bit_of(restart);
+    let version = 1 + bit_of(no_restart);
     version * 4096 + n * 128 + a * 64 + b * 32 + c * 16 + d * 8 + e * 4
 }

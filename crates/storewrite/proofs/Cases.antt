@@ -1,4 +1,4 @@
--- Each case of `writeOf` and of `restartsIn`, from the facts that lead to it. Assumes nothing.
+-- Each case of `writeOf` and of `noRestartIn`, from the facts that lead to it. Assumes nothing.
 use mathlib.Core.Path.{_≡_, refl, sym}
 use mathlib.Core.Bool.{Bool, true, false, not, true≢false}
 use mathlib.Core.List.{List}
@@ -12,7 +12,7 @@ use Rattle.settings.specs.declared.Entry.{Entry}
 use Rattle.settings.specs.declared.Settings.{Settings}
 use Rattle.settings.specs.Settings.{goodSettings}
 use Rattle.storewrite.specs.declared.StoreAnswer.the-variants.{BadBuffers, BadSettings, BadLength, Good}
-use Rattle.storewrite.specs.Written.{restartAt, restartsIn, storeOf, writeCall, writeOf}
+use Rattle.storewrite.specs.Written.{noRestartAt, noRestartIn, storeOf, writeCall, writeOf}
 
 -- a test whose denial decides
 pub is-off : (a : Bool) {b : Bool} → a ≡ b → not a ≡ true → b ≡ false
@@ -26,11 +26,11 @@ is-on false e h = absurd (true≢false h)
 -- ---- "don't restart" in a table
 
 module _ (table : List Entry) (n : ℕ) where
-  pub restarts-few : n ≤ 16 → restartsIn table n ≡ any n (restartAt table)
-  restarts-few h = rw (le-leb n 16 h) refl
+  pub no-restart-few : n ≤ 16 → noRestartIn table n ≡ any n (noRestartAt table)
+  no-restart-few h = rw (le-leb n 16 h) refl
 
-  pub restarts-many : 16 < n → restartsIn table n ≡ false
-  restarts-many h = rw (lt-leb n 16 h) refl
+  pub no-restart-many : 16 < n → noRestartIn table n ≡ false
+  no-restart-many h = rw (lt-leb n 16 h) refl
 
 -- ---- writing
 

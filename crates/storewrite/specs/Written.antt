@@ -17,13 +17,13 @@ use Rattle.storewrite.specs.declared.StoreAnswer.{StoreAnswer}
 use Rattle.storewrite.specs.declared.StoreAnswer.the-variants.{BadBuffers, BadSettings, BadVersion, BadLength, BadBits, Good}
 -- the head
 pub use Rattle.storehead.specs.Head.{headWidths, archBit}
-unfoldable pub use Rattle.storehead.specs.Head.{restartAt, versionOf, headFields}
+unfoldable pub use Rattle.storehead.specs.Head.{noRestartAt, versionOf, headFields}
 
 -- ---- the store
 
 -- one of the first n entries of a table of 16 has "don't restart"
-abbrev pub restartsIn : List Entry → ℕ → Bool
-restartsIn table n = leb n 16 && any n (restartAt table)
+abbrev pub noRestartIn : List Entry → ℕ → Bool
+noRestartIn table n = leb n 16 && any n (noRestartAt table)
 
 -- the bytes of entry k
 unfoldable pub rowAt : List Entry → ℕ → List ℕ

@@ -7,8 +7,8 @@ ghost use Rattle.sets.specs.Numbered.{numbered};
 ghost use Rattle.sets.specs.Over.{over};
 ghost use Rattle.sets.specs.Rows.{rows};
 ghost use Rattle.storewrite.specs.Written.{
-  restartAt,
-  restartsIn,
+  noRestartAt,
+  noRestartIn,
   rowAt,
   storeOf,
   storeNumber,
@@ -48,9 +48,9 @@ impl StoreAnswer {
     }
 }
 
-fn any_restart(table: [Entry; 16], n: usize) -> bool
+fn any_no_restart(table: [Entry; 16], n: usize) -> bool
     requires { ⌜ n ≤ 16 ⌝ }
-    ensures { λ r. ⌜ r ≡ any n (restartAt table) ⌝ }
+    ensures { λ r. ⌜ r ≡ any n (noRestartAt table) ⌝ }
 {
     let mut found = false;
     let mut k: usize = 0;
@@ -62,13 +62,13 @@ fn any_restart(table: [Entry; 16], n: usize) -> bool
 }
 
 // Has one of the first n entries of a table of 16 "don't restart"?
-pub fn restarts(table: [Entry; 16], n: usize) -> bool
-    ensures { λ r. ⌜ r ≡ restartsIn table n ⌝ }
+pub fn no_restart_in(table: [Entry; 16], n: usize) -> bool
+    ensures { λ r. ⌜ r ≡ noRestartIn table n ⌝ }
 {
     if 16 < n {
         return false;
     }
-    any_restart(table, n)
+    any_no_restart(table, n)
 }
 
 // Writes the used entries, from byte 2 on.
@@ -93,7 +93,7 @@ fn put_store(out: &mut [u8], s: Settings)
 {
     let table = s.table;
     let n = s.count as usize;
-    let x = storehead::head_of(s, any_restart(table, n));
+    let x = storehead::head_of(s, any_no_restart(table, n));
     out[0] = (x / 256 % 256) as u8;
     out[1] = (x / 1 % 256) as u8;
     write_rows(out, table, n);

@@ -74,7 +74,7 @@ returns : tie.Need-returns
 unfolding headFields packed total
 returns c =
     let start = c .before .before .before .before .before .before .before in
-    (rw (version-by (start .args .restart)) (omega arith), omega arith)
+    (rw (version-by (start .args .no-restart)) (omega arith), omega arith)
 
 pub head-of-spec : {M : Type 1} → statement M
 head-of-spec =

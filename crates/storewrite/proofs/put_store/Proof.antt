@@ -11,8 +11,8 @@ use Rattle.storewrite.proofs.put_store.Tie as tie
 cast-n : tie.Need-cast-n
 cast-n c = search needs
 
-any-restart-requires : tie.Need-any-restart-requires
-any-restart-requires c κs = search needs
+any-no-restart-requires : tie.Need-any-no-restart-requires
+any-no-restart-requires c κs = search needs
 
 head-of-requires : tie.Need-head-of-requires
 head-of-requires c κs = search needs
@@ -38,14 +38,14 @@ same-length c = c .before .before .write-rows .kept .0 ∙ simp length-set
 returns : tie.Need-returns
 returns c =
     let start = c .before .before .before .before .before .before .before .before .before in
-    c .before .before .write-rows .ensures ∙ head-put (start .args .s) (start .args .out .now) _ (start .pre .1) (head-is (start .args .s) (c .before .before .before .before .head-of .ensures .0) (c .before .before .before .before .before .any-restart .ensures))
+    c .before .before .write-rows .ensures ∙ head-put (start .args .s) (start .args .out .now) _ (start .pre .1) (head-is (start .args .s) (c .before .before .before .before .head-of .ensures .0) (c .before .before .before .before .before .any-no-restart .ensures))
 
 pub put-store-spec : {M : Type 1} → statement M
 put-store-spec =
     tie.close
     (tie.spec
     cast-n
-    any-restart-requires
+    any-no-restart-requires
     head-of-requires
     cast-out
     slice-write-out
