@@ -31,7 +31,7 @@ madeFile image family start out =
 abbrev pub IsMade : List ℕ → ℕ → ℕ → List ℕ → Type 0
 IsMade image family start out = makeOf image family start out .answer ≡ Made (length image / 256)
 
--- "from Idle, with good settings and buffer lengths, if the range's end less 0x10000000 is within the length of the family's place", which is the
+-- "from Idle, with good settings and buffer lengths, where the range's end less 0x10000000 is within the length of the family's place", which is the
 -- flash from `at` on, `size` bytes
 pub record Deliverable (s : Settings) (w : World) (image : List ℕ) (family start at size : ℕ) : Type 0 where
   pub idle : w .transfer ≡ Idle
