@@ -27,7 +27,8 @@ extern "C" {
 #define UF2_REASON_OTHER_AT 21
 #define UF2_REASON_MARKS_AT 22
 
-/* The conditions: the answer's row times 100, and the condition's place in it. Behind each, the number tested and what it is tested against. */
+/* The conditions: the answer's row times 100, and the condition's place in it. Bytes that are no settings or no transfer (210, 211, 306, 307)
+ * are told before the other conditions of their row. Behind each, the number tested and what it is tested against. */
 enum uf2_cause {
     UF2_CAUSE_ARRIVAL_LENGTH = 101,     /* length, 512 */
     UF2_CAUSE_FLASH_RAGGED = 102,       /* length, 4096: no multiple */

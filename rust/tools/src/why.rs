@@ -68,7 +68,7 @@ pub struct Lent<'a> {
 #[derive(Clone, Copy, PartialEq, Eq, Debug)]
 pub struct Reason {
     /// The condition's number: the row times 100, and its place in the row. Bytes that are no settings are 210 (their length) and 211 (a link of
-    /// no kind), bytes that are no transfer 306 and 307.
+    /// no kind), bytes that are no transfer 306 and 307: these are told before the other conditions of their row.
     pub cause: u32,
     /// The number tested; from 14 on the raised count; of a place by an entry the pass.
     pub got: u64,
