@@ -2,12 +2,11 @@
 ghost use mathlib.Core.Path.{_≡_};
 ghost use Rattle.receiver.specs.Receiver.{lentAt, leftBeside};
 ghost use Rattle.callbytes.specs.Calls.{acceptCallOf, acceptReturn};
+use planbytes::PLAN;
 use screen::Lengths;
 
-// The bytes of a plan.
-const PLAN: usize = 12;
-
-// One arrival is accepted: what `uf2_take` would return, and what is left to do to the flash. Where there is no room for the plan nothing is done.
+// One arrival is accepted: what `uf2_take` would return, and what is left to do to the flash. Where the plan has fewer
+// than 12 bytes, or more, nothing is done.
 #[no_mangle]
 pub extern "C" fn uf2_accept(
     settings: &[u8],

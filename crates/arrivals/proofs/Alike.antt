@@ -28,7 +28,7 @@ module _ (s t : Settings) (h : Alike s t) where
   unfolding decide
   decide-alike n k x seen kept a = rw (alike-good s t (n .flash) h, screen-alike n x a)
 
-  decided-alike : (w : World) (a : List ℕ) → decided s w a ≡ decided t w a
+  pub decided-alike : (w : World) (a : List ℕ) → decided s w a ≡ decided t w a
   decided-alike w a =
       let p = alike-places s t (length (w .held .flash)) (fieldAt a 28) h in
       rw (decide-alike (lengthsOf (w .held)) (length (w .held .sectors)) (w .transfer) (w .seen) (standing s (w .held .flash) a) a, p .0)

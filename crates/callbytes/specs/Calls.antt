@@ -10,7 +10,7 @@ use Rattle.transfer.specs.declared.State.{State}
 use Rattle.arrival.specs.Arrive.{Lent, lentOf, Outcome, receiveOf, Forecast, lookOf}
 use Rattle.plan.specs.declared.Plan.{Plan}
 use Rattle.plan.specs.declared.Plan.the-variants.{Nothing, Program, EraseProgram}
-use Rattle.plan.specs.Plan.{Accepting, acceptingOf}
+use Rattle.plan.specs.Plan.{planNumber, Accepting, acceptingOf}
 use Rattle.receiver.specs.Receiver.{Slice, world}
 use Rattle.results.specs.Results.{resultOf, isAcceptance}
 use Rattle.batch.specs.Batch.{BatchEnd, batchOf}
@@ -69,11 +69,19 @@ takeReturn n t h = arrivalCall n (now (t .exit)) h
 abbrev pub planWords : ℕ → ℕ → ℕ → List ℕ
 planWords d q p = (le32 d ++ le32 q) ++ le32 p
 
--- all 0 where nothing is planned
+-- the numbers of a plan, all 0 where nothing is planned
+abbrev pub planSector : Plan → ℕ
+planSector Nothing = 0
+planSector (Program at) = at / 4096 * 4096
+planSector (EraseProgram q at) = q * 4096
+
+abbrev pub planPage : Plan → ℕ
+planPage Nothing = 0
+planPage (Program at) = at
+planPage (EraseProgram q at) = at
+
 abbrev pub planBytes : Plan → List ℕ
-planBytes Nothing = planWords 0 0 0
-planBytes (Program at) = planWords 1 (at / 4096 * 4096) at
-planBytes (EraseProgram q at) = planWords 2 (q * 4096) at
+planBytes x = planWords (planNumber x) (planSector x) (planPage x)
 
 -- what is returned, what the lent buffers hold, and the plan's 12 bytes
 pub record PlannedCall : Type 0 where

@@ -1,4 +1,5 @@
 -- The proofs of the claims.
 pub mod CallLists
+pub mod Accepts
 pub mod HexTurns
 pub mod Unused

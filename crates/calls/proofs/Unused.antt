@@ -14,12 +14,13 @@ use Rattle.settings.specs.Alike.{AlikeEntry, Alike}
 use Rattle.settings.proofs.Tables.{table-cong}
 use Rattle.arrival.specs.Arrive.{World}
 use Rattle.arrivals.specs.Alike.{Alike-settings-answer-alike}
-use Rattle.arrivals.proofs.Alike.{alike-settings-answer-alike, alike-left, alike-answers, alike-discards}
+use Rattle.arrivals.proofs.Alike.{decided-alike, alike-settings-answer-alike, alike-left, alike-answers, alike-discards}
+use Rattle.plan.specs.Plan.{acceptingBy, acceptingOf}
 use Rattle.receiver.specs.Receiver.{world}
 use Rattle.batch.specs.Batch.{arrivalsOf, fewer, batchOf}
 use Rattle.layout.specs.Layout.{byteAt, entryFrom, entryIn, countFrom, usedOf, settingsOf, settingsFrom, transferFrom}
 use Rattle.placebytes.specs.Calls.{askBytes}
-use Rattle.callbytes.specs.Calls.{lookBytes, takeBytes, takeBatch}
+use Rattle.callbytes.specs.Calls.{lookBytes, takeBytes, acceptBytes, takeBatch}
 use Rattle.calls.specs.Unused.{usedBytes, Unused-change-nothing, Alike-change-no-call, Unused-change-no-call}
 
 -- ---- parts of the bytes that agree
@@ -88,14 +89,19 @@ batch-alike s t h w a r =
     let l = arrivalsOf (fewer (length a / 512) (length r)) a in
     rw (alike-left s t h l w, alike-answers s t h l w, alike-discards s t h l w)
 
+accept-alike : (s t : Settings) → Alike s t → (w : World) (a : List ℕ) → acceptingOf s w a ≡ acceptingOf t w a
+unfolding acceptingOf
+accept-alike s t h w a = ap (acceptingBy w a) (decided-alike s t h w a)
+
 pub alike-change-no-call : Alike-change-no-call
-unfolding Alike-change-no-call Alike-settings-answer-alike askBytes lookBytes takeBytes takeBatch
+unfolding Alike-change-no-call Alike-settings-answer-alike askBytes lookBytes takeBytes acceptBytes takeBatch
 alike-change-no-call b c e =
     let same = alike-settings-answer-alike (settingsFrom b) (settingsFrom c) e in
     record {
       ask = λ len f l. rw (same .place len f);
       look = λ t a h. rw (same .look (world (transferFrom t) h) a);
       take = λ t a h. rw (same .take (world (transferFrom t) h) a);
+      accept = λ t a p h. rw (accept-alike (settingsFrom b) (settingsFrom c) e (world (transferFrom t) h) a);
       take-all = λ t a r h. rw (batch-alike (settingsFrom b) (settingsFrom c) e (world (transferFrom t) h) a r);
     }
 

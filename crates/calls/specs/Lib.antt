@@ -1,3 +1,4 @@
 pub mod CallLists
+pub mod Accepts
 pub mod HexTurns
 pub mod Unused

@@ -15,7 +15,7 @@ use Rattle.settings.specs.declared.Settings.{Settings}
 use Rattle.arrival.specs.Arrive.{World}
 use Rattle.plan.specs.declared.Plan.{Plan}
 use Rattle.plan.specs.declared.Plan.the-variants.{Nothing, Program, EraseProgram}
-use Rattle.plan.specs.Plan.{Accepting, acceptingOf}
+use Rattle.plan.specs.Plan.{planNumber, Accepting, acceptingOf}
 use Rattle.plans.specs.Performed.{PlanLies}
 use Rattle.plans.proofs.Claims.{plans-lie}
 use Rattle.callbytes.specs.Calls.{planWords, planBytes}
@@ -61,10 +61,11 @@ low-bytes x =
     let e : x % 4294967296 + 4294967296 * (x / 4294967296) ≡ x = omega arith in
     sym (low-of (x % 4294967296) (x / 4294967296)) ∙ ap le32 e
 
-pub words-program : (at : ℕ) {q p : ℕ} → q ≡ at / 4096 * 4096 % 4294967296 → p ≡ at % 4294967296 → planWords 1 q p ≡ planBytes (Program at)
-words-program at hq hp = rw (hq, hp, low-bytes (at / 4096 * 4096), low-bytes at) refl
+-- d is the number that was asked for
+pub words-program : (at : ℕ) {d q p : ℕ} → d ≡ planNumber (Program at) → q ≡ at / 4096 * 4096 % 4294967296 → p ≡ at % 4294967296 → planWords d q p ≡ planBytes (Program at)
+words-program at hd hq hp = rw (hd, hq, hp, low-bytes (at / 4096 * 4096), low-bytes at) refl
 
-pub words-erase : (s at : ℕ) {q p : ℕ} → q ≡ s % 1048576 * 4096 % 4294967296 → p ≡ at % 4294967296 → planWords 2 q p ≡ planBytes (EraseProgram s at)
-words-erase s at hq hp =
+pub words-erase : (s at : ℕ) {d q p : ℕ} → d ≡ planNumber (EraseProgram s at) → q ≡ s % 1048576 * 4096 % 4294967296 → p ≡ at % 4294967296 → planWords d q p ≡ planBytes (EraseProgram s at)
+words-erase s at hd hq hp =
     let z : s % 1048576 * 4096 % 4294967296 ≡ s * 4096 % 4294967296 = omega arith in
-    rw (hq, z, hp, low-bytes (s * 4096), low-bytes at) refl
+    rw (hd, hq, z, hp, low-bytes (s * 4096), low-bytes at) refl

@@ -9,7 +9,10 @@ use flash::Flash;
 use plan::Plan;
 use receipts::Planned;
 
-// A plan as numbers: the deed, where its sector begins, and where its page does.
+// The bytes of a plan.
+pub const PLAN: usize = 12;
+
+// A plan as numbers: the deed's, where its sector begins, and where its page does.
 struct Words {
     deed: u32,
     sector: u32,
@@ -23,22 +26,23 @@ fn low(x: usize) -> u32
     (x % 4294967296) as u32
 }
 
+// The deed's number is asked for where the plan's case is known, so that it is no further branch.
 fn numbers(plan: Plan) -> Words
     ensures { λ r. ⌜ planWords (r .deed) (r .sector) (r .page) ≡ planBytes plan ⌝ }
 {
     match plan {
         Plan::Nothing => Words {
-            deed: 0,
+            deed: plan.number(),
             sector: 0,
             page: 0,
         },
         Plan::Program(at) => Words {
-            deed: 1,
+            deed: plan.number(),
             sector: low(at / Flash::SECTOR * Flash::SECTOR),
             page: low(at),
         },
         Plan::EraseProgram { sector, at } => Words {
-            deed: 2,
+            deed: plan.number(),
             sector: low(sector % 1048576 * Flash::SECTOR),
             page: low(at),
         },
@@ -49,7 +53,7 @@ fn numbers(plan: Plan) -> Words
 fn tell(plan: Plan, bytes: &mut [u8])
     ensures { λ _. ⌜ now (bytes .exit) ≡ withPlan (now (bytes .entry)) plan ⌝ }
 {
-    if bytes.len() != 12 {
+    if bytes.len() != PLAN {
         return;
     }
     let w = numbers(plan);
@@ -66,8 +70,8 @@ pub fn hand_back(planned: Planned, transfer: &mut [u8], plan: &mut [u8]) -> u32
     let receipt = planned.receipt;
     let answer = receipt.answer;
     let next = receipt.transfer;
-    let deed = planned.plan;
-    tell(deed, plan);
+    let left = planned.plan;
+    tell(left, plan);
     let accepted = results::is_acceptance(answer);
     callbytes::keep(transfer, accepted, next);
     results::result(answer, receipt.discarded) as u32
