@@ -12,7 +12,7 @@ use Rattle.counts.specs.declared.Report.{Report}
 use Rattle.counts.specs.Counts.{goodReport, withRoom, countAll, howManyYes, missingAt}
 use Rattle.replay.specs.Replay.{TraceOutcome, begun, replayOf}
 use Rattle.replays.specs.Pieces.{arrivalsTo, recordsBefore}
-use Rattle.adding.specs.declared.Added.{Added}
+use Rattle.adding.specs.declared.Addition.{Addition}
 use Rattle.adding.specs.declared.FiguresAnswer.{FiguresAnswer}
 use Rattle.adding.specs.declared.FiguresAnswer.the-variants.{BadReport, TooMany, Replayed}
 
@@ -46,7 +46,7 @@ abbrev pub figuresOutcome : FiguresAnswer → Report → Lent → FiguresOutcome
 figuresOutcome x r h = record { answer = x; report = r; lent = h }
 
 -- what is returned, with the buffers as they are left
-abbrev pub addReturn : Added → Lent → FiguresOutcome
+abbrev pub addReturn : Addition → Lent → FiguresOutcome
 addReturn r h = figuresOutcome (r .answer) (r .report) h
 
 -- the numbers of the answers, and 0 for a trace that is replayed

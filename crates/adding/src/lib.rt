@@ -12,7 +12,7 @@ pub enum FiguresAnswer {
 }
 
 // What is handed back: the next report, and what came of the trace.
-pub struct Added {
+pub struct Addition {
     pub report: Report,
     pub answer: FiguresAnswer,
 }

@@ -26,7 +26,7 @@ use Rattle.transfer.specs.declared.Answer.the-variants.{Finished, Again}
 use Rattle.transfer.specs.declared.Deed.{Deed}
 use Rattle.screen.specs.declared.Body.{Body}
 use Rattle.screen.specs.declared.Body.the-variants.{Page, Note}
-use Rattle.screen.specs.declared.Placed.{Placed}
+use Rattle.screen.specs.declared.PlacedBlock.{PlacedBlock}
 use Rattle.arrival.specs.Arrive.{Held, World, Outcome, accepts, bodyDeed, deedOf, stepped, clearedIf, wipedIf, atOf, doneTo, acceptOf, done}
 use Rattle.arrival.specs.File.{File, isData, headIn}
 use Rattle.arrival.proofs.Heads.{same-head}
@@ -52,7 +52,7 @@ bytesOf F k = F .file .block k
 abbrev pub bodyOf : Blocks → ℕ → Body
 bodyOf F k = cond (isData (F .file) k) (Page (F .at k)) Note
 
-abbrev pub placedOf : Blocks → ℕ → Placed
+abbrev pub placedOf : Blocks → ℕ → PlacedBlock
 placedOf F k = record { head = headBy F; number = k; body = bodyOf F k }
 
 -- what block k does with a flash

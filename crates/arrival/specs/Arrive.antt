@@ -29,7 +29,7 @@ use Rattle.screen.specs.Screen.{extentOf, screenOf}
 use Rattle.screen.specs.declared.Lengths.{Lengths}
 use Rattle.screen.specs.declared.Body.{Body}
 use Rattle.screen.specs.declared.Body.the-variants.{Page, Note}
-use Rattle.screen.specs.declared.Placed.{Placed}
+use Rattle.screen.specs.declared.PlacedBlock.{PlacedBlock}
 use Rattle.screen.specs.declared.Screening.{Screening}
 use Rattle.screen.specs.declared.Screening.the-variants.{Refused, Passed}
 
@@ -90,7 +90,7 @@ outcomeNumber o = numberOf (o .answer)
 -- what an arrival comes to, before anything is written
 pub data Decision : Type 0 where
   stays : Answer → Decision  -- answers 1 to 13: nothing changes
-  accepts : Placed → Deed → Accepted → Decision  -- answers 14 to 17
+  accepts : PlacedBlock → Deed → Accepted → Decision  -- answers 14 to 17
 
 -- "its own lent buffer of exactly that length, or empty .. other lengths are answer 1" (02, L8)
 abbrev pub ramLength : Kind → ℕ → Bool
@@ -117,11 +117,11 @@ bodyDeed kept (Page at) = cond kept Keeps Stores
 bodyDeed kept Note = Notes
 
 -- what a block does once it is accepted: "For a flash data block" that stands, "store nothing" (02, L9)
-abbrev pub deedOf : Bool → Placed → Deed
+abbrev pub deedOf : Bool → PlacedBlock → Deed
 deedOf kept p = bodyDeed (sameKind (p .head .kind) Flash && kept) (p .body)
 
 -- a block that passed the screening changes nothing, by 12 or 13, or is accepted
-abbrev pub stepped : Placed → Deed → Step → Decision
+abbrev pub stepped : PlacedBlock → Deed → Step → Decision
 stepped p d (Stays x) = stays (x .answer)
 stepped p d (Accepts t) = accepts p d t
 
@@ -182,7 +182,7 @@ doneTo Notes k at payload h = h
 doneTo Keeps k at payload h = h
 
 -- "the number marked, the count raised", of a block that is accepted
-unfoldable pub acceptOf : World → List ℕ → Placed → Deed → Accepted → World
+unfoldable pub acceptOf : World → List ℕ → PlacedBlock → Deed → Accepted → World
 acceptOf w payload p d t =
     record {
       transfer = t .transfer .state;

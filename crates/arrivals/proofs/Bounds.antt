@@ -25,7 +25,7 @@ use Rattle.transfer.specs.declared.Deed.{Deed}
 use Rattle.transfer.specs.declared.Deed.the-variants.{Stores, Notes, Keeps}
 use Rattle.screen.specs.Screen.{isLent, screenOf}
 use Rattle.screen.specs.declared.Body.{Body}
-use Rattle.screen.specs.declared.Placed.{Placed}
+use Rattle.screen.specs.declared.PlacedBlock.{PlacedBlock}
 use Rattle.screen.specs.declared.Screening.{Screening}
 use Rattle.screen.specs.declared.Screening.the-variants.{Refused, Passed}
 use Rattle.arrival.specs.Arrive.{Held, World, Decision, accepts, bufferOf, standing, afterScreening, wipedIf, preparedAt, pagedAt, atOf, doneTo, acceptOf, unchanged, done, receiveOf}
@@ -54,7 +54,7 @@ refusals-change-nothing s w a n = stayed s w a (payloadOf a) (decision-facts s w
 
 -- ---- what an accepted block leaves of the buffers
 
-module _ (s : Settings) (w : World) (a : List ℕ) (g : Placed) (k : Accepted) (q : Passing s w a g) (B : Board s w) where
+module _ (s : Settings) (w : World) (a : List ℕ) (g : PlacedBlock) (k : Accepted) (q : Passing s w a g) (B : Board s w) where
   -- flash and RAM, with the maps cleared where the block opens a transfer
   abbrev pub before : Held
   before = wipedIf (k .clears) (w .held)

@@ -33,7 +33,7 @@ use Rattle.screen.proofs.Laws.{found-comment}
 use Rattle.screen.specs.declared.Lengths.{Lengths}
 use Rattle.screen.specs.declared.Rooms.{Rooms}
 use Rattle.screen.specs.declared.Screening.{Screening}
-use Rattle.screen.specs.declared.Placed.{Placed}
+use Rattle.screen.specs.declared.PlacedBlock.{PlacedBlock}
 use Rattle.screen.specs.declared.Body.the-variants.{Note}
 use Rattle.arrival.specs.Arrive.{Held, World, Decision, bufferOf, accepts, standing, decide, decided, clearedIf, wipedIf, atOf, acceptOf, done, receiveOf}
 use Rattle.arrival.specs.Lists.{receiveAll}
@@ -102,7 +102,7 @@ raised-room t g m d k good some q =
         ltb-true (r .count) (r .head .total) (and-right a b (and-left (a && b) (leb (r .head .total) 131072) e))
 
 -- an accepted block that does e, which is not to store
-pub unstored : (s : Settings) (w : World) (a : List ℕ) (e : Deed) (g : Placed) (k : Accepted) → Passing s w a g → Board s w
+pub unstored : (s : Settings) (w : World) (a : List ℕ) (e : Deed) (g : PlacedBlock) (k : Accepted) → Passing s w a g → Board s w
     → AcceptFacts (w .transfer) (g .head) (markedIn (w .seen) (g .number)) (deedAt s w a g) k → deedAt s w a g ≡ e → e ≢ Stores
     → Unstored (numberOf (deedAnswer e)) w a (done w (payloadOf a) (accepts g (deedAt s w a g) k))
 unfolding done acceptOf

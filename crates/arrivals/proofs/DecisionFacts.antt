@@ -28,7 +28,7 @@ use Rattle.transfer.specs.declared.Answer.{Answer}
 use Rattle.transfer.specs.declared.Answer.the-variants.{BadBuffers, BadSettings, BadState}
 use Rattle.screen.specs.Screen.{screenOf}
 use Rattle.screen.specs.declared.Lengths.{Lengths}
-use Rattle.screen.specs.declared.Placed.{Placed}
+use Rattle.screen.specs.declared.PlacedBlock.{PlacedBlock}
 use Rattle.screen.specs.declared.Screening.{Screening}
 use Rattle.screen.specs.declared.Screening.the-variants.{Refused, Passed}
 use Rattle.arrival.specs.Arrive.{World, Decision, outcomeNumber, done, stays, accepts, ramLength, rightLengths, standing, deedOf, stepped, afterScreening, decide, decided}
@@ -113,7 +113,7 @@ raised-number d g c = split (ltb c (g .total)) (λ y. rw y (least d)) (λ z. rw 
     least Keeps = omega arith
 
 -- a block that passes is answered 12 or more
-pub step-late : (w : World) (p : List ℕ) (g : Placed) (d : Deed) (t : State) (b : Bool) → 12 ≤ outcomeNumber (done w p (stepped g d (stepOf t (g .head) b d)))
+pub step-late : (w : World) (p : List ℕ) (g : PlacedBlock) (d : Deed) (t : State) (b : Bool) → 12 ≤ outcomeNumber (done w p (stepped g d (stepOf t (g .head) b d)))
 unfolding done stepOf accepted
 step-late w p g d Idle b = omega (arith, raised-number d (g .head) 1)
 step-late w p g d (Running r) b =
@@ -180,19 +180,19 @@ module _ {t : State} {g : Head} {m : Bool} {d : Deed} {k : Accepted} (q : Accept
 -- ---- every row
 
 -- what a block g does that the arrival passes as
-abbrev pub deedAt : Settings → World → List ℕ → Placed → Deed
+abbrev pub deedAt : Settings → World → List ℕ → PlacedBlock → Deed
 deedAt s w a g = deedOf (standing s (w .held .flash) a) g
 
 pub data DecisionFacts (s : Settings) (w : World) (a : List ℕ) : Decision → Type 0 where
   refused : (x : Answer) → numberOf x ≤ 13 → DecisionFacts s w a (stays x)
-  took : (g : Placed) (k : Accepted) → Board s w → length a ≡ 512 → Passing s w a g
+  took : (g : PlacedBlock) (k : Accepted) → Board s w → length a ≡ 512 → Passing s w a g
       → AcceptFacts (w .transfer) (g .head) (markedIn (w .seen) (g .number)) (deedAt s w a g) k
       → DecisionFacts s w a (accepts g (deedAt s w a g) k)
 
 pub decision-facts : (s : Settings) (w : World) (a : List ℕ) → DecisionFacts s w a (decided s w a)
 decision-facts s w a = go (rows s w a)
   where
-    steps : Board s w → length a ≡ 512 → (g : Placed) → Passing s w a g → (st : Step)
+    steps : Board s w → length a ≡ 512 → (g : PlacedBlock) → Passing s w a g → (st : Step)
         → StepFacts (w .transfer) (g .head) (markedIn (w .seen) (g .number)) (deedAt s w a g) st
         → DecisionFacts s w a (stepped g (deedAt s w a g) st)
     steps B l g p (Stays x) h = refused (x .answer) h
@@ -211,7 +211,7 @@ decision-facts s w a = go (rows s w a)
 
 -- ---- whether what the arrival would store stands is asked of a page alone
 
-pub decide-same : (s : Settings) (w : World) (a : List ℕ) (b c : Bool) → ((g : Placed) → Passing s w a g → deedOf b g ≡ deedOf c g)
+pub decide-same : (s : Settings) (w : World) (a : List ℕ) (b c : Bool) → ((g : PlacedBlock) → Passing s w a g → deedOf b g ≡ deedOf c g)
     → decide s (lens w) (length (w .held .sectors)) (w .transfer) (w .seen) b a ≡ decide s (lens w) (length (w .held .sectors)) (w .transfer) (w .seen) c a
 unfolding decide
 decide-same s w a b c e = rw (same (screenOf s (lens w) (w .transfer) a) (screen-good s w a))

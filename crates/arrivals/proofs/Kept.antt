@@ -36,7 +36,7 @@ use Rattle.screen.specs.Screen.{screenOf}
 use Rattle.screen.specs.declared.Lengths.{Lengths}
 use Rattle.screen.specs.declared.Body.{Body}
 use Rattle.screen.specs.declared.Body.the-variants.{Page, Note}
-use Rattle.screen.specs.declared.Placed.{Placed}
+use Rattle.screen.specs.declared.PlacedBlock.{PlacedBlock}
 use Rattle.screen.specs.declared.Screening.{Screening}
 use Rattle.screen.specs.declared.Screening.the-variants.{Refused, Passed}
 use Rattle.arrival.specs.Arrive.{World, Decision, stays, rightLengths, standsAt, standing, bodyDeed, deedOf, stepped, afterScreening, decide, decided, clearedIf, acceptOf, done, receiveOf}
@@ -94,7 +94,7 @@ module _ (v w : World) (p : List ℕ) (transfers : v .transfer ≡ w .transfer) 
   unfolding done
   agree-stays x = record { answer = refl; discarded = refl; transfer = transfers; seen = maps }
 
-  agree-steps : (g : Placed) (d e : Deed) (x y : Step) → Like x y → Agree (done v p (stepped g d x)) (done w p (stepped g e y))
+  agree-steps : (g : PlacedBlock) (d e : Deed) (x y : Step) → Like x y → Agree (done v p (stepped g d x)) (done w p (stepped g e y))
   unfolding done acceptOf
   agree-steps g d e (Stays x) (Stays y) h =
       record { answer = ap (λ u. soft (u .answer)) h; discarded = refl; transfer = transfers; seen = maps }
@@ -232,7 +232,7 @@ else-as-before s w a n m =
     k : Bool
     k = sameKind (kindOf w a) Flash
 
-    same : (g : Placed) → Passing s w a g → deedOf b g ≡ deedOf c g
+    same : (g : PlacedBlock) → Passing s w a g → deedOf b g ≡ deedOf c g
     same g p = passing-deed s w a g p b ∙ alike ∙ sym (passing-deed s w a g p c)
       where
         alike : cond (hasFlag a 0x1) Notes (cond (k && b) Keeps Stores) ≡ cond (hasFlag a 0x1) Notes (cond (k && c) Keeps Stores)

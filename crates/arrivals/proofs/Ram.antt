@@ -15,7 +15,7 @@ use Rattle.transfer.specs.Transfer.{numberOf, sameKind}
 use Rattle.transfer.specs.declared.Kind.{Kind}
 use Rattle.transfer.specs.declared.Kind.the-variants.{Flash, MainRam, XipRam}
 use Rattle.transfer.specs.declared.Accepted.{Accepted}
-use Rattle.screen.specs.declared.Placed.{Placed}
+use Rattle.screen.specs.declared.PlacedBlock.{PlacedBlock}
 use Rattle.arrival.specs.Arrive.{Held, World, Decision, bufferOf, accepts, clearedIf, wipedIf, done, receiveOf}
 use Rattle.arrival.specs.File.{originOf}
 use Rattle.arrival.specs.Windows.{windowStart, kindOf, headOf}
@@ -55,7 +55,7 @@ ram-origin s w Flash f n = absurd (n refl)
 ram-origin s w MainRam f n = refl
 ram-origin s w XipRam f n = refl
 
-module _ (s : Settings) (w : World) (a : List ℕ) (g : Placed) (c : Accepted) (q : Passing s w a g) (B : Board s w) (l : length a ≡ 512)
+module _ (s : Settings) (w : World) (a : List ℕ) (g : PlacedBlock) (c : Accepted) (q : Passing s w a g) (B : Board s w) (l : length a ≡ 512)
     (n : kindOf w a ≢ Flash) where
   start-zero : q .start ≡ 0
   start-zero =

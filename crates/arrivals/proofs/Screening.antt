@@ -37,7 +37,7 @@ use Rattle.screen.specs.declared.Rooms.{Rooms}
 use Rattle.screen.specs.declared.Window.{Window}
 use Rattle.screen.specs.declared.Window.the-variants.{Outside, In}
 use Rattle.screen.specs.declared.Body.the-variants.{Page, Note}
-use Rattle.screen.specs.declared.Placed.{Placed}
+use Rattle.screen.specs.declared.PlacedBlock.{PlacedBlock}
 use Rattle.screen.specs.declared.Screening.{Screening}
 use Rattle.screen.specs.declared.Screening.the-variants.{Refused, Passed}
 use Rattle.arrival.specs.Arrive.{World, bufferOf, lengthsOf, ramLength, deedOf}
@@ -107,7 +107,7 @@ pub record Paging (a : List ℕ) (k : Kind) (size : ℕ) : Type 0 where
   pub ends : fieldAt a 12 - windowStart k + 256 ≤ size
 
 -- g is what an arrival a of kind k comes to that passes rows 4 to 11
-pub record PassingAs (s : Settings) (w : World) (a : List ℕ) (g : Placed) (k : Kind) : Type 0 where
+pub record PassingAs (s : Settings) (w : World) (a : List ℕ) (g : PlacedBlock) (k : Kind) : Type 0 where
   pub start : ℕ
   pub size : ℕ
   pub place : roomIn (roomsFor s w a) k ≡ At start size
@@ -120,7 +120,7 @@ pub record PassingAs (s : Settings) (w : World) (a : List ℕ) (g : Placed) (k :
   pub room : fieldAt a 24 * 256 ≤ size
 
 -- of the kind that it has where it comes
-abbrev pub Passing : Settings → World → List ℕ → Placed → Type 0
+abbrev pub Passing : Settings → World → List ℕ → PlacedBlock → Type 0
 Passing s w a g = PassingAs s w a g (kindOf w a)
 
 abbrev pub Good : Settings → World → List ℕ → Screening → Type 0
@@ -329,7 +329,7 @@ module _ (s : Settings) (w : World) (B : Board s w) (f : ℕ) where
 
 -- ---- with rows 1 to 3 passed
 
-module _ (s : Settings) (w : World) (a : List ℕ) (g : Placed) (p : Passing s w a g) (B : Board s w) where
+module _ (s : Settings) (w : World) (a : List ℕ) (g : PlacedBlock) (p : Passing s w a g) (B : Board s w) where
   pub passing-room : Room w (kindOf w a) (p .start) (p .size)
   passing-room = room-of s w B (fieldAt a 28) (kindOf w a) (p .start) (p .size) (p .place) (p .lent)
 
@@ -367,7 +367,7 @@ module _ (s : Settings) (w : World) (a : List ℕ) (g : Placed) (p : Passing s w
   passing-note y = p .body ∙ rw y
 
 -- what it does once it is accepted, where what it would store stands or not
-pub passing-deed : (s : Settings) (w : World) (a : List ℕ) (g : Placed) → Passing s w a g → (b : Bool)
+pub passing-deed : (s : Settings) (w : World) (a : List ℕ) (g : PlacedBlock) → Passing s w a g → (b : Bool)
     → deedOf b g ≡ cond (hasFlag a 0x1) Notes (cond (sameKind (kindOf w a) Flash && b) Keeps Stores)
 passing-deed s w a g p b =
     let e : g .head .kind ≡ kindOf w a = ap (λ (h : Head). h .kind) (p .head) in

@@ -15,7 +15,7 @@ use Rattle.transfer.specs.declared.Kind.{Kind}
 use Rattle.transfer.specs.declared.Deed.{Deed}
 use Rattle.transfer.specs.declared.Deed.the-variants.{Stores, Notes, Keeps}
 use Rattle.transfer.specs.declared.Accepted.{Accepted}
-use Rattle.screen.specs.declared.Placed.{Placed}
+use Rattle.screen.specs.declared.PlacedBlock.{PlacedBlock}
 use Rattle.arrival.specs.Arrive.{World, Outcome, bufferOf, accepts, decided, clearedIf, wipedIf, receiveOf}
 use Rattle.arrival.specs.Lists.{receiveAll}
 use Rattle.arrival.specs.Windows.{headOf}
@@ -31,13 +31,13 @@ isNoted Keeps = false
 -- an accepted block is noted exactly if its flag 0x1 is set
 unfoldable pub Comments-note : Type 0
 Comments-note =
-    (s : Settings) (w : World) (a : List ℕ) (p : Placed) (d : Deed) (t : Accepted) → decided s w a ≡ accepts p d t
+    (s : Settings) (w : World) (a : List ℕ) (p : PlacedBlock) (d : Deed) (t : Accepted) → decided s w a ≡ accepts p d t
     → isNoted d ≡ hasFlag a 0x1
 
 -- what stores nothing "sets no flash byte or sector mark", and the maps are cleared first "as 01 says"; what is kept, too (02, L9: "store nothing")
 unfoldable pub Nothing-stored : Type 0
 Nothing-stored =
-    (s : Settings) (w : World) (a : List ℕ) (p : Placed) (d : Deed) (t : Accepted) → decided s w a ≡ accepts p d t → d ≢ Stores
+    (s : Settings) (w : World) (a : List ℕ) (p : PlacedBlock) (d : Deed) (t : Accepted) → decided s w a ≡ accepts p d t → d ≢ Stores
     → receiveOf s w a .world .held ≡ wipedIf (t .clears) (w .held)
 
 -- ---- of what arrives and what is left

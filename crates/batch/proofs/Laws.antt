@@ -21,7 +21,7 @@ use Rattle.receiver.proofs.KnownLaws.{known-is}
 use Rattle.results.specs.Results.{resultOf, isAcceptance}
 use Rattle.opening.specs.Opening.{lensOf}
 use Rattle.judged.specs.declared.FamilyRooms.{FamilyRooms}
-use Rattle.judged.specs.declared.Judged.{Judged}
+use Rattle.judged.specs.declared.Judgement.{Judgement}
 use Rattle.judged.specs.Judged.{roomsAt, roomsNext, judgedOf}
 use Rattle.judged.proofs.Laws.{next-is}
 use Rattle.batch.specs.declared.Batch.{Batch}
@@ -73,8 +73,8 @@ stays-first : (s : Settings) (g : Lent) {right good : Bool} → Judges s g right
 stays-first s g q = record { lengths = (refl, refl, refl, refl, refl); judged = q }
 
 -- as they are judged first
-pub stays-judged : (s : Settings) (g : Lent) (f : ℕ) {j : Judged} → j ≡ judgedOf s (lensOf g) (length (g .seen)) (length (g .sectors)) f → Stays s g (j .right) (j .good) g
-stays-judged s g f e = stays-first s g (ap (λ (j : Judged). j .right) e, ap (λ (j : Judged). j .good) e)
+pub stays-judged : (s : Settings) (g : Lent) (f : ℕ) {j : Judgement} → j ≡ judgedOf s (lensOf g) (length (g .seen)) (length (g .sectors)) f → Stays s g (j .right) (j .good) g
+stays-judged s g f e = stays-first s g (ap (λ (j : Judgement). j .right) e, ap (λ (j : Judgement). j .good) e)
 
 pub stays-on : (s : Settings) (g h k : Lent) {right good : Bool} → Stays s g right good h → SameLengths k h → Stays s g right good k
 stays-on s g h k q e =

@@ -13,7 +13,7 @@ use Rattle.arrival.specs.Arrive.{Lent, receiveOf, lookOf}
 use Rattle.plan.specs.Plan.{Accepting, acceptingOf}
 use Rattle.receipts.specs.declared.Receipt.{Receipt}
 use Rattle.looking.specs.declared.Preview.{Preview}
-use Rattle.receipts.specs.declared.Planned.{Planned}
+use Rattle.receipts.specs.declared.PlanReceipt.{PlanReceipt}
 use Rattle.looking.specs.Looking.{previewed}
 use Rattle.receiver.specs.Receiver.{world, outcome, accepting}
 use Rattle.layout.specs.Layout.{settingsFrom, transferFrom}
@@ -55,7 +55,7 @@ module _ (s t a : List ℕ) (h : Lent) where
     unfolding acceptBytes
     accept-short n = simp (ne-eqb (length p) 12 n)
 
-    pub accept-ran : {z : Settings} {u : Transfer} {r : Planned} {g : Lent} {v q : List ℕ} {y : ℕ} {b : Bool} → length p ≡ 12 → z ≡ settingsFrom s → u ≡ transferFrom t → accepting r g ≡ acceptingOf z (world u h) a → b ≡ isAcceptance (numberOf (r .receipt .answer)) → v ≡ keptTransfer t b (r .receipt .transfer .state) → y ≡ resultOf (numberOf (r .receipt .answer)) (r .receipt .discarded) → q ≡ planBytes (r .plan) → plannedCall y v g q ≡ acceptBytes s t a h p
+    pub accept-ran : {z : Settings} {u : Transfer} {r : PlanReceipt} {g : Lent} {v q : List ℕ} {y : ℕ} {b : Bool} → length p ≡ 12 → z ≡ settingsFrom s → u ≡ transferFrom t → accepting r g ≡ acceptingOf z (world u h) a → b ≡ isAcceptance (numberOf (r .receipt .answer)) → v ≡ keptTransfer t b (r .receipt .transfer .state) → y ≡ resultOf (numberOf (r .receipt .answer)) (r .receipt .discarded) → q ≡ planBytes (r .plan) → plannedCall y v g q ≡ acceptBytes s t a h p
     unfolding acceptBytes
     accept-ran {u = u} l hz hu ho hb hv hy hq =
         let e =

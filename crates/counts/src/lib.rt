@@ -21,7 +21,7 @@ pub struct Report {
 }
 
 // The most records of a report.
-const MOST: usize = 4294967295;
+const MAX: usize = 4294967295;
 
 // ---- a report
 
@@ -73,7 +73,7 @@ pub fn is_good(report: Report) -> bool
 pub fn has_room(report: Report, pieces: usize) -> bool
     ensures { λ r. ⌜ r ≡ withRoom report pieces ⌝ }
 {
-    pieces <= MOST - report.records as usize
+    pieces <= MAX - report.records as usize
 }
 
 // ---- a tally added

@@ -14,8 +14,8 @@ use Rattle.grammar.specs.declared.Answer.{Answer}
 use Rattle.hexwrite.specs.Put.{putLines}
 use Rattle.hexwrite.proofs.Lines.{put-none}
 use Rattle.plain.specs.declared.Plain.{Plain}
-use Rattle.plain.specs.declared.Taken.{Taken}
-use Rattle.plain.specs.declared.Taken.the-variants.{Refused, Passed, Data}
+use Rattle.plain.specs.declared.LineReading.{LineReading}
+use Rattle.plain.specs.declared.LineReading.the-variants.{Refused, Passed, Data}
 use Rattle.plain.specs.Line.{lineTaken, takenOf}
 use Rattle.plain.specs.File.{goesOn, nextOf, badOf, givesOf}
 use Rattle.plain.proofs.Moves.{data-near}
@@ -29,7 +29,7 @@ use Rattle.datalines.specs.Lines.{upperOf}
 use Rattle.datalines.proofs.Tallied.{piece-most}
 use Rattle.datalines.specs.Scan.{scan, linePieces, stepOf}
 
-pub is-taken : (p : Plain) (l : List ℕ) {x : Line} {w : ℕ} {t u : Taken} → x ≡ readOf l → w ≡ wordFrom (getD (x .«data») 0 0) (getD (x .«data») 1 0)
+pub is-taken : (p : Plain) (l : List ℕ) {x : Line} {w : ℕ} {t u : LineReading} → x ≡ readOf l → w ≡ wordFrom (getD (x .«data») 0 0) (getD (x .«data») 1 0)
     → t ≡ lineTaken p (length l) (x .parsed) w → t ≡ u → takenOf p l ≡ u
 unfolding takenOf
 is-taken p l {x} {w} {t} {u} e f g h =
@@ -81,7 +81,7 @@ split-most t s h =
     (λ y. rw y (omega arith))
     (λ n. rw n (omega (arith, piece-most t (upperOf s) (length d) h)))
 
-pieces-most : (p : Plain) (l : List ℕ) (t : Tally) (x : Taken) → takenOf p l ≡ x → tallyAll t (splitAll (givesOf l x)) .len ≤ t .len + 184
+pieces-most : (p : Plain) (l : List ℕ) (t : Tally) (x : LineReading) → takenOf p l ≡ x → tallyAll t (splitAll (givesOf l x)) .len ≤ t .len + 184
 unfolding splitAll tallyAll
 pieces-most p l t (Refused a) e = omega arith
 pieces-most p l t (Passed q) e = omega arith

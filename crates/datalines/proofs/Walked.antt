@@ -16,8 +16,8 @@ use Rattle.grammar.specs.declared.Answer.{Answer}
 use Rattle.hexwrite.specs.Put.{putLines}
 use Rattle.hexwrite.proofs.Lines.{put-none, put-past}
 use Rattle.plain.specs.declared.Plain.{Plain}
-use Rattle.plain.specs.declared.Taken.{Taken}
-use Rattle.plain.specs.declared.Taken.the-variants.{Refused, Passed, Data}
+use Rattle.plain.specs.declared.LineReading.{LineReading}
+use Rattle.plain.specs.declared.LineReading.the-variants.{Refused, Passed, Data}
 use Rattle.plain.specs.declared.Verdict.{Verdict}
 use Rattle.plain.specs.declared.Verdict.the-variants.{Fine, Bad}
 use Rattle.plain.specs.Line.{freshPlain, takenOf}
@@ -93,7 +93,7 @@ no-line : (l : List ℕ) → l ≡ [] → linesOf l ≡ []
 unfolding linesOf
 no-line l e = rw e refl
 
-no-pieces : (p : Plain) (l : List ℕ) (x : Taken) → takenOf p l ≡ x → goesOn x ≡ false → linePieces p l ≡ []
+no-pieces : (p : Plain) (l : List ℕ) (x : LineReading) → takenOf p l ≡ x → goesOn x ≡ false → linePieces p l ≡ []
 unfolding linePieces splitAll
 no-pieces p l (Refused a) e n = rw e refl
 no-pieces p l (Passed q) e n = clash true refl n

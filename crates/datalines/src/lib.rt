@@ -11,8 +11,8 @@ ghost use Rattle.datalines.specs.Tally.{freshTally, changes, tallyPiece,
 ghost use Rattle.datalines.specs.Scan.{bodyOf, scan, linePieces, stepOf, stopOf, Walk};
 ghost use Rattle.datalines.specs.declared.Step.the-variants.{On};
 use grammar::Answer;
+use plain::LineReading;
 use plain::Plain;
-use plain::Taken;
 use plain::Verdict;
 use record::Record;
 
@@ -180,9 +180,9 @@ fn put_line(out: &mut [u8], at: usize, state: Scan, kind: u8, line: &[u8]) -> St
     let word = record::word(data[0], data[1]);
     let taken = plainline::line(plain, line.len(), parsed, word);
     match taken {
-        Taken::Refused(answer) => Step::Stop(answer),
-        Taken::Passed(next) => Step::On(Scan { plain: next, tally }),
-        Taken::Data(next, address, len) => {
+        LineReading::Refused(answer) => Step::Stop(answer),
+        LineReading::Passed(next) => Step::On(Scan { plain: next, tally }),
+        LineReading::Data(next, address, len) => {
             let n = len as usize;
             put_taken(out, at, next, tally, kind, address, &data[..n])
         }

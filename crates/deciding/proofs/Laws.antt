@@ -10,7 +10,7 @@ use Rattle.transfer.specs.declared.Answer.{Answer}
 use Rattle.transfer.specs.declared.Answer.the-variants.{BadBuffers, BadSettings, BadState}
 use Rattle.screen.specs.Screen.{screenAt}
 use Rattle.screen.specs.declared.Lengths.{Lengths}
-use Rattle.screen.specs.declared.Placed.{Placed}
+use Rattle.screen.specs.declared.PlacedBlock.{PlacedBlock}
 use Rattle.screen.specs.declared.Screening.{Screening}
 use Rattle.screen.specs.declared.Screening.the-variants.{Refused, Passed}
 use Rattle.arrival.specs.Arrive.{Lent, Decision, lengthsOf, standsAt, afterScreening, stays}
@@ -25,7 +25,7 @@ module _ (t : State) (seen : List ℕ) (kept : Bool) {c : Screening} where
   unfolding afterScreening
   screened-refused q = rw q
 
-  pub screened-passed : {p : Placed} → c ≡ Passed p → {d : Decision} → d ≡ afterScreening t seen kept (Passed p) → d ≡ afterScreening t seen kept c
+  pub screened-passed : {p : PlacedBlock} → c ≡ Passed p → {d : Decision} → d ≡ afterScreening t seen kept (Passed p) → d ≡ afterScreening t seen kept c
   screened-passed q y = rw q y
 
 -- ---- every row

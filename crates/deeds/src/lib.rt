@@ -6,7 +6,7 @@ ghost use Rattle.arrival.specs.Arrive.{standsAt, deedOf};
 ghost use Rattle.deeds.specs.Deeds.{pageDeed};
 use place::Place;
 use screen::Body;
-use screen::Placed;
+use screen::PlacedBlock;
 use transfer::Deed;
 use transfer::Kind;
 
@@ -48,7 +48,7 @@ fn page_deed(kind: Kind, place: Place, flash: &[u8], arrival: &[u8]) -> Deed
 }
 
 // What a block does once it is accepted, where `place` is its family's.
-pub fn deed_of(placed: Placed, place: Place, flash: &[u8], arrival: &[u8]) -> Deed
+pub fn deed_of(placed: PlacedBlock, place: Place, flash: &[u8], arrival: &[u8]) -> Deed
     ensures { λ r. ⌜ r ≡ deedOf (standsAt (now (flash .entry)) place (now (arrival .entry))) placed ⌝ }
 {
     let named = placed.head;

@@ -25,7 +25,7 @@ use Rattle.transfer.specs.declared.State.the-variants.{Idle}
 use Rattle.screen.specs.Screen.{noteKind, roomsOf, roomIn, screenOf}
 use Rattle.screen.specs.declared.Lengths.{Lengths}
 use Rattle.screen.specs.declared.Body.the-variants.{Page}
-use Rattle.screen.specs.declared.Placed.{Placed}
+use Rattle.screen.specs.declared.PlacedBlock.{PlacedBlock}
 use Rattle.screen.specs.declared.Screening.{Screening}
 use Rattle.screen.specs.declared.Screening.the-variants.{Refused, Passed}
 use Rattle.arrival.specs.Arrive.{World, Outcome, bufferOf, standing, deedOf, unchanged, done, receiveOf}
@@ -80,7 +80,7 @@ module _ (s : Settings) (w : World) (F : File) (idle : w .transfer ≡ Idle) (ok
   first a l (Passed g) e = rw (receive-passed s w a board l g e) (unfold arrive stepOf done accepted in rw idle (raised-number (deedOf (standing s (w .held .flash) a) g) (g .head) 1))
 
   -- a block of the file passes
-  passed : (k : ℕ) → k < F .total → (g : Placed) × (screenOf s (lens w) (w .transfer) (F .block k) ≡ Passed g) × Passing s w (F .block k) g
+  passed : (k : ℕ) → k < F .total → (g : PlacedBlock) × (screenOf s (lens w) (w .transfer) (F .block k) ≡ Passed g) × Passing s w (F .block k) g
   passed k h = go (screenOf s (lens w) (w .transfer) a) refl (screen-good s w a)
     where
       a : List ℕ
@@ -90,7 +90,7 @@ module _ (s : Settings) (w : World) (F : File) (idle : w .transfer ≡ Idle) (ok
       l = earned s w a (omega (arith, ok .passes k h)) .1
 
       go : (x : Screening) → screenOf s (lens w) (w .transfer) a ≡ x → Good s w a x
-          → (g : Placed) × (screenOf s (lens w) (w .transfer) a ≡ Passed g) × Passing s w a g
+          → (g : PlacedBlock) × (screenOf s (lens w) (w .transfer) a ≡ Passed g) × Passing s w a g
       go (Refused x) e n = absurd (omega (arith, n, ok .passes k h, ap numberOf (first a l (Refused x) e)))
       go (Passed g) e n = (g, e, n)
 

@@ -14,7 +14,7 @@ use Rattle.transfer.specs.declared.Head.{Head}
 use Rattle.transfer.specs.declared.Answer.{Answer}
 use Rattle.screen.specs.Screen.{screenOf}
 use Rattle.screen.specs.declared.Lengths.{Lengths}
-use Rattle.screen.specs.declared.Placed.{Placed}
+use Rattle.screen.specs.declared.PlacedBlock.{PlacedBlock}
 use Rattle.screen.specs.declared.Screening.the-variants.{Refused, Passed}
 use Rattle.arrival.specs.Arrive.{World, Decision, ramLength, standing, afterScreening, acceptOf, unchanged, done, receiveOf}
 use Rattle.arrival.specs.Facts.{Arrivals-keep-lengths}
@@ -34,7 +34,7 @@ module _ (s : Settings) (w : World) (a : List ℕ) (B : Board s w) (l : length a
       ap (done w (payloadOf a)) (board-decides s w a B l ∙ ap (afterScreening (w .transfer) (w .seen) (standing s (w .held .flash) a)) e)
       ∙ unfold afterScreening done in refl
 
-  pub receive-passed : (p : Placed) → screenOf s (lens w) (w .transfer) a ≡ Passed p → receiveOf s w a ≡ arrive w (standing s (w .held .flash) a) p a
+  pub receive-passed : (p : PlacedBlock) → screenOf s (lens w) (w .transfer) a ≡ Passed p → receiveOf s w a ≡ arrive w (standing s (w .held .flash) a) p a
   unfolding receiveOf
   receive-passed p e =
       ap (done w (payloadOf a)) (board-decides s w a B l ∙ ap (afterScreening (w .transfer) (w .seen) (standing s (w .held .flash) a)) e)

@@ -8,7 +8,7 @@ use Rattle.transfer.specs.declared.Kind.the-variants.{Flash, MainRam, XipRam}
 use Rattle.transfer.specs.declared.Deed.{Deed}
 use Rattle.transfer.specs.declared.Deed.the-variants.{Stores, Notes, Keeps}
 use Rattle.transfer.specs.declared.Accepted.{Accepted}
-use Rattle.screen.specs.declared.Placed.{Placed}
+use Rattle.screen.specs.declared.PlacedBlock.{PlacedBlock}
 use Rattle.arrival.specs.Arrive.{Held, World, accepts, clearedIf, wipedIf, pagedAt, atOf, doneTo, acceptOf}
 use Rattle.plan.specs.declared.Plan.{Plan}
 use Rattle.plan.specs.Plan.{deedPlan, decisionPlan, withFlash}
@@ -16,7 +16,7 @@ use Rattle.entering.specs.Entering.{Beside, beside, besideOf, Writing, w
 
 -- ---- what the code writes, call by call
 
-pub enters : (p : Placed) (d : Deed) (t : Accepted) (payload m k u x : List ℕ) {at : ℕ} {k1 m1 m2 : List ℕ} {r : Plan} {h : Beside} → at ≡ atOf (p .body) → (m1 ≡ clearedIf (t .clears) m) × (k1 ≡ clearedIf (t .clears) k) → writing r h ≡ deedWriting d (p .head .kind) at payload (beside k1 u x) → m2 ≡ withMark m1 (p .number) → entering r m2 h ≡ enteringOf p d t payload m (beside k u x)
+pub enters : (p : PlacedBlock) (d : Deed) (t : Accepted) (payload m k u x : List ℕ) {at : ℕ} {k1 m1 m2 : List ℕ} {r : Plan} {h : Beside} → at ≡ atOf (p .body) → (m1 ≡ clearedIf (t .clears) m) × (k1 ≡ clearedIf (t .clears) k) → writing r h ≡ deedWriting d (p .head .kind) at payload (beside k1 u x) → m2 ≡ withMark m1 (p .number) → entering r m2 h ≡ enteringOf p d t payload m (beside k u x)
 unfolding enteringOf
 enters p d t payload m k u x at (cleared, wiped) written marked = cc
 
@@ -31,7 +31,7 @@ deed-writes Stores XipRam at p h = refl
 deed-writes Notes kind at p h = refl
 deed-writes Keeps kind at p h = refl
 
-module _ (p : Placed) (d : Deed) (t : Accepted) (payload : List ℕ) (w : World) where
+module _ (p : PlacedBlock) (d : Deed) (t : Accepted) (payload : List ℕ) (w : World) where
   entering-is : enteringOf p d t payload (w .seen) (besideOf (w .held)) ≡ entering (decisionPlan (accepts p d t) (w .held .sectors)) (acceptOf w payload p d t .seen) (besideOf (acceptOf w payload p d t .held))
   unfolding acceptOf wipedIf enteringOf
   entering-is =

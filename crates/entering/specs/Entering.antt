@@ -4,7 +4,7 @@ use mathlib.Core.List.{List}
 use Rattle.bitmap.specs.Bitmap.{withMark}
 use Rattle.transfer.specs.declared.Deed.{Deed}
 use Rattle.transfer.specs.declared.Accepted.{Accepted}
-use Rattle.screen.specs.declared.Placed.{Placed}
+use Rattle.screen.specs.declared.PlacedBlock.{PlacedBlock}
 use Rattle.arrival.specs.Arrive.{Held, clearedIf, atOf}
 use Rattle.plan.specs.declared.Plan.{Plan}
 pub use Rattle.pages.specs.Pages.{Beside, beside, besideAt, besideLeft, Writing, writing, deedWriting}
@@ -18,7 +18,7 @@ abbrev pub entering : Plan → List ℕ → Beside → Entering
 entering r m h = record { writing = writing r h; seen = m }
 
 -- a block that is accepted; m is the seen map as it is lent
-unfoldable pub enteringOf : Placed → Deed → Accepted → List ℕ → List ℕ → Beside → Entering
+unfoldable pub enteringOf : PlacedBlock → Deed → Accepted → List ℕ → List ℕ → Beside → Entering
 enteringOf p d t payload m h =
     record {
       writing =

@@ -5,7 +5,7 @@ ghost use Rattle.arrival.specs.Arrive.{atOf};
 ghost use Rattle.entering.specs.Entering.{besideAt, besideLeft, entering, enteringOf};
 use plan::Plan;
 use screen::Body;
-use screen::Placed;
+use screen::PlacedBlock;
 use transfer::Accepted;
 use transfer::Deed;
 
@@ -21,7 +21,7 @@ fn page_at(body: Body) -> usize
 
 // Enters a block that is accepted into the maps, and a RAM block into RAM.
 pub fn enter(
-    placed: Placed,
+    placed: PlacedBlock,
     deed: Deed,
     accepted: Accepted,
     arrival: &[u8],

@@ -20,7 +20,7 @@ use Rattle.faults.specs.declared.Fault.{Fault}
 use Rattle.faults.specs.declared.Fault.the-variants.{ArchOff, CountOver, NoSectors, PastFlash, Shares, LinksUp, LinksToB, ManyUsers, ReservedUser}
 use Rattle.faults.specs.declared.Finding.{Finding}
 use Rattle.faults.specs.declared.Finding.the-variants.{Sound, Bad}
-use Rattle.faults.specs.declared.Tested.{Tested}
+use Rattle.faults.specs.declared.Comparison.{Comparison}
 use Rattle.faults.specs.Faults.{faultIn, each, sharing, conditionAt, conditionFor, faultsOf, badIf, firstIn, firstShared, firstFault, firstReserved, testedOf}
 
 -- ---- the first user family that is reserved
@@ -114,7 +114,7 @@ module _ (table : List Entry) (k : ℕ) where
 
 -- ---- the numbers of a fault that is known
 
-pub tested-as : (s : Settings) (len : ℕ) {x y : Fault} {t : Tested} → x ≡ y → t ≡ testedOf s len y → t ≡ testedOf s len x
+pub tested-as : (s : Settings) (len : ℕ) {x y : Fault} {t : Comparison} → x ≡ y → t ≡ testedOf s len y → t ≡ testedOf s len x
 tested-as s len h e = e ∙ ap (testedOf s len) (sym h)
 
 -- ---- the first of several lists

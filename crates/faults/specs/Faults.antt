@@ -34,7 +34,7 @@ use Rattle.faults.specs.declared.Fault.{Fault}
 use Rattle.faults.specs.declared.Fault.the-variants.{ArchOff, CountOver, NoSectors, PastFlash, Shares, LinksUp, LinksToB, ManyUsers, ReservedUser}
 use Rattle.faults.specs.declared.Finding.{Finding}
 use Rattle.faults.specs.declared.Finding.the-variants.{Sound, Bad}
-use Rattle.faults.specs.declared.Tested.{Tested}
+use Rattle.faults.specs.declared.Comparison.{Comparison}
 
 -- ---- what each fault says
 
@@ -145,11 +145,11 @@ firstReserved e =
 abbrev pub endOf : Entry → ℕ
 endOf e = (e .first + e .sectors) * 4096
 
-abbrev pub told : ℕ → ℕ → Tested
+abbrev pub told : ℕ → ℕ → Comparison
 told g a = record { got = g; against = a }
 
 -- the number tested, and what it is tested against
-abbrev pub testedOf : Settings → ℕ → Fault → Tested
+abbrev pub testedOf : Settings → ℕ → Fault → Comparison
 -- whether it is enabled, 1 or 0
 testedOf s len ArchOff = told (one (enabled s (s .current))) 0
 testedOf s len CountOver = told (s .count) 16

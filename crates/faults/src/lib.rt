@@ -27,7 +27,7 @@ pub enum Finding {
 }
 
 // The number that a fault tests, and what it is tested against.
-pub struct Tested {
+pub struct Comparison {
     pub got: u64,
     pub against: u64,
 }
@@ -109,10 +109,10 @@ fn bit(yes: bool) -> u64
     if yes { 1 } else { 0 }
 }
 
-fn tell(got: u64, against: u64) -> Tested
+fn tell(got: u64, against: u64) -> Comparison
     ensures { λ r. ⌜ r ≡ told got against ⌝ }
 {
-    Tested { got, against }
+    Comparison { got, against }
 }
 
 // Where an entry ends, in bytes.
@@ -123,7 +123,7 @@ fn end_of(e: Entry) -> u64
 }
 
 // The number that a fault tests, and what it is tested against.
-pub fn numbers(settings: Settings, flash_len: usize, fault: Fault) -> Tested
+pub fn numbers(settings: Settings, flash_len: usize, fault: Fault) -> Comparison
     ensures { λ r. ⌜ r ≡ testedOf settings «flash_len» fault ⌝ }
 {
     let current = settings.current;

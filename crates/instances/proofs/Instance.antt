@@ -19,7 +19,7 @@ use Rattle.block.specs.Block.{fieldAt, fieldsOf, flaggedOf, headerOf}
 use Rattle.settings.specs.Settings.{familyArmS, goodSettings}
 use Rattle.place.specs.Place.{placeOf, ramFamily}
 use Rattle.transfer.specs.Transfer.{goodState, counted, raised, accepted, stepOf}
-use Rattle.transfer.specs.declared.Kind.the-variants.{Flash, XipRam}
+use Rattle.transfer.specs.declared.Kind.the-variants.{Flash, MainRam, XipRam}
 use Rattle.transfer.specs.declared.Head.{Head}
 use Rattle.transfer.specs.declared.State.the-variants.{Done}
 use Rattle.screen.specs.Screen.{windowOf, noteKind, placed, strayed, noted, dataFound, noteFound, found, screenIn, screenOf}
@@ -32,7 +32,7 @@ use Rattle.demand.proofs.Demand.{list-ends}
 use Rattle.demands.proofs.Stopped.{stopped-then-good}
 use Rattle.boards.specs.Boards.{arrivalOf, commentOf, plain, headTo, armHead}
 use Rattle.boards.specs.Tables.{blockOfThree}
-use Rattle.instances.specs.Instance.{Met, file, start, arrivals, inOrder, Hypotheses-are-met, annotated, annotatedArrivals, annotatedInOrder, Met-with-a-comment, remarks, Met-by-comments-alone, ramBlock, ramFile, ramStart, ramArrivals, ramInOrder, Met-in-RAM, stopped, Met-by-a-stopped-transfer}
+use Rattle.instances.specs.Instance.{Met, file, start, arrivals, inOrder, Hypotheses-are-met, annotated, annotatedArrivals, annotatedInOrder, Met-with-a-comment, remarks, Met-by-comments-alone, ramBlock, ramFile, ramStart, ramArrivals, ramInOrder, Met-in-RAM, mainFile, mainStart, Met-in-main-RAM, stopped, Met-by-a-stopped-transfer}
 
 -- what holds of 0, 1 and 2 holds below 3
 three : (P : ℕ → Type 0) → P 0 → P 1 → P 2 → (k : ℕ) → k < 3 → P k
@@ -323,6 +323,43 @@ ram-done =
     let e : Ends plain ramStart ramFile (seenOf ramFile ramArrivals) (receiveAll plain ramStart ramArrivals) =
     unfold List-ends in list-ends plain ramStart ramFile (m .idle) (m .valid) ramArrivals (m .sent) (m .unguarded) in
     (e .counts .whole ram-whole, e .sector-map (omega (arith, ram-whole)))
+
+-- what holds of 0 holds below 1
+one : (P : ℕ → Type 0) → P 0 → (k : ℕ) → k < 1 → P k
+one P a zero h = a
+one P a (suc k) h = absurd (omega arith)
+
+main-number : (k : ℕ) → k < 1 → answerNumber plain mainStart (mainFile .block k) ≡ 15
+unfolding ramFamily many any flashLength payloadOf lowFirst numberIn fieldAt fieldsOf flaggedOf headerOf goodSettings placeOf goodState counted raised accepted stepOf windowOf noteKind placed strayed noted dataFound noteFound found screenIn screenOf rightLengths standsAt afterScreening decide done receiveOf
+main-number = one (λ k. answerNumber plain mainStart (mainFile .block k) ≡ 15) refl
+
+main-valid : ValidFile plain mainStart mainFile
+main-valid =
+    record {
+      some = omega arith;
+      numbers = unfold lowFirst numberIn fieldAt in one (λ k. fieldAt (mainFile .block k) 20 ≡ k) refl;
+      families = unfold lowFirst numberIn fieldAt in one (λ k. fieldAt (mainFile .block k) 28 ≡ familyArmS) refl;
+      totals = unfold lowFirst numberIn fieldAt in one (λ k. fieldAt (mainFile .block k) 24 ≡ 1) refl;
+      disjoint = λ i k j hi hk yi yk p q. omega arith;
+      kinds = unfold lowFirst numberIn fieldAt in one (λ k. isData mainFile k ≡ true → lies MainRam (addressOf mainFile k) ≡ true) (λ y. refl);
+      quiet = unfold lowFirst numberIn fieldAt in λ n. one (λ k. isData mainFile k ≡ true) refl;
+      passes = λ k h. omega (arith, main-number k h);
+    }
+
+main-whole : (howMany mainFile (seenOf mainFile (mainFile .block 0 ∷ mainFile .block 0 ∷ [])) ≡ 1) × (howMany mainFile (seenOf mainFile (mainFile .block 0 ∷ [])) ≡ 1)
+main-whole = unfold lowFirst size among sameBytes in (refl, refl)
+
+pub met-in-main-ram : Met-in-main-RAM
+unfolding Met-in-main-RAM
+met-in-main-ram =
+    record {
+      idle = refl;
+      valid = main-valid;
+      unguarded = λ k h. refl;
+      sent = own 0 (omega arith) (own 0 (omega arith) nothing);
+      sent-too = own 0 (omega arith) nothing;
+      same = both-whole mainFile (mainFile .block 0 ∷ mainFile .block 0 ∷ []) (mainFile .block 0 ∷ []) (main-whole .0) (main-whole .1);
+    }
 
 -- ---- a stopped update
 

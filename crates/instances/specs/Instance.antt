@@ -7,7 +7,7 @@ use mathlib.Core.List.{List, [], _∷_}
 use lib.Dec.{eqb}
 use lib.ListN.{replicate}
 use Rattle.settings.specs.Settings.{familyArmS}
-use Rattle.transfer.specs.declared.Kind.the-variants.{Flash, XipRam}
+use Rattle.transfer.specs.declared.Kind.the-variants.{Flash, MainRam, XipRam}
 use Rattle.transfer.specs.declared.State.the-variants.{Idle, Running}
 use Rattle.arrival.specs.Arrive.{World}
 use Rattle.demand.specs.Demand.{File, ValidFile, Sent, Mixed, seenOf, howMany, SameSet, Plain}
@@ -91,6 +91,23 @@ ramInOrder = ramBlock 0 ∷ ramBlock 1 ∷ ramBlock 2 ∷ []
 
 unfoldable pub Met-in-RAM : Type 0
 Met-in-RAM = Met ramStart ramFile ramArrivals ramInOrder
+
+-- one block, the last page of main RAM
+abbrev pub mainFile : File
+mainFile = record { total = 1; family = familyArmS; kind = MainRam; block = λ k. arrivalOf 0x20081f00 k 1 k }
+
+-- a board with flash and main RAM
+abbrev pub mainStart : World
+mainStart =
+    record {
+      transfer = Idle;
+      seen = start .seen;
+      held = record { flash = start .held .flash; sectors = start .held .sectors; main = replicate 532480 5; xip = [] };
+    }
+
+-- it comes twice, or once
+unfoldable pub Met-in-main-RAM : Type 0
+Met-in-main-RAM = Met mainStart mainFile (mainFile .block 0 ∷ mainFile .block 0 ∷ []) (mainFile .block 0 ∷ [])
 
 -- ---- a stopped update (02, L13)
 

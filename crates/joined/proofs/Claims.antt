@@ -28,7 +28,7 @@ use Rattle.wholefile.proofs.OneRecord.{answer-most, answer-least}
 use Rattle.plain.specs.declared.Verdict.{Verdict}
 use Rattle.plain.specs.declared.Verdict.the-variants.{Fine, Bad}
 use Rattle.plain.specs.File.{verdictOf}
-use Rattle.joiner.specs.declared.Joined.the-variants.{Written, Refused}
+use Rattle.joiner.specs.declared.JoinAnswer.the-variants.{Written, Refused}
 use Rattle.joiner.specs.declared.Refusal.{Refusal}
 use Rattle.datalines.specs.Pieces.{piecesOf}
 use Rattle.joiner.specs.Text.{fileLines, fileText}

@@ -25,8 +25,8 @@ use Rattle.datalines.specs.declared.Body.{Body}
 use Rattle.datalines.specs.Pieces.{piecesOf}
 use Rattle.datalines.specs.Lines.{firstUpper, dataLength}
 use Rattle.datalines.specs.Scan.{bodyOf}
-use Rattle.joiner.specs.declared.Joined.{Joined}
-use Rattle.joiner.specs.declared.Joined.the-variants.{Written, Refused}
+use Rattle.joiner.specs.declared.JoinAnswer.{JoinAnswer}
+use Rattle.joiner.specs.declared.JoinAnswer.the-variants.{Written, Refused}
 use Rattle.joiner.specs.Text.{sectionLines, sectionSize, fileLines, fileText}
 use Rattle.joiner.specs.Join.{joinCall, joinNumber, refusal, refusedBy, secondOf, writtenOf, Fits, joinOf}
 use Rattle.joiner.proofs.Sectioned.{length-section}
@@ -108,20 +108,20 @@ module _ (text out : List ℕ) (n : ℕ) (e : n ≡ length text) where
 -- ---- the call
 
 module _ (a b out : List ℕ) where
-  pub second-bad : {v : Verdict} {k : ℕ} {x : Answer} {r : Joined} → v ≡ verdictOf b → v ≡ Bad k x → r ≡ refusedBy 0x9903 v → joinCall r out ≡ secondOf a b out
-  second-bad e f g = rw (← e, f) (ap (λ (y : Joined). joinCall y out) (g ∙ rw f refl))
+  pub second-bad : {v : Verdict} {k : ℕ} {x : Answer} {r : JoinAnswer} → v ≡ verdictOf b → v ≡ Bad k x → r ≡ refusedBy 0x9903 v → joinCall r out ≡ secondOf a b out
+  second-bad e f g = rw (← e, f) (ap (λ (y : JoinAnswer). joinCall y out) (g ∙ rw f refl))
 
-  pub second-fine : {v : Verdict} {r : Joined} {o : List ℕ} → v ≡ verdictOf b → v ≡ Fine → joinCall r o ≡ writtenOf (fileText (piecesOf a) (piecesOf b)) out
+  pub second-fine : {v : Verdict} {r : JoinAnswer} {o : List ℕ} → v ≡ verdictOf b → v ≡ Fine → joinCall r o ≡ writtenOf (fileText (piecesOf a) (piecesOf b)) out
       → joinCall r o ≡ secondOf a b out
   second-fine e f g = rw (← e, f) g
 
-  abbrev Joins : Joined → List ℕ → Type 0
+  abbrev Joins : JoinAnswer → List ℕ → Type 0
   Joins r o = numbered joinNumber (joinCall r o) ≡ numbered joinNumber (joinOf a b out)
 
-  pub joins-bad : {v : Verdict} {k : ℕ} {x : Answer} {r : Joined} → v ≡ verdictOf a → v ≡ Bad k x → r ≡ refusedBy 0x9900 v → Joins r out
+  pub joins-bad : {v : Verdict} {k : ℕ} {x : Answer} {r : JoinAnswer} → v ≡ verdictOf a → v ≡ Bad k x → r ≡ refusedBy 0x9900 v → Joins r out
   unfolding joinOf
-  joins-bad e f g = ap (numbered joinNumber) (rw (← e, f) (ap (λ (y : Joined). joinCall y out) (g ∙ rw f refl)))
+  joins-bad e f g = ap (numbered joinNumber) (rw (← e, f) (ap (λ (y : JoinAnswer). joinCall y out) (g ∙ rw f refl)))
 
-  pub joins-fine : {v : Verdict} {r : Joined} {o : List ℕ} → v ≡ verdictOf a → v ≡ Fine → joinCall r o ≡ secondOf a b out → Joins r o
+  pub joins-fine : {v : Verdict} {r : JoinAnswer} {o : List ℕ} → v ≡ verdictOf a → v ≡ Fine → joinCall r o ≡ secondOf a b out → Joins r o
   unfolding joinOf
   joins-fine e f g = ap (numbered joinNumber) (rw (← e, f) g)

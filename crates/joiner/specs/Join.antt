@@ -12,22 +12,22 @@ use Rattle.plain.specs.declared.Verdict.{Verdict}
 use Rattle.plain.specs.declared.Verdict.the-variants.{Fine, Bad}
 use Rattle.plain.specs.File.{verdictOf}
 use Rattle.joiner.specs.declared.Refusal.{Refusal}
-use Rattle.joiner.specs.declared.Joined.{Joined}
-use Rattle.joiner.specs.declared.Joined.the-variants.{Written, Refused}
+use Rattle.joiner.specs.declared.JoinAnswer.{JoinAnswer}
+use Rattle.joiner.specs.declared.JoinAnswer.the-variants.{Written, Refused}
 use Rattle.datalines.specs.Pieces.{piecesOf}
 use Rattle.joiner.specs.Text.{fileText}
 
 -- what is answered, and what the room holds
 pub record JoinCall : Type 0 where
-  pub answer : Joined
+  pub answer : JoinAnswer
   pub room : List ℕ
 
 -- both as one value, which the contract names
-abbrev pub joinCall : Joined → List ℕ → JoinCall
+abbrev pub joinCall : JoinAnswer → List ℕ → JoinCall
 joinCall x l = record { answer = x; room = l }
 
 -- 01's number of a refusal; a file that is written is none, and has 0
-abbrev pub joinedNumber : Joined → ℕ
+abbrev pub joinedNumber : JoinAnswer → ℕ
 joinedNumber (Written n) = 0
 joinedNumber (Refused r) = numberOf (r .answer)
 
@@ -44,7 +44,7 @@ abbrev pub refusedCall : ℕ → ℕ → Answer → List ℕ → JoinCall
 refusedCall board k a out = joinCall (Refused (refusal board k a)) out
 
 -- the refusal of a board's file; of one that is fine nothing asks for it
-abbrev pub refusedBy : ℕ → Verdict → Joined
+abbrev pub refusedBy : ℕ → Verdict → JoinAnswer
 refusedBy board Fine = Written 0
 refusedBy board (Bad k a) = Refused (refusal board k a)
 

@@ -26,19 +26,19 @@ pub struct Refusal {
 }
 
 // What comes of two files: the number of bytes that are written, or a refusal.
-pub enum Joined {
+pub enum JoinAnswer {
     Written(u32),
     Refused(Refusal),
 }
 
-impl Joined {
+impl JoinAnswer {
     // The number of a refusal, and 0 for a file that is written.
     pub fn number(self) -> u8
         ensures { λ r. ⌜ r ≡ joinedNumber self ⌝ }
     {
         match self {
-            Joined::Written(_) => 0,
-            Joined::Refused(refusal) => {
+            JoinAnswer::Written(_) => 0,
+            JoinAnswer::Refused(refusal) => {
                 let answer = refusal.answer;
                 answer.number()
             }
@@ -89,29 +89,29 @@ fn write_file(
     first: usize,
     second: usize,
     total: usize,
-) -> Joined
+) -> JoinAnswer
     requires { ⌜ (first ≡ firstUpper (piecesOf (now v1))) × (second ≡ firstUpper (piecesOf (now v2))) ⌝ }
     requires total { ⌜ total ≡ length (fileText (piecesOf (now v1)) (piecesOf (now v2))) ⌝ }
     ensures { λ r. ⌜ joinCall r (now (out .exit)) ≡ writtenOf (fileText (piecesOf (now (v1 .entry))) (piecesOf (now (v2 .entry)))) (now (out .entry)) ⌝ }
 {
     if (Plain::FILE < total) | (out.len() < total) {
-        return Joined::Refused(Refusal {
+        return JoinAnswer::Refused(Refusal {
             board: 0,
             line: 0,
             answer: Answer::FileTooLong,
         });
     }
     put_file(out, v1, v2, first, second);
-    Joined::Written(total as u32)
+    JoinAnswer::Written(total as u32)
 }
 
 // The refusal of a board's file; nothing asks for it of one that is fine.
-fn refused(board: u16, verdict: Verdict) -> Joined
+fn refused(board: u16, verdict: Verdict) -> JoinAnswer
     ensures { λ r. ⌜ r ≡ refusedBy board verdict ⌝ }
 {
     match verdict {
-        Verdict::Fine => Joined::Written(0),
-        Verdict::Bad(line, answer) => Joined::Refused(Refusal {
+        Verdict::Fine => JoinAnswer::Written(0),
+        Verdict::Bad(line, answer) => JoinAnswer::Refused(Refusal {
             board,
             line,
             answer,
@@ -120,7 +120,7 @@ fn refused(board: u16, verdict: Verdict) -> Joined
 }
 
 // V1's file is fine: V2's is read, and where it is fine too the output is written.
-fn join_fine(v1: &[u8], v2: &[u8], out: &mut [u8], first: usize, len: usize) -> Joined
+fn join_fine(v1: &[u8], v2: &[u8], out: &mut [u8], first: usize, len: usize) -> JoinAnswer
     requires { ⌜ (first ≡ firstUpper (piecesOf (now v1))) × (len ≡ dataLength (piecesOf (now v1))) × (len ≤ 1000000000) ⌝ }
     ensures { λ r. ⌜ joinCall r (now (out .exit)) ≡ secondOf (now (v1 .entry)) (now (v2 .entry)) (now (out .entry)) ⌝ }
 {
@@ -134,7 +134,7 @@ fn join_fine(v1: &[u8], v2: &[u8], out: &mut [u8], first: usize, len: usize) -> 
 }
 
 // Writes one Universal Hex file from a plain Intel Hex file for V1 and one for V2.
-pub fn join(v1: &[u8], v2: &[u8], out: &mut [u8]) -> Joined
+pub fn join(v1: &[u8], v2: &[u8], out: &mut [u8]) -> JoinAnswer
     ensures { λ r. ⌜ numbered joinNumber (joinCall r (now (out .exit))) ≡ numbered joinNumber (joinOf (now (v1 .entry)) (now (v2 .entry)) (now (out .entry))) ⌝ }
 {
     let a = datalines::scan_file(v1);

@@ -4,8 +4,8 @@ use mathlib.Core.Bool.{cond}
 use Rattle.grammar.specs.Answers.{numberOf, positionOf}
 use Rattle.grammar.specs.Boards.{isV1, isV2}
 use Rattle.joiner.specs.declared.Refusal.{Refusal}
-use Rattle.joiner.specs.declared.Joined.{Joined}
-use Rattle.joiner.specs.declared.Joined.the-variants.{Written, Refused}
+use Rattle.joiner.specs.declared.JoinAnswer.{JoinAnswer}
+use Rattle.joiner.specs.declared.JoinAnswer.the-variants.{Written, Refused}
 
 -- 1 for V1, 2 for V2; 0 for neither, where the output is too long
 abbrev pub boardCode : ℕ → ℕ
@@ -17,6 +17,6 @@ refusalResult r =
     numberOf (r .answer) + (256 * positionOf (r .answer) + (16777216 * boardCode (r .board) + 4294967296 * r .line))
 
 -- a file that is written: 0 in bits 0 to 31, and how many bytes from bit 32 on
-abbrev pub joinedResult : Joined → ℕ
+abbrev pub joinedResult : JoinAnswer → ℕ
 joinedResult (Written n) = 4294967296 * n
 joinedResult (Refused r) = refusalResult r

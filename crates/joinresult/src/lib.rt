@@ -3,7 +3,7 @@ ghost use mathlib.Core.Path.{_≡_};
 ghost use Prim.Native.Nat.{_≤_};
 ghost use Rattle.joinresult.specs.Result.{boardCode, refusalResult, joinedResult};
 use grammar::Boards;
-use joiner::Joined;
+use joiner::JoinAnswer;
 use joiner::Refusal;
 
 // 1 for V1, 2 for V2, 0 for any other.
@@ -33,11 +33,11 @@ fn refusal_result(refusal: Refusal) -> u64
 }
 
 // What comes of two files as one number.
-pub fn joined_result(joined: Joined) -> u64
+pub fn joined_result(joined: JoinAnswer) -> u64
     ensures { λ r. ⌜ r ≡ joinedResult joined ⌝ }
 {
     match joined {
-        Joined::Written(n) => 4294967296 * (n as u64),
-        Joined::Refused(refusal) => refusal_result(refusal),
+        JoinAnswer::Written(n) => 4294967296 * (n as u64),
+        JoinAnswer::Refused(refusal) => refusal_result(refusal),
     }
 }

@@ -15,14 +15,14 @@ pub struct FamilyRooms {
 }
 
 // Row 1's word for whole arrivals, row 2's word, and what the settings say of a family.
-pub struct Judged {
+pub struct Judgement {
     pub right: bool,
     pub good: bool,
     pub kept: FamilyRooms,
 }
 
 // Lengths, settings and a family, judged.
-pub fn judge(settings: Settings, lens: Lengths, m: usize, k: usize, family: u32) -> Judged
+pub fn judge(settings: Settings, lens: Lengths, m: usize, k: usize, family: u32) -> Judgement
     ensures { λ r. ⌜ r ≡ judgedOf settings lens m k family ⌝ }
     ensures low { λ r. ⌜ StartsLow (r .kept .rooms .flash) ⌝ }
 {
@@ -30,7 +30,7 @@ pub fn judge(settings: Settings, lens: Lengths, m: usize, k: usize, family: u32)
     let good = validity::good(settings, lens.flash);
     let rooms = screen::rooms_for(settings, lens.flash, family);
     let kept = FamilyRooms { family, rooms };
-    Judged { right, good, kept }
+    Judgement { right, good, kept }
 }
 
 // The settings are asked anew where the family is not the one before.

@@ -8,7 +8,7 @@ use Rattle.transfer.specs.declared.Transfer.{Transfer}
 use Rattle.transfer.specs.declared.Deed.{Deed}
 use Rattle.transfer.specs.declared.Accepted.{Accepted}
 use Rattle.transfer.specs.declared.Answer.{Answer}
-use Rattle.screen.specs.declared.Placed.{Placed}
+use Rattle.screen.specs.declared.PlacedBlock.{PlacedBlock}
 use Rattle.arrival.specs.Arrive.{Lent, World, Decision, stays, accepts, forecast, forecastOf, lookOf}
 use Rattle.verdict.specs.Lending.{world}
 use Rattle.verdict.specs.Verdict.{knownDecision}
@@ -21,7 +21,7 @@ module _ (known : Known) (t : Transfer) (a : List ℕ) (h : Lent) where
     pub look-stays : {x : Answer} → d ≡ stays x → forecast x false ≡ forecastOf (knownDecision known (world t h) a)
     look-stays e = ap forecastOf (sym e ∙ k)
 
-    pub look-accepts : {p : Placed} {e : Deed} {y : Accepted} → d ≡ accepts p e y → forecast (y .answer) (y .discarded) ≡ forecastOf (knownDecision known (world t h) a)
+    pub look-accepts : {p : PlacedBlock} {e : Deed} {y : Accepted} → d ≡ accepts p e y → forecast (y .answer) (y .discarded) ≡ forecastOf (knownDecision known (world t h) a)
     look-accepts q = ap forecastOf (sym q ∙ k)
 
 -- with what the settings and the lengths truly say handed in, it is as the meaning has it

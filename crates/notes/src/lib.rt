@@ -4,7 +4,7 @@ ghost use Rattle.screen.specs.Screen.{noted, noteFound};
 use block::Block;
 use place::Place;
 use screen::Body;
-use screen::Placed;
+use screen::PlacedBlock;
 use screen::Screening;
 use transfer::Answer;
 use transfer::Head;
@@ -19,7 +19,7 @@ fn note(kind: Kind, b: Block, size: usize) -> Screening
         return Screening::Refused(Answer::BadNumbers);
     }
     let head = Head::new(kind, b.family, b.total);
-    Screening::Passed(Placed {
+    Screening::Passed(PlacedBlock {
         head,
         number: b.number,
         body: Body::Note,

@@ -5,7 +5,7 @@ ghost use Rattle.place.specs.Place.{StartsLow};
 ghost use Rattle.receiver.specs.Receiver.{lentAt};
 ghost use Rattle.judged.specs.Judged.{judgedOf};
 ghost use Rattle.opening.specs.Opening.{lensOf};
-use judged::Judged;
+use judged::Judgement;
 use screen::Lengths;
 use settings::Settings;
 
@@ -18,7 +18,7 @@ pub fn judge_lent(
     sectors: &[u8],
     main: &[u8],
     xip: &[u8],
-) -> Judged
+) -> Judgement
     ensures { λ r. ⌜ r ≡ judgedOf settings (lensOf (lentAt flash seen sectors main xip)) (length (now (seen .entry))) (length (now (sectors .entry))) family ⌝ }
     ensures low { λ r. ⌜ StartsLow (r .kept .rooms .flash) ⌝ }
 {

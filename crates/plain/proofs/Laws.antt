@@ -18,12 +18,12 @@ use Rattle.grammar.specs.Answers.{refusalOf}
 use Rattle.grammar.specs.declared.Answer.{Answer}
 use Rattle.grammar.specs.declared.Answer.the-variants.{AfterEnd, FileTooLong}
 use Rattle.plain.specs.declared.Plain.{Plain}
-use Rattle.plain.specs.declared.Taken.{Taken}
-use Rattle.plain.specs.declared.Taken.the-variants.{Refused}
+use Rattle.plain.specs.declared.LineReading.{LineReading}
+use Rattle.plain.specs.declared.LineReading.the-variants.{Refused}
 use Rattle.plain.specs.Line.{movedBy, fieldsTaken, lineTaken}
 
 -- a test that fails
-skips : (b : Bool) (x : Taken) {y z : Taken} → b ≡ false → z ≡ y → z ≡ cond b x y
+skips : (b : Bool) (x : LineReading) {y z : LineReading} → b ≡ false → z ≡ y → z ≡ cond b x y
 skips b x e f = rw e f
 
 module _ (p : Plain) (n : ℕ) (x : ParseResult) (w : ℕ) where
@@ -36,7 +36,7 @@ module _ (p : Plain) (n : ℕ) (x : ParseResult) (w : ℕ) where
   line-long e h = simp (e, lt-ltb _ _ h)
 
   -- a line within the limit, by what its text says
-  pub line-by : (y : ParseResult) (t : Taken) → p .ended ≡ false → p .offset + n ≤ 4194304 → x ≡ y
+  pub line-by : (y : ParseResult) (t : LineReading) → p .ended ≡ false → p .offset + n ≤ 4194304 → x ≡ y
       → t ≡ onRecord (Refused (refusalOf y)) (fieldsTaken (movedBy p n) w) y → t ≡ lineTaken p n x w
   unfolding lineTaken
   line-by y t e h k f =
@@ -44,12 +44,12 @@ module _ (p : Plain) (n : ℕ) (x : ParseResult) (w : ℕ) where
       (skips (ltb 4194304 (p .offset + n)) (Refused FileTooLong) (le-ltb _ _ h)
       (f ∙ ap (λ (z : ParseResult). onRecord (Refused (refusalOf z)) (fieldsTaken (movedBy p n) w) z) (sym k)))
 
-  pub line-record : (rec : Record) (q : Plain) (t : Taken) → p .ended ≡ false → p .offset + n ≤ 4194304 → x ≡ parsed.Good rec → q ≡ movedBy p n
+  pub line-record : (rec : Record) (q : Plain) (t : LineReading) → p .ended ≡ false → p .offset + n ≤ 4194304 → x ≡ parsed.Good rec → q ≡ movedBy p n
       → t ≡ fieldsTaken q w rec → t ≡ lineTaken p n x w
   line-record rec q t e h k m f = line-by (parsed.Good rec) t e h k (f ∙ ap (λ (z : Plain). fieldsTaken z w rec) m)
 
 -- what a text says is no record, by its tag
-no-record : (x : ParseResult) (f : Record → Taken) → OneOf (1 ∷ 2 ∷ 3 ∷ 4 ∷ 5 ∷ 6 ∷ []) (tagOf the-type x)
+no-record : (x : ParseResult) (f : Record → LineReading) → OneOf (1 ∷ 2 ∷ 3 ∷ 4 ∷ 5 ∷ 6 ∷ []) (tagOf the-type x)
     → Refused (refusalOf x) ≡ onRecord (Refused (refusalOf x)) f x
 no-record (parsed.Good rec) f t =
     absurd

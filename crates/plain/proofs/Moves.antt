@@ -17,8 +17,8 @@ use Rattle.record.proofs.Good.{good-len}
 use Rattle.grammar.specs.Answers.{refusalOf}
 use Rattle.grammar.specs.declared.Answer.{Answer}
 use Rattle.plain.specs.declared.Plain.{Plain}
-use Rattle.plain.specs.declared.Taken.{Taken}
-use Rattle.plain.specs.declared.Taken.the-variants.{Refused, Passed, Data}
+use Rattle.plain.specs.declared.LineReading.{LineReading}
+use Rattle.plain.specs.declared.LineReading.the-variants.{Refused, Passed, Data}
 use Rattle.plain.specs.Line.{isEnd, isSegment, isLinear, isStart, plain, movedBy, dataTaken, recordTaken, fieldsTaken, lineTaken, takenOf}
 use Rattle.plain.specs.File.{goesOn, nextOf}
 
@@ -33,12 +33,12 @@ pub record Near (p : Plain) (a n : ℕ) : Type 0 where
   pub near : a + n ≤ p .base + 65536
 
 -- of a line that is taken
-data Sound (p : Plain) (n : ℕ) : Taken → Type 0 where
+data Sound (p : Plain) (n : ℕ) : LineReading → Type 0 where
   refused : {a : Answer} → Sound p n (Refused a)
   passed : {q : Plain} → Moved p n q → Sound p n (Passed q)
   given : {q : Plain} {a k : ℕ} → Moved p n q → Near p a k → Sound p n (Data q a k)
 
-either : {p : Plain} {n : ℕ} (b : Bool) {x y : Taken} → (b ≡ true → Sound p n x) → (b ≡ false → Sound p n y) → Sound p n (cond b x y)
+either : {p : Plain} {n : ℕ} (b : Bool) {x y : LineReading} → (b ≡ true → Sound p n x) → (b ≡ false → Sound p n y) → Sound p n (cond b x y)
 either true f g = f refl
 either false f g = g refl
 
@@ -86,7 +86,7 @@ sound p l =
     either (ltb 4194304 (p .offset + length l)) (λ y. refused)
     (λ k. sound-parsed p (length l) w x (ltb-false 4194304 (p .offset + length l) k) (λ rec e. good-len l rec e)))
 
-moved-by : {p : Plain} {n : ℕ} {t : Taken} → Sound p n t → goesOn t ≡ true → Moved p n (nextOf p t)
+moved-by : {p : Plain} {n : ℕ} {t : LineReading} → Sound p n t → goesOn t ≡ true → Moved p n (nextOf p t)
 moved-by refused e = clash false e refl
 moved-by (passed m) e = m
 moved-by (given m k) e = m

@@ -10,33 +10,33 @@ use Rattle.grammar.specs.Answers.{numberOf}
 use Rattle.grammar.specs.declared.Answer.{Answer}
 use Rattle.grammar.specs.declared.Answer.the-variants.{OutOfPlace, MissingBoard}
 use Rattle.plain.specs.declared.Plain.{Plain}
-use Rattle.plain.specs.declared.Taken.{Taken}
-use Rattle.plain.specs.declared.Taken.the-variants.{Refused, Passed, Data}
+use Rattle.plain.specs.declared.LineReading.{LineReading}
+use Rattle.plain.specs.declared.LineReading.the-variants.{Refused, Passed, Data}
 use Rattle.plain.specs.declared.Verdict.{Verdict}
 use Rattle.plain.specs.declared.Verdict.the-variants.{Fine, Bad}
 use Rattle.plain.specs.Line.{freshPlain, takenOf}
 
 -- ---- a line that is taken, or refused
 
-abbrev pub goesOn : Taken → Bool
+abbrev pub goesOn : LineReading → Bool
 goesOn (Refused a) = false
 goesOn (Passed q) = true
 goesOn (Data q a n) = true
 
 -- the reading after it; a refused line leaves p
-abbrev pub nextOf : Plain → Taken → Plain
+abbrev pub nextOf : Plain → LineReading → Plain
 nextOf p (Refused a) = p
 nextOf p (Passed q) = q
 nextOf p (Data q a n) = q
 
 -- a refused line's answer; of another line nothing asks for it
-abbrev pub badOf : Taken → Answer
+abbrev pub badOf : LineReading → Answer
 badOf (Refused a) = a
 badOf (Passed q) = OutOfPlace
 badOf (Data q a n) = OutOfPlace
 
 -- the data record that a line says
-abbrev pub givesOf : List ℕ → Taken → List Store
+abbrev pub givesOf : List ℕ → LineReading → List Store
 givesOf l (Refused a) = []
 givesOf l (Passed q) = []
 givesOf l (Data q a n) = record { address = a; bytes = take n (readOf l .«data») } ∷ []

@@ -15,7 +15,7 @@ pub struct Plain {
 }
 
 // What a line of a plain file is: refused; a record with no data byte; or data, at a linear address, and how many bytes.
-pub enum Taken {
+pub enum LineReading {
     Refused(Answer),
     Passed(Plain),
     Data(Plain, usize, u8),

@@ -20,8 +20,8 @@ use Rattle.grammar.specs.declared.Answer.the-variants.{FileTooLong}
 use Rattle.wholefile.specs.Items.{Item, itemOf, Says, none, line, sizeOf, wordOf}
 use Rattle.wholefile.proofs.OneRecord.{len-item, word-item}
 use Rattle.plain.specs.declared.Plain.{Plain}
-use Rattle.plain.specs.declared.Taken.{Taken}
-use Rattle.plain.specs.declared.Taken.the-variants.{Refused, Passed}
+use Rattle.plain.specs.declared.LineReading.{LineReading}
+use Rattle.plain.specs.declared.LineReading.the-variants.{Refused, Passed}
 use Rattle.plain.specs.Line.{isEnd, isSegment, isLinear, isStart, plain, movedBy, withBase, dataTaken, recordTaken, fieldsTaken, lineTaken, takenOf}
 use Rattle.plain.specs.declared.Verdict.the-variants.{Fine, Bad}
 use Rattle.plain.specs.File.{goesOn, badOf, nextOf, givesOf, recordsFrom, linesVerdict}
@@ -31,7 +31,7 @@ use Rattle.plainfile.specs.Refusals.{PlainType, type-00, type-01, type-0
 -- ---- a line
 
 -- one that is taken, before the 01
-pub record Went (p : Plain) (l : List ℕ) (t : Taken) : Type 0 where
+pub record Went (p : Plain) (l : List ℕ) (t : LineReading) : Type 0 where
   pub rec : Record
   pub says : readOf l .parsed ≡ parsed.Good rec
   pub fits : p .offset + length l ≤ 4194304
@@ -44,7 +44,7 @@ pub record Went (p : Plain) (l : List ℕ) (t : Taken) : Type 0 where
   pub gives : givesOf l t ≡ dataAt (p .base) (itemOf l rec)
 
 -- the 01
-pub record Last (p : Plain) (l : List ℕ) (t : Taken) : Type 0 where
+pub record Last (p : Plain) (l : List ℕ) (t : LineReading) : Type 0 where
   pub rec : Record
   pub says : readOf l .parsed ≡ parsed.Good rec
   pub fits : p .offset + length l ≤ 4194304
@@ -54,7 +54,7 @@ pub record Last (p : Plain) (l : List ℕ) (t : Taken) : Type 0 where
   pub next : nextOf p t .ended ≡ true
   pub gives : givesOf l t ≡ dataAt (p .base) (itemOf l rec)
 
-pub data View (p : Plain) (l : List ℕ) (t : Taken) : Type 0 where
+pub data View (p : Plain) (l : List ℕ) (t : LineReading) : Type 0 where
   stops : goesOn t ≡ false → BadLine (p .offset) l (badOf t) → View p l t
   goes : Went p l t → View p l t
   ends : Last p l t → View p l t

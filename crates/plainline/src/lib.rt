@@ -4,8 +4,8 @@ ghost use Prim.Native.Nat.{_+_, _≤_};
 ghost use Rattle.sets.specs.Numbered.{numbered};
 ghost use Rattle.plain.specs.Line.{movedBy, takenNumber, lineTaken};
 use grammar::Answer;
+use plain::LineReading;
 use plain::Plain;
-use plain::Taken;
 use record::ParseResult;
 
 fn moved_by(plain: Plain, n: u32) -> Plain
@@ -20,21 +20,21 @@ fn moved_by(plain: Plain, n: u32) -> Plain
 }
 
 // A line of n bytes, by what its text says, and a record's first two data bytes as a number.
-pub fn line(plain: Plain, n: usize, parsed: ParseResult, word: u16) -> Taken
+pub fn line(plain: Plain, n: usize, parsed: ParseResult, word: u16) -> LineReading
     ensures { λ r. ⌜ numbered takenNumber r ≡ numbered takenNumber (lineTaken plain n parsed word) ⌝ }
 {
     if plain.ended {
-        return Taken::Refused(Answer::AfterEnd);
+        return LineReading::Refused(Answer::AfterEnd);
     }
     let offset = plain.offset as usize;
     if Plain::FILE < offset {
-        return Taken::Refused(Answer::FileTooLong);
+        return LineReading::Refused(Answer::FileTooLong);
     }
     if Plain::FILE - offset < n {
-        return Taken::Refused(Answer::FileTooLong);
+        return LineReading::Refused(Answer::FileTooLong);
     }
     let ParseResult::Good(rec) = parsed else {
-        return Taken::Refused(grammar::refusal(parsed));
+        return LineReading::Refused(grammar::refusal(parsed));
     };
     plainrecord::record(
         moved_by(plain, n as u32),

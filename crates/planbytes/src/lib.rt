@@ -7,7 +7,7 @@ ghost use Rattle.callbytes.specs.Calls.{planWords, planBytes, keptTransfer};
 ghost use Rattle.planbytes.specs.Parts.{withPlan};
 use flash::Flash;
 use plan::Plan;
-use receipts::Planned;
+use receipts::PlanReceipt;
 
 // The bytes of a plan.
 pub const PLAN: usize = 12;
@@ -63,8 +63,9 @@ fn tell(plan: Plan, bytes: &mut [u8])
 }
 
 // What an acceptance returns; the plan is written where it has its 12 bytes, and the next transfer where a block was accepted.
-pub fn hand_back(planned: Planned, transfer: &mut [u8], plan: &mut [u8]) -> u32
-    ensures { λ r. ⌜ (r ≡ resultOf (numberOf (planned .receipt .answer)) (planned .receipt .discarded)) × (now (transfer .exit) ≡ keptTransfer (now (transfer .entry)) (isAcceptance (numberOf (planned .receipt .answer))) (planned .receipt .transfer .state)) ⌝ }
+pub fn hand_back(planned: PlanReceipt, transfer: &mut [u8], plan: &mut [u8]) -> u32
+    ensures { λ r. ⌜ r ≡ resultOf (numberOf (planned .receipt .answer)) (planned .receipt .discarded) ⌝ }
+    ensures kept { λ _. ⌜ now (transfer .exit) ≡ keptTransfer (now (transfer .entry)) (isAcceptance (numberOf (planned .receipt .answer))) (planned .receipt .transfer .state) ⌝ }
     ensures told { λ _. ⌜ now (plan .exit) ≡ withPlan (now (plan .entry)) (planned .plan) ⌝ }
 {
     let receipt = planned.receipt;

@@ -23,7 +23,7 @@ use Rattle.transfer.specs.declared.Deed.{Deed}
 use Rattle.transfer.specs.declared.Deed.the-variants.{Stores, Notes, Keeps}
 use Rattle.transfer.specs.declared.Accepted.{Accepted}
 use Rattle.screen.specs.Screen.{roomIn}
-use Rattle.screen.specs.declared.Placed.{Placed}
+use Rattle.screen.specs.declared.PlacedBlock.{PlacedBlock}
 use Rattle.arrival.specs.Arrive.{World, Outcome, bufferOf, Decision, stays, accepts, decided, clearedIf, atOf, receiveOf}
 use Rattle.arrivals.specs.Bounds.{Outside}
 use Rattle.arrival.specs.Lists.{receiveAll}
@@ -52,7 +52,7 @@ all-performed-are-taken s w (a ∷ l) =
 -- ---- what a plan touches
 
 module _ (s : Settings) (w : World) (a : List ℕ) where
-  module _ (g : Placed) (k : Accepted) (B : Board s w) (l : length a ≡ 512) (q : Passing s w a g) where
+  module _ (g : PlacedBlock) (k : Accepted) (B : Board s w) (l : length a ≡ 512) (q : Passing s w a g) where
     -- a page of flash that is stored
     pub page-lies : kindOf w a ≡ Flash → deedAt s w a g ≡ Stores → Lies s w a (atOf (g .body))
     page-lies e d =

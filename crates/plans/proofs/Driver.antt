@@ -24,7 +24,7 @@ use Rattle.transfer.specs.declared.Deed.{Deed}
 use Rattle.transfer.specs.declared.Deed.the-variants.{Stores, Notes, Keeps}
 use Rattle.transfer.specs.declared.Accepted.{Accepted}
 use Rattle.screen.specs.Screen.{screenOf}
-use Rattle.screen.specs.declared.Placed.{Placed}
+use Rattle.screen.specs.declared.PlacedBlock.{PlacedBlock}
 use Rattle.screen.specs.declared.Screening.{Screening}
 use Rattle.screen.specs.declared.Screening.the-variants.{Refused, Passed}
 use Rattle.arrival.specs.Arrive.{Held, World, Decision, stays, accepts, lengthsOf, rightLengths, standing, deedOf, stepped, afterScreening, decide, decided, clearedIf, wipedIf, pagedAt, atOf, doneTo, acceptOf, done, receiveOf}
@@ -44,7 +44,7 @@ abbrev Begins : State → Decision → Type 0
 Begins u (stays x) = Unit {0}
 Begins u (accepts p d t) = t .clears ≡ (isIdle u || t .discarded)
 
-begins-step : (u : State) (p : Placed) (d : Deed) (m : Bool) → Begins u (stepped p d (stepOf u (p .head) m d))
+begins-step : (u : State) (p : PlacedBlock) (d : Deed) (m : Bool) → Begins u (stepped p d (stepOf u (p .head) m d))
 unfolding stepOf accepted
 begins-step Idle p d m = refl
 begins-step (Running r) p d m =

@@ -22,7 +22,7 @@ use Rattle.faults.proofs.Theorems.{sound-is-good}
 use Rattle.faults.specs.declared.Fault.{Fault}
 use Rattle.faults.specs.declared.Finding.{Finding}
 use Rattle.faults.specs.declared.Finding.the-variants.{Sound, Bad}
-use Rattle.faults.specs.declared.Tested.{Tested}
+use Rattle.faults.specs.declared.Comparison.{Comparison}
 use Rattle.placing.specs.Placing.{flashShuts, flashAccess, grantedSpot, spotBy, spotOf}
 use Rattle.placing.specs.declared.Shut.{Shut}
 use Rattle.placing.specs.declared.Access.{Access}
@@ -40,8 +40,8 @@ use Rattle.causes.proofs.Rows.{rows-next}
 use Rattle.checks.specs.Block.{startAt, sizeAt, roomOf, kindOf, bodyRow, raisedOf}
 use Rattle.checks.specs.Parts.{fatePart, writtenPart, latePart}
 use Rattle.reason.specs.declared.Why.{Why}
-use Rattle.reason.specs.declared.Placed.{Placed}
-use Rattle.reason.specs.declared.Placed.the-variants.{Refused}
+use Rattle.reason.specs.declared.PlaceOrigin.{PlaceOrigin}
+use Rattle.reason.specs.declared.PlaceOrigin.the-variants.{Refused}
 use Rattle.reason.specs.declared.WhyPlace.{WhyPlace}
 use Rattle.reason.specs.Why.{settingsRow, shutReason, shutRow, blockKind, headIn, placeIn, lastOf, reasonOf, discardsOf, entriesOf, whyOf}
 use Rattle.reason.specs.Placed.{placeChecks, holdsOf, placedSpot, placedBy, placedOf, placedMarks, whyPlaceOf}
@@ -63,9 +63,9 @@ module _ (s : Settings) (len : ℕ) {r : Finding} (e : r ≡ firstFault s len) w
   pub finding-sound : r ≡ Sound → Passes ≡ findingRow s len (firstFault s len)
   finding-sound h = ap (findingRow s len) (sym h ∙ e)
 
-  pub finding-bad : {x : Fault} → r ≡ Bad x → {n : Tested} → n ≡ testedOf s len x → {q : Row} → q ≡ Decides (reasonWith (BadSettings x) (n .got) (n .against))
+  pub finding-bad : {x : Fault} → r ≡ Bad x → {n : Comparison} → n ≡ testedOf s len x → {q : Row} → q ≡ Decides (reasonWith (BadSettings x) (n .got) (n .against))
       → q ≡ findingRow s len (firstFault s len)
-  finding-bad {x} h t k = k ∙ (ap (λ (n : Tested). Decides (reasonWith (BadSettings x) (n .got) (n .against))) t ∙ ap (findingRow s len) (sym h ∙ e))
+  finding-bad {x} h t k = k ∙ (ap (λ (n : Comparison). Decides (reasonWith (BadSettings x) (n .got) (n .against))) t ∙ ap (findingRow s len) (sym h ∙ e))
 
 -- good settings have no fault
 pub finding-good : (s : Settings) (len : ℕ) → goodSettings s len ≡ true → Passes ≡ findingRow s len (firstFault s len)
@@ -239,10 +239,10 @@ module _ (s : Settings) (len f : ℕ) where
     unfolding spotOf
     placed-spot h k = ap (placedSpot f) k ∙ (by-access (flashAccess s f) (grantedSpot s f) ∙ sym (placed-is h))
 
-  abbrev told : Placed → List ℕ → WhyPlace
+  abbrev told : PlaceOrigin → List ℕ → WhyPlace
   told p m = record { placed = p; entries = m }
 
-  pub place-explained : {p : Placed} → p ≡ placedOf s len f → {m : List ℕ} → m ≡ placedMarks s f p → record { placed = p; entries = m } ≡ whyPlaceOf s len f
+  pub place-explained : {p : PlaceOrigin} → p ≡ placedOf s len f → {m : List ℕ} → m ≡ placedMarks s f p → record { placed = p; entries = m } ≡ whyPlaceOf s len f
   unfolding whyPlaceOf
   place-explained {p} e k =
-      ap (told p) k ∙ ap (λ (p : Placed). told p (placedMarks s f p)) e
+      ap (told p) k ∙ ap (λ (p : PlaceOrigin). told p (placedMarks s f p)) e

@@ -16,8 +16,8 @@ use Rattle.causes.specs.declared.Cause.the-variants.{BadBuffers, BadSettings, B
 use Rattle.causes.specs.declared.Reason.{Reason}
 use Rattle.causes.specs.declared.Row.{Row}
 use Rattle.causes.specs.declared.Row.the-variants.{Passes, Decides}
-use Rattle.reason.specs.declared.Placed.{Placed}
-use Rattle.reason.specs.declared.Placed.the-variants.{Refused, Whole, Entry}
+use Rattle.reason.specs.declared.PlaceOrigin.{PlaceOrigin}
+use Rattle.reason.specs.declared.PlaceOrigin.the-variants.{Refused, Whole, Entry}
 use Rattle.reason.specs.declared.WhyPlace.{WhyPlace}
 use Rattle.reason.specs.Why.{settingsRow, shutReason, shutRow, noMarks, entriesOf}
 
@@ -48,26 +48,26 @@ abbrev pub holdsOf : Settings → ℕ → ℕ → Reason → Bool
 holdsOf s len f r = placeTest s len f (r .cause) (r .got) (r .against)
 
 -- where the place comes from, of a family that is not shut out
-abbrev pub placedSpot : ℕ → Spot → Placed
+abbrev pub placedSpot : ℕ → Spot → PlaceOrigin
 placedSpot f (spot.Refused x) = Refused (shutReason f x)
 placedSpot f (spot.Whole r) = Whole r
 placedSpot f (spot.Entry p k) = Entry p k
 
-abbrev pub placedBy : Row → Placed → Placed
+abbrev pub placedBy : Row → PlaceOrigin → PlaceOrigin
 placedBy Passes y = y
 placedBy (Decides x) y = Refused x
 
-unfoldable pub placedOf : Settings → ℕ → ℕ → Placed
+unfoldable pub placedOf : Settings → ℕ → ℕ → PlaceOrigin
 placedOf s len f = placedBy (rowOf (holdsOf s len f) (placeChecks s len f)) (placedSpot f (grantedSpot s f))
 
 -- the answer's number, and 0 for a place that is found
-abbrev pub placedNumber : Placed → ℕ
+abbrev pub placedNumber : PlaceOrigin → ℕ
 placedNumber (Refused x) = numberOf (answerOf (x .cause))
 placedNumber (Whole r) = 0
 placedNumber (Entry p k) = 0
 
 -- the marks of a refusal
-abbrev pub placedMarks : Settings → ℕ → Placed → List ℕ
+abbrev pub placedMarks : Settings → ℕ → PlaceOrigin → List ℕ
 placedMarks s f (Refused x) = entriesOf s f (x .cause)
 placedMarks s f (Whole r) = noMarks
 placedMarks s f (Entry p k) = noMarks

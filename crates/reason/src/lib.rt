@@ -29,7 +29,7 @@ pub struct Why {
 }
 
 // Where a place comes from: the rule that gives the whole flash, or the pass, 1 to 4, and the entry; or why there is none.
-pub enum Placed {
+pub enum PlaceOrigin {
     Refused(Reason),
     Whole(Rule),
     Entry { pass: u8, entry: u8 },
@@ -37,7 +37,7 @@ pub enum Placed {
 
 // The same with the marks of the entries.
 pub struct WhyPlace {
-    pub placed: Placed,
+    pub placed: PlaceOrigin,
     pub entries: [u8; 16],
 }
 
@@ -264,30 +264,30 @@ fn place_row(settings: Settings, flash_len: usize) -> Row
 }
 
 // Where the place comes from, or why there is none.
-fn place_source(settings: Settings, flash_len: usize, family: u32) -> Placed
+fn place_source(settings: Settings, flash_len: usize, family: u32) -> PlaceOrigin
     ensures { λ r. ⌜ r ≡ placedOf settings «flash_len» family ⌝ }
 {
     let row = place_row(settings, flash_len);
     if let Row::Decides(x) = row {
-        return Placed::Refused(x);
+        return PlaceOrigin::Refused(x);
     }
     match placing::locate(settings, family) {
-        Spot::Refused(y) => Placed::Refused(Reason::new(Cause::NoPlace(y), family as u64, 0)),
-        Spot::Whole(rule) => Placed::Whole(rule),
-        Spot::Entry { pass, entry } => Placed::Entry { pass, entry },
+        Spot::Refused(y) => PlaceOrigin::Refused(Reason::new(Cause::NoPlace(y), family as u64, 0)),
+        Spot::Whole(rule) => PlaceOrigin::Whole(rule),
+        Spot::Entry { pass, entry } => PlaceOrigin::Entry { pass, entry },
     }
 }
 
-fn placed_marks(settings: Settings, family: u32, placed: Placed) -> [u8; 16]
+fn placed_marks(settings: Settings, family: u32, placed: PlaceOrigin) -> [u8; 16]
     ensures { λ r. ⌜ r ≡ placedMarks settings family placed ⌝ }
 {
     match placed {
-        Placed::Refused(x) => {
+        PlaceOrigin::Refused(x) => {
             let cause = x.cause;
             entries_of(settings, family, cause)
         }
-        Placed::Whole(_) => no_marks(),
-        Placed::Entry { pass: _, entry: _ } => no_marks(),
+        PlaceOrigin::Whole(_) => no_marks(),
+        PlaceOrigin::Entry { pass: _, entry: _ } => no_marks(),
     }
 }
 

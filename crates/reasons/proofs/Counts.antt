@@ -30,7 +30,7 @@ use Rattle.arrival.specs.Facts.{Look-tells}
 use Rattle.arrival.proofs.Facts.{look-tells}
 use Rattle.arrival.proofs.Heads.{head-same}
 use Rattle.arrivals.specs.Tally.{clears}
-use Rattle.arrivals.proofs.DecisionFacts.{DecisionFacts, kept, took, decision-facts, raisedCount, took-state}
+use Rattle.arrivals.proofs.DecisionFacts.{DecisionFacts, refused, took, decision-facts, raisedCount, took-state}
 use Rattle.faults.specs.Faults.{faultsOf}
 use Rattle.faults.specs.declared.Fault.{Fault}
 use Rattle.placing.specs.Placing.{flashShuts, ramShuts}
@@ -217,7 +217,7 @@ raised-took (Done u) g h = let e : Done u ≡ Running (h refl .0) = h refl .1 in
 left : (s : Settings) (w : World) (a : List ℕ) {d : Decision} → DecisionFacts s w a d → 14 ≤ numberOf (done w (payloadOf a) d .answer)
     → countOf (done w (payloadOf a) d .world .transfer) ≡ raisedOf (w .transfer) (headIn w a)
 unfolding done acceptOf
-left s w a (kept x h) n = absurd (omega arith)
+left s w a (refused x h) n = absurd (omega arith)
 left s w a (took g k B l q t) n =
     let x = w .transfer in
     let i : g .head ≡ headIn w a = q .head ∙ ap (λ (u : Kind). headWith u (fieldAt a 28) (fieldAt a 24)) (sym (kinds s w a)) in

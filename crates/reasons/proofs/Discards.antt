@@ -22,7 +22,7 @@ use Rattle.transfer.specs.declared.State.the-variants.{Idle, Running, Done}
 use Rattle.transfer.specs.declared.Answer.{Answer}
 use Rattle.transfer.specs.declared.Answer.the-variants as answer
 use Rattle.screen.specs.Screen.{windowOf, windowKind, noteKind, screenOf}
-use Rattle.screen.specs.declared.Placed.{Placed}
+use Rattle.screen.specs.declared.PlacedBlock.{PlacedBlock}
 use Rattle.screen.specs.declared.Screening.{Screening}
 use Rattle.screen.specs.declared.Screening.the-variants.{Refused, Passed}
 use Rattle.arrival.specs.Windows as windows
@@ -78,7 +78,7 @@ raised-high d g c = by-case (ltb c (g .total)) d
     by-case true Keeps = refl
     by-case false d = refl
 
-step-told : (t : State) (p : Placed) (d : Deed) (m : Bool) → Told t (p .head) (forecastOf (stepped p d (stepOf t (p .head) m d)))
+step-told : (t : State) (p : PlacedBlock) (d : Deed) (m : Bool) → Told t (p .head) (forecastOf (stepped p d (stepOf t (p .head) m d)))
 unfolding stepOf accepted
 step-told Idle p d m = nothing (leb 14 (numberOf (raised d (p .head) 1)))
 step-told (Running r) p d m =

@@ -38,8 +38,8 @@ use Rattle.causes.specs.declared.Row.the-variants.{Passes, Decides}
 use Rattle.checklist.specs.Parts.{findingRow, accessRow, placePart}
 use Rattle.reason.specs.Why.{entriesOf}
 use Rattle.reason.specs.Placed.{placeChecks, placeTest, holdsOf, placedSpot, placedBy, placedOf, placedNumber, placedMarks, whyPlaceOf}
-use Rattle.reason.specs.declared.Placed.{Placed}
-use Rattle.reason.specs.declared.Placed.the-variants.{Refused, Whole, Entry}
+use Rattle.reason.specs.declared.PlaceOrigin.{PlaceOrigin}
+use Rattle.reason.specs.declared.PlaceOrigin.the-variants.{Refused, Whole, Entry}
 use Rattle.reason.proofs.Laws.{place-parts}
 use Rattle.reasons.specs.Claims.{Place-answer-is-the-receivers, refusalOr, Place-reason-is-true, FoundTrue, Found-place-is-true, placeNamed, Found-place-is-the-receivers, Place-marks-are-true}
 use Rattle.reasons.proofs.Answers.{told, told-next, flash-answer}
@@ -47,11 +47,11 @@ use Rattle.reasons.proofs.Agree.{finding-answer, flash-shut, flash-open
 use Rattle.reasons.proofs.Theorems.{never, decided-holds, marks-shut}
 
 -- a row whose answer is the same whatever comes after it decides, and one that leaves what comes after it passes
-number-decides : (r : Row) (q : Placed) (x : Answer) → told r answer.Kept ≡ x → told r answer.Noted ≡ x → placedNumber (placedBy r q) ≡ numberOf x
+number-decides : (r : Row) (q : PlaceOrigin) (x : Answer) → told r answer.Kept ≡ x → told r answer.Noted ≡ x → placedNumber (placedBy r q) ≡ numberOf x
 number-decides Passes q x e h = let z : answer.Kept ≡ answer.Noted = e ∙ sym h in absurd (let v : _≡_ {A = ℕ} 0 1 = cc in omega arith)
 number-decides (Decides z) q x e h = ap numberOf e
 
-number-passes : (r : Row) (q : Placed) → told r answer.Kept ≡ answer.Kept → told r answer.Noted ≡ answer.Noted → placedNumber (placedBy r q) ≡ placedNumber q
+number-passes : (r : Row) (q : PlaceOrigin) → told r answer.Kept ≡ answer.Kept → told r answer.Noted ≡ answer.Noted → placedNumber (placedBy r q) ≡ placedNumber q
 number-passes Passes q e h = refl
 number-passes (Decides z) q e h = let v : answer.Kept ≡ answer.Noted = sym e ∙ h in absurd (let u : _≡_ {A = ℕ} 0 1 = cc in omega arith)
 
@@ -129,7 +129,7 @@ module _ (s : Settings) (len f : ℕ) where
   marks-true : (x : Reason) → placedOf s len f ≡ Refused x → x .cause ≡ NoPlace NoEntry → (k : ℕ) → k < usedCount (s .count)
       → Marked (entryAt (s .table) k) f (getD (placedMarks s f (placedOf s len f)) k 0)
   marks-true x e h k l =
-      let d = subst (λ (p : Placed). Deciding (holdsOf s len f) no-reason (placeChecks s len f) (refusalOr no-reason p)) e (reason-decides no-reason) in
+      let d = subst (λ (p : PlaceOrigin). Deciding (holdsOf s len f) no-reason (placeChecks s len f) (refusalOr no-reason p)) e (reason-decides no-reason) in
       let t : shutIn s f NoEntry ≡ true =
       ⊎-elim
       (λ q. let c : NoPlace NoEntry ≡ Kept = sym h ∙ ap (λ (r : Reason). r .cause) q in let z : _≡_ {A = ℕ} 0 1 = cc in absurd (never z))

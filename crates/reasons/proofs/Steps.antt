@@ -24,7 +24,7 @@ use Rattle.transfer.specs.declared.Step.the-variants.{Stays, Accepts}
 use Rattle.transfer.specs.declared.Answer.{Answer}
 use Rattle.transfer.specs.declared.Answer.the-variants as answer
 use Rattle.screen.specs.Screen.{placedAt}
-use Rattle.screen.specs.declared.Placed.{Placed}
+use Rattle.screen.specs.declared.PlacedBlock.{PlacedBlock}
 use Rattle.screen.specs.declared.Body.the-variants.{Page, Note}
 use Rattle.screen.specs.declared.Screening.{Screening}
 use Rattle.screen.specs.declared.Screening.the-variants.{Refused, Passed}
@@ -49,7 +49,7 @@ settled-refused t seen kept x = refl
 
 -- ---- rows 12, 13, 15 and 16
 
-module _ (g : Head) (number : ℕ) (m cm : Bool) (p : Placed) (d : Deed) (z : Answer) (e : cond cm answer.Noted z ≡ deedAnswer d) where
+module _ (g : Head) (number : ℕ) (m cm : Bool) (p : PlacedBlock) (d : Deed) (z : Answer) (e : cond cm answer.Noted z ≡ deedAnswer d) where
   -- the raised count beside the total
   tail : (c : ℕ) → told (cond (leb (g .total) c) (Decides (reasonWith Completed c (g .total))) (cond cm (Decides (reasonWith Noted c (g .total))) Passes)) z
       ≡ raised d g c

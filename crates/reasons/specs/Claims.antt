@@ -16,8 +16,8 @@ use Rattle.placing.specs.declared.Rule.the-variants.{Absolute, NoTable}
 use Rattle.placing.specs.declared.Shut.the-variants.{NoEntry}
 use Rattle.causes.specs.declared.Cause.the-variants.{NoPlace}
 use Rattle.place.specs.Place.{askOf, placeAnswerNumber}
-use Rattle.reason.specs.declared.Placed.{Placed}
-use Rattle.reason.specs.declared.Placed.the-variants.{Refused, Whole, Entry}
+use Rattle.reason.specs.declared.PlaceOrigin.{PlaceOrigin}
+use Rattle.reason.specs.declared.PlaceOrigin.the-variants.{Refused, Whole, Entry}
 use Rattle.reason.specs.Placed.{placeChecks, holdsOf, placedNumber, whyPlaceOf}
 use Rattle.reason.specs.Why.{placeRow, checksOf, lastOf, holdsIn, whyOf}
 use mathlib.Core.Path.{_≡_}
@@ -70,7 +70,7 @@ unfoldable pub Place-answer-is-the-receivers : Type 0
 Place-answer-is-the-receivers = (s : Settings) (len f : ℕ) → placedNumber (whyPlaceOf s len f .placed) ≡ placeAnswerNumber (askOf s len f)
 
 -- the reason of a refusal, or y where the place is found
-abbrev pub refusalOr : Reason → Placed → Reason
+abbrev pub refusalOr : Reason → PlaceOrigin → Reason
 refusalOr y (Refused x) = x
 refusalOr y (Whole r) = y
 refusalOr y (Entry p k) = y
@@ -82,7 +82,7 @@ Place-reason-is-true =
 
 -- "For a place it names the pass and the entry, or the whole-flash rule.": absolute is the family and is allowed; there is no table and the family is one
 -- that then gets the whole flash; or pass p, of 1 to 4, is the first that takes a used entry, and k is the first that it takes
-abbrev pub FoundTrue : Settings → ℕ → Placed → Type 0
+abbrev pub FoundTrue : Settings → ℕ → PlaceOrigin → Type 0
 FoundTrue s f (Refused x) = Unit {0}
 FoundTrue s f (Whole Absolute) = (f ≡ familyAbsolute) × (s .absolute ≡ true)
 FoundTrue s f (Whole NoTable) = (s .count ≡ 0) × (f ≢ familyAbsolute) × (getsWhole (s .arm) (s .riscv) f ≡ true)
@@ -92,7 +92,7 @@ unfoldable pub Found-place-is-true : Type 0
 Found-place-is-true = (s : Settings) (len f : ℕ) → FoundTrue s f (whyPlaceOf s len f .placed)
 
 -- the place that is named so: the whole flash, or the bytes of the entry
-abbrev pub placeNamed : Settings → ℕ → Placed → Place
+abbrev pub placeNamed : Settings → ℕ → PlaceOrigin → Place
 placeNamed s len (Refused x) = Nowhere
 placeNamed s len (Whole r) = At 0 len
 placeNamed s len (Entry p k) = bytesOf (entryAt (s .table) k)

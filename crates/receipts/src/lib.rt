@@ -24,16 +24,16 @@ impl Receipt {
 }
 
 // What an arrival hands back whose flash is written by a driver: the receipt, and what is left to do to the flash.
-pub struct Planned {
+pub struct PlanReceipt {
     pub receipt: Receipt,
     pub plan: Plan,
 }
 
 // Nothing changes, and this is the answer.
-pub fn refuse(transfer: Transfer, answer: Answer) -> Planned
+pub fn refuse(transfer: Transfer, answer: Answer) -> PlanReceipt
     ensures { λ r. ⌜ r ≡ unplanned transfer answer ⌝ }
 {
-    Planned {
+    PlanReceipt {
         receipt: Receipt {
             transfer,
             answer,
@@ -51,7 +51,7 @@ pub fn enter(
     sectors: &mut [u8],
     main: &mut [u8],
     xip: &mut [u8],
-) -> Planned
+) -> PlanReceipt
     ensures { λ r. ⌜ enterReturn r (now (seen .exit)) (besideLeft sectors main xip) ≡ enterOf acceptance (payloadOf (now (arrival .entry))) (now (seen .entry)) (besideAt sectors main xip) ⌝ }
 {
     let placed = acceptance.placed;
@@ -60,7 +60,7 @@ pub fn enter(
     let next = accepted.transfer;
     let given = accepted.answer;
     let plan = entering::enter(placed, deed, accepted, arrival, seen, sectors, main, xip);
-    Planned {
+    PlanReceipt {
         receipt: Receipt {
             transfer: next,
             answer: given,

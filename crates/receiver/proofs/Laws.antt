@@ -7,7 +7,7 @@ use Rattle.transfer.specs.declared.Transfer.{Transfer}
 use Rattle.transfer.specs.declared.Deed.{Deed}
 use Rattle.transfer.specs.declared.Accepted.{Accepted}
 use Rattle.transfer.specs.declared.Answer.{Answer}
-use Rattle.screen.specs.declared.Placed.{Placed}
+use Rattle.screen.specs.declared.PlacedBlock.{PlacedBlock}
 use Rattle.arrival.specs.Arrive.{Lent, World, Outcome, Decision, stays, accepts, done, acceptOf}
 use Rattle.verdict.specs.Verdict.{knownDecision}
 use Rattle.verdict.specs.declared.Known.{Known}
@@ -18,17 +18,17 @@ use Rattle.entering.specs.Entering.{beside, Entering, enteringOf}
 use Rattle.entering.proofs.Laws.{entered}
 use Rattle.receipts.specs.Receipts.{unplanned, receiptOf, enterReturn}
 use Rattle.receipts.specs.declared.Receipt.{Receipt}
-use Rattle.receipts.specs.declared.Planned.{Planned}
+use Rattle.receipts.specs.declared.PlanReceipt.{PlanReceipt}
 use Rattle.receiver.specs.Receiver.{lent, world, outcome, accepting, receiveKnown, acceptKnown}
 
 module _ (known : Known) (t : Transfer) (a : List ℕ) (h : Lent) where
   module _ {d : Decision} (k : d ≡ knownDecision known (world t h) a) where
     -- what is accepted
-    pub accept-stays : {o : Planned} {x : Answer} → d ≡ stays x → o ≡ unplanned t x → accepting o h ≡ acceptKnown known (world t h) a
+    pub accept-stays : {o : PlanReceipt} {x : Answer} → d ≡ stays x → o ≡ unplanned t x → accepting o h ≡ acceptKnown known (world t h) a
     unfolding acceptKnown acceptingBy done
-    accept-stays e y = ap (λ (o : Planned). accepting o h) y ∙ ap (acceptingBy (world t h) a) (sym e ∙ k)
+    accept-stays e y = ap (λ (o : PlanReceipt). accepting o h) y ∙ ap (acceptingBy (world t h) a) (sym e ∙ k)
 
-    pub accept-accepts : {p : Placed} {e : Deed} {y : Accepted} → d ≡ accepts p e y → {o : Planned} {m s u x : List ℕ} → enterReturn o m (beside s u x) ≡ (receiptOf y, enteringOf p e y (payloadOf a) (h .seen) (beside (h .sectors) (h .main) (h .xip))) → accepting o (lent (h .flash) m s u x) ≡ acceptKnown known (world t h) a
+    pub accept-accepts : {p : PlacedBlock} {e : Deed} {y : Accepted} → d ≡ accepts p e y → {o : PlanReceipt} {m s u x : List ℕ} → enterReturn o m (beside s u x) ≡ (receiptOf y, enteringOf p e y (payloadOf a) (h .seen) (beside (h .sectors) (h .main) (h .xip))) → accepting o (lent (h .flash) m s u x) ≡ acceptKnown known (world t h) a
     unfolding acceptKnown acceptingBy done
     accept-accepts {p} {e} {y} q {o} {m} {s} {u} {x} g =
         let z = entered p e y (payloadOf a) (world t h) (ap (λ (b : Receipt × Entering). b .1) g) in

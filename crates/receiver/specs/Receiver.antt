@@ -10,7 +10,7 @@ use Rattle.verdict.specs.Verdict.{knownDecision}
 use Rattle.verdict.specs.declared.Known.{Known}
 use Rattle.plan.specs.Plan.{Accepting, acceptingNumber, acceptingBy}
 use Rattle.receipts.specs.declared.Receipt.{Receipt}
-use Rattle.receipts.specs.declared.Planned.{Planned}
+use Rattle.receipts.specs.declared.PlanReceipt.{PlanReceipt}
 pub use Rattle.receipts.specs.Receipts.{outcome, accepting}
 
 -- ---- what comes out
@@ -24,7 +24,7 @@ abbrev pub takeReturn : Receipt → Lent → Outcome × ℕ
 takeReturn r h = numbered outcomeNumber (outcome r h)
 
 -- and an acceptance
-abbrev pub plannedReturn : Planned → Lent → Accepting × ℕ
+abbrev pub plannedReturn : PlanReceipt → Lent → Accepting × ℕ
 plannedReturn r h = numbered acceptingNumber (accepting r h)
 
 -- ---- one arrival, where what the settings and the lengths say of it is handed in

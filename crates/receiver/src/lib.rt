@@ -14,7 +14,7 @@ ghost use Rattle.receiver.specs.Receiver.{
   receiveKnown,
   acceptKnown,
 };
-use receipts::Planned;
+use receipts::PlanReceipt;
 use receipts::Receipt;
 use screen::Lengths;
 use settings::Settings;
@@ -32,7 +32,7 @@ pub fn accept_known(
     sectors: &mut [u8],
     main: &mut [u8],
     xip: &mut [u8],
-) -> Planned
+) -> PlanReceipt
     ensures { λ r. ⌜ accepting r (leftBeside flash seen sectors main xip) ≡ acceptKnown known (world transfer (lentAt flash seen sectors main xip)) (now (arrival .entry)) ⌝ }
 {
     let verdict = deciding::judge(known, transfer, arrival, flash, seen, sectors, main, xip);
@@ -60,7 +60,7 @@ pub fn accept(
     sectors: &mut [u8],
     main: &mut [u8],
     xip: &mut [u8],
-) -> Planned
+) -> PlanReceipt
     ensures { λ r. ⌜ plannedReturn r (leftBeside flash seen sectors main xip) ≡ numbered acceptingNumber (acceptingOf settings (world transfer (lentAt flash seen sectors main xip)) (now (arrival .entry))) ⌝ }
 {
     let lens = Lengths {

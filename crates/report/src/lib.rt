@@ -4,7 +4,7 @@ ghost use Rattle.sets.specs.Numbered.{numbered};
 ghost use Rattle.receiver.specs.Receiver.{lentAt, leftAt};
 ghost use Rattle.adding.specs.Report.{addReturn, outcomeNumber, addOf};
 ghost use Rattle.adding.specs.Counting.{replayedBy};
-use adding::Added;
+use adding::Addition;
 use adding::FiguresAnswer;
 use counts::Report;
 use settings::Settings;
@@ -19,7 +19,7 @@ fn add_replayed(
     sectors: &mut [u8],
     main: &mut [u8],
     xip: &mut [u8],
-) -> Added
+) -> Addition
     ensures { λ r. ⌜ addReturn r (leftAt flash seen sectors main xip) ≡ replayedBy report settings (lentAt flash seen sectors main xip) (now (trace .entry)) ⌝ }
 {
     let pieces = trace.len() / piece::RECORD;
@@ -37,7 +37,7 @@ fn add_replayed(
     let stop = replayed.stop;
     let transfer = replayed.transfer;
     let counted = counts::with_tally(report, tally, ends::before_stop(stop, pieces));
-    Added {
+    Addition {
         report: missing::with_end(counted, transfer, seen),
         answer: FiguresAnswer::Replayed(stop),
     }
@@ -53,18 +53,18 @@ pub fn add(
     sectors: &mut [u8],
     main: &mut [u8],
     xip: &mut [u8],
-) -> Added
+) -> Addition
     ensures { λ r. ⌜ numbered outcomeNumber (addReturn r (leftAt flash seen sectors main xip)) ≡ numbered outcomeNumber (addOf report settings (lentAt flash seen sectors main xip) (now (trace .entry))) ⌝ }
 {
     if !counts::is_good(report) {
-        return Added {
+        return Addition {
             report,
             answer: FiguresAnswer::BadReport,
         };
     }
     let pieces = trace.len() / piece::RECORD;
     if !counts::has_room(report, pieces) {
-        return Added {
+        return Addition {
             report,
             answer: FiguresAnswer::TooMany,
         };

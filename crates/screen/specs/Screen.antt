@@ -27,7 +27,7 @@ use Rattle.screen.specs.declared.Window.{Window}
 use Rattle.screen.specs.declared.Window.the-variants.{Outside, In}
 use Rattle.screen.specs.declared.Body.{Body}
 use Rattle.screen.specs.declared.Body.the-variants.{Page, Note}
-use Rattle.screen.specs.declared.Placed.{Placed}
+use Rattle.screen.specs.declared.PlacedBlock.{PlacedBlock}
 use Rattle.screen.specs.declared.Screening.{Screening}
 use Rattle.screen.specs.declared.Screening.the-variants.{Refused, Passed}
 
@@ -103,7 +103,7 @@ badAddress XipRam size b = ltb size (b .address - baseOf XipRam + 256)
 -- ---- a block beside its place
 
 -- a block that passes, with its kind and what it holds
-abbrev pub placedAt : Kind → Body → Block → Placed
+abbrev pub placedAt : Kind → Body → Block → PlacedBlock
 placedAt k body b = record { head = headWith k (b .family) (b .total); number = b .number; body = body }
 
 -- rows 9 to 11, of a data block in the window of its kind; "Storage address = place start + block address - 0x10000000", and in RAM

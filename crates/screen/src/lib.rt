@@ -38,7 +38,7 @@ pub enum Body {
 }
 
 // A block that passes: its head, its number, and what it holds.
-pub struct Placed {
+pub struct PlacedBlock {
     pub head: Head,
     pub number: u32,
     pub body: Body,
@@ -46,7 +46,7 @@ pub struct Placed {
 
 pub enum Screening {
     Refused(Answer),
-    Passed(Placed),
+    Passed(PlacedBlock),
 }
 
 impl Window {

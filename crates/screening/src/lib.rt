@@ -25,7 +25,7 @@ use flash::Flash;
 use place::Place;
 use screen::Body;
 use screen::Lengths;
-use screen::Placed;
+use screen::PlacedBlock;
 use screen::Rooms;
 use screen::Screening;
 use screen::Window;
@@ -64,7 +64,7 @@ fn at_address(kind: Kind, b: Block, start: usize, size: usize) -> Screening
     let at = start + (address - from);
     let head = Head::new(kind, b.family, b.total);
     let body = Body::Page(at);
-    Screening::Passed(Placed {
+    Screening::Passed(PlacedBlock {
         head,
         number: b.number,
         body,

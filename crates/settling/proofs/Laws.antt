@@ -13,12 +13,12 @@ use Rattle.transfer.specs.declared.Deed.the-variants.{Stores}
 use Rattle.transfer.specs.declared.Accepted.{Accepted}
 use Rattle.transfer.specs.declared.Step.{Step}
 use Rattle.transfer.specs.declared.Step.the-variants.{Stays, Accepts}
-use Rattle.screen.specs.declared.Placed.{Placed}
+use Rattle.screen.specs.declared.PlacedBlock.{PlacedBlock}
 use Rattle.screen.specs.declared.Screening.the-variants.{Passed}
 use Rattle.arrival.specs.Arrive.{Decision, deedOf, afterScreening, stays, accepts}
 use Rattle.verdict.specs.Verdict.{acceptedAs}
 
-module _ (t : Transfer) (p : Placed) (seen : List ℕ) (kept : Bool) {m : Bool} (e : m ≡ markedIn seen (p .number)) where
+module _ (t : Transfer) (p : PlacedBlock) (seen : List ℕ) (kept : Bool) {m : Bool} (e : m ≡ markedIn seen (p .number)) where
   -- what stays, stays whatever the flash has
   pub settled-stays : {s : Step} → s ≡ stepOf (t .state) (p .head) m Stores → {x : Unchanged} → s ≡ Stays x
       → stays (x .answer) ≡ afterScreening (t .state) seen kept (Passed p)
@@ -38,5 +38,5 @@ module _ (t : Transfer) (p : Placed) (seen : List ℕ) (kept : Bool) {m : Bool} 
       rw v g
 
 -- the deed and what is done, call by call
-pub accepted-by : (kept : Bool) (p : Placed) (y : Accepted) {d : Deed} → d ≡ deedOf kept p → {z : Accepted} → z ≡ withDeed d y → accepts p d z ≡ acceptedAs kept p y
+pub accepted-by : (kept : Bool) (p : PlacedBlock) (y : Accepted) {d : Deed} → d ≡ deedOf kept p → {z : Accepted} → z ≡ withDeed d y → accepts p d z ≡ acceptedAs kept p y
 accepted-by kept p y f g = rw (g, f)

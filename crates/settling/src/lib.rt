@@ -3,7 +3,7 @@ ghost use mathlib.Core.Path.{_≡_};
 ghost use Rattle.arrival.specs.Arrive.{standsAt, afterScreening};
 ghost use Rattle.verdict.specs.Verdict.{decision, acceptedAs};
 use place::Place;
-use screen::Placed;
+use screen::PlacedBlock;
 use screen::Screening;
 use transfer::Accepted;
 use transfer::Answer;
@@ -14,7 +14,13 @@ use verdict::Acceptance;
 use verdict::Verdict;
 
 // A block that rows 12 and 13 let through, with what it would do to the transfer if it were stored.
-fn accept(placed: Placed, place: Place, stored: Accepted, arrival: &[u8], flash: &[u8]) -> Verdict
+fn accept(
+    placed: PlacedBlock,
+    place: Place,
+    stored: Accepted,
+    arrival: &[u8],
+    flash: &[u8],
+) -> Verdict
     ensures { λ r. ⌜ decision r ≡ acceptedAs (standsAt (now (flash .entry)) place (now (arrival .entry))) placed stored ⌝ }
 {
     let deed = deeds::deed_of(placed, place, flash, arrival);
@@ -29,7 +35,7 @@ fn accept(placed: Placed, place: Place, stored: Accepted, arrival: &[u8], flash:
 // Rows 12 to 17, of a block that has passed the screening. The flash is read where it is accepted, and not for 12 and 13.
 pub fn settle(
     transfer: Transfer,
-    placed: Placed,
+    placed: PlacedBlock,
     place: Place,
     arrival: &[u8],
     flash: &[u8],

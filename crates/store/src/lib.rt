@@ -43,13 +43,13 @@ fn head_in(s: &[u8]) -> u64
 }
 
 // The entries of a store, and whether one of them is no entry of its version.
-pub struct Scanned {
+pub struct EntryScan {
     pub table: [Entry; 16],
     pub stray: bool,
 }
 
 // The first n entries of a store of that version.
-fn scan(s: &[u8], version: u8, n: usize) -> Scanned
+fn scan(s: &[u8], version: u8, n: usize) -> EntryScan
     requires { ⌜ (n ≤ 16) × (2 + 22 * n ≤ length (now s)) ⌝ }
     ensures { λ r. ⌜ (r .table ≡ tableOf (entryOf (now (s .entry))) n) × (r .stray ≡ any n (strayAt (now (s .entry)) version)) ⌝ }
 {
@@ -65,7 +65,7 @@ fn scan(s: &[u8], version: u8, n: usize) -> Scanned
         table[k] = e;
         k += 1;
     }
-    Scanned { table, stray }
+    EntryScan { table, stray }
 }
 
 fn arch_of(b: bool) -> Arch

@@ -14,7 +14,7 @@ use Rattle.sets.proofs.Laws.{any-more, least-is, least-none, least-below}
 use Rattle.settings.specs.Settings.{goodSettings}
 use Rattle.layout.proofs.Refused.{link-tag}
 use Rattle.layout.specs.Layout.{byteAt, entryBytes, usedOf, countFrom, settingsFrom}
-use Rattle.told.specs.declared.Told.{Told}
+use Rattle.told.specs.declared.ReasonFields.{ReasonFields}
 use Rattle.told.specs.Told.{toldWith, bare, linkByte, linkOver, badLink, linkTold, settingsTold}
 
 -- 550 is layout's length of settings: bytes of any other are those whose count is 255
@@ -44,8 +44,8 @@ unfolding badLink
 link-none b n h = sym (least-none (linkOver b) n h)
 
 -- what is told of entry k
-module _ (b : List ℕ) (n k : ℕ) (x : Told) where
-  pub link-tells : {y : ℕ} {t : Told} → y ≡ linkByte b k → k < n → t ≡ toldWith 211 y 2 k 0 (replicate 16 0) → t ≡ linkTold b n k x
+module _ (b : List ℕ) (n k : ℕ) (x : ReasonFields) where
+  pub link-tells : {y : ℕ} {t : ReasonFields} → y ≡ linkByte b k → k < n → t ≡ toldWith 211 y 2 k 0 (replicate 16 0) → t ≡ linkTold b n k x
   unfolding linkTold
   link-tells e l t =
       t
@@ -57,12 +57,12 @@ module _ (b : List ℕ) (n k : ℕ) (x : Told) where
   link-silent l = ap (λ (q : Bool). cond q (toldWith 211 (linkByte b k) 2 k 0 (replicate 16 0)) x) (sym (le-ltb k n l))
 
 -- of bytes of another length, and of those of the right one
-pub short-told : (b : List ℕ) (x : Told) → length b ≢ 550 → {t : Told} → t ≡ bare 210 (length b) 550 → t ≡ settingsTold b x
+pub short-told : (b : List ℕ) (x : ReasonFields) → length b ≢ 550 → {t : ReasonFields} → t ≡ bare 210 (length b) 550 → t ≡ settingsTold b x
 unfolding settingsTold
 short-told b x n t =
     t ∙ ap (λ (w : Bool). cond w (linkTold b (usedOf (byteAt b 5)) (badLink b (usedOf (byteAt b 5))) x) (bare 210 (length b) 550)) (sym (ne-eqb (length b) 550 n))
 
-pub whole-told : (b : List ℕ) (x : Told) → length b ≡ 550 → {n k : ℕ} {t : Told} → n ≡ usedOf (byteAt b 5) → k ≡ badLink b n → t ≡ linkTold b n k x → t ≡ settingsTold b x
+pub whole-told : (b : List ℕ) (x : ReasonFields) → length b ≡ 550 → {n k : ℕ} {t : ReasonFields} → n ≡ usedOf (byteAt b 5) → k ≡ badLink b n → t ≡ linkTold b n k x → t ≡ settingsTold b x
 unfolding settingsTold
 whole-told b x e {n} {k} p q t =
     t

@@ -6,13 +6,13 @@ use lib.Dec.{ltb, eqb}
 use lib.ListN.{length, replicate}
 use Rattle.sets.specs.Sets.{least}
 use Rattle.layout.specs.Layout.{byteAt, entryBytes, usedOf}
-use Rattle.told.specs.declared.Told.{Told}
+use Rattle.told.specs.declared.ReasonFields.{ReasonFields}
 
-abbrev pub toldWith : ℕ → ℕ → ℕ → ℕ → ℕ → List ℕ → Told
+abbrev pub toldWith : ℕ → ℕ → ℕ → ℕ → ℕ → List ℕ → ReasonFields
 toldWith number g a entry other marks = record { number = number; got = g; against = a; entry = entry; other = other; marks = marks }
 
 -- without an entry and marks
-abbrev pub bare : ℕ → ℕ → ℕ → Told
+abbrev pub bare : ℕ → ℕ → ℕ → ReasonFields
 bare number g a = toldWith number g a 0 0 (replicate 16 0)
 
 -- the link kind's byte of entry k, at layout's offset
@@ -28,10 +28,10 @@ unfoldable pub badLink : List ℕ → ℕ → ℕ
 badLink b n = least n (linkOver b)
 
 -- 211: the link kind's byte of entry k of n used ones, and 2; such an entry makes the settings bad (`link-answers` of proofs/Laws.antt)
-unfoldable pub linkTold : List ℕ → ℕ → ℕ → Told → Told
+unfoldable pub linkTold : List ℕ → ℕ → ℕ → ReasonFields → ReasonFields
 linkTold b n k x = cond (ltb k n) (toldWith 211 (linkByte b k) 2 k 0 (replicate 16 0)) x
 
 -- 210: a wrong length, and the right one; such bytes are bad settings (layout's `countFrom`). With a count over 16 no entry is used
-unfoldable pub settingsTold : List ℕ → Told → Told
+unfoldable pub settingsTold : List ℕ → ReasonFields → ReasonFields
 settingsTold b x =
     cond (eqb (length b) 550) (linkTold b (usedOf (byteAt b 5)) (badLink b (usedOf (byteAt b 5))) x) (bare 210 (length b) 550)

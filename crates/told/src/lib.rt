@@ -6,7 +6,7 @@ ghost use Rattle.layout.specs.Layout.{usedOf};
 ghost use Rattle.told.specs.Told.{toldWith, linkByte, badLink, linkTold, settingsTold};
 
 // What is written of a reason.
-pub struct Told {
+pub struct ReasonFields {
     pub number: u32,
     pub got: u64,
     pub against: u64,
@@ -26,10 +26,17 @@ const ENTRY: usize = 34;
 const ENTRIES: usize = 16;
 
 // Numbers, entries and marks, as they are told.
-pub fn told_with(number: u32, got: u64, against: u64, entry: u8, other: u8, marks: [u8; 16]) -> Told
+pub fn told_with(
+    number: u32,
+    got: u64,
+    against: u64,
+    entry: u8,
+    other: u8,
+    marks: [u8; 16],
+) -> ReasonFields
     ensures { λ r. ⌜ r ≡ toldWith number got against entry other marks ⌝ }
 {
-    Told {
+    ReasonFields {
         number,
         got,
         against,
@@ -76,7 +83,7 @@ fn bad_link(bytes: &[u8], n: usize) -> usize
 }
 
 // What is told where the link of entry k, of n used ones, is of no kind.
-fn link_told(bytes: &[u8], n: usize, k: usize, told: Told) -> Told
+fn link_told(bytes: &[u8], n: usize, k: usize, told: ReasonFields) -> ReasonFields
     requires { ⌜ length (now bytes) ≡ 550 ⌝ }
     requires { ⌜ n ≤ 16 ⌝ }
     ensures { λ r. ⌜ r ≡ linkTold (now (bytes .entry)) n k told ⌝ }
@@ -89,7 +96,7 @@ fn link_told(bytes: &[u8], n: usize, k: usize, told: Told) -> Told
 }
 
 // Bytes that are no settings: no number is told that is not theirs.
-pub fn settings_told(bytes: &[u8], told: Told) -> Told
+pub fn settings_told(bytes: &[u8], told: ReasonFields) -> ReasonFields
     ensures { λ r. ⌜ r ≡ settingsTold (now (bytes .entry)) told ⌝ }
 {
     if bytes.len() != SETTINGS {

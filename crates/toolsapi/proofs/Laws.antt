@@ -11,7 +11,7 @@ use Rattle.md5.specs.declared.Digest.{Digest}
 use Rattle.md5.specs.Md5.{md5Of, digestBytes}
 use Rattle.uf2file.specs.declared.MakeAnswer.{MakeAnswer}
 use Rattle.uf2file.specs.Uf2file.{makeNumber, makeCall, callNumber, makeOf}
-use Rattle.joiner.specs.declared.Joined.{Joined}
+use Rattle.joiner.specs.declared.JoinAnswer.{JoinAnswer}
 use Rattle.joiner.specs.Join.{joinCall, joinNumber, joinOf}
 use Rattle.toolsapi.specs.Join.{joinedResult, joinReturn, joinReturnOf, joinBytes}
 use Rattle.toolsapi.specs.Tools.{makeResult, resultOf, makeBytes, digestOver}
@@ -32,7 +32,7 @@ module _ (out l : List ℕ) where
 
 -- ---- one file from two
 
-pub joined-told : (a b out : List ℕ) {n : ℕ} {x : Joined} {o : List ℕ} → numbered joinNumber (joinCall x o) ≡ numbered joinNumber (joinOf a b out)
+pub joined-told : (a b out : List ℕ) {n : ℕ} {x : JoinAnswer} {o : List ℕ} → numbered joinNumber (joinCall x o) ≡ numbered joinNumber (joinOf a b out)
     → n ≡ joinedResult x → joinReturn n o ≡ joinBytes a b out
 unfolding joinBytes
 joined-told a b out {n} {x} {o} e h = ap (λ (k : ℕ). joinReturn k o) h ∙ ap joinReturnOf (answer-is e)

@@ -8,7 +8,7 @@ use Rattle.settings.specs.Settings.{goodSettings}
 use Rattle.settings.specs.declared.Settings.{Settings}
 use Rattle.screen.specs.Screen.{roomsOf, screenAt}
 use Rattle.screen.specs.declared.Lengths.{Lengths}
-use Rattle.screen.specs.declared.Placed.{Placed}
+use Rattle.screen.specs.declared.PlacedBlock.{PlacedBlock}
 use Rattle.transfer.specs.Transfer.{numberOf, goodState, withDeed}
 use Rattle.transfer.specs.declared.Accepted.{Accepted}
 use Rattle.transfer.specs.declared.Answer.the-variants.{BadBuffers, BadSettings, BadState}
@@ -28,7 +28,7 @@ decisionNumber (stays x) = numberOf x
 decisionNumber (accepts p d t) = numberOf (t .answer)
 
 -- a block is accepted that would do y to the transfer if it were stored; `kept`: what it would store stands in the flash
-abbrev pub acceptedAs : Bool → Placed → Accepted → Decision
+abbrev pub acceptedAs : Bool → PlacedBlock → Accepted → Decision
 acceptedAs kept p y = accepts p (deedOf kept p) (withDeed (deedOf kept p) y)
 
 -- what they say: row 1's word for buffers of lengths n, a seen map of m bytes and a sector map of k, row 2's word, and what row 8 asks of the settings

@@ -5,7 +5,7 @@ ghost use Rattle.arrival.specs.Arrive.{rightLengths};
 ghost use Rattle.verdict.specs.Verdict.{knownOf};
 use block::Block;
 use screen::Lengths;
-use screen::Placed;
+use screen::PlacedBlock;
 use screen::Rooms;
 use screen::Window;
 use settings::Settings;
@@ -15,7 +15,7 @@ use transfer::Deed;
 
 // A block that is accepted: its number and what it holds, what is done with that, and what the block does to the transfer.
 pub struct Acceptance {
-    pub placed: Placed,
+    pub placed: PlacedBlock,
     pub deed: Deed,
     pub accepted: Accepted,
 }

@@ -28,7 +28,7 @@ use Rattle.reason.specs.Why.{worldWith, whyOf}
 use Rattle.reason.specs.Placed.{placedNumber, whyPlaceOf}
 use Rattle.reason.specs.declared.Why.{Why}
 use Rattle.reason.specs.declared.WhyPlace.{WhyPlace}
-use Rattle.told.specs.declared.Told.{Told}
+use Rattle.told.specs.declared.ReasonFields.{ReasonFields}
 use Rattle.whyapi.specs.WhyCall.{faultOther, onFault, toldOf, byteTold, numbersOver, marksOver, toldOver, Call, callReturn, returned, whyCall, placeTold, placeShown, placeCall}
 
 -- ---- causes that are no fault of the settings
@@ -71,7 +71,7 @@ no-other (ReservedUser k) h = refl
 
 -- ---- 38 bytes
 
-module _ (l : List ℕ) (x : Told) where
+module _ (l : List ℕ) (x : ReasonFields) where
   pub told-other : length l ≢ 38 → l ≡ toldOver l x
   unfolding toldOver
   told-other n = rw (ne-eqb (length l) 38 n)
@@ -97,7 +97,7 @@ marks-put l entry other m e n {x} {y} {z} p q r =
 -- ---- an arrival
 
 module _ (sb tb l : List ℕ) where
-  pub why-told : (y : Why) {x v : Told} {n r : ℕ} {z : Answer} {o : List ℕ} → x ≡ toldOf y → z ≡ answerOf (y .reason .cause)
+  pub why-told : (y : Why) {x v : ReasonFields} {n r : ℕ} {z : Answer} {o : List ℕ} → x ≡ toldOf y → z ≡ answerOf (y .reason .cause)
       → n ≡ numberOf z → v ≡ byteTold n sb tb x → o ≡ toldOver l v → r ≡ returned n (y .discarded) → callReturn r o ≡ whyCall sb tb y l
   unfolding whyCall
   why-told y {x} {v} {n} {r} {z} {o} a b e c d f =
@@ -117,7 +117,7 @@ module _ (sb tb a f m k u x : List ℕ) {s : Settings} (p : s ≡ settingsFrom s
 -- ---- a place
 
 module _ (sb : List ℕ) (len g : ℕ) (l : List ℕ) {s : Settings} (p : s ≡ settingsFrom sb) {y : WhyPlace} (e : y ≡ whyPlaceOf s len g) where
-  pub place-call : {n : ℕ} {x v : Told} {o : List ℕ} → n ≡ placedNumber (y .placed) → x ≡ placeTold (y .placed) (y .entries) → v ≡ placeShown n sb x
+  pub place-call : {n : ℕ} {x v : ReasonFields} {o : List ℕ} → n ≡ placedNumber (y .placed) → x ≡ placeTold (y .placed) (y .entries) → v ≡ placeShown n sb x
       → o ≡ toldOver l v → callReturn n o ≡ placeCall sb (whyPlaceOf (settingsFrom sb) len g) l
   unfolding placeCall
   place-call {n} {x} {v} {o} a b c d =

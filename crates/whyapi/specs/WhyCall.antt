@@ -19,11 +19,11 @@ use Rattle.reason.specs.Why.{worldWith, whyOf}
 use Rattle.reason.specs.Placed.{placedNumber, whyPlaceOf}
 use Rattle.reason.specs.declared.Why.{Why}
 use Rattle.reason.specs.declared.WhyPlace.{WhyPlace}
-use Rattle.reason.specs.declared.Placed.{Placed}
-use Rattle.reason.specs.declared.Placed.the-variants.{Refused, Whole, Entry}
+use Rattle.reason.specs.declared.PlaceOrigin.{PlaceOrigin}
+use Rattle.reason.specs.declared.PlaceOrigin.the-variants.{Refused, Whole, Entry}
 use Rattle.placing.specs.declared.Rule.{Rule}
 use Rattle.placing.specs.declared.Rule.the-variants.{Absolute, NoTable}
-use Rattle.told.specs.declared.Told.{Told}
+use Rattle.told.specs.declared.ReasonFields.{ReasonFields}
 -- what is told of settings' bytes
 pub use Rattle.told.specs.Told.{toldWith, bare}
 unfoldable pub use Rattle.told.specs.Told.{linkByte, linkOver, badLink, linkTold, settingsTold}
@@ -78,21 +78,21 @@ entryOf c = onFault faultEntry c
 abbrev pub otherOf : Cause → ℕ
 otherOf c = onFault faultOther c
 
-abbrev pub toldOf : Why → Told
+abbrev pub toldOf : Why → ReasonFields
 toldOf y =
     toldWith (causeNumber (y .reason .cause)) (y .reason .got) (y .reason .against) (entryOf (y .reason .cause)) (otherOf (y .reason .cause)) (y .entries)
 
 -- ---- bytes that are no settings or no transfer are named as that, and no number is told that nobody handed in
 
 -- 306: a wrong length, and the right one; 307: a state byte over 2, or of a transfer that is not Idle a kind byte over 2 (layout's `stateOf`)
-unfoldable pub transferTold : List ℕ → Told → Told
+unfoldable pub transferTold : List ℕ → ReasonFields → ReasonFields
 transferTold b x =
     cond (eqb (length b) 14)
     (cond (ltb 2 (byteAt b 0)) (bare 307 (byteAt b 0) 2) (cond (not (eqb (byteAt b 0) 0) && ltb 2 (byteAt b 13)) (bare 307 (byteAt b 13) 2) x))
     (bare 306 (length b) 14)
 
 -- in the row of the answer that they earn, by its number
-unfoldable pub byteTold : ℕ → List ℕ → List ℕ → Told → Told
+unfoldable pub byteTold : ℕ → List ℕ → List ℕ → ReasonFields → ReasonFields
 byteTold n s t y = cond (eqb n 2) (settingsTold s y) (cond (eqb n 3) (transferTold t y) y)
 
 -- ---- 38 bytes: 0 the condition's number, 4 the number tested, 12 what it is tested against, the lowest byte first; 20 the entry, 21 the other; 22 a
@@ -106,7 +106,7 @@ abbrev pub marksOver : List ℕ → ℕ → ℕ → List ℕ → List ℕ
 marksOver l entry other m = over l 20 (entry ∷ other ∷ m)
 
 -- of another length they stay
-unfoldable pub toldOver : List ℕ → Told → List ℕ
+unfoldable pub toldOver : List ℕ → ReasonFields → List ℕ
 toldOver l x = cond (eqb (length l) 38) (marksOver (numbersOver l (x .number) (x .got) (x .against)) (x .entry) (x .other) (x .marks)) l
 
 -- ---- the call
@@ -146,13 +146,13 @@ ruleNumber Absolute = 1
 ruleNumber NoTable = 2
 
 -- "it names the pass and the entry, or the whole-flash rule"
-abbrev pub placeTold : Placed → List ℕ → Told
+abbrev pub placeTold : PlaceOrigin → List ℕ → ReasonFields
 placeTold (Refused x) m = toldOf (record { reason = x; discarded = false; entries = m })
 placeTold (Whole r) m = toldWith (ruleNumber r) 0 0 0 0 m
 placeTold (Entry p k) m = toldWith 3 p 0 k 0 m
 
 -- bytes that are no settings, where that is the answer
-unfoldable pub placeShown : ℕ → List ℕ → Told → Told
+unfoldable pub placeShown : ℕ → List ℕ → ReasonFields → ReasonFields
 placeShown n s x = cond (eqb n 2) (settingsTold s x) x
 
 unfoldable pub placeCall : List ℕ → WhyPlace → List ℕ → Call

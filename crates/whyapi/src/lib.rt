@@ -25,9 +25,9 @@ ghost use Rattle.reason.specs.Placed.{placedNumber};
 use causes::Cause;
 use faults::Fault;
 use placing::Rule;
-use reason::Placed;
+use reason::PlaceOrigin;
 use reason::Why;
-use told::Told;
+use told::ReasonFields;
 
 // The bytes of a reason and of a transfer.
 const REASON: usize = 38;
@@ -82,7 +82,7 @@ fn other_of(cause: Cause) -> u8
 }
 
 // A reason as it is written.
-fn told_of(why: Why) -> Told
+fn told_of(why: Why) -> ReasonFields
     ensures { λ r. ⌜ r ≡ toldOf why ⌝ }
 {
     let reason = why.reason;
@@ -95,7 +95,7 @@ fn told_of(why: Why) -> Told
 }
 
 // Bytes that are no transfer.
-fn transfer_told(bytes: &[u8], told: Told) -> Told
+fn transfer_told(bytes: &[u8], told: ReasonFields) -> ReasonFields
     ensures { λ r. ⌜ r ≡ transferTold (now (bytes .entry)) told ⌝ }
 {
     if bytes.len() != TRANSFER {
@@ -113,7 +113,7 @@ fn transfer_told(bytes: &[u8], told: Told) -> Told
 }
 
 // What is told of a reason, by its answer's number and the bytes that settings and transfer were read from.
-fn byte_told(number: u8, settings: &[u8], transfer: &[u8], told: Told) -> Told
+fn byte_told(number: u8, settings: &[u8], transfer: &[u8], told: ReasonFields) -> ReasonFields
     ensures { λ r. ⌜ r ≡ byteTold number (now (settings .entry)) (now (transfer .entry)) told ⌝ }
 {
     if number == 2 {
@@ -151,7 +151,7 @@ fn put_marks(out: &mut [u8], entry: u8, other: u8, marks: [u8; 16])
 }
 
 // A reason, where there are bytes for it.
-fn put_told(out: &mut [u8], told: Told)
+fn put_told(out: &mut [u8], told: ReasonFields)
     ensures { λ _. ⌜ now (out .exit) ≡ toldOver (now (out .entry)) told ⌝ }
 {
     if out.len() != REASON {
@@ -216,36 +216,36 @@ fn rule_number(rule: Rule) -> u32
 }
 
 // What is written of a place: the refusal; or 1 where absolute is allowed, 2 where there is no table, or 3 with the pass and the entry.
-fn place_told(placed: Placed, marks: [u8; 16]) -> Told
+fn place_told(placed: PlaceOrigin, marks: [u8; 16]) -> ReasonFields
     ensures { λ r. ⌜ r ≡ placeTold placed marks ⌝ }
 {
     match placed {
-        Placed::Refused(x) => told_of(Why {
+        PlaceOrigin::Refused(x) => told_of(Why {
             reason: x,
             discarded: false,
             entries: marks,
         }),
-        Placed::Whole(rule) => told::told_with(rule_number(rule), 0, 0, 0, 0, marks),
-        Placed::Entry { pass, entry } => told::told_with(3, pass as u64, 0, entry, 0, marks),
+        PlaceOrigin::Whole(rule) => told::told_with(rule_number(rule), 0, 0, 0, 0, marks),
+        PlaceOrigin::Entry { pass, entry } => told::told_with(3, pass as u64, 0, entry, 0, marks),
     }
 }
 
 // The refusal's number, and 0 for a place that is found.
-fn place_number(placed: Placed) -> u8
+fn place_number(placed: PlaceOrigin) -> u8
     ensures { λ r. ⌜ r ≡ placedNumber placed ⌝ }
 {
     match placed {
-        Placed::Refused(x) => {
+        PlaceOrigin::Refused(x) => {
             let cause = x.cause;
             cause.answer().number()
         }
-        Placed::Whole(_) => 0,
-        Placed::Entry { pass: _, entry: _ } => 0,
+        PlaceOrigin::Whole(_) => 0,
+        PlaceOrigin::Entry { pass: _, entry: _ } => 0,
     }
 }
 
 // Bytes that are no settings are named as that.
-fn place_shown(number: u8, settings: &[u8], told: Told) -> Told
+fn place_shown(number: u8, settings: &[u8], told: ReasonFields) -> ReasonFields
     ensures { λ r. ⌜ r ≡ placeShown number (now (settings .entry)) told ⌝ }
 {
     if number == 2 {

@@ -5,7 +5,7 @@ use mathlib.Core.Path.{_≡_, refl, sym, ap, _∙_}
 use native.Mathlib.Omega.{arith}
 use lib.ListN.{length, drop, length-set}
 use Rattle.receiver.specs.Receiver.{lent, world}
-use Rattle.judged.specs.declared.Judged.{Judged}
+use Rattle.judged.specs.declared.Judgement.{Judgement}
 use Rattle.batch.specs.Batch.{arrivalsOf, batchOf}
 use Rattle.batch.specs.Parts.{Knows}
 use Rattle.batch.proofs.Laws.{knows-of, Stays, stays-judged, stays-on, arrival-size, endFrom, end-starts, end-more, end-ran}
@@ -34,7 +34,7 @@ judge-lent-requires c κs = search needs
 loop-holds : tie.Need-loop-holds Inv-loop μ-loop
 loop-holds c =
     let judged = c .before .judge-lent .ensures in
-    (search needs, refl, stays-judged _ _ _ (judged .0), knows-of _ _ (ap (λ (j : Judged). j .kept) (judged .0)) (judged .1), end-starts _ _ _ _ (c .before .before .before .before .before .before .before .at-most .ensures .0))
+    (search needs, refl, stays-judged _ _ _ (judged .0), knows-of _ _ (ap (λ (j : Judgement). j .kept) (judged .0)) (judged .1), end-starts _ _ _ _ (c .before .before .before .before .before .before .before .at-most .ensures .0))
 
 mul-from : tie.Need-mul-from Inv-loop μ-loop
 mul-from c = search needs

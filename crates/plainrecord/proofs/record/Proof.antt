@@ -1,5 +1,5 @@
 -- `plainrecord::record` meets its contract. Assumes nothing.
-use Rattle.plain.specs.declared.Taken.the-variants.{Passed}
+use Rattle.plain.specs.declared.LineReading.the-variants.{Passed}
 use Rattle.sets.specs.Numbered.{numbered}
 use Rattle.plain.specs.Line.{takenNumber, recordTaken}
 use mathlib.Core.Path.{ap}

@@ -1,6 +1,6 @@
 -- `reason::place_source` meets its contract. Assumes nothing.
 use mathlib.Core.Path.{sym, ap, _∙_}
-use Rattle.reason.specs.declared.Placed.the-variants.{Refused}
+use Rattle.reason.specs.declared.PlaceOrigin.the-variants.{Refused}
 use Rattle.reason.specs.Placed.{placedSpot}
 use Rattle.sets.proofs.Numbered.{answer-is}
 use Rattle.reason.proofs.Laws.{placed-row, placed-spot}
