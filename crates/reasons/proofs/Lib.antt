@@ -7,3 +7,4 @@ mod Ranks
 pub mod Theorems
 pub mod Places
 pub mod Counts
+pub mod Bytes

@@ -1,0 +1,20 @@
+-- What is claimed of reasons for C (02, L6): "the answer is the receiver's", as include/uf2_why.h says it of what each call returns. Of the very
+-- definitions that the calls' contracts name. Assumes nothing.
+use Prim.Native.Nat.{ℕ}
+use mathlib.Core.Path.{_≡_}
+use mathlib.Core.List.{List}
+use lib.ListN.{length}
+use Rattle.verdict.specs.Lending.{Slice, lentAt}
+use Rattle.callbytes.specs.Calls.{lookCallOf}
+use Rattle.placebytes.specs.Calls.{askBytes}
+use Rattle.whyapi.specs.WhyCall.{whyCallOf, placeCallOf}
+
+-- `uf2_why`: "What uf2_look returns", whatever the reason's bytes l
+unfoldable pub Why-returns-the-look : Type 0
+Why-returns-the-look =
+    (s t a f m k u x : Slice) (l : List ℕ) → whyCallOf s t a f m k u x l .result ≡ lookCallOf s t a (lentAt f m k u x)
+
+-- `uf2_why_place`: "What uf2_ask returns of a family in a flash of flash_len bytes", where it is lent the 8 bytes of a place
+unfoldable pub Why-place-returns-the-ask : Type 0
+Why-place-returns-the-ask =
+    (s : List ℕ) (len f : ℕ) (l place : List ℕ) → length place ≡ 8 → placeCallOf s len f l .result ≡ askBytes s len f place .result
