@@ -14,7 +14,7 @@ use Rattle.flash.specs.Flash.{eraseAt, payloadOf, storeAt}
 use Rattle.flash.proofs.Laws.{erase-in, length-erase, length-payload, room-yes}
 use Rattle.settings.specs.declared.Settings.{Settings}
 use Rattle.arrival.specs.Arrive.{World, Decision}
-use Rattle.arrivals.proofs.DecisionFacts.{DecisionFacts, kept, took, decision-facts}
+use Rattle.arrivals.proofs.DecisionFacts.{DecisionFacts, refused, took, decision-facts}
 use Rattle.plan.specs.declared.Plan.{Plan}
 use Rattle.plan.specs.declared.Plan.the-variants.{Nothing, Program, EraseProgram}
 use Rattle.plan.specs.Plan.{decisionPlan, performed, outcomeWith, acceptingBy, acceptingOf}
@@ -69,7 +69,7 @@ module _ (s : Settings) (w : World) (a : List ℕ) where
 
   decided-driven : {d : Decision} → DecisionFacts s w a d → (m : List ℕ)
       → drivenBy (planBytes (decisionPlan d m)) a (w .held .flash) ≡ performed (decisionPlan d m) (payloadOf a) (w .held .flash)
-  decided-driven (kept x h) m = words-driven 0 0 0 (omega arith) (omega arith) (omega arith) a (w .held .flash)
+  decided-driven (refused x h) m = words-driven 0 0 0 (omega arith) (omega arith) (omega arith) a (w .held .flash)
   decided-driven {d = d} (took g k B l q t) m = plan-driven (decisionPlan d m) l (decided-lies s w a (took g k B l q t) m)
 
 -- ---- one call

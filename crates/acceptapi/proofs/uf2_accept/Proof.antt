@@ -47,7 +47,7 @@ returns-2 c =
     let read = got .before .before .before .before .before in
     let x = read .before .before .before .before .before .before .before .before .before .before .before .before .before .args in
     let long = read .before .before .before .if1 .left in
-    accept-ran _ _ _ _ _ long refl (read .read-transfer .ensures) (got .accept-known .ensures ∙ accept-is _ _ _ (read .before .before .known-from .ensures)) refl (told .hand-back .ensures .0 .1) (told .hand-back .ensures .0 .0) (told .hand-back .ensures .1 ∙ plan-whole (x .plan .now) (got .accept-known .result .plan) long)
+    accept-ran _ _ _ _ _ long refl (read .read-transfer .ensures) (got .accept-known .ensures ∙ accept-is _ _ _ (read .before .before .known-from .ensures)) refl (told .hand-back .ensures .1 .0) (told .hand-back .ensures .0) (told .hand-back .ensures .1 .1 ∙ plan-whole (x .plan .now) (got .accept-known .result .plan) long)
 
 pub uf2-accept-spec : {M : Type 1} → statement M
 uf2-accept-spec =

@@ -28,7 +28,7 @@ returns : tie.Need-returns
 returns c =
     let k = c .before .before .before in
     let a = k .before .before in
-    ((c .result .ensures, rw (← a .is-acceptance .ensures) (k .keep .ensures)), a .before .before .before .tell .ensures)
+    (c .result .ensures, (rw (← a .is-acceptance .ensures) (k .keep .ensures), a .before .before .before .tell .ensures))
 
 pub hand-back-spec : {M : Type 1} → statement M
 hand-back-spec =
