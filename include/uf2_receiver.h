@@ -1,4 +1,6 @@
-/* The update receiver for C: every function is proved to do what crates/callbytes/specs and crates/capi/specs say, for every input.
+/* The update receiver for C: every function is proved to do what the folder `specs` of a crate says, for every input. It is that of callbytes for
+ * uf2_look, uf2_take, uf2_accept and uf2_take_all, of placebytes for uf2_ask, of transferbytes for uf2_new, of hexbytes for uhex_line and of
+ * readers for uhex_new.
  *
  * Built for: x86-64 Linux, for which `rt staticlib NAME` writes target/staticlib/libNAME.a (System V calling convention); Cortex-M33,
  * RV32IMAC, AArch64 and WebAssembly, by `tools/target` (docs/BOARD.md). The code calls nothing but memcpy and memset (Cortex-M33: under
@@ -128,7 +130,8 @@ enum uf2_state { UF2_STATE_IDLE = 0, UF2_STATE_RUNNING = 1, UF2_STATE_DONE = 2 }
 #define UF2_PLACE_LENGTH_AT 4
 
 /* ---- Answers to an arrival. They are asked in this order, and the first that fits is given; but where the address of a block that is
- * no comment lies in no window, 11 is asked before 10. 1 to 13 change nothing that is lent. No answer has the number 6.
+ * no comment lies in no window, 11 is asked before 10. 1 to 13 change nothing that is lent but for the plan of uf2_accept, which is then all
+ * 0 (of another length than UF2_PLAN_SIZE it stays). No answer has the number 6.
  *
  * A comment has flag 0x1, "not main flash"; its address is not read and it is not stored. A comment of the running transfer's family and
  * total has that transfer's kind, unless the buffer of this kind is empty; every other comment is of kind flash. */

@@ -1,9 +1,12 @@
 /* Files made of images, digests, one Universal Hex file from two plain ones, traces replayed, and exact figures over them, for tools on a host:
- * every function is proved to do what crates/toolsapi/specs and crates/traceapi/specs say, for every input.
+ * every function is proved to do what the folder `specs` of a crate says, for every input. It is that of toolsapi for uf2_make, uf2_md5 and
+ * uhex_join, of uf2file for uf2_make_check, of uf2block for uf2_make_block, of traceapi for uf2_replay and uf2_figures.
  * What a board links is include/uf2_receiver.h.
  *
- * Built for: x86-64 Linux. `rt staticlib toolsapi` writes target/staticlib/libtoolsapi.a, and `rt staticlib traceapi` libtraceapi.a, which has
- * uf2_replay and uf2_figures. Both link beside the libraries of uf2_receiver.h; they call nothing but memcpy and memset, allocate nothing and keep nothing between calls.
+ * Built for the machines that uf2_receiver.h names: `rt staticlib toolsapi` writes target/staticlib/libtoolsapi.a, and `rt staticlib traceapi`
+ * libtraceapi.a, which has uf2_replay and uf2_figures. Both link beside the libraries of uf2_receiver.h; they call nothing but memcpy and memset
+ * (libtraceapi.a on Cortex-M33 and RV32IMAC also the compiler's own division of 64 bits), allocate nothing and keep nothing between calls. What
+ * uf2_receiver.h says of UF2_STACK_SIZE holds here too.
  *
  * A slice is a pointer to bytes and then their number, and no function keeps a pointer. A pointer is never null, also of an empty slice, and
  * points to as many bytes as the number says; it may have any alignment. A slice that a function writes (no `const`) overlaps no other

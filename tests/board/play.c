@@ -16,7 +16,8 @@ int memcmp(const void *one, const void *other, size_t n);
 
 const char *const play_names[PLAY_KINDS] = {"uf2_new", "uf2_ask", "uf2_look", "uf2_take", "uf2_take_all", "uf2_accept", "uhex_new", "uhex_line",
                                             "uf2_tag_first", "uf2_tag", "uf2_tag_find", "uf2_make_check", "uf2_make", "uf2_make_block", "uf2_md5",
-                                            "uhex_join", "uf2_replay"};
+                                            "uhex_join", "uf2_replay", "uf2_figures", "uf2_store_write", "uf2_store_read", "uf2_why",
+                                            "uf2_why_place"};
 
 struct play_end play_ends[PLAY_KINDS];
 
@@ -75,7 +76,7 @@ void count(uint32_t answer) {
     add(answer);
 }
 
-static void count_result(uint32_t result) {
+void count_result(uint32_t result) {
     end->discarded += UF2_RESULT_IS_DISCARDED(result);
     count(result);
 }
@@ -95,16 +96,19 @@ static uint8_t place[UF2_PLACE_SIZE + MORE];
 static uf2_len place_len, asked_len;
 static uint32_t asked_family;
 
-static struct {
-    uint32_t family, total, address, kind, place_start, place_len;
-} file;
+struct play_file file;
 
 static const uint32_t families[] = {UF2_FAMILY_RP2040, UF2_FAMILY_ABSOLUTE, UF2_FAMILY_DATA,  UF2_FAMILY_ARM_S,  UF2_FAMILY_RISCV,
                                     UF2_FAMILY_ARM_NS, UF2_FAMILY_ARM_S,    UF2_FAMILY_ARM_S, UF2_FAMILY_ABSOLUTE, 0x11111111u,
                                     0x22222222u,       0x33333333u};
 
-static uint32_t any_family(void) {
+uint32_t any_family(void) {
     return families[below(sizeof families / sizeof families[0])];
+}
+
+/* The byte of a flag: on is any but 0. */
+static uint8_t flag(int on) {
+    return (uint8_t)(!on ? 0 : one_in(8) ? 1 + below(255) : 1);
 }
 
 /* An entry from a sector on; sometimes its sectors, users or link make the settings bad. The next free sector. */
@@ -115,27 +119,27 @@ static uint32_t make_entry(uint8_t *at, uint32_t k, uint32_t first) {
     for (i = 0; i < 4; i++)
         uf2_put32(at + UF2_ENTRY_USERS_AT + 4 * i, one_in(200) ? any_family() : 0x11111111u * (1 + below(6)));
     for (i = UF2_ENTRY_DATA_AT; i <= UF2_ENTRY_ARM_NS_AT; i++)
-        at[i] = (uint8_t)(below(3) == 0);
+        at[i] = flag(one_in(3));
     at[UF2_ENTRY_USER_COUNT_AT] = (uint8_t)(one_in(100) ? below(256) : below(5));
-    at[UF2_ENTRY_NOT_BOOTABLE_ARM_AT] = (uint8_t)one_in(4);
-    at[UF2_ENTRY_NOT_BOOTABLE_RISCV_AT] = (uint8_t)one_in(4);
+    at[UF2_ENTRY_NOT_BOOTABLE_ARM_AT] = flag(one_in(4));
+    at[UF2_ENTRY_NOT_BOOTABLE_RISCV_AT] = flag(one_in(4));
     at[UF2_ENTRY_LINK_AT] = (uint8_t)(one_in(100) ? below(256) : k > 0 && one_in(4) ? 1 + below(2) : 0);
     at[UF2_ENTRY_LINK_INDEX_AT] = (uint8_t)(k > 0 && !one_in(20) ? 0 : below(17));
 #ifdef UF2_ENTRY_NO_RESTART_AT
-    at[UF2_ENTRY_NO_RESTART_AT] = (uint8_t)one_in(3);
+    at[UF2_ENTRY_NO_RESTART_AT] = flag(one_in(3));
 #endif
     /* the next may share its sectors */
     return one_in(40) ? first : first + sectors;
 }
 
-static void make_settings(void) {
+void make_settings(void) {
     uint32_t k, entries, first = below(2);
     memset(settings, 0, sizeof settings);
-    settings[UF2_SETTINGS_ARM_AT] = (uint8_t)!one_in(4);
-    settings[UF2_SETTINGS_RISCV_AT] = (uint8_t)below(2);
-    settings[UF2_SETTINGS_CURRENT_AT] = (uint8_t)one_in(3);
-    settings[UF2_SETTINGS_AUTO_SWITCH_AT] = (uint8_t)below(2);
-    settings[UF2_SETTINGS_ABSOLUTE_AT] = (uint8_t)(below(3) > 0);
+    settings[UF2_SETTINGS_ARM_AT] = flag(!one_in(4));
+    settings[UF2_SETTINGS_RISCV_AT] = flag(one_in(2));
+    settings[UF2_SETTINGS_CURRENT_AT] = flag(one_in(3));
+    settings[UF2_SETTINGS_AUTO_SWITCH_AT] = flag(one_in(2));
+    settings[UF2_SETTINGS_ABSOLUTE_AT] = flag(!one_in(3));
     entries = one_in(3) ? 0 : one_in(8) ? below(18) : below(5);
     settings[UF2_SETTINGS_COUNT_AT] = (uint8_t)entries;
     /* those past the count too: they must not be read */
@@ -245,9 +249,9 @@ static void make_region(uint8_t *at, uint32_t address) {
     }
 }
 
-/* A block of the file; sometimes a field of it is wrong. */
-uint32_t make_arrival(uint8_t *at) {
-    uint32_t i, number = below(file.total), flags = 0x2000u, address = file.address + 256 * number;
+/* Sometimes a field of it is wrong. */
+uint32_t make_block(uint8_t *at, uint32_t number) {
+    uint32_t i, flags = 0x2000u, address = file.address + 256 * number;
     static const uint16_t fields[] = {0, 4, 8, 12, 16, 20, 24, 28, 508};
     if (one_in(8))
         flags |= 1u;
@@ -277,8 +281,11 @@ uint32_t make_arrival(uint8_t *at) {
     return uf2_get32(at + 12);
 }
 
-/* What comes before a call: now and then another board, another file or another transfer. */
-static void make_state(uint32_t i) {
+uint32_t make_arrival(uint8_t *at) {
+    return make_block(at, below(file.total));
+}
+
+void make_state(uint32_t i, uint32_t result) {
     if (i % 64 == 0)
         make_board();
     if (i % 64 == 0 || one_in(12))
@@ -314,7 +321,7 @@ void add_block(const struct play_buffers *at, uint32_t address) {
 }
 
 /* The maps as far as a file here reaches, and the transfer. */
-static void add_small(const struct play_buffers *at) {
+void add_small(const struct play_buffers *at) {
     add_bytes(at->transfer, sizeof at->transfer);
     add_bytes(at->seen, 8);
     add_bytes(at->sectors, 4);
@@ -326,7 +333,7 @@ void random_bytes(uint8_t *at, uint32_t n) {
         uf2_put32(at + i, any());
 }
 
-static void fresh_board(void) {
+void fresh_board(void) {
     random_bytes(board.flash, sizeof board.flash);
     random_bytes(board.seen, sizeof board.seen);
     random_bytes(board.sectors, sizeof board.sectors);
@@ -393,7 +400,7 @@ static void play_look_and_take(void) {
     begin(PLAY_TAKE);
     fresh_board();
     for (i = 0; i < PLAY_COUNT; i++) {
-        make_state(i);
+        make_state(i, result);
         address = make_arrival(arrivals);
         go_on(PLAY_LOOK);
         play_call(PLAY_LOOK, call_look);
@@ -416,7 +423,7 @@ static void play_take_all(void) {
     begin(PLAY_TAKE_ALL);
     fresh_board();
     for (i = 0; i < PLAY_COUNT; i++) {
-        make_state(i);
+        make_state(i, result);
         n = below(MAX_ARRIVALS + 1);
         for (k = 0; k < n; k++) {
             addresses[k] = make_arrival(arrivals + UF2_ARRIVAL_SIZE * k);
@@ -484,7 +491,7 @@ static int play_accept(void) {
     fresh_board();
     memcpy(&driven, &board, sizeof board);
     for (i = 0; i < PLAY_COUNT; i++) {
-        make_state(i);
+        make_state(i, result);
         memcpy(driven.transfer, board.transfer, sizeof board.transfer);
         address = make_arrival(arrivals);
         plan_len = one_in(40) ? below(UF2_PLAN_SIZE + MORE + 1) : UF2_PLAN_SIZE;
@@ -706,6 +713,7 @@ int play(void) {
     play_hex_new();
     play_lines();
     good = play_tools() && good;
+    good = play_kept() && good;
     good = good && met(PLAY_ASK, 0, 2, 6) && play_ends[PLAY_ASK].answers[UF2_ANSWER_NO_PLACE] > 0;
     good = good && met(PLAY_LOOK, 1, 17, 6) && met(PLAY_TAKE, 1, 17, 6) && met(PLAY_TAKE_ALL, 1, 17, 6) && met(PLAY_LINE, 18, 36, 0);
 #ifdef UF2_PLAN_SIZE

@@ -1,5 +1,5 @@
 /* The play: pseudo-random inputs handed to every call, every answer and every lent byte hashed. play.c has the calls of
- * include/uf2_receiver.h, play_tools.c those of uf2_tags.h and uf2_tools.h. It is the same
+ * include/uf2_receiver.h, play_tools.c those of uf2_tags.h and uf2_tools.h, play_kept.c those of uf2_store.h and uf2_why.h. It is the same
  * on every machine, so that a library of another machine that gives the same hashes has answered as the host's does. */
 #ifndef PLAY_H
 #define PLAY_H
@@ -13,7 +13,8 @@
 
 enum play_kind {
     PLAY_NEW, PLAY_ASK, PLAY_LOOK, PLAY_TAKE, PLAY_TAKE_ALL, PLAY_ACCEPT, PLAY_HEX_NEW, PLAY_LINE,
-    PLAY_TAG_FIRST, PLAY_TAG, PLAY_TAG_FIND, PLAY_MAKE_CHECK, PLAY_MAKE, PLAY_MAKE_BLOCK, PLAY_MD5, PLAY_JOIN, PLAY_REPLAY, PLAY_KINDS
+    PLAY_TAG_FIRST, PLAY_TAG, PLAY_TAG_FIND, PLAY_MAKE_CHECK, PLAY_MAKE, PLAY_MAKE_BLOCK, PLAY_MD5, PLAY_JOIN, PLAY_REPLAY, PLAY_FIGURES,
+    PLAY_STORE_WRITE, PLAY_STORE_READ, PLAY_WHY, PLAY_WHY_PLACE, PLAY_KINDS
 };
 
 extern const char *const play_names[PLAY_KINDS];
@@ -46,6 +47,8 @@ void go_on(enum play_kind kind);
 void add(uint32_t word);
 void add_bytes(const uint8_t *at, uint32_t n);
 void count(uint32_t answer);
+/* The same of a result that may have a discarded transfer. */
+void count_result(uint32_t result);
 
 void random_bytes(uint8_t *at, uint32_t n);
 
@@ -63,21 +66,36 @@ struct play_buffers {
 
 enum length { L_SETTINGS, L_TRANSFER, L_ARRIVAL, L_FLASH, L_SEEN, L_SECTORS, L_MAIN, L_XIP, LENGTHS };
 
+/* The file that is being sent, and what the settings say of its family. */
+struct play_file {
+    uint32_t family, total, address, kind, place_start, place_len;
+};
+
 extern struct play_buffers board;
 extern uint8_t settings[UF2_SETTINGS_SIZE + PLAY_MORE];
 extern uint32_t lent[LENGTHS];
+extern struct play_file file;
 
+uint32_t any_family(void);
+void make_settings(void);
 void make_board(void);
 void make_file(void);
 void make_lengths(void);
-/* Makes a block of the file. Its address. */
+/* What comes before call i of a kind, of which the latest had a result: now and then another board, file or transfer. */
+void make_state(uint32_t i, uint32_t result);
+/* Every byte of a board, and a fresh transfer. */
+void fresh_board(void);
+/* Makes a block of the file, of any number or of one. Its address. */
 uint32_t make_arrival(uint8_t *at);
-/* What a block at an address can have changed, and all. */
+uint32_t make_block(uint8_t *at, uint32_t number);
+/* What a block at an address can have changed, what every block can, and all. */
 void add_block(const struct play_buffers *at, uint32_t address);
+void add_small(const struct play_buffers *at);
 void add_all(const struct play_buffers *at);
 
-/* The part of play_tools.c. Whether each answer was given. */
+/* The parts of play_tools.c and play_kept.c. Whether each answer was given. */
 int play_tools(void);
+int play_kept(void);
 
 /* Plays all kinds. Whether each answer that a call can give was given, and uf2_accept with its plan performed did what uf2_take does. */
 int play(void);

@@ -265,12 +265,14 @@ static void play_join(void) {
     }
 }
 
-/* ---- a trace */
+/* ---- traces, replayed and counted */
 
-#define RECORDS 3u
+#define RECORDS 20u
+#define FEW 3u
 
-static uint8_t trace[RECORDS * UF2_RECORD_SIZE + PLAY_MORE], where[UF2_INDEX_SIZE + PLAY_MORE];
-static uf2_len trace_len, where_len;
+static uint8_t trace[RECORDS * UF2_RECORD_SIZE + PLAY_MORE], where[UF2_INDEX_SIZE + PLAY_MORE], report[UF2_REPORT_SIZE + PLAY_MORE];
+static uf2_len trace_len, where_len, report_len;
+static uint32_t records, addresses[RECORDS];
 
 static void call_replay(void) {
     result = uf2_replay(settings, lent[L_SETTINGS], trace, trace_len, board.flash, lent[L_FLASH], board.seen, lent[L_SEEN], board.sectors,
@@ -278,42 +280,117 @@ static void call_replay(void) {
                         where_len);
 }
 
-/* What a site's host sent and got: the answers are those of takes from Idle, but for a few. */
+static void call_figures(void) {
+    result = uf2_figures(report, report_len, settings, lent[L_SETTINGS], trace, trace_len, board.flash, lent[L_FLASH], board.seen, lent[L_SEEN],
+                         board.sectors, lent[L_SECTORS], board.main_ram, lent[L_MAIN], board.xip_ram, lent[L_XIP], where, where_len);
+}
+
+/* What a site's host sent and got: the answers are those of takes from Idle, but for a few. Mostly a few blocks in any order; now and then many
+ * of a long file in their order, so that the smallest number that is missing is none of the first. */
+static void make_trace(uint32_t i) {
+    uint32_t k, many = one_in(40);
+    if (i % 64 == 0)
+        make_board();
+    if (many)
+        do
+            make_file();
+        while (file.total <= 8);
+    else if (i % 64 == 0 || one_in(3))
+        make_file();
+    make_lengths();
+    memset(board.seen, 0, 16);
+    memset(board.sectors, 0, 8);
+    uf2_new(board.transfer, UF2_TRANSFER_SIZE);
+    records = below(many ? RECORDS + 1 : FEW + 1);
+    for (k = 0; k < records; k++) {
+        uint8_t *record = trace + UF2_RECORD_SIZE * k;
+        addresses[k] = many ? make_block(record + 1, k % file.total) : make_arrival(record + 1);
+        result = uf2_take(settings, lent[L_SETTINGS], board.transfer, UF2_TRANSFER_SIZE, record + 1, UF2_ARRIVAL_SIZE, board.flash, lent[L_FLASH],
+                          board.seen, lent[L_SEEN], board.sectors, lent[L_SECTORS], board.main_ram, lent[L_MAIN], board.xip_ram, lent[L_XIP]);
+        record[0] = (uint8_t)(one_in(many ? 40 : 12) ? any() : UF2_RECORD(result));
+    }
+    trace_len = UF2_RECORD_SIZE * records - (records > 0 && one_in(16) ? 1 + below(UF2_RECORD_SIZE - 1) : 0);
+    where_len = one_in(8) ? below(UF2_INDEX_SIZE + PLAY_MORE + 1) : UF2_INDEX_SIZE;
+    random_bytes(where, sizeof where);
+}
+
+/* What a replay can have changed. */
+static void add_replayed(uint32_t i) {
+    uint32_t k;
+    count(result);
+    add_bytes(where, sizeof where);
+    add_bytes(board.transfer, sizeof board.transfer);
+    add_bytes(board.seen, 16);
+    add_bytes(board.sectors, 8);
+    for (k = 0; k < records; k++)
+        add_block(&board, addresses[k]);
+    if (i % 512 == 511 || i == PLAY_COUNT - 1)
+        add_all(&board);
+}
+
 static void play_replay(void) {
-    uint32_t i, k, n, addresses[RECORDS];
+    uint32_t i;
     begin(PLAY_REPLAY);
     for (i = 0; i < PLAY_COUNT; i++) {
-        if (i % 64 == 0)
-            make_board();
-        if (i % 64 == 0 || one_in(3))
-            make_file();
-        make_lengths();
-        memset(board.seen, 0, 16);
-        memset(board.sectors, 0, 8);
-        uf2_new(board.transfer, UF2_TRANSFER_SIZE);
-        n = below(RECORDS + 1);
-        for (k = 0; k < n; k++) {
-            uint8_t *record = trace + UF2_RECORD_SIZE * k;
-            addresses[k] = make_arrival(record + 1);
-            result = uf2_take(settings, lent[L_SETTINGS], board.transfer, UF2_TRANSFER_SIZE, record + 1, UF2_ARRIVAL_SIZE, board.flash, lent[L_FLASH],
-                              board.seen, lent[L_SEEN], board.sectors, lent[L_SECTORS], board.main_ram, lent[L_MAIN], board.xip_ram, lent[L_XIP]);
-            record[0] = (uint8_t)(one_in(12) ? any() : UF2_RECORD(result));
-        }
-        trace_len = UF2_RECORD_SIZE * n - (n > 0 && one_in(16) ? 1 + below(UF2_RECORD_SIZE - 1) : 0);
-        where_len = one_in(8) ? below(UF2_INDEX_SIZE + PLAY_MORE + 1) : UF2_INDEX_SIZE;
-        random_bytes(where, sizeof where);
+        make_trace(i);
         play_call(PLAY_REPLAY, call_replay);
-        count(result);
-        add_bytes(where, sizeof where);
-        add_bytes(board.transfer, sizeof board.transfer);
-        add_bytes(board.seen, 16);
-        add_bytes(board.sectors, 8);
-        for (k = 0; k < n; k++)
-            add_block(&board, addresses[k]);
-        if (i % 512 == 511)
-            add_all(&board);
+        add_replayed(i);
     }
-    add_all(&board);
+}
+
+static void raise_count(uint32_t at, uint32_t by) {
+    uf2_put32(report + at, uf2_get32(report + at) + by);
+}
+
+static uint32_t any_count(void) {
+    uint32_t k = below(16);
+    return UF2_REPORT_COUNT(k < 5 ? k + 1 : k + 2);
+}
+
+/* A report of many records, which its counts sum to; now and then only in 32 bits. */
+static void make_full_report(void) {
+    uint32_t at, discards, full = one_in(2) ? 0xFFFFFFFFu - below(8) : any(), some = any_size() % (full / 2 + 1);
+    memset(report, 0, sizeof report);
+    at = any_count();
+    raise_count(at, some);
+    at = any_count();
+    raise_count(at, full - some);
+    if (one_in(8)) {
+        at = any_count();
+        raise_count(at, 0x80000000u);
+        at = any_count();
+        raise_count(at, 0x80000000u);
+    }
+    uf2_put32(report + UF2_REPORT_RECORDS, full);
+    discards = one_in(4) ? full : any_size();
+    uf2_put32(report + UF2_REPORT_DISCARDS, discards <= full ? discards : full);
+}
+
+/* Mostly the report that the call before left, so that it adds up over many traces. `was` is what that call answered. */
+static void make_report(uint32_t was) {
+    uint32_t bit;
+    if (was >= UF2_FIGURES_TOO_MANY || one_in(40))
+        memset(report, 0, sizeof report);
+    if (one_in(24))
+        make_full_report();
+    if (one_in(24)) {
+        bit = below(8 * UF2_REPORT_SIZE);
+        report[bit / 8] ^= (uint8_t)(1u << bit % 8);
+    }
+    report_len = one_in(40) ? below(sizeof report + 1) : UF2_REPORT_SIZE;
+}
+
+static void play_figures(void) {
+    uint32_t i, was = 0;
+    begin(PLAY_FIGURES);
+    for (i = 0; i < PLAY_COUNT; i++) {
+        make_trace(i);
+        make_report(was);
+        play_call(PLAY_FIGURES, call_figures);
+        was = result;
+        add_replayed(i);
+        add_bytes(report, sizeof report);
+    }
 }
 
 /* ---- all */
@@ -329,6 +406,8 @@ int play_tools(void) {
     play_md5();
     play_join();
     play_replay();
+    play_figures();
     return met_tags(PLAY_TAG) && met_tags(PLAY_TAG_FIND) && play_ends[PLAY_TAG].answers[UF2_TAG_BAD_PLACE] > 0 && met(PLAY_MAKE_CHECK, 50, 53, 0) &&
-           met(PLAY_MAKE, 50, 53, 0) && met(PLAY_JOIN, 20, 26, 0) && met(PLAY_JOIN, 29, 31, 0) && met(PLAY_REPLAY, 0, 2, 9);
+           met(PLAY_MAKE, 50, 53, 0) && met(PLAY_JOIN, 20, 26, 0) && met(PLAY_JOIN, 29, 31, 0) && met(PLAY_REPLAY, 0, 2, 9) &&
+           met(PLAY_FIGURES, 0, 2, 9) && met(PLAY_FIGURES, 70, 71, 0);
 }

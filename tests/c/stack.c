@@ -9,6 +9,8 @@
 #include "uf2_receiver.h"
 #include "uf2_store.h"
 #include "uf2_tags.h"
+#include "uf2_tools.h"
+#include "uf2_why.h"
 
 #include <stdio.h>
 #include <string.h>
@@ -94,6 +96,53 @@ static void call_line(void) {
     uhex_line(reader, sizeof reader, (const uint8_t *)line, strlen(line), image, sizeof image);
 }
 
+static uint8_t made[3 * UF2_MAKE_BLOCK_SIZE], digest[UF2_MD5_SIZE], joined[4096];
+
+static void call_make_check(void) {
+    uf2_make_check(sizeof flash, UF2_FLASH_START, sizeof made);
+}
+
+static void call_make(void) {
+    uf2_make(flash, 3 * UF2_MAKE_PAGE_SIZE, UF2_FAMILY_ARM_S, UF2_FLASH_START, made, sizeof made);
+}
+
+static void call_make_block(void) {
+    uf2_make_block(UF2_FLASH_START, 0, 3, UF2_FAMILY_ARM_S, flash, UF2_MAKE_PAGE_SIZE, made, UF2_MAKE_BLOCK_SIZE);
+}
+
+static void call_md5(void) {
+    uf2_md5(flash, 1000, digest, sizeof digest);
+}
+
+static void call_join(void) {
+    static const char plain[] = ":10000000000102030405060708090A0B0C0D0E0F78\n:00000001FF\n";
+    uhex_join((const uint8_t *)plain, sizeof plain - 1, (const uint8_t *)plain, sizeof plain - 1, joined, sizeof joined);
+}
+
+static uint8_t trace[3 * UF2_RECORD_SIZE], where[UF2_INDEX_SIZE], report[UF2_REPORT_SIZE];
+static uint32_t stop;
+
+static void call_replay(void) {
+    stop = uf2_replay(settings, sizeof settings, trace, sizeof trace, flash, sizeof flash, seen, sizeof seen, sectors, sizeof sectors, main_ram,
+                      sizeof main_ram, xip_ram, sizeof xip_ram, transfer, sizeof transfer, where, sizeof where);
+}
+
+static void call_figures(void) {
+    stop = uf2_figures(report, sizeof report, settings, sizeof settings, trace, sizeof trace, flash, sizeof flash, seen, sizeof seen, sectors,
+                       sizeof sectors, main_ram, sizeof main_ram, xip_ram, sizeof xip_ram, where, sizeof where);
+}
+
+static uint8_t reason[UF2_REASON_SIZE];
+
+static void call_why(void) {
+    uf2_why(settings, sizeof settings, transfer, sizeof transfer, arrivals, UF2_ARRIVAL_SIZE, flash, sizeof flash, seen, sizeof seen, sectors,
+            sizeof sectors, main_ram, sizeof main_ram, xip_ram, sizeof xip_ram, reason, sizeof reason);
+}
+
+static void call_why_place(void) {
+    uf2_why_place(settings, sizeof settings, sizeof flash, UF2_FAMILY_ARM_S, reason, sizeof reason);
+}
+
 /* ---- how */
 
 static size_t used(void (*call)(void)) {
@@ -155,7 +204,7 @@ int main(void) {
     static const char *const file[] = {":020000040000FA\n", ":0400000A9900C0DEBB\n", ":040000001122334452\r\n",
                                        ":10000000000102030405060708090A0B0C0D0E0F78\n", "x"};
     static const uint32_t starts[] = {UF2_FLASH_START, UF2_MAIN_RAM_START, UF2_XIP_RAM_START};
-    size_t ask = 0, look = 0, one = 0, accept = 0, all = 0, hex = 0, i;
+    size_t ask = 0, look = 0, one = 0, accept = 0, all = 0, hex = 0, why = 0, why_place = 0, i;
     uint8_t counts[] = {0, 16, 17}, k;
 
     empty = used(nothing);
@@ -166,11 +215,13 @@ int main(void) {
         for (i = 0; i < 3; i++)
             block(arrivals + i * UF2_ARRIVAL_SIZE, starts[k % 3], (uint32_t)i);
         ask = larger(ask, used(call_ask) - empty);
+        why_place = larger(why_place, used(call_why_place) - empty);
         /* written, the same again, refused by its address, no block */
         for (i = 0; i < 4; i++) {
             arrivals[15] = (uint8_t)(i == 2 ? 0xFF : starts[k % 3] >> 24);
             arrivals[0] = (uint8_t)(i == 3 ? 0 : 0x55);
             look = larger(look, used(call_look) - empty);
+            why = larger(why, used(call_why) - empty);
             one = larger(one, used(call_take) - empty);
         }
         /* the same four, accepted from a fresh transfer */
@@ -190,6 +241,8 @@ int main(void) {
     }
     tell("uf2_ask", ask);
     tell("uf2_look", look);
+    tell("uf2_why", why);
+    tell("uf2_why_place", why_place);
     tell("uf2_take", one);
     tell("uf2_accept", accept);
     tell("uf2_take_all", all);
@@ -217,6 +270,22 @@ int main(void) {
         return 1;
     tell("uf2_store_read", used(call_store_read) - empty);
     if (stored != UF2_STORE_DONE)
+        return 1;
+    tell("uf2_make_check", used(call_make_check) - empty);
+    tell("uf2_make", used(call_make) - empty);
+    tell("uf2_make_block", used(call_make_block) - empty);
+    tell("uf2_md5", used(call_md5) - empty);
+    tell("uhex_join", used(call_join) - empty);
+    /* a file for the last of 16 entries: written, written and completed */
+    for (i = 0; i < 3; i++) {
+        trace[i * UF2_RECORD_SIZE] = UF2_RECORD(i == 2 ? UF2_ANSWER_COMPLETED : UF2_ANSWER_WRITTEN);
+        block(trace + i * UF2_RECORD_SIZE + 1, UF2_FLASH_START, (uint32_t)i);
+    }
+    tell("uf2_replay", used(call_replay) - empty);
+    if (stop != UF2_STOP_NONE)
+        return 1;
+    tell("uf2_figures", used(call_figures) - empty);
+    if (stop != UF2_STOP_NONE || uf2_get32(report + UF2_REPORT_RECORDS) != 3)
         return 1;
     return worst <= UF2_STACK_SIZE ? 0 : 1;
 }

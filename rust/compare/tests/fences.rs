@@ -191,6 +191,81 @@ fn looks_keep_their_bounds_and_write_nothing() {
     assert!(answers[1..].iter().all(|&n| n >= often), "{answers:?}");
 }
 
+fn reason_lent(buffers: proved::Buffers<'_>) -> tools::why::Lent<'_> {
+    tools::why::Lent {
+        flash: buffers.flash,
+        seen: buffers.seen,
+        sectors: buffers.sectors,
+        main: buffers.main,
+        xip: buffers.xip,
+    }
+}
+
+/// Everything but the reason lies in pages that cannot be written.
+#[test]
+fn reasons_keep_their_bounds_and_write_nothing_else() {
+    let mut r = Random(40);
+    let mut answers = [0; 18];
+    for _ in 0..number() {
+        let mut c = Call::any(&mut r, 1, true);
+        let reason = any_length(&mut r, vec![9; tools::why::REASON_BYTES]);
+        let mut reason = Twin::written(&mut r, reason);
+        let beside = tools::why::explain_bytes(
+            c.settings.fenced.bytes(),
+            c.transfer.fenced.bytes(),
+            c.arrival.fenced.bytes(),
+            reason_lent(fenced(&mut c.buffers)),
+            reason.fenced.bytes_mut(),
+        );
+        let alone = tools::why::explain_bytes(
+            &c.settings.plain,
+            &c.transfer.plain,
+            &c.arrival.plain,
+            reason_lent(plain(&mut c.buffers)),
+            &mut reason.plain,
+        );
+        assert_eq!(beside, alone);
+        c.check();
+        reason.check("reason");
+        answers[alone as usize % 128] += 1;
+    }
+    let often = number() / 4_000;
+    answers[6] = often; // no answer has this number
+    assert!(answers[1..].iter().all(|&n| n >= often), "{answers:?}");
+}
+
+#[test]
+fn reasons_of_places_keep_their_bounds() {
+    let mut r = Random(41);
+    let mut answers = [0; 9];
+    for _ in 0..number() {
+        let sectors = r.of(&[1, 2, 40]);
+        let settings = any_settings_bytes(&mut r, sectors);
+        let settings = Twin::read(&mut r, settings);
+        let reason = any_length(&mut r, vec![9; tools::why::REASON_BYTES]);
+        let mut reason = Twin::written(&mut r, reason);
+        let len = sectors as usize * 4096;
+        let len = r.of(&[len, len, len, len + 1]);
+        let family = r.of(&FAMILIES);
+        let fenced = tools::why::explain_place_bytes(
+            settings.fenced.bytes(),
+            len,
+            family,
+            reason.fenced.bytes_mut(),
+        );
+        let plain =
+            tools::why::explain_place_bytes(&settings.plain, len, family, &mut reason.plain);
+        assert_eq!(fenced, plain);
+        settings.check("settings");
+        reason.check("reason");
+        answers[plain as usize] += 1;
+    }
+    let often = number() / 400;
+    for answer in [0, 1, 2, 8] {
+        assert!(answers[answer] >= often, "{answers:?}");
+    }
+}
+
 #[test]
 fn takes_keep_their_bounds() {
     let mut r = Random(31);
@@ -550,10 +625,39 @@ fn made_files_and_digests_keep_their_bounds() {
         let any = r.below(300) as usize;
         let bytes = (0..any).map(|_| r.draw() as u8).collect();
         let bytes = Twin::read(&mut r, bytes);
-        assert_eq!(tools::md5(bytes.fenced.bytes()), tools::md5(&bytes.plain));
+        let digest = any_length(&mut r, vec![9; tools::MD5_BYTES]);
+        let mut digest = Twin::written(&mut r, digest);
+        tools::md5_bytes(bytes.fenced.bytes(), digest.fenced.bytes_mut());
+        tools::md5_bytes(&bytes.plain, &mut digest.plain);
         bytes.check("bytes");
+        digest.check("digest");
     }
     assert!(made > number() / 10, "{made}");
+}
+
+#[test]
+fn made_blocks_keep_their_bounds() {
+    let mut r = Random(39);
+    let mut made = 0;
+    for _ in 0..number() {
+        let page = (0..tools::PAGE_BYTES).map(|_| r.draw() as u8).collect();
+        let page = any_length(&mut r, page);
+        let page = Twin::read(&mut r, page);
+        let block = any_length(&mut r, vec![9; tools::BLOCK_BYTES]);
+        let mut block = Twin::written(&mut r, block);
+        let fields = tools::Fields {
+            address: r.draw() as u32,
+            number: r.draw() as u32,
+            total: r.draw() as u32,
+            family: r.of(&FAMILIES),
+        };
+        tools::write_block_bytes(fields, page.fenced.bytes(), block.fenced.bytes_mut());
+        tools::write_block_bytes(fields, &page.plain, &mut block.plain);
+        page.check("page");
+        block.check("block");
+        made += usize::from(block.plain.starts_with(b"UF2\n"));
+    }
+    assert!(made > number() / 2, "{made}");
 }
 
 #[test]

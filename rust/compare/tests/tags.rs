@@ -190,6 +190,8 @@ fn beside_fences() {
             (told, bytes::find(fenced.bytes(), wanted, out.bytes_mut()))
         };
         assert_eq!(result, told);
+        let first = bytes::first_place(&plain);
+        assert_eq!(bytes::first_place(fenced.bytes()), first);
         assert_eq!(out.bytes(), expected);
         assert!(out.rest_is_kept() && fenced.rest_is_kept());
         assert!(result == 0 || expected == lent);

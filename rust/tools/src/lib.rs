@@ -119,7 +119,12 @@ pub struct Fields {
 
 /// Writes one block, with the family's flag alone and zeros after the page.
 pub fn write_block(fields: Fields, page: &[u8; PAGE_BYTES], block: &mut [u8; BLOCK_BYTES]) {
-    // SAFETY: each pointer is of an array with its length, and the block overlaps nothing, since it is borrowed alone.
+    write_block_bytes(fields, page, block);
+}
+
+/// The same over bytes of any length: nothing is written unless they are [`PAGE_BYTES`] and [`BLOCK_BYTES`].
+pub fn write_block_bytes(fields: Fields, page: &[u8], block: &mut [u8]) {
+    // SAFETY: each pointer is of a slice with its length, and the block overlaps nothing, since it is borrowed alone.
     unsafe {
         ffi::uf2_make_block(
             fields.address,
@@ -137,14 +142,14 @@ pub fn write_block(fields: Fields, page: &[u8; PAGE_BYTES], block: &mut [u8; BLO
 /// The MD5 digest of bytes (RFC 1321), in the RFC's byte order.
 pub fn md5(bytes: &[u8]) -> [u8; MD5_BYTES] {
     let mut digest = [0; MD5_BYTES];
-    // SAFETY: each pointer is of a slice with its length, and the digest is a local.
-    unsafe {
-        ffi::uf2_md5(
-            bytes.as_ptr(),
-            len(bytes),
-            digest.as_mut_ptr(),
-            len(&digest),
-        );
-    }
+    md5_bytes(bytes, &mut digest);
     digest
+}
+
+/// The same with the digest's bytes, which are written where there are [`MD5_BYTES`].
+pub fn md5_bytes(bytes: &[u8], digest: &mut [u8]) {
+    // SAFETY: each pointer is of a slice with its length, and the digest overlaps nothing, since it is borrowed alone.
+    unsafe {
+        ffi::uf2_md5(bytes.as_ptr(), len(bytes), digest.as_mut_ptr(), len(digest));
+    }
 }

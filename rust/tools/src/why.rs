@@ -153,16 +153,26 @@ pub fn explain_bytes(
 /// Why a family has a place in a flash of so many bytes, or none.
 pub fn explain_place(settings: &[u8], flash_len: usize, family: u32) -> Why {
     let mut reason = [0; REASON_BYTES];
-    // SAFETY: each pointer is of a slice with its length, and what is written overlaps nothing.
-    let result = unsafe {
+    let result = explain_place_bytes(settings, flash_len, family, &mut reason);
+    told(result, &reason)
+}
+
+/// The same with the reason's bytes, which are written where there are [`REASON_BYTES`].
+pub fn explain_place_bytes(
+    settings: &[u8],
+    flash_len: usize,
+    family: u32,
+    reason: &mut [u8],
+) -> u32 {
+    // SAFETY: each pointer is of a slice with its length, and what is written overlaps nothing, since it is borrowed alone.
+    unsafe {
         uf2_why_place(
             settings.as_ptr(),
             len(settings),
             flash_len as Len,
             family,
             reason.as_mut_ptr(),
-            len(&reason),
+            len(reason),
         )
-    };
-    told(result, &reason)
+    }
 }
