@@ -19,7 +19,7 @@ use transfer::Transfer;
 // The bytes of a transfer.
 const TRANSFER: usize = 14;
 
-// The kind of a number that is one; of any other number nothing is made.
+// The kind of a number. Any but 1 and 2 gives Flash; `state` refuses one over 2 afterwards, unless the transfer is Idle.
 fn kind(number: u8) -> Kind
     ensures { λ r. ⌜ r ≡ kindFrom number ⌝ }
 {

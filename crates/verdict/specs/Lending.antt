@@ -28,13 +28,6 @@ lentAt f m k u x = lent (now (f .entry)) (now (m .entry)) (now (k .entry)) (now 
 abbrev pub leftAt : Slice → Slice → Slice → Slice → Slice → Lent
 leftAt f m k u x = lent (now (f .exit)) (now (m .exit)) (now (k .exit)) (now (u .exit)) (now (x .exit))
 
--- the same of what a stored page changes
-abbrev pub heldAt : Slice → Slice → Slice → Slice → Held
-heldAt f k u x = held (now (f .entry)) (now (k .entry)) (now (u .entry)) (now (x .entry))
-
-abbrev pub keptAt : Slice → Slice → Slice → Slice → Held
-keptAt f k u x = held (now (f .exit)) (now (k .exit)) (now (u .exit)) (now (x .exit))
-
 -- ---- what goes in and comes out
 
 -- a transfer and the lent buffers
