@@ -21,15 +21,16 @@ pub extern "C" fn uf2_accept(
 ) -> u32
     ensures { λ r. ⌜ acceptReturn r transfer (leftBeside flash seen sectors main xip) plan ≡ acceptCallOf settings transfer arrival (lentAt flash seen sectors main xip) plan ⌝ }
 {
-    if plan.len() != PLAN {
-        return 1;
-    }
     let lens = Lengths {
         flash: flash.len(),
         main: main.len(),
         xip: xip.len(),
     };
     let known = knownbytes::known_from(settings, lens, seen.len(), sectors.len(), arrival);
+    // asked here and not first: the call then keeps fewer values on the stack
+    if plan.len() != PLAN {
+        return 1;
+    }
     let t = transferbytes::read_transfer(transfer);
     let r = receiver::accept_known(known, t, arrival, flash, seen, sectors, main, xip);
     planbytes::hand_back(r, transfer, plan)

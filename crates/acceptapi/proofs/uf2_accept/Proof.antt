@@ -45,16 +45,17 @@ returns-2 c =
     let told = c .before .before .before .before in
     let got = told .before .before .before .before .before .before .before .before .before .before .before in
     let read = got .before .before .before .before .before in
-    let x = read .before .before .before .before .before .before .before .before .before .before .before .before .before .args in
-    let long = read .before .before .before .if1 .left in
-    accept-ran _ _ _ _ _ long refl (read .read-transfer .ensures) (got .accept-known .ensures ∙ accept-is _ _ _ (read .before .before .known-from .ensures)) refl (told .hand-back .ensures .1 .0) (told .hand-back .ensures .0) (told .hand-back .ensures .1 .1 ∙ plan-whole (x .plan .now) (got .accept-known .result .plan) long)
+    let fork = read .before .before in
+    let x = fork .before .before .before .before .before .before .before .before .before .before .before .args in
+    let long = fork .if1 .left in
+    accept-ran _ _ _ _ _ long refl (read .read-transfer .ensures) (got .accept-known .ensures ∙ accept-is _ _ _ (fork .before .known-from .ensures)) refl (told .hand-back .ensures .1 .0) (told .hand-back .ensures .0) (told .hand-back .ensures .1 .1 ∙ plan-whole (x .plan .now) (got .accept-known .result .plan) long)
 
 pub uf2-accept-spec : {M : Type 1} → statement M
 uf2-accept-spec =
     tie.close
     (tie.spec
-    returns
     known-from-requires
+    returns
     read-transfer-requires
     accept-known-requires
     hand-back-requires
