@@ -71,6 +71,6 @@ int main(void) {
     for (kind = 0; kind < PLAY_KINDS; kind++)
         if (play_ends[kind].calls > 0)
             say_end(play_names[kind], &play_ends[kind]);
-    say(good ? "every answer met\n" : "an answer was not met, or uf2_accept differs from uf2_take\n");
+    say(good ? "every answer met\n" : "an answer or a reason was not met, or two calls differ that answer alike\n");
     return good ? 0 : 1;
 }

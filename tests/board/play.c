@@ -190,9 +190,9 @@ void make_lengths(void) {
         lent[which] = one_in(2) ? lent[which] + 1 + below(MORE) : lent[which] - (lent[which] > 0 ? 1 + below(lent[which]) : 0);
 }
 
-/* A number up to the last, which is often it. */
+/* A number up to the last, which is often it, or 0. */
 static uint32_t from_to_end(uint32_t last) {
-    return one_in(4) ? last : below(last + 1);
+    return one_in(4) ? last : one_in(4) ? 0 : below(last + 1);
 }
 
 /* Another file: of flash within its family's place, or of a RAM. */

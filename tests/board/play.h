@@ -97,7 +97,8 @@ void add_all(const struct play_buffers *at);
 int play_tools(void);
 int play_kept(void);
 
-/* Plays all kinds. Whether each answer that a call can give was given, and uf2_accept with its plan performed did what uf2_take does. */
+/* Plays all kinds. Whether each answer that a call can give was given, uf2_accept with its plan performed did what uf2_take does, uf2_why answered
+ * as uf2_look and uf2_why_place as uf2_ask, and each store that was written was read. */
 int play(void);
 
 #endif

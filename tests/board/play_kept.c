@@ -57,7 +57,7 @@ static void call_store_read(void) {
 #define REACHED 33u
 #define MOST (UF2_FLASH_MAX_SIZE / UF2_SECTOR_SIZE / REACHED)
 
-/* An entry with so many sectors for each one, less some of its first and of its last, and user families of any bits, or of all. */
+/* An entry with so many sectors for each one, less some of its first and of its last, and user families of any bits, of all or of none. */
 static void widen(uint8_t *entry, uint32_t by) {
     uint32_t i, first = uf2_get32(entry + UF2_ENTRY_FIRST_AT) * by, sectors = uf2_get32(entry + UF2_ENTRY_SECTORS_AT) * by;
     uint32_t cut = one_in(2) ? below(by) : 0, end = below(by - cut);
@@ -65,7 +65,7 @@ static void widen(uint8_t *entry, uint32_t by) {
     uf2_put32(entry + UF2_ENTRY_SECTORS_AT, sectors - cut - end);
     for (i = 0; i < 4; i++)
         if (!one_in(8))
-            uf2_put32(entry + UF2_ENTRY_USERS_AT + 4 * i, one_in(6) ? 0xFFFFFFFFu : any());
+            uf2_put32(entry + UF2_ENTRY_USERS_AT + 4 * i, one_in(6) ? 0xFFFFFFFFu : one_in(6) ? 0 : any());
 }
 
 /* Settings of up to 16 entries anywhere in a flash of up to 32 MiB, mostly good for it. */
@@ -323,10 +323,10 @@ static void bend_arrival(void) {
         put(20, total + below(2));
         break;
     case 8:
-        put(12, starts[which % 3] - 1 - below(512));
+        put(12, starts[which % 3] - (one_in(2) ? below(2) : below(512)));
         break;
     case 9:
-        put(12, ends[which % 3] - below(512));
+        put(12, ends[which % 3] - (one_in(2) ? below(2) : one_in(2) ? 254 + below(4) : below(512)));
         break;
     case 10:
         put(12, uf2_get32(arrival + 12) + 1 + below(255));

@@ -400,6 +400,10 @@ static int met_tags(enum play_kind kind) {
     return end->answers[UF2_TAG_FOUND] > 0 && end->answers[UF2_TAG_BAD_LENGTH] > 0 && end->answers[UF2_TAG_NOT_BLOCK] > 0 && met(kind, 60, 65, 0);
 }
 
+static int given(enum play_kind kind, uint32_t answer) {
+    return play_ends[kind].answers[answer] > 0;
+}
+
 int play_tools(void) {
     play_tags();
     play_make();
@@ -409,5 +413,6 @@ int play_tools(void) {
     play_figures();
     return met_tags(PLAY_TAG) && met_tags(PLAY_TAG_FIND) && play_ends[PLAY_TAG].answers[UF2_TAG_BAD_PLACE] > 0 && met(PLAY_MAKE_CHECK, 50, 53, 0) &&
            met(PLAY_MAKE, 50, 53, 0) && met(PLAY_JOIN, 20, 26, 0) && met(PLAY_JOIN, 29, 31, 0) && met(PLAY_REPLAY, 0, 2, 9) &&
-           met(PLAY_FIGURES, 0, 2, 9) && met(PLAY_FIGURES, 70, 71, 0);
+           met(PLAY_FIGURES, 0, 2, 9) && met(PLAY_FIGURES, 70, 71, 0) && given(PLAY_MAKE_CHECK, 0) && given(PLAY_MAKE, 0) && given(PLAY_JOIN, 0) &&
+           given(PLAY_JOIN, 36);
 }
