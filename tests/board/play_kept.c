@@ -212,7 +212,7 @@ static void bend_settings(void) {
         break;
     case 3:
         j = one_in(2) ? UF2_ENTRY_FIRST_AT : UF2_ENTRY_SECTORS_AT;
-        uf2_put32(entry + j, any_size());
+        uf2_put32(entry + j, one_in(4) ? 0xFFFFFFFFu : any_size());
         break;
     case 4:
         uf2_put32(entry + UF2_ENTRY_FIRST_AT, uf2_get32(settings + UF2_SETTINGS_ENTRY_AT(j) + UF2_ENTRY_FIRST_AT));

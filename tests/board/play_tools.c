@@ -309,7 +309,9 @@ static void make_trace(uint32_t i) {
                           board.seen, lent[L_SEEN], board.sectors, lent[L_SECTORS], board.main_ram, lent[L_MAIN], board.xip_ram, lent[L_XIP]);
         record[0] = (uint8_t)(one_in(many ? 40 : 12) ? any() : UF2_RECORD(result));
     }
-    trace_len = UF2_RECORD_SIZE * records - (records > 0 && one_in(16) ? 1 + below(UF2_RECORD_SIZE - 1) : 0);
+    trace_len = UF2_RECORD_SIZE * records;
+    if (records > 0 && one_in(12))
+        trace_len -= one_in(2) ? 1 : 1 + below(UF2_RECORD_SIZE - 1);
     where_len = one_in(8) ? below(UF2_INDEX_SIZE + PLAY_MORE + 1) : UF2_INDEX_SIZE;
     random_bytes(where, sizeof where);
 }
@@ -349,7 +351,7 @@ static uint32_t any_count(void) {
 
 /* A report of many records, which its counts sum to; now and then only in 32 bits. */
 static void make_full_report(void) {
-    uint32_t at, discards, full = one_in(2) ? 0xFFFFFFFFu - below(8) : any(), some = any_size() % (full / 2 + 1);
+    uint32_t at, discards, full = one_in(2) ? 0xFFFFFFFFu - below(4) : any(), some = any_size() % (full / 2 + 1);
     memset(report, 0, sizeof report);
     at = any_count();
     raise_count(at, some);
@@ -371,7 +373,7 @@ static void make_report(uint32_t was) {
     uint32_t bit;
     if (was >= UF2_FIGURES_TOO_MANY || one_in(40))
         memset(report, 0, sizeof report);
-    if (one_in(24))
+    if (one_in(12))
         make_full_report();
     if (one_in(24)) {
         bit = below(8 * UF2_REPORT_SIZE);
