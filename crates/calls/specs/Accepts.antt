@@ -27,11 +27,11 @@ sectorIn p = fieldAt p 4
 abbrev pub pageIn : List ℕ → ℕ
 pageIn p = fieldAt p 8
 
--- "program these 256 bytes (of the arrival) at this address": those from its byte 32 on
+-- a page programmed: the 256 bytes of the arrival from its byte 32 on, at this address
 abbrev pub programs : ℕ → List ℕ → List ℕ → List ℕ
 programs page a f = over f page (take 256 (drop 32 a))
 
--- "erase this sector": the 4,096 bytes from its start on become 0xFF
+-- a sector erased: the 4,096 bytes from its start on become 0xFF
 abbrev pub fills : ℕ → List ℕ → List ℕ
 fills sector f = over f sector (many 4096 255)
 
@@ -80,7 +80,7 @@ unfoldable pub acceptReturns : List ℕ → CallerState → List ℕ → List (L
 acceptReturns s h p [] = []
 acceptReturns s h p (a ∷ l) = accept s h p a .arrival .result ∷ acceptReturns s (leftBy (carriedOut a (accept s h p a))) (accept s h p a .plan) l
 
--- "accept and perform, one after the other, is" what takes leave, with the same results: so what is claimed of calls of `uf2_take` holds of them
+-- accepted and carried out, one after the other, is what takes leave, with the same results: so what is claimed of calls of `uf2_take` holds of them
 unfoldable pub Accepts-are-takes : Type 0
 Accepts-are-takes =
     (s : List ℕ) (h : CallerState) (p : List ℕ) (l : List (List ℕ)) → length p ≡ 12
