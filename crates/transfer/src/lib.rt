@@ -164,23 +164,19 @@ fn accept(deed: Deed, head: Head, before: u32, clears: bool, discarded: bool) ->
     ensures { λ r. ⌜ r ≡ accepted deed clears discarded head (before + 1) ⌝ }
 {
     let raised = before as u64 + 1;
+    // the two cases meet again before anything is handed back: the compiler then keeps the state in registers
+    let mut state = State::Done(head);
+    let mut answer = Answer::Completed;
     if raised < head.total as u64 {
         let count = raised as u32;
         let run = Run { head, count };
-        let state = State::Running(run);
-        let transfer = Transfer { state };
-        return Accepted {
-            transfer,
-            answer: deed_answer(deed),
-            discarded,
-            clears,
-        };
+        state = State::Running(run);
+        answer = deed_answer(deed);
     }
-    let state = State::Done(head);
     let transfer = Transfer { state };
     Accepted {
         transfer,
-        answer: Answer::Completed,
+        answer,
         discarded,
         clears,
     }
