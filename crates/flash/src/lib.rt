@@ -16,6 +16,9 @@ impl Flash {
 
     pub const MAX: usize = 33554432;
 
+    // The last address after which a payload has room among numbers of 64 bits.
+    pub const LAST: usize = 18446744073709551359;
+
     // The bytes of an arrival that are its payload.
     pub const FROM: usize = 32;
 
@@ -47,12 +50,13 @@ pub fn store(flash: &mut [u8], at: usize, arrival: &[u8])
     if arrival.len() < Flash::TO {
         return;
     }
-    if flash.len() < Flash::PAYLOAD {
-        return;
-    }
-    if flash.len() - Flash::PAYLOAD < at {
+    // the end is compared, and no difference of the length: that would be a copy of the length, which is lent, on the stack
+    if Flash::LAST < at {
         return;
     }
     let e = at + Flash::PAYLOAD;
+    if flash.len() < e {
+        return;
+    }
     bytes::copy(&arrival[Flash::FROM..Flash::TO], &mut flash[at..e]);
 }

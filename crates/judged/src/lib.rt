@@ -4,6 +4,7 @@ ghost use mathlib.Core.Path.{_≡_};
 ghost use Rattle.place.specs.Place.{StartsLow};
 ghost use Rattle.judged.specs.Judged.{judgedOf, roomsNext};
 use block::Block;
+use place::Place;
 use screen::Lengths;
 use screen::Rooms;
 use settings::Settings;
@@ -33,14 +34,39 @@ pub fn judge(settings: Settings, lens: Lengths, m: usize, k: usize, family: u32)
     Judgement { right, good, kept }
 }
 
-// The settings are asked anew where the family is not the one before.
+// The same place, made anew: what is kept from arrival to arrival is then its fields alone, and not the unused bytes between them, which
+// would be copied at each.
+fn same_place(place: Place) -> Place
+    ensures { λ r. ⌜ r ≡ place ⌝ }
+{
+    match place {
+        Place::Nowhere => Place::Nowhere,
+        Place::At { start, len } => Place::At { start, len },
+    }
+}
+
+// What the settings say of a family: they are asked anew where it is not the one before.
+fn rooms_next(before: FamilyRooms, settings: Settings, flash_len: usize, family: u32) -> Rooms
+    ensures { λ r. ⌜ r ≡ roomsNext before settings «flash_len» family .rooms ⌝ }
+    ensures low { λ r. ⌜ (StartsLow (before .rooms .flash) → StartsLow (r .flash)) ⌝ }
+{
+    if before.family == family {
+        return before.rooms;
+    }
+    screen::rooms_for(settings, flash_len, family)
+}
+
+// A family, and what the settings say of it, after an arrival of the family before.
 pub fn next(before: FamilyRooms, settings: Settings, flash_len: usize, family: u32) -> FamilyRooms
     ensures { λ r. ⌜ r ≡ roomsNext before settings «flash_len» family ⌝ }
     ensures low { λ r. ⌜ (StartsLow (before .rooms .flash) → StartsLow (r .rooms .flash)) ⌝ }
 {
-    if before.family == family {
-        return before;
+    let found = rooms_next(before, settings, flash_len, family);
+    let place = found.flash;
+    let flash = same_place(place);
+    let ram = found.ram;
+    FamilyRooms {
+        family,
+        rooms: Rooms { flash, ram },
     }
-    let rooms = screen::rooms_for(settings, flash_len, family);
-    FamilyRooms { family, rooms }
 }

@@ -11,14 +11,11 @@ returns c = store-short _ _ _ (c .if1 .taken)
 returns-2 : tie.Need-returns-2
 returns-2 c = store-out _ _ _ (omega arith)
 
-sub-if3 : tie.Need-sub-if3
-sub-if3 c = search needs
+add-e : tie.Need-add-e
+add-e c = search needs
 
 returns-3 : tie.Need-returns-3
 returns-3 c = store-out _ _ _ (omega arith)
-
-add-e : tie.Need-add-e
-add-e c = search needs
 
 sub-copy : tie.Need-sub-copy
 sub-copy c = search needs
@@ -53,9 +50,8 @@ store-spec =
     (tie.spec
     returns
     returns-2
-    sub-if3
-    returns-3
     add-e
+    returns-3
     sub-copy
     part-copy-start
     part-copy-end

@@ -1,17 +1,19 @@
 -- `judged::next` meets its contract. Assumes nothing.
-use borrow.Author.Tests.{eq-eqb, ne-eqb}
+use Rattle.judged.proofs.Laws.{next-made}
 use borrow.Author.Needs.{needs}
 use Rattle.judged.proofs.next.Statement.{statement}
 use Rattle.judged.proofs.next.Tie as tie
 
+rooms-next-requires : tie.Need-rooms-next-requires
+rooms-next-requires c κs = search needs
+
+same-place-requires : tie.Need-same-place-requires
+same-place-requires c κs = search needs
+
 returns : tie.Need-returns
-returns c = (simp (eq-eqb _ _ (c .if1 .taken)), λ low. low)
-
-rooms-for-requires : tie.Need-rooms-for-requires
-rooms-for-requires c κs = search needs
-
-returns-2 : tie.Need-returns-2
-returns-2 c = (simp (ne-eqb _ _ (c .before .if1 .left), c .rooms-for .ensures .0), λ low. c .rooms-for .ensures .1)
+returns c =
+    let found = c .before .rooms-next in
+    (next-made _ _ _ _ (c .same-place .ensures) (found .ensures .0), λ low. rw (c .same-place .ensures) (found .ensures .1 low))
 
 pub next-spec : {M : Type 1} → statement M
-next-spec = tie.close (tie.spec returns rooms-for-requires returns-2)
+next-spec = tie.close (tie.spec rooms-next-requires same-place-requires returns)
