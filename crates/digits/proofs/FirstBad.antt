@@ -1,18 +1,12 @@
--- The first character that is no digit. Assumes nothing.
-use Prim.Native.Nat.{ℕ, zero, suc, _+_, _≤_, _<_}
-use mathlib.Core.Path.{_≡_, refl, sym, ap, _∙_}
-use mathlib.Core.Bool.{Bool, true, false, _&&_, cond}
+-- The first character that is no digit, beside row 22's test. Assumes nothing.
+use Prim.Native.Nat.{ℕ, zero, suc, _≤_, _<_}
+use mathlib.Core.Path.{_≡_, refl, ap}
+use mathlib.Core.Bool.{Bool, true, false, _&&_}
 use mathlib.Core.List.{List, [], _∷_}
-use native.Mathlib.Numerals.{add-one}
 use native.Mathlib.Omega.{arith}
-use lib.Dec.{ltb}
-use lib.ListN.{length, getD, drop, drop-of-length-le}
-use lib.Seq.{drop-cons}
-use borrow.Author.Tests.{lt-ltb, le-ltb}
+use lib.ListN.{length, getD}
 use Rattle.sets.proofs.Tests.{split, clash, and-right}
-use Rattle.digits.specs.Digits.{digitOf, isDigit, allDigits, firstBad}
-
--- ---- beside row 22's test
+use Rattle.digits.specs.Digits.{isDigit, allDigits, firstBad}
 
 pub bad-none : (l : List ℕ) → allDigits l ≡ true → length l ≡ firstBad l
 unfolding allDigits firstBad
@@ -63,22 +57,3 @@ bad-first (c ∷ l) (suc i) h =
     split (isDigit c)
     (λ y. let k : suc i < suc (firstBad l) = rw y at h in bad-first l i (omega arith))
     (λ z. let k : suc i < 0 = rw z at h in absurd (omega arith))
-
--- ---- from an index on, as the code looks
-
-module _ (l : List ℕ) (i : ℕ) where
-  pub bad-here : {v : ℕ} → i < length l → v ≡ digitOf (getD l i 0) → 16 ≤ v → firstBad (drop i l) ≡ 0
-  unfolding firstBad
-  bad-here h e n =
-      let z : isDigit (getD l i 0) ≡ false = le-ltb (digitOf (getD l i 0)) 16 (rw e at n) in
-      rw (drop-cons l i 0 h, z)
-
-  pub bad-next : {v : ℕ} → i < length l → v ≡ digitOf (getD l i 0) → v < 16 → firstBad (drop i l) ≡ suc (firstBad (drop (i + 1) l))
-  unfolding firstBad
-  bad-next h e n =
-      let y : isDigit (getD l i 0) ≡ true = lt-ltb (digitOf (getD l i 0)) 16 (rw e at n) in
-      rw (add-one, drop-cons l i 0 h, y)
-
-  pub bad-end : length l ≤ i → firstBad (drop i l) ≡ 0
-  unfolding firstBad
-  bad-end h = rw (drop-of-length-le l h)

@@ -1,17 +1,18 @@
--- A table's rule from one test that is computed over its 256 entries, and digits judged by the bits met. Assumes nothing.
-use Prim.Native.Nat.{ℕ}
-use mathlib.Core.Path.{_≡_}
-use mathlib.Core.Bool.{false, _&&_, not}
-use mathlib.Core.List.{List}
-use native.Mathlib.Omega.{arith}
-use lib.Bits.{bitOr, or-lt, or-add-and, and-le-l, and-le-r}
-use lib.Dec.{ltb, eqb}
+-- A table's rule from one test that is computed over its 256 entries, and what such a table says of characters. Assumes nothing.
+use Prim.Native.Nat.{ℕ, suc, _<_}
+use mathlib.Core.Path.{_≡_, refl, sym, _∙_}
+use mathlib.Core.Bool.{false, not}
+use mathlib.Core.List.{List, [], _∷_}
+use lib.Dec.{eqb}
 use lib.ListN.{getD}
-use borrow.Author.Tests.{lt-ltb, le-ltb, ltb-true, ltb-false, eqb-true, not-false}
-use Rattle.sets.proofs.Tests.{split}
+use borrow.Author.Tests.{eqb-true, not-false}
 use Rattle.sets.specs.Sets.{Set, any}
 use Rattle.sets.proofs.Laws.{any-all}
-use Rattle.digits.specs.Digits.{digitOf}
+use Rattle.digitpairs.specs.Values.{valueIn}
+use Rattle.digitpairs.proofs.Values.{value-at}
+use Rattle.digitpairs.specs.Pairs.{bytesIn, decodedIn}
+use Rattle.decoding.specs.First.{firstIn}
+use Rattle.digits.specs.Digits.{digitOf, firstBad, bytesOf, decoded}
 use Rattle.digits.specs.Table.{TellsDigits}
 
 -- the entries that are not as the rule says
@@ -21,12 +22,25 @@ wrong t c = not (eqb (getD t c 0) (digitOf c))
 pub tells : (t : List ℕ) → any 256 (wrong t) ≡ false → TellsDigits t
 tells t e = record { rule = λ c h. eqb-true (getD t c 0) (digitOf c) (not-false _ (any-all (wrong t) 256 e c h)) }
 
--- all values met are digits exactly if the bits of all of them are below 16
-pub met-next : (m v : ℕ) → ltb (bitOr m v) 16 ≡ ltb m 16 && ltb v 16
-met-next m v =
-    split (ltb m 16)
-    (λ y.
-    split (ltb v 16)
-    (λ z. rw (y, z) (lt-ltb (bitOr m v) 16 (or-lt 4 m v (ltb-true m 16 y) (ltb-true v 16 z))))
-    (λ z. rw (y, z) (le-ltb (bitOr m v) 16 (omega (arith, or-add-and m v, and-le-l m v, ltb-false v 16 z)))))
-    (λ y. rw y (le-ltb (bitOr m v) 16 (omega (arith, or-add-and m v, and-le-r m v, ltb-false m 16 y))))
+-- every character is a byte
+abbrev pub Bytes : List ℕ → Type 0
+Bytes l = (i : ℕ) → getD l i 0 < 256
+
+module _ (t : List ℕ) (told : TellsDigits t) where
+  pub told-value : (c : ℕ) → c < 256 → valueIn t c ≡ digitOf c
+  told-value c h = sym (value-at t c h) ∙ told .rule c h
+
+  pub told-first : (l : List ℕ) → Bytes l → firstIn t l ≡ firstBad l
+  unfolding firstIn firstBad
+  told-first [] b = refl
+  told-first (c ∷ l) b = rw (told-value c (b 0), told-first l (λ i. b (suc i)))
+
+  pub told-bytes : (l : List ℕ) → Bytes l → bytesIn t l ≡ bytesOf l
+  unfolding bytesIn bytesOf
+  told-bytes [] b = refl
+  told-bytes (c ∷ []) b = refl
+  told-bytes (c ∷ d ∷ l) b = rw (told-value c (b 0), told-value d (b 1), told-bytes l (λ i. b (suc (suc i))))
+
+  pub told-decoded : (l out : List ℕ) → Bytes l → decodedIn t l out ≡ decoded l out
+  unfolding decodedIn decoded
+  told-decoded l out b = rw (told-bytes l b)

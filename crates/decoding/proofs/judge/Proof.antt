@@ -1,9 +1,9 @@
--- `digits::judge_by` meets its contract. Assumes nothing.
+-- `decoding::judge` meets its contract. Assumes nothing.
 use mathlib.Core.Path.{sym, _∙_}
-use Rattle.digits.proofs.FirstBad.{bad-none}
+use Rattle.decoding.proofs.FirstLaws.{first-none}
 use borrow.Author.Needs.{needs}
-use Rattle.digits.proofs.judge_by.Statement.{statement}
-use Rattle.digits.proofs.judge_by.Tie as tie
+use Rattle.decoding.proofs.judge.Statement.{statement}
+use Rattle.decoding.proofs.judge.Tie as tie
 
 decode-requires : tie.Need-decode-requires
 decode-requires c κs = search needs
@@ -14,7 +14,7 @@ same-length c = search needs
 returns : tie.Need-returns
 returns c =
     let d = c .before .before .before in
-    (bad-none _ (sym (d .decode .ensures .0) ∙ c .if1 .taken), d .decode .ensures .1)
+    (first-none _ _ (sym (d .decode .ensures .0) ∙ c .if1 .taken), d .decode .ensures .1)
 
 first-bad-requires : tie.Need-first-bad-requires
 first-bad-requires c κs = search needs
@@ -25,6 +25,6 @@ same-length-2 c = search needs
 returns-2 : tie.Need-returns-2
 returns-2 c = (c .first-bad .ensures, c .before .before .before .before .decode .ensures .1)
 
-pub judge-by-spec : {M : Type 1} → statement M
-judge-by-spec =
+pub judge-spec : {M : Type 1} → statement M
+judge-spec =
     tie.close (tie.spec decode-requires same-length returns first-bad-requires same-length-2 returns-2)

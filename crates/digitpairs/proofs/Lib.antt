@@ -1,0 +1,3 @@
+-- The laws of `specs/`.
+pub mod Values
+pub mod Stored
