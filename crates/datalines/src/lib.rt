@@ -172,7 +172,7 @@ fn put_line(out: &mut [u8], at: usize, state: Scan, kind: u8, line: &[u8]) -> St
     ensures { λ r. ⌜ r ≡ stepOf state (now (line .entry)) ⌝ }
     ensures lines { λ _. ⌜ now (out .exit) ≡ putLines (now (out .entry)) (at + state .tally .len) (piecesLines kind (state .tally) (linePieces (state .plain) (now (line .entry)))) ⌝ }
 {
-    let read = record::read(line);
+    let read = recordline::read(line);
     let data = read.data;
     let parsed = read.parsed;
     let plain = state.plain;

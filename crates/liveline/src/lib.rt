@@ -19,7 +19,7 @@ pub fn live(reader: Reader, line: &[u8], image: &mut [u8]) -> Reply
         return replies::failing(reader, Answer::FileTooLong);
     }
     let end = (offset + line.len()) as u32;
-    let read = record::read(line);
+    let read = recordline::read(line);
     let parsed = read.parsed;
     let ParseResult::Good(rec) = parsed else {
         return replies::failing(reader, grammar::refusal(parsed));

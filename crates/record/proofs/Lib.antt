@@ -4,6 +4,5 @@ pub mod Sums
 pub mod Data32
 pub mod Checks
 pub mod Good
-pub mod Rows
 pub mod Positions
 pub mod Written

@@ -1,10 +1,10 @@
--- `record::read` meets its contract. Assumes nothing.
+-- `recordline::read` meets its contract. Assumes nothing.
 use mathlib.Core.Path.{sym}
 use lib.Seq.{length-take-le}
-use Rattle.record.proofs.Rows.{read-numbered}
+use Rattle.recordline.proofs.Rows.{read-numbered}
 use borrow.Author.Needs.{needs}
-use Rattle.record.proofs.read.Statement.{statement}
-use Rattle.record.proofs.read.Tie as tie
+use Rattle.recordline.proofs.read.Statement.{statement}
+use Rattle.recordline.proofs.read.Tie as tie
 
 text-len-requires : tie.Need-text-len-requires
 text-len-requires c κs = search needs

@@ -1,10 +1,10 @@
--- `record::read_text` meets its contract. Assumes nothing.
+-- `recordline::read_text` meets its contract. Assumes nothing.
 use mathlib.Core.Path.{_∙_}
 use native.Mathlib.Omega.{arith}
 use Rattle.record.proofs.Checks.{is-empty, is-no-colon, is-bad-shape}
 use borrow.Author.Needs.{needs}
-use Rattle.record.proofs.read_text.Statement.{statement}
-use Rattle.record.proofs.read_text.Tie as tie
+use Rattle.recordline.proofs.read_text.Statement.{statement}
+use Rattle.recordline.proofs.read_text.Tie as tie
 
 refusal-requires : tie.Need-refusal-requires
 refusal-requires c κs = search needs

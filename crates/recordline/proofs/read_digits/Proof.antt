@@ -1,12 +1,13 @@
--- `record::read_digits` meets its contract. Assumes nothing.
+-- `recordline::read_digits` meets its contract. Assumes nothing.
 use mathlib.Core.Path.{_∙_}
 use native.Mathlib.Omega.{arith}
 use lib.ListN.{length}
 use Rattle.digits.proofs.Digits.{decoding, rest}
-use Rattle.record.proofs.Checks.{shaped, is-bad-at, is-all-good, is-decoded}
+use Rattle.record.proofs.Checks.{shaped}
+use Rattle.recordline.proofs.Decoded.{is-bad-at, is-all-good, is-decoded}
 use borrow.Author.Needs.{needs}
-use Rattle.record.proofs.read_digits.Statement.{statement}
-use Rattle.record.proofs.read_digits.Tie as tie
+use Rattle.recordline.proofs.read_digits.Statement.{statement}
+use Rattle.recordline.proofs.read_digits.Tie as tie
 
 sub-judge : tie.Need-sub-judge
 sub-judge c = search needs
@@ -43,13 +44,8 @@ returns c =
     let s = d .before .before .before .before in
     c .refusal .ensures ∙ is-bad-at (s .args .t .now) (λ q. omega arith) (s .pre .1) (s .pre .2) (d .judge .ensures .0) (c .before .if1 .taken)
 
-slice-aggregate-read-bytes : tie.Need-slice-aggregate-read-bytes
-slice-aggregate-read-bytes c = search needs
-
 read-bytes-requires : tie.Need-read-bytes-requires
-read-bytes-requires c κs =
-    let d = c .before .before .before in
-    (shaped _ (d .before .before .before .before .pre .2) .least, d .judge .kept .1 .0)
+read-bytes-requires c κs = search needs
 
 returns-2 : tie.Need-returns-2
 returns-2 c =
@@ -73,6 +69,5 @@ read-digits-spec =
     cast-t13
     refusal-requires
     returns
-    slice-aggregate-read-bytes
     read-bytes-requires
     returns-2)

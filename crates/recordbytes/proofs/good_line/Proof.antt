@@ -1,8 +1,8 @@
--- `record::good_line` meets its contract. Assumes nothing.
+-- `recordbytes::good_line` meets its contract. Assumes nothing.
 use Rattle.record.proofs.Data32.{data32-data}
 use borrow.Author.Needs.{needs}
-use Rattle.record.proofs.good_line.Statement.{statement}
-use Rattle.record.proofs.good_line.Tie as tie
+use Rattle.recordbytes.proofs.good_line.Statement.{statement}
+use Rattle.recordbytes.proofs.good_line.Tie as tie
 
 shared-slice-read-len : tie.Need-shared-slice-read-len
 shared-slice-read-len c = search needs
