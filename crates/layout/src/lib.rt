@@ -102,7 +102,7 @@ fn write_table(bytes: &mut [u8], table: [Entry; Settings::ENTRIES])
         let from = ENTRY * k;
         let to = from + ENTRY;
         let e = table[k];
-        entrybytes::write_entry(&mut bytes[from..to], e);
+        entrywrite::write_entry(&mut bytes[from..to], e);
         k += 1;
     }
 }

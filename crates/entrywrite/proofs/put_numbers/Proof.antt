@@ -1,8 +1,8 @@
--- `entrybytes::put_numbers` meets its contract. Assumes nothing.
-use Rattle.entrybytes.proofs.Entries.{six-put}
+-- `entrywrite::put_numbers` meets its contract. Assumes nothing.
+use Rattle.entrywrite.proofs.Pieces.{six-put}
 use borrow.Author.Needs.{needs}
-use Rattle.entrybytes.proofs.put_numbers.Statement.{statement}
-use Rattle.entrybytes.proofs.put_numbers.Tie as tie
+use Rattle.entrywrite.proofs.put_numbers.Statement.{statement}
+use Rattle.entrywrite.proofs.put_numbers.Tie as tie
 
 put-requires : tie.Need-put-requires
 put-requires c κs = search needs

@@ -1,8 +1,8 @@
--- `entrybytes::flags` meets its contract. Assumes nothing.
+-- `entrywrite::flags` meets its contract. Assumes nothing.
 use Rattle.entrybytes.specs.EntryBytes.{flagBytes}
 use borrow.Author.Needs.{needs}
-use Rattle.entrybytes.proofs.flags.Statement.{statement}
-use Rattle.entrybytes.proofs.flags.Tie as tie
+use Rattle.entrywrite.proofs.flags.Statement.{statement}
+use Rattle.entrywrite.proofs.flags.Tie as tie
 
 flag-requires : tie.Need-flag-requires
 flag-requires c κs = search needs

@@ -1,10 +1,10 @@
--- `entrybytes::write_entry` meets its contract. Assumes nothing.
+-- `entrywrite::write_entry` meets its contract. Assumes nothing.
 use native.Mathlib.Omega.{arith}
 use Rattle.entrybytes.specs.EntryBytes.{numberBytes}
-use Rattle.entrybytes.proofs.Entries.{entry-other, entry-put}
+use Rattle.entrywrite.proofs.Pieces.{entry-other, entry-put}
 use borrow.Author.Needs.{needs}
-use Rattle.entrybytes.proofs.write_entry.Statement.{statement}
-use Rattle.entrybytes.proofs.write_entry.Tie as tie
+use Rattle.entrywrite.proofs.write_entry.Statement.{statement}
+use Rattle.entrywrite.proofs.write_entry.Tie as tie
 
 returns : tie.Need-returns
 returns c = entry-other _ _ (λ e. omega (arith, e))

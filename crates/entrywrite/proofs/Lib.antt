@@ -1,0 +1,2 @@
+-- The laws of an entry that is written.
+pub mod Pieces
