@@ -7,7 +7,7 @@ use native.Mathlib.Omega.{arith}
 use lib.ListN.{length}
 use Rattle.stores.specs.Stores.{Store}
 use Rattle.record.specs.Types.{dataType}
-use Rattle.datalines.specs.declared.Tally.{Tally}
+use Rattle.datacuts.specs.declared.Tally.{Tally}
 use Rattle.datalines.specs.Lines.{upperOf, dataLines, dataLength}
 use Rattle.datalines.specs.Tally.{freshTally, changes, tallyPiece, tallyAll}
 use Rattle.datalines.proofs.Tallied.{length-pieces, fresh-lines}

@@ -19,7 +19,7 @@ use Rattle.plain.specs.declared.LineReading.the-variants.{Refused, Passed, Data
 use Rattle.plain.specs.Line.{lineTaken, takenOf}
 use Rattle.plain.specs.File.{goesOn, nextOf, badOf, givesOf}
 use Rattle.plain.proofs.Moves.{data-near}
-use Rattle.datalines.specs.declared.Tally.{Tally}
+use Rattle.datacuts.specs.declared.Tally.{Tally}
 use Rattle.datalines.specs.declared.Scan.{Scan}
 use Rattle.datalines.specs.declared.Step.{Step}
 use Rattle.datalines.specs.declared.Step.the-variants.{On, Stop}

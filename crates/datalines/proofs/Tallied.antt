@@ -7,7 +7,7 @@ use native.Mathlib.Omega.{arith}
 use lib.Dec.{eqb, ltb}
 use lib.ListN.{length, take, drop, length-append, length-take, length-drop}
 use lib.Seq.{take-all}
-use borrow.Author.Tests.{lt-ltb, le-ltb}
+use borrow.Author.Tests.{lt-ltb, le-ltb, ltb-true, ltb-false}
 use Rattle.sets.proofs.Tests.{split, eqb-same}
 use Rattle.stores.specs.Stores.{Store}
 use Rattle.record.specs.Write.{recordLine}
@@ -15,8 +15,8 @@ use Rattle.hexwrite.specs.Put.{putLine, putLines}
 use Rattle.hexwrite.proofs.Line.{length-line}
 use Rattle.hexwrite.proofs.Lines.{put-one, put-two, put-append, length-flatten}
 use Rattle.plain.specs.File.{isSome}
-use Rattle.datalines.specs.declared.Tally.{Tally}
-use Rattle.datalines.specs.Pieces.{piece, roomOf, splitOf, splitAll}
+use Rattle.datacuts.specs.declared.Tally.{Tally}
+use Rattle.datalines.specs.Pieces.{piece, roomOf, crosses, splitOf, splitAll}
 use Rattle.datalines.specs.Lines.{upperOf, upperLine, upperIf, bodyLines, firstUpper}
 use Rattle.datalines.specs.Tally.{tally, freshTally, changes, tallyPiece, tallyAll, pieceLines, piecesLines}
 
@@ -118,6 +118,13 @@ module _ (out : List ℕ) (kind at : ℕ) (t : Tally) where
       let upper : a / 65536 + 1 ≡ (a + roomOf a) / 65536 = omega arith in
       let lower : 0 ≡ (a + roomOf a) % 65536 = omega arith in
       put-cut a d h f g (k ∙ rw (same, upper) refl) (p ∙ rw (same, upper, lower) refl)
+
+-- which of the two it is, by the code's test
+pub is-cut : (a : ℕ) {n : ℕ} {b : Bool} → b ≡ crosses a n → b ≡ true → roomOf a < n
+is-cut a {n} e y = ltb-true (roomOf a) n (sym e ∙ y)
+
+pub is-whole : (a : ℕ) {n : ℕ} {b : Bool} → b ≡ crosses a n → b ≡ false → n ≤ roomOf a
+is-whole a {n} e z = ltb-false (roomOf a) n (sym e ∙ z)
 
 -- what put_data asks of put_piece at the second part
 pub second-fits : (t : Tally) (u : ℕ) (d : List ℕ) (r : ℕ) {q : Tally} → t .len ≤ 1000000000 → length d ≤ 32 → q ≡ tallyPiece t u (length (take r d))

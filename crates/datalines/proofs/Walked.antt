@@ -23,7 +23,7 @@ use Rattle.plain.specs.declared.Verdict.the-variants.{Fine, Bad}
 use Rattle.plain.specs.Line.{freshPlain, takenOf}
 use Rattle.plain.specs.File.{goesOn, nextOf, badOf, givesOf, recordsFrom, recordsOf, linesVerdict, isSome, dataVerdict, thenVerdict, verdictOf, closeOf}
 use Rattle.plain.proofs.Moves.{Moved, taken-moves}
-use Rattle.datalines.specs.declared.Tally.{Tally}
+use Rattle.datacuts.specs.declared.Tally.{Tally}
 use Rattle.datalines.specs.declared.Scan.{Scan}
 use Rattle.datalines.specs.declared.Body.{Body}
 use Rattle.datalines.specs.declared.Step.{Step}

@@ -10,7 +10,7 @@ use Rattle.hexwrite.specs.Put.{putLines}
 use Rattle.plain.specs.declared.Plain.{Plain}
 use Rattle.plain.specs.Line.{takenOf}
 use Rattle.plain.specs.File.{goesOn, nextOf, badOf, givesOf, verdictOf}
-use Rattle.datalines.specs.declared.Tally.{Tally}
+use Rattle.datacuts.specs.declared.Tally.{Tally}
 use Rattle.datalines.specs.declared.Scan.{Scan}
 use Rattle.datalines.specs.declared.Step.{Step}
 use Rattle.datalines.specs.declared.Step.the-variants.{On, Stop}

@@ -1,25 +1,15 @@
 -- What the code keeps of the pieces written so far, and the lines of a piece by it. The lines of all pieces of a file are `dataLines`
 -- (proofs/Tallied.antt). Assumes nothing.
-use Prim.Native.Nat.{ℕ, _+_, _*_, _/_, _%_}
-use mathlib.Core.Bool.{Bool, true, false, cond, not, _&&_}
+use Prim.Native.Nat.{ℕ, _+_, _*_, _%_}
+use mathlib.Core.Bool.{true, cond}
 use mathlib.Core.List.{List, [], _∷_, _++_}
-use lib.Dec.{eqb}
 use lib.ListN.{length}
 use Rattle.stores.specs.Stores.{Store}
 use Rattle.record.specs.Write.{recordLine}
-use Rattle.datalines.specs.declared.Tally.{Tally}
+use Rattle.datacuts.specs.declared.Tally.{Tally}
 use Rattle.datalines.specs.Lines.{upperOf, upperLine}
-
-abbrev pub tally : Bool → ℕ → ℕ → ℕ → Tally
-tally some first upper len = record { some = some; first = first; upper = upper; len = len }
-
--- before the first piece
-abbrev pub freshTally : Tally
-freshTally = tally false 0 0 0
-
--- an 04 stands before a piece with the upper half u; the first piece has the section's opening 04
-abbrev pub changes : Tally → ℕ → Bool
-changes t u = t .some && not (eqb (t .upper) u)
+-- what is kept, before the first piece, and where an 04 stands
+pub use Rattle.datacuts.specs.Cuts.{tally, freshTally, changes}
 
 -- one more piece, of n bytes with the upper half u
 unfoldable pub tallyPiece : Tally → ℕ → ℕ → Tally

@@ -7,9 +7,10 @@ ghost use Rattle.hexwrite.specs.Put.{putLine, putLines};
 ghost use Rattle.record.specs.Write.{recordLine};
 ghost use Rattle.datalines.specs.Pieces.{piece, splitOf, piecesOf};
 ghost use Rattle.datalines.specs.Lines.{wordBytes, dataLines};
-ghost use Rattle.datalines.specs.Tally.{freshTally, changes, tallyPiece, tallyAll, pieceLines, piecesLines};
+ghost use Rattle.datalines.specs.Tally.{tallyPiece, tallyAll, pieceLines, piecesLines};
 ghost use Rattle.datalines.specs.Scan.{bodyOf, scan, linePieces, stepOf, stopOf, Walk};
 ghost use Rattle.datalines.specs.declared.Step.the-variants.{On};
+use datacuts::Tally;
 use grammar::Answer;
 use plain::LineReading;
 use plain::Plain;
@@ -22,15 +23,6 @@ pub struct Body {
     pub verdict: Verdict,
     pub first: usize,
     pub len: usize,
-}
-
-// What is known of the pieces so far: whether there is one, the upper half of the first and of the latest, and how many characters their lines
-// have.
-struct Tally {
-    some: bool,
-    first: usize,
-    upper: usize,
-    len: usize,
 }
 
 // Where the reading of a plain file stands, and what is known of its pieces.
@@ -52,40 +44,20 @@ fn pick(test: bool, a: usize, b: usize) -> usize
     if test { a } else { b }
 }
 
-impl Tally {
-    fn fresh() -> Tally
-        ensures { λ r. ⌜ r ≡ freshTally ⌝ }
-    {
-        Tally {
-            some: false,
-            first: 0,
-            upper: 0,
-            len: 0,
-        }
-    }
-
-    // An 04 stands before a piece with this upper half.
-    fn changes(self, upper: usize) -> bool
-        ensures { λ r. ⌜ r ≡ changes self upper ⌝ }
-    {
-        self.some & !(self.upper == upper)
-    }
-
-    // One more piece, of n bytes: a record's line has 12 characters, and two for each byte of its data.
-    fn with_piece(self, upper: usize, n: usize) -> Tally
-        requires { ⌜ (self .len ≤ 1073741824) × (n ≤ 32) ⌝ }
-        ensures { λ r. ⌜ r ≡ tallyPiece self upper n ⌝ }
-    {
-        let some = self.some;
-        let first = pick(some, self.first, upper);
-        let more = pick(self.changes(upper), 16, 0);
-        let len = self.len + (more + (12 + 2 * n));
-        Tally {
-            some: true,
-            first,
-            upper,
-            len,
-        }
+// One more piece, of n bytes: a record's line has 12 characters, and two for each byte of its data.
+fn with_piece(tally: Tally, upper: usize, n: usize) -> Tally
+    requires { ⌜ (tally .len ≤ 1073741824) × (n ≤ 32) ⌝ }
+    ensures { λ r. ⌜ r ≡ tallyPiece tally upper n ⌝ }
+{
+    let some = tally.some;
+    let first = pick(some, tally.first, upper);
+    let more = pick(tally.changes(upper), 16, 0);
+    let len = tally.len + (more + (12 + 2 * n));
+    Tally {
+        some: true,
+        first,
+        upper,
+        len,
     }
 }
 
@@ -112,7 +84,7 @@ fn put_piece(
     ensures lines { λ _. ⌜ now (out .exit) ≡ putLines (now (out .entry)) (at + tally .len) (pieceLines kind tally upper lower (now (bytes .entry))) ⌝ }
 {
     let from = at + tally.len;
-    let next = tally.with_piece(upper, bytes.len());
+    let next = with_piece(tally, upper, bytes.len());
     if tally.changes(upper) {
         put_word(out, from, Record::EXTENDED_LINEAR, upper);
         hexwrite::put_record(out, from + 16, kind, lower, bytes);
@@ -137,8 +109,8 @@ fn put_data(
 {
     let upper = address / Plain::REACH;
     let lower = (address % Plain::REACH) as u16;
-    let room = Plain::REACH - address % Plain::REACH;
-    if room < bytes.len() {
+    if datacuts::crosses(address, bytes.len()) {
+        let room = Plain::REACH - address % Plain::REACH;
         let next = put_piece(out, at, tally, kind, upper, lower, &bytes[..room]);
         return put_piece(out, at, next, kind, upper + 1, 0, &bytes[room..]);
     }

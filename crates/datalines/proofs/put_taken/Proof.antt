@@ -1,7 +1,7 @@
 -- `datalines::put_taken` meets its contract. Assumes nothing.
 use Rattle.datalines.specs.Scan.{scan}
 use Rattle.datalines.specs.declared.Step.the-variants.{On}
-use Rattle.datalines.specs.declared.Tally.{Tally}
+use Rattle.datacuts.specs.declared.Tally.{Tally}
 use mathlib.Core.Path.{ap}
 use borrow.Author.Needs.{needs}
 use Rattle.datalines.proofs.put_taken.Statement.{statement}

@@ -1,9 +1,9 @@
--- `datalines::Tally::with_piece` meets its contract. Assumes nothing.
+-- `datalines::with_piece` meets its contract. Assumes nothing.
 use Rattle.datalines.proofs.Tallied.{at-most, piece-kept}
 use native.Mathlib.Omega.{arith}
 use borrow.Author.Needs.{needs}
-use Rattle.datalines.proofs.Tally.with_piece.Statement.{statement}
-use Rattle.datalines.proofs.Tally.with_piece.Tie as tie
+use Rattle.datalines.proofs.with_piece.Statement.{statement}
+use Rattle.datalines.proofs.with_piece.Tie as tie
 
 pick-requires : tie.Need-pick-requires
 pick-requires c κs = search needs
@@ -27,7 +27,7 @@ add-len-3 : tie.Need-add-len-3
 add-len-3 c = omega (arith, at-most (c .before .before .changes .result) (c .before .pick2 .ensures))
 
 returns : tie.Need-returns
-returns c = piece-kept (c .before .before .before .before .args .self) (c .before .before .before .before .args .upper) (c .before .before .before .before .args .n) (c .before .before .before .pick .ensures) (c .before .before .changes .ensures) (c .before .pick2 .ensures)
+returns c = piece-kept (c .before .before .before .before .args .tally) (c .before .before .before .before .args .upper) (c .before .before .before .before .args .n) (c .before .before .before .pick .ensures) (c .before .before .changes .ensures) (c .before .pick2 .ensures)
 
 pub with-piece-spec : {M : Type 1} → statement M
 with-piece-spec =
