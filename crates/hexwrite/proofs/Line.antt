@@ -1,14 +1,19 @@
 -- The line of a record: how long it is, its parts one after the other, and where it does not fit. Assumes nothing.
 use mathlib.Core.Path.{_≡_, refl, sym, ap, _∙_}
+use mathlib.Core.Bool.{Bool, true, false}
 use mathlib.Core.List.{List, [], _∷_, _++_}
 use Prim.Native.Nat.{ℕ, _+_, _*_, _/_, _%_, _<_, _≤_}
 use native.Mathlib.Omega.{arith}
+use lib.Dec.{leb}
 use lib.ListN.{length, length-append}
-use borrow.Author.Tests.{le-leb, lt-leb}
+use borrow.Author.Tests.{le-leb, lt-leb, leb-true, leb-false}
 use Rattle.sets.specs.Over.{over}
 use Rattle.sets.proofs.OverLaws.{over-next}
+use Rattle.sets.proofs.Tests.{split}
 use Rattle.record.specs.Write.{bytesText, fieldBytes, checksum, recordText, recordLine}
 use Rattle.record.proofs.Written.{length-text}
+use Rattle.hextext.specs.Room.{hasRoom}
+use Rattle.hextext.proofs.Rooms.{few, within}
 use Rattle.hexwrite.specs.Put.{putLine, putRecord}
 use Rattle.hexwrite.proofs.Digits.{text-append}
 
@@ -60,23 +65,32 @@ module _ (kind address : ℕ) (d : List ℕ) where
 -- ---- where it fits
 
 module _ (out : List ℕ) (at kind address : ℕ) (d : List ℕ) where
-  pub too-much : 32 < length d → out ≡ putRecord out at kind address d
+  too-much : 32 < length d → out ≡ putRecord out at kind address d
   unfolding putRecord
   too-much h = rw (lt-leb (length d) 32 h)
 
-  pub put-by : {r : List ℕ} → length d ≤ 32 → r ≡ putLine out at (recordLine kind address d) → r ≡ putRecord out at kind address d
+  put-by : {r : List ℕ} → length d ≤ 32 → r ≡ putLine out at (recordLine kind address d) → r ≡ putRecord out at kind address d
   unfolding putRecord
   put-by h e = rw (le-leb (length d) 32 h) e
 
-  pub no-room : length d ≤ 32 → length out < at + (12 + 2 * length d) → out ≡ putRecord out at kind address d
+  too-short : length d ≤ 32 → length out < at + (12 + 2 * length d) → out ≡ putRecord out at kind address d
   unfolding putLine
-  no-room h l =
+  too-short h l =
       let n = length-line kind address d in
       put-by h (rw (lt-leb (at + length (recordLine kind address d)) (length out) (omega arith)))
 
-  pub is-put : {r : List ℕ} → length d ≤ 32 → at + (12 + 2 * length d) ≤ length out → r ≡ over out at (recordLine kind address d)
+  -- by the code's test
+  pub no-room : {b : Bool} → b ≡ hasRoom (length out) at (length d) → b ≡ false → out ≡ putRecord out at kind address d
+  no-room e n =
+      let f : hasRoom (length out) at (length d) ≡ false = sym e ∙ n in
+      split (leb (length d) 32)
+      (λ y. too-short (leb-true (length d) 32 y) (leb-false (at + (12 + 2 * length d)) (length out) (rw y at f)))
+      (λ z. too-much (leb-false (length d) 32 z))
+
+  pub is-put : {b : Bool} {r : List ℕ} → b ≡ hasRoom (length out) at (length d) → b ≡ true → r ≡ over out at (recordLine kind address d)
       → r ≡ putRecord out at kind address d
   unfolding putLine
-  is-put h l e =
+  is-put f y e =
       let n = length-line kind address d in
-      put-by h (rw (le-leb (at + length (recordLine kind address d)) (length out) (omega arith)) e)
+      let fits = within (length out) at (length d) f y in
+      put-by (few (length out) at (length d) f y) (rw (le-leb (at + length (recordLine kind address d)) (length out) (omega arith)) e)

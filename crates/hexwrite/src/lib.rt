@@ -4,17 +4,8 @@ ghost use mathlib.Core.List.{_∷_, []};
 ghost use Prim.Native.Nat.{_+_, _*_, _<_, _≤_};
 ghost use lib.ListN.{length};
 ghost use Rattle.sets.specs.Over.{over};
-ghost use Rattle.record.specs.Write.{digitText, bytesText, recordLine};
+ghost use Rattle.record.specs.Write.{bytesText, recordLine};
 ghost use Rattle.hexwrite.specs.Put.{putRecord};
-use record::Record;
-
-// The upper-case digit of a number below 16.
-fn digit(n: u8) -> u8
-    requires { ⌜ n < 16 ⌝ }
-    ensures { λ r. ⌜ r ≡ digitText n ⌝ }
-{
-    if n < 10 { 48 + n } else { 55 + n }
-}
 
 fn put_char(out: &mut [u8], at: usize, c: u8)
     requires { ⌜ at < length (now out) ⌝ }
@@ -28,8 +19,8 @@ fn put_byte(out: &mut [u8], at: usize, b: u8)
     requires { ⌜ at + 2 ≤ length (now out) ⌝ }
     ensures { λ _. ⌜ now (out .exit) ≡ over (now (out .entry)) at (bytesText (b ∷ [])) ⌝ }
 {
-    put_char(out, at, digit(b / 16));
-    put_char(out, at + 1, digit(b % 16));
+    put_char(out, at, hextext::high_digit(b));
+    put_char(out, at + 1, hextext::low_digit(b));
 }
 
 // The digits of bytes.
@@ -73,14 +64,7 @@ fn put_line(out: &mut [u8], at: usize, kind: u8, address: u16, data: &[u8])
 pub fn put_record(out: &mut [u8], at: usize, kind: u8, address: u16, data: &[u8])
     ensures { λ _. ⌜ now (out .exit) ≡ putRecord (now (out .entry)) at kind address (now («data» .entry)) ⌝ }
 {
-    let n = data.len();
-    if Record::MAX < n {
-        return;
-    }
-    if out.len() < at {
-        return;
-    }
-    if out.len() - at < 12 + 2 * n {
+    if !hextext::has_room(out.len(), at, data.len()) {
         return;
     }
     put_line(out, at, kind, address, data);

@@ -1,8 +1,8 @@
--- `hexwrite::digit` meets its contract. Assumes nothing.
+-- `hextext::digit` meets its contract. Assumes nothing.
 use borrow.Author.Tests.{lt-ltb, le-ltb}
 use borrow.Author.Needs.{needs}
-use Rattle.hexwrite.proofs.digit.Statement.{statement}
-use Rattle.hexwrite.proofs.digit.Tie as tie
+use Rattle.hextext.proofs.digit.Statement.{statement}
+use Rattle.hextext.proofs.digit.Tie as tie
 
 add-result : tie.Need-add-result
 add-result c = search needs
