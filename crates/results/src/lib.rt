@@ -12,6 +12,16 @@ pub fn result(answer: Answer, discarded: bool) -> u8
     if discarded { n + 128 } else { n }
 }
 
+// The same of an answer's number, as a call returns it.
+pub fn returned(number: u8, discarded: bool) -> u32
+    ensures { λ r. ⌜ r ≡ resultOf number discarded ⌝ }
+{
+    if discarded {
+        return number as u32 + 128;
+    }
+    number as u32
+}
+
 // Is the block accepted?
 pub fn is_acceptance(answer: Answer) -> bool
     ensures { λ r. ⌜ r ≡ isAcceptance (numberOf answer) ⌝ }
