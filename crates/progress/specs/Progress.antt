@@ -1,6 +1,7 @@
 -- How a transfer stands beside a block: what the checks from 12 on ask of it (02, L6). Assumes nothing.
 use Prim.Native.Nat.{ℕ, _+_}
 use mathlib.Core.Bool.{Bool, true, false, _&&_, not, cond}
+use lib.Dec.{leb}
 use Rattle.transfer.specs.Transfer.{sameHead}
 use Rattle.transfer.specs.declared.Head.{Head}
 use Rattle.transfer.specs.declared.State.{State}
@@ -29,3 +30,7 @@ abbrev pub runsOther : State → Head → Bool
 runsOther Idle g = false
 runsOther (Running r) g = not (sameHead (r .head) g)
 runsOther (Done h) g = false
+
+-- by the number of its answer: 14 to 17 are the answers that accept a block
+abbrev pub discardedBy : ℕ → State → Head → Bool
+discardedBy n t g = leb 14 n && runsOther t g

@@ -1,6 +1,7 @@
-// How a transfer stands beside a block: done, its number marked already, the count once it is counted, or another transfer that runs.
+// How a transfer stands beside a block: done, its number marked already, the count once it is counted, or another transfer that runs and is
+// discarded.
 ghost use mathlib.Core.Path.{_≡_};
-ghost use Rattle.progress.specs.Progress.{raisedOf, isDone, isAgain, runsOther};
+ghost use Rattle.progress.specs.Progress.{raisedOf, isDone, isAgain, runsOther, discardedBy};
 use transfer::Head;
 use transfer::State;
 use transfer::Transfer;
@@ -50,8 +51,8 @@ pub fn raised(transfer: Transfer, head: Head) -> u64
     }
 }
 
-// Would the block discard a running transfer?
-pub fn runs_other(transfer: Transfer, head: Head) -> bool
+// Does a transfer of another head run?
+fn runs_other(transfer: Transfer, head: Head) -> bool
     ensures { λ r. ⌜ r ≡ runsOther (transfer .state) head ⌝ }
 {
     let state = transfer.state;
@@ -63,4 +64,11 @@ pub fn runs_other(transfer: Transfer, head: Head) -> bool
         }
         State::Done(_) => false,
     }
+}
+
+// Is a running transfer discarded, of a block of this head with an answer of this number? By those answers alone that accept it.
+pub fn discards(transfer: Transfer, head: Head, number: u8) -> bool
+    ensures { λ r. ⌜ r ≡ discardedBy number (transfer .state) head ⌝ }
+{
+    (14 <= number) & runs_other(transfer, head)
 }

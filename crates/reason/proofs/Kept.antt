@@ -1,11 +1,10 @@
 -- What a cause says of a discard and of the marks, as the code asks it. Assumes nothing.
 use mathlib.Core.Path.{_≡_, refl, sym, ap, _∙_}
-use mathlib.Core.Bool.{Bool, _&&_}
+use mathlib.Core.Bool.{Bool}
 use mathlib.Core.Logic.{⊎-elim}
 use mathlib.Core.List.{[], _∷_}
 use Prim.Native.Nat.{ℕ}
 use native.Mathlib.Omega.{arith}
-use lib.Dec.{leb}
 use types.Run.{OneOf}
 use denote.Enum.Declared.{tagOf as caseOf}
 use Rattle.settings.specs.declared.Settings.{Settings}
@@ -20,11 +19,11 @@ use Rattle.causes.specs.Causes.{answerOf}
 use Rattle.causes.specs.declared.Cause.{Cause}
 use Rattle.causes.specs.declared.Cause.the-variants.{BadBuffers, BadSettings, BadState, NotBlock, Container, NoFamily, NoPlace, BadPayload, BadNumbers, BadAddress, Finished, Again, Written, Completed, Noted, Kept}
 use Rattle.causes.proofs.Cause.{the-type}
-use Rattle.checks.specs.Block.{runsOther}
+use Rattle.progress.specs.Progress.{discardedBy}
 use Rattle.reason.specs.Why.{discardsOf, noMarks, shutMarks, entriesOf}
 
 -- 14 to 17 are the answers that accept a block
-discards-by : (t : State) (g : Head) (c : Cause) → leb 14 (numberOf (answerOf c)) && runsOther t g ≡ discardsOf t g c
+discards-by : (t : State) (g : Head) (c : Cause) → discardedBy (numberOf (answerOf c)) t g ≡ discardsOf t g c
 discards-by t g (BadBuffers x) = refl
 discards-by t g (BadSettings x) = refl
 discards-by t g (BadState x) = refl
@@ -42,10 +41,8 @@ discards-by t g Completed = refl
 discards-by t g Noted = refl
 discards-by t g Kept = refl
 
-pub discards-is : (t : State) (g : Head) (c : Cause) {z : Answer} {n : ℕ} {b : Bool} → z ≡ answerOf c → n ≡ numberOf z → b ≡ runsOther t g → leb 14 n && b ≡ discardsOf t g c
-discards-is t g c {b = b} e f h =
-    ap (λ (k : ℕ). leb 14 k && b) (f ∙ ap numberOf e)
-    ∙ (ap (λ (x : Bool). leb 14 (numberOf (answerOf c)) && x) h ∙ discards-by t g c)
+pub discards-is : (t : State) (g : Head) (c : Cause) {z : Answer} {n : ℕ} {b : Bool} → z ≡ answerOf c → n ≡ numberOf z → b ≡ discardedBy n t g → b ≡ discardsOf t g c
+discards-is t g c e f h = h ∙ (ap (λ (k : ℕ). discardedBy k t g) (f ∙ ap numberOf e) ∙ discards-by t g c)
 
 -- by the case, as a `let .. else` tells it
 pub no-shut : (s : Settings) (f : ℕ) (c : Cause) → OneOf (0 ∷ 1 ∷ 2 ∷ 3 ∷ 4 ∷ 5 ∷ 7 ∷ 8 ∷ 9 ∷ 10 ∷ 11 ∷ 12 ∷ 13 ∷ 14 ∷ 15 ∷ []) (caseOf the-type c) → entriesOf s f c ≡ noMarks

@@ -185,12 +185,12 @@ fn reason_of(
     )
 }
 
-// Is a running transfer discarded, of a block of this head? By those answers alone that accept it.
+// Is a running transfer discarded, of a block of this head?
 fn discards(transfer: Transfer, head: Head, cause: Cause) -> bool
     ensures { λ r. ⌜ r ≡ discardsOf (transfer .state) head cause ⌝ }
 {
     let number = cause.answer().number();
-    (14 <= number) & progress::runs_other(transfer, head)
+    progress::discards(transfer, head, number)
 }
 
 fn no_marks() -> [u8; 16]

@@ -10,11 +10,11 @@ answer-requires c κs = search needs
 number-requires : tie.Need-number-requires
 number-requires c κs = search needs
 
-runs-other-requires : tie.Need-runs-other-requires
-runs-other-requires c κs = search needs
+discards-requires : tie.Need-discards-requires
+discards-requires c κs = search needs
 
 returns : tie.Need-returns
-returns c = let a = c .before .before .before .args in discards-is (a .transfer .state) (a .head) (a .cause) (c .before .before .answer .ensures) (c .before .number .ensures) (c .runs-other .ensures)
+returns c = let a = c .before .before .before .args in discards-is (a .transfer .state) (a .head) (a .cause) (c .before .before .answer .ensures) (c .before .number .ensures) (c .discards .ensures)
 
 pub discards-spec : {M : Type 1} → statement M
-discards-spec = tie.close (tie.spec answer-requires number-requires runs-other-requires returns)
+discards-spec = tie.close (tie.spec answer-requires number-requires discards-requires returns)
