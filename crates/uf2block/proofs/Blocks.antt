@@ -18,11 +18,11 @@ use Rattle.sets.proofs.OverLaws.{length-over, over-next, over-whole, put-over, 
 use Rattle.block.specs.Write.{le32, putAt}
 use Rattle.block.proofs.WriteLaws.{put-after}
 use Rattle.block.proofs.WriteLaws as fields
+use Rattle.uf2lead.specs.Uf2lead.{firstOver, lastOver}
 use Rattle.uf2block.specs.Uf2block.{leadBytes, blockBytes, blockOver}
 
-pub lead-put : (b : List ℕ) (a n t f : ℕ) → length b ≡ 512
-    → putAt (putAt (putAt (putAt (putAt (putAt (putAt (putAt b 0 0x0A324655) 4 0x9E5D5157) 8 0x2000) 12 a) 16 256) 20 n) 24 t) 28 f ≡ over b 0 (leadBytes a n t f)
-unfolding lowFirst leadBytes
+lead-put : (b : List ℕ) (a n t f : ℕ) → length b ≡ 512 → lastOver (firstOver b a) n t f ≡ over b 0 (leadBytes a n t f)
+unfolding lowFirst leadBytes firstOver lastOver
 lead-put b a n t f e =
     rw (
       fields.put-over b 0 0x0A324655 (omega arith),
@@ -54,15 +54,16 @@ unfolding blockBytes
 length-block a n t f page h =
     omega (arith, length-append ((leadBytes a n t f ++ page) ++ many 220 0) (le32 0x0AB16F30), length-data a n t f page h, length-low 4 0x0AB16F30)
 
-pub block-put : (b : List ℕ) (a n t f : ℕ) (page : List ℕ) {c d e g ys zs : List ℕ} → length b ≡ 512 → length page ≡ 256
-    → c ≡ over b 0 (leadBytes a n t f)
+pub block-put : (b : List ℕ) (a n t f : ℕ) (page : List ℕ) {x c d e g ys zs : List ℕ} → length b ≡ 512 → length page ≡ 256
+    → x ≡ firstOver b a → c ≡ lastOver x n t f
     → ys ≡ take (length page) page ++ drop (length page) (take (32 + 256 - 32) (drop 32 c)) → d ≡ putMid 32 (32 + 256 - 32) c ys
     → zs ≡ many (length (take (288 + 220 - 288) (drop 288 d))) 0 → e ≡ putMid 288 (288 + 220 - 288) d zs
     → g ≡ putAt e 508 0x0AB16F30 → g ≡ blockBytes a n t f page
 unfolding blockBytes
-block-put b a n t f page {c} {d} {e} {g} {ys} {zs} hb hp hc hy hd hz he hg =
+block-put b a n t f page {x} {c} {d} {e} {g} {ys} {zs} hb hp hx hl hy hd hz he hg =
     let lead = leadBytes a n t f in
     let l = length-lead a n t f in
+    let hc : c ≡ over b 0 lead = hl ∙ rw hx (lead-put b a n t f hb) in
     let lc : length c ≡ 512 = ap length hc ∙ length-over b 0 lead (omega (arith, l)) ∙ hb in
     let d2 : d ≡ over b 0 (lead ++ page) =
     hd ∙ copied-over 32 256 c page ys hp (omega arith) hy ∙ rw hc (piece b lead page 32 256 l hp (omega arith)) in

@@ -5,8 +5,11 @@ use borrow.Author.Needs.{needs}
 use Rattle.uf2block.proofs.put_block.Statement.{statement}
 use Rattle.uf2block.proofs.put_block.Tie as tie
 
-put-lead-requires : tie.Need-put-lead-requires
-put-lead-requires c κs = search needs
+put-first-fields-requires : tie.Need-put-first-fields-requires
+put-first-fields-requires c κs = search needs
+
+put-last-fields-requires : tie.Need-put-last-fields-requires
+put-last-fields-requires c κs = search needs
 
 sub-copy : tie.Need-sub-copy
 sub-copy c = search needs
@@ -40,14 +43,15 @@ same-length c = search needs
 
 returns : tie.Need-returns
 returns c =
-    let start = c .before .before .before .before .before .before .before .before .before .before .before .before .before .before .before .before .before .before in
-    block-put (start .args .out .now) _ _ _ _ (start .args .page .now) (start .pre .0) (start .pre .1) (c .before .before .before .before .before .before .before .before .before .before .before .before .before .before .put-lead .ensures) (c .before .before .before .before .before .before .before .before .before .before .copy .ensures .1) refl (c .before .before .before .before .before .before .fill .ensures) refl (c .before .before .put .ensures)
+    let start = c .before .before .before .before .before .before .before .before .before .before .before .before .before .before .before .before .before .before .before .before .before .before in
+    block-put (start .args .out .now) _ _ _ _ (start .args .page .now) (start .pre .0) (start .pre .1) (c .before .before .before .before .before .before .before .before .before .before .before .before .before .before .before .before .before .before .put-first-fields .ensures) (c .before .before .before .before .before .before .before .before .before .before .before .before .before .before .put-last-fields .ensures) (c .before .before .before .before .before .before .before .before .before .before .copy .ensures .1) refl (c .before .before .before .before .before .before .fill .ensures) refl (c .before .before .put .ensures)
 
 pub put-block-spec : {M : Type 1} → statement M
 put-block-spec =
     tie.close
     (tie.spec
-    put-lead-requires
+    put-first-fields-requires
+    put-last-fields-requires
     sub-copy
     part-copy-start
     part-copy-end
