@@ -28,8 +28,8 @@ use Rattle.wholefile.proofs.OneRecord.{answer-most, answer-least}
 use Rattle.plain.specs.declared.Verdict.{Verdict}
 use Rattle.plain.specs.declared.Verdict.the-variants.{Fine, Bad}
 use Rattle.plain.specs.File.{verdictOf}
-use Rattle.joiner.specs.declared.JoinAnswer.the-variants.{Written, Refused}
-use Rattle.joiner.specs.declared.Refusal.{Refusal}
+use Rattle.joinresult.specs.declared.JoinAnswer.the-variants.{Written, Refused}
+use Rattle.joinresult.specs.declared.Refusal.{Refusal}
 use Rattle.datalines.specs.Pieces.{piecesOf}
 use Rattle.joiner.specs.Text.{fileLines, fileText}
 use Rattle.joiner.specs.Join.{JoinCall, joinCall, refusal, onVerdict, writtenOf, joinOf}

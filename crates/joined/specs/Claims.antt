@@ -13,8 +13,8 @@ use Rattle.hexfile.specs.Lines.{freshSession, readAll, lineAnswers, storesOf}
 use Rattle.wholefile.specs.Items.{Item, Says, sizeOf, wordOf, item, lineFor}
 use Rattle.wholefile.specs.Whole.{dataTypeOf, Section, sectionItems, boardOf, File}
 use Rattle.wholefile.specs.Claims.{Setup, Acceptance}
-use Rattle.joiner.specs.declared.Refusal.{Refusal}
-use Rattle.joiner.specs.declared.JoinAnswer.the-variants.{Written, Refused}
+use Rattle.joinresult.specs.declared.Refusal.{Refusal}
+use Rattle.joinresult.specs.declared.JoinAnswer.the-variants.{Written, Refused}
 use Rattle.joiner.specs.Join.{joinOf}
 use Rattle.joined.specs.Form.{Form}
 use Rattle.plainfile.specs.Refusals.{BadText}

@@ -9,7 +9,7 @@ use Rattle.grammar.specs.Answers.{numberOf}
 use Rattle.grammar.specs.declared.Answer.the-variants.{FileTooLong}
 use Rattle.textlines.specs.Lines.{linesOf}
 use Rattle.hexfile.specs.Lines.{freshSession, readAll, lineAnswers, storesOf}
-use Rattle.joiner.specs.declared.JoinAnswer.the-variants.{Written, Refused}
+use Rattle.joinresult.specs.declared.JoinAnswer.the-variants.{Written, Refused}
 use Rattle.filling.specs.Fill.{fillLines}
 use Rattle.joiner.specs.Text.{sectionLines}
 use Rattle.joiner.specs.Join.{refusal, joinOf}

@@ -25,8 +25,8 @@ use Rattle.datalines.specs.declared.Body.{Body}
 use Rattle.datalines.specs.Pieces.{piecesOf}
 use Rattle.datalines.specs.Lines.{firstUpper, dataLength}
 use Rattle.datalines.specs.Scan.{bodyOf}
-use Rattle.joiner.specs.declared.JoinAnswer.{JoinAnswer}
-use Rattle.joiner.specs.declared.JoinAnswer.the-variants.{Written, Refused}
+use Rattle.joinresult.specs.declared.JoinAnswer.{JoinAnswer}
+use Rattle.joinresult.specs.declared.JoinAnswer.the-variants.{Written, Refused}
 use Rattle.joiner.specs.Text.{sectionLines, sectionSize, fileLines, fileText}
 use Rattle.joiner.specs.Join.{joinCall, joinNumber, refusal, refusedBy, secondOf, writtenOf, Fits, joinOf}
 use Rattle.joiner.proofs.Sectioned.{length-section}

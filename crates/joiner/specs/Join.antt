@@ -5,17 +5,17 @@ use mathlib.Core.List.{List}
 use lib.Dec.{ltb}
 use lib.ListN.{length}
 use Rattle.sets.specs.Over.{over}
-use Rattle.grammar.specs.Answers.{numberOf}
 use Rattle.grammar.specs.declared.Answer.{Answer}
 use Rattle.grammar.specs.declared.Answer.the-variants.{FileTooLong}
 use Rattle.plain.specs.declared.Verdict.{Verdict}
 use Rattle.plain.specs.declared.Verdict.the-variants.{Fine, Bad}
 use Rattle.plain.specs.File.{verdictOf}
-use Rattle.joiner.specs.declared.Refusal.{Refusal}
-use Rattle.joiner.specs.declared.JoinAnswer.{JoinAnswer}
-use Rattle.joiner.specs.declared.JoinAnswer.the-variants.{Written, Refused}
+use Rattle.joinresult.specs.declared.JoinAnswer.{JoinAnswer}
+use Rattle.joinresult.specs.declared.JoinAnswer.the-variants.{Written, Refused}
 use Rattle.datalines.specs.Pieces.{piecesOf}
 use Rattle.joiner.specs.Text.{fileText}
+-- an answer's number, and refusals
+pub use Rattle.joinresult.specs.Answer.{joinedNumber, refusal, refusedBy}
 
 -- what is answered, and what the room holds
 pub record JoinCall : Type 0 where
@@ -26,27 +26,13 @@ pub record JoinCall : Type 0 where
 abbrev pub joinCall : JoinAnswer → List ℕ → JoinCall
 joinCall x l = record { answer = x; room = l }
 
--- 01's number of a refusal; a file that is written is none, and has 0
-abbrev pub joinedNumber : JoinAnswer → ℕ
-joinedNumber (Written n) = 0
-joinedNumber (Refused r) = numberOf (r .answer)
-
--- of a call
+-- of the answer to a call
 abbrev pub joinNumber : JoinCall → ℕ
 joinNumber c = joinedNumber (c .answer)
-
--- of a board's file, at a line; 0 and 0 for the output
-abbrev pub refusal : ℕ → ℕ → Answer → Refusal
-refusal board k a = record { board = board; line = k; answer = a }
 
 -- "A refusal writes nothing"
 abbrev pub refusedCall : ℕ → ℕ → Answer → List ℕ → JoinCall
 refusedCall board k a out = joinCall (Refused (refusal board k a)) out
-
--- the refusal of a board's file; of one that is fine nothing asks for it
-abbrev pub refusedBy : ℕ → Verdict → JoinAnswer
-refusedBy board Fine = Written 0
-refusedBy board (Bad k a) = Refused (refusal board k a)
 
 -- a board's file is refused, or what follows is asked
 abbrev pub onVerdict : ℕ → Verdict → List ℕ → JoinCall → JoinCall

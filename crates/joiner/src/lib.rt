@@ -8,43 +8,16 @@ ghost use Rattle.hexwrite.specs.Put.{putLines};
 ghost use Rattle.datalines.specs.Pieces.{piecesOf};
 ghost use Rattle.datalines.specs.Lines.{firstUpper, dataLength};
 ghost use Rattle.joiner.specs.Text.{sectionLines, sectionSize, fileText};
-ghost use Rattle.joiner.specs.Join.{joinedNumber, joinCall, joinNumber, refusedBy, secondOf, Fits, writtenOf, joinOf};
+ghost use Rattle.joiner.specs.Join.{joinCall, joinNumber, secondOf, Fits, writtenOf, joinOf};
 ghost use Rattle.sets.specs.Numbered.{numbered};
 ghost use Rattle.sets.specs.Over.{over};
 use grammar::Answer;
 use grammar::Boards;
+use joinresult::JoinAnswer;
+use joinresult::Refusal;
 use plain::Plain;
 use plain::Verdict;
 use record::Record;
-
-// Why nothing is written: the board whose file is refused, the line's index from 0 (for a missing 01 and for 30 the number of its lines), and
-// the answer. Where the output is too long, board and line are 0.
-pub struct Refusal {
-    pub board: u16,
-    pub line: u32,
-    pub answer: Answer,
-}
-
-// What comes of two files: the number of bytes that are written, or a refusal.
-pub enum JoinAnswer {
-    Written(u32),
-    Refused(Refusal),
-}
-
-impl JoinAnswer {
-    // The number of a refusal, and 0 for a file that is written.
-    pub fn number(self) -> u8
-        ensures { λ r. ⌜ r ≡ joinedNumber self ⌝ }
-    {
-        match self {
-            JoinAnswer::Written(_) => 0,
-            JoinAnswer::Refused(refusal) => {
-                let answer = refusal.answer;
-                answer.number()
-            }
-        }
-    }
-}
 
 // How many characters a section has whose data has so many.
 fn section_len(body: usize) -> usize
@@ -105,20 +78,6 @@ fn write_file(
     JoinAnswer::Written(total as u32)
 }
 
-// The refusal of a board's file; nothing asks for it of one that is fine.
-fn refused(board: u16, verdict: Verdict) -> JoinAnswer
-    ensures { λ r. ⌜ r ≡ refusedBy board verdict ⌝ }
-{
-    match verdict {
-        Verdict::Fine => JoinAnswer::Written(0),
-        Verdict::Bad(line, answer) => JoinAnswer::Refused(Refusal {
-            board,
-            line,
-            answer,
-        }),
-    }
-}
-
 // V1's file is fine: V2's is read, and where it is fine too the output is written.
 fn join_fine(v1: &[u8], v2: &[u8], out: &mut [u8], first: usize, len: usize) -> JoinAnswer
     requires { ⌜ (first ≡ firstUpper (piecesOf (now v1))) × (len ≡ dataLength (piecesOf (now v1))) × (len ≤ 1000000000) ⌝ }
@@ -127,7 +86,7 @@ fn join_fine(v1: &[u8], v2: &[u8], out: &mut [u8], first: usize, len: usize) -> 
     let b = datalines::scan_file(v2);
     let second = b.verdict;
     let Verdict::Fine = second else {
-        return refused(Boards::V2, second);
+        return joinresult::refused(Boards::V2, second);
     };
     let total = section_len(len) + (section_len(b.len) + 12);
     write_file(v1, v2, out, first, b.first, total)
@@ -140,7 +99,7 @@ pub fn join(v1: &[u8], v2: &[u8], out: &mut [u8]) -> JoinAnswer
     let a = datalines::scan_file(v1);
     let first = a.verdict;
     let Verdict::Fine = first else {
-        return refused(Boards::V1, first);
+        return joinresult::refused(Boards::V1, first);
     };
     join_fine(v1, v2, out, a.first, a.len)
 }

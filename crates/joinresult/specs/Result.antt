@@ -3,9 +3,9 @@ use Prim.Native.Nat.{ℕ, _+_, _*_}
 use mathlib.Core.Bool.{cond}
 use Rattle.grammar.specs.Answers.{numberOf, positionOf}
 use Rattle.grammar.specs.Boards.{isV1, isV2}
-use Rattle.joiner.specs.declared.Refusal.{Refusal}
-use Rattle.joiner.specs.declared.JoinAnswer.{JoinAnswer}
-use Rattle.joiner.specs.declared.JoinAnswer.the-variants.{Written, Refused}
+use Rattle.joinresult.specs.declared.Refusal.{Refusal}
+use Rattle.joinresult.specs.declared.JoinAnswer.{JoinAnswer}
+use Rattle.joinresult.specs.declared.JoinAnswer.the-variants.{Written, Refused}
 
 -- 1 for V1, 2 for V2; 0 for neither, where the output is too long
 abbrev pub boardCode : ℕ → ℕ

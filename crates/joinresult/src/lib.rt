@@ -1,10 +1,54 @@
-// What comes of two Intel Hex files that are made one, as one number.
+// What comes of two Intel Hex files that are made one: the answer, and it as one number.
 ghost use mathlib.Core.Path.{_≡_};
 ghost use Prim.Native.Nat.{_≤_};
+ghost use Rattle.joinresult.specs.Answer.{joinedNumber, refusedBy};
 ghost use Rattle.joinresult.specs.Result.{boardCode, refusalResult, joinedResult};
+use grammar::Answer;
 use grammar::Boards;
-use joiner::JoinAnswer;
-use joiner::Refusal;
+use plain::Verdict;
+
+// Why nothing is written: the board whose file is refused, the line's index from 0 (for a missing 01 and for 30 the number of its lines), and
+// the answer. Where the output is too long, board and line are 0.
+pub struct Refusal {
+    pub board: u16,
+    pub line: u32,
+    pub answer: Answer,
+}
+
+// What comes of two files: the number of bytes that are written, or a refusal.
+pub enum JoinAnswer {
+    Written(u32),
+    Refused(Refusal),
+}
+
+impl JoinAnswer {
+    // The number of a refusal, and 0 for a file that is written.
+    pub fn number(self) -> u8
+        ensures { λ r. ⌜ r ≡ joinedNumber self ⌝ }
+    {
+        match self {
+            JoinAnswer::Written(_) => 0,
+            JoinAnswer::Refused(refusal) => {
+                let answer = refusal.answer;
+                answer.number()
+            }
+        }
+    }
+}
+
+// The refusal of a board's file; nothing asks for it of one that is fine.
+pub fn refused(board: u16, verdict: Verdict) -> JoinAnswer
+    ensures { λ r. ⌜ r ≡ refusedBy board verdict ⌝ }
+{
+    match verdict {
+        Verdict::Fine => JoinAnswer::Written(0),
+        Verdict::Bad(line, answer) => JoinAnswer::Refused(Refusal {
+            board,
+            line,
+            answer,
+        }),
+    }
+}
 
 // 1 for V1, 2 for V2, 0 for any other.
 fn board_code(board: u16) -> u64

@@ -11,7 +11,7 @@ use Rattle.md5.specs.declared.Digest.{Digest}
 use Rattle.md5.specs.Md5.{md5Of, digestBytes}
 use Rattle.uf2file.specs.declared.MakeAnswer.{MakeAnswer}
 use Rattle.uf2file.specs.Uf2file.{makeNumber, makeCall, callNumber, makeOf}
-use Rattle.joiner.specs.declared.JoinAnswer.{JoinAnswer}
+use Rattle.joinresult.specs.declared.JoinAnswer.{JoinAnswer}
 use Rattle.joiner.specs.Join.{joinCall, joinNumber, joinOf}
 use Rattle.toolsapi.specs.Join.{joinedResult, joinReturn, joinReturnOf, joinBytes}
 use Rattle.toolsapi.specs.Tools.{makeResult, resultOf, makeBytes, digestOver}

@@ -1,7 +1,7 @@
--- `joiner::refused` meets its contract. Assumes nothing.
+-- `joinresult::refused` meets its contract. Assumes nothing.
 use borrow.Author.Needs.{needs}
-use Rattle.joiner.proofs.refused.Statement.{statement}
-use Rattle.joiner.proofs.refused.Tie as tie
+use Rattle.joinresult.proofs.refused.Statement.{statement}
+use Rattle.joinresult.proofs.refused.Tie as tie
 
 enum-told : tie.Need-enum-told
 enum-told c = search needs
