@@ -29,7 +29,7 @@ use Rattle.arrivals.proofs.DecisionFacts.{right-true}
 use Rattle.demand.proofs.Demand.{list-ends}
 use Rattle.uf2file.specs.Uf2file.{pageOf, makeOf}
 use Rattle.uf2file.specs.Claims.{Reads}
-use Rattle.uf2file.proofs.Checks.{Right, made-right}
+use Rattle.uf2check.proofs.Checks.{Right, made-right}
 use Rattle.uf2file.proofs.ReadBack.{blocks-read-back}
 use Rattle.delivery.specs.Delivery.{madeFile, IsMade, Deliverable, Made-file-is-valid, Arrived, Delivered, hasNumber, In-any-order}
 use Rattle.delivery.proofs.Made.{made-passes}

@@ -12,7 +12,8 @@ use Rattle.flash.specs.Flash.{flashLength}
 use Rattle.settings.specs.Settings.{familyArmS, goodSettings}
 use Rattle.place.specs.Place.{placeOf}
 use Rattle.arrival.specs.Arrive.{rightLengths}
-use Rattle.uf2file.specs.Uf2file.{checkOf, makeOf}
+use Rattle.uf2check.specs.Uf2check.{checkOf}
+use Rattle.uf2file.specs.Uf2file.{makeOf}
 use Rattle.delivery.specs.Delivery.{IsMade, Deliverable, hasNumber, In-any-order}
 use Rattle.delivery.specs.Instance.{image, start, output, plain, board, made, Met-by-two-pages, sent, Two-pages-arrive}
 use Rattle.delivery.proofs.Delivery.{in-any-order}

@@ -28,7 +28,7 @@ use Rattle.arrivals.proofs.Screening.{Board, lens}
 use Rattle.arrivals.proofs.DecisionFacts.{board-decides, right-true, step-late}
 use Rattle.uf2file.specs.Uf2file.{pageOf, makeOf}
 use Rattle.uf2file.specs.Claims.{Reads}
-use Rattle.uf2file.proofs.Checks.{Right, made-right}
+use Rattle.uf2check.proofs.Checks.{Right, made-right}
 use Rattle.uf2file.proofs.ReadBack.{blocks-read-back}
 use Rattle.delivery.specs.Delivery.{madeFile, IsMade, Deliverable}
 

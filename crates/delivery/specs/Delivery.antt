@@ -15,7 +15,7 @@ use Rattle.arrival.specs.Arrive.{World, rightLengths, lengthsOf}
 use Rattle.arrival.specs.Lists.{receiveAll}
 use Rattle.demand.specs.Demand.{File, ValidFile, Sent, seenOf, headIn}
 use Rattle.uf2file.specs.Uf2file.{makeOf}
-use Rattle.uf2file.specs.declared.MakeAnswer.the-variants.{Made}
+use Rattle.uf2check.specs.declared.MakeAnswer.the-variants.{Made}
 
 -- the file that a call of the maker wrote: as many blocks as there are pages, block k the bytes from 512 x k on of the output as it is left
 abbrev pub madeFile : List ℕ → ℕ → ℕ → List ℕ → File

@@ -9,8 +9,9 @@ use Rattle.sets.specs.Numbered.{numbered}
 use Rattle.sets.proofs.Numbered.{answer-is}
 use Rattle.md5.specs.declared.Digest.{Digest}
 use Rattle.md5.specs.Md5.{md5Of, digestBytes}
-use Rattle.uf2file.specs.declared.MakeAnswer.{MakeAnswer}
-use Rattle.uf2file.specs.Uf2file.{makeNumber, makeCall, callNumber, makeOf}
+use Rattle.uf2check.specs.declared.MakeAnswer.{MakeAnswer}
+use Rattle.uf2check.specs.Uf2check.{makeNumber}
+use Rattle.uf2file.specs.Uf2file.{makeCall, callNumber, makeOf}
 use Rattle.joinresult.specs.declared.JoinAnswer.{JoinAnswer}
 use Rattle.joiner.specs.Join.{joinCall, joinNumber, joinOf}
 use Rattle.toolsapi.specs.Join.{joinedResult, joinReturn, joinReturnOf, joinBytes}

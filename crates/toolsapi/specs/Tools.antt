@@ -5,7 +5,8 @@ use mathlib.Core.List.{List}
 use lib.Dec.{eqb}
 use lib.ListN.{length}
 use Rattle.md5.specs.Md5.{md5Of, digestBytes}
-use Rattle.uf2file.specs.Uf2file.{MakeCall, makeNumber, makeOf}
+use Rattle.uf2check.specs.Uf2check.{makeNumber}
+use Rattle.uf2file.specs.Uf2file.{MakeCall, makeOf}
 
 -- ---- a file made
 

@@ -2,7 +2,7 @@
 // calls for traces are in `traceapi`.
 ghost use mathlib.Core.Path.{_≡_};
 ghost use Rattle.uf2block.specs.Uf2block.{blockOver};
-ghost use Rattle.uf2file.specs.Uf2file.{checkOf, makeNumber};
+ghost use Rattle.uf2check.specs.Uf2check.{checkOf, makeNumber};
 ghost use Rattle.toolsapi.specs.Tools.{makeResult, makeBytes, digestOver};
 ghost use Rattle.toolsapi.specs.Join.{joinReturn, joinBytes};
 
@@ -13,7 +13,7 @@ const DIGEST: usize = 16;
 pub extern "C" fn uf2_make_check(image_len: usize, start: u32, output_len: usize) -> u32
     ensures { λ r. ⌜ r ≡ makeNumber (checkOf «image_len» start «output_len») ⌝ }
 {
-    uf2file::check(image_len, start, output_len).number() as u32
+    uf2check::check(image_len, start, output_len).number() as u32
 }
 
 // One block of a file, for a tool that makes it page by page.

@@ -12,10 +12,11 @@ use Rattle.sets.specs.Over.{over}
 use Rattle.sets.specs.Rows.{rows}
 use Rattle.sets.proofs.OverLaws.{length-over, put-over}
 use Rattle.sets.proofs.RowsLaws.{rows-none, length-rows, part-rows, rows-over}
-use Rattle.uf2file.specs.declared.MakeAnswer.{MakeAnswer}
-use Rattle.uf2file.specs.declared.MakeAnswer.the-variants.{BadImage, BadStart, PastWindow, ShortOutput, Made}
-use Rattle.uf2file.specs.Uf2file.{pageOf, blockAt, fileBytes, checkOf, makeCall, makeOf}
-use Rattle.uf2file.proofs.MakeAnswer.{the-type}
+use Rattle.uf2check.specs.declared.MakeAnswer.{MakeAnswer}
+use Rattle.uf2check.specs.declared.MakeAnswer.the-variants.{BadImage, BadStart, PastWindow, ShortOutput, Made}
+use Rattle.uf2check.specs.Uf2check.{checkOf}
+use Rattle.uf2file.specs.Uf2file.{pageOf, blockAt, fileBytes, makeCall, makeOf}
+use Rattle.uf2check.proofs.MakeAnswer.{the-type}
 use Rattle.uf2block.specs.Uf2block.{blockBytes, blockOver}
 use Rattle.uf2block.proofs.Blocks.{length-block, one-block}
 

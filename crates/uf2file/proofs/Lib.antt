@@ -1,4 +1,3 @@
 -- The laws of `specs/`, and the claims proved.
-pub mod Checks
 pub mod Files
 pub mod ReadBack

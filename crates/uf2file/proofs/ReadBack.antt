@@ -13,10 +13,10 @@ use Rattle.sets.specs.Over.{over}
 use Rattle.block.specs.Block.{fieldAt, isBlock}
 use Rattle.block.specs.Write.{le32}
 use Rattle.block.proofs.WriteLaws.{field-le32}
-use Rattle.uf2file.specs.declared.MakeAnswer.the-variants.{Made}
+use Rattle.uf2check.specs.declared.MakeAnswer.the-variants.{Made}
 use Rattle.uf2file.specs.Uf2file.{pageOf, fileBytes, makeOf}
 use Rattle.uf2file.specs.Claims.{Reads, Blocks-read-back, Rest-stays}
-use Rattle.uf2file.proofs.Checks.{Right, made-right}
+use Rattle.uf2check.proofs.Checks.{Right, made-right}
 use Rattle.uf2block.specs.Uf2block.{leadBytes, blockBytes}
 use Rattle.uf2block.proofs.Blocks.{length-lead, length-data, length-block}
 use Rattle.uf2file.proofs.Files.{length-page, block-at, length-file, part-file}

@@ -6,7 +6,7 @@ use mathlib.Core.List.{List, _++_}
 use lib.ListN.{length, take, drop}
 use Rattle.fill.specs.Many.{many}
 use Rattle.block.specs.Block.{fieldAt, isBlock}
-use Rattle.uf2file.specs.declared.MakeAnswer.the-variants.{Made}
+use Rattle.uf2check.specs.declared.MakeAnswer.the-variants.{Made}
 use Rattle.uf2file.specs.Uf2file.{pageOf, makeOf}
 
 -- 512 bytes that are read as a block with these fields, "flag 0x2000 only", and with the page and then zeros as data

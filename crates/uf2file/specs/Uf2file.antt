@@ -1,14 +1,13 @@
 -- A UF2 file that is made of an image (02, L1). Assumes nothing.
-use Prim.Native.Nat.{ℕ, _+_, _*_, _/_, _%_}
-use mathlib.Core.Bool.{Bool, not, cond, _||_}
+use Prim.Native.Nat.{ℕ, _+_, _*_, _/_}
 use mathlib.Core.List.{List}
-use lib.Dec.{eqb, ltb, leb}
 use lib.ListN.{length, take, drop}
 use Rattle.sets.specs.Over.{over}
 use Rattle.sets.specs.Rows.{rows}
 use Rattle.uf2block.specs.Uf2block.{blockBytes}
-use Rattle.uf2file.specs.declared.MakeAnswer.{MakeAnswer}
-use Rattle.uf2file.specs.declared.MakeAnswer.the-variants.{BadImage, BadStart, PastWindow, ShortOutput, Made}
+use Rattle.uf2check.specs.declared.MakeAnswer.{MakeAnswer}
+use Rattle.uf2check.specs.declared.MakeAnswer.the-variants.{BadImage, BadStart, PastWindow, ShortOutput, Made}
+use Rattle.uf2check.specs.Uf2check.{checkOf, makeNumber}
 
 -- ---- the file
 
@@ -23,32 +22,6 @@ blockAt image family start k = blockBytes (start + 256 * k) k (length image / 25
 -- "write the UF2 blocks in number order"
 unfoldable pub fileBytes : List ℕ → ℕ → ℕ → List ℕ
 fileBytes image family start = rows (blockAt image family start) (length image / 256)
-
--- ---- "Refusals, in order"
-
--- "50 image empty or ragged", of its length
-abbrev pub badImage : ℕ → Bool
-badImage n = eqb n 0 || not (eqb (n % 256) 0)
-
--- "51 start outside the window or no multiple of 256". The window is 01's, 0x10000000 up to, not including, 0x12000000.
-abbrev pub badStart : ℕ → Bool
-badStart start = ltb start 0x10000000 || (leb 0x12000000 start || not (eqb (start % 256) 0))
-
--- then "52 image runs past the window, 53 output under 512 bytes a page": of an image's length, a start and an output's length
-unfoldable pub checkOf : ℕ → ℕ → ℕ → MakeAnswer
-checkOf n start room =
-    cond (badImage n) BadImage (cond (badStart start) BadStart
-    (cond (ltb 0x12000000 (start + n)) PastWindow
-    (cond (ltb room (512 * (n / 256))) ShortOutput
-    (Made (n / 256)))))
-
--- the numbers of the refusals; a file that is made is none, and has 0
-abbrev pub makeNumber : MakeAnswer → ℕ
-makeNumber BadImage = 50
-makeNumber BadStart = 51
-makeNumber PastWindow = 52
-makeNumber ShortOutput = 53
-makeNumber (Made n) = 0
 
 -- ---- a call
 

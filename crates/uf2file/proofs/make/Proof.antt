@@ -4,7 +4,7 @@ use lib.ListN.{length}
 use Rattle.sets.specs.Numbered.{numbered}
 use Rattle.sets.proofs.Numbered.{answer-is}
 use Rattle.uf2file.specs.Uf2file.{callNumber}
-use Rattle.uf2file.proofs.Checks.{made-right}
+use Rattle.uf2check.proofs.Checks.{made-right}
 use Rattle.uf2file.proofs.Files.{make-refused, make-made}
 use borrow.Author.Needs.{needs}
 use Rattle.uf2file.proofs.make.Statement.{statement}

@@ -1,12 +1,12 @@
--- `uf2file::check` meets its contract. Assumes nothing.
+-- `uf2check::check` meets its contract. Assumes nothing.
 use mathlib.Core.Path.{refl, sym, ap, _∙_}
 use native.Mathlib.Omega.{arith}
 use Rattle.sets.specs.Numbered.{numbered}
-use Rattle.uf2file.specs.Uf2file.{makeNumber}
-use Rattle.uf2file.proofs.Checks.{start-low, image-bad, start-bad, past, short, passes}
+use Rattle.uf2check.specs.Uf2check.{makeNumber}
+use Rattle.uf2check.proofs.Checks.{start-low, image-bad, start-bad, past, short, passes}
 use borrow.Author.Needs.{needs}
-use Rattle.uf2file.proofs.check.Statement.{statement}
-use Rattle.uf2file.proofs.check.Tie as tie
+use Rattle.uf2check.proofs.check.Statement.{statement}
+use Rattle.uf2check.proofs.check.Tie as tie
 
 bad-image-requires : tie.Need-bad-image-requires
 bad-image-requires c κs = search needs

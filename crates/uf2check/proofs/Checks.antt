@@ -7,9 +7,9 @@ use native.Mathlib.Omega.{arith}
 use lib.Dec.{eqb, ltb, leb}
 use borrow.Author.Tests.{lt-ltb, le-ltb, eqb-true, eqb-false, ltb-false, leb-false}
 use Rattle.sets.proofs.Tests.{or-left, or-right}
-use Rattle.uf2file.specs.declared.MakeAnswer.{MakeAnswer}
-use Rattle.uf2file.specs.declared.MakeAnswer.the-variants.{BadImage, BadStart, PastWindow, ShortOutput, Made}
-use Rattle.uf2file.specs.Uf2file.{badImage, badStart, checkOf}
+use Rattle.uf2check.specs.declared.MakeAnswer.{MakeAnswer}
+use Rattle.uf2check.specs.declared.MakeAnswer.the-variants.{BadImage, BadStart, PastWindow, ShortOutput, Made}
+use Rattle.uf2check.specs.Uf2check.{badImage, badStart, checkOf}
 
 -- a start that is not refused is below the window's end
 pub start-low : (start : ℕ) → badStart start ≡ false → start < 0x12000000
