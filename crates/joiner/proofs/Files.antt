@@ -11,8 +11,9 @@ use Rattle.sets.specs.Numbered.{numbered}
 use Rattle.sets.specs.Over.{over}
 use Rattle.sets.proofs.Tests.{or-left, or-right}
 use Rattle.stores.specs.Stores.{Store}
-use Rattle.record.specs.Types.{endOfFile}
+use Rattle.record.specs.Types.{endOfFile, dataType, customData}
 use Rattle.record.specs.Write.{recordLine}
+use Rattle.grammar.specs.Grammar.{dataKind}
 use Rattle.grammar.specs.declared.Answer.{Answer}
 use Rattle.grammar.specs.declared.Answer.the-variants.{FileTooLong}
 use Rattle.hexwrite.specs.Put.{putLine, putLines}
@@ -25,11 +26,12 @@ use Rattle.datalines.specs.declared.Body.{Body}
 use Rattle.datalines.specs.Pieces.{piecesOf}
 use Rattle.datalines.specs.Lines.{firstUpper, dataLength}
 use Rattle.datalines.specs.Scan.{bodyOf}
+use Rattle.sections.specs.Section.{sectionWith}
 use Rattle.joinresult.specs.declared.JoinAnswer.{JoinAnswer}
 use Rattle.joinresult.specs.declared.JoinAnswer.the-variants.{Written, Refused}
 use Rattle.joiner.specs.Text.{sectionLines, sectionSize, fileLines, fileText}
 use Rattle.joiner.specs.Join.{joinCall, joinNumber, refusal, refusedBy, secondOf, writtenOf, Fits, joinOf}
-use Rattle.joiner.proofs.Sectioned.{length-section}
+use Rattle.joiner.proofs.Sectioned.{as-written, length-section}
 
 -- ---- the file
 
@@ -57,12 +59,12 @@ module _ (a b : List Store) where
       let y : sectionSize (dataLength b) ≡ length (flatten (sectionLines 0x9903 b)) = sym (length-section 0x9903 b) in
       rw (p, e, x, q, f, y) (sym length-file)
 
-  pub file-put : (out : List ℕ) {one two three : List ℕ} {mid last : ℕ} → Fits (fileText a b) out
+  file-lines : (out : List ℕ) {one two three : List ℕ} {mid last : ℕ} → Fits (fileText a b) out
       → one ≡ putLines out 0 (sectionLines 0x9900 a) → mid ≡ 0 + length (flatten (sectionLines 0x9900 a))
       → two ≡ putLines one mid (sectionLines 0x9903 b) → last ≡ mid + length (flatten (sectionLines 0x9903 b))
       → three ≡ putLine two last lastLine → three ≡ over out 0 (fileText a b)
   unfolding fileText fileLines
-  file-put out f e m g n h =
+  file-lines out f e m g n h =
       let first = sectionLines 0x9900 a in
       let second = sectionLines 0x9903 b in
       let all : 0 + length (flatten (fileLines a b)) ≤ length out = omega (arith, f .room) in
@@ -71,6 +73,20 @@ module _ (a b : List Store) where
       ∙ sym (put-append (putLines out 0 first) (0 + length (flatten first)) second (lastLine ∷ []))
       ∙ sym (put-append out 0 first (second ++ (lastLine ∷ [])))
       ∙ put-fits out 0 (fileLines a b) all
+
+  -- the length of both sections
+  pub sections-short : (out : List ℕ) {m n : ℕ} → Fits (fileText a b) out → m ≡ sectionSize (dataLength a) → n ≡ sectionSize (dataLength b) → m + n ≤ 4194304
+  sections-short out f p q =
+      omega (arith, f .short, length-file, length-section 0x9900 a, length-section 0x9903 b)
+
+  pub file-put : (out : List ℕ) {one two three : List ℕ} {u v m n : ℕ} → Fits (fileText a b) out → u ≡ firstUpper a → v ≡ firstUpper b
+      → one ≡ putLines out 0 (sectionWith 0x9900 dataType u a) → m ≡ sectionSize (dataLength a)
+      → two ≡ putLines one m (sectionWith 0x9903 customData v b) → n ≡ sectionSize (dataLength b) → three ≡ putLine two (m + n) lastLine
+      → three ≡ over out 0 (fileText a b)
+  unfolding dataKind
+  file-put out {one} {m = m} f p q e k g l h =
+      file-lines out f (e ∙ ap (putLines out 0) (as-written 0x9900 a refl p)) (omega (arith, length-section 0x9900 a))
+      (g ∙ ap (putLines one m) (as-written 0x9903 b refl q)) (omega (arith, length-section 0x9903 b)) h
 
 -- ---- what a file comes to
 

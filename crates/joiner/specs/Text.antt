@@ -1,6 +1,6 @@
 -- What is written: the lines of a section, and of a file (02, L11; 002, "512 Byte Aligned Sections"). The lines of the data are datalines', the
 -- filling is filling's. Assumes nothing.
-use Prim.Native.Nat.{ℕ, _+_}
+use Prim.Native.Nat.{ℕ}
 use mathlib.Core.List.{List, [], _∷_, _++_, flatten}
 use lib.ListN.{length}
 use Rattle.stores.specs.Stores.{Store}
@@ -9,6 +9,8 @@ use Rattle.record.specs.Write.{recordLine}
 use Rattle.grammar.specs.Grammar.{dataKind}
 use Rattle.datalines.specs.Lines.{wordBytes, upperLine, firstUpper, dataLines}
 use Rattle.filling.specs.Fill.{missing, fillLines}
+-- how long a section is
+pub use Rattle.sections.specs.Section.{sectionSize}
 
 -- "the opening 04 holds the first data's upper half"; "0A holds the board's two bytes"; then the data
 unfoldable pub startLines : ℕ → List Store → List (List ℕ)
@@ -20,10 +22,6 @@ startLines board ss =
 -- "512-aligned"
 unfoldable pub sectionLines : ℕ → List Store → List (List ℕ)
 sectionLines board ss = startLines board ss ++ fillLines (missing (length (flatten (startLines board ss))))
-
--- how long a section is whose data's lines have n characters: an 04, an 0A and these, then the filling
-abbrev pub sectionSize : ℕ → ℕ
-sectionSize n = 32 + n + (12 + missing (32 + n))
 
 -- "V1 first", "one 01 last"
 unfoldable pub fileLines : List Store → List Store → List (List ℕ)

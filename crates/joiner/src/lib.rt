@@ -1,13 +1,10 @@
 // One Universal Hex file from two plain Intel Hex files, one for V1 and one for V2.
 ghost use mathlib.Core.Path.{_≡_};
-ghost use Prim.Native.Nat.{_+_, _≤_};
+ghost use Prim.Native.Nat.{_≤_};
 ghost use lib.ListN.{length};
-ghost use mathlib.Core.List.{flatten};
-ghost use Rattle.grammar.specs.Grammar.{dataKind};
-ghost use Rattle.hexwrite.specs.Put.{putLines};
 ghost use Rattle.datalines.specs.Pieces.{piecesOf};
 ghost use Rattle.datalines.specs.Lines.{firstUpper, dataLength};
-ghost use Rattle.joiner.specs.Text.{sectionLines, sectionSize, fileText};
+ghost use Rattle.joiner.specs.Text.{sectionSize, fileText};
 ghost use Rattle.joiner.specs.Join.{joinCall, joinNumber, secondOf, Fits, writtenOf, joinOf};
 ghost use Rattle.sets.specs.Numbered.{numbered};
 ghost use Rattle.sets.specs.Over.{over};
@@ -28,29 +25,14 @@ fn section_len(body: usize) -> usize
     n + (12 + filling::missing_after(n))
 }
 
-// A section: its opening 04, its 0A, its data, its filling. Returns the place after it.
-fn put_section(out: &mut [u8], at: usize, board: u16, kind: u8, first: usize, text: &[u8]) -> usize
-    requires { ⌜ (at ≤ 4194304) × (kind ≡ dataKind board) × (first ≡ firstUpper (piecesOf (now text))) ⌝ }
-    ensures { λ r. ⌜ r ≡ at + length (flatten (sectionLines board (piecesOf (now (text .entry))))) ⌝ }
-    ensures lines { λ _. ⌜ now (out .exit) ≡ putLines (now (out .entry)) at (sectionLines board (piecesOf (now (text .entry)))) ⌝ }
-{
-    datalines::put_word(out, at, Record::EXTENDED_LINEAR, first);
-    datalines::put_word(out, at + 16, Record::BLOCK_START, board as usize);
-    let body = datalines::put_body(out, at + 32, kind, text);
-    let len = body.len;
-    let n = 32 + len;
-    filling::put_fill(out, at + n, n);
-    at + section_len(len)
-}
-
 // Both sections and the 01, for which there is room.
 fn put_file(out: &mut [u8], v1: &[u8], v2: &[u8], first: usize, second: usize)
     requires { ⌜ (first ≡ firstUpper (piecesOf (now v1))) × (second ≡ firstUpper (piecesOf (now v2))) ⌝ }
     requires room { ⌜ Fits (fileText (piecesOf (now v1)) (piecesOf (now v2))) (now out) ⌝ }
     ensures { λ _. ⌜ now (out .exit) ≡ over (now (out .entry)) 0 (fileText (piecesOf (now (v1 .entry))) (piecesOf (now (v2 .entry)))) ⌝ }
 {
-    let middle = put_section(out, 0, Boards::V1, Record::DATA, first, v1);
-    let end = put_section(out, middle, Boards::V2, Record::CUSTOM_DATA, second, v2);
+    let middle = sections::put_v1(out, first, v1);
+    let end = middle + sections::put_v2(out, middle, second, v2);
     hexwrite::put_record(out, end, Record::END_OF_FILE, 0, &[]);
 }
 

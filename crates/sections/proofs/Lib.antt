@@ -1,0 +1,2 @@
+-- The laws of `specs/`, and of the code's steps.
+pub mod Sectioned
