@@ -5,6 +5,9 @@ ghost use Rattle.entering.specs.Entering.{besideAt, besideLeft};
 ghost use Rattle.receipts.specs.Receipts.{unplanned, enterReturn, enterOf};
 use plan::Plan;
 use transfer::Answer;
+use transfer::Head;
+use transfer::Run;
+use transfer::State;
 use transfer::Transfer;
 use verdict::Acceptance;
 use verdict::Known;
@@ -29,13 +32,38 @@ pub struct PlanReceipt {
     pub plan: Plan,
 }
 
+fn same_head(head: Head) -> Head
+    ensures { λ r. ⌜ r ≡ head ⌝ }
+{
+    let kind = head.kind;
+    Head::new(kind, head.family, head.total)
+}
+
+// The same transfer, made anew from its fields: the unused bytes between them are then not copied from arrival to arrival.
+fn same_transfer(transfer: Transfer) -> Transfer
+    ensures { λ r. ⌜ r ≡ transfer ⌝ }
+{
+    let old = transfer.state;
+    let state = match old {
+        State::Idle => State::Idle,
+        State::Running(run) => {
+            let head = same_head(run.head);
+            let count = run.count;
+            State::Running(Run { head, count })
+        }
+        State::Done(head) => State::Done(same_head(head)),
+    };
+    Transfer { state }
+}
+
 // Nothing changes, and this is the answer.
 pub fn refuse(transfer: Transfer, answer: Answer) -> PlanReceipt
     ensures { λ r. ⌜ r ≡ unplanned transfer answer ⌝ }
 {
+    let same = same_transfer(transfer);
     PlanReceipt {
         receipt: Receipt {
-            transfer,
+            transfer: same,
             answer,
             discarded: false,
         },
