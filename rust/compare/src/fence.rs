@@ -1,5 +1,7 @@
 //! Bytes that lie against a page that may not be touched, so that a read or write out of bounds ends the process. Linux on x86-64.
 
+use std::cell::RefCell;
+use std::collections::HashMap;
 use std::ffi::c_void;
 
 const PAGE: usize = 4096;
@@ -31,10 +33,62 @@ pub enum Side {
     End,
 }
 
+/// Pages between two that may not be touched, and what may be done with them.
+struct Map {
+    at: *mut u8,
+    pages: usize,
+    prot: i32,
+}
+
+thread_local! {
+    /// Maps that are free, by their pages: a test of many calls has each of them made once, which takes longer than the call.
+    static FREE: RefCell<HashMap<usize, Vec<Map>>> = RefCell::default();
+}
+
+impl Map {
+    fn of(pages: usize) -> Map {
+        let free = FREE.with_borrow_mut(|free| free.get_mut(&pages).and_then(Vec::pop));
+        free.unwrap_or_else(|| Map::new(pages))
+    }
+
+    fn new(pages: usize) -> Map {
+        let at = unsafe {
+            mmap(
+                std::ptr::null_mut(),
+                (pages + 2) * PAGE,
+                PROT_NONE,
+                MAP_PRIVATE | MAP_ANONYMOUS,
+                -1,
+                0,
+            )
+        };
+        assert!(at as isize != -1, "mmap");
+        Map {
+            at: at.cast(),
+            pages,
+            prot: PROT_NONE,
+        }
+    }
+
+    fn protect(&mut self, prot: i32) {
+        if self.pages > 0 && self.prot != prot {
+            let done = unsafe { mprotect(self.at.add(PAGE).cast(), self.pages * PAGE, prot) };
+            assert_eq!(done, 0, "mprotect");
+            self.prot = prot;
+        }
+    }
+}
+
+impl Drop for Map {
+    fn drop(&mut self) {
+        unsafe { munmap(self.at.cast(), (self.pages + 2) * PAGE) };
+    }
+}
+
 /// Bytes between two pages that may not be touched.
 pub struct Fenced {
-    map: *mut u8,
-    pages: usize,
+    /// there until it is dropped
+    map: Option<Map>,
     from: usize,
     len: usize,
 }
@@ -44,24 +98,11 @@ impl Fenced {
     /// `read_only`.
     pub fn new(bytes: &[u8], side: Side, read_only: bool) -> Fenced {
         let pages = bytes.len().div_ceil(PAGE);
-        let room = pages * PAGE;
-        let map = unsafe {
-            mmap(
-                std::ptr::null_mut(),
-                room + 2 * PAGE,
-                PROT_NONE,
-                MAP_PRIVATE | MAP_ANONYMOUS,
-                -1,
-                0,
-            )
-        };
-        assert!(map as isize != -1, "mmap");
         let mut fenced = Fenced {
-            map: map.cast(),
-            pages,
+            map: Some(Map::of(pages)),
             from: match side {
                 Side::Start => PAGE,
-                Side::End => PAGE + room - bytes.len(),
+                Side::End => PAGE + pages * PAGE - bytes.len(),
             },
             len: bytes.len(),
         };
@@ -75,29 +116,30 @@ impl Fenced {
     }
 
     fn protect(&mut self, prot: i32) {
-        if self.pages > 0 {
-            let done = unsafe { mprotect(self.map.add(PAGE).cast(), self.pages * PAGE, prot) };
-            assert_eq!(done, 0, "mprotect");
-        }
+        self.map.as_mut().expect("there").protect(prot);
+    }
+
+    fn map(&self) -> &Map {
+        self.map.as_ref().expect("there")
     }
 
     /// The pages that may be touched.
     fn inner(&self) -> &[u8] {
-        unsafe { std::slice::from_raw_parts(self.map.add(PAGE), self.pages * PAGE) }
+        unsafe { std::slice::from_raw_parts(self.map().at.add(PAGE), self.map().pages * PAGE) }
     }
 
     fn inner_mut(&mut self) -> &mut [u8] {
-        unsafe { std::slice::from_raw_parts_mut(self.map.add(PAGE), self.pages * PAGE) }
+        unsafe { std::slice::from_raw_parts_mut(self.map().at.add(PAGE), self.map().pages * PAGE) }
     }
 
     /// The bytes.
     pub fn bytes(&self) -> &[u8] {
-        unsafe { std::slice::from_raw_parts(self.map.add(self.from), self.len) }
+        unsafe { std::slice::from_raw_parts(self.map().at.add(self.from), self.len) }
     }
 
     /// The bytes, for whoever writes them; those that are read-only are lent and not written.
     pub fn bytes_mut(&mut self) -> &mut [u8] {
-        unsafe { std::slice::from_raw_parts_mut(self.map.add(self.from), self.len) }
+        unsafe { std::slice::from_raw_parts_mut(self.map().at.add(self.from), self.len) }
     }
 
     /// Whether what lies in the same pages beside the bytes is as it was.
@@ -111,6 +153,9 @@ impl Fenced {
 
 impl Drop for Fenced {
     fn drop(&mut self) {
-        unsafe { munmap(self.map.cast(), (self.pages + 2) * PAGE) };
+        if let Some(map) = self.map.take() {
+            // where the thread ends, its maps are unmapped
+            let _ = FREE.try_with(|free| free.borrow_mut().entry(map.pages).or_default().push(map));
+        }
     }
 }
