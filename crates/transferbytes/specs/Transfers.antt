@@ -2,34 +2,17 @@
 use Prim.Native.Nat.{ℕ}
 use mathlib.Core.Bool.{cond}
 use mathlib.Core.List.{List, [], _∷_, _++_}
-use lib.Dec.{ltb, eqb}
+use lib.Dec.{eqb}
 use lib.ListN.{length, getD}
 use Rattle.block.specs.Block.{fieldAt}
 use Rattle.block.specs.Write.{le32}
-use Rattle.transfer.specs.declared.Kind.{Kind}
-use Rattle.transfer.specs.declared.Kind.the-variants.{Flash, MainRam, XipRam}
 use Rattle.transfer.specs.declared.Head.{Head}
 use Rattle.transfer.specs.declared.State.{State}
 use Rattle.transfer.specs.declared.State.the-variants.{Idle, Running, Done}
 use Rattle.transfer.specs.declared.Transfer.{Transfer}
-use Rattle.transfer.specs.Transfer.{kindNumber, headWith, running}
-
--- what it writes to: the kind of this number (`kindNumber`), where there is one
-unfoldable pub kindFrom : ℕ → Kind
-kindFrom k = cond (eqb k 1) MainRam (cond (eqb k 2) XipRam Flash)
-
--- a running transfer that has counted none, which row 3 refuses (proofs/Refused.antt)
-abbrev pub noState : State
-noState = running (headWith Flash 0 0) 0
-
--- a tag (0 Idle, 1 Running, 2 Done), the kind's number, the head and the count; any other tag is no state, and so is a kind over 2 of
--- a transfer that is not Idle
-unfoldable pub stateOf : ℕ → ℕ → Head → ℕ → State
-stateOf tag kind g c =
-    cond (eqb tag 0) Idle
-    (cond (ltb 2 kind) noState
-    (cond (eqb tag 1) (running g c)
-    (cond (eqb tag 2) (Done g) noState)))
+use Rattle.transfer.specs.Transfer.{kindNumber, headWith}
+pub use Rattle.transferstate.specs.States.{noState}
+unfoldable pub use Rattle.transferstate.specs.States.{kindFrom, stateOf}
 
 -- 1 family, 5 total, 13 kind
 abbrev pub headFrom : List ℕ → Head

@@ -2,76 +2,33 @@
 ghost use mathlib.Core.Path.{_≡_};
 ghost use lib.ListN.{length};
 ghost use Rattle.transferbytes.specs.Transfers.{
-  kindFrom,
-  noState,
-  stateOf,
   transferFrom,
   transferBytes,
   headBytes,
   withTransfer,
 };
 use transfer::Head;
-use transfer::Kind;
-use transfer::Run;
 use transfer::State;
 use transfer::Transfer;
 
 // The bytes of a transfer.
 const TRANSFER: usize = 14;
 
-// The kind of a number. Any but 1 and 2 gives Flash; `state` refuses one over 2 afterwards, unless the transfer is Idle.
-fn kind(number: u8) -> Kind
-    ensures { λ r. ⌜ r ≡ kindFrom number ⌝ }
-{
-    if number == 1 {
-        return Kind::MainRam;
-    }
-    if number == 2 {
-        return Kind::XipRam;
-    }
-    Kind::Flash
-}
-
-// Of another tag than 0, 1 and 2, and of another kind where it is not Idle: a running transfer that is bad.
-fn state(tag: u8, kind: u8, head: Head, count: u32) -> State
-    ensures { λ r. ⌜ r ≡ stateOf tag kind head count ⌝ }
-{
-    if tag == 0 {
-        return State::Idle;
-    }
-    if 2 < kind {
-        return none();
-    }
-    if tag == 1 {
-        let run = Run { head, count };
-        return State::Running(run);
-    }
-    if tag == 2 {
-        return State::Done(head);
-    }
-    none()
-}
-
-// No state: a running transfer that has counted none.
-fn none() -> State
-    ensures { λ r. ⌜ r ≡ noState ⌝ }
-{
-    let head = Head::new(Kind::Flash, 0, 0);
-    let run = Run { head, count: 0 };
-    State::Running(run)
-}
-
 // The transfer that bytes are.
 pub fn read_transfer(bytes: &[u8]) -> Transfer
     ensures { λ r. ⌜ r ≡ transferFrom (now (bytes .entry)) ⌝ }
 {
     if bytes.len() != TRANSFER {
-        let state = none();
+        let state = transferstate::none();
         return Transfer { state };
     }
     let number = bytes[13];
-    let head = Head::new(kind(number), block::field(bytes, 1), block::field(bytes, 5));
-    let state = state(bytes[0], number, head, block::field(bytes, 9));
+    let head = Head::new(
+        transferstate::kind(number),
+        block::field(bytes, 1),
+        block::field(bytes, 5),
+    );
+    let state = transferstate::state(bytes[0], number, head, block::field(bytes, 9));
     Transfer { state }
 }
 

@@ -1,10 +1,10 @@
--- `transferbytes::state` meets its contract. Assumes nothing.
+-- `transferstate::state` meets its contract. Assumes nothing.
 use native.Mathlib.Omega.{arith}
 use borrow.Author.Tests.{eq-eqb, ne-eqb, lt-ltb, le-ltb}
-use Rattle.transferbytes.specs.Transfers.{stateOf}
+use Rattle.transferstate.specs.States.{stateOf}
 use borrow.Author.Needs.{needs}
-use Rattle.transferbytes.proofs.state.Statement.{statement}
-use Rattle.transferbytes.proofs.state.Tie as tie
+use Rattle.transferstate.proofs.state.Statement.{statement}
+use Rattle.transferstate.proofs.state.Tie as tie
 
 returns : tie.Need-returns
 unfolding stateOf

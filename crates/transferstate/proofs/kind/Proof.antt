@@ -1,8 +1,8 @@
--- `transferbytes::kind` meets its contract. Assumes nothing.
+-- `transferstate::kind` meets its contract. Assumes nothing.
 use borrow.Author.Tests.{eq-eqb, ne-eqb}
-use Rattle.transferbytes.specs.Transfers.{kindFrom}
-use Rattle.transferbytes.proofs.kind.Statement.{statement}
-use Rattle.transferbytes.proofs.kind.Tie as tie
+use Rattle.transferstate.specs.States.{kindFrom}
+use Rattle.transferstate.proofs.kind.Statement.{statement}
+use Rattle.transferstate.proofs.kind.Tie as tie
 
 returns : tie.Need-returns
 unfolding kindFrom

@@ -1,10 +1,10 @@
--- `transferbytes::none` meets its contract. Assumes nothing.
+-- `transferstate::none` meets its contract. Assumes nothing.
 use mathlib.Core.Path.{ap}
 use Rattle.transfer.specs.Transfer.{running}
 use Rattle.transfer.specs.declared.Head.{Head}
 use borrow.Author.Needs.{needs}
-use Rattle.transferbytes.proofs.none.Statement.{statement}
-use Rattle.transferbytes.proofs.none.Tie as tie
+use Rattle.transferstate.proofs.none.Statement.{statement}
+use Rattle.transferstate.proofs.none.Tie as tie
 
 new-requires : tie.Need-new-requires
 new-requires c κs = search needs
