@@ -19,7 +19,8 @@ use Rattle.hexfile.proofs.LineCase.{LineCase, bad, past, again, failed, out, st
 use Rattle.hexfile.proofs.LineCase as every
 use Rattle.readers.specs.Readers.{readerFrom}
 use Rattle.readers.proofs.Written.{Small, written-back}
-use Rattle.hexbytes.specs.HexCalls.{lineReturn, hasFailed, changes, keptReader, lineReturnOf, lineCallOf}
+use Rattle.readerkept.specs.Kept.{hasFailed, changes, keptReader}
+use Rattle.hexbytes.specs.HexCalls.{lineReturn, lineReturnOf, lineCallOf}
 
 module _ (t l img : List ℕ) where
   pub line-case : {r : Reader} {x : Reply} {g v : List ℕ} {f b : Bool} {n k y : ℕ} → r ≡ readerFrom t → lineOutcome (x .reader) (x .answer) g ≡ lineOf r l img → f ≡ hasFailed (r .state) → b ≡ changes f (x .answer) → v ≡ keptReader t b (x .reader) → n ≡ numberOf (x .answer) → k ≡ positionOf (x .answer) → y ≡ n + 256 * k → lineReturn y v g ≡ lineCallOf t l img

@@ -1,7 +1,7 @@
--- `hexbytes::keep_reader` meets its contract. Assumes nothing.
+-- `readerkept::keep_reader` meets its contract. Assumes nothing.
 use borrow.Author.Needs.{needs}
-use Rattle.hexbytes.proofs.keep_reader.Statement.{statement}
-use Rattle.hexbytes.proofs.keep_reader.Tie as tie
+use Rattle.readerkept.proofs.keep_reader.Statement.{statement}
+use Rattle.readerkept.proofs.keep_reader.Tie as tie
 
 write-reader-requires : tie.Need-write-reader-requires
 write-reader-requires c κs = search needs

@@ -1,7 +1,7 @@
--- `hexbytes::changes` meets its contract. Assumes nothing.
+-- `readerkept::changes` meets its contract. Assumes nothing.
 use borrow.Author.Needs.{needs}
-use Rattle.hexbytes.proofs.changes.Statement.{statement}
-use Rattle.hexbytes.proofs.changes.Tie as tie
+use Rattle.readerkept.proofs.changes.Statement.{statement}
+use Rattle.readerkept.proofs.changes.Tie as tie
 
 number-requires : tie.Need-number-requires
 number-requires c κs = search needs
