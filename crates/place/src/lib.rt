@@ -10,7 +10,6 @@ ghost use Rattle.place.specs.Place.{
   StartsLow,
   placeOf,
   placeNumber,
-  ramFamily,
   askOf,
   placeAnswerNumber,
 };
@@ -117,27 +116,6 @@ pub fn find(settings: Settings, flash_len: usize, family: u32) -> Place
             bytes_of(e)
         }
     }
-}
-
-// May blocks of the family go to RAM? Links and switches are not asked.
-pub fn ram_family(settings: Settings, family: u32) -> bool
-    ensures { λ r. ⌜ r ≡ ramFamily settings family ⌝ }
-{
-    if (Family::DATA <= family) & (family <= Family::ARM_NS) {
-        return true;
-    }
-    let n = passes::used_count(settings.count);
-    // copied only where it is looked at
-    let table = settings.table;
-    let mut i: usize = 0;
-    while i < n {
-        let e = table[i];
-        if settings::has_user(e, family) {
-            return true;
-        }
-        i += 1;
-    }
-    false
 }
 
 // A place asked for alone.

@@ -128,7 +128,7 @@ pub fn flash_access(settings: Settings, family: u32) -> Access
 pub fn ram_access(settings: Settings, family: u32) -> Access
     ensures { λ r. ⌜ numbered accessNumber r ≡ numbered accessNumber (ramAccess settings family) ⌝ }
 {
-    denied_if(!place::ram_family(settings, family), Shut::NotForRam)
+    denied_if(!ramfamily::ram_family(settings, family), Shut::NotForRam)
 }
 
 // What turns a used entry down: 1 "B of", else 2 "doesn't accept".

@@ -62,7 +62,7 @@ pub fn rooms_for(settings: Settings, flash_len: usize, family: u32) -> Rooms
     ensures low { λ r. ⌜ StartsLow (r .flash) ⌝ }
 {
     let flash = place::find(settings, flash_len, family);
-    let ram = place::ram_family(settings, family);
+    let ram = ramfamily::ram_family(settings, family);
     Rooms { flash, ram }
 }
 

@@ -5,11 +5,11 @@ use mathlib.Core.Bool.{false}
 use native.Mathlib.Omega.{arith}
 use Rattle.sets.specs.Sets.{any}
 use Rattle.sets.proofs.Laws.{any-zero, any-more, any-hit}
 use Rattle.place.specs.Place.{usedCount, userOf}
 use Rattle.place.proofs.Laws.{used-most, ram-named, ram-other}
 use borrow.Author.Needs.{needs}
-use Rattle.place.proofs.ram_family.Statement.{statement}
-use Rattle.place.proofs.ram_family.Tie as tie
+use Rattle.ramfamily.proofs.ram_family.Statement.{statement}
+use Rattle.ramfamily.proofs.ram_family.Tie as tie
 
 abbrev Inv-loop : tie.InvT-loop
 Inv-loop family n table i₀ i = (i ≤ n) × (any i (userOf table family) ≡ false)
