@@ -59,7 +59,7 @@ pub fn body_row(size: usize, lens: Lengths, b: Block) -> Row
     if b.comment {
         return numberrows::numbers_row(b.total, b.number, size);
     }
-    let window = screen::window_of(lens, b.address as usize);
+    let window = blockkind::window_of(lens, b.address as usize);
     pagerow::page_row(window, size, b)
 }
 
@@ -68,10 +68,10 @@ pub fn kind_of(lens: Lengths, transfer: Transfer, b: Block) -> Kind
     ensures { λ r. ⌜ r ≡ kindOf lens (transfer .state) b ⌝ }
 {
     if b.comment {
-        return screen::note_kind(lens, transfer, b);
+        return blockkind::note_kind(lens, transfer, b);
     }
-    let window = screen::window_of(lens, b.address as usize);
-    screen::window_kind(window)
+    let window = blockkind::window_of(lens, b.address as usize);
+    blockkind::window_kind(window)
 }
 
 // ---- rows 12 to 17

@@ -29,7 +29,7 @@ pub fn judge(settings: Settings, lens: Lengths, m: usize, k: usize, family: u32)
 {
     let right = verdict::lengths_right(Block::ARRIVAL, lens, m, k);
     let good = validity::good(settings, lens.flash);
-    let rooms = screen::rooms_for(settings, lens.flash, family);
+    let rooms = rooms::rooms_for(settings, lens.flash, family);
     let kept = FamilyRooms { family, rooms };
     Judgement { right, good, kept }
 }
@@ -53,7 +53,7 @@ fn rooms_next(before: FamilyRooms, settings: Settings, flash_len: usize, family:
     if before.family == family {
         return before.rooms;
     }
-    screen::rooms_for(settings, flash_len, family)
+    rooms::rooms_for(settings, flash_len, family)
 }
 
 // A family, and what the settings say of it, after an arrival of the family before.

@@ -1,14 +1,25 @@
-// The place of a block by its kind: row 8.
+// Row 8: what the settings say of a family, and the place of a block by its kind.
 ghost use mathlib.Core.Path.{_≡_};
 ghost use Rattle.place.specs.Place.{StartsLow};
-ghost use Rattle.screen.specs.Screen.{lowPlace, lowRooms, roomIn};
+ghost use Rattle.screen.specs.Screen.{roomsOf, lowPlace, lowRooms, roomIn};
 use place::Place;
 use screen::Rooms;
 use screen::Window;
+use settings::Settings;
 use transfer::Kind;
 
 // No place begins here or above.
 const STARTS: usize = 0x100000000000;
+
+// What the settings say of a family, with a flash of so many bytes.
+pub fn rooms_for(settings: Settings, flash_len: usize, family: u32) -> Rooms
+    ensures { λ r. ⌜ r ≡ roomsOf settings «flash_len» family ⌝ }
+    ensures low { λ r. ⌜ StartsLow (r .flash) ⌝ }
+{
+    let flash = place::find(settings, flash_len, family);
+    let ram = ramfamily::ram_family(settings, family);
+    Rooms { flash, ram }
+}
 
 // A place that is handed in may begin anywhere.
 fn low_place(place: Place) -> Place

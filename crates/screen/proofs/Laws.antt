@@ -23,6 +23,7 @@ use Rattle.transfer.specs.declared.Head.{Head}
 use Rattle.transfer.specs.declared.Kind.{Kind}
 use Rattle.transfer.specs.declared.Kind.the-variants.{Flash, MainRam, XipRam}
 use Rattle.transfer.specs.declared.State.{State}
+use Rattle.transfer.specs.declared.State.the-variants.{Idle, Done}
 use Rattle.transfer.specs.declared.Answer.the-variants.{NoPlace, BadPayload, BadNumbers, BadAddress}
 use Rattle.screen.specs.Screen.{baseOf, extentOf, isLent, inWindow, windowOf, ownKind, noteKind, roomIn, badNumbers, strayed, noted, windowKind, dataFound, noteFound, found, afterHeader, lowPlace, lowRooms, screenIn, screenAt, screeningNumber}
 use Rattle.screen.specs.declared.Lengths.{Lengths}
@@ -122,6 +123,15 @@ module _ (n : Lengths) (h : Head) (f total : ℕ) {lent : Bool} (e : lent ≡ is
 
   pub own-other : Own && lent ≡ false → ownKind n h f total ≡ Flash
   own-other q = ap (λ (c : Bool). cond c (h .kind) Flash) (ap (λ (x : Bool). Own && x) (sym e) ∙ q)
+
+-- "any other is flash": one to a transfer that is Idle or Done
+pub note-idle : (n : Lengths) (b : Block) → noteKind n Idle b ≡ Flash
+unfolding noteKind
+note-idle n b = refl
+
+pub note-done : (n : Lengths) (g : Head) (b : Block) → noteKind n (Done g) b ≡ Flash
+unfolding noteKind
+note-done n g b = refl
 
 -- ---- a block
 

@@ -52,7 +52,7 @@ fn at_address(kind: Kind, b: Block, start: usize, size: usize) -> Screening
     ensures { λ r. ⌜ r ≡ addressed kind start size b ⌝ }
 {
     let address = b.address as usize;
-    let from = screen::base(kind);
+    let from = blockkind::base(kind);
     let step = alignment(kind);
     if address % step != 0 {
         return Screening::Refused(Answer::BadAddress);
@@ -124,12 +124,12 @@ fn check(rooms: Rooms, lens: Lengths, transfer: Transfer, b: Block) -> Screening
     ensures { λ r. ⌜ r ≡ found (lowRooms rooms) lens (transfer .state) b ⌝ }
 {
     if b.comment {
-        let noted = screen::note_kind(lens, transfer, b);
+        let noted = blockkind::note_kind(lens, transfer, b);
         let room = rooms::room_in(rooms, noted);
         return notes::check_note(noted, room, b);
     }
-    let window = screen::window_of(lens, b.address as usize);
-    let kind = screen::window_kind(window);
+    let window = blockkind::window_of(lens, b.address as usize);
+    let kind = blockkind::window_kind(window);
     let place = rooms::room_in(rooms, kind);
     check_data(window, place, b)
 }

@@ -60,6 +60,6 @@ pub fn known_of(settings: Settings, lens: Lengths, m: usize, k: usize, arrival: 
     let right = lengths_right(arrival.len(), lens, m, k);
     let good = validity::good(settings, lens.flash);
     let family = block::field(arrival, 28);
-    let rooms = screen::rooms_for(settings, lens.flash, family);
+    let rooms = rooms::rooms_for(settings, lens.flash, family);
     Known { right, good, rooms }
 }

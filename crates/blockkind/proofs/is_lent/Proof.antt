@@ -1,7 +1,7 @@
--- `screen::is_lent` meets its contract. Assumes nothing.
+-- `blockkind::is_lent` meets its contract. Assumes nothing.
 use borrow.Author.Needs.{needs}
-use Rattle.screen.proofs.is_lent.Statement.{statement}
-use Rattle.screen.proofs.is_lent.Tie as tie
+use Rattle.blockkind.proofs.is_lent.Statement.{statement}
+use Rattle.blockkind.proofs.is_lent.Tie as tie
 
 enum-told : tie.Need-enum-told
 enum-told c = search needs

@@ -1,8 +1,8 @@
--- `screen::rooms_for` meets its contract. Assumes nothing.
+-- `rooms::rooms_for` meets its contract. Assumes nothing.
 use Rattle.sets.proofs.Numbered.{answer-is}
 use borrow.Author.Needs.{needs}
-use Rattle.screen.proofs.rooms_for.Statement.{statement}
-use Rattle.screen.proofs.rooms_for.Tie as tie
+use Rattle.rooms.proofs.rooms_for.Statement.{statement}
+use Rattle.rooms.proofs.rooms_for.Tie as tie
 
 find-requires : tie.Need-find-requires
 find-requires c κs = search needs

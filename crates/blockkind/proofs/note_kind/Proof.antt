@@ -1,8 +1,10 @@
--- `screen::note_kind` meets its contract. Assumes nothing.
+-- `blockkind::note_kind` meets its contract. Assumes nothing.
+use mathlib.Core.Path.{sym}
 use Rattle.screen.specs.Screen.{noteKind}
+use Rattle.screen.proofs.Laws.{note-idle, note-done}
 use borrow.Author.Needs.{needs}
-use Rattle.screen.proofs.note_kind.Statement.{statement}
-use Rattle.screen.proofs.note_kind.Tie as tie
+use Rattle.blockkind.proofs.note_kind.Statement.{statement}
+use Rattle.blockkind.proofs.note_kind.Tie as tie
 
 enum-told : tie.Need-enum-told
 enum-told c = search needs
@@ -17,16 +19,14 @@ enum-told-2 : tie.Need-enum-told-2
 enum-told-2 c = search needs
 
 returns : tie.Need-returns
-unfolding noteKind
-returns c = rw (c .enum-told .given .1)
+returns c = rw (c .enum-told .given .1) (sym (note-idle _ _))
 
 returns-2 : tie.Need-returns-2
 unfolding noteKind
 returns-2 c = rw (c .before .before .state .given .1) (c .own-kind .ensures)
 
 returns-3 : tie.Need-returns-3
-unfolding noteKind
-returns-3 c = rw (c .enum-told2 .given .1)
+returns-3 c = rw (c .enum-told2 .given .1) (sym (note-done _ _ _))
 
 pub note-kind-spec : {M : Type 1} → statement M
 note-kind-spec =

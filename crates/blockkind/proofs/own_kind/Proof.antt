@@ -1,9 +1,9 @@
--- `screen::own_kind` meets its contract. Assumes nothing.
+-- `blockkind::own_kind` meets its contract. Assumes nothing.
 use mathlib.Core.Path.{sym}
 use Rattle.screen.proofs.Laws.{own-taken, own-other}
 use borrow.Author.Needs.{needs}
-use Rattle.screen.proofs.own_kind.Statement.{statement}
-use Rattle.screen.proofs.own_kind.Tie as tie
+use Rattle.blockkind.proofs.own_kind.Statement.{statement}
+use Rattle.blockkind.proofs.own_kind.Tie as tie
 
 is-lent-requires : tie.Need-is-lent-requires
 is-lent-requires c κs = search needs

@@ -1,9 +1,9 @@
--- `screen::in_window` meets its contract. Assumes nothing.
+-- `blockkind::in_window` meets its contract. Assumes nothing.
 use native.Mathlib.Omega.{arith}
 use Rattle.screen.proofs.Laws.{window-low}
 use borrow.Author.Needs.{needs}
-use Rattle.screen.proofs.in_window.Statement.{statement}
-use Rattle.screen.proofs.in_window.Tie as tie
+use Rattle.blockkind.proofs.in_window.Statement.{statement}
+use Rattle.blockkind.proofs.in_window.Tie as tie
 
 base-requires : tie.Need-base-requires
 base-requires c κs = search needs

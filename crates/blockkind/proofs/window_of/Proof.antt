@@ -1,9 +1,9 @@
--- `screen::window_of` meets its contract. Assumes nothing.
+-- `blockkind::window_of` meets its contract. Assumes nothing.
 use mathlib.Core.Path.{sym, _∙_}
 use Rattle.screen.proofs.Laws.{window-flash, window-main, window-xip, window-none}
 use borrow.Author.Needs.{needs}
-use Rattle.screen.proofs.window_of.Statement.{statement}
-use Rattle.screen.proofs.window_of.Tie as tie
+use Rattle.blockkind.proofs.window_of.Statement.{statement}
+use Rattle.blockkind.proofs.window_of.Tie as tie
 
 in-window-requires : tie.Need-in-window-requires
 in-window-requires c κs = search needs
