@@ -1,4 +1,5 @@
 pub mod Arrive
+pub mod Lending
 pub mod Windows
 pub mod File
 pub mod Lists

@@ -6,7 +6,7 @@ use lib.Dec.{ltb, leb, eqb}
 use Rattle.transfer.specs.declared.Answer.{Answer}
 use Rattle.transfer.specs.declared.Answer.the-variants as answer
 use Rattle.faults.specs.Faults.{faultNumber}
-use Rattle.placing.specs.Placing.{shutNumber}
+use Rattle.placing.specs.Placing.{denialNumber}
 use Rattle.causes.specs.declared.Length.{Length}
 use Rattle.causes.specs.declared.Length.the-variants.{Arrival, FlashRagged, FlashUnder, FlashOver, Seen, Sectors, Main, Xip}
 use Rattle.causes.specs.declared.Bound.{Bound}
@@ -98,7 +98,7 @@ causeNumber (BadState x) = boundNumber x
 causeNumber (NotBlock x) = magicNumber x
 causeNumber Container = 501
 causeNumber NoFamily = 701
-causeNumber (NoPlace x) = shutNumber x
+causeNumber (NoPlace x) = denialNumber x
 causeNumber BadPayload = 901
 causeNumber (BadNumbers x) = numbersNumber x
 causeNumber (BadAddress x) = addressNumber x

@@ -5,7 +5,7 @@ ghost use Rattle.causes.specs.Causes.{answerOf, causeNumber, lengthNumbe
 ghost use Rattle.causes.specs.Checks.{byNumbers, rowOf, runningRow, doneRow, stateRow, magicRow, flagsRow, headerRow};
 use block::Block;
 use faults::Fault;
-use placing::Shut;
+use placing::Denial;
 use transfer::Answer;
 use transfer::Head;
 use transfer::Run;
@@ -74,7 +74,7 @@ pub enum Cause {
     NotBlock(Magic),
     Container,
     NoFamily,
-    NoPlace(Shut),
+    NoPlace(Denial),
     BadPayload,
     BadNumbers(Numbers),
     BadAddress(Address),

@@ -22,8 +22,8 @@ use Rattle.faults.specs.Faults.{faultIn, faultsOf, firstIn, firstFault}
 use Rattle.faults.specs.declared.Fault.{Fault}
 use Rattle.faults.specs.declared.Finding.{Finding}
 use Rattle.faults.specs.declared.Finding.the-variants.{Sound, Bad}
-use Rattle.placing.specs.Placing.{shutIn, firstShut, flashShuts, ramShuts, flashAccess, ramAccess}
-use Rattle.placing.specs.declared.Shut.{Shut}
+use Rattle.placing.specs.Placing.{denies, firstDenial, flashDenials, ramDenials, flashAccess, ramAccess}
+use Rattle.placing.specs.declared.Denial.{Denial}
 use Rattle.placing.specs.declared.Access.{Access}
 use Rattle.placing.specs.declared.Access.the-variants.{Granted, Denied}
 use Rattle.causes.specs.Checks.{byNumbers, rowOf, orNext, orLast, runningRow, doneRow, stateRow, magicRow, flagsRow, headerRow}
@@ -35,7 +35,7 @@ use Rattle.causes.specs.declared.Row.the-variants.{Passes, Decides}
 use Rattle.causes.proofs.Rows.{rows-next}
 use Rattle.checks.specs.Block.{startAt, sizeAt, roomOf, addressIn, pageRow, bodyRow, raisedOf, fateRow, writtenRow}
 use Rattle.checks.specs.Parts.{fatePart, regionPart, writtenPart, latePart}
-use Rattle.checklist.specs.Checklist.{faultReason, faultRow, settingsRow, shutReason, shutRow, placeRow, blockRow, blockKind, headIn, placeIn, boardRows, checksOf, lastOf, holdsIn, reasonOf}
+use Rattle.checklist.specs.Checklist.{faultReason, faultRow, settingsRow, denialReason, denialRow, placeRow, blockRow, blockKind, headIn, placeIn, boardRows, checksOf, lastOf, holdsIn, reasonOf}
 use Rattle.checklist.specs.Parts.{findingRow, accessRow, accessIn, boardPart, earlyPart, blockPart}
 
 -- rows in groups, and one after the other
@@ -58,12 +58,12 @@ module _ (test : Reason → Bool) (s : Settings) where
       by-case false true e p q k = absurd (true≢false (sym e))
       by-case false false e p q k = k
 
-  pub shut-rows : (f : ℕ) → ((x : Shut) → test (shutReason f x) ≡ shutIn s f x) → (l : List Shut) → rowOf test (shutRow f l) ≡ accessRow f (firstShut s f l)
-  unfolding rowOf shutRow firstShut
-  shut-rows f h [] = refl
-  shut-rows f h (x ∷ l) = by-case (test (shutReason f x)) (shutIn s f x) (h x) (rowOf test (shutRow f l)) (firstShut s f l) (shut-rows f h l)
+  pub denial-rows : (f : ℕ) → ((x : Denial) → test (denialReason f x) ≡ denies s f x) → (l : List Denial) → rowOf test (denialRow f l) ≡ accessRow f (firstDenial s f l)
+  unfolding rowOf denialRow firstDenial
+  denial-rows f h [] = refl
+  denial-rows f h (x ∷ l) = by-case (test (denialReason f x)) (denies s f x) (h x) (rowOf test (denialRow f l)) (firstDenial s f l) (denial-rows f h l)
     where
-      by-case : (b d : Bool) → b ≡ d → (p : Row) (q : Access) → p ≡ accessRow f q → cond b (Decides (shutReason f x)) p ≡ accessRow f (cond d (Denied x) q)
+      by-case : (b d : Bool) → b ≡ d → (p : Row) (q : Access) → p ≡ accessRow f q → cond b (Decides (denialReason f x)) p ≡ accessRow f (cond d (Denied x) q)
       by-case true true e p q k = refl
       by-case true false e p q k = absurd (true≢false e)
       by-case false true e p q k = absurd (true≢false (sym e))
@@ -92,9 +92,9 @@ module _ (s : Settings) (w : World) (a : List ℕ) where
 
   place-rows : (k : Kind) → rowOf (holdsIn s w a) (placeRow k (fieldAt a 28)) ≡ accessRow (fieldAt a 28) (accessIn s k (fieldAt a 28))
   unfolding placeRow flashAccess ramAccess
-  place-rows Flash = shut-rows (holdsIn s w a) s (fieldAt a 28) (λ x. refl) flashShuts
-  place-rows MainRam = shut-rows (holdsIn s w a) s (fieldAt a 28) (λ x. refl) ramShuts
-  place-rows XipRam = shut-rows (holdsIn s w a) s (fieldAt a 28) (λ x. refl) ramShuts
+  place-rows Flash = denial-rows (holdsIn s w a) s (fieldAt a 28) (λ x. refl) flashDenials
+  place-rows MainRam = denial-rows (holdsIn s w a) s (fieldAt a 28) (λ x. refl) ramDenials
+  place-rows XipRam = denial-rows (holdsIn s w a) s (fieldAt a 28) (λ x. refl) ramDenials
 
   page-rows : (u : Window) (size : ℕ) (b : Block) → rowOf (holdsIn s w a) (pageRow u size b) ≡ rowOf byNumbers (pageRow u size b)
   unfolding rowOf pageRow payloadRow numbersRow addressIn addressRow windowRow

@@ -15,13 +15,12 @@ use Rattle.transfer.specs.declared.Kind.{Kind}
 use Rattle.transfer.specs.declared.Kind.the-variants.{Flash, MainRam, XipRam}
 use Rattle.transfer.specs.declared.Head.{Head}
 use Rattle.transfer.specs.declared.State.{State}
-use Rattle.transfer.specs.declared.Transfer.{Transfer}
 use Rattle.screen.specs.declared.Lengths.{Lengths}
 use Rattle.arrival.specs.Arrive.{World, lengthsOf}
 use Rattle.faults.specs.Faults.{faultIn, faultsOf, testedOf}
 use Rattle.faults.specs.declared.Fault.{Fault}
-use Rattle.placing.specs.Placing.{shutIn, flashShuts, ramShuts}
-use Rattle.placing.specs.declared.Shut.{Shut}
+use Rattle.placing.specs.Placing.{denies, flashDenials, ramDenials}
+use Rattle.placing.specs.declared.Denial.{Denial}
 use Rattle.causes.specs.Causes.{reasonWith, numberTest}
 use Rattle.causes.specs.Checks.{rowOf, orLast, stateRow, headerRow}
 use Rattle.lengthrow.specs.Lengths.{lengthsRow}
@@ -48,19 +47,19 @@ settingsRow s len = faultRow s len (faultsOf s)
 -- ---- rows 8 to 11
 
 -- "the setting or rule that shut the family out"
-abbrev pub shutReason : ℕ → Shut → Reason
-shutReason f x = reasonWith (NoPlace x) f 0
+abbrev pub denialReason : ℕ → Denial → Reason
+denialReason f x = reasonWith (NoPlace x) f 0
 
 -- rules one after the other
-unfoldable pub shutRow : ℕ → List Shut → List Reason
-shutRow f [] = []
-shutRow f (x ∷ l) = shutReason f x ∷ shutRow f l
+unfoldable pub denialRow : ℕ → List Denial → List Reason
+denialRow f [] = []
+denialRow f (x ∷ l) = denialReason f x ∷ denialRow f l
 
 -- row 8, by the kind of the block
 unfoldable pub placeRow : Kind → ℕ → List Reason
-placeRow Flash f = shutRow f flashShuts
-placeRow MainRam f = shutRow f ramShuts
-placeRow XipRam f = shutRow f ramShuts
+placeRow Flash f = denialRow f flashDenials
+placeRow MainRam f = denialRow f ramDenials
+placeRow XipRam f = denialRow f ramDenials
 
 -- rows 8 to 11, of a block of this kind, where p is its family's place in the flash
 unfoldable pub blockRow : Place → Kind → Lengths → Block → List Reason
@@ -107,7 +106,7 @@ testOf s w a (BadState x) g n = numberTest (BadState x) g n
 testOf s w a (NotBlock x) g n = numberTest (NotBlock x) g n
 testOf s w a Container g n = numberTest Container g n
 testOf s w a NoFamily g n = numberTest NoFamily g n
-testOf s w a (NoPlace x) g n = shutIn s (fieldAt a 28) x
+testOf s w a (NoPlace x) g n = denies s (fieldAt a 28) x
 testOf s w a BadPayload g n = numberTest BadPayload g n
 testOf s w a (BadNumbers x) g n = numberTest (BadNumbers x) g n
 testOf s w a (BadAddress x) g n = numberTest (BadAddress x) g n
@@ -122,15 +121,6 @@ abbrev pub holdsIn : Settings → World → List ℕ → Reason → Bool
 holdsIn s w a r = testOf s w a (r .cause) (r .got) (r .against)
 
 -- ---- the reason
-
--- a transfer and the lent buffers
-abbrev pub worldWith : Transfer → List ℕ → List ℕ → List ℕ → List ℕ → List ℕ → World
-worldWith t flash seen sectors main xip =
-    record {
-      transfer = t .state;
-      seen = seen;
-      held = record { flash = flash; sectors = sectors; main = main; xip = xip };
-    }
 
 unfoldable pub reasonOf : Settings → World → List ℕ → Reason
 reasonOf s w a = orLast (lastOf w a) (rowOf (holdsIn s w a) (checksOf s w a))

@@ -20,7 +20,7 @@ use Rattle.lengthrow.specs.Lengths.{flashRow, lengthsRow}
 use Rattle.causes.specs.declared.Row.{Row}
 use Rattle.causes.specs.declared.Row.the-variants.{Passes, Decides}
 use Rattle.checks.specs.Block.{roomOf, bodyRow}
-use Rattle.checklist.specs.Checklist.{faultReason, shutReason}
+use Rattle.checklist.specs.Checklist.{faultReason, denialReason}
 
 -- row 2, by the first fault
 abbrev pub findingRow : Settings → ℕ → Finding → Row
@@ -30,7 +30,7 @@ findingRow s len (Bad x) = Decides (faultReason s len x)
 -- row 8, by what shuts the family out
 abbrev pub accessRow : ℕ → Access → Row
 accessRow f Granted = Passes
-accessRow f (Denied x) = Decides (shutReason f x)
+accessRow f (Denied x) = Decides (denialReason f x)
 
 abbrev pub accessIn : Settings → Kind → ℕ → Access
 accessIn s Flash f = flashAccess s f

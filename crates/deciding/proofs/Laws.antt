@@ -14,7 +14,7 @@ use Rattle.screen.specs.declared.PlacedBlock.{PlacedBlock}
 use Rattle.screen.specs.declared.Screening.{Screening}
 use Rattle.screen.specs.declared.Screening.the-variants.{Refused, Passed}
 use Rattle.arrival.specs.Arrive.{Lent, Decision, lengthsOf, standsAt, afterScreening, stays}
-use Rattle.verdict.specs.Lending.{world}
+use Rattle.arrival.specs.Lending.{world}
 use Rattle.verdict.specs.Verdict.{knownDecision}
 use Rattle.verdict.specs.declared.Known.{Known}
 

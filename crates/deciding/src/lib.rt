@@ -3,7 +3,7 @@ ghost use mathlib.Core.Path.{_≡_};
 ghost use Rattle.sets.specs.Numbered.{numbered};
 ghost use Rattle.screen.specs.Screen.{screenAt};
 ghost use Rattle.arrival.specs.Arrive.{standsAt, afterScreening};
-ghost use Rattle.verdict.specs.Lending.{lentAt, world};
+ghost use Rattle.arrival.specs.Lending.{lentAt, world};
 ghost use Rattle.verdict.specs.Verdict.{decision, decisionNumber, knownDecision};
 use screen::Lengths;
 use screen::Rooms;

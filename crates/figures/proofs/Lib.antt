@@ -2,3 +2,4 @@
 pub mod Counts
 pub mod Ends
 pub mod Figures
+pub mod Alike

@@ -1,6 +1,6 @@
 // A look at an arrival for C: a library of its own, so that the call is compiled as one piece.
 ghost use mathlib.Core.Path.{_≡_};
-ghost use Rattle.verdict.specs.Lending.{lentAt};
+ghost use Rattle.arrival.specs.Lending.{lentAt};
 ghost use Rattle.callbytes.specs.Calls.{lookCallOf};
 
 // A look at one arrival: what `uf2_take` would return. Nothing is written.

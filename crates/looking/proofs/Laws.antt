@@ -10,7 +10,7 @@ use Rattle.transfer.specs.declared.Accepted.{Accepted}
 use Rattle.transfer.specs.declared.Answer.{Answer}
 use Rattle.screen.specs.declared.PlacedBlock.{PlacedBlock}
 use Rattle.arrival.specs.Arrive.{Lent, World, Decision, stays, accepts, forecast, forecastOf, lookOf}
-use Rattle.verdict.specs.Lending.{world}
+use Rattle.arrival.specs.Lending.{world}
 use Rattle.verdict.specs.Verdict.{knownDecision}
 use Rattle.verdict.specs.declared.Known.{Known}
 use Rattle.verdict.proofs.KnownLaws.{Knows, decision-is}

@@ -2,7 +2,7 @@
 ghost use mathlib.Core.Path.{_≡_};
 ghost use Rattle.sets.specs.Numbered.{numbered};
 ghost use Rattle.arrival.specs.Arrive.{forecastNumber, lookOf};
-ghost use Rattle.verdict.specs.Lending.{lentAt, world};
+ghost use Rattle.arrival.specs.Lending.{lentAt, world};
 ghost use Rattle.looking.specs.Looking.{previewed};
 use screen::Lengths;
 use settings::Settings;

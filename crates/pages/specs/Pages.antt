@@ -7,7 +7,7 @@ use Rattle.transfer.specs.declared.Kind.{Kind}
 use Rattle.transfer.specs.declared.Kind.the-variants.{Flash, MainRam, XipRam}
 use Rattle.transfer.specs.declared.Deed.{Deed}
 use Rattle.transfer.specs.declared.Deed.the-variants.{Stores, Notes, Keeps}
-use Rattle.verdict.specs.Lending.{Slice}
+use Rattle.arrival.specs.Lending.{Slice}
 use denote.Ref.{now}
 use Rattle.plan.specs.Plan.{sectorPlan}
 use Rattle.plan.specs.declared.Plan.{Plan}

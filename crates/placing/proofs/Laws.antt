@@ -19,30 +19,30 @@ use Rattle.settings.specs.declared.Settings.{Settings}
 use Rattle.settings.specs.Settings.{familyRp2040, familyAbsolute, familyData, familyArmS, familyRiscV, entryAt, isA, accepts}
 use Rattle.passes.specs.declared.PassQuery.{PassQuery}
 use Rattle.place.specs.Place.{passQueryOf, passAllows, passTakes, usedCount, ramFamily}
-use Rattle.placing.specs.declared.Shut.{Shut}
-use Rattle.placing.specs.declared.Shut.the-variants.{AbsoluteOff, Rp2040, ArmOff, RiscvOff, NotWithoutTable, NoEntry, NotForRam}
+use Rattle.placing.specs.declared.Denial.{Denial}
+use Rattle.placing.specs.declared.Denial.the-variants.{AbsoluteOff, Rp2040, ArmOff, RiscvOff, NotWithoutTable, NoEntry, NotForRam}
 use Rattle.placing.specs.declared.Access.{Access}
 use Rattle.placing.specs.declared.Access.the-variants.{Granted, Denied}
 use Rattle.placing.specs.declared.Spot.{Spot}
 use Rattle.placing.specs.declared.Spot.the-variants as spot
 use Rattle.placing.specs.declared.Rule.the-variants.{Absolute, NoTable}
 use Rattle.placing.specs.Parts.{deniedIf, withoutAccess}
-use Rattle.placing.specs.Placing.{noTable, takesAt, shutIn, firstShut, flashAccess, ramAccess, markFor, markOf, marksOf, takenIn, passHas, passOf, entryIn, tableSpot, grantedSpot, spotBy, spotOf}
+use Rattle.placing.specs.Placing.{noTable, takesAt, denies, firstDenial, flashAccess, ramAccess, markFor, markOf, marksOf, takenIn, passHas, passOf, entryIn, tableSpot, grantedSpot, spotBy, spotOf}
 
 -- ---- the rules for the flash, by cases
 
 module _ (s : Settings) (f : ℕ) where
   pub flash-absolute : f ≡ familyAbsolute → flashAccess s f ≡ deniedIf (not (s .absolute)) AbsoluteOff
-  unfolding flashAccess firstShut
+  unfolding flashAccess firstDenial
   flash-absolute h = split (noTable s) (λ q. rw (h, q)) (λ q. rw (h, q))
 
   pub flash-rp2040 : f ≡ familyRp2040 → flashAccess s f ≡ Denied Rp2040
-  unfolding flashAccess firstShut
+  unfolding flashAccess firstDenial
   flash-rp2040 h = rw h
 
   module _ (na : f ≢ familyAbsolute) (nr : f ≢ familyRp2040) where
     pub flash-whole : s .count ≡ 0 → flashAccess s f ≡ withoutAccess (s .arm) (s .riscv) f
-    unfolding flashAccess firstShut withoutAccess
+    unfolding flashAccess firstDenial withoutAccess
     flash-whole h =
         let z = eq-eqb (s .count) 0 h in
         split (eqb f familyData)
@@ -56,21 +56,21 @@ module _ (s : Settings) (f : ℕ) where
         (λ r. rw (ne-eqb f familyAbsolute na, ne-eqb f familyRp2040 nr, d, a, r, z))))
 
     pub flash-table : s .count ≢ 0 → flashAccess s f ≡ deniedIf (not (any (usedCount (s .count)) (takesAt (s .table) f))) NoEntry
-    unfolding flashAccess firstShut
+    unfolding flashAccess firstDenial
     flash-table h = rw (ne-eqb f familyAbsolute na, ne-eqb f familyRp2040 nr, ne-eqb (s .count) 0 h)
 
   pub ram-by : ramAccess s f ≡ deniedIf (not (ramFamily s f)) NotForRam
-  unfolding ramAccess firstShut
+  unfolding ramAccess firstDenial
   ram-by = refl
 
   -- the rule that shuts a family out is one that does
-  pub shut-true : (l : List Shut) {x : Shut} → firstShut s f l ≡ Denied x → shutIn s f x ≡ true
-  unfolding firstShut
-  shut-true [] h = let z : _≡_ {A = ℕ} 0 1 = cc in absurd (omega arith)
-  shut-true (y ∷ l) {x} h =
-      split (shutIn s f y)
+  pub denial-true : (l : List Denial) {x : Denial} → firstDenial s f l ≡ Denied x → denies s f x ≡ true
+  unfolding firstDenial
+  denial-true [] h = let z : _≡_ {A = ℕ} 0 1 = cc in absurd (omega arith)
+  denial-true (y ∷ l) {x} h =
+      split (denies s f y)
       (λ t. let q : Denied y ≡ Denied x = rw t at h in let e : y ≡ x = cc in rw (← e) t)
-      (λ t. shut-true l (rw t at h))
+      (λ t. denial-true l (rw t at h))
 
 -- ---- the test of an entry, as the code makes it
 
@@ -112,15 +112,15 @@ module _ (s : Settings) (f : ℕ) where
 
 -- ---- a place by cases
 
-pub not-granted : {A : Type 0} {x : Shut} → Denied x ≡ Granted → A
+pub not-granted : {A : Type 0} {x : Denial} → Denied x ≡ Granted → A
 not-granted h = let z : _≡_ {A = ℕ} 0 1 = cc in absurd (omega arith)
 
-pub granted-if : (b : Bool) (x : Shut) → deniedIf (not b) x ≡ Granted → b ≡ true
+pub granted-if : (b : Bool) (x : Denial) → deniedIf (not b) x ≡ Granted → b ≡ true
 granted-if true x h = refl
 granted-if false x h = not-granted h
 
 module _ (s : Settings) (f : ℕ) where
-  pub spot-refused : {x : Shut} → flashAccess s f ≡ Denied x → spotOf s f ≡ spot.Refused x
+  pub spot-refused : {x : Denial} → flashAccess s f ≡ Denied x → spotOf s f ≡ spot.Refused x
   unfolding spotOf
   spot-refused h = rw h
 

@@ -17,15 +17,15 @@ use Rattle.place.specs.declared.Place.the-variants.{Nowhere, At}
 use Rattle.place.specs.Place.{passQueryOf, inPass, chosen, usedCount, chosenEntry, getsWhole, wholeIf, placeOfChoice, placeOf, ramFamily}
 use Rattle.place.proofs.First.{first-hit, first-none, if-taken, if-passed}
 use Rattle.place.proofs.Laws.{place-absolute, place-rp2040, place-whole, place-table}
-use Rattle.placing.specs.declared.Shut.{Shut}
-use Rattle.placing.specs.declared.Shut.the-variants.{AbsoluteOff, ArmOff, RiscvOff, NoEntry, NotForRam}
+use Rattle.placing.specs.declared.Denial.{Denial}
+use Rattle.placing.specs.declared.Denial.the-variants.{AbsoluteOff, ArmOff, RiscvOff, NoEntry, NotForRam}
 use Rattle.placing.specs.declared.Access.{Access}
 use Rattle.placing.specs.declared.Access.the-variants.{Granted, Denied}
 use Rattle.placing.specs.declared.Spot.{Spot}
 use Rattle.placing.specs.declared.Spot.the-variants as spot
 use Rattle.placing.specs.Parts.{deniedIf, withoutAccess}
-use Rattle.placing.specs.Placing.{noTable, takesAt, flashShuts, flashAccess, ramAccess, markFor, markOf, takenIn, passHas, passOf, entryIn, tableSpot, grantedSpot, spotOf, spotPlace, FirstMatch, SpotTrue, Marked, Granted-is-placed, Granted-is-for-ram, Spot-is-placed, Marks-are-true, Place-is-true}
-use Rattle.placing.proofs.Laws.{flash-absolute, flash-rp2040, flash-whole, flash-table, ram-by, shut-true, taken-takes, takes-pass, not-granted, granted-if, spot-refused, spot-absolute, spot-whole, spot-table, granted-other, granted-takes}
+use Rattle.placing.specs.Placing.{noTable, takesAt, flashDenials, flashAccess, ramAccess, markFor, markOf, takenIn, passHas, passOf, entryIn, tableSpot, grantedSpot, spotOf, spotPlace, FirstMatch, SpotTrue, Marked, Granted-is-placed, Granted-is-for-ram, Spot-is-placed, Marks-are-true, Place-is-true}
+use Rattle.placing.proofs.Laws.{flash-absolute, flash-rp2040, flash-whole, flash-table, ram-by, denial-true, taken-takes, takes-pass, not-granted, granted-if, spot-refused, spot-absolute, spot-whole, spot-table, granted-other, granted-takes}
 
 -- ---- the first match
 
@@ -68,7 +68,7 @@ module _ (s : Settings) (f : ℕ) where
 
 -- ---- the place of a spot
 
-by-access : {A : Type 0} (a : Access) → ((x : Shut) → a ≡ Denied x → A) → (a ≡ Granted → A) → A
+by-access : {A : Type 0} (a : Access) → ((x : Denial) → a ≡ Denied x → A) → (a ≡ Granted → A) → A
 by-access Granted d g = g refl
 by-access (Denied x) d g = d x refl
 
@@ -87,7 +87,7 @@ whole-gets arm riscv f =
     (λ a. rw (eqb-true f familyArmS a) (on arm ArmOff))
     (λ a. split (eqb f familyRiscV) (λ r. rw (eqb-true f familyRiscV r) (last riscv)) (λ r. rw (d, a, r))))
   where
-    on : (b : Bool) (x : Shut) → false || b || false ≡ granted (deniedIf (not b) x)
+    on : (b : Bool) (x : Denial) → false || b || false ≡ granted (deniedIf (not b) x)
     on true x = refl
     on false x = refl
 
@@ -95,7 +95,7 @@ whole-gets arm riscv f =
     last true = refl
     last false = refl
 
-denied-none : (b : Bool) (y : Shut) {x : Shut} → deniedIf (not b) y ≡ Denied x → b ≡ false
+denied-none : (b : Bool) (y : Denial) {x : Denial} → deniedIf (not b) y ≡ Denied x → b ≡ false
 denied-none true y h = let z : _≡_ {A = ℕ} 0 1 = cc in absurd (omega arith)
 denied-none false y h = refl
 
@@ -216,6 +216,6 @@ pub marks-are-true : Marks-are-true
 unfolding flashAccess markOf
 marks-are-true s f h k l =
     let n = usedCount (s .count) in
-    let t = shut-true s f flashShuts h in
+    let t = denial-true s f flashDenials h in
     let none = not-true _ (and-right (not (noTable s) && not (eqb f familyAbsolute)) (not (any n (takesAt (s .table) f))) t) in
     rw (lt-ltb k n l) (marked-entry s f k (any-all (takesAt (s .table) f) n none k l))

@@ -3,12 +3,12 @@ use Prim.Native.Nat.{ℕ}
 use mathlib.Core.Bool.{Bool, cond, not}
 use lib.Dec.{eqb}
 use Rattle.settings.specs.Settings.{familyData, familyArmS, familyRiscV}
-use Rattle.placing.specs.declared.Shut.{Shut}
-use Rattle.placing.specs.declared.Shut.the-variants.{ArmOff, RiscvOff, NotWithoutTable}
+use Rattle.placing.specs.declared.Denial.{Denial}
+use Rattle.placing.specs.declared.Denial.the-variants.{ArmOff, RiscvOff, NotWithoutTable}
 use Rattle.placing.specs.declared.Access.{Access}
 use Rattle.placing.specs.declared.Access.the-variants.{Granted, Denied}
 
-abbrev pub deniedIf : Bool → Shut → Access
+abbrev pub deniedIf : Bool → Denial → Access
 deniedIf b x = cond b (Denied x) Granted
 
 -- without a table, for a family that is neither absolute nor rp2040

@@ -14,8 +14,8 @@ use Rattle.settings.specs.Settings.{familyRp2040, familyAbsolute, familyData, f
 use Rattle.place.specs.declared.Place.{Place}
 use Rattle.place.specs.declared.Place.the-variants.{Nowhere, At}
 use Rattle.place.specs.Place.{passQueryOf, passTakes, usedCount, getsWhole, bytesOf, placeOf, ramFamily}
-use Rattle.placing.specs.declared.Shut.{Shut}
-use Rattle.placing.specs.declared.Shut.the-variants.{AbsoluteOff, Rp2040, ArmOff, RiscvOff, NotWithoutTable, NoEntry, NotForRam}
+use Rattle.placing.specs.declared.Denial.{Denial}
+use Rattle.placing.specs.declared.Denial.the-variants.{AbsoluteOff, Rp2040, ArmOff, RiscvOff, NotWithoutTable, NoEntry, NotForRam}
 use Rattle.placing.specs.declared.Access.{Access}
 use Rattle.placing.specs.declared.Access.the-variants.{Granted, Denied}
 use Rattle.placing.specs.declared.Rule.the-variants.{Absolute, NoTable}
@@ -25,14 +25,14 @@ use Rattle.placing.specs.declared.Spot.the-variants as spot
 -- ---- what shuts a family out
 
 -- row 8's rules have the numbers 801 to 807, in 01's order, then 02's (L8)
-abbrev pub shutNumber : Shut → ℕ
-shutNumber AbsoluteOff = 801
-shutNumber Rp2040 = 802
-shutNumber ArmOff = 803
-shutNumber RiscvOff = 804
-shutNumber NotWithoutTable = 805
-shutNumber NoEntry = 806
-shutNumber NotForRam = 807
+abbrev pub denialNumber : Denial → ℕ
+denialNumber AbsoluteOff = 801
+denialNumber Rp2040 = 802
+denialNumber ArmOff = 803
+denialNumber RiscvOff = 804
+denialNumber NotWithoutTable = 805
+denialNumber NoEntry = 806
+denialNumber NotForRam = 807
 
 -- "Count 0, which is no table"
 abbrev pub noTable : Settings → Bool
@@ -47,45 +47,45 @@ unfoldable pub takesAt : List Entry → ℕ → ℕ → Bool
 takesAt table f k = isA (entryAt table k) && accepts (entryAt table k) f
 
 -- the rule shuts the family out
-abbrev pub shutIn : Settings → ℕ → Shut → Bool
+abbrev pub denies : Settings → ℕ → Denial → Bool
 -- "absolute: the whole flash if allowed, else no place."
-shutIn s f AbsoluteOff = eqb f familyAbsolute && not (s .absolute)
+denies s f AbsoluteOff = eqb f familyAbsolute && not (s .absolute)
 -- "rp2040: no place."
-shutIn s f Rp2040 = eqb f familyRp2040
+denies s f Rp2040 = eqb f familyRp2040
 -- no table: "arm-s (Arm enabled)"
-shutIn s f ArmOff = noTable s && eqb f familyArmS && not (s .arm)
+denies s f ArmOff = noTable s && eqb f familyArmS && not (s .arm)
 -- no table: "riscv (RISC-V enabled)"
-shutIn s f RiscvOff = noTable s && eqb f familyRiscV && not (s .riscv)
+denies s f RiscvOff = noTable s && eqb f familyRiscV && not (s .riscv)
 -- no table: "Others no place."
-shutIn s f NotWithoutTable = noTable s && not (withoutTable f)
+denies s f NotWithoutTable = noTable s && not (withoutTable f)
 -- a table: "there is no place exactly if no A entry accepts it"; absolute is not asked of the table
-shutIn s f NoEntry = not (noTable s) && not (eqb f familyAbsolute) && not (any (usedCount (s .count)) (takesAt (s .table) f))
+denies s f NoEntry = not (noTable s) && not (eqb f familyAbsolute) && not (any (usedCount (s .count)) (takesAt (s .table) f))
 -- "In RAM only families ..58 to ..5b or a user family of a used entry; others 8." (02, L8)
-shutIn s f NotForRam = not (ramFamily s f)
+denies s f NotForRam = not (ramFamily s f)
 
 -- the first rule of a list that shuts the family out
-unfoldable pub firstShut : Settings → ℕ → List Shut → Access
-firstShut s f [] = Granted
-firstShut s f (x ∷ l) = cond (shutIn s f x) (Denied x) (firstShut s f l)
+unfoldable pub firstDenial : Settings → ℕ → List Denial → Access
+firstDenial s f [] = Granted
+firstDenial s f (x ∷ l) = cond (denies s f x) (Denied x) (firstDenial s f l)
 
 -- the rules for the flash, in 01's order
-abbrev pub flashShuts : List Shut
-flashShuts = AbsoluteOff ∷ Rp2040 ∷ ArmOff ∷ RiscvOff ∷ NotWithoutTable ∷ NoEntry ∷ []
+abbrev pub flashDenials : List Denial
+flashDenials = AbsoluteOff ∷ Rp2040 ∷ ArmOff ∷ RiscvOff ∷ NotWithoutTable ∷ NoEntry ∷ []
 
 -- the rule for RAM
-abbrev pub ramShuts : List Shut
-ramShuts = NotForRam ∷ []
+abbrev pub ramDenials : List Denial
+ramDenials = NotForRam ∷ []
 
 unfoldable pub flashAccess : Settings → ℕ → Access
-flashAccess s f = firstShut s f flashShuts
+flashAccess s f = firstDenial s f flashDenials
 
 unfoldable pub ramAccess : Settings → ℕ → Access
-ramAccess s f = firstShut s f ramShuts
+ramAccess s f = firstDenial s f ramDenials
 
 -- the number of the rule, and 0 where none shuts the family out
 abbrev pub accessNumber : Access → ℕ
 accessNumber Granted = 0
-accessNumber (Denied x) = shutNumber x
+accessNumber (Denied x) = denialNumber x
 
 -- ---- what turns an entry down
 
@@ -138,7 +138,7 @@ spotOf s f = spotBy (flashAccess s f) (grantedSpot s f)
 
 -- the rule's number where the family is shut out; else 1 for absolute, 2 for no table, 3 for an entry
 abbrev pub spotNumber : Spot → ℕ
-spotNumber (spot.Refused x) = shutNumber x
+spotNumber (spot.Refused x) = denialNumber x
 spotNumber (spot.Whole Absolute) = 1
 spotNumber (spot.Whole NoTable) = 2
 spotNumber (spot.Entry p k) = 3

@@ -5,7 +5,7 @@ ghost use mathlib.Core.Bool.{true};
 ghost use Rattle.sets.specs.Sets.{any};
 ghost use Rattle.place.specs.Place.{usedCount};
 ghost use Rattle.placing.specs.Placing.{
-  shutNumber,
+  denialNumber,
   takesAt,
   flashAccess,
   ramAccess,
@@ -22,7 +22,7 @@ use settings::Family;
 use settings::Settings;
 
 // The setting or rule that shuts a family out: five of the flash without asking the table, one of the table, one of RAM.
-pub enum Shut {
+pub enum Denial {
     AbsoluteOff,
     Rp2040,
     ArmOff,
@@ -34,7 +34,7 @@ pub enum Shut {
 
 pub enum Access {
     Granted,
-    Denied(Shut),
+    Denied(Denial),
 }
 
 // The rules that give the whole flash.
@@ -45,32 +45,32 @@ pub enum Rule {
 
 // Where a place comes from; 01's passes are 1 to 4.
 pub enum Spot {
-    Refused(Shut),
+    Refused(Denial),
     Whole(Rule),
     Entry { pass: u8, entry: u8 },
 }
 
-impl Shut {
+impl Denial {
     pub fn number(self) -> u16
-        ensures { λ r. ⌜ r ≡ shutNumber self ⌝ }
+        ensures { λ r. ⌜ r ≡ denialNumber self ⌝ }
     {
         match self {
-            Shut::AbsoluteOff => 801,
-            Shut::Rp2040 => 802,
-            Shut::ArmOff => 803,
-            Shut::RiscvOff => 804,
-            Shut::NotWithoutTable => 805,
-            Shut::NoEntry => 806,
-            Shut::NotForRam => 807,
+            Denial::AbsoluteOff => 801,
+            Denial::Rp2040 => 802,
+            Denial::ArmOff => 803,
+            Denial::RiscvOff => 804,
+            Denial::NotWithoutTable => 805,
+            Denial::NoEntry => 806,
+            Denial::NotForRam => 807,
         }
     }
 }
 
-fn denied_if(yes: bool, shut: Shut) -> Access
-    ensures { λ r. ⌜ r ≡ deniedIf yes shut ⌝ }
+fn denied_if(yes: bool, denial: Denial) -> Access
+    ensures { λ r. ⌜ r ≡ deniedIf yes denial ⌝ }
 {
     if yes {
-        Access::Denied(shut)
+        Access::Denied(denial)
     } else {
         Access::Granted
     }
@@ -100,12 +100,12 @@ fn without_table(arm: bool, riscv: bool, family: u32) -> Access
         return Access::Granted;
     }
     if family == Family::ARM_S {
-        return denied_if(!arm, Shut::ArmOff);
+        return denied_if(!arm, Denial::ArmOff);
     }
     if family == Family::RISCV {
-        return denied_if(!riscv, Shut::RiscvOff);
+        return denied_if(!riscv, Denial::RiscvOff);
     }
-    Access::Denied(Shut::NotWithoutTable)
+    Access::Denied(Denial::NotWithoutTable)
 }
 
 // Does a rule shut the family out of the flash, and which first?
@@ -113,22 +113,22 @@ pub fn flash_access(settings: Settings, family: u32) -> Access
     ensures { λ r. ⌜ numbered accessNumber r ≡ numbered accessNumber (flashAccess settings family) ⌝ }
 {
     if family == Family::ABSOLUTE {
-        return denied_if(!settings.absolute, Shut::AbsoluteOff);
+        return denied_if(!settings.absolute, Denial::AbsoluteOff);
     }
     if family == Family::RP2040 {
-        return Access::Denied(Shut::Rp2040);
+        return Access::Denied(Denial::Rp2040);
     }
     if settings.count == 0 {
         return without_table(settings.arm, settings.riscv, family);
     }
-    denied_if(!any_takes(settings, family), Shut::NoEntry)
+    denied_if(!any_takes(settings, family), Denial::NoEntry)
 }
 
 // Does the rule for RAM shut the family out?
 pub fn ram_access(settings: Settings, family: u32) -> Access
     ensures { λ r. ⌜ numbered accessNumber r ≡ numbered accessNumber (ramAccess settings family) ⌝ }
 {
-    denied_if(!ramfamily::ram_family(settings, family), Shut::NotForRam)
+    denied_if(!ramfamily::ram_family(settings, family), Denial::NotForRam)
 }
 
 // What turns a used entry down: 1 "B of", else 2 "doesn't accept".
@@ -169,7 +169,7 @@ fn in_table(settings: Settings, family: u32) -> Spot
     let mut pass: usize = 0;
     let found = 'search: loop {
         if 4 <= pass {
-            break 'search Spot::Refused(Shut::NoEntry);
+            break 'search Spot::Refused(Denial::NoEntry);
         }
         let mut k: usize = 0;
         while k < n {

@@ -12,15 +12,15 @@ use Rattle.transfer.specs.Transfer.{numberOf}
 use Rattle.transfer.specs.declared.Answer.{Answer}
 use Rattle.transfer.specs.declared.Head.{Head}
 use Rattle.transfer.specs.declared.State.{State}
-use Rattle.placing.specs.declared.Shut.{Shut}
-use Rattle.placing.specs.declared.Shut.the-variants.{AbsoluteOff, Rp2040, ArmOff, RiscvOff, NotWithoutTable, NoEntry, NotForRam}
-use Rattle.placing.proofs.Shut.{the-type as shut-type}
+use Rattle.placing.specs.declared.Denial.{Denial}
+use Rattle.placing.specs.declared.Denial.the-variants.{AbsoluteOff, Rp2040, ArmOff, RiscvOff, NotWithoutTable, NoEntry, NotForRam}
+use Rattle.placing.proofs.Denial.{the-type as denial-type}
 use Rattle.causes.specs.Causes.{answerOf}
 use Rattle.causes.specs.declared.Cause.{Cause}
 use Rattle.causes.specs.declared.Cause.the-variants.{BadBuffers, BadSettings, BadState, NotBlock, Container, NoFamily, NoPlace, BadPayload, BadNumbers, BadAddress, Finished, Again, Written, Completed, Noted, Kept}
 use Rattle.causes.proofs.Cause.{the-type}
 use Rattle.progress.specs.Progress.{discardedBy}
-use Rattle.reason.specs.Why.{discardsOf, noMarks, shutMarks, entriesOf}
+use Rattle.reason.specs.Why.{discardsOf, noMarks, denialMarks, entriesOf}
 
 -- 14 to 17 are the answers that accept a block
 discards-by : (t : State) (g : Head) (c : Cause) → discardedBy (numberOf (answerOf c)) t g ≡ discardsOf t g c
@@ -45,28 +45,28 @@ pub discards-is : (t : State) (g : Head) (c : Cause) {z : Answer} {n : ℕ} {b :
 discards-is t g c e f h = h ∙ (ap (λ (k : ℕ). discardedBy k t g) (f ∙ ap numberOf e) ∙ discards-by t g c)
 
 -- by the case, as a `let .. else` tells it
-pub no-shut : (s : Settings) (f : ℕ) (c : Cause) → OneOf (0 ∷ 1 ∷ 2 ∷ 3 ∷ 4 ∷ 5 ∷ 7 ∷ 8 ∷ 9 ∷ 10 ∷ 11 ∷ 12 ∷ 13 ∷ 14 ∷ 15 ∷ []) (caseOf the-type c) → entriesOf s f c ≡ noMarks
-no-shut s f (BadBuffers x) h = refl
-no-shut s f (BadSettings x) h = refl
-no-shut s f (BadState x) h = refl
-no-shut s f (NotBlock x) h = refl
-no-shut s f Container h = refl
-no-shut s f NoFamily h = refl
-no-shut s f (NoPlace x) h = absurd (none h)
+pub no-denial : (s : Settings) (f : ℕ) (c : Cause) → OneOf (0 ∷ 1 ∷ 2 ∷ 3 ∷ 4 ∷ 5 ∷ 7 ∷ 8 ∷ 9 ∷ 10 ∷ 11 ∷ 12 ∷ 13 ∷ 14 ∷ 15 ∷ []) (caseOf the-type c) → entriesOf s f c ≡ noMarks
+no-denial s f (BadBuffers x) h = refl
+no-denial s f (BadSettings x) h = refl
+no-denial s f (BadState x) h = refl
+no-denial s f (NotBlock x) h = refl
+no-denial s f Container h = refl
+no-denial s f NoFamily h = refl
+no-denial s f (NoPlace x) h = absurd (none h)
   where
     none : OneOf (0 ∷ 1 ∷ 2 ∷ 3 ∷ 4 ∷ 5 ∷ 7 ∷ 8 ∷ 9 ∷ 10 ∷ 11 ∷ 12 ∷ 13 ∷ 14 ∷ 15 ∷ []) 6 → ⊥
     none x = ⊎-elim (λ y. omega arith) (⊎-elim (λ y. omega arith) (⊎-elim (λ y. omega arith) (⊎-elim (λ y. omega arith) (⊎-elim (λ y. omega arith) (⊎-elim (λ y. omega arith) (⊎-elim (λ y. omega arith) (⊎-elim (λ y. omega arith) (⊎-elim (λ y. omega arith) (⊎-elim (λ y. omega arith) (⊎-elim (λ y. omega arith) (⊎-elim (λ y. omega arith) (⊎-elim (λ y. omega arith) (⊎-elim (λ y. omega arith) (λ y. omega arith)))))))))))))) x
-no-shut s f BadPayload h = refl
-no-shut s f (BadNumbers x) h = refl
-no-shut s f (BadAddress x) h = refl
-no-shut s f Finished h = refl
-no-shut s f Again h = refl
-no-shut s f (Written x) h = refl
-no-shut s f Completed h = refl
-no-shut s f Noted h = refl
-no-shut s f Kept h = refl
+no-denial s f BadPayload h = refl
+no-denial s f (BadNumbers x) h = refl
+no-denial s f (BadAddress x) h = refl
+no-denial s f Finished h = refl
+no-denial s f Again h = refl
+no-denial s f (Written x) h = refl
+no-denial s f Completed h = refl
+no-denial s f Noted h = refl
+no-denial s f Kept h = refl
 
-pub no-entry : (s : Settings) (f : ℕ) (x : Shut) → OneOf (0 ∷ 1 ∷ 2 ∷ 3 ∷ 4 ∷ 6 ∷ []) (caseOf shut-type x) → shutMarks s f x ≡ noMarks
+pub no-entry : (s : Settings) (f : ℕ) (x : Denial) → OneOf (0 ∷ 1 ∷ 2 ∷ 3 ∷ 4 ∷ 6 ∷ []) (caseOf denial-type x) → denialMarks s f x ≡ noMarks
 no-entry s f AbsoluteOff h = refl
 no-entry s f Rp2040 h = refl
 no-entry s f ArmOff h = refl

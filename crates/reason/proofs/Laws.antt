@@ -23,8 +23,8 @@ use Rattle.faults.specs.declared.Fault.{Fault}
 use Rattle.faults.specs.declared.Finding.{Finding}
 use Rattle.faults.specs.declared.Finding.the-variants.{Sound, Bad}
 use Rattle.faults.specs.declared.Comparison.{Comparison}
-use Rattle.placing.specs.Placing.{flashShuts, flashAccess, grantedSpot, spotBy, spotOf}
-use Rattle.placing.specs.declared.Shut.{Shut}
+use Rattle.placing.specs.Placing.{flashDenials, flashAccess, grantedSpot, spotBy, spotOf}
+use Rattle.placing.specs.declared.Denial.{Denial}
 use Rattle.placing.specs.declared.Access.{Access}
 use Rattle.placing.specs.declared.Access.the-variants.{Granted, Denied}
 use Rattle.placing.specs.declared.Spot.{Spot}
@@ -43,10 +43,10 @@ use Rattle.reason.specs.declared.Why.{Why}
 use Rattle.reason.specs.declared.PlaceOrigin.{PlaceOrigin}
 use Rattle.reason.specs.declared.PlaceOrigin.the-variants.{Refused}
 use Rattle.reason.specs.declared.WhyPlace.{WhyPlace}
-use Rattle.reason.specs.Why.{settingsRow, shutReason, shutRow, blockKind, headIn, placeIn, lastOf, reasonOf, discardsOf, entriesOf, whyOf}
+use Rattle.reason.specs.Why.{settingsRow, denialReason, denialRow, blockKind, headIn, placeIn, lastOf, reasonOf, discardsOf, entriesOf, whyOf}
 use Rattle.reason.specs.Placed.{placeChecks, holdsOf, placedSpot, placedBy, placedOf, placedMarks, whyPlaceOf}
 use Rattle.checklist.specs.Parts.{findingRow, accessRow, accessIn, boardPart, earlyPart, blockPart, placePart}
-use Rattle.checklist.proofs.Rows.{or-three, settings-rows, shut-rows, reason-parts}
+use Rattle.checklist.proofs.Rows.{or-three, settings-rows, denial-rows, reason-parts}
 
 -- ---- rows one after the other
 
@@ -114,16 +114,16 @@ module _ (s : Settings) (len : ℕ) {r : Row} (e : r ≡ rowOf byNumbers (flashR
 -- ---- rows 8 to 11
 
 module _ (s : Settings) (p : Place) (k : Kind) (n : Lengths) (b : Block) {a : Access} (e : a ≡ accessIn s k (b .family)) {r : Row} (q : r ≡ accessRow (b .family) a) where
-  shut : r ≡ accessRow (b .family) (accessIn s k (b .family))
-  shut = q ∙ ap (accessRow (b .family)) e
+  denied : r ≡ accessRow (b .family) (accessIn s k (b .family))
+  denied = q ∙ ap (accessRow (b .family)) e
 
-  pub block-shut : {x : Reason} → r ≡ Decides x → Decides x ≡ blockPart s p k n b
+  pub block-denied : {x : Reason} → r ≡ Decides x → Decides x ≡ blockPart s p k n b
   unfolding blockPart
-  block-shut h = next-decides (accessRow (b .family) (accessIn s k (b .family))) (rowOf byNumbers (bodyRow (roomOf p k) n b)) shut h
+  block-denied h = next-decides (accessRow (b .family) (accessIn s k (b .family))) (rowOf byNumbers (bodyRow (roomOf p k) n b)) denied h
 
   pub block-open : r ≡ Passes → {size : ℕ} → size ≡ roomOf p k → {v : Row} → v ≡ rowOf byNumbers (bodyRow size n b) → v ≡ blockPart s p k n b
   unfolding blockPart
-  block-open h z o = next-passes (accessRow (b .family) (accessIn s k (b .family))) (rowOf byNumbers (bodyRow (roomOf p k) n b)) shut h (o ∙ ap (λ (m : ℕ). rowOf byNumbers (bodyRow m n b)) z)
+  block-open h z o = next-passes (accessRow (b .family) (accessIn s k (b .family))) (rowOf byNumbers (bodyRow (roomOf p k) n b)) denied h (o ∙ ap (λ (m : ℕ). rowOf byNumbers (bodyRow m n b)) z)
 
 -- ---- an arrival
 
@@ -220,7 +220,7 @@ module _ (s : Settings) (len f : ℕ) where
   unfolding placeChecks placePart flashAccess
   place-parts =
       next (flashRow len) _ flash-rows
-      (next (settingsRow s len) _ (settings-rows (holdsOf s len f) s len (λ x. refl)) (shut-rows (holdsOf s len f) s f (λ x. refl) flashShuts))
+      (next (settingsRow s len) _ (settings-rows (holdsOf s len f) s len (λ x. refl)) (denial-rows (holdsOf s len f) s f (λ x. refl) flashDenials))
       ∙ sym (or-three (rowOf byNumbers (flashRow len)) (findingRow s len (firstFault s len)) (accessRow f (flashAccess s f)))
 
   by-access : (x : Access) (y : Spot) → placedSpot f (spotBy x y) ≡ placedBy (accessRow f x) (placedSpot f y)

@@ -5,7 +5,7 @@ use mathlib.Core.List.{List, _++_}
 use Rattle.settings.specs.declared.Settings.{Settings}
 use Rattle.transfer.specs.Transfer.{numberOf}
 use Rattle.faults.specs.Faults.{faultIn}
-use Rattle.placing.specs.Placing.{shutIn, flashShuts, grantedSpot}
+use Rattle.placing.specs.Placing.{denies, flashDenials, grantedSpot}
 use Rattle.placing.specs.declared.Spot.{Spot}
 use Rattle.placing.specs.declared.Spot.the-variants as spot
 use Rattle.causes.specs.Causes.{answerOf, numberTest}
@@ -19,11 +19,11 @@ use Rattle.causes.specs.declared.Row.the-variants.{Passes, Decides}
 use Rattle.reason.specs.declared.PlaceOrigin.{PlaceOrigin}
 use Rattle.reason.specs.declared.PlaceOrigin.the-variants.{Refused, Whole, Entry}
 use Rattle.reason.specs.declared.WhyPlace.{WhyPlace}
-use Rattle.reason.specs.Why.{settingsRow, shutReason, shutRow, noMarks, entriesOf}
+use Rattle.reason.specs.Why.{settingsRow, denialReason, denialRow, noMarks, entriesOf}
 
 -- "A place asked for alone, with settings and a flash length, is refused by 1, 2 or 8, in that order."
 unfoldable pub placeChecks : Settings → ℕ → ℕ → List Reason
-placeChecks s len f = flashRow len ++ (settingsRow s len ++ shutRow f flashShuts)
+placeChecks s len f = flashRow len ++ (settingsRow s len ++ denialRow f flashDenials)
 
 -- what each of them tests
 abbrev pub placeTest : Settings → ℕ → ℕ → Cause → ℕ → ℕ → Bool
@@ -33,7 +33,7 @@ placeTest s len f (BadState x) g n = numberTest (BadState x) g n
 placeTest s len f (NotBlock x) g n = numberTest (NotBlock x) g n
 placeTest s len f Container g n = numberTest Container g n
 placeTest s len f NoFamily g n = numberTest NoFamily g n
-placeTest s len f (NoPlace x) g n = shutIn s f x
+placeTest s len f (NoPlace x) g n = denies s f x
 placeTest s len f BadPayload g n = numberTest BadPayload g n
 placeTest s len f (BadNumbers x) g n = numberTest (BadNumbers x) g n
 placeTest s len f (BadAddress x) g n = numberTest (BadAddress x) g n
@@ -49,7 +49,7 @@ holdsOf s len f r = placeTest s len f (r .cause) (r .got) (r .against)
 
 -- where the place comes from, of a family that is not shut out
 abbrev pub placedSpot : ℕ → Spot → PlaceOrigin
-placedSpot f (spot.Refused x) = Refused (shutReason f x)
+placedSpot f (spot.Refused x) = Refused (denialReason f x)
 placedSpot f (spot.Whole r) = Whole r
 placedSpot f (spot.Entry p k) = Entry p k
 

@@ -9,16 +9,16 @@ use Rattle.transfer.specs.declared.Head.{Head}
 use Rattle.transfer.specs.declared.State.{State}
 use Rattle.arrival.specs.Arrive.{World}
 use Rattle.placing.specs.Placing.{marksOf}
-use Rattle.placing.specs.declared.Shut.{Shut}
-use Rattle.placing.specs.declared.Shut.the-variants.{AbsoluteOff, Rp2040, ArmOff, RiscvOff, NotWithoutTable, NoEntry, NotForRam}
+use Rattle.placing.specs.declared.Denial.{Denial}
+use Rattle.placing.specs.declared.Denial.the-variants.{AbsoluteOff, Rp2040, ArmOff, RiscvOff, NotWithoutTable, NoEntry, NotForRam}
 use Rattle.causes.specs.declared.Cause.{Cause}
 use Rattle.causes.specs.declared.Cause.the-variants.{BadBuffers, BadSettings, BadState, NotBlock, Container, NoFamily, NoPlace, BadPayload, BadNumbers, BadAddress, Finished, Again, Written, Completed, Noted, Kept}
 use Rattle.causes.specs.declared.Reason.{Reason}
 use Rattle.checks.specs.Block.{runsOther}
 use Rattle.reason.specs.declared.Why.{Why}
 -- every check in its order, and the one that decides
-pub use Rattle.checklist.specs.Checklist.{faultReason, shutReason, blockKind, headIn, placeIn, lastOf, testOf, holdsIn, worldWith}
-unfoldable pub use Rattle.checklist.specs.Checklist.{faultRow, settingsRow, shutRow, placeRow, blockRow, boardRows, checksOf, reasonOf}
+pub use Rattle.checklist.specs.Checklist.{faultReason, denialReason, blockKind, headIn, placeIn, lastOf, testOf, holdsIn}
+unfoldable pub use Rattle.checklist.specs.Checklist.{faultRow, settingsRow, denialRow, placeRow, blockRow, boardRows, checksOf, reasonOf}
 
 -- "discarded": of a block that is accepted
 abbrev pub discardsOf : State → Head → Cause → Bool
@@ -44,14 +44,14 @@ unfoldable pub noMarks : List ℕ
 noMarks = many 16 0
 
 -- "for each used entry "B of" or else "doesn't accept"", where no entry of a table takes the family
-abbrev pub shutMarks : Settings → ℕ → Shut → List ℕ
-shutMarks s f AbsoluteOff = noMarks
-shutMarks s f Rp2040 = noMarks
-shutMarks s f ArmOff = noMarks
-shutMarks s f RiscvOff = noMarks
-shutMarks s f NotWithoutTable = noMarks
-shutMarks s f NoEntry = marksOf s f
-shutMarks s f NotForRam = noMarks
+abbrev pub denialMarks : Settings → ℕ → Denial → List ℕ
+denialMarks s f AbsoluteOff = noMarks
+denialMarks s f Rp2040 = noMarks
+denialMarks s f ArmOff = noMarks
+denialMarks s f RiscvOff = noMarks
+denialMarks s f NotWithoutTable = noMarks
+denialMarks s f NoEntry = marksOf s f
+denialMarks s f NotForRam = noMarks
 
 abbrev pub entriesOf : Settings → ℕ → Cause → List ℕ
 entriesOf s f (BadBuffers x) = noMarks
@@ -60,7 +60,7 @@ entriesOf s f (BadState x) = noMarks
 entriesOf s f (NotBlock x) = noMarks
 entriesOf s f Container = noMarks
 entriesOf s f NoFamily = noMarks
-entriesOf s f (NoPlace x) = shutMarks s f x
+entriesOf s f (NoPlace x) = denialMarks s f x
 entriesOf s f BadPayload = noMarks
 entriesOf s f (BadNumbers x) = noMarks
 entriesOf s f (BadAddress x) = noMarks

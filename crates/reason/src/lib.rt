@@ -1,9 +1,10 @@
 // Why an arrival is answered as it is, and why a family has a place or none: the check that decides, first in its row as written.
 ghost use mathlib.Core.Path.{_≡_};
-ghost use Rattle.reason.specs.Why.{reasonOf, discardsOf, noMarks, shutMarks, entriesOf, worldWith, whyOf};
+ghost use Rattle.reason.specs.Why.{reasonOf, discardsOf, noMarks, denialMarks, entriesOf, whyOf};
 ghost use Rattle.reason.specs.Placed.{placedOf, placedMarks, whyPlaceOf};
 ghost use Rattle.checklist.specs.Parts.{findingRow, accessRow, accessIn, boardPart, earlyPart, blockPart, placePart};
 ghost use Rattle.faults.specs.Faults.{firstFault};
+ghost use Rattle.arrival.specs.Lending.{lentAt, world};
 use block::Block;
 use causes::Cause;
 use causes::Reason;
@@ -11,8 +12,8 @@ use causes::Row;
 use faults::Finding;
 use place::Place;
 use placing::Access;
+use placing::Denial;
 use placing::Rule;
-use placing::Shut;
 use placing::Spot;
 use screen::Lengths;
 use settings::Settings;
@@ -133,8 +134,8 @@ fn block_row(settings: Settings, place: Place, kind: Kind, lens: Lengths, b: Blo
     ensures { λ r. ⌜ r ≡ blockPart settings place kind lens b ⌝ }
 {
     let access = access_in(settings, kind, b.family);
-    let shut = access_row(access, b.family);
-    if let Row::Decides(x) = shut {
+    let denial = access_row(access, b.family);
+    if let Row::Decides(x) = denial {
         return Row::Decides(x);
     }
     let size = checks::room_of(place, kind);
@@ -154,7 +155,7 @@ fn reason_of(
     main: &[u8],
     xip: &[u8],
 ) -> Reason
-    ensures { λ r. ⌜ r ≡ reasonOf settings (worldWith transfer (now (flash .entry)) (now (seen .entry)) (now (sectors .entry)) (now (main .entry)) (now (xip .entry))) (now (arrival .entry)) ⌝ }
+    ensures { λ r. ⌜ r ≡ reasonOf settings (world transfer (lentAt flash seen sectors main xip)) (now (arrival .entry)) ⌝ }
 {
     let lens = Lengths {
         flash: flash.len(),
@@ -200,10 +201,10 @@ fn no_marks() -> [u8; 16]
 }
 
 // The marks of the entries, where no entry of a table takes the family.
-fn shut_marks(settings: Settings, family: u32, shut: Shut) -> [u8; 16]
-    ensures { λ r. ⌜ r ≡ shutMarks settings family shut ⌝ }
+fn denial_marks(settings: Settings, family: u32, denial: Denial) -> [u8; 16]
+    ensures { λ r. ⌜ r ≡ denialMarks settings family denial ⌝ }
 {
-    let Shut::NoEntry = shut else {
+    let Denial::NoEntry = denial else {
         return no_marks();
     };
     placing::marks(settings, family)
@@ -215,7 +216,7 @@ fn entries_of(settings: Settings, family: u32, cause: Cause) -> [u8; 16]
     let Cause::NoPlace(x) = cause else {
         return no_marks();
     };
-    shut_marks(settings, family, x)
+    denial_marks(settings, family, x)
 }
 
 // Why an arrival is answered as it is. Nothing changes.
@@ -229,7 +230,7 @@ pub fn explain(
     main: &[u8],
     xip: &[u8],
 ) -> Why
-    ensures { λ r. ⌜ r ≡ whyOf settings (worldWith transfer (now (flash .entry)) (now (seen .entry)) (now (sectors .entry)) (now (main .entry)) (now (xip .entry))) (now (arrival .entry)) ⌝ }
+    ensures { λ r. ⌜ r ≡ whyOf settings (world transfer (lentAt flash seen sectors main xip)) (now (arrival .entry)) ⌝ }
 {
     let reason = reason_of(settings, transfer, arrival, flash, seen, sectors, main, xip);
     let cause = reason.cause;

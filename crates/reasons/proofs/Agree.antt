@@ -114,8 +114,8 @@ module _ (t : State) (seen : List ℕ) (kept : Bool) (next : Block → Screening
 
 -- a family that is shut out has no place, and one that is not has some
 module _ (s : Settings) (len f : ℕ) (y : Answer) where
-  pub flash-shut : placeOf s len f ≡ Nowhere → told (accessRow f (flashAccess s f)) y ≡ answer.NoPlace
-  flash-shut e = by-case (flashAccess s f) refl
+  pub flash-denied : placeOf s len f ≡ Nowhere → told (accessRow f (flashAccess s f)) y ≡ answer.NoPlace
+  flash-denied e = by-case (flashAccess s f) refl
     where
       by-case : (x : Access) → flashAccess s f ≡ x → told (accessRow f x) y ≡ answer.NoPlace
       by-case Granted h = absurd (granted-is-placed s len f .0 h e)
@@ -165,7 +165,7 @@ module _ (s : Settings) (n : Lengths) (t : State) (seen flash a : List ℕ) (kep
         → told (accessRow (b .family) (flashAccess s (b .family))) (told (rowOf byNumbers (numbersRow (b .total) (b .number) (sizeAt p))) y)
         ≡ settled t seen kept (noteFound Flash p b)
     unfolding noteFound
-    note-flash Nowhere e h = flash-shut s (n .flash) (b .family) _ e ∙ sym (settled-refused t seen kept answer.NoPlace)
+    note-flash Nowhere e h = flash-denied s (n .flash) (b .family) _ e ∙ sym (settled-refused t seen kept answer.NoPlace)
     note-flash (At start size) e h = flash-open s (n .flash) (b .family) _ e ∙ numbers-told Flash size h
 
     note-ram : (k : Kind) (r : Bool) (size : ℕ) → y ≡ settled t seen kept (Passed (placedAt k Note b))
@@ -234,7 +234,7 @@ module _ (s : Settings) (n : Lengths) (t : State) (seen flash a : List ℕ) (b :
   page-outside : (p : Place) → placeOf s (n .flash) (b .family) ≡ p → windowOf n (b .address) ≡ Outside → (kept : Bool) (y : Answer)
       → told (accessRow (b .family) (flashAccess s (b .family))) (told (rowOf byNumbers (pageRow Outside (sizeAt p) b)) y) ≡ settled t seen kept (dataFound Outside p b)
   unfolding dataFound
-  page-outside Nowhere e u kept y = flash-shut s (n .flash) (b .family) _ e ∙ sym (settled-refused t seen kept answer.NoPlace)
+  page-outside Nowhere e u kept y = flash-denied s (n .flash) (b .family) _ e ∙ sym (settled-refused t seen kept answer.NoPlace)
   page-outside (At start size) e u kept y =
       flash-open s (n .flash) (b .family) _ e
       ∙ outside-told s n t seen flash a kept b y size (outside-bad n size b u (small s (n .flash) (b .family) r g start size e))
@@ -243,7 +243,7 @@ module _ (s : Settings) (n : Lengths) (t : State) (seen flash a : List ℕ) (b :
       → told (accessRow (b .family) (flashAccess s (b .family))) (told (rowOf byNumbers (pageRow (In Flash) (sizeAt p) b)) (after Flash (startAt p) (sizeAt p)))
       ≡ settled t seen (standsAt flash p a) (dataFound (In Flash) p b)
   unfolding dataFound
-  page-flash Nowhere e = flash-shut s (n .flash) (b .family) _ e ∙ sym (settled-refused t seen (standsAt flash Nowhere a) answer.NoPlace)
+  page-flash Nowhere e = flash-denied s (n .flash) (b .family) _ e ∙ sym (settled-refused t seen (standsAt flash Nowhere a) answer.NoPlace)
   page-flash (At start size) e =
       flash-open s (n .flash) (b .family) _ e
       ∙ inside-told s n t seen flash a (standsAt flash (At start size) a) b (after Flash start size) Flash start size

@@ -9,7 +9,8 @@ use Rattle.results.specs.Results.{resultOf}
 use Rattle.callbytes.specs.Calls.{lookBytes}
 use Rattle.placebytes.specs.Calls.{askBytes}
 use Rattle.whyapi.specs.WhyCall.{whyCall, placeCall}
-use Rattle.reason.specs.Why.{worldWith, whyOf}
+use Rattle.arrival.specs.Lending.{world}
+use Rattle.reason.specs.Why.{whyOf}
 use Rattle.reasons.specs.Claims.{Answer-is-the-receivers, Discard-is-the-receivers, Place-answer-is-the-receivers}
 use Rattle.reasons.specs.Bytes.{Why-returns-the-look, Why-place-returns-the-ask}
 use Rattle.reasons.proofs.Theorems.{answer-is-the-receivers}
@@ -18,9 +19,9 @@ use Rattle.reasons.proofs.Places.{place-answer-is-the-receivers}
 
 pub why-returns-the-look : Why-returns-the-look
 unfolding Why-returns-the-look Answer-is-the-receivers Discard-is-the-receivers whyCall lookBytes
-why-returns-the-look s t a f m k u x l =
+why-returns-the-look s t a h l =
     let c = settingsFrom (now (s .entry)) in
-    let w = worldWith (transferFrom (now (t .entry))) (now (f .entry)) (now (m .entry)) (now (k .entry)) (now (u .entry)) (now (x .entry)) in
+    let w = world (transferFrom (now (t .entry))) h in
     let d = whyOf c w (now (a .entry)) .discarded in
     ap (λ (y : Answer). resultOf (numberOf y) d) (answer-is-the-receivers c w (now (a .entry)))
     ∙ ap (resultOf _) (discard-is-the-receivers c w (now (a .entry)))

@@ -33,15 +33,15 @@ use Rattle.arrivals.specs.Tally.{clears}
 use Rattle.arrivals.proofs.DecisionFacts.{DecisionFacts, refused, took, decision-facts, raisedCount, took-state}
 use Rattle.faults.specs.Faults.{faultsOf}
 use Rattle.faults.specs.declared.Fault.{Fault}
-use Rattle.placing.specs.Placing.{flashShuts, ramShuts}
-use Rattle.placing.specs.declared.Shut.{Shut}
+use Rattle.placing.specs.Placing.{flashDenials, ramDenials}
+use Rattle.placing.specs.declared.Denial.{Denial}
 use Rattle.causes.specs.Causes.{answerOf}
 use Rattle.causes.specs.Checks.{Deciding, none, here, later, runningRow, doneRow, stateRow, magicRow, flagsRow, headerRow}
 use Rattle.causes.specs.declared.Reason.{Reason}
 use Rattle.lengthrow.specs.Lengths.{flashRow, bufferRow, lengthsRow}
 use Rattle.numberrows.specs.Numbers.{payloadRow, numbersRow, addressRow, windowRow}
 use Rattle.checks.specs.Block.{addressIn, pageRow, bodyRow, raisedOf, fateRow, writtenRow}
-use Rattle.reason.specs.Why.{faultRow, settingsRow, shutRow, placeRow, blockRow, blockKind, headIn, placeIn, boardRows, checksOf, lastOf, holdsIn, whyOf}
+use Rattle.reason.specs.Why.{faultRow, settingsRow, denialRow, placeRow, blockRow, blockKind, headIn, placeIn, boardRows, checksOf, lastOf, holdsIn, whyOf}
 use Rattle.reasons.specs.Claims.{Reason-is-true, Answer-is-the-receivers, Count-is-raised}
 use Rattle.reasons.proofs.Answers.{AllAnswer}
 use Rattle.reasons.proofs.Discards.{kinds}
@@ -98,16 +98,16 @@ module _ (n t : ℕ) where
       (under answer.NotBlock (magicRow (fieldAt a 0) (fieldAt a 4) (fieldAt a 508)) (omega arith) (refl, (refl, (refl, tt))))
       (λ h. absurd (omega (arith, h)), (λ h. absurd (omega (arith, h)), tt))
 
-  shuts-tell : (f : ℕ) (l : List Shut) → Each (shutRow f l)
-  unfolding shutRow
-  shuts-tell f [] = tt
-  shuts-tell f (x ∷ l) = (λ h. absurd (omega (arith, h)), shuts-tell f l)
+  denials-tell : (f : ℕ) (l : List Denial) → Each (denialRow f l)
+  unfolding denialRow
+  denials-tell f [] = tt
+  denials-tell f (x ∷ l) = (λ h. absurd (omega (arith, h)), denials-tell f l)
 
   place-tells : (k : Kind) (f : ℕ) → Each (placeRow k f)
   unfolding placeRow
-  place-tells Flash f = shuts-tell f flashShuts
-  place-tells MainRam f = shuts-tell f ramShuts
-  place-tells XipRam f = shuts-tell f ramShuts
+  place-tells Flash f = denials-tell f flashDenials
+  place-tells MainRam f = denials-tell f ramDenials
+  place-tells XipRam f = denials-tell f ramDenials
 
   payload-tells : (z : ℕ) → Each (payloadRow z)
   unfolding payloadRow

@@ -19,8 +19,8 @@ use Rattle.transfer.specs.Transfer.{numberOf}
 use Rattle.transfer.specs.declared.Answer.{Answer}
 use Rattle.transfer.specs.declared.Answer.the-variants as answer
 use Rattle.faults.specs.Faults.{firstFault}
-use Rattle.placing.specs.Placing.{shutIn, Marked, flashAccess, grantedSpot, spotBy, spotOf, spotPlace, SpotTrue}
-use Rattle.placing.specs.declared.Shut.the-variants.{NoEntry}
+use Rattle.placing.specs.Placing.{denies, Marked, flashAccess, grantedSpot, spotBy, spotOf, spotPlace, SpotTrue}
+use Rattle.placing.specs.declared.Denial.the-variants.{NoEntry}
 use Rattle.placing.specs.declared.Access.{Access}
 use Rattle.placing.specs.declared.Access.the-variants.{Granted, Denied}
 use Rattle.placing.specs.declared.Spot.{Spot}
@@ -43,8 +43,8 @@ use Rattle.reason.specs.declared.PlaceOrigin.the-variants.{Refused, Whole, Entr
 use Rattle.reason.proofs.Laws.{place-parts}
 use Rattle.reasons.specs.Claims.{Place-answer-is-the-receivers, refusalOr, Place-reason-is-true, FoundTrue, Found-place-is-true, placeNamed, Found-place-is-the-receivers, Place-marks-are-true}
 use Rattle.reasons.proofs.Answers.{told, told-next, flash-answer}
-use Rattle.reasons.proofs.Agree.{finding-answer, flash-shut, flash-open}
-use Rattle.reasons.proofs.Theorems.{never, decided-holds, marks-shut}
+use Rattle.reasons.proofs.Agree.{finding-answer, flash-denied, flash-open}
+use Rattle.reasons.proofs.Theorems.{never, decided-holds, marks-denied}
 
 -- a row whose answer is the same whatever comes after it decides, and one that leaves what comes after it passes
 number-decides : (r : Row) (q : PlaceOrigin) (x : Answer) → told r answer.Kept ≡ x → told r answer.Noted ≡ x → placedNumber (placedBy r q) ≡ numberOf x
@@ -91,8 +91,8 @@ module _ (s : Settings) (len f : ℕ) where
   number-at : (p : Place) → placeOf s len f ≡ p → flashLength len ≡ true → goodSettings s len ≡ true → placedNumber (placedOf s len f) ≡ placeAnswerNumber (foundAt p)
   unfolding placedOf
   number-at Nowhere e l g =
-      let shut : (y : Answer) → told row y ≡ answer.NoPlace = λ y. row-told y ∙ rw (l, g) (flash-shut s len f y e) in
-      number-decides row (placedSpot f (grantedSpot s f)) answer.NoPlace (shut answer.Kept) (shut answer.Noted)
+      let denied : (y : Answer) → told row y ≡ answer.NoPlace = λ y. row-told y ∙ rw (l, g) (flash-denied s len f y e) in
+      number-decides row (placedSpot f (grantedSpot s f)) answer.NoPlace (denied answer.Kept) (denied answer.Noted)
   number-at (At a n) e l g =
       let open-is : (y : Answer) → told row y ≡ y = λ y. row-told y ∙ rw (l, g) (flash-open s len f y e) in
       number-passes row (placedSpot f (grantedSpot s f)) (open-is answer.Kept) (open-is answer.Noted)
@@ -130,12 +130,12 @@ module _ (s : Settings) (len f : ℕ) where
       → Marked (entryAt (s .table) k) f (getD (placedMarks s f (placedOf s len f)) k 0)
   marks-true x e h k l =
       let d = subst (λ (p : PlaceOrigin). Deciding (holdsOf s len f) no-reason (placeChecks s len f) (refusalOr no-reason p)) e (reason-decides no-reason) in
-      let t : shutIn s f NoEntry ≡ true =
+      let t : denies s f NoEntry ≡ true =
       ⊎-elim
       (λ q. let c : NoPlace NoEntry ≡ Kept = sym h ∙ ap (λ (r : Reason). r .cause) q in let z : _≡_ {A = ℕ} 0 1 = cc in absurd (never z))
       (λ q. ap (λ (c : Cause). placeTest s len f c (x .got) (x .against)) (sym h) ∙ q)
       (decided-holds (holdsOf s len f) no-reason d) in
-      rw (e, ap (λ (c : Cause). getD (entriesOf s f c) k 0) h) (marks-shut s f t k l)
+      rw (e, ap (λ (c : Cause). getD (entriesOf s f c) k 0) h) (marks-denied s f t k l)
 
   -- ---- where it is found
 

@@ -6,7 +6,7 @@ use Rattle.causes.specs.Checks.{Deciding, none, here, later, runningRow, doneRo
 use Rattle.lengthrow.specs.Lengths.{flashRow, bufferRow, lengthsRow}
 use Rattle.numberrows.specs.Numbers.{numbersRow, addressRow}
 use Rattle.checks.specs.Block.{writtenRow}
-use Rattle.reason.specs.Why.{shutRow, placeRow, checksOf, lastOf, testOf, holdsIn, reasonOf, entriesOf, whyOf}
+use Rattle.reason.specs.Why.{denialRow, placeRow, checksOf, lastOf, testOf, holdsIn, reasonOf, entriesOf, whyOf}
 use Rattle.reasons.specs.Claims.{Reason-is-true, Answer-is-the-receivers, Marks-are-true, risesFrom, In-order}
 use mathlib.Core.Bool.{Bool, true, false, not, _&&_}
 use mathlib.Core.Logic.{_⊎_, inl, inr, ⊎-elim}
@@ -22,8 +22,8 @@ use Rattle.block.specs.Block.{fieldAt}
 use Rattle.settings.specs.Settings.{familyAbsolute, entryAt, isA, accepts}
 use Rattle.settings.specs.declared.Settings.{Settings}
 use Rattle.place.specs.Place.{usedCount}
-use Rattle.placing.specs.Placing.{noTable, takesAt, shutIn, markFor, markOf, marksOf, Marked}
-use Rattle.placing.specs.declared.Shut.the-variants.{NoEntry}
+use Rattle.placing.specs.Placing.{noTable, takesAt, denies, markFor, markOf, marksOf, Marked}
+use Rattle.placing.specs.declared.Denial.the-variants.{NoEntry}
 use Rattle.causes.specs.declared.Cause.{Cause}
 use Rattle.causes.specs.declared.Cause.the-variants.{Kept}
 use Rattle.causes.specs.declared.Reason.{Reason}
@@ -50,7 +50,7 @@ states (Running r) = refl
 states (Done g) = refl
 
 places : (k : Kind) (f : ℕ) → risesFrom 800 (placeRow k f) ≡ true
-unfolding placeRow shutRow
+unfolding placeRow denialRow
 places Flash f = refl
 places MainRam f = refl
 places XipRam f = refl
@@ -90,9 +90,9 @@ used-low : (n k : ℕ) → k < usedCount n → k < 16
 used-low n k l = split (leb n 16) (λ h. let m = leb-true n 16 h in let q : k < n = rw h at l in omega arith) (λ h. rw h at l)
 
 -- where the rule about entries holds, each used entry has its mark
-pub marks-shut : (s : Settings) (f : ℕ) → shutIn s f NoEntry ≡ true → (k : ℕ) → k < usedCount (s .count) → Marked (entryAt (s .table) k) f (getD (marksOf s f) k 0)
+pub marks-denied : (s : Settings) (f : ℕ) → denies s f NoEntry ≡ true → (k : ℕ) → k < usedCount (s .count) → Marked (entryAt (s .table) k) f (getD (marksOf s f) k 0)
 unfolding marksOf markOf
-marks-shut s f t k l =
+marks-denied s f t k l =
     let n = usedCount (s .count) in
     let none = not-true _ (and-right (not (noTable s) && not (eqb f familyAbsolute)) (not (any n (takesAt (s .table) f))) t) in
     rw (getD-tab 16 (markOf s f) k (used-low (s .count) k l), lt-ltb k n l) (marked-entry s f k (any-all (takesAt (s .table) f) n none k l))
@@ -101,9 +101,9 @@ pub marks-are-true : Marks-are-true
 unfolding Reason-is-true Marks-are-true whyOf
 marks-are-true s w a h k l =
     let f = fieldAt a 28 in
-    let t : shutIn s f NoEntry ≡ true =
+    let t : denies s f NoEntry ≡ true =
     ⊎-elim
     (λ e. let q : reasonOf s w a .cause ≡ Kept = ap (λ (r : Reason). r .cause) e in let z : _≡_ {A = ℕ} 0 1 = cc in absurd (never z))
     (λ e. ap (λ (c : Cause). testOf s w a c (reasonOf s w a .got) (reasonOf s w a .against)) (sym h) ∙ e)
     (decided-holds (holdsIn s w a) (lastOf w a) (reason-is-true s w a)) in
-    rw (ap (λ (c : Cause). getD (entriesOf s f c) k 0) h) (marks-shut s f t k l)
+    rw (ap (λ (c : Cause). getD (entriesOf s f c) k 0) h) (marks-denied s f t k l)

@@ -4,7 +4,8 @@ use Prim.Native.Nat.{ℕ}
 use mathlib.Core.Path.{_≡_}
 use mathlib.Core.List.{List}
 use lib.ListN.{length}
-use Rattle.verdict.specs.Lending.{Slice, lentAt}
+use Rattle.arrival.specs.Arrive.{Lent}
+use Rattle.arrival.specs.Lending.{Slice}
 use Rattle.callbytes.specs.Calls.{lookCallOf}
 use Rattle.placebytes.specs.Calls.{askBytes}
 use Rattle.whyapi.specs.WhyCall.{whyCallOf, placeCallOf}
@@ -12,7 +13,7 @@ use Rattle.whyapi.specs.WhyCall.{whyCallOf, placeCallOf}
 -- `uf2_why`: "What uf2_look returns", whatever the reason's bytes l
 unfoldable pub Why-returns-the-look : Type 0
 Why-returns-the-look =
-    (s t a f m k u x : Slice) (l : List ℕ) → whyCallOf s t a f m k u x l .result ≡ lookCallOf s t a (lentAt f m k u x)
+    (s t a : Slice) (h : Lent) (l : List ℕ) → whyCallOf s t a h l .result ≡ lookCallOf s t a h
 
 -- `uf2_why_place`: "What uf2_ask returns of a family in a flash of flash_len bytes", where it is lent the 8 bytes of a place
 unfoldable pub Why-place-returns-the-ask : Type 0

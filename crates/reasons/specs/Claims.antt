@@ -13,7 +13,7 @@ use Rattle.faults.specs.declared.Fault.{Fault}
 use Rattle.faults.specs.declared.Fault.the-variants.{ArchOff, CountOver, NoSectors, PastFlash, Shares, LinksUp, LinksToB, ManyUsers, ReservedUser}
 use Rattle.placing.specs.Placing.{Marked, FirstMatch}
 use Rattle.placing.specs.declared.Rule.the-variants.{Absolute, NoTable}
-use Rattle.placing.specs.declared.Shut.the-variants.{NoEntry}
+use Rattle.placing.specs.declared.Denial.the-variants.{NoEntry}
 use Rattle.causes.specs.declared.Cause.the-variants.{NoPlace}
 use Rattle.place.specs.Place.{askOf, placeAnswerNumber}
 use Rattle.reason.specs.declared.PlaceOrigin.{PlaceOrigin}

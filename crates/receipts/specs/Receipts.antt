@@ -6,7 +6,7 @@ use Rattle.transfer.specs.declared.Answer.{Answer}
 use Rattle.transfer.specs.declared.Transfer.{Transfer}
 use Rattle.transfer.specs.declared.Accepted.{Accepted}
 use Rattle.arrival.specs.Arrive.{Lent, Outcome}
-use Rattle.verdict.specs.Lending.{world}
+use Rattle.arrival.specs.Lending.{world}
 use Rattle.verdict.specs.declared.Acceptance.{Acceptance}
 use Rattle.plan.specs.Plan.{Accepting}
 use Rattle.plan.specs.declared.Plan.the-variants.{Nothing}

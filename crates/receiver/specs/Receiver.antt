@@ -5,7 +5,7 @@ use denote.Ref.{now}
 use Rattle.flash.specs.Flash.{payloadOf}
 use Rattle.sets.specs.Numbered.{numbered}
 use Rattle.arrival.specs.Arrive.{Lent, World, Outcome, outcomeNumber, done}
-pub use Rattle.verdict.specs.Lending.{held, lent, Slice, lentAt, leftAt, world}
+pub use Rattle.arrival.specs.Lending.{held, lent, Slice, lentAt, leftAt, world}
 use Rattle.verdict.specs.Verdict.{knownDecision}
 use Rattle.verdict.specs.declared.Known.{Known}
 use Rattle.plan.specs.Plan.{Accepting, acceptingNumber, acceptingBy}

@@ -5,19 +5,21 @@ use Prim.Native.Nat.{ℕ}
 use Rattle.settings.specs.declared.Settings.{Settings}
 use Rattle.transfer.specs.declared.Transfer.{Transfer}
 use Rattle.layout.specs.Layout.{settingsFrom, transferFrom}
-use Rattle.reason.specs.Why.{worldWith, whyOf}
+use Rattle.arrival.specs.Arrive.{Lent}
+use Rattle.arrival.specs.Lending.{world}
+use Rattle.reason.specs.Why.{whyOf}
 use Rattle.reason.specs.Placed.{whyPlaceOf}
 use Rattle.reason.specs.declared.Why.{Why}
 use Rattle.reason.specs.declared.WhyPlace.{WhyPlace}
 use Rattle.whyapi.specs.WhyCall.{Call, whyCall, placeCall}
 
-module _ (sb tb a f m k u x : List ℕ) {s : Settings} (p : s ≡ settingsFrom sb) {t : Transfer} (q : t ≡ transferFrom tb) where
-  pub why-is : {y : Why} → y ≡ whyOf s (worldWith t f m k u x) a → y ≡ whyOf (settingsFrom sb) (worldWith (transferFrom tb) f m k u x) a
-  why-is e = e ∙ (ap (λ (s : Settings). whyOf s (worldWith t f m k u x) a) p ∙ ap (λ (t : Transfer). whyOf (settingsFrom sb) (worldWith t f m k u x) a) q)
+module _ (sb tb a : List ℕ) (h : Lent) {s : Settings} (p : s ≡ settingsFrom sb) {t : Transfer} (q : t ≡ transferFrom tb) where
+  pub why-is : {y : Why} → y ≡ whyOf s (world t h) a → y ≡ whyOf (settingsFrom sb) (world (transferFrom tb) h) a
+  why-is e = e ∙ (ap (λ (s : Settings). whyOf s (world t h) a) p ∙ ap (λ (t : Transfer). whyOf (settingsFrom sb) (world t h) a) q)
 
-  pub why-call : (l : List ℕ) {y : Why} → y ≡ whyOf s (worldWith t f m k u x) a → {c : Call} → c ≡ whyCall sb tb y l
-      → c ≡ whyCall sb tb (whyOf (settingsFrom sb) (worldWith (transferFrom tb) f m k u x) a) l
-  why-call l e h = h ∙ ap (λ (y : Why). whyCall sb tb y l) (why-is e)
+  pub why-call : (l : List ℕ) {y : Why} → y ≡ whyOf s (world t h) a → {c : Call} → c ≡ whyCall sb tb y l
+      → c ≡ whyCall sb tb (whyOf (settingsFrom sb) (world (transferFrom tb) h) a) l
+  why-call l e c = c ∙ ap (λ (y : Why). whyCall sb tb y l) (why-is e)
 
 -- ---- a place
 

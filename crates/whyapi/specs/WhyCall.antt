@@ -1,23 +1,21 @@
 -- What a call for a reason answers and writes, by what it is lent. Assumes nothing.
 use Prim.Native.Nat.{ℕ}
 use mathlib.Core.List.{List}
-use denote.Ref.{RefT, now}
-use denote.Triple.Both.{Both}
+use denote.Ref.{now}
+use Rattle.arrival.specs.Arrive.{Lent}
+use Rattle.arrival.specs.Lending.{Slice, world}
 use Rattle.layout.specs.Layout.{settingsFrom, transferFrom}
-use Rattle.reason.specs.Why.{worldWith, whyOf}
+use Rattle.reason.specs.Why.{whyOf}
 use Rattle.reason.specs.Placed.{whyPlaceOf}
 -- what is returned and written of a reason
 pub use Rattle.whybytes.specs.WhyBytes.{Call, callReturn}
 unfoldable pub use Rattle.whybytes.specs.WhyBytes.{whyCall, placeCall}
 
--- a lent slice of bytes, as a contract names it
-abbrev pub Slice : Type 0
-Slice = Both (RefT (List ℕ)) (RefT (List ℕ))
-
-abbrev pub whyCallOf : Slice → Slice → Slice → Slice → Slice → Slice → Slice → Slice → List ℕ → Call
-whyCallOf s t a f m k u x l =
+-- of settings, transfer and arrival, what is lent, and the bytes of the reason as they were lent
+abbrev pub whyCallOf : Slice → Slice → Slice → Lent → List ℕ → Call
+whyCallOf s t a h l =
     whyCall (now (s .entry)) (now (t .entry))
-    (whyOf (settingsFrom (now (s .entry))) (worldWith (transferFrom (now (t .entry))) (now (f .entry)) (now (m .entry)) (now (k .entry)) (now (u .entry)) (now (x .entry))) (now (a .entry)))
+    (whyOf (settingsFrom (now (s .entry))) (world (transferFrom (now (t .entry))) h) (now (a .entry)))
     l
 
 -- a place asked for alone

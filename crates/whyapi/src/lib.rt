@@ -1,5 +1,6 @@
 // Reasons for C: why an arrival is answered as it is, and why a family has a place or none. A library of its own.
 ghost use mathlib.Core.Path.{_≡_};
+ghost use Rattle.arrival.specs.Lending.{lentAt};
 ghost use Rattle.whyapi.specs.WhyCall.{callReturn, whyCallOf, placeCallOf};
 
 // Why an arrival is answered as it is: what `uf2_look` returns, and the reason. Nothing else is written.
@@ -15,7 +16,7 @@ pub extern "C" fn uf2_why(
     xip: &[u8],
     out: &mut [u8],
 ) -> u32
-    ensures { λ r. ⌜ callReturn r (now (out .exit)) ≡ whyCallOf settings transfer arrival flash seen sectors main xip (now (out .entry)) ⌝ }
+    ensures { λ r. ⌜ callReturn r (now (out .exit)) ≡ whyCallOf settings transfer arrival (lentAt flash seen sectors main xip) (now (out .entry)) ⌝ }
 {
     let s = layout::read_settings(settings);
     let t = transferbytes::read_transfer(transfer);

@@ -2,7 +2,7 @@
 use mathlib.Core.Path.{sym, ap, _∙_}
 use mathlib.Core.Bool.{Bool, not}
 use Rattle.sets.specs.Numbered.{numbered}
-use Rattle.placing.specs.declared.Shut.the-variants.{NotForRam}
+use Rattle.placing.specs.declared.Denial.the-variants.{NotForRam}
 use Rattle.placing.specs.Parts.{deniedIf}
 use Rattle.placing.specs.Placing.{accessNumber}
 use Rattle.placing.proofs.Laws.{ram-by}

@@ -1,5 +1,5 @@
 -- `reason::block_row` meets its contract. Assumes nothing.
-use Rattle.reason.proofs.Laws.{block-shut, block-open}
+use Rattle.reason.proofs.Laws.{block-denied, block-open}
 use borrow.Author.Needs.{needs}
 use Rattle.reason.proofs.block_row.Statement.{statement}
 use Rattle.reason.proofs.block_row.Tie as tie
@@ -10,11 +10,11 @@ access-in-requires c κs = search needs
 access-row-requires : tie.Need-access-row-requires
 access-row-requires c κs = search needs
 
-enum-known-shut : tie.Need-enum-known-shut
-enum-known-shut c = search needs
+enum-known-denial : tie.Need-enum-known-denial
+enum-known-denial c = search needs
 
 returns : tie.Need-returns
-returns c = block-shut _ _ _ _ _ (c .before .before .before .before .access-in .ensures) (c .before .before .before .access-row .ensures) (c .before .shut .given .1)
+returns c = block-denied _ _ _ _ _ (c .before .before .before .before .access-in .ensures) (c .before .before .before .access-row .ensures) (c .before .denial .given .1)
 
 enum-told : tie.Need-enum-told
 enum-told c = search needs
@@ -34,7 +34,7 @@ block-row-spec =
     (tie.spec
     access-in-requires
     access-row-requires
-    enum-known-shut
+    enum-known-denial
     returns
     enum-told
     room-of-requires

@@ -1,6 +1,6 @@
 -- `reason::entries_of` meets its contract. Assumes nothing.
 use mathlib.Core.Path.{sym, _∙_}
-use Rattle.reason.proofs.Kept.{no-shut}
+use Rattle.reason.proofs.Kept.{no-denial}
 use borrow.Author.Needs.{needs}
 use Rattle.reason.proofs.entries_of.Statement.{statement}
 use Rattle.reason.proofs.entries_of.Tie as tie
@@ -12,13 +12,13 @@ no-marks-requires : tie.Need-no-marks-requires
 no-marks-requires c κs = search needs
 
 returns : tie.Need-returns
-returns c = c .no-marks .ensures ∙ sym (no-shut _ _ (c .before .before .args .cause) (c .before .match .keys2))
+returns c = c .no-marks .ensures ∙ sym (no-denial _ _ (c .before .before .args .cause) (c .before .match .keys2))
 
-shut-marks-requires : tie.Need-shut-marks-requires
-shut-marks-requires c κs = search needs
+denial-marks-requires : tie.Need-denial-marks-requires
+denial-marks-requires c κs = search needs
 
 returns-2 : tie.Need-returns-2
-returns-2 c = rw (c .before .before .cause .given .1) (c .shut-marks .ensures)
+returns-2 c = rw (c .before .before .cause .given .1) (c .denial-marks .ensures)
 
 pub entries-of-spec : {M : Type 1} → statement M
-entries-of-spec = tie.close (tie.spec enum-known-cause no-marks-requires returns shut-marks-requires returns-2)
+entries-of-spec = tie.close (tie.spec enum-known-cause no-marks-requires returns denial-marks-requires returns-2)

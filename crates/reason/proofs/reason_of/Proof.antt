@@ -1,7 +1,7 @@
 -- `reason::reason_of` meets its contract. Assumes nothing.
 use Rattle.sets.proofs.Numbered.{answer-is}
 use denote.Ref.{now}
-use Rattle.reason.specs.Why.{worldWith}
+use Rattle.arrival.specs.Lending.{lent, world}
 use Rattle.reason.proofs.Laws.{reason-early, reason-block, reason-late}
 use borrow.Author.Needs.{needs}
 use Rattle.reason.proofs.reason_of.Statement.{statement}
@@ -14,7 +14,7 @@ enum-known-early : tie.Need-enum-known-early
 enum-known-early c = search needs
 
 returns : tie.Need-returns
-returns c = reason-early (c .before .before .before .before .before .before .before .before .before .before .args .settings) (worldWith (c .before .before .before .before .before .before .before .before .before .before .args .transfer) (now (c .before .before .before .before .before .before .before .before .before .before .args .flash)) (now (c .before .before .before .before .before .before .before .before .before .before .args .seen)) (now (c .before .before .before .before .before .before .before .before .before .before .args .sectors)) (now (c .before .before .before .before .before .before .before .before .before .before .args .main)) (now (c .before .before .before .before .before .before .before .before .before .before .args .xip))) (now (c .before .before .before .before .before .before .before .before .before .before .args .arrival)) (c .before .before .before .early-row .ensures) (c .before .early .given .1)
+returns c = reason-early (c .before .before .before .before .before .before .before .before .before .before .args .settings) (world (c .before .before .before .before .before .before .before .before .before .before .args .transfer) (lent (now (c .before .before .before .before .before .before .before .before .before .before .args .flash)) (now (c .before .before .before .before .before .before .before .before .before .before .args .seen)) (now (c .before .before .before .before .before .before .before .before .before .before .args .sectors)) (now (c .before .before .before .before .before .before .before .before .before .before .args .main)) (now (c .before .before .before .before .before .before .before .before .before .before .args .xip)))) (now (c .before .before .before .before .before .before .before .before .before .before .args .arrival)) (c .before .before .before .early-row .ensures) (c .before .early .given .1)
 
 enum-told : tie.Need-enum-told
 enum-told c = search needs
@@ -35,7 +35,7 @@ enum-known-row : tie.Need-enum-known-row
 enum-known-row c = search needs
 
 returns-2 : tie.Need-returns-2
-returns-2 c = reason-block (c .before .before .before .before .before .before .before .before .before .before .before .before .before .before .before .before .args .settings) (worldWith (c .before .before .before .before .before .before .before .before .before .before .before .before .before .before .before .before .args .transfer) (now (c .before .before .before .before .before .before .before .before .before .before .before .before .before .before .before .before .args .flash)) (now (c .before .before .before .before .before .before .before .before .before .before .before .before .before .before .before .before .args .seen)) (now (c .before .before .before .before .before .before .before .before .before .before .before .before .before .before .before .before .args .sectors)) (now (c .before .before .before .before .before .before .before .before .before .before .before .before .before .before .before .before .args .main)) (now (c .before .before .before .before .before .before .before .before .before .before .before .before .before .before .before .before .args .xip))) (now (c .before .before .before .before .before .before .before .before .before .before .before .before .before .before .before .before .args .arrival)) (c .before .before .before .before .before .before .before .before .before .early-row .ensures) (c .before .before .before .before .before .before .before .enum-told .given .1) (c .before .before .before .before .before .before .fields .ensures) (c .before .before .before .before .before .kind-of .ensures) (answer-is (c .before .before .before .before .find .ensures .0)) (c .before .before .before .block-row .ensures) (c .before .row .given .1)
+returns-2 c = reason-block (c .before .before .before .before .before .before .before .before .before .before .before .before .before .before .before .before .args .settings) (world (c .before .before .before .before .before .before .before .before .before .before .before .before .before .before .before .before .args .transfer) (lent (now (c .before .before .before .before .before .before .before .before .before .before .before .before .before .before .before .before .args .flash)) (now (c .before .before .before .before .before .before .before .before .before .before .before .before .before .before .before .before .args .seen)) (now (c .before .before .before .before .before .before .before .before .before .before .before .before .before .before .before .before .args .sectors)) (now (c .before .before .before .before .before .before .before .before .before .before .before .before .before .before .before .before .args .main)) (now (c .before .before .before .before .before .before .before .before .before .before .before .before .before .before .before .before .args .xip)))) (now (c .before .before .before .before .before .before .before .before .before .before .before .before .before .before .before .before .args .arrival)) (c .before .before .before .before .before .before .before .before .before .early-row .ensures) (c .before .before .before .before .before .before .before .enum-told .given .1) (c .before .before .before .before .before .before .fields .ensures) (c .before .before .before .before .before .kind-of .ensures) (answer-is (c .before .before .before .before .find .ensures .0)) (c .before .before .before .block-row .ensures) (c .before .row .given .1)
 
 enum-told-2 : tie.Need-enum-told-2
 enum-told-2 c = search needs
@@ -47,7 +47,7 @@ late-requires : tie.Need-late-requires
 late-requires c κs = search needs
 
 returns-3 : tie.Need-returns-3
-returns-3 c = reason-late (c .before .before .before .before .before .before .before .before .before .before .before .before .before .before .before .before .before .args .settings) (worldWith (c .before .before .before .before .before .before .before .before .before .before .before .before .before .before .before .before .before .args .transfer) (now (c .before .before .before .before .before .before .before .before .before .before .before .before .before .before .before .before .before .args .flash)) (now (c .before .before .before .before .before .before .before .before .before .before .before .before .before .before .before .before .before .args .seen)) (now (c .before .before .before .before .before .before .before .before .before .before .before .before .before .before .before .before .before .args .sectors)) (now (c .before .before .before .before .before .before .before .before .before .before .before .before .before .before .before .before .before .args .main)) (now (c .before .before .before .before .before .before .before .before .before .before .before .before .before .before .before .before .before .args .xip))) (now (c .before .before .before .before .before .before .before .before .before .before .before .before .before .before .before .before .before .args .arrival)) (c .before .before .before .before .before .before .before .before .before .before .early-row .ensures) (c .before .before .before .before .before .before .before .before .enum-told .given .1) (c .before .before .before .before .before .before .before .fields .ensures) (c .before .before .before .before .before .before .kind-of .ensures) (answer-is (c .before .before .before .before .before .find .ensures .0)) (c .before .before .before .before .block-row .ensures) (c .before .before .enum-told2 .given .1) (c .before .new .ensures) (c .late .ensures)
+returns-3 c = reason-late (c .before .before .before .before .before .before .before .before .before .before .before .before .before .before .before .before .before .args .settings) (world (c .before .before .before .before .before .before .before .before .before .before .before .before .before .before .before .before .before .args .transfer) (lent (now (c .before .before .before .before .before .before .before .before .before .before .before .before .before .before .before .before .before .args .flash)) (now (c .before .before .before .before .before .before .before .before .before .before .before .before .before .before .before .before .before .args .seen)) (now (c .before .before .before .before .before .before .before .before .before .before .before .before .before .before .before .before .before .args .sectors)) (now (c .before .before .before .before .before .before .before .before .before .before .before .before .before .before .before .before .before .args .main)) (now (c .before .before .before .before .before .before .before .before .before .before .before .before .before .before .before .before .before .args .xip)))) (now (c .before .before .before .before .before .before .before .before .before .before .before .before .before .before .before .before .before .args .arrival)) (c .before .before .before .before .before .before .before .before .before .before .early-row .ensures) (c .before .before .before .before .before .before .before .before .enum-told .given .1) (c .before .before .before .before .before .before .before .fields .ensures) (c .before .before .before .before .before .before .kind-of .ensures) (answer-is (c .before .before .before .before .before .find .ensures .0)) (c .before .before .before .before .block-row .ensures) (c .before .before .enum-told2 .given .1) (c .before .new .ensures) (c .late .ensures)
 
 pub reason-of-spec : {M : Type 1} → statement M
 reason-of-spec =

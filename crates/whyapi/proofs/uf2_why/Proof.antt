@@ -1,5 +1,6 @@
 -- `whyapi::uf2_why` meets its contract. Assumes nothing.
 use denote.Ref.{now}
+use Rattle.arrival.specs.Lending.{lent}
 use Rattle.whyapi.proofs.Laws.{why-call}
 use borrow.Author.Needs.{needs}
 use Rattle.whyapi.proofs.uf2_why.Statement.{statement}
@@ -21,7 +22,7 @@ same-length : tie.Need-same-length
 same-length c = search needs
 
 returns : tie.Need-returns
-returns c = let a = c .before .before .before .before .before .before .before .before .before .before .before .before .before .before .before .before .args in why-call (now (a .settings)) (now (a .transfer)) (now (a .arrival)) (now (a .flash)) (now (a .seen)) (now (a .sectors)) (now (a .main)) (now (a .xip)) (c .before .before .before .before .before .before .read-settings .ensures) (c .before .before .before .before .before .read-transfer .ensures) _ (c .before .before .before .before .explain .ensures) (c .before .before .tell .ensures)
+returns c = let a = c .before .before .before .before .before .before .before .before .before .before .before .before .before .before .before .before .args in why-call (now (a .settings)) (now (a .transfer)) (now (a .arrival)) (lent (now (a .flash)) (now (a .seen)) (now (a .sectors)) (now (a .main)) (now (a .xip))) (c .before .before .before .before .before .before .read-settings .ensures) (c .before .before .before .before .before .read-transfer .ensures) _ (c .before .before .before .before .explain .ensures) (c .before .before .tell .ensures)
 
 pub uf2-why-spec : {M : Type 1} → statement M
 uf2-why-spec = tie.close (tie.spec read-settings-requires read-transfer-requires explain-requires tell-requires same-length returns)
