@@ -9,7 +9,7 @@ use lib.ListN.{length, getD, take, drop}
 use lib.Seq.{getD-drop}
 use borrow.Author.Tests.{ltb-false, eqb-true, eqb-false, not-false}
 use Rattle.sets.proofs.Tests.{split, clash, or-left, or-right}
-use Rattle.record.specs.Record.{textOf, bytesOf, lenOf, dataOf, wordOf, readOf}
+use Rattle.record.specs.Record.{textOf, bytesOf, lenOf, dataOf, wordOf, readOf, bytesBy}
 use Rattle.record.specs.Write.{Bytes}
 use Rattle.record.specs.declared.Record.{Record}
 use Rattle.record.specs.declared.ParseResult.{ParseResult}
@@ -54,7 +54,7 @@ abbrev Low : List ℕ → Type 0
 Low d = (i : ℕ) → getD d i 0 < 256
 
 digits-low : (l : List ℕ) → Low (bytesOf l)
-unfolding bytesOf
+unfolding bytesBy
 digits-low [] i = omega arith
 digits-low (c ∷ []) i = omega arith
 digits-low (c ∷ d ∷ l) zero = omega arith

@@ -127,7 +127,7 @@ module _ (s : Settings) (w : World) (F : Blocks) (P : List ℕ → Type 0) (R : 
 
 -- the flash that each of its arrivals finds
 abbrev pub Along : (List ℕ → Type 0) → Settings → World → List (List ℕ) → Type 0
-Along Q s w l = AtEach (λ v. Q (v .held .flash)) s w l
+Along Q s w l = AtEach (λ v a. Q (v .held .flash)) s w l
 
 pub along-any : (s : Settings) (l : List (List ℕ)) (w : World) → Along Any s w l
 unfolding AtEach

@@ -29,10 +29,10 @@ use Rattle.transfer.specs.declared.Kind.the-variants.{Flash, MainRam, XipRam}
 use Rattle.transfer.specs.declared.State.the-variants.{Idle}
 use Rattle.arrival.specs.Arrive.{Held, World, lengthsOf, standsAt, standing}
 use Rattle.arrival.specs.Windows.{windowStart}
-use Rattle.arrival.specs.Lists.{receiveAll}
+use Rattle.arrival.specs.Lists.{receiveAll, AtEach}
 use Rattle.arrival.specs.Standing.{digestIn}
 use Rattle.demand.specs.Demand.{File, isData, addressOf, ValidFile, Foreign, Sent, seenOf, startOf, originOf, storageOf, holds, liesIn, Contents, sizeOf, isGuarded, Plain}
-use Rattle.demands.specs.Regions.{regionStart, regionLength, regionIn, inRegion, Final, Regions, NoOther, AtEachArrival, Complete, Regions-end, Whole-same, Whole-alike}
+use Rattle.demands.specs.Regions.{regionStart, regionLength, regionIn, inRegion, Final, Regions, NoOther, Complete, Regions-end, Whole-same, Whole-alike}
 use Rattle.arrival.proofs.Heads.{kind-same}
 use Rattle.arrival.proofs.Windows.{lies-true}
 use Rattle.arrivals.proofs.Cells.{touched, cell, cell-owned, cell-free}
@@ -297,7 +297,7 @@ module _ (s : Settings) (w : World) (F : File) (idle : w .transfer ≡ Idle) (ok
           keeps = keeps;
         }
 
-    after-regions : {l : List (List ℕ)} → Sent s w F l → AtEachArrival (NoOther s w F) s w l
+    after-regions : {l : List (List ℕ)} → Sent s w F l → AtEach (NoOther s w F) s w l
         → After P w (Inv P (w .held) Met guards) (seenOf F l) (receiveAll s w l)
     after-regions sent met =
         run-met s w P (Foreign s w F) (steady s w F idle ok) (sound .few) false (opens s w F idle ok) (Inv P (w .held) Met guards) Met

@@ -15,7 +15,7 @@ use Rattle.flash.specs.Flash.{payloadOf}
 use Rattle.settings.specs.declared.Settings.{Settings}
 use Rattle.transfer.specs.Transfer.{running, counted, accepted, stepOf}
 use Rattle.arrival.specs.Arrive.{Held, World, Outcome, stepped, clearedIf, wipedIf, done, receiveOf}
-use Rattle.arrival.specs.Lists.{receiveAll}
+use Rattle.arrival.specs.Lists.{receiveAll, AtEach}
 use Rattle.demand.specs.Demand.{Mixed, nothing, own, other, answerNumber}
 use Rattle.arrival.proofs.Heads.{same-head}
 use Rattle.arrival.proofs.Pages.{arrive, apply, took-held}
@@ -23,7 +23,6 @@ use Rattle.arrival.proofs.Count.{Blocks, count, headBy, bytesOf, placedOf, deed
 use Rattle.arrivals.proofs.DecisionFacts.{raised-number}
 use Rattle.demand.proofs.Lists.{Reached, reached-next}
 use Rattle.demand.proofs.Runs.{Steady, seen-nothing, seenFrom, from-own, from-other, own-step}
-use Rattle.demands.specs.Regions.{AtEachArrival}
 
 -- ---- what block k leaves in the buffers and the sector map
 
@@ -122,9 +121,9 @@ module _ (s : Settings) (w : World) (F : Blocks) (P : List ℕ → Type 0) (R : 
 
   -- what is asked of an arrival and the world that it finds gives what is asked of the flash
   module _ (Q : World → List ℕ → Type 0) (asks : (k : ℕ) (v : World) → k < count F → Q v (bytesOf F k) → 14 ≤ answerNumber s v (bytesOf F k) → Met (v .held .flash) k) where
-    pub run-met : {l : List (List ℕ)} → Mixed (F .file) P l → (S : Set) (v : World) → Reached s w v → After F w Inv S v → AtEachArrival Q s v l
+    pub run-met : {l : List (List ℕ)} → Mixed (F .file) P l → (S : Set) (v : World) → Reached s w v → After F w Inv S v → AtEach Q s v l
         → After F w Inv (seenFrom F S l) (receiveAll s v l)
-    unfolding receiveAll AtEachArrival
+    unfolding receiveAll AtEach
     run-met nothing S v m a e =
         subst (λ (T : Set). After F w Inv T v) (fun-ext (λ j. sym (ap (λ (b : Bool). S j || b) (seen-nothing (F .file) j) ∙ or-comm (S j) false))) a
     run-met (own {l = l} k h r) S v m a e =

@@ -14,8 +14,8 @@ use Rattle.md5.specs.Md5.{md5Of}
 use Rattle.settings.specs.declared.Settings.{Settings}
 use Rattle.transfer.specs.declared.Kind.the-variants.{Flash}
 use Rattle.transfer.specs.declared.State.the-variants.{Idle}
-use Rattle.arrival.specs.Arrive.{World, receiveOf}
-use Rattle.arrival.specs.Lists.{receiveAll}
+use Rattle.arrival.specs.Arrive.{World}
+use Rattle.arrival.specs.Lists.{receiveAll, AtEach}
 use Rattle.arrival.specs.Standing.{digestIn}
 use Rattle.demand.specs.Demand.{File, answerNumber, isData, ValidFile, Sent, seenOf, howMany, originOf, storageOf, holds, liesIn, isGuarded, Contents, Same-count}
 
@@ -62,17 +62,12 @@ NoOther s w F v a =
     (i : ℕ) → i < F .total → F .block i ≡ a → 14 ≤ answerNumber s v a → isGuarded s w F i ≡ true
     → md5Of (regionIn s w F i (v .held .flash)) ≡ digestIn (F .block i) → Final s w F i (regionIn s w F i (v .held .flash))
 
--- P of each arrival of the list and the world that it finds
-unfoldable pub AtEachArrival : (World → List ℕ → Type 0) → Settings → World → List (List ℕ) → Type 0
-AtEachArrival P s w [] = Unit {0}
-AtEachArrival P s w (a ∷ l) = P w a × AtEachArrival P s (receiveOf s w a .world) l
-
 -- ---- the claims
 
 -- a list in which the file is whole, and no other content is met
 pub record Complete (s : Settings) (w : World) (F : File) (l : List (List ℕ)) : Type 0 where
   pub sent : Sent s w F l
-  pub met : AtEachArrival (NoOther s w F) s w l
+  pub met : AtEach (NoOther s w F) s w l
   pub whole : howMany F (seenOf F l) ≡ F .total
 
 -- at completion the buffers are as without regions

@@ -1,4 +1,4 @@
--- The bytes that characters say by a table of their values, as a loop stores them. Assumes nothing.
+-- The bytes that characters say by their values, as a loop stores them. Assumes nothing.
 use mathlib.Core.Path.{_≡_, refl, sym, ap, _∙_}
 use mathlib.Core.List.{List, [], _∷_, _++_}
 use Prim.Native.Nat.{ℕ, zero, suc, min, _+_, _*_, _/_, _%_, _≤_, _<_}
@@ -9,23 +9,21 @@ use lib.ListN.{length, getD, take, drop, set, drop-of-length-le}
 use lib.Seq.{take-all, take-suc, drop-cons, set-at, append-snoc, length-take-le}
 use borrow.Author.Tests.{ltb-true, ltb-false}
 use Rattle.sets.proofs.Tests.{split}
-use Rattle.digitpairs.specs.Values.{valueIn}
-use Rattle.digitpairs.specs.Pairs.{bytesIn, decodedIn}
-use Rattle.digitpairs.proofs.Values.{value-at}
+use Rattle.digitpairs.specs.Pairs.{bytesBy, decodedBy}
 
-module _ (t : List ℕ) where
-  pub length-bytes : (l : List ℕ) → length (bytesIn t l) ≡ length l / 2
-  unfolding bytesIn
+module _ (v : ℕ → ℕ) where
+  pub length-bytes : (l : List ℕ) → length (bytesBy v l) ≡ length l / 2
+  unfolding bytesBy
   length-bytes [] = refl
   length-bytes (c ∷ []) = refl
   length-bytes (c ∷ d ∷ l) = omega (arith, length-bytes l)
 
   -- the byte that two characters say
   abbrev pub pair : List ℕ → ℕ → ℕ
-  pair l k = 16 * (valueIn t (getD l (2 * k) 0) % 16) + valueIn t (getD l (2 * k + 1) 0) % 16
+  pair l k = 16 * (v (getD l (2 * k) 0) % 16) + v (getD l (2 * k + 1) 0) % 16
 
-  pub bytes-at : (l : List ℕ) (k : ℕ) → 2 * k + 1 < length l → getD (bytesIn t l) k 0 ≡ pair l k
-  unfolding bytesIn
+  pub bytes-at : (l : List ℕ) (k : ℕ) → 2 * k + 1 < length l → getD (bytesBy v l) k 0 ≡ pair l k
+  unfolding bytesBy
   bytes-at [] k h = absurd (omega arith)
   bytes-at (c ∷ []) k h = absurd (omega arith)
   bytes-at (c ∷ d ∷ l) zero h = refl
@@ -36,25 +34,25 @@ module _ (t : List ℕ) where
 
   -- the first i bytes over the beginning of `out`
   abbrev pub begun : List ℕ → List ℕ → ℕ → List ℕ
-  begun l out i = take i (bytesIn t l) ++ drop i out
+  begun l out i = take i (bytesBy v l) ++ drop i out
 
   -- one byte more, as a loop stores it
   pub begun-next : (l lent out : List ℕ) (i : ℕ) {high low : ℕ} → i < min (length l / 2) (length lent)
-      → high ≡ valueIn t (getD l (2 * i) 0) → low ≡ valueIn t (getD l (2 * i + 1) 0) → out ≡ begun l lent i
+      → high ≡ v (getD l (2 * i) 0) → low ≡ v (getD l (2 * i + 1) 0) → out ≡ begun l lent i
       → set out i (16 * (high % 16) + low % 16) ≡ begun l lent (i + 1)
   begun-next l lent out i {high} {low} h e f q =
-      let w = bytesIn t l in
-      let v = 16 * (high % 16) + low % 16 in
+      let w = bytesBy v l in
+      let x = 16 * (high % 16) + low % 16 in
       let k : i < length w = omega (arith, length-bytes l) in
-      let b : getD w i 0 ≡ v = bytes-at l i (omega arith) ∙ rw (e, f) in
-      rw (q, drop-cons lent i 0 (omega arith), set-at (take i w) (getD lent i 0) (drop (suc i) lent) v i (length-take-le i w (omega arith)), add-one, take-suc w i 0 k, b)
-      (sym (append-snoc (take i w) v (drop (suc i) lent)))
+      let b : getD w i 0 ≡ x = bytes-at l i (omega arith) ∙ rw (e, f) in
+      rw (q, drop-cons lent i 0 (omega arith), set-at (take i w) (getD lent i 0) (drop (suc i) lent) x i (length-take-le i w (omega arith)), add-one, take-suc w i 0 k, b)
+      (sym (append-snoc (take i w) x (drop (suc i) lent)))
 
   -- as many as there are and `out` has room for
-  pub begun-all : (l out : List ℕ) (k : ℕ) → k ≡ min (length l / 2) (length out) → begun l out k ≡ decodedIn t l out
-  unfolding decodedIn
+  pub begun-all : (l out : List ℕ) (k : ℕ) → k ≡ min (length l / 2) (length out) → begun l out k ≡ decodedBy v l out
+  unfolding decodedBy
   begun-all l out k m =
-      let w = bytesIn t l in
+      let w = bytesBy v l in
       let n : length w ≡ length l / 2 = length-bytes l in
       split (ltb (length out) (length l / 2))
       (λ y.

@@ -2,8 +2,8 @@
 ghost use mathlib.Core.Path.{_≡_};
 ghost use Prim.Native.Nat.{_*_, _/_, min};
 ghost use lib.ListN.{length, take};
-ghost use Rattle.digitpairs.specs.Values.{allIn};
-ghost use Rattle.digitpairs.specs.Pairs.{decodedIn};
+ghost use Rattle.digitpairs.specs.Values.{allBy, valueIn};
+ghost use Rattle.digitpairs.specs.Pairs.{decodedBy};
 
 // The lesser of two numbers.
 pub fn least(a: usize, b: usize) -> usize
@@ -15,8 +15,8 @@ pub fn least(a: usize, b: usize) -> usize
 // The bytes that the characters say go to `out` as far as it has room. Are the characters that are said so digits? No branch leaves the loop
 // at one that is none: the values found are or-ed, and judged once, at the end.
 pub fn pairs(table: &[u8; 256], chars: &[u8], out: &mut [u8]) -> bool
-    ensures { λ r. ⌜ r ≡ allIn (now (table .entry)) (take (2 * min (length (now (chars .entry)) / 2) (length (now (out .entry)))) (now (chars .entry))) ⌝ }
-    ensures bytes { λ _. ⌜ now (out .exit) ≡ decodedIn (now (table .entry)) (now (chars .entry)) (now (out .entry)) ⌝ }
+    ensures { λ r. ⌜ r ≡ allBy (valueIn (now (table .entry))) (take (2 * min (length (now (chars .entry)) / 2) (length (now (out .entry)))) (now (chars .entry))) ⌝ }
+    ensures bytes { λ _. ⌜ now (out .exit) ≡ decodedBy (valueIn (now (table .entry))) (now (chars .entry)) (now (out .entry)) ⌝ }
 {
     let room = least(chars.len() / 2, out.len());
     let mut found: u8 = 0;

@@ -8,25 +8,20 @@ use lib.ListN.{length, take, drop, length-append, drop-of-length-le}
 use lib.Seq.{take-all, take-at, length-take-le}
 use borrow.Author.Tests.{ltb-true, ltb-false}
 use Rattle.sets.proofs.Tests.{split}
+pub use Rattle.digitpairs.proofs.Stored.{length-bytes}
 pub use Rattle.decoding.proofs.FirstLaws.{rest}
-use Rattle.digits.specs.Digits.{bytesOf, decoded}
-
-pub length-bytes : (l : List ℕ) → length (bytesOf l) ≡ length l / 2
-unfolding bytesOf
-length-bytes [] = refl
-length-bytes (c ∷ []) = refl
-length-bytes (c ∷ d ∷ l) = omega (arith, length-bytes l)
+use Rattle.digits.specs.Digits.{digitOf, bytesOf, decoded, decodedBy}
 
 -- `out` begins with the bytes that the digits l say, as many as it has room for
 abbrev pub Decoding : List ℕ → List ℕ → Type 0
 Decoding l out = take (length l / 2) out ≡ take (length out) (bytesOf l)
 
 pub decoding : (l lent : List ℕ) {out : List ℕ} → out ≡ decoded l lent → Decoding l out
-unfolding decoded
+unfolding decodedBy
 decoding l lent {out} e =
     let w = bytesOf l in
     let r = drop (length l / 2) lent in
-    let n : length w ≡ length l / 2 = length-bytes l in
+    let n : length w ≡ length l / 2 = length-bytes digitOf l in
     split (ltb (length lent) (length l / 2))
     (λ y.
     let h : length lent < length l / 2 = ltb-true _ _ y in

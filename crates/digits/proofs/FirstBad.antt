@@ -6,18 +6,11 @@ use mathlib.Core.List.{List, [], _∷_}
 use native.Mathlib.Omega.{arith}
 use lib.ListN.{length, getD}
 use Rattle.sets.proofs.Tests.{split, clash, and-right}
-use Rattle.digits.specs.Digits.{isDigit, allDigits, firstBad}
-
-pub bad-none : (l : List ℕ) → allDigits l ≡ true → length l ≡ firstBad l
-unfolding allDigits firstBad
-bad-none [] e = refl
-bad-none (c ∷ l) e =
-    split (isDigit c)
-    (λ y. rw y (ap suc (bad-none l (and-right (isDigit c) (allDigits l) e))))
-    (λ z. clash (isDigit c && allDigits l) e (rw z))
+use Rattle.decoding.proofs.FirstLaws.{first-none}
+use Rattle.digits.specs.Digits.{digitOf, isDigit, allDigits, firstBad, allBy, firstBy}
 
 pub bad-most : (l : List ℕ) → firstBad l ≤ length l
-unfolding firstBad
+unfolding firstBy
 bad-most [] = omega arith
 bad-most (c ∷ l) =
     let h : firstBad l ≤ length l = bad-most l in
@@ -25,10 +18,10 @@ bad-most (c ∷ l) =
 
 -- below their number there is one
 pub bad-some : (l : List ℕ) → firstBad l < length l → allDigits l ≡ false
-bad-some l h = split (allDigits l) (λ y. absurd (omega (arith, bad-none l y))) (λ z. z)
+bad-some l h = split (allDigits l) (λ y. absurd (omega (arith, first-none digitOf l y))) (λ z. z)
 
 pub bad-all : (l : List ℕ) → length l ≤ firstBad l → allDigits l ≡ true
-unfolding allDigits firstBad
+unfolding allBy firstBy
 bad-all [] h = refl
 bad-all (c ∷ l) h =
     split (isDigit c)
@@ -39,7 +32,7 @@ bad-all (c ∷ l) h =
 
 -- the character there is none, every one before it is one
 pub bad-is : (l : List ℕ) → firstBad l < length l → isDigit (getD l (firstBad l) 0) ≡ false
-unfolding firstBad
+unfolding firstBy
 bad-is [] h = absurd (omega arith)
 bad-is (c ∷ l) h =
     split (isDigit c)
@@ -49,7 +42,7 @@ bad-is (c ∷ l) h =
     (λ z. rw z z)
 
 pub bad-first : (l : List ℕ) (i : ℕ) → i < firstBad l → isDigit (getD l i 0) ≡ true
-unfolding firstBad
+unfolding firstBy
 bad-first [] i h = absurd (omega arith)
 bad-first (c ∷ l) zero h =
     split (isDigit c) (λ y. y) (λ z. let k : 0 < 0 = rw z at h in absurd (omega arith))

@@ -10,8 +10,8 @@ use Rattle.sets.specs.Sets.{Set, any}
 use Rattle.sets.proofs.Laws.{any-all}
 use Rattle.digitpairs.specs.Values.{valueIn}
 use Rattle.digitpairs.proofs.Values.{value-at}
-use Rattle.digitpairs.specs.Pairs.{bytesIn, decodedIn}
-use Rattle.decoding.specs.First.{firstIn}
+use Rattle.digitpairs.specs.Pairs.{bytesBy, decodedBy}
+use Rattle.decoding.specs.First.{firstBy}
 use Rattle.digits.specs.Digits.{digitOf, firstBad, bytesOf, decoded}
 use Rattle.digits.specs.Table.{TellsDigits}
 
@@ -30,17 +30,17 @@ module _ (t : List ℕ) (told : TellsDigits t) where
   pub told-value : (c : ℕ) → c < 256 → valueIn t c ≡ digitOf c
   told-value c h = sym (value-at t c h) ∙ told .rule c h
 
-  pub told-first : (l : List ℕ) → Bytes l → firstIn t l ≡ firstBad l
-  unfolding firstIn firstBad
+  pub told-first : (l : List ℕ) → Bytes l → firstBy (valueIn t) l ≡ firstBad l
+  unfolding firstBy
   told-first [] b = refl
   told-first (c ∷ l) b = rw (told-value c (b 0), told-first l (λ i. b (suc i)))
 
-  pub told-bytes : (l : List ℕ) → Bytes l → bytesIn t l ≡ bytesOf l
-  unfolding bytesIn bytesOf
+  pub told-bytes : (l : List ℕ) → Bytes l → bytesBy (valueIn t) l ≡ bytesOf l
+  unfolding bytesBy
   told-bytes [] b = refl
   told-bytes (c ∷ []) b = refl
   told-bytes (c ∷ d ∷ l) b = rw (told-value c (b 0), told-value d (b 1), told-bytes l (λ i. b (suc (suc i))))
 
-  pub told-decoded : (l out : List ℕ) → Bytes l → decodedIn t l out ≡ decoded l out
-  unfolding decodedIn decoded
+  pub told-decoded : (l out : List ℕ) → Bytes l → decodedBy (valueIn t) l out ≡ decoded l out
+  unfolding decodedBy
   told-decoded l out b = rw (told-bytes l b)

@@ -1,9 +1,12 @@
 -- Hex digits, and the bytes that they say (01, "Universal Hex, a line at a time", row 22). Assumes nothing.
-use Prim.Native.Nat.{ℕ, suc, _+_, _-_, _*_, _/_, _%_}
-use mathlib.Core.Bool.{Bool, true, _&&_, cond}
-use mathlib.Core.List.{List, [], _∷_, _++_}
-use lib.Dec.{ltb, leb}
-use lib.ListN.{length, take, drop}
+use Prim.Native.Nat.{ℕ, _-_}
+use mathlib.Core.Bool.{Bool, _&&_, cond}
+use mathlib.Core.List.{List}
+use lib.Dec.{leb}
+use Rattle.digitpairs.specs.Values.{isDigitBy}
+unfoldable pub use Rattle.digitpairs.specs.Values.{allBy}
+unfoldable pub use Rattle.digitpairs.specs.Pairs.{bytesBy, decodedBy}
+unfoldable pub use Rattle.decoding.specs.First.{firstBy}
 
 -- the value of a hex digit ("upper and lower case are fine"), or 16 where the character is none
 unfoldable pub digitOf : ℕ → ℕ
@@ -14,25 +17,20 @@ digitOf c =
 
 -- the character is a hex digit
 abbrev pub isDigit : ℕ → Bool
-isDigit c = ltb (digitOf c) 16
+isDigit c = isDigitBy digitOf c
 
 -- row 22 is passed: every character is one
-unfoldable pub allDigits : List ℕ → Bool
-allDigits [] = true
-allDigits (c ∷ l) = isDigit c && allDigits l
+abbrev pub allDigits : List ℕ → Bool
+allDigits l = allBy digitOf l
 
 -- the index of the first character that is none, or how many there are
-unfoldable pub firstBad : List ℕ → ℕ
-firstBad [] = 0
-firstBad (c ∷ l) = cond (isDigit c) (suc (firstBad l)) 0
+abbrev pub firstBad : List ℕ → ℕ
+firstBad l = firstBy digitOf l
 
--- two digits a byte, high first; the remainder by 16 is the digit itself, and a character that is none never gets that far: row 22
--- refuses it first
-unfoldable pub bytesOf : List ℕ → List ℕ
-bytesOf [] = []
-bytesOf (c ∷ []) = []
-bytesOf (c ∷ d ∷ l) = (16 * (digitOf c % 16) + digitOf d % 16) ∷ bytesOf l
+-- two digits a byte, high first
+abbrev pub bytesOf : List ℕ → List ℕ
+bytesOf l = bytesBy digitOf l
 
 -- `out` with these bytes over its beginning, as many as it has room for
-unfoldable pub decoded : List ℕ → List ℕ → List ℕ
-decoded l out = take (length out) (bytesOf l) ++ drop (length l / 2) out
+abbrev pub decoded : List ℕ → List ℕ → List ℕ
+decoded l out = decodedBy digitOf l out

@@ -31,11 +31,11 @@ use Rattle.screen.specs.Screen.{windowOf, noteKind, placed, strayed, noted, dat
 use Rattle.arrival.specs.Arrive.{World, rightLengths, standsAt, afterScreening, decide, done, receiveOf}
 use Rattle.arrival.specs.Windows.{kindOf}
 use Rattle.arrival.specs.Facts.{flagged}
-use Rattle.arrival.specs.Lists.{receiveAll}
+use Rattle.arrival.specs.Lists.{receiveAll, AtEach}
 use Rattle.arrivals.specs.Kept.{soft, Standing-kept, Flag-0x4000-decides-14-or-17}
 use Rattle.arrival.specs.Standing.{digestIn, Standing}
 use Rattle.demand.specs.Demand.{File, ValidFile, answerNumber, addressOf, isData, nothing, own, sameBytes, among, seenOf, howMany, startOf, originOf, storageOf, holds, liesIn, isGuarded, Contents}
-use Rattle.demands.specs.Regions.{regionStart, regionLength, regionIn, inRegion, Final, Regions, NoOther, AtEachArrival, Regions-end}
+use Rattle.demands.specs.Regions.{regionStart, regionLength, regionIn, inRegion, Final, Regions, NoOther, Regions-end}
 use Rattle.arrivals.proofs.Kept.{standing-kept, flag-0x4000-decides-14-or-17}
 use Rattle.demands.proofs.Regions.{regions-end}
 use Rattle.boards.specs.Boards.{plain, lentTo}
@@ -333,7 +333,7 @@ met-where-it-stands =
       complete =
           record {
             sent = own 1 (omega arith) (own 0 (omega arith) nothing);
-            met = unfold AtEachArrival in (final-there erasedStart (place-is 255) 2 (omega arith) (omega arith) erasedStart (namingBlock 0x6000 1 2) refl, (final-there erasedStart (place-is 255) 2 (omega arith) (omega arith) next (namingBlock 0x6000 0 2) (ap (take 4096) same), tt));
+            met = unfold AtEach in (final-there erasedStart (place-is 255) 2 (omega arith) (omega arith) erasedStart (namingBlock 0x6000 1 2) refl, (final-there erasedStart (place-is 255) 2 (omega arith) (omega arith) next (namingBlock 0x6000 0 2) (ap (take 4096) same), tt));
             whole = whole;
           };
     }
@@ -364,7 +364,7 @@ met-where-it-is-written differs =
       complete =
           record {
             sent = own 0 (omega arith) nothing;
-            met = unfold AtEachArrival in (other-there (lentTo Idle) (place-is 7) 1 (omega arith) (omega arith) (lentTo Idle) (namingBlock 0x6000 0 1) differs, tt);
+            met = unfold AtEach in (other-there (lentTo Idle) (place-is 7) 1 (omega arith) (omega arith) (lentTo Idle) (namingBlock 0x6000 0 1) differs, tt);
             whole = unfold size among in rw (same-refl (namingBlock 0x6000 0 1));
           };
     }

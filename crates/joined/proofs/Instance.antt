@@ -3,7 +3,7 @@ use mathlib.Core.Path.{refl}
 use mathlib.Core.List.{flatten}
 use Rattle.sets.specs.Over.{over}
 use Rattle.sets.specs.Tab.{from, tab}
-use Rattle.record.specs.Record.{textLen, textOf, digitOf, allDigits, bytesOf, data32, total, lineOfBytes, lineOfText, readOf}
+use Rattle.record.specs.Record.{textLen, textOf, digitOf, data32, total, lineOfBytes, lineOfText, readOf, allBy, bytesBy}
 use Rattle.record.specs.Write.{bytesText, recordText, recordLine}
 use Rattle.grammar.specs.Boards.{withBoard}
 use Rattle.grammar.specs.Grammar.{dataKind, afterPadding, roleOf}
@@ -29,6 +29,6 @@ unfolding Sections-at sectionLines startLines bodyLines fillLines flatten dataKi
 sections-at = refl
 
 pub two-are-joined : Two-are-joined
-unfolding Two-are-joined small crossing lines joinOf writtenOf fileText fileLines sectionLines startLines bodyLines fillLines piecesOf splitAll splitOf recordsOf recordsFrom verdictOf linesVerdict takenOf lineTaken recordTaken dataTaken linesOf flatten dataKind recordLine recordText bytesText from tab textLen textOf digitOf allDigits bytesOf data32 total lineOfBytes lineOfText readOf over readAll lineAnswers storesOf lineOf haltLine liveLine parsedLine recordOutcome effectOutcome storing effectOf givenOf movedTo withData withSection withUpper withState badReader badFailure roleOf afterPadding withBoard
+unfolding Two-are-joined small crossing lines joinOf writtenOf fileText fileLines sectionLines startLines bodyLines fillLines piecesOf splitAll splitOf recordsOf recordsFrom verdictOf linesVerdict takenOf lineTaken recordTaken dataTaken linesOf flatten dataKind recordLine recordText bytesText from tab textLen textOf digitOf allBy bytesBy data32 total lineOfBytes lineOfText readOf over readAll lineAnswers storesOf lineOf haltLine liveLine parsedLine recordOutcome effectOutcome storing effectOf givenOf movedTo withData withSection withUpper withState badReader badFailure roleOf afterPadding withBoard
 two-are-joined =
     (refl, refl, record { answered = refl; stored = refl; left = refl }, record { answered = refl; stored = refl; left = refl })

@@ -12,7 +12,7 @@ use Rattle.record.specs.declared.Line.{Line}
 use Rattle.record.specs.declared.Record.{Record}
 use Rattle.record.specs.declared.ParseResult.{ParseResult}
 use Rattle.record.specs.declared.ParseResult.the-variants.{Good, NoColon, BadShape, BadDigit, TooLong, BadLength, BadSum}
-use Rattle.record.specs.Record.{textOf, digitOf, isDigit, allDigits, firstBad, bytesOf, lenOf, dataOf, recordOf, total, noColon, badShape, badLength, badSum, good, refused, lineOfBytes, lineOfText, readOf, parsedNumber}
+use Rattle.record.specs.Record.{textOf, digitOf, isDigit, allDigits, firstBad, bytesOf, lenOf, dataOf, recordOf, total, noColon, badShape, badLength, badSum, good, refused, lineOfBytes, lineOfText, readOf, parsedNumber, allBy, bytesBy}
 use Rattle.record.specs.Write.{Bytes}
 use Rattle.digits.proofs.Digits.{length-bytes}
 use Rattle.record.proofs.Data32.{length-data32, data32-take}
@@ -71,7 +71,7 @@ module _ (l : List ℕ) (r : Record) (e : readOf l .parsed ≡ Good r) where
   good-data-length =
       let t = textOf l in
       let n : length (bytesOf (drop 1 t)) ≡ lenOf (bytesOf (drop 1 t)) + 5 =
-      omega (arith, said .long, length-bytes (drop 1 t), length-drop 1 t) in
+      omega (arith, said .long, length-bytes digitOf (drop 1 t), length-drop 1 t) in
       rw (said .fields) (simp (length-take, length-drop) (omega arith))
 
   -- the used part of the 32 bytes is the record's data
@@ -101,7 +101,7 @@ length-data l =
 
 -- what two digits say is a byte
 pub bytes-small : (l : List ℕ) → allDigits l ≡ true → Bytes (bytesOf l)
-unfolding allDigits bytesOf
+unfolding allBy bytesBy
 bytes-small [] e i h = absurd (omega arith)
 bytes-small (c ∷ []) e i h = absurd (omega arith)
 bytes-small (c ∷ d ∷ l) e zero h =

@@ -12,7 +12,7 @@ use Rattle.sets.specs.Sets.{Set, any}
 use Rattle.sets.proofs.Laws.{any-all}
 use Rattle.sets.proofs.Tests.{split, both}
 use Rattle.record.specs.declared.ParseResult.the-variants.{Good}
-use Rattle.record.specs.Record.{textLen, textOf, digitOf, allDigits, bytesOf, data32, total, badShape, lineOfBytes, lineOfText, readOf}
+use Rattle.record.specs.Record.{textLen, textOf, digitOf, allDigits, bytesOf, data32, total, badShape, lineOfBytes, lineOfText, readOf, allBy, bytesBy}
 use Rattle.record.specs.Write.{digitText, bytesText, fieldBytes, checksum, recordText, Ending, none, lf, crlf, Bytes, Reads-back}
 use Rattle.record.proofs.Endings.{text-whole, text-lf, text-crlf}
 use Rattle.record.proofs.Sums.{total-append, total-one}
@@ -47,7 +47,7 @@ record Back (w : List ℕ) : Type 0 where
   bytes : bytesOf (bytesText w) ≡ w
 
 back : (w : List ℕ) → Bytes w → Back w
-unfolding bytesText bytesOf allDigits
+unfolding bytesText bytesBy allBy
 back [] h = record { digits = refl; bytes = refl }
 back (b ∷ w) h =
     let small : b < 256 = h 0 (omega arith) in

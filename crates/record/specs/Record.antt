@@ -6,8 +6,8 @@ use mathlib.Core.List.{List, [], _∷_}
 use lib.Dec.{ltb, leb, eqb}
 use lib.ListN.{length, getD, take, drop}
 use Rattle.sets.specs.Tab.{tab}
-pub use Rattle.digits.specs.Digits.{isDigit}
-unfoldable pub use Rattle.digits.specs.Digits.{digitOf, allDigits, firstBad, bytesOf}
+pub use Rattle.digits.specs.Digits.{isDigit, allDigits, firstBad, bytesOf}
+unfoldable pub use Rattle.digits.specs.Digits.{digitOf, allBy, firstBy, bytesBy}
 use Rattle.record.specs.declared.Record.{Record}
 use Rattle.record.specs.declared.ParseResult.{ParseResult}
 use Rattle.record.specs.declared.Line.{Line}

@@ -10,7 +10,7 @@ use lib.Seq.{take-all, getD-take}
 use borrow.Author.Tests.{ltb-true, ltb-false}
 use Rattle.sets.proofs.Tests.{split}
 use Rattle.record.specs.declared.ParseResult.the-variants.{BadDigit}
-use Rattle.record.specs.Record.{allDigits, firstBad, bytesOf, lenOf, badShape, refused, lineOfBytes, lineOfText}
+use Rattle.record.specs.Record.{digitOf, allDigits, firstBad, bytesOf, lenOf, badShape, refused, lineOfBytes, lineOfText}
 use Rattle.digits.proofs.Digits.{length-bytes, Decoding, rest}
 use Rattle.digits.proofs.FirstBad.{bad-some, bad-all}
 use Rattle.record.proofs.Checks.{is-too-long, is-bad-length, shaped, is-bad-digit, is-bytes}
@@ -53,5 +53,5 @@ module _ (t : List ℕ) (some : length t ≡ 0 → ⊥) (colon : getD t 0 0 ≡ 
       let h : length (drop 1 t) / 2 ≡ length t / 2 = simp length-drop (omega arith) in
       let f : take (length t / 2) out ≡ take 37 (bytesOf (drop 1 t)) = rw (h, n) at d in
       in-bytes (length t) out m
-      ∙ rw f (first-37 (length t) (bytesOf (drop 1 t)) (omega (arith, length-bytes (drop 1 t), length-drop 1 t)))
+      ∙ rw f (first-37 (length t) (bytesOf (drop 1 t)) (omega (arith, length-bytes digitOf (drop 1 t), length-drop 1 t)))
       ∙ is-bytes t some colon shape e

@@ -7,7 +7,7 @@ use native.Mathlib.Omega.{arith}
 use Rattle.sets.proofs.Tests.{clash}
 use Rattle.sets.specs.Over.{over}
 use Rattle.sets.specs.Tab.{from, tab}
-use Rattle.record.specs.Record.{textLen, textOf, digitOf, allDigits, bytesOf, data32, total, lineOfBytes, lineOfText, readOf, onRecord}
+use Rattle.record.specs.Record.{textLen, textOf, digitOf, data32, total, lineOfBytes, lineOfText, readOf, onRecord, allBy, bytesBy}
 use Rattle.record.specs.Write.{bytesText, recordText}
 use Rattle.record.specs.declared.ParseResult.{ParseResult}
 use Rattle.record.specs.declared.ParseResult.the-variants as parsed
@@ -41,7 +41,7 @@ said (l ∷ ls) g = first (readOf l .parsed) refl g (said ls)
     first parsed.BadSum e g s = clash false g refl
 
 says-items : Says (map lineFor items) items
-unfolding items allItems allGood itemsOf from tab textLen textOf allDigits bytesOf data32 total lineOfBytes lineOfText readOf digitOf bytesText recordText
+unfolding items allItems allGood itemsOf from tab textLen textOf allBy bytesBy data32 total lineOfBytes lineOfText readOf digitOf bytesText recordText
 says-items = subst (λ (xs : List Item). Says (map lineFor items) xs) same (said (map lineFor items) refl)
   where
     same : itemsOf (map lineFor items) ≡ items

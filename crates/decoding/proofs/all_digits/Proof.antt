@@ -5,20 +5,20 @@ use native.Mathlib.Omega.{arith}
 use lib.Dec.{ltb}
 use lib.ListN.{length, take}
 use lib.Seq.{take-all}
-use Rattle.digitpairs.specs.Values.{allIn}
+use Rattle.digitpairs.specs.Values.{allBy, valueIn}
 use Rattle.digitpairs.proofs.Values.{all-next}
 use borrow.Author.Needs.{needs}
 use Rattle.decoding.proofs.all_digits.Statement.{statement}
 use Rattle.decoding.proofs.all_digits.Tie as tie
 
 abbrev Inv-loop : tie.InvT-loop
-Inv-loop table chars met₀ i₀ met i = (i ≤ length chars) × (ltb met 16 ≡ allIn table (take i chars))
+Inv-loop table chars met₀ i₀ met i = (i ≤ length chars) × (ltb met 16 ≡ allBy (valueIn table) (take i chars))
 
 abbrev μ-loop : tie.MeasureT-loop
 μ-loop table chars met₀ i₀ met i = length chars - i
 
 loop-holds : tie.Need-loop-holds Inv-loop μ-loop
-unfolding allIn
+unfolding allBy
 loop-holds c = (search needs, refl)
 
 shared-slice-read-value : tie.Need-shared-slice-read-value Inv-loop μ-loop
@@ -46,7 +46,7 @@ loop-again c =
 returns : tie.Need-returns Inv-loop μ-loop
 returns c =
     let s = c .before .before .args in
-    c .before .loop .inv .1 ∙ ap (allIn (s .table .now)) (take-all _ _ (c .loop-test .left))
+    c .before .loop .inv .1 ∙ ap (allBy (valueIn (s .table .now))) (take-all _ _ (c .loop-test .left))
 
 pub all-digits-spec : {M : Type 1} → statement M
 all-digits-spec =

@@ -1,6 +1,7 @@
 -- `decoding::decode` meets its contract. Assumes nothing.
 use mathlib.Core.Path.{sym}
 use Prim.Native.Nat.{_*_}
+use Rattle.digitpairs.specs.Values.{valueIn}
 use Rattle.digitpairs.proofs.Values.{all-parts}
 use Rattle.decoding.proofs.FirstLaws.{rest}
 use borrow.Author.Needs.{needs}
@@ -38,7 +39,7 @@ returns c =
     let s = n .before .before .before .args in
     let l = s .chars .now in
     let k = n .least .result in
-    (rw (p .pairs .ensures .0, c .all-digits .ensures, rest (2 * k) l, sym (n .least .ensures)) (all-parts (s .table .now) (2 * k) l), p .pairs .ensures .1)
+    (rw (p .pairs .ensures .0, c .all-digits .ensures, rest (2 * k) l, sym (n .least .ensures)) (all-parts (valueIn (s .table .now)) (2 * k) l), p .pairs .ensures .1)
 
 pub decode-spec : {M : Type 1} → statement M
 decode-spec =

@@ -3,14 +3,15 @@ use Prim.Native.Nat.{_+_, _-_, _≤_}
 use mathlib.Core.Path.{_≡_}
 use native.Mathlib.Omega.{arith}
 use lib.ListN.{length, drop}
-use Rattle.decoding.specs.First.{firstIn}
+use Rattle.digitpairs.specs.Values.{valueIn}
+use Rattle.decoding.specs.First.{firstBy}
 use Rattle.decoding.proofs.FirstLaws.{first-here, first-next, first-end}
 use borrow.Author.Needs.{needs}
 use Rattle.decoding.proofs.first_bad.Statement.{statement}
 use Rattle.decoding.proofs.first_bad.Tie as tie
 
 abbrev Inv-loop : tie.InvT-loop
-Inv-loop table chars i₀ i = (i ≤ length chars) × (firstIn table chars ≡ i + firstIn table (drop i chars))
+Inv-loop table chars i₀ i = (i ≤ length chars) × (firstBy (valueIn table) chars ≡ i + firstBy (valueIn table) (drop i chars))
 
 abbrev μ-loop : tie.MeasureT-loop
 μ-loop table chars i₀ i = length chars - i
@@ -50,7 +51,7 @@ loop-again c =
 returns-2 : tie.Need-returns-2 Inv-loop μ-loop
 returns-2 c =
     let s = c .before .before .args in
-    omega (arith, c .before .loop .inv .1, first-end (s .table .now) (s .chars .now) (c .before .loop .i) (c .loop-test .left))
+    omega (arith, c .before .loop .inv .1, first-end (valueIn (s .table .now)) (s .chars .now) (c .before .loop .i) (c .loop-test .left))
 
 pub first-bad-spec : {M : Type 1} → statement M
 first-bad-spec =

@@ -6,7 +6,7 @@ use Prim.Native.Nat.{ℕ, _+_, _-_, _*_, _/_, _≤_, _<_, min}
 use lib.Bits.{bitOr}
 use lib.Dec.{ltb}
 use lib.ListN.{length, getD, take, set, length-set}
-use Rattle.digitpairs.specs.Values.{allIn}
+use Rattle.digitpairs.specs.Values.{valueIn, allBy}
 use Rattle.digitpairs.proofs.Values.{value-at, all-next}
 use Rattle.digitpairs.proofs.Stored.{begun, begun-next, begun-all}
 use borrow.Author.Needs.{needs}
@@ -14,7 +14,7 @@ use Rattle.digitpairs.proofs.pairs.Statement.{statement}
 use Rattle.digitpairs.proofs.pairs.Tie as tie
 
 abbrev Inv-loop : tie.InvT-loop
-Inv-loop table chars out₀ room found₀ i₀ out found i = (i ≤ room) × (length out ≡ length out₀) × (ltb found 16 ≡ allIn table (take (2 * i) chars)) × (out ≡ begun table chars out₀ i)
+Inv-loop table chars out₀ room found₀ i₀ out found i = (i ≤ room) × (length out ≡ length out₀) × (ltb found 16 ≡ allBy (valueIn table) (take (2 * i) chars)) × (out ≡ begun (valueIn table) chars out₀ i)
 
 abbrev μ-loop : tie.MeasureT-loop
 μ-loop table chars out₀ room found₀ i₀ out found i = room - i
@@ -23,7 +23,7 @@ least-requires : tie.Need-least-requires Inv-loop μ-loop
 least-requires c κs = search needs
 
 loop-holds : tie.Need-loop-holds Inv-loop μ-loop
-unfolding allIn
+unfolding allBy
 loop-holds c = (search needs, refl, refl, refl)
 
 mul-high : tie.Need-mul-high Inv-loop μ-loop
@@ -85,7 +85,7 @@ loop-again c =
       omega arith,
       simp length-set (n .loop .inv .1),
       rw next at low,
-      begun-next t l (b .out .now) (n .loop .out) i k (value-at t _ h) (value-at t _ w) (n .loop .inv .3),
+      begun-next (valueIn t) l (b .out .now) (n .loop .out) i k (value-at t _ h) (value-at t _ w) (n .loop .inv .3),
     )
 
 same-length : tie.Need-same-length Inv-loop μ-loop
@@ -97,7 +97,7 @@ returns c =
     let b = n .before .before .before .before .args in
     let e : n .loop .i ≡ n .before .least .result = omega arith in
     let k = e ∙ n .before .least .ensures in
-    (n .loop .inv .2 ∙ ap (λ (j : ℕ). allIn (b .table .now) (take (2 * j) (b .chars .now))) k, n .loop .inv .3 ∙ begun-all (b .table .now) (b .chars .now) (b .out .now) (n .loop .i) k)
+    (n .loop .inv .2 ∙ ap (λ (j : ℕ). allBy (valueIn (b .table .now)) (take (2 * j) (b .chars .now))) k, n .loop .inv .3 ∙ begun-all (valueIn (b .table .now)) (b .chars .now) (b .out .now) (n .loop .i) k)
 
 pub pairs-spec : {M : Type 1} → statement M
 pairs-spec =
