@@ -1,10 +1,10 @@
 -- Demand 3 of files with regions (02, L9): "Demand 3 for such files speaks of flash at completion only, never of the sector map." What holds of any
 -- file at any time is in Demand.antt (`List-counts`, `Other-kinds-stay`, `List-answers`, `Completed-exactly`). Proved in proofs/Regions.antt.
 -- Assumes nothing.
-use Prim.Native.Nat.{ℕ, _+_, _-_, _*_, _/_, _≤_, _<_}
+use Prim.Native.Nat.{ℕ, _+_, _-_, _*_, _≤_, _<_}
 use mathlib.Core.Path.{_≡_}
 use mathlib.Core.Bool.{Bool, true, false, _&&_}
-use mathlib.Core.List.{List, [], _∷_}
+use mathlib.Core.List.{List, []}
 use lib.Dec.{leb, ltb}
 use lib.ListN.{length, getD, take, drop}
 use Rattle.sets.specs.Sets.{any}

@@ -1,11 +1,11 @@
 -- The first character that is no digit, beside row 22's test. Assumes nothing.
 use Prim.Native.Nat.{ℕ, zero, suc, _≤_, _<_}
-use mathlib.Core.Path.{_≡_, refl, ap}
-use mathlib.Core.Bool.{Bool, true, false, _&&_}
+use mathlib.Core.Path.{_≡_, refl}
+use mathlib.Core.Bool.{true, false}
 use mathlib.Core.List.{List, [], _∷_}
 use native.Mathlib.Omega.{arith}
 use lib.ListN.{length, getD}
-use Rattle.sets.proofs.Tests.{split, clash, and-right}
+use Rattle.sets.proofs.Tests.{split}
 use Rattle.decoding.proofs.FirstLaws.{first-none}
 use Rattle.digits.specs.Digits.{digitOf, isDigit, allDigits, firstBad, allBy, firstBy}
 

@@ -28,7 +28,7 @@ module _ {d e : settings.Entry} (h : AlikeEntry d e) where
   marked-alike Arm = h .not-bootable-arm
   marked-alike RiscV = h .not-bootable-riscv
 
-  takes-alike : (w : PassQuery) (pass : ℕ) → passTakes w pass d ≡ passTakes w pass e
+  pub takes-alike : (w : PassQuery) (pass : ℕ) → passTakes w pass d ≡ passTakes w pass e
   unfolding passTakes passAllows
   takes-alike w pass =
       rw (accepts-alike h (w .family), marked-alike (w .current), marked-alike (otherArch (w .current)), h .link)
@@ -54,11 +54,11 @@ module _ (t u : List settings.Entry) (n : ℕ) (at : (k : ℕ) → k < n → Ali
 -- ---- the settings
 
 module _ (s t : Settings) (h : Alike s t) where
-  query-alike : (f : ℕ) → passQueryOf s f ≡ passQueryOf t f
+  pub query-alike : (f : ℕ) → passQueryOf s f ≡ passQueryOf t f
   unfolding passQueryOf
   query-alike f = rw (enabled-alike s t h (otherArch (s .current)), h .current, h .auto-switch)
 
-  looked : (k : ℕ) → k < usedCount (s .count) → AlikeEntry (entryAt (s .table) k) (entryAt (t .table) k)
+  pub looked : (k : ℕ) → k < usedCount (s .count) → AlikeEntry (entryAt (s .table) k) (entryAt (t .table) k)
   looked k l = h .entries k (omega (arith, used-least (s .count)))
 
   entry-alike : (f : ℕ) → chosenEntry s f ≡ chosenEntry t f

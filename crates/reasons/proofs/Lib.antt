@@ -8,3 +8,4 @@ pub mod Theorems
 pub mod Places
 pub mod Counts
 pub mod Bytes
+pub mod Alike

@@ -21,13 +21,13 @@ use Rattle.settings.specs.Alike.{AlikeEntry, Alike, Alike-good}
 
 module _ {d e : Entry} (h : AlikeEntry d e) where
   -- a test of the user family in a slot that is used
-  slot-alike : (P : ℕ → Bool) (i : ℕ) → ltb i (d .«user_count») && P (getD (d .users) i 0) ≡ ltb i (e .«user_count») && P (getD (e .users) i 0)
+  pub slot-alike : (P : ℕ → Bool) (i : ℕ) → ltb i (d .«user_count») && P (getD (d .users) i 0) ≡ ltb i (e .«user_count») && P (getD (e .users) i 0)
   slot-alike P i =
       split (ltb i (d .«user_count»))
       (λ t. rw (← h .user-count, t, h .users i (ltb-true i (d .«user_count») t)))
       (λ t. rw (← h .user-count, t))
 
-  reserved-alike : reservedUser d ≡ reservedUser e
+  pub reserved-alike : reservedUser d ≡ reservedUser e
   unfolding reservedUser
   reserved-alike = any-cong 4 (reservedAt d) (reservedAt e) (λ i l. slot-alike isReserved i)
 
@@ -42,7 +42,7 @@ module _ {d e : Entry} (h : AlikeEntry d e) where
 -- ---- tables whose first n entries are alike
 
 module _ (t u : List Entry) (n : ℕ) (at : (k : ℕ) → k < n → AlikeEntry (entryAt t k) (entryAt u k)) where
-  overlap-alike : (k j : ℕ) → k < n → j < n → overlapAt t k j ≡ overlapAt u k j
+  pub overlap-alike : (k j : ℕ) → k < n → j < n → overlapAt t k j ≡ overlapAt u k j
   unfolding overlapAt
   overlap-alike k j l m = rw (at k l .first, at k l .sectors, at j m .first, at j m .sectors)
 
@@ -50,14 +50,14 @@ module _ (t u : List Entry) (n : ℕ) (at : (k : ℕ) → k < n → AlikeEntry (
   unfolding sharesSector
   shares-alike k l = any-cong n (sharesWith t k) (sharesWith u k) (λ j m. ap (λ (x : Bool). not (eqb j k) && x) (overlap-alike k j l m))
 
-  up-alike : (k : ℕ) → k < n → linksUp t k ≡ linksUp u k
+  pub up-alike : (k : ℕ) → k < n → linksUp t k ≡ linksUp u k
   up-alike k l = rw (at k l .link)
 
   -- a link to a used entry; any other is refused already
   to-b-alike : (k : ℕ) → k < n → linkTarget (entryAt t k .link) < n → linksToB t k ≡ linksToB u k
   to-b-alike k l m = rw (← at k l .link, at (linkTarget (entryAt t k .link)) m .link)
 
-  to-b : (k : ℕ) → k < n → linksUp t k ≡ false → linksToB t k ≡ linksToB u k
+  pub to-b : (k : ℕ) → k < n → linksUp t k ≡ false → linksToB t k ≡ linksToB u k
   to-b k l up =
       split (isUnowned (entryAt t k))
       (λ f. rw (← at k l .link, f))
