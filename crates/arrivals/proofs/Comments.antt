@@ -101,6 +101,15 @@ raised-room t g m d k good some q =
         let b = ltb (r .count) (r .head .total) in
         ltb-true (r .count) (r .head .total) (and-right a b (and-left (a && b) (leb (r .head .total) 131072) e))
 
+-- a transfer whose count is below its total runs, and another is done
+went : (g : Head) (c : ℕ) → countOf (counted g c) < g .total → counted g c ≡ Running (record { head = g; count = countOf (counted g c) })
+unfolding counted
+went g c h = split (ltb c (g .total)) (λ y. rw y) (λ z. let l : g .total < g .total = rw z at h in absurd (omega arith))
+
+ended : (g : Head) (c : ℕ) → g .total ≤ countOf (counted g c) → counted g c ≡ Done g
+unfolding counted
+ended g c h = split (ltb c (g .total)) (λ y. let l : g .total ≤ c = rw y at h in absurd (omega (arith, ltb-true c (g .total) y))) (λ z. rw z)
+
 -- an accepted block that does e, which is not to store
 pub unstored : (s : Settings) (w : World) (a : List ℕ) (e : Deed) (g : PlacedBlock) (k : Accepted) → Passing s w a g → Board s w
     → AcceptFacts (w .transfer) (g .head) (markedIn (w .seen) (g .number)) (deedAt s w a g) k → deedAt s w a g ≡ e → e ≢ Stores
@@ -110,6 +119,7 @@ unstored s w a e g k q B t f n =
     let m : k .clears ≡ clears (w .transfer) (headOf w a) = took-clears t ∙ ap (clears (w .transfer)) (q .head) in
     let c : ℕ = raisedCount t in
     let left = left-none s w a g k q B e f n in
+    let st : k .transfer .state ≡ counted (headOf w a) c = took-state t ∙ ap (λ (h : Head). counted h c) (q .head) in
     let some : 1 ≤ g .head .total = omega (arith, ap (λ (h : Head). h .total) (q .head), q .below) in
     let r : numberOf (k .answer) ≡ numberOf (raised e (g .head) c) =
     ap numberOf (took-answer t) ∙ ap (λ (x : Deed). numberOf (raised x (g .head) c)) f in
@@ -127,6 +137,8 @@ unstored s w a e g k q B t f n =
           ∙ counted-told (g .head) c
           (raised-room (w .transfer) (g .head) (markedIn (w .seen) (g .number)) (deedAt s w a g) k (B .state) some t)
           ∙ ap (λ (h : Head). cond (clears (w .transfer) h) 1 (countOf (w .transfer) + 1)) (q .head);
+      running = λ h. subst (λ (x : State). countOf x < fieldAt a 24 → x ≡ Running (record { head = headOf w a; count = countOf x })) (sym st) (went (headOf w a) c) h;
+      done = λ h. subst (λ (x : State). fieldAt a 24 ≤ countOf x → x ≡ Done (headOf w a)) (sym st) (ended (headOf w a) c) h;
       answer =
           r ∙ raised-told e (g .head) c
           ∙ ap (λ (h : Head). cond (ltb (countOf (counted (g .head) c)) (h .total)) (numberOf (deedAnswer e)) 15) (q .head)

@@ -2,7 +2,7 @@
 use Prim.Native.Nat.{ℕ, _+_, _≤_, _<_}
 use mathlib.Core.Path.{_≡_, refl, sym, ap, subst}
 use mathlib.Core.Logic.{_⊎_, inl, inr}
-use mathlib.Core.Bool.{Bool, true, false, cond, _&&_}
+use mathlib.Core.Bool.{Bool, true, false, not, cond, _&&_}
 use mathlib.Core.List.{List}
 use native.Mathlib.Omega.{arith}
 use lib.Dec.{eqb, ltb}
@@ -122,12 +122,19 @@ step-late w p g d (Running r) b =
     (λ q. rw q (omega (arith, raised-number d (g .head) 1)))
 step-late w p g d (Done h) b = omega arith
 
+-- a running transfer of another head
+abbrev pub runsOther : State → Head → Bool
+runsOther Idle g = false
+runsOther (Running r) g = not (sameHead (r .head) g)
+runsOther (Done h) g = false
+
 -- a step that accepts a block of head g to a transfer t, where its number is marked or not, and which does d
 pub record AcceptFacts (t : State) (g : Head) (marked : Bool) (d : Deed) (k : Accepted) : Type 0 where
   pub discards : Bool
   pub is : k ≡ accepted d (clears t g) discards g (cond (clears t g) 1 (countOf t + 1))
   pub going : clears t g ≡ false → (r : Run) × (t ≡ Running r) × (r .head ≡ g) × (marked ≡ false)
   pub opening : clears t g ≡ true → (t ≡ Idle) ⊎ (discards ≡ true)
+  pub told : discards ≡ runsOther t g
 
 abbrev StepFacts : State → Head → Bool → Deed → Step → Type 0
 StepFacts t g m d (Stays x) = numberOf (x .answer) ≤ 13
@@ -135,7 +142,7 @@ StepFacts t g m d (Accepts k) = AcceptFacts t g m d k
 
 step-facts : (t : State) (g : Head) (m : Bool) (d : Deed) → StepFacts t g m d (stepOf t g m d)
 unfolding stepOf
-step-facts Idle g m d = record { discards = false; is = refl; going = λ e. clash true refl e; opening = λ e. inl refl }
+step-facts Idle g m d = record { discards = false; is = refl; going = λ e. clash true refl e; opening = λ e. inl refl; told = refl }
 step-facts (Running r) g m d =
     split (sameHead (r .head) g)
     (λ q.
@@ -148,8 +155,9 @@ step-facts (Running r) g m d =
       is = rw q;
       going = λ e. (r, refl, head-same (r .head) g q, refl);
       opening = λ e. clash false (rw q at e) refl;
+      told = rw q;
     })))
-    (λ q. rw q (record { discards = true; is = rw q; going = λ e. clash true refl (rw q at e); opening = λ e. inr refl }))
+    (λ q. rw q (record { discards = true; is = rw q; going = λ e. clash true refl (rw q at e); opening = λ e. inr refl; told = rw q }))
 step-facts (Done h) g m d = omega arith
 
 pub took-number : {t : State} {g : Head} {m : Bool} {d : Deed} {k : Accepted} → AcceptFacts t g m d k → 14 ≤ numberOf (k .answer)

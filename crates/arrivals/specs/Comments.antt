@@ -14,6 +14,7 @@ use Rattle.transfer.specs.Transfer.{numberOf, countOf}
 use Rattle.transfer.specs.declared.Kind.{Kind}
 use Rattle.transfer.specs.declared.Deed.{Deed}
 use Rattle.transfer.specs.declared.Deed.the-variants.{Stores, Notes, Keeps}
+use Rattle.transfer.specs.declared.State.the-variants.{Running, Done}
 use Rattle.transfer.specs.declared.Accepted.{Accepted}
 use Rattle.screen.specs.declared.PlacedBlock.{PlacedBlock}
 use Rattle.arrival.specs.Arrive.{World, Outcome, bufferOf, accepts, decided, clearedIf, wipedIf, receiveOf}
@@ -50,6 +51,10 @@ pub record Unstored (n : ℕ) (w : World) (a : List ℕ) (o : Outcome) : Type 0 
   pub seen : o .world .seen ≡ withMark (clearedIf (clears (w .transfer) (headOf w a)) (w .seen)) (fieldAt a 20)
   -- from 0 where the maps are cleared
   pub count : countOf (o .world .transfer) ≡ cond (clears (w .transfer) (headOf w a)) 1 (countOf (w .transfer) + 1)
+  -- of the block's family, total and kind; "at the total the transfer is Done"
+  pub running : countOf (o .world .transfer) < fieldAt a 24
+      → o .world .transfer ≡ Running (record { head = headOf w a; count = countOf (o .world .transfer) })
+  pub done : fieldAt a 24 ≤ countOf (o .world .transfer) → o .world .transfer ≡ Done (headOf w a)
   pub answer : numberOf (o .answer) ≡ cond (ltb (countOf (o .world .transfer)) (fieldAt a 24)) n 15
 
 -- of a comment that is accepted; one that isn't changes nothing, as every arrival answered up to 13

@@ -1,3 +1,4 @@
 mod Made
 pub mod Delivery
 pub mod Instance
+pub mod Refusals

@@ -3,3 +3,4 @@ pub mod Parts
 pub mod Compared
 pub mod Written
 pub mod Encoding
+pub mod Bits

@@ -81,7 +81,7 @@ module _ (s : Settings) where
   version-low = split (any (s .count) (noRestartAt (s .table))) (λ e. rw e (omega arith)) (λ e. rw e (omega arith))
 
   -- in version 1 no used entry has "don't restart"
-  version-old : versionOf s ≡ 1 → any (s .count) (noRestartAt (s .table)) ≡ false
+  pub version-old : versionOf s ≡ 1 → any (s .count) (noRestartAt (s .table)) ≡ false
   unfolding versionOf
   version-old v = split (any (s .count) (noRestartAt (s .table))) (λ e. let z : _≡_ {A = ℕ} 2 1 = rw e at v in absurd (omega arith)) (λ e. e)
 
@@ -111,12 +111,12 @@ module _ (s : Settings) (few : s .count ≤ 16) (fits : (k : ℕ) → k < s .cou
   abbrev tail : List ℕ
   tail = rows (rowAt (s .table)) (s .count)
 
-  head-fit : Fit headWidths (headFields s)
+  pub head-fit : Fit headWidths (headFields s)
   unfolding headFields
   head-fit =
       one {w = 4} {v = versionOf s} (version-low s) (one {w = 5} {v = s .count} (omega arith) (one {w = 1} (bit-lt (s .«auto_switch»)) (one {w = 1} (bit-lt (s .absolute)) (one {w = 1} (bit-lt (s .arm)) (one {w = 1} (bit-lt (s .riscv)) (one {w = 1} (arch-lt (s .current)) (one {w = 2} {v = 0} (omega arith) none)))))))
 
-  head-length : length head ≡ 2
+  pub head-length : length head ≡ 2
   unfolding bytesOf unpacked octets
   head-length = refl
 
@@ -127,17 +127,17 @@ module _ (s : Settings) (few : s .count ≤ 16) (fits : (k : ℕ) → k < s .cou
   unfolding storeOf
   store-length = omega (arith, length-append head tail, head-length, tail-length)
 
-  head-back : headIn (storeOf s) ≡ headFields s
+  pub head-back : headIn (storeOf s) ≡ headFields s
   unfolding headIn storeOf
   head-back = rw (take-at head tail 2 head-length) (fields-bytes headWidths 2 head-even head-fit)
 
-  part-back : (k : ℕ) → k < s .count → partIn (storeOf s) k ≡ rowAt (s .table) k
+  pub part-back : (k : ℕ) → k < s .count → partIn (storeOf s) k ≡ rowAt (s .table) k
   unfolding storeOf
   part-back k l =
       ap (take 22) (sym (drop-drop (22 * k) 2 (head ++ tail)) ∙ ap (drop (22 * k)) (drop-at head tail 2 head-length))
       ∙ part-rows 22 (s .count) (rowAt (s .table)) (λ j m. length-row (s .table) j) (s .count) k (omega arith) l
 
-  row-fields : (k : ℕ) → k < s .count → fieldsOf entryWidths 22 (rowAt (s .table) k) ≡ entryFields (entryAt (s .table) k)
+  pub row-fields : (k : ℕ) → k < s .count → fieldsOf entryWidths 22 (rowAt (s .table) k) ≡ entryFields (entryAt (s .table) k)
   unfolding rowAt packedEntry
   row-fields k l = fields-bytes entryWidths 22 even (entry-fit (entryAt (s .table) k) (λ i. narrow k i l))
 

@@ -48,7 +48,7 @@ use Rattle.plainfile.proofs.Cuts.{cuts-byte, cuts-one}
 
 -- ---- an output
 
-record OutputFacts (a b out : List ℕ) (n : ℕ) : Type 0 where
+pub record OutputFacts (a b out : List ℕ) (n : ℕ) : Type 0 where
   pub fine-a : verdictOf a ≡ Fine
   pub fine-b : verdictOf b ≡ Fine
   pub size : n ≡ length (fileText (piecesOf a) (piecesOf b))
@@ -82,7 +82,7 @@ written-there : (t out : List ℕ) → length t ≤ 4194304 → length t ≤ len
 unfolding writtenOf
 written-there t out m f = rw (le-ltb 4194304 (length t) m, le-ltb (length out) (length t) f)
 
-output : (a b out : List ℕ) (n : ℕ) → joinOf a b out .answer ≡ Written n → OutputFacts a b out n
+pub output : (a b out : List ℕ) (n : ℕ) → joinOf a b out .answer ≡ Written n → OutputFacts a b out n
 unfolding joinOf
 output a b out n e = by-verdicts (verdictOf a) (verdictOf b) refl refl e
   where
@@ -96,27 +96,27 @@ output a b out n e = by-verdicts (verdictOf a) (verdictOf b) refl refl e
 
 -- the text that stands in the room, and its lines
 module _ (a b out : List ℕ) (n : ℕ) (o : OutputFacts a b out n) where
-  abbrev text : List ℕ
+  abbrev pub text : List ℕ
   text = fileText (piecesOf a) (piecesOf b)
 
-  abbrev ls : List (List ℕ)
+  abbrev pub ls : List (List ℕ)
   ls = linesOf (take n (joinOf a b out .room))
 
   text-there : take n (joinOf a b out .room) ≡ text
   unfolding over
   text-there = rw (o .size, o .room) (take-append-seam text (drop (0 + length text) out))
 
-  part-a : PartedText a
+  pub part-a : PartedText a
   part-a = parted a (o .fine-a)
 
-  part-b : PartedText b
+  pub part-b : PartedText b
   part-b = parted b (o .fine-b)
 
-  lines-there : ls ≡ fileLines (piecesOf a) (piecesOf b)
+  pub lines-there : ls ≡ fileLines (piecesOf a) (piecesOf b)
   unfolding fileText
   lines-there = ap linesOf text-there ∙ written-lines (file-written (part-a .pieces) (part-b .pieces))
 
-  says-there : Says ls (fileItems (piecesOf a) (piecesOf b))
+  pub says-there : Says ls (fileItems (piecesOf a) (piecesOf b))
   says-there = rw lines-there (written-says (file-written (part-a .pieces) (part-b .pieces)))
 
   file-there : (f : File (fileItems (piecesOf a) (piecesOf b))) × (f .sections ≡ sections (piecesOf a) (piecesOf b)) × (f .ending ≡ item 0x01 0 [])

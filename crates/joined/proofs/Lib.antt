@@ -5,3 +5,4 @@ pub mod Whole
 pub mod One
 pub mod Claims
 pub mod Instance
+pub mod Characters

@@ -1,3 +1,4 @@
 pub mod Form
 pub mod Claims
 pub mod Instance
+pub mod Characters

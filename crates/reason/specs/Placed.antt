@@ -72,5 +72,9 @@ placedMarks s f (Refused x) = entriesOf s f (x .cause)
 placedMarks s f (Whole r) = noMarks
 placedMarks s f (Entry p k) = noMarks
 
+-- of a place asked for alone
+abbrev pub whyPlaceNumber : WhyPlace → ℕ
+whyPlaceNumber y = placedNumber (y .placed)
+
 unfoldable pub whyPlaceOf : Settings → ℕ → ℕ → WhyPlace
 whyPlaceOf s len f = record { placed = placedOf s len f; entries = placedMarks s f (placedOf s len f) }

@@ -5,6 +5,8 @@ use mathlib.Core.List.{List}
 use Rattle.fill.specs.Many.{many}
 use Rattle.block.specs.Block.{fieldAt}
 use Rattle.settings.specs.declared.Settings.{Settings}
+use Rattle.transfer.specs.Transfer.{numberOf}
+use Rattle.causes.specs.Causes.{answerOf}
 use Rattle.transfer.specs.declared.Head.{Head}
 use Rattle.transfer.specs.declared.State.{State}
 use Rattle.arrival.specs.Arrive.{World}
@@ -79,6 +81,10 @@ whyWith s w a r =
       discarded = discardsOf (w .transfer) (headIn w a) (r .cause);
       entries = entriesOf s (fieldAt a 28) (r .cause);
     }
+
+-- the number of its answer
+abbrev pub whyNumber : Why → ℕ
+whyNumber y = numberOf (answerOf (y .reason .cause))
 
 unfoldable pub whyOf : Settings → World → List ℕ → Why
 whyOf s w a = whyWith s w a (reasonOf s w a)

@@ -1,7 +1,8 @@
 // Why an arrival is answered as it is, and why a family has a place or none: the check that decides, first in its row as written.
 ghost use mathlib.Core.Path.{_≡_};
-ghost use Rattle.reason.specs.Why.{reasonOf, discardsOf, noMarks, denialMarks, entriesOf, whyOf};
-ghost use Rattle.reason.specs.Placed.{placedOf, placedMarks, whyPlaceOf};
+ghost use Rattle.reason.specs.Why.{reasonOf, discardsOf, noMarks, denialMarks, entriesOf, whyNumber, whyOf};
+ghost use Rattle.reason.specs.Placed.{placedOf, placedMarks, whyPlaceNumber, whyPlaceOf};
+ghost use Rattle.sets.specs.Numbered.{numbered};
 ghost use Rattle.checklist.specs.Parts.{findingRow, accessRow, accessIn, boardPart, earlyPart, blockPart, placePart};
 ghost use Rattle.faults.specs.Faults.{firstFault};
 ghost use Rattle.arrival.specs.Lending.{lentAt, world};
@@ -230,7 +231,7 @@ pub fn explain(
     main: &[u8],
     xip: &[u8],
 ) -> Why
-    ensures { λ r. ⌜ r ≡ whyOf settings (world transfer (lentAt flash seen sectors main xip)) (now (arrival .entry)) ⌝ }
+    ensures { λ r. ⌜ numbered whyNumber r ≡ numbered whyNumber (whyOf settings (world transfer (lentAt flash seen sectors main xip)) (now (arrival .entry))) ⌝ }
 {
     let reason = reason_of(settings, transfer, arrival, flash, seen, sectors, main, xip);
     let cause = reason.cause;
@@ -294,7 +295,7 @@ fn placed_marks(settings: Settings, family: u32, placed: PlaceOrigin) -> [u8; 16
 
 // Why a family has a place in a flash of so many bytes, or none.
 pub fn explain_place(settings: Settings, flash_len: usize, family: u32) -> WhyPlace
-    ensures { λ r. ⌜ r ≡ whyPlaceOf settings «flash_len» family ⌝ }
+    ensures { λ r. ⌜ numbered whyPlaceNumber r ≡ numbered whyPlaceNumber (whyPlaceOf settings «flash_len» family) ⌝ }
 {
     let found = place_source(settings, flash_len, family);
     let entries = placed_marks(settings, family, found);

@@ -3,3 +3,4 @@ pub mod Places
 pub mod Calls
 pub mod Laid
 pub mod Acme
+pub mod Answers

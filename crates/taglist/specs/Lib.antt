@@ -1,3 +1,4 @@
 pub mod Calls
 pub mod Laid
 pub mod Acme
+pub mod Answers

@@ -1,3 +1,4 @@
 -- The proofs of the claims.
 pub mod Exact
 pub mod Instance
+pub mod Reader

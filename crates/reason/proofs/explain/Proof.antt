@@ -2,6 +2,9 @@
 use denote.Ref.{now}
 use Rattle.arrival.specs.Lending.{lent, world}
 use Rattle.reason.proofs.Laws.{explained}
+use mathlib.Core.Path.{ap}
+use Rattle.sets.specs.Numbered.{numbered}
+use Rattle.reason.specs.Why.{whyNumber}
 use borrow.Author.Needs.{needs}
 use Rattle.reason.proofs.explain.Statement.{statement}
 use Rattle.reason.proofs.explain.Tie as tie
@@ -25,7 +28,7 @@ entries-of-requires : tie.Need-entries-of-requires
 entries-of-requires c κs = search needs
 
 returns : tie.Need-returns
-returns c = explained (c .before .before .before .before .before .before .before .before .before .before .before .before .args .settings) (world (c .before .before .before .before .before .before .before .before .before .before .before .before .args .transfer) (lent (now (c .before .before .before .before .before .before .before .before .before .before .before .before .args .flash)) (now (c .before .before .before .before .before .before .before .before .before .before .before .before .args .seen)) (now (c .before .before .before .before .before .before .before .before .before .before .before .before .args .sectors)) (now (c .before .before .before .before .before .before .before .before .before .before .before .before .args .main)) (now (c .before .before .before .before .before .before .before .before .before .before .before .before .args .xip)))) (now (c .before .before .before .before .before .before .before .before .before .before .before .before .args .arrival)) (c .before .before .before .before .before .reason-of .ensures) (c .before .before .before .before .fields .ensures) (c .before .before .before .kind-of .ensures) (c .before .before .new .ensures) (c .before .discards .ensures) (c .entries-of .ensures)
+returns c = ap (numbered whyNumber) (explained (c .before .before .before .before .before .before .before .before .before .before .before .before .args .settings) (world (c .before .before .before .before .before .before .before .before .before .before .before .before .args .transfer) (lent (now (c .before .before .before .before .before .before .before .before .before .before .before .before .args .flash)) (now (c .before .before .before .before .before .before .before .before .before .before .before .before .args .seen)) (now (c .before .before .before .before .before .before .before .before .before .before .before .before .args .sectors)) (now (c .before .before .before .before .before .before .before .before .before .before .before .before .args .main)) (now (c .before .before .before .before .before .before .before .before .before .before .before .before .args .xip)))) (now (c .before .before .before .before .before .before .before .before .before .before .before .before .args .arrival)) (c .before .before .before .before .before .reason-of .ensures) (c .before .before .before .before .fields .ensures) (c .before .before .before .kind-of .ensures) (c .before .before .new .ensures) (c .before .discards .ensures) (c .entries-of .ensures))
 
 pub explain-spec : {M : Type 1} → statement M
 explain-spec =

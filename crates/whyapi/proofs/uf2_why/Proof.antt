@@ -2,6 +2,9 @@
 use denote.Ref.{now}
 use Rattle.arrival.specs.Lending.{lent}
 use Rattle.whyapi.proofs.Laws.{why-call}
+use mathlib.Core.Path.{ap}
+use Prim.Native.Nat.{ℕ}
+use Rattle.reason.specs.declared.Why.{Why}
 use borrow.Author.Needs.{needs}
 use Rattle.whyapi.proofs.uf2_why.Statement.{statement}
 use Rattle.whyapi.proofs.uf2_why.Tie as tie
@@ -22,7 +25,7 @@ same-length : tie.Need-same-length
 same-length c = search needs
 
 returns : tie.Need-returns
-returns c = let a = c .before .before .before .before .before .before .before .before .before .before .before .before .before .before .before .before .args in why-call (now (a .settings)) (now (a .transfer)) (now (a .arrival)) (lent (now (a .flash)) (now (a .seen)) (now (a .sectors)) (now (a .main)) (now (a .xip))) (c .before .before .before .before .before .before .read-settings .ensures) (c .before .before .before .before .before .read-transfer .ensures) _ (c .before .before .before .before .explain .ensures) (c .before .before .tell .ensures)
+returns c = let a = c .before .before .before .before .before .before .before .before .before .before .before .before .before .before .before .before .args in why-call (now (a .settings)) (now (a .transfer)) (now (a .arrival)) (lent (now (a .flash)) (now (a .seen)) (now (a .sectors)) (now (a .main)) (now (a .xip))) (c .before .before .before .before .before .before .read-settings .ensures) (c .before .before .before .before .before .read-transfer .ensures) _ (ap (λ (p : Why × ℕ). p .0) (c .before .before .before .before .explain .ensures)) (c .before .before .tell .ensures)
 
 pub uf2-why-spec : {M : Type 1} → statement M
 uf2-why-spec = tie.close (tie.spec read-settings-requires read-transfer-requires explain-requires tell-requires same-length returns)

@@ -1,6 +1,9 @@
 -- `whyapi::uf2_why_place` meets its contract. Assumes nothing.
 use denote.Ref.{now}
 use Rattle.whyapi.proofs.Laws.{place-call}
+use mathlib.Core.Path.{ap}
+use Prim.Native.Nat.{ℕ}
+use Rattle.reason.specs.declared.WhyPlace.{WhyPlace}
 use borrow.Author.Needs.{needs}
 use Rattle.whyapi.proofs.uf2_why_place.Statement.{statement}
 use Rattle.whyapi.proofs.uf2_why_place.Tie as tie
@@ -18,7 +21,7 @@ same-length : tie.Need-same-length
 same-length c = search needs
 
 returns : tie.Need-returns
-returns c = place-call (now (c .before .before .before .before .before .before .before .before .args .settings)) _ _ _ (c .before .before .before .before .before .read-settings .ensures) (c .before .before .before .before .explain-place .ensures) (c .before .before .tell-place .ensures)
+returns c = place-call (now (c .before .before .before .before .before .before .before .before .args .settings)) _ _ _ (c .before .before .before .before .before .read-settings .ensures) (ap (λ (p : WhyPlace × ℕ). p .0) (c .before .before .before .before .explain-place .ensures)) (c .before .before .tell-place .ensures)
 
 pub uf2-why-place-spec : {M : Type 1} → statement M
 uf2-why-place-spec =
