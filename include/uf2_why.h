@@ -28,8 +28,8 @@ extern "C" {
 #define UF2_REASON_OTHER_AT 21
 #define UF2_REASON_MARKS_AT 22
 
-/* The conditions: the answer's row times 100, and the condition's place in it. Bytes that are no settings or no transfer (210, 211, 306, 307)
- * are told before the other conditions of their row. Behind each, the number tested and what it is tested against. */
+/* The conditions: the answer's row times 100, and the condition's place in it. Bytes that are no settings or no transfer (210, 306, 307)
+ * are told before the other conditions of their row; a link byte that is no kind of link (211) is told where 206 would be. Behind each, the number tested and what it is tested against. */
 enum uf2_cause {
     UF2_CAUSE_ARRIVAL_LENGTH = 101,     /* length, 512 */
     UF2_CAUSE_FLASH_RAGGED = 102,       /* length, 4096: no multiple */
@@ -49,7 +49,7 @@ enum uf2_cause {
     UF2_CAUSE_MANY_USERS = 208,         /* user families, 4 */
     UF2_CAUSE_RESERVED_USER = 209,      /* the first such family, 0xe48bff56 */
     UF2_CAUSE_NO_SETTINGS = 210,        /* the settings' bytes, how many they must be */
-    UF2_CAUSE_NO_LINK_KIND = 211,       /* the link kind's byte of the first used entry that has none, 2 */
+    UF2_CAUSE_NO_LINK_KIND = 211,       /* in place of 206, of that entry: its link kind's byte, 2 */
     UF2_CAUSE_COUNT_UNDER_1 = 301,      /* Running: count, 1 */
     UF2_CAUSE_COUNT_NOT_BELOW = 302,    /* Running: count, total */
     UF2_CAUSE_RUNNING_TOTAL_OVER = 303, /* total, 131072 */
@@ -77,6 +77,7 @@ enum uf2_cause {
     UF2_CAUSE_RAGGED_ADDRESS = 1102,    /* address, 256 */
     UF2_CAUSE_PAST_PLACE = 1103,        /* address - 0x10000000 + 256, the bytes of the place */
     UF2_CAUSE_PAST_WINDOW = 1104,       /* address + 256, the window's end */
+    UF2_CAUSE_NO_WINDOW = 1105,         /* address, 0x12000000: past flash's window, and in no RAM of the board; asked before 1102 and row 10 */
     UF2_CAUSE_FINISHED = 1201,          /* number, total */
     UF2_CAUSE_AGAIN = 1301,             /* number, total */
     UF2_CAUSE_NO_REGION = 1401,         /* written, and not kept; the raised count and the total from here on */

@@ -16,7 +16,7 @@ use Rattle.causes.specs.declared.Magic.the-variants.{First, Second, Last
 use Rattle.causes.specs.declared.Numbers.{Numbers}
 use Rattle.causes.specs.declared.Numbers.the-variants.{TotalZero, TotalPast, NumberPast}
 use Rattle.causes.specs.declared.Address.{Address}
-use Rattle.causes.specs.declared.Address.the-variants.{Below, Ragged, Past, PastWindow}
+use Rattle.causes.specs.declared.Address.the-variants.{Below, Ragged, Past, PastWindow, NoWindow}
 use Rattle.causes.specs.declared.NotKept.{NotKept}
 use Rattle.causes.specs.declared.NotKept.the-variants as notKept
 use Rattle.causes.specs.declared.Cause.{Cause}
@@ -81,6 +81,7 @@ addressNumber Below = 1101
 addressNumber Ragged = 1102
 addressNumber Past = 1103
 addressNumber PastWindow = 1104
+addressNumber NoWindow = 1105
 
 abbrev pub notKeptNumber : NotKept → ℕ
 notKeptNumber notKept.NoRegion = 1401
@@ -136,12 +137,14 @@ numbersTest TotalZero g a = eqb g a
 numbersTest TotalPast g a = ltb a g
 numbersTest NumberPast g a = leb a g
 
--- row 11: "below the window, no multiple of 256, or address - 0x10000000 + 256 over the place"; in RAM "only address + 256 past the window's end"
+-- row 11: "below the window, no multiple of 256, or address - 0x10000000 + 256 over the place"; in RAM "only address + 256 past the window's end"; an
+-- address "in no window" (02, L8) that is not below flash's is at its end or past it
 abbrev pub addressTest : Address → ℕ → ℕ → Bool
 addressTest Below g a = ltb g a
 addressTest Ragged g a = not (eqb (g % a) 0)
 addressTest Past g a = ltb a g
 addressTest PastWindow g a = ltb a g
+addressTest NoWindow g a = leb a g
 
 -- every row that is a comparison of two numbers: besides, "a magic number differs", flag a set and clear, "size isn't 256", and of row 15 the raised
 -- count not "under the block's total". The other rows ask something else of the settings, the family or the block, and not of these numbers.

@@ -47,12 +47,13 @@ pub enum Numbers {
     NumberPast,
 }
 
-// Row 11: of an address of flash or in no window, and of one in a RAM window.
+// Row 11: of an address below the windows, of one of flash, of one in a RAM window, and of one in no window.
 pub enum Address {
     Below,
     Ragged,
     Past,
     PastWindow,
+    NoWindow,
 }
 
 // Why a page is written, and not kept as it stands.
@@ -154,6 +155,7 @@ fn address_number(x: Address) -> u16
         Address::Ragged => 1102,
         Address::Past => 1103,
         Address::PastWindow => 1104,
+        Address::NoWindow => 1105,
     }
 }
 

@@ -28,7 +28,7 @@ use Rattle.placing.specs.declared.Access.{Access}
 use Rattle.placing.specs.declared.Access.the-variants.{Granted, Denied}
 use Rattle.causes.specs.Checks.{byNumbers, rowOf, orNext, orLast, runningRow, doneRow, stateRow, magicRow, flagsRow, headerRow}
 use Rattle.lengthrow.specs.Lengths.{flashRow, bufferRow, lengthsRow}
-use Rattle.numberrows.specs.Numbers.{payloadRow, numbersRow, addressRow, windowRow}
+use Rattle.numberrows.specs.Numbers.{payloadRow, numbersRow, addressRow, strayRow, windowRow}
 use Rattle.causes.specs.declared.Reason.{Reason}
 use Rattle.causes.specs.declared.Row.{Row}
 use Rattle.causes.specs.declared.Row.the-variants.{Passes, Decides}
@@ -97,7 +97,7 @@ module _ (s : Settings) (w : World) (a : List ℕ) where
   place-rows XipRam = denial-rows (holdsIn s w a) s (fieldAt a 28) (λ x. refl) ramDenials
 
   page-rows : (u : Window) (size : ℕ) (b : Block) → rowOf (holdsIn s w a) (pageRow u size b) ≡ rowOf byNumbers (pageRow u size b)
-  unfolding rowOf pageRow payloadRow numbersRow addressIn addressRow windowRow
+  unfolding rowOf pageRow payloadRow numbersRow addressIn addressRow strayRow windowRow
   page-rows Outside size b = refl
   page-rows (In Flash) size b = refl
   page-rows (In MainRam) size b = refl

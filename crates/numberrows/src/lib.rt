@@ -2,7 +2,7 @@
 ghost use mathlib.Core.Path.{_≡_};
 ghost use Rattle.causes.specs.Causes.{reasonWith};
 ghost use Rattle.causes.specs.Checks.{byNumbers, rowOf};
-ghost use Rattle.numberrows.specs.Numbers.{payloadRow, numbersRow, addressRow, windowRow};
+ghost use Rattle.numberrows.specs.Numbers.{payloadRow, numbersRow, addressRow, strayRow, windowRow};
 use causes::Address;
 use causes::Cause;
 use causes::Numbers;
@@ -50,7 +50,7 @@ pub fn numbers_row(total: u32, number: u32, size: usize) -> Row
     Row::Passes
 }
 
-// Row 11, of an address of flash or in no window, beside a place of so many bytes. The sum is of 64 bits, since it may pass 32.
+// Row 11, of an address of flash, beside a place of so many bytes. The sum is of 64 bits, since it may pass 32.
 pub fn address_row(address: u32, size: usize) -> Row
     ensures { λ r. ⌜ r ≡ rowOf byNumbers (addressRow address size) ⌝ }
 {
@@ -65,6 +65,20 @@ pub fn address_row(address: u32, size: usize) -> Row
     let past = low + 256;
     if (size as u64) < past {
         return bad_address(Address::Past, past, size as u64);
+    }
+    Row::Passes
+}
+
+// Row 11, of an address in no window.
+pub fn stray_row(address: u32) -> Row
+    ensures { λ r. ⌜ r ≡ rowOf byNumbers (strayRow address) ⌝ }
+{
+    let at = address as u64;
+    if at < 0x10000000 {
+        return bad_address(Address::Below, at, 0x10000000);
+    }
+    if 0x12000000 <= at {
+        return bad_address(Address::NoWindow, at, 0x12000000);
     }
     Row::Passes
 }

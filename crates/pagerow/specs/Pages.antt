@@ -8,7 +8,7 @@ use Rattle.screen.specs.Screen.{baseOf, extentOf}
 use Rattle.screen.specs.declared.Window.{Window}
 use Rattle.screen.specs.declared.Window.the-variants.{Outside, In}
 use Rattle.causes.specs.declared.Reason.{Reason}
-use Rattle.numberrows.specs.Numbers.{payloadRow, numbersRow, addressRow, windowRow}
+use Rattle.numberrows.specs.Numbers.{payloadRow, numbersRow, addressRow, strayRow, windowRow}
 
 -- row 11, of a data block in the window of its kind
 unfoldable pub addressIn : Kind → ℕ → ℕ → List Reason
@@ -18,5 +18,5 @@ addressIn XipRam address size = windowRow address (baseOf XipRam + extentOf XipR
 
 -- rows 9 to 11, of a data block; "For an address in no window .. 11 comes before 10" (02, L8)
 unfoldable pub pageRow : Window → ℕ → Block → List Reason
-pageRow Outside size b = payloadRow (b .size) ++ (addressRow (b .address) size ++ numbersRow (b .total) (b .number) size)
+pageRow Outside size b = payloadRow (b .size) ++ (strayRow (b .address) ++ numbersRow (b .total) (b .number) size)
 pageRow (In k) size b = payloadRow (b .size) ++ (numbersRow (b .total) (b .number) size ++ addressIn k (b .address) size)

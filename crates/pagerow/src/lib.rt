@@ -46,7 +46,7 @@ fn outside_row(size: usize, b: Block) -> Row
     if let Row::Decides(x) = payload {
         return Row::Decides(x);
     }
-    let address = numberrows::address_row(b.address, size);
+    let address = numberrows::stray_row(b.address);
     if let Row::Decides(y) = address {
         return Row::Decides(y);
     }

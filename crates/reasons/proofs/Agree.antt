@@ -7,10 +7,8 @@ use Prim.Native.Nat.{ℕ, _+_, _-_, _%_, _≤_}
 use native.Mathlib.Omega.{arith}
 use lib.Dec.{leb, eqb}
 use lib.ListN.{length}
-use borrow.Author.Tests.{leb-true}
 use Rattle.sets.proofs.Tests.{split, clash, is-false, and-left, and-right}
 use Rattle.bitmap.specs.Bitmap.{markedIn}
-use Rattle.flash.specs.Flash.{flashLength}
 use Rattle.block.specs.Block.{fieldAt, hasFlag, fieldsOf, flaggedOf, headerOf}
 use Rattle.block.specs.declared.Block.{Block}
 use Rattle.block.specs.declared.Header.{Header}
@@ -20,7 +18,6 @@ use Rattle.settings.specs.declared.Settings.{Settings}
 use Rattle.place.specs.Place.{wholeIf, placeOf, ramFamily}
 use Rattle.place.specs.declared.Place.{Place}
 use Rattle.place.specs.declared.Place.the-variants.{Nowhere, At}
-use Rattle.place.proofs.Theorems.{place-inside}
 use Rattle.transfer.specs.Transfer.{sameKind, headWith, deedAnswer, goodState}
 use Rattle.transfer.specs.declared.Kind.{Kind}
 use Rattle.transfer.specs.declared.Kind.the-variants.{Flash, MainRam, XipRam}
@@ -36,7 +33,7 @@ use Rattle.screen.specs.declared.Body.{Body}
 use Rattle.screen.specs.declared.Body.the-variants.{Page, Note}
 use Rattle.screen.specs.declared.Screening.{Screening}
 use Rattle.screen.specs.declared.Screening.the-variants.{Refused, Passed}
-use Rattle.screen.proofs.Windows.{InWindow, WindowFacts, window-facts, outside-bad}
+use Rattle.screen.proofs.Windows.{InWindow, WindowFacts, window-facts}
 use Rattle.arrival.specs.Arrive.{World, stays, lengthsOf, rightLengths, standsAt, standing, deedOf, afterScreening, decide, decided, forecastOf, lookOf}
 use Rattle.faults.specs.Faults.{firstFault}
 use Rattle.faults.specs.declared.Finding.{Finding}
@@ -49,7 +46,7 @@ use Rattle.placing.proofs.Theorems.{granted-is-placed, granted-is-for-ram}
 use Rattle.causes.specs.Causes.{answerOf, reasonWith}
 use Rattle.causes.specs.Checks.{byNumbers, rowOf, orNext, orLast, stateRow, magicRow, flagsRow, headerRow}
 use Rattle.lengthrow.specs.Lengths.{lengthsRow}
-use Rattle.numberrows.specs.Numbers.{payloadRow, numbersRow, addressRow}
+use Rattle.numberrows.specs.Numbers.{payloadRow, numbersRow, strayRow}
 use Rattle.causes.specs.declared.Magic.the-variants.{First, Second, Last}
 use Rattle.causes.specs.declared.Cause.the-variants.{NotBlock, Container, NoFamily}
 use Rattle.causes.specs.declared.Reason.{Reason}
@@ -61,7 +58,7 @@ use Rattle.checks.specs.Parts.{fatePart, writtenPart}
 use Rattle.reason.specs.Why.{blockKind, headIn, placeIn, lastOf, reasonOf}
 use Rattle.checklist.specs.Parts.{findingRow, accessRow, accessIn, boardPart, earlyPart, blockPart}
 use Rattle.checklist.proofs.Rows.{reason-parts}
-use Rattle.reasons.proofs.Answers.{told, told-next, lengths-answer, state-answer, payload-answer, numbers-answer, address-answer, window-answer}
+use Rattle.reasons.proofs.Answers.{told, told-next, lengths-answer, state-answer, payload-answer, numbers-answer, address-answer, stray-answer, window-answer}
 use Rattle.reasons.proofs.Steps.{settled, settled-refused, note-late, page-late}
 
 -- ---- row 2
@@ -199,32 +196,22 @@ module _ (s : Settings) (n : Lengths) (t : State) (seen flash a : List ℕ) (kep
         ∙ settled-if (badNumbers size b) answer.BadNumbers _))
         ∙ settled-if (not (eqb (b .size) 256)) answer.BadPayload _))
 
-    outside-told : (size : ℕ) → badAddress Flash size b ≡ true → told (rowOf byNumbers (pageRow Outside size b)) y ≡ settled t seen kept (strayed b)
+    outside-told : (size : ℕ) → windowOf n (b .address) ≡ Outside → told (rowOf byNumbers (pageRow Outside size b)) y ≡ settled t seen kept (strayed b)
     unfolding pageRow strayed
     outside-told size h =
-        told-three (payloadRow (b .size)) (addressRow (b .address) size) (numbersRow (b .total) (b .number) size) y
+        told-three (payloadRow (b .size)) (strayRow (b .address)) (numbersRow (b .total) (b .number) size) y
         ∙ (payload-answer (b .size) _
         ∙ (ap (cond (not (eqb (b .size) 256)) answer.BadPayload)
-        (address-answer size b _
-        ∙ (ap (λ (c : Bool). cond c answer.BadAddress (told (rowOf byNumbers (numbersRow (b .total) (b .number) size)) y)) h
-        ∙ sym (settled-refused t seen kept answer.BadAddress)))
+        (stray-answer n b h _ ∙ sym (settled-refused t seen kept answer.BadAddress))
         ∙ settled-if (not (eqb (b .size) 256)) answer.BadPayload _))
 
--- ---- a data block by its window, where rows 1 and 2 have passed
-
--- no place is larger than the window of flash
-small : (s : Settings) (len f : ℕ) → flashLength len ≡ true → goodSettings s len ≡ true → (start size : ℕ) → placeOf s len f ≡ At start size → size ≤ 0x2000000
-unfolding flashLength
-small s len f r g start size e =
-    let i = place-inside s len f r g start size e in
-    let m = leb-true len 33554432 (and-right (eqb (len % 4096) 0 && leb 4096 len) (leb len 33554432) r) in
-    omega (arith, i .2, m)
+-- ---- a data block by its window
 
 flash-address : (size : ℕ) (b : Block) (y : Answer) → told (rowOf byNumbers (addressIn Flash (b .address) size)) y ≡ cond (badAddress Flash size b) answer.BadAddress y
 unfolding addressIn
 flash-address size b y = address-answer size b y
 
-module _ (s : Settings) (n : Lengths) (t : State) (seen flash a : List ℕ) (b : Block) (r : flashLength (n .flash) ≡ true) (g : goodSettings s (n .flash) ≡ true) where
+module _ (s : Settings) (n : Lengths) (t : State) (seen flash a : List ℕ) (b : Block) where
   -- what comes after row 11, of a data block of this kind
   abbrev after : Kind → ℕ → ℕ → Answer
   after k start size =
@@ -237,7 +224,7 @@ module _ (s : Settings) (n : Lengths) (t : State) (seen flash a : List ℕ) (b :
   page-outside Nowhere e u kept y = flash-denied s (n .flash) (b .family) _ e ∙ sym (settled-refused t seen kept answer.NoPlace)
   page-outside (At start size) e u kept y =
       flash-open s (n .flash) (b .family) _ e
-      ∙ outside-told s n t seen flash a kept b y size (outside-bad n size b u (small s (n .flash) (b .family) r g start size e))
+      ∙ outside-told s n t seen flash a kept b y size u
 
   page-flash : (p : Place) → placeOf s (n .flash) (b .family) ≡ p
       → told (accessRow (b .family) (flashAccess s (b .family))) (told (rowOf byNumbers (pageRow (In Flash) (sizeAt p) b)) (after Flash (startAt p) (sizeAt p)))
@@ -335,16 +322,16 @@ module _ (s : Settings) (w : World) (a : List ℕ) where
       (writtenPart (w .held .flash) (startAt (placeIn s w a)) (sizeAt (placeIn s w a)) (blockKind w a) a (raisedOf (w .transfer) (headIn w a)) (fieldAt a 24))
       answer.Kept))
 
-  rest-answer : flashLength (length (w .held .flash)) ≡ true → goodSettings s (length (w .held .flash)) ≡ true
-      → rest ≡ settled (w .transfer) (w .seen) (standing s (w .held .flash) a) (found (roomsOf s (length (w .held .flash)) (fieldAt a 28)) (lengthsOf (w .held)) (w .transfer) (fieldsOf a))
+  rest-answer : rest
+      ≡ settled (w .transfer) (w .seen) (standing s (w .held .flash) a) (found (roomsOf s (length (w .held .flash)) (fieldAt a 28)) (lengthsOf (w .held)) (w .transfer) (fieldsOf a))
   unfolding blockPart bodyRow kindOf found fieldsOf
-  rest-answer r g =
+  rest-answer =
       told-next (accessRow (fieldAt a 28) (accessIn s (blockKind w a) (fieldAt a 28))) _ _
-      ∙ block-answer s (lengthsOf (w .held)) (w .transfer) (w .seen) (w .held .flash) a (fieldsOf a) r g (hasFlag a 0x1)
+      ∙ block-answer s (lengthsOf (w .held)) (w .transfer) (w .seen) (w .held .flash) a (fieldsOf a) (hasFlag a 0x1)
 
   -- rows 1 to 3, where every later row agrees once they pass
   by-rows : (x : Answer) (d : Screening) (r g q : Bool)
-      → (r ≡ true → g ≡ true → x ≡ settled (w .transfer) (w .seen) (standing s (w .held .flash) a) d)
+      → x ≡ settled (w .transfer) (w .seen) (standing s (w .held .flash) a) d
       → cond (not r) answer.BadBuffers (cond (not g) answer.BadSettings (cond (not q) answer.BadState x))
       ≡ forecastOf
       (cond (not r) (stays answer.BadBuffers)
@@ -354,12 +341,7 @@ module _ (s : Settings) (w : World) (a : List ℕ) where
   by-rows x d false g q h = refl
   by-rows x d true false q h = refl
   by-rows x d true true false h = refl
-  by-rows x d true true true h = h refl refl
-
-  flash-right : rightLengths (length a) (lengthsOf (w .held)) (length (w .seen)) (length (w .held .sectors)) ≡ true → flashLength (length (w .held .flash)) ≡ true
-  unfolding rightLengths
-  flash-right e =
-      and-right (eqb (length a) 512) (flashLength (length (w .held .flash))) (and-left _ _ (and-left _ _ (and-left _ _ (and-left _ _ e))))
+  by-rows x d true true true h = h
 
   -- the answer by rows
   rows-answer : answerOf (reasonOf s w a .cause)
@@ -384,7 +366,6 @@ module _ (s : Settings) (w : World) (a : List ℕ) where
       (finding-answer s (length (w .held .flash)) _
       ∙ ap (cond (not (goodSettings s (length (w .held .flash)))) answer.BadSettings) (state-answer (w .transfer) _))
       ∙ by-rows _ _ (rightLengths (length a) (lengthsOf (w .held)) (length (w .seen)) (length (w .held .sectors))) (goodSettings s (length (w .held .flash))) (goodState (w .transfer))
-      (λ r g.
-      ap (told (rowOf byNumbers (headerRow a))) (rest-answer (flash-right r) g)
+      (ap (told (rowOf byNumbers (headerRow a))) rest-answer
       ∙ header-answer (w .transfer) (w .seen) (standing s (w .held .flash) a)
       (found (roomsOf s (length (w .held .flash)) (fieldAt a 28)) (lengthsOf (w .held)) (w .transfer)) a)))

@@ -6,7 +6,7 @@ use Prim.Native.Nat.{ℕ, _+_, _-_, _*_, _%_, _<_, _≤_}
 use native.Mathlib.Omega.{arith}
 use lib.Dec.{ltb, leb, eqb}
 use borrow.Author.Tests.{leb-true, leb-false, ltb-true, ltb-false, le-leb, lt-leb, le-ltb, lt-ltb}
-use Rattle.sets.proofs.Tests.{split}
+use Rattle.sets.proofs.Tests.{split, clash}
 use Rattle.flash.specs.Flash.{flashLength}
 use Rattle.block.specs.declared.Block.{Block}
 use Rattle.transfer.specs.Transfer.{goodState}
@@ -16,13 +16,16 @@ use Rattle.transfer.specs.declared.State.{State}
 use Rattle.transfer.specs.declared.State.the-variants.{Idle, Running, Done}
 use Rattle.transfer.specs.declared.Answer.{Answer}
 use Rattle.transfer.specs.declared.Answer.the-variants as answer
-use Rattle.screen.specs.Screen.{baseOf, extentOf, badNumbers, badAddress}
+use Rattle.screen.specs.Screen.{baseOf, extentOf, inWindow, windowOf, badNumbers, badAddress}
 use Rattle.screen.specs.declared.Lengths.{Lengths}
+use Rattle.screen.specs.declared.Window.{Window}
+use Rattle.screen.specs.declared.Window.the-variants.{Outside, In}
+use Rattle.screen.proofs.Windows.{WindowFacts, window-facts}
 use Rattle.arrival.specs.Arrive.{ramLength, rightLengths}
 use Rattle.causes.specs.Causes.{answerOf}
 use Rattle.causes.specs.Checks.{byNumbers, rowOf, orNext, runningRow, doneRow, stateRow}
 use Rattle.lengthrow.specs.Lengths.{flashRow, bufferRow, lengthsRow}
-use Rattle.numberrows.specs.Numbers.{payloadRow, numbersRow, addressRow, windowRow}
+use Rattle.numberrows.specs.Numbers.{payloadRow, numbersRow, addressRow, strayRow, windowRow}
 use Rattle.causes.specs.declared.Reason.{Reason}
 use Rattle.causes.specs.declared.Row.{Row}
 use Rattle.causes.specs.declared.Row.the-variants.{Passes, Decides}
@@ -78,6 +81,11 @@ or-three true b c = refl
 or-three false true c = refl
 or-three false false true = refl
 or-three false false false = refl
+
+or-two : (a b : Bool) → a || (b || false) ≡ a || b
+or-two true b = refl
+or-two false true = refl
+or-two false false = refl
 
 pub or-end : (a : Bool) → a || false ≡ a
 or-end true = refl
@@ -166,6 +174,32 @@ unfolding addressRow
 address-answer size b y =
     row-is byNumbers answer.BadAddress (addressRow (b .address) size) (refl, (refl, (refl, tt))) y
     (or-three (ltb (b .address) (baseOf Flash)) (not (eqb (b .address % 256) 0)) (ltb size (b .address - baseOf Flash + 256)))
+
+-- an address in no window is in none
+pub in-none : (n : Lengths) (x : ℕ) → windowOf n x ≡ Outside → (k : Kind) → inWindow n k x ≡ false
+in-none n x e = out (windowOf n x) e (window-facts n x)
+  where
+    out : (u : Window) → u ≡ Outside → WindowFacts n x u → (k : Kind) → inWindow n k x ≡ false
+    out Outside e f = f
+    out (In k) e f = let z : _≡_ {A = ℕ} 0 1 = cc in absurd (omega arith)
+
+-- it is below the window of flash, or past it
+outside-strays : (n : Lengths) (x : ℕ) → windowOf n x ≡ Outside → ltb x 0x10000000 || leb 0x12000000 x ≡ true
+outside-strays n x e =
+    split (ltb x 0x10000000) (λ y. rw y)
+    (λ z.
+    split (leb 0x12000000 x) (λ y. rw (z, y))
+    (λ h.
+    let low : leb 0x10000000 x ≡ true = le-leb 0x10000000 x (ltb-false x 0x10000000 z) in
+    let high : ltb x 0x12000000 ≡ true = lt-ltb x 0x12000000 (leb-false 0x12000000 x h) in
+    clash (inWindow n Flash x) (rw (low, high)) (in-none n x e Flash)))
+
+-- of an address in no window row 11 always decides
+pub stray-answer : (n : Lengths) (b : Block) → windowOf n (b .address) ≡ Outside → (y : Answer) → told (rowOf byNumbers (strayRow (b .address))) y ≡ answer.BadAddress
+unfolding strayRow
+stray-answer n b e y =
+    row-is byNumbers answer.BadAddress (strayRow (b .address)) (refl, (refl, tt)) y (or-two (ltb (b .address) 0x10000000) (leb 0x12000000 (b .address)))
+    ∙ ap (λ (c : Bool). cond c answer.BadAddress y) (outside-strays n (b .address) e)
 
 -- past the window's end, counted from 0 or from the window's start
 past-end : (x base extent : ℕ) → base ≤ x → ltb (base + extent) (x + 256) ≡ ltb extent (x - base + 256)

@@ -39,7 +39,7 @@ use Rattle.causes.specs.Causes.{answerOf}
 use Rattle.causes.specs.Checks.{Deciding, none, here, later, runningRow, doneRow, stateRow, magicRow, flagsRow, headerRow}
 use Rattle.causes.specs.declared.Reason.{Reason}
 use Rattle.lengthrow.specs.Lengths.{flashRow, bufferRow, lengthsRow}
-use Rattle.numberrows.specs.Numbers.{payloadRow, numbersRow, addressRow, windowRow}
+use Rattle.numberrows.specs.Numbers.{payloadRow, numbersRow, addressRow, strayRow, windowRow}
 use Rattle.checks.specs.Block.{addressIn, pageRow, bodyRow, raisedOf, fateRow, writtenRow}
 use Rattle.reason.specs.Why.{faultRow, settingsRow, denialRow, placeRow, blockRow, blockKind, headIn, placeIn, boardRows, checksOf, lastOf, holdsIn, whyOf}
 use Rattle.reasons.specs.Claims.{Reason-is-true, Answer-is-the-receivers, Count-is-raised}
@@ -121,6 +121,10 @@ module _ (n t : ℕ) where
   unfolding addressRow
   address-tells x z = under answer.BadAddress (addressRow x z) (omega arith) (refl, (refl, (refl, tt)))
 
+  stray-tells : (x : ℕ) → Each (strayRow x)
+  unfolding strayRow
+  stray-tells x = under answer.BadAddress (strayRow x) (omega arith) (refl, (refl, tt))
+
   in-tells : (k : Kind) (x z : ℕ) → Each (addressIn k x z)
   unfolding addressIn windowRow
   in-tells Flash x z = address-tells x z
@@ -131,7 +135,7 @@ module _ (n t : ℕ) where
   unfolding pageRow
   page-tells Outside z b =
       all-next (Tells n t) (payloadRow (b .size)) _ (payload-tells (b .size))
-      (all-next (Tells n t) (addressRow (b .address) z) _ (address-tells (b .address) z) (numbers-tell (b .total) (b .number) z))
+      (all-next (Tells n t) (strayRow (b .address)) _ (stray-tells (b .address)) (numbers-tell (b .total) (b .number) z))
   page-tells (In k) z b =
       all-next (Tells n t) (payloadRow (b .size)) _ (payload-tells (b .size))
       (all-next (Tells n t) (numbersRow (b .total) (b .number) z) _ (numbers-tell (b .total) (b .number) z) (in-tells k (b .address) z))

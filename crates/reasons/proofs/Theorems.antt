@@ -4,7 +4,7 @@ use mathlib.Core.List.{List}
 use Prim.Native.Nat.{ℕ, _<_}
 use Rattle.causes.specs.Checks.{Deciding, none, here, later, runningRow, doneRow, stateRow, magicRow, flagsRow, headerRow}
 use Rattle.lengthrow.specs.Lengths.{flashRow, bufferRow, lengthsRow}
-use Rattle.numberrows.specs.Numbers.{numbersRow, addressRow}
+use Rattle.numberrows.specs.Numbers.{numbersRow, addressRow, strayRow}
 use Rattle.checks.specs.Block.{writtenRow}
 use Rattle.reason.specs.Why.{denialRow, placeRow, checksOf, lastOf, testOf, holdsIn, reasonOf, entriesOf, whyOf}
 use Rattle.reasons.specs.Claims.{Reason-is-true, Answer-is-the-receivers, Marks-are-true, risesFrom, In-order}
@@ -56,7 +56,7 @@ places MainRam f = refl
 places XipRam f = refl
 
 pub in-order : In-order
-unfolding lengthsRow flashRow bufferRow headerRow magicRow flagsRow numbersRow addressRow writtenRow
+unfolding lengthsRow flashRow bufferRow headerRow magicRow flagsRow numbersRow addressRow strayRow writtenRow
 in-order =
     record {
       faults = faults-rank;
@@ -66,6 +66,7 @@ in-order =
       place = places;
       numbers = λ t k z. refl;
       address = λ x z. refl;
+      stray = λ x. refl;
       written = λ r t. refl;
     }
 

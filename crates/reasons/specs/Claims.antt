@@ -34,7 +34,7 @@ use Rattle.arrival.specs.Arrive.{World, receiveOf, lookOf}
 use Rattle.causes.specs.Causes.{answerOf, causeNumber}
 use Rattle.causes.specs.Checks.{Deciding, stateRow, headerRow}
 use Rattle.lengthrow.specs.Lengths.{lengthsRow}
-use Rattle.numberrows.specs.Numbers.{numbersRow, addressRow}
+use Rattle.numberrows.specs.Numbers.{numbersRow, addressRow, strayRow}
 use Rattle.checks.specs.Block.{writtenRow}
 use Rattle.causes.specs.declared.Reason.{Reason}
 
@@ -143,4 +143,5 @@ pub record In-order : Type 0 where
   pub place : (k : Kind) (f : ℕ) → risesFrom 800 (placeRow k f) ≡ true
   pub numbers : (total number size : ℕ) → risesFrom 1000 (numbersRow total number size) ≡ true
   pub address : (x size : ℕ) → risesFrom 1100 (addressRow x size) ≡ true
+  pub stray : (x : ℕ) → risesFrom 1100 (strayRow x) ≡ true
   pub written : (raised total : ℕ) → risesFrom 1400 (writtenRow raised total) ≡ true

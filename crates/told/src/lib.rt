@@ -1,9 +1,8 @@
 // What is told of a reason, and of bytes that are no settings.
 ghost use mathlib.Core.Path.{_≡_};
-ghost use Prim.Native.Nat.{_≤_, _<_};
+ghost use Prim.Native.Nat.{_<_};
 ghost use lib.ListN.{length};
-ghost use Rattle.layout.specs.Layout.{usedOf};
-ghost use Rattle.told.specs.Told.{toldWith, linkByte, badLink, linkTold, settingsTold};
+ghost use Rattle.told.specs.Told.{toldWith, linkByte, linkTold, settingsTold};
 
 // What is written of a reason.
 pub struct ReasonFields {
@@ -18,12 +17,13 @@ pub struct ReasonFields {
 // The bytes of settings.
 const SETTINGS: usize = 550;
 
-// Those before the table, those of an entry, and the entries.
+// Those before the table, and those of an entry.
 const HEAD: usize = 6;
 
 const ENTRY: usize = 34;
 
-const ENTRIES: usize = 16;
+// The number of "links to an index not below its own".
+const LINKS_UP: u32 = 206;
 
 // Numbers, entries and marks, as they are told.
 pub fn told_with(
@@ -46,15 +46,6 @@ pub fn told_with(
     }
 }
 
-// How many entries are used; none with a count over 16.
-fn used(count: u8) -> usize
-    ensures { λ r. ⌜ r ≡ usedOf count ⌝ }
-    ensures low { λ r. ⌜ r ≤ 16 ⌝ }
-{
-    let n = count as usize;
-    if n <= ENTRIES { n } else { 0 }
-}
-
 // The link kind's byte of entry k.
 fn link_byte(bytes: &[u8], k: usize) -> u8
     requires { ⌜ length (now bytes) ≡ 550 ⌝ }
@@ -66,31 +57,21 @@ fn link_byte(bytes: &[u8], k: usize) -> u8
     e[31]
 }
 
-// Of n used entries the first whose link is of no kind, and n where each has one.
-fn bad_link(bytes: &[u8], n: usize) -> usize
+// What is told of a link to a higher entry, where the byte is that of no link.
+fn link_told(bytes: &[u8], told: ReasonFields) -> ReasonFields
     requires { ⌜ length (now bytes) ≡ 550 ⌝ }
-    requires { ⌜ n ≤ 16 ⌝ }
-    ensures { λ r. ⌜ r ≡ badLink (now (bytes .entry)) n ⌝ }
+    ensures { λ r. ⌜ r ≡ linkTold (now (bytes .entry)) told ⌝ }
 {
-    let mut k: usize = 0;
-    while k < n {
-        if 2 < link_byte(bytes, k) {
-            return k;
-        }
-        k += 1;
+    if told.number != LINKS_UP {
+        return told;
     }
-    n
-}
-
-// What is told where the link of entry k, of n used ones, is of no kind.
-fn link_told(bytes: &[u8], n: usize, k: usize, told: ReasonFields) -> ReasonFields
-    requires { ⌜ length (now bytes) ≡ 550 ⌝ }
-    requires { ⌜ n ≤ 16 ⌝ }
-    ensures { λ r. ⌜ r ≡ linkTold (now (bytes .entry)) n k told ⌝ }
-{
-    if k < n {
-        let kind = link_byte(bytes, k);
-        return told_with(211, kind as u64, 2, k as u8, 0, [0; 16]);
+    let k = told.entry;
+    if 16 <= k {
+        return told;
+    }
+    let kind = link_byte(bytes, k as usize);
+    if 2 < kind {
+        return told_with(211, kind as u64, 2, k, 0, [0; 16]);
     }
     told
 }
@@ -102,7 +83,5 @@ pub fn settings_told(bytes: &[u8], told: ReasonFields) -> ReasonFields
     if bytes.len() != SETTINGS {
         return told_with(210, bytes.len() as u64, SETTINGS as u64, 0, 0, [0; 16]);
     }
-    let n = used(bytes[5]);
-    let k = bad_link(bytes, n);
-    link_told(bytes, n, k, told)
+    link_told(bytes, told)
 }

@@ -24,7 +24,7 @@ use Rattle.placing.specs.declared.Rule.the-variants.{Absolute, NoTable}
 use Rattle.told.specs.declared.ReasonFields.{ReasonFields}
 -- what is told of settings' bytes
 pub use Rattle.told.specs.Told.{toldWith, bare}
-unfoldable pub use Rattle.told.specs.Told.{linkByte, linkOver, badLink, linkTold, settingsTold}
+unfoldable pub use Rattle.told.specs.Told.{linkByte, linkOver, linkTold, settingsTold}
 
 -- ---- what is told of a reason
 

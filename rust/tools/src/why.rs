@@ -67,8 +67,8 @@ pub struct Lent<'a> {
 /// The condition that decided. What has none is 0.
 #[derive(Clone, Copy, PartialEq, Eq, Debug)]
 pub struct Reason {
-    /// The condition's number: the row times 100, and its place in the row. Bytes that are no settings are 210 (their length) and 211 (a link of
-    /// no kind), bytes that are no transfer 306 and 307: these are told before the other conditions of their row.
+    /// The condition's number: the row times 100, and its place in the row. Bytes that are no settings are 210 (their length), bytes
+    /// that are no transfer 306 and 307: these are told before the other conditions of their row. 211, a link of no kind, stands where 206 would.
     pub cause: u32,
     /// The number tested; from 14 on the raised count; of a place by an entry the pass.
     pub got: u64,

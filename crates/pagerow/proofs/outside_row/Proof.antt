@@ -1,6 +1,6 @@
 -- `pagerow::outside_row` meets its contract. Assumes nothing.
 use Rattle.causes.specs.Checks.{byNumbers}
-use Rattle.numberrows.specs.Numbers.{payloadRow, addressRow}
+use Rattle.numberrows.specs.Numbers.{payloadRow, strayRow}
 use Rattle.causes.proofs.Rows.{row-decides, row-passes}
 use Rattle.pagerow.specs.Pages.{pageRow}
 use borrow.Author.Needs.{needs}
@@ -20,15 +20,15 @@ returns c = row-decides byNumbers (payloadRow (c .before .before .before .before
 enum-told : tie.Need-enum-told
 enum-told c = search needs
 
-address-row-requires : tie.Need-address-row-requires
-address-row-requires c κs = search needs
+stray-row-requires : tie.Need-stray-row-requires
+stray-row-requires c κs = search needs
 
 enum-known-address : tie.Need-enum-known-address
 enum-known-address c = search needs
 
 returns-2 : tie.Need-returns-2
 unfolding pageRow
-returns-2 c = row-passes byNumbers (payloadRow (c .before .before .before .before .before .before .before .args .b .size)) _ (c .before .before .before .before .before .before .payload-row .ensures) (c .before .before .before .before .enum-told .given .1) (row-decides byNumbers (addressRow (c .before .before .before .before .before .before .before .args .b .address) (c .before .before .before .before .before .before .before .args .size)) _ (c .before .before .before .address-row .ensures) (c .before .address .given .1))
+returns-2 c = row-passes byNumbers (payloadRow (c .before .before .before .before .before .before .before .args .b .size)) _ (c .before .before .before .before .before .before .payload-row .ensures) (c .before .before .before .before .enum-told .given .1) (row-decides byNumbers (strayRow (c .before .before .before .before .before .before .before .args .b .address)) _ (c .before .before .before .stray-row .ensures) (c .before .address .given .1))
 
 enum-told-2 : tie.Need-enum-told-2
 enum-told-2 c = search needs
@@ -38,7 +38,7 @@ numbers-row-requires c κs = search needs
 
 returns-3 : tie.Need-returns-3
 unfolding pageRow
-returns-3 c = row-passes byNumbers (payloadRow (c .before .before .before .before .before .before .before .args .b .size)) _ (c .before .before .before .before .before .before .payload-row .ensures) (c .before .before .before .before .enum-told .given .1) (row-passes byNumbers (addressRow (c .before .before .before .before .before .before .before .args .b .address) (c .before .before .before .before .before .before .before .args .size)) _ (c .before .before .before .address-row .ensures) (c .before .enum-told2 .given .1) (c .numbers-row .ensures))
+returns-3 c = row-passes byNumbers (payloadRow (c .before .before .before .before .before .before .before .args .b .size)) _ (c .before .before .before .before .before .before .payload-row .ensures) (c .before .before .before .before .enum-told .given .1) (row-passes byNumbers (strayRow (c .before .before .before .before .before .before .before .args .b .address)) _ (c .before .before .before .stray-row .ensures) (c .before .enum-told2 .given .1) (c .numbers-row .ensures))
 
 pub outside-row-spec : {M : Type 1} → statement M
 outside-row-spec =
@@ -48,7 +48,7 @@ outside-row-spec =
     enum-known-payload
     returns
     enum-told
-    address-row-requires
+    stray-row-requires
     enum-known-address
     returns-2
     enum-told-2

@@ -10,29 +10,11 @@ told-with-requires c κs = search needs
 returns : tie.Need-returns
 returns c = short-told _ _ (c .before .if1 .taken) (c .told-with .ensures)
 
-shared-slice-read-used : tie.Need-shared-slice-read-used
-shared-slice-read-used c = search needs
-
-used-requires : tie.Need-used-requires
-used-requires c κs = search needs
-
-bad-link-requires : tie.Need-bad-link-requires
-bad-link-requires c κs = search needs
-
 link-told-requires : tie.Need-link-told-requires
 link-told-requires c κs = search needs
 
 returns-2 : tie.Need-returns-2
-returns-2 c = whole-told _ _ (c .before .before .before .before .if1 .left) (c .before .before .used .ensures .0) (c .before .bad-link .ensures) (c .link-told .ensures)
+returns-2 c = whole-told _ _ (c .before .if1 .left) (c .link-told .ensures)
 
 pub settings-told-spec : {M : Type 1} → statement M
-settings-told-spec =
-    tie.close
-    (tie.spec
-    told-with-requires
-    returns
-    shared-slice-read-used
-    used-requires
-    bad-link-requires
-    link-told-requires
-    returns-2)
+settings-told-spec = tie.close (tie.spec told-with-requires returns link-told-requires returns-2)
