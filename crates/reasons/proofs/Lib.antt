@@ -4,6 +4,7 @@ pub mod Steps
 pub mod Agree
 pub mod Discards
 mod Ranks
+mod Fields
 pub mod Theorems
 pub mod Places
 pub mod Counts

@@ -2,7 +2,7 @@
 use mathlib.Core.Path.{_≡_, refl, sym, ap, subst, _∙_}
 use mathlib.Core.Bool.{true, cond, not}
 use mathlib.Core.Logic.{_⊎_, ⊎-elim}
-use Prim.Native.Nat.{ℕ, _<_}
+use Prim.Native.Nat.{ℕ, _<_, _≤_}
 use lib.ListN.{getD}
 use native.Mathlib.Omega.{arith}
 use Rattle.sets.proofs.Tests.{split}
@@ -14,6 +14,7 @@ use Rattle.place.specs.declared.Place.{Place}
 use Rattle.place.specs.declared.Place.the-variants.{Nowhere, At}
 use Rattle.place.specs.declared.PlaceAnswer.the-variants as ask
 use Rattle.placing.specs.declared.Rule.the-variants.{Absolute, NoTable}
+use Rattle.settings.proofs.Laws.{good-count}
 use Rattle.place.proofs.Laws.{ask-length, ask-settings, ask-place}
 use Rattle.transfer.specs.Transfer.{numberOf}
 use Rattle.transfer.specs.declared.Answer.{Answer}
@@ -44,6 +45,7 @@ use Rattle.reason.proofs.Laws.{place-parts}
 use Rattle.reasons.specs.Claims.{Place-answer-is-the-receivers, refusalOr, Place-reason-is-true, FoundTrue, Found-place-is-true, placeNamed, Found-place-is-the-receivers, Place-marks-are-true}
 use Rattle.reasons.proofs.Answers.{told, told-next, flash-answer}
 use Rattle.reasons.proofs.Agree.{finding-answer, flash-denied, flash-open}
+use Rattle.reasons.proofs.Fields.{mark-fields, low-used, first-fields, whole-fields}
 use Rattle.reasons.proofs.Theorems.{never, decided-holds, marks-denied}
 
 -- a row whose answer is the same whatever comes after it decides, and one that leaves what comes after it passes
@@ -140,11 +142,23 @@ module _ (s : Settings) (len f : ℕ) where
   -- ---- where it is found
 
   -- what a spot tells is told of the place
-  spot-found : (z : Spot) → SpotTrue s f z → FoundTrue s f (placedSpot f z)
-  spot-found (spot.Refused x) t = tt
-  spot-found (spot.Whole Absolute) t = t
-  spot-found (spot.Whole NoTable) t = t
-  spot-found (spot.Entry p k) t = t
+  spot-found : s .count ≤ 16 → (z : Spot) → SpotTrue s f z → FoundTrue s f (placedSpot f z)
+  spot-found most (spot.Refused x) t = tt
+  spot-found most (spot.Whole Absolute) t = t
+  spot-found most (spot.Whole NoTable) t = (t .0, whole-fields s f (t .2))
+  spot-found most (spot.Entry p k) t = rw (t .1) (first-fields s f most (t .0) k (t .2))
+
+  -- where every row passes, the settings are good
+  passed-good : row ≡ Passes → goodSettings s len ≡ true
+  passed-good e =
+      split (goodSettings s len)
+      (λ g. g)
+      (λ g.
+      let h : answer.Kept ≡ cond (not (flashLength len)) answer.BadBuffers answer.BadSettings =
+      ap (λ (r : Row). told r answer.Kept) (sym e) ∙ row-told answer.Kept ∙ rw g in
+      split (flashLength len)
+      (λ l. let q : answer.Kept ≡ answer.BadSettings = rw l at h in absurd (let z : _≡_ {A = ℕ} 0 1 = cc in omega arith))
+      (λ l. let q : answer.Kept ≡ answer.BadBuffers = rw l at h in absurd (let z : _≡_ {A = ℕ} 0 1 = cc in omega arith)))
 
   -- where every row passes, the spot is the one of the place
   passed-spot : row ≡ Passes → spotOf s f ≡ grantedSpot s f
@@ -157,7 +171,7 @@ module _ (s : Settings) (len f : ℕ) where
     where
       by-row : (r : Row) → row ≡ r → FoundTrue s f (placedBy r (placedSpot f (grantedSpot s f)))
       by-row (Decides x) e = tt
-      by-row Passes e = spot-found (grantedSpot s f) (subst (SpotTrue s f) (passed-spot e) (place-is-true s f))
+      by-row Passes e = spot-found (good-count s len (passed-good e)) (grantedSpot s f) (subst (SpotTrue s f) (passed-spot e) (place-is-true s f))
 
   -- the place that is named is the spot's
   spot-named : (z : Spot) → placeNamed s len (placedSpot f z) ≡ spotPlace s len z
@@ -203,7 +217,8 @@ found-place-is-the-receivers s len f a n e = found-named s len f a n e
 
 pub place-marks-are-true : Place-marks-are-true
 unfolding Place-marks-are-true whyPlaceOf
-place-marks-are-true s len f x e h k l = marks-true s len f x e h k l
+place-marks-are-true s len f x e h k l u =
+    mark-fields (entryAt (s .table) k) f _ (marks-true s len f x e h k (low-used (s .count) k l u))
 
 pub place-answer-is-the-receivers : Place-answer-is-the-receivers
 unfolding Place-answer-is-the-receivers whyPlaceOf

@@ -34,6 +34,7 @@ use Rattle.transfer.specs.declared.State.the-variants.{Idle, Running, Done}
 use Rattle.causes.proofs.Rows.{deciding}
 use Rattle.reasons.proofs.Agree.{answers-agree}
 use Rattle.reasons.proofs.Ranks.{faults-rank}
+use Rattle.reasons.proofs.Fields.{mark-fields, low-used}
 
 pub reason-is-true : Reason-is-true
 unfolding Reason-is-true reasonOf whyOf
@@ -100,11 +101,12 @@ marks-denied s f t k l =
 
 pub marks-are-true : Marks-are-true
 unfolding Reason-is-true Marks-are-true whyOf
-marks-are-true s w a h k l =
+marks-are-true s w a h k b u =
     let f = fieldAt a 28 in
+    let l = low-used (s .count) k b u in
     let t : denies s f NoEntry ≡ true =
     ⊎-elim
     (λ e. let q : reasonOf s w a .cause ≡ Kept = ap (λ (r : Reason). r .cause) e in let z : _≡_ {A = ℕ} 0 1 = cc in absurd (never z))
     (λ e. ap (λ (c : Cause). testOf s w a c (reasonOf s w a .got) (reasonOf s w a .against)) (sym h) ∙ e)
     (decided-holds (holdsIn s w a) (lastOf w a) (reason-is-true s w a)) in
-    rw (ap (λ (c : Cause). getD (entriesOf s f c) k 0) h) (marks-denied s f t k l)
+    mark-fields (entryAt (s .table) k) f _ (rw (ap (λ (c : Cause). getD (entriesOf s f c) k 0) h) (marks-denied s f t k l))

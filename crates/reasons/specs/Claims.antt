@@ -1,17 +1,18 @@
 -- What is claimed of reasons (02, L6): "Show that the reason is the true one: every earlier check passes, this one doesn't, and the answer is the
 -- receiver's." For every settings, transfer, buffers and arrival. proofs/ proves each claim, in lower case. Assumes nothing.
-use Prim.Native.Nat.{ℕ, suc, _+_, _*_, _<_, _≤_}
+use Prim.Native.Nat.{ℕ, _+_, _*_, _<_, _≤_}
 use lib.ListN.{getD}
 use Rattle.block.specs.Block.{fieldAt}
-use Rattle.settings.specs.Settings.{familyAbsolute, entryAt}
-use Rattle.place.specs.Place.{usedCount, getsWhole, bytesOf}
+use Rattle.settings.specs.Settings.{entryAt}
+use Rattle.settings.specs.declared.Entry as settings
+use Rattle.settings.specs.declared.Link.the-variants.{BOf}
+use Rattle.place.specs.Place.{bytesOf}
 use Rattle.place.specs.declared.Place.{Place}
 use Rattle.place.specs.declared.Place.the-variants.{Nowhere, At}
 use Rattle.place.specs.declared.PlaceAnswer.the-variants.{Found}
 use Rattle.faults.specs.Faults.{faultNumber, faultsOf}
 use Rattle.faults.specs.declared.Fault.{Fault}
 use Rattle.faults.specs.declared.Fault.the-variants.{ArchOff, CountOver, NoSectors, PastFlash, Shares, LinksUp, LinksToB, ManyUsers, ReservedUser}
-use Rattle.placing.specs.Placing.{Marked, FirstMatch}
 use Rattle.placing.specs.declared.Rule.the-variants.{Absolute, NoTable}
 use Rattle.placing.specs.declared.Denial.the-variants.{NoEntry}
 use Rattle.causes.specs.declared.Cause.the-variants.{NoPlace}
@@ -21,7 +22,7 @@ use Rattle.reason.specs.declared.PlaceOrigin.the-variants.{Refused, Whole, Entr
 use Rattle.reason.specs.Placed.{placeChecks, holdsOf, placedNumber, whyPlaceOf}
 use Rattle.reason.specs.Why.{placeRow, checksOf, lastOf, holdsIn, whyOf}
 use mathlib.Core.Path.{_≡_}
-use mathlib.Core.Logic.{_≢_}
+use mathlib.Core.Logic.{_⊎_}
 use mathlib.Core.Bool.{Bool, true, _&&_}
 use mathlib.Core.List.{List, [], _∷_}
 use lib.Dec.{ltb}
@@ -37,6 +38,7 @@ use Rattle.lengthrow.specs.Lengths.{lengthsRow}
 use Rattle.numberrows.specs.Numbers.{numbersRow, addressRow, strayRow}
 use Rattle.checks.specs.Block.{writtenRow}
 use Rattle.causes.specs.declared.Reason.{Reason}
+use Rattle.targeting.specs.Targeting.{row, IsA, Accepts, First}
 
 -- "every earlier check passes, this one doesn't": in the one list of all checks, each of which tests the condition and the numbers that it names; or all
 -- pass, and the block is kept
@@ -57,11 +59,16 @@ Count-is-raised =
     (s : Settings) (w : World) (a : List ℕ) → 14 ≤ numberOf (receiveOf s w a .answer)
     → (whyOf s w a .reason .got ≡ countOf (receiveOf s w a .world .transfer)) × (whyOf s w a .reason .against ≡ fieldAt a 24)
 
+-- what a mark says of an entry and a family, by the entry's fields: 1 is "B of", 2 "doesn't accept"
+pub data MarkTrue (e : settings.Entry) (f : ℕ) : ℕ → Type 0 where
+  b-of : (j : ℕ) → e .link ≡ BOf j → MarkTrue e f 1
+  does-not-accept : IsA e → (Accepts e f → ⊥) → MarkTrue e f 2
+
 -- "for each used entry "B of" or else "doesn't accept""
 unfoldable pub Marks-are-true : Type 0
 Marks-are-true =
-    (s : Settings) (w : World) (a : List ℕ) → whyOf s w a .reason .cause ≡ NoPlace NoEntry → (k : ℕ) → k < usedCount (s .count)
-    → Marked (entryAt (s .table) k) (fieldAt a 28) (getD (whyOf s w a .entries) k 0)
+    (s : Settings) (w : World) (a : List ℕ) → whyOf s w a .reason .cause ≡ NoPlace NoEntry → (k : ℕ) → k < 16 → k < s .count
+    → MarkTrue (row s k) (fieldAt a 28) (getD (whyOf s w a .entries) k 0)
 
 -- ---- a place asked for alone
 
@@ -81,12 +88,13 @@ Place-reason-is-true =
     (s : Settings) (len f : ℕ) (y : Reason) → Deciding (holdsOf s len f) y (placeChecks s len f) (refusalOr y (whyPlaceOf s len f .placed))
 
 -- "For a place it names the pass and the entry, or the whole-flash rule.": absolute is the family and is allowed; there is no table and the family is one
--- that then gets the whole flash; or pass p, of 1 to 4, is the first that takes a used entry, and k is the first that it takes
+-- that then gets the whole flash; or pass p, of 1 to 4, is the first that takes a used entry, and k is the first that it takes (`First` of targeting)
 abbrev pub FoundTrue : Settings → ℕ → PlaceOrigin → Type 0
 FoundTrue s f (Refused x) = Unit {0}
-FoundTrue s f (Whole Absolute) = (f ≡ familyAbsolute) × (s .absolute ≡ true)
-FoundTrue s f (Whole NoTable) = (s .count ≡ 0) × (f ≢ familyAbsolute) × (getsWhole (s .arm) (s .riscv) f ≡ true)
-FoundTrue s f (Entry p k) = (q : ℕ) × (p ≡ suc q) × FirstMatch s f q k
+FoundTrue s f (Whole Absolute) = (f ≡ 0xe48bff57) × (s .absolute ≡ true)
+FoundTrue s f (Whole NoTable) =
+    (s .count ≡ 0) × ((f ≡ 0xe48bff58) ⊎ (((f ≡ 0xe48bff59) × (s .arm ≡ true)) ⊎ ((f ≡ 0xe48bff5a) × (s .riscv ≡ true))))
+FoundTrue s f (Entry p k) = First s f p k
 
 unfoldable pub Found-place-is-true : Type 0
 Found-place-is-true = (s : Settings) (len f : ℕ) → FoundTrue s f (whyPlaceOf s len f .placed)
@@ -106,7 +114,7 @@ Found-place-is-the-receivers =
 unfoldable pub Place-marks-are-true : Type 0
 Place-marks-are-true =
     (s : Settings) (len f : ℕ) (x : Reason) → whyPlaceOf s len f .placed ≡ Refused x → x .cause ≡ NoPlace NoEntry → (k : ℕ)
-    → k < usedCount (s .count) → Marked (entryAt (s .table) k) f (getD (whyPlaceOf s len f .entries) k 0)
+    → k < 16 → k < s .count → MarkTrue (row s k) f (getD (whyPlaceOf s len f .entries) k 0)
 
 -- ---- the order: "first in its row as written"
 
