@@ -4,3 +4,4 @@ pub mod Compared
 pub mod Written
 pub mod Encoding
 pub mod Bits
+pub mod Refusals

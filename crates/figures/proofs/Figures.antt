@@ -21,7 +21,7 @@ use Rattle.adding.specs.declared.FiguresAnswer.the-variants.{BadReport, TooMany
 use Rattle.counts.specs.Counts.{freshReport, sumTo, goodReport, withRoom, countAll}
 use Rattle.adding.specs.Report.{addedTo, FiguresOutcome, figuresOutcome, figuresNumber, addOf}
 use Rattle.adding.proofs.Adds.{replay-count}
-use Rattle.figures.specs.Claims.{sumOf, Sound, Refused-71, Refused-70, Else-replayed, Refusals-leave-all, timesOf, timesYes, placeOf, countIn, arrivalsIn, Adds, Replay-adds, EndFacts, Replay-ends, Job, doneBy, addAll, toldBy, allAnswers, allDiscards, From-fresh}
+use Rattle.figures.specs.Claims.{sumOf, Sound, Refused-71, Refused-70, Report-numbers, Else-replayed, Refusals-leave-all, timesOf, timesYes, placeOf, countIn, arrivalsIn, Adds, Replay-adds, EndFacts, Replay-ends, Job, doneBy, addAll, toldBy, allAnswers, allDiscards, From-fresh}
 use Rattle.figures.proofs.Counts.{place-is, place-low, sum-is, yes-is, length-all, counts-at, sum-at, times-append, yes-append, yes-most, length-answers, length-discards}
 use Rattle.figures.proofs.Ends.{missing-facts}
 
@@ -129,6 +129,10 @@ refused-70 r s h t l = (
   λ e. let b = if-70 r s h t (ap figuresNumber e) in (good-sound r l (b .0), omega (arith, room-many r s h t (b .1))),
   λ b. ap (λ (o : FiguresOutcome). o .answer) (is-many r s h t (sound-good r (b .0)) (many-room r s h t (omega (arith, b .1)))),
 )
+
+pub report-numbers : Report-numbers
+unfolding Report-numbers
+report-numbers = refl
 
 pub else-replayed : Else-replayed
 unfolding Else-replayed

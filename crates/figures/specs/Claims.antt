@@ -4,7 +4,7 @@ use Prim.Native.Nat.{ℕ, _+_, _/_, _≤_, _<_}
 use mathlib.Core.Path.{_≡_}
 use mathlib.Core.Logic.{_↔_}
 use mathlib.Core.Bool.{Bool, true, false}
-use mathlib.Core.List.{List, [], _∷_, _++_}
+use mathlib.Core.List.{List, [], _∷_, _++_, map}
 use lib.Dec.{eqb}
 use lib.ListN.{length, getD}
 use Rattle.sets.specs.Sets.{one}
@@ -21,7 +21,7 @@ use Rattle.replay.specs.Replay.{begun, replayOf}
 use Rattle.piece.specs.declared.Stop.{Stop}
 use Rattle.replays.specs.Pieces.{arrivalsTo, recordsBefore}
 use Rattle.counts.specs.Counts.{freshReport}
-use Rattle.adding.specs.Report.{FiguresOutcome, addOf}
+use Rattle.adding.specs.Report.{FiguresOutcome, figuresNumber, addOf}
 use Rattle.counts.specs.declared.Report.{Report}
 use Rattle.counts.specs.declared.Missing.{Missing}
 use Rattle.counts.specs.declared.Missing.the-variants as missing
@@ -66,6 +66,10 @@ unfoldable pub Refusals-leave-all : Type 0
 Refusals-leave-all =
     (r : Report) (s : Settings) (h : Lent) (t : List ℕ) → ((x : Stop) → addOf r s h t .answer ≡ Replayed x → ⊥)
     → (addOf r s h t .report ≡ r) × (addOf r s h t .lent ≡ h)
+
+-- "is refused unreplayed, 70. Before that, 71"
+unfoldable pub Report-numbers : Type 0
+Report-numbers = map figuresNumber (TooMany ∷ BadReport ∷ []) ≡ 70 ∷ 71 ∷ []
 
 -- ---- one trace
 
