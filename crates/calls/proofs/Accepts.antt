@@ -23,9 +23,9 @@ use Rattle.plans.proofs.Claims.{performed-is-taken, decided-lies}
 use Rattle.demand.specs.Demand.{seenOf, Ends}
 use Rattle.layout.specs.Layout.{settingsFrom}
 use Rattle.callbytes.specs.Calls.{ArrivalCall, arrivalCallOf, planWords, planBytes, PlannedCall, plannedCallOf, takeBytes, acceptBytes}
-use Rattle.calls.specs.CallLists.{CallerState, call, leftBy, callAll, returnsOf, worldOf, Calls-end}
-use Rattle.calls.specs.Accepts.{drives, drivenBy, accept, carriedOut, Accept-is-take, acceptAll, acceptReturns, Accepts-are-takes, Accepts-end}
-use Rattle.calls.proofs.CallLists.{calls-end}
+use Rattle.calls.specs.CallLists.{CallerState, call, leftBy, callAll, returnsOf, worldOf, Calls-end, Calls-cut}
+use Rattle.calls.specs.Accepts.{drives, drivenBy, accept, carriedOut, Accept-is-take, acceptAll, acceptReturns, Accepts-are-takes, Accepts-end, Accepts-cut}
+use Rattle.calls.proofs.CallLists.{calls-end, calls-cut}
 
 -- ---- the three numbers are read as they were written
 
@@ -125,3 +125,8 @@ unfolding Accepts-end Calls-end
 accepts-end s h F i v l t b plain p e =
     subst (λ (k : CallerState). Ends (settingsFrom s) (worldOf h) F (seenOf F l) (worldOf k)) (sym (accepts-left s h p l e))
     (calls-end s h F i v l t b plain)
+
+pub accepts-cut : Accepts-cut
+unfolding Accepts-cut Calls-cut
+accepts-cut s h k F C ok plain l sent b whole p e =
+    accepts-left s h p l e ∙ calls-cut s h k F C ok plain l sent b whole ∙ sym (accepts-left s k p l e)

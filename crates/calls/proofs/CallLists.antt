@@ -26,7 +26,7 @@ use Rattle.transfer.specs.declared.Deed.{Deed}
 use Rattle.transfer.specs.declared.Accepted.{Accepted}
 use Rattle.transfer.specs.declared.Answer.{Answer}
 use Rattle.flash.specs.Flash.{payloadOf}
-use Rattle.arrival.specs.Arrive.{World, lentOf, Outcome, Decision, acceptOf, done, receiveOf}
+use Rattle.arrival.specs.Arrive.{World, bufferOf, lentOf, Outcome, Decision, acceptOf, done, receiveOf}
 use Rattle.arrival.specs.Lists.{receiveAll, answersOf, discardsOf, Delivery, playAll}
 use Rattle.arrivals.specs.Bounds.{Refusals-change-nothing}
 use Rattle.arrival.specs.Facts.{Look-tells}
@@ -43,6 +43,8 @@ use Rattle.demand.proofs.Demand.{list-counts, list-ends, completed-exactly, sam
 use Rattle.demand.proofs.Runs.{mixed-map}
 use Rattle.demands.proofs.Regions.{regions-end}
 use Rattle.demands.proofs.Stopped.{stopped-then-good}
+use Rattle.cuts.specs.Cut.{Cut-then-whole, Standing-is-received}
+use Rattle.cuts.proofs.Cut.{cut-then-whole, standing-is-received}
 use Rattle.layout.specs.Layout.{byteAt, stateFrom, settingsFrom, transferBytes, headBytes, stateBytes, withTransfer}
 use Rattle.transferbytes.proofs.Refused.{state-length}
 use Rattle.transferbytes.proofs.Transfers.{Small, written-back}
@@ -51,7 +53,7 @@ use Rattle.batch.specs.Batch.{arrivalsOf, resultsOf, anyAcceptance, storedFrom,
 use Rattle.results.proofs.Laws.{number-most}
 use Rattle.callbytes.specs.Calls as calls
 use Rattle.callbytes.specs.Calls.{lookResult, lookBytes, takeBytes, takeBatch}
-use Rattle.calls.specs.CallLists.{CallerState, call, leftBy, callAll, returnsOf, worldOf, AllBytes, Calls-are-arrivals, Calls-count, Calls-end, Calls-regions, Calls-completed, Calls-same-set, Calls-either-first, Calls-stopped, Calls-are-one-call, Look-is-take, Call, looks, takes, playCalls, takenBy, Looks-change-nothing, Look-then-take}
+use Rattle.calls.specs.CallLists.{CallerState, call, leftBy, callAll, returnsOf, worldOf, AllBytes, Calls-are-arrivals, Calls-count, Calls-end, Calls-regions, Calls-completed, Calls-same-set, Calls-either-first, Calls-stopped, Calls-cut, Calls-standing, Calls-are-one-call, Look-is-take, Call, looks, takes, playCalls, takenBy, Looks-change-nothing, Look-then-take}
 
 -- ---- a field of bytes
 
@@ -372,6 +374,27 @@ calls-stopped s h k F Z v p l m b n =
           moved-bytes s h l b (Z .sound) other ∙ ap stateBytes (E .transfer)
           ∙ sym (moved-bytes s k l b (rw (Z .idle) (unfold goodState in refl)) free);
     }
+
+-- ---- power lost, then the file again
+
+pub calls-cut : Calls-cut
+unfolding Calls-cut Cut-then-whole List-counts
+calls-cut s h k F C ok plain l sent b whole =
+    let z = settingsFrom s in
+    let y = receiveAll z (worldOf k) l in
+    let n : isIdle (y .transfer) ≡ false = ap isIdle (list-counts z (worldOf k) F (C .before) ok l sent .whole whole) in
+    let idle : goodState Idle ≡ true = unfold goodState in refl in
+    calls-left s h l (C .back) b
+    ∙ ap (leftOf h) (cut-then-whole z (worldOf h) (worldOf k) F C ok plain l sent whole)
+    ∙ ap (λ (t : List ℕ). stateWith t y)
+    (busy-bytes (h .transfer) (y .transfer) (good-size (h .transfer) (ap goodState (C .back) ∙ idle)) n
+    ∙ sym (busy-bytes (k .transfer) (y .transfer) (good-size (k .transfer) (ap goodState (C .before) ∙ idle)) n))
+    ∙ sym (calls-left s k l (C .before) b)
+
+pub calls-standing : Calls-standing
+unfolding Calls-standing Standing-is-received
+calls-standing s h F i v l t b p z u =
+    ap (λ (w : World). bufferOf u (w .held)) (calls-world s h l b) ∙ standing-is-received (settingsFrom s) (worldOf h) F i v p l t z u
 
 -- ---- one call of many
 

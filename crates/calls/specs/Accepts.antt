@@ -10,10 +10,11 @@ use Rattle.sets.specs.Over.{over}
 use Rattle.fill.specs.Many.{many}
 use Rattle.block.specs.Block.{fieldAt}
 use Rattle.arrival.specs.Arrive.{Lent}
-use Rattle.demand.specs.Demand.{seenOf, Ends, Plain}
+use Rattle.demand.specs.Demand.{File, ValidFile, Sent, seenOf, howMany, Ends, Plain}
+use Rattle.cuts.specs.Cut.{Cut}
 use Rattle.layout.specs.Layout.{settingsFrom}
 use Rattle.callbytes.specs.Calls.{ArrivalCall, arrivalCall, PlannedCall, acceptBytes}
-use Rattle.calls.specs.CallLists.{CallerState, call, leftBy, callAll, returnsOf, worldOf, EveryCalls}
+use Rattle.calls.specs.CallLists.{CallerState, call, leftBy, callAll, returnsOf, worldOf, AllBytes, EveryCalls}
 
 -- ---- the driver, who has the plan's bytes, the arrival and the flash
 
@@ -93,3 +94,10 @@ Accepts-end =
     (λ s h F l.
     Plain (settingsFrom s) (worldOf h) F → (p : List ℕ) → length p ≡ 12
     → Ends (settingsFrom s) (worldOf h) F (seenOf F l) (worldOf (acceptAll s h p l)))
+
+-- power lost in any call or plan, then the file again, whole, each plan carried out: byte for byte as if power had never been lost
+unfoldable pub Accepts-cut : Type 0
+Accepts-cut =
+    (s : List ℕ) (h k : CallerState) (F : File) → Cut (settingsFrom s) F (worldOf h) (worldOf k) → ValidFile (settingsFrom s) (worldOf k) F
+    → Plain (settingsFrom s) (worldOf k) F → (l : List (List ℕ)) → Sent (settingsFrom s) (worldOf k) F l → AllBytes l
+    → howMany F (seenOf F l) ≡ F .total → (p : List ℕ) → length p ≡ 12 → acceptAll s h p l ≡ acceptAll s k p l

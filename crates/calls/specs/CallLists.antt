@@ -8,12 +8,14 @@ use lib.ListN.{length}
 use Rattle.record.specs.Write.{Bytes}
 use Rattle.sets.specs.Sets.{Set}
 use Rattle.transfer.specs.Transfer.{kindNumber, running}
+use Rattle.transfer.specs.declared.Kind.{Kind}
 use Rattle.transfer.specs.declared.State.the-variants.{Idle, Done}
-use Rattle.arrival.specs.Arrive.{Lent, World}
+use Rattle.arrival.specs.Arrive.{Lent, World, bufferOf}
 use Rattle.arrival.specs.Lists.{receiveAll, answersOf, discardsOf}
 use Rattle.demand.specs.Demand.{File, ValidFile, Mixed, Sent, seenOf, howMany, isWhole, headIn, Counts, Contents, Ends, Plain, SameSet}
 use Rattle.demands.specs.Regions.{Regions, Complete}
 use Rattle.demands.specs.Stopped.{Stopped, ForeignToBoth, EndsAlike}
+use Rattle.cuts.specs.Cut.{Cut, Standing}
 use Rattle.receiver.specs.Receiver.{world}
 use Rattle.layout.specs.Layout.{byteAt, settingsFrom, transferFrom, stateBytes}
 use Rattle.batch.specs.Batch.{arrivalsOf, resultsOf, storedFrom}
@@ -136,6 +138,23 @@ Calls-stopped =
     (s : List ℕ) (h k : CallerState) (F : File) → Stopped F (worldOf h) (worldOf k) → ValidFile (settingsFrom s) (worldOf k) F
     → Plain (settingsFrom s) (worldOf k) F → (l : List (List ℕ)) → Mixed F (ForeignToBoth (settingsFrom s) (worldOf h) (worldOf k) F) l
     → AllBytes l → 1 ≤ howMany F (seenOf F l) → CallsAlike s h k F l
+
+-- ---- power lost, then the file again: calls from h, which power came back to, and from k, as it was before the file was first sent
+
+-- the file whole: byte for byte as if power had never been lost
+unfoldable pub Calls-cut : Type 0
+Calls-cut =
+    (s : List ℕ) (h k : CallerState) (F : File) → Cut (settingsFrom s) F (worldOf h) (worldOf k) → ValidFile (settingsFrom s) (worldOf k) F
+    → Plain (settingsFrom s) (worldOf k) F → (l : List (List ℕ)) → Sent (settingsFrom s) (worldOf k) F l → AllBytes l
+    → howMany F (seenOf F l) ≡ F .total → callAll s h l ≡ callAll s k l
+
+-- calls for blocks that stand already change no byte of flash or RAM
+unfoldable pub Calls-standing : Type 0
+Calls-standing =
+    EveryCalls
+    (λ s h F l.
+    Plain (settingsFrom s) (worldOf h) F → Standing (settingsFrom s) (worldOf h) F (seenOf F l)
+    → (u : Kind) → bufferOf u (worldOf (callAll s h l) .held) ≡ bufferOf u (worldOf h .held))
 
 -- ---- they are one call of `uf2_take_all`
 

@@ -17,7 +17,7 @@ use Rattle.screen.specs.declared.Lengths.{Lengths}
 use Rattle.screen.specs.declared.PlacedBlock.{PlacedBlock}
 use Rattle.screen.specs.declared.Screening.the-variants.{Refused, Passed}
 use Rattle.arrival.specs.Arrive.{World, Decision, ramLength, standing, afterScreening, acceptOf, unchanged, done, receiveOf}
-use Rattle.arrival.specs.Facts.{Arrivals-keep-lengths}
+use Rattle.arrival.specs.Facts.{Lengths-kept, Arrivals-keep-lengths}
 use Rattle.arrival.specs.Lists.{receiveAll}
 use Rattle.arrivals.specs.Tally.{clears}
 use Rattle.arrival.proofs.Pages.{arrive}
@@ -59,18 +59,24 @@ state-next s w a (took g k B l q t) e =
 pub lens-next : (s : Settings) (w : World) (a : List ℕ) → lens (receiveOf s w a .world) ≡ lens w
 lens-next s w a = unfold Arrivals-keep-lengths in arrivals-keep-lengths s w a .buffers
 
-pub board-next : (s : Settings) (w : World) (a : List ℕ) → Board s w → Board s (receiveOf s w a .world)
-board-next s w a B =
-    let e : lens (receiveOf s w a .world) ≡ lens w = lens-next s w a in
+-- they are asked of the lengths and the transfer alone
+pub board-same : (s : Settings) (v w : World) → Lengths-kept v w → goodState (v .transfer) ≡ true → Board s w → Board s v
+board-same s v w L t B =
+    let e = L .buffers in
     record {
       flash = ap (λ (n : Lengths). flashLength (n .flash)) e ∙ B .flash;
-      seen = unfold Arrivals-keep-lengths in arrivals-keep-lengths s w a .seen ∙ B .seen;
-      sectors = unfold Arrivals-keep-lengths in arrivals-keep-lengths s w a .sectors ∙ B .sectors;
+      seen = L .seen ∙ B .seen;
+      sectors = L .sectors ∙ B .sectors;
       main = ap (λ (n : Lengths). ramLength MainRam (n .main)) e ∙ B .main;
       xip = ap (λ (n : Lengths). ramLength XipRam (n .xip)) e ∙ B .xip;
       good = ap (λ (n : Lengths). goodSettings s (n .flash)) e ∙ B .good;
-      state = unfold receiveOf in state-next s w a (decision-facts s w a) (B .state);
+      state = t;
     }
+
+pub board-next : (s : Settings) (w : World) (a : List ℕ) → Board s w → Board s (receiveOf s w a .world)
+board-next s w a B =
+    board-same s (receiveOf s w a .world) w (unfold Arrivals-keep-lengths in arrivals-keep-lengths s w a)
+    (unfold receiveOf in state-next s w a (decision-facts s w a) (B .state)) B
 
 -- ---- the worlds that a list from w on meets
 

@@ -40,7 +40,7 @@ use Rattle.arrivals.proofs.Effect.{kindIn, Valid, layout, sectorsOf, apart-of, 
 use Rattle.demand.proofs.Contents.{byteIn, sectors-in, held-in}
 use Rattle.arrivals.proofs.Screening.{lens, Board, screen-turn, note-counted}
 use Rattle.arrivals.proofs.DecisionFacts.{step-late}
-use Rattle.demand.proofs.Lists.{Reached, receive-refused, receive-passed}
+use Rattle.demand.proofs.Lists.{board-same, Reached, receive-refused, receive-passed}
 use Rattle.demand.proofs.Runs.{Steady, mixed-map, along-any, run-after}
 use Rattle.demand.proofs.Files.{earned, blocksOf, board, block-size, comment-flash, screen-block, valid, screen-foreign, foreign-apart, steady}
 use Rattle.demand.proofs.Demand.{unkept, after-list, ends}
@@ -57,17 +57,7 @@ module _ (s : Settings) (v w : World) (F : File) (Z : Stopped F v w) (ok : Valid
 
   -- rows 1 to 3 are passed at the stopped start too
   stopped-board : Board s v
-  stopped-board =
-      let e = Z .lengths in
-      record {
-        flash = ap (λ (n : Lengths). flashLength (n .flash)) e ∙ at-idle .flash;
-        seen = Z .seen-length ∙ at-idle .seen;
-        sectors = Z .sectors-length ∙ at-idle .sectors;
-        main = ap (λ (n : Lengths). ramLength MainRam (n .main)) e ∙ at-idle .main;
-        xip = ap (λ (n : Lengths). ramLength XipRam (n .xip)) e ∙ at-idle .xip;
-        good = ap (λ (n : Lengths). goodSettings s (n .flash)) e ∙ at-idle .good;
-        state = Z .sound;
-      }
+  stopped-board = board-same s v w (record { buffers = Z .lengths; seen = Z .seen-length; sectors = Z .sectors-length }) (Z .sound) at-idle
 
   same-length : (u : Kind) → length (bufferOf u (v .held)) ≡ length (bufferOf u (w .held))
   same-length u = length-in u (v .held) ∙ ap (λ (n : Lengths). lengthIn n u) (Z .lengths) ∙ sym (length-in u (w .held))
