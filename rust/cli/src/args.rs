@@ -1,12 +1,16 @@
 //! The words of a command line: options that take a value, flags, and the names of files.
 
-use crate::{number, Trouble};
+use crate::{files, number, Trouble};
 
 /// An option that a command knows.
 #[derive(Clone, Copy)]
 pub enum Opt {
     /// One that takes a value: `--flash 2M` or `--flash=2M`.
     Value(&'static str),
+    /// One that takes the name of a file that is read.
+    Input(&'static str),
+    /// One that takes the name of a file that is written.
+    Output(&'static str),
     /// One that stands alone.
     Flag(&'static str),
 }
@@ -14,7 +18,7 @@ pub enum Opt {
 impl Opt {
     fn name(self) -> &'static str {
         match self {
-            Opt::Value(name) | Opt::Flag(name) => name,
+            Opt::Value(name) | Opt::Input(name) | Opt::Output(name) | Opt::Flag(name) => name,
         }
     }
 }
@@ -60,7 +64,7 @@ impl Args {
             match known {
                 None => return args.wrong(format!("no option '{name}'")),
                 Some(Opt::Flag(name)) => args.say(name, None, joined)?,
-                Some(Opt::Value(name)) => {
+                Some(Opt::Value(name) | Opt::Input(name) | Opt::Output(name)) => {
                     let value = joined.or_else(|| words.next());
                     args.say_value(name, value)?;
                 }
@@ -141,6 +145,22 @@ impl Args {
             }
         }
         words
+    }
+
+    /// Refuses a file that is written and is one that is read, or another that is written. All words but the first few, which are a command's
+    /// own, are names of files that are read.
+    pub fn apart(&self, options: &[&[Opt]], verbs: usize) -> Result<(), Trouble> {
+        let all = options.iter().copied().flatten();
+        let (mut inputs, mut outputs) = (Vec::new(), Vec::new());
+        for opt in all {
+            match opt {
+                Opt::Input(name) => inputs.extend(self.value(name)),
+                Opt::Output(name) => outputs.extend(self.value(name)),
+                Opt::Value(_) | Opt::Flag(_) => {}
+            }
+        }
+        inputs.extend(self.files.iter().skip(verbs).map(String::as_str));
+        files::apart(&outputs, &inputs)
     }
 
     /// The names of files: exactly so many.

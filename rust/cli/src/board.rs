@@ -26,7 +26,7 @@ but the flash is as large as the file and the partitions of --settings need, in 
 /// The options of a board.
 pub const OPTIONS: &[Opt] = &[
     Opt::Value("--flash"),
-    Opt::Value("--settings"),
+    Opt::Input("--settings"),
     Opt::Flag("--arm"),
     Opt::Flag("--riscv"),
     Opt::Value("--current"),
@@ -34,7 +34,7 @@ pub const OPTIONS: &[Opt] = &[
     Opt::Flag("--absolute"),
     Opt::Flag("--main-ram"),
     Opt::Flag("--xip-ram"),
-    Opt::Value("--start-image"),
+    Opt::Input("--start-image"),
 ];
 
 /// The options that say settings one by one.

@@ -55,25 +55,58 @@ fn renamed(path: &Path, bytes: &[u8]) -> io::Result<()> {
     written
 }
 
-/// Refuses an output that would replace an input or another output.
-pub fn apart(outputs: &[Option<&str>], inputs: &[&str]) -> Result<(), Trouble> {
-    let mut taken: Vec<PathBuf> = inputs.iter().map(|name| place(name)).collect();
-    for name in outputs.iter().flatten() {
-        let path = place(name);
-        if taken.contains(&path) {
+/// Refuses an output that is an input or another output: the same path, or one file under two names.
+pub fn apart(outputs: &[&str], inputs: &[&str]) -> Result<(), Trouble> {
+    for (k, name) in outputs.iter().enumerate() {
+        let same = |other: &&&str| Identity::of(other) == Identity::of(name);
+        if let Some(input) = inputs.iter().find(same) {
             return Err(Trouble(format!(
-                "{name} is named twice: an output would replace another file of this command"
+                "the output {name} is the same file as the input {input}; give the output another name"
             )));
         }
-        taken.push(path);
+        if let Some(other) = outputs[..k].iter().find(same) {
+            return Err(Trouble(format!(
+                "the outputs {other} and {name} are the same file; give one of them another name"
+            )));
+        }
     }
     Ok(())
 }
 
-fn place(name: &str) -> PathBuf {
-    fs::canonicalize(name)
-        .or_else(|_| std::path::absolute(name))
-        .unwrap_or_else(|_| name.into())
+/// Which file a name stands for.
+#[derive(PartialEq, Eq)]
+enum Identity {
+    /// One that is there, whatever it is called: links lead to what they point to, and all hard links of a file are one.
+    #[cfg(unix)]
+    Inode(u64, u64),
+    /// One that is not there yet, or of a system that tells no more.
+    Path(PathBuf),
+}
+
+impl Identity {
+    fn of(name: &str) -> Identity {
+        #[cfg(unix)]
+        if let Ok(found) = fs::metadata(name) {
+            use std::os::unix::fs::MetadataExt;
+            return Identity::Inode(found.dev(), found.ino());
+        }
+        Identity::Path(place(Path::new(name)))
+    }
+}
+
+/// The path of a file without links and dots, though the file is not there.
+fn place(path: &Path) -> PathBuf {
+    let beside = || {
+        let folder = match path.parent() {
+            Some(folder) if folder != Path::new("") => folder,
+            _ => Path::new("."),
+        };
+        Ok::<_, io::Error>(fs::canonicalize(folder)?.join(path.file_name().unwrap_or_default()))
+    };
+    fs::canonicalize(path)
+        .or_else(|_| beside())
+        .or_else(|_| std::path::absolute(path))
+        .unwrap_or_else(|_| path.into())
 }
 
 /// What the system says, without its number.

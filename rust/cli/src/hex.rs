@@ -32,7 +32,7 @@ be read or written.
 pub const OPTIONS: &[Opt] = &[
     Opt::Value("--board"),
     Opt::Value("--bytes"),
-    Opt::Value("--image"),
+    Opt::Output("--image"),
     Opt::Flag("-v"),
     Opt::Flag("--json"),
 ];
@@ -135,7 +135,6 @@ pub fn run(args: &Args, out: &mut Out) -> Outcome {
     let len = len(args, board)?;
     let [name] = args.files(["FILE.hex"])?;
     let image = args.value("--image");
-    files::apart(&[image], &[name])?;
     let read = read(&files::read(name)?, board, len);
     let image = image.filter(|_| read.ended);
     if let Some(image) = image {

@@ -25,7 +25,7 @@ file that cannot be read or written.
 ";
 
 /// Its options.
-pub const OPTIONS: &[Opt] = &[Opt::Value("-o"), Opt::Flag("--json")];
+pub const OPTIONS: &[Opt] = &[Opt::Output("-o"), Opt::Flag("--json")];
 
 /// What a refusal of a plain file says, in words, at a line counted from 0 of so many.
 fn meaning(refusal: PlainRefusal, line: usize, lines: usize) -> String {
@@ -145,7 +145,6 @@ impl Inputs<'_> {
 pub fn run(args: &Args, out: &mut Out) -> Outcome {
     let to = args.needed("-o", "the name of the file to write")?;
     let names = args.files(["V1.hex", "V2.hex"])?;
-    files::apart(&[Some(to)], &names)?;
     let inputs = Inputs {
         names,
         files: [files::read(names[0])?, files::read(names[1])?],

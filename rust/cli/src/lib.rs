@@ -43,10 +43,11 @@ struct Trouble(String);
 /// What a command comes to.
 type Outcome = Result<End, Trouble>;
 
-/// A command: its name, what it does in a line, its page of help, its options, and the function.
+/// A command: its name, what it does in a line, how many of its first words are no files, its page of help, its options, and the function.
 struct Command {
     name: &'static str,
     does: &'static str,
+    verbs: usize,
     help: &'static [&'static str],
     options: &'static [&'static [Opt]],
     run: fn(&Args, &mut Out) -> Outcome,
@@ -56,6 +57,7 @@ const COMMANDS: &[Command] = &[
     Command {
         name: "load",
         does: "plays a UF2 file into a board and says what came of it",
+        verbs: 0,
         help: &[load::HELP, board::HELP],
         options: &[load::OPTIONS, board::OPTIONS],
         run: load::run,
@@ -63,6 +65,7 @@ const COMMANDS: &[Command] = &[
     Command {
         name: "why",
         does: "says why an arrival was not taken, and why a family has a place or none",
+        verbs: 0,
         help: &[why::HELP, board::HELP],
         options: &[why::OPTIONS, board::OPTIONS],
         run: why::run,
@@ -70,6 +73,7 @@ const COMMANDS: &[Command] = &[
     Command {
         name: "make",
         does: "makes a UF2 file of an image",
+        verbs: 0,
         help: &[make::HELP],
         options: &[make::OPTIONS],
         run: make::run,
@@ -77,6 +81,7 @@ const COMMANDS: &[Command] = &[
     Command {
         name: "replay",
         does: "replays a trace and says where its answers differ from ours",
+        verbs: 0,
         help: &[replay::HELP, board::HELP],
         options: &[replay::OPTIONS, board::OPTIONS],
         run: replay::run,
@@ -84,6 +89,7 @@ const COMMANDS: &[Command] = &[
     Command {
         name: "figures",
         does: "replays traces and counts our answers over all of them",
+        verbs: 0,
         help: &[figures::HELP, board::HELP],
         options: &[figures::OPTIONS, board::OPTIONS],
         run: figures::run,
@@ -91,6 +97,7 @@ const COMMANDS: &[Command] = &[
     Command {
         name: "tags",
         does: "lists the extension tags of a UF2 file, and its version",
+        verbs: 0,
         help: &[tags::HELP],
         options: &[tags::OPTIONS],
         run: tags::run,
@@ -98,6 +105,7 @@ const COMMANDS: &[Command] = &[
     Command {
         name: "hex",
         does: "reads a Universal Hex file for one board",
+        verbs: 0,
         help: &[hex::HELP],
         options: &[hex::OPTIONS],
         run: hex::run,
@@ -105,6 +113,7 @@ const COMMANDS: &[Command] = &[
     Command {
         name: "join",
         does: "writes one Universal Hex file from two Intel Hex files",
+        verbs: 0,
         help: &[join::HELP],
         options: &[join::OPTIONS],
         run: join::run,
@@ -112,6 +121,7 @@ const COMMANDS: &[Command] = &[
     Command {
         name: "settings",
         does: "shows a board's stored settings, and packs a store from a text",
+        verbs: 1,
         help: &[settings::command::HELP],
         options: &[settings::command::OPTIONS],
         run: settings::command::run,
@@ -165,6 +175,7 @@ fn run(words: Vec<String>, out: &mut Out) -> Outcome {
         return Ok(End::Whole);
     }
     let args = Args::parse(command.name, command.options, words)?;
+    args.apart(command.options, command.verbs)?;
     (command.run)(&args, out)
 }
 

@@ -38,8 +38,8 @@ pub const OPTIONS: &[Opt] = &[
     Opt::Value("--shuffle"),
     Opt::Value("--repeat"),
     Opt::Value("--drop"),
-    Opt::Value("--image"),
-    Opt::Value("--record"),
+    Opt::Output("--image"),
+    Opt::Output("--record"),
     Opt::Flag("-v"),
     Opt::Flag("--json"),
 ];
@@ -95,7 +95,6 @@ pub fn run(args: &Args, out: &mut Out) -> Outcome {
     let options = Options::read(args)?;
     let [name] = args.files(["FILE.uf2"])?;
     let (image, record) = (args.value("--image"), args.value("--record"));
-    files::apart(&[image, record], &[name])?;
     let file = files::read(name)?;
     let sent = arrivals(args, &file)?;
     let mut board = options.board(need(pieces(&file)))?;

@@ -28,7 +28,7 @@ read or written.
 
 /// Its options.
 pub const OPTIONS: &[Opt] = &[
-    Opt::Value("-o"),
+    Opt::Output("-o"),
     Opt::Value("--family"),
     Opt::Value("--start"),
     Opt::Flag("--json"),
@@ -108,7 +108,6 @@ pub fn run(args: &Args, out: &mut Out) -> Outcome {
     let family = family.or_else(|why| args.wrong(why))?;
     let start = start(args)?;
     let [name] = args.files(["IMAGE"])?;
-    files::apart(&[Some(to)], &[name])?;
     let image = files::read(name)?;
     let job = Job {
         name,

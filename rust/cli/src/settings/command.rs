@@ -48,7 +48,11 @@ cannot be read or written.
 const LISTED: usize = 20;
 
 /// Its options.
-pub const OPTIONS: &[Opt] = &[Opt::Value("-o"), Opt::Value("--flash"), Opt::Flag("--json")];
+pub const OPTIONS: &[Opt] = &[
+    Opt::Output("-o"),
+    Opt::Value("--flash"),
+    Opt::Flag("--json"),
+];
 
 /// Runs the command.
 pub fn run(args: &Args, out: &mut Out) -> Outcome {
@@ -172,7 +176,6 @@ fn pack(text: &[u8], flash: usize) -> Result<(Settings, Vec<u8>), Vec<Fault>> {
 
 fn packed(args: &Args, name: &str, flash: usize, out: &mut Out) -> Outcome {
     let to = args.needed("-o", "the name of the store to write")?;
-    files::apart(&[Some(to)], &[name])?;
     let packed = pack(&files::read(name)?, flash);
     if let Ok((_, bytes)) = &packed {
         files::write(to, bytes)?;

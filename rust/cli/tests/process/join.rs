@@ -99,7 +99,7 @@ fn wrong_words() {
     );
     folder.wrong(
         "join a.hex a.hex -o a.hex",
-        "a.hex is named twice: an output would replace another file of this command",
+        "the output a.hex is the same file as the input a.hex; give the output another name",
     );
     folder.wrong(
         "join a.hex a.hex -o x/y",

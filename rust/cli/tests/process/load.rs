@@ -374,7 +374,7 @@ fn wrong_words() {
     );
     folder.wrong(
         "load blink.uf2 --image x --record x",
-        "x is named twice: an output would replace another file of this command",
+        "the outputs x and x are the same file; give one of them another name",
     );
     assert_eq!(folder.names(), ["blink.bin", "blink.uf2"]);
 }

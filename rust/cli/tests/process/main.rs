@@ -1,5 +1,6 @@
 //! The tool as a person runs it: as a process, with files, exit status and text compared.
 
+mod apart;
 mod common;
 mod docs;
 mod figures;

@@ -120,17 +120,17 @@ fn files_that_cannot_be_read_or_written() {
         (
             "one",
             "one",
-            "one is named twice: an output would replace another file of this command",
+            "the output one is the same file as the input one; give the output another name",
         ),
         (
             "one",
             "./one",
-            "./one is named twice: an output would replace another file of this command",
+            "the output ./one is the same file as the input one; give the output another name",
         ),
         (
             "one",
             "folder/../one",
-            "folder/../one is named twice: an output would replace another file of this command",
+            "the output folder/../one is the same file as the input one; give the output another name",
         ),
     ] {
         folder.wrong(&line(image, out), why);

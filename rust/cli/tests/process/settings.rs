@@ -384,7 +384,7 @@ fn wrong_words() {
     );
     folder.wrong(
         "settings pack board.toml -o board.toml",
-        "board.toml is named twice: an output would replace another file of this command",
+        "the output board.toml is the same file as the input board.toml; give the output another name",
     );
     for option in [
         "--arm",
