@@ -136,25 +136,26 @@ enum uf2_state { UF2_STATE_IDLE = 0, UF2_STATE_RUNNING = 1, UF2_STATE_DONE = 2 }
  * A comment has flag 0x1, "not main flash"; its address is not read and it is not stored. A comment of the running transfer's family and
  * total has that transfer's kind, unless the buffer of this kind is empty; every other comment is of kind flash. */
 enum uf2_answer {
-    UF2_ANSWER_FOUND = 0,        /* of uf2_ask alone */
-    UF2_ANSWER_BAD_BUFFERS = 1,  /* arrival, flash, a map, a RAM buffer or a plan has a wrong length */
-    UF2_ANSWER_BAD_SETTINGS = 2,
+    UF2_ANSWER_FOUND = 0,        /* of uf2_ask alone: the family has a place */
+    UF2_ANSWER_BAD_BUFFERS = 1,  /* the arrival, the flash, a map, a RAM buffer or a plan has a wrong length */
+    UF2_ANSWER_BAD_SETTINGS = 2, /* the settings are not good for this flash */
     UF2_ANSWER_BAD_STATE = 3,    /* the transfer's numbers fit no transfer */
-    UF2_ANSWER_NOT_BLOCK = 4,    /* a magic number differs */
-    UF2_ANSWER_CONTAINER = 5,    /* flag 0x1000 */
-    UF2_ANSWER_NO_FAMILY = 7,    /* flag 0x2000 is clear */
-    UF2_ANSWER_NO_PLACE = 8,     /* flash, and where no window is: the settings have no place for the family; RAM: it is none of data,
-                                    arm-s, riscv and arm-ns and no user family of a used entry */
+    UF2_ANSWER_NOT_BLOCK = 4,    /* no UF2 block: a magic number differs */
+    UF2_ANSWER_CONTAINER = 5,    /* flag 0x1000: of a file container, which is not for the board's memory */
+    UF2_ANSWER_NO_FAMILY = 7,    /* flag 0x2000 is clear: the block names no family */
+    UF2_ANSWER_NO_PLACE = 8,     /* the family has no place in flash, or may not go to RAM. In flash, and where the address is in no
+                                    window: the settings have none for it. In RAM: it is none of data, arm-s, riscv and arm-ns, and no
+                                    user family of a used entry */
     UF2_ANSWER_BAD_PAYLOAD = 9,  /* the payload's size is not 256; not asked of a comment */
-    UF2_ANSWER_BAD_NUMBERS = 10, /* total 0 or more than the place or the RAM holds, or a number that is not below the total */
-    UF2_ANSWER_BAD_ADDRESS = 11, /* in no window; flash: past the place, or no multiple of 256; RAM, any byte address: address + 256
-                                    past the window's end. Not asked of a comment */
-    UF2_ANSWER_FINISHED = 12,    /* the transfer is done */
-    UF2_ANSWER_AGAIN = 13,       /* a block of this number has come before */
-    UF2_ANSWER_WRITTEN = 14,     /* stored, and others are missing */
-    UF2_ANSWER_COMPLETED = 15,   /* stored, kept or, a comment, noted, and the file is whole */
-    UF2_ANSWER_NOTED = 16,       /* a comment: counted and not stored, and others are missing */
-    UF2_ANSWER_KEPT = 17         /* counted and not stored, since the flash has what its region names (below), and others are missing */
+    UF2_ANSWER_BAD_NUMBERS = 10, /* the total is 0 or more than the place or the RAM holds, or the number is not below the total */
+    UF2_ANSWER_BAD_ADDRESS = 11, /* the address is in no window, past the end of the place or the RAM, or in flash no multiple of 256.
+                                    In RAM any byte address is good up to 256 before the window's end. Not asked of a comment */
+    UF2_ANSWER_FINISHED = 12,    /* the file was complete already */
+    UF2_ANSWER_AGAIN = 13,       /* a block of this number had come before */
+    UF2_ANSWER_WRITTEN = 14,     /* stored, others are missing */
+    UF2_ANSWER_COMPLETED = 15,   /* the last one that was missing: the file is complete: stored, kept or, a comment, noted */
+    UF2_ANSWER_NOTED = 16,       /* a comment (flag 0x1): counted and not stored, others are missing */
+    UF2_ANSWER_KEPT = 17         /* counted and not stored, since the flash has what its region names; others are missing */
 };
 
 /* A region: a block with flag 0x4000 names one in its last 24 data bytes (byte 484 of the arrival: its start, an address like the block's, and its
@@ -292,25 +293,26 @@ enum uhex_state {
  * the reader failed, and a failed reader repeats its answer; 32 to 35 move it on. Only 33 stores in the image. 18, 19, 31 and the
  * answer of a reader that had failed before change nothing that is lent. */
 enum uhex_answer {
-    UHEX_ANSWER_BAD_READER = 18,
-    UHEX_ANSWER_BAD_IMAGE = 19,     /* the image's length */
-    UHEX_ANSWER_NO_COLON = 20,      /* empty, or does not begin with ':' */
-    UHEX_ANSWER_BAD_SHAPE = 21,     /* under 11, over 521 or an even number of characters */
-    UHEX_ANSWER_BAD_DIGIT = 22,     /* a character that is no digit; the result has its position */
-    UHEX_ANSWER_TOO_LONG = 23,      /* the length field is over 32 */
-    UHEX_ANSWER_BAD_LENGTH = 24,    /* the characters are not 11 and two for each byte that the length field says */
-    UHEX_ANSWER_BAD_SUM = 25,
-    UHEX_ANSWER_OUT_OF_PLACE = 26,  /* type or length not allowed there */
+    UHEX_ANSWER_BAD_READER = 18,    /* the reader's numbers fit no reader */
+    UHEX_ANSWER_BAD_IMAGE = 19,     /* the image has a wrong length */
+    UHEX_ANSWER_NO_COLON = 20,      /* the line is empty or does not begin with a colon */
+    UHEX_ANSWER_BAD_SHAPE = 21,     /* the line has under 11, over 521 or an even number of characters */
+    UHEX_ANSWER_BAD_DIGIT = 22,     /* a character is no hex digit; its position is counted from 0 at the colon, and is in the result */
+    UHEX_ANSWER_TOO_LONG = 23,      /* the record says more than 32 data bytes */
+    UHEX_ANSWER_BAD_LENGTH = 24,    /* the record's length is not the one that it says */
+    UHEX_ANSWER_BAD_SUM = 25,       /* the record's checksum is wrong */
+    UHEX_ANSWER_OUT_OF_PLACE = 26,  /* a record of this type or length is not allowed here */
     UHEX_ANSWER_UNALIGNED = 27,     /* a section begins at an offset that is no multiple of 512 */
-    UHEX_ANSWER_REPEATED = 28,      /* a second section of V1 or V2 */
-    UHEX_ANSWER_CROSSES = 29,       /* data past the 65,536 bytes that one record 04 reaches */
-    UHEX_ANSWER_MISSING_BOARD = 30, /* the end before V1 and V2 each gave a data byte */
-    UHEX_ANSWER_AFTER_END = 31,
-    UHEX_ANSWER_OUTSIDE = 32,       /* own data that is not wholly in the image: LEFT OUT, and reading goes on */
-    UHEX_ANSWER_STORED = 33,        /* own data, stored */
+    UHEX_ANSWER_REPEATED = 28,      /* a second section of V1 or of V2 */
+    UHEX_ANSWER_CROSSES = 29,       /* the data runs past the 65,536 bytes that one record 04 reaches */
+    UHEX_ANSWER_MISSING_BOARD = 30, /* the file ends before V1 and V2 each gave a data byte */
+    UHEX_ANSWER_AFTER_END = 31,     /* a line after the end of the file */
+    UHEX_ANSWER_OUTSIDE = 32,       /* data of this board that is not wholly in the image: LEFT OUT, and reading goes on */
+    UHEX_ANSWER_STORED = 33,        /* data of this board, stored */
     UHEX_ANSWER_PASSED = 34,        /* any other good record */
-    UHEX_ANSWER_ENDED = 35,         /* the record 01: every line was good, which does not say that the image is whole */
-    UHEX_ANSWER_FILE_TOO_LONG = 36  /* the file with this line is over UHEX_FILE_MAX_SIZE bytes */
+    UHEX_ANSWER_ENDED = 35,         /* the end of the file: the record 01. Every line was good, which does not say that the image is
+                                       whole */
+    UHEX_ANSWER_FILE_TOO_LONG = 36  /* with this line the file is longer than 4,194,304 bytes (UHEX_FILE_MAX_SIZE) */
 };
 
 /* Whether a line was not read: every answer but 32 to 35 (36 lies above them). */

@@ -28,10 +28,10 @@ extern "C" {
 enum uf2_store_answer {
     UF2_STORE_DONE = 0,
     UF2_STORE_BAD_BUFFERS = 1,  /* the flash's length is wrong, or the settings to be read are not UF2_SETTINGS_SIZE bytes */
-    UF2_STORE_BAD_SETTINGS = 2, /* for a flash of this length */
-    UF2_STORE_BAD_VERSION = 40, /* neither 1 nor 2 */
-    UF2_STORE_BAD_LENGTH = 41,  /* of the store, or too short a buffer for it */
-    UF2_STORE_BAD_BITS = 42     /* stray bits, or numbers that no store has */
+    UF2_STORE_BAD_SETTINGS = 2, /* the settings are not good for this flash */
+    UF2_STORE_BAD_VERSION = 40, /* the store's version is neither 1 nor 2 */
+    UF2_STORE_BAD_LENGTH = 41,  /* the store has a wrong length, or the buffer for it is too short */
+    UF2_STORE_BAD_BITS = 42     /* the store has stray bits, or numbers that no store has */
 };
 
 /* The settings of a store, for a flash of flash_len bytes: UF2_STORE_DONE, with the settings in `settings`; or a refusal, with `settings` unchanged.

@@ -39,14 +39,14 @@ extern "C" {
 /* ---- Answers, in the order in which they are asked. */
 enum uf2_tag_answer {
     UF2_TAG_FOUND = 0,
-    UF2_TAG_BAD_LENGTH = 1,   /* the block is not UF2_ARRIVAL_SIZE bytes, or the tag's slice not UF2_TAG_SIZE */
-    UF2_TAG_NOT_BLOCK = 4,    /* a magic number differs */
+    UF2_TAG_BAD_LENGTH = 1,   /* the block is not 512 bytes, or the tag's slice not UF2_TAG_SIZE */
+    UF2_TAG_NOT_BLOCK = 4,    /* no UF2 block: a magic number differs */
     UF2_TAG_END = 60,         /* flag 0x8000 is clear, or the last tag was read */
     UF2_TAG_BAD_PAYLOAD = 61, /* the payload's size is over 476 or no multiple of 4 */
     UF2_TAG_BAD_PLACE = 3,    /* the place lies before the payload's end, or is no multiple of 4 */
     UF2_TAG_NO_ROOM = 65,     /* under 4 bytes are left where a tag should start */
-    UF2_TAG_SHORT = 62,       /* a size of 1 to 3 */
-    UF2_TAG_TYPED_END = 63,   /* a size of 0, with a type */
+    UF2_TAG_SHORT = 62,       /* a tag with a size of 1 to 3 */
+    UF2_TAG_TYPED_END = 63,   /* a tag with a size of 0 and a type */
     UF2_TAG_PAST_ROOM = 64    /* a tag that runs past the data, or into the checksum of flag 0x4000 */
 };
 

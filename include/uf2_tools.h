@@ -28,10 +28,10 @@ extern "C" {
 /* What comes of an image. They are asked in this order, and the first that fits is given. */
 enum uf2_make_answer {
     UF2_MAKE_DONE = 0,
-    UF2_MAKE_BAD_IMAGE = 50,   /* empty, or no whole pages */
-    UF2_MAKE_BAD_START = 51,   /* not from 0x10000000 up to, not including, 0x12000000, or no multiple of 256 */
+    UF2_MAKE_BAD_IMAGE = 50,   /* the image is empty, or no whole pages of 256 bytes */
+    UF2_MAKE_BAD_START = 51,   /* the start is not from 0x10000000 up to, not including, 0x12000000, or no multiple of 256 */
     UF2_MAKE_PAST_WINDOW = 52, /* the image runs past 0x12000000 */
-    UF2_MAKE_SHORT_OUTPUT = 53 /* under UF2_MAKE_OUTPUT_SIZE(image_len) bytes */
+    UF2_MAKE_SHORT_OUTPUT = 53 /* the output has under 512 bytes for each page: UF2_MAKE_OUTPUT_SIZE(image_len) */
 };
 
 /* What uf2_make would answer to an image of image_len bytes and an output of output_len. */
@@ -50,9 +50,9 @@ void uf2_make_block(uint32_t address, uint32_t number, uint32_t total, uint32_t 
  * multiple of 512 bytes, and a record 01; lines end with LF, digits are upper case. A refusal writes nothing, and what follows the file
  * stays. The result, in 64 bits:
  *   UHEX_JOIN_ANSWER    0, and the file is written; or why not:
- *                       20 to 25 as `enum uhex_answer` of uf2_receiver.h has them; 26 a type over 05, a length that the type does not have, or
+ *                       20 to 25 as `enum uhex_answer` of uf2_receiver.h has them; 26 a type over 05, or a length that the type does not have, or
  *                       no 01 at the end; 29 data past the 65,536 bytes that one 02 or 04 reaches; 30 no data byte; 31 a line after the 01;
- *                       36 an input or the output over UHEX_JOIN_MAX_SIZE, or the output longer than what is lent
+ *                       36 an input over 4,194,304 bytes (UHEX_JOIN_MAX_SIZE), or the output over 4,194,304 bytes, or longer than what is lent
  *   UHEX_JOIN_POSITION  with 22 the position of the first bad character, counted from 0 at the colon; else 0
  *   UHEX_JOIN_BOARD     whose file is refused: 1 is V1, which is read first, 2 is V2; 0 for the output, or where the file is written
  *   UHEX_JOIN_LINE      the index from 0 of the line that is refused; for a missing 01 and for 30 the number of lines; 0 for the output

@@ -29,7 +29,8 @@ extern "C" {
 #define UF2_REASON_MARKS_AT 22
 
 /* The conditions: the answer's row times 100, and the condition's place in it. Bytes that are no settings or no transfer (210, 306, 307)
- * are told before the other conditions of their row; a link byte that is no kind of link (211) is told where 206 would be. Behind each, the number tested and what it is tested against. */
+ * are told before the other conditions of their row; a link byte that is no kind of link (211) is told where 206 would be. Behind each, the
+ * number tested and what it is tested against. */
 enum uf2_cause {
     UF2_CAUSE_ARRIVAL_LENGTH = 101,     /* length, 512 */
     UF2_CAUSE_FLASH_RAGGED = 102,       /* length, 4096: no multiple */
@@ -41,34 +42,34 @@ enum uf2_cause {
     UF2_CAUSE_XIP_LENGTH = 108,         /* length, 16384 */
     UF2_CAUSE_ARCH_OFF = 201,           /* 0, 0: the current architecture is not enabled */
     UF2_CAUSE_COUNT_OVER = 202,         /* count, 16 */
-    UF2_CAUSE_NO_SECTORS = 203,         /* 0, 0, and the entry, as for the rest of the row */
+    UF2_CAUSE_NO_SECTORS = 203,         /* 0, 0; from here to 209 with the entry */
     UF2_CAUSE_PAST_FLASH = 204,         /* its end in bytes, the flash's length */
     UF2_CAUSE_SHARES_SECTOR = 205,      /* the first other entry, its own index */
     UF2_CAUSE_LINKS_UP = 206,           /* the index that it names, its own */
     UF2_CAUSE_LINKS_TO_B = 207,         /* the index that it names, its own */
     UF2_CAUSE_MANY_USERS = 208,         /* user families, 4 */
     UF2_CAUSE_RESERVED_USER = 209,      /* the first such family, 0xe48bff56 */
-    UF2_CAUSE_NO_SETTINGS = 210,        /* the settings' bytes, how many they must be */
-    UF2_CAUSE_NO_LINK_KIND = 211,       /* in place of 206, of that entry: its link kind's byte, 2 */
+    UF2_CAUSE_NO_SETTINGS = 210,        /* the settings' bytes, how many they must be; no entry */
+    UF2_CAUSE_NO_LINK_KIND = 211,       /* told for 206 of that entry: its link kind's byte, 2 */
     UF2_CAUSE_COUNT_UNDER_1 = 301,      /* Running: count, 1 */
     UF2_CAUSE_COUNT_NOT_BELOW = 302,    /* Running: count, total */
     UF2_CAUSE_RUNNING_TOTAL_OVER = 303, /* total, 131072 */
     UF2_CAUSE_DONE_TOTAL_UNDER_1 = 304, /* total, 1 */
     UF2_CAUSE_DONE_TOTAL_OVER = 305,    /* total, 131072 */
     UF2_CAUSE_NO_TRANSFER = 306,        /* the transfer's bytes, how many they must be */
-    UF2_CAUSE_NO_STATE = 307,           /* the state or kind byte, 2 */
+    UF2_CAUSE_NO_STATE = 307,           /* the state byte where it is over 2, else the kind byte; 2 */
     UF2_CAUSE_MAGIC_FIRST = 401,        /* the field, the magic number */
-    UF2_CAUSE_MAGIC_SECOND = 402,       /* the same */
-    UF2_CAUSE_MAGIC_LAST = 403,         /* the same */
+    UF2_CAUSE_MAGIC_SECOND = 402,       /* the field, the magic number */
+    UF2_CAUSE_MAGIC_LAST = 403,         /* the field, the magic number */
     UF2_CAUSE_CONTAINER = 501,          /* flags, 0x1000 */
     UF2_CAUSE_NO_FAMILY = 701,          /* flags, 0x2000 */
-    UF2_CAUSE_ABSOLUTE_OFF = 801,       /* family, 0, as for the rest of the row */
-    UF2_CAUSE_RP2040 = 802,
-    UF2_CAUSE_ARM_OFF = 803,            /* no table, and Arm is off */
-    UF2_CAUSE_RISCV_OFF = 804,          /* no table, and RISC-V is off */
-    UF2_CAUSE_NOT_WITHOUT_TABLE = 805,  /* no table, and the family needs one */
-    UF2_CAUSE_NO_ENTRY = 806,           /* no entry takes it: see the marks */
-    UF2_CAUSE_NOT_FOR_RAM = 807,
+    UF2_CAUSE_ABSOLUTE_OFF = 801,       /* family, 0 */
+    UF2_CAUSE_RP2040 = 802,             /* family, 0 */
+    UF2_CAUSE_ARM_OFF = 803,            /* family, 0: no table, and Arm is off */
+    UF2_CAUSE_RISCV_OFF = 804,          /* family, 0: no table, and RISC-V is off */
+    UF2_CAUSE_NOT_WITHOUT_TABLE = 805,  /* family, 0: no table, and the family needs one */
+    UF2_CAUSE_NO_ENTRY = 806,           /* family, 0: no entry takes it, see the marks */
+    UF2_CAUSE_NOT_FOR_RAM = 807,        /* family, 0 */
     UF2_CAUSE_SIZE = 901,               /* size, 256 */
     UF2_CAUSE_TOTAL_ZERO = 1001,        /* total, 0 */
     UF2_CAUSE_TOTAL_PAST = 1002,        /* total x 256, the bytes of the place or window */
@@ -77,26 +78,26 @@ enum uf2_cause {
     UF2_CAUSE_RAGGED_ADDRESS = 1102,    /* address, 256 */
     UF2_CAUSE_PAST_PLACE = 1103,        /* address - 0x10000000 + 256, the bytes of the place */
     UF2_CAUSE_PAST_WINDOW = 1104,       /* address + 256, the window's end */
-    UF2_CAUSE_NO_WINDOW = 1105,         /* address, 0x12000000: past flash's window, and in no RAM of the board; asked before 1102 and row 10 */
-    UF2_CAUSE_FINISHED = 1201,          /* number, total */
-    UF2_CAUSE_AGAIN = 1301,             /* number, total */
-    UF2_CAUSE_NO_REGION = 1401,         /* written, and not kept; the raised count and the total from here on */
-    UF2_CAUSE_IN_RAM = 1402,
-    UF2_CAUSE_REGION_RAGGED = 1403,
-    UF2_CAUSE_REGION_EMPTY = 1404,
-    UF2_CAUSE_REGION_OUTSIDE = 1405,    /* not within the place */
-    UF2_CAUSE_REGION_APART = 1406,      /* not around the block */
-    UF2_CAUSE_OTHER_DIGEST = 1407,
-    UF2_CAUSE_COMPLETED = 1501,
-    UF2_CAUSE_NOTED = 1601,
-    UF2_CAUSE_KEPT = 1701
+    UF2_CAUSE_NO_WINDOW = 1105,         /* address, 0x12000000; asked before 1102 and row 10 */
+    UF2_CAUSE_FINISHED = 1201,          /* the arrival's own number and total */
+    UF2_CAUSE_AGAIN = 1301,             /* the arrival's own number and total */
+    UF2_CAUSE_NO_REGION = 1401,         /* the raised count, the total */
+    UF2_CAUSE_IN_RAM = 1402,            /* the raised count, the total */
+    UF2_CAUSE_REGION_RAGGED = 1403,     /* the raised count, the total */
+    UF2_CAUSE_REGION_EMPTY = 1404,      /* the raised count, the total */
+    UF2_CAUSE_REGION_OUTSIDE = 1405,    /* the raised count, the total: not within the place */
+    UF2_CAUSE_REGION_APART = 1406,      /* the raised count, the total: not around the block */
+    UF2_CAUSE_OTHER_DIGEST = 1407,      /* the raised count, the total */
+    UF2_CAUSE_COMPLETED = 1501,         /* the raised count, the total */
+    UF2_CAUSE_NOTED = 1601,             /* the raised count, the total */
+    UF2_CAUSE_KEPT = 1701               /* the raised count, the total */
 };
 
 /* A place that is found, by uf2_why_place. */
 enum uf2_place_cause {
-    UF2_PLACE_ABSOLUTE = 1, /* the whole flash, as absolute is allowed */
-    UF2_PLACE_NO_TABLE = 2, /* the whole flash, as there is no table */
-    UF2_PLACE_ENTRY = 3     /* the pass, 1 to 4, as the number tested; and the entry */
+    UF2_PLACE_ABSOLUTE = 1, /* 0, 0: the whole flash, as absolute is allowed */
+    UF2_PLACE_NO_TABLE = 2, /* 0, 0: the whole flash, as there is no table */
+    UF2_PLACE_ENTRY = 3     /* the pass, 1 to 4; 0; and the entry */
 };
 
 /* What turns an entry down where no entry of the table takes the family. */

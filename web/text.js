@@ -1,9 +1,10 @@
-// Every word that the page shows, in English. To translate the page, translate this file: keys stay, texts change. `${..}` is filled in by the page.
+// Every word that the page shows, in English. To translate the page, translate this file, where keys stay and texts change and `${..}` is filled in by
+// the page; and words/answers.tsv, which has the words of answers, causes and refusals.
 import { hex } from './bytes.js';
+import { namesOf, reasons, sentencesOf } from './sentences.js';
 
 const decimal = new Intl.NumberFormat('en-US');
 const n = (x) => decimal.format(x);
-const h = (x) => hex(BigInt(x));
 const blocks = (k) => `${n(k)} ${k === 1 ? 'block' : 'blocks'}`;
 
 export const text = {
@@ -177,94 +178,13 @@ export const text = {
     label: 'Answer',
     none: 'No arrival yet.',
     discarded: 'a running transfer was discarded',
-    names: {
-      0: 'Found', 1: 'BadBuffers', 2: 'BadSettings', 3: 'BadState', 4: 'NotBlock', 5: 'Container', 7: 'NoFamily', 8: 'NoPlace', 9: 'BadPayload',
-      10: 'BadNumbers', 11: 'BadAddress', 12: 'Finished', 13: 'Again', 14: 'Written', 15: 'Completed', 16: 'Noted', 17: 'Kept',
-    },
+    names: namesOf('answer'),
     // where the library does not say the reason
-    meanings: {
-      1: 'A buffer of the board, or the arrival itself, has a wrong length.',
-      2: "The board's settings are not good for its flash.",
-      3: "The transfer's numbers fit no transfer.",
-      4: 'It is no UF2 block: a magic number differs.',
-      5: 'It is a file of a container, not for the flash.',
-      7: 'It names no family.',
-      8: 'The board has no place for its family.',
-      9: 'Its payload is not 256 bytes.',
-      10: 'Its number or its total does not fit.',
-      11: 'Its address lies outside of the place, or is no multiple of 256.',
-      12: 'The file was whole already. Nothing changes.',
-      13: 'A block of this number came before. Nothing changes, and it is not counted.',
-      14: 'Stored. Others are missing.',
-      15: 'The file is whole now.',
-      16: 'A comment: counted and not stored. Others are missing.',
-      17: 'Counted and not stored: the flash has what its region names. Others are missing.',
-    },
+    meanings: sentencesOf('answer'),
   },
 
-  // Why an arrival was answered as it was, by the number of the condition that decided (row x 100 + condition).
-  reasons: {
-    101: (r) => `The arrival has ${n(r.got)} bytes. A block has ${n(r.against)}.`,
-    102: (r) => `The flash has ${n(r.got)} bytes, which is no multiple of ${n(r.against)}.`,
-    103: (r) => `The flash has ${n(r.got)} bytes, fewer than ${n(r.against)}.`,
-    104: (r) => `The flash has ${n(r.got)} bytes, more than ${n(r.against)}.`,
-    105: (r) => `The seen map has ${n(r.got)} bytes. It must have ${n(r.against)}.`,
-    106: (r) => `The sector map has ${n(r.got)} bytes. It must have ${n(r.against)}.`,
-    107: (r) => `The buffer for main RAM has ${n(r.got)} bytes. It must be empty or have ${n(r.against)}.`,
-    108: (r) => `The buffer for XIP RAM has ${n(r.got)} bytes. It must be empty or have ${n(r.against)}.`,
-    201: () => 'The current architecture is not enabled in the settings.',
-    202: (r) => `The settings say that there are ${n(r.got)} partitions. At most ${n(r.against)} are possible.`,
-    203: (r) => `Partition ${r.entry} has no sectors.`,
-    204: (r) => `Partition ${r.entry} ends at byte ${n(r.got)}. The flash has ${n(r.against)}.`,
-    205: (r) => `Partition ${r.entry} shares a sector with partition ${r.other}.`,
-    206: (r) => `Partition ${r.entry} is linked to ${n(r.got)}, which is not below its own number.`,
-    207: (r) => `Partition ${r.entry} is linked to ${n(r.got)}, which is itself a "B of" partition.`,
-    208: (r) => `Partition ${r.entry} names ${n(r.got)} user families. At most ${n(r.against)} are possible.`,
-    209: (r) => `Partition ${r.entry} names ${h(r.got)} as a user family. That number is reserved.`,
-    301: (r) => `The running transfer has counted ${n(r.got)} blocks. It must have counted at least ${n(r.against)}.`,
-    302: (r) => `The running transfer has counted ${n(r.got)} blocks of ${n(r.against)}. It would be done.`,
-    303: (r) => `The running transfer has a total of ${n(r.got)}. At most ${n(r.against)} is possible.`,
-    304: (r) => `The finished transfer has a total of ${n(r.got)}. It must have at least ${n(r.against)}.`,
-    305: (r) => `The finished transfer has a total of ${n(r.got)}. At most ${n(r.against)} is possible.`,
-    401: (r) => `Its first magic number is ${h(r.got)}. A UF2 block has ${h(r.against)}.`,
-    402: (r) => `Its second magic number is ${h(r.got)}. A UF2 block has ${h(r.against)}.`,
-    403: (r) => `Its last magic number is ${h(r.got)}. A UF2 block has ${h(r.against)}.`,
-    501: (r) => `Its flags are ${h(r.got)}: flag ${hex(BigInt(r.against), 4)} says that it is a file of a container.`,
-    701: (r) => `Its flags are ${h(r.got)}: flag ${hex(BigInt(r.against), 4)} is clear, so it names no family.`,
-    801: () => 'Its family is "absolute", which the settings do not allow.',
-    802: () => 'Its family is rp2040, which has no place on this board by rule.',
-    803: () => 'Its family is arm-s, there is no partition table, and Arm is not enabled.',
-    804: () => 'Its family is riscv, there is no partition table, and RISC-V is not enabled.',
-    805: (r) => `Its family is ${h(r.got)}. Without a partition table there is no place for it.`,
-    806: (r) => `No A partition accepts its family, ${h(r.got)}: ${text.marks(r.marks)}.`,
-    807: (r) => `Its family is ${h(r.got)}, which may not go to RAM.`,
-    901: (r) => `Its payload has ${n(r.got)} bytes. It must have ${n(r.against)}.`,
-    1001: () => 'Its total is 0.',
-    1002: (r) => `Its file has ${n(r.got)} bytes of payload. The place has ${n(r.against)}.`,
-    1003: (r) => `Its number is ${n(r.got)}, and its total is ${n(r.against)}. Numbers go up to the total less 1.`,
-    1101: (r) => `Its address is ${h(r.got)}, below ${h(r.against)}, where the flash begins.`,
-    1102: (r) => `Its address is ${h(r.got)}, no multiple of ${n(r.against)}.`,
-    1103: (r) => `Its page would end at byte ${n(r.got)} of its place, which has ${n(r.against)}.`,
-    1104: (r) => `Its page would end at ${h(r.got)}. The RAM ends at ${h(r.against)}.`,
-    1201: () => 'The file was whole before this block came. Nothing changes.',
-    1301: (r) => `Block ${n(r.got)} came before. Nothing changes, and it is not counted.`,
-    1401: (r) => `Stored. ${n(r.got)} of ${n(r.against)} are there now.`,
-    1402: (r) => `Stored in RAM. ${n(r.got)} of ${n(r.against)} are there now.`,
-    1403: (r) => `Stored, since the region that it names is not whole sectors. ${n(r.got)} of ${n(r.against)} are there now.`,
-    1404: (r) => `Stored, since the region that it names is empty. ${n(r.got)} of ${n(r.against)} are there now.`,
-    1405: (r) => `Stored, since the region that it names is not within the place. ${n(r.got)} of ${n(r.against)} are there now.`,
-    1406: (r) => `Stored, since the region that it names is not around the block. ${n(r.got)} of ${n(r.against)} are there now.`,
-    1407: (r) => `Stored, since the flash there has another digest. ${n(r.got)} of ${n(r.against)} are there now.`,
-    1501: (r) => `The file is whole: ${n(r.got)} of ${n(r.against)}.`,
-    1601: (r) => `A comment: counted, and not stored. ${n(r.got)} of ${n(r.against)} are there now.`,
-    1701: (r) => `Not stored, since the flash has what its region names. ${n(r.got)} of ${n(r.against)} are there now.`,
-  },
+  reasons,
   reasonNumber: (cause) => `condition ${cause}`,
-  marks: (marks) =>
-    marks
-      .map((mark, k) => (mark === 1 ? `partition ${k} is "B of" another` : mark === 2 ? `partition ${k} does not accept it` : ''))
-      .filter((words) => words !== '')
-      .join(', '),
 
   verdict: {
     start: 'Nothing has been sent yet. Press Play, or Step.',
@@ -385,13 +305,7 @@ export const text = {
     store: 'Settings from a packed store',
     storeMissing: 'This build of the library does not read packed stores.',
     storeRead: (k) => `The store was read: ${k} ${k === 1 ? 'partition' : 'partitions'}.`,
-    storeRefused: {
-      1: "The store was not read: the flash's length is wrong.",
-      2: 'The store was not read: its settings are not good for this flash.',
-      40: 'The store was not read: its version is neither 1 nor 2.',
-      41: 'The store was not read: it has a wrong length.',
-      42: 'The store was not read: it has bits that no store has.',
-    },
+    storeRefused: Object.fromEntries(Object.entries(sentencesOf('store')).map(([number, words]) => [number, `The store was not read: ${words}`])),
     badSettings: 'The library answers that these settings are bad for this flash: every arrival will be answered 2.',
     badFlash: 'The flash must be whole sectors of 4,096 bytes, from 4,096 to 33,554,432.',
     badFamily: 'A family is data, arm-s, riscv, arm-ns, absolute, rp2040 or a number such as 0x12345678.',
@@ -453,31 +367,8 @@ export const text = {
     },
     outside: (k) => `${n(k)} ${k === 1 ? 'record lies' : 'records lie'} outside of the image and ${k === 1 ? 'was' : 'were'} left out: the image is not whole.`,
     verdictWrong: (own, other) => `The wrong panel of ${own} now holds the data of ${other}.`,
-    names: {
-      18: 'BadReader', 19: 'BadImage', 20: 'NoColon', 21: 'BadShape', 22: 'BadDigit', 23: 'TooLong', 24: 'BadLength', 25: 'BadSum', 26: 'OutOfPlace', 27: 'Unaligned',
-      28: 'Repeated', 29: 'Crosses', 30: 'MissingBoard', 31: 'AfterEnd', 32: 'Outside', 33: 'Stored', 34: 'Passed', 35: 'Ended', 36: 'FileTooLong',
-    },
-    meanings: {
-      18: 'No reader has such numbers.',
-      19: "The image's length is wrong.",
-      20: 'The line does not begin with a colon.',
-      21: 'The line is too short, too long or has an even number of characters.',
-      22: 'A character is no hex digit.',
-      23: 'The length field is over 32.',
-      24: 'The line is not as long as its length field says.',
-      25: 'The sum of its bytes is not zero.',
-      26: 'A record of this type or length is not allowed here.',
-      27: 'A section begins at an offset that is no multiple of 512.',
-      28: 'A second section for the same board.',
-      29: 'The data crosses a multiple of 65,536.',
-      30: 'The end comes before both boards gave data.',
-      31: 'The line comes after the end.',
-      32: 'Own data, but not wholly in the image: not stored.',
-      33: 'Own data: stored.',
-      34: 'A good record that is not for this board, or has no data.',
-      35: 'The end of the file.',
-      36: 'The file is too long.',
-    },
+    names: namesOf('line'),
+    meanings: sentencesOf('line'),
   },
 
   trace: {

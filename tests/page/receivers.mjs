@@ -213,9 +213,8 @@ await check('every answer has a name and a sentence, and every reason words', ()
     assert.match(sentence, /^[A-Z].*\.$/, cause);
     assert.ok(!/undefined|NaN/.test(sentence), cause);
   }
-  const upTo = (from, to) => Array.from({ length: to - from + 1 }, (_, k) => from + k);
-  const causes = [[101, 108], [201, 209], [301, 305], [401, 403], [501, 501], [701, 701], [801, 807], [901, 901], [1001, 1003], [1101, 1104], [1201, 1201], [1301, 1301], [1401, 1407], [1501, 1501], [1601, 1601], [1701, 1701]];
-  assert.deepEqual(Object.keys(text.reasons).map(Number), causes.flatMap(([from, to]) => upTo(from, to)));
+  const causes = Object.entries(N).filter(([name]) => name.startsWith('UF2_CAUSE_'));
+  assert.deepEqual(Object.keys(text.reasons).map(Number), causes.map(([, number]) => number).sort((a, b) => a - b));
 });
 
 await check('a reason in bytes becomes a sentence, and without one the answer has its own', () => {
@@ -225,8 +224,26 @@ await check('a reason in bytes becomes a sentence, and without one the answer ha
   bytes.set([2, 1], 22);
   const reason = readReason(bytes);
   assert.deepEqual([reason.cause, reason.got, reason.against, reason.marks.slice(0, 3)], [806, 0xe48bff59n, 0n, [2, 1, 0]]);
-  assert.equal(reasonWords(8, reason), 'No A partition accepts its family, 0xE48BFF59: partition 0 does not accept it, partition 1 is "B of" another.');
+  assert.equal(reasonWords(8, reason), 'No A partition accepts the family arm-s (0xE48BFF59): partition 0 does not accept it, partition 1 is a B partition.');
   assert.equal(reasonWords(8, null), text.answer.meanings[8]);
+});
+
+await check('the words are those of words/answers.tsv, which the tool prints', () => {
+  const lines = storedText('words/answers.tsv').split('\n').filter((line) => line !== '' && !line.startsWith('#'));
+  const upper = (words) => `${words[0].toUpperCase()}${words.slice(1)}.`;
+  for (const [table, number, name, , words] of lines.slice(1).map((line) => line.split('\t'))) {
+    if (table === 'answer') assert.deepEqual([text.answer.names[number], text.answer.meanings[number]], [name, upper(words)]);
+    if (table === 'line') assert.deepEqual([text.hex.names[number], text.hex.meanings[number]], [name, upper(words)]);
+    if (table === 'store') assert.equal(text.setup.storeRefused[number], `The store was not read: ${upper(words)}`);
+    if (table === 'cause' && !words.includes('{')) assert.equal(text.reasons[number]({}), upper(words));
+  }
+  const told = (cause, got, against) => reasonWords(0, { cause, got, against, entry: 2, other: 3, marks: [] });
+  assert.equal(told(1103, 8448n, 8192n), 'The page at the address 0x10002000 would end 8,448 bytes after the start of its place, which has only 8,192 bytes.');
+  assert.equal(told(1103, 0x10000100n, 4096n), 'The page at the address 0x20000000 would end 268,435,712 bytes after the start of its place, which has only 4,096 bytes; it is one of main RAM, which this board lacks.');
+  assert.equal(told(1102, 0x13ffc001n, 256n), 'The address 0x13FFC001 is no multiple of 256; it is one of XIP RAM, which this board lacks.');
+  assert.equal(told(1002, 65792n, 1n), 'The block says that its file has 257 blocks, which take 65,792 bytes; there is room for 1 byte.');
+  assert.equal(told(205, 3n, 2n), 'Partition 2 shares a sector with partition 3.');
+  assert.equal(told(501, 0x3000n, 0x1000n), "Its flags 0x00003000 have 0x1000: it belongs to a file container, which is not for the board's memory.");
 });
 
 // Where the library says why: of arrivals of chance, the reason's row is the answer.

@@ -5,9 +5,10 @@ use crate::json::Json;
 use crate::settings::{self, command::stored};
 use crate::{files, Trouble};
 use proved::{
-    Answer, Arch, Buffers, Settings, FLASH_MAX_BYTES, MAIN_RAM_BYTES, SECTOR_BYTES,
+    Answer, Arch, Buffers, Settings, Transfer, FLASH_MAX_BYTES, MAIN_RAM_BYTES, SECTOR_BYTES,
     SECTOR_MAP_BYTES, SEEN_MAP_BYTES, XIP_RAM_BYTES,
 };
+use tools::why::{explain, Lent, Reason};
 
 /// The part of a page of help that is about the board.
 pub const HELP: &str = "\
@@ -212,6 +213,18 @@ impl Board {
             main: &mut self.main,
             xip: &mut self.xip,
         }
+    }
+
+    /// Why an arrival is answered as it is, from where a transfer stands.
+    pub fn reason(&self, transfer: Transfer, arrival: &[u8]) -> Reason {
+        let lent = Lent {
+            flash: &self.flash,
+            seen: &self.seen,
+            sectors: &self.sectors,
+            main: &self.main,
+            xip: &self.xip,
+        };
+        explain(&self.settings.bytes(), &transfer.bytes(), arrival, lent).reason
     }
 
     /// A line about the board.

@@ -4,7 +4,7 @@ use crate::args::{Args, Opt};
 use crate::json::Json;
 use crate::number::count;
 use crate::out::Out;
-use crate::{files, End, Outcome};
+use crate::{files, table, End, Outcome};
 use tools::{Board, JoinRefusal, PlainRefusal, HEX_FILE_BYTES};
 
 /// Its page of help.
@@ -28,33 +28,20 @@ file that cannot be read or written.
 pub const OPTIONS: &[Opt] = &[Opt::Output("-o"), Opt::Flag("--json")];
 
 /// What a refusal of a plain file says, in words, at a line counted from 0 of so many.
-fn meaning(refusal: PlainRefusal, line: usize, lines: usize) -> String {
-    match refusal {
-        PlainRefusal::NoColon => "it is empty or does not begin with a colon".into(),
-        PlainRefusal::BadShape => "it has a number of characters that no record has".into(),
-        PlainRefusal::BadDigit(at) => {
-            format!("the character at position {at}, counted from 0 at the colon, is no hex digit")
-        }
-        PlainRefusal::TooLong => "the record says more than 32 data bytes".into(),
-        PlainRefusal::BadLength => "the record's length is not the one that it says".into(),
-        PlainRefusal::BadSum => "the record's checksum is wrong".into(),
-        PlainRefusal::OutOfPlace if line >= lines => "the file stops without its end record".into(),
-        PlainRefusal::OutOfPlace => "no such type, or a length that the type does not have".into(),
-        PlainRefusal::Crosses => {
-            "the data runs past the 65,536 bytes that one address record reaches".into()
-        }
-        PlainRefusal::NoData => "the file has no data".into(),
-        PlainRefusal::AfterEnd => "it comes after the end record".into(),
-        PlainRefusal::FileTooLong => "with it the file is longer than 4,194,304 bytes".into(),
+fn meaning(refusal: PlainRefusal, line: usize, lines: usize) -> &'static str {
+    let number = refusal.number();
+    if refusal == PlainRefusal::OutOfPlace && line >= lines {
+        return table::words("join", "26.end");
+    }
+    match table::row("join", &number.to_string()) {
+        Some(row) => row.words,
+        None => table::words("line", number),
     }
 }
 
-/// The name of a refusal, without its position.
-fn name(refusal: PlainRefusal) -> String {
-    match refusal {
-        PlainRefusal::BadDigit(_) => "BadDigit".into(),
-        _ => format!("{refusal:?}"),
-    }
+/// The name of a refusal, as the papers have it of lines, without its position.
+fn name(refusal: PlainRefusal) -> &'static str {
+    table::row("line", &refusal.number().to_string()).map_or("", |row| row.name)
 }
 
 /// Two files and their names.
@@ -85,13 +72,13 @@ impl Inputs<'_> {
             refusal,
         } = refusal
         else {
-            return "36 OutputTooLong: the joined file would be longer than 4,194,304 bytes".into();
+            return format!("36 FileTooLong: {}", table::words("join", "36.output"));
         };
         let lines = self.lines(board);
-        let place = if line < lines {
-            format!("line {}", line + 1)
-        } else {
-            "the end".into()
+        let place = match refusal {
+            PlainRefusal::BadDigit(at) => format!("line {}, position {at}", line + 1),
+            _ if line < lines => format!("line {}", line + 1),
+            _ => "the end".into(),
         };
         format!(
             "{} {}: {}, the file for {board:?}, at {place}: {}",

@@ -21,6 +21,7 @@ mod reason;
 mod replay;
 mod settings;
 mod state;
+mod table;
 mod tags;
 mod why;
 

@@ -4,7 +4,7 @@ use crate::args::{Args, Opt};
 use crate::json::Json;
 use crate::number::{self, count};
 use crate::out::Out;
-use crate::{families, files, End, Outcome, Trouble};
+use crate::{families, files, table, End, Outcome, Trouble};
 use tools::{MakeRefusal, BLOCK_BYTES, PAGE_BYTES};
 
 /// Its page of help.
@@ -49,21 +49,25 @@ impl Job<'_> {
         let Job {
             name, len, start, ..
         } = self;
-        let reason = match why {
-            MakeRefusal::BadImage if *len == 0 => "is empty".into(),
+        let more = match why {
             MakeRefusal::BadImage => format!(
-                "has {len} bytes, which is no whole number of pages of 256 bytes; fill it up to {}",
-                len.next_multiple_of(PAGE_BYTES)
+                "{name} has {}{}",
+                count(*len as u64, "byte"),
+                match len.next_multiple_of(PAGE_BYTES) {
+                    0 => String::new(),
+                    full => format!("; fill it up to {full}"),
+                }
             ),
-            MakeRefusal::BadStart => format!(
-                "cannot start at 0x{start:08x}: the start is a multiple of 256 from 0x10000000 to 0x11ffff00 (hex numbers begin with 0x)"
-            ),
-            MakeRefusal::PastWindow => {
-                format!("has {len} bytes, and from 0x{start:08x} on it would pass 0x12000000")
+            MakeRefusal::BadStart => {
+                format!("{name} cannot start at 0x{start:08x} (hex numbers begin with 0x)")
             }
-            MakeRefusal::ShortOutput => "needs more room for its blocks than was lent".into(),
+            MakeRefusal::PastWindow => {
+                format!("{name} has {len} bytes, from 0x{start:08x} on")
+            }
+            MakeRefusal::ShortOutput => name.to_string(),
         };
-        format!("{} {why:?}: {name} {reason}", why.number())
+        let words = table::words("make", why.number());
+        format!("{} {why:?}: {words}: {more}", why.number())
     }
 
     /// What was made.

@@ -1,6 +1,6 @@
 //! `vantorel why`: the reason of each arrival that was not taken, and of a family's place.
 
-mod tell;
+pub mod tell;
 
 use crate::args::{Args, Opt};
 use crate::block::{need, pieces, Block};
@@ -11,7 +11,7 @@ use crate::out::Out;
 use crate::progress::Progress;
 use crate::{families, files, state, End, Trouble};
 use proved::Transfer;
-use tools::why::{explain, explain_place, Lent, Reason};
+use tools::why::{explain_place, Reason};
 
 /// Its page of help.
 pub const HELP: &str = "\
@@ -132,32 +132,18 @@ fn asked(args: &Args, file: &[u8]) -> Result<Option<u32>, Trouble> {
     ))
 }
 
-/// Why an arrival is answered as it is, from where the transfer stands.
-fn reason(settings: &[u8], transfer: Transfer, piece: &[u8], board: &Board) -> Reason {
-    let lent = Lent {
-        flash: &board.flash,
-        seen: &board.seen,
-        sectors: &board.sectors,
-        main: &board.main,
-        xip: &board.xip,
-    };
-    explain(settings, &transfer.bytes(), piece, lent).reason
-}
-
 /// Plays a file: what is told of it, and where the transfer stands.
 fn play(file: &[u8], asked: Option<u32>, board: &mut Board) -> (Vec<Told>, Transfer) {
     let settings = board.settings.clone();
-    let bytes = settings.bytes();
     let (mut transfer, mut told) = (Transfer::new(), Vec::new());
     let progress = Progress::start("why", pieces(file).len() as u64);
     for (k, piece) in pieces(file).enumerate() {
         let block = Block::read(piece).map(|block| block.number);
         // a block that is taken changes what a reason speaks of: it is asked before
-        let before =
-            (asked.is_some() && block == asked).then(|| reason(&bytes, transfer, piece, board));
+        let before = (asked.is_some() && block == asked).then(|| board.reason(transfer, piece));
         let outcome = proved::take(&settings, &mut transfer, piece, &mut board.buffers());
         let refused = asked.is_none() && !outcome.answer.is_accepted();
-        let after = refused.then(|| reason(&bytes, transfer, piece, board));
+        let after = refused.then(|| board.reason(transfer, piece));
         if let Some(reason) = before.or(after) {
             told.push(Told {
                 arrival: k,

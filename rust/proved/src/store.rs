@@ -111,11 +111,11 @@ impl Refusal {
 impl fmt::Display for Refusal {
     fn fmt(&self, f: &mut fmt::Formatter<'_>) -> fmt::Result {
         f.write_str(match self {
-            Refusal::BadBuffers => "wrong length of the flash",
-            Refusal::BadSettings => "bad settings",
+            Refusal::BadBuffers => "the flash's length is wrong",
+            Refusal::BadSettings => "the settings are not good for this flash",
             Refusal::BadVersion => "the store's version is neither 1 nor 2",
-            Refusal::BadLength => "wrong length of the store",
-            Refusal::BadBits => "stray bits in the store",
+            Refusal::BadLength => "the store has a wrong length",
+            Refusal::BadBits => "the store has stray bits, or numbers that no store has",
         })
     }
 }

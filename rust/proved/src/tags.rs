@@ -142,13 +142,15 @@ impl fmt::Display for Refusal {
     fn fmt(&self, f: &mut fmt::Formatter<'_>) -> fmt::Result {
         f.write_str(match self {
             Refusal::BadLength => "the block is not 512 bytes",
-            Refusal::BadPlace => "no place of a tag",
-            Refusal::NotBlock => "not a UF2 block",
-            Refusal::BadPayload => "the payload size is over 476 or no multiple of 4",
-            Refusal::ShortTag => "a tag of 1 to 3 bytes",
-            Refusal::TypedEnd => "an end of the tags with a type",
-            Refusal::PastRoom => "a tag past the room",
-            Refusal::NoRoom => "no room for a tag",
+            Refusal::BadPlace => "the place lies before the payload's end, or is no multiple of 4",
+            Refusal::NotBlock => "no UF2 block: a magic number differs",
+            Refusal::BadPayload => "the payload's size is over 476 or no multiple of 4",
+            Refusal::ShortTag => "a tag with a size of 1 to 3",
+            Refusal::TypedEnd => "a tag with a size of 0 and a type",
+            Refusal::PastRoom => {
+                "a tag that runs past the data, or into the checksum of flag 0x4000"
+            }
+            Refusal::NoRoom => "under 4 bytes are left where a tag should start",
         })
     }
 }

@@ -1,8 +1,8 @@
 //! What came of the traces, in words and for scripts.
 
 use crate::json::Json;
-use crate::names;
 use crate::number::count;
+use crate::{names, table};
 use proved::Answer;
 use tools::report::{FiguresRefusal, Report};
 use tools::trace::Stop;
@@ -27,13 +27,10 @@ impl Played {
             Ok(Stop::Differs(k)) => {
                 format!("{name}: differs at record {k}; the records before it are in the figures")
             }
-            Err(why @ FiguresRefusal::TooMany) => format!(
-                "{name}: {} {why:?}, not replayed: with its records the figures would pass 4294967295",
-                why.number()
-            ),
-            Err(why @ FiguresRefusal::BadReport) => format!(
-                "{name}: {} {why:?}, not replayed: the figures before it are broken",
-                why.number()
+            Err(why) => format!(
+                "{name}: {} {why:?}, not replayed: {}",
+                why.number(),
+                table::words("figures", why.number())
             ),
         }
     }
@@ -154,13 +151,13 @@ mod tests {
                 "a: none, every record was replayed",
                 "b: bad at record 3; the records before it are in the figures",
                 "c: differs at record 4; the records before it are in the figures",
-                "d: 70 TooMany, not replayed: with its records the figures would pass 4294967295",
-                "e: 71 BadReport, not replayed: the figures before it are broken",
+                "d: 70 TooMany, not replayed: the report's records and the whole pieces of the trace, replayed or not, would pass 4,294,967,295",
+                "e: 71 BadReport, not replayed: the counts do not sum to the records, more discards than records, or another length",
                 "5 traces, 9 records replayed",
-                "  4 NotBlock             1  not a UF2 block",
-                "  7 NoFamily             2  the block names no family",
+                "  4 NotBlock             1  no UF2 block: a magic number differs",
+                "  7 NoFamily             2  flag 0x2000 is clear: the block names no family",
                 "  14 Written             5  stored, others are missing",
-                "  17 Kept                1  counted and not stored, since the flash has it already; others are missing",
+                "  17 Kept                1  counted and not stored, since the flash has what its region names; others are missing",
                 "running transfers discarded: 1",
                 "at the end of the last trace: 6 blocks marked, and block 17 is the first that is missing",
             ]

@@ -3,9 +3,10 @@
 use crate::block::{pieces, Block, WINDOW_START};
 use crate::board::Board;
 use crate::json::Json;
-use crate::{names, state};
+use crate::{names, reason, state};
 use proved::{Answer, Kind, Transfer, MAIN_RAM_START, XIP_RAM_START};
 use std::collections::HashMap;
+use tools::why::Reason;
 
 /// A block that is missing.
 pub struct Missing {
@@ -23,8 +24,8 @@ pub enum Found {
     Page { kind: Kind, at: u64, address: u32 },
     /// A comment, which is counted and not stored.
     Comment,
-    /// A block that is refused.
-    Refused(Answer),
+    /// A block that is refused, and why.
+    Refused(Answer, Reason),
 }
 
 /// Where the page of a block stands in the memory of its kind.
@@ -45,7 +46,7 @@ fn found(board: &mut Board, transfer: Transfer, piece: &[u8], block: &Block) -> 
     let settings = board.settings.clone();
     let outcome = proved::look(&settings, transfer, piece, &board.buffers());
     if !outcome.answer.is_accepted() {
-        return Found::Refused(outcome.answer);
+        return Found::Refused(outcome.answer, board.reason(transfer, piece));
     }
     let kind = state::kind(transfer);
     match offset(board, kind, block) {
@@ -114,10 +115,10 @@ impl Missing {
                 state::memory(*kind),
                 at + 255,
             ),
-            Found::Refused(answer) => format!(
-                "missing: block {number}, which the board refuses: {}, {}",
+            Found::Refused(answer, why) => format!(
+                "missing: block {number}, which the board refuses: {}: {}",
                 names::answer(*answer),
-                names::meaning(*answer)
+                reason::of(why)
             ),
         }
     }
@@ -127,7 +128,7 @@ impl Missing {
         let (at, address, refused) = match &self.found {
             Found::Nothing | Found::Comment => (None, None, None),
             Found::Page { at, address, .. } => (Some(*at), Some(*address), None),
-            Found::Refused(answer) => (None, None, Some(u32::from(answer.number()))),
+            Found::Refused(answer, _) => (None, None, Some(u32::from(answer.number()))),
         };
         Json::Object(vec![
             ("block", self.number.into()),

@@ -1,9 +1,12 @@
 //! Arrivals taken, one after the other.
 
+use crate::block::Block;
 use crate::board::Board;
 use crate::progress::Progress;
-use proved::{Outcome, Transfer, ARRIVAL_BYTES};
+use proved::{Answer, Outcome, Transfer, ARRIVAL_BYTES};
+use std::collections::BTreeMap;
 use tools::trace;
+use tools::why::Reason;
 
 /// What came of the arrivals.
 pub struct Played {
@@ -11,20 +14,46 @@ pub struct Played {
     pub transfer: Transfer,
     /// The outcome of each arrival.
     pub outcomes: Vec<Outcome>,
+    /// Why the first arrival with each answer by which a block is refused has it, by the answer's number.
+    pub refusals: BTreeMap<u8, Refusal>,
+}
+
+/// The first arrival that was refused by an answer, and why.
+pub struct Refusal {
+    /// Its place in the order.
+    pub arrival: usize,
+    /// The block's number, where it is one.
+    pub block: Option<u32>,
+    /// What decided.
+    pub reason: Reason,
 }
 
 /// Takes the arrivals from Idle.
 pub fn play(sent: &[&[u8]], board: &mut Board) -> Played {
     let mut transfer = Transfer::new();
     let mut outcomes = Vec::with_capacity(sent.len());
+    let mut refusals = BTreeMap::new();
     let settings = board.settings.clone();
-    let mut buffers = board.buffers();
     let progress = Progress::start("load", sent.len() as u64);
-    for piece in sent {
-        outcomes.push(proved::take(&settings, &mut transfer, piece, &mut buffers));
+    for (arrival, piece) in sent.iter().enumerate() {
+        let outcome = proved::take(&settings, &mut transfer, piece, &mut board.buffers());
+        let number = outcome.answer.number();
+        if number < Answer::Finished.number() {
+            // what is refused changes nothing, so that the reason is still the same
+            refusals.entry(number).or_insert_with(|| Refusal {
+                arrival,
+                block: Block::read(piece).map(|block| block.number),
+                reason: board.reason(transfer, piece),
+            });
+        }
+        outcomes.push(outcome);
         progress.done(outcomes.len() as u64);
     }
-    Played { transfer, outcomes }
+    Played {
+        transfer,
+        outcomes,
+        refusals,
+    }
 }
 
 /// The trace of the arrivals. A record holds a whole arrival: a short piece, which changes nothing, is left out.

@@ -7,7 +7,7 @@ use crate::board::Board;
 use crate::json::Json;
 use crate::number::{count, ranges};
 use crate::out::Out;
-use crate::{files, names, state};
+use crate::{files, names, reason, state, why};
 use proved::{Answer, Kind, Outcome, Transfer, ARRIVAL_BYTES};
 use std::collections::BTreeMap;
 
@@ -51,12 +51,19 @@ impl Load<'_> {
         discarded.count() as u64
     }
 
-    /// The answer that most of the refused arrivals had.
-    fn commonest_refusal(&self) -> Option<(Answer, u64)> {
+    /// Why most of the refused arrivals were refused: their answer, how many, and the reason of the first.
+    fn commonest_refusal(&self) -> Option<String> {
         let counts = self.counts().into_values();
-        counts
-            .filter(|(answer, _)| !answer.is_accepted())
-            .max_by_key(|(_, n)| *n)
+        let refused = counts.filter(|(answer, _)| !answer.is_accepted());
+        let (answer, n) = refused.max_by_key(|(_, n)| *n)?;
+        let why = self.played.refusals.get(&answer.number())?;
+        let first = if n == 1 { "" } else { "the first: " };
+        Some(format!(
+            "{} {}; {first}{}",
+            count(n, "time"),
+            names::answer(answer),
+            reason::of(&why.reason)
+        ))
     }
 
     /// Arrivals that are no part of the file that was completed.
@@ -140,6 +147,11 @@ fn answers(load: &Load, out: &mut Out) {
             "  {name:14}{n:7}  {}",
             names::meaning(*answer)
         ));
+        if let Some(first) = load.played.refusals.get(&answer.number()) {
+            let why = reason::of(&first.reason);
+            let line = why::tell::arrival(first.arrival, first.block, &why);
+            out.line(format_args!("    {line}"));
+        }
     }
 }
 
@@ -193,11 +205,7 @@ fn verdict(load: &Load) -> String {
         }
         Transfer::Idle => match load.commonest_refusal() {
             None => format!("NOT COMPLETE: no block came. {NEVER}"),
-            Some((answer, n)) => format!(
-                "NOT COMPLETE: no block was taken ({}: {}). {NEVER}",
-                count(n, "time"),
-                names::meaning(answer)
-            ),
+            Some(why) => format!("NOT COMPLETE: no block was taken ({why}). {NEVER}"),
         },
         Transfer::Running { total, .. } => format!(
             "NOT COMPLETE: {}. {NEVER} Send the file again, whole.",
@@ -232,6 +240,16 @@ fn takes(load: &Load) -> Json {
     }))
 }
 
+/// The first arrival that was refused by an answer, for scripts.
+fn first_json(load: &Load, answer: Answer) -> Option<Json> {
+    let first = load.played.refusals.get(&answer.number())?;
+    Some(Json::Object(vec![
+        ("arrival", first.arrival.into()),
+        ("block", first.block.into()),
+        ("reason", why::tell::reason_json(&first.reason)),
+    ]))
+}
+
 /// The same for scripts.
 pub fn json(load: &Load) -> Json {
     let answers = load.counts().into_values().map(|(answer, n)| {
@@ -239,6 +257,7 @@ pub fn json(load: &Load) -> Json {
             ("answer", u32::from(answer.number()).into()),
             ("name", format!("{answer:?}").into()),
             ("count", n.into()),
+            ("first", first_json(load, answer).into()),
         ])
     });
     let whole = matches!(load.played.transfer, Transfer::Done { .. });

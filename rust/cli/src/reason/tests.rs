@@ -134,10 +134,10 @@ const FIELDS: &[Row] = &[
     (1101, 0, 0x1000_0000, 0, 0, "the address 0x00000000 lies before the flash, which begins at 0x10000000"),
     (1102, 0x1000_0001, 256, 0, 0, "the address 0x10000001 is no multiple of 256"),
     (1103, 65792, 65536, 0, 0, "the page at the address 0x10010000 would end 65792 bytes after the start of its place, which has only 65536 bytes"),
-    (1103, 0x1000_0100, 65536, 0, 0, "the page at the address 0x20000000 would end 268435712 bytes after the start of its place, which has only 65536 bytes; it is one of main RAM, which this board lacks"),
-    (1103, 0x03ff_c100, 65536, 0, 0, "the page at the address 0x13ffc000 would end 67092736 bytes after the start of its place, which has only 65536 bytes; it is one of XIP RAM, which this board lacks"),
-    (1103, 0xf000_0000, 65536, 0, 0, "the page at the address 0xffffff00 would end 4026531840 bytes after the start of its place, which has only 65536 bytes"),
     (1104, 0x2008_2001, 0x2008_2000, 0, 0, "the page would end at 0x20082001, past the end of the RAM at 0x20082000"),
+    (1105, 0x2000_0001, 0x1200_0000, 0, 0, "the address 0x20000001 lies in no memory of this board: flash's addresses end at 0x12000000; it is one of main RAM, which this board lacks"),
+    (1105, 0x13ff_c000, 0x1200_0000, 0, 0, "the address 0x13ffc000 lies in no memory of this board: flash's addresses end at 0x12000000; it is one of XIP RAM, which this board lacks"),
+    (1105, 0xffff_ff00, 0x1200_0000, 0, 0, "the address 0xffffff00 lies in no memory of this board: flash's addresses end at 0x12000000"),
 ];
 
 const TAKEN: &[Row] = &[

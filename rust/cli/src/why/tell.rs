@@ -5,7 +5,8 @@ use crate::{families, names, reason};
 use proved::{Answer, Outcome, Place};
 use tools::why::Reason;
 
-fn reason_json(why: &Reason) -> Json {
+/// A reason for scripts.
+pub fn reason_json(why: &Reason) -> Json {
     Json::Object(vec![
         ("cause", why.cause.into()),
         ("got", why.got.into()),

@@ -83,7 +83,9 @@ fn as_load_and_replay() {
     for line in ["", "--shuffle 5 --repeat 3", "--drop 3", "--flash 4096"] {
         let ran = folder.run(&format!("load blink.uf2 {line} --record t.trace"));
         let counted = |out: &str| -> Vec<(String, String)> {
-            let rows = out.lines().filter(|line| line.starts_with("  "));
+            let rows = out
+                .lines()
+                .filter(|line| line.starts_with("  ") && !line.starts_with("   "));
             rows.map(|row| {
                 let mut words = row.split_whitespace();
                 (

@@ -48,7 +48,7 @@ fn own_data_left_out() {
     let ran = folder.ends(1, "hex both.hex --board v1 --bytes 0x110 --image v1.bin");
     assert!(
         ran.out.contains(
-            "  32 Outside            1  data of this board outside of the image: LEFT OUT\n"
+            "  32 Outside            1  data of this board that is not wholly in the image: LEFT OUT\n"
         ),
         "{}",
         ran.out
@@ -125,7 +125,7 @@ fn where_it_fails() {
         with(2, ":1001000001010101x1010101010101010101010101DF"),
     );
     let ran = folder.ends(1, "hex digit.hex --board v1 --image out.bin");
-    assert!(ran.out.ends_with("NOT WHOLE: line 3 failed, 22 BadDigit at position 17: the character there, counted from 0 at the colon, is no hex digit. There is no image to flash.\n"), "{}", ran.out);
+    assert!(ran.out.ends_with("NOT WHOLE: line 3 failed, 22 BadDigit at position 17: a character is no hex digit; its position is counted from 0 at the colon. There is no image to flash.\n"), "{}", ran.out);
     folder.put(
         "sum.hex",
         with(2, ":1001000001010101010101010101010101010101DE"),

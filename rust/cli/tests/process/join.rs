@@ -32,17 +32,17 @@ fn inputs_that_are_bad() {
     folder.put("good.hex", &good);
     let data = record(0, 0, &[1, 2, 3]);
     for (text, why) in [
-        (format!("\n{END}"), "20 NoColon: bad.hex, the file for V2, at line 1: it is empty or does not begin with a colon"),
-        (format!("{data}:00\n{END}"), "21 BadShape: bad.hex, the file for V2, at line 2: it has a number of characters that no record has"),
-        (format!("{data}:0000000GFF\n"), "22 BadDigit: bad.hex, the file for V2, at line 2: the character at position 8, counted from 0 at the colon, is no hex digit"),
+        (format!("\n{END}"), "20 NoColon: bad.hex, the file for V2, at line 1: the line is empty or does not begin with a colon"),
+        (format!("{data}:00\n{END}"), "21 BadShape: bad.hex, the file for V2, at line 2: the line has under 11, over 521 or an even number of characters"),
+        (format!("{data}:0000000GFF\n"), "22 BadDigit: bad.hex, the file for V2, at line 2, position 8: a character is no hex digit; its position is counted from 0 at the colon"),
         (record(0, 0, &[0; 33]), "23 TooLong: bad.hex, the file for V2, at line 1: the record says more than 32 data bytes"),
         (":0100000000FF00\n".into(), "24 BadLength: bad.hex, the file for V2, at line 1: the record's length is not the one that it says"),
         (":00000001FE\n".into(), "25 BadSum: bad.hex, the file for V2, at line 1: the record's checksum is wrong"),
-        (record(6, 0, &[]), "26 OutOfPlace: bad.hex, the file for V2, at line 1: no such type, or a length that the type does not have"),
-        (data.clone(), "26 OutOfPlace: bad.hex, the file for V2, at the end: the file stops without its end record"),
-        (record(0, 0xffff, &[1, 2]) + END, "29 Crosses: bad.hex, the file for V2, at line 1: the data runs past the 65,536 bytes that one address record reaches"),
-        (END.into(), "30 NoData: bad.hex, the file for V2, at the end: the file has no data"),
-        (format!("{data}{END}{data}"), "31 AfterEnd: bad.hex, the file for V2, at line 3: it comes after the end record"),
+        (record(6, 0, &[]), "26 OutOfPlace: bad.hex, the file for V2, at line 1: a type over 05, or a length that the type does not have"),
+        (data.clone(), "26 OutOfPlace: bad.hex, the file for V2, at the end: no 01 at the end"),
+        (record(0, 0xffff, &[1, 2]) + END, "29 Crosses: bad.hex, the file for V2, at line 1: data past the 65,536 bytes that one 02 or 04 reaches"),
+        (END.into(), "30 MissingBoard: bad.hex, the file for V2, at the end: no data byte"),
+        (format!("{data}{END}{data}"), "31 AfterEnd: bad.hex, the file for V2, at line 3: a line after the 01"),
     ] {
         folder.put("bad.hex", text);
         let ran = folder.ends(1, "join good.hex bad.hex -o out.hex");
@@ -69,7 +69,7 @@ fn files_that_are_too_long() {
     );
     folder.put("half.hex", plain(0, &vec![1; 800_000]));
     let ran = folder.ends(1, "join half.hex half.hex -o out.hex");
-    assert_eq!(ran.err, "vantorel: nothing was written: 36 OutputTooLong: the joined file would be longer than 4,194,304 bytes\n");
+    assert_eq!(ran.err, "vantorel: nothing was written: 36 FileTooLong: the output over 4,194,304 bytes, or longer than what is lent\n");
     assert!(!folder.names().contains(&"out.hex".to_string()));
 }
 

@@ -173,14 +173,14 @@ fn nothing_is_taken() {
     assert!(ran.out.starts_with("empty: 0 pieces of 512 bytes, 0 arrivals\nboard: a flash of 32768 bytes (none was said: that of `receive`), Arm"));
     assert!(ran.out.ends_with("sectors erased: none\nNOT COMPLETE: no block came. The display was never told that it is complete.\n"));
     let ran = folder.ends(1, "load blink.bin");
-    assert!(ran.out.ends_with("NOT COMPLETE: no block was taken (32 times: not a UF2 block). The display was never told that it is complete.\n"), "{}", ran.out);
+    assert!(ran.out.ends_with("NOT COMPLETE: no block was taken (32 times 4 NotBlock; the first: it is no UF2 block: its first magic number is 0xb4815e3c and not 0x0a324655). The display was never told that it is complete.\n"), "{}", ran.out);
     let ran = folder.ends(1, "load blink.uf2 --flash 4096");
     assert!(ran.out.contains("board: a flash of 4096 bytes, Arm"));
     assert!(ran.out.contains("  10 BadNumbers      64  "), "{}", ran.out);
     let ran = folder.ends(1, "load blink.uf2 --current riscv");
     assert!(
         ran.out
-            .contains("the board's settings are not good for its flash"),
+            .contains("the settings are not good for this flash\n    arrival 0, block 0: the settings name a current architecture that they do not enable\n"),
         "{}",
         ran.out
     );
@@ -222,6 +222,37 @@ fn a_file_for_ram() {
     assert!(ran.out.contains("missing: block 1, whose page would stand in main RAM from 0x00000100 to 0x000001ff (address 0x20000100)"), "{}", ran.out);
     let ran = folder.ends(1, "load ram.uf2 --xip-ram");
     assert!(ran.out.contains("  11 BadAddress       3  "), "{}", ran.out);
+}
+
+/// The reason of the first arrival with each answer by which a block is refused is the one that `why` gives.
+#[test]
+fn why_blocks_are_refused() {
+    let folder = Folder::new();
+    folder.put(
+        "board.toml",
+        "arm = true\ncurrent = \"arm\"\n[[partition]]\nfirst = 2\nsectors = 2\naccepts = [\"arm-s\"]\n",
+    );
+    folder.ends(0, "settings pack board.toml -o board.store");
+    let page = |address, number| block(FAMILY, address, number, 32, ARM_S, 7);
+    let far = [page(0x1000_2000, 0), page(0x1000_2100, 1)].concat();
+    let other = block(FAMILY, 0x1000_0000, 2, 32, RISCV, 7);
+    folder.put("file", [&far[..], &other, &page(0x1000_0000, 3)].concat());
+    let board = "--settings board.store --flash 64K";
+    let ran = folder.ends(1, &format!("load file {board}"));
+    // a multiple of 256 within the flash, and past the partition of two sectors
+    assert!(ran.out.contains("  11 BadAddress       2  the address is in no window, past the end of the place or the RAM, or in flash no multiple of 256\n    arrival 0, block 0: the page at the address 0x10002000 would end 8448 bytes after the start of its place, which has only 8192 bytes\n"), "{}", ran.out);
+    assert!(ran.out.contains("    arrival 2, block 2: no A partition accepts the family riscv (0xe48bff5a): partition 0 does not accept it\n"), "{}", ran.out);
+    let why = folder.ends(1, &format!("why file {board} -v")).out;
+    for line in ran.out.lines().filter(|line| line.starts_with("    ")) {
+        let (arrival, reason) = line.trim().split_once(": ").expect("a reason");
+        let told = why
+            .lines()
+            .find(|line| line.starts_with(&format!("{arrival}: ")));
+        assert!(
+            told.is_some_and(|told| told.ends_with(reason)),
+            "{line}\n{why}"
+        );
+    }
 }
 
 #[test]
@@ -266,7 +297,7 @@ fn files_of_other_kinds() {
     );
     assert!(
         ran.out
-            .contains("missing: block 2, which the board refuses: 11 BadAddress, "),
+            .contains("missing: block 2, which the board refuses: 11 BadAddress: the address 0x10000080 is no multiple of 256\n"),
         "{}",
         ran.out
     );

@@ -15,3 +15,4 @@ mod scripts;
 mod settings;
 mod tags;
 mod why;
+mod words;

@@ -49,16 +49,16 @@ fn images_of_which_no_file_is_made() {
     folder.put("ragged", [7; 300]);
     folder.put("two", [7; 512]);
     for (image, start, why) in [
-        ("empty", "0x10000000", "50 BadImage: empty is empty"),
+        ("empty", "0x10000000", "50 BadImage: the image is empty, or no whole pages of 256 bytes: empty has 0 bytes"),
         (
             "ragged",
             "0x10000000",
-            "50 BadImage: ragged has 300 bytes, which is no whole number of pages of 256 bytes; fill it up to 512",
+            "50 BadImage: the image is empty, or no whole pages of 256 bytes: ragged has 300 bytes; fill it up to 512",
         ),
         (
             "two",
             "0x11ffff00",
-            "52 PastWindow: two has 512 bytes, and from 0x11ffff00 on it would pass 0x12000000",
+            "52 PastWindow: the image runs past 0x12000000: two has 512 bytes, from 0x11ffff00 on",
         ),
     ] {
         let line = format!("make {image} -o out.uf2 --family data --start {start}");
@@ -92,7 +92,7 @@ fn wrong_words() {
         ),
         (
             "make one -o out --family data --start 10000000",
-            "51 BadStart: one cannot start at 0x00989680: the start is a multiple of 256 from 0x10000000 to 0x11ffff00 (hex numbers begin with 0x)",
+            "51 BadStart: the start is not from 0x10000000 up to, not including, 0x12000000, or no multiple of 256: one cannot start at 0x00989680 (hex numbers begin with 0x)",
         ),
         ("make one -o out --family data --start 0x10000000 -v", "no option '-v'"),
     ] {

@@ -45,7 +45,7 @@ fn of_loads_and_replays() {
     has(&text, &[
         "\"file\": \"blink.uf2\", \"pieces\": 64, \"arrivals\": 64",
         "\"board\": {\"flash\": 16384, \"flash_said\": false, \"arm\": true",
-        "{\"answer\": 14, \"name\": \"Written\", \"count\": 63}",
+        "{\"answer\": 14, \"name\": \"Written\", \"count\": 63, \"first\": null}",
         "\"completed\": true",
         "\"transfer\": {\"state\": \"done\", \"family\": 3834380121, \"total\": 64, \"count\": 64, \"memory\": \"flash\"}",
         "\"sectors\": [0, 1, 2, 3]",

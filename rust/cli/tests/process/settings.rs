@@ -282,17 +282,20 @@ fn files_that_are_no_stores() {
     for (bytes, told) in [
         (
             vec![],
-            "41 BadLength: wrong length of the store: it has 0 bytes",
+            "41 BadLength: the store has a wrong length: it has 0 bytes",
         ),
         (
             good[..67].to_vec(),
-            "41 BadLength: wrong length of the store: it has 67 bytes",
+            "41 BadLength: the store has a wrong length: it has 67 bytes",
         ),
         (
             version,
             "40 BadVersion: the store's version is neither 1 nor 2",
         ),
-        (stray, "42 BadBits: stray bits in the store"),
+        (
+            stray,
+            "42 BadBits: the store has stray bits, or numbers that no store has",
+        ),
     ] {
         folder.put("bad", bytes);
         let ran = folder.ends(1, "settings show bad");
@@ -311,7 +314,7 @@ fn files_that_are_no_stores() {
         }
     }
     let ran = folder.ends(1, "settings show board.store --flash 64K");
-    assert_eq!(ran.err, "vantorel: board.store is no store of this board: 2 BadSettings: bad settings: partition 0 ends at byte 270336 of the flash, which has only 65536 bytes\n");
+    assert_eq!(ran.err, "vantorel: board.store is no store of this board: 2 BadSettings: the settings are not good for this flash: partition 0 ends at byte 270336 of the flash, which has only 65536 bytes\n");
 }
 
 /// A file goes to the place that the store gives its family.

@@ -100,15 +100,15 @@ fn tags_that_cannot_be_read() {
     for (bytes, told) in [
         (
             &[3, 1, 2, 3][..],
-            "piece 0, block 0: 62 ShortTag: a tag of 1 to 3 bytes",
+            "piece 0, block 0: 62 ShortTag: a tag with a size of 1 to 3",
         ),
         (
             &[0, 1, 2, 3],
-            "piece 0, block 0: 63 TypedEnd: an end of the tags with a type",
+            "piece 0, block 0: 63 TypedEnd: a tag with a size of 0 and a type",
         ),
         (
             &[255, 1, 2, 3],
-            "piece 0, block 0: 64 PastRoom: a tag past the room",
+            "piece 0, block 0: 64 PastRoom: a tag that runs past the data, or into the checksum of flag 0x4000",
         ),
     ] {
         folder.put("bad", tagged(0, &[&good, bytes].concat()));
@@ -125,7 +125,7 @@ fn tags_that_cannot_be_read() {
     let ran = folder.ends(1, "tags zeros");
     assert!(ran
         .out
-        .starts_with("piece 0: 4 NotBlock: not a UF2 block\n"));
+        .starts_with("piece 0: 4 NotBlock: no UF2 block: a magic number differs\n"));
     folder.put("empty", []);
     let ran = folder.ends(1, "tags empty");
     assert!(ran.out.ends_with("NOT WHOLE: the file is empty.\n"));
