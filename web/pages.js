@@ -1,6 +1,6 @@
 // What was done to each page of a board's memories, and what of it a file expects. Display only: it follows what the receiver did.
 import { SECTOR } from './board.js';
-import { PAYLOAD, PAYLOAD_AT, readBlock } from './block.js';
+import { PAYLOAD, PAYLOAD_AT } from './block.js';
 import { isMarked, same, sameAt } from './bytes.js';
 
 const STATUS = { lent: 0, erased: 1, stored: 2, kept: 3, left: 4, waiting: 5, missing: 6 };
@@ -43,51 +43,32 @@ export class Pages {
   }
 }
 
-// The pages that a file's data blocks are for: number, memory, byte, and the arrival that has its bytes. The proved receiver says where. A file may hold
-// blocks of several families or totals: the most frequent pair is the file that is meant. Of two blocks with one number the first counts.
-export function expectedPages(pieces, receiver) {
-  const groups = [];
-  let group = null;
-  for (const piece of pieces) {
-    const block = readBlock(piece);
-    if (!block || block.comment) continue;
-    const isHead = (other) => other.family === block.family && other.total === block.total;
-    if (!group || !isHead(group)) {
-      group = groups.find(isHead);
-      if (!group) groups.push((group = { family: block.family, total: block.total, pages: new Map() }));
-    }
-    if (group.pages.has(block.number)) continue;
-    const { number, address, family, total } = block;
-    group.pages.set(number, { number, address, family, total, storage: receiver.storage(block), piece });
-  }
-  const largest = groups.reduce((a, b) => (b.pages.size > a.pages.size ? b : a), { pages: new Map() });
-  return [...largest.pages.values()].sort((a, b) => a.number - b.number);
-}
-
 // Whether a page was stored and its bytes are where they belong, or was kept: then the flash has what the region names, whatever the payload says.
-// `memory` are the bytes and `marks` the marks of its memory.
+// `memory` are the bytes and `marks` the marks of its memory. A page of which no block is at hand is nowhere.
 function isThere(page, memory, marks) {
+  if (!page.piece) return false;
   const { at } = page.storage;
   const status = marks[Math.floor(at / PAYLOAD)];
   return status === STATUS.kept || (status === STATUS.stored && sameAt(memory, at, page.piece, PAYLOAD_AT, PAYLOAD));
 }
 
-// What stands where a page belongs: nothing has an address, or erased bytes, the bytes as lent, another page of the file, or other bytes.
-export function standsThere(receiver, page, lent, expected) {
-  if (!page.storage) return { what: 'nowhere' };
+// What stands where a missing page belongs: erased bytes, the bytes as lent, its own that another transfer stored, another page of the file, or other bytes.
+export function standsThere(receiver, page, file) {
   const { memory, at } = page.storage;
   const bytes = receiver.bytes(memory).slice(at, at + PAYLOAD);
   const start = bytes.slice(0, 16);
   if (bytes.every((x) => x === 0xff)) return { what: 'erased', start };
-  const before = memory === 'flash' ? lent.subarray(at, at + PAYLOAD) : new Uint8Array(PAYLOAD);
+  const before = memory === 'flash' ? receiver.lent.subarray(at, at + PAYLOAD) : new Uint8Array(PAYLOAD);
   if (same(bytes, before)) return { what: 'lent', start };
-  const other = expected.find((q) => q !== page && sameAt(bytes, 0, q.piece, PAYLOAD_AT, PAYLOAD));
+  const isOf = (q) => q.piece !== null && sameAt(bytes, 0, q.piece, PAYLOAD_AT, PAYLOAD);
+  if (isOf(page)) return { what: 'own', start };
+  const other = file.pages.find(isOf);
   return other ? { what: 'block', number: other.number, start } : { what: 'other', start };
 }
 
 // The cells of a memory's grid: what was done to each page, and which pages of the file are still to come (`waiting`) or, once the list has ended, the
 // receiver says that it is done or the page has been marked, are not there (`missing`).
-export function cells(run, expected, memory, ended) {
+export function cells(run, file, memory, ended) {
   const { receiver } = run;
   const { transfer } = receiver;
   const marks = run.pages.marks[memory];
@@ -95,9 +76,9 @@ export function cells(run, expected, memory, ended) {
   const bytes = receiver.bytes(memory);
   const seen = receiver.bytes('seen');
   const over = ended || transfer.state === 'done';
-  for (const page of expected) {
+  const own = transfer.state !== 'idle' && transfer.family === file.family && transfer.total === file.total;
+  for (const page of file.pages) {
     if (!page.storage || page.storage.memory !== memory || isThere(page, bytes, marks)) continue;
-    const own = transfer.state !== 'idle' && transfer.family === page.family && transfer.total === page.total;
     const k = Math.floor(page.storage.at / PAYLOAD);
     // what another file has stored there is shown as long as that file runs
     if (!over && !own && marks[k] === STATUS.stored) continue;
@@ -107,9 +88,9 @@ export function cells(run, expected, memory, ended) {
 }
 
 // The pages of the file that are not there now.
-export function missingPages(run, expected) {
+export function missingPages(run, file) {
   const bytes = { flash: run.receiver.bytes('flash'), main: run.receiver.bytes('main'), xip: run.receiver.bytes('xip') };
-  return expected.filter(({ storage }, k) => !storage || !isThere(expected[k], bytes[storage.memory], run.pages.marks[storage.memory]));
+  return file.pages.filter((page) => !page.storage || !isThere(page, bytes[page.storage.memory], run.pages.marks[page.storage.memory]));
 }
 
 // Whether some page was kept.

@@ -2,7 +2,7 @@
 import { N } from './numbers.js';
 import { get32, get64, isMarked, same } from './bytes.js';
 import { wordsOf } from './wasm.js';
-import { ARRIVAL, isBlock, payloadOf, readBlock } from './block.js';
+import { ARRIVAL, FLAG, isBlock, payloadOf, readBlock } from './block.js';
 import { SECTOR, lentFlash, settingsBytes } from './board.js';
 
 const STATES = { [N.UF2_STATE_IDLE]: 'idle', [N.UF2_STATE_RUNNING]: 'running', [N.UF2_STATE_DONE]: 'done' };
@@ -107,6 +107,24 @@ export class ProvedReceiver {
     return { answer: result & 127, discarded: result >= N.UF2_RESULT_DISCARDED };
   }
 
+  // The answer, 1 to 11, by which the board refuses an arrival before any other has come, or 0 where it takes it. Flag 0x4000 is cleared, since it changes
+  // none of these answers and a region would be hashed for it.
+  refusal(arrival) {
+    const words = this.lentWords(arrival);
+    this.slices.arrival.bytes[9] &= ~(FLAG.region >> 8);
+    const answer = this.library.calls.uf2_look(...words) & 127;
+    return answer < N.UF2_ANSWER_FINISHED ? answer : 0;
+  }
+
+  // MD5 of no more bytes than the flash has.
+  md5(bytes) {
+    this.digest = this.digest ?? this.library.lend(N.UF2_MD5_SIZE);
+    this.message = this.message ?? this.library.lend(this.slices.flash.length);
+    this.message.bytes.set(bytes);
+    this.library.call('uf2_md5', this.message.first(bytes.length), this.digest);
+    return this.digest.bytes.slice();
+  }
+
   // Where a data block's page goes: the memory, and the byte in it. In flash that is the place's start and the address less the window's.
   storage(block) {
     const { address, family } = block;
@@ -115,8 +133,8 @@ export class ProvedReceiver {
     if (within(N.UF2_XIP_RAM_START, this.slices.xip)) return { memory: 'xip', at: address - N.UF2_XIP_RAM_START };
     const place = this.place(family);
     if (place.answer !== N.UF2_ANSWER_FOUND || address < N.UF2_FLASH_START) return null;
-    const at = place.start + address - N.UF2_FLASH_START;
-    return at + 256 <= this.slices.flash.length ? { memory: 'flash', at } : null;
+    const isWithin = address - N.UF2_FLASH_START + 256 <= place.length;
+    return isWithin ? { memory: 'flash', at: place.start + address - N.UF2_FLASH_START } : null;
   }
 
   // An arrival taken: the answer, and what it did, read from the buffers before and after.

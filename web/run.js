@@ -1,4 +1,5 @@
 // A receiver and the list of its arrivals, at a position that moves both ways. Going back replays from the nearest snapshot.
+import { N } from './numbers.js';
 import { Pages } from './pages.js';
 
 const SNAPSHOT_BYTES = 96 * 1024 * 1024;
@@ -17,6 +18,7 @@ export class Run {
     this.discards = new Uint8Array(arrivals.length);
     this.counts = new Uint32Array(arrivals.length);
     this.known = 0;
+    this.refusals = new Map();
     receiver.reset();
     this.pages = new Pages(receiver);
     this.position = 0;
@@ -46,9 +48,21 @@ export class Run {
     this.answers[k] = this.last.answer;
     this.discards[k] = this.last.discarded ? 1 : 0;
     this.counts[k] = this.receiver.transfer.count;
+    this.noteRefusal(k, bytes);
     this.position = k + 1;
     this.known = Math.max(this.known, this.position);
     if (this.position % this.stride === 0 && this.snapshots.length <= this.position / this.stride) this.snapshots.push(this.snapshot());
+  }
+
+  // The first arrival of each answer from 1 to 11, with its reason. Such an answer has changed nothing, so that the reason is still the same.
+  noteRefusal(k, bytes) {
+    const { answer } = this.last;
+    if (answer < N.UF2_ANSWER_FINISHED && !this.refusals.has(answer)) this.refusals.set(answer, { at: k, answer, reason: this.receiver.why(bytes) });
+  }
+
+  // The refusals before the position, in the order in which they came.
+  get refused() {
+    return [...this.refusals.values()].filter(({ at }) => at < this.position);
   }
 
   // Goes to the nearest snapshot at or before `target`, where that is nearer than the position.

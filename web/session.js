@@ -7,47 +7,34 @@ import { readBlock } from './block.js';
 import { Run } from './run.js';
 import { WRONG } from './wrong/all.js';
 import { arrivalList } from './arrivals.js';
-import { expectedPages } from './pages.js';
+import { filesOf } from './files.js';
 import { inSlices, nextFrame } from './slices.js';
 import { GOALS, shortestDifference } from './search.js';
-
-// What a wrong receiver does not get wrong itself: whether the settings are good, and MD5. Both are the library's.
-function helpersFor(library, proved, flashLength) {
-  const digest = library.lend(N.UF2_MD5_SIZE);
-  let message = null;
-  return {
-    goodSettings: ![N.UF2_ANSWER_BAD_BUFFERS, N.UF2_ANSWER_BAD_SETTINGS].includes(proved.place(FAMILY.data).answer),
-    md5: (bytes) => {
-      message = message ?? library.lend(flashLength);
-      message.bytes.set(bytes);
-      library.call('uf2_md5', message.first(bytes.length), digest);
-      return digest.bytes.slice();
-    },
-  };
-}
 
 // Foreign arrivals that a search may use though they are not mixed in.
 const USUAL = ['otherBoard', 'otherFile', 'wraps'];
 
-// The proved receiver and the chosen wrong one, each with an instance of the library.
-function receiversOf(libraries, board, chosen) {
-  const proved = new ProvedReceiver(libraries[0], board);
-  const wrong = chosen ? new chosen.make(board, helpersFor(libraries[1], proved, board.flash)) : null;
+// The proved receiver and the chosen wrong one. What a wrong one does not get wrong itself is the library's: whether the settings are good, and MD5.
+function receiversOf(library, board, chosen) {
+  const proved = new ProvedReceiver(library, board);
+  const goodSettings = ![N.UF2_ANSWER_BAD_BUFFERS, N.UF2_ANSWER_BAD_SETTINGS].includes(proved.place(FAMILY.data).answer);
+  const wrong = chosen ? new chosen.make(board, { goodSettings, md5: (bytes) => proved.md5(bytes) }) : null;
   return { proved, wrong };
 }
 
 export class Session {
-  // `plan` has the pieces of a file and how they are sent (arrivals.js); `wrongId` names a wrong receiver or is null. `close()` gives the instances back.
+  // `plan` has the pieces of a file and how they are sent (arrivals.js); `wrongId` names a wrong receiver or is null. `close()` gives the library's instance back.
   static async open(pool, board, plan, wrongId) {
     const session = new Session(pool, board, plan, WRONG.find((item) => item.id === wrongId) ?? null);
-    session.libraries = [await pool.take(), await pool.take()];
+    session.library = await pool.take();
     // a large file is prepared in steps, with a frame drawn between them
     const pause = plan.pieces.length > 8192 ? nextFrame : () => {};
-    const { proved, wrong } = receiversOf(session.libraries, board, session.chosen);
+    const { proved, wrong } = receiversOf(session.library, board, session.chosen);
     await pause();
     session.arrivals = arrivalList(plan);
     await pause();
-    session.expected = expectedPages(plan.pieces, proved);
+    const others = session.arrivals.filter((arrival) => arrival.piece === undefined);
+    session.files = await filesOf(plan.pieces, others.map((arrival) => arrival.bytes), proved, pause);
     await pause();
     session.proved = new Run(proved, session.arrivals);
     await pause();
@@ -65,7 +52,9 @@ export class Session {
   // The receivers are not used any more. A move that is under way ends first.
   close() {
     this.closed = true;
-    if (!this.moving) this.libraries.splice(0).forEach((library) => this.pool.give(library));
+    if (this.moving || !this.library) return;
+    this.pool.give(this.library);
+    this.library = null;
   }
 
   get position() {
@@ -74,6 +63,13 @@ export class Session {
 
   get runs() {
     return this.wrong ? [this.proved, this.wrong] : [this.proved];
+  }
+
+  // The file that a receiver is judged by: that of its transfer, and before one has begun the one of which most blocks are at hand.
+  fileOf(run) {
+    const { state, family, total } = run.receiver.transfer;
+    const file = this.files.find((one) => state !== 'idle' && one.family === family && one.total === total);
+    return (file ?? this.files[0]).read(this.proved.receiver);
   }
 
   // Moves both receivers to a position, in slices. A later call changes where a move that is under way goes to.
@@ -121,14 +117,14 @@ export class Session {
   async search(goal, limits, between) {
     for (const more of [false, true]) {
       const alphabet = this.alphabet(limits.letters, more);
-      const found = await this.pool.use((one) => this.pool.use((two) => this.searchWith([one, two], alphabet, goal, limits, between)));
+      const found = await this.pool.use((library) => this.searchWith(library, alphabet, goal, limits, between));
       if (found || between({ tried: 0, depth: 1 }) === false) return found;
     }
     return null;
   }
 
-  async searchWith(libraries, alphabet, goal, limits, between) {
-    const { proved, wrong } = receiversOf(libraries, this.board, this.chosen);
+  async searchWith(library, alphabet, goal, limits, between) {
+    const { proved, wrong } = receiversOf(library, this.board, this.chosen);
     const steps = shortestDifference(proved, wrong, alphabet.map((arrival) => arrival.bytes), GOALS[goal], limits);
     let found = null;
     let progress = { tried: 0, depth: 1 };

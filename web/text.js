@@ -112,6 +112,7 @@ export const text = {
     tooLarge: 'The search needs a flash of at most 1 MiB and at least one arrival.',
     firstDifference: (k) => `They differ first at arrival ${n(k)}.`,
     noDifference: 'They have not differed so far.',
+    says: (words) => `It says: “${words}”`,
     items: {
       countsArrivals: {
         name: 'It counts arrivals',
@@ -194,20 +195,47 @@ export const text = {
     notCompleted: (k, all) => `Not completed: ${n(k)} of ${n(all)} pages ${k === 1 ? 'is' : 'are'} missing.`,
     nothing: 'Not completed: no block of the file was accepted.',
     noPlace: (name) => `Not completed: this board has no place for the family ${name}.`,
+    refused: (k, answer, why) => `Arrival ${n(k)}: ${answer}. ${why}`,
     notDone: (k, all) => `Not completed: ${n(k)} of ${n(all)} blocks have been counted.`,
     falselyDone: (k) => `GREEN, AND ${k === 1 ? 'A PAGE IS' : n(k) + ' PAGES ARE'} MISSING`,
+    notCounted: 'GREEN, AND A BLOCK WAS NOT COUNTED',
     misplaced: 'GREEN, AND THE FILE IS NOT WHERE IT BELONGS',
+    misplacedPages: (number, answer, why) => `The right answer to block ${n(number)} is ${answer}. ${why} The pages went somewhere else.`,
     damaged: 'GREEN, AND BYTES OUTSIDE OF THE FILE HAVE CHANGED',
-    misplacedPages: (name) => `The board has no place for the family ${name}. The pages went somewhere else.`,
-    page: (number, address) => `Page of block ${n(number)}, for ${hex(address)}: `,
+    unspoken: (all) => (all === 1 ? 'Done: the one number has come.' : `Done: all ${n(all)} numbers have come.`),
+    damagedLine: 'Bytes outside of the file have changed.',
+    page: (number, address) => `Page of block ${n(number)}, for ${typeof address === 'number' ? hex(address) : address}: `,
+    never: (number) => `Block ${n(number)} never came`,
+    neverWhere: ', and its address is not known.',
+    neverAt: (words) => `. ${words}`,
+    likely: (address) => `${hex(address)} if the file lies in one piece`,
+    rightAnswer: (answer, why) => `the right answer to it is ${answer}. ${why}`,
     stands: {
       erased: 'there stands 0xFF, erased.',
       lent: 'there stands what was there before the update.',
       block: (k) => `there stands the page of block ${n(k)}.`,
       other: (start) => `there stand other bytes: ${start} ..`,
-      nowhere: 'it has no place on this board.',
+      own: 'its bytes stand there, but this transfer has not stored them.',
     },
+    comment: (number) => `Block ${n(number)}, a comment, has not been counted.`,
     more: (k) => `and ${n(k)} more.`,
+    otherFile: (name, total) => `The transfer is of another file than most blocks here: ${name}, ${blocks(total)}.`,
+  },
+
+  // What makes a list none that the proof speaks of.
+  flaw: {
+    end: (words) => `${words}, so the proof does not speak of this list.`,
+    sameNumber: ({ number }) => `Two different blocks have the number ${n(number)}`,
+    commentNumber: ({ number }) => `A comment and a data block both have the number ${n(number)}`,
+    sameAddress: ({ pages: [a, b] }) =>
+      a.address === b.address ? `Block ${n(a.number)} and block ${n(b.number)} name the same address, ${hex(a.address)}` : `The pages of block ${n(a.number)} and block ${n(b.number)} overlap`,
+    memories: ({ pages: [a, b] }) => `Block ${n(a.number)} is for ${text.state.into[a.storage.memory]} and block ${n(b.number)} for ${text.state.into[b.storage.memory]}`,
+    ramComment: ({ number }) => `The file is for RAM, and its block ${n(number)} is a comment`,
+    regions: ({ pages: [a, b] }) => `Block ${n(b.number)} lies in the region of block ${n(a.number)} and does not name the same region`,
+    emptySector: ({ pages: [a] }) => `A sector of the region that block ${n(a.number)} names has no block of the file`,
+    digest: ({ pages: [a] }) => `The digest in block ${n(a.number)} is not that of the file's pages in its region`,
+    short: ({ at, length }) => `Arrival ${n(at + 1)} has ${n(length)} bytes and not 512`,
+    stranger: ({ at, name, total }) => `Arrival ${n(at + 1)} is of another file, ${name} and ${blocks(total)}, and what that file stored stays`,
   },
 
   grid: {

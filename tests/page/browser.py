@@ -1,6 +1,7 @@
 """The training page in a real browser, opened from disk: each lesson played to its end, its words and its grid read back; the answers beside the command
 line tool's; files that are none; a large file; keys; and screenshots."""
 import base64
+import json
 import os
 import pathlib
 import re
@@ -81,6 +82,20 @@ class Page:
 
     def verdict(self, side):
         return self.js("return document.querySelector(`#${arguments[0]} .verdict`).dataset.kind", side)
+
+    # The verdict's words, line by line.
+    def words(self, side):
+        return self.js("return [...document.querySelectorAll(`#${arguments[0]} .verdict p`)].map((line) => line.textContent)", side)
+
+    # A file chosen in a field, as the dialog would hand it over.
+    def pick(self, selector, name, content):
+        with tempfile.TemporaryDirectory() as folder:
+            path = pathlib.Path(folder, name)
+            path.write_bytes(content)
+            self.js("document.getElementById('setup').open = true")
+            self.get(selector).send_keys(str(path))
+            # the browser reads it from there
+            time.sleep(0.3)
 
     def lamp(self, side):
         return self.js("const lamp = document.querySelector(`#${arguments[0]} .lamp`); return [lamp.dataset.state, lamp.dataset.wrongly]", side)
@@ -374,6 +389,107 @@ def playing(page):
         equal([f"{k} {row[4].split()[0]} {int('discarded' in row[4])}" for k, row in enumerate(page.log())], expected)
 
 
+def never_came(page):
+    expected = json.loads((ROOT / "tests" / "page" / "verdicts.json").read_text())
+
+    # The verdict of every receiver at the end of the list that is open, word for word.
+    def every_receiver(way):
+        for wrong in [name for name in expected[way] if name != "proved"]:
+            before = page.text("#position")
+            page.js("const choice = document.getElementById('wrong-choice'); choice.value = arguments[0]; choice.dispatchEvent(new Event('change'))", wrong)
+            page.until(lambda: page.text("#position").startswith("Arrival 0 ") and page.text("#wrong-edit") != "", f"{wrong} after {before}")
+            time.sleep(0.1)
+            page.end()
+            equal(page.words("proved"), expected[way]["proved"], f"proved beside {wrong}")
+            equal(page.words("wrong"), expected[way][wrong], wrong)
+            if wrong == "countsArrivals":
+                equal([page.lamp("proved"), page.lamp("wrong")], [["running", "false"], ["done", "true"]], "lamps")
+
+    def arrivals_of(lesson):
+        page.lesson(lesson)
+        content = page.saved()
+        return [content[at : at + 512] for at in range(0, len(content), 512)]
+
+    @check("the sample of a site's trace, shown as a transfer: no falsely green display is called right")
+    def _():
+        page.lesson("lostPage")
+        page.press("#tab-trace")
+        page.press("#trace-sample")
+        page.until(lambda: page.js("return !document.getElementById('trace-result').hidden"), "the replay")
+        page.press("#trace-show")
+        page.until(lambda: page.text("#position") == "Arrival 0 of 8" and page.js("return document.getElementById('lesson').value") == "own", "its arrivals")
+        every_receiver("lesson1")
+        # the page that never came is crossed out
+        equal([page.colour("wrong", k) for k in (4, 5, 6)], [STORED, MISSING, STORED], "colours of the grid")
+
+    @check("lesson 1 saved and opened as a file: no falsely green display is called right")
+    def _():
+        saved = b"".join(arrivals_of("lostPage"))
+        page.pick("#file", "arrivals.uf2", saved)
+        page.until(lambda: "arrivals.uf2" in page.text("#file-note"), "the file")
+        every_receiver("lesson1")
+
+    @check("a recorded trace that lost a block: no falsely green display is called right")
+    def _():
+        pieces = arrivals_of("erase")
+        sent = [0, 1, 2, 3, 4, 6, 7, 7]
+        page.drop("lost.trace", b"".join(bytes([(13 if n == 7 else 14) << 3]) + pieces[k] for n, k in enumerate(sent)))
+        page.until(lambda: "lost.trace" in page.text("#trace-note"), "the replay")
+        page.press("#trace-show")
+        page.until(lambda: page.text("#position") == "Arrival 0 of 8" and page.js("return document.getElementById('lesson').value") == "own", "its arrivals")
+        every_receiver("trace")
+
+    @check("a UF2 without block 17 and with block 3 twice: no falsely green display is called right")
+    def _():
+        page.lesson("lostPage")
+        page.drop("lost.uf2", b"".join(block(k, 24) for k in [*range(4), *range(3, 17), *range(18, 24)]))
+        page.until(lambda: "lost.uf2" in page.text("#file-note"), "the file")
+        every_receiver("uf2")
+
+
+def not_of_the_proof(page):
+    @check("a list that the proof does not speak of, from the page's own menu: the proved column says why")
+    def _():
+        page.lesson("erase")
+        page.js("document.getElementById('setup').open = true")
+        page.choose("#mix-kind", "comment")
+        page.press("#mix-add")
+        page.until(lambda: page.text("#position") == "Arrival 0 of 9", "the comment")
+        page.js("document.getElementById('setup').open = false")
+        page.end()
+        why = "A comment and a data block both have the number 7, so the proof does not speak of this list."
+        equal(page.words("proved"), ["Done: all 8 numbers have come.", why, "Page of block 7, for 0x10000700: there stands 0xFF, erased."])
+        equal(page.lamp("proved"), ["done", "false"])
+
+    @check("two blocks with one address, and a file of two families: the proved column says why the proof does not speak of them")
+    def _():
+        page.lesson("whole")
+        page.drop("address.uf2", b"".join(block(k, 41, 0x10000300 if k == 40 else None) for k in range(41)))
+        page.until(lambda: "address.uf2" in page.text("#file-note"), "the file")
+        page.end()
+        equal(page.words("proved")[:2], ["Done: all 41 numbers have come.", "Block 3 and block 40 name the same address, 0x10000300, so the proof does not speak of this list."])
+        page.drop("families.uf2", b"".join([*(block(k, 6, 0x10004000 + 256 * k, 0xE48BFF58) for k in range(2)), *(block(k, 8) for k in range(8))]))
+        page.until(lambda: "families.uf2" in page.text("#file-note"), "the file")
+        page.end()
+        why = "Arrival 1 is of another file, data and 6 blocks, and what that file stored stays, so the proof does not speak of this list."
+        equal(page.words("proved"), ["Done: all 8 numbers have come.", why, "Bytes outside of the file have changed."])
+
+    @check("a file for RAM on a board without it, and one without families: the verdict has the library's reason")
+    def _():
+        page.lesson("whole")
+        for name, blocks, answer in (
+            ("ram.uf2", [block(k, 4, 0x20000000 + 256 * k) for k in range(4)], "11 BadAddress"),
+            ("nameless.uf2", [block(k, 4)[:8] + bytes(4) + block(k, 4)[12:28] + bytes(4) + block(k, 4)[32:] for k in range(4)], "7 NoFamily"),
+        ):
+            page.drop(name, b"".join(blocks))
+            page.until(lambda: name in page.text("#file-note"), "the file")
+            page.end()
+            reason = page.text("#proved .reason")
+            equal(page.words("proved")[0], "Not completed: no block of the file was accepted.", name)
+            assert page.words("proved")[1].startswith(f"Arrival 1: {answer}. "), page.words("proved")
+            assert "no place for the family" not in page.text("#proved .verdict") and reason != "", name
+
+
 def beside_the_tool(page):
     if not TOOL.exists():
         print("no rust/target/release/vantorel here: the page's answers were not held to the command line tool's")
@@ -556,6 +672,8 @@ def main():
         page = Page(driver)
         lessons(page)
         playing(page)
+        never_came(page)
+        not_of_the_proof(page)
         beside_the_tool(page)
         hex_and_trace(page)
         large(page)

@@ -134,7 +134,7 @@ for (const lesson of LESSONS) {
     const session = await Session.open(libraries, board, plan, wrongId);
     globalThis.requestAnimationFrame = (act) => setTimeout(act, 0);
     await session.moveTo(session.arrivals.length);
-    const kinds = session.runs.map((run) => verdictOf(run, session.expected, session.arrivals.length).kind);
+    const kinds = session.runs.map((run) => verdictOf(session, run).kind);
     const expected = {
       lostPage: ['missing', 'falselyDone'],
       order: ['completed', 'falselyDone'],

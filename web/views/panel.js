@@ -15,8 +15,8 @@ const MEMORIES = ['flash', 'main', 'xip'];
 const MOST_LABELS = 4096;
 const NO_LABELS = new Map();
 
-function labelsOf(expected, memory) {
-  return new Map(expected.filter((page) => page.storage?.memory === memory).map((page) => [Math.floor(page.storage.at / PAYLOAD), String(page.number)]));
+function labelsOf(file, memory) {
+  return new Map(file.pages.filter((page) => page.storage?.memory === memory).map((page) => [Math.floor(page.storage.at / PAYLOAD), String(page.number)]));
 }
 
 function gridPart(panel, memory) {
@@ -57,17 +57,18 @@ export class Panel {
     this.article.querySelector('.slot').replaceChildren(element('div', { className: 'panel' }, told, drawn));
   }
 
-  // Shows a run at its position. `expected` are the pages of the file, `all` the number of arrivals.
-  show(run, expected, all) {
+  // Shows a run of a session at its position.
+  show(session, run) {
     this.run = run;
-    const verdict = verdictOf(run, expected, all);
+    const file = session.fileOf(run);
+    const verdict = verdictOf(session, run);
     this.showLamp(lampOf(run, verdict));
     this.showState(run);
-    this.showAnswer(run);
+    this.showAnswer(run, run === session.wrong);
     this.verdict.dataset.kind = verdict.kind;
-    this.verdict.replaceChildren(element('p', { className: 'words', textContent: verdict.words }), ...verdict.pages.map((words) => element('p', { className: 'page', textContent: words })));
-    this.showSeen(run, expected);
-    for (const memory of MEMORIES) this.showGrid(memory, run, expected, run.position === all && all > 0);
+    this.verdict.replaceChildren(element('p', { className: 'words', textContent: verdict.words }), ...verdict.lines.map((words) => element('p', { className: 'page', textContent: words })));
+    this.showSeen(run, file);
+    for (const memory of MEMORIES) this.showGrid(memory, run, file, run.atEnd && run.position > 0);
     return verdict;
   }
 
@@ -98,19 +99,21 @@ export class Panel {
     setText(this.stats.arrived, text.state.number(run.position));
   }
 
-  showAnswer(run) {
+  // What a wrong receiver answers is what it says, and not what is so.
+  showAnswer(run, wrong) {
     const { last, reason } = run;
     setText(this.number, last ? String(last.answer) : '');
     setText(this.answerName, last ? (text.answer.names[last.answer] ?? '') : text.answer.none);
     this.answerName.dataset.accepted = last ? last.answer >= 14 : '';
     const why = last ? reasonWords(last.answer, reason) : '';
-    setText(this.reason, last?.discarded ? `${why} (${text.answer.discarded})` : why);
+    const said = wrong && why ? text.wrong.says(why) : why;
+    setText(this.reason, last?.discarded ? `${said} (${text.answer.discarded})` : said);
     this.reason.title = reason ? text.reasonNumber(reason.cause) : '';
   }
 
-  showSeen(run, expected) {
+  showSeen(run, file) {
     const { transfer } = run.receiver;
-    const total = transfer.state === 'idle' ? (expected[0]?.total ?? 0) : transfer.total;
+    const total = transfer.state === 'idle' ? file.total : transfer.total;
     const map = run.receiver.bytes('seen');
     const bits = Math.min(total, map.length * 8);
     const few = [];
@@ -124,13 +127,13 @@ export class Panel {
     drawBits(this.seen, (k) => isMarked(map, k), bits, this.seen.parentElement.clientWidth);
   }
 
-  showGrid(memory, run, expected, ended) {
+  showGrid(memory, run, file, ended) {
     const { part, canvas, size, legend, grid } = this.grids[memory];
     const length = run.receiver.bytes(memory).length;
     part.hidden = length === 0;
     if (length === 0) return;
-    const status = cells(run, expected, memory, ended);
-    grid.draw(status, status.length > MOST_LABELS ? NO_LABELS : labelsOf(expected, memory));
+    const status = cells(run, file, memory, ended);
+    grid.draw(status, status.length > MOST_LABELS ? NO_LABELS : labelsOf(file, memory));
     const counts = countCells(status).flatMap((count, k) => (count > 0 ? [[STATUS_NAMES[k], count]] : []));
     setText(size, text.grid.size(status.length, memory === 'flash' ? length / SECTOR : 0));
     canvas.setAttribute('aria-label', text.grid.label(text.grid.title[memory], counts.map(([name, k]) => text.grid.count(text.grid.status[name], k)).join(', ')));

@@ -268,8 +268,8 @@ export class TransferView {
     const { session } = this;
     if (byId('view-transfer').hidden) return;
     setText(byId('position'), text.controls.position(this.position, this.length));
-    this.panels.proved.show(session.proved, session.expected, this.length);
-    if (session.wrong) this.panels.wrong.show(session.wrong, session.expected, this.length);
+    this.panels.proved.show(session, session.proved);
+    if (session.wrong) this.panels.wrong.show(session, session.wrong);
     const difference = session.firstDifference();
     setText(byId('wrong-difference'), difference < 0 ? text.wrong.noDifference : text.wrong.firstDifference(difference + 1));
     this.showLog();
