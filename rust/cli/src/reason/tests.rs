@@ -188,7 +188,7 @@ fn no_a_partition() {
 #[test]
 fn no_silent_default() {
     let known: HashSet<u32> = rows().map(|row| row.0).chain([806]).collect();
-    assert_eq!(known.len(), 61);
+    assert_eq!(known.len(), 62);
     for cause in (0..3000).chain([u32::MAX]) {
         let told = words(cause, 3, 9, 1, 0, &NO_MARKS);
         assert_eq!(
