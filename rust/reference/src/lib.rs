@@ -1,13 +1,14 @@
 //! The update receiver, written from the papers alone so that it can be
 //! compared with another implementation: UF2 arrivals here, lines of Universal
-//! Hex in [`hex`]. Around them stand files to be made ([`make`], [`join`]), the
-//! tags of a block ([`tags`]), stored settings ([`store`]) and the reasons of
-//! answers ([`why`]).
+//! Hex in [`hex`]. Around them stand files to be made ([`make`], [`join`]) or
+//! checked before they are sent ([`check`]), the tags of a block ([`tags`]),
+//! stored settings ([`store`]) and the reasons of answers ([`why`]).
 //!
 //! Each arrival gets one of the answers of document 01 and of the requests in
 //! 02. Every function is total: no input makes it panic, and a refusal leaves
 //! what was lent as is.
 
+pub mod check;
 pub mod figures;
 pub mod hex;
 pub mod join;
@@ -21,6 +22,8 @@ pub mod why;
 
 #[cfg(test)]
 mod tests;
+
+use std::ops::Range;
 
 pub use place::{
     ask_place, place_of, ram_accepts, settings_good, Arch, Entry, Link, Settings, ABSOLUTE, ARM_NS,
@@ -71,8 +74,8 @@ const FLAG_FAMILY: u32 = 0x2000;
 const FLAG_MD5: u32 = 0x4000;
 
 /// Where a block's data lies, and in the data the region with its digest.
-const DATA_AT: std::ops::Range<usize> = 32..508;
-const REGION_AT: std::ops::Range<usize> = 452..476;
+const DATA_AT: Range<usize> = 32..508;
+const REGION_AT: Range<usize> = 452..476;
 
 /// What a transfer goes to.
 #[derive(Clone, Copy, PartialEq, Eq, Debug)]
@@ -158,6 +161,24 @@ struct Lent<'a> {
     sectors: &'a [u8],
     main: &'a [u8],
     xip: &'a [u8],
+}
+
+/// How long the memories are that a board stores in; a RAM that it lacks has
+/// length 0.
+#[derive(Clone, Copy)]
+struct Lengths {
+    flash: usize,
+    main: usize,
+    xip: usize,
+}
+
+/// A block that rows 4 to 11 let pass.
+struct Screened<'a> {
+    block: Block<'a>,
+    kind: Kind,
+    place: Place,
+    /// Where a page goes in its place; a comment goes nowhere.
+    offset: Option<usize>,
 }
 
 /// What becomes of a block's payload.
@@ -261,25 +282,12 @@ fn plan<'a>(s: &Settings, t: Transfer, arrival: &'a [u8], lent: Lent) -> Result<
     if !state_good(t) {
         return Err(BAD_STATE);
     }
-    let block = read_block(arrival).ok_or(NOT_BLOCK)?;
-    check_flags(block.flags)?;
-    let (kind, place, offset) = if block.is_comment() {
-        let kind = comment_kind(&block, t, lent);
-        let place = place_in(kind, s, block.family, lent)?;
-        check_numbers(&block, place)?;
-        (kind, place, None)
-    } else if let Some(kind) = kind_at(block.address, lent) {
-        let place = place_in(kind, s, block.family, lent)?;
-        check_payload(&block)?;
-        check_numbers(&block, place)?;
-        (kind, place, Some(check_address(&block, kind, place)?))
-    } else {
-        // "For an address in no window check 8 is flash's, and 11 comes before
-        // 10": 9 keeps its place after 8, and nothing gets past 11.
-        place_in(Kind::Flash, s, block.family, lent)?;
-        check_payload(&block)?;
-        return Err(BAD_ADDRESS);
-    };
+    let Screened {
+        block,
+        kind,
+        place,
+        offset,
+    } = screen(s, t, arrival, lent.lengths())?;
     if matches!(t, Transfer::Done { .. }) {
         return Err(FINISHED);
     }
@@ -305,22 +313,68 @@ fn plan<'a>(s: &Settings, t: Transfer, arrival: &'a [u8], lent: Lent) -> Result<
     })
 }
 
+/// Rows 4 to 11 in order, as far as they apply.
+fn screen<'a>(
+    s: &Settings,
+    t: Transfer,
+    arrival: &'a Arrival,
+    lengths: Lengths,
+) -> Result<Screened<'a>, u8> {
+    let block = read_block(arrival).ok_or(NOT_BLOCK)?;
+    check_flags(block.flags)?;
+    let (kind, place, offset) = if block.is_comment() {
+        let kind = comment_kind(&block, t, lengths);
+        let place = place_in(kind, s, block.family, lengths)?;
+        check_numbers(&block, place)?;
+        (kind, place, None)
+    } else if let Some(kind) = kind_at(block.address, lengths) {
+        let place = place_in(kind, s, block.family, lengths)?;
+        check_payload(&block)?;
+        check_numbers(&block, place)?;
+        (kind, place, Some(check_address(&block, kind, place)?))
+    } else {
+        // "For an address in no window check 8 is flash's, and 11 comes before
+        // 10": 9 keeps its place after 8, and nothing gets past 11.
+        place_in(Kind::Flash, s, block.family, lengths)?;
+        check_payload(&block)?;
+        return Err(BAD_ADDRESS);
+    };
+    Ok(Screened {
+        block,
+        kind,
+        place,
+        offset,
+    })
+}
+
 impl Lent<'_> {
-    /// A RAM buffer has its window's length, or none.
-    fn lengths_good(self) -> bool {
-        flash_len_good(self.flash.len())
-            && self.seen.len() == SEEN_LEN
-            && self.sectors.len() == SECTORS_LEN
-            && matches!(self.main.len(), 0 | MAIN_LEN)
-            && matches!(self.xip.len(), 0 | XIP_LEN)
+    fn lengths(self) -> Lengths {
+        Lengths {
+            flash: self.flash.len(),
+            main: self.main.len(),
+            xip: self.xip.len(),
+        }
     }
 
-    /// Whether the kind's buffer is there at all; flash always is.
+    fn lengths_good(self) -> bool {
+        self.lengths().good() && self.seen.len() == SEEN_LEN && self.sectors.len() == SECTORS_LEN
+    }
+}
+
+impl Lengths {
+    /// A RAM has its window's length, or none.
+    fn good(self) -> bool {
+        flash_len_good(self.flash)
+            && matches!(self.main, 0 | MAIN_LEN)
+            && matches!(self.xip, 0 | XIP_LEN)
+    }
+
+    /// Whether the kind's memory is there at all; flash always is.
     fn has(self, kind: Kind) -> bool {
         match kind {
             Kind::Flash => true,
-            Kind::MainRam => !self.main.is_empty(),
-            Kind::XipRam => !self.xip.is_empty(),
+            Kind::MainRam => self.main != 0,
+            Kind::XipRam => self.xip != 0,
         }
     }
 }
@@ -429,12 +483,12 @@ fn check_flags(flags: u32) -> Result<(), u8> {
 
 /// The kind of a data block, unless its address is in no window. A RAM window
 /// is one only where its buffer is lent.
-fn kind_at(address: u32, lent: Lent) -> Option<Kind> {
+fn kind_at(address: u32, lengths: Lengths) -> Option<Kind> {
     let kinds = [Kind::Flash, Kind::MainRam, Kind::XipRam];
     kinds.into_iter().find(|&kind| {
         let (start, len) = window_of(kind);
         let offset = address.checked_sub(start);
-        lent.has(kind) && offset.is_some_and(|offset| (offset as usize) < len)
+        lengths.has(kind) && offset.is_some_and(|offset| (offset as usize) < len)
     })
 }
 
@@ -450,14 +504,14 @@ fn window_of(kind: Kind) -> (u32, usize) {
 /// "A comment with the running transfer's family and total takes its kind,
 /// unless that kind's buffer is empty; any other is flash", that of a Done
 /// transfer too.
-fn comment_kind(block: &Block, t: Transfer, lent: Lent) -> Kind {
+fn comment_kind(block: &Block, t: Transfer, lengths: Lengths) -> Kind {
     match t {
         Transfer::Running {
             family,
             total,
             kind,
             ..
-        } if (family, total) == (block.family, block.total) && lent.has(kind) => kind,
+        } if (family, total) == (block.family, block.total) && lengths.has(kind) => kind,
         _ => Kind::Flash,
     }
 }
@@ -470,9 +524,9 @@ struct Place {
 }
 
 /// Row 8.
-fn place_in(kind: Kind, s: &Settings, family: u32, lent: Lent) -> Result<Place, u8> {
+fn place_in(kind: Kind, s: &Settings, family: u32, lengths: Lengths) -> Result<Place, u8> {
     let place = match kind {
-        Kind::Flash => place_of(s, lent.flash.len(), family),
+        Kind::Flash => place_of(s, lengths.flash, family),
         Kind::MainRam | Kind::XipRam => ram_accepts(s, family).then(|| (0, window_of(kind).1)),
     };
     let (start, len) = place.ok_or(NO_PLACE)?;
@@ -528,26 +582,29 @@ fn counted(t: Transfer, family: u32, total: u32, kind: Kind) -> Option<u32> {
 }
 
 /// Whether flash has what the block's region says, for a data block with that
-/// offset in its place: the region has to be whole sectors, not empty, within
-/// the place and around the block.
+/// offset in its place.
 fn is_kept(block: &Block, place: Place, offset: usize, flash: &[u8]) -> bool {
     let Some(region) = block.region() else {
         return false;
     };
+    region_counts(&region, place, offset)
+        .is_some_and(|range| md5::md5(&flash[range]) == region.digest)
+}
+
+/// Where in flash the region lies, if it counts for a data block with that
+/// offset in its place: it has to be whole sectors, not empty, within the place
+/// and around the block.
+fn region_counts(region: &Region, place: Place, offset: usize) -> Option<Range<usize>> {
     // Like a block's address, the region's start counts from the window's. A
     // place begins with a sector, so that sectors of the one are sectors of
     // the other.
-    let Some(start) = region.start.checked_sub(WINDOW) else {
-        return false;
-    };
-    let (start, len) = (start as usize, region.len as usize);
+    let start = region.start.checked_sub(WINDOW)? as usize;
+    let len = region.len as usize;
     let whole = start.is_multiple_of(SECTOR_LEN) && len.is_multiple_of(SECTOR_LEN);
-    let Some(end) = start.checked_add(len).filter(|&end| end <= place.len) else {
-        return false;
-    };
+    let end = start.checked_add(len).filter(|&end| end <= place.len)?;
     // A region around the block isn't empty.
     let around = start <= offset && offset + PAYLOAD_LEN <= end;
-    whole && around && md5::md5(&flash[place.start + start..place.start + end]) == region.digest
+    (whole && around).then_some(place.start + start..place.start + end)
 }
 
 /// Erases the sector the first time that it is touched.

@@ -239,7 +239,7 @@ fn comment_kind(t: Transfer, block: &Block, lent: Lent) -> Kind {
     else {
         return Kind::Flash;
     };
-    if family == block.family && total == block.total && lent.has(kind) {
+    if family == block.family && total == block.total && lent.lengths().has(kind) {
         kind
     } else {
         Kind::Flash
@@ -249,7 +249,7 @@ fn comment_kind(t: Transfer, block: &Block, lent: Lent) -> Kind {
 /// A page in a window meets 8, 9, 10 and 11 in that order; one in no window 8,
 /// which is flash's, then 9, 11 and 10.
 fn page(s: &Settings, block: &Block, lent: Lent) -> Result<(Kind, Place), Reason> {
-    let window = kind_at(block.address, lent);
+    let window = kind_at(block.address, lent.lengths());
     let kind = window.unwrap_or(Kind::Flash);
     let place = row_8(s, kind, block.family, lent.flash.len())?;
     row_9(block)?;

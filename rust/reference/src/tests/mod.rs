@@ -1,6 +1,7 @@
 //! Common ground of the unit tests: settings, blocks and lent buffers.
 
 mod arrival;
+mod check;
 mod comments;
 mod figures;
 mod hex;
