@@ -34,7 +34,7 @@ impl Report {
     /// Whether the answer counts sum to the records, and the discards don't
     /// pass these. 02 asks nothing of `marked` and `missing`, which the next
     /// trace replaces.
-    fn agrees(&self) -> bool {
+    pub(crate) fn agrees(&self) -> bool {
         // No answer has the numbers 0 and 6, so that their places hold no
         // answer count: they are left out here, and stay as they came.
         let counts = (1..).zip(&self.answers[1..]);

@@ -14,6 +14,7 @@ pub mod hex;
 pub mod join;
 pub mod make;
 pub mod md5;
+pub mod parts;
 mod place;
 pub mod replay;
 pub mod store;

@@ -9,6 +9,7 @@ mod hex_file;
 mod kept;
 mod list;
 mod made;
+mod parts;
 mod place;
 mod ram;
 mod replay;
