@@ -2,7 +2,8 @@
 //! compared with another implementation: UF2 arrivals here, lines of Universal
 //! Hex in [`hex`]. Around them stand files to be made ([`make`], [`join`]) or
 //! checked before they are sent ([`check`]), the tags of a block ([`tags`]),
-//! stored settings ([`store`]) and the reasons of answers ([`why`]).
+//! stored settings ([`store`]), the reasons of answers ([`why`]), and whether a
+//! page stands already ([`stands`]).
 //!
 //! Each arrival gets one of the answers of document 01 and of the requests in
 //! 02. Every function is total: no input makes it panic, and a refusal leaves
@@ -17,6 +18,7 @@ pub mod md5;
 pub mod parts;
 mod place;
 pub mod replay;
+pub mod stands;
 pub mod store;
 pub mod tags;
 pub mod why;

@@ -13,6 +13,7 @@ mod parts;
 mod place;
 mod ram;
 mod replay;
+mod stands;
 mod storing;
 mod why;
 
