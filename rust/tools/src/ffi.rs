@@ -1,4 +1,4 @@
-//! The functions of libtoolsapi.a and libtraceapi.a (include/uf2_tools.h). A slice is a pointer and then a length.
+//! The functions of libtoolsapi.a and libtraceapi.a (include/uf2_tools.h), and of libpartapi.a (include/uf2_parts.h). A slice is a pointer and then a length.
 
 /// A length as the library takes it (`uf2_len`): 64 bits on every machine.
 pub type Len = u64;
@@ -83,4 +83,14 @@ extern "C" {
         index: *mut u8,
         index_len: Len,
     ) -> u32;
+
+    pub fn uf2_part_one(
+        report: *const u8,
+        report_len: Len,
+        stop: u32,
+        part: *mut u8,
+        part_len: Len,
+    ) -> u32;
+
+    pub fn uf2_part_merge(part: *mut u8, part_len: Len, later: *const u8, later_len: Len) -> u32;
 }

@@ -2,9 +2,9 @@
 //!
 //! [`make`] writes the UF2 file of an image; a tool that streams asks [`check`] and writes with [`write_block`]. [`md5`] is the digest of
 //! RFC 1321. [`join`] writes one Universal Hex file from two plain Intel Hex files. [`trace::replay`] replays what a site's host sent, and
-//! [`report::add`] adds such a trace to exact figures over many. [`why::explain`] says why an arrival is answered as it is, and [`why::explain_place`]
+//! [`report::add`] adds such a trace to exact figures over many; [`part::Part`] is such figures made in pieces (include/uf2_parts.h). [`why::explain`] says why an arrival is answered as it is, and [`why::explain_place`]
 //! why a family has a place or none (include/uf2_why.h). Nothing has to be checked before a call, nothing is allocated or kept between calls. It links
-//! `libtoolsapi.a`, `libtraceapi.a` and `libwhyapi.a` in `target/staticlib`, which `rt staticlib` writes: code for x86-64 Linux.
+//! `libtoolsapi.a`, `libtraceapi.a`, `libpartapi.a` and `libwhyapi.a` in `target/staticlib`, which `rt staticlib` writes: code for x86-64 Linux.
 //!
 //! ```
 //! let image = [7; 512];
@@ -23,6 +23,7 @@
 
 mod ffi;
 mod join;
+pub mod part;
 pub mod report;
 pub mod trace;
 pub mod why;
