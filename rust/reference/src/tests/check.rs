@@ -384,6 +384,14 @@ fn regions_that_count() {
     ] {
         assert_eq!(found(one, start, len), Found::Valid, "{start:x} {len:x}");
     }
+    // The first of several is told.
+    let bytes = guarding(one, FLASH, 0x2000);
+    let mut last = guarding(at(FLASH + 0x200, 2, 3), FLASH, 0x1000);
+    let two = [&bytes[..1024], &last[512..1024]].concat();
+    assert_eq!(check(&s, &two, LEN, 0, 0), Found::Guarded { piece: 1 });
+    last.copy_within(512..1024, 0);
+    let turned = [&last[..512], &bytes[..1024]].concat();
+    assert_eq!(check(&s, &turned, LEN, 0, 0), Found::Guarded { piece: 0 });
     // Of a comment it says nothing.
     let comment = Fields {
         flags: 0x2001,
