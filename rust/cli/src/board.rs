@@ -51,6 +51,7 @@ const SWITCHES: [&str; 5] = [
 const FLASH_BYTES: usize = 32_768;
 
 /// A board and its memory.
+#[derive(Clone)]
 pub struct Board {
     /// The settings.
     pub settings: Settings,
@@ -225,6 +226,11 @@ impl Board {
             xip: &self.xip,
         };
         explain(&self.settings.bytes(), &transfer.bytes(), arrival, lent).reason
+    }
+
+    /// Whether nobody said how large the flash is. An answer may then be another than the site's though the site was right.
+    pub fn is_guessed(&self) -> bool {
+        self.length != Length::Said
     }
 
     /// A line about the board.

@@ -19,11 +19,12 @@ vantorel figures TRACE.. [BOARD] [--json]
 
 Replays traces, each from a fresh transfer and into a fresh board, and counts over all of them: the records replayed, those with each answer of
 ours, and the running transfers discarded; and for the end of the last trace the blocks that are marked and the first that is missing. A trace
-that stops, at a record that is broken (\"bad\") or at the first whose answer is another than ours (\"differs\"), is counted up to there.
+that stops, at a record that is broken (\"bad\") or at the first whose answer is another than ours (\"differs\"), is counted up to there; where no
+--flash is said, a difference is \"undecided\".
 
   --json  the same for scripts
 
-Exit status 0 where every trace was replayed to its end, 1 where one was not, 2 for a wrong command line or a file that cannot be read.
+Exit status 0 where every trace has records and was replayed to its end, 1 where one was not, 2 for a wrong command line or a file that cannot be read.
 
     vantorel figures monday.trace tuesday.trace --flash 2M
 
@@ -48,8 +49,12 @@ fn replayed(
         }
         let settings = board.settings.clone();
         let stop = add(report, &settings, trace, &mut board.buffers());
-        let name = files::short(name);
-        played.push(Played { name, stop });
+        played.push(Played {
+            name: files::short(name),
+            stop,
+            empty: trace.is_empty(),
+            guessed: board.is_guessed(),
+        });
         progress.done(played.len() as u64);
     }
     Ok((played, board))

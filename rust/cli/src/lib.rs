@@ -13,6 +13,7 @@ mod join;
 mod json;
 mod load;
 mod make;
+mod missing;
 mod names;
 mod number;
 mod out;

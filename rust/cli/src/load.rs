@@ -1,6 +1,5 @@
 //! `vantorel load`: a file's blocks played into a board.
 
-mod missing;
 mod order;
 mod play;
 mod tell;
@@ -9,7 +8,7 @@ use crate::args::{Args, Opt};
 use crate::block::{need, pieces};
 use crate::board::{Board, Options};
 use crate::out::Out;
-use crate::{files, number, state, End, Outcome, Trouble};
+use crate::{files, missing, number, state, End, Outcome, Trouble};
 use proved::{Kind, Transfer};
 
 /// Its page of help.
@@ -99,7 +98,8 @@ pub fn run(args: &Args, out: &mut Out) -> Outcome {
     let sent = arrivals(args, &file)?;
     let mut board = options.board(need(pieces(&file)))?;
     let played = play::play(&sent, &mut board);
-    let lost = missing::missing(&file, &mut board, played.transfer);
+    let lost = missing::missing(pieces(&file), &mut board, played.transfer);
+    let helps = play::helps(pieces(&file), &mut board.clone(), played.transfer);
     if let Some(image) = image {
         files::write(image, memory(&board, played.transfer))?;
     }
@@ -113,6 +113,7 @@ pub fn run(args: &Args, out: &mut Out) -> Outcome {
         board: &board,
         played: &played,
         lost: &lost,
+        helps,
         image,
         record,
         each: args.flag("-v"),

@@ -4,11 +4,12 @@ use crate::args::{Args, Opt};
 use crate::block::need;
 use crate::board::{Board, Options};
 use crate::json::Json;
+use crate::missing::{self, missing, Missing};
 use crate::number::count;
 use crate::out::Out;
 use crate::progress::Progress;
 use crate::{files, names, state, End, Outcome};
-use proved::Answer;
+use proved::{Answer, Transfer};
 use tools::trace::{replay, Replayed, Stop, RECORD_BYTES};
 
 /// Its page of help.
@@ -17,11 +18,12 @@ vantorel replay TRACE [BOARD] [--json]
 
 Replays a trace into a board and says where it stops: at a record that is broken (\"bad\"), or at the first whose answer is another than ours
 (\"differs\"), with both answers by name. A trace is records of 513 bytes: a byte with the answer that the site got, then the arrival of 512 bytes;
-`vantorel load --record` writes one. The board must be the site's board.
+`vantorel load --record` writes one. The board must be the site's board: where no --flash is said, a difference may come of a wrong guess, and is
+\"undecided\". Where the update was never complete, the last line says so.
 
   --json  the same for scripts
 
-Exit status 0 where it stops nowhere (\"none\"), 1 where it stops, 2 for a wrong command line or a file that cannot be read.
+Exit status 0 where it stops nowhere (\"none\"), 1 where it stops or is empty, 2 for a wrong command line or a file that cannot be read.
 
     vantorel replay site.trace --flash 2M
 
@@ -106,8 +108,13 @@ pub fn run(args: &Args, out: &mut Out) -> Outcome {
     let end = replay(&settings, &trace, &mut board.buffers());
     drop(progress);
     let stop = Stopped::new(&mut board, &end, &trace);
+    let lost = match stop {
+        Stopped::None => missing(arrivals(&trace), &mut board, end.transfer),
+        _ => Vec::new(),
+    };
+    let verdict = stop.words(end.transfer, &lost);
     if args.flag("--json") {
-        out.line(json(name, &trace, &board, &end, &stop));
+        out.line(json(name, &trace, &board, &end, &stop, &lost, verdict));
     } else {
         out.line(format_args!(
             "{}: {}",
@@ -116,10 +123,13 @@ pub fn run(args: &Args, out: &mut Out) -> Outcome {
         ));
         out.line(board.line());
         out.line(format_args!("state: {}", state::words(end.transfer)));
-        out.line(stop.words());
+        for line in missing::lines(&lost, "trace") {
+            out.line(line);
+        }
+        out.line(verdict);
     }
-    Ok(match end.stop {
-        Stop::None => End::Whole,
+    Ok(match stop {
+        Stopped::None => End::Whole,
         _ => End::Short,
     })
 }
@@ -127,6 +137,8 @@ pub fn run(args: &Args, out: &mut Out) -> Outcome {
 /// Where a replay stopped, with what is told of it.
 enum Stopped {
     None,
+    /// There is nothing to replay.
+    Empty,
     Bad {
         index: usize,
         fault: String,
@@ -135,12 +147,15 @@ enum Stopped {
         index: usize,
         recorded: Recorded,
         ours: proved::Outcome,
+        /// The flash's length, where nobody said it.
+        guessed: Option<usize>,
     },
 }
 
 impl Stopped {
     fn new(board: &mut Board, end: &Replayed, trace: &[u8]) -> Stopped {
         match end.stop {
+            Stop::None if trace.is_empty() => Stopped::Empty,
             Stop::None => Stopped::None,
             Stop::Bad(index) => Stopped::Bad {
                 index,
@@ -152,50 +167,87 @@ impl Stopped {
                     index,
                     recorded: Recorded::read(record.first().copied().unwrap_or_default()),
                     ours: ours(board, end, record),
+                    guessed: board.is_guessed().then_some(board.flash.len()),
                 }
             }
         }
     }
 
-    fn words(&self) -> String {
+    /// The last line.
+    fn words(&self, transfer: Transfer, lost: &[Missing]) -> String {
         match self {
-            Stopped::None => "none: every record was replayed, and every answer is ours.".into(),
+            Stopped::None => {
+                let end = match transfer {
+                    Transfer::Done { .. } => String::new(),
+                    Transfer::Idle => "; but no block was taken".into(),
+                    Transfer::Running { total, .. } => format!(
+                        "; but the update was never complete: {}",
+                        missing::lacking(lost, total)
+                    ),
+                };
+                format!("none: every record was replayed, and every answer is ours{end}.")
+            }
+            Stopped::Empty => "empty: the trace has no records.".into(),
             Stopped::Bad { index, fault } => format!("bad: record {index}: {fault}."),
             Stopped::Differs {
                 index,
                 recorded,
                 ours,
-            } => format!(
-                "differs: record {index}: the site got {}; ours is {}.",
-                recorded.words(),
-                names::outcome(*ours)
-            ),
+                guessed,
+            } => {
+                let (recorded, ours) = (recorded.words(), names::outcome(*ours));
+                match guessed {
+                    None => format!("differs: record {index}: the site got {recorded}; ours is {ours}."),
+                    Some(len) => format!("undecided: record {index}: the site got {recorded}; with a flash of {len} bytes, which nobody said, ours is {ours}. Say the site's flash by --flash: only then is a difference the site's."),
+                }
+            }
+        }
+    }
+
+    /// The word for scripts.
+    fn word(&self) -> &'static str {
+        match self {
+            Stopped::None => "none",
+            Stopped::Empty => "empty",
+            Stopped::Bad { .. } => "bad",
+            Stopped::Differs { guessed: None, .. } => "differs",
+            Stopped::Differs { .. } => "undecided",
         }
     }
 }
 
-fn json(name: &str, trace: &[u8], board: &Board, end: &Replayed, stop: &Stopped) -> Json {
-    let (word, index, recorded, ours) = match stop {
-        Stopped::None => ("none", None, None, None),
-        Stopped::Bad { index, .. } => ("bad", Some(*index), None, None),
+fn json(
+    name: &str,
+    trace: &[u8],
+    board: &Board,
+    end: &Replayed,
+    stop: &Stopped,
+    lost: &[Missing],
+    verdict: String,
+) -> Json {
+    let (index, recorded, ours) = match stop {
+        Stopped::None | Stopped::Empty => (None, None, None),
+        Stopped::Bad { index, .. } => (Some(*index), None, None),
         Stopped::Differs {
             index,
             recorded,
             ours,
+            ..
         } => {
             let ours = names::outcome_json(*ours);
-            ("differs", Some(*index), Some(recorded.json()), Some(ours))
+            (Some(*index), Some(recorded.json()), Some(ours))
         }
     };
     Json::Object(vec![
         ("trace", name.into()),
         ("records", trace.len().div_ceil(RECORD_BYTES).into()),
         ("board", board.json()),
-        ("stop", word.into()),
+        ("stop", stop.word().into()),
         ("index", index.into()),
         ("recorded", recorded.into()),
         ("ours", ours.into()),
         ("transfer", state::json(end.transfer)),
-        ("verdict", stop.words().into()),
+        ("missing", Json::list(lost.iter().map(Missing::json))),
+        ("verdict", verdict.into()),
     ])
 }

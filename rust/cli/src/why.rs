@@ -6,6 +6,7 @@ use crate::args::{Args, Opt};
 use crate::block::{need, pieces, Block};
 use crate::board::{Board, Options};
 use crate::json::Json;
+use crate::missing::{self, missing, Missing};
 use crate::number::{self, count};
 use crate::out::Out;
 use crate::progress::Progress;
@@ -26,8 +27,10 @@ the family out. A file that is named place is ./place.
   -v         a line for each arrival, though the next has the same reason
   --json     the same for scripts
 
-Exit status 0 where every arrival that it tells of was taken, or the family has a place; 1 where one was not, or it has none; 2 for a wrong
-command line or a file that cannot be read.
+Where the transfer still runs at the end, it names the blocks that are missing.
+
+Exit status 0 where every arrival that it tells of was taken and no transfer was left running, or the family has a place; 1 where not; 2 for a
+wrong command line or a file that cannot be read.
 
     vantorel why blink.uf2 --flash 4096
     vantorel why place riscv --settings board.store
@@ -165,6 +168,7 @@ struct Looked<'a> {
     asked: Option<u32>,
     told: &'a [Told],
     transfer: Transfer,
+    lost: &'a [Missing],
     each: bool,
 }
 
@@ -182,8 +186,26 @@ impl Looked<'_> {
         }
     }
 
-    fn verdict(&self) -> String {
-        verdict(self.refused() as u64, self.all() as u64, self.asked)
+    /// Whether every arrival that it tells of was taken, and no transfer is left unfinished.
+    fn whole(&self) -> bool {
+        let running = matches!(self.transfer, Transfer::Running { .. });
+        self.refused() == 0 && self.all() > 0 && !running
+    }
+
+    /// The last sentences: how many arrivals were not taken, and which blocks are missing.
+    fn verdict(&self) -> Vec<String> {
+        let mut lines = vec![verdict(
+            self.refused() as u64,
+            self.all() as u64,
+            self.asked,
+        )];
+        if let Transfer::Running { total, .. } = self.transfer {
+            lines.push(format!(
+                "NOT COMPLETE: {}. The display was never told that it is complete.",
+                missing::lacking(self.lost, total)
+            ));
+        }
+        lines
     }
 
     fn words(&self, out: &mut Out) {
@@ -192,7 +214,12 @@ impl Looked<'_> {
             out.line(line);
         }
         out.line(format_args!("state: {}", state::words(self.transfer)));
-        out.line(self.verdict());
+        for line in missing::lines(self.lost, "file") {
+            out.line(line);
+        }
+        for line in self.verdict() {
+            out.line(line);
+        }
     }
 
     fn json(&self) -> Json {
@@ -206,7 +233,8 @@ impl Looked<'_> {
             ("arrivals", Json::list(told)),
             ("refused", self.refused().into()),
             ("transfer", state::json(self.transfer)),
-            ("verdict", self.verdict().into()),
+            ("missing", Json::list(self.lost.iter().map(Missing::json))),
+            ("verdict", self.verdict().join(" ").into()),
         ])
     }
 }
@@ -217,6 +245,7 @@ fn arrivals(args: &Args, options: &Options, name: &str, out: &mut Out) -> crate:
     let asked = asked(args, &file)?;
     let mut board = options.board(need(pieces(&file)))?;
     let (told, transfer) = play(&file, asked, &mut board);
+    let lost = missing(pieces(&file), &mut board, transfer);
     let looked = Looked {
         name,
         pieces: pieces(&file).len(),
@@ -224,6 +253,7 @@ fn arrivals(args: &Args, options: &Options, name: &str, out: &mut Out) -> crate:
         asked,
         told: &told,
         transfer,
+        lost: &lost,
         each: args.flag("-v"),
     };
     if args.flag("--json") {
@@ -231,7 +261,7 @@ fn arrivals(args: &Args, options: &Options, name: &str, out: &mut Out) -> crate:
     } else {
         looked.words(out);
     }
-    Ok(if looked.refused() == 0 && looked.all() > 0 {
+    Ok(if looked.whole() {
         End::Whole
     } else {
         End::Short

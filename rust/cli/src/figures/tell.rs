@@ -14,15 +14,23 @@ pub struct Played {
     pub name: String,
     /// Where it stopped, or why it was not replayed.
     pub stop: Result<Stop, FiguresRefusal>,
+    /// Whether it has no records.
+    pub empty: bool,
+    /// Whether nobody said how large the flash is.
+    pub guessed: bool,
 }
 
 impl Played {
     fn words(&self) -> String {
         let name = &self.name;
         match self.stop {
+            Ok(Stop::None) if self.empty => format!("{name}: empty, it has no records"),
             Ok(Stop::None) => format!("{name}: none, every record was replayed"),
             Ok(Stop::Bad(k)) => {
                 format!("{name}: bad at record {k}; the records before it are in the figures")
+            }
+            Ok(Stop::Differs(k)) if self.guessed => {
+                format!("{name}: undecided at record {k}, where our answer is another, since nobody said the flash: say it by --flash; the records before it are in the figures")
             }
             Ok(Stop::Differs(k)) => {
                 format!("{name}: differs at record {k}; the records before it are in the figures")
@@ -37,8 +45,10 @@ impl Played {
 
     fn json(&self) -> Json {
         let (word, index) = match self.stop {
+            Ok(Stop::None) if self.empty => ("empty", None),
             Ok(Stop::None) => ("none", None),
             Ok(Stop::Bad(k)) => ("bad", Some(k)),
+            Ok(Stop::Differs(k)) if self.guessed => ("undecided", Some(k)),
             Ok(Stop::Differs(k)) => ("differs", Some(k)),
             Err(_) => ("refused", None),
         };
@@ -107,7 +117,8 @@ pub fn json(figures: &Report, traces: &[Played]) -> Json {
 
 /// Whether every trace was replayed to its end.
 pub fn whole(traces: &[Played]) -> bool {
-    traces.iter().all(|trace| trace.stop == Ok(Stop::None))
+    let whole = |trace: &Played| trace.stop == Ok(Stop::None) && !trace.empty;
+    traces.iter().all(whole)
 }
 
 #[cfg(test)]
@@ -138,6 +149,8 @@ mod tests {
         let played = played.map(|(name, stop)| Played {
             name: name.to_string(),
             stop,
+            empty: false,
+            guessed: false,
         });
         (figures, played.collect())
     }

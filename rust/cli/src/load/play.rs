@@ -14,6 +14,8 @@ pub struct Played {
     pub transfer: Transfer,
     /// The outcome of each arrival.
     pub outcomes: Vec<Outcome>,
+    /// The sectors that transfers had erased that were discarded, as a map.
+    pub discarded: Vec<u8>,
     /// Why the first arrival with each answer by which a block is refused has it, by the answer's number.
     pub refusals: BTreeMap<u8, Refusal>,
 }
@@ -33,9 +35,12 @@ pub fn play(sent: &[&[u8]], board: &mut Board) -> Played {
     let mut transfer = Transfer::new();
     let mut outcomes = Vec::with_capacity(sent.len());
     let mut refusals = BTreeMap::new();
+    let mut discarded = vec![0; board.sectors.len()];
     let settings = board.settings.clone();
     let progress = Progress::start("load", sent.len() as u64);
     for (arrival, piece) in sent.iter().enumerate() {
+        // the first block of another file clears the map
+        let before = board.sectors.clone();
         let outcome = proved::take(&settings, &mut transfer, piece, &mut board.buffers());
         let number = outcome.answer.number();
         if number < Answer::Finished.number() {
@@ -46,14 +51,35 @@ pub fn play(sent: &[&[u8]], board: &mut Board) -> Played {
                 reason: board.reason(transfer, piece),
             });
         }
+        if outcome.discarded {
+            let erased = discarded.iter_mut().zip(&before);
+            erased.for_each(|(all, byte)| *all |= byte);
+        }
         outcomes.push(outcome);
         progress.done(outcomes.len() as u64);
     }
     Played {
         transfer,
         outcomes,
+        discarded,
         refusals,
     }
+}
+
+/// Whether a running transfer is completed where all pieces of the file are sent once more.
+pub fn helps<'a>(
+    pieces: impl Iterator<Item = &'a [u8]>,
+    board: &mut Board,
+    mut transfer: Transfer,
+) -> bool {
+    if !matches!(transfer, Transfer::Running { .. }) {
+        return false;
+    }
+    let settings = board.settings.clone();
+    for piece in pieces {
+        proved::take(&settings, &mut transfer, piece, &mut board.buffers());
+    }
+    matches!(transfer, Transfer::Done { .. })
 }
 
 /// The trace of the arrivals. A record holds a whole arrival: a short piece, which changes nothing, is left out.

@@ -1,18 +1,15 @@
 //! What came of a load, in words and for scripts.
 
-use super::missing::Missing;
 use super::play::Played;
 use crate::block::Block;
 use crate::board::Board;
 use crate::json::Json;
+use crate::missing::{self, Missing};
 use crate::number::{count, ranges};
 use crate::out::Out;
 use crate::{files, names, reason, state, why};
 use proved::{Answer, Kind, Outcome, Transfer, ARRIVAL_BYTES};
 use std::collections::BTreeMap;
-
-/// Missing blocks that get a line each; the others are counted.
-const LISTED: usize = 20;
 
 /// A load that was done.
 pub struct Load<'a> {
@@ -28,6 +25,8 @@ pub struct Load<'a> {
     pub played: &'a Played,
     /// What is missing.
     pub lost: &'a [Missing],
+    /// Whether sending the file again completes it.
+    pub helps: bool,
     /// The image that was written.
     pub image: Option<&'a str>,
     /// The trace that was written.
@@ -127,14 +126,8 @@ pub fn words(load: &Load, out: &mut Out) {
         state::words(load.played.transfer)
     ));
     sectors(load, out);
-    for block in load.lost.iter().take(LISTED) {
-        out.line(block.words());
-    }
-    if load.lost.len() > LISTED {
-        out.line(format_args!(
-            "missing: and {} more",
-            load.lost.len() - LISTED
-        ));
+    for line in missing::lines(load.lost, "file") {
+        out.line(line);
     }
     written(load, out);
     out.line(verdict(load));
@@ -155,17 +148,24 @@ fn answers(load: &Load, out: &mut Out) {
     }
 }
 
-fn sectors(load: &Load, out: &mut Out) {
-    if state::kind(load.played.transfer) != Kind::Flash {
-        return;
+/// The sectors of a map: how many, and which.
+fn erased(map: &[u8]) -> String {
+    match state::marked(map).count() {
+        0 => "none".into(),
+        n => format!("{n} ({})", ranges(state::marked(map))),
     }
-    let erased = state::marked(&load.board.sectors).count();
-    match erased {
-        0 => out.line("sectors erased: none"),
-        _ => out.line(format_args!(
-            "sectors erased: {erased} ({})",
-            ranges(state::marked(&load.board.sectors))
-        )),
+}
+
+fn sectors(load: &Load, out: &mut Out) {
+    let last = erased(&load.board.sectors);
+    if load.discards() > 0 {
+        let before = erased(&load.played.discarded);
+        out.line(format_args!("sectors erased by the last transfer: {last}"));
+        out.line(format_args!(
+            "sectors erased by transfers that were discarded: {before}"
+        ));
+    } else if state::kind(load.played.transfer) == Kind::Flash {
+        out.line(format_args!("sectors erased: {last}"));
     }
 }
 
@@ -208,8 +208,9 @@ fn verdict(load: &Load) -> String {
             Some(why) => format!("NOT COMPLETE: no block was taken ({why}). {NEVER}"),
         },
         Transfer::Running { total, .. } => format!(
-            "NOT COMPLETE: {}. {NEVER} Send the file again, whole.",
-            lacking(load.lost, total)
+            "NOT COMPLETE: {}. {NEVER} {}",
+            missing::lacking(load.lost, total),
+            remedy(load.lost, load.helps)
         ),
     }
 }
@@ -219,10 +220,12 @@ fn were(n: u64, thing: &str) -> String {
     format!("{} {verb}", count(n, thing))
 }
 
-fn lacking(lost: &[Missing], total: u32) -> String {
-    match lost {
-        [block] => format!("1 of {total} blocks is missing, block {}", block.number),
-        _ => format!("{} of {total} blocks are missing", lost.len()),
+/// What to do where blocks are missing.
+fn remedy(lost: &[Missing], helps: bool) -> String {
+    match missing::not_in_file(lost) {
+        Some(blocks) => format!("Get the file again: it does not have {blocks}."),
+        None if helps => "Send the file again, whole.".into(),
+        None => "To send the file again does not help: see above.".into(),
     }
 }
 
@@ -271,6 +274,10 @@ pub fn json(load: &Load) -> Json {
         ("completed", whole.into()),
         ("transfer", state::json(load.played.transfer)),
         ("sectors", Json::list(state::marked(&load.board.sectors))),
+        (
+            "sectors_discarded",
+            Json::list(state::marked(&load.played.discarded)),
+        ),
         ("missing", Json::list(load.lost.iter().map(Missing::json))),
         ("takes", takes(load)),
         ("verdict", verdict(load).into()),

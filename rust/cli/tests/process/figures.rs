@@ -57,7 +57,7 @@ fn traces_that_stop() {
         ran.out,
         format!(
             "{BOARD}\n\
-             other.trace: differs at record 5; the records before it are in the figures\n\
+             other.trace: undecided at record 5, where our answer is another, since nobody said the flash: say it by --flash; the records before it are in the figures\n\
              short.trace: bad at record 3; the records before it are in the figures\n\
              whole.trace: none, every record was replayed\n\
              3 traces, 72 records replayed\n\
@@ -67,6 +67,9 @@ fn traces_that_stop() {
              at the end of the last trace: 64 blocks marked\n"
         )
     );
+    let ran = folder.ends(1, "figures other.trace --flash 16K");
+    let told = "other.trace: differs at record 5; the records before it are in the figures\n";
+    assert!(ran.out.contains(told), "{}", ran.out);
     let ran = folder.ends(1, "figures whole.trace --flash 4096");
     assert!(
         ran.out.contains("\nwhole.trace: differs at record 0; ")
@@ -120,10 +123,10 @@ fn discards_and_small_traces() {
         ran.out
     );
     folder.put("empty", []);
-    let ran = folder.ends(0, "figures empty");
+    let ran = folder.ends(1, "figures empty");
     assert!(
         ran.out.ends_with(
-            "\n1 trace, 0 records replayed\nrunning transfers discarded: 0\nat the end of the last trace: 0 blocks marked\n"
+            "\nempty: empty, it has no records\n1 trace, 0 records replayed\nrunning transfers discarded: 0\nat the end of the last trace: 0 blocks marked\n"
         ),
         "{}",
         ran.out

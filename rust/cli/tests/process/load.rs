@@ -152,9 +152,14 @@ fn many_are_missing() {
     let folder = blink();
     let numbers: Vec<String> = (10..40).map(|k| k.to_string()).collect();
     let ran = folder.ends(1, &format!("load blink.uf2 --drop {}", numbers.join(",")));
+    assert_eq!(ran.out.matches("missing: block").count(), 1);
+    assert!(ran.out.contains("missing: blocks 10 to 39, whose pages would stand in flash from 0x00000a00 to 0x000027ff (addresses 0x10000a00 to 0x10002700)\n"), "{}", ran.out);
+    assert!(ran.out.ends_with("NOT COMPLETE: 30 of 64 blocks are missing, blocks 10 to 39. The display was never told that it is complete. Send the file again, whole.\n"));
+    let numbers: Vec<String> = (0..32).map(|k| (2 * k).to_string()).collect();
+    let ran = folder.ends(1, &format!("load blink.uf2 --drop {}", numbers.join(",")));
     assert_eq!(ran.out.matches("missing: block ").count(), 20);
-    assert!(ran.out.contains("missing: and 10 more\n"));
-    assert!(ran.out.contains("NOT COMPLETE: 30 of 64 blocks are missing. The display was never told that it is complete."));
+    assert!(ran.out.contains("missing: and 12 more\n"));
+    assert!(ran.out.contains("NOT COMPLETE: 32 of 64 blocks are missing, blocks 0, 2, 4, 6, 8, 10, 12, 14 and 24 more. The"), "{}", ran.out);
     folder.put("cut.uf2", &folder.get("blink.uf2")[..63 * 512]);
     let ran = folder.ends(1, "load cut.uf2");
     assert!(
@@ -163,6 +168,70 @@ fn many_are_missing() {
         "{}",
         ran.out
     );
+    assert!(ran
+        .out
+        .ends_with("Get the file again: it does not have block 63.\n"));
+    folder.put(
+        "holes.uf2",
+        [
+            &folder.get("blink.uf2")[..9 * 512],
+            &folder.get("blink.uf2")[20 * 512..60 * 512],
+        ]
+        .concat(),
+    );
+    let ran = folder.ends(1, "load holes.uf2 --drop 30");
+    assert!(ran.out.contains("missing: blocks 9 to 19, which the file does not have\nmissing: block 30, whose page would stand in flash"), "{}", ran.out);
+    assert!(ran.out.ends_with("NOT COMPLETE: 16 of 64 blocks are missing, blocks 9 to 19, 30, 60 to 63. The display was never told that it is complete. Get the file again: it does not have blocks 9 to 19, 60 to 63.\n"), "{}", ran.out);
+}
+
+/// "Send the file again" is said only where that completes it.
+#[test]
+fn whether_sending_again_helps() {
+    let folder = Folder::new();
+    let page =
+        |number, total, family| block(FAMILY, 0x1000_0000 + 256 * number, number, total, family, 7);
+    let refused = block(FAMILY, 0x1000_0080, 1, 2, ARM_S, 7);
+    folder.put("refused", [page(0, 2, ARM_S), refused].concat());
+    let ran = folder.ends(1, "load refused");
+    assert!(
+        ran.out
+            .ends_with("complete. To send the file again does not help: see above.\n"),
+        "{}",
+        ran.out
+    );
+    // each of two files in one discards the other
+    let two = [
+        page(0, 2, ARM_S),
+        page(0, 2, RISCV),
+        page(1, 2, ARM_S),
+        page(1, 2, RISCV),
+    ];
+    folder.put("two", two.concat());
+    let ran = folder.ends(1, "load two --arm --riscv");
+    assert!(ran.out.ends_with("1 of 2 blocks is missing, block 0. The display was never told that it is complete. To send the file again does not help: see above.\n"), "{}", ran.out);
+}
+
+/// Transfers that were discarded have erased sectors too.
+#[test]
+fn sectors_of_discarded_transfers() {
+    let folder = Folder::new();
+    let at = |sector: u32, total, family| {
+        block(FAMILY, 0x1000_0000 + 4096 * sector, 0, total, family, 7)
+    };
+    let blocks = [at(3, 2, ARM_S), at(5, 3, ARM_S), at(1, 1, RISCV)];
+    folder.put("file", blocks.concat());
+    let ran = folder.ends(0, "load file --arm --riscv");
+    assert!(
+        ran.out
+            .contains("a running transfer was discarded: 2 times\n"),
+        "{}",
+        ran.out
+    );
+    assert!(ran.out.contains("\nsectors erased by the last transfer: 1 (1)\nsectors erased by transfers that were discarded: 2 (3, 5)\n"), "{}", ran.out);
+    let ram = block(FAMILY, 0x2000_0000, 0, 1, ARM_S, 7);
+    folder.put("ram", [at(3, 2, ARM_S), ram].concat());
+    let ran = folder.ends(0, "load ram --main-ram");
+    assert!(ran.out.contains("\nsectors erased by the last transfer: none\nsectors erased by transfers that were discarded: 1 (3)\n"), "{}", ran.out);
 }
 
 #[test]

@@ -8,14 +8,19 @@ fn a_recorded_load_replays_to_none() {
     let folder = blink();
     let before = folder.get("blink.uf2");
     folder.put("start", [0x55; 20_000]);
-    for (load, board) in [
-        ("blink.uf2", ""),
-        ("blink.uf2 --shuffle 3 --repeat 2", ""),
-        ("blink.uf2 --drop 63,0 --shuffle 4", ""),
-        ("blink.uf2", "--flash 2M --arm --riscv --current riscv"),
-        ("blink.uf2", "--flash 4096"),
-        ("blink.uf2", "--start-image start --main-ram --xip-ram"),
-        ("blink.bin", ""),
+    let nothing = "; but no block was taken";
+    for (load, board, end) in [
+        ("blink.uf2", "", ""),
+        ("blink.uf2 --shuffle 3 --repeat 2", "", ""),
+        (
+            "blink.uf2 --drop 63,0 --shuffle 4",
+            "",
+            "; but the update was never complete: 2 of 64 blocks are missing, blocks 0, 63",
+        ),
+        ("blink.uf2", "--flash 2M --arm --riscv --current riscv", ""),
+        ("blink.uf2", "--flash 4096", nothing),
+        ("blink.uf2", "--start-image start --main-ram --xip-ram", ""),
+        ("blink.bin", "", nothing),
     ] {
         let ran = folder.run(&format!("load {load} {board} --record t.trace"));
         let said = ran.out.lines().find(|line| line.starts_with("written: "));
@@ -27,8 +32,9 @@ fn a_recorded_load_replays_to_none() {
             .strip_prefix("vantorel ");
         let ran = folder.ends(0, again.expect("a command"));
         assert!(
-            ran.out
-                .ends_with("none: every record was replayed, and every answer is ours.\n"),
+            ran.out.ends_with(&format!(
+                "\nnone: every record was replayed, and every answer is ours{end}.\n"
+            )),
             "{}",
             ran.out
         );
@@ -84,7 +90,7 @@ fn where_it_differs() {
         let mut other = trace.clone();
         other[5 * 513] = byte;
         folder.put("other.trace", other);
-        let ran = folder.ends(1, "replay other.trace");
+        let ran = folder.ends(1, "replay other.trace --flash 16K");
         assert!(
             ran.out.ends_with(&format!("\ndiffers: record 5: {told}\n")),
             "{}",
@@ -96,7 +102,7 @@ fn where_it_differs() {
             ran.out
         );
     }
-    let ran = folder.ends(1, "replay t.trace --riscv");
+    let ran = folder.ends(1, "replay t.trace --riscv --flash 16K");
     assert!(ran
         .out
         .ends_with("differs: record 0: the site got 14 Written; ours is 8 NoPlace.\n"));
@@ -127,10 +133,11 @@ fn where_it_is_bad() {
 fn small_traces() {
     let folder = Folder::new();
     folder.put("empty", []);
-    let ran = folder.ends(0, "replay empty");
+    let ran = folder.ends(1, "replay empty");
     assert!(ran.out.starts_with(
         "empty: 0 records\nboard: a flash of 32768 bytes (none was said: that of `receive`)"
     ));
+    assert!(ran.out.ends_with("\nempty: the trace has no records.\n"));
     let block = block(FAMILY, 0x1000_0000, 0, 1, ARM_S, 7);
     folder.put("one", [&[15 << 3], &block[..]].concat());
     let ran = folder.ends(0, "replay one");
@@ -148,4 +155,66 @@ fn small_traces() {
         "replay one --drop 1",
         "replay: no option '--drop'; `vantorel replay --help` says how",
     );
+}
+
+/// An update that lost a block: every answer is ours, and it was never complete.
+#[test]
+fn an_update_that_lost_a_block() {
+    let folder = blink();
+    folder.ends(1, "load blink.uf2 --drop 17 --record t.trace");
+    let ran = folder.ends(0, "replay t.trace");
+    assert!(ran.out.ends_with("came, into flash\nmissing: block 17, which the trace does not have\nnone: every record was replayed, and every answer is ours; but the update was never complete: 1 of 64 blocks is missing, block 17.\n"), "{}", ran.out);
+    folder.ends(1, "load blink.uf2 --drop 3,4,5,17 --record t.trace");
+    let ran = folder.ends(0, "replay t.trace");
+    assert!(ran
+        .out
+        .contains("missing: blocks 3 to 5, which the trace does not have\n"));
+    assert!(
+        ran.out
+            .ends_with("never complete: 4 of 64 blocks are missing, blocks 3 to 5, 17.\n"),
+        "{}",
+        ran.out
+    );
+    // nothing was taken at all
+    folder.ends(1, "load blink.bin --record t.trace");
+    let ran = folder.ends(0, "replay t.trace");
+    assert!(
+        ran.out
+            .ends_with("every answer is ours; but no block was taken.\n"),
+        "{}",
+        ran.out
+    );
+}
+
+/// A block that the site's smaller flash rightly refused is not held against the site while the flash is a guess.
+#[test]
+fn a_guessed_flash_accuses_nobody() {
+    let folder = blink();
+    let far = block(FAMILY, 0x1000_8000, 17, 64, ARM_S, 7);
+    folder.put(
+        "far.uf2",
+        [folder.get("blink.uf2")[..17 * 512].to_vec(), far].concat(),
+    );
+    let ran = folder.ends(1, "load far.uf2 --flash 16K --record t.trace");
+    assert!(ran.out.contains("  11 BadAddress       1  "), "{}", ran.out);
+    folder.ends(0, "replay t.trace --flash 16K");
+    folder.ends(0, "figures t.trace --flash 16K");
+    let ran = folder.ends(1, "replay t.trace");
+    assert!(ran.out.ends_with("\nundecided: record 17: the site got 11 BadAddress; with a flash of 36864 bytes, which nobody said, ours is 14 Written. Say the site's flash by --flash: only then is a difference the site's.\n"), "{}", ran.out);
+    let ran = folder.ends(1, "figures t.trace");
+    assert!(ran.out.contains("\nt.trace: undecided at record 17, where our answer is another, since nobody said the flash: "), "{}", ran.out);
+    for line in ["replay t.trace", "figures t.trace"] {
+        let ran = folder.ends(1, &format!("{line} --json"));
+        assert!(
+            ran.out.contains("\"stop\": \"undecided\", \"index\": 17"),
+            "{}",
+            ran.out
+        );
+        let ran = folder.ends(1, &format!("{line} --json --flash 64K"));
+        assert!(
+            ran.out.contains("\"stop\": \"differs\", \"index\": 17"),
+            "{}",
+            ran.out
+        );
+    }
 }

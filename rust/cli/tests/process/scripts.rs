@@ -190,7 +190,7 @@ fn of_reasons() {
     has(&text, &[
         "{\"file\": \"blink.uf2\", \"pieces\": 64, \"board\": {\"flash\": 4096, ",
         "\"block\": 17, \"arrivals\": [{\"arrival\": 17, \"block\": 17, \"outcome\": {\"answer\": 10, \"name\": \"BadNumbers\", \"discarded\": false}, \"reason\": {\"cause\": 1002, \"got\": 16384, \"against\": 4096, ",
-        "\"refused\": 1, \"transfer\": {\"state\": \"idle\"}, \"verdict\": \"NOT TAKEN: 1 of 1 arrival of block 17, ",
+        "\"refused\": 1, \"transfer\": {\"state\": \"idle\"}, \"missing\": [], \"verdict\": \"NOT TAKEN: 1 of 1 arrival of block 17, ",
     ]);
     let text = json(&folder, 0, "why blink.uf2");
     has(

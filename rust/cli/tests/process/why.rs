@@ -214,7 +214,7 @@ fn blocks_of_other_kinds() {
     let first = block(FAMILY, 0x1000_0000, 0, 3, ARM_S, 7);
     let other = block(FAMILY, 0x1000_0000, 0, 2, ARM_S, 7);
     folder.put("two.uf2", [first, other].concat());
-    let ran = folder.ends(0, "why two.uf2 --block 0");
+    let ran = folder.ends(1, "why two.uf2 --block 0");
     assert!(
         ran.out
             .contains("arrival 1, block 0: 14 Written, and a running transfer was discarded: stored, 1 of 2 blocks have come: it names no region"),
@@ -226,7 +226,7 @@ fn blocks_of_other_kinds() {
     set(&mut region, end - 24, 0x1000_0000);
     set(&mut region, end - 20, 4096);
     folder.put("region.uf2", region);
-    let ran = folder.ends(0, "why region.uf2 --block 0");
+    let ran = folder.ends(1, "why region.uf2 --block 0");
     assert!(
         ran.out
             .contains("14 Written: stored, 1 of 2 blocks have come: the flash holds something else in the region that it names\n"),
@@ -306,4 +306,36 @@ fn wrong_words() {
         folder.wrong(line, &format!("why: {why}{how}"));
     }
     folder.wrong("why none", "cannot read none: No such file or directory");
+}
+
+/// A file that lacks a block: every arrival is taken, and the update is never complete.
+#[test]
+fn a_file_that_lacks_a_block() {
+    let folder = blink();
+    let file = folder.get("blink.uf2");
+    folder.put("lossy.uf2", [&file[..17 * 512], &file[18 * 512..]].concat());
+    let ran = folder.ends(1, "why lossy.uf2");
+    assert!(
+        ran.out.ends_with(
+            "state: running: 63 of 64 blocks of family arm-s (0xe48bff59) came, into flash\n\
+             missing: block 17, which the file does not have\n\
+             TAKEN: every one of 63 arrivals.\n\
+             NOT COMPLETE: 1 of 64 blocks is missing, block 17. The display was never told that it is complete.\n"
+        ),
+        "{}",
+        ran.out
+    );
+    let ran = folder.ends(1, "why lossy.uf2 --json");
+    assert!(
+        ran.out
+            .contains("\"missing\": [{\"block\": 17, \"in_file\": false"),
+        "{}",
+        ran.out
+    );
+    let ran = folder.ends(0, "why blink.uf2");
+    assert!(
+        ran.out.ends_with("\nTAKEN: every one of 64 arrivals.\n"),
+        "{}",
+        ran.out
+    );
 }
