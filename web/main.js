@@ -14,7 +14,7 @@ const NAMES = ['transfer', 'hex', 'trace'];
 const MOST_DROPPED = 256 * 1024 * 1024;
 
 function say(words) {
-  setText(byId('notice'), words);
+  setText(byId('notice-words'), words);
   byId('notice').hidden = words === '';
 }
 
@@ -33,6 +33,7 @@ class Page {
     document.addEventListener('keydown', (event) => this.key(event));
     document.addEventListener('dragover', (event) => event.preventDefault());
     document.addEventListener('drop', (event) => this.drop(event));
+    byId('notice-close').addEventListener('click', () => say(''));
     byId('print').addEventListener('click', () => window.print());
     byId('smaller').addEventListener('click', () => this.resize(1 / 1.1));
     byId('larger').addEventListener('click', () => this.resize(1.1));

@@ -16,7 +16,7 @@ export const text = {
   noWasm: 'This browser cannot run WebAssembly, so the proved receiver cannot be shown. Any current browser can.',
   trouble: (words) => `The page has failed and must be loaded again (${words}).`,
   tabs: { transfer: 'A transfer', hex: 'Universal Hex', trace: "A site's trace" },
-  tools: { smaller: 'Smaller text', larger: 'Larger text', print: 'Print', smallerMark: 'A−', largerMark: 'A+' },
+  tools: { smaller: 'Smaller text', larger: 'Larger text', print: 'Print', smallerMark: 'A−', largerMark: 'A+', close: 'Close this notice', closeMark: '✕' },
   help: {
     title: 'Keys',
     keys: [
@@ -356,6 +356,7 @@ export const text = {
     noTrace: (name) => `${name} is no trace: its first record is not one byte and a UF2 block of 512 bytes.`,
     isUf2: (name) => `${name} is a UF2 file and no trace. Open it under "A transfer".`,
     unreadable: (name) => `${name} could not be read.`,
+    refused: (why) => `${why} What is shown is as it was before.`,
   },
 
   hex: {

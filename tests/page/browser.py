@@ -1,6 +1,10 @@
 """The training page in a real browser, opened from disk: each lesson played to its end, its words and its grid read back; the answers beside the command
-line tool's; files that are none; a large file; keys; and screenshots."""
+line tool's; files that are none; a large file; keys; print; and screenshots.
+
+    browser.py FOLDER [--picture]       screenshots go to FOLDER; with --picture docs/page.png is written anew
+"""
 import base64
+import hashlib
 import json
 import os
 import pathlib
@@ -10,6 +14,7 @@ import subprocess
 import sys
 import tempfile
 import time
+import zlib
 
 from selenium import webdriver
 from selenium.webdriver.chrome.service import Service
@@ -192,7 +197,7 @@ def lessons(page):
         equal(page.js("return location.protocol"), "file:")
         equal(page.js("return performance.getEntriesByType('resource').filter((r) => !r.name.startsWith('data:') && !r.name.startsWith('blob:')).length"), 0)
         equal(page.js("return document.querySelectorAll('[src^=http], link[href^=http]').length"), 0)
-        equal([n for n in page.js("return [...document.querySelectorAll('[data-text]')].filter((n) => n.textContent === '' && n.id !== 'notice').map((n) => n.dataset.text)")], [])
+        equal([n for n in page.js("return [...document.querySelectorAll('[data-text]')].filter((n) => n.textContent === '' && n.id !== 'notice-words').map((n) => n.dataset.text)")], [])
 
     @check("lesson 1, a lost page: the wrong display turns green, the proved one does not")
     def _():
@@ -589,6 +594,106 @@ def hex_and_trace(page):
         page.until(lambda: "nothing.uf2 is empty" in page.text("#notice"), "an empty file")
 
 
+def files(page):
+    # Whether a part lies in the window and nothing covers it.
+    def in_sight(selector):
+        return page.js(
+            """const part = document.querySelector(arguments[0]);
+            const { left, top, right, bottom } = part.getBoundingClientRect();
+            const seen = document.elementFromPoint((left + right) / 2, (top + bottom) / 2);
+            return top >= 0 && bottom <= innerHeight && part.contains(seen);""",
+            selector,
+        )
+
+    @check("a file that is refused says so in the window, and beside the field where it was chosen")
+    def _():
+        for tab, field, note in (("transfer", "#file", "#file-note"), ("hex", "#hex-file", "#hex-note"), ("trace", "#trace-file", "#trace-note")):
+            page.press(f"#tab-{tab}")
+            page.js("document.getElementById('setup').open = true; document.querySelector(arguments[0]).scrollIntoView({ block: 'center' })", field)
+            page.pick(field, "holiday.jpg", bytes(range(1, 200)) * 20)
+            for part in ("#notice", note):
+                page.until(lambda: "holiday.jpg is no" in page.text(part), f"{part}: {page.text(part)}")
+                assert in_sight(part), f"{part} is not seen"
+            page.press("#notice-close")
+            equal(page.js("return document.getElementById('notice').hidden"), True, "closed")
+        page.press("#tab-transfer")
+        page.js("window.scrollTo(0, document.body.scrollHeight)")
+        page.drop("nothing.uf2", b"")
+        page.until(lambda: "nothing.uf2 is empty" in page.text("#notice") and in_sight("#notice"), "a sentence in the window")
+        page.lesson("lostPage")
+        equal([page.js("return document.getElementById('notice').hidden"), page.text("#file-note")], [True, ""], "gone with the next lesson")
+
+    @check("the same file chosen again is read again")
+    def _():
+        with tempfile.TemporaryDirectory() as folder:
+            path = pathlib.Path(folder, "again.uf2")
+            page.js("document.getElementById('setup').open = true")
+            for total in (3, 5):
+                path.write_bytes(b"".join(block(k, total) for k in range(total)))
+                page.get("#file").send_keys(str(path))
+                page.until(lambda: page.text("#position") == f"Arrival 0 of {total}", f"a file of {total} blocks")
+                # a browser tells of a choice only where the field changes
+                equal(page.js("return document.getElementById('file').files.length"), 0, "the field is empty again")
+
+    @check("after a large file the flash is as small again as it was set")
+    def _():
+        def flash_after(name, total, address=None):
+            page.drop(name, b"".join(block(k, total, address) for k in range(total)))
+            page.until(lambda: name in page.text("#file-note"), name)
+            return int(page.js("return document.getElementById('flash').value"))
+
+        page.lesson("lostPage")
+        equal([flash_after("far.uf2", 1, 0x10100000), flash_after("near.uf2", 2)], [1052672, 32768])
+        # a board that is set while a large file is open does not set the flash
+        flash_after("far.uf2", 1, 0x10100000)
+        page.press("#xip")
+        page.press("#apply")
+        page.until(lambda: page.js("return !document.querySelector('#proved [data-memory=xip]').hidden"), "the board")
+        equal(flash_after("near.uf2", 2), 32768)
+        page.js("document.getElementById('flash').value = 65536; document.getElementById('apply').click()")
+        page.until(lambda: "in 16 sectors" in page.text("#proved [data-memory=flash]"), "a flash of 65,536")
+        equal([flash_after("far.uf2", 1, 0x10100000), flash_after("near.uf2", 2)], [1052672, 65536])
+        page.lesson("lostPage")
+        for pages, flash in ((1000, 258048), (8, 32768)):
+            page.js("const pages = document.getElementById('pages'); pages.value = arguments[0]; pages.dispatchEvent(new Event('change'))", pages)
+            page.until(lambda: page.text("#position") == f"Arrival 0 of {pages:,}", "the sample")
+            equal(int(page.js("return document.getElementById('flash').value")), flash)
+        page.js("document.getElementById('setup').open = false")
+
+
+def printing(driver, page):
+    # The sheets of what is shown, on paper of A4 and of Letter.
+    def sheets(name):
+        found = []
+        for paper, width, height in (("a4", 8.27, 11.69), ("letter", 8.5, 11)):
+            told = driver.execute_cdp_cmd("Page.printToPDF", {"printBackground": True, "paperWidth": width, "paperHeight": height})
+            content = base64.b64decode(told["data"])
+            (SHOTS / f"print_{name}_{paper}.pdf").write_bytes(content)
+            found.append(len(re.findall(rb"/Type\s*/Page\b(?!s)", content)))
+        return found
+
+    @check("each lesson, the hex sample and the trace sample are printed on one sheet")
+    def _():
+        SHOTS.mkdir(parents=True, exist_ok=True)
+        counts = {}
+        page.press("#tab-transfer")
+        for lesson in page.js("return [...document.getElementById('lesson').options].map((option) => option.value).filter((value) => value !== 'own')"):
+            page.lesson(lesson)
+            page.end()
+            counts[lesson] = sheets(lesson)
+        page.press("#tab-hex")
+        page.press("#hex-sample")
+        page.until(lambda: page.text("#hex-position").startswith("Line 0 of "), "the sample")
+        page.press("#hex-end")
+        counts["hex"] = sheets("hex")
+        page.press("#tab-trace")
+        page.press("#trace-sample")
+        page.until(lambda: "At record 3 the answers differ" in page.text("#trace-stop"), "the replay")
+        counts["trace"] = sheets("trace")
+        equal({name: count for name, count in counts.items() if count != [1, 1]}, {}, "more than one sheet")
+        page.press("#tab-transfer")
+
+
 def large(page):
     @check("a file of 32 MiB, 65,536 blocks, does not freeze the page")
     def _():
@@ -662,6 +767,32 @@ def shots(driver, page):
                 assert wide[0] <= wide[1], (tab, wide)
 
 
+# A picture with some words in it, which a reader of PNG files passes over.
+def labelled(png, words):
+    content = b"tEXt" + b"Shows\0" + words.encode()
+    chunk = struct.pack(">I", len(content) - 4) + content + struct.pack(">I", zlib.crc32(content))
+    return png[:33] + chunk + png[33:]
+
+
+def picture(driver, page):
+    @check("docs/page.png is a picture of this page")
+    def _():
+        driver.execute_cdp_cmd("Emulation.setDeviceMetricsOverride", {"width": 1600, "height": 857, "deviceScaleFactor": 1, "mobile": False})
+        page.open()
+        page.lesson("lostPage")
+        page.end()
+        page.js("document.activeElement.blur(); window.scrollTo(0, 0)")
+        shown = "".join(page.text(part) for part in (".top", "#lesson-text", "#position", "#proved", "#wrong"))
+        sources = "".join((ROOT / "web" / name).read_text() for name in ("style.css", "index.html"))
+        label = hashlib.sha256((shown + sources).encode()).hexdigest()
+        made = labelled(driver.get_screenshot_as_png(), label)
+        (SHOTS / "page.png").write_bytes(made)
+        stored = ROOT / "docs" / "page.png"
+        if "--picture" in sys.argv[2:]:
+            stored.write_bytes(made)
+        assert label.encode() in stored.read_bytes(), "it shows an older page: tests/page/run --picture writes it anew"
+
+
 def main():
     driver = browser(1280, 900)
     try:
@@ -676,8 +807,11 @@ def main():
         not_of_the_proof(page)
         beside_the_tool(page)
         hex_and_trace(page)
+        files(page)
+        printing(driver, page)
         large(page)
         shots(driver, page)
+        picture(driver, page)
 
         @check("the browser had nothing to complain of")
         def _():

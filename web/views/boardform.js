@@ -1,5 +1,5 @@
 // The form for a board: flash, RAM, switches and partitions, or a packed store.
-import { byId, element, fileBytes, fillSelect, setText } from './dom.js';
+import { byId, element, fileBytes, fillSelect, onFile, setText } from './dom.js';
 import { LINK, SECTOR, newEntry, settingsFrom } from '../board.js';
 import { N } from '../numbers.js';
 import { familyFrom, familyName } from '../words.js';
@@ -29,7 +29,7 @@ export class BoardForm {
       const board = this.read();
       if (board) onApply(board);
     });
-    byId('store').addEventListener('change', (event) => this.readStore(event.target.files[0]));
+    onFile('store', (file) => this.readStore(file));
   }
 
   note(words) {
@@ -117,7 +117,6 @@ export class BoardForm {
 
   // Settings from a packed store, by the proved library, for the flash that the form says.
   async readStore(file) {
-    if (!file) return;
     const bytes = await fileBytes(file);
     await this.libraries.use((library) => this.readStoreWith(library, bytes));
   }

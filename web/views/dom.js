@@ -48,6 +48,24 @@ export async function fileBytes(file) {
   return new Uint8Array(await file.arrayBuffer());
 }
 
+// A field for a file: `open(file)` is called for each that is chosen. The field is emptied, so that the same file can be chosen again.
+export function onFile(id, open) {
+  byId(id).addEventListener('change', (event) => {
+    const [file] = event.target.files;
+    event.target.value = '';
+    if (file) open(file);
+  });
+}
+
+// Says at the top of the window, and in the note beside the field, why a file is not opened.
+export function refuser(say, noteId) {
+  return (why) => {
+    const words = text.files.refused(why);
+    setText(byId(noteId), words);
+    say(words);
+  };
+}
+
 export function saveFile(name, parts) {
   const link = element('a', { href: URL.createObjectURL(new Blob(parts)), download: name });
   link.click();

@@ -1,5 +1,5 @@
 // The view of a Universal Hex file: each line, the section it is in, what each reader answers and where the data goes.
-import { byId, element, fileBytes, fillSelect, letters, setText } from './dom.js';
+import { byId, element, fileBytes, fillSelect, letters, onFile, refuser, setText } from './dom.js';
 import { Player } from './player.js';
 import { fillTable } from './table.js';
 import { HexFile } from '../hexlines.js';
@@ -20,13 +20,14 @@ export class HexView {
   constructor(libraries, say) {
     this.libraries = libraries;
     this.say = say;
+    this.refuse = refuser(say, 'hex-note');
     this.position = 0;
     this.opened = 0;
     this.panels = Object.fromEntries(READERS.map((name) => [name, this.panel(`hex-${name}`)]));
     this.player = new Player({ start: 'hex-start', back: 'hex-back', play: 'hex-play', step: 'hex-step', end: 'hex-end', speed: 'hex-speed' }, this);
     fillSelect(byId('hex-own'), Object.entries(text.hex.boards));
     byId('hex-sample').addEventListener('click', () => this.openSample());
-    byId('hex-file').addEventListener('change', (event) => event.target.files[0] && this.openFile(event.target.files[0]));
+    onFile('hex-file', (file) => this.openFile(file));
     for (const id of ['hex-own', 'hex-image']) byId(id).addEventListener('change', () => this.read());
   }
 
@@ -48,16 +49,16 @@ export class HexView {
   }
 
   async openFile(file) {
-    if (file.size > N.UHEX_FILE_MAX_SIZE + 1) return this.say(text.files.longHex(file.name));
+    if (file.size > N.UHEX_FILE_MAX_SIZE + 1) return this.refuse(text.files.longHex(file.name));
     const bytes = await fileBytes(file).catch(() => null);
-    if (!bytes) return this.say(text.files.unreadable(file.name));
+    if (!bytes) return this.refuse(text.files.unreadable(file.name));
     return this.openBytes(bytes, file.name);
   }
 
   async openBytes(bytes, name) {
-    if (bytes.length === 0) return this.say(text.files.empty(name));
-    if (bytes[0] !== 58) return this.say(text.files.noHex(name));
-    if (bytes.length > N.UHEX_FILE_MAX_SIZE + 1) return this.say(text.files.longHex(name));
+    if (bytes.length === 0) return this.refuse(text.files.empty(name));
+    if (bytes[0] !== 58) return this.refuse(text.files.noHex(name));
+    if (bytes.length > N.UHEX_FILE_MAX_SIZE + 1) return this.refuse(text.files.longHex(name));
     this.bytes = bytes;
     this.name = name;
     this.say('');

@@ -1,5 +1,5 @@
 // The view of a site's trace: where the replay stops, what was recorded there and what we answer.
-import { byId, element, fileBytes, setText } from './dom.js';
+import { byId, element, fileBytes, onFile, refuser, setText } from './dom.js';
 import { fillTable } from './table.js';
 import { CountsArrivals } from '../wrong/counts_arrivals.js';
 import { isBlock } from '../block.js';
@@ -29,8 +29,9 @@ export class TraceView {
   constructor(libraries, say, board, show) {
     Object.assign(this, { libraries, say, board, show });
     this.opened = 0;
+    this.refuse = refuser(say, 'trace-note');
     byId('trace-sample').addEventListener('click', () => this.openSample());
-    byId('trace-file').addEventListener('change', (event) => event.target.files[0] && this.openFile(event.target.files[0]));
+    onFile('trace-file', (file) => this.openFile(file));
     byId('trace-show').addEventListener('click', () => this.show(this.records.map((record) => record.subarray(1)), text.trace.name));
     setText(byId('trace-note'), text.trace.none);
   }
@@ -41,16 +42,16 @@ export class TraceView {
   }
 
   async openFile(file) {
-    if (file.size > MOST_TRACE) return this.say(text.files.tooLong(file.name));
+    if (file.size > MOST_TRACE) return this.refuse(text.files.tooLong(file.name));
     const bytes = await fileBytes(file).catch(() => null);
-    if (!bytes) return this.say(text.files.unreadable(file.name));
+    if (!bytes) return this.refuse(text.files.unreadable(file.name));
     return this.openBytes(bytes, file.name);
   }
 
   async openBytes(bytes, name) {
-    if (bytes.length === 0) return this.say(text.files.empty(name));
-    if (isBlock(bytes.subarray(0, N.UF2_ARRIVAL_SIZE))) return this.say(text.files.isUf2(name));
-    if (!looksLikeTrace(bytes)) return this.say(text.files.noTrace(name));
+    if (bytes.length === 0) return this.refuse(text.files.empty(name));
+    if (isBlock(bytes.subarray(0, N.UF2_ARRIVAL_SIZE))) return this.refuse(text.files.isUf2(name));
+    if (!looksLikeTrace(bytes)) return this.refuse(text.files.noTrace(name));
     return this.replay(bytes, name, this.board());
   }
 

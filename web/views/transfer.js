@@ -1,5 +1,5 @@
 // The view of a transfer: the lesson, the two receivers, the blocks, the log, and what can be set.
-import { byId, element, fileBytes, fillSelect, saveFile, setText } from './dom.js';
+import { byId, element, fileBytes, fillSelect, onFile, refuser, saveFile, setText } from './dom.js';
 import { BoardForm } from './boardform.js';
 import { Panel } from './panel.js';
 import { Player } from './player.js';
@@ -9,7 +9,7 @@ import { newPlan } from '../arrivals.js';
 import { isBlock, piecesOf, readBlock } from '../block.js';
 import { LESSONS, lessonParts, samplePieces } from '../lessons.js';
 import { EXTRAS } from '../maker.js';
-import { FAMILY, newBoard } from '../board.js';
+import { FAMILY } from '../board.js';
 import { N } from '../numbers.js';
 import { WRONG } from '../wrong/all.js';
 import { answerWords, blockWords, commandLine, familyFrom } from '../words.js';
@@ -24,8 +24,9 @@ export class TransferView {
   constructor(libraries, say) {
     this.libraries = libraries;
     this.say = say;
+    this.refuse = refuser(say, 'file-note');
     this.panels = { proved: new Panel('proved'), wrong: new Panel('wrong') };
-    this.form = new BoardForm(libraries, (board) => this.change({ board }));
+    this.form = new BoardForm(libraries, (board) => this.setBoard(board));
     this.player = new Player({ start: 'to-start', back: 'back', play: 'play', step: 'step', end: 'to-end', speed: 'speed' }, this);
     this.firstBlock = 0;
     this.opened = 0;
@@ -54,7 +55,7 @@ export class TransferView {
     on('mix-add', 'click', () => this.mix());
     on('pages', 'change', () => this.makeSample());
     on('family', 'change', () => this.makeSample());
-    on('file', 'change', (event) => event.target.files[0] && this.openFile(event.target.files[0]));
+    onFile('file', (file) => this.openFile(file));
     on('save', 'click', () => saveFile(text.setup.savedName, this.session.arrivals.map((arrival) => arrival.bytes)));
     window.addEventListener('resize', () => this.session && this.render());
   }
@@ -69,7 +70,14 @@ export class TransferView {
     const lesson = LESSONS.find((item) => item.id === id);
     const parts = await this.libraries.use((library) => lessonParts(library, lesson));
     this.firstBlock = 0;
-    await this.change(parts, id);
+    this.ownFlash = parts.board.flash;
+    await this.change({ ...parts, fileWords: '' }, id);
+  }
+
+  // A board from the form. A flash that is only as large as an open file needs was not set by anybody.
+  setBoard(board) {
+    if (board.flash !== this.board.flash) this.ownFlash = board.flash;
+    return this.change({ board });
   }
 
   changePlan(fields) {
@@ -77,7 +85,8 @@ export class TransferView {
   }
 
   // Another board, plan or wrong receiver: the list begins anew. A change that is overtaken by a later one is dropped.
-  async change({ board = this.board, plan = this.plan, wrongId = this.wrongId }, lessonId = 'own') {
+  // `fileWords` are those beside the field for a file.
+  async change({ board = this.board, plan = this.plan, wrongId = this.wrongId, fileWords = this.fileWords }, lessonId = 'own') {
     const opened = ++this.opened;
     this.player.pause();
     const session = await Session.open(this.libraries, board, plan, wrongId);
@@ -86,35 +95,40 @@ export class TransferView {
       return;
     }
     this.session?.close();
-    Object.assign(this, { session, board, plan, wrongId, lessonId });
+    Object.assign(this, { session, board, plan, wrongId, lessonId, fileWords });
     for (const panel of Object.values(this.panels)) panel.setBoard(board);
     this.form.show(board);
     const bad = [N.UF2_ANSWER_BAD_BUFFERS, N.UF2_ANSWER_BAD_SETTINGS].includes(session.proved.receiver.place(FAMILY.data).answer);
     if (bad) this.form.note(text.setup.badSettings);
     setText(byId('find-result'), '');
+    setText(byId('file-note'), fileWords);
+    this.say('');
     this.showChoices();
     this.showBlocks();
     this.render();
   }
 
   async openFile(file) {
-    if (file.size > MOST_FILE) return this.say(text.files.tooLong(file.name));
+    if (file.size > MOST_FILE) return this.refuse(text.files.tooLong(file.name));
     const bytes = await fileBytes(file).catch(() => null);
-    if (!bytes) return this.say(text.files.unreadable(file.name));
+    if (!bytes) return this.refuse(text.files.unreadable(file.name));
     return this.openPieces(piecesOf(bytes), file.name);
   }
 
   // Pieces of a file, or a sentence where none of them is a block.
   async openPieces(pieces, name) {
-    if (pieces.length === 0) return this.say(text.files.empty(name));
+    if (pieces.length === 0) return this.refuse(text.files.empty(name));
     const good = pieces.filter(isBlock).length;
-    if (good === 0) return this.say(text.files.noUf2(name));
+    if (good === 0) return this.refuse(text.files.noUf2(name));
     this.firstBlock = 0;
-    const board = { ...(this.board ?? newBoard()), flash: Math.max(this.board?.flash ?? 0, this.need(pieces)) };
-    await this.change({ board, plan: newPlan(pieces) });
-    this.say('');
     const bad = pieces.length - good;
-    setText(byId('file-note'), `${text.files.loaded(name, pieces.length)}${bad ? ` ${text.files.someUf2(bad, pieces.length)}` : ''}`);
+    const fileWords = `${text.files.loaded(name, pieces.length)}${bad ? ` ${text.files.someUf2(bad, pieces.length)}` : ''}`;
+    await this.change({ board: this.boardFor(pieces), plan: newPlan(pieces), fileWords });
+  }
+
+  // The board with the flash that was set, or a larger one where the file needs it.
+  boardFor(pieces) {
+    return { ...this.board, flash: Math.max(this.ownFlash, this.need(pieces)) };
   }
 
   // How large a flash must be so that it holds every page of the file, as `vantorel load` reckons it.
@@ -137,9 +151,7 @@ export class TransferView {
     const pages = Math.max(1, Math.min(131072, Math.floor(Number(byId('pages').value)) || 1));
     const { pieces } = await this.libraries.use((library) => samplePieces(library, pages, family));
     this.firstBlock = 0;
-    const board = { ...this.board, flash: Math.max(this.board.flash, this.need(pieces)) };
-    await this.change({ board, plan: newPlan(pieces) });
-    setText(byId('file-note'), text.files.loaded(text.setup.sample, pieces.length));
+    await this.change({ board: this.boardFor(pieces), plan: newPlan(pieces), fileWords: text.files.loaded(text.setup.sample, pieces.length) });
   }
 
   mix() {
