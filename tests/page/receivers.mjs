@@ -239,8 +239,8 @@ await check('the words are those of words/answers.tsv, which the tool prints', (
   }
   const told = (cause, got, against) => reasonWords(0, { cause, got, against, entry: 2, other: 3, marks: [] });
   assert.equal(told(1103, 8448n, 8192n), 'The page at the address 0x10002000 would end 8,448 bytes after the start of its place, which has only 8,192 bytes.');
-  assert.equal(told(1103, 0x10000100n, 4096n), 'The page at the address 0x20000000 would end 268,435,712 bytes after the start of its place, which has only 4,096 bytes; it is one of main RAM, which this board lacks.');
-  assert.equal(told(1102, 0x13ffc001n, 256n), 'The address 0x13FFC001 is no multiple of 256; it is one of XIP RAM, which this board lacks.');
+  assert.equal(told(1105, 0x20000000n, 0x12000000n), "The address 0x20000000 lies in no memory of this board: flash's addresses end at 0x12000000; it is one of main RAM, which this board lacks.");
+  assert.equal(told(1105, 0x13ffc001n, 0x12000000n), "The address 0x13FFC001 lies in no memory of this board: flash's addresses end at 0x12000000; it is one of XIP RAM, which this board lacks.");
   assert.equal(told(1002, 65792n, 1n), 'The block says that its file has 257 blocks, which take 65,792 bytes; there is room for 1 byte.');
   assert.equal(told(205, 3n, 2n), 'Partition 2 shares a sector with partition 3.');
   assert.equal(told(501, 0x3000n, 0x1000n), "Its flags 0x00003000 have 0x1000: it belongs to a file container, which is not for the board's memory.");
