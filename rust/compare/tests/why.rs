@@ -4,7 +4,7 @@ use compare::{
     any_arrival, any_settings, any_transfer, arrivals_asked, proved_settings, proved_transfer,
     Buffers, Ram, Random, FAMILIES,
 };
-use reference::why::{why, why_place};
+use reference::why::{why, why_of_bytes, why_place, why_place_of_bytes};
 use tools::why::{explain, explain_place, Lent};
 
 /// The sectors of the flash, and its pages.
@@ -129,7 +129,68 @@ fn bytes_that_are_none() {
     assert_eq!(told(&settings, &idle).1, 401);
 }
 
-/// Where a used entry has a link of no kind that is told, before anything else of row 2, with the first such entry; row 1 stands before it.
+/// Settings as bytes, in which the links of some entries are none: both tell the same of them, of an arrival and of a place alone.
+#[test]
+fn links_that_are_none() {
+    let mut r = Random(63);
+    let mut met = std::collections::BTreeMap::new();
+    let buffers = Buffers::any(&mut r, SECTORS, Ram::NONE);
+    for _ in 0..100_000 {
+        let settings = any_settings(&mut r, SECTORS);
+        let mut bytes = proved_settings(&settings).bytes();
+        let mut no_links = [None; 16];
+        for _ in 0..1 + r.below(3) {
+            let used = usize::from(settings.count).clamp(1, 16);
+            let among = r.of(&[16, used as u64]);
+            let k = r.below(among) as usize;
+            let byte = 3 + r.below(253) as u8;
+            no_links[k] = Some(byte);
+            bytes[6 + 34 * k + 31] = byte;
+        }
+        let arrival = any_arrival(&mut r, PAGES, Ram::NONE);
+        let b = &buffers;
+        let lent = Lent {
+            flash: &b.flash,
+            seen: &b.seen,
+            sectors: &b.sectors,
+            main: &b.main,
+            xip: &b.xip,
+        };
+        let idle = reference::Transfer::Idle;
+        let wanted = why_of_bytes(
+            &settings, &no_links, idle, &arrival, &b.flash, &b.seen, &b.sectors, &b.main, &b.xip,
+        );
+        let got = explain(&bytes, &[0; proved::TRANSFER_BYTES], &arrival, lent);
+        let told = got.reason;
+        assert_eq!(
+            (got.result, told.cause, told.got, told.against),
+            (
+                u32::from(wanted.answer),
+                wanted.cause,
+                wanted.got,
+                wanted.against
+            ),
+            "{settings:?} {no_links:?}"
+        );
+        assert_eq!(
+            (told.entry, told.other, told.marks),
+            (wanted.entry, wanted.other, wanted.marks)
+        );
+        let family = r.of(&FAMILIES);
+        let wanted = why_place_of_bytes(&settings, &no_links, b.flash.len(), family);
+        let placed = explain_place(&bytes, b.flash.len(), family);
+        assert_eq!(
+            (placed.result, placed.reason.cause, placed.reason.entry),
+            (u32::from(wanted.answer), wanted.cause, wanted.entry)
+        );
+        *met.entry(told.cause).or_insert(0) += 1;
+    }
+    for cause in [201, 202, 203, 204, 205, 206, 211] {
+        assert!(met.get(&cause).is_some_and(|&n| n > 50), "{met:?}");
+    }
+}
+
+/// A link that is none is told with the first entry that has one, after the current architecture and the count.
 fn links_of_no_kind(settings: &[u8], lent: Lent) {
     let idle = [0; proved::TRANSFER_BYTES];
     let told = |settings: &[u8], arrival: &[u8]| {
@@ -143,17 +204,26 @@ fn links_of_no_kind(settings: &[u8], lent: Lent) {
         assert_eq!((r.other, r.marks), (0, [0; 16]));
         (why.result, r.cause, r.got, r.against, r.entry)
     };
+    let mut good = settings.to_vec();
+    good[5] = 16;
+    for k in 0..16 {
+        // a sector each
+        good[6 + 34 * k] = k as u8;
+        good[6 + 34 * k + 4] = 1;
+    }
+    assert_eq!(told(&good, &[0; 512]).1, 401);
     for k in 0..16_u8 {
         for kind in 3..=255 {
-            let mut bytes = settings.to_vec();
-            bytes[5] = 16;
+            let mut bytes = good.clone();
             bytes[6 + 34 * usize::from(k) + 31] = kind;
             bytes[6 + 34 * 15 + 31] = if k < 15 { 3 } else { kind };
             let of_entry = (2, 211, u64::from(kind), 2, k);
             assert_eq!(told(&bytes, &[0; 512]), of_entry);
-            bytes[0] = 0; // the current architecture is off
-            assert_eq!(told(&bytes, &[0; 512]), of_entry);
             assert_eq!(told(&bytes, &[0; 511]), (1, 101, 511, 512, 0));
+            bytes[6 + 34 * 15 + 4] = 0; // the last entry has no sectors
+            assert_eq!(told(&bytes, &[0; 512]), (2, 203, 0, 0, 15));
+            bytes[0] = 0; // the current architecture is off
+            assert_eq!(told(&bytes, &[0; 512]).1, 201);
             bytes[5] = 17;
             assert_eq!(told(&bytes, &[0; 512]).1, 201);
             bytes[0] = 1;

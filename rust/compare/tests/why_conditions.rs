@@ -5,7 +5,7 @@ use std::collections::BTreeSet;
 
 use compare::{arm_only, proved_settings, proved_transfer, Buffers, Fields, Ram, USER};
 use reference::md5::md5;
-use reference::why::{why, why_place};
+use reference::why::{why, why_place, NO_WINDOW};
 use reference::{Arch, Entry, Kind, Link, Settings, Transfer};
 use reference::{ABSOLUTE, ARM_S, DATA, MAIN_LEN, RISCV, RP2040};
 use tools::why::{explain, explain_place, Lent, Why};
@@ -15,11 +15,11 @@ const FLASH: u32 = 0x1000_0000;
 const MAIN: u32 = 0x2000_0000;
 
 /// Every condition, in the order in which a page in a window meets them.
-const CAUSES: [u32; 54] = [
+const CAUSES: [u32; 55] = [
     101, 102, 103, 104, 105, 106, 107, 108, 201, 202, 203, 204, 205, 206, 207, 208, 209, 301, 302,
     303, 304, 305, 401, 402, 403, 501, 701, 801, 802, 803, 804, 805, 806, 807, 901, 1001, 1002,
-    1003, 1101, 1102, 1103, 1104, 1201, 1301, 1501, 1601, 1401, 1402, 1403, 1404, 1405, 1406, 1407,
-    1701,
+    1003, 1101, NO_WINDOW, 1102, 1103, 1104, 1201, 1301, 1501, 1601, 1401, 1402, 1403, 1404, 1405,
+    1406, 1407, 1701,
 ];
 
 /// An arrival with all that it meets.
@@ -500,19 +500,30 @@ fn rows_9_and_10() -> Vec<Run> {
     ]
 }
 
-/// The last two: an address in no window is asked before the numbers.
+/// An address in no window is told before the numbers: as below the window, or else before the row's other conditions.
 fn row_11() -> Vec<Run> {
     let below: Edit = |c| c.moved(-256);
     let ragged: Edit = |c| c.moved(1);
     let past: Edit = |c| c.moved(LEN as i32);
+    let beyond: Edit = |c| c.moved(0x0200_0000);
     let number: Edit = |c| c.put(20, 300);
     let finished: Edit = |c| c.transfer = done(9);
     vec![
         run(page, 1101, 0x0FFF_FF00, 0x1000_0000, below)
             .earlier(901, |c| c.put(16, 0))
             .later(1102, ragged),
+        run(page, 1101, 0x0FFF_FF00, 0x1000_0000, below).later(1003, number),
+        run(page, NO_WINDOW, 0x1200_0000, 0x1200_0000, beyond)
+            .earlier(901, |c| c.put(16, 0))
+            .later(1102, ragged),
+        run(page, NO_WINDOW, 0x1200_0000, 0x1200_0000, beyond).later(1103, past),
+        run(page, NO_WINDOW, 0x1200_0000, 0x1200_0000, beyond).later(1003, number),
+        run(ram, NO_WINDOW, 0x2000_0000, 0x1200_0000, |c| {
+            c.lent.main.clear()
+        })
+        .later(1003, number),
         run(page, 1102, 0x1000_0001, 256, ragged)
-            .earlier(1101, below)
+            .earlier(NO_WINDOW, beyond)
             .later(1103, past),
         run(page, 1103, 65_792, 65_536, past)
             .earlier(1102, ragged)
@@ -522,8 +533,6 @@ fn row_11() -> Vec<Run> {
         })
         .earlier(1003, number)
         .later(1201, finished),
-        run(page, 1101, 0x0FFF_FF00, 0x1000_0000, below).later(1003, number),
-        run(page, 1103, 33_554_688, 65_536, |c| c.put(12, 0x1200_0000)).later(1003, number),
     ]
 }
 

@@ -22,6 +22,16 @@ pub const BY_NO_TABLE: u32 = 2;
 /// The place is an entry's.
 pub const BY_ENTRY: u32 = 3;
 
+/// Row 11's condition of an address in no window of this board, which is asked
+/// after "below the window" and before the row's others.
+pub const NO_WINDOW: u32 = 1105;
+/// Row 2's condition of a link that is none.
+pub const NO_LINK: u32 = 211;
+
+/// Of settings that come as bytes, the byte of an entry's link where it is no
+/// link; the link of the settings themselves isn't asked for there.
+pub type NoLinks = [Option<u8>; MAX_ENTRIES];
+
 /// An entry's mark if it is "B of" another.
 pub const MARK_B: u8 = 1;
 /// An entry's mark if it is an A entry that doesn't accept the family.
@@ -71,6 +81,23 @@ pub fn why(
     main: &[u8],
     xip: &[u8],
 ) -> Why {
+    let all_links = &[None; MAX_ENTRIES];
+    why_of_bytes(s, all_links, t, arrival, flash, seen, sectors, main, xip)
+}
+
+/// The same of settings that come as bytes.
+#[allow(clippy::too_many_arguments)]
+pub fn why_of_bytes(
+    s: &Settings,
+    no_links: &NoLinks,
+    t: Transfer,
+    arrival: &[u8],
+    flash: &[u8],
+    seen: &[u8],
+    sectors: &[u8],
+    main: &[u8],
+    xip: &[u8],
+) -> Why {
     let lent = Lent {
         flash,
         seen,
@@ -78,7 +105,7 @@ pub fn why(
         main,
         xip,
     };
-    let (reason, discarded) = match rows_1_to_13(s, t, arrival, lent) {
+    let (reason, discarded) = match rows_1_to_13(s, no_links, t, arrival, lent) {
         Ok(passed) => (rows_14_to_17(&passed, flash), passed.discards(t)),
         Err(reason) => (reason, false),
     };
@@ -96,7 +123,17 @@ pub fn why(
 
 /// Why the family, asked for alone, has its place or none.
 pub fn why_place(s: &Settings, flash_len: usize, family: u32) -> WhyPlace {
-    let reason = match place_alone(s, flash_len, family) {
+    why_place_of_bytes(s, &[None; MAX_ENTRIES], flash_len, family)
+}
+
+/// The same of settings that come as bytes.
+pub fn why_place_of_bytes(
+    s: &Settings,
+    no_links: &NoLinks,
+    flash_len: usize,
+    family: u32,
+) -> WhyPlace {
+    let reason = match place_alone(s, no_links, flash_len, family) {
         Ok(rule) => rule.reason(),
         Err(reason) => reason,
     };
@@ -113,9 +150,14 @@ pub fn why_place(s: &Settings, flash_len: usize, family: u32) -> WhyPlace {
 
 /// "A place asked for alone, with settings and a flash length, is refused by 1,
 /// 2 or 8, in that order."
-fn place_alone(s: &Settings, flash_len: usize, family: u32) -> Result<Rule, Reason> {
+fn place_alone(
+    s: &Settings,
+    no_links: &NoLinks,
+    flash_len: usize,
+    family: u32,
+) -> Result<Rule, Reason> {
     flash_length(flash_len)?;
-    row_2(s, flash_len)?;
+    row_2(s, no_links, flash_len)?;
     flash_rule(s, family)
 }
 
@@ -192,12 +234,13 @@ impl Passed<'_> {
 
 fn rows_1_to_13<'a>(
     s: &Settings,
+    no_links: &NoLinks,
     t: Transfer,
     arrival: &'a [u8],
     lent: Lent,
 ) -> Result<Passed<'a>, Reason> {
     row_1(arrival, lent)?;
-    row_2(s, lent.flash.len())?;
+    row_2(s, no_links, lent.flash.len())?;
     row_3(t)?;
     row_4(arrival)?;
     let block = fields(arrival);
@@ -247,21 +290,17 @@ fn comment_kind(t: Transfer, block: &Block, lent: Lent) -> Kind {
 }
 
 /// A page in a window meets 8, 9, 10 and 11 in that order; one in no window 8,
-/// which is flash's, then 9, 11 and 10.
+/// which is flash's, then 9 and 11, which never lets it pass.
 fn page(s: &Settings, block: &Block, lent: Lent) -> Result<(Kind, Place), Reason> {
     let window = kind_at(block.address, lent.lengths());
     let kind = window.unwrap_or(Kind::Flash);
     let place = row_8(s, kind, block.family, lent.flash.len())?;
     row_9(block)?;
-    if window.is_some() {
-        row_10(block, place)?;
-        row_11(block, kind, place)?;
-    } else {
-        // An address in no window never gets past 11: below the window 1101
-        // holds, and above it the sum is over every place.
-        row_11(block, kind, place)?;
-        row_10(block, place)?;
+    if window.is_none() {
+        return Err(in_no_window(block.address));
     }
+    row_10(block, place)?;
+    row_11(block, kind, place)?;
     Ok((kind, place))
 }
 
@@ -295,8 +334,9 @@ fn ram_length(cause: u32, len: usize, right: usize) -> Check {
     exact_length(cause, len, right)
 }
 
-/// Row 2, in the order of "Settings are bad if".
-fn row_2(s: &Settings, flash_len: usize) -> Check {
+/// Row 2, in the order of "Settings are bad if". A link that is none names no
+/// index below its entry's own: it is told where that would be, entry by entry.
+fn row_2(s: &Settings, no_links: &NoLinks, flash_len: usize) -> Check {
     told_if(!s.enabled(s.current), Reason::new(201, 0u8, 0u8))?;
     let most = MAX_ENTRIES as u64;
     told_if(u64::from(s.count) > most, Reason::new(202, s.count, most))?;
@@ -304,7 +344,10 @@ fn row_2(s: &Settings, flash_len: usize) -> Check {
     each(used, has_no_sectors)?;
     each(used, |k, entry| runs_past(k, entry, flash_len))?;
     each(used, |k, entry| shares_a_sector(k, entry, used))?;
-    each(used, links_not_below)?;
+    each(used, |k, entry| {
+        is_no_link(k, no_links)?;
+        links_not_below(k, entry)
+    })?;
     each(used, |k, entry| links_to_b(k, entry, used))?;
     each(used, has_too_many_users)?;
     each(used, has_a_reserved_user)
@@ -337,6 +380,14 @@ fn shares_a_sector(k: usize, entry: &Entry, used: &[Entry]) -> Check {
             other: j as u8,
             ..Reason::new(205, j as u64, k as u64).of(k)
         }),
+    }
+}
+
+/// None, owned by and B of are 0, 1 and 2.
+fn is_no_link(k: usize, no_links: &NoLinks) -> Check {
+    match no_links[k] {
+        None => Ok(()),
+        Some(byte) => Err(Reason::new(NO_LINK, byte, 2u8).of(k)),
     }
 }
 
@@ -578,7 +629,17 @@ fn row_10(block: &Block, place: Place) -> Check {
     told_if(number >= total, Reason::new(1003, number, total))
 }
 
-/// Row 11, for an address in no window as for one in flash's.
+/// Row 11, for an address in no window: it is below flash's, or else past its
+/// end and in no RAM that is there.
+fn in_no_window(address: u32) -> Reason {
+    if address < WINDOW {
+        return Reason::new(1101, address, WINDOW);
+    }
+    let window_end = u64::from(WINDOW) + MAX_FLASH_LEN as u64;
+    Reason::new(NO_WINDOW, address, window_end)
+}
+
+/// Row 11, for an address in the kind's window.
 fn row_11(block: &Block, kind: Kind, place: Place) -> Check {
     match kind {
         Kind::Flash => row_11_flash(block.address, place),
@@ -587,11 +648,10 @@ fn row_11(block: &Block, kind: Kind, place: Place) -> Check {
 }
 
 /// "Below the window, no multiple of 256, or address - 0x10000000 + 256 over
-/// the place."
+/// the place." What is below the window is in none, and was told before.
 fn row_11_flash(address: u32, place: Place) -> Check {
     let page = PAYLOAD_LEN as u64;
     let room = place.len as u64;
-    told_if(address < WINDOW, Reason::new(1101, address, WINDOW))?;
     let ragged = !u64::from(address).is_multiple_of(page);
     told_if(ragged, Reason::new(1102, address, page))?;
     let sum = u64::from(address - WINDOW) + page;

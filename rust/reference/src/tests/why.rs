@@ -4,7 +4,8 @@ use std::collections::BTreeMap;
 
 use super::*;
 use crate::md5::md5;
-use crate::why::{why, why_place, Why, WhyPlace, BY_ABSOLUTE, BY_ENTRY, BY_NO_TABLE};
+use crate::why::{why, why_of_bytes, why_place, why_place_of_bytes, NoLinks, Why, WhyPlace};
+use crate::why::{BY_ABSOLUTE, BY_ENTRY, BY_NO_TABLE, NO_LINK, NO_WINDOW};
 
 const LEN: usize = 65_536;
 const USER: u32 = 0x1234_5678;
@@ -16,11 +17,11 @@ const MAGIC_4: u32 = 0x9E5D_5157;
 const MAGIC_508: u32 = 0x0AB1_6F30;
 
 /// Every condition there is.
-const CAUSES: [u32; 54] = [
+const CAUSES: [u32; 55] = [
     101, 102, 103, 104, 105, 106, 107, 108, 201, 202, 203, 204, 205, 206, 207, 208, 209, 301, 302,
     303, 304, 305, 401, 402, 403, 501, 701, 801, 802, 803, 804, 805, 806, 807, 901, 1001, 1002,
-    1003, 1101, 1102, 1103, 1104, 1201, 1301, 1401, 1402, 1403, 1404, 1405, 1406, 1407, 1501, 1601,
-    1701,
+    1003, 1101, NO_WINDOW, 1102, 1103, 1104, 1201, 1301, 1401, 1402, 1403, 1404, 1405, 1406, 1407,
+    1501, 1601, 1701,
 ];
 
 /// An arrival with all that it meets.
@@ -646,30 +647,138 @@ fn a_page_in_no_window() {
         (|c| c.family(ARM_S), plain(901, 1, 256)),
         (|c| c.size(256), plain(1101, 0x0FFF_FF01, 0x1000_0000)),
         (|c| c.address(0), plain(1101, 0, 0x1000_0000)),
-        (|c| c.address(0x1200_0001), plain(1102, 0x1200_0001, 256)),
-        (|c| c.address(0x1200_0000), plain(1103, 33_554_688, 8192)),
-        (|c| c.address(0xFFFF_FF00), plain(1103, 0xF000_0000, 8192)),
+        (
+            |c| c.address(0x1200_0001),
+            plain(NO_WINDOW, 0x1200_0001, 0x1200_0000),
+        ),
+        (
+            |c| c.address(0x1200_0000),
+            plain(NO_WINDOW, 0x1200_0000, 0x1200_0000),
+        ),
+        (
+            |c| c.address(0xFFFF_FF00),
+            plain(NO_WINDOW, 0xFFFF_FF00, 0x1200_0000),
+        ),
         // In the window it is 10 that goes first.
         (|c| c.address(0x1000_2001), plain(1001, 0, 0)),
     ];
     chain(&mut case, &steps);
-    // A window without its buffer is none.
+    // A window without its buffer is none; a multiple of 256 isn't asked for.
+    for address in [
+        MAIN,
+        MAIN + 1,
+        0x2008_1FFF,
+        0x2008_2000,
+        XIP - 1,
+        XIP,
+        XIP + 255,
+        0x1400_0000,
+        0x1200_0000,
+        u32::MAX,
+    ] {
+        case.address(address);
+        assert_eq!(case.why(), plain(NO_WINDOW, address.into(), 0x1200_0000));
+    }
+    case.address(0x0FFF_FFFF);
+    assert_eq!(case.why(), plain(1101, 0x0FFF_FFFF, 0x1000_0000));
+    // The largest place ends where the window does.
+    case.bench.settings = NO_TABLE;
+    case.bench.flash = vec![0; 33_554_432];
+    case.address(0x1200_0000);
+    assert_eq!(case.why(), plain(NO_WINDOW, 0x1200_0000, 0x1200_0000));
+    case.numbers(0, 1);
+    case.bench.transfer = Transfer::Idle;
+    case.address(0x11FF_FF00);
+    assert_eq!(case.why(), plain(1501, 1, 1));
+    case.address(0x11FF_FFFF);
+    assert_eq!(case.why(), plain(1102, 0x11FF_FFFF, 256));
+    // A RAM that is there has its window, and no other.
+    let mut case = Case::new(Bench::new(NO_TABLE, LEN), ONLY);
+    case.bench.main = vec![0; MAIN_LEN];
     for (address, expected) in [
-        (MAIN, plain(1103, 0x1000_0100, 8192)),
-        (MAIN + 1, plain(1102, 0x2000_0001, 256)),
-        (XIP, plain(1103, 0x03ff_c100, 8192)),
-        (XIP + 255, plain(1102, 0x13ff_c0ff, 256)),
-        (0x1400_0000, plain(1103, 0x0400_0100, 8192)),
-        (0x2008_2000, plain(1103, 0x1008_2100, 8192)),
+        (MAIN - 1, plain(NO_WINDOW, 0x1FFF_FFFF, 0x1200_0000)),
+        (MAIN, plain(1501, 1, 1)),
+        (0x2008_1F01, plain(1104, 0x2008_2001, 0x2008_2000)),
+        (0x2008_1FFF, plain(1104, 0x2008_20FF, 0x2008_2000)),
+        (0x2008_2000, plain(NO_WINDOW, 0x2008_2000, 0x1200_0000)),
+        (XIP, plain(NO_WINDOW, 0x13ff_c000, 0x1200_0000)),
     ] {
         case.address(address);
         assert_eq!(case.why(), expected);
     }
-    // The largest place is still too small there.
-    case.bench.settings = NO_TABLE;
-    case.bench.flash = vec![0; 33_554_432];
-    case.address(0x1200_0000);
-    assert_eq!(case.why(), plain(1103, 33_554_688, 33_554_432));
+}
+
+/// A link that is none is told where an index not below would be: after the
+/// conditions before that, and for the first entry with either.
+#[test]
+fn links_that_are_none() {
+    let told = |s: Settings, no_links: &NoLinks, len: usize| {
+        let bench = Bench::new(s, len);
+        let w = why_of_bytes(
+            &s,
+            no_links,
+            Transfer::Idle,
+            &arrival(ONLY),
+            &bench.flash,
+            &bench.seen,
+            &bench.sectors,
+            &[],
+            &[],
+        );
+        let alone = why_place_of_bytes(&s, no_links, len, ARM_S);
+        if w.answer <= 2 {
+            assert_eq!(of_place(&alone), w);
+        }
+        w
+    };
+    let at = |k: usize, byte| {
+        let mut no_links = [None; 16];
+        no_links[k] = Some(byte);
+        no_links
+    };
+    let mut s = with_table(&[arm_s(0, 1), arm_s(1, 1), arm_s(2, 1), arm_s(3, 1)]);
+    for byte in [3, 4, 255] {
+        for k in 0..4 {
+            let expected = of_entry(NO_LINK, byte.into(), 2, k as u8);
+            assert_eq!(told(s, &at(k, byte), LEN), expected);
+        }
+        // Of an entry that isn't used nothing is asked.
+        for k in 4..16 {
+            assert_eq!(told(s, &at(k, byte), LEN), plain(1501, 1, 1));
+        }
+    }
+    let mut both = at(1, 9);
+    both[3] = Some(3);
+    assert_eq!(told(s, &both, LEN), of_entry(211, 9, 2, 1));
+    // Entry by entry with 206.
+    s.table[2].link = Link::OwnedBy(2);
+    assert_eq!(told(s, &both, LEN), of_entry(211, 9, 2, 1));
+    assert_eq!(told(s, &at(3, 3), LEN), of_entry(206, 2, 2, 2));
+    assert_eq!(told(s, &at(2, 3), LEN), of_entry(211, 3, 2, 2));
+    s.table[2].link = Link::None;
+    // All that is after it, in an earlier entry.
+    s.table[0].user_count = 5;
+    assert_eq!(told(s, &both, LEN), of_entry(211, 9, 2, 1));
+    s.table[0].user_count = 0;
+    (s.table[1].link, s.table[2].link) = (Link::BOf(0), Link::BOf(1));
+    assert_eq!(told(s, &at(3, 3), LEN), of_entry(211, 3, 2, 3));
+    assert_eq!(told(s, &[None; 16], LEN), of_entry(207, 1, 2, 2));
+    // What is before it, in a later entry or of none.
+    let shares = Why {
+        other: 3,
+        ..of_entry(205, 3, 2, 2)
+    };
+    s.table[3].first = 2;
+    assert_eq!(told(s, &both, LEN), shares);
+    s.table[3].first = 16;
+    assert_eq!(told(s, &both, LEN), of_entry(204, 69_632, 65_536, 3));
+    s.table[3].sectors = 0;
+    assert_eq!(told(s, &both, LEN), of_entry(203, 0, 0, 3));
+    s.count = 17;
+    assert_eq!(told(s, &both, LEN), plain(202, 17, 16));
+    s.arm = false;
+    assert_eq!(told(s, &both, LEN), plain(201, 0, 0));
+    assert_eq!(told(s, &both, LEN - 1), plain(102, 65_535, 4096));
 }
 
 #[test]
@@ -1123,6 +1232,7 @@ fn fits(w: &Why) -> bool {
         501 => against == 0x1000 && got & against != 0,
         701 => against == 0x2000 && got & against == 0,
         801..=807 => against == 0 && got <= 0xFFFF_FFFF,
+        NO_WINDOW => against == 0x1200_0000 && (against..1 << 32).contains(&got),
         1201 | 1301 => got < against,
         1401..=1407 | 1601 | 1701 => 1 <= got && got < against,
         1501 => got == against,
