@@ -7,6 +7,7 @@ use crate::out::Out;
 use crate::{files, names, End, Outcome, Trouble};
 use proved::hex::{Board, HexAnswer, Reader, State};
 use std::collections::BTreeMap;
+use tools::{JoinRefusal, HEX_FILE_BYTES};
 
 /// Its page of help.
 pub const HELP: &str = "\
@@ -46,12 +47,32 @@ struct Left {
     address: Option<u64>,
 }
 
+impl Left {
+    /// What an address is that no image of the chip's flash has.
+    fn region(&self) -> Option<&'static str> {
+        match self.address? {
+            0x1000_1000..0x1000_2000 => {
+                Some("UICR, the chip's own settings, which no image of its flash has")
+            }
+            0x1000_0000..0x1000_1000 => {
+                Some("FICR, what the chip says of itself, which no image of its flash has")
+            }
+            x if x >= proved::hex::IMAGE_MAX_BYTES as u64 => {
+                Some("which no image of the chip's flash has")
+            }
+            _ => None,
+        }
+    }
+}
+
 /// What came of a file.
 struct Read {
     answers: Vec<HexAnswer>,
     left: Vec<Left>,
     image: Vec<u8>,
     ended: bool,
+    /// It failed, and it is a plain Intel Hex file.
+    plain: bool,
 }
 
 impl Read {
@@ -91,6 +112,7 @@ fn read(file: &[u8], board: Board, len: usize) -> Read {
         left: Vec::new(),
         image: vec![0xFF; len],
         ended: false,
+        plain: false,
     };
     for line in file.split_inclusive(|&c| c == b'\n') {
         let answer = reader.line(line, &mut read.image);
@@ -102,11 +124,19 @@ fn read(file: &[u8], board: Board, len: usize) -> Read {
             });
         }
         if answer.is_failure() {
+            read.plain = is_plain(file);
             return read;
         }
     }
     read.ended = reader.state == State::Ended;
     read
+}
+
+/// Whether a file is a plain Intel Hex file, as the proved joiner has it.
+fn is_plain(file: &[u8]) -> bool {
+    let mut output = vec![0; HEX_FILE_BYTES];
+    let joined = tools::join(file, file, &mut output);
+    matches!(joined, Ok(_) | Err(JoinRefusal::OutputTooLong))
 }
 
 fn board(args: &Args) -> Result<Board, Trouble> {
@@ -141,7 +171,7 @@ pub fn run(args: &Args, out: &mut Out) -> Outcome {
         files::write(image, &read.image)?;
     }
     if args.flag("--json") {
-        out.line(json(name, board, &read));
+        out.line(json(name, board, &read, args.flag("-v")));
     } else {
         if args.flag("-v") {
             for (k, answer) in (1..).zip(&read.answers) {
@@ -170,9 +200,12 @@ fn words(name: &str, board: Board, read: &Read, image: Option<&str>, out: &mut O
         out.line(format_args!("  {name:16}{n:7}  {place}{meaning}"));
     }
     for left in read.left.iter().take(LISTED) {
-        let at = match left.address {
-            Some(address) => format!(", for address 0x{address:08x}"),
-            None => String::new(),
+        let at = match (left.address, left.region()) {
+            (Some(address), Some(region)) => {
+                format!(", for address 0x{address:08x}: {region}")
+            }
+            (Some(address), None) => format!(", for address 0x{address:08x}"),
+            (None, _) => String::new(),
         };
         out.line(format_args!("left out: line {}{at}", left.line));
     }
@@ -191,25 +224,44 @@ fn words(name: &str, board: Board, read: &Read, image: Option<&str>, out: &mut O
 /// The last sentence: whether the image is whole.
 fn verdict(read: &Read) -> String {
     const BEWARE: &str = "There is no image to flash.";
+    const PLAIN: &str = " This is a plain Intel Hex file, of one board: `vantorel join V1.hex V2.hex -o OUT.hex` makes a Universal Hex file of two.";
     match (read.failed(), read.left.len()) {
         (Some((line, answer)), _) => format!(
-            "NOT WHOLE: line {line} failed, {}: {}. {BEWARE}",
+            "NOT WHOLE: line {line} failed, {}: {}. {BEWARE}{}",
             names::line(answer),
-            names::line_meaning(answer)
+            names::line_meaning(answer),
+            if read.plain { PLAIN } else { "" }
         ),
         (None, _) if !read.ended => {
             format!("NOT WHOLE: the file stops before its end record. {BEWARE}")
         }
         (None, 0) => "WHOLE: the file was read to its end, and nothing was left out.".into(),
         (None, n) => format!(
-            "NOT WHOLE: the file was read to its end, but {} for this board {} left out, outside of the image.",
+            "NOT WHOLE: the file was read to its end, but {} for this board {} left out, outside of the image{}.",
             count(n as u64, "record"),
-            if n == 1 { "was" } else { "were" }
+            if n == 1 { "was" } else { "were" },
+            match read.left.iter().filter(|left| left.region().is_some()).count() {
+                0 => String::new(),
+                k if k == n => "; no image of the chip's flash has such addresses".into(),
+                k => format!("; of {k} of them no image of the chip's flash has the address"),
+            }
         ),
     }
 }
 
-fn json(name: &str, board: Board, read: &Read) -> Json {
+/// Each line with its answer, where it was asked for.
+fn takes(read: &Read, each: bool) -> Option<Json> {
+    let takes = (1u64..).zip(&read.answers).map(|(line, answer)| {
+        Json::Object(vec![
+            ("line", line.into()),
+            ("answer", u32::from(answer.number()).into()),
+            ("name", names::line_name(*answer).into()),
+        ])
+    });
+    each.then(|| Json::list(takes))
+}
+
+fn json(name: &str, board: Board, read: &Read, each: bool) -> Json {
     let answers = read.counts().into_values().map(|(answer, n)| {
         Json::Object(vec![
             ("answer", u32::from(answer.number()).into()),
@@ -233,6 +285,7 @@ fn json(name: &str, board: Board, read: &Read) -> Json {
         Json::Object(vec![
             ("line", left.line.into()),
             ("address", left.address.into()),
+            ("region", left.region().into()),
         ])
     });
     Json::Object(vec![
@@ -245,6 +298,8 @@ fn json(name: &str, board: Board, read: &Read) -> Json {
         ("failed", failed.into()),
         ("ended", read.ended.into()),
         ("whole", read.whole().into()),
+        ("plain", read.plain.into()),
+        ("takes", takes(read, each).into()),
         ("verdict", verdict(read).into()),
     ])
 }

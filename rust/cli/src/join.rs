@@ -103,6 +103,9 @@ impl Inputs<'_> {
 
     fn refusal_json(&self, refusal: JoinRefusal) -> Json {
         let mut fields = vec![("answer", u32::from(refusal.number()).into())];
+        if refusal == JoinRefusal::OutputTooLong {
+            fields.push(("name", "FileTooLong".into()));
+        }
         if let JoinRefusal::Plain {
             board,
             line,

@@ -1,6 +1,6 @@
 //! `vantorel hex`.
 
-use crate::common::{plain, stored, Folder};
+use crate::common::{plain, record, stored, Folder};
 
 /// Two boards' files joined: 20 bytes for V1 from 0x100 on, and 3 for V2.
 fn joined() -> Folder {
@@ -182,4 +182,45 @@ fn wrong_words() {
         "hex both.hex --board v1 --image x/y",
         "cannot write x/y: No such file or directory",
     );
+}
+
+/// A plain file for one board gets a hint at `join`; a broken Universal Hex file gets none.
+#[test]
+fn a_plain_file() {
+    let folder = joined();
+    let hint = " There is no image to flash. This is a plain Intel Hex file, of one board: `vantorel join V1.hex V2.hex -o OUT.hex` makes a Universal Hex file of two.\n";
+    folder.put("data.hex", record(0, 0, &[1, 2]) + ":00000001FF\n");
+    for name in ["v1.hex", "data.hex"] {
+        let ran = folder.ends(1, &format!("hex {name} --board v1"));
+        assert!(ran.out.ends_with(hint), "{}", ran.out);
+    }
+    let both = String::from_utf8(folder.get("both.hex")).expect("text");
+    folder.put("bad.hex", both.replace(":00000001FF", ":00000001FE"));
+    let ran = folder.ends(1, "hex bad.hex --board v1");
+    assert!(!ran.out.contains("plain"), "{}", ran.out);
+    folder.ends(0, "join v1.hex data.hex -o OUT.hex");
+}
+
+/// Records of the chip's own settings are named as such.
+#[test]
+fn addresses_that_no_image_has() {
+    let folder = Folder::new();
+    let data = plain(0x100, &[1; 20]).replace(":00000001FF\n", "");
+    let all = data.clone()
+        + &plain(0x1000_10c0, &[2; 4]).replace(":00000001FF\n", "")
+        + &plain(0x2000_0000, &[3; 4]);
+    folder.put("v1.hex", all);
+    folder.put("v2.hex", plain(0, &[2; 3]));
+    folder.ends(0, "join v1.hex v2.hex -o both.hex");
+    let ran = folder.ends(1, "hex both.hex --board v1 --image v1.bin");
+    assert!(ran.out.contains(", for address 0x100010c0: UICR, the chip's own settings, which no image of its flash has\n"), "{}", ran.out);
+    assert!(
+        ran.out
+            .contains(", for address 0x20000000: which no image of the chip's flash has\n"),
+        "{}",
+        ran.out
+    );
+    assert!(ran.out.ends_with("2 records for this board were left out, outside of the image; no image of the chip's flash has such addresses.\n"), "{}", ran.out);
+    let ran = folder.ends(1, "hex both.hex --board v1 --bytes 0x110");
+    assert!(ran.out.ends_with("3 records for this board were left out, outside of the image; of 2 of them no image of the chip's flash has the address.\n"), "{}", ran.out);
 }

@@ -134,7 +134,7 @@ fn of_hex_files() {
     has(
         &text,
         &[
-            "\"left_out\": [{\"line\": 4, \"address\": 16}]",
+            "\"left_out\": [{\"line\": 4, \"address\": 16, \"region\": null}]",
             "\"ended\": true, \"whole\": false",
         ],
     );
@@ -143,6 +143,30 @@ fn of_hex_files() {
         &text,
         &["\"failed\": {\"line\": 1, \"answer\": 22, \"name\": \"BadDigit\", \"position\": 8}"],
     );
+}
+
+/// Each line too, with `-v`, as `load` has each arrival.
+#[test]
+fn of_each_line_of_hex() {
+    let folder = Folder::new();
+    folder.put("v1.hex", plain(0, &[1; 20]));
+    folder.ends(0, "join v1.hex v1.hex -o both.hex");
+    let text = json(&folder, 0, "hex both.hex --board v1 -v");
+    has(
+        &text,
+        &[
+            "\"takes\": [{\"line\": 1, \"answer\": 34, \"name\": \"Passed\"}, ",
+            "{\"line\": 3, \"answer\": 33, \"name\": \"Stored\"}",
+        ],
+    );
+    assert_eq!(
+        text.matches("{\"line\": ").count(),
+        String::from_utf8_lossy(&folder.get("both.hex"))
+            .lines()
+            .count()
+    );
+    let text = json(&folder, 1, "hex v1.hex --board v1");
+    has(&text, &["\"plain\": true, \"takes\": null"]);
 }
 
 #[test]
