@@ -26,9 +26,15 @@ pub fn words(number: u32) -> String {
     }
 }
 
-/// The number of a family that is said by name or as a number; else what to say instead.
+/// The number of a family that is said by name or as a number; else what to say instead. A name may be in upper case, with the chip before it and
+/// with underscores, as other tools write it: RP2350_ARM_S.
 pub fn parse(text: &str) -> Result<u32, String> {
-    if let Some((_, number)) = NAMES.iter().find(|(name, _)| *name == text) {
+    let plain = text.to_ascii_lowercase().replace('_', "-");
+    let plain = match plain.strip_prefix("rp2350-") {
+        Some(family @ ("arm-s" | "riscv" | "arm-ns")) => family,
+        _ => &plain,
+    };
+    if let Some((_, number)) = NAMES.iter().find(|(name, _)| *name == plain) {
         return Ok(*number);
     }
     number::parse_u32(text).ok_or_else(|| {
@@ -47,6 +53,13 @@ mod tests {
     fn by_name_and_number() {
         assert_eq!(parse("arm-s"), Ok(0xe48b_ff59));
         assert_eq!(parse("0xe48bff59"), Ok(0xe48b_ff59));
+        for name in ["ARM-S", "rp2350-arm-s", "RP2350-ARM-S", "RP2350_ARM_S"] {
+            assert_eq!(parse(name), Ok(0xe48b_ff59), "{name}");
+        }
+        assert_eq!(parse("rp2350-riscv"), Ok(0xe48b_ff5a));
+        assert_eq!(parse("RP2350-ARM-NS"), Ok(0xe48b_ff5b));
+        assert_eq!(parse("Data"), Ok(0xe48b_ff58));
+        assert!(parse("rp2350-data").is_err() && parse("rp2350-rp2350-arm-s").is_err());
         assert_eq!(parse("7"), Ok(7));
         assert!(parse("e48bff59").is_err() && parse("0x100000000").is_err() && parse("").is_err());
         assert_eq!(words(0xe48b_ff5a), "riscv (0xe48bff5a)");

@@ -53,7 +53,7 @@ fn images_of_which_no_file_is_made() {
         (
             "ragged",
             "0x10000000",
-            "50 BadImage: the image is empty, or no whole pages of 256 bytes: ragged has 300 bytes; fill it up to 512",
+            "50 BadImage: the image is empty, or no whole pages of 256 bytes: ragged has 300 bytes; --pad 0xFF or --pad 0x00 fills it up to 512",
         ),
         (
             "two",
@@ -153,4 +153,68 @@ fn a_link_stays() {
     folder.ends(0, "make one -o link --family data --start 0x10000000");
     assert_eq!(folder.get("real").len(), 512);
     assert!(folder.path().join("link").is_symlink());
+}
+
+/// An image that is no whole number of pages is filled up where that is said.
+#[test]
+fn the_last_page_filled_up() {
+    let folder = Folder::new();
+    folder.put("ragged", [7; 300]);
+    folder.put("whole", [7; 256]);
+    for (pad, byte) in [
+        ("0xFF", 0xFF),
+        ("0xff", 0xFF),
+        ("255", 0xFF),
+        ("0x00", 0),
+        ("0", 0),
+    ] {
+        let line = format!("make ragged -o out.uf2 --family arm-s --start 0x10000000 --pad {pad}");
+        let ran = folder.ends(0, &line);
+        assert_eq!(ran.out, "out.uf2: 2 blocks of family arm-s (0xe48bff59), for 0x10000000 to 0x100001ff, the last 212 bytes by --pad\n");
+        let file = folder.get("out.uf2");
+        assert!(file[512 + 32..512 + 76].iter().all(|&b| b == 7));
+        assert!(file[512 + 76..512 + 288].iter().all(|&b| b == byte));
+    }
+    let line = "--family arm-s --start 0x10000000 --pad 0xFF";
+    let ran = folder.ends(0, &format!("make whole -o out.uf2 {line}"));
+    assert!(
+        ran.out.ends_with("for 0x10000000 to 0x100000ff\n"),
+        "{}",
+        ran.out
+    );
+    folder.put("empty", []);
+    let ran = folder.ends(1, &format!("make empty -o no.uf2 {line}"));
+    assert!(ran.err.contains("50 BadImage"), "{}", ran.err);
+    folder.wrong(
+        "make ragged -o no.uf2 --family arm-s --start 0x10000000 --pad 7",
+        "make: --pad is 0xFF or 0x00; `vantorel make --help` says how",
+    );
+}
+
+/// What begins as another kind of file is made, with a warning.
+#[test]
+fn what_begins_as_no_image() {
+    let folder = Folder::new();
+    for (start, kind) in [
+        (&b"UF2\nWQ]\x9e"[..], "a UF2 file"),
+        (b"\x7fELF\x01", "an ELF file"),
+        (b":020000040000FA\n", "an Intel Hex file"),
+    ] {
+        let mut image = [0; 256];
+        image[..start.len()].copy_from_slice(start);
+        folder.put("image", image);
+        let ran = folder.ends(0, "make image -o out.uf2 --family arm-s --start 0x10000000");
+        assert_eq!(ran.err, format!("vantorel: warning: image begins as {kind}, which is no image: its bytes are taken as they are\n"));
+    }
+    folder.put("image", [b':'; 256]);
+    let ran = folder.ends(
+        0,
+        "make image -o out.uf2 --family RP2350_ARM_S --start 0x10000000",
+    );
+    assert_eq!(ran.err, "");
+    assert!(
+        ran.out.contains("of family arm-s (0xe48bff59)"),
+        "{}",
+        ran.out
+    );
 }
