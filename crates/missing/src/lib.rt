@@ -9,7 +9,7 @@ use transfer::State;
 use transfer::Transfer;
 
 // The least number below a total that is not marked, and the total where each is.
-fn first_missing(map: &[u8], total: u32) -> u32
+pub fn first_missing(map: &[u8], total: u32) -> u32
     ensures { λ r. ⌜ r ≡ least total (isMissing (now (map .entry))) ⌝ }
 {
     let mut k: u32 = 0;
