@@ -6,7 +6,7 @@ fn main() {
     let here = std::env::var("CARGO_MANIFEST_DIR").expect("cargo sets it");
     let folder = Path::new(&here).join("../../target/staticlib");
     println!("cargo:rustc-link-search=native={}", folder.display());
-    for name in ["toolsapi", "traceapi", "partapi", "whyapi"] {
+    for name in ["toolsapi", "traceapi", "partapi", "whyapi", "checkapi"] {
         println!("cargo:rustc-link-lib=static={name}");
         println!(
             "cargo:rerun-if-changed={}",

@@ -17,7 +17,7 @@ int memcmp(const void *one, const void *other, size_t n);
 const char *const play_names[PLAY_KINDS] = {"uf2_new", "uf2_ask", "uf2_look", "uf2_take", "uf2_take_all", "uf2_accept", "uhex_new", "uhex_line",
                                             "uf2_tag_first", "uf2_tag", "uf2_tag_find", "uf2_make_check", "uf2_make", "uf2_make_block", "uf2_md5",
                                             "uhex_join", "uf2_replay", "uf2_figures", "uf2_store_write", "uf2_store_read", "uf2_why",
-                                            "uf2_why_place"};
+                                            "uf2_why_place", "uf2_check"};
 
 struct play_end play_ends[PLAY_KINDS];
 
@@ -714,6 +714,7 @@ int play(void) {
     play_lines();
     good = play_tools() && good;
     good = play_kept() && good;
+    good = play_check() && good;
     good = good && met(PLAY_ASK, 0, 2, 6) && play_ends[PLAY_ASK].answers[UF2_ANSWER_NO_PLACE] > 0;
     good = good && met(PLAY_LOOK, 1, 17, 6) && met(PLAY_TAKE, 1, 17, 6) && met(PLAY_TAKE_ALL, 1, 17, 6) && met(PLAY_LINE, 18, 36, 0);
 #ifdef UF2_PLAN_SIZE

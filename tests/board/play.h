@@ -1,6 +1,6 @@
 /* The play: pseudo-random inputs handed to every call, every answer and every lent byte hashed. play.c has the calls of
- * include/uf2_receiver.h, play_tools.c those of uf2_tags.h and uf2_tools.h, play_kept.c those of uf2_store.h and uf2_why.h. It is the same
- * on every machine, so that a library of another machine that gives the same hashes has answered as the host's does. */
+ * include/uf2_receiver.h, play_tools.c those of uf2_tags.h and uf2_tools.h, play_kept.c those of uf2_store.h and uf2_why.h,
+ * play_check.c that of uf2_check.h. It is the same on every machine, so that a library of another machine that gives the same hashes has answered as the host's does. */
 #ifndef PLAY_H
 #define PLAY_H
 
@@ -14,7 +14,7 @@
 enum play_kind {
     PLAY_NEW, PLAY_ASK, PLAY_LOOK, PLAY_TAKE, PLAY_TAKE_ALL, PLAY_ACCEPT, PLAY_HEX_NEW, PLAY_LINE,
     PLAY_TAG_FIRST, PLAY_TAG, PLAY_TAG_FIND, PLAY_MAKE_CHECK, PLAY_MAKE, PLAY_MAKE_BLOCK, PLAY_MD5, PLAY_JOIN, PLAY_REPLAY, PLAY_FIGURES,
-    PLAY_STORE_WRITE, PLAY_STORE_READ, PLAY_WHY, PLAY_WHY_PLACE, PLAY_KINDS
+    PLAY_STORE_WRITE, PLAY_STORE_READ, PLAY_WHY, PLAY_WHY_PLACE, PLAY_CHECK, PLAY_KINDS
 };
 
 extern const char *const play_names[PLAY_KINDS];
@@ -93,12 +93,13 @@ void add_block(const struct play_buffers *at, uint32_t address);
 void add_small(const struct play_buffers *at);
 void add_all(const struct play_buffers *at);
 
-/* The parts of play_tools.c and play_kept.c. Whether each answer was given. */
+/* The parts of play_tools.c, play_kept.c and play_check.c. Whether each answer was given. */
 int play_tools(void);
 int play_kept(void);
+int play_check(void);
 
 /* Plays all kinds. Whether each answer that a call can give was given, uf2_accept with its plan performed did what uf2_take does, uf2_why answered
- * as uf2_look and uf2_why_place as uf2_ask, and each store that was written was read. */
+ * as uf2_look and uf2_why_place as uf2_ask, each store that was written was read, and each file that uf2_check found valid completed. */
 int play(void);
 
 #endif

@@ -6,6 +6,7 @@
  *     gcc -std=c99 -Wl,-z,now -Iinclude tests/c/stack.c target/staticlib/lib*.a -o stack
  */
 #define _XOPEN_SOURCE 700
+#include "uf2_check.h"
 #include "uf2_receiver.h"
 #include "uf2_store.h"
 #include "uf2_tags.h"
@@ -143,6 +144,13 @@ static void call_why_place(void) {
     uf2_why_place(settings, sizeof settings, sizeof flash, UF2_FAMILY_ARM_S, reason, sizeof reason);
 }
 
+static uint8_t numbers[UF2_CHECK_NUMBERS_SIZE], cells[UF2_CHECK_CELLS_SIZE], offsets[UF2_CHECK_OFFSETS_SIZE], found[UF2_TOLD_SIZE];
+
+static void call_check(void) {
+    uf2_check(settings, sizeof settings, arrivals, sizeof arrivals, sizeof flash, sizeof main_ram, sizeof xip_ram, numbers, sizeof numbers, cells,
+              sizeof cells, offsets, sizeof offsets, found, sizeof found);
+}
+
 /* ---- how */
 
 static size_t used(void (*call)(void)) {
@@ -204,10 +212,11 @@ int main(void) {
     static const char *const file[] = {":020000040000FA\n", ":0400000A9900C0DEBB\n", ":040000001122334452\r\n",
                                        ":10000000000102030405060708090A0B0C0D0E0F78\n", "x"};
     static const uint32_t starts[] = {UF2_FLASH_START, UF2_MAIN_RAM_START, UF2_XIP_RAM_START};
-    size_t ask = 0, look = 0, one = 0, accept = 0, all = 0, hex = 0, why = 0, why_place = 0, i;
+    size_t ask = 0, look = 0, one = 0, accept = 0, all = 0, hex = 0, why = 0, why_place = 0, check, i;
     uint8_t counts[] = {0, 16, 17}, k;
 
     empty = used(nothing);
+    check = used(call_check) - empty; /* no settings */
     tell("uf2_new", used(call_new) - empty);
     for (k = 0; k < 3 * sizeof counts; k++) {
         table(counts[k / 3]);
@@ -216,12 +225,14 @@ int main(void) {
             block(arrivals + i * UF2_ARRIVAL_SIZE, starts[k % 3], (uint32_t)i);
         ask = larger(ask, used(call_ask) - empty);
         why_place = larger(why_place, used(call_why_place) - empty);
+        check = larger(check, used(call_check) - empty); /* a valid file */
         /* written, the same again, refused by its address, no block */
         for (i = 0; i < 4; i++) {
             arrivals[15] = (uint8_t)(i == 2 ? 0xFF : starts[k % 3] >> 24);
             arrivals[0] = (uint8_t)(i == 3 ? 0 : 0x55);
             look = larger(look, used(call_look) - empty);
             why = larger(why, used(call_why) - empty);
+            check = larger(check, used(call_check) - empty);
             one = larger(one, used(call_take) - empty);
         }
         /* the same four, accepted from a fresh transfer */
@@ -243,6 +254,7 @@ int main(void) {
     tell("uf2_look", look);
     tell("uf2_why", why);
     tell("uf2_why_place", why_place);
+    tell("uf2_check", check);
     tell("uf2_take", one);
     tell("uf2_accept", accept);
     tell("uf2_take_all", all);

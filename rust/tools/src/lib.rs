@@ -1,10 +1,11 @@
 //! The proved tools for Rust: safe calls of their C interface (include/uf2_tools.h).
 //!
-//! [`make`] writes the UF2 file of an image; a tool that streams asks [`check`] and writes with [`write_block`]. [`md5`] is the digest of
+//! [`make`] writes the UF2 file of an image; a tool that streams asks [`fn@check`] and writes with [`write_block`]. [`md5`] is the digest of
 //! RFC 1321. [`join`] writes one Universal Hex file from two plain Intel Hex files. [`trace::replay`] replays what a site's host sent, and
-//! [`report::add`] adds such a trace to exact figures over many; [`part::Part`] is such figures made in pieces (include/uf2_parts.h). [`why::explain`] says why an arrival is answered as it is, and [`why::explain_place`]
-//! why a family has a place or none (include/uf2_why.h). Nothing has to be checked before a call, nothing is allocated or kept between calls. It links
-//! `libtoolsapi.a`, `libtraceapi.a`, `libpartapi.a` and `libwhyapi.a` in `target/staticlib`, which `rt staticlib` writes: code for x86-64 Linux.
+//! [`report::add`] adds such a trace to exact figures over many; [`part::Part`] is such figures made in pieces (include/uf2_parts.h).
+//! [`why::explain`] says why an arrival is answered as it is, and [`why::explain_place`] why a family has a place or none (include/uf2_why.h);
+//! [`check::check`] whether a file is valid for a board (include/uf2_check.h). Nothing is allocated or kept between calls. It links `libtoolsapi.a`,
+//! `libtraceapi.a`, `libpartapi.a`, `libwhyapi.a` and `libcheckapi.a` in `target/staticlib`, which `rt staticlib` writes: code for x86-64 Linux.
 //!
 //! ```
 //! let image = [7; 512];
@@ -21,6 +22,7 @@
 #![no_std]
 #![deny(missing_docs)]
 
+pub mod check;
 mod ffi;
 mod join;
 pub mod part;
