@@ -75,7 +75,9 @@ impl Args {
 
     fn say_value(&mut self, name: &'static str, value: Option<String>) -> Result<(), Trouble> {
         match value {
-            Some(value) if !value.is_empty() && !value.starts_with('-') => {
+            Some(value)
+                if value == files::STANDARD || !value.is_empty() && !value.starts_with('-') =>
+            {
                 self.say(name, Some(value), None)
             }
             _ => self.wrong(format!("{name} wants a value")),
@@ -141,7 +143,7 @@ impl Args {
         for (name, value) in &self.said {
             if options.iter().any(|opt| opt.name() == *name) {
                 words.push(name.to_string());
-                words.extend(value.clone());
+                words.extend(value.as_deref().map(files::quoted_name));
             }
         }
         words

@@ -12,15 +12,24 @@ use tools::why::{explain, Lent, Reason};
 
 /// The part of a page of help that is about the board.
 pub const HELP: &str = "\
-BOARD, where no option is said, is the board of `receive`: Arm alone, the family absolute allowed, no partition table, no RAM, an erased flash;
-but the flash is as large as the file and the partitions of --settings need, in whole sectors of 4,096 bytes.
-  --flash BYTES         the flash's length: 4096, 0x8000, 64K, 2M; whole sectors, at most 32M
-  --settings STORE      the settings of a store, which `vantorel settings pack` writes; none of the next five options stands beside it
-  --arm --riscv         the architectures that are enabled; Arm, where neither is said
-  --current NAME        the current one, arm or riscv; Arm, where both are enabled
+BOARD, where no option is said, is the board of `receive`: Arm alone, the family
+absolute allowed, no partition table, no RAM, an erased flash; but the flash is
+as large as the file and the partitions of --settings need, in whole sectors of
+4,096 bytes.
+  --flash BYTES         the flash's length: 4096, 0x8000, 64K, 2M; whole
+                        sectors, at most 32M
+  --settings STORE      the settings of a store, which `vantorel settings pack`
+                        writes; none of the next five options stands beside it
+  --arm --riscv         the architectures that are enabled; Arm, where neither
+                        is said
+  --current NAME        the current one, arm or riscv; Arm, where both are
+                        enabled
   --auto-switch         an image for the other architecture is placed as well
-  --absolute            the family absolute is allowed. Where one of --arm, --riscv, --current, --auto-switch is said, it is not without this
-  --main-ram --xip-ram  the board has main RAM (532,480 bytes), XIP RAM (16,384 bytes)
+  --absolute            the family absolute is allowed. Where one of --arm,
+                        --riscv, --current, --auto-switch is said, it is not
+                        without this
+  --main-ram --xip-ram  the board has main RAM (532,480 bytes), XIP RAM (16,384
+                        bytes)
   --start-image FILE    what the flash holds before; 0xFF after the file's end
 ";
 

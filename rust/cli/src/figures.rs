@@ -17,14 +17,17 @@ use tools::report::{add, Report};
 pub const HELP: &str = "\
 vantorel figures TRACE.. [BOARD] [--json]
 
-Replays traces, each from a fresh transfer and into a fresh board, and counts over all of them: the records replayed, those with each answer of
-ours, and the running transfers discarded; and for the end of the last trace the blocks that are marked and the first that is missing. A trace
-that stops, at a record that is broken (\"bad\") or at the first whose answer is another than ours (\"differs\"), is counted up to there; where no
---flash is said, a difference is \"undecided\".
+Replays traces, each from a fresh transfer and into a fresh board, and counts
+over all of them: the records replayed, those with each answer of ours, and the
+running transfers discarded; and for the end of the last trace the blocks that
+are marked and the first that is missing. A trace that stops, at a record that
+is broken (\"bad\") or at the first whose answer is another than ours (\"differs\"),
+is counted up to there; where no --flash is said, a difference is \"undecided\".
 
   --json  the same for scripts
 
-Exit status 0 where every trace has records and was replayed to its end, 1 where one was not, 2 for a wrong command line or a file that cannot be read.
+Exit status 0 where every trace has records and was replayed to its end, 1 where
+one was not, 2 for a wrong command line or a file that cannot be read.
 
     vantorel figures monday.trace tuesday.trace --flash 2M
 

@@ -2,12 +2,56 @@
 
 use crate::Trouble;
 use std::fs::{self, OpenOptions};
-use std::io::{self, Write};
+use std::io::{self, Read, Write};
 use std::path::{Path, PathBuf};
 
-/// The bytes of a file.
+/// The name of standard input.
+pub const STANDARD: &str = "-";
+
+/// The bytes of a file, or of standard input.
 pub fn read(name: &str) -> Result<Vec<u8>, Trouble> {
-    fs::read(name).map_err(|why| Trouble(format!("cannot read {name}: {}", reason(&why))))
+    let read = match name {
+        STANDARD => {
+            let mut bytes = Vec::new();
+            io::stdin().lock().read_to_end(&mut bytes).map(|_| bytes)
+        }
+        _ => fs::read(name),
+    };
+    read.map_err(|why| Trouble(format!("cannot read {}: {}", called(name), reason(&why))))
+}
+
+/// A name in a sentence.
+fn called(name: &str) -> &str {
+    match name {
+        STANDARD => "standard input",
+        _ => name,
+    }
+}
+
+/// A word of a command line as a shell takes it.
+pub fn quoted(word: &str) -> String {
+    let plain = |c: char| c.is_ascii_alphanumeric() || "_./=:,+@%-".contains(c);
+    if !word.is_empty() && word.chars().all(plain) {
+        return word.to_string();
+    }
+    if word.contains(char::is_control) {
+        // the shells bash, ksh and zsh know this form
+        let escaped = word.chars().map(|c| match c {
+            '\\' | '\'' => format!("\\{c}"),
+            c if c.is_control() => format!("\\u{:04x}", u32::from(c)),
+            c => c.to_string(),
+        });
+        return format!("$'{}'", escaped.collect::<String>());
+    }
+    format!("'{}'", word.replace('\'', "'\\''"))
+}
+
+/// The name of a file as a word of a command line: no name begins as an option does.
+pub fn quoted_name(name: &str) -> String {
+    match name.starts_with('-') && name != STANDARD {
+        true => quoted(&format!("./{name}")),
+        false => quoted(name),
+    }
 }
 
 /// Writes a file whole or not at all: beside it first, then renamed, so that no half of it is ever there under its name.
@@ -57,11 +101,22 @@ fn renamed(path: &Path, bytes: &[u8]) -> io::Result<()> {
 
 /// Refuses an output that is an input or another output: the same path, or one file under two names.
 pub fn apart(outputs: &[&str], inputs: &[&str]) -> Result<(), Trouble> {
+    if inputs.iter().filter(|name| **name == STANDARD).count() > 1 {
+        return Err(Trouble(
+            "standard input is named twice, and can be read once".into(),
+        ));
+    }
+    if outputs.contains(&STANDARD) {
+        return Err(Trouble(
+            "an output is a file, and not -; give it a name".into(),
+        ));
+    }
     for (k, name) in outputs.iter().enumerate() {
         let same = |other: &&&str| Identity::of(other) == Identity::of(name);
         if let Some(input) = inputs.iter().find(same) {
             return Err(Trouble(format!(
-                "the output {name} is the same file as the input {input}; give the output another name"
+                "the output {name} is the same file as the input {}; give the output another name",
+                called(input)
             )));
         }
         if let Some(other) = outputs[..k].iter().find(same) {
@@ -85,6 +140,11 @@ enum Identity {
 
 impl Identity {
     fn of(name: &str) -> Identity {
+        #[cfg(unix)]
+        let name = match name {
+            STANDARD => "/dev/stdin",
+            _ => name,
+        };
         #[cfg(unix)]
         if let Ok(found) = fs::metadata(name) {
             use std::os::unix::fs::MetadataExt;
@@ -120,6 +180,7 @@ fn reason(why: &io::Error) -> String {
 
 /// The last part of a file's name, for a line of text.
 pub fn short(name: &str) -> String {
+    let name = called(name);
     Path::new(name).file_name().map_or_else(
         || name.to_string(),
         |part| part.to_string_lossy().into_owned(),

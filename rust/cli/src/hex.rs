@@ -13,17 +13,21 @@ use tools::{JoinRefusal, HEX_FILE_BYTES};
 pub const HELP: &str = "\
 vantorel hex FILE.hex --board v1|v2 [--bytes N] [--image OUT] [-v] [--json]
 
-Reads a Universal Hex file line by line for one board, and says where it fails, with the line and the position of a bad digit. Data of this board
-that lies outside of the image is left out though the file is read to its end: then the image is not whole, and this says so.
+Reads a Universal Hex file line by line for one board, and says where it fails,
+with the line and the position of a bad digit. Data of this board that lies
+outside of the image is left out though the file is read to its end: then the
+image is not whole, and this says so.
 
   --board v1|v2  whose data is read: micro:bit V1 or V2
-  --bytes N      the image's length, from 1 to 1M; 256K for v1 and 512K for v2 where none is said
-  --image OUT    writes the image, with 0xFF where the file stores nothing; not where the file fails
+  --bytes N      the image's length, from 1 to 1M; 256K for v1 and 512K for v2
+                 where none is said
+  --image OUT    writes the image, with 0xFF where the file stores nothing; not
+                 where the file fails
   -v             a line for each line of the file too: its number and the answer
   --json         the same for scripts
 
-Exit status 0 where the file was read to its end and nothing was left out, 1 where not, 2 for a wrong command line or a file that cannot
-be read or written.
+Exit status 0 where the file was read to its end and nothing was left out, 1
+where not, 2 for a wrong command line or a file that cannot be read or written.
 
     vantorel hex micropython.hex --board v2 --image v2.bin
 
@@ -218,7 +222,7 @@ fn words(name: &str, board: Board, read: &Read, image: Option<&str>, out: &mut O
     if let Some(image) = image {
         out.line(format_args!("written: {image}, the image as it is now"));
     }
-    out.line(verdict(read));
+    out.verdict(verdict(read), read.whole());
 }
 
 /// The last sentence: whether the image is whole.

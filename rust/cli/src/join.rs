@@ -11,14 +11,16 @@ use tools::{Board, JoinRefusal, PlainRefusal, HEX_FILE_BYTES};
 pub const HELP: &str = "\
 vantorel join V1.hex V2.hex -o OUT.hex [--json]
 
-Reads an Intel Hex file for micro:bit V1 and one for V2, and writes one Universal Hex file for both. Where an input is bad it says which file,
-which line, and which character, and writes nothing.
+Reads an Intel Hex file for micro:bit V1 and one for V2, and writes one
+Universal Hex file for both. Where an input is bad it says which file, which
+line, and which character, and writes nothing.
 
   -o OUT.hex  the file to write
   --json      the same for scripts
 
-Exit status 0 where the file was written, 1 where an input is bad or the output would be too long, 2 for a wrong command line or a
-file that cannot be read or written.
+Exit status 0 where the file was written, 1 where an input is bad or the output
+would be too long, 2 for a wrong command line or a file that cannot be read or
+written.
 
     vantorel join blink-v1.hex blink-v2.hex -o blink.hex
 

@@ -66,7 +66,7 @@ const COMMANDS: &[Command] = &[
     },
     Command {
         name: "why",
-        does: "says why an arrival was not taken, and why a family has a place or none",
+        does: "says why an arrival was not taken, or a family has a place or none",
         verbs: 0,
         help: &[why::HELP, board::HELP],
         options: &[why::OPTIONS, board::OPTIONS],
@@ -131,18 +131,28 @@ const COMMANDS: &[Command] = &[
 ];
 
 fn help(out: &mut Out) {
-    out.line("vantorel: UF2 and Universal Hex files, by a library that is proved to do what its specification says\n");
+    out.text(
+        "vantorel: UF2 and Universal Hex files, by a library that is proved to do what\n\
+         its specification says\n\n",
+    );
     for command in COMMANDS {
-        out.line(format_args!(
-            "  vantorel {:10}{}",
-            command.name, command.does
-        ));
+        out.line(format_args!("  {:10}{}", command.name, command.does));
     }
-    out.line("\n`vantorel COMMAND --help` says more, with an example. Numbers are decimal (4096, 64K, 2M) or hex (0x1000); families have names:");
-    out.line("rp2040, absolute, data, arm-s, riscv, arm-ns. With --json each command prints one JSON object instead of words.");
-    out.line("Exit status: 0 the job is whole, 1 it is not, 2 a wrong command line or a file that cannot be read or written.\n");
-    out.line("    vantorel load blink.uf2 --drop 17");
+    out.text(HELP_END);
 }
+
+const HELP_END: &str = "
+`vantorel COMMAND --help` says more, with an example. Numbers are decimal (4096,
+64K, 2M) or hex (0x1000); families have names: rp2040, absolute, data, arm-s,
+riscv, arm-ns. The name - is standard input. With --json each command prints one
+JSON object instead of words. Colours are shown on a terminal, where NO_COLOR is
+not set.
+
+Exit status: 0 the job is whole, 1 it is not, 2 a wrong command line or a file
+that cannot be read or written.
+
+    vantorel load blink.uf2 --drop 17
+";
 
 fn command(name: &str) -> Result<&'static Command, Trouble> {
     let found = COMMANDS.iter().find(|command| command.name == name);

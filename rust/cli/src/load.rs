@@ -10,23 +10,32 @@ use crate::board::{Board, Options};
 use crate::out::Out;
 use crate::{files, missing, number, state, End, Outcome, Trouble};
 use proved::{Kind, Transfer};
+use std::ops::RangeInclusive;
 
 /// Its page of help.
 pub const HELP: &str = "\
-vantorel load FILE.uf2 [BOARD] [--shuffle SEED] [--repeat K] [--drop K,..] [--image OUT] [--record TRACE] [-v] [--json]
+vantorel load FILE.uf2 [BOARD] [--shuffle SEED] [--repeat K] [--drop K,L-M,..]
+    [--image OUT] [--record TRACE] [-v] [--json]
 
-Plays the file's blocks into a board, one after the other, and says what came of it: the answers by name and how many, the blocks that are
-missing and where they would stand, the sectors erased, the state, and whether the display was told that the file is complete.
+Plays the file's blocks into a board, one after the other, and says what came of
+it: the answers by name and how many, why the first arrival that was refused by
+each answer was refused, the blocks that are missing and where they would stand,
+the sectors erased, the state, and whether the display was told that the file is
+complete.
 
   --shuffle SEED  in an order of chance; the same number gives the same order
   --repeat K      each block K times, one after the other
-  --drop K,..     without the blocks of these numbers
-  --image OUT     writes the memory that the file goes to, flash or RAM, as it is afterwards
-  --record TRACE  writes a trace of what was sent with the answers, for `vantorel replay`
-  -v              a line for each arrival too: its place in the order, the block's number, the answer
+  --drop K,L-M,.. without the blocks of these numbers
+  --image OUT     writes the memory that the file goes to, flash or RAM, as it
+                  is afterwards
+  --record TRACE  writes a trace of what was sent with the answers, for
+                  `vantorel replay`
+  -v              a line for each arrival too: its place in the order, the
+                  block's number, the answer
   --json          the same for scripts
 
-Exit status 0 where the file was completed, 1 where it was not, 2 for a wrong command line or a file that cannot be read or written.
+Exit status 0 where the file was completed, 1 where it was not, 2 for a wrong
+command line or a file that cannot be read or written.
 
     vantorel load blink.uf2 --drop 17
 
@@ -43,16 +52,23 @@ pub const OPTIONS: &[Opt] = &[
     Opt::Flag("--json"),
 ];
 
+/// A number of `--drop`, or all from one to another.
+fn dropped_part(text: &str) -> Option<RangeInclusive<u32>> {
+    let (first, last) = text.split_once('-').unwrap_or((text, text));
+    let (first, last) = (number::parse_u32(first)?, number::parse_u32(last)?);
+    (first <= last).then_some(first..=last)
+}
+
 /// The numbers of `--drop`, with commas between them.
-fn dropped(args: &Args) -> Result<Vec<u32>, Trouble> {
+fn dropped(args: &Args) -> Result<Vec<RangeInclusive<u32>>, Trouble> {
     let Some(text) = args.value("--drop") else {
         return Ok(Vec::new());
     };
-    let numbers: Option<Vec<u32>> = text.split(',').map(number::parse_u32).collect();
+    let numbers: Option<Vec<_>> = text.split(',').map(dropped_part).collect();
     match numbers {
         Some(numbers) => Ok(numbers),
         None => args.wrong(format!(
-            "--drop wants block numbers with commas between them, such as 3,17, and not '{text}'"
+            "--drop wants block numbers with commas between them, such as 3-9,17, and not '{text}'"
         )),
     }
 }

@@ -9,19 +9,22 @@ use tools::{MakeRefusal, BLOCK_BYTES, PAGE_BYTES};
 
 /// Its page of help.
 pub const HELP: &str = "\
-vantorel make IMAGE -o OUT.uf2 --family NAME|NUMBER --start ADDRESS [--pad BYTE] [--json]
+vantorel make IMAGE -o OUT.uf2 --family NAME|NUMBER --start ADDRESS [--pad BYTE]
+    [--json]
 
-Makes the UF2 file that brings the bytes of IMAGE to the addresses from --start on. The image is whole pages of 256 bytes, the start a multiple
-of 256 from 0x10000000 on, and the image ends at 0x12000000 at the latest.
+Makes the UF2 file that brings the bytes of IMAGE to the addresses from --start
+on. The image is whole pages of 256 bytes, the start a multiple of 256 from
+0x10000000 on, and the image ends at 0x12000000 at the latest.
 
   -o OUT.uf2       the file to write
   --family FAMILY  arm-s, riscv, data .., or a number such as 0xe48bff59
   --start ADDRESS  where the image's first byte goes, such as 0x10000000
-  --pad BYTE       0xFF or 0x00: fills up the last page of an image that is no whole number of pages
+  --pad BYTE       0xFF or 0x00: fills up the last page of an image that is no
+                   whole number of pages
   --json           the same for scripts
 
-Exit status 0 where the file was made, 1 where no file can be made of the image, 2 for a wrong command line or a file that cannot be
-read or written.
+Exit status 0 where the file was made, 1 where no file can be made of the image,
+2 for a wrong command line or a file that cannot be read or written.
 
     vantorel make blink.bin -o blink.uf2 --family arm-s --start 0x10000000
 

@@ -16,14 +16,18 @@ use tools::trace::{replay, Replayed, Stop, RECORD_BYTES};
 pub const HELP: &str = "\
 vantorel replay TRACE [BOARD] [--json]
 
-Replays a trace into a board and says where it stops: at a record that is broken (\"bad\"), or at the first whose answer is another than ours
-(\"differs\"), with both answers by name. A trace is records of 513 bytes: a byte with the answer that the site got, then the arrival of 512 bytes;
-`vantorel load --record` writes one. The board must be the site's board: where no --flash is said, a difference may come of a wrong guess, and is
-\"undecided\". Where the update was never complete, the last line says so.
+Replays a trace into a board and says where it stops: at a record that is broken
+(\"bad\"), or at the first whose answer is another than ours (\"differs\"), with
+both answers by name. A trace is records of 513 bytes: a byte with the answer
+that the site got, then the arrival of 512 bytes; `vantorel load --record`
+writes one. The board must be the site's board: where no --flash is said, a
+difference may come of a wrong guess, and is \"undecided\". Where the update was
+never complete, the last line says so.
 
   --json  the same for scripts
 
-Exit status 0 where it stops nowhere (\"none\"), 1 where it stops or is empty, 2 for a wrong command line or a file that cannot be read.
+Exit status 0 where it stops nowhere (\"none\"), 1 where it stops or is empty, 2
+for a wrong command line or a file that cannot be read.
 
     vantorel replay site.trace --flash 2M
 
@@ -126,7 +130,8 @@ pub fn run(args: &Args, out: &mut Out) -> Outcome {
         for line in missing::lines(&lost, "trace") {
             out.line(line);
         }
-        out.line(verdict);
+        let done = matches!(end.transfer, Transfer::Done { .. });
+        out.verdict(verdict, done && matches!(stop, Stopped::None));
     }
     Ok(match stop {
         Stopped::None => End::Whole,

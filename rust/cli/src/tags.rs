@@ -12,13 +12,14 @@ use proved::tags::{self, kind, Refusal, Tag, Tags};
 pub const HELP: &str = "\
 vantorel tags FILE.uf2 [--json]
 
-Lists the extension tags of each block that has any: the piece's place in the file, the block's number, the tag's type, and its contents, as text
-where they are text and else in hex; then the firmware's version.
+Lists the extension tags of each block that has any: the piece's place in the
+file, the block's number, the tag's type, and its contents, as text where they
+are text and else in hex; then the firmware's version.
 
   --json  the same for scripts
 
-Exit status 0 where every piece of the file is a block whose tags can be read, 1 where one is not, 2 for a wrong command line or a file
-that cannot be read.
+Exit status 0 where every piece of the file is a block whose tags can be read, 1
+where one is not, 2 for a wrong command line or a file that cannot be read.
 
     vantorel tags display.uf2
 
@@ -162,12 +163,10 @@ impl Listed<'_> {
             ),
         });
         if self.pieces == 0 {
-            out.line("NOT WHOLE: the file is empty.");
+            out.verdict("NOT WHOLE: the file is empty.", false);
         } else if !self.whole() {
-            out.line(format_args!(
-                "NOT WHOLE: of {} the tags cannot be read, as said above. Get the file again.",
-                count(self.refused() as u64, "piece")
-            ));
+            let refused = count(self.refused() as u64, "piece");
+            out.verdict(format_args!("NOT WHOLE: of {refused} the tags cannot be read, as said above. Get the file again."), false);
         }
     }
 

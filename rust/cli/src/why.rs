@@ -19,18 +19,23 @@ pub const HELP: &str = "\
 vantorel why FILE.uf2 [BOARD] [--block K] [-v] [--json]
 vantorel why place FAMILY [BOARD] [--json]
 
-Plays the file's blocks into a board, one after the other, and says for each arrival that was not taken which condition decided, with the number
-that was tested and what it was tested against; blocks that come one after the other and have one reason share a line. With `place`, it says where in the flash a family's blocks go and by which rule, or what shut
-the family out. A file that is named place is ./place.
+Plays the file's blocks into a board, one after the other, and says for each
+arrival that was not taken which condition decided, with the number that was
+tested and what it was tested against; blocks that come one after the other and
+have one reason share a line. With `place`, it says where in the flash a
+family's blocks go and by which rule, or what shut the family out. A file that
+is named place is ./place.
 
-  --block K  the arrivals of the block of this number only, and those that were taken too
+  --block K  the arrivals of the block of this number only, and those that were
+             taken too
   -v         a line for each arrival, though the next has the same reason
   --json     the same for scripts
 
 Where the transfer still runs at the end, it names the blocks that are missing.
 
-Exit status 0 where every arrival that it tells of was taken and no transfer was left running, or the family has a place; 1 where not; 2 for a
-wrong command line or a file that cannot be read.
+Exit status 0 where every arrival that it tells of was taken and no transfer was
+left running, or the family has a place; 1 where not; 2 for a wrong command line
+or a file that cannot be read.
 
     vantorel why blink.uf2 --flash 4096
     vantorel why place riscv --settings board.store
@@ -218,7 +223,7 @@ impl Looked<'_> {
             out.line(line);
         }
         for line in self.verdict() {
-            out.line(line);
+            out.verdict(line, self.whole());
         }
     }
 

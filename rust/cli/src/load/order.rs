@@ -1,25 +1,25 @@
 //! The order in which a file's pieces are sent.
 
 use crate::block::Block;
+use std::collections::HashSet;
+use std::ops::RangeInclusive;
 
 /// The pieces without the blocks of some numbers; the first number that no block has is an error.
-pub fn without<'a>(pieces: &[&'a [u8]], drop: &[u32]) -> Result<Vec<&'a [u8]>, u32> {
-    if drop.is_empty() {
-        return Ok(pieces.to_vec());
-    }
+pub fn without<'a>(
+    pieces: &[&'a [u8]],
+    drop: &[RangeInclusive<u32>],
+) -> Result<Vec<&'a [u8]>, u32> {
     let number = |piece: &[u8]| Block::read(piece).map(|block| block.number);
-    let mut left: Vec<u32> = drop.to_vec();
-    let mut kept = Vec::new();
-    for piece in pieces {
-        match number(piece) {
-            Some(k) if drop.contains(&k) => left.retain(|x| *x != k),
-            _ => kept.push(*piece),
-        }
+    let there: HashSet<u32> = pieces.iter().filter_map(|piece| number(piece)).collect();
+    let mut asked = drop.iter().cloned().flatten();
+    if let Some(k) = asked.find(|k| !there.contains(k)) {
+        return Err(k);
     }
-    match left.first() {
-        None => Ok(kept),
-        Some(k) => Err(*k),
-    }
+    let dropped = |k: u32| drop.iter().any(|range| range.contains(&k));
+    let kept = pieces
+        .iter()
+        .filter(|piece| !number(piece).is_some_and(dropped));
+    Ok(kept.copied().collect())
 }
 
 /// Each piece so many times, one after the other.
@@ -66,9 +66,14 @@ mod tests {
         let mut file = [0; 1536];
         tools::make(&[1; 768], 5, 0x1000_0000, &mut file).expect("a file");
         let pieces: Vec<&[u8]> = file.chunks(512).collect();
-        assert_eq!(without(&pieces, &[1]), Ok(vec![pieces[0], pieces[2]]));
-        assert_eq!(without(&pieces, &[1, 1]), Ok(vec![pieces[0], pieces[2]]));
-        assert_eq!(without(&pieces, &[1, 3]), Err(3));
+        assert_eq!(without(&pieces, &[1..=1]), Ok(vec![pieces[0], pieces[2]]));
+        assert_eq!(
+            without(&pieces, &[1..=1, 1..=1]),
+            Ok(vec![pieces[0], pieces[2]])
+        );
+        assert_eq!(without(&pieces, &[1..=1, 3..=3]), Err(3));
+        assert_eq!(without(&pieces, &[0..=1]), Ok(vec![pieces[2]]));
+        assert_eq!(without(&pieces, &[1..=u32::MAX]), Err(3));
         assert_eq!(
             repeated(&pieces[1..], 2),
             [pieces[1], pieces[1], pieces[2], pieces[2]]

@@ -130,7 +130,8 @@ pub fn words(load: &Load, out: &mut Out) {
         out.line(line);
     }
     written(load, out);
-    out.line(verdict(load));
+    let well = matches!(load.played.transfer, Transfer::Done { .. });
+    out.verdict(verdict(load), well);
 }
 
 fn answers(load: &Load, out: &mut Out) {
@@ -176,7 +177,8 @@ fn written(load: &Load, out: &mut Out) {
     }
     let Some(record) = load.record else { return };
     out.line(format_args!(
-        "written: {record}, a trace; `vantorel replay {record} {}` replays it",
+        "written: {record}, a trace; `vantorel replay {} {}` replays it",
+        files::quoted_name(record),
         load.board.words.join(" ")
     ));
     if load.short_pieces() > 0 {

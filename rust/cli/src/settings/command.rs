@@ -16,15 +16,18 @@ pub const HELP: &str = "\
 vantorel settings show STORE [--flash BYTES] [--json]
 vantorel settings pack FILE.toml -o STORE [--flash BYTES] [--json]
 
-`show` prints the settings that a board keeps in a store, as a text that `pack` takes again. `pack` writes the store of a text; every error of the
-text is told with its line, and then nothing is written. The text is a small part of TOML:
+`show` prints the settings that a board keeps in a store, as a text that `pack`
+takes again. `pack` writes the store of a text; every error of the text is told
+with its line, and then nothing is written. The text is a small part of TOML:
 
-    arm = true                 # switches that are not said are false: arm, riscv, auto-switch, absolute
+    arm = true                 # arm, riscv, auto-switch, absolute: false
+                               # where they are not said
     current = \"arm\"            # \"arm\" or \"riscv\", always said
-    [[partition]]              # partition 0; at most 16, in the order of the table
+    [[partition]]              # partition 0; at most 16, in table order
     first = 2                  # the first sector, of 4,096 bytes
     sectors = 64
-    accepts = [\"arm-s\", \"data\", 0x12345678]   # data, arm-s, riscv, arm-ns, and up to 4 user families by number
+    accepts = [\"arm-s\", \"data\", 0x12345678]  # data, arm-s, riscv, arm-ns,
+                               # and up to 4 user families by number
     [[partition]]              # partition 1
     first = 66
     sectors = 64
@@ -34,11 +37,13 @@ text is told with its line, and then nothing is written. The text is a small par
     dont-restart = true
 
   -o STORE       the store to write
-  --flash BYTES  the flash that the settings must be good for; 32M, the largest, where it is not said
+  --flash BYTES  the flash that the settings must be good for; 32M, the largest,
+                 where it is not said
   --json         the same for scripts
 
-Exit status 0 where the settings were shown or the store was written, 1 where they are no settings, 2 for a wrong command line or a file that
-cannot be read or written.
+Exit status 0 where the settings were shown or the store was written, 1 where
+they are no settings, 2 for a wrong command line or a file that cannot be read
+or written.
 
     vantorel settings pack board.toml -o board.store
 

@@ -155,6 +155,11 @@ fn many_are_missing() {
     assert_eq!(ran.out.matches("missing: block").count(), 1);
     assert!(ran.out.contains("missing: blocks 10 to 39, whose pages would stand in flash from 0x00000a00 to 0x000027ff (addresses 0x10000a00 to 0x10002700)\n"), "{}", ran.out);
     assert!(ran.out.ends_with("NOT COMPLETE: 30 of 64 blocks are missing, blocks 10 to 39. The display was never told that it is complete. Send the file again, whole.\n"));
+    assert_eq!(folder.ends(1, "load blink.uf2 --drop 10-39").out, ran.out);
+    assert_eq!(
+        folder.ends(1, "load blink.uf2 --drop 20-39,10,11-19").out,
+        ran.out
+    );
     let numbers: Vec<String> = (0..32).map(|k| (2 * k).to_string()).collect();
     let ran = folder.ends(1, &format!("load blink.uf2 --drop {}", numbers.join(",")));
     assert_eq!(ran.out.matches("missing: block ").count(), 20);
@@ -424,11 +429,19 @@ fn wrong_words() {
         ("load a b", "'b' is one word too many"),
         (
             "load blink.uf2 --drop x",
-            "--drop wants block numbers with commas between them, such as 3,17, and not 'x'",
+            "--drop wants block numbers with commas between them, such as 3-9,17, and not 'x'",
         ),
         (
             "load blink.uf2 --drop 1,",
-            "--drop wants block numbers with commas between them, such as 3,17, and not '1,'",
+            "--drop wants block numbers with commas between them, such as 3-9,17, and not '1,'",
+        ),
+        (
+            "load blink.uf2 --drop 9-3",
+            "--drop wants block numbers with commas between them, such as 3-9,17, and not '9-3'",
+        ),
+        (
+            "load blink.uf2 --drop 60-4294967295",
+            "--drop 64: the file has no block of this number",
         ),
         (
             "load blink.uf2 --drop 64",

@@ -91,11 +91,10 @@ fn packed_and_shown() {
 fn the_text_of_the_help() {
     let folder = Folder::new();
     let page = folder.ends(0, "settings --help").out;
-    let lines = page.lines().filter_map(|line| line.strip_prefix("    "));
-    let text: Vec<&str> = lines
-        .filter(|line| !line.starts_with("vantorel "))
-        .collect();
-    folder.put("help.toml", text.join("\n"));
+    let text = page
+        .split("\n\n")
+        .find(|part| part.starts_with("    arm = "));
+    folder.put("help.toml", text.expect("a text"));
     let ran = folder.ends(0, "settings pack help.toml -o help.store");
     assert_eq!(
         ran.out,
