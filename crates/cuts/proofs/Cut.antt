@@ -18,15 +18,14 @@ use Rattle.transfer.specs.Transfer.{sameKind}
 use Rattle.transfer.specs.declared.Kind.{Kind}
 use Rattle.transfer.specs.declared.Kind.the-variants.{Flash, MainRam, XipRam}
 use Rattle.screen.specs.declared.Lengths.{Lengths}
-use Rattle.place.specs.Place.{placeOf}
 use Rattle.arrival.specs.Arrive.{Held, World, bufferOf, lengthsOf}
 use Rattle.arrival.specs.Lists.{receiveAll}
-use Rattle.arrival.specs.File.{startOf, originOf}
+use Rattle.arrival.specs.File.{originOf}
 use Rattle.arrival.specs.Windows.{windowStart}
 use Rattle.arrival.proofs.Heads.{kind-same}
 use Rattle.demand.specs.Demand.{File, addressOf, ValidFile, Sent, isData, seenOf, howMany, storageOf, holds, heldBy, liesIn, touchedBy, changedBy, Plain, Ends, List-ends}
 use Rattle.demand.proofs.Demand.{list-ends}
-use Rattle.cuts.proofs.Starts.{valid-there, sent-there, plain-there}
+use Rattle.cuts.proofs.Starts.{origin-there, valid-there, sent-there, plain-there}
 use Rattle.cuts.specs.Cut.{allOf, Cut, Cut-then-whole, Standing, Standing-is-received}
 
 under : (x y z : Bool) → (y ≡ false → z ≡ false) → x && y ≡ false → x && z ≡ false
@@ -42,17 +41,11 @@ as-all n S R P all h =
     clash (any n (λ k. S k && P k)) (any-hit (λ k. S k && P k) n (f .0) (f .1) (both (all (f .0) (f .1)) (and-right (R (f .0)) (P (f .0)) (f .2)))) h)
 
 module _ (s : Settings) (v w : World) (F : File) (C : Cut s F v w) where
-  -- both boards have one origin of the file
-  origin-same : (u : Kind) → originOf s v u (F .family) ≡ originOf s w u (F .family)
-  origin-same Flash = ap (λ (n : Lengths). startOf (placeOf s (n .flash) (F .family))) (C .lengths .buffers)
-  origin-same MainRam = refl
-  origin-same XipRam = refl
-
   abbrev o : ℕ
   o = originOf s w (F .kind) (F .family)
 
   same : originOf s v (F .kind) (F .family) ≡ o
-  same = origin-same (F .kind)
+  same = origin-there s v w (C .lengths) (C .back ∙ sym (C .before)) (F .kind) (F .family)
 
   -- the words of demand 3 by the origin alone
   abbrev storeAt : ℕ → ℕ → ℕ

@@ -13,7 +13,8 @@ use Rattle.region.specs.Regions.{goodRegion}
 use Rattle.settings.specs.declared.Settings.{Settings}
 use Rattle.place.specs.Place.{placeOf}
 use Rattle.transfer.specs.Transfer.{sameKind, numberOf, goodState}
-use Rattle.transfer.specs.declared.Kind.the-variants.{Flash}
+use Rattle.transfer.specs.declared.Kind.{Kind}
+use Rattle.transfer.specs.declared.Kind.the-variants.{Flash, MainRam, XipRam}
 use Rattle.transfer.specs.declared.State.{State}
 use Rattle.screen.specs.Screen.{screenOf}
 use Rattle.screen.specs.declared.Lengths.{Lengths}
@@ -22,6 +23,7 @@ use Rattle.screen.specs.declared.Screening.{Screening}
 use Rattle.screen.specs.declared.Screening.the-variants.{Refused, Passed}
 use Rattle.arrival.specs.Arrive.{World, Outcome, receiveOf}
 use Rattle.arrival.specs.Facts.{Lengths-kept}
+use Rattle.arrival.specs.File.{startOf, originOf}
 use Rattle.arrival.proofs.Pages.{arrive}
 use Rattle.arrivals.proofs.Screening.{lens, Board}
 use Rattle.arrivals.proofs.DecisionFacts.{step-late}
@@ -65,6 +67,12 @@ module _ (s : Settings) (v w : World) (L : Lengths-kept v w) (t : v .transfer �
             refusal = λ n. absurd (omega (arith, n, late w a there l g e));
             passing = λ n. late v a here l g (same ∙ e);
           }
+
+  -- a kind's window starts at the same byte of its buffer
+  pub origin-there : (u : Kind) (f : ℕ) → originOf s v u f ≡ originOf s w u f
+  origin-there Flash f = ap (λ (n : Lengths). startOf (placeOf s (n .flash) f)) (L .buffers)
+  origin-there MainRam f = refl
+  origin-there XipRam f = refl
 
   module _ (F : File) where
     pub valid-there : ValidFile s w F → ValidFile s v F
