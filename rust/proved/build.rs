@@ -11,6 +11,7 @@ fn main() {
         "lookapi",
         "takeapi",
         "acceptapi",
+        "standapi",
         "tagsapi",
         "storeapi",
     ] {

@@ -7,7 +7,7 @@
 //! Every call is safe: a Rust slice is a pointer to as many bytes as it says, never null, and one that is written overlaps no other.
 
 use crate::ffi::{self, len};
-use crate::{Beside, Buffers};
+use crate::{Beside, Buffers, Memory};
 
 /// The bytes of a place: its start and its length, 32 bits each, the lowest byte first.
 pub const PLACE_BYTES: usize = 8;
@@ -54,6 +54,25 @@ pub fn look(settings: &[u8], transfer: &[u8], arrival: &[u8], buffers: &Buffers)
             len(buffers.main),
             buffers.xip.as_ptr(),
             len(buffers.xip),
+        )
+    }
+}
+
+/// Whether what an arrival holds stands in the memory: 95, 96, or the number of a refusal. It changes nothing.
+#[inline]
+pub fn stands(settings: &[u8], arrival: &[u8], memory: &Memory) -> u32 {
+    unsafe {
+        ffi::uf2_stands(
+            settings.as_ptr(),
+            len(settings),
+            arrival.as_ptr(),
+            len(arrival),
+            memory.flash.as_ptr(),
+            len(memory.flash),
+            memory.main.as_ptr(),
+            len(memory.main),
+            memory.xip.as_ptr(),
+            len(memory.xip),
         )
     }
 }

@@ -1,4 +1,4 @@
-//! The functions of the static libraries (include/uf2_receiver.h). A slice is a pointer and then a length.
+//! The functions of the static libraries (include/uf2_receiver.h, include/uf2_stands.h). A slice is a pointer and then a length.
 
 /// A length as the library takes it (`uf2_len`): 64 bits on every machine.
 pub type Len = u64;
@@ -33,6 +33,19 @@ extern "C" {
         seen_len: Len,
         sectors: *const u8,
         sectors_len: Len,
+        main: *const u8,
+        main_len: Len,
+        xip: *const u8,
+        xip_len: Len,
+    ) -> u32;
+
+    pub fn uf2_stands(
+        settings: *const u8,
+        settings_len: Len,
+        arrival: *const u8,
+        arrival_len: Len,
+        flash: *const u8,
+        flash_len: Len,
         main: *const u8,
         main_len: Len,
         xip: *const u8,

@@ -2,7 +2,7 @@
 //!
 //! UF2 blocks go through [`look`] and [`take`], lines of Universal Hex through [`hex::Reader::line`]. Nothing has to be checked before a call: every
 //! settings, transfer, reader and length gets an answer, and nothing is allocated or kept between calls. It links the libraries `capi`,
-//! `lookapi`, `takeapi`, `acceptapi`, `tagsapi` and `storeapi`, each of which `rt staticlib NAME` writes to `target/staticlib`: code for x86-64 Linux.
+//! `lookapi`, `takeapi`, `acceptapi`, `standapi`, `tagsapi` and `storeapi`, each of which `rt staticlib NAME` writes to `target/staticlib`: code for x86-64 Linux.
 //!
 //! A block goes to flash or, where its address lies in the window of a RAM that is lent, to that RAM ([`Kind`]). [`take`] and [`take_all`] are
 //! for flash that is memory, which can be stored to. Where flash is read as memory and written by a driver, [`take_through`] takes an arrival
@@ -85,6 +85,26 @@
 //! # }
 //! ```
 //!
+//! # Is the file there?
+//!
+//! `Completed` says that a block of every number was accepted, and not what the flash holds: another build of as many blocks, sent after the
+//! first was stopped, ends so over a mixture of the two. [`stands`] asks the memory. Where every block of a valid file is told
+//! [`Stand::Stands`], every payload is in its memory, whatever happened before.
+//!
+//! ```
+//! use proved::{Memory, Settings, Stand};
+//!
+//! # let mut block = [7; proved::ARRIVAL_BYTES];
+//! # for (at, x) in [(0, 0x0A32_4655_u32), (4, 0x9E5D_5157), (8, 0x2000), (12, 0x1000_0100), (16, 256), (20, 0), (24, 1), (28, proved::family::ARM_S), (508, 0x0AB1_6F30)] {
+//! #     block[at..at + 4].copy_from_slice(&x.to_le_bytes());
+//! # }
+//! let mut flash = vec![0xFF; 32_768];
+//! let told = |flash: &[u8]| proved::stands(&Settings::ARM, &block, &Memory { flash, main: &[], xip: &[] });
+//! assert_eq!(told(&flash), Ok(Stand::Differs));
+//! flash[256..512].fill(7); // the only block of its file, at page 1
+//! assert_eq!(told(&flash), Ok(Stand::Stands));
+//! ```
+//!
 //! # What a region costs
 //!
 //! A block with flag 0x4000 names a region of flash and its MD5. Each take of such a block, where it would store, hashes the region once, and a
@@ -105,6 +125,7 @@ mod driver;
 mod ffi;
 pub mod hex;
 mod settings;
+mod stands;
 pub mod store;
 pub mod tags;
 mod transfer;
@@ -113,6 +134,7 @@ pub use driver::{
     accept, take_through, Beside, FlashDriver, Plan, PAGE_BYTES, PAYLOAD_AT, PLAN_BYTES,
 };
 pub use settings::{Arch, Entry, Link, Settings, ENTRIES, SETTINGS_BYTES};
+pub use stands::{stands, Memory, Stand};
 pub use transfer::{Answer, Kind, Outcome, Transfer, TRANSFER_BYTES};
 
 /// The bytes of an arrival: a UF2 block.
