@@ -11,6 +11,8 @@ pub enum Opt {
     Input(&'static str),
     /// One that takes the name of a file that is written.
     Output(&'static str),
+    /// The same, where `-` is standard output.
+    Stream(&'static str),
     /// One that stands alone.
     Flag(&'static str),
 }
@@ -18,7 +20,8 @@ pub enum Opt {
 impl Opt {
     fn name(self) -> &'static str {
         match self {
-            Opt::Value(name) | Opt::Input(name) | Opt::Output(name) | Opt::Flag(name) => name,
+            Opt::Value(name) | Opt::Input(name) | Opt::Output(name) => name,
+            Opt::Stream(name) | Opt::Flag(name) => name,
         }
     }
 }
@@ -67,6 +70,13 @@ impl Args {
                 Some(Opt::Value(name) | Opt::Input(name) | Opt::Output(name)) => {
                     let value = joined.or_else(|| words.next());
                     args.say_value(name, value)?;
+                }
+                Some(Opt::Stream(name)) => {
+                    let value = joined.or_else(|| words.next());
+                    match value.as_deref() {
+                        Some("-") => args.say(name, value, None)?,
+                        _ => args.say_value(name, value)?,
+                    }
                 }
             }
         }
@@ -158,6 +168,9 @@ impl Args {
             match opt {
                 Opt::Input(name) => inputs.extend(self.value(name)),
                 Opt::Output(name) => outputs.extend(self.value(name)),
+                Opt::Stream(name) => {
+                    outputs.extend(self.value(name).filter(|name| *name != "-"));
+                }
                 Opt::Value(_) | Opt::Flag(_) => {}
             }
         }

@@ -242,6 +242,14 @@ impl Board {
         self.length != Length::Said
     }
 
+    /// What says that figures are of the same board: the MD5 digest of its settings, which RAM it has, and its flash, of a board that is fresh.
+    pub fn digest(&self) -> [u8; tools::MD5_BYTES] {
+        let mut bytes = self.settings.bytes().to_vec();
+        bytes.extend([!self.main.is_empty(), !self.xip.is_empty()].map(u8::from));
+        bytes.extend(&self.flash);
+        tools::md5(&bytes)
+    }
+
     /// A line about the board.
     pub fn line(&self) -> String {
         let len = self.flash.len();

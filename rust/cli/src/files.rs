@@ -54,6 +54,32 @@ pub fn quoted_name(name: &str) -> String {
     }
 }
 
+/// All of standard input.
+pub fn standard_input() -> Result<Vec<u8>, Trouble> {
+    let mut bytes = Vec::new();
+    match io::stdin().read_to_end(&mut bytes) {
+        Ok(_) => Ok(bytes),
+        Err(why) => Err(Trouble(format!(
+            "cannot read standard input: {}",
+            reason(&why)
+        ))),
+    }
+}
+
+/// The paths of what is in a folder, in no order.
+pub fn list(folder: &str) -> Result<Vec<String>, Trouble> {
+    let trouble = |why: &io::Error| Trouble(format!("cannot read {folder}: {}", reason(why)));
+    let mut paths = Vec::new();
+    for entry in fs::read_dir(folder).map_err(|why| trouble(&why))? {
+        let path = entry.map_err(|why| trouble(&why))?.path();
+        match path.into_os_string().into_string() {
+            Ok(path) => paths.push(path),
+            Err(path) => return Err(Trouble(format!("{path:?} is not text in UTF-8"))),
+        }
+    }
+    Ok(paths)
+}
+
 /// Writes a file whole or not at all: beside it first, then renamed, so that no half of it is ever there under its name.
 pub fn write(name: &str, bytes: &[u8]) -> Result<(), Trouble> {
     let written = match target(name) {

@@ -9,6 +9,7 @@ mod families;
 mod figures;
 mod files;
 mod hex;
+mod jobs;
 mod join;
 mod json;
 mod load;
@@ -24,6 +25,7 @@ mod settings;
 mod state;
 mod table;
 mod tags;
+mod traces;
 mod why;
 
 use args::{Args, Opt};

@@ -1,5 +1,9 @@
 //! `vantorel replay`: what a site's host sent, played again.
 
+mod many;
+
+pub use many::needed;
+
 use crate::args::{Args, Opt};
 use crate::block::need;
 use crate::board::{Board, Options};
@@ -8,13 +12,13 @@ use crate::missing::{self, missing, Missing};
 use crate::number::count;
 use crate::out::Out;
 use crate::progress::Progress;
-use crate::{files, names, state, End, Outcome};
+use crate::{files, jobs, names, state, traces, End, Outcome};
 use proved::{Answer, Transfer};
 use tools::trace::{replay, Replayed, Stop, RECORD_BYTES};
 
 /// Its page of help.
 pub const HELP: &str = "\
-vantorel replay TRACE [BOARD] [--json]
+vantorel replay TRACE.. [BOARD] [--jobs N] [--json]
 
 Replays a trace into a board and says where it stops: at a record that is broken
 (\"bad\"), or at the first whose answer is another than ours (\"differs\"), with
@@ -22,19 +26,23 @@ both answers by name. A trace is records of 513 bytes: a byte with the answer
 that the site got, then the arrival of 512 bytes; `vantorel load --record`
 writes one. The board must be the site's board: where no --flash is said, a
 difference may come of a wrong guess, and is \"undecided\". Where the update was
-never complete, the last line says so.
+never complete, the last line says so. Of several traces, or of a folder, which
+stands for its files that end in .trace, each is replayed into a fresh board and
+told in a line, with a summary at the end.
 
-  --json  the same for scripts
+  --jobs N  N threads replay several traces; as many as there are processors,
+            where it is not said
+  --json    the same for scripts
 
-Exit status 0 where it stops nowhere (\"none\"), 1 where it stops or is empty, 2
-for a wrong command line or a file that cannot be read.
+Exit status 0 where it stops nowhere (\"none\"), 1 where it, or one of several,
+stops or is empty, 2 for a wrong command line or a file that cannot be read.
 
     vantorel replay site.trace --flash 2M
 
 ";
 
 /// Its options, beside those of a board.
-pub const OPTIONS: &[Opt] = &[Opt::Flag("--json")];
+pub const OPTIONS: &[Opt] = &[jobs::OPTION, Opt::Flag("--json")];
 
 /// The arrivals of a trace's records, the last one perhaps short.
 pub fn arrivals(trace: &[u8]) -> impl Iterator<Item = &[u8]> {
@@ -104,7 +112,12 @@ fn ours(board: &mut Board, end: &Replayed, record: &[u8]) -> proved::Outcome {
 /// Runs the command.
 pub fn run(args: &Args, out: &mut Out) -> Outcome {
     let options = Options::read(args)?;
-    let [name] = args.files(["TRACE"])?;
+    let names = args.some_files("TRACE")?;
+    let named = traces::named(&names)?;
+    let name = match names[..] {
+        [name] if named == [name] => name,
+        _ => return many::run(args, out, &options, &named),
+    };
     let trace = files::read(name)?;
     let mut board = options.board(need(arrivals(&trace)))?;
     let settings = board.settings.clone();
@@ -209,6 +222,14 @@ impl Stopped {
         }
     }
 
+    /// The record that it stopped at.
+    fn index(&self) -> Option<usize> {
+        match self {
+            Stopped::None | Stopped::Empty => None,
+            Stopped::Bad { index, .. } | Stopped::Differs { index, .. } => Some(*index),
+        }
+    }
+
     /// The word for scripts.
     fn word(&self) -> &'static str {
         match self {
@@ -230,25 +251,18 @@ fn json(
     lost: &[Missing],
     verdict: String,
 ) -> Json {
-    let (index, recorded, ours) = match stop {
-        Stopped::None | Stopped::Empty => (None, None, None),
-        Stopped::Bad { index, .. } => (Some(*index), None, None),
-        Stopped::Differs {
-            index,
-            recorded,
-            ours,
-            ..
-        } => {
-            let ours = names::outcome_json(*ours);
-            (Some(*index), Some(recorded.json()), Some(ours))
+    let (recorded, ours) = match stop {
+        Stopped::Differs { recorded, ours, .. } => {
+            (Some(recorded.json()), Some(names::outcome_json(*ours)))
         }
+        _ => (None, None),
     };
     Json::Object(vec![
         ("trace", name.into()),
         ("records", trace.len().div_ceil(RECORD_BYTES).into()),
         ("board", board.json()),
         ("stop", stop.word().into()),
-        ("index", index.into()),
+        ("index", stop.index().into()),
         ("recorded", recorded.into()),
         ("ours", ours.into()),
         ("transfer", state::json(end.transfer)),

@@ -4,6 +4,7 @@ use crate::json::Json;
 use crate::number::count;
 use crate::{names, table};
 use proved::Answer;
+use tools::part::Part;
 use tools::report::{FiguresRefusal, Report};
 use tools::trace::Stop;
 
@@ -72,13 +73,21 @@ fn counts(figures: &Report) -> impl Iterator<Item = (Answer, u32)> {
     counts.map(|(n, answer)| (answer, n))
 }
 
-/// The report in words, line by line.
-pub fn words(figures: &Report, traces: &[Played]) -> Vec<String> {
+/// The figures in words, line by line: those traces first of which something is told, and then all.
+pub fn words(part: &Part, traces: &[Played]) -> Vec<String> {
+    let figures = &part.report;
     let mut lines: Vec<String> = traces.iter().map(Played::words).collect();
     lines.push(format!(
         "{}, {} replayed",
-        count(traces.len() as u64, "trace"),
+        count(part.traces.into(), "trace"),
         count(figures.records.into(), "record")
+    ));
+    let guessed = traces.iter().any(|trace| trace.guessed);
+    lines.push(format!(
+        "traces that stopped: {} bad, {} {}",
+        part.bad,
+        part.differs,
+        if guessed { "undecided" } else { "differing" }
     ));
     for (answer, n) in counts(figures).filter(|(_, n)| *n > 0) {
         let name = names::answer(answer);
@@ -97,7 +106,8 @@ pub fn words(figures: &Report, traces: &[Played]) -> Vec<String> {
 }
 
 /// The same for scripts, every answer with its count, 0 too.
-pub fn json(figures: &Report, traces: &[Played]) -> Json {
+pub fn json(part: &Part, traces: &[Played]) -> Json {
+    let figures = &part.report;
     let answers = counts(figures).map(|(answer, n)| {
         Json::Object(vec![
             ("answer", u32::from(answer.number()).into()),
@@ -107,6 +117,9 @@ pub fn json(figures: &Report, traces: &[Played]) -> Json {
     });
     Json::Object(vec![
         ("traces", Json::list(traces.iter().map(Played::json))),
+        ("traces_replayed", part.traces.into()),
+        ("bad", part.bad.into()),
+        ("differs", part.differs.into()),
         ("records", figures.records.into()),
         ("answers", Json::list(answers)),
         ("discards", figures.discards.into()),
@@ -121,11 +134,16 @@ pub fn whole(traces: &[Played]) -> bool {
     traces.iter().all(whole)
 }
 
+/// Whether no trace of a part stopped.
+pub fn none_stopped(part: &Part) -> bool {
+    part.bad == 0 && part.differs == 0
+}
+
 #[cfg(test)]
 mod tests {
     use super::*;
 
-    fn example() -> (Report, Vec<Played>) {
+    fn example() -> (Part, Vec<Played>) {
         let mut counts = [0; 16];
         counts[3] = 1; // 4 NotBlock
         counts[5] = 2; // 7 NoFamily
@@ -152,7 +170,13 @@ mod tests {
             empty: false,
             guessed: false,
         });
-        (figures, played.collect())
+        let part = Part {
+            report: figures,
+            traces: 3,
+            bad: 1,
+            differs: 1,
+        };
+        (part, played.collect())
     }
 
     #[test]
@@ -166,7 +190,8 @@ mod tests {
                 "c: differs at record 4; the records before it are in the figures",
                 "d: 70 TooMany, not replayed: the report's records and the whole pieces of the trace, replayed or not, would pass 4,294,967,295",
                 "e: 71 BadReport, not replayed: the counts do not sum to the records, more discards than records, or another length",
-                "5 traces, 9 records replayed",
+                "3 traces, 9 records replayed",
+                "traces that stopped: 1 bad, 1 differing",
                 "  4 NotBlock             1  no UF2 block: a magic number differs",
                 "  7 NoFamily             2  flag 0x2000 is clear: the block names no family",
                 "  14 Written             5  stored, others are missing",
@@ -176,11 +201,9 @@ mod tests {
             ]
         );
         assert!(!whole(&traces) && whole(&traces[..1]));
-        let done = Report {
-            missing: None,
-            marked: 1,
-            ..figures
-        };
+        assert!(!none_stopped(&figures) && none_stopped(&Part::FRESH));
+        let mut done = figures;
+        (done.report.missing, done.report.marked) = (None, 1);
         assert_eq!(
             words(&done, &[]).last().map(String::as_str),
             Some("at the end of the last trace: 1 block marked")

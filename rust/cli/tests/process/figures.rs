@@ -30,6 +30,7 @@ fn over_several_traces() {
              whole.trace: none, every record was replayed\n\
              lossy.trace: none, every record was replayed\n\
              2 traces, 188 records replayed\n\
+             traces that stopped: 0 bad, 0 undecided\n\
              \x20 13 Again              62  a block of this number had come before\n\
              \x20 14 Written           125  stored, others are missing\n\
              \x20 15 Completed           1  the last one that was missing: the file is complete\n\
@@ -61,6 +62,7 @@ fn traces_that_stop() {
              short.trace: bad at record 3; the records before it are in the figures\n\
              whole.trace: none, every record was replayed\n\
              3 traces, 72 records replayed\n\
+             traces that stopped: 1 bad, 1 undecided\n\
              \x20 14 Written            71  stored, others are missing\n\
              \x20 15 Completed           1  the last one that was missing: the file is complete\n\
              running transfers discarded: 0\n\
@@ -126,7 +128,7 @@ fn discards_and_small_traces() {
     let ran = folder.ends(1, "figures empty");
     assert!(
         ran.out.ends_with(
-            "\nempty: empty, it has no records\n1 trace, 0 records replayed\nrunning transfers discarded: 0\nat the end of the last trace: 0 blocks marked\n"
+            "\nempty: empty, it has no records\n1 trace, 0 records replayed\ntraces that stopped: 0 bad, 0 undecided\nrunning transfers discarded: 0\nat the end of the last trace: 0 blocks marked\n"
         ),
         "{}",
         ran.out

@@ -4,6 +4,7 @@ mod apart;
 mod common;
 mod docs;
 mod figures;
+mod fleet;
 mod hex;
 mod join;
 mod line;
