@@ -1,5 +1,6 @@
 //! Inputs for both receivers, from a seed, and the settings of one as the other takes them.
 
+pub mod adapter;
 pub mod before_ram;
 mod buffers;
 pub mod fence;
@@ -8,6 +9,7 @@ pub mod nor;
 mod pair;
 pub mod plain;
 pub mod region;
+pub mod report;
 pub mod store;
 pub mod tags;
 

@@ -1,6 +1,7 @@
 //! Reports over traces, beside the reference: lists of traces, the edges of 70 and 71, every answer in one trace, and bytes of every length.
 
 use compare::region::any_region;
+use compare::report::{plain_report, proved_report, NUMBERS};
 use compare::{
     any_arrival, any_settings, arm_only, join, page, proved_settings, Buffers, Pair, Ram, Random,
 };
@@ -11,35 +12,6 @@ use tools::trace::{Stop, INDEX_BYTES, RECORD_BYTES};
 
 /// How many lists of traces are added up.
 const LISTS: usize = 5_000;
-
-/// The numbers of our answers, in the order of a report's counts.
-const NUMBERS: [usize; 16] = [1, 2, 3, 4, 5, 7, 8, 9, 10, 11, 12, 13, 14, 15, 16, 17];
-
-/// A report of the reference, as ours.
-fn ours_of(report: &plain::Report) -> Report {
-    Report {
-        records: report.records,
-        counts: NUMBERS.map(|n| report.answers[n]),
-        discards: report.discards,
-        marked: report.marked,
-        missing: report.missing,
-    }
-}
-
-/// And back.
-fn plain_of(report: &Report) -> plain::Report {
-    let mut answers = [0; 18];
-    for (&n, &count) in NUMBERS.iter().zip(&report.counts) {
-        answers[n] = count;
-    }
-    plain::Report {
-        records: report.records,
-        answers,
-        discards: report.discards,
-        marked: report.marked,
-        missing: report.missing,
-    }
-}
 
 fn refusal(number: u32) -> FiguresRefusal {
     match number {
@@ -58,7 +30,7 @@ fn both(
 ) -> Result<Stop, FiguresRefusal> {
     let (was, held) = (*report, lent.clone());
     let mut theirs = lent.clone();
-    let mut wanted = plain_of(report);
+    let mut wanted = plain_report(report);
     let got = add(report, &proved_settings(settings), trace, &mut lent.lend());
     let [flash, seen, sectors, main, xip] = theirs.each();
     let told = plain::add(
@@ -77,7 +49,7 @@ fn both(
         reference::replay::Stop::Differs(i) => Stop::Differs(i),
     });
     assert_eq!(got, told);
-    assert_eq!(*report, ours_of(&wanted));
+    assert_eq!(*report, proved_report(&wanted));
     assert!(*lent == theirs, "buffers");
     if got.is_err() {
         assert!(*report == was && *lent == held, "a refusal leaves all");

@@ -1,0 +1,33 @@
+//! The proved calls for parts of reports, as the reference has them: the tests call nothing else of them.
+
+use reference::parts::Part;
+use reference::Settings;
+use tools::part::merge_bytes;
+
+use crate::report::{plain_part, proved_part};
+use crate::{proved_settings, Buffers};
+
+/// The part of one trace, by the proved calls.
+pub fn part_of(s: &Settings, trace: &[u8], lent: &mut Buffers) -> Result<Part, u32> {
+    let mut report = tools::report::Report::FRESH;
+    let added = tools::report::add(&mut report, &proved_settings(s), trace, &mut lent.lend());
+    let part = added.and_then(|stop| tools::part::Part::one(&report, stop));
+    part.map(|part| plain_part(&part))
+        .map_err(|refusal| refusal.number().into())
+}
+
+/// A part and then a later one, by the proved call over bytes, whose bytes are the part whether or not it is refused; the wrapper says the same.
+pub fn merge(a: &mut Part, b: &Part) -> Result<(), u32> {
+    let (mut wrapped, later) = (proved_part(a), proved_part(b));
+    let mut bytes = wrapped.bytes();
+    let number = merge_bytes(&mut bytes, &later.bytes());
+    let told = wrapped.merge(&later).map_err(|refusal| refusal.number());
+    assert_eq!(told.err().map_or(0, u32::from), number, "the wrapper's");
+    assert_eq!(wrapped.bytes(), bytes, "the wrapper's");
+    *a = plain_part(&wrapped);
+    if number == 0 {
+        Ok(())
+    } else {
+        Err(number)
+    }
+}
