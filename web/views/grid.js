@@ -186,12 +186,12 @@ export class Grid {
     if (cell < 9) return;
     context.fillStyle = ink;
     const mark = name === 'missing' ? '' : text.grid.marks[name];
-    if (label === undefined || cell < 24) {
+    if (label === undefined || cell < 20) {
       context.font = `${Math.round(cell * 0.55)}px sans-serif`;
       context.fillText(mark, x + cell / 2, y + cell / 2 + 0.5);
       return;
     }
-    context.font = `bold ${Math.round(cell * 0.46)}px sans-serif`;
+    context.font = `bold ${Math.round(cell * 0.48)}px sans-serif`;
     context.fillText(label, x + cell / 2, y + cell * 0.62, cell - 4);
     context.font = `${Math.round(cell * 0.3)}px sans-serif`;
     context.fillText(mark, x + cell * 0.78, y + cell * 0.22);
