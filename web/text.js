@@ -416,6 +416,10 @@ export const text = {
       1: (k) => `Record ${n(k)} is bad: it is short, or has stray bits. The replay stops there.`,
       2: (k) => `At record ${n(k)} the answers differ. The replay stops there.`,
     },
+    // of a replay that stops nowhere
+    never: (missing, total) =>
+      `The update was never complete: ${n(missing.length)} of ${blocks(total)} ${missing.length === 1 ? 'is' : 'are'} missing (${missing.slice(0, 8).map(n).join(', ')}${missing.length > 8 ? ', ..' : ''}).`,
+    nothing: 'No block was taken.',
     recorded: 'The site recorded',
     ours: 'We answer',
     at: (words) => `The arrival at which it stops: ${words}`,

@@ -2,7 +2,7 @@
 import { N } from './numbers.js';
 import { ProvedReceiver, readTransfer } from './proved.js';
 import { isBlock } from './block.js';
-import { get64 } from './bytes.js';
+import { get64, isMarked } from './bytes.js';
 
 // What a record says was answered.
 export function readRecord(piece) {
@@ -28,6 +28,13 @@ export function looksLikeTrace(trace) {
   return recordsOf(trace.subarray(0, 64 * N.UF2_RECORD_SIZE)).some((record) => isBlock(record.subarray(1)));
 }
 
+// The numbers that a running transfer has not marked.
+function missingNumbers({ state, total }, seen) {
+  const numbers = [];
+  for (let k = 0; state === 'running' && k < total; k++) if (!isMarked(seen, k)) numbers.push(k);
+  return numbers;
+}
+
 // The replay of a trace on a board, by the proved library: where it stops, and the state and maps there. Run in a worker, since it is one long call.
 export function replay(library, board, trace) {
   const receiver = new ProvedReceiver(library, board);
@@ -47,5 +54,6 @@ export function replay(library, board, trace) {
   }
   let marked = 0;
   for (const byte of seen.bytes) for (let bit = byte; bit; bit &= bit - 1) marked++;
-  return { stop, at, ours, reason, transfer: readTransfer(transfer.bytes), marked };
+  const end = readTransfer(transfer.bytes);
+  return { stop, at, ours, reason, transfer: end, marked, missing: missingNumbers(end, seen.bytes) };
 }

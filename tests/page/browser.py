@@ -440,6 +440,8 @@ def never_came(page):
         sent = [0, 1, 2, 3, 4, 6, 7, 7]
         page.drop("lost.trace", b"".join(bytes([(13 if n == 7 else 14) << 3]) + pieces[k] for n, k in enumerate(sent)))
         page.until(lambda: "lost.trace" in page.text("#trace-note"), "the replay")
+        told = page.js("const stop = document.getElementById('trace-stop'); return [stop.textContent, stop.dataset.kind]")
+        equal(told, ["The replay stops nowhere: every recorded answer is ours. The update was never complete: 1 of 8 blocks is missing (5).", "missing"])
         page.press("#trace-show")
         page.until(lambda: page.text("#position") == "Arrival 0 of 8" and page.js("return document.getElementById('lesson').value") == "own", "its arrivals")
         every_receiver("trace")
@@ -578,7 +580,8 @@ def hex_and_trace(page):
         trace = b"".join(bytes([answer << 3]) + arrivals[512 * k : 512 * k + 512] for k, answer in enumerate(answers))
         page.drop("site.trace", trace)
         page.until(lambda: "site.trace" in page.text("#trace-note"), "the replay of a trace that was dropped")
-        assert "stops nowhere" in page.text("#trace-stop"), page.text("#trace-stop")
+        told = page.js("const stop = document.getElementById('trace-stop'); return [stop.textContent, stop.dataset.kind]")
+        equal(told, ["The replay stops nowhere: every recorded answer is ours.", "completed"])
         page.press("#trace-show")
         page.until(lambda: page.text("#position") == "Arrival 0 of 9", "its arrivals shown")
 

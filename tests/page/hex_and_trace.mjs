@@ -89,6 +89,14 @@ await check('the trace of a site that counts arrivals differs at the repeat', as
   assert.deepEqual([none.stop, none.marked, none.transfer.state], [N.UF2_STOP_NONE, 7, 'running']);
 });
 
+await check('a trace that lost a block is replayed to its end, and the replay names the block', async () => {
+  const { board, plan } = lessonParts(library, LESSONS[2]);
+  const sent = [0, 1, 2, 3, 4, 6, 7, 7].map((k) => plan.pieces[k]);
+  const trace = Uint8Array.from(sent.flatMap((piece, k) => [...recordBytes(k === 7 ? 13 : 14, false, piece)]));
+  const { stop, transfer, missing } = replay(library, board, trace);
+  assert.deepEqual([stop, transfer.state, missing], [N.UF2_STOP_NONE, 'running', [5]]);
+});
+
 await check('orders of arrivals', () => {
   const pieces = [0, 1, 2, 3].map((k) => Uint8Array.of(k));
   const order = (plan) => arrivalList(plan).map(({ bytes }) => bytes[0]);

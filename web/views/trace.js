@@ -70,9 +70,8 @@ export class TraceView {
   render() {
     const { result, records } = this;
     byId('trace-result').hidden = false;
-    const words = text.trace.stop[result.stop];
-    setText(byId('trace-stop'), typeof words === 'function' ? words(result.at) : words);
-    byId('trace-stop').dataset.kind = result.stop === N.UF2_STOP_NONE ? 'completed' : 'missing';
+    setText(byId('trace-stop'), this.stopWords());
+    byId('trace-stop').dataset.kind = result.stop === N.UF2_STOP_NONE && result.transfer.state === 'done' ? 'completed' : 'missing';
     const record = result.stop === N.UF2_STOP_NONE ? null : readRecord(records[result.at]);
     this.showAnswer('trace-recorded', record && { ...record, why: record.short ? text.trace.shortRecord : '' });
     this.showAnswer('trace-ours', result.ours && { ...result.ours, why: reasonWords(result.ours.answer, result.reason) });
@@ -80,6 +79,14 @@ export class TraceView {
     setText(byId('trace-at'), record ? text.trace.at([block, family, address].filter(Boolean).join(', ')) : '');
     setText(byId('trace-state'), `${stateWords(result.transfer)}. ${text.trace.seen(result.marked)}`);
     this.showRecords();
+  }
+
+  // Where the replay stops; and where it stops nowhere, whether the update was complete.
+  stopWords() {
+    const { stop, at, transfer, missing } = this.result;
+    if (stop !== N.UF2_STOP_NONE) return text.trace.stop[stop](at);
+    const end = { idle: text.trace.nothing, running: text.trace.never(missing, transfer.total), done: '' }[transfer.state];
+    return `${text.trace.stop[stop]} ${end}`.trim();
   }
 
   showAnswer(id, said) {
