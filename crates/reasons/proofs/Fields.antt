@@ -2,17 +2,16 @@
 use Prim.Native.Nat.{ℕ, suc, _<_, _≤_}
 use mathlib.Core.Path.{_≡_, refl}
 use mathlib.Core.Logic.{_⊎_, inl, inr}
-use mathlib.Core.Bool.{Bool, true, false, not, _&&_}
+use mathlib.Core.Bool.{Bool, true, false, not}
 use native.Mathlib.Omega.{arith}
-use lib.Dec.{leb, eqb}
-use borrow.Author.Tests.{eqb-true, lt-ltb}
-use Rattle.sets.proofs.Tests.{split, clash, and-left, and-right}
+use lib.Dec.{leb}
+use Rattle.sets.proofs.Tests.{split, clash}
 use Rattle.settings.specs.declared.Settings.{Settings}
 use Rattle.settings.specs.declared.Entry.{Entry}
 use Rattle.settings.specs.declared.Link.{Link}
 use Rattle.settings.specs.declared.Link.the-variants.{Unlinked, OwnedBy, BOf}
 use Rattle.settings.specs.Settings.{linkIsB, accepts, entryAt}
-use Rattle.place.specs.Place.{passQueryOf, passTakes, usedCount, getsWhole}
+use Rattle.place.specs.Place.{passQueryOf, passTakes, usedCount}
 use Rattle.place.proofs.Laws.{used-least, used-whole}
 use Rattle.placing.specs.Placing.{takenIn, Marked, FirstMatch}
 use Rattle.targeting.specs.Targeting.{First}
@@ -36,32 +35,18 @@ low-used n k l h = split (leb n 16) (λ t. rw t h) (λ t. rw t l)
 
 -- ---- the first match
 
-module _ (s : Settings) (f : ℕ) where
-  pub first-fields : s .count ≤ 16 → (q k : ℕ) → FirstMatch s f q k → First s f (suc q) k
-  unfolding takenIn
-  first-fields most q k m =
-      let w = passQueryOf s f in
-      record {
-        taken = said-takes s f q k (m .pass) (omega (arith, m .used, used-least (s .count))) (m .taken);
-        earlier = λ p j l t.
-            let u = takes-said s f p j t in
-            let b : j < usedCount (s .count) = omega (arith, t .accepting .used, used-whole (s .count) most) in
-            clash (passTakes w (u .0) (entryAt (s .table) j)) (u .3) (m .earlier (u .0) (omega (arith, u .1)) j b);
-        before = λ j l t.
-            let u = takes-said s f (suc q) j t in
-            let same : u .0 ≡ q = omega (arith, u .1) in
-            clash (passTakes w q (entryAt (s .table) j)) (rw same at (u .3)) (m .before j l);
-      }
-
-  -- without a table
-  pub whole-fields : getsWhole (s .arm) (s .riscv) f ≡ true
-      → (f ≡ 0xe48bff58) ⊎ (((f ≡ 0xe48bff59) × (s .arm ≡ true)) ⊎ ((f ≡ 0xe48bff5a) × (s .riscv ≡ true)))
-  whole-fields h =
-      split (eqb f 0xe48bff58)
-      (λ t. inl (eqb-true f _ t))
-      (λ t1.
-      split (eqb f 0xe48bff59 && s .arm)
-      (λ t. inr (inl (eqb-true f _ (and-left (eqb f 0xe48bff59) (s .arm) t), and-right (eqb f 0xe48bff59) (s .arm) t)))
-      (λ t2.
-      let u : eqb f 0xe48bff5a && s .riscv ≡ true = rw (t1, t2) at h in
-      inr (inr (eqb-true f _ (and-left (eqb f 0xe48bff5a) (s .riscv) u), and-right (eqb f 0xe48bff5a) (s .riscv) u))))
+pub first-fields : (s : Settings) (f : ℕ) → s .count ≤ 16 → (q k : ℕ) → FirstMatch s f q k → First s f (suc q) k
+unfolding takenIn
+first-fields s f most q k m =
+    let w = passQueryOf s f in
+    record {
+      taken = said-takes s f q k (m .pass) (omega (arith, m .used, used-least (s .count))) (m .taken);
+      earlier = λ p j l t.
+          let u = takes-said s f p j t in
+          let b : j < usedCount (s .count) = omega (arith, t .accepting .used, used-whole (s .count) most) in
+          clash (passTakes w (u .0) (entryAt (s .table) j)) (u .3) (m .earlier (u .0) (omega (arith, u .1)) j b);
+      before = λ j l t.
+          let u = takes-said s f (suc q) j t in
+          let same : u .0 ≡ q = omega (arith, u .1) in
+          clash (passTakes w q (entryAt (s .table) j)) (rw same at (u .3)) (m .before j l);
+    }

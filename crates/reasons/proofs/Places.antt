@@ -45,7 +45,8 @@ use Rattle.reason.proofs.Laws.{place-parts}
 use Rattle.reasons.specs.Claims.{Place-answer-is-the-receivers, refusalOr, Place-reason-is-true, FoundTrue, Found-place-is-true, placeNamed, Found-place-is-the-receivers, Place-marks-are-true}
 use Rattle.reasons.proofs.Answers.{told, told-next, flash-answer}
 use Rattle.reasons.proofs.Agree.{finding-answer, flash-denied, flash-open}
-use Rattle.reasons.proofs.Fields.{mark-fields, low-used, first-fields, whole-fields}
+use Rattle.reasons.proofs.Fields.{mark-fields, low-used, first-fields}
+use Rattle.targeting.proofs.Targeting.{gets-said}
 use Rattle.reasons.proofs.Theorems.{never, decided-holds, marks-denied}
 
 -- a row whose answer is the same whatever comes after it decides, and one that leaves what comes after it passes
@@ -145,7 +146,7 @@ module _ (s : Settings) (len f : ℕ) where
   spot-found : s .count ≤ 16 → (z : Spot) → SpotTrue s f z → FoundTrue s f (placedSpot f z)
   spot-found most (spot.Refused x) t = tt
   spot-found most (spot.Whole Absolute) t = t
-  spot-found most (spot.Whole NoTable) t = (t .0, whole-fields s f (t .2))
+  spot-found most (spot.Whole NoTable) t = (t .0, gets-said s f (t .2))
   spot-found most (spot.Entry p k) t = rw (t .1) (first-fields s f most (t .0) k (t .2))
 
   -- where every row passes, the settings are good
