@@ -1,7 +1,9 @@
-//! The proved calls for parts of reports, as the reference has them: the tests call nothing else of them.
+//! The proved calls for files and for parts of reports, as the reference has them: the tests call nothing else of them.
 
+use reference::check::Found;
 use reference::parts::Part;
 use reference::Settings;
+use tools::check::{Checked, Lens};
 use tools::part::merge_bytes;
 
 use crate::report::{plain_part, proved_part};
@@ -29,5 +31,35 @@ pub fn merge(a: &mut Part, b: &Part) -> Result<(), u32> {
         Ok(())
     } else {
         Err(number)
+    }
+}
+
+/// A file, checked by the proved call for a board with these lengths of flash, main RAM and XIP RAM.
+pub fn check(s: &Settings, file: &[u8], lens: [usize; 3]) -> Found {
+    let [flash, main, xip] = lens;
+    let lens = Lens { flash, main, xip };
+    let got = tools::check::check(&proved_settings(s).bytes(), file, lens);
+    let found = plain_found(got);
+    assert_eq!(got.number(), found.number().into(), "{got:?}");
+    found
+}
+
+fn plain_found(checked: Checked) -> Found {
+    match checked {
+        Checked::Valid => Found::Valid,
+        Checked::BadBuffers => Found::BadBuffers,
+        Checked::BadSettings => Found::BadSettings,
+        Checked::Ragged => Found::Ragged,
+        Checked::Empty => Found::Empty,
+        Checked::Refused(piece, answer) => Found::Refused { piece, answer },
+        Checked::OtherFamily(piece) => Found::OtherFamily { piece },
+        Checked::OtherTotal(piece) => Found::OtherTotal { piece },
+        Checked::OtherKind(piece) => Found::OtherKind { piece },
+        Checked::SameNumber(piece, other) => Found::SameNumber { piece, other },
+        Checked::Overlap(piece, other) => Found::Overlap { piece, other },
+        Checked::Missing(number) => Found::Missing {
+            number: number as u32,
+        },
+        Checked::Guarded(piece) => Found::Guarded { piece },
     }
 }

@@ -4,6 +4,7 @@ pub mod adapter;
 pub mod before_ram;
 mod buffers;
 pub mod fence;
+pub mod files;
 pub mod hex;
 pub mod nor;
 mod pair;
