@@ -1,4 +1,4 @@
-//! The proved calls for files and for parts of reports, as the reference has them: the tests call nothing else of them.
+//! The proved calls for files, for parts of reports and for pages that stand, as the reference has them: the tests call little else of them.
 
 use reference::check::Found;
 use reference::parts::Part;
@@ -62,4 +62,21 @@ fn plain_found(checked: Checked) -> Found {
         },
         Checked::Guarded(piece) => Found::Guarded { piece },
     }
+}
+
+/// Whether a page stands, by the proved call over bytes; the wrapper says the same.
+pub fn stands(s: &Settings, arrival: &[u8], lent: &Buffers) -> u8 {
+    let memory = proved::Memory {
+        flash: &lent.flash,
+        main: &lent.main,
+        xip: &lent.xip,
+    };
+    let settings = proved_settings(s);
+    let number = proved::bytes::stands(&settings.bytes(), arrival, &memory);
+    let wrapped = match proved::stands(&settings, arrival, &memory) {
+        Ok(stand) => stand as u32,
+        Err(answer) => answer.number().into(),
+    };
+    assert_eq!(wrapped, number, "the wrapper's");
+    number as u8
 }
