@@ -74,7 +74,7 @@ static inline uint32_t uf2_get32(const uint8_t *at) {
     return (uint32_t)at[0] | (uint32_t)at[1] << 8 | (uint32_t)at[2] << 16 | (uint32_t)at[3] << 24;
 }
 
-/* ---- Settings. A flag is on if its byte is not 0. A slice of another length is no settings, and is answered
+/* ---- Settings. A flag is on if its byte is not 0; uf2_store_read writes each as 0 or 1. A slice of another length is no settings, and is answered
  * UF2_ANSWER_BAD_SETTINGS. All zeros with the byte at UF2_SETTINGS_ARM_AT set: Arm alone, no partition table. */
 #define UF2_SETTINGS_SIZE 550
 #define UF2_SETTINGS_ARM_AT 0         /* flag: Arm enabled */
@@ -265,7 +265,7 @@ static inline uint16_t uhex_get16(const uint8_t *at) {
  * has failed. The last line of a file may have no LF; where nothing follows the last LF there is no further line. */
 #define UHEX_LINE_SIZE 523
 
-/* A reader: made by uhex_new, it goes in and comes back with each line. A flag is on if its byte is not 0. A slice of another length
+/* A reader: made by uhex_new, it goes in and comes back with each line. A flag is on if its byte is not 0, and is written as 0 or 1. A slice of another length
  * is no reader, and is answered UHEX_ANSWER_BAD_READER. */
 #define UHEX_READER_SIZE 16
 #define UHEX_READER_OWN_AT 0         /* 16 bits: its own board, UHEX_BOARD_V1 or _V2; any other is answered UHEX_ANSWER_BAD_READER */

@@ -10,7 +10,7 @@
  *
  * A store is 2 bytes, and 22 for each used entry. Good settings have one store, and settings that differ in a used entry, a used user family, a
  * linked index, a switch or the current architecture have another. Settings that are read have zeros in unused entries, unused user families and
- * the index of an entry that is not linked. */
+ * the index of an entry that is not linked; each flag is written as 0 or 1, and so is the byte of the current architecture. */
 #ifndef UF2_STORE_H
 #define UF2_STORE_H
 

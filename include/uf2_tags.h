@@ -50,7 +50,8 @@ enum uf2_tag_answer {
     UF2_TAG_PAST_ROOM = 64    /* a tag that runs past the data, or into the checksum of flag 0x4000 */
 };
 
-/* The place of a block's first tag. */
+/* The place of a block's first tag: 32 and the payload's size as the block says it, whether there is a tag or not, and 32 of under 20 bytes. What
+ * stands there uf2_tag says: UF2_TAG_END where the block has no tags. */
 uf2_len uf2_tag_first(const uint8_t *block, uf2_len block_len);
 
 /* What stands at a place of a block: UF2_TAG_FOUND, with the tag in `tag`; or any other answer, with `tag` unchanged. */

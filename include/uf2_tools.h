@@ -53,6 +53,7 @@ void uf2_make_block(uint32_t address, uint32_t number, uint32_t total, uint32_t 
  *                       20 to 25 as `enum uhex_answer` of uf2_receiver.h has them; 26 a type over 05, or a length that the type does not have, or
  *                       no 01 at the end; 29 data past the 65,536 bytes that one 02 or 04 reaches; 30 no data byte; 31 a line after the 01;
  *                       36 an input over 4,194,304 bytes (UHEX_JOIN_MAX_SIZE), or the output over 4,194,304 bytes, or longer than what is lent
+ *                       V1's file is asked whole, with its missing 01 and its 30, before V2's first line, and the output's 36 comes last
  *   UHEX_JOIN_POSITION  with 22 the position of the first bad character, counted from 0 at the colon; else 0
  *   UHEX_JOIN_BOARD     whose file is refused: 1 is V1, which is read first, 2 is V2; 0 for the output, or where the file is written
  *   UHEX_JOIN_LINE      the index from 0 of the line that is refused; for a missing 01 and for 30 the number of lines; 0 for the output
@@ -93,8 +94,8 @@ enum uf2_stop {
  *
  * Each record is looked at and then taken, so that a region (flag 0x4000) is hashed twice. */
 uint32_t uf2_replay(const uint8_t *settings, uf2_len settings_len, const uint8_t *trace, uf2_len trace_len, uint8_t *flash,
-                    uf2_len flash_len, uint8_t *seen, uf2_len seen_len, uint8_t *sectors, uf2_len sectors_len, uint8_t *main,
-                    uf2_len main_len, uint8_t *xip, uf2_len xip_len, uint8_t *transfer, uf2_len transfer_len, uint8_t *index,
+                    uf2_len flash_len, uint8_t *seen, uf2_len seen_len, uint8_t *sectors, uf2_len sectors_len, uint8_t *main_ram,
+                    uf2_len main_ram_len, uint8_t *xip_ram, uf2_len xip_ram_len, uint8_t *transfer, uf2_len transfer_len, uint8_t *index,
                     uf2_len index_len);
 
 /* Exact figures over many traces, each replayed from Idle. A report is UF2_REPORT_SIZE bytes: 21 numbers of 32 bits, each with the lowest byte
@@ -120,11 +121,12 @@ enum uf2_figures_refusal {
 };
 
 /* Adds one trace to a report: it is replayed as uf2_replay does, and the result is where it stopped (enum uf2_stop) with its index, or a
- * refusal, which leaves the bytes of report and index and every buffer as they were lent. */
+ * refusal, which leaves the bytes of report and index and every buffer as they were lent. An index of another length than UF2_INDEX_SIZE
+ * stays as it was lent, and changes nothing else; without a stop the index stays too. */
 uint32_t uf2_figures(uint8_t *report, uf2_len report_len, const uint8_t *settings, uf2_len settings_len, const uint8_t *trace,
                      uf2_len trace_len, uint8_t *flash, uf2_len flash_len, uint8_t *seen, uf2_len seen_len, uint8_t *sectors,
-                     uf2_len sectors_len, uint8_t *main, uf2_len main_len, uint8_t *xip, uf2_len xip_len, uint8_t *index,
-                     uf2_len index_len);
+                     uf2_len sectors_len, uint8_t *main_ram, uf2_len main_ram_len, uint8_t *xip_ram, uf2_len xip_ram_len,
+                     uint8_t *index, uf2_len index_len);
 
 #ifdef __cplusplus
 }

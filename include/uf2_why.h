@@ -14,7 +14,7 @@
 #ifndef UF2_WHY_H
 #define UF2_WHY_H
 
-#include "uf2_len.h"
+#include "uf2_receiver.h"
 
 #ifdef __cplusplus
 extern "C" {
@@ -28,9 +28,17 @@ extern "C" {
 #define UF2_REASON_OTHER_AT 21
 #define UF2_REASON_MARKS_AT 22
 
+/* A number of 64 bits, the lowest byte first: uf2_get64(reason + UF2_REASON_GOT_AT). uf2_get32 is uf2_receiver.h's. */
+static inline uint64_t uf2_get64(const uint8_t *at) {
+    return (uint64_t)uf2_get32(at) | (uint64_t)uf2_get32(at + 4) << 32;
+}
+
 /* The conditions: the answer's row times 100, and the condition's place in it. Bytes that are no settings or no transfer (210, 306, 307)
- * are told before the other conditions of their row; a link byte that is no kind of link (211) is told where 206 would be. Behind each, the
- * number tested and what it is tested against. */
+ * are told before the other conditions of their row; a link byte that is no kind of link (211) is told where 206 would be. Each condition on
+ * entries (203 to 209) is asked of all used entries, the lowest index first, before the next condition is: an entry 1 without sectors is told
+ * before an entry 0 with too many user families. 203 to 209 and 211 name the entry, and 210 names none. 307 is about the byte at
+ * UF2_TRANSFER_STATE_AT where that is over 2, and else about the one at UF2_TRANSFER_KIND_AT. 1201 and 1301 tell number and total of the
+ * block that came, and not the transfer's. Behind each, the number tested and what it is tested against. */
 enum uf2_cause {
     UF2_CAUSE_ARRIVAL_LENGTH = 101,     /* length, 512 */
     UF2_CAUSE_FLASH_RAGGED = 102,       /* length, 4096: no multiple */
@@ -106,7 +114,8 @@ enum uf2_mark { UF2_MARK_NONE = 0, UF2_MARK_B_OF = 1, UF2_MARK_NOT_ACCEPTING = 2
 /* What uf2_look returns, and why. Nothing but the reason is written. */
 uint32_t uf2_why(const uint8_t *settings, uf2_len settings_len, const uint8_t *transfer, uf2_len transfer_len, const uint8_t *arrival,
                  uf2_len arrival_len, const uint8_t *flash, uf2_len flash_len, const uint8_t *seen, uf2_len seen_len, const uint8_t *sectors,
-                 uf2_len sectors_len, const uint8_t *main, uf2_len main_len, const uint8_t *xip, uf2_len xip_len, uint8_t *reason, uf2_len reason_len);
+                 uf2_len sectors_len, const uint8_t *main_ram, uf2_len main_ram_len, const uint8_t *xip_ram, uf2_len xip_ram_len, uint8_t *reason,
+                 uf2_len reason_len);
 
 /* What uf2_ask returns of a family in a flash of flash_len bytes, 0, 1, 2 or 8, and why. */
 uint32_t uf2_why_place(const uint8_t *settings, uf2_len settings_len, uf2_len flash_len, uint32_t family, uint8_t *reason, uf2_len reason_len);

@@ -33,6 +33,16 @@ static void told(const char *name, uf2_len trace_len) {
     printf("\n");
 }
 
+/* An index of another length stays, and all else is as with one of 8 bytes. */
+static void short_index(void) {
+    uint8_t index[UF2_INDEX_SIZE] = {7, 7, 7, 7, 7, 7, 7, 7}, none = 0;
+    uint32_t result;
+    memset(report, 0, sizeof report);
+    result = uf2_figures(report, sizeof report, settings, sizeof settings, trace, sizeof trace - 1, flash, sizeof flash, seen, sizeof seen, sectors,
+                         sizeof sectors, &none, 0, &none, 0, index, sizeof index - 1);
+    printf("an index of 7 bytes: %u, %u %u, records %lu\n", (unsigned)result, index[0], index[6], number(UF2_REPORT_RECORDS));
+}
+
 int main(void) {
     static uint8_t image[2 * UF2_MAKE_PAGE_SIZE], file[2 * UF2_MAKE_BLOCK_SIZE];
     static const uint8_t sent[3] = {0, 0, 1}, answered[3] = {14, 13, 15};
@@ -53,5 +63,6 @@ int main(void) {
     memset(report + UF2_REPORT_COUNT(17), 0xFF, 4);
     told("no room for a record", UF2_RECORD_SIZE);
     told("no whole record", UF2_RECORD_SIZE - 1);
+    short_index();
     return 0;
 }

@@ -30,6 +30,10 @@ int main(void) {
     join(one, ":010000005AA5\n:0100000Z5AA5\n", sizeof output);
     join(one, ":010000005AA5\n:00000001FF\n\n", sizeof output);
     join(one, ":00000001FF\n", sizeof output);
+    /* V1's file is asked whole before V2's first line, and both before the output */
+    join(":00000001FF\n", "x", sizeof output);
+    join(":00000001FF\n", ":00000001FF\n", 0);
+    join(one, ":00000001FF\n", 0);
     join(one, two, n - 1);
     printf("%c\n", output[0]);
     return 0;

@@ -4,6 +4,7 @@
  *     gcc -std=c99 -Iinclude tests/c/layout.c target/staticlib/lib*.a -o layout
  */
 #include "uf2_receiver.h"
+#include "uf2_tags.h"
 
 #include <stdio.h>
 #include <string.h>
@@ -524,8 +525,37 @@ static void between(void) {
     CHECK(line(":00000001FF\n") == UHEX_ANSWER_MISSING_BOARD);
 }
 
+/* A flag that was lent as any byte but 0 comes back as 1. */
+static void flags(void) {
+    uhex_new(UHEX_BOARD_V1, reader, sizeof reader);
+    CHECK(reader[UHEX_READER_SECTION_V1_AT] == 0 && reader[UHEX_READER_DATA_V2_AT] == 0);
+    reader[UHEX_READER_SECTION_V2_AT] = 7;
+    reader[UHEX_READER_DATA_V2_AT] = 255;
+    CHECK(line(":020000040000FA\n") == UHEX_ANSWER_PASSED);
+    CHECK(reader[UHEX_READER_SECTION_V1_AT] == 0 && reader[UHEX_READER_SECTION_V2_AT] == 1);
+    CHECK(reader[UHEX_READER_DATA_V1_AT] == 0 && reader[UHEX_READER_DATA_V2_AT] == 1);
+}
+
+/* The first tag's place is 32 and the payload's size, whether there is a tag or not. */
+static void first_tags(void) {
+    uint8_t block[UF2_ARRIVAL_SIZE] = {0}, tag[UF2_TAG_SIZE] = {0};
+    CHECK(uf2_tag_first(block, 0) == 32 && uf2_tag_first(block, sizeof block) == 32);
+    memset(block, 0xFF, sizeof block);
+    CHECK(uf2_tag_first(block, 19) == 32);
+    CHECK(uf2_tag_first(block, sizeof block) == (uf2_len)32 + 0xffffffffu);
+    memset(block, 0, sizeof block);
+    uf2_put32(block, 0x0A324655u);
+    uf2_put32(block + 4, 0x9E5D5157u);
+    uf2_put32(block + 16, 256u);
+    uf2_put32(block + 508, 0x0AB16F30u);
+    CHECK(uf2_tag_first(block, sizeof block) == 288);
+    CHECK(uf2_tag(block, sizeof block, 288, tag, sizeof tag) == UF2_TAG_END);
+}
+
 int main(void) {
     switches();
+    first_tags();
+    flags();
     entries();
     passes();
     arrivals();

@@ -67,6 +67,9 @@ int main(void) {
     uf2_put32(settings + UF2_SETTINGS_ENTRY_AT(1) + UF2_ENTRY_USERS_AT + 4, 9);
     settings[UF2_SETTINGS_ENTRY_AT(0) + UF2_ENTRY_LINK_INDEX_AT] = 7;
     settings[UF2_SETTINGS_ENTRY_AT(2) + UF2_ENTRY_DATA_AT] = 1;
+    /* flags, and the byte of the current architecture, that were lent as any other number come back as 1 */
+    settings[UF2_SETTINGS_ARM_AT] = settings[UF2_SETTINGS_CURRENT_AT] = settings[UF2_SETTINGS_AUTO_SWITCH_AT] = 7;
+    settings[UF2_SETTINGS_ENTRY_AT(1) + UF2_ENTRY_DATA_AT] = settings[UF2_SETTINGS_ENTRY_AT(1) + UF2_ENTRY_NO_RESTART_AT] = 255;
     CHECK(write_store(FLASH_SIZE, sizeof store) == UF2_STORE_DONE);
     CHECK(memcmp(store, expected, sizeof expected) == 0);
     CHECK(read_store(FLASH_SIZE, UF2_STORE_SIZE(2)) == UF2_STORE_DONE);

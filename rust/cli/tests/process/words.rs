@@ -153,3 +153,42 @@ fn tables_of_readme() {
         assert_eq!(found[&number], (row.name.as_str(), row.words.as_str()));
     }
 }
+
+/// The two things that have to be right before a call from C are said wherever it is said that nothing else has to.
+#[test]
+fn what_has_to_be_checked() {
+    for page in ["README.md", "docs/CALLS.md"] {
+        let text = plain(&text(page));
+        let said =
+            "nothing of them has to be checked before a call, in any language. In C two things do";
+        let (_, after) = text.split_once(said).expect(page);
+        assert!(
+            after.contains(
+                "no pointer is null, also of an empty slice, and a slice that is written"
+            ),
+            "{page}"
+        );
+        assert!(after.contains("overlaps no other of the call"), "{page}");
+    }
+    // the example for a board lends no array twice
+    let text = text("docs/BOARD.md");
+    let (_, call) = text.split_once("*result = uf2_accept(").expect("a call");
+    let (call, _) = call.split_once(");").expect("its end");
+    let lent: Vec<&str> = call.split(',').map(str::trim).collect();
+    let rams = [lent[12], lent[14]];
+    assert_eq!([lent[13], lent[15]], ["0", "0"]);
+    assert_ne!(rams[0], rams[1]);
+}
+
+/// Every header names the parameters of a call alike, and uf2_why.h has all that it cites.
+#[test]
+fn names_of_parameters() {
+    for header in ["uf2_receiver.h", "uf2_tools.h", "uf2_why.h"] {
+        let text = text(&format!("include/{header}"));
+        for old in ["*main,", "*xip,", "main_len", "xip_len"] {
+            assert!(!text.contains(old), "{header}: {old}");
+        }
+    }
+    let why = text("include/uf2_why.h");
+    assert!(why.contains("#include \"uf2_receiver.h\"") && why.contains("uint64_t uf2_get64("));
+}
