@@ -69,7 +69,8 @@ impl Saved {
     /// Writes the line to a file, or to standard output.
     pub fn write(&self, name: &str, out: &mut Out) -> Result<(), Trouble> {
         if name == "-" {
-            out.line(self.line());
+            // as it is: a line that is shown has no tabs
+            out.text(format_args!("{}\n", self.line()));
             return Ok(());
         }
         files::write(name, format!("{}\n", self.line()).as_bytes())
