@@ -1,0 +1,2 @@
+-- The proof of the examples.
+pub mod CheckFiles

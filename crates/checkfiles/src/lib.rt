@@ -1,0 +1,1 @@
+// Files checked by computation. No code: specs/ says it, proofs/ proves it.
