@@ -151,12 +151,17 @@ enum uf2_answer {
     UF2_ANSWER_BAD_ADDRESS = 11, /* the address is in no window, past the end of the place or the RAM, or in flash no multiple of 256.
                                     In RAM any byte address is good up to 256 before the window's end. Not asked of a comment */
     UF2_ANSWER_FINISHED = 12,    /* the file was complete already */
-    UF2_ANSWER_AGAIN = 13,       /* a block of this number had come before */
+    UF2_ANSWER_AGAIN = 13,       /* a block of this number had come before; whether it was the same block is not asked (below) */
     UF2_ANSWER_WRITTEN = 14,     /* stored, others are missing */
     UF2_ANSWER_COMPLETED = 15,   /* the last one that was missing: the file is complete: stored, kept or, a comment, noted */
     UF2_ANSWER_NOTED = 16,       /* a comment (flag 0x1): counted and not stored, others are missing */
     UF2_ANSWER_KEPT = 17         /* counted and not stored, since the flash has what its region names; others are missing */
 };
+
+/* A file is known by family, total and kind alone. Another build of as many blocks, sent after the first was stopped, is taken for the rest of the
+ * first: its blocks are answered 13 where the first's came, and the last one 15, over a mixture of the two. So let uf2_new be called where
+ * a host begins (plugged in, ejected, no arrival for a second); compare a block answered 12 or 13 with the memory (uf2_stands.h), and where it
+ * differs, uf2_new and the block anew; and say "complete" only once every block of the file stands. */
 
 /* A region: a block with flag 0x4000 names one in its last 24 data bytes (byte 484 of the arrival: its start, an address like the block's, and its
  * length, both the lowest byte first, then the MD5 digest of its bytes). It counts for a flash data block that would be stored, where it is whole
@@ -228,7 +233,12 @@ enum uf2_plan {
  * Where the driver fails: drop the transfer (uf2_new), and let the file be sent again from its first block. Transfer and maps say already
  * that the page is there, and that its sector was erased: a transfer that went on would answer UF2_ANSWER_AGAIN to the same block, and end
  * as UF2_ANSWER_COMPLETED with a page that is not in the flash. A fresh transfer clears both maps with its first block, so that each sector
- * is erased anew. The same holds where power fails between this call and the end of its plan, if the transfer was kept. */
+ * is erased anew.
+ *
+ * A transfer that is kept over a loss of power needs a mark in the same memory, set before this call and cleared after its plan: where it is
+ * set at the start, uf2_new. A loss within the call leaves the maps half written, and one before the end of the plan leaves a page that is
+ * counted and not there. Else do not keep it. A kept UF2_STATE_DONE is no proof either. Memory that can lose bits gets a checksum over
+ * transfer and maps, made after each call and asked before the next: where it differs, uf2_new. (examples/loader does all of it.) */
 uint32_t uf2_accept(const uint8_t *settings, uf2_len settings_len, uint8_t *transfer, uf2_len transfer_len, const uint8_t *arrival,
                     uf2_len arrival_len, const uint8_t *flash, uf2_len flash_len, uint8_t *seen, uf2_len seen_len, uint8_t *sectors,
                     uf2_len sectors_len, uint8_t *main_ram, uf2_len main_ram_len, uint8_t *xip_ram, uf2_len xip_ram_len, uint8_t *plan,
