@@ -1,5 +1,5 @@
 /* The play: pseudo-random inputs handed to every call, every answer and every lent byte hashed. play.c has the calls of
- * include/uf2_receiver.h, play_tools.c those of uf2_tags.h and uf2_tools.h, play_kept.c those of uf2_store.h and uf2_why.h,
+ * include/uf2_receiver.h, play_tools.c those of uf2_tags.h, uf2_tools.h and uf2_parts.h, play_kept.c those of uf2_store.h and uf2_why.h,
  * play_check.c that of uf2_check.h. It is the same on every machine, so that a library of another machine that gives the same hashes has answered as the host's does. */
 #ifndef PLAY_H
 #define PLAY_H
@@ -14,6 +14,7 @@
 enum play_kind {
     PLAY_NEW, PLAY_ASK, PLAY_LOOK, PLAY_TAKE, PLAY_TAKE_ALL, PLAY_ACCEPT, PLAY_HEX_NEW, PLAY_LINE,
     PLAY_TAG_FIRST, PLAY_TAG, PLAY_TAG_FIND, PLAY_MAKE_CHECK, PLAY_MAKE, PLAY_MAKE_BLOCK, PLAY_MD5, PLAY_JOIN, PLAY_REPLAY, PLAY_FIGURES,
+    PLAY_PART_ONE, PLAY_PART_MERGE,
     PLAY_STORE_WRITE, PLAY_STORE_READ, PLAY_WHY, PLAY_WHY_PLACE, PLAY_CHECK, PLAY_KINDS
 };
 

@@ -1,6 +1,7 @@
-/* The calls of include/uf2_tags.h and include/uf2_tools.h. */
+/* The calls of include/uf2_tags.h, include/uf2_tools.h and include/uf2_parts.h. */
 #include "play.h"
 
+#include "uf2_parts.h"
 #include "uf2_tags.h"
 #include "uf2_tools.h"
 
@@ -395,6 +396,74 @@ static void play_figures(void) {
     }
 }
 
+/* ---- parts of figures */
+
+static uint8_t part[UF2_PART_SIZE + PLAY_MORE], later[UF2_PART_SIZE + PLAY_MORE];
+static uf2_len part_len, later_len;
+static uint32_t stop;
+
+static void call_part_one(void) {
+    result = uf2_part_one(report, report_len, stop, part, part_len);
+}
+
+static void call_part_merge(void) {
+    result = uf2_part_merge(part, part_len, later, later_len);
+}
+
+/* A part of a few traces, or of none; now and then of nearly as many traces or records as there may be, and with a bit turned over. */
+static void make_part(uint8_t *at) {
+    uint32_t k, n, bit, traces = below(5), records = 0;
+    memset(at, 0, UF2_PART_SIZE);
+    for (k = 0; k < 16 && traces != 0; k++) {
+        n = one_in(100) ? any() >> 4 : below(1000);
+        records += n;
+        uf2_put32(at + 4 + 4 * k, n);
+    }
+    uf2_put32(at + UF2_REPORT_RECORDS, records);
+    if (traces != 0) {
+        uf2_put32(at + UF2_REPORT_DISCARDS, below(records + 1));
+        uf2_put32(at + UF2_REPORT_MARKED, any_size());
+        uf2_put32(at + UF2_REPORT_IS_MISSING, below(2));
+        uf2_put32(at + UF2_REPORT_MISSING, any_size());
+        uf2_put32(at + UF2_PART_BAD, below(traces + 1));
+    }
+    if (one_in(20))
+        traces = 0xFFFFFFFFu - below(4);
+    uf2_put32(at + UF2_PART_TRACES, traces);
+    if (one_in(24)) {
+        bit = below(8 * UF2_PART_SIZE);
+        at[bit / 8] ^= (uint8_t)(1u << bit % 8);
+    }
+}
+
+static void play_parts(void) {
+    uint32_t i, was = 0;
+    begin(PLAY_PART_ONE);
+    for (i = 0; i < PLAY_COUNT; i++) {
+        make_report(was);
+        stop = one_in(20) ? any_size() : below(4);
+        part_len = one_in(40) ? below(sizeof part + 1) : UF2_PART_SIZE;
+        play_call(PLAY_PART_ONE, call_part_one);
+        was = result;
+        add(result);
+        add_bytes(part, sizeof part);
+        count(result);
+    }
+    begin(PLAY_PART_MERGE);
+    for (i = 0; i < PLAY_COUNT; i++) {
+        if (was != 0 || one_in(40))
+            make_part(part);
+        make_part(later);
+        part_len = one_in(60) ? below(sizeof part + 1) : UF2_PART_SIZE;
+        later_len = one_in(60) ? below(sizeof later + 1) : UF2_PART_SIZE;
+        play_call(PLAY_PART_MERGE, call_part_merge);
+        was = result;
+        add(result);
+        add_bytes(part, sizeof part);
+        count(result);
+    }
+}
+
 /* ---- all */
 
 static int met_tags(enum play_kind kind) {
@@ -413,8 +482,9 @@ int play_tools(void) {
     play_join();
     play_replay();
     play_figures();
+    play_parts();
     return met_tags(PLAY_TAG) && met_tags(PLAY_TAG_FIND) && play_ends[PLAY_TAG].answers[UF2_TAG_BAD_PLACE] > 0 && met(PLAY_MAKE_CHECK, 50, 53, 0) &&
            met(PLAY_MAKE, 50, 53, 0) && met(PLAY_JOIN, 20, 26, 0) && met(PLAY_JOIN, 29, 31, 0) && met(PLAY_REPLAY, 0, 2, 9) &&
            met(PLAY_FIGURES, 0, 2, 9) && met(PLAY_FIGURES, 70, 71, 0) && given(PLAY_MAKE_CHECK, 0) && given(PLAY_MAKE, 0) && given(PLAY_JOIN, 0) &&
-           given(PLAY_JOIN, 36);
+           given(PLAY_JOIN, 36) && given(PLAY_PART_ONE, 0) && given(PLAY_PART_ONE, 71) && given(PLAY_PART_MERGE, 0) && met(PLAY_PART_MERGE, 70, 71, 0);
 }
