@@ -4,6 +4,7 @@
 //! every row.
 
 mod file;
+mod fleet;
 mod hex;
 mod once;
 mod region;
@@ -220,4 +221,5 @@ fn main() {
     file::accept_rows();
     region::beside_rows();
     trace::beside_rows();
+    fleet::beside_rows();
 }
