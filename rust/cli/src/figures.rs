@@ -9,6 +9,7 @@ use crate::board::{Board, Options};
 use crate::json::Json;
 use crate::out::Out;
 use crate::replay::needed;
+use crate::traces::Trace;
 use crate::{files, jobs, traces, End, Outcome, Trouble};
 use saved::Saved;
 use tell::Played;
@@ -63,16 +64,16 @@ pub const OPTIONS: &[Opt] = &[
 fn replayed(
     options: &Options,
     need: Option<u64>,
-    name: &str,
+    named: &Trace,
 ) -> Result<(Played, Option<Part>), Trouble> {
-    let trace = files::read(name)?;
+    let trace = named.bytes()?;
     let mut board = options.board(need)?;
     let settings = board.settings.clone();
     let mut report = Report::FRESH;
     let stop = add(&mut report, &settings, &trace, &mut board.buffers());
     let part = stop.ok().and_then(|stop| Part::one(&report, stop).ok());
     let played = Played {
-        name: files::short(name),
+        name: files::short(&named.name),
         stop,
         empty: trace.is_empty(),
         guessed: board.is_guessed(),
@@ -128,8 +129,8 @@ pub fn run(args: &Args, out: &mut Out) -> Outcome {
         Some(_) => None,
     };
     let board = options.board(need)?;
-    let each = jobs::in_order(jobs, "figures", &traces, |name| {
-        replayed(&options, need, name)
+    let each = jobs::in_order(jobs, "figures", &traces, |trace| {
+        replayed(&options, need, trace)
     })?;
     let (part, played) = merged(each);
     if save != Some("-") {
@@ -140,7 +141,7 @@ pub fn run(args: &Args, out: &mut Out) -> Outcome {
     }
     match save {
         Some(name) => {
-            Saved::new(&traces[0], &board, part)?.write(name, out)?;
+            Saved::new(&traces[0].name, &board, part)?.write(name, out)?;
             Ok(End::Whole)
         }
         None if tell::whole(&played) => Ok(End::Whole),

@@ -21,7 +21,7 @@ pub fn read(name: &str) -> Result<Vec<u8>, Trouble> {
 }
 
 /// A name in a sentence.
-fn called(name: &str) -> &str {
+pub fn called(name: &str) -> &str {
     match name {
         STANDARD => "standard input",
         _ => name,
@@ -51,18 +51,6 @@ pub fn quoted_name(name: &str) -> String {
     match name.starts_with('-') && name != STANDARD {
         true => quoted(&format!("./{name}")),
         false => quoted(name),
-    }
-}
-
-/// All of standard input.
-pub fn standard_input() -> Result<Vec<u8>, Trouble> {
-    let mut bytes = Vec::new();
-    match io::stdin().read_to_end(&mut bytes) {
-        Ok(_) => Ok(bytes),
-        Err(why) => Err(Trouble(format!(
-            "cannot read standard input: {}",
-            reason(&why)
-        ))),
     }
 }
 

@@ -114,11 +114,10 @@ pub fn run(args: &Args, out: &mut Out) -> Outcome {
     let options = Options::read(args)?;
     let names = args.some_files("TRACE")?;
     let named = traces::named(&names)?;
-    let name = match names[..] {
-        [name] if named == [name] => name,
+    let (name, trace) = match (&names[..], &named[..]) {
+        ([name], [one]) if one.name == *name => (*name, one.bytes()?),
         _ => return many::run(args, out, &options, &named),
     };
-    let trace = files::read(name)?;
     let mut board = options.board(need(arrivals(&trace)))?;
     let settings = board.settings.clone();
     let progress = Progress::start("replay", 0);

@@ -18,11 +18,8 @@ struct Line {
 
 /// The lines of a file. One that has none is refused: what should be in it is lost.
 fn lines(name: &str) -> Result<Vec<Line>, Trouble> {
-    let bytes = match name {
-        "-" => files::standard_input()?,
-        _ => files::read(name)?,
-    };
-    let what = if name == "-" { "standard input" } else { name };
+    let bytes = files::read(name)?;
+    let what = files::called(name);
     let text = String::from_utf8_lossy(&bytes);
     let mut lines = Vec::new();
     for (k, line) in text.lines().enumerate() {

@@ -35,9 +35,9 @@ fn bytes<const N: usize>(text: &str) -> Option<[u8; N]> {
 impl Saved {
     /// The part of traces, of which this is the first, replayed into this board.
     pub fn new(first: &str, board: &Board, part: Part) -> Result<Saved, Trouble> {
-        if first.contains(['\t', '\n', '\r']) {
+        if first.contains(char::is_control) {
             return Err(Trouble(format!(
-                "{first:?}: a name with a tab or a line break in it cannot stand in a part's line"
+                "{first:?}: a name with a tab, a line break or another control character in it cannot stand in a part's line"
             )));
         }
         Ok(Saved {
@@ -69,7 +69,7 @@ impl Saved {
     /// Writes the line to a file, or to standard output.
     pub fn write(&self, name: &str, out: &mut Out) -> Result<(), Trouble> {
         if name == "-" {
-            // as it is: a line that is shown has no tabs
+            // as it is: its tabs part the fields
             out.text(format_args!("{}\n", self.line()));
             return Ok(());
         }

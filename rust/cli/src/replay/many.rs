@@ -8,6 +8,7 @@ use crate::json::Json;
 use crate::missing::missing;
 use crate::number::count;
 use crate::out::Out;
+use crate::traces::Trace;
 use crate::{files, jobs, End, Outcome, Trouble};
 use proved::Transfer;
 use tools::trace::{replay, RECORD_BYTES};
@@ -23,8 +24,8 @@ struct Told {
 }
 
 impl Told {
-    fn new(options: &Options, need: Option<u64>, name: &str) -> Result<Told, Trouble> {
-        let trace = files::read(name)?;
+    fn new(options: &Options, need: Option<u64>, named: &Trace) -> Result<Told, Trouble> {
+        let trace = named.bytes()?;
         let mut board = options.board(need)?;
         let settings = board.settings.clone();
         let end = replay(&settings, &trace, &mut board.buffers());
@@ -34,7 +35,7 @@ impl Told {
             _ => Vec::new(),
         };
         Ok(Told {
-            name: files::short(name),
+            name: files::short(&named.name),
             records: trace.len().div_ceil(RECORD_BYTES),
             stop: stop.word(),
             index: stop.index(),
@@ -103,14 +104,16 @@ impl Summary {
 }
 
 /// Runs `replay` of several traces, each into a board of its own.
-pub fn run(args: &Args, out: &mut Out, options: &Options, names: &[String]) -> Outcome {
+pub fn run(args: &Args, out: &mut Out, options: &Options, traces: &[Trace]) -> Outcome {
     let jobs = jobs::said(args)?;
     let need = match args.value("--flash") {
-        None => needed(jobs, names)?,
+        None => needed(jobs, traces)?,
         Some(_) => None,
     };
     let board = options.board(need)?;
-    let told = jobs::in_order(jobs, "replay", names, |name| Told::new(options, need, name))?;
+    let told = jobs::in_order(jobs, "replay", traces, |trace| {
+        Told::new(options, need, trace)
+    })?;
     let summary = Summary::new(&told);
     if args.flag("--json") {
         let mut fields = vec![
@@ -135,9 +138,9 @@ pub fn run(args: &Args, out: &mut Out, options: &Options, names: &[String]) -> O
 }
 
 /// The flash that the traces need. It is asked only where no flash is said. At most `jobs` traces are in memory.
-pub fn needed(jobs: usize, names: &[String]) -> Result<Option<u64>, Trouble> {
-    let needs = jobs::in_order(jobs, "sizes", names, |name| {
-        Ok(need(arrivals(&files::read(name)?)))
+pub fn needed(jobs: usize, traces: &[Trace]) -> Result<Option<u64>, Trouble> {
+    let needs = jobs::in_order(jobs, "sizes", traces, |trace| {
+        Ok(need(arrivals(&trace.bytes()?)))
     })?;
     Ok(needs.into_iter().flatten().max())
 }

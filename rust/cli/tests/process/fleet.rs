@@ -113,6 +113,17 @@ fn parts_in_any_grouping() {
 #[test]
 fn whole_traces_end_well() {
     let folder = fleet(3);
+    let line = "figures traces --flash 32K --save";
+    folder.ends(0, &format!("{line} all.part"));
+    let out = folder.ends(0, &format!("{line} -")).out;
+    assert_eq!(out.as_bytes(), folder.get("all.part"));
+    folder.put("a\tb.trace", []);
+    let named = Command::new(TOOL)
+        .args(["figures", "a\tb.trace", "--flash", "32K", "--save", "-"])
+        .current_dir(folder.path())
+        .output();
+    let named = told(named.expect("the tool runs"));
+    assert_eq!((named.status, named.out.as_str()), (2, ""));
     folder.ends(
         0,
         "figures traces/00000.trace traces/00001.trace --flash 32K --save a.part",
@@ -216,6 +227,24 @@ fn many_replayed() {
     assert!(json
         .out
         .ends_with("\"bad\": 1, \"differs\": 1, \"undecided\": 0}\n"));
+}
+
+/// Standard input and a pipe can be read once alone, and are read though no flash is said.
+#[test]
+fn what_can_be_read_once() {
+    let folder = fleet(6);
+    let (trace, two) = ("traces/00005.trace", "traces/00004.trace");
+    for command in ["figures", "replay"] {
+        let plain = folder.run(&format!("{command} {two} {trace}"));
+        let line = format!("vantorel {command} {two} - < {trace}");
+        let told = shell(&folder, &line).out;
+        let told = told.replace("\nstandard input", "\n00005.trace");
+        assert_eq!(told, plain.out, "{line}");
+        let line =
+            format!("mkfifo pipe; cat {trace} > pipe & vantorel {command} {two} pipe; rm pipe");
+        let told = shell(&folder, &line).out.replace("\npipe", "\n00005.trace");
+        assert_eq!(told, plain.out, "{line}");
+    }
 }
 
 // ---- engines: the commands are those of docs/FLEET.md
