@@ -30,18 +30,19 @@ extern "C" {
 /* The answers: the first condition that fails, of the first piece at which one fails; 87 and 88 only where no piece is at fault. 4 to 11 are those of
  * uf2_receiver.h: an Idle board answers the piece so. */
 enum uf2_checked {
-    UF2_CHECK_VALID = 0,         /* delivered in any order and with repeats, the file ends complete with every payload at its address */
+    UF2_CHECK_VALID = 0,         /* whatever order its blocks come in, and however often, Completed is answered
+                                  * exactly once, and then every page stands at its address */
     UF2_CHECK_BAD_BUFFERS = 1,   /* a wrong length of flash, RAM, a map, or what is told */
     UF2_CHECK_BAD_SETTINGS = 2,  /* no good settings for this flash */
     UF2_CHECK_RAGGED = 80,       /* the file's length is no multiple of 512 */
-    UF2_CHECK_EMPTY = 81,        /* it has no piece */
+    UF2_CHECK_EMPTY = 81,        /* the file has no piece */
     UF2_CHECK_OTHER_FAMILY = 82, /* the piece's family is not the first piece's */
-    UF2_CHECK_OTHER_TOTAL = 83,  /* its total is not */
-    UF2_CHECK_OTHER_KIND = 84,   /* its memory (flash, main RAM, XIP RAM) is not; a comment's is flash */
-    UF2_CHECK_SAME_NUMBER = 85,  /* the other piece has its number */
-    UF2_CHECK_OVERLAP = 86,      /* both are data, and the other has a byte address of it */
-    UF2_CHECK_MISSING = 87,      /* fewer pieces than the total: the least number that no piece has */
-    UF2_CHECK_GUARDED = 88       /* a valid file, but the piece names a region that counts: that its digest is right was not checked */
+    UF2_CHECK_OTHER_TOTAL = 83,  /* the piece's total is not the first piece's */
+    UF2_CHECK_OTHER_KIND = 84,   /* the piece's memory is not the first piece's: flash, main RAM or XIP RAM; a comment's is flash */
+    UF2_CHECK_SAME_NUMBER = 85,  /* an earlier piece has the same number */
+    UF2_CHECK_OVERLAP = 86,      /* an earlier data piece holds one of the same addresses */
+    UF2_CHECK_MISSING = 87,      /* there are fewer pieces than the total: the least number that no piece has */
+    UF2_CHECK_GUARDED = 88       /* the file is valid, and names regions (flag 0x4000): that their digests are right was not checked */
 };
 
 /* What is wrong with a file, for a board with such settings, a flash of flash_len bytes and RAM of main_len and xip_len bytes, 0 for none. */

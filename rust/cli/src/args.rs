@@ -115,6 +115,11 @@ impl Args {
         self.said.iter().any(|(said, _)| *said == name)
     }
 
+    /// Whether one of these options is there.
+    pub fn says_any(&self, options: &[Opt]) -> bool {
+        options.iter().any(|opt| self.is_said(opt.name()))
+    }
+
     /// Whether a flag is there.
     pub fn flag(&self, name: &str) -> bool {
         self.is_said(name)

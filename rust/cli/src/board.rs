@@ -167,6 +167,36 @@ impl Options {
         })
     }
 
+    /// A board that takes what it can: both architectures, Arm current, absolute allowed, no table, both RAMs.
+    pub fn widest() -> Options {
+        Options {
+            settings: Settings {
+                riscv: true,
+                absolute: true,
+                ..Settings::ARM
+            },
+            flash: None,
+            main: true,
+            xip: true,
+            image: None,
+            words: Vec::new(),
+        }
+    }
+
+    /// The same with one partition over a flash of so many bytes, which takes this family: for those that have no place without a table.
+    pub fn for_family(family: u32, flash: usize) -> Options {
+        let mut options = Options::widest();
+        let entry = &mut options.settings.table[0];
+        entry.sectors = (flash / SECTOR_BYTES) as u32;
+        entry.arm_ns = family == proved::family::ARM_NS;
+        if !entry.arm_ns {
+            (entry.user_count, entry.users[0]) = (1, family);
+        }
+        options.settings.count = 1;
+        options.flash = Some(flash);
+        options
+    }
+
     /// The flash, where its length was not said: what the file, the start image and the partitions need.
     fn needed(&self, need: Option<u64>) -> usize {
         let image = self.image.as_ref().map_or(0, Vec::len);

@@ -5,6 +5,7 @@
 mod args;
 mod block;
 mod board;
+mod check;
 mod families;
 mod figures;
 mod files;
@@ -65,6 +66,14 @@ const COMMANDS: &[Command] = &[
         help: &[load::HELP, board::HELP],
         options: &[load::OPTIONS, board::OPTIONS],
         run: load::run,
+    },
+    Command {
+        name: "check",
+        does: "says what is in a UF2 file, and whether it is valid for a board",
+        verbs: 0,
+        help: &[check::HELP, board::HELP],
+        options: &[check::OPTIONS, board::OPTIONS],
+        run: check::run,
     },
     Command {
         name: "why",

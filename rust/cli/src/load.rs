@@ -2,11 +2,13 @@
 
 mod order;
 mod play;
+mod stands;
 mod tell;
 
 use crate::args::{Args, Opt};
 use crate::block::{need, pieces};
 use crate::board::{Board, Options};
+use crate::check::verdict::Verdict;
 use crate::out::Out;
 use crate::{files, missing, number, state, End, Outcome, Trouble};
 use proved::{Kind, Transfer};
@@ -113,7 +115,9 @@ pub fn run(args: &Args, out: &mut Out) -> Outcome {
     let file = files::read(name)?;
     let sent = arrivals(args, &file)?;
     let mut board = options.board(need(pieces(&file)))?;
+    let valid = Verdict::of(&file, &mut board.clone());
     let played = play::play(&sent, &mut board);
+    let unwritten = stands::unwritten(&file, &board, played.transfer);
     let lost = missing::missing(pieces(&file), &mut board, played.transfer);
     let helps = play::helps(pieces(&file), &mut board.clone(), played.transfer);
     if let Some(image) = image {
@@ -129,6 +133,8 @@ pub fn run(args: &Args, out: &mut Out) -> Outcome {
         board: &board,
         played: &played,
         lost: &lost,
+        valid: &valid,
+        unwritten: &unwritten,
         helps,
         image,
         record,
@@ -139,8 +145,9 @@ pub fn run(args: &Args, out: &mut Out) -> Outcome {
     } else {
         tell::words(&load, out);
     }
+    let whole = unwritten.is_empty() && valid.is_covered();
     Ok(match played.transfer {
-        Transfer::Done { .. } => End::Whole,
+        Transfer::Done { .. } if whole => End::Whole,
         _ => End::Short,
     })
 }

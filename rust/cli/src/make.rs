@@ -1,6 +1,7 @@
 //! `vantorel make`: a UF2 file of an image.
 
 use crate::args::{Args, Opt};
+use crate::check::verdict::unfit;
 use crate::json::Json;
 use crate::number::{self, count};
 use crate::out::Out;
@@ -179,7 +180,11 @@ pub fn run(args: &Args, out: &mut Out) -> Outcome {
         return args.wrong(job.refusal(MakeRefusal::BadStart));
     }
     if let Ok(blocks) = made {
-        files::write(to, &file[..blocks * BLOCK_BYTES])?;
+        file.truncate(blocks * BLOCK_BYTES);
+        files::write(to, &file)?;
+        if let Some(fault) = unfit(&file, family)? {
+            out.note(format_args!("warning: {to} is valid for no board: {fault}"));
+        }
     }
     if args.flag("--json") {
         out.line(job.json(made.unwrap_or(0), made.err()));

@@ -54,6 +54,7 @@ mod tests {
     use proved::hex::HexAnswer;
     use proved::Answer;
     use std::collections::HashSet;
+    use tools::check::Checked;
     use tools::report::FiguresRefusal;
     use tools::{MakeRefusal, PlainRefusal};
 
@@ -119,6 +120,20 @@ mod tests {
             named("figures", refusal.number().into(), &format!("{refusal:?}"));
         }
         named("join", PlainRefusal::NoData.number().into(), "MissingBoard");
+        for (found, name) in [
+            (Checked::Valid, "Valid"),
+            (Checked::Ragged, "Ragged"),
+            (Checked::Empty, "Empty"),
+            (Checked::OtherFamily(1), "OtherFamily"),
+            (Checked::OtherTotal(1), "OtherTotal"),
+            (Checked::OtherKind(1), "OtherKind"),
+            (Checked::SameNumber(1, 0), "SameNumber"),
+            (Checked::Overlap(1, 0), "Overlap"),
+            (Checked::Missing(1), "Missing"),
+            (Checked::Guarded(1), "Guarded"),
+        ] {
+            named("check", found.number(), name);
+        }
     }
 
     /// What the Rust crate says of a refusal is what the table says.

@@ -113,7 +113,7 @@ fn all(file: &[u8]) -> Vec<Found<'_>> {
 }
 
 /// The versions that the blocks of a file name, each once, in the order of the file.
-fn versions(file: &[u8]) -> Vec<String> {
+pub fn versions(file: &[u8]) -> Vec<String> {
     let mut versions = Vec::new();
     for piece in pieces(file) {
         if let Ok(Some(tag)) = tags::find(piece, kind::VERSION) {
@@ -124,6 +124,19 @@ fn versions(file: &[u8]) -> Vec<String> {
         }
     }
     versions
+}
+
+/// The versions in words.
+pub fn version_words(versions: &[String]) -> String {
+    match versions {
+        [] => "version: the file names none".into(),
+        [version] => format!("version: {version}"),
+        many => format!(
+            "version: the file names {}: {}",
+            many.len(),
+            many.join(", ")
+        ),
+    }
 }
 
 /// What was found in a file.
@@ -153,15 +166,7 @@ impl Listed<'_> {
             count(self.pieces as u64, "piece"),
             count((self.found.len() - self.refused()) as u64, "tag")
         ));
-        out.line(match self.versions.as_slice() {
-            [] => "version: the file names none".into(),
-            [version] => format!("version: {version}"),
-            many => format!(
-                "version: the file names {}: {}",
-                many.len(),
-                many.join(", ")
-            ),
-        });
+        out.line(version_words(&self.versions));
         if self.pieces == 0 {
             out.verdict("NOT WHOLE: the file is empty.", false);
         } else if !self.whole() {

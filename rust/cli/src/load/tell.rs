@@ -1,8 +1,10 @@
 //! What came of a load, in words and for scripts.
 
 use super::play::Played;
+use super::stands::Unwritten;
 use crate::block::Block;
 use crate::board::Board;
+use crate::check::verdict::Verdict;
 use crate::json::Json;
 use crate::missing::{self, Missing};
 use crate::number::{count, ranges};
@@ -25,6 +27,10 @@ pub struct Load<'a> {
     pub played: &'a Played,
     /// What is missing.
     pub lost: &'a [Missing],
+    /// Whether the whole file is valid for the board.
+    pub valid: &'a Verdict,
+    /// The pages that do not stand, though the file is complete.
+    pub unwritten: &'a [Unwritten],
     /// Whether sending the file again completes it.
     pub helps: bool,
     /// The image that was written.
@@ -130,7 +136,9 @@ pub fn words(load: &Load, out: &mut Out) {
         out.line(line);
     }
     written(load, out);
-    let well = matches!(load.played.transfer, Transfer::Done { .. });
+    validity(load, out);
+    let done = matches!(load.played.transfer, Transfer::Done { .. });
+    let well = done && load.unwritten.is_empty() && load.valid.is_covered();
     out.verdict(verdict(load), well);
 }
 
@@ -203,7 +211,18 @@ fn verdict(load: &Load) -> String {
             } else {
                 format!("all {total} blocks")
             };
-            format!("COMPLETE: {blocks} came, and the display was told so.{strangers}")
+            match load.unwritten {
+                [] => format!("COMPLETE: {blocks} came, and the display was told so.{strangers}"),
+                lost => format!(
+                    "COMPLETE, AND {}: the display was told that {blocks} came. {}",
+                    if lost.len() == 1 {
+                        "A PAGE IS LOST".into()
+                    } else {
+                        format!("{} PAGES ARE LOST", lost.len())
+                    },
+                    unwritten(&lost[0])
+                ),
+            }
         }
         Transfer::Idle => match load.commonest_refusal() {
             None => format!("NOT COMPLETE: no block came. {NEVER}"),
@@ -214,6 +233,26 @@ fn verdict(load: &Load) -> String {
             missing::lacking(load.lost, total),
             remedy(load.lost, load.helps)
         ),
+    }
+}
+
+fn unwritten(page: &Unwritten) -> String {
+    format!(
+        "The page of block {} (piece {}) does not stand at 0x{:08x}.",
+        page.number, page.piece, page.address
+    )
+}
+
+/// What the proof does not speak of, where the display was told that the file is complete: a file that is not valid, and regions that were not checked.
+fn validity(load: &Load, out: &mut Out) {
+    if !matches!(load.played.transfer, Transfer::Done { .. }) {
+        return;
+    }
+    if !load.valid.is_covered() {
+        out.line(format_args!("NOT A VALID FILE: {}", load.valid.line()));
+    }
+    if let Some(words) = load.valid.regions() {
+        out.line(words);
     }
 }
 
@@ -282,6 +321,16 @@ pub fn json(load: &Load) -> Json {
         ),
         ("missing", Json::list(load.lost.iter().map(Missing::json))),
         ("takes", takes(load)),
+        ("valid", load.valid.is_valid().into()),
+        ("covered", load.valid.is_covered().into()),
+        (
+            "fault",
+            (!load.valid.is_valid()).then(|| load.valid.line()).into(),
+        ),
+        (
+            "lost_pages",
+            Json::list(load.unwritten.iter().map(|page| page.number)),
+        ),
         ("verdict", verdict(load).into()),
     ])
 }

@@ -100,7 +100,7 @@ fn a_line_an_arrival() {
         &two[..100],
     ];
     folder.put("sent.uf2", sent.concat());
-    let ran = folder.ends(0, "load sent.uf2 -v");
+    let ran = folder.ends(1, "load sent.uf2 -v");
     let lines: Vec<&str> = ran.out.lines().take(6).collect();
     assert_eq!(
         lines,
@@ -113,7 +113,7 @@ fn a_line_an_arrival() {
             "arrival 5, no block: 1 BadBuffers",
         ]
     );
-    assert!(ran.out.ends_with("COMPLETE: all 2 blocks came, and the display was told so. 2 arrivals were not taken: see above.\n"));
+    assert!(ran.out.ends_with("\nNOT A VALID FILE: 80 Ragged: the file has 5 whole pieces and 100 bytes more: it was cut off. Get the file again.\nCOMPLETE: all 2 blocks came, and the display was told so. 2 arrivals were not taken: see above.\n"), "{}", ran.out);
 }
 
 /// Each stored input of the program `receive`, into its board: the same answers, one by one, and the same end.
@@ -143,7 +143,8 @@ fn the_answers_of_receive() {
             "{}",
             path.display()
         );
-        assert_eq!(ran.status, i32::from(state != "done"), "{}", path.display());
+        let whole = state == "done" && !ran.out.contains("\nNOT A VALID FILE: ");
+        assert_eq!(ran.status, i32::from(!whole), "{}", path.display());
     }
 }
 
@@ -225,7 +226,12 @@ fn sectors_of_discarded_transfers() {
     };
     let blocks = [at(3, 2, ARM_S), at(5, 3, ARM_S), at(1, 1, RISCV)];
     folder.put("file", blocks.concat());
-    let ran = folder.ends(0, "load file --arm --riscv");
+    let ran = folder.ends(1, "load file --arm --riscv");
+    assert!(
+        ran.out.contains("\nNOT A VALID FILE: 83 OtherTotal: "),
+        "{}",
+        ran.out
+    );
     assert!(
         ran.out
             .contains("a running transfer was discarded: 2 times\n"),
@@ -235,7 +241,8 @@ fn sectors_of_discarded_transfers() {
     assert!(ran.out.contains("\nsectors erased by the last transfer: 1 (1)\nsectors erased by transfers that were discarded: 2 (3, 5)\n"), "{}", ran.out);
     let ram = block(FAMILY, 0x2000_0000, 0, 1, ARM_S, 7);
     folder.put("ram", [at(3, 2, ARM_S), ram].concat());
-    let ran = folder.ends(0, "load ram --main-ram");
+    let ran = folder.ends(1, "load ram --main-ram");
+    assert!(ran.out.contains("\nNOT A VALID FILE: "), "{}", ran.out);
     assert!(ran.out.contains("\nsectors erased by the last transfer: none\nsectors erased by transfers that were discarded: 1 (3)\n"), "{}", ran.out);
 }
 
@@ -384,7 +391,8 @@ fn files_of_other_kinds() {
     );
     let other = block(FAMILY, 0x1000_0000, 0, 1, RISCV, 7);
     folder.put("two", [&good[..], &other].concat());
-    let ran = folder.ends(0, "load two --arm --riscv -v");
+    let ran = folder.ends(1, "load two --arm --riscv -v");
+    assert!(ran.out.contains("\nNOT A VALID FILE: 82 OtherFamily: piece 1 (block 0) is of the family riscv (0xe48bff5a), and piece 0 of arm-s (0xe48bff59). "), "{}", ran.out);
     assert!(ran
         .out
         .contains("arrival 1, block 0: 15 Completed, and a running transfer was discarded\n"));
@@ -399,7 +407,7 @@ fn files_of_other_kinds() {
     );
     // a file of another family after the one that was completed
     folder.put("after", [&other[..], &good].concat());
-    let ran = folder.ends(0, "load after --arm --riscv");
+    let ran = folder.ends(1, "load after --arm --riscv");
     assert!(
         ran.out
             .ends_with("told so. 1 arrival was not taken: see above.\n"),

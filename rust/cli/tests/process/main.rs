@@ -1,6 +1,7 @@
 //! The tool as a person runs it: as a process, with files, exit status and text compared.
 
 mod apart;
+mod check;
 mod common;
 mod docs;
 mod figures;

@@ -101,6 +101,8 @@ fn comments_of_answers_and_refusals() {
     held("figures", "uf2_tools.h", "UF2_FIGURES_", &[]);
     held("store", "uf2_store.h", "UF2_STORE_", &["DONE"]);
     held("tag", "uf2_tags.h", "UF2_TAG_", &["FOUND"]);
+    let besides = ["BAD_BUFFERS", "BAD_SETTINGS"];
+    held("check", "uf2_check.h", "UF2_CHECK_", &besides);
     let join = plain(&text("include/uf2_tools.h"));
     for row in rows("join") {
         let words = match row.number.split_once('.') {
