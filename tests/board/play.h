@@ -1,6 +1,6 @@
 /* The play: pseudo-random inputs handed to every call, every answer and every lent byte hashed. play.c has the calls of
- * include/uf2_receiver.h, play_tools.c those of uf2_tags.h, uf2_tools.h and uf2_parts.h, play_kept.c those of uf2_store.h and uf2_why.h,
- * play_check.c that of uf2_check.h. It is the same on every machine, so that a library of another machine that gives the same hashes has answered as the host's does. */
+ * include/uf2_receiver.h, play_tools.c those of uf2_tags.h, uf2_tools.h and uf2_parts.h, play_kept.c those of uf2_store.h, uf2_why.h and
+ * uf2_stands.h, * play_check.c that of uf2_check.h. It is the same on every machine, so that a library of another machine that gives the same hashes has answered as the host's does. */
 #ifndef PLAY_H
 #define PLAY_H
 
@@ -15,7 +15,7 @@ enum play_kind {
     PLAY_NEW, PLAY_ASK, PLAY_LOOK, PLAY_TAKE, PLAY_TAKE_ALL, PLAY_ACCEPT, PLAY_HEX_NEW, PLAY_LINE,
     PLAY_TAG_FIRST, PLAY_TAG, PLAY_TAG_FIND, PLAY_MAKE_CHECK, PLAY_MAKE, PLAY_MAKE_BLOCK, PLAY_MD5, PLAY_JOIN, PLAY_REPLAY, PLAY_FIGURES,
     PLAY_PART_ONE, PLAY_PART_MERGE,
-    PLAY_STORE_WRITE, PLAY_STORE_READ, PLAY_WHY, PLAY_WHY_PLACE, PLAY_CHECK, PLAY_KINDS
+    PLAY_STORE_WRITE, PLAY_STORE_READ, PLAY_WHY, PLAY_WHY_PLACE, PLAY_CHECK, PLAY_STANDS, PLAY_KINDS
 };
 
 extern const char *const play_names[PLAY_KINDS];
@@ -100,7 +100,8 @@ int play_kept(void);
 int play_check(void);
 
 /* Plays all kinds. Whether each answer that a call can give was given, uf2_accept with its plan performed did what uf2_take does, uf2_why answered
- * as uf2_look and uf2_why_place as uf2_ask, each store that was written was read, and each file that uf2_check found valid completed. */
+ * as uf2_look and uf2_why_place as uf2_ask, each store that was written was read, each file that uf2_check found valid completed, and uf2_stands refused
+ * what a look with a fresh transfer does and told 95 of each block that was written. */
 int play(void);
 
 #endif

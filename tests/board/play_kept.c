@@ -1,6 +1,8 @@
-/* The calls of include/uf2_store.h and include/uf2_why.h: settings kept as a store, and why an arrival or a place is answered so. */
+/* The calls of include/uf2_store.h, include/uf2_why.h and include/uf2_stands.h: settings kept as a store, why an arrival or a place is answered so,
+ * and whether a block stands. */
 #include "play.h"
 
+#include "uf2_stands.h"
 #include "uf2_store.h"
 #include "uf2_why.h"
 
@@ -378,6 +380,59 @@ static int play_why(void) {
     return 1;
 }
 
+/* ---- whether a block stands */
+
+static void call_stands(void) {
+    result = uf2_stands(settings, lent[L_SETTINGS], arrival, lent[L_ARRIVAL], board.flash, lent[L_FLASH], board.main_ram, lent[L_MAIN],
+                        board.xip_ram, lent[L_XIP]);
+}
+
+/* What it must tell of an arrival that a look with a fresh transfer and whole maps answers so. */
+static int told_as(uint32_t looked) {
+    return looked <= UF2_ANSWER_BAD_ADDRESS ? result == looked : result == UF2_STANDS || result == UF2_DIFFERS;
+}
+
+static uint32_t fresh_look(void) {
+    uf2_new(transfer, UF2_TRANSFER_SIZE);
+    return UF2_RESULT_ANSWER(uf2_look(settings, lent[L_SETTINGS], transfer, UF2_TRANSFER_SIZE, arrival, lent[L_ARRIVAL], board.flash, lent[L_FLASH],
+                                      board.seen, UF2_SEEN_MAP_SIZE, board.sectors, UF2_SECTOR_MAP_SIZE, board.main_ram, lent[L_MAIN],
+                                      board.xip_ram, lent[L_XIP]));
+}
+
+/* Each arrival is asked about, often with something bent, then taken, and asked about again where it was written: it stands. */
+static int play_stands(void) {
+    uint8_t before[sizeof settings];
+    uint32_t i, taken = 0;
+    begin(PLAY_STANDS);
+    fresh_board();
+    for (i = 0; i < PLAY_COUNT; i++) {
+        make_state(i, taken);
+        make_arrival(arrival);
+        memcpy(before, settings, sizeof before);
+        if (one_in(4))
+            bend_arrival();
+        else if (one_in(16))
+            bend_lengths();
+        else if (one_in(16))
+            bend_settings();
+        play_call(PLAY_STANDS, call_stands);
+        count(result);
+        if (!told_as(fresh_look()))
+            return 0;
+        taken = take();
+        if (UF2_RESULT_ANSWER(taken) == UF2_ANSWER_WRITTEN) {
+            call_stands();
+            if (result != UF2_STANDS)
+                return 0;
+        }
+        add_small(&board);
+        memcpy(settings, before, sizeof settings);
+        if (i % 512 == 511)
+            add_all(&board);
+    }
+    return 1;
+}
+
 /* ---- the reason of a place */
 
 static uint32_t family;
@@ -449,6 +504,7 @@ int play_kept(void) {
     int good = play_store();
     good = play_why() && good;
     good = play_why_place() && good;
+    good = play_stands() && good && met(PLAY_STANDS, 1, 2, 0) && met(PLAY_STANDS, 4, 11, 6) && met(PLAY_STANDS, 95, 96, 0);
     good = good && met_store(PLAY_STORE_WRITE) && met_store(PLAY_STORE_READ) && met(PLAY_STORE_READ, UF2_STORE_BAD_VERSION, UF2_STORE_BAD_BITS, 0);
     return good && met(PLAY_WHY, 1, 17, 6) && met(PLAY_WHY_PLACE, 0, 2, 9) && play_ends[PLAY_WHY_PLACE].answers[UF2_ANSWER_NO_PLACE] > 0 &&
            arrivals_told() && places_told();

@@ -8,6 +8,7 @@
 #define _XOPEN_SOURCE 700
 #include "uf2_check.h"
 #include "uf2_receiver.h"
+#include "uf2_stands.h"
 #include "uf2_store.h"
 #include "uf2_tags.h"
 #include "uf2_tools.h"
@@ -43,6 +44,10 @@ static void call_ask(void) {
 static void call_look(void) {
     uf2_look(settings, sizeof settings, transfer, sizeof transfer, arrivals, UF2_ARRIVAL_SIZE, flash, sizeof flash, seen, sizeof seen,
              sectors, sizeof sectors, main_ram, sizeof main_ram, xip_ram, sizeof xip_ram);
+}
+
+static void call_stands(void) {
+    uf2_stands(settings, sizeof settings, arrivals, UF2_ARRIVAL_SIZE, flash, sizeof flash, main_ram, sizeof main_ram, xip_ram, sizeof xip_ram);
 }
 
 static void call_take(void) {
@@ -212,7 +217,7 @@ int main(void) {
     static const char *const file[] = {":020000040000FA\n", ":0400000A9900C0DEBB\n", ":040000001122334452\r\n",
                                        ":10000000000102030405060708090A0B0C0D0E0F78\n", "x"};
     static const uint32_t starts[] = {UF2_FLASH_START, UF2_MAIN_RAM_START, UF2_XIP_RAM_START};
-    size_t ask = 0, look = 0, one = 0, accept = 0, all = 0, hex = 0, why = 0, why_place = 0, check, i;
+    size_t ask = 0, look = 0, one = 0, accept = 0, all = 0, hex = 0, why = 0, why_place = 0, stands = 0, check, i;
     uint8_t counts[] = {0, 16, 17}, k;
 
     empty = used(nothing);
@@ -233,6 +238,7 @@ int main(void) {
             look = larger(look, used(call_look) - empty);
             why = larger(why, used(call_why) - empty);
             check = larger(check, used(call_check) - empty);
+            stands = larger(stands, used(call_stands) - empty);
             one = larger(one, used(call_take) - empty);
         }
         /* the same four, accepted from a fresh transfer */
@@ -255,6 +261,7 @@ int main(void) {
     tell("uf2_why", why);
     tell("uf2_why_place", why_place);
     tell("uf2_check", check);
+    tell("uf2_stands", stands);
     tell("uf2_take", one);
     tell("uf2_accept", accept);
     tell("uf2_take_all", all);
