@@ -113,7 +113,8 @@ fn renamed(path: &Path, bytes: &[u8]) -> io::Result<()> {
     written
 }
 
-/// Refuses an output that is an input or another output: the same path, or one file under two names.
+/// Refuses an output that is an input or another output: the same path, or one file under two names. The files of a folder that is an input are
+/// inputs too.
 pub fn apart(outputs: &[&str], inputs: &[&str]) -> Result<(), Trouble> {
     if inputs.iter().filter(|name| **name == STANDARD).count() > 1 {
         return Err(Trouble(
@@ -125,8 +126,18 @@ pub fn apart(outputs: &[&str], inputs: &[&str]) -> Result<(), Trouble> {
             "an output is a file, and not -; give it a name".into(),
         ));
     }
+    let folders = inputs.iter().filter(|name| Path::new(name).is_dir());
+    let inside: Vec<String> = match outputs {
+        [] => Vec::new(),
+        _ => folders
+            .flat_map(|name| list(name).unwrap_or_default())
+            .collect(),
+    };
+    let inside = inside.iter().map(String::as_str);
+    let inputs: Vec<&str> = inputs.iter().copied().chain(inside).collect();
     for (k, name) in outputs.iter().enumerate() {
-        let same = |other: &&&str| Identity::of(other) == Identity::of(name);
+        let file = Identity::of(name);
+        let same = |other: &&&str| Identity::of(other) == file;
         if let Some(input) = inputs.iter().find(same) {
             return Err(Trouble(format!(
                 "the output {name} is the same file as the input {}; give the output another name",

@@ -102,3 +102,25 @@ fn a_store_of_the_name_of_a_word() {
     folder.ends(0, "settings pack board.toml -o pack");
     assert!(folder.get("pack") == folder.get("board.store"));
 }
+
+/// A folder of traces is as many inputs as it has files.
+#[test]
+fn no_output_is_a_trace_of_a_folder() {
+    let folder = folder();
+    folder.ends(0, "load blink.uf2 --record folder/a.trace");
+    let before = folder.get("folder/a.trace");
+    for output in ["folder/a.trace", "./folder/../folder/a.trace"] {
+        folder.wrong(
+            &format!("figures folder --flash 16K --save {output}"),
+            &format!("the output {output} is the same file as the input folder/a.trace; give the output another name"),
+        );
+    }
+    assert!(folder.get("folder/a.trace") == before);
+    folder.ends(0, "figures folder --flash 16K --save folder/a.part");
+    let ran = folder.ends(2, "figures --merge folder/a.part --save folder/a.part");
+    assert!(
+        ran.err.contains("is the same file as the input"),
+        "{}",
+        ran.err
+    );
+}
