@@ -15,6 +15,7 @@ const { layoutOf, cellAt, pageAt } = await load('views/grid.js');
 const { windowOf } = await load('views/table.js');
 const { stride } = await load('run.js');
 const { familyFrom } = await load('words.js');
+const { newBoard } = await load('board.js');
 const { N } = await load('numbers.js');
 
 const libraries = new Libraries(await libraryModule());
@@ -95,6 +96,15 @@ await check('a trace that lost a block is replayed to its end, and the replay na
   const trace = Uint8Array.from(sent.flatMap((piece, k) => [...recordBytes(k === 7 ? 13 : 14, false, piece)]));
   const { stop, transfer, missing } = replay(library, board, trace);
   assert.deepEqual([stop, transfer.state, missing], [N.UF2_STOP_NONE, 'running', [5]]);
+});
+
+// The tool is held to the same in rust/cli/tests/process/replay.rs.
+await check('a trace of a small flash differs on a larger board where the tool says, and stops nowhere on its own', async () => {
+  const trace = stored('page/small_flash.trace');
+  const on = (flash) => replay(library, newBoard({ flash }), trace);
+  assert.equal(on(4096).stop, N.UF2_STOP_NONE);
+  const { stop, at, ours } = on(8192);
+  assert.deepEqual([stop, at, readRecord(recordsOf(trace)[at]).answer, ours.answer], [N.UF2_STOP_DIFFERS, 1, 11, 15]);
 });
 
 await check('orders of arrivals', () => {

@@ -2,6 +2,7 @@
 
 use crate::common::{block, Folder, ARM_S, FAMILY};
 use crate::load::blink;
+use std::path::Path;
 
 #[test]
 fn a_recorded_load_replays_to_none() {
@@ -218,4 +219,19 @@ fn a_guessed_flash_accuses_nobody() {
             ran.out
         );
     }
+}
+
+/// The page is held to the same in tests/page/hex_and_trace.mjs.
+#[test]
+fn as_the_page() {
+    let path = Path::new(env!("CARGO_MANIFEST_DIR")).join("../../tests/page/small_flash.trace");
+    let folder = Folder::new();
+    folder.put("t.trace", std::fs::read(path).expect("a trace"));
+    folder.ends(0, "replay t.trace --flash 4K");
+    let ran = folder.ends(1, "replay t.trace --flash 8K");
+    let told = "\ndiffers: record 1: the site got 11 BadAddress; ours is 15 Completed.\n";
+    assert!(ran.out.ends_with(told), "{}", ran.out);
+    // the flash of the page is said; where the tool is told none, it accuses nobody
+    let ran = folder.ends(1, "replay t.trace");
+    assert!(ran.out.contains("\nundecided: record 1: the site got 11 BadAddress; with a flash of 8192 bytes, which nobody said, ours is 15 Completed."), "{}", ran.out);
 }
