@@ -5,20 +5,60 @@ use compare::{
     Buffers, Ram, Random, FAMILIES,
 };
 use reference::why::{why, why_of_bytes, why_place, why_place_of_bytes};
-use tools::why::{explain, explain_place, Lent};
+use reference::why::{Why as PlainWhy, WhyPlace};
+use tools::why::{explain, explain_place, Lent, Reason, Why};
 
 /// The sectors of the flash, and its pages.
 const SECTORS: u64 = 16;
 const PAGES: u64 = 16 * SECTORS;
 
+fn lent(b: &Buffers) -> Lent<'_> {
+    Lent {
+        flash: &b.flash,
+        seen: &b.seen,
+        sectors: &b.sectors,
+        main: &b.main,
+        xip: &b.xip,
+    }
+}
+
+/// A reason of the reference, as ours.
+fn of_arrival(w: &PlainWhy) -> Why {
+    Why {
+        result: u32::from(w.answer) + if w.discarded { 128 } else { 0 },
+        reason: Reason {
+            cause: w.cause,
+            got: w.got,
+            against: w.against,
+            entry: w.entry,
+            other: w.other,
+            marks: w.marks,
+        },
+    }
+}
+
+/// The same of a place, which discards nothing.
+fn of_place(w: &WhyPlace) -> Why {
+    of_arrival(&PlainWhy {
+        answer: w.answer,
+        discarded: false,
+        cause: w.cause,
+        got: w.got,
+        against: w.against,
+        entry: w.entry,
+        other: w.other,
+        marks: w.marks,
+    })
+}
+
 #[test]
 fn reasons_agree() {
     let mut r = Random(60);
     let mut met = std::collections::BTreeSet::new();
-    let mut lent = Ram::EVERY.map(|ram| Buffers::any(&mut r, SECTORS, ram));
+    let mut boards = Ram::EVERY.map(|ram| Buffers::any(&mut r, SECTORS, ram));
     for i in 0..arrivals_asked() {
         let at = i % Ram::EVERY.len();
-        let (ram, buffers) = (Ram::EVERY[at], &mut lent[at]);
+        let (ram, buffers) = (Ram::EVERY[at], &mut boards[at]);
         let settings = any_settings(&mut r, SECTORS);
         let transfer = any_transfer(&mut r, PAGES);
         let arrival = any_arrival(&mut r, PAGES, ram);
@@ -34,32 +74,11 @@ fn reasons_agree() {
         );
         let bytes = proved_settings(&settings).bytes();
         let state = proved_transfer(transfer).bytes();
-        let got = explain(
-            &bytes,
-            &state,
-            &arrival,
-            Lent {
-                flash: &buffers.flash,
-                seen: &buffers.seen,
-                sectors: &buffers.sectors,
-                main: &buffers.main,
-                xip: &buffers.xip,
-            },
-        );
+        let got = explain(&bytes, &state, &arrival, lent(buffers));
         let looked = proved::bytes::look(&bytes, &state, &arrival, &buffers.lend());
         assert_eq!(got.result, looked, "the look's answer");
-        let result = u32::from(wanted.answer) + if wanted.discarded { 128 } else { 0 };
-        let told = got.reason;
-        assert_eq!(
-            (got.result, told.cause, told.got, told.against),
-            (result, wanted.cause, wanted.got, wanted.against),
-            "{settings:?} {transfer:?}"
-        );
-        assert_eq!(
-            (told.entry, told.other, told.marks),
-            (wanted.entry, wanted.other, wanted.marks)
-        );
-        met.insert(told.cause);
+        assert_eq!(got, of_arrival(&wanted), "{settings:?} {transfer:?}");
+        met.insert(got.reason.cause);
     }
     assert!(met.len() > 20, "{met:?}");
 }
@@ -78,21 +97,7 @@ fn places_agree() {
         for family in FAMILIES {
             let wanted = why_place(&s, len, family);
             let got = explain_place(&bytes, len, family);
-            let told = got.reason;
-            assert_eq!(
-                (got.result, told.cause, told.got, told.against),
-                (
-                    u32::from(wanted.answer),
-                    wanted.cause,
-                    wanted.got,
-                    wanted.against
-                ),
-                "{s:?} {len} {family:x}"
-            );
-            assert_eq!(
-                (told.entry, told.other, told.marks),
-                (wanted.entry, wanted.other, wanted.marks)
-            );
+            assert_eq!(got, of_place(&wanted), "{s:?} {len} {family:x}");
         }
     }
 }
@@ -102,13 +107,7 @@ fn places_agree() {
 fn bytes_that_are_none() {
     let mut r = Random(62);
     let buffers = Buffers::any(&mut r, SECTORS, Ram::EVERY[0]);
-    let lent = Lent {
-        flash: &buffers.flash,
-        seen: &buffers.seen,
-        sectors: &buffers.sectors,
-        main: &buffers.main,
-        xip: &buffers.xip,
-    };
+    let lent = lent(&buffers);
     let settings = proved::Settings::ARM.bytes();
     let idle = [0; proved::TRANSFER_BYTES];
     let told = |settings: &[u8], transfer: &[u8]| {
@@ -149,41 +148,17 @@ fn links_that_are_none() {
         }
         let arrival = any_arrival(&mut r, PAGES, Ram::NONE);
         let b = &buffers;
-        let lent = Lent {
-            flash: &b.flash,
-            seen: &b.seen,
-            sectors: &b.sectors,
-            main: &b.main,
-            xip: &b.xip,
-        };
         let idle = reference::Transfer::Idle;
         let wanted = why_of_bytes(
             &settings, &no_links, idle, &arrival, &b.flash, &b.seen, &b.sectors, &b.main, &b.xip,
         );
-        let got = explain(&bytes, &[0; proved::TRANSFER_BYTES], &arrival, lent);
-        let told = got.reason;
-        assert_eq!(
-            (got.result, told.cause, told.got, told.against),
-            (
-                u32::from(wanted.answer),
-                wanted.cause,
-                wanted.got,
-                wanted.against
-            ),
-            "{settings:?} {no_links:?}"
-        );
-        assert_eq!(
-            (told.entry, told.other, told.marks),
-            (wanted.entry, wanted.other, wanted.marks)
-        );
+        let got = explain(&bytes, &[0; proved::TRANSFER_BYTES], &arrival, lent(b));
+        assert_eq!(got, of_arrival(&wanted), "{settings:?} {no_links:?}");
         let family = r.of(&FAMILIES);
         let wanted = why_place_of_bytes(&settings, &no_links, b.flash.len(), family);
         let placed = explain_place(&bytes, b.flash.len(), family);
-        assert_eq!(
-            (placed.result, placed.reason.cause, placed.reason.entry),
-            (u32::from(wanted.answer), wanted.cause, wanted.entry)
-        );
-        *met.entry(told.cause).or_insert(0) += 1;
+        assert_eq!(placed, of_place(&wanted), "{settings:?} {no_links:?}");
+        *met.entry(got.reason.cause).or_insert(0) += 1;
     }
     for cause in [201, 202, 203, 204, 205, 206, 211] {
         assert!(met.get(&cause).is_some_and(|&n| n > 50), "{met:?}");
