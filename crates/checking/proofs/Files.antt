@@ -39,8 +39,8 @@ use Rattle.filecheck.specs.declared.Checked.the-variants.{BadBuffers, BadSettin
 use Rattle.filecheck.specs.Check.{pieceAt, piecesIn, fieldIn, isPage, totalIn, familyIn, kindIn, numbersBelow, faultAt, isValid, isFaulty, isMissing, isGuarding, wholeOf, piecesOf, rightMaps, checkOf}
 use Rattle.filecheck.proofs.Sound.{Fine, fine, board-of, passing-of}
 use Rattle.filecheck.proofs.Theorems.{empty, empty-start}
-use Rattle.piececheck.specs.Parts.{Maps, maps, fileHead, startsBelow, Holds}
-use Rattle.guarding.specs.Guarding.{guardsAlone, guardsAt}
+use Rattle.checking.specs.Pieces.Parts.{Maps, maps, fileHead, startsBelow, Holds}
+use Rattle.checking.specs.Regions.Guarding.{guardsAlone, guardsAt}
 use Rattle.checking.specs.Parts.{firstOf, Opened, kindIf, guardedBy, Counted, Cleared}
 
 -- ---- what the first piece says

@@ -30,8 +30,8 @@ use Rattle.filecheck.specs.declared.Checked.the-variants.{Valid}
 use Rattle.filecheck.specs.Check.{pieceAt, piecesIn, fieldIn, besideOf, screenedTo, faultAt, isValid, isFaulty}
 use Rattle.filecheck.proofs.Sound.{Fine, fine, board-of}
 use Rattle.filecheck.proofs.Theorems.{empty, empty-start}
-use Rattle.piececheck.specs.Parts.{Maps, fileHead, entered, besideBy, mapsBy, screenedBy, mapsThen, Holds}
-use Rattle.piececheck.proofs.Laws.{beside-is, holds-next}
+use Rattle.checking.specs.Pieces.Parts.{Maps, fileHead, entered, besideBy, mapsBy, screenedBy, mapsThen, Holds}
+use Rattle.checking.proofs.piece.Laws.{beside-is, holds-next}
 use Rattle.checking.specs.Parts.{firstOf, Opened, Knows}
 
 -- ---- what the settings say of a family

@@ -12,7 +12,7 @@ use Rattle.sets.proofs.Tests.{clash}
 use Rattle.sets.proofs.Laws.{any-zero, any-more}
 use Rattle.judged.specs.Judged.{roomsAt}
 use Rattle.filecheck.specs.Check.{isValid, isFaulty}
-use Rattle.piececheck.specs.Parts.{maps, Holds}
+use Rattle.checking.specs.Pieces.Parts.{maps, Holds}
 use Rattle.checking.specs.Parts.{Knows}
 use Rattle.checking.proofs.Laws.{next-kept, knows-first, knows-next, found-is, holds-after, first-told, none-told}
 use Rattle.checking.proofs.each_piece.Statement.{statement}
