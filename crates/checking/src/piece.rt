@@ -95,7 +95,7 @@ fn settle(
 }
 
 // What is wrong with piece i. `rooms` is what the settings say of its family, `head` what the first piece says.
-pub fn check_piece(
+pub(crate) fn check_piece(
     rooms: Rooms,
     lens: Lengths,
     head: Head,

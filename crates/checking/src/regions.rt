@@ -36,7 +36,7 @@ fn guards(place: Place, arrival: &[u8]) -> bool
 }
 
 // The first piece that is data and names a region that counts in a place, and the number of pieces where none does.
-pub fn first_guarding(place: Place, file: &[u8]) -> usize
+pub(crate) fn first_guarding(place: Place, file: &[u8]) -> usize
     ensures { λ r. ⌜ r ≡ least (length (now (file .entry)) / 512) (guardsAt place (now (file .entry))) ⌝ }
 {
     let n = file.len() / Block::ARRIVAL;
