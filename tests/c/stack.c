@@ -7,6 +7,7 @@
  */
 #define _XOPEN_SOURCE 700
 #include "uf2_check.h"
+#include "uf2_parts.h"
 #include "uf2_receiver.h"
 #include "uf2_stands.h"
 #include "uf2_store.h"
@@ -136,6 +137,17 @@ static void call_replay(void) {
 static void call_figures(void) {
     stop = uf2_figures(report, sizeof report, settings, sizeof settings, trace, sizeof trace, flash, sizeof flash, seen, sizeof seen, sectors,
                        sizeof sectors, main_ram, sizeof main_ram, xip_ram, sizeof xip_ram, where, sizeof where);
+}
+
+static uint8_t part[UF2_PART_SIZE], later[UF2_PART_SIZE];
+static uint32_t merged;
+
+static void call_part_one(void) {
+    merged = uf2_part_one(report, sizeof report, stop, part, sizeof part);
+}
+
+static void call_part_merge(void) {
+    merged = uf2_part_merge(part, sizeof part, later, sizeof later);
 }
 
 static uint8_t reason[UF2_REASON_SIZE];
@@ -305,6 +317,11 @@ int main(void) {
         return 1;
     tell("uf2_figures", used(call_figures) - empty);
     if (stop != UF2_STOP_NONE || uf2_get32(report + UF2_REPORT_RECORDS) != 3)
+        return 1;
+    tell("uf2_part_one", used(call_part_one) - empty);
+    memcpy(later, part, sizeof later);
+    tell("uf2_part_merge", used(call_part_merge) - empty);
+    if (merged != 0 || uf2_get32(part + UF2_PART_TRACES) != 2)
         return 1;
     return worst <= UF2_STACK_SIZE ? 0 : 1;
 }

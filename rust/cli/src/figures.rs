@@ -30,7 +30,8 @@ answer is another than ours (\"differs\"), is counted up to there; where no
 --flash is said, a difference is \"undecided\". A folder stands for its files
 that end in .trace, in the order of their names.
 
-  --jobs N     N threads replay, and at most N traces are in memory; as many as
+  --jobs N     N threads replay, and at most N traces are in memory, beside
+               standard input and pipes, which are read at once; as many as
                there are processors, where it is not said. What is printed does
                not depend on it
   --save PART  writes the figures as one line of text, which --merge reads; `-`
