@@ -266,6 +266,82 @@ fn reasons_of_places_keep_their_bounds() {
     }
 }
 
+/// A file of up to six blocks, mostly with a field of one or two pieces changed: to that of another piece, or to one that is wrong.
+fn any_file(r: &mut Random) -> Vec<u8> {
+    let blocks = 1 + r.below(6) as usize;
+    let mut file = vec![0; 512 * blocks];
+    let start = 0x1000_0000 + 256 * r.below(8) as u32;
+    tools::make(&vec![7; 256 * blocks], 0xe48b_ff59, start, &mut file).expect("it has room");
+    for _ in 0..r.below(3) {
+        let (piece, other) = (r.below(blocks as u64), r.below(blocks as u64));
+        let (at, other) = (512 * piece as usize, 512 * other as usize);
+        let field = r.of(&[0, 8, 12, 12, 16, 20, 20, 24, 28]);
+        if r.one_in(2) {
+            file.copy_within(other + field..other + field + 4, at + field);
+        } else {
+            let value = r.of(&[0, 1, 0x2001, 0x6000, 0x1000_0080, 0x2000_0000, 0xe48b_ff57]);
+            file[at + field..][..4].copy_from_slice(&u32::to_le_bytes(value));
+        }
+        file[at + 484..][..4].copy_from_slice(&0x1000_0000_u32.to_le_bytes());
+        file[at + 488..][..4].copy_from_slice(&4096_u32.to_le_bytes());
+    }
+    if r.one_in(8) {
+        file.truncate(512 * (blocks - 1)); // the last is lost
+    }
+    any_length(r, file)
+}
+
+/// Settings and file lie in pages that cannot be written.
+#[test]
+fn checks_of_files_keep_their_bounds() {
+    use tools::check::{check_bytes, Lens};
+    use tools::check::{CELLS_BYTES, NUMBERS_BYTES, OFFSETS_BYTES, TOLD_BYTES};
+    let mut r = Random(42);
+    let mut answers = [0; 89];
+    for _ in 0..number() {
+        let mut settings = proved::Settings::ARM.bytes().to_vec();
+        settings[4] = 1; // absolute is allowed
+        if r.one_in(4) {
+            settings = any_settings_bytes(&mut r, 40);
+        }
+        let settings = Twin::read(&mut r, settings);
+        let file = any_file(&mut r);
+        let file = Twin::read(&mut r, file);
+        let mut lent = [NUMBERS_BYTES, CELLS_BYTES, OFFSETS_BYTES, TOLD_BYTES].map(|n| {
+            let bytes = any_length(&mut r, vec![9; n]);
+            Twin::written(&mut r, bytes)
+        });
+        let lens = Lens {
+            flash: r.of(&[163_840, 163_840, 163_840, 163_841]),
+            main: r.of(&[0, 532_480]),
+            xip: r.of(&[0, 16_384]),
+        };
+        let [numbers, cells, offsets, told] = &mut lent;
+        let maps = [&mut *numbers, &mut *cells, &mut *offsets].map(|map| map.fenced.bytes_mut());
+        let out = told.fenced.bytes_mut();
+        let beside = check_bytes(
+            settings.fenced.bytes(),
+            file.fenced.bytes(),
+            lens,
+            maps,
+            out,
+        );
+        let maps = [numbers, cells, offsets].map(|map| &mut map.plain[..]);
+        let alone = check_bytes(&settings.plain, &file.plain, lens, maps, &mut told.plain);
+        assert_eq!(beside, alone);
+        settings.check("settings");
+        file.check("file");
+        for (twin, name) in lent.iter().zip(["numbers", "cells", "offsets", "told"]) {
+            twin.check(name);
+        }
+        answers[alone as usize] += 1;
+    }
+    let often = number() / 4_000;
+    for answer in [0, 1, 2, 4, 7, 8, 9, 10, 11].into_iter().chain(80..89) {
+        assert!(answers[answer] >= often, "{answer}: {answers:?}");
+    }
+}
+
 #[test]
 fn takes_keep_their_bounds() {
     let mut r = Random(31);
