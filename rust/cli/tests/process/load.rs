@@ -499,3 +499,22 @@ fn wrong_words() {
     );
     assert_eq!(folder.names(), ["blink.bin", "blink.uf2"]);
 }
+
+/// Another build of as many blocks, after the first was stopped half way: the receiver says complete, and the memory holds a mixture.
+#[test]
+fn two_builds_of_one_size() {
+    let folder = blink();
+    let other: Vec<u8> = pages(64).iter().map(|byte| !byte).collect();
+    folder.put("other.bin", other);
+    folder.ends(
+        0,
+        "make other.bin -o other.uf2 --family arm-s --start 0x10000000",
+    );
+    let mut both = folder.get("blink.uf2")[..32 * 512].to_vec();
+    both.extend(folder.get("other.uf2"));
+    folder.put("both.uf2", both);
+    let ran = folder.ends(1, "load both.uf2");
+    assert!(ran.out.ends_with(
+        "COMPLETE, AND 32 PAGES ARE LOST: the display was told that all 64 blocks came. The page of block 0 (piece 32) does not stand at 0x10000000.\n"
+    ));
+}
