@@ -48,6 +48,7 @@ export function arrivalList(plan) {
   return list;
 }
 
+// `isFile` says that the pieces are those of a file, and not a list of arrivals.
 export function newPlan(pieces, fields = {}) {
-  return { pieces, times: new Map(), order: 'file', seed: 1, extras: [], list: [], ...fields };
+  return { pieces, isFile: true, times: new Map(), order: 'file', seed: 1, extras: [], list: [], ...fields };
 }

@@ -38,19 +38,21 @@ function overlapOf(pages) {
 
 class BlockFile {
   constructor(family, total) {
-    Object.assign(this, { family, total, own: 0, known: new Map(), clash: null, comment: null });
+    Object.assign(this, { family, total, own: 0, known: new Map(), clash: null, others: [], comment: null });
     this.found = null;
   }
 
   note(page) {
     const known = this.known.get(page.number);
     if (page.comment) this.comment = this.comment ?? page;
-    if (known) this.clash = this.clash ?? clashOf(page, known);
+    const clash = known ? clashOf(page, known) : null;
+    this.clash = this.clash ?? clash;
+    if (clash?.what === 'sameNumber' && !page.comment) this.others.push(page);
     if (!known || isBetter(page, known)) this.known.set(page.number, page);
   }
 
-  // The file's pages in the order of their numbers, the numbers of its comments, and what makes it none that the proof speaks of (`flaw`) or null. Asked for
-  // once it is needed.
+  // The file's pages in the order of their numbers, those of other blocks that have a number of it (`others`), the numbers of its comments, and what makes it
+  // none that the proof speaks of (`flaw`) or null. Asked for once it is needed.
   read(receiver) {
     if (!this.found) {
       const known = [...this.known.values()].filter((page) => page.number < this.total);
@@ -59,7 +61,7 @@ class BlockFile {
       const absent = this.absent(data, receiver);
       const pages = [...data, ...absent].sort((a, b) => a.number - b.number);
       const flaw = this.clash ?? this.flawOf(data, absent.length === 0, receiver);
-      this.found = { family: this.family, total: this.total, pages, comments, flaw };
+      this.found = { family: this.family, total: this.total, pages, others: this.others, comments, flaw };
     }
     return this.found;
   }

@@ -24,7 +24,7 @@ class Page {
     const transfer = new TransferView(libraries, say);
     const show = (pieces, name) => {
       this.open('transfer');
-      return transfer.openPieces(pieces, name);
+      return transfer.openPieces(pieces, name, false);
     };
     const trace = new TraceView(libraries, say, () => transfer.board ?? newBoard(), show);
     this.views = { transfer, hex: new HexView(libraries, say), trace };

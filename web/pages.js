@@ -52,7 +52,8 @@ function isThere(page, memory, marks) {
   return status === STATUS.kept || (status === STATUS.stored && sameAt(memory, at, page.piece, PAYLOAD_AT, PAYLOAD));
 }
 
-// What stands where a missing page belongs: erased bytes, the bytes as lent, its own that another transfer stored, another page of the file, or other bytes.
+// What stands where a missing page belongs: erased bytes, the bytes as lent, its own that another transfer stored, another page of the file,
+// that of another block with its number, or other bytes.
 export function standsThere(receiver, page, file) {
   const { memory, at } = page.storage;
   const bytes = receiver.bytes(memory).slice(at, at + PAYLOAD);
@@ -62,8 +63,9 @@ export function standsThere(receiver, page, file) {
   if (same(bytes, before)) return { what: 'lent', start };
   const isOf = (q) => q.piece !== null && sameAt(bytes, 0, q.piece, PAYLOAD_AT, PAYLOAD);
   if (isOf(page)) return { what: 'own', start };
-  const other = file.pages.find(isOf);
-  return other ? { what: 'block', number: other.number, start } : { what: 'other', start };
+  const other = file.pages.find(isOf) ?? file.others.find(isOf);
+  if (!other) return { what: 'other', start };
+  return { what: other.number === page.number ? 'twin' : 'block', number: other.number, start };
 }
 
 // The cells of a memory's grid: what was done to each page, and which pages of the file are still to come (`waiting`) or, once the list has ended, the

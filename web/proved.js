@@ -107,6 +107,14 @@ export class ProvedReceiver {
     return { answer: result & 127, discarded: result >= N.UF2_RESULT_DISCARDED };
   }
 
+  // Whether what a block holds stands in the memory, as uf2_stands answers; null where this library does not say.
+  stands(arrival) {
+    if (!this.library.has('uf2_stands')) return null;
+    const { settings, flash, main, xip } = this.slices;
+    this.slices.arrival.bytes.set(arrival);
+    return this.library.call('uf2_stands', settings, this.slices.arrival.first(arrival.length), flash, main, xip);
+  }
+
   // The answer, 1 to 11, by which the board refuses an arrival before any other has come, or 0 where it takes it. Flag 0x4000 is cleared, since it changes
   // none of these answers and a region would be hashed for it.
   refusal(arrival) {

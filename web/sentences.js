@@ -17,6 +17,7 @@ function column(table, of) {
 }
 
 export const namesOf = (table) => column(table, ({ name }) => name);
+export const sentenceOf = (table, number) => sentence(TABLES[table][number].words);
 export const sentencesOf = (table) => column(table, ({ words }) => sentence(words));
 
 function familyWords(number) {

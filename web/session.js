@@ -7,6 +7,7 @@ import { readBlock } from './block.js';
 import { Run } from './run.js';
 import { WRONG } from './wrong/all.js';
 import { arrivalList } from './arrivals.js';
+import { checkFile } from './check.js';
 import { filesOf } from './files.js';
 import { inSlices, nextFrame } from './slices.js';
 import { GOALS, shortestDifference } from './search.js';
@@ -22,6 +23,20 @@ function receiversOf(library, board, chosen) {
   return { proved, wrong };
 }
 
+// What the check found, by pieces and board: a list that is sent otherwise is of the same file.
+const checked = new WeakMap();
+
+// What is wrong with the plan's file. An instance that is used for nothing else has the copy of it.
+async function checkedFile(pool, board, plan, receiver) {
+  if (!plan.isFile) return null;
+  const known = checked.get(plan.pieces);
+  const words = JSON.stringify(board);
+  if (known?.words === words) return known.found;
+  const found = await pool.use((library) => checkFile(library, board, plan.pieces, receiver));
+  checked.set(plan.pieces, { words, found });
+  return found;
+}
+
 export class Session {
   // `plan` has the pieces of a file and how they are sent (arrivals.js); `wrongId` names a wrong receiver or is null. `close()` gives the library's instance back.
   static async open(pool, board, plan, wrongId) {
@@ -35,6 +50,8 @@ export class Session {
     await pause();
     const others = session.arrivals.filter((arrival) => arrival.piece === undefined);
     session.files = await filesOf(plan.pieces, others.map((arrival) => arrival.bytes), proved, pause);
+    await pause();
+    session.checked = await checkedFile(pool, board, plan, proved);
     await pause();
     session.proved = new Run(proved, session.arrivals);
     await pause();

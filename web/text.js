@@ -1,7 +1,7 @@
 // Every word that the page shows, in English. To translate the page, translate this file, where keys stay and texts change and `${..}` is filled in by
 // the page; and words/answers.tsv, which has the words of answers, causes and refusals.
 import { hex } from './bytes.js';
-import { namesOf, reasons, sentencesOf } from './sentences.js';
+import { namesOf, reasons, sentenceOf, sentencesOf } from './sentences.js';
 
 const decimal = new Intl.NumberFormat('en-US');
 const n = (x) => decimal.format(x);
@@ -202,8 +202,9 @@ export const text = {
     misplaced: 'GREEN, AND THE FILE IS NOT WHERE IT BELONGS',
     misplacedPages: (number, answer, why) => `The right answer to block ${n(number)} is ${answer}. ${why} The pages went somewhere else.`,
     damaged: 'GREEN, AND BYTES OUTSIDE OF THE FILE HAVE CHANGED',
-    unspoken: (all) => (all === 1 ? 'Done: the one number has come.' : `Done: all ${n(all)} numbers have come.`),
-    damagedLine: 'Bytes outside of the file have changed.',
+    fileAtFault: 'The file is at fault, and not the receiver. “vantorel check” tells it before the file is sent.',
+    asked: (list) =>
+      `The remedy is to ask every block with uf2_stands before the display says complete: ${list.length === 1 ? 'block' : 'blocks'} ${list.slice(0, 8).map(n).join(', ')}${list.length > 8 ? ' and others' : ''} ${list.length === 1 ? 'differs' : 'differ'}.`,
     page: (number, address) => `Page of block ${n(number)}, for ${typeof address === 'number' ? hex(address) : address}: `,
     never: (number) => `Block ${n(number)} never came`,
     neverWhere: ', and its address is not known.',
@@ -214,12 +215,29 @@ export const text = {
       erased: 'there stands 0xFF, erased.',
       lent: 'there stands what was there before the update.',
       block: (k) => `there stands the page of block ${n(k)}.`,
+      twin: (k) => `there stands the page of another block ${n(k)}.`,
       other: (start) => `there stand other bytes: ${start} ..`,
       own: 'its bytes stand there, but this transfer has not stored them.',
     },
     comment: (number) => `Block ${n(number)}, a comment, has not been counted.`,
     more: (k) => `and ${n(k)} more.`,
     otherFile: (name, total) => `The transfer is of another file than most blocks here: ${name}, ${blocks(total)}.`,
+  },
+
+  // What the proved check finds of a file, over the receivers.
+  file: {
+    unspoken: 'This file is not valid for this board: the proof does not speak of it.',
+    notValid: 'This file is not valid for this board.',
+    guarded: `${sentenceOf('check', 88)} The check does not say whether their digests are right.`,
+    refused: (piece, answer, why) => `The board refuses piece ${n(piece)}: ${answer}. ${why}`,
+    faults: {
+      80: () => sentenceOf('check', 80),
+      81: () => sentenceOf('check', 81),
+      ...Object.fromEntries([82, 83, 84].map((k) => [k, ({ piece }) => sentenceOf('check', k).replace('The piece', `Piece ${n(piece)}`)])),
+      85: ({ piece, other, repeat }) => (repeat ? `Piece ${n(piece)} is piece ${n(other)} once more.` : `Piece ${n(piece)} and piece ${n(other)} have the same number.`),
+      86: ({ piece, other }) => `Piece ${n(piece)} and piece ${n(other)} hold the same address.`,
+      87: ({ piece }) => `${sentenceOf('check', 87).replace(/\.$/, '')}: block ${n(piece)} is missing.`,
+    },
   },
 
   // What makes a list none that the proof speaks of.

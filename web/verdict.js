@@ -53,8 +53,9 @@ function missingComments(session, run, file) {
   return file.comments.filter((number) => !came.has(number));
 }
 
-// What makes the list none that the proof speaks of, or null: something of the file, or a short arrival.
+// What makes the list none that the proof speaks of, or null: the file itself, which is told over the receivers; something of the blocks; or a short arrival.
 function flawOf(session, run, file) {
+  if (session.checked?.unspoken) return { what: 'file' };
   if (file.flaw) return file.flaw;
   const at = session.arrivals.findIndex(({ bytes }, k) => k < run.position && bytes.length !== ARRIVAL);
   return at < 0 ? null : { what: 'short', at, length: session.arrivals[at].bytes.length };
@@ -71,7 +72,22 @@ function strangerIn(session, run, file) {
 }
 
 function flawLines(flaw) {
-  return flaw ? [text.flaw.end(text.flaw[flaw.what](flaw))] : [];
+  return flaw && flaw.what !== 'file' ? [text.flaw.end(text.flaw[flaw.what](flaw))] : [];
+}
+
+// The other blocks with a number of the file that have come.
+function othersCome(session, run, file) {
+  if (file.others.length === 0) return [];
+  const came = new Set(session.arrivals.slice(0, run.position).map(({ bytes }) => bytes));
+  return file.others.filter(({ piece }) => came.has(piece));
+}
+
+// Where the proved receiver is done and a page is missing: who is at fault, and the remedy, by which every block at hand is asked with uf2_stands.
+function remedyLines(session, run, file, flaw) {
+  const asked = [...file.pages, ...othersCome(session, run, file)].filter(({ piece, refused }) => piece && !refused);
+  const differ = asked.filter(({ piece }) => run.receiver.stands(piece) === N.UF2_DIFFERS).map(({ number }) => number);
+  const fault = flaw.what === 'file' ? [text.verdict.fileAtFault] : [];
+  return differ.length > 0 ? [...fault, text.verdict.asked([...new Set(differ)].sort((a, b) => a - b))] : fault;
 }
 
 // Nothing was accepted: the first arrival of each answer, with the reason that the library names.
@@ -83,23 +99,31 @@ function idleVerdict(session, run) {
   return { kind: 'noPlace', words: text.verdict.noPlace(familyName(family)), lines };
 }
 
-// What is said below the verdict: why the proof does not speak of the list, and what is missing.
-function linesOf(session, run, file, { flaw, missing, comments }) {
-  return [...flawLines(flaw), ...missingLines(session, run, file, missing), ...comments.slice(0, LISTED).map(text.verdict.comment)];
+// What is said below the verdict: why the proof does not speak of the list, the remedy, and what is missing.
+function linesOf(session, run, file, { flaw, remedy = [], missing, comments }) {
+  return [...flawLines(flaw), ...remedy, ...missingLines(session, run, file, missing), ...comments.slice(0, LISTED).map(text.verdict.comment)];
 }
 
-// The display is green. Where the list is none that the proof speaks of, the proved receiver is right, though a page may not be there.
-function doneVerdict(session, run, file, missing) {
+// What is wrong with a green display.
+function alarmOf(session, file, missing, stray) {
+  if (stray) return { kind: 'misplaced', words: text.verdict.damaged };
+  if (missing.length === 0) return { kind: 'falselyDone', words: text.verdict.notCounted };
+  if (file.pages.some((page) => !page.refused)) return { kind: 'falselyDone', words: text.verdict.falselyDone(missing.length) };
+  return { kind: 'misplaced', words: text.verdict.misplaced, lines: [text.verdict.misplacedPages(missing[0].number, ...rightAnswer(session, missing[0]))] };
+}
+
+// The display is green. Where two blocks have one number, and every page of the first is there, those of the others count. Where the list is none that the proof
+// speaks of, the proved receiver's answers are right, and the display is not.
+function doneVerdict(session, run, file, own) {
+  const missing = own.length > 0 ? own : missingPages(run, { pages: othersCome(session, run, file) });
   const comments = missingComments(session, run, file);
   const stray = missing.length === 0 && strayChange(run, file);
   const flaw = flawOf(session, run, file) ?? (stray ? strangerIn(session, run, file) : null);
   const lines = linesOf(session, run, file, { flaw, missing, comments });
   if (missing.length + comments.length === 0 && !stray) return { kind: 'completed', words: someKept(run) ? text.verdict.completedKept : text.verdict.completed, lines };
-  if (flaw && run === session.proved) return { kind: 'unspoken', words: text.verdict.unspoken(file.total), lines: stray ? [...lines, text.verdict.damagedLine] : lines };
-  if (stray) return { kind: 'misplaced', words: text.verdict.damaged, lines };
-  if (missing.length === 0) return { kind: 'falselyDone', words: text.verdict.notCounted, lines };
-  if (file.pages.some((page) => !page.refused)) return { kind: 'falselyDone', words: text.verdict.falselyDone(missing.length), lines };
-  return { kind: 'misplaced', words: text.verdict.misplaced, lines: [text.verdict.misplacedPages(missing[0].number, ...rightAnswer(session, missing[0]))] };
+  const alarm = { lines, ...alarmOf(session, file, missing, stray) };
+  if (!flaw || run !== session.proved) return alarm;
+  return { kind: 'unspoken', words: alarm.words, lines: linesOf(session, run, file, { flaw, remedy: remedyLines(session, run, file, flaw), missing, comments }) };
 }
 
 // The list has ended, and the display is not green.
@@ -129,7 +153,7 @@ export function verdictOf(session, run) {
 // The lamp: what the display shows by the transfer's state alone, and whether it shows green though the file is not there.
 export function lampOf(run, verdict) {
   const { state } = run.receiver.transfer;
-  const wrongly = state === 'done' && (verdict.kind === 'falselyDone' || verdict.kind === 'misplaced');
+  const wrongly = state === 'done' && ['falselyDone', 'misplaced', 'unspoken'].includes(verdict.kind);
   const { name, words } = text.lamp[state];
   return { state, wrongly, words: `${name}: ${words}`, mark: text.lamp[state].mark };
 }

@@ -1,5 +1,6 @@
 // Sentences about what the library answered, from the words of text.js. Pure functions.
 import { text } from './text.js';
+import { N } from './numbers.js';
 import { FAMILY } from './board.js';
 import { hex } from './bytes.js';
 import { readBlock } from './block.js';
@@ -45,10 +46,19 @@ export function blockWords(bytes) {
   };
 }
 
+// What the check of a file found, in words; none where the file is valid, or where the board's settings are at fault.
+export function faultWords(checked) {
+  if (!checked || checked.answer < N.UF2_ANSWER_NOT_BLOCK) return '';
+  const { answer, reason, unspoken } = checked;
+  if (answer === N.UF2_CHECK_GUARDED) return text.file.guarded;
+  const fault = answer in text.file.faults ? text.file.faults[answer](checked) : text.file.refused(checked.piece, answerWords(answer, false), reasonWords(answer, reason));
+  return `${unspoken ? text.file.unspoken : text.file.notValid} ${fault}`;
+}
+
 export function pageSentence(page, there) {
   const start = Array.from(there.start ?? [], (x) => x.toString(16).toUpperCase().padStart(2, '0')).join(' ');
   const words = text.verdict.stands[there.what];
-  const end = typeof words === 'function' ? words(there.what === 'block' ? there.number : start) : words;
+  const end = typeof words === 'function' ? words(there.number ?? start) : words;
   return text.verdict.page(page.number, page.address) + end;
 }
 

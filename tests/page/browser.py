@@ -92,6 +92,10 @@ class Page:
     def words(self, side):
         return self.js("return [...document.querySelectorAll(`#${arguments[0]} .verdict p`)].map((line) => line.textContent)", side)
 
+    # What is said of the file over the receivers; nothing where that is hidden.
+    def fault(self):
+        return self.js("const fault = document.getElementById('file-fault'); return fault.hidden ? '' : fault.textContent")
+
     # A file chosen in a field, as the dialog would hand it over.
     def pick(self, selector, name, content):
         with tempfile.TemporaryDirectory() as folder:
@@ -273,6 +277,7 @@ def lessons(page):
         equal(page.verdict("proved"), "completed")
         equal(page.js("return document.getElementById('wrong').hidden"), True)
         assert "every page of the file stands at its address" in page.text("#proved .verdict")
+        equal(page.fault(), "")
 
 
 def playing(page):
@@ -423,6 +428,8 @@ def never_came(page):
         page.until(lambda: "At record 3 the answers differ" in page.text("#trace-stop"), "the replay")
         page.press("#trace-show")
         page.until(lambda: page.text("#position") == "Arrival 0 of 8" and page.js("return document.getElementById('lesson').value") == "own", "its arrivals")
+        # a trace is a list of arrivals and no file
+        equal(page.fault(), "")
         every_receiver("lesson1")
         # the page that never came is crossed out
         equal([page.colour("wrong", k) for k in (4, 5, 6)], [STORED, MISSING, STORED], "colours of the grid")
@@ -465,21 +472,32 @@ def not_of_the_proof(page):
         page.js("document.getElementById('setup').open = false")
         page.end()
         why = "A comment and a data block both have the number 7, so the proof does not speak of this list."
-        equal(page.words("proved"), ["Done: all 8 numbers have come.", why, "Page of block 7, for 0x10000700: there stands 0xFF, erased."])
-        equal(page.lamp("proved"), ["done", "false"])
+        words = page.words("proved")
+        equal([*words[:2], words[3]], ["GREEN, AND A PAGE IS MISSING", why, "Page of block 7, for 0x10000700: there stands 0xFF, erased."])
+        equal(page.lamp("proved"), ["done", "true"])
+        # the file itself is valid
+        equal(page.fault(), "")
 
-    @check("two blocks with one address, and a file of two families: the proved column says why the proof does not speak of them")
+    @check("two blocks with one address, and a file of two families: the page says why the proof does not speak of them, and says it once")
     def _():
         page.lesson("whole")
         page.drop("address.uf2", b"".join(block(k, 41, 0x10000300 if k == 40 else None) for k in range(41)))
         page.until(lambda: "address.uf2" in page.text("#file-note"), "the file")
         page.end()
-        equal(page.words("proved")[:2], ["Done: all 41 numbers have come.", "Block 3 and block 40 name the same address, 0x10000300, so the proof does not speak of this list."])
+        equal(page.fault(), "This file is not valid for this board: the proof does not speak of it. Piece 40 and piece 3 hold the same address.")
+        equal(page.words("proved")[0], "GREEN, AND A PAGE IS MISSING")
+        assert "does not speak" not in page.text("#proved .verdict"), page.text("#proved .verdict")
+        # the sentence is above both receivers, and in sight before the first arrival
+        page.press("#to-start")
+        page.js("window.scrollTo(0, 0)")
+        above = page.js("const box = (id) => document.getElementById(id).getBoundingClientRect(); return [box('file-fault').bottom <= box('proved').top, box('file-fault').bottom <= innerHeight]")
+        equal(above, [True, True])
         page.drop("families.uf2", b"".join([*(block(k, 6, 0x10004000 + 256 * k, 0xE48BFF58) for k in range(2)), *(block(k, 8) for k in range(8))]))
         page.until(lambda: "families.uf2" in page.text("#file-note"), "the file")
         page.end()
         why = "Arrival 1 is of another file, data and 6 blocks, and what that file stored stays, so the proof does not speak of this list."
-        equal(page.words("proved"), ["Done: all 8 numbers have come.", why, "Bytes outside of the file have changed."])
+        equal(page.words("proved"), ["GREEN, AND BYTES OUTSIDE OF THE FILE HAVE CHANGED", why])
+        equal(page.fault(), "This file is not valid for this board. Piece 2's family is not the first piece's.")
 
     @check("a file for RAM on a board without it, and one without families: the verdict has the library's reason")
     def _():
@@ -495,6 +513,7 @@ def not_of_the_proof(page):
             equal(page.words("proved")[0], "Not completed: no block of the file was accepted.", name)
             assert page.words("proved")[1].startswith(f"Arrival 1: {answer}. "), page.words("proved")
             assert "no place for the family" not in page.text("#proved .verdict") and reason != "", name
+            assert page.fault().startswith(f"This file is not valid for this board. The board refuses piece 0: {answer}. "), page.fault()
 
 
 def beside_the_tool(page):

@@ -12,7 +12,9 @@ const { EXTRAS } = await load('maker.js');
 const { ProvedReceiver } = await load('proved.js');
 const { Session } = await load('session.js');
 const { verdictOf } = await load('verdict.js');
-const { reasonWords } = await load('words.js');
+const { faultWords, reasonWords } = await load('words.js');
+const { askCheck } = await load('check.js');
+const { N } = await load('numbers.js');
 const { WRONG } = await load('wrong/all.js');
 const { put32 } = await load('bytes.js');
 
@@ -20,14 +22,23 @@ globalThis.requestAnimationFrame = (act) => setTimeout(act, 0);
 const libraries = new Libraries(await libraryModule());
 const sample = (pages) => libraries.use((library) => samplePieces(library, pages).pieces);
 
-// The verdicts of a list that is played to its end: the proved receiver's, and that of the wrong one where one is named.
-async function played(board, plan, wrongId = null) {
+// A list that is played to its end: what `read` tells of the session.
+async function playedSession(board, plan, wrongId, read) {
   const session = await Session.open(libraries, board, plan, wrongId);
   await session.moveTo(session.arrivals.length);
-  const verdicts = session.runs.map((run) => verdictOf(session, run));
+  const found = read(session);
   session.close();
-  return verdicts;
+  return found;
 }
+
+// The verdicts: the proved receiver's, and that of the wrong one where one is named.
+const played = (board, plan, wrongId = null) => playedSession(board, plan, wrongId, (session) => session.runs.map((run) => verdictOf(session, run)));
+
+// Pieces that are a list of arrivals and no file.
+const listOf = (pieces) => newPlan(pieces, { isFile: false });
+
+// What is said of a file over the receivers.
+const faultOf = (board, pieces) => playedSession(board, newPlan(pieces), null, ({ checked }) => faultWords(checked));
 
 const said = ({ words, lines }) => [words, ...lines];
 const provedWords = async (board, plan) => said((await played(board, plan))[0]);
@@ -98,40 +109,48 @@ await check('every lesson saved and opened as a file: the proved receiver ends a
 
 // ---- Lists that the proof does not speak of
 
+const remedy = (differ) => `The remedy is to ask every block with uf2_stands before the display says complete: ${differ}.`;
+const FILE_AT_FAULT = 'The file is at fault, and not the receiver. “vantorel check” tells it before the file is sent.';
+
 await check('a comment with the number of a data block: the page says why the proof does not speak of the list', async () => {
   const { board, plan } = await libraries.use((library) => lessonParts(library, LESSONS[2]));
   const extras = [{ kind: 'comment', after: 1, bytes: EXTRAS.comment(plan.pieces[1], 8) }];
   const why = 'A comment and a data block both have the number 7, so the proof does not speak of this list.';
   const page = 'Page of block 7, for 0x10000700: there stands 0xFF, erased.';
   const [proved, wrong] = await played(board, { ...plan, extras }, 'clearsOneMap');
-  assert.deepEqual(said(proved), ['Done: all 8 numbers have come.', why, page]);
+  assert.deepEqual(said(proved), ['GREEN, AND A PAGE IS MISSING', why, remedy('block 7 differs'), page]);
   assert.deepEqual(said(wrong), ['GREEN, AND A PAGE IS MISSING', why, page]);
   // also where the data block is never sent
-  assert.deepEqual(await provedWords(board, { ...plan, extras, times: new Map([[7, 0]]) }), ['Done: all 8 numbers have come.', why, page]);
+  assert.deepEqual(await provedWords(board, { ...plan, extras, times: new Map([[7, 0]]) }), ['GREEN, AND A PAGE IS MISSING', why, remedy('block 7 differs'), page]);
 });
 
-await check('two blocks with one address', async () => {
+await check('two blocks with one address: told once, over the receivers of a file and in the verdict of a list', async () => {
   const pieces = (await sample(41)).map((piece, k) => (k === 40 ? changed(piece, { address: 0x10000300 }) : piece));
-  assert.deepEqual(await provedWords(newBoard(), newPlan(pieces)), [
-    'Done: all 41 numbers have come.',
+  const page = 'Page of block 3, for 0x10000300: there stands the page of block 40.';
+  assert.equal(await faultOf(newBoard(), pieces), 'This file is not valid for this board: the proof does not speak of it. Piece 40 and piece 3 hold the same address.');
+  assert.deepEqual(await provedWords(newBoard(), newPlan(pieces)), ['GREEN, AND A PAGE IS MISSING', FILE_AT_FAULT, remedy('block 3 differs'), page]);
+  assert.deepEqual(await provedWords(newBoard(), listOf(pieces)), [
+    'GREEN, AND A PAGE IS MISSING',
     'Block 3 and block 40 name the same address, 0x10000300, so the proof does not speak of this list.',
-    'Page of block 3, for 0x10000300: there stands the page of block 40.',
+    remedy('block 3 differs'),
+    page,
   ]);
+  // a wrong receiver keeps its alarm, and the file is told for it too
+  assert.deepEqual(said((await played(newBoard(), newPlan(pieces), 'countsArrivals'))[1]), ['GREEN, AND A PAGE IS MISSING', page]);
 });
 
 await check('a file of two families', async () => {
   const earlier = eight.slice(0, 2).map((piece, k) => changed(piece, { family: FAMILY.data, total: 6, address: 0x10004000 + 256 * k }));
   assert.deepEqual(await provedWords(newBoard(), newPlan([...earlier, ...eight])), [
-    'Done: all 8 numbers have come.',
+    'GREEN, AND BYTES OUTSIDE OF THE FILE HAVE CHANGED',
     'Arrival 1 is of another file, data and 6 blocks, and what that file stored stays, so the proof does not speak of this list.',
-    'Bytes outside of the file have changed.',
   ]);
 });
 
 await check('what else makes a list none that the proof speaks of', async () => {
   const board = newBoard({ main: true });
   const ram = (k) => changed(eight[k], { total: 3, address: 0x20000000 + 256 * k });
-  const flawOf = async (pieces) => (await provedWords(board, newPlan(pieces))).find((words) => words.endsWith(', so the proof does not speak of this list.'));
+  const flawOf = async (pieces) => (await provedWords(board, listOf(pieces))).find((words) => words.endsWith(', so the proof does not speak of this list.'));
   const three = upTo(3).map((k) => changed(eight[k], { total: 3 }));
   const region = (piece, start, length) => {
     const copy = changed(piece, { flags: 0x6000 });
@@ -178,7 +197,7 @@ await check('of 2,100 lists of chance the proved column is never called wrong, a
   for (let k = 0; k < 2100; k++) {
     const entries = below(2) ? [] : [newEntry({ first: below(2), sectors: 2 + below(3), armS: true, data: below(2) === 1 })];
     const board = newBoard({ main: below(3) === 0, lent: ['erased', 'old'][below(2)], entries });
-    const [{ kind, lines }, wrong] = await played(board, newPlan(listOfChance(below)), WRONG[k % WRONG.length].id);
+    const [{ kind, lines }, wrong] = await played(board, listOf(listOfChance(below)), WRONG[k % WRONG.length].id);
     met[kind] = (met[kind] ?? 0) + 1;
     assert.ok(!['falselyDone', 'misplaced'].includes(kind), `list ${k}: ${lines}`);
     if (kind === 'unspoken') assert.ok(lines.some(isFlaw), `list ${k}`);
@@ -186,6 +205,63 @@ await check('of 2,100 lists of chance the proved column is never called wrong, a
     met[`wrong ${wrong.kind}`] = (met[`wrong ${wrong.kind}`] ?? 0) + 1;
   }
   for (const kind of ['completed', 'missing', 'unspoken', 'nothing', 'noPlace', 'wrong falselyDone', 'wrong completed']) assert.ok(met[kind] > 3, `${kind}: ${JSON.stringify(met)}`);
+});
+
+// ---- Files that are not valid
+
+await check('what the proved check says of a file, in words', async () => {
+  const board = newBoard({ main: true });
+  const three = upTo(3).map((k) => changed(eight[k], { total: 3 }));
+  const unspoken = 'This file is not valid for this board: the proof does not speak of it.';
+  const notValid = 'This file is not valid for this board.';
+  const riscv = changed(three[1], { family: FAMILY.riscv });
+  const guarded = three.map((piece) => changed(piece, { flags: 0x6000 }));
+  for (const piece of guarded) {
+    put32(piece, 484, 0x10000000);
+    put32(piece, 488, 4096);
+  }
+  const files = [
+    ['', three],
+    [`${unspoken} The file's length is no multiple of 512.`, [...three, three[0].subarray(0, 100)]],
+    [`${notValid} Piece 3's family is not the first piece's.`, [...three, changed(three[0], { family: FAMILY.data })]],
+    [`${notValid} Piece 3's total is not the first piece's.`, [...three, changed(three[0], { total: 4 })]],
+    [`${unspoken} Piece 2's memory is not the first piece's.`, [three[0], three[1], changed(three[2], { address: 0x20000000 })]],
+    [`${unspoken} Piece 3 and piece 1 have the same number.`, [...three, changed(three[1], { address: 0x10000800 })]],
+    [`${notValid} Piece 3 is piece 1 once more.`, [...three, three[1]]],
+    [`${unspoken} Piece 2 and piece 0 hold the same address.`, [three[0], three[1], changed(three[2], { address: 0x10000000 })]],
+    // a repeat and a foreign piece before it are not why the proof is silent
+    [`${unspoken} Piece 4 and piece 0 hold the same address.`, [three[0], three[0], riscv, three[1], changed(three[2], { address: 0x10000000 })]],
+    [`${notValid} There are fewer pieces than the total: block 1 is missing.`, [three[0], three[2]]],
+    ['The file is valid, and names regions (flag 0x4000). The check does not say whether their digests are right.', guarded],
+    [`${notValid} The board refuses piece 1: 8 NoPlace. ${await reasonOf(riscv)}`, [three[0], riscv, three[2]]],
+    [`${notValid} The board refuses piece 0: 7 NoFamily. ${await reasonOf(changed(three[0], { flags: 0 }))}`, [changed(three[0], { flags: 0 })]],
+  ];
+  for (const [words, pieces] of files) assert.equal(await faultOf(board, pieces), words);
+  // bad settings are told beside the board
+  assert.equal(await faultOf(newBoard({ entries: [newEntry({ first: 900 })] }), three), '');
+});
+
+await check('of 1,400 files of chance: a valid one ends complete, and of one of which the proof is silent the page finds why as well', async () => {
+  const below = chance(86);
+  const met = {};
+  for (let k = 0; k < 1400; k++) {
+    const board = newBoard({ main: below(3) === 0, lent: ['erased', 'old'][below(2)] });
+    const pieces = listOfChance(below);
+    const wrongId = WRONG[k % WRONG.length].id;
+    const [checked, kinds] = await playedSession(board, newPlan(pieces), wrongId, (session) => [session.checked, session.runs.map((run) => verdictOf(session, run).kind)]);
+    const [flaws, asList] = await playedSession(board, listOf(pieces), wrongId, (session) => [
+      session.files.some((file) => file.read(session.proved.receiver).flaw) || pieces.some(({ length }) => length !== 512),
+      session.runs.map((run) => verdictOf(session, run).kind),
+    ]);
+    assert.deepEqual(kinds, asList, `file ${k}`);
+    assert.ok(!['falselyDone', 'misplaced'].includes(kinds[0]), `file ${k}`);
+    if (checked.answer === N.UF2_CHECK_VALID) assert.deepEqual([kinds[0], flaws], ['completed', false], `file ${k}`);
+    if (checked.unspoken) assert.ok(flaws, `file ${k}: ${faultWords(checked)}`);
+    const first = await libraries.use((library) => askCheck(library, board, pieces));
+    assert.equal(first.answer === N.UF2_CHECK_VALID, checked.answer === N.UF2_CHECK_VALID, `file ${k}`);
+    met[checked.answer] = (met[checked.answer] ?? 0) + 1;
+  }
+  for (const answer of [0, 80, 82, 83, 84, 85, 86, 87]) assert.ok(met[answer] > 3, JSON.stringify(met));
 });
 
 // ---- Files that the board refuses

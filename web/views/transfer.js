@@ -12,7 +12,7 @@ import { EXTRAS } from '../maker.js';
 import { FAMILY } from '../board.js';
 import { N } from '../numbers.js';
 import { WRONG } from '../wrong/all.js';
-import { answerWords, blockWords, commandLine, familyFrom } from '../words.js';
+import { answerWords, blockWords, commandLine, familyFrom, faultWords } from '../words.js';
 import { text } from '../text.js';
 
 const BLOCKS = 96;
@@ -102,6 +102,7 @@ export class TransferView {
     if (bad) this.form.note(text.setup.badSettings);
     setText(byId('find-result'), '');
     setText(byId('file-note'), fileWords);
+    this.showFault(session);
     this.say('');
     this.showChoices();
     this.showBlocks();
@@ -115,15 +116,15 @@ export class TransferView {
     return this.openPieces(piecesOf(bytes), file.name);
   }
 
-  // Pieces of a file, or a sentence where none of them is a block.
-  async openPieces(pieces, name) {
+  // Pieces of a file, or a list of arrivals; or a sentence where none of them is a block.
+  async openPieces(pieces, name, isFile = true) {
     if (pieces.length === 0) return this.refuse(text.files.empty(name));
     const good = pieces.filter(isBlock).length;
     if (good === 0) return this.refuse(text.files.noUf2(name));
     this.firstBlock = 0;
     const bad = pieces.length - good;
     const fileWords = `${text.files.loaded(name, pieces.length)}${bad ? ` ${text.files.someUf2(bad, pieces.length)}` : ''}`;
-    await this.change({ board: this.boardFor(pieces), plan: newPlan(pieces), fileWords });
+    await this.change({ board: this.boardFor(pieces), plan: newPlan(pieces, { isFile }), fileWords });
   }
 
   // The board with the flash that was set, or a larger one where the file needs it.
@@ -230,6 +231,13 @@ export class TransferView {
     setText(byId('wrong-does'), words.does);
     setText(byId('wrong-edit'), wrong.edit);
     setText(byId('wrong-promise'), words.promise);
+  }
+
+  // What is wrong with the file itself, for all receivers.
+  showFault({ checked }) {
+    const fault = byId('file-fault');
+    setText(fault, faultWords(checked));
+    fault.hidden = fault.textContent === '';
   }
 
   mixItem(extra, k) {
