@@ -3,10 +3,11 @@ import { FAMILY, newBoard, newEntry } from './board.js';
 import { N } from './numbers.js';
 import { EXTRAS, makeUf2, sampleImage } from './maker.js';
 import { newPlan } from './arrivals.js';
-import { piecesOf } from './block.js';
+import { changed, piecesOf, readBlock } from './block.js';
 
 // `pages` of the sample; `times` is how often a block is sent where that is not once; `list` names every arrival; `extras` are arrivals of another kind
-// after so many of the file's own, made of a block of the file; `earlier` are blocks of another file that come first.
+// after so many of the file's own, made of a block of the file; `earlier` are blocks of another file that come first; `address` gives a block the
+// address of another.
 export const LESSONS = [
   { id: 'lostPage', wrong: 'countsArrivals', pages: 8, times: { 2: 2, 5: 0 } },
   { id: 'order', wrong: 'trustsFileOrder', pages: 4, list: [1, 0, 2, 3, 0, 1, 2, 3] },
@@ -29,6 +30,8 @@ export const LESSONS = [
   },
   { id: 'oneMap', wrong: 'clearsOneMap', pages: 4, earlier: { pages: 6, blocks: [0, 1, 2] } },
   { id: 'whole', wrong: null, pages: 8, order: 'shuffled', seed: 3, times: { 1: 2 }, board: { lent: 'old' } },
+  { id: 'oneAddress', wrong: null, pages: 6, address: { 5: 2 } },
+  { id: 'otherBuild', wrong: null, pages: 6, earlier: { pages: 6, blocks: [0, 1, 2] } },
 ];
 
 // A sample file, made by the proved maker, as pieces; or none, with the number of the refusal.
@@ -40,6 +43,7 @@ export function samplePieces(library, pages, family = FAMILY['arm-s'], title = '
 // The board, the plan and the wrong receiver of a lesson.
 export function lessonParts(library, lesson) {
   const { pieces } = samplePieces(library, lesson.pages);
+  for (const [k, other] of Object.entries(lesson.address ?? {})) pieces[k] = changed(pieces[k], { address: readBlock(pieces[other]).address });
   const extras = (lesson.extras ?? []).map(({ kind, after, piece }) => ({ kind, after, bytes: EXTRAS[kind](pieces[piece], lesson.pages) }));
   if (lesson.earlier) {
     const earlier = samplePieces(library, lesson.earlier.pages, FAMILY['arm-s'], 'earlier firmware').pieces;

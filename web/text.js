@@ -82,6 +82,14 @@ export const text = {
         name: '8. Shuffled, repeated and whole',
         text: 'A file of 8 blocks, shuffled, with block 1 sent twice. Nothing is lost. The old firmware stands in the flash before.',
       },
+      oneAddress: {
+        name: '9. Two blocks with one address',
+        text: 'A file of 6 blocks, of which 2 and 5 name one address. Each block comes once, and even the proved receiver answers "Completed". Which page is lost?',
+      },
+      otherBuild: {
+        name: '10. Another build of the same size',
+        text: 'Blocks 0, 1 and 2 of a build of 6 come, then nothing more. Later another build of 6 blocks is sent whole. Even the proved receiver answers "Completed". What stands in the flash?',
+      },
     },
   },
 

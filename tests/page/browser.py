@@ -279,6 +279,44 @@ def lessons(page):
         assert "every page of the file stands at its address" in page.text("#proved .verdict")
         equal(page.fault(), "")
 
+    @check("lesson 9, two blocks with one address: the file is told to be at fault before it is sent, and a green display is not called right")
+    def _():
+        page.lesson("oneAddress")
+        fault = "This file is not valid for this board: the proof does not speak of it. Piece 5 and piece 2 hold the same address."
+        equal(page.fault(), fault, "before the first arrival")
+        page.end()
+        equal(page.fault(), fault)
+        equal(page.log()[-1][4], "15 Completed")
+        equal([page.verdict("proved"), page.lamp("proved")], ["unspoken", ["done", "true"]])
+        words = page.words("proved")
+        equal(words[0], "GREEN, AND A PAGE IS MISSING")
+        assert "The file is at fault" in words[1] and "vantorel check" in words[1], words
+        assert words[2].endswith("block 2 differs."), words
+        equal(words[3:], ["Page of block 2, for 0x10000200: there stands the page of block 5."])
+        equal([page.colour("proved", k) for k in (1, 2, 3)], [STORED, MISSING, STORED], "colours of the grid")
+        page.lesson("lostPage")
+        equal(page.fault(), "", "gone with the next lesson")
+
+    @check("lesson 10, another build of the same size: Completed over a mixture, and which blocks differ")
+    def _():
+        page.lesson("otherBuild")
+        equal(page.fault(), "")
+        page.end()
+        equal([row[4] for row in page.log()], ["14 Written"] * 3 + ["13 Again"] * 3 + ["14 Written"] * 2 + ["15 Completed"])
+        equal([page.verdict("proved"), page.lamp("proved")], ["unspoken", ["done", "true"]])
+        words = page.words("proved")
+        equal(words[0], "GREEN, AND 3 PAGES ARE MISSING")
+        assert "uf2_stands" in words[2] and words[2].endswith("blocks 0, 1, 2 differ."), words
+        equal(words[3], "Page of block 0, for 0x10000000: there stands the page of another block 0.")
+        equal([page.colour("proved", k) for k in (0, 2, 3, 5)], [MISSING, MISSING, STORED, STORED], "colours of the grid")
+        # as a person would: the list saved and opened as a file ends no better
+        saved = page.saved()
+        page.drop("mixed.uf2", saved)
+        page.until(lambda: "mixed.uf2" in page.text("#file-note"), "the file")
+        equal(page.fault(), "This file is not valid for this board: the proof does not speak of it. Piece 3 and piece 0 have the same number.")
+        page.end()
+        equal([page.verdict("proved"), page.lamp("proved"), page.words("proved")[0]], ["unspoken", ["done", "true"], "GREEN, AND 3 PAGES ARE MISSING"])
+
 
 def playing(page):
     @check("step, back, and each position as it was before")
@@ -541,7 +579,7 @@ def beside_the_tool(page):
                 rows = [row[1].split()[0] + ": " + row[4] for row in page.log()]
                 equal(rows, re.findall(r"^arrival \d+, block (.*)$", told, re.M), f"seed {seed}")
 
-    for name in ("lostPage", "order", "foreign", "wrap", "oneMap", "whole"):
+    for name in ("lostPage", "order", "foreign", "wrap", "oneMap", "whole", "oneAddress", "otherBuild"):
 
         @check(f"the answers of lesson {name} are those of vantorel load -v")
         def _():

@@ -144,6 +144,8 @@ for (const lesson of LESSONS) {
       bEntry: ['noPlace', 'misplaced'],
       oneMap: ['completed', 'missing'],
       whole: ['completed'],
+      oneAddress: ['unspoken'],
+      otherBuild: ['unspoken'],
     }[lesson.id];
     assert.deepEqual(kinds, expected);
     // back to each position, and forward again: the same state

@@ -11,7 +11,7 @@ const { arrivalList, newPlan } = await load('arrivals.js');
 const { EXTRAS } = await load('maker.js');
 const { ProvedReceiver } = await load('proved.js');
 const { Session } = await load('session.js');
-const { verdictOf } = await load('verdict.js');
+const { lampOf, verdictOf } = await load('verdict.js');
 const { faultWords, reasonWords } = await load('words.js');
 const { askCheck } = await load('check.js');
 const { N } = await load('numbers.js');
@@ -137,6 +137,43 @@ await check('two blocks with one address: told once, over the receivers of a fil
   ]);
   // a wrong receiver keeps its alarm, and the file is told for it too
   assert.deepEqual(said((await played(newBoard(), newPlan(pieces), 'countsArrivals'))[1]), ['GREEN, AND A PAGE IS MISSING', page]);
+});
+
+await check('lesson 9, two blocks with one address: the file is at fault, and the green display is not called right', async () => {
+  const { board, plan } = await libraries.use((library) => lessonParts(library, LESSONS.find(({ id }) => id === 'oneAddress')));
+  const [fault, verdict, lamp] = await playedSession(board, plan, null, (session) => {
+    const found = verdictOf(session, session.proved);
+    return [faultWords(session.checked), found, lampOf(session.proved, found)];
+  });
+  assert.equal(fault, 'This file is not valid for this board: the proof does not speak of it. Piece 5 and piece 2 hold the same address.');
+  assert.deepEqual(said(verdict), ['GREEN, AND A PAGE IS MISSING', FILE_AT_FAULT, remedy('block 2 differs'), 'Page of block 2, for 0x10000200: there stands the page of block 5.']);
+  assert.deepEqual([lamp.state, lamp.wrongly], ['done', true]);
+});
+
+await check('lesson 10, another build of the same size: Completed over a mixture, and uf2_stands tells which blocks differ', async () => {
+  const { board, plan } = await libraries.use((library) => lessonParts(library, LESSONS.find(({ id }) => id === 'otherBuild')));
+  const [fault, answers, verdict, lamp] = await playedSession(board, plan, null, (session) => {
+    const found = verdictOf(session, session.proved);
+    return [faultWords(session.checked), [...session.proved.answers], found, lampOf(session.proved, found)];
+  });
+  const pages = upTo(3).map((k) => `Page of block ${k}, for 0x10000${k}00: there stands the page of another block ${k}.`);
+  const why = 'Two different blocks have the number 0, so the proof does not speak of this list.';
+  assert.deepEqual([fault, answers], ['', [14, 14, 14, 13, 13, 13, 14, 14, 15]]);
+  assert.deepEqual(said(verdict), ['GREEN, AND 3 PAGES ARE MISSING', why, remedy('blocks 0, 1, 2 differ'), ...pages]);
+  assert.deepEqual([lamp.state, lamp.wrongly], ['done', true]);
+  // saved and opened, the first of two blocks is the first build's, which stands: the other build's are missed all the same
+  const arrivals = arrivalList(plan).map(({ bytes }) => bytes);
+  assert.deepEqual(await provedWords(board, listOf(arrivals)), said(verdict));
+  assert.deepEqual(await provedWords(board, newPlan(arrivals)), ['GREEN, AND 3 PAGES ARE MISSING', FILE_AT_FAULT, remedy('blocks 0, 1, 2 differ'), ...pages]);
+  // a block of the first build that comes after the other is complete: green is right until then
+  const late = { ...plan, extras: [{ ...plan.extras[0], after: 6 }] };
+  assert.equal((await provedWords(board, late))[0], 'GREEN, AND A PAGE IS MISSING');
+  const session = await Session.open(libraries, board, late, null);
+  await session.moveTo(6);
+  assert.equal(verdictOf(session, session.proved).kind, 'completed');
+  session.close();
+  // sent whole, the other build alone stands
+  assert.deepEqual(await provedWords(board, { ...plan, extras: [] }), ['Completed: every page of the file stands at its address.']);
 });
 
 await check('a file of two families', async () => {
