@@ -3,6 +3,7 @@
 //! calls are made and what the plain side does. An argument prints only the rows whose names hold it; BENCH_ROUNDS sets the rounds of
 //! every row.
 
+mod check;
 mod file;
 mod fleet;
 mod hex;
@@ -216,9 +217,11 @@ fn main() {
     tags::row();
     store::rows(&sixteen());
     why::rows(&sixteen());
+    check::rows();
     println!("\n| work, proved | the first | the second | ratio |\n|---|---|---|---|");
     file::table_rows();
     file::accept_rows();
+    check::beside_rows();
     region::beside_rows();
     trace::beside_rows();
     fleet::beside_rows();

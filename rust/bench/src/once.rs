@@ -9,19 +9,19 @@ use reference::{
 
 /// Where a kind's blocks of a family go, start and length, as it was found.
 #[derive(Clone, Copy)]
-struct Found {
+pub struct Found {
     kind: Kind,
     family: u32,
     room: Option<(usize, usize)>,
 }
 
 /// A block that rows 3 to 11 let through, and where it is stored; a comment is not.
-struct Page {
-    family: u32,
-    total: u32,
-    kind: Kind,
-    number: u32,
-    at: Option<usize>,
+pub struct Page {
+    pub family: u32,
+    pub total: u32,
+    pub kind: Kind,
+    pub number: u32,
+    pub at: Option<usize>,
 }
 
 /// Whole arrivals, as many as there are results for: their number.
@@ -54,7 +54,7 @@ pub fn take_all(
     n
 }
 
-fn lengths_right(lent: &Buffers) -> bool {
+pub fn lengths_right(lent: &Buffers) -> bool {
     let len = lent.flash.len();
     let flash = (SECTOR_LEN..=MAX_FLASH_LEN).contains(&len) && len.is_multiple_of(SECTOR_LEN);
     let maps =
@@ -66,7 +66,7 @@ fn lengths_right(lent: &Buffers) -> bool {
 }
 
 /// Rows 3 to 11.
-fn screen(
+pub fn screen(
     s: &Settings,
     t: Transfer,
     a: &[u8],
@@ -238,10 +238,10 @@ fn settle(t: &mut Transfer, page: &Page, payload: &[u8], lent: &mut Buffers) -> 
     }
 }
 
-fn marked(map: &[u8], k: usize) -> bool {
+pub fn marked(map: &[u8], k: usize) -> bool {
     map[k / 8] & (0x80 >> (k % 8)) != 0
 }
 
-fn mark(map: &mut [u8], k: usize) {
+pub fn mark(map: &mut [u8], k: usize) {
     map[k / 8] |= 0x80 >> (k % 8);
 }
