@@ -1,7 +1,7 @@
 // An arrival accepted for C, with a plan for the flash's driver: a library of its own, so that the call is compiled as one piece.
 ghost use Rattle.std.specs.Prelude.{◌≡◌};
-ghost use Rattle.uf2_receiver.specs.Receiver.{lent_at, leftBeside};
-ghost use Rattle.call_bytes.specs.Calls.{acceptCallOf, acceptReturn};
+ghost use Rattle.uf2_receiver.specs.Receiver.{lent_at, left_beside};
+ghost use Rattle.call_bytes.specs.Calls.{accept_call_of, accept_return};
 
 use call_bytes::plans::PLAN;
 use uf2_checks::Lengths;
@@ -20,7 +20,7 @@ pub extern "C" fn uf2_accept(
     xip: &mut [u8],
     plan: &mut [u8],
 ) -> u32
-    ensures { acceptReturn result transfer (leftBeside flash seen sectors main xip) plan ≡ acceptCallOf settings transfer arrival (lent_at flash seen sectors main xip) plan }
+    ensures { accept_return result transfer (left_beside flash seen sectors main xip) plan ≡ accept_call_of settings transfer arrival (lent_at flash seen sectors main xip) plan }
 {
     let lens = Lengths {
         flash: flash.len(),

@@ -1,14 +1,14 @@
 -- A file of blocks, and where a kind's window starts in its buffer: the words in which one arrival and lists of them are spoken of.
 -- Assumes nothing.
 use Rattle.std.specs.Prelude.{ℕ, Bool, true, false, not, List, length}
-use Rattle.uf2_block.specs.Block.{hasFlag}
+use Rattle.uf2_block.specs.Block.{has_flag}
 use Rattle.uf2_block.specs.declared.Header.{Header}
 use Rattle.uf2_block.specs.declared.Header.TheVariants as header
 use Rattle.partitions.specs.declared.Settings.{Settings}
 use Rattle.placement.specs.Place.{place_of}
 use Rattle.placement.specs.declared.Place.{Place}
 use Rattle.placement.specs.declared.Place.TheVariants.{Nowhere, At}
-use Rattle.transfer.specs.Transfer.{headWith}
+use Rattle.transfer.specs.Transfer.{head_with}
 use Rattle.transfer.specs.declared.Kind.{Kind}
 use Rattle.transfer.specs.declared.Kind.TheVariants.{Flash, MainRam, XipRam}
 use Rattle.transfer.specs.declared.Head.{Head}
@@ -22,19 +22,19 @@ pub record File : Type 0 where
   pub block : ℕ → List ℕ
 
 -- "blocks are data or comments" (02, L3): block k is data, its flag 0x1 being clear
-abbrev pub isData : File → ℕ → Bool
-isData F k = not (hasFlag (F.block k) 0x1)
+abbrev pub is_data : File → ℕ → Bool
+is_data F k = not (has_flag (F.block k) 0x1)
 
 -- "Running (family, n, m)", "Done (family, n)": the family and the n, and the kind, "which the transfer carries once it isn't Idle"
-abbrev pub headIn : File → Head
-headIn F = headWith F.kind F.family F.total
+abbrev pub head_in : File → Head
+head_in F = head_with F.kind F.family F.total
 
 -- the header yields a block
-abbrev pub isFound : Header → Bool
-isFound header.NotBlock = false
-isFound header.Container = false
-isFound header.NoFamily = false
-isFound (header.Found b) = true
+abbrev pub is_found : Header → Bool
+is_found header.NotBlock = false
+is_found header.Container = false
+is_found header.NoFamily = false
+is_found (header.Found b) = true
 
 -- where a place starts
 abbrev pub start_of : Place → ℕ

@@ -10,8 +10,8 @@ use borrow.Author.Tests.{eqb-true}
 use Rattle.laws.specs.Sets.{Set, none, add, any}
 use Rattle.laws.specs.Tab.{tab}
 use Rattle.laws.proofs.Tests.{split, clash, eqb_same, and_left, and_right}
-use Rattle.laws.proofs.Laws.{pick, any-add, any_none, any-hit, pick-none, pick-hit, pick-cong}
-use Rattle.laws.proofs.TabLaws.{length-tab, getD-tab, is-tab}
+use Rattle.laws.proofs.Laws.{pick, any_add, any_none, any-hit, pick-none, pick-hit, pick_cong}
+use Rattle.laws.proofs.TabLaws.{length_tab, get_d_tab, is_tab}
 
 -- Of block k: whether it holds byte j, whether it touches sector q, and its value for byte j
 pub record Layout : Type 0 where
@@ -32,8 +32,8 @@ touched n L S q = any n (λ k. S k && L.touches k q)
 unfoldable pub cell : ℕ → Layout → (ℕ → ℕ) → Set → ℕ → ℕ
 cell n L lent S j = pick n (λ k. S k && L.owns k j) (λ k. L.value k j) (cond (touched n L S (j / 4096)) 255 (lent j))
 
-pub touched-add : (n : ℕ) (L : Layout) (S : Set) (k q : ℕ) → k < n → touched n L (add k S) q ≡ L.touches k q || touched n L S q
-touched-add n L S k q h = any-add n (λ i. L.touches i q) S k h
+pub touched_add : (n : ℕ) (L : Layout) (S : Set) (k q : ℕ) → k < n → touched n L (add k S) q ≡ L.touches k q || touched n L S q
+touched_add n L S k q h = any_add n (λ i. L.touches i q) S k h
 
 -- a default of 0xFF, for a sector that is touched now or was before
 settle : (a b : Bool) (p : ℕ → ℕ) (d : ℕ) → (a ≡ true → b ≡ false → p 255 ≡ 255)
@@ -54,8 +54,8 @@ module _ (n : ℕ) (L : Layout) (A : Apart n L) (lent : ℕ → ℕ) (S : Set) (
       → cell n L lent (add k S) j ≡ cond (L.touches k (j / 4096) && not (touched n L S (j / 4096))) 255 (cell n L lent S j)
   unfolding cell
   step_other o =
-      pick-cong n (λ i. add k S i && L.owns i j) (λ i. S i && L.owns i j) (λ i. L.value i j) _ same
-      ∙ rw (any-add n (λ i. L.touches i (j / 4096)) S k h)
+      pick_cong n (λ i. add k S i && L.owns i j) (λ i. S i && L.owns i j) (λ i. L.value i j) _ same
+      ∙ rw (any_add n (λ i. L.touches i (j / 4096)) S k h)
       (settle (L.touches k (j / 4096)) (touched n L S (j / 4096))
       (λ d. pick n (λ i. S i && L.owns i j) (λ i. L.value i j) d) (lent j)
       (λ t u. pick-none (λ i. S i && L.owns i j) (λ i. L.value i j) 255 n (λ i l. split (S i && L.owns i j) (λ e. hidden t u i l e) (λ e. e))))
@@ -85,9 +85,9 @@ module _ (n : ℕ) (L : Layout) (A : Apart n L) (lent : ℕ → ℕ) (S : Set) (
 pub touched_none : (n : ℕ) (L : Layout) (q : ℕ) → touched n L none q ≡ false
 touched_none n L q = any_none (λ k. false) n (λ j h. refl)
 
-pub cell-none : (n : ℕ) (L : Layout) (lent : ℕ → ℕ) (j : ℕ) → cell n L lent none j ≡ lent j
+pub cell_none : (n : ℕ) (L : Layout) (lent : ℕ → ℕ) (j : ℕ) → cell n L lent none j ≡ lent j
 unfolding cell
-cell-none n L lent j = rw (touched_none n L (j / 4096)) (pick-none (λ k. false) (λ k. L.value k j) (lent j) n (λ j h. refl))
+cell_none n L lent j = rw (touched_none n L (j / 4096)) (pick-none (λ k. false) (λ k. L.value k j) (lent j) n (λ j h. refl))
 
 -- ---- reading a byte
 
@@ -109,18 +109,18 @@ module _ (n : ℕ) (L : Layout) (lent : ℕ → ℕ) (S : Set) (j : ℕ) where
 unfoldable pub buffer : ℕ → Layout → List ℕ → Set → List ℕ
 buffer n L lent S = tab (length lent) (cell n L (λ j. get_or lent j 0) S)
 
-pub length-buffer : (n : ℕ) (L : Layout) (lent : List ℕ) (S : Set) → length (buffer n L lent S) ≡ length lent
+pub length_buffer : (n : ℕ) (L : Layout) (lent : List ℕ) (S : Set) → length (buffer n L lent S) ≡ length lent
 unfolding buffer
-length-buffer n L lent S = length-tab (length lent) _
+length_buffer n L lent S = length_tab (length lent) _
 
-pub getD-buffer : (n : ℕ) (L : Layout) (lent : List ℕ) (S : Set) (j : ℕ) → j < length lent
+pub get_d_buffer : (n : ℕ) (L : Layout) (lent : List ℕ) (S : Set) (j : ℕ) → j < length lent
     → get_or (buffer n L lent S) j 0 ≡ cell n L (λ j. get_or lent j 0) S j
 unfolding buffer
-getD-buffer n L lent S j h = getD-tab (length lent) _ j h
+get_d_buffer n L lent S j h = get_d_tab (length lent) _ j h
 
-pub buffer-none : (n : ℕ) (L : Layout) (lent : List ℕ) → lent ≡ buffer n L lent none
+pub buffer_none : (n : ℕ) (L : Layout) (lent : List ℕ) → lent ≡ buffer n L lent none
 unfolding buffer
-buffer-none n L lent = is-tab lent (length lent) _ refl (λ j h. sym (cell-none n L (λ j. get_or lent j 0) j))
+buffer_none n L lent = is_tab lent (length lent) _ refl (λ j h. sym (cell_none n L (λ j. get_or lent j 0) j))
 
 -- what block k leaves of a buffer f, where T are the sectors touched before
 abbrev pub Leaves : Layout → ℕ → Set → List ℕ → List ℕ → Type 0
@@ -128,11 +128,11 @@ Leaves L k T f g =
     (length g ≡ length f)
     × ((j : ℕ) → get_or g j 0 ≡ cond (L.owns k j) (L.value k j) (cond (L.touches k (j / 4096) && not (T (j / 4096))) 255 (get_or f j 0)))
 
-pub buffer-add : (n : ℕ) (L : Layout) → Apart n L → (lent : List ℕ) (S : Set) (k : ℕ) → k < n → (g : List ℕ)
+pub buffer_add : (n : ℕ) (L : Layout) → Apart n L → (lent : List ℕ) (S : Set) (k : ℕ) → k < n → (g : List ℕ)
     → Leaves L k (touched n L S) (buffer n L lent S) g → g ≡ buffer n L lent (add k S)
 unfolding buffer
-buffer-add n L A lent S k h g law =
-    is-tab g (length lent) _ (law.0 ∙ length-buffer n L lent S)
+buffer_add n L A lent S k h g law =
+    is_tab g (length lent) _ (law.0 ∙ length_buffer n L lent S)
     (λ j l.
     law.1 j
-    ∙ rw (getD-tab (length lent) (cell n L (λ j. get_or lent j 0) S) j l) (sym (cell-step n L A (λ j. get_or lent j 0) S k j h)))
+    ∙ rw (get_d_tab (length lent) (cell n L (λ j. get_or lent j 0) S) j l) (sym (cell-step n L A (λ j. get_or lent j 0) S k j h)))

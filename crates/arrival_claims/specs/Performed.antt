@@ -5,31 +5,31 @@ use Rattle.partitions.specs.declared.Settings.{Settings}
 use Rattle.placement.specs.Place.{place_of}
 use Rattle.placement.specs.declared.Place.{Place}
 use Rattle.placement.specs.declared.Place.TheVariants.{At}
-use Rattle.arrival.specs.Arrive.{World, Outcome, receiveOf}
+use Rattle.arrival.specs.Arrive.{World, Outcome, receive_of}
 use Rattle.arrival_claims.specs.Bounds.{Outside}
 use Rattle.arrival.specs.Lists.{receive_all}
 use Rattle.flash_plan.specs.declared.Plan.{Plan}
 use Rattle.flash_plan.specs.declared.Plan.TheVariants.{Nothing, Program, EraseProgram}
-use Rattle.flash_plan.specs.Plan.{acceptingOf, performedOn}
+use Rattle.flash_plan.specs.Plan.{accepting_of, performed_on}
 
 -- ---- accept and perform
 
 -- an arrival accepted, and its plan performed
-abbrev pub performedOf : Settings → World → List ℕ → Outcome
-performedOf s w a = performedOn w a (acceptingOf s w a)
+abbrev pub performed_of : Settings → World → List ℕ → Outcome
+performed_of s w a = performed_on w a (accepting_of s w a)
 
 -- "for every settings, world and arrival, the plan performed on the flash gives the take's flash, byte for byte, and all else is the take's"
-abbrev pub Performed-is-taken : Type 0
-Performed-is-taken = (s : Settings) (w : World) (a : List ℕ) → performedOf s w a ≡ receiveOf s w a
+abbrev pub PerformedIsTaken : Type 0
+PerformedIsTaken = (s : Settings) (w : World) (a : List ℕ) → performed_of s w a ≡ receive_of s w a
 
 -- one after the other
-unfoldable pub performAll : Settings → World → List (List ℕ) → World
-performAll s w [] = w
-performAll s w (a ∷ l) = performAll s (performedOf s w a).world l
+unfoldable pub perform_all : Settings → World → List (List ℕ) → World
+perform_all s w [] = w
+perform_all s w (a ∷ l) = perform_all s (performed_of s w a).world l
 
 -- "over every list, accept and perform, one after the other, is `receive_all`", so that what is proved of lists of takes holds of it
-abbrev pub All-performed-are-taken : Type 0
-All-performed-are-taken = (s : Settings) (w : World) (l : List (List ℕ)) → performAll s w l ≡ receive_all s w l
+abbrev pub AllPerformedAreTaken : Type 0
+AllPerformedAreTaken = (s : Settings) (w : World) (l : List (List ℕ)) → perform_all s w l ≡ receive_all s w l
 
 -- ---- what a plan touches
 
@@ -51,20 +51,20 @@ PlanLies s w a Nothing = Unit {0}
 PlanLies s w a (Program at) = Lies s w a at
 PlanLies s w a (EraseProgram q at) = Lies s w a at × (q ≡ at / 4096)
 
-abbrev pub Plans-lie : Type 0
-Plans-lie = (s : Settings) (w : World) (a : List ℕ) → PlanLies s w a (acceptingOf s w a).plan
+abbrev pub PlansLie : Type 0
+PlansLie = (s : Settings) (w : World) (a : List ℕ) → PlanLies s w a (accepting_of s w a).plan
 
 -- byte j is one of the page, or of the sector that is erased
-abbrev pub inPage : ℕ → ℕ → Bool
-inPage at j = leb at j && ltb j (at + 256)
+abbrev pub in_page : ℕ → ℕ → Bool
+in_page at j = leb at j && ltb j (at + 256)
 
 abbrev pub touches : Plan → ℕ → Bool
 touches Nothing j = false
-touches (Program at) j = inPage at j
-touches (EraseProgram q at) j = eqb (j / 4096) q || inPage at j
+touches (Program at) j = in_page at j
+touches (EraseProgram q at) j = eqb (j / 4096) q || in_page at j
 
 -- "no plan touches a byte outside the place"
-abbrev pub Nothing-outside : Type 0
-Nothing-outside =
+abbrev pub NothingOutside : Type 0
+NothingOutside =
     (s : Settings) (w : World) (a : List ℕ) (j : ℕ) → Outside (place_of s (length w.held.flash) (field_at a 28)) j
-    → touches (acceptingOf s w a).plan j ≡ false
+    → touches (accepting_of s w a).plan j ≡ false

@@ -2,40 +2,40 @@
 -- buffers and the arrival. Proved in proofs/Ram.antt, of rows 8 and 11 in proofs/RamRows.antt. Assumes nothing.
 use Rattle.std.specs.Prelude.{ℕ, ◌+◌, ◌-◌, ◌≤◌, ◌<◌, ◌≡◌, ◌≢◌, false, List, get_or}
 use Rattle.memory.specs.Flash.{spans}
-use Rattle.uf2_block.specs.Block.{field_at, hasFlag}
+use Rattle.uf2_block.specs.Block.{field_at, has_flag}
 use Rattle.partitions.specs.Settings.{entry_at}
 use Rattle.partitions.specs.declared.Settings.{Settings}
 use Rattle.transfer.specs.Transfer.{number_of}
 use Rattle.transfer.specs.declared.Kind.{Kind}
 use Rattle.transfer.specs.declared.Kind.TheVariants.{Flash}
-use Rattle.arrival.specs.Arrive.{World, bufferOf, clearedIf, receiveOf}
-use Rattle.arrival.specs.Windows.{windowStart, windowEnd, kind_of, head_of}
+use Rattle.arrival.specs.Arrive.{World, buffer_of, cleared_if, receive_of}
+use Rattle.arrival.specs.Windows.{window_start, window_end, kind_of, head_of}
 use Rattle.arrival_claims.specs.Tally.{clears}
 
 -- an arrival of one kind leaves the buffers of the others whole
-unfoldable pub Other-kinds-kept : Type 0
-Other-kinds-kept =
+unfoldable pub OtherKindsKept : Type 0
+OtherKindsKept =
     (s : Settings) (w : World) (a : List ℕ) (k : Kind) → k ≢ kind_of w a
-    → bufferOf k (receiveOf s w a).world.held ≡ bufferOf k w.held
+    → buffer_of k (receive_of s w a).world.held ≡ buffer_of k w.held
 
 -- "only the 256 bytes change": each other byte of a RAM buffer stays, whatever comes
-unfoldable pub Ram-kept : Type 0
-Ram-kept =
-    (s : Settings) (w : World) (a : List ℕ) (k : Kind) (j : ℕ) → k ≢ Flash → spans (field_at a 12 - windowStart k) j ≡ false
-    → get_or (bufferOf k (receiveOf s w a).world.held) j 0 ≡ get_or (bufferOf k w.held) j 0
+unfoldable pub RamKept : Type 0
+RamKept =
+    (s : Settings) (w : World) (a : List ℕ) (k : Kind) (j : ℕ) → k ≢ Flash → spans (field_at a 12 - window_start k) j ≡ false
+    → get_or (buffer_of k (receive_of s w a).world.held) j 0 ≡ get_or (buffer_of k w.held) j 0
 
 -- and they are the payload's
-unfoldable pub Ram-stored : Type 0
-Ram-stored =
-    (s : Settings) (w : World) (a : List ℕ) (i : ℕ) → 14 ≤ number_of (receiveOf s w a).answer → hasFlag a 0x1 ≡ false → kind_of w a ≢ Flash
+unfoldable pub RamStored : Type 0
+RamStored =
+    (s : Settings) (w : World) (a : List ℕ) (i : ℕ) → 14 ≤ number_of (receive_of s w a).answer → has_flag a 0x1 ≡ false → kind_of w a ≢ Flash
     → i < 256
-    → get_or (bufferOf (kind_of w a) (receiveOf s w a).world.held) (field_at a 12 - windowStart (kind_of w a) + i) 0 ≡ get_or a (32 + i) 0
+    → get_or (buffer_of (kind_of w a) (receive_of s w a).world.held) (field_at a 12 - window_start (kind_of w a) + i) 0 ≡ get_or a (32 + i) 0
 
 -- "No erase, no sector mark": of the sector map an accepted arrival of RAM only takes the marks away, where it opens a transfer
-unfoldable pub Ram-marks-nothing : Type 0
-Ram-marks-nothing =
-    (s : Settings) (w : World) (a : List ℕ) → 14 ≤ number_of (receiveOf s w a).answer → kind_of w a ≢ Flash
-    → (receiveOf s w a).world.held.sectors ≡ clearedIf (clears w.transfer (head_of w a)) w.held.sectors
+unfoldable pub RamMarksNothing : Type 0
+RamMarksNothing =
+    (s : Settings) (w : World) (a : List ℕ) → 14 ≤ number_of (receive_of s w a).answer → kind_of w a ≢ Flash
+    → (receive_of s w a).world.held.sectors ≡ cleared_if (clears w.transfer (head_of w a)) w.held.sectors
 
 -- "families ..58 to ..5b or a user family of a used entry": user family i, of at most 4, of entry k, whatever its link
 pub data RamFamily (s : Settings) (f : ℕ) : Type 0 where
@@ -44,14 +44,14 @@ pub data RamFamily (s : Settings) (f : ℕ) : Type 0 where
       → RamFamily s f
 
 -- "In RAM only" these; "others 8": who passes row 8 has one, and who has one is not refused there
-unfoldable pub Ram-families : Type 0
-Ram-families =
+unfoldable pub RamFamilies : Type 0
+RamFamilies =
     (s : Settings) (w : World) (a : List ℕ) → kind_of w a ≢ Flash
-    → (9 ≤ number_of (receiveOf s w a).answer → RamFamily s (field_at a 28))
-    × (RamFamily s (field_at a 28) → number_of (receiveOf s w a).answer ≢ 8)
+    → (9 ≤ number_of (receive_of s w a).answer → RamFamily s (field_at a 28))
+    × (RamFamily s (field_at a 28) → number_of (receive_of s w a).answer ≢ 8)
 
 -- "by byte address (there 11 is only address + 256 past the window's end)"
-unfoldable pub Ram-addresses : Type 0
-Ram-addresses =
-    (s : Settings) (w : World) (a : List ℕ) → kind_of w a ≢ Flash → hasFlag a 0x1 ≡ false → number_of (receiveOf s w a).answer ≡ 11
-    → windowEnd (kind_of w a) < field_at a 12 + 256
+unfoldable pub RamAddresses : Type 0
+RamAddresses =
+    (s : Settings) (w : World) (a : List ℕ) → kind_of w a ≢ Flash → has_flag a 0x1 ≡ false → number_of (receive_of s w a).answer ≡ 11
+    → window_end (kind_of w a) < field_at a 12 + 256

@@ -5,13 +5,13 @@ pub mod places;
 pub mod plans;
 
 ghost use Rattle.std.specs.Prelude.{◌≡◌};
-ghost use Rattle.call_bytes.specs.Calls.{keptTransfer};
+ghost use Rattle.call_bytes.specs.Calls.{kept_transfer};
 
 use transfer::Transfer;
 
 // The next transfer, where a block was accepted.
 pub fn keep(transfer: &mut [u8], accepted: bool, next: Transfer)
-    ensures { transfer.new ≡ keptTransfer transfer.old accepted next.state }
+    ensures { transfer.new ≡ kept_transfer transfer.old accepted next.state }
 {
     if accepted {
         transfer_layout::write_transfer(transfer, next);

@@ -1,9 +1,9 @@
 // What the call for an acceptance hands back, as bytes: the plan, the next transfer and the result.
 ghost use Rattle.std.specs.Prelude.{◌≡◌, ◌%◌};
 ghost use Rattle.transfer.specs.Transfer.{number_of};
-ghost use Rattle.transfer_layout.specs.Results.{result_of, isAcceptance};
-ghost use Rattle.call_bytes.specs.Calls.{planWords, planBytes, keptTransfer};
-ghost use Rattle.call_bytes.specs.Parts.{withPlan};
+ghost use Rattle.transfer_layout.specs.Results.{result_of, is_acceptance};
+ghost use Rattle.call_bytes.specs.Calls.{plan_words, plan_bytes, kept_transfer};
+ghost use Rattle.call_bytes.specs.Parts.{with_plan};
 
 use flash_plan::Plan;
 use memory::flash::Flash;
@@ -20,7 +20,7 @@ struct Words {
     page: u32,
 }
 
-// The low 32 bits. Of a plan's numbers they are the whole (proofs/Laws.antt, `plan-low`).
+// The low 32 bits. Of a plan's numbers they are the whole (proofs/Laws.antt, `plan_low`).
 fn low(x: usize) -> u32
     ensures { result ≡ x % 4294967296 }
 {
@@ -29,7 +29,7 @@ fn low(x: usize) -> u32
 
 // The deed's number is asked for where the plan's case is known, so that it is no further branch.
 fn numbers(plan: Plan) -> Words
-    ensures { planWords result.deed result.sector result.page ≡ planBytes plan }
+    ensures { plan_words result.deed result.sector result.page ≡ plan_bytes plan }
 {
     match plan {
         Plan::Nothing => Words {
@@ -52,7 +52,7 @@ fn numbers(plan: Plan) -> Words
 
 // Writes a plan, where it has its 12 bytes.
 fn tell(plan: Plan, bytes: &mut [u8])
-    ensures { bytes.new ≡ withPlan bytes.old plan }
+    ensures { bytes.new ≡ with_plan bytes.old plan }
 {
     if bytes.len() != PLAN {
         return;
@@ -66,8 +66,8 @@ fn tell(plan: Plan, bytes: &mut [u8])
 // What an acceptance returns; the plan is written where it has its 12 bytes, and the next transfer where a block was accepted.
 pub fn hand_back(planned: PlanReceipt, transfer: &mut [u8], plan: &mut [u8]) -> u32
     ensures value { result ≡ result_of (number_of planned.receipt.answer) planned.receipt.discarded }
-    ensures kept { transfer.new ≡ keptTransfer transfer.old (isAcceptance (number_of planned.receipt.answer)) planned.receipt.transfer.state }
-    ensures told { plan.new ≡ withPlan plan.old planned.plan }
+    ensures kept { transfer.new ≡ kept_transfer transfer.old (is_acceptance (number_of planned.receipt.answer)) planned.receipt.transfer.state }
+    ensures told { plan.new ≡ with_plan plan.old planned.plan }
 {
     let receipt = planned.receipt;
     let answer = receipt.answer;

@@ -2,9 +2,9 @@
 ghost use Rattle.std.specs.Prelude.{◌≡◌};
 ghost use Rattle.transfer.specs.Transfer.{fresh};
 ghost use Rattle.uf2_receiver.specs.Receiver.{lent_at, left_at};
-ghost use Rattle.settings_layout.specs.Layout.{withTransfer};
-ghost use Rattle.call_bytes.specs.Calls.{batchCallOf, batchReturn};
-ghost use Rattle.call_bytes.specs.PlacesCalls.{placeCall, askBytes};
+ghost use Rattle.settings_layout.specs.Layout.{with_transfer};
+ghost use Rattle.call_bytes.specs.Calls.{batch_call_of, batch_return};
+ghost use Rattle.call_bytes.specs.PlacesCalls.{place_call, ask_bytes};
 
 use transfer::Transfer;
 
@@ -13,7 +13,7 @@ mod hex;
 // A fresh transfer, where there are bytes for it.
 #[unsafe(no_mangle)]
 pub extern "C" fn uf2_new(transfer: &mut [u8])
-    ensures { transfer.new ≡ withTransfer transfer.old fresh.state }
+    ensures { transfer.new ≡ with_transfer transfer.old fresh.state }
 {
     transfer_layout::write_transfer(transfer, Transfer::new());
 }
@@ -21,7 +21,7 @@ pub extern "C" fn uf2_new(transfer: &mut [u8])
 // A place asked for alone: 0 and its start and length in `place`, or 1, 2 or 8.
 #[unsafe(no_mangle)]
 pub extern "C" fn uf2_ask(settings: &[u8], flash_len: usize, family: u32, place: &mut [u8]) -> u32
-    ensures { placeCall result place.new ≡ askBytes settings.now flash_len family place.old }
+    ensures { place_call result place.new ≡ ask_bytes settings.now flash_len family place.old }
 {
     call_bytes::places::ask(settings, flash_len, family, place)
 }
@@ -39,7 +39,7 @@ pub extern "C" fn uf2_take_all(
     main: &mut [u8],
     xip: &mut [u8],
 ) -> usize
-    ensures { batchReturn result transfer results (left_at flash seen sectors main xip) ≡ batchCallOf settings transfer arrivals results (lent_at flash seen sectors main xip) }
+    ensures { batch_return result transfer results (left_at flash seen sectors main xip) ≡ batch_call_of settings transfer arrivals results (lent_at flash seen sectors main xip) }
 {
     let s = settings_layout::read_settings(settings);
     let t = transfer_layout::read_transfer(transfer);

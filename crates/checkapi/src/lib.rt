@@ -3,7 +3,7 @@ mod answer_bytes;
 
 ghost use Rattle.std.specs.Prelude.{◌≡◌, length};
 ghost use Rattle.memory.specs.Bitmap.{unmarked};
-ghost use Rattle.checkapi.specs.CheckCall.{callReturn, lengthsWith, checkCallOf};
+ghost use Rattle.checkapi.specs.CheckCall.{call_return, lengths_with, check_call_of};
 
 use uf2_checks::Lengths;
 
@@ -20,7 +20,7 @@ pub extern "C" fn uf2_check(
     offsets: &mut [u8],
     told: &mut [u8],
 ) -> u32
-    ensures told_after { callReturn result told.new ≡ checkCallOf settings.now (lengthsWith flash_len main_len xip_len) (length numbers.old) (length cells.old) (length offsets.old) file.now told.old }
+    ensures told_after { call_return result told.new ≡ check_call_of settings.now (lengths_with flash_len main_len xip_len) (length numbers.old) (length cells.old) (length offsets.old) file.now told.old }
     ensures left { (numbers.new ≡ unmarked (length numbers.old)) × (cells.new ≡ unmarked (length cells.old)) × (offsets.new ≡ unmarked (length offsets.old)) }
 {
     let s = settings_layout::read_settings(settings);

@@ -11,22 +11,22 @@ use lib.ListN.{length, get_or}
 use borrow.Author.Tests.{eqb-false, ne_eqb, le-leb, lt-ltb, leb-true, ltb-true}
 use Rattle.laws.specs.Sets.{Set, none, add, size}
 use Rattle.laws.proofs.Tests.{split, clash, is_false, and_left, and_right, both}
-use Rattle.laws.proofs.Laws.{any-cong, pick-cong, size-full}
-use Rattle.memory.specs.Bitmap.{mapOf}
-use Rattle.memory.proofs.bitmap.MapLaws.{map-none}
+use Rattle.laws.proofs.Laws.{any_cong, pick_cong, size_full}
+use Rattle.memory.specs.Bitmap.{map_of}
+use Rattle.memory.proofs.bitmap.MapLaws.{map_none}
 use Rattle.memory.specs.Flash.{spans}
-use Rattle.transfer.specs.Transfer.{sameKind}
+use Rattle.transfer.specs.Transfer.{same_kind}
 use Rattle.transfer.specs.declared.Kind.{Kind}
 use Rattle.transfer.specs.declared.Kind.TheVariants.{Flash}
 use Rattle.uf2_checks.specs.declared.Lengths.{Lengths}
-use Rattle.arrival.specs.Arrive.{Held, bufferOf, lengthsOf, clearedIf, wipedIf, pagedAt}
-use Rattle.demand.specs.Demand.{isData}
-use Rattle.arrival_claims.proofs.Cells.{touched, touched-add, touched_none, cell, cell-none, cell-step}
+use Rattle.arrival.specs.Arrive.{Held, buffer_of, lengths_of, cleared_if, wiped_if, paged_at}
+use Rattle.demand.specs.Demand.{is_data}
+use Rattle.arrival_claims.proofs.Cells.{touched, touched_add, touched_none, cell, cell_none, cell-step}
 use Rattle.arrival.proofs.Pages.{apply}
 use Rattle.arrival.proofs.Count.{Blocks, count, applied, wipe}
-use Rattle.arrival.proofs.Paged.{Fits, lengths-paged, paged-other, getD-paged, paged-map}
-use Rattle.arrival_claims.proofs.Effect.{spans-true, payloadIn, kindIn, Valid, layout, sectorsOf, owned-touches, apart_of}
-use Rattle.arrival.proofs.Facts.{wiped-buffer}
+use Rattle.arrival.proofs.Paged.{Fits, lengths_paged, paged_other, getD-paged, paged-map}
+use Rattle.arrival_claims.proofs.Effect.{spans_true, payload_in, kind_in, Valid, layout, sectors_of, owned_touches, apart_of}
+use Rattle.arrival.proofs.Facts.{wiped_buffer}
 
 -- ---- what is asked of the blocks
 
@@ -48,7 +48,7 @@ Finished F f lo len = (j : ℕ) → lo ≤ j → j < lo + len → get_or f j 0 �
 
 -- the region of block i: whole sectors in a flash of n bytes, around the block
 pub record Guard (F : Blocks) (n i lo len : ℕ) : Type 0 where
-  pub data-block : isData F.file i ≡ true
+  pub data_block : is_data F.file i ≡ true
   pub first : lo % 4096 ≡ 0
   pub full : len % 4096 ≡ 0
   pub within : lo + len ≤ n
@@ -57,18 +57,18 @@ pub record Guard (F : Blocks) (n i lo len : ℕ) : Type 0 where
 
 -- the blocks that name one, where the flash that block k meets is as `Met` says
 pub record Guards (F : Blocks) (start : Held) (Met : List ℕ → ℕ → Type 0) : Type 0 where
-  pub flat : kindIn F ≡ Flash
+  pub flat : kind_in F ≡ Flash
   pub guarded : ℕ → Bool
   pub lo : ℕ → ℕ
   pub len : ℕ → ℕ
   pub facts : (i : ℕ) → i < count F → guarded i ≡ true → Guard F (length start.flash) i (lo i) (len i)
   -- every data block in a region carries that same region
-  pub same : (i k : ℕ) → i < count F → k < count F → guarded i ≡ true → isData F.file k ≡ true → lo i ≤ F.at k → F.at k < lo i + len i
+  pub same : (i k : ℕ) → i < count F → k < count F → guarded i ≡ true → is_data F.file k ≡ true → lo i ≤ F.at k → F.at k < lo i + len i
       → (guarded k ≡ true) × (lo k ≡ lo i) × (len k ≡ len i)
   -- every sector of it has one
   pub each : (i q : ℕ) → i < count F → guarded i ≡ true → lo i ≤ q * 4096 → q * 4096 < lo i + len i → touched (count F) (layout Flash F) every q ≡ true
   -- what stands in a flash that is met has the final bytes of its region, and what has them stands
-  pub stood : (f : List ℕ) (k : ℕ) → k < count F → isData F.file k ≡ true → length f ≡ length start.flash → F.stands f k ≡ true → Met f k
+  pub stood : (f : List ℕ) (k : ℕ) → k < count F → is_data F.file k ≡ true → length f ≡ length start.flash → F.stands f k ≡ true → Met f k
       → (guarded k ≡ true) × Finished F f (lo k) (len k)
   pub keeps : (f : List ℕ) (k : ℕ) → k < count F → guarded k ≡ true → length f ≡ length start.flash → Finished F f (lo k) (len k)
       → F.stands f k ≡ true
@@ -79,14 +79,14 @@ pub record Guards (F : Blocks) (start : Held) (Met : List ℕ → ℕ → Type 0
 pub data Sector (F : Blocks) (start : Held) (Met : List ℕ → ℕ → Type 0) (G : Guards F start Met) (x : Held) (T S : Set) (q : ℕ) : Type 0 where
   settled : (i : ℕ) → i < count F → G.guarded i ≡ true → G.lo i ≤ q * 4096 → q * 4096 < G.lo i + G.len i
       → Finished F x.flash (G.lo i) (G.len i) → Sector F start Met G x T S q
-  ordinary : ((j : ℕ) → j < length start.flash → j / 4096 ≡ q → get_or x.flash j 0 ≡ byte_of F start.flash S j) → T q ≡ sectorsOf F S q
+  ordinary : ((j : ℕ) → j < length start.flash → j / 4096 ≡ q → get_or x.flash j 0 ≡ byte_of F start.flash S j) → T q ≡ sectors_of F S q
       → Sector F start Met G x T S q
 
 pub record Inv (F : Blocks) (start : Held) (Met : List ℕ → ℕ → Type 0) (G : Guards F start Met) (S : Set) (x : Held) : Type 0 where
   pub marks : Set
-  pub lengths : lengthsOf x ≡ lengthsOf start
-  pub sectors : x.sectors ≡ mapOf 1024 marks
-  pub others : (u : Kind) → u ≢ Flash → bufferOf u x ≡ bufferOf u start
+  pub lengths : lengths_of x ≡ lengths_of start
+  pub sectors : x.sectors ≡ map_of 1024 marks
+  pub others : (u : Kind) → u ≢ Flash → buffer_of u x ≡ buffer_of u start
   pub state : (q : ℕ) → Sector F start Met G x marks S q
 
 module _ (F : Blocks) (start : Held) (Met : List ℕ → ℕ → Type 0) (G : Guards F start Met) (ok : Valid F start) where
@@ -94,22 +94,22 @@ module _ (F : Blocks) (start : Held) (Met : List ℕ → ℕ → Type 0) (G : Gu
   begins =
       record {
         marks = none;
-        lengths = unfold wipedIf in refl;
-        sectors = unfold wipedIf clearedIf in rw ok.sectors (map-none 1024);
-        others = λ u n. wiped-buffer true start u;
+        lengths = unfold wiped_if in refl;
+        sectors = unfold wiped_if cleared_if in rw ok.sectors (map_none 1024);
+        others = λ u n. wiped_buffer true start u;
         state = λ q.
-            ordinary (λ j l e. same j ∙ sym (cell-none (count F) (layout Flash F) (λ j. get_or start.flash j 0) j))
+            ordinary (λ j l e. same j ∙ sym (cell_none (count F) (layout Flash F) (λ j. get_or start.flash j 0) j))
             (sym (touched_none (count F) (layout Flash F) q));
       }
     where
       same : (j : ℕ) → get_or (wipe start).flash j 0 ≡ get_or start.flash j 0
-      same j = unfold wipedIf in refl
+      same j = unfold wiped_if in refl
 
-  here : sameKind Flash (kindIn F) ≡ true
-  here = ap (sameKind Flash) G.flat
+  here : same_kind Flash (kind_in F) ≡ true
+  here = ap (same_kind Flash) G.flat
 
-  there : sameKind (kindIn F) Flash ≡ true
-  there = ap (λ (u : Kind). sameKind u Flash) G.flat
+  there : same_kind (kind_in F) Flash ≡ true
+  there = ap (λ (u : Kind). same_kind u Flash) G.flat
 
   module _ (S : Set) (k : ℕ) (h : k < count F) where
     abbrev at : ℕ
@@ -124,10 +124,10 @@ module _ (F : Blocks) (start : Held) (Met : List ℕ → ℕ → Type 0) (G : Gu
         cell-step (count F) (layout Flash F) (apart_of Flash F start ok) (λ j. get_or start.flash j 0) S k j h ∙ rw (clear, l)
       where
         clear : (layout Flash F).owns k j ≡ false
-        clear = is_false ((layout Flash F).owns k j) (λ o. clash (lies (j / 4096)) (owned-touches Flash F start ok refl k j h o) l)
+        clear = is_false ((layout Flash F).owns k j) (λ o. clash (lies (j / 4096)) (owned_touches Flash F start ok refl k j h o) l)
 
-    away-sector : (q : ℕ) → lies q ≡ false → sectorsOf F (add k S) q ≡ sectorsOf F S q
-    away-sector q l = touched-add (count F) (layout Flash F) S k q h ∙ rw l
+    away-sector : (q : ℕ) → lies q ≡ false → sectors_of F (add k S) q ≡ sectors_of F S q
+    away-sector q l = touched_add (count F) (layout Flash F) S k q h ∙ rw l
 
     away : (x : Held) (T : Set) (q : ℕ) → lies q ≡ false → Sector F start Met G x T S q → Sector F start Met G x T (add k S) q
     away x T q l (settled i hi g a b f) = settled i hi g a b f
@@ -141,10 +141,10 @@ module _ (F : Blocks) (start : Held) (Met : List ℕ → ℕ → Type 0) (G : Gu
       same_length = ap (λ (n : Lengths). n.flash) I.lengths
 
       -- a comment
-      noted : isData F.file k ≡ false → Inv F start Met G (add k S) x
+      noted : is_data F.file k ≡ false → Inv F start Met G (add k S) x
       noted z = same-buffers (λ q. away x I.marks q (rw (here, z)) (I.state q))
 
-      module _ (y : isData F.file k ≡ true) where
+      module _ (y : is_data F.file k ≡ true) where
         lies-is : (q : ℕ) → lies q ≡ eqb q (at / 4096)
         lies-is q = rw (here, y)
 
@@ -173,12 +173,12 @@ module _ (F : Blocks) (start : Held) (Met : List ℕ → ℕ → Type 0) (G : Gu
         -- a block that is stored
         module _ (free : F.stands x.flash k ≡ false) where
           abbrev stored : Held
-          stored = pagedAt Flash at (payloadIn F k) x
+          stored = paged_at Flash at (payload_in F k) x
 
-          fits : Fits Flash (length x.flash) at (payloadIn F k)
+          fits : Fits Flash (length x.flash) at (payload_in F k)
           fits =
-              subst (λ (n : ℕ). Fits Flash n at (payloadIn F k)) (sym same_length)
-              (subst (λ (u : Kind). Fits u (length (bufferOf u start)) at (payloadIn F k)) G.flat (ok.fits k h y))
+              subst (λ (n : ℕ). Fits Flash n at (payload_in F k)) (sym same_length)
+              (subst (λ (u : Kind). Fits u (length (buffer_of u start)) at (payload_in F k)) G.flat (ok.fits k h y))
 
           whole : length x.flash % 4096 ≡ 0
           whole = rw same_length ok.whole
@@ -187,15 +187,15 @@ module _ (F : Blocks) (start : Held) (Met : List ℕ → ℕ → Type 0) (G : Gu
           most = rw same_length ok.most
 
           byte : (j : ℕ) → get_or stored.flash j 0
-              ≡ cond (spans at j) (get_or (payloadIn F k) (j - at) 0) (cond (eqb (j / 4096) (at / 4096) && not (I.marks (j / 4096))) 255 (get_or x.flash j 0))
-          byte j = getD-paged at (payloadIn F k) x I.marks I.sectors whole most Flash Flash I.marks (λ e. refl) fits j
+              ≡ cond (spans at j) (get_or (payload_in F k) (j - at) 0) (cond (eqb (j / 4096) (at / 4096) && not (I.marks (j / 4096))) 255 (get_or x.flash j 0))
+          byte j = getD-paged at (payload_in F k) x I.marks I.sectors whole most Flash Flash I.marks (λ e. refl) fits j
 
           -- other sectors keep their bytes
           byte-away : (j : ℕ) → j / 4096 ≢ at / 4096 → get_or stored.flash j 0 ≡ get_or x.flash j 0
           byte-away j d = byte j ∙ rw (off, ne_eqb (j / 4096) (at / 4096) d)
             where
               off : spans at j ≡ false
-              off = is_false (spans at j) (λ c. let q = spans-true at j c in d (omega (arith, q, fits.aligned refl)))
+              off = is_false (spans at j) (λ c. let q = spans_true at j c in d (omega (arith, q, fits.aligned refl)))
 
           -- it is not in a region that has its final bytes
           not_in : (i : ℕ) → i < count F → G.guarded i ≡ true → Finished F x.flash (G.lo i) (G.len i) → G.lo i ≤ at / 4096 * 4096
@@ -216,13 +216,13 @@ module _ (F : Blocks) (start : Held) (Met : List ℕ → ℕ → Type 0) (G : Gu
               (λ c.
               ordinary
               (λ j l e.
-              let w : I.marks (j / 4096) ≡ sectorsOf F S (j / 4096) = ap I.marks e ∙ t ∙ ap (sectorsOf F S) (sym e) in
+              let w : I.marks (j / 4096) ≡ sectors_of F S (j / 4096) = ap I.marks e ∙ t ∙ ap (sectors_of F S) (sym e) in
               byte j
               ∙ rw (w, f j l e)
               (sym
               (cell-step (count F) (layout Flash F) (apart_of Flash F start ok) (λ j. get_or start.flash j 0) S k j h
               ∙ rw (owns-is j, lies-is (j / 4096)))))
-              (rw c (sym (touched-add (count F) (layout Flash F) S k q h ∙ rw (lies-is q, c)))))
+              (rw c (sym (touched_add (count F) (layout Flash F) S k q h ∙ rw (lies-is q, c)))))
               (λ c.
               let d : q ≢ at / 4096 = eqb-false q (at / 4096) c in
               let l : lies q ≡ false = lies-is q ∙ c in
@@ -233,29 +233,29 @@ module _ (F : Blocks) (start : Held) (Met : List ℕ → ℕ → Type 0) (G : Gu
           stores =
               record {
                 marks = λ q. eqb q (at / 4096) || I.marks q;
-                lengths = lengths-paged Flash at (payloadIn F k) x ∙ I.lengths;
-                sectors = paged-map at (payloadIn F k) x I.marks I.sectors whole most Flash fits;
-                others = λ u n. paged-other u Flash at (payloadIn F k) x n ∙ I.others u n;
+                lengths = lengths_paged Flash at (payload_in F k) x ∙ I.lengths;
+                sectors = paged-map at (payload_in F k) x I.marks I.sectors whole most Flash fits;
+                others = λ u n. paged_other u Flash at (payload_in F k) x n ∙ I.others u n;
                 state = λ q. stores-state q (I.state q);
               }
 
       -- ---- what block k does
 
-      applied-note : isData F.file k ≡ false → applied F k x ≡ x
+      applied-note : is_data F.file k ≡ false → applied F k x ≡ x
       unfolding apply
       applied-note z = rw z
 
-      applied-kept : isData F.file k ≡ true → F.stands x.flash k ≡ true → applied F k x ≡ x
+      applied-kept : is_data F.file k ≡ true → F.stands x.flash k ≡ true → applied F k x ≡ x
       unfolding apply
       applied-kept y c = rw (there, c, y)
 
-      applied-page : isData F.file k ≡ true → F.stands x.flash k ≡ false → applied F k x ≡ pagedAt Flash at (payloadIn F k) x
+      applied-page : is_data F.file k ≡ true → F.stands x.flash k ≡ false → applied F k x ≡ paged_at Flash at (payload_in F k) x
       unfolding apply
-      applied-page y c = rw (there, c, y) (ap (λ (u : Kind). pagedAt u at (payloadIn F k) x) G.flat)
+      applied-page y c = rw (there, c, y) (ap (λ (u : Kind). paged_at u at (payload_in F k) x) G.flat)
 
       pub goes_on : Met x.flash k → Inv F start Met G (add k S) (applied F k x)
       goes_on m =
-          split (isData F.file k)
+          split (is_data F.file k)
           (λ y.
           split (F.stands x.flash k)
           (λ c.
@@ -270,9 +270,9 @@ module _ (F : Blocks) (start : Held) (Met : List ℕ → ℕ → Type 0) (G : Gu
   cell-whole : (lent : ℕ → ℕ) (S : Set) → count F ≤ size (count F) S → (j : ℕ) → cell (count F) (layout Flash F) lent S j ≡ cell (count F) (layout Flash F) lent every j
   unfolding cell
   cell-whole lent S full j =
-      pick-cong (count F) (λ k. S k && (layout Flash F).owns k j) (λ k. true && (layout Flash F).owns k j) (λ k. (layout Flash F).value k j) _
-      (λ k h. rw (size-full (count F) S k full h))
-      ∙ rw (any-cong (count F) (λ k. S k && (layout Flash F).touches k (j / 4096)) (λ k. true && (layout Flash F).touches k (j / 4096)) (λ k h. rw (size-full (count F) S k full h)))
+      pick_cong (count F) (λ k. S k && (layout Flash F).owns k j) (λ k. true && (layout Flash F).owns k j) (λ k. (layout Flash F).value k j) _
+      (λ k h. rw (size_full (count F) S k full h))
+      ∙ rw (any_cong (count F) (λ k. S k && (layout Flash F).touches k (j / 4096)) (λ k. true && (layout Flash F).touches k (j / 4096)) (λ k h. rw (size_full (count F) S k full h)))
 
   -- what was lent does not show in a touched sector
   cell-lent : (lent : ℕ → ℕ) (j : ℕ) → touched (count F) (layout Flash F) every (j / 4096) ≡ true → final F j ≡ cell (count F) (layout Flash F) lent every j

@@ -1,6 +1,6 @@
 // The regions that a file names (02, L9): what the second check of a file answers.
 ghost use Rattle.std.specs.Prelude.{◌≡◌};
-ghost use Rattle.file_check.specs.Regions.{isRight, regionsNumber};
+ghost use Rattle.file_check.specs.Regions.{is_right, regions_number};
 
 use crate::Checked;
 
@@ -18,7 +18,7 @@ pub enum RegionsChecked {
 impl RegionsChecked {
     // The number of what is wrong; 89 where every region is right.
     pub fn number(self) -> u8
-        ensures { result ≡ regionsNumber self }
+        ensures { result ≡ regions_number self }
     {
         match self {
             RegionsChecked::As(checked) => checked.number(),
@@ -31,7 +31,7 @@ impl RegionsChecked {
 
     // Every region is right.
     pub fn is_right(self) -> bool
-        ensures { result ≡ isRight self }
+        ensures { result ≡ is_right self }
     {
         match self {
             RegionsChecked::As(_) => false,

@@ -2,7 +2,7 @@
 pub mod fileregions;
 
 ghost use Rattle.std.specs.Prelude.{◌≡◌};
-ghost use Rattle.file_check.specs.Check.{checkedNumber, isValid};
+ghost use Rattle.file_check.specs.Check.{checked_number, is_valid};
 
 use transfer::Answer;
 
@@ -28,7 +28,7 @@ pub enum Checked {
 impl Checked {
     // The number of what is wrong: a refused piece has that of its answer; 0 for a valid file.
     pub fn number(self) -> u8
-        ensures { result ≡ checkedNumber self }
+        ensures { result ≡ checked_number self }
     {
         match self {
             Checked::BadBuffers => 1,
@@ -49,7 +49,7 @@ impl Checked {
 
     // Nothing is wrong.
     pub fn is_valid(self) -> bool
-        ensures { result ≡ isValid self }
+        ensures { result ≡ is_valid self }
     {
         match self {
             Checked::BadBuffers => false,

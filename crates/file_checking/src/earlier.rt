@@ -1,14 +1,14 @@
 // The first earlier piece of a file that a piece collides with: one that has its number, or a byte address of it.
 ghost use Rattle.std.specs.Prelude.{◌≡◌, ◌<◌, ◌/◌, length};
 ghost use Rattle.laws.specs.Sets.{least};
-ghost use Rattle.file_check.specs.Check.{fieldIn, isPage, near, sameNumber, overlaps};
+ghost use Rattle.file_check.specs.Check.{field_in, is_page, near, same_number, overlaps};
 
 use uf2_block::Block;
 
 // A field of a piece.
 pub(crate) fn field_in(file: &[u8], i: usize, at: usize) -> u32
     requires { i < length file.now / 512 }
-    ensures { result ≡ fieldIn file.now i at }
+    ensures { result ≡ field_in file.now i at }
 {
     let from = i * Block::ARRIVAL;
     let to = from + Block::ARRIVAL;
@@ -18,7 +18,7 @@ pub(crate) fn field_in(file: &[u8], i: usize, at: usize) -> u32
 // Is a piece data?
 pub(crate) fn is_page(file: &[u8], i: usize) -> bool
     requires { i < length file.now / 512 }
-    ensures { result ≡ isPage file.now i }
+    ensures { result ≡ is_page file.now i }
 {
     field_in(file, i, 8) / Block::FLAG_NOT_MAIN_FLASH % 2 != 1
 }
@@ -47,7 +47,7 @@ fn overlapping(file: &[u8], i: usize, j: usize) -> bool
 // The first piece before piece i that has its number, and i where none has.
 pub(crate) fn first_number(file: &[u8], i: usize) -> usize
     requires { i < length file.now / 512 }
-    ensures { result ≡ least i (sameNumber file.now i) }
+    ensures { result ≡ least i (same_number file.now i) }
 {
     let number = field_in(file, i, 20);
     let mut j: usize = 0;

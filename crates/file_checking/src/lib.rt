@@ -5,9 +5,9 @@ mod regions;
 
 ghost use Rattle.std.specs.Prelude.{◌≡◌, true, ◌<◌, ◌/◌, length};
 ghost use Rattle.memory.specs.Bitmap.{unmarked};
-ghost use Rattle.file_check.specs.Check.{isValid, whole_of, pieces_of, rightMaps, checkOf};
-ghost use Rattle.file_checking.specs.Pieces.Parts.{maps, fileHead, Holds};
-ghost use Rattle.file_checking.specs.Parts.{first_of, Opened, kindIf, guardedBy, Counted, Cleared};
+ghost use Rattle.file_check.specs.Check.{is_valid, whole_of, pieces_of, right_maps, check_of};
+ghost use Rattle.file_checking.specs.Pieces.Parts.{maps, file_head, Holds};
+ghost use Rattle.file_checking.specs.Parts.{first_of, Opened, kind_if, guarded_by, Counted, Cleared};
 
 use file_check::Checked;
 use partitions::Settings;
@@ -23,7 +23,7 @@ const OFFSETS: usize = 2080;
 
 // The kind of the first piece: of data that of its window, and of a comment flash.
 fn kind_of(page: bool, lens: Lengths, address: u32) -> Kind
-    ensures { result ≡ kindIf page lens address }
+    ensures { result ≡ kind_if page lens address }
 {
     if page {
         return uf2_checks::block_kind::window_kind(uf2_checks::block_kind::window_of(
@@ -37,7 +37,7 @@ fn kind_of(page: bool, lens: Lengths, address: u32) -> Kind
 // What the first piece says the file is.
 fn head_of(lens: Lengths, file: &[u8]) -> Head
     requires { 0 < length file.now / 512 }
-    ensures { result ≡ fileHead lens file.now }
+    ensures { result ≡ file_head lens file.now }
 {
     let page = crate::earlier::is_page(file, 0);
     let address = crate::earlier::field_in(file, 0, 12);
@@ -58,9 +58,9 @@ fn each_piece(
     offsets: &mut [u8],
 ) -> Checked
     requires opened { Opened settings lens file.now (maps numbers.old cells.old offsets.old) }
-    requires first { head ≡ fileHead lens file.now }
+    requires first { head ≡ file_head lens file.now }
     ensures value { result ≡ first_of settings lens file.now }
-    ensures held { isValid result ≡ true → Holds settings lens file.now (length file.now / 512) (maps numbers.new cells.new offsets.new) }
+    ensures held { is_valid result ≡ true → Holds settings lens file.now (length file.now / 512) (maps numbers.new cells.new offsets.new) }
 {
     let n = file.len() / Block::ARRIVAL;
     let rooms = uf2_checks::family::rooms_for(settings, lens.flash, head.family);
@@ -86,7 +86,7 @@ fn each_piece(
 
 // Of a file for the flash the first piece that names a region that counts.
 fn guarded(place: Place, kind: Kind, file: &[u8]) -> Checked
-    ensures { result ≡ guardedBy place kind file.now }
+    ensures { result ≡ guarded_by place kind file.now }
 {
     if !transfer::same_kind(kind, Kind::Flash) {
         return Checked::Valid;
@@ -101,7 +101,7 @@ fn guarded(place: Place, kind: Kind, file: &[u8]) -> Checked
 // Every piece is sound: whether every number came, and whether a region is named.
 fn whole(settings: Settings, lens: Lengths, head: Head, file: &[u8], numbers: &[u8]) -> Checked
     requires counted { Counted file.now numbers.now }
-    requires first { head ≡ fileHead lens file.now }
+    requires first { head ≡ file_head lens file.now }
     ensures { result ≡ whole_of settings lens file.now }
 {
     let total = head.total;
@@ -137,7 +137,7 @@ fn every_piece(
 
 // Are the lengths of a board's buffers and of the three maps right?
 fn right_maps(lens: Lengths, a: usize, b: usize, c: usize) -> bool
-    ensures { result ≡ rightMaps lens a b c }
+    ensures { result ≡ right_maps lens a b c }
 {
     uf2_known::lengths_right(Block::ARRIVAL, lens, a, Known::SECTORS)
         & (b == Known::SEEN)
@@ -154,7 +154,7 @@ fn judge(
     offsets: &mut [u8],
 ) -> Checked
     requires { Cleared (maps numbers.old cells.old offsets.old) }
-    ensures { result ≡ checkOf settings lens (length numbers.old) (length cells.old) (length offsets.old) file.now }
+    ensures { result ≡ check_of settings lens (length numbers.old) (length cells.old) (length offsets.old) file.now }
 {
     if !right_maps(lens, numbers.len(), cells.len(), offsets.len()) {
         return Checked::BadBuffers;
@@ -189,7 +189,7 @@ pub fn check(
     cells: &mut [u8],
     offsets: &mut [u8],
 ) -> Checked
-    ensures value { result ≡ checkOf settings lens (length numbers.old) (length cells.old) (length offsets.old) file.now }
+    ensures value { result ≡ check_of settings lens (length numbers.old) (length cells.old) (length offsets.old) file.now }
     ensures left { (numbers.new ≡ unmarked (length numbers.old)) × (cells.new ≡ unmarked (length cells.old)) × (offsets.new ≡ unmarked (length offsets.old)) }
 {
     clear_maps(numbers, cells, offsets);

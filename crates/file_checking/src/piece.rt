@@ -1,8 +1,8 @@
 // One piece of a file: what is wrong with it, by the maps of the pieces before it. Where nothing is, it is entered in them.
 ghost use Rattle.std.specs.Prelude.{◌≡◌, ◌<◌, ◌/◌, length};
-ghost use Rattle.uf2_checks.specs.Screen.{screenAt};
+ghost use Rattle.uf2_checks.specs.Screen.{screen_at};
 ghost use Rattle.file_check.specs.Check.{piece_at};
-ghost use Rattle.file_checking.specs.Pieces.Parts.{maps, touchingIn, cellsWith, offsetsWith, entered, besideBy, mapsBy, screenedBy, mapsThen};
+ghost use Rattle.file_checking.specs.Pieces.Parts.{maps, touching_in, cells_with, offsets_with, entered, beside_by, maps_by, screened_by, maps_then};
 
 use file_check::Checked;
 use transfer::{Head, State, Transfer};
@@ -11,7 +11,7 @@ use uf2_checks::{Body, Lengths, PlacedBlock, Rooms, Screening};
 
 // Has a payload a byte in common with one that the maps hold?
 fn touching(body: Body, cells: &[u8], offsets: &[u8]) -> bool
-    ensures { result ≡ touchingIn body cells.now offsets.now }
+    ensures { result ≡ touching_in body cells.now offsets.now }
 {
     match body {
         Body::Page(at) => memory::cells::touches(cells, offsets, at),
@@ -21,7 +21,7 @@ fn touching(body: Body, cells: &[u8], offsets: &[u8]) -> bool
 
 // Where a payload starts is entered.
 fn put_start(body: Body, cells: &mut [u8], offsets: &mut [u8])
-    ensures { (cells.new ≡ cellsWith body cells.old) × (offsets.new ≡ offsetsWith body offsets.old) }
+    ensures { (cells.new ≡ cells_with body cells.old) × (offsets.new ≡ offsets_with body offsets.old) }
 {
     if let Body::Page(at) = body {
         memory::cells::enter(cells, offsets, at);
@@ -39,7 +39,7 @@ fn beside(
     offsets: &[u8],
 ) -> Checked
     requires { i < length file.now / 512 }
-    ensures { result ≡ besideBy head placed file.now i (maps numbers.now cells.now offsets.now) }
+    ensures { result ≡ beside_by head placed file.now i (maps numbers.now cells.now offsets.now) }
 {
     let own = placed.head;
     if own.family != head.family {
@@ -74,8 +74,8 @@ fn settle(
     offsets: &mut [u8],
 ) -> Checked
     requires { i < length file.now / 512 }
-    ensures value { result ≡ besideBy head placed file.now i (maps numbers.old cells.old offsets.old) }
-    ensures left { maps numbers.new cells.new offsets.new ≡ mapsBy head placed file.now i (maps numbers.old cells.old offsets.old) }
+    ensures value { result ≡ beside_by head placed file.now i (maps numbers.old cells.old offsets.old) }
+    ensures left { maps numbers.new cells.new offsets.new ≡ maps_by head placed file.now i (maps numbers.old cells.old offsets.old) }
 {
     let found = beside(head, placed, file, i, numbers, cells, offsets);
     if !found.is_valid() {
@@ -99,8 +99,8 @@ pub(crate) fn check_piece(
     offsets: &mut [u8],
 ) -> Checked
     requires { i < length file.now / 512 }
-    ensures value { result ≡ screenedBy head file.now i (maps numbers.old cells.old offsets.old) (screenAt rooms lens State.Idle (piece_at file.now i)) }
-    ensures left { maps numbers.new cells.new offsets.new ≡ mapsThen head file.now i (maps numbers.old cells.old offsets.old) (screenAt rooms lens State.Idle (piece_at file.now i)) }
+    ensures value { result ≡ screened_by head file.now i (maps numbers.old cells.old offsets.old) (screen_at rooms lens State.Idle (piece_at file.now i)) }
+    ensures left { maps numbers.new cells.new offsets.new ≡ maps_then head file.now i (maps numbers.old cells.old offsets.old) (screen_at rooms lens State.Idle (piece_at file.now i)) }
 {
     let from = i * Block::ARRIVAL;
     let to = from + Block::ARRIVAL;

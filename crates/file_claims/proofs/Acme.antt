@@ -4,20 +4,20 @@ use mathlib.Core.Path.{◌≡◌, refl}
 use native.Mathlib.Omega.{arith}
 use lib.ListN.{length, take, drop}
 use Rattle.laws.specs.Bytes.{low_first, number_in}
-use Rattle.uf2_block.specs.Block.{field_at, isBlock}
-use Rattle.uf2_tags.specs.Tag.{tag_of, contentsOf, sized}
-use Rattle.uf2_tags.specs.Room.{firstPlace, kind_at, roomEnd, badPayload, badPlace, tag_at}
-use Rattle.uf2_tags.specs.Search.{seek, findOf}
-use Rattle.file_claims.specs.Laid.{AllProper, itemBytes, laid}
-use Rattle.file_claims.specs.Acme.{acme, Acme-reads, items, Acme-holds}
+use Rattle.uf2_block.specs.Block.{field_at, is_block}
+use Rattle.uf2_tags.specs.Tag.{tag_of, contents_of, sized}
+use Rattle.uf2_tags.specs.Room.{first_place, kind_at, room_end, bad_payload, bad_place, tag_at}
+use Rattle.uf2_tags.specs.Search.{seek, find_of}
+use Rattle.file_claims.specs.Laid.{AllProper, item_bytes, laid}
+use Rattle.file_claims.specs.Acme.{acme, AcmeReads, items, AcmeHolds}
 
-pub acme-reads : Acme-reads
-unfolding Acme-reads acme number_in field_at isBlock firstPlace kind_at tag_of contentsOf roomEnd badPayload badPlace sized tag_at seek findOf
-acme-reads = (refl, refl, refl)
+pub acme_reads : AcmeReads
+unfolding AcmeReads acme number_in field_at is_block first_place kind_at tag_of contents_of room_end bad_payload bad_place sized tag_at seek find_of
+acme_reads = (refl, refl, refl)
 
-pub acme-holds : Acme-holds
-unfolding Acme-holds items acme AllProper itemBytes laid low_first number_in field_at isBlock
-acme-holds =
+pub acme_holds : AcmeHolds
+unfolding AcmeHolds items acme AllProper item_bytes laid low_first number_in field_at is_block
+acme_holds =
     let n : length (take 288 acme) + length (laid items) ≡ 324 = refl in (
       (record { kind_fits = omega arith; step = refl; least = omega arith }, (record { kind_fits = omega arith; step = refl; least = omega arith }, tt)),
       record {

@@ -8,17 +8,17 @@ use lib.ListN.{length, take, drop, get_or, length-take, length-drop}
 use lib.Seq.{length-take-le, get_or-take, get_or-drop, ext_get_or}
 use Rattle.partitions.specs.declared.Settings.{Settings}
 use Rattle.uf2_block.specs.Block.{field_at}
-use Rattle.arrival.specs.Arrive.{World, lengthsOf}
+use Rattle.arrival.specs.Arrive.{World, lengths_of}
 use Rattle.demand.specs.Demand.{File, ValidFile, Plain}
-use Rattle.uf2_make.specs.Uf2file.{page_of, makeOf}
+use Rattle.uf2_make.specs.Uf2file.{page_of, make_of}
 use Rattle.uf2_make.specs.Claims.{Reads}
-use Rattle.uf2_make.proofs.ReadBack.{blocks-read-back}
-use Rattle.file_claims.specs.Delivery.{madeFile, IsMade, Deliverable, Made-file-is-valid}
-use Rattle.file_claims.proofs.Delivery.{made-file-is-valid}
-use Rattle.file_check.specs.Check.{piece_at, fieldIn}
-use Rattle.file_check.specs.Valid.{Pieces, Plain-is-valid}
-use Rattle.file_check.proofs.Theorems.{plain-is-valid}
-use Rattle.file_claims.specs.MadeCheck.{madeBytes, Made-is-found-valid}
+use Rattle.uf2_make.proofs.ReadBack.{blocks_read_back}
+use Rattle.file_claims.specs.Delivery.{made_file, IsMade, Deliverable, MadeFileIsValid}
+use Rattle.file_claims.proofs.Delivery.{made_file_is_valid}
+use Rattle.file_check.specs.Check.{piece_at, field_in}
+use Rattle.file_check.specs.Valid.{Pieces, PlainIsValid}
+use Rattle.file_check.proofs.Theorems.{plain_is_valid}
+use Rattle.file_claims.specs.MadeCheck.{made_bytes, MadeIsFoundValid}
 
 -- a part of the first so many elements is that part of all
 part : (l : List ℕ) (n i : ℕ) → i < n → n * 512 ≤ length l → take 512 (drop (i * 512) (take (n * 512) l)) ≡ take 512 (drop (512 * i) l)
@@ -44,19 +44,19 @@ module _ (s : Settings) (w : World) (image out : List ℕ) (family start at size
   n = length image / 256
 
   abbrev F : File
-  F = madeFile image family start out
+  F = made_file image family start out
 
   abbrev f : List ℕ
-  f = madeBytes image family start out
+  f = made_bytes image family start out
 
   abbrev output : List ℕ
-  output = (makeOf image family start out).output
+  output = (make_of image family start out).output
 
   reads : (k : ℕ) → k < n → Reads (F.block k) (start + 256 * k) k n family (page_of image k)
-  reads k h = blocks-read-back image out family start n D.narrow made k h
+  reads k h = blocks_read_back image out family start n D.narrow made k h
 
   valid : ValidFile s w F
-  valid = unfold Made-file-is-valid in made-file-is-valid s w image out family start at size made D
+  valid = unfold MadeFileIsValid in made_file_is_valid s w image out family start at size made D
 
   -- no block names a region: flag 0x2000 alone is set
   plain : Plain s w F
@@ -73,8 +73,8 @@ module _ (s : Settings) (w : World) (image out : List ℕ) (family start at size
   unfolding piece_at
   piece_is i h = part output n i h room
 
-  number_is : (i : ℕ) → i < n → fieldIn f i 20 ≡ i
-  number_is i h = ap (λ (a : List ℕ). field_at a 20) (piece_is i h) ∙ (reads i h).number-back
+  number_is : (i : ℕ) → i < n → field_in f i 20 ≡ i
+  number_is i h = ap (λ (a : List ℕ). field_at a 20) (piece_is i h) ∙ (reads i h).number_back
 
   pieces : Pieces f F
   pieces =
@@ -85,8 +85,8 @@ module _ (s : Settings) (w : World) (image out : List ℕ) (family start at size
         once = λ i j hi hj e. sym (number_is i hi) ∙ e ∙ number_is j hj;
       }
 
-pub made-is-found-valid : Made-is-found-valid
-unfolding Made-is-found-valid
-made-is-found-valid s w image out family start at size made D =
-    (unfold Plain-is-valid in plain-is-valid s w (madeBytes image family start out) (madeFile image family start out) D.idle
+pub made_is_found_valid : MadeIsFoundValid
+unfolding MadeIsFoundValid
+made_is_found_valid s w image out family start at size made D =
+    (unfold PlainIsValid in plain_is_valid s w (made_bytes image family start out) (made_file image family start out) D.idle
     (valid s w image out family start at size made D) (pieces s w image out family start at size made D) (plain s w image out family start at size made D))

@@ -2,11 +2,11 @@
 use Rattle.std.specs.Prelude.{ℕ, ◌+◌, ◌%◌, ◌<◌, ◌≤◌, ◌≡◌, true, List, [], ◌∷◌, ◌++◌, length}
 use Rattle.std.specs.Borrow.{Bor}
 use Rattle.laws.specs.Bytes.{low_first}
-use Rattle.uf2_block.specs.Block.{field_at, hasFlag, isBlock}
+use Rattle.uf2_block.specs.Block.{field_at, has_flag, is_block}
 use Rattle.uf2_tags.specs.declared.one_tag.Tag.{Tag}
 use Rattle.uf2_tags.specs.declared.Tags.{Tags}
 use Rattle.uf2_tags.specs.declared.one_tag.Answer.TheVariants.{Tag as a-tag, End}
-use Rattle.uf2_tags.specs.Tag.{contentsOf}
+use Rattle.uf2_tags.specs.Tag.{contents_of}
 use Rattle.uf2_tags.specs.Reader.{started, stepped}
 use Rattle.file_claims.specs.Calls.{answer_of}
 
@@ -29,19 +29,19 @@ AllProper [] = Unit {0}
 AllProper (i ∷ is) = Proper i × AllProper is
 
 -- "The first byte of tag contains its total size in bytes (including the size byte and type designation). The next three bytes designate the type of tag"
-unfoldable pub itemBytes : Item → List ℕ
-itemBytes i = (4 + length i.bytes) ∷ (low_first 3 i.kind ++ (i.bytes ++ i.fill))
+unfoldable pub item_bytes : Item → List ℕ
+item_bytes i = (4 + length i.bytes) ∷ (low_first 3 i.kind ++ (i.bytes ++ i.fill))
 
 -- "The last tag has size of 0 and type of 0"
 unfoldable pub laid : List Item → List ℕ
 laid [] = 0 ∷ 0 ∷ 0 ∷ 0 ∷ []
-laid (i ∷ is) = itemBytes i ++ laid is
+laid (i ∷ is) = item_bytes i ++ laid is
 
 -- a block with these tags after its payload, within the room
 pub record Holds (b : List ℕ) (is : List Item) : Type 0 where
   pub whole : length b ≡ 512
-  pub magic : isBlock b ≡ true
-  pub flag : hasFlag b 0x8000 ≡ true
+  pub magic : is_block b ≡ true
+  pub flag : has_flag b 0x8000 ≡ true
   pub payload : field_at b 16 % 4 ≡ 0
   pub front : List ℕ
   pub rest : List ℕ
@@ -49,19 +49,19 @@ pub record Holds (b : List ℕ) (is : List Item) : Type 0 where
   -- "appended right after payload data (i.e., it starts at 32 + payloadSize)"
   pub place : length front ≡ 32 + field_at b 16
   pub room : length front + length (laid is) ≤ 32 + 476
-  pub short : hasFlag b 0x4000 ≡ true → length front + length (laid is) ≤ 32 + 452
+  pub short : has_flag b 0x4000 ≡ true → length front + length (laid is) ≤ 32 + 452
 
 -- the next call answers a tag of this type with these contents
 pub record Tells (r : Tags) (i : Item) : Type 0 where
   pub tag : Tag
   pub answer : answer_of r ≡ a-tag tag
   pub kind : tag.kind ≡ i.kind
-  pub contents : contentsOf r.block.now tag ≡ i.bytes
+  pub contents : contents_of r.block.now tag ≡ i.bytes
 
 -- call after call: each tag in its order, then the end
 unfoldable pub Reads : Tags → List Item → Type 0
 Reads r [] = answer_of r ≡ End
 Reads r (i ∷ is) = Tells r i × Reads (stepped r).reader is
 
-abbrev pub Tags-read-back : Type 0
-Tags-read-back = (b : Bor (List ℕ)) (is : List Item) → AllProper is → Holds b.now is → Reads (started b) is
+abbrev pub TagsReadBack : Type 0
+TagsReadBack = (b : Bor (List ℕ)) (is : List Item) → AllProper is → Holds b.now is → Reads (started b) is

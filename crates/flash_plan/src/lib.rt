@@ -1,7 +1,7 @@
 // A plan for the flash, which a driver carries out, or `perform` on flash that is memory: made for a page, and performed.
 ghost use Rattle.std.specs.Prelude.{◌≡◌};
-ghost use Rattle.memory.specs.Flash.{payloadOf};
-ghost use Rattle.flash_plan.specs.Plan.{planNumber, performed, sectorPaged, sectorPagedOf};
+ghost use Rattle.memory.specs.Flash.{payload_of};
+ghost use Rattle.flash_plan.specs.Plan.{plan_number, performed, sector_paged, sector_paged_of};
 
 use memory::flash::Flash;
 
@@ -16,7 +16,7 @@ pub enum Plan {
 impl Plan {
     // The number of the deed, for C.
     pub fn number(self) -> u32
-        ensures { result ≡ planNumber self }
+        ensures { result ≡ plan_number self }
     {
         match self {
             Plan::Nothing => 0,
@@ -28,7 +28,7 @@ impl Plan {
 
 // A page of flash: its sector is marked, and is to be erased first where it was not.
 pub fn flash_page(at: usize, sectors: &mut [u8]) -> Plan
-    ensures { sectorPaged result sectors.new ≡ sectorPagedOf at sectors.old }
+    ensures { sector_paged result sectors.new ≡ sector_paged_of at sectors.old }
 {
     let sector = at / Flash::SECTOR;
     let erased = memory::bitmap::marked(sectors, sector);
@@ -41,7 +41,7 @@ pub fn flash_page(at: usize, sectors: &mut [u8]) -> Plan
 
 // Carries a plan out on flash that is memory.
 pub fn perform(plan: Plan, arrival: &[u8], flash: &mut [u8])
-    ensures { flash.new ≡ performed plan (payloadOf arrival.now) flash.old }
+    ensures { flash.new ≡ performed plan (payload_of arrival.now) flash.old }
 {
     match plan {
         Plan::Nothing => {}

@@ -10,18 +10,18 @@ use borrow.Author.Tests.{ltb-true, ltb-false}
 use Rattle.laws.proofs.Tests.{split}
 pub use Rattle.hex_digits.proofs.pairs.Stored.{length-bytes}
 pub use Rattle.hex_digits.proofs.decoding.FirstLaws.{rest}
-use Rattle.hex_digits.specs.Digits.{digitOf, bytes_of, decoded, decodedBy}
+use Rattle.hex_digits.specs.Digits.{digit_of, bytes_of, decoded, decoded_by}
 
 -- `out` begins with the bytes that the digits l say, as many as it has room for
 abbrev pub Decoding : List ℕ → List ℕ → Type 0
 Decoding l out = take (length l / 2) out ≡ take (length out) (bytes_of l)
 
 pub decoding : (l lent : List ℕ) {out : List ℕ} → out ≡ decoded l lent → Decoding l out
-unfolding decodedBy
+unfolding decoded_by
 decoding l lent {out} e =
     let w = bytes_of l in
     let r = drop (length l / 2) lent in
-    let n : length w ≡ length l / 2 = length-bytes digitOf l in
+    let n : length w ≡ length l / 2 = length-bytes digit_of l in
     split (ltb (length lent) (length l / 2))
     (λ y.
     let h : length lent < length l / 2 = ltb-true _ _ y in

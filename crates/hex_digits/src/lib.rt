@@ -3,7 +3,7 @@ mod decoding;
 mod pairs;
 
 ghost use Rattle.std.specs.Prelude.{◌≡◌};
-ghost use Rattle.hex_digits.specs.Digits.{firstBad, decoded};
+ghost use Rattle.hex_digits.specs.Digits.{first_bad, decoded};
 
 // The value of each byte as a hex digit, 16 where it is none: sixteen bytes a row.
 const DIGITS: [u8; 256] = *b"\
@@ -29,7 +29,7 @@ const DIGITS: [u8; 256] = *b"\
 // has room. The table is lent, and this function alone makes a copy of it, once a line: a constant that is indexed in a loop is built anew
 // at each turn.
 pub fn judge(chars: &[u8], out: &mut [u8]) -> usize
-    ensures value { result ≡ firstBad chars.now }
+    ensures value { result ≡ first_bad chars.now }
     ensures bytes { out.new ≡ decoded chars.now out.old }
 {
     let table = DIGITS;

@@ -1,7 +1,7 @@
 // Two characters a byte, by a lent table of the values of characters as digits: below 16, or 16 and more where a character is none.
 ghost use Rattle.std.specs.Prelude.{◌≡◌, ◌*◌, ◌/◌, min, length, take};
-ghost use Rattle.hex_digits.specs.Values.{allBy, valueIn};
-ghost use Rattle.hex_digits.specs.Pairs.{decodedBy};
+ghost use Rattle.hex_digits.specs.Values.{all_by, value_in};
+ghost use Rattle.hex_digits.specs.Pairs.{decoded_by};
 
 // The lesser of two numbers.
 pub(crate) fn least(a: usize, b: usize) -> usize
@@ -13,8 +13,8 @@ pub(crate) fn least(a: usize, b: usize) -> usize
 // The bytes that the characters say go to `out` as far as it has room. Are the characters that are said so digits? No branch leaves the loop
 // at one that is none: the values found are or-ed, and judged once, at the end.
 pub(crate) fn pairs(table: &[u8; 256], chars: &[u8], out: &mut [u8]) -> bool
-    ensures value { result ≡ allBy (valueIn table.now) (take (2 * min (length chars.now / 2) (length out.old)) chars.now) }
-    ensures bytes { out.new ≡ decodedBy (valueIn table.now) chars.now out.old }
+    ensures value { result ≡ all_by (value_in table.now) (take (2 * min (length chars.now / 2) (length out.old)) chars.now) }
+    ensures bytes { out.new ≡ decoded_by (value_in table.now) chars.now out.old }
 {
     let room = least(chars.len() / 2, out.len());
     let mut found: u8 = 0;

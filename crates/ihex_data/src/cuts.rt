@@ -1,6 +1,6 @@
 // Where the data of a plain Intel Hex file is cut: between records with another upper half of the address, which an 04 tells, and in a record.
 ghost use Rattle.std.specs.Prelude.{◌≡◌};
-ghost use Rattle.ihex_data.specs.Cuts.{freshTally, changes, crosses};
+ghost use Rattle.ihex_data.specs.Cuts.{fresh_tally, changes, crosses};
 
 // the addresses that one 04 reaches
 const REACH: usize = 65536;
@@ -17,7 +17,7 @@ pub struct Tally {
 
 impl Tally {
     pub fn fresh() -> Tally
-        ensures { result ≡ freshTally }
+        ensures { result ≡ fresh_tally }
     {
         Tally {
             some: false,

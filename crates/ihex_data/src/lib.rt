@@ -2,12 +2,12 @@
 mod cuts;
 
 ghost use Rattle.std.specs.Prelude.{◌≡◌, cond, ◌+◌, ◌≤◌, length};
-ghost use Rattle.ihex_write.specs.Put.{putLine, putLines};
-ghost use Rattle.ihex_record.specs.Write.{recordLine};
-ghost use Rattle.ihex_data.specs.Pieces.{piece, splitOf, pieces_of};
-ghost use Rattle.ihex_data.specs.Lines.{word_bytes, dataLines};
-ghost use Rattle.ihex_data.specs.Tally.{tallyPiece, tallyAll, pieceLines, piecesLines};
-ghost use Rattle.ihex_data.specs.Scan.{body_of, scan, linePieces, step_of, stopOf, Walk};
+ghost use Rattle.ihex_write.specs.Put.{put_line, put_lines};
+ghost use Rattle.ihex_record.specs.Write.{record_line};
+ghost use Rattle.ihex_data.specs.Pieces.{piece, split_of, pieces_of};
+ghost use Rattle.ihex_data.specs.Lines.{word_bytes, data_lines};
+ghost use Rattle.ihex_data.specs.Tally.{tally_piece, tally_all, piece_lines, pieces_lines};
+ghost use Rattle.ihex_data.specs.Scan.{body_of, scan, line_pieces, step_of, stop_of, Walk};
 ghost use Rattle.ihex_data.specs.declared.Step.TheVariants.{On};
 
 use crate::cuts::Tally;
@@ -48,7 +48,7 @@ fn pick(test: bool, a: usize, b: usize) -> usize
 // One more piece, of n bytes: a record's line has 12 characters, and two for each byte of its data.
 fn with_piece(tally: Tally, upper: usize, n: usize) -> Tally
     requires { (tally.len ≤ 1073741824) × (n ≤ 32) }
-    ensures { result ≡ tallyPiece tally upper n }
+    ensures { result ≡ tally_piece tally upper n }
 {
     let some = tally.some;
     let first = pick(some, tally.first, upper);
@@ -64,7 +64,7 @@ fn with_piece(tally: Tally, upper: usize, n: usize) -> Tally
 
 // A record of two bytes of data, with the address field 0.
 pub fn put_word(out: &mut [u8], at: usize, kind: u8, word: usize)
-    ensures { out.new ≡ putLine out.old at (recordLine kind 0 (word_bytes word)) }
+    ensures { out.new ≡ put_line out.old at (record_line kind 0 (word_bytes word)) }
 {
     let two = [(word / 256 % 256) as u8, (word % 256) as u8];
     ihex_write::put_record(out, at, kind, 0, &two);
@@ -81,8 +81,8 @@ fn put_piece(
     bytes: &[u8],
 ) -> Tally
     requires { (at ≤ 9223372036854775807) × (tally.len ≤ 1073741824) × (length bytes.now ≤ 32) }
-    ensures value { result ≡ tallyPiece tally upper (length bytes.now) }
-    ensures lines { out.new ≡ putLines out.old (at + tally.len) (pieceLines kind tally upper lower bytes.now) }
+    ensures value { result ≡ tally_piece tally upper (length bytes.now) }
+    ensures lines { out.new ≡ put_lines out.old (at + tally.len) (piece_lines kind tally upper lower bytes.now) }
 {
     let from = at + tally.len;
     let next = with_piece(tally, upper, bytes.len());
@@ -105,8 +105,8 @@ fn put_data(
     bytes: &[u8],
 ) -> Tally
     requires { (at ≤ 9223372036854775807) × (tally.len ≤ 1000000000) × (length bytes.now ≤ 32) }
-    ensures value { result ≡ tallyAll tally (splitOf (piece address bytes.now)) }
-    ensures lines { out.new ≡ putLines out.old (at + tally.len) (piecesLines kind tally (splitOf (piece address bytes.now))) }
+    ensures value { result ≡ tally_all tally (split_of (piece address bytes.now)) }
+    ensures lines { out.new ≡ put_lines out.old (at + tally.len) (pieces_lines kind tally (split_of (piece address bytes.now))) }
 {
     let upper = address / Plain::REACH;
     let lower = (address % Plain::REACH) as u16;
@@ -129,8 +129,8 @@ fn put_taken(
     bytes: &[u8],
 ) -> Step
     requires { (at ≤ 9223372036854775807) × (tally.len ≤ 1000000000) × (length bytes.now ≤ 32) }
-    ensures value { result ≡ On (scan next (tallyAll tally (splitOf (piece address bytes.now)))) }
-    ensures lines { out.new ≡ putLines out.old (at + tally.len) (piecesLines kind tally (splitOf (piece address bytes.now))) }
+    ensures value { result ≡ On (scan next (tally_all tally (split_of (piece address bytes.now)))) }
+    ensures lines { out.new ≡ put_lines out.old (at + tally.len) (pieces_lines kind tally (split_of (piece address bytes.now))) }
 {
     let kept = put_data(out, at, tally, kind, address, bytes);
     Step::On(Scan {
@@ -143,7 +143,7 @@ fn put_taken(
 fn put_line(out: &mut [u8], at: usize, state: Scan, kind: u8, line: &[u8]) -> Step
     requires { (at ≤ 9223372036854775807) × (state.tally.len ≤ 1000000000) }
     ensures value { result ≡ step_of state line.now }
-    ensures lines { out.new ≡ putLines out.old (at + state.tally.len) (piecesLines kind state.tally (linePieces state.plain line.now)) }
+    ensures lines { out.new ≡ put_lines out.old (at + state.tally.len) (pieces_lines kind state.tally (line_pieces state.plain line.now)) }
 {
     let read = ihex_record::record_line::read(line);
     let data = read.data;
@@ -164,7 +164,7 @@ fn put_line(out: &mut [u8], at: usize, state: Scan, kind: u8, line: &[u8]) -> St
 
 // The answer of a line that is refused; nothing asks for it of another.
 fn answer_of(step: Step) -> Answer
-    ensures { result ≡ stopOf step }
+    ensures { result ≡ stop_of step }
 {
     match step {
         Step::On(_) => Answer::OutOfPlace,
@@ -212,7 +212,7 @@ fn walk(out: &mut [u8], at: usize, kind: u8, text: &[u8]) -> Body
 pub fn put_body(out: &mut [u8], at: usize, kind: u8, text: &[u8]) -> Body
     ensures value { result ≡ body_of text.now }
     ensures most { result.len ≤ 1000000000 }
-    ensures lines { out.new ≡ putLines out.old at (dataLines kind (pieces_of text.now)) }
+    ensures lines { out.new ≡ put_lines out.old at (data_lines kind (pieces_of text.now)) }
 {
     // past the end of the room one place is as good as another, and sums from this one do not wrap
     let from = pick(out.len() < at, out.len(), at);

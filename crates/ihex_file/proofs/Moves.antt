@@ -8,19 +8,19 @@ use lib.Dec.{eqb, ltb}
 use lib.ListN.{length}
 use borrow.Author.Tests.{ltb-false}
 use Rattle.laws.proofs.Tests.{clash}
-use Rattle.ihex_record.specs.Types.{dataType}
-use Rattle.ihex_record.specs.Record.{word_of, onRecord, read_of}
+use Rattle.ihex_record.specs.Types.{data_type}
+use Rattle.ihex_record.specs.Record.{word_of, on_record, read_of}
 use Rattle.ihex_record.specs.declared.Record.{Record}
 use Rattle.ihex_record.specs.declared.ParseResult.{ParseResult}
 use Rattle.ihex_record.specs.declared.ParseResult.TheVariants as parsed
 use Rattle.ihex_record.proofs.Good.{good-len}
-use Rattle.uhex_grammar.specs.Answers.{refusalOf}
+use Rattle.uhex_grammar.specs.Answers.{refusal_of}
 use Rattle.uhex_grammar.specs.declared.Answer.{Answer}
 use Rattle.ihex_file.specs.declared.Plain.{Plain}
 use Rattle.ihex_file.specs.declared.LineReading.{LineReading}
 use Rattle.ihex_file.specs.declared.LineReading.TheVariants.{Refused, Passed, Data}
-use Rattle.ihex_file.specs.Line.{isEnd, isSegment, isLinear, isStart, plain, movedBy, dataTaken, recordTaken, fieldsTaken, lineTaken, taken_of}
-use Rattle.ihex_file.specs.File.{goesOn, next_of}
+use Rattle.ihex_file.specs.Line.{is_end, is_segment, is_linear, is_start, plain, moved_by, data_taken, record_taken, fields_taken, line_taken, taken_of}
+use Rattle.ihex_file.specs.File.{goes_on, next_of}
 
 -- the reading after a line of n bytes
 pub record Moved (p : Plain) (n : ℕ) (q : Plain) : Type 0 where
@@ -46,56 +46,56 @@ module _ (p : Plain) (n : ℕ) (fits : p.offset + n ≤ 4194304) where
   moved : (base : ℕ) (b : Bool) → Moved p n (plain (p.offset + n) base b)
   moved base b = record { offset = refl; within = fits }
 
-  sound-data : (address len : ℕ) → len ≤ 32 → Sound p n (dataTaken (movedBy p n) address len)
-  unfolding dataTaken
+  sound-data : (address len : ℕ) → len ≤ 32 → Sound p n (data_taken (moved_by p n) address len)
+  unfolding data_taken
   sound-data address len few =
       either (ltb 65536 (address + len)) (λ y. refused)
       (λ z.
       either (eqb len 0) (λ y. passed (moved _ _))
       (λ w. given (moved _ _) (record { few = few; near = omega (arith, ltb-false 65536 (address + len) z) })))
 
-  sound-record : (word kind address len : ℕ) → len ≤ 32 → Sound p n (recordTaken (movedBy p n) kind address len word)
-  unfolding recordTaken
+  sound-record : (word kind address len : ℕ) → len ≤ 32 → Sound p n (record_taken (moved_by p n) kind address len word)
+  unfolding record_taken
   sound-record word kind address len few =
-      either (eqb kind dataType) (λ y. sound-data address len few)
+      either (eqb kind data_type) (λ y. sound-data address len few)
       (λ a.
-      either (isEnd kind len) (λ y. passed (moved _ _))
+      either (is_end kind len) (λ y. passed (moved _ _))
       (λ b.
-      either (isSegment kind len) (λ y. passed (moved _ _))
+      either (is_segment kind len) (λ y. passed (moved _ _))
       (λ c.
-      either (isLinear kind len) (λ y. passed (moved _ _))
-      (λ d. either (isStart kind len) (λ y. passed (moved _ _)) (λ e. refused)))))
+      either (is_linear kind len) (λ y. passed (moved _ _))
+      (λ d. either (is_start kind len) (λ y. passed (moved _ _)) (λ e. refused)))))
 
-sound-parsed : (p : Plain) (n w : ℕ) (x : ParseResult) → p.offset + n ≤ 4194304 → ((rec : Record) → x ≡ parsed.Good rec → rec.len ≤ 32)
-    → Sound p n (onRecord (Refused (refusalOf x)) (fieldsTaken (movedBy p n) w) x)
-sound-parsed p n w (parsed.Good rec) h f = sound-record p n h w rec.kind rec.address rec.len (f rec refl)
-sound-parsed p n w parsed.NoColon h f = refused
-sound-parsed p n w parsed.BadShape h f = refused
-sound-parsed p n w (parsed.BadDigit k) h f = refused
-sound-parsed p n w parsed.TooLong h f = refused
-sound-parsed p n w parsed.BadLength h f = refused
-sound-parsed p n w parsed.BadSum h f = refused
+sound_parsed : (p : Plain) (n w : ℕ) (x : ParseResult) → p.offset + n ≤ 4194304 → ((rec : Record) → x ≡ parsed.Good rec → rec.len ≤ 32)
+    → Sound p n (on_record (Refused (refusal_of x)) (fields_taken (moved_by p n) w) x)
+sound_parsed p n w (parsed.Good rec) h f = sound-record p n h w rec.kind rec.address rec.len (f rec refl)
+sound_parsed p n w parsed.NoColon h f = refused
+sound_parsed p n w parsed.BadShape h f = refused
+sound_parsed p n w (parsed.BadDigit k) h f = refused
+sound_parsed p n w parsed.TooLong h f = refused
+sound_parsed p n w parsed.BadLength h f = refused
+sound_parsed p n w parsed.BadSum h f = refused
 
 sound : (p : Plain) (l : List ℕ) → Sound p (length l) (taken_of p l)
-unfolding taken_of lineTaken
+unfolding taken_of line_taken
 sound p l =
     let x = (read_of l).parsed in
     let w = word_of (read_of l).«data» in
     either p.ended (λ y. refused)
     (λ z.
     either (ltb 4194304 (p.offset + length l)) (λ y. refused)
-    (λ k. sound-parsed p (length l) w x (ltb-false 4194304 (p.offset + length l) k) (λ rec e. good-len l rec e)))
+    (λ k. sound_parsed p (length l) w x (ltb-false 4194304 (p.offset + length l) k) (λ rec e. good-len l rec e)))
 
-moved_by : {p : Plain} {n : ℕ} {t : LineReading} → Sound p n t → goesOn t ≡ true → Moved p n (next_of p t)
-moved_by refused e = clash false e refl
-moved_by (passed m) e = m
-moved_by (given m k) e = m
+moved_by_lem : {p : Plain} {n : ℕ} {t : LineReading} → Sound p n t → goes_on t ≡ true → Moved p n (next_of p t)
+moved_by_lem refused e = clash false e refl
+moved_by_lem (passed m) e = m
+moved_by_lem (given m k) e = m
 
 near_by : {p : Plain} {n : ℕ} {q : Plain} {a k : ℕ} → Sound p n (Data q a k) → Near p a k
 near_by (given m k) = k
 
-pub taken-moves : (p : Plain) (l : List ℕ) → goesOn (taken_of p l) ≡ true → Moved p (length l) (next_of p (taken_of p l))
-taken-moves p l e = moved_by (sound p l) e
+pub taken_moves : (p : Plain) (l : List ℕ) → goes_on (taken_of p l) ≡ true → Moved p (length l) (next_of p (taken_of p l))
+taken_moves p l e = moved_by_lem (sound p l) e
 
-pub data-near : (p : Plain) (l : List ℕ) (q : Plain) (a n : ℕ) → taken_of p l ≡ Data q a n → Near p a n
-data-near p l q a n e = near_by (rw e at (sound p l))
+pub data_near : (p : Plain) (l : List ℕ) (q : Plain) (a n : ℕ) → taken_of p l ≡ Data q a n → Near p a n
+data_near p l q a n e = near_by (rw e at (sound p l))

@@ -6,8 +6,8 @@ mod records;
 
 ghost use Rattle.std.specs.Prelude.{◌≡◌};
 ghost use Rattle.laws.specs.Numbered.{numbered};
-ghost use Rattle.ihex_file.specs.File.{verdictNumber, closeOf};
-ghost use Rattle.ihex_file.specs.Line.{freshPlain, withBase, withEnd};
+ghost use Rattle.ihex_file.specs.File.{verdict_number, close_of};
+ghost use Rattle.ihex_file.specs.Line.{fresh_plain, with_base, with_end};
 
 use uhex_grammar::Answer;
 
@@ -43,7 +43,7 @@ impl Plain {
     pub const REACH: usize = 65536;
 
     pub fn fresh() -> Plain
-        ensures { result ≡ freshPlain }
+        ensures { result ≡ fresh_plain }
     {
         Plain {
             offset: 0,
@@ -53,14 +53,14 @@ impl Plain {
     }
 
     pub fn with_base(mut self, base: u32) -> Plain
-        ensures { result ≡ withBase self base }
+        ensures { result ≡ with_base self base }
     {
         self.base = base;
         self
     }
 
     pub fn with_end(mut self) -> Plain
-        ensures { result ≡ withEnd self }
+        ensures { result ≡ with_end self }
     {
         self.ended = true;
         self
@@ -68,7 +68,7 @@ impl Plain {
 
     // At the end of a file of so many lines, which gave some data byte or none.
     pub fn close(self, lines: u32, some: bool) -> Verdict
-        ensures { numbered verdictNumber result ≡ numbered verdictNumber (closeOf self lines some) }
+        ensures { numbered verdict_number result ≡ numbered verdict_number (close_of self lines some) }
     {
         if self.ended {
             if some {

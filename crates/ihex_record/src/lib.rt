@@ -3,7 +3,7 @@ mod record_bytes;
 pub mod record_line;
 
 ghost use Rattle.std.specs.Prelude.{◌≡◌, ◌%◌, ◌≤◌, length};
-ghost use Rattle.ihex_record.specs.Record.{textLen, total, wordFrom, refused, parsedNumber};
+ghost use Rattle.ihex_record.specs.Record.{text_len, total, word_from, refused, parsed_number};
 
 // A good record: its type, its address field, and how many bytes of data it has.
 #[derive(Drop)]
@@ -62,7 +62,7 @@ impl Record {
 impl ParseResult {
     // 01's number of a refusal, or 0 for a good record.
     pub fn number(self) -> u8
-        ensures { result ≡ parsedNumber self }
+        ensures { result ≡ parsed_number self }
     {
         match self {
             ParseResult::Good(_) => 0,
@@ -78,7 +78,7 @@ impl ParseResult {
 
 // How many characters are left when the ending is dropped.
 pub(crate) fn text_len(line: &[u8]) -> usize
-    ensures value { result ≡ textLen line.now }
+    ensures value { result ≡ text_len line.now }
     ensures within { result ≤ length line.now }
 {
     let n = line.len();
@@ -112,7 +112,7 @@ pub fn sum(bytes: &[u8]) -> u8
 
 // Two bytes as a number, high first.
 pub fn word(high: u8, low: u8) -> u16
-    ensures { result ≡ wordFrom high low }
+    ensures { result ≡ word_from high low }
 {
     256 * (high as u16) + (low as u16)
 }

@@ -1,7 +1,7 @@
 // Rows 23 to 25 of a line of Intel Hex, and the record that its bytes say.
 ghost use Rattle.std.specs.Prelude.{◌≡◌, ◌+◌, ◌≤◌, length};
 ghost use Rattle.ihex_record.specs.Record.{len_of, good};
-ghost use Rattle.ihex_record.specs.Bytes.{lineIn};
+ghost use Rattle.ihex_record.specs.Bytes.{line_in};
 
 use crate::{Line, ParseResult, Record};
 
@@ -24,7 +24,7 @@ fn good_line(bytes: &[u8], used: usize) -> Line
 
 // Rows 23 to 25 of n characters, whose bytes are the first of these.
 pub(crate) fn read_bytes(n: usize, bytes: &[u8; Record::BYTES]) -> Line
-    ensures { result ≡ lineIn n bytes.now }
+    ensures { result ≡ line_in n bytes.now }
 {
     let room: &[u8] = bytes;
     let used = room[0] as usize;

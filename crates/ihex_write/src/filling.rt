@@ -1,8 +1,8 @@
 // The filling of a section of Universal Hex to a multiple of 512 characters.
 ghost use Rattle.std.specs.Prelude.{◌≡◌, ◌≤◌, replicate};
-ghost use Rattle.ihex_write.specs.Put.{putLine, putLines};
-ghost use Rattle.ihex_record.specs.Write.{recordLine};
-ghost use Rattle.ihex_write.specs.Fill.{missing, fillLines};
+ghost use Rattle.ihex_write.specs.Put.{put_line, put_lines};
+ghost use Rattle.ihex_record.specs.Write.{record_line};
+ghost use Rattle.ihex_write.specs.Fill.{missing, fill_lines};
 
 use ihex_record::Record;
 
@@ -16,7 +16,7 @@ pub fn missing_after(n: usize) -> usize
 // A record of n bytes of 0xFF, with the address field 0.
 fn put_filling(out: &mut [u8], at: usize, kind: u8, n: usize)
     requires { n ≤ 32 }
-    ensures { out.new ≡ putLine out.old at (recordLine kind 0 (replicate n 255)) }
+    ensures { out.new ≡ put_line out.old at (record_line kind 0 (replicate n 255)) }
 {
     let filling = [255u8; Record::MAX];
     crate::put_record(out, at, kind, 0, &filling[..n]);
@@ -24,7 +24,7 @@ fn put_filling(out: &mut [u8], at: usize, kind: u8, n: usize)
 
 // The filling of a section after its first n characters, from `at` on.
 pub fn put_fill(out: &mut [u8], at: usize, n: usize)
-    ensures { out.new ≡ putLines out.old at (fillLines (missing n)) }
+    ensures { out.new ≡ put_lines out.old at (fill_lines (missing n)) }
 {
     if out.len() < at {
         return;

@@ -4,8 +4,8 @@ pub mod filling;
 
 ghost use Rattle.std.specs.Prelude.{◌≡◌, ◌+◌, ◌*◌, ◌<◌, ◌≤◌, [], ◌∷◌, length};
 ghost use Rattle.laws.specs.Over.{over};
-ghost use Rattle.ihex_record.specs.Write.{bytesText, recordLine};
-ghost use Rattle.ihex_write.specs.Put.{putRecord};
+ghost use Rattle.ihex_record.specs.Write.{bytes_text, record_line};
+ghost use Rattle.ihex_write.specs.Put.{put_record};
 
 fn put_char(out: &mut [u8], at: usize, c: u8)
     requires { at < length out.old }
@@ -17,7 +17,7 @@ fn put_char(out: &mut [u8], at: usize, c: u8)
 // A byte's two digits, high first.
 fn put_byte(out: &mut [u8], at: usize, b: u8)
     requires { at + 2 ≤ length out.old }
-    ensures { out.new ≡ over out.old at (bytesText (b ∷ [])) }
+    ensures { out.new ≡ over out.old at (bytes_text (b ∷ [])) }
 {
     put_char(out, at, crate::digit_text::high_digit(b));
     put_char(out, at + 1, crate::digit_text::low_digit(b));
@@ -26,7 +26,7 @@ fn put_byte(out: &mut [u8], at: usize, b: u8)
 // The digits of bytes.
 fn put_bytes(out: &mut [u8], at: usize, bytes: &[u8])
     requires { at + 2 * length bytes.now ≤ length out.old }
-    ensures { out.new ≡ over out.old at (bytesText bytes.now) }
+    ensures { out.new ≡ over out.old at (bytes_text bytes.now) }
 {
     let mut i = 0;
     while i < bytes.len() {
@@ -39,7 +39,7 @@ fn put_bytes(out: &mut [u8], at: usize, bytes: &[u8])
 fn put_line(out: &mut [u8], at: usize, kind: u8, address: u16, data: &[u8])
     requires data_len_bound { length «data».now ≤ 32 }
     requires room { at + (12 + 2 * length «data».now) ≤ length out.old }
-    ensures { out.new ≡ over out.old at (recordLine kind address «data».now) }
+    ensures { out.new ≡ over out.old at (record_line kind address «data».now) }
 {
     let head = [
         data.len() as u8,
@@ -62,7 +62,7 @@ fn put_line(out: &mut [u8], at: usize, kind: u8, address: u16, data: &[u8])
 
 // Writes a record's line from an index on. Where it does not fit, or the record has more data than a record may, nothing is written.
 pub fn put_record(out: &mut [u8], at: usize, kind: u8, address: u16, data: &[u8])
-    ensures { out.new ≡ putRecord out.old at kind address «data».now }
+    ensures { out.new ≡ put_record out.old at kind address «data».now }
 {
     if !crate::digit_text::has_room(out.len(), at, data.len()) {
         return;

@@ -14,32 +14,32 @@ use Rattle.laws.proofs.Laws.{any_found, any-hit}
 use Rattle.memory.specs.Many.{many}
 use Rattle.laws.specs.Bytes.{low_first, number_in}
 use Rattle.laws.specs.Sets.{any, size}
-use Rattle.memory.specs.Flash.{flashLength, payloadOf, spans}
-use Rattle.uf2_block.specs.Block.{field_at, fields_of, flaggedOf, headerOf}
-use Rattle.uf2_block.specs.Region.{regionOf}
-use Rattle.md5.specs.Md5.{md5Of, digestBytes}
-use Rattle.md5.proofs.Laws.{digest-words}
-use Rattle.uf2_block.specs.Regions.{goodRegion}
-use Rattle.partitions.specs.Settings.{familyArmS, goodSettings}
+use Rattle.memory.specs.Flash.{flash_length, payload_of, spans}
+use Rattle.uf2_block.specs.Block.{field_at, fields_of, flagged_of, header_of}
+use Rattle.uf2_block.specs.Region.{region_of}
+use Rattle.md5.specs.Md5.{md5_of, digest_bytes}
+use Rattle.md5.proofs.Laws.{digest_words}
+use Rattle.uf2_block.specs.Regions.{good_region}
+use Rattle.partitions.specs.Settings.{family_arm_s, good_settings}
 use Rattle.placement.specs.Place.{place_of}
 use Rattle.placement.specs.declared.Place.TheVariants.{At}
-use Rattle.transfer.specs.Transfer.{number_of, goodState, counted, raised, accepted, step_of}
+use Rattle.transfer.specs.Transfer.{number_of, good_state, counted, raised, accepted, step_of}
 use Rattle.transfer.specs.declared.Kind.TheVariants.{Flash}
 use Rattle.transfer.specs.declared.Answer.{Answer}
 use Rattle.transfer.specs.declared.State.TheVariants.{Idle}
-use Rattle.uf2_checks.specs.Screen.{windowOf, noteKind, placed, strayed, noted, dataFound, noteFound, found, screenIn, screenOf}
-use Rattle.arrival.specs.Arrive.{World, rightLengths, standsAt, afterScreening, decide, done, receiveOf}
+use Rattle.uf2_checks.specs.Screen.{window_of, note_kind, placed, strayed, noted, data_found, note_found, found, screen_in, screen_of}
+use Rattle.arrival.specs.Arrive.{World, right_lengths, stands_at, after_screening, decide, done, receive_of}
 use Rattle.arrival.specs.Windows.{kind_of}
 use Rattle.arrival.specs.Facts.{flagged}
 use Rattle.arrival.specs.Lists.{receive_all, AtEach}
-use Rattle.arrival_claims.specs.Kept.{soft, Standing-kept, Flag-0x4000-decides-14-or-17}
-use Rattle.arrival.specs.Standing.{digestIn, Standing}
-use Rattle.demand.specs.Demand.{File, ValidFile, answerNumber, address_of, isData, nothing, own, sameBytes, among, seenOf, howMany, start_of, origin_of, storageOf, holds, liesIn, isGuarded, Contents}
-use Rattle.demand.specs.Regions.{regionStart, regionLength, regionIn, inRegion, Final, Regions, NoOther, Regions-end}
-use Rattle.arrival_claims.proofs.Kept.{standing-kept, flag-0x4000-decides-14-or-17}
-use Rattle.demand.proofs.Regions.{regions-end}
-use Rattle.examples.specs.Boards.{plain, lentTo}
-use Rattle.instances.specs.Regions.{finalBytes, namingBlock, namingFile, erasedStart, Met-where-it-stands, Met-where-it-is-written}
+use Rattle.arrival_claims.specs.Kept.{soft, StandingKept, Flag0x4000Decides14Or17}
+use Rattle.arrival.specs.Standing.{digest_in, Standing}
+use Rattle.demand.specs.Demand.{File, ValidFile, answer_number, address_of, is_data, nothing, own, same_bytes, among, seen_of, how_many, start_of, origin_of, storage_of, holds, lies_in, is_guarded, Contents}
+use Rattle.demand.specs.Regions.{region_start, region_length, region_in, in_region, Final, Regions, NoOther, RegionsEnd}
+use Rattle.arrival_claims.proofs.Kept.{standing_kept, flag_0x4000_decides_14_or_17}
+use Rattle.demand.proofs.Regions.{regions_end}
+use Rattle.examples.specs.Boards.{plain, lent_to}
+use Rattle.instances.specs.Regions.{final_bytes, naming_block, naming_file, erased_start, MetWhereItStands, MetWhereItIsWritten}
 
 -- ---- what a block says
 
@@ -49,22 +49,22 @@ word_back x h = omega arith
 
 -- of the block k of n
 record Saying (k n : ℕ) : Type 0 where
-  flags : field_at (namingBlock 0x6000 k n) 8 ≡ 0x6000
-  address : field_at (namingBlock 0x6000 k n) 12 ≡ 0x10000000 + k * 256
-  number : field_at (namingBlock 0x6000 k n) 20 ≡ k
-  total : field_at (namingBlock 0x6000 k n) 24 ≡ n
-  family : field_at (namingBlock 0x6000 k n) 28 ≡ familyArmS
-  start : field_at (namingBlock 0x6000 k n) 484 ≡ 0x10000000
-  len : field_at (namingBlock 0x6000 k n) 488 ≡ 4096
-  digest : digestIn (namingBlock 0x6000 k n) ≡ md5Of finalBytes
-  payload : payloadOf (namingBlock 0x6000 k n) ≡ replicate 256 255
-  marked : flagged 0x40 (namingBlock 0x2000 k n) ≡ namingBlock 0x6000 k n
+  flags : field_at (naming_block 0x6000 k n) 8 ≡ 0x6000
+  address : field_at (naming_block 0x6000 k n) 12 ≡ 0x10000000 + k * 256
+  number : field_at (naming_block 0x6000 k n) 20 ≡ k
+  total : field_at (naming_block 0x6000 k n) 24 ≡ n
+  family : field_at (naming_block 0x6000 k n) 28 ≡ family_arm_s
+  start : field_at (naming_block 0x6000 k n) 484 ≡ 0x10000000
+  len : field_at (naming_block 0x6000 k n) 488 ≡ 4096
+  digest : digest_in (naming_block 0x6000 k n) ≡ md5_of final_bytes
+  payload : payload_of (naming_block 0x6000 k n) ≡ replicate 256 255
+  marked : flagged 0x40 (naming_block 0x2000 k n) ≡ naming_block 0x6000 k n
 
-saying-01 : Saying 0 1
-unfolding low_first number_in field_at digestBytes payloadOf
-saying-01 =
-    let w = digest-words finalBytes in
-    let x = md5Of finalBytes in
+saying_01 : Saying 0 1
+unfolding low_first number_in field_at digest_bytes payload_of
+saying_01 =
+    let w = digest_words final_bytes in
+    let x = md5_of final_bytes in
     let a = word_back x.a w.a in
     let b = word_back x.b w.b in
     let c = word_back x.c w.c in
@@ -82,11 +82,11 @@ saying-01 =
       marked = refl;
     }
 
-saying-02 : Saying 0 2
-unfolding low_first number_in field_at digestBytes payloadOf
-saying-02 =
-    let w = digest-words finalBytes in
-    let x = md5Of finalBytes in
+saying_02 : Saying 0 2
+unfolding low_first number_in field_at digest_bytes payload_of
+saying_02 =
+    let w = digest_words final_bytes in
+    let x = md5_of final_bytes in
     let a = word_back x.a w.a in
     let b = word_back x.b w.b in
     let c = word_back x.c w.c in
@@ -104,11 +104,11 @@ saying-02 =
       marked = refl;
     }
 
-saying-12 : Saying 1 2
-unfolding low_first number_in field_at digestBytes payloadOf
-saying-12 =
-    let w = digest-words finalBytes in
-    let x = md5Of finalBytes in
+saying_12 : Saying 1 2
+unfolding low_first number_in field_at digest_bytes payload_of
+saying_12 =
+    let w = digest_words final_bytes in
+    let x = md5_of final_bytes in
     let a = word_back x.a w.a in
     let b = word_back x.b w.b in
     let c = word_back x.c w.c in
@@ -128,83 +128,83 @@ saying-12 =
 
 sayings : (n k : ℕ) → 1 ≤ n → n ≤ 2 → k < n → Saying k n
 sayings zero k l m h = absurd (omega arith)
-sayings (suc zero) zero l m h = saying-01
+sayings (suc zero) zero l m h = saying_01
 sayings (suc zero) (suc k) l m h = absurd (omega arith)
-sayings (suc (suc zero)) zero l m h = saying-02
-sayings (suc (suc zero)) (suc zero) l m h = saying-12
+sayings (suc (suc zero)) zero l m h = saying_02
+sayings (suc (suc zero)) (suc zero) l m h = saying_12
 sayings (suc (suc zero)) (suc (suc k)) l m h = absurd (omega arith)
 sayings (suc (suc (suc n))) k l m h = absurd (omega arith)
 
-final-length : length finalBytes ≡ 4096
-final-length = length-replicate {A = ℕ} 4096 255
+final_length : length final_bytes ≡ 4096
+final_length = length-replicate {A = ℕ} 4096 255
 
 -- ---- the file, in a flash of 65,536 bytes without a table
 
-module _ (w : World) (place : place_of plain (length w.held.flash) familyArmS ≡ At 0 65536) (n : ℕ) (some : 1 ≤ n) (few : n ≤ 2) where
+module _ (w : World) (place : place_of plain (length w.held.flash) family_arm_s ≡ At 0 65536) (n : ℕ) (some : 1 ≤ n) (few : n ≤ 2) where
   abbrev F : File
-  F = namingFile n
+  F = naming_file n
 
   says : (k : ℕ) → k < n → Saying k n
   says k h = sayings n k some few h
 
-  is-data : (k : ℕ) → k < n → isData F k ≡ true
+  is-data : (k : ℕ) → k < n → is_data F k ≡ true
   is-data k h = ap (λ (x : ℕ). not (eqb (x / 0x1 % 2) 1)) (says k h).flags
 
-  origin : origin_of plain w Flash familyArmS ≡ 0
+  origin : origin_of plain w Flash family_arm_s ≡ 0
   origin = ap start_of place
 
-  storage : (k : ℕ) → k < n → storageOf plain w F k ≡ k * 256
+  storage : (k : ℕ) → k < n → storage_of plain w F k ≡ k * 256
   storage k h = omega (arith, origin, (says k h).address)
 
-  start_is : (k : ℕ) → k < n → regionStart plain w F k ≡ 0
+  start_is : (k : ℕ) → k < n → region_start plain w F k ≡ 0
   start_is k h = omega (arith, origin, (says k h).start)
 
-  length-is : (k : ℕ) → k < n → regionLength F k ≡ 4096
+  length-is : (k : ℕ) → k < n → region_length F k ≡ 4096
   length-is k h = (says k h).len
 
-  guarded : (k : ℕ) → k < n → isGuarded plain w F k ≡ true
-  unfolding goodRegion regionOf
+  guarded : (k : ℕ) → k < n → is_guarded plain w F k ≡ true
+  unfolding good_region region_of
   guarded k h =
       let q = says k h in
       both (both (is-data k h) (ap (λ (x : ℕ). eqb (x / 0x4000 % 2) 1) q.flags))
       (rw (place, q.start, q.len, q.address) (both (le-leb 0x10000000 (0x10000000 + k * 256) (omega arith)) (le-leb (0x10000000 + k * 256 + 256) 0x10001000 (omega arith))))
 
   -- every final byte is 0xFF
-  final-is : (i : ℕ) → i < n → (c : List ℕ) → Final plain w F i c → c ≡ finalBytes
+  final-is : (i : ℕ) → i < n → (c : List ℕ) → Final plain w F i c → c ≡ final_bytes
   final-is i h c f =
-      ext_get_or 0 c finalBytes (f.whole ∙ length-is i h ∙ sym final-length)
+      ext_get_or 0 c final_bytes (f.whole ∙ length-is i h ∙ sym final_length)
       (λ j l. byte j (omega (arith, f.whole, length-is i h)) ∙ sym (get_or-replicate 4096 j 255 0 (omega (arith, f.whole, length-is i h))))
     where
       byte : (j : ℕ) → j < 4096 → get_or c j 0 ≡ 255
       byte j l =
-          split (any n (λ k. holds plain w F k (regionStart plain w F i + j)))
-          (λ t. held (any_found (λ k. holds plain w F k (regionStart plain w F i + j)) n t))
+          split (any n (λ k. holds plain w F k (region_start plain w F i + j)))
+          (λ t. held (any_found (λ k. holds plain w F k (region_start plain w F i + j)) n t))
           (λ z. f.erased j (omega (arith, length-is i h)) z)
         where
-          held : (k : ℕ) × (k < n) × (holds plain w F k (regionStart plain w F i + j) ≡ true) → get_or c j 0 ≡ 255
+          held : (k : ℕ) × (k < n) × (holds plain w F k (region_start plain w F i + j) ≡ true) → get_or c j 0 ≡ 255
           held q =
               let k = q.0 in
-              let at = storageOf plain w F k in
-              let lo = regionStart plain w F i in
-              let sp = and_right (isData F k) (spans at (lo + j)) q.2 in
+              let at = storage_of plain w F k in
+              let lo = region_start plain w F i in
+              let sp = and_right (is_data F k) (spans at (lo + j)) q.2 in
               let a = leb-true at (lo + j) (and_left (leb at (lo + j)) (ltb (lo + j) (at + 256)) sp) in
               let b = ltb-true (lo + j) (at + 256) (and_right (leb at (lo + j)) (ltb (lo + j) (at + 256)) sp) in
               let e = start_is i h in
               let x : ℕ = j - at in
-              let inside : inRegion plain w F i at ≡ true =
-              both (le-leb lo at (omega arith)) (lt-ltb at (lo + regionLength F i) (omega (arith, length-is i h))) in
+              let inside : in_region plain w F i at ≡ true =
+              both (le-leb lo at (omega arith)) (lt-ltb at (lo + region_length F i) (omega (arith, length-is i h))) in
               ap (λ (x : ℕ). get_or c x 0) (omega arith)
               ∙ f.payloads k q.1 (is-data k q.1) inside x (omega arith)
               ∙ ap (λ (p : List ℕ). get_or p x 0) (says k q.1).payload
               ∙ get_or-replicate 256 x 255 0 (omega arith)
 
   -- and such bytes are final
-  is-final : (i : ℕ) → i < n → Final plain w F i finalBytes
+  is-final : (i : ℕ) → i < n → Final plain w F i final_bytes
   is-final i h =
       record {
-        whole = final-length ∙ sym (length-is i h);
+        whole = final_length ∙ sym (length-is i h);
         payloads = λ k hk y q j l.
-            get_or-replicate 4096 (storageOf plain w F k - regionStart plain w F i + j) 255 0 (omega (arith, storage k hk, few))
+            get_or-replicate 4096 (storage_of plain w F k - region_start plain w F i + j) 255 0 (omega (arith, storage k hk, few))
             ∙ sym (ap (λ (p : List ℕ). get_or p j 0) (says k hk).payload ∙ get_or-replicate 256 j 255 0 l);
         erased = λ j l z. get_or-replicate 4096 j 255 0 (omega (arith, length-is i h));
       }
@@ -218,37 +218,37 @@ module _ (w : World) (place : place_of plain (length w.held.flash) familyArmS �
           (says k hk).len ∙ sym (says i hi).len,
         );
         every = λ i q h g r.
-            let lo = regionStart plain w F i in
-            let l = ltb-true (q * 4096) (lo + regionLength F i) (and_right (leb lo (q * 4096)) (ltb (q * 4096) (lo + regionLength F i)) r) in
+            let lo = region_start plain w F i in
+            let l = ltb-true (q * 4096) (lo + region_length F i) (and_right (leb lo (q * 4096)) (ltb (q * 4096) (lo + region_length F i)) r) in
             let z : q ≡ 0 = omega (arith, start_is i h, length-is i h) in
-            any-hit (λ k. liesIn plain w F k q) n 0 some
-            (both (is-data 0 some) (eq-eqb q (storageOf plain w F 0 / 4096) (omega (arith, storage 0 some))));
-        right = λ i h g c f. ap md5Of (final-is i h c f) ∙ sym (says i h).digest;
+            any-hit (λ k. lies_in plain w F k q) n 0 some
+            (both (is-data 0 some) (eq-eqb q (storage_of plain w F 0 / 4096) (omega (arith, storage 0 some))));
+        right = λ i h g c f. ap md5_of (final-is i h c f) ∙ sym (says i h).digest;
       }
 
-  part : (f : List ℕ) (i : ℕ) → i < n → regionIn plain w F i f ≡ take 4096 f
+  part : (f : List ℕ) (i : ℕ) → i < n → region_in plain w F i f ≡ take 4096 f
   part f i h = rw (start_is i h, length-is i h)
 
   -- a flash whose region is final, and one of another digest
-  final-there : (v : World) (a : List ℕ) → take 4096 v.held.flash ≡ finalBytes → NoOther plain w F v a
+  final-there : (v : World) (a : List ℕ) → take 4096 v.held.flash ≡ final_bytes → NoOther plain w F v a
   final-there v a e i h b t g d = subst (Final plain w F i) (sym (part v.held.flash i h ∙ e)) (is-final i h)
 
-  other-there : (v : World) (a : List ℕ) → (md5Of (take 4096 v.held.flash) ≡ md5Of finalBytes → ⊥) → NoOther plain w F v a
-  other-there v a differs i h b t g d = absurd (differs (ap md5Of (sym (part v.held.flash i h)) ∙ d ∙ (says i h).digest))
+  other-there : (v : World) (a : List ℕ) → (md5_of (take 4096 v.held.flash) ≡ md5_of final_bytes → ⊥) → NoOther plain w F v a
+  other-there v a differs i h b t g d = absurd (differs (ap md5_of (sym (part v.held.flash i h)) ∙ d ∙ (says i h).digest))
 
   -- the answers at the start, but for what stands
   soft-late : (x : Answer) → 14 ≤ number_of (soft x) → 14 ≤ number_of x
   soft-late x h = split (eqb (number_of x) 17) (λ y. omega (arith, eqb-true (number_of x) 17 y)) (λ z. rw z at h)
 
-  late : (k : ℕ) → k < n → 14 ≤ number_of (soft (receiveOf plain w (namingBlock 0x2000 k n)).answer) → 14 ≤ answerNumber plain w (F.block k)
-  unfolding Flag-0x4000-decides-14-or-17
+  late : (k : ℕ) → k < n → 14 ≤ number_of (soft (receive_of plain w (naming_block 0x2000 k n)).answer) → 14 ≤ answer_number plain w (F.block k)
+  unfolding Flag0x4000Decides14Or17
   late k h m =
-      let f : soft (receiveOf plain w (F.block k)).answer ≡ soft (receiveOf plain w (namingBlock 0x2000 k n)).answer =
-      ap (λ (a : List ℕ). soft (receiveOf plain w a).answer) (sym (says k h).marked)
-      ∙ (flag-0x4000-decides-14-or-17 plain w (namingBlock 0x2000 k n)).answer in
-      soft-late (receiveOf plain w (F.block k)).answer (rw f m)
+      let f : soft (receive_of plain w (F.block k)).answer ≡ soft (receive_of plain w (naming_block 0x2000 k n)).answer =
+      ap (λ (a : List ℕ). soft (receive_of plain w a).answer) (sym (says k h).marked)
+      ∙ (flag_0x4000_decides_14_or_17 plain w (naming_block 0x2000 k n)).answer in
+      soft-late (receive_of plain w (F.block k)).answer (rw f m)
 
-  valid : ((k : ℕ) → k < n → 14 ≤ number_of (soft (receiveOf plain w (namingBlock 0x2000 k n)).answer)) → ValidFile plain w F
+  valid : ((k : ℕ) → k < n → 14 ≤ number_of (soft (receive_of plain w (naming_block 0x2000 k n)).answer)) → ValidFile plain w F
   valid m =
       record {
         some = some;
@@ -256,60 +256,60 @@ module _ (w : World) (place : place_of plain (length w.held.flash) familyArmS �
         families = λ k h. (says k h).family;
         totals = λ k h. (says k h).total;
         disjoint = λ i k j hi hk yi yk p q.
-            let u = spans-true (address_of F i) j p in
-            let v = spans-true (address_of F k) j q in
+            let u = spans_true (address_of F i) j p in
+            let v = spans_true (address_of F k) j q in
             omega (arith, u, v, (says i hi).address, (says k hk).address);
         kinds = λ k h y. both (le-leb 0x10000000 (address_of F k) (omega (arith, (says k h).address))) (lt-ltb (address_of F k) 0x12000000 (omega (arith, (says k h).address)));
         quiet = λ n. absurd (n refl);
         passes = λ k h. omega (arith, late k h (m k h));
       }
     where
-      spans-true : (at j : ℕ) → spans at j ≡ true → (at ≤ j) × (j < at + 256)
-      spans-true at j e = (leb-true at j (and_left (leb at j) (ltb j (at + 256)) e), ltb-true j (at + 256) (and_right (leb at j) (ltb j (at + 256)) e))
+      spans_true : (at j : ℕ) → spans at j ≡ true → (at ≤ j) × (j < at + 256)
+      spans_true at j e = (leb-true at j (and_left (leb at j) (ltb j (at + 256)) e), ltb-true j (at + 256) (and_right (leb at j) (ltb j (at + 256)) e))
 
 -- ---- two blocks that stand already, and one that is written
 
-same_refl : (a : List ℕ) → sameBytes a a ≡ true
-unfolding sameBytes
+same_refl : (a : List ℕ) → same_bytes a a ≡ true
+unfolding same_bytes
 same_refl [] = refl
 same_refl (x ∷ a) = rw (eqb_same x, same_refl a)
 
-or-second : (a b : Bool) → b ≡ true → a || b ≡ true
-or-second true b e = refl
-or-second false b e = e
+or_second : (a b : Bool) → b ≡ true → a || b ≡ true
+or_second true b e = refl
+or_second false b e = e
 
-place_is : (f : ℕ) → place_of plain (length (replicate 65536 f)) familyArmS ≡ At 0 65536
+place_is : (f : ℕ) → place_of plain (length (replicate 65536 f)) family_arm_s ≡ At 0 65536
 unfolding place_of
-place_is f = ap (λ (n : ℕ). place_of plain n familyArmS) (length-replicate 65536 f)
+place_is f = ap (λ (n : ℕ). place_of plain n family_arm_s) (length-replicate 65536 f)
 
 -- at page k, without the flag
-told : (14 ≤ number_of (soft (receiveOf plain erasedStart (namingBlock 0x2000 0 2)).answer))
-    × (14 ≤ number_of (soft (receiveOf plain erasedStart (namingBlock 0x2000 1 2)).answer))
-    × (14 ≤ number_of (soft (receiveOf plain (lentTo Idle) (namingBlock 0x2000 0 1)).answer))
-unfolding many any flashLength payloadOf low_first number_in field_at fields_of flaggedOf headerOf goodSettings place_of goodState counted raised accepted step_of windowOf noteKind placed strayed noted dataFound noteFound found screenIn screenOf rightLengths standsAt afterScreening decide done receiveOf digestBytes
+told : (14 ≤ number_of (soft (receive_of plain erased_start (naming_block 0x2000 0 2)).answer))
+    × (14 ≤ number_of (soft (receive_of plain erased_start (naming_block 0x2000 1 2)).answer))
+    × (14 ≤ number_of (soft (receive_of plain (lent_to Idle) (naming_block 0x2000 0 1)).answer))
+unfolding many any flash_length payload_of low_first number_in field_at fields_of flagged_of header_of good_settings place_of good_state counted raised accepted step_of window_of note_kind placed strayed noted data_found note_found found screen_in screen_of right_lengths stands_at after_screening decide done receive_of digest_bytes
 told = (omega arith, omega arith, omega arith)
 
-told-2 : (k : ℕ) → k < 2 → 14 ≤ number_of (soft (receiveOf plain erasedStart (namingBlock 0x2000 k 2)).answer)
-told-2 zero h = told.0
-told-2 (suc zero) h = told.1
-told-2 (suc (suc k)) h = absurd (omega arith)
+told_2 : (k : ℕ) → k < 2 → 14 ≤ number_of (soft (receive_of plain erased_start (naming_block 0x2000 k 2)).answer)
+told_2 zero h = told.0
+told_2 (suc zero) h = told.1
+told_2 (suc (suc k)) h = absurd (omega arith)
 
-told-1 : (k : ℕ) → k < 1 → 14 ≤ number_of (soft (receiveOf plain (lentTo Idle) (namingBlock 0x2000 k 1)).answer)
-told-1 zero h = told.2
-told-1 (suc k) h = absurd (omega arith)
+told_1 : (k : ℕ) → k < 1 → 14 ≤ number_of (soft (receive_of plain (lent_to Idle) (naming_block 0x2000 k 1)).answer)
+told_1 zero h = told.2
+told_1 (suc k) h = absurd (omega arith)
 
 -- block 1 stands at the start
-stands : Standing plain erasedStart (namingBlock 0x6000 1 2)
+stands : Standing plain erased_start (naming_block 0x6000 1 2)
 stands =
-    let q = saying-12 in
-    let a = namingBlock 0x6000 1 2 in
+    let q = saying_12 in
+    let a = naming_block 0x6000 1 2 in
     record {
-      data-block = ap (λ (x : ℕ). eqb (x / 0x1 % 2) 1) q.flags;
+      data_block = ap (λ (x : ℕ). eqb (x / 0x1 % 2) 1) q.flags;
       flash = unfold kind_of in rw q.flags;
       flag = ap (λ (x : ℕ). eqb (x / 0x4000 % 2) 1) q.flags;
       start = 0;
       size = 65536;
-      place = ap (place_of plain (length erasedStart.held.flash)) q.family ∙ place_is 255;
+      place = ap (place_of plain (length erased_start.held.flash)) q.family ∙ place_is 255;
       first = ap (λ (x : ℕ). x % 4096) q.start;
       whole = ap (λ (x : ℕ). x % 4096) q.len;
       some = λ e. omega (arith, q.len);
@@ -317,62 +317,62 @@ stands =
       within = omega (arith, q.start, q.len);
       before = omega (arith, q.start, q.address);
       behind = omega (arith, q.start, q.len, q.address);
-      digest = ap md5Of (region q.start q.len) ∙ sym q.digest;
+      digest = ap md5_of (region q.start q.len) ∙ sym q.digest;
     }
   where
-    region : {x y : ℕ} → x ≡ 0x10000000 → y ≡ 4096 → take y (drop (0 + (x - 0x10000000)) (replicate 65536 255)) ≡ finalBytes
+    region : {x y : ℕ} → x ≡ 0x10000000 → y ≡ 4096 → take y (drop (0 + (x - 0x10000000)) (replicate 65536 255)) ≡ final_bytes
     region e f = rw (e, f)
 
-pub met-where-it-stands : Met-where-it-stands
-unfolding Met-where-it-stands
-met-where-it-stands =
+pub met_where_it_stands : MetWhereItStands
+unfolding MetWhereItStands
+met_where_it_stands =
     record {
-      valid = valid erasedStart (place_is 255) 2 (omega arith) (omega arith) told-2;
-      guarded = guarded erasedStart (place_is 255) 2 (omega arith) (omega arith) 0 (omega arith);
-      regions = regions erasedStart (place_is 255) 2 (omega arith) (omega arith);
+      valid = valid erased_start (place_is 255) 2 (omega arith) (omega arith) told_2;
+      guarded = guarded erased_start (place_is 255) 2 (omega arith) (omega arith) 0 (omega arith);
+      regions = regions erased_start (place_is 255) 2 (omega arith) (omega arith);
       complete =
           record {
             sent = own 1 (omega arith) (own 0 (omega arith) nothing);
-            met = unfold AtEach in (final-there erasedStart (place_is 255) 2 (omega arith) (omega arith) erasedStart (namingBlock 0x6000 1 2) refl, (final-there erasedStart (place_is 255) 2 (omega arith) (omega arith) next (namingBlock 0x6000 0 2) (ap (take 4096) same), tt));
+            met = unfold AtEach in (final-there erased_start (place_is 255) 2 (omega arith) (omega arith) erased_start (naming_block 0x6000 1 2) refl, (final-there erased_start (place_is 255) 2 (omega arith) (omega arith) next (naming_block 0x6000 0 2) (ap (take 4096) same), tt));
             whole = whole;
           };
     }
   where
     next : World
-    next = (receiveOf plain erasedStart (namingBlock 0x6000 1 2)).world
+    next = (receive_of plain erased_start (naming_block 0x6000 1 2)).world
 
     -- the first of them is kept, so that the second finds the same flash
     same : next.held.flash ≡ replicate 65536 255
     same =
-        unfold Standing-kept in (standing-kept plain erasedStart (namingBlock 0x6000 1 2) stands
-        (late erasedStart (place_is 255) 2 (omega arith) (omega arith) 1 (omega arith) told.1)).buffers Flash
+        unfold StandingKept in (standing_kept plain erased_start (naming_block 0x6000 1 2) stands
+        (late erased_start (place_is 255) 2 (omega arith) (omega arith) 1 (omega arith) told.1)).buffers Flash
 
-    whole : howMany (namingFile 2) (seenOf (namingFile 2) (namingBlock 0x6000 1 2 ∷ namingBlock 0x6000 0 2 ∷ [])) ≡ 2
+    whole : how_many (naming_file 2) (seen_of (naming_file 2) (naming_block 0x6000 1 2 ∷ naming_block 0x6000 0 2 ∷ [])) ≡ 2
     whole =
         unfold size among in rw (
-          or-second (sameBytes (namingBlock 0x6000 0 2) (namingBlock 0x6000 1 2)) (sameBytes (namingBlock 0x6000 0 2) (namingBlock 0x6000 0 2) || false) (rw (same_refl (namingBlock 0x6000 0 2))),
-          same_refl (namingBlock 0x6000 1 2),
+          or_second (same_bytes (naming_block 0x6000 0 2) (naming_block 0x6000 1 2)) (same_bytes (naming_block 0x6000 0 2) (naming_block 0x6000 0 2) || false) (rw (same_refl (naming_block 0x6000 0 2))),
+          same_refl (naming_block 0x6000 1 2),
         )
 
-pub met-where-it-is-written : Met-where-it-is-written
-unfolding Met-where-it-is-written
-met-where-it-is-written differs =
+pub met_where_it_is_written : MetWhereItIsWritten
+unfolding MetWhereItIsWritten
+met_where_it_is_written differs =
     record {
-      valid = valid (lentTo Idle) (place_is 7) 1 (omega arith) (omega arith) told-1;
-      guarded = guarded (lentTo Idle) (place_is 7) 1 (omega arith) (omega arith) 0 (omega arith);
-      regions = regions (lentTo Idle) (place_is 7) 1 (omega arith) (omega arith);
+      valid = valid (lent_to Idle) (place_is 7) 1 (omega arith) (omega arith) told_1;
+      guarded = guarded (lent_to Idle) (place_is 7) 1 (omega arith) (omega arith) 0 (omega arith);
+      regions = regions (lent_to Idle) (place_is 7) 1 (omega arith) (omega arith);
       complete =
           record {
             sent = own 0 (omega arith) nothing;
-            met = unfold AtEach in (other-there (lentTo Idle) (place_is 7) 1 (omega arith) (omega arith) (lentTo Idle) (namingBlock 0x6000 0 1) differs, tt);
-            whole = unfold size among in rw (same_refl (namingBlock 0x6000 0 1));
+            met = unfold AtEach in (other-there (lent_to Idle) (place_is 7) 1 (omega arith) (omega arith) (lent_to Idle) (naming_block 0x6000 0 1) differs, tt);
+            whole = unfold size among in rw (same_refl (naming_block 0x6000 0 1));
           };
     }
 
 -- so the theorem gives what the flash has at completion
-pub kept-contents : Contents plain erasedStart (namingFile 2) (seenOf (namingFile 2) (namingBlock 0x6000 1 2 ∷ namingBlock 0x6000 0 2 ∷ []))
-    (receive_all plain erasedStart (namingBlock 0x6000 1 2 ∷ namingBlock 0x6000 0 2 ∷ []))
-unfolding Met-where-it-stands Regions-end
-kept-contents =
-    let m = met-where-it-stands in
-    regions-end plain erasedStart (namingFile 2) refl m.valid m.regions (namingBlock 0x6000 1 2 ∷ namingBlock 0x6000 0 2 ∷ []) m.complete
+pub kept_contents : Contents plain erased_start (naming_file 2) (seen_of (naming_file 2) (naming_block 0x6000 1 2 ∷ naming_block 0x6000 0 2 ∷ []))
+    (receive_all plain erased_start (naming_block 0x6000 1 2 ∷ naming_block 0x6000 0 2 ∷ []))
+unfolding MetWhereItStands RegionsEnd
+kept_contents =
+    let m = met_where_it_stands in
+    regions_end plain erased_start (naming_file 2) refl m.valid m.regions (naming_block 0x6000 1 2 ∷ naming_block 0x6000 0 2 ∷ []) m.complete

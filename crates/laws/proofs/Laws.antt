@@ -9,10 +9,10 @@ use native.Mathlib.Omega.{arith}
 use lib.Dec.{eqb}
 use borrow.Author.Tests.{eqb-true, eqb-false, ne_eqb}
 use Rattle.laws.specs.Sets.{Set, none, add, one, size, any, least}
-use Rattle.laws.proofs.Tests.{split, clash, is_false, eqb_same, or-idle, or_left, or_right}
+use Rattle.laws.proofs.Tests.{split, clash, is_false, eqb_same, or_idle, or_left, or_right}
 
-pub add-idle : (k : ℕ) (S : Set) → S k ≡ true → add k S ≡ S
-add-idle k S h = fun_ext (λ j. or-idle (eqb j k) (S j) (λ e. ap S (eqb-true j k e) ∙ h))
+pub add_idle : (k : ℕ) (S : Set) → S k ≡ true → add k S ≡ S
+add_idle k S h = fun_ext (λ j. or_idle (eqb j k) (S j) (λ e. ap S (eqb-true j k e) ∙ h))
 
 -- ---- how many
 
@@ -21,23 +21,23 @@ unfolding size
 size_none zero = refl
 size_none (suc n) = rw (size_none n)
 
-pub one-le : (b : Bool) → one b ≤ 1
-one-le true = omega arith
-one-le false = omega arith
+pub one_le : (b : Bool) → one b ≤ 1
+one_le true = omega arith
+one_le false = omega arith
 
-pub size-le : (n : ℕ) (S : Set) → size n S ≤ n
+pub size_le : (n : ℕ) (S : Set) → size n S ≤ n
 unfolding size
-size-le zero S = omega arith
-size-le (suc n) S = omega (arith, size-le n S, one-le (S n))
+size_le zero S = omega arith
+size_le (suc n) S = omega (arith, size_le n S, one_le (S n))
 
 -- a number outside leaves room
-pub size-lt : (n : ℕ) (S : Set) (k : ℕ) → k < n → S k ≡ false → size n S < n
+pub size_lt : (n : ℕ) (S : Set) (k : ℕ) → k < n → S k ≡ false → size n S < n
 unfolding size
-size-lt zero S k h e = absurd (not-suc-le-zero h)
-size-lt (suc n) S k h e =
+size_lt zero S k h e = absurd (not-suc-le-zero h)
+size_lt (suc n) S k h e =
     split (eqb k n)
-    (λ q. let f : S n ≡ false = ap S (sym (eqb-true k n q)) ∙ e in rw f (omega (arith, size-le n S)))
-    (λ q. let d : k ≢ n = eqb-false k n q in omega (arith, size-lt n S k (omega arith) e, one-le (S n)))
+    (λ q. let f : S n ≡ false = ap S (sym (eqb-true k n q)) ∙ e in rw f (omega (arith, size_le n S)))
+    (λ q. let d : k ≢ n = eqb-false k n q in omega (arith, size_lt n S k (omega arith) e, one_le (S n)))
 
 -- what is added above n does not count
 pub size_above : (n : ℕ) (S : Set) (k : ℕ) → n ≤ k → size n (add k S) ≡ size n S
@@ -48,44 +48,44 @@ size_above (suc n) S k h =
     rw (q, size_above n S k (omega arith))
 
 -- a new number adds one
-pub size-add : (n : ℕ) (S : Set) (k : ℕ) → k < n → S k ≡ false → size n (add k S) ≡ suc (size n S)
+pub size_add : (n : ℕ) (S : Set) (k : ℕ) → k < n → S k ≡ false → size n (add k S) ≡ suc (size n S)
 unfolding size
-size-add zero S k h e = absurd (not-suc-le-zero h)
-size-add (suc n) S k h e =
+size_add zero S k h e = absurd (not-suc-le-zero h)
+size_add (suc n) S k h e =
     split (eqb n k)
     (λ q.
     let f : S n ≡ false = ap S (eqb-true n k q) ∙ e in
     rw (q, f, size_above n S k (omega (arith, eqb-true n k q))) (omega arith))
-    (λ q. let d : n ≢ k = eqb-false n k q in rw (q, size-add n S k (omega arith) e) (omega arith))
+    (λ q. let d : n ≢ k = eqb-false n k q in rw (q, size_add n S k (omega arith) e) (omega arith))
 
 -- a number inside counts
-pub size-some : (n : ℕ) (S : Set) (k : ℕ) → k < n → S k ≡ true → 1 ≤ size n S
+pub size_some : (n : ℕ) (S : Set) (k : ℕ) → k < n → S k ≡ true → 1 ≤ size n S
 unfolding size
-size-some zero S k h e = absurd (not-suc-le-zero h)
-size-some (suc n) S k h e =
+size_some zero S k h e = absurd (not-suc-le-zero h)
+size_some (suc n) S k h e =
     split (eqb k n)
     (λ q. let f : S n ≡ true = ap S (sym (eqb-true k n q)) ∙ e in rw f (omega arith))
-    (λ q. let d : k ≢ n = eqb-false k n q in omega (arith, size-some n S k (omega arith) e))
+    (λ q. let d : k ≢ n = eqb-false k n q in omega (arith, size_some n S k (omega arith) e))
 
-pub size-full : (n : ℕ) (S : Set) (k : ℕ) → n ≤ size n S → k < n → S k ≡ true
-size-full n S k e h = split (S k) (λ y. y) (λ z. absurd (omega (arith, size-lt n S k h z)))
+pub size_full : (n : ℕ) (S : Set) (k : ℕ) → n ≤ size n S → k < n → S k ≡ true
+size_full n S k e h = split (S k) (λ y. y) (λ z. absurd (omega (arith, size_lt n S k h z)))
 
-pub size-cong : (n : ℕ) (S R : Set) → ((j : ℕ) → j < n → S j ≡ R j) → size n S ≡ size n R
+pub size_cong : (n : ℕ) (S R : Set) → ((j : ℕ) → j < n → S j ≡ R j) → size n S ≡ size n R
 unfolding size
-size-cong zero S R h = refl
-size-cong (suc n) S R h = rw (h n (omega arith), size-cong n S R (λ j l. h j (omega arith)))
+size_cong zero S R h = refl
+size_cong (suc n) S R h = rw (h n (omega arith), size_cong n S R (λ j l. h j (omega arith)))
 
 -- S has numbers below n alone
 unfoldable pub Within : ℕ → Set → Type 0
 Within n S = (j : ℕ) → S j ≡ true → j < n
 
 -- a set that has none from t on counts the same below any greater number
-pub size-within : (t r : ℕ) (S : Set) → Within t S → size (r + t) S ≡ size t S
+pub size_within : (t r : ℕ) (S : Set) → Within t S → size (r + t) S ≡ size t S
 unfolding size Within
-size-within t zero S h = ap (λ (x : ℕ). size x S) (zero-add t)
-size-within t (suc r) S h =
+size_within t zero S h = ap (λ (x : ℕ). size x S) (zero-add t)
+size_within t (suc r) S h =
     let z : S (r + t) ≡ false = split (S (r + t)) (λ y. absurd (omega (arith, h (r + t) y))) (λ z. z) in
-    ap (λ (x : ℕ). size x S) (suc-add r t) ∙ rw (z, size-within t r S h) (omega arith)
+    ap (λ (x : ℕ). size x S) (suc-add r t) ∙ rw (z, size_within t r S h) (omega arith)
 
 -- ---- numbers below n alone
 
@@ -93,9 +93,9 @@ pub within_none : (n : ℕ) → Within n none
 unfolding Within
 within_none n j e = clash false e refl
 
-pub within-add : (n k : ℕ) (S : Set) → k < n → Within n S → Within n (add k S)
+pub within_add : (n k : ℕ) (S : Set) → k < n → Within n S → Within n (add k S)
 unfolding Within
-within-add n k S h wi j e = split (eqb j k) (λ q. omega (arith, eqb-true j k q)) (λ q. wi j (rw q at e))
+within_add n k S h wi j e = split (eqb j k) (λ q. omega (arith, eqb-true j k q)) (λ q. wi j (rw q at e))
 
 -- ---- whether one passes
 
@@ -133,16 +133,16 @@ module _ (P : Set) where
       (λ q. let r : (k : ℕ) × (k < n) × (P k ≡ true) = any_found n q in (r.0, omega (arith, r.1), r.2))
       (λ q. (n, omega arith, rw q at e))
 
-pub any-cong : (n : ℕ) (P Q : Set) → ((j : ℕ) → j < n → P j ≡ Q j) → any n P ≡ any n Q
+pub any_cong : (n : ℕ) (P Q : Set) → ((j : ℕ) → j < n → P j ≡ Q j) → any n P ≡ any n Q
 unfolding any
-any-cong zero P Q h = refl
-any-cong (suc n) P Q h = rw (h n (omega arith), any-cong n P Q (λ j l. h j (omega arith)))
+any_cong zero P Q h = refl
+any_cong (suc n) P Q h = rw (h n (omega arith), any_cong n P Q (λ j l. h j (omega arith)))
 
 -- one of two tests
-pub any-or : (n : ℕ) (P Q : Set) → any n (λ j. P j || Q j) ≡ any n P || any n Q
+pub any_or : (n : ℕ) (P Q : Set) → any n (λ j. P j || Q j) ≡ any n P || any n Q
 unfolding any
-any-or zero P Q = refl
-any-or (suc n) P Q = rw (any-or n P Q) (four (any n P) (any n Q) (P n) (Q n))
+any_or zero P Q = refl
+any_or (suc n) P Q = rw (any_or n P Q) (four (any n P) (any n Q) (P n) (Q n))
   where
     four : (a b c d : Bool) → (a || b) || (c || d) ≡ (a || c) || (b || d)
     four true b c d = refl
@@ -152,11 +152,11 @@ any-or (suc n) P Q = rw (any-or n P Q) (four (any n P) (any n Q) (P n) (Q n))
     four false false false d = refl
 
 -- what one number more adds to a search in a set
-pub any-add : (n : ℕ) (Q S : Set) (k : ℕ) → k < n → any n (λ i. add k S i && Q i) ≡ Q k || any n (λ i. S i && Q i)
-any-add n Q S k h =
+pub any_add : (n : ℕ) (Q S : Set) (k : ℕ) → k < n → any n (λ i. add k S i && Q i) ≡ Q k || any n (λ i. S i && Q i)
+any_add n Q S k h =
     split (Q k)
     (λ q. rw q (any-hit (λ i. add k S i && Q i) n k h (rw (eqb_same k) q)))
-    (λ q. rw q (any-cong n (λ i. add k S i && Q i) (λ i. S i && Q i) (λ i l. same q i)))
+    (λ q. rw q (any_cong n (λ i. add k S i && Q i) (λ i. S i && Q i) (λ i l. same q i)))
   where
     same : Q k ≡ false → (i : ℕ) → add k S i && Q i ≡ S i && Q i
     same q i =
@@ -213,7 +213,7 @@ module _ (P : Set) (v : ℕ → ℕ) (d : ℕ) where
       let w : k ≢ n = λ s. clash (P n) (ap P (sym s) ∙ e) q in
       rw q (pick-hit n k (omega arith) e (λ j l. u j (omega arith))))
 
-pub pick-cong : (n : ℕ) (P Q : Set) (v : ℕ → ℕ) (d : ℕ) → ((j : ℕ) → j < n → P j ≡ Q j) → pick n P v d ≡ pick n Q v d
+pub pick_cong : (n : ℕ) (P Q : Set) (v : ℕ → ℕ) (d : ℕ) → ((j : ℕ) → j < n → P j ≡ Q j) → pick n P v d ≡ pick n Q v d
 unfolding pick
-pick-cong zero P Q v d h = refl
-pick-cong (suc n) P Q v d h = rw (h n (omega arith), pick-cong n P Q v d (λ j l. h j (omega arith)))
+pick_cong zero P Q v d h = refl
+pick_cong (suc n) P Q v d h = rw (h n (omega arith), pick_cong n P Q v d (λ j l. h j (omega arith)))

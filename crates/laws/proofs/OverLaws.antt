@@ -43,14 +43,14 @@ module _ (d : List ℕ) (at : ℕ) (s : List ℕ) (fits : at + length s ≤ leng
       ∙ ap (λ (k : ℕ). get_or d k 0) g))
 
 -- one element
-pub set-over : (d : List ℕ) (i x : ℕ) → i < length d → set d i x ≡ over d i (x ∷ [])
+pub set_over : (d : List ℕ) (i x : ℕ) → i < length d → set d i x ≡ over d i (x ∷ [])
 unfolding over
-set-over d i x l = rw (add-one i) (set_split d i x l)
+set_over d i x l = rw (add-one i) (set_split d i x l)
 
 -- a part that is replaced, and then the part right after it
-pub over-next : (d : List ℕ) (at : ℕ) (s : List ℕ) (k : ℕ) (t : List ℕ) → at + length s ≡ k → k + length t ≤ length d → over (over d at s) k t ≡ over d at (s ++ t)
+pub over_next : (d : List ℕ) (at : ℕ) (s : List ℕ) (k : ℕ) (t : List ℕ) → at + length s ≡ k → k + length t ≤ length d → over (over d at s) k t ≡ over d at (s ++ t)
 unfolding over
-over-next d at s k t e l =
+over_next d at s k t e l =
     let p = take at d ++ s in
     let q = drop (at + length s) d in
     let split : take at d ++ (s ++ q) ≡ p ++ q = sym (append_assoc (take at d) s q) in
@@ -64,26 +64,26 @@ over-next d at s k t e l =
     rw (split, take_at p q k size, rest) (simp append_assoc)
 
 -- all of a list
-pub over-whole : (d s : List ℕ) → length s ≡ length d → over d 0 s ≡ s
+pub over_whole : (d s : List ℕ) → length s ≡ length d → over d 0 s ≡ s
 unfolding over
-over-whole d s e =
+over_whole d s e =
     let past : length d ≤ 0 + length s = omega arith in
     rw (drop_of_length-le d past) (append-nil s)
 
 -- what a callee left in a part that it was lent, said of the whole
-pub put-over : (a n : ℕ) (xs ys : List ℕ) → length ys ≡ n → put_mid a (a + n - a) xs ys ≡ over xs a ys
+pub put_over : (a n : ℕ) (xs ys : List ℕ) → length ys ≡ n → put_mid a (a + n - a) xs ys ≡ over xs a ys
 unfolding over
-put-over a n xs ys e =
+put_over a n xs ys e =
     let h : a + n - a ≡ n = omega arith in
     rw (h, drop-drop n a xs, e) refl
 
 -- a source p of n elements that was copied into a part of n
-pub copied-over : (a n : ℕ) (xs p ys : List ℕ) → length p ≡ n → a + n ≤ length xs
+pub copied_over : (a n : ℕ) (xs p ys : List ℕ) → length p ≡ n → a + n ≤ length xs
     → ys ≡ take (length p) p ++ drop (length p) (take (a + n - a) (drop a xs)) → put_mid a (a + n - a) xs ys ≡ over xs a p
-copied-over a n xs p ys k l e =
+copied_over a n xs p ys k l e =
     let m : length (take (a + n - a) (drop a xs)) ≤ length p = simp (length-take, length-drop) (omega arith) in
     let y : ys ≡ p = e ∙ copied p (take (a + n - a) (drop a xs)) m in
-    put-over a n xs ys (rw y k) ∙ rw y refl
+    put_over a n xs ys (rw y k) ∙ rw y refl
   where
     copied : (s t : List ℕ) → length t ≤ length s → take (length s) s ++ drop (length s) t ≡ s
     copied s t l = rw (take-length s, drop_of_length-le t l) (append-nil s)

@@ -14,7 +14,7 @@ use borrow.Author.Tests.{eqb-true, eqb-false}
 use Rattle.laws.specs.Over.{over}
 use Rattle.laws.specs.Rows.{rows}
 use Rattle.laws.proofs.Tests.{split}
-use Rattle.laws.proofs.OverLaws.{over-next}
+use Rattle.laws.proofs.OverLaws.{over_next}
 
 pub rows_none : (f : ℕ → List ℕ) → rows f 0 ≡ []
 unfolding rows
@@ -26,10 +26,10 @@ unfolding rows
 rows_more f k = rw (add-one k)
 
 -- rows that agree
-pub rows-cong : (f g : ℕ → List ℕ) (n : ℕ) → ((j : ℕ) → j < n → f j ≡ g j) → rows f n ≡ rows g n
+pub rows_cong : (f g : ℕ → List ℕ) (n : ℕ) → ((j : ℕ) → j < n → f j ≡ g j) → rows f n ≡ rows g n
 unfolding rows
-rows-cong f g zero h = refl
-rows-cong f g (suc n) h = rw (rows-cong f g n (λ j l. h j (omega arith)), h n (omega arith))
+rows_cong f g zero h = refl
+rows_cong f g (suc n) h = rw (rows_cong f g n (λ j l. h j (omega arith)), h n (omega arith))
 
 -- rows of which those below m have the width w
 module _ (w m : ℕ) (f : ℕ → List ℕ) (wide : (j : ℕ) → j < m → length (f j) ≡ w) where
@@ -62,4 +62,4 @@ module _ (w m : ℕ) (f : ℕ → List ℕ) (wide : (j : ℕ) → j < m → leng
   pub rows-over : (d : List ℕ) (k : ℕ) → k < m → w * k + w ≤ length d → over (over d 0 (rows f k)) (w * k) (f k) ≡ over d 0 (rows f (k + 1))
   rows-over d k h l =
       let at : 0 + length (rows f k) ≡ w * k = omega (arith, length-rows k (omega arith)) in
-      rw (rows_more f k) (over-next d 0 (rows f k) (w * k) (f k) at (omega (arith, wide k h)))
+      rw (rows_more f k) (over_next d 0 (rows f k) (w * k) (f k) at (omega (arith, wide k h)))

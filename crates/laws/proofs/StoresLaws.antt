@@ -9,25 +9,25 @@ use borrow.Author.Tests.{leb-true, leb-false, ltb-true, ltb-false}
 use Rattle.laws.specs.Over.{over}
 use Rattle.laws.proofs.Tests.{split, or_left, or_right}
 use Rattle.laws.proofs.OverLaws.{over-inside, over-before, over-after}
-use Rattle.laws.specs.Stores.{Store, covers, byte_of, anyCovers, latest}
+use Rattle.laws.specs.Stores.{Store, covers, byte_of, any_covers, latest}
 
-pub latest-append : (j : ℕ) (xs ys : List Store) (d : ℕ) → latest j (xs ++ ys) d ≡ latest j ys (latest j xs d)
+pub latest_append : (j : ℕ) (xs ys : List Store) (d : ℕ) → latest j (xs ++ ys) d ≡ latest j ys (latest j xs d)
 unfolding latest
-latest-append j [] ys d = refl
-latest-append j (x ∷ xs) ys d = latest-append j xs ys (cond (covers x j) (byte_of x j) d)
+latest_append j [] ys d = refl
+latest_append j (x ∷ xs) ys d = latest_append j xs ys (cond (covers x j) (byte_of x j) d)
 
-pub latest-none : (j : ℕ) (xs : List Store) (d : ℕ) → anyCovers xs j ≡ false → latest j xs d ≡ d
-unfolding latest anyCovers
-latest-none j [] d e = refl
-latest-none j (x ∷ xs) d e =
-    latest-none j xs (cond (covers x j) (byte_of x j) d) (or_right (covers x j) (anyCovers xs j) e)
-    ∙ rw (or_left (covers x j) (anyCovers xs j) e)
+pub latest_none : (j : ℕ) (xs : List Store) (d : ℕ) → any_covers xs j ≡ false → latest j xs d ≡ d
+unfolding latest any_covers
+latest_none j [] d e = refl
+latest_none j (x ∷ xs) d e =
+    latest_none j xs (cond (covers x j) (byte_of x j) d) (or_right (covers x j) (any_covers xs j) e)
+    ∙ rw (or_left (covers x j) (any_covers xs j) e)
 
-pub latest-last : (j : ℕ) (xs ys : List Store) (s : Store) (d : ℕ) → covers s j ≡ true → anyCovers ys j ≡ false
+pub latest_last : (j : ℕ) (xs ys : List Store) (s : Store) (d : ℕ) → covers s j ≡ true → any_covers ys j ≡ false
     → latest j (xs ++ (s ∷ ys)) d ≡ byte_of s j
 unfolding latest
-latest-last j xs ys s d c n =
-    latest-append j xs (s ∷ ys) d ∙ latest-none j ys (cond (covers s j) (byte_of s j) (latest j xs d)) n ∙ rw c
+latest_last j xs ys s d c n =
+    latest_append j xs (s ∷ ys) d ∙ latest_none j ys (cond (covers s j) (byte_of s j) (latest j xs d)) n ∙ rw c
 
 -- a byte of an image with a store in it
 pub get_d_over : (d : List ℕ) (at : ℕ) (s : List ℕ) (j : ℕ) → at + length s ≤ length d

@@ -20,9 +20,9 @@ is_false false h = refl
 pub eqb_same : (n : ℕ) → eqb n n ≡ true
 eqb_same n = eq-eqb n n refl
 
-pub or-idle : (a b : Bool) → (a ≡ true → b ≡ true) → a || b ≡ b
-or-idle true b f = sym (f refl)
-or-idle false b f = refl
+pub or_idle : (a b : Bool) → (a ≡ true → b ≡ true) → a || b ≡ b
+or_idle true b f = sym (f refl)
+or_idle false b f = refl
 
 pub or_left : (a b : Bool) → a || b ≡ false → a ≡ false
 or_left true b e = e

@@ -15,9 +15,9 @@ abbrev pub byte_of : Store → ℕ → ℕ
 byte_of s j = get_or s.bytes (j - s.address) 0
 
 -- one of the stores has it
-unfoldable pub anyCovers : List Store → ℕ → Bool
-anyCovers [] j = false
-anyCovers (s ∷ ss) j = covers s j || anyCovers ss j
+unfoldable pub any_covers : List Store → ℕ → Bool
+any_covers [] j = false
+any_covers (s ∷ ss) j = covers s j || any_covers ss j
 
 -- the latest byte that was stored at j, and where none was, d
 unfoldable pub latest : ℕ → List Store → ℕ → ℕ

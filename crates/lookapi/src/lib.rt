@@ -1,7 +1,7 @@
 // A look at an arrival for C: a library of its own, so that the call is compiled as one piece.
 ghost use Rattle.std.specs.Prelude.{◌≡◌};
 ghost use Rattle.arrival.specs.Lending.{lent_at};
-ghost use Rattle.call_bytes.specs.Calls.{lookCallOf};
+ghost use Rattle.call_bytes.specs.Calls.{look_call_of};
 
 // A look at one arrival: what `uf2_take` would return. Nothing is written.
 #[unsafe(no_mangle)]
@@ -15,7 +15,7 @@ pub extern "C" fn uf2_look(
     main: &[u8],
     xip: &[u8],
 ) -> u32
-    ensures { result ≡ lookCallOf settings transfer arrival (lent_at flash seen sectors main xip) }
+    ensures { result ≡ look_call_of settings transfer arrival (lent_at flash seen sectors main xip) }
 {
     let s = settings_layout::read_settings(settings);
     let t = transfer_layout::read_transfer(transfer);

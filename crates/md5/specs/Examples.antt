@@ -1,10 +1,10 @@
 -- The test suite of RFC 1321, computed.
 use Rattle.std.specs.Prelude.{◌≡◌, ℕ, List, [], ◌∷◌, map, refl}
 use Rattle.laws.specs.Bytes.{low_first, number_in}
-use Rattle.md5.specs.Md5.{sines, shifts, rotateLeft, operationOf, step_of, steps_of, plus, block_of, blocksOf, padWith, md5Of, digestBytes}
+use Rattle.md5.specs.Md5.{sines, shifts, rotate_left, operation_of, step_of, steps_of, plus, block_of, blocks_of, pad_with, md5_of, digest_bytes}
 
-unfoldable pub digestOf : List ℕ → List ℕ
-digestOf l = digestBytes (md5Of l)
+unfoldable pub digest_of : List ℕ → List ℕ
+digest_of l = digest_bytes (md5_of l)
 
 unfoldable pub texts : List (List ℕ)
 texts =
@@ -26,6 +26,6 @@ digests =
     (209 ∷ 116 ∷ 171 ∷ 152 ∷ 210 ∷ 119 ∷ 217 ∷ 245 ∷ 165 ∷ 97 ∷ 28 ∷ 44 ∷ 159 ∷ 65 ∷ 157 ∷ 159 ∷ []) ∷
     (87 ∷ 237 ∷ 244 ∷ 162 ∷ 43 ∷ 227 ∷ 201 ∷ 85 ∷ 172 ∷ 73 ∷ 218 ∷ 46 ∷ 33 ∷ 7 ∷ 182 ∷ 122 ∷ []) ∷ []
 
-suite : map digestOf texts ≡ digests
-unfolding sines shifts rotateLeft number_in operationOf step_of steps_of plus block_of blocksOf low_first padWith md5Of digestBytes digestOf texts digests
+suite : map digest_of texts ≡ digests
+unfolding sines shifts rotate_left number_in operation_of step_of steps_of plus block_of blocks_of low_first pad_with md5_of digest_bytes digest_of texts digests
 suite = refl

@@ -16,19 +16,19 @@ abbrev pub complement : ℕ → ℕ
 complement x = 4294967295 - x
 
 -- "X <<< s": "the 32-bit value obtained by circularly shifting (rotating) X left by s bit positions"
-unfoldable pub rotateLeft : ℕ → ℕ → ℕ
-rotateLeft x s = bit_or (x * 2 ^ s % 2 ^ 32) (x / 2 ^ (32 - s))
+unfoldable pub rotate_left : ℕ → ℕ → ℕ
+rotate_left x s = bit_or (x * 2 ^ s % 2 ^ 32) (x / 2 ^ (32 - s))
 
 -- ---- 3.1 and 3.2: padding bits and length, after a message of n bytes
 
 -- "a single "1" bit is appended to the message, and then "0" bits are appended", z bytes of zeros here, then "a 64-bit representation of" the
 -- length in bits, "the low-order 64 bits"
-unfoldable pub padWith : ℕ → ℕ → List ℕ
-padWith z n = 128 ∷ (replicate z 0 ++ low_first 8 (8 * n))
+unfoldable pub pad_with : ℕ → ℕ → List ℕ
+pad_with z n = 128 ∷ (replicate z 0 ++ low_first 8 (8 * n))
 
 -- "so that its length (in bits) is congruent to 448, modulo 512": 56 of 64 bytes, "always performed"
-abbrev pub padOf : ℕ → List ℕ
-padOf n = padWith ((119 - n % 64) % 64) n
+abbrev pub pad_of : ℕ → List ℕ
+pad_of n = pad_with ((119 - n % 64) % 64) n
 
 -- ---- 3.3: the buffer (A,B,C,D), "low-order bytes first": "word A: 01 23 45 67", ..
 
@@ -41,22 +41,22 @@ start = record { a = 0x67452301; b = 0xefcdab89; c = 0x98badcfe; d = 0x10325476 
 abbrev pub f_of : ℕ → ℕ → ℕ → ℕ
 f_of x y z = bit_or (bit_and x y) (bit_and (complement x) z)
 
-abbrev pub gOf : ℕ → ℕ → ℕ → ℕ
-gOf x y z = bit_or (bit_and x z) (bit_and y (complement z))
+abbrev pub g_of : ℕ → ℕ → ℕ → ℕ
+g_of x y z = bit_or (bit_and x z) (bit_and y (complement z))
 
-abbrev pub hOf : ℕ → ℕ → ℕ → ℕ
-hOf x y z = bit_xor (bit_xor x y) z
+abbrev pub h_of : ℕ → ℕ → ℕ → ℕ
+h_of x y z = bit_xor (bit_xor x y) z
 
-abbrev pub iOf : ℕ → ℕ → ℕ → ℕ
-iOf x y z = bit_xor y (bit_or x (complement z))
+abbrev pub i_of : ℕ → ℕ → ℕ → ℕ
+i_of x y z = bit_xor y (bit_or x (complement z))
 
 -- "a = b + ((a + F(b,c,d) + X[k] + T[i]) <<< s)", with f for the function's value. The RFC writes [ABCD ..], [DABC ..], [CDAB ..], [BCDA ..]
 -- in turn; so after each operation what was a, b, c, d is called b, c, d, a here.
-unfoldable pub operationOf : List ℕ → ℕ → ℕ → ℕ → Digest → Digest
-operationOf m i f k s =
+unfoldable pub operation_of : List ℕ → ℕ → ℕ → ℕ → Digest → Digest
+operation_of m i f k s =
     record {
       a = s.d;
-      b = add s.b (rotateLeft (add (add (add s.a f) (slice_index sines i)) (number_in 4 m (4 * k))) (slice_index shifts i));
+      b = add s.b (rotate_left (add (add (add s.a f) (slice_index sines i)) (number_in 4 m (4 * k))) (slice_index shifts i));
       c = s.b;
       d = s.c;
     }
@@ -64,10 +64,10 @@ operationOf m i f k s =
 -- operation i of the four rounds of 16: F with k = 0, 1, 2, ..; G with k = 1, 6, 11, ..; H with k = 5, 8, 11, ..; I with k = 0, 7, 14, ..
 unfoldable pub step_of : List ℕ → ℕ → Digest → Digest
 step_of m i s =
-    cond (nat_lt i 16) (operationOf m i (f_of s.b s.c s.d) i s)
-    (cond (nat_lt i 32) (operationOf m i (gOf s.b s.c s.d) ((5 * i + 1) % 16) s)
-    (cond (nat_lt i 48) (operationOf m i (hOf s.b s.c s.d) ((3 * i + 5) % 16) s)
-    (operationOf m i (iOf s.b s.c s.d) (7 * i % 16) s)))
+    cond (nat_lt i 16) (operation_of m i (f_of s.b s.c s.d) i s)
+    (cond (nat_lt i 32) (operation_of m i (g_of s.b s.c s.d) ((5 * i + 1) % 16) s)
+    (cond (nat_lt i 48) (operation_of m i (h_of s.b s.c s.d) ((3 * i + 5) % 16) s)
+    (operation_of m i (i_of s.b s.c s.d) (7 * i % 16) s)))
 
 -- the first n operations
 unfoldable pub steps_of : List ℕ → Digest → ℕ → Digest
@@ -89,15 +89,15 @@ unfoldable pub block_of : List ℕ → Digest → Digest
 block_of m s = plus s (steps_of m s 64)
 
 -- the first n blocks of a message of whole blocks
-unfoldable pub blocksOf : List ℕ → Digest → ℕ → Digest
-blocksOf l s zero = s
-blocksOf l s (suc n) = block_of (take 64 (drop (64 * n) l)) (blocksOf l s n)
+unfoldable pub blocks_of : List ℕ → Digest → ℕ → Digest
+blocks_of l s zero = s
+blocks_of l s (suc n) = block_of (take 64 (drop (64 * n) l)) (blocks_of l s n)
 
 -- the digest of a message: "A, B, C, D" after all blocks of the padded message
-unfoldable pub md5Of : List ℕ → Digest
-md5Of l = blocksOf (l ++ padOf (length l)) start ((length l + 72) / 64)
+unfoldable pub md5_of : List ℕ → Digest
+md5_of l = blocks_of (l ++ pad_of (length l)) start ((length l + 72) / 64)
 
 -- ---- 3.5: output. "We begin with the low-order byte of A, and end with the high-order byte of D."
 
-unfoldable pub digestBytes : Digest → List ℕ
-digestBytes s = low_first 4 s.a ++ (low_first 4 s.b ++ (low_first 4 s.c ++ low_first 4 s.d))
+unfoldable pub digest_bytes : Digest → List ℕ
+digest_bytes s = low_first 4 s.a ++ (low_first 4 s.b ++ (low_first 4 s.c ++ low_first 4 s.d))

@@ -3,7 +3,7 @@ mod schedule;
 
 ghost use Rattle.std.specs.Prelude.{◌≡◌, ◌+◌, ◌-◌, ◌*◌, ◌/◌, ◌%◌, ◌^◌, ◌<◌, ◌≤◌, ◌++◌, length};
 ghost use Rattle.laws.specs.Bytes.{low_first, number_in};
-ghost use Rattle.md5.specs.Md5.{sines, shifts, rotateLeft, f_of, gOf, hOf, iOf, operationOf, block_of, blocksOf, padWith, padOf, md5Of};
+ghost use Rattle.md5.specs.Md5.{sines, shifts, rotate_left, f_of, g_of, h_of, i_of, operation_of, block_of, blocks_of, pad_with, pad_of, md5_of};
 
 // The four words A, B, C, D: of the digest, and of the buffer on the way to it.
 #[derive(Drop)]
@@ -23,7 +23,7 @@ fn sum(a: u32, b: u32) -> u32
 
 fn rotate_left(x: u32, n: u32) -> u32
     requires { (0 < n) × (n < 32) }
-    ensures { result ≡ rotateLeft x n }
+    ensures { result ≡ rotate_left x n }
 {
     (x << (n % 32)) | (x >> ((32 - n) % 32))
 }
@@ -36,19 +36,19 @@ fn mix_f(x: u32, y: u32, z: u32) -> u32
 }
 
 fn mix_g(x: u32, y: u32, z: u32) -> u32
-    ensures { result ≡ gOf x y z }
+    ensures { result ≡ g_of x y z }
 {
     (x & z) | (y & !z)
 }
 
 fn mix_h(x: u32, y: u32, z: u32) -> u32
-    ensures { result ≡ hOf x y z }
+    ensures { result ≡ h_of x y z }
 {
     x ^ y ^ z
 }
 
 fn mix_i(x: u32, y: u32, z: u32) -> u32
-    ensures { result ≡ iOf x y z }
+    ensures { result ≡ i_of x y z }
 {
     y ^ (x | !z)
 }
@@ -71,7 +71,7 @@ fn word(m: &[u8], at: usize) -> u32
 // Operation i of a block, with the value f of its function and the word p of the block.
 fn step(m: &[u8], ks: &[u32; 64], ns: &[u32; 64], i: usize, f: u32, p: usize, s: Digest) -> Digest
     requires { (i < 64) × (p < 16) × (64 ≤ length m.now) × (ks.now ≡ sines) × (ns.now ≡ shifts) }
-    ensures { result ≡ operationOf m.now i f p s }
+    ensures { result ≡ operation_of m.now i f p s }
 {
     let w = word(m, 4 * p);
     let n = ns[i];
@@ -142,7 +142,7 @@ fn block(m: &[u8], ks: &[u32; 64], ns: &[u32; 64], s: Digest) -> Digest
 // The first n blocks of a slice. The tables are copied once and lent: a constant that is indexed in a loop is built anew at each use.
 fn blocks(l: &[u8], n: usize, s: Digest) -> Digest
     requires { 64 * n ≤ length l.now }
-    ensures { result ≡ blocksOf l.now s n }
+    ensures { result ≡ blocks_of l.now s n }
 {
     let ks = crate::schedule::sines();
     let ns = crate::schedule::shifts();
@@ -175,7 +175,7 @@ fn put_bits(d: &mut [u8], n: usize)
 // The last part of a message of n bytes, less than a block, with the padding and, from e on, the length.
 fn last(rest: &[u8], n: usize, e: usize, s: Digest) -> Digest
     requires { (length rest.now ≡ n % 64) × (n % 64 < e) × (e ≤ 120) }
-    ensures { result ≡ blocksOf (rest.now ++ padWith (e - 1 - n % 64) n) s ((e + 8) / 64) }
+    ensures { result ≡ blocks_of (rest.now ++ pad_with (e - 1 - n % 64) n) s ((e + 8) / 64) }
 {
     let mut tail = [0u8; 128];
     let r = bytes::copy(rest, &mut tail);
@@ -188,14 +188,14 @@ fn last(rest: &[u8], n: usize, e: usize, s: Digest) -> Digest
 // The last part of a message, with the padding and the length where it goes.
 fn finish(rest: &[u8], n: usize, s: Digest) -> Digest
     requires { length rest.now ≡ n % 64 }
-    ensures { result ≡ blocksOf (rest.now ++ padOf n) s ((n % 64 + 72) / 64) }
+    ensures { result ≡ blocks_of (rest.now ++ pad_of n) s ((n % 64 + 72) / 64) }
 {
     last(rest, n, crate::schedule::length_at(n), s)
 }
 
 // The digest of a slice.
 pub fn hash(region: &[u8]) -> Digest
-    ensures { result ≡ md5Of region.now }
+    ensures { result ≡ md5_of region.now }
 {
     let n = region.len();
     let q = n / 64;

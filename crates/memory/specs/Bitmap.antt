@@ -9,16 +9,16 @@ unfoldable pub bit : ℕ → ℕ → Bool
 bit b i = eqb (b / 2 ^ (7 - i) % 2) 1
 
 -- the byte with bit i set
-unfoldable pub withBit : ℕ → ℕ → ℕ
-withBit b i = cond (bit b i) b (b + 2 ^ (7 - i))
+unfoldable pub with_bit : ℕ → ℕ → ℕ
+with_bit b i = cond (bit b i) b (b + 2 ^ (7 - i))
 
 -- item k is marked: "byte k/8, bit k mod 8"; past the end nothing is
-unfoldable pub markedIn : List ℕ → ℕ → Bool
-markedIn m k = bit (get_or m (k / 8) 0) (k % 8)
+unfoldable pub marked_in : List ℕ → ℕ → Bool
+marked_in m k = bit (get_or m (k / 8) 0) (k % 8)
 
 -- the map with item k marked; past the end `set` changes nothing
-unfoldable pub withMark : List ℕ → ℕ → List ℕ
-withMark m k = set m (k / 8) (withBit (get_or m (k / 8) 0) (k % 8))
+unfoldable pub with_mark : List ℕ → ℕ → List ℕ
+with_mark m k = set m (k / 8) (with_bit (get_or m (k / 8) 0) (k % 8))
 
 -- a map of n bytes with no mark
 unfoldable pub unmarked : ℕ → List ℕ
@@ -26,7 +26,7 @@ unmarked n = many n 0
 
 -- how many marks are set
 unfoldable pub marks : List ℕ → ℕ
-marks m = size (length m * 8) (markedIn m)
+marks m = size (length m * 8) (marked_in m)
 
 -- ---- the map of a set
 
@@ -47,5 +47,5 @@ unfoldable pub octet : Set → ℕ → ℕ
 octet S j = pack (λ i. S (j * 8 + i))
 
 -- the map of n bytes that marks exactly the items of S
-unfoldable pub mapOf : ℕ → Set → List ℕ
-mapOf n S = tab n (octet S)
+unfoldable pub map_of : ℕ → Set → List ℕ
+map_of n S = tab n (octet S)

@@ -1,10 +1,10 @@
 // A map of marks in lent bytes: item k is byte k / 8, bit k % 8 counted from the most significant.
 ghost use Rattle.std.specs.Prelude.{◌≡◌, length};
-ghost use Rattle.memory.specs.Bitmap.{markedIn, withMark, unmarked};
+ghost use Rattle.memory.specs.Bitmap.{marked_in, with_mark, unmarked};
 
 // Is item k marked? Past the map's end nothing is.
 pub fn marked(map: &[u8], k: usize) -> bool
-    ensures { result ≡ markedIn map.now k }
+    ensures { result ≡ marked_in map.now k }
 {
     let at = k / 8;
     if at < map.len() {
@@ -16,7 +16,7 @@ pub fn marked(map: &[u8], k: usize) -> bool
 
 // Marks item k. Past the map's end nothing changes.
 pub fn mark(map: &mut [u8], k: usize)
-    ensures { map.new ≡ withMark map.old k }
+    ensures { map.new ≡ with_mark map.old k }
 {
     let at = k / 8;
     if at < map.len() {

@@ -1,7 +1,7 @@
 // Where ranges of 256 bytes start, in two lent maps: of each cell of 256 bytes whether one starts in it, and how far from the cell's start.
 ghost use Rattle.std.specs.Prelude.{◌≡◌, ◌/◌, ◌%◌, ◌<◌, get_or, set};
-ghost use Rattle.memory.specs.Bitmap.{withMark};
-ghost use Rattle.memory.specs.Cells.{touchesIn, leftIn};
+ghost use Rattle.memory.specs.Bitmap.{with_mark};
+ghost use Rattle.memory.specs.Cells.{touches_in, left_in};
 
 fn wide(x: u8) -> usize
     ensures { result ≡ x }
@@ -23,7 +23,7 @@ fn offset_of(offsets: &[u8], cell: usize) -> usize
 // Does a range that starts in the cell, `offset` bytes from its start, have a byte in common with one that starts in the cell before or after?
 fn touches_beside(cells: &[u8], offsets: &[u8], cell: usize, offset: usize) -> bool
     requires { cell < 0x1000000000000000 }
-    ensures { result ≡ leftIn cells.now offsets.now cell offset }
+    ensures { result ≡ left_in cells.now offsets.now cell offset }
 {
     let next = cell + 1;
     let after = crate::bitmap::marked(cells, next);
@@ -42,7 +42,7 @@ fn touches_beside(cells: &[u8], offsets: &[u8], cell: usize, offset: usize) -> b
 
 // Does the range from `at` on have a byte in common with one that the maps hold?
 pub fn touches(cells: &[u8], offsets: &[u8], at: usize) -> bool
-    ensures { result ≡ touchesIn cells.now offsets.now at }
+    ensures { result ≡ touches_in cells.now offsets.now at }
 {
     let cell = at / 256;
     if crate::bitmap::marked(cells, cell) {
@@ -53,7 +53,7 @@ pub fn touches(cells: &[u8], offsets: &[u8], at: usize) -> bool
 
 // The range from `at` on is entered.
 pub fn enter(cells: &mut [u8], offsets: &mut [u8], at: usize)
-    ensures { (cells.new ≡ withMark cells.old (at / 256)) × (offsets.new ≡ set offsets.old (at / 256) (at % 256)) }
+    ensures { (cells.new ≡ with_mark cells.old (at / 256)) × (offsets.new ≡ set offsets.old (at / 256) (at % 256)) }
 {
     let cell = at / 256;
     crate::bitmap::mark(cells, cell);

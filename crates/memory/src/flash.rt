@@ -1,6 +1,6 @@
 // The lent flash: whether its length is right, a sector erased, a payload stored.
 ghost use Rattle.std.specs.Prelude.{◌≡◌};
-ghost use Rattle.memory.specs.Flash.{flashLength, eraseAt, payloadOf, storeAt};
+ghost use Rattle.memory.specs.Flash.{flash_length, erase_at, payload_of, store_at};
 
 // A flash by its length. It names the sizes; the bytes themselves are lent as a slice.
 #[derive(Drop)]
@@ -28,14 +28,14 @@ impl Flash {
 
 // May a flash have this length?
 pub fn right_length(len: usize) -> bool
-    ensures { result ≡ flashLength len }
+    ensures { result ≡ flash_length len }
 {
     (len % Flash::SECTOR == 0) & (Flash::MIN <= len) & (len <= Flash::MAX)
 }
 
 // Sets the bytes of a sector to 0xFF. A sector past the end changes nothing.
 pub fn erase(flash: &mut [u8], sector: usize)
-    ensures { flash.new ≡ eraseAt flash.old sector }
+    ensures { flash.new ≡ erase_at flash.old sector }
 {
     if sector < flash.len() / Flash::SECTOR {
         let a = sector * Flash::SECTOR;
@@ -46,7 +46,7 @@ pub fn erase(flash: &mut [u8], sector: usize)
 
 // Stores the payload of an arrival at an address of the flash, or of another lent buffer. Where either does not fit nothing changes.
 pub fn store(flash: &mut [u8], at: usize, arrival: &[u8])
-    ensures { flash.new ≡ storeAt flash.old at (payloadOf arrival.now) }
+    ensures { flash.new ≡ store_at flash.old at (payload_of arrival.now) }
 {
     if arrival.len() < Flash::TO {
         return;

@@ -3,8 +3,8 @@
 mod parts;
 
 ghost use Rattle.std.specs.Prelude.{◌≡◌};
-ghost use Rattle.trace_parts.specs.Merging.{mergeNumber, mergeReturn};
-ghost use Rattle.partapi.specs.PartCalls.{partCall, keptPart, toldOf, oneCall, mergeCall};
+ghost use Rattle.trace_parts.specs.Merging.{merge_number, merge_return};
+ghost use Rattle.partapi.specs.PartCalls.{part_call, kept_part, told_of, one_call, merge_call};
 
 use trace_parts::{Merge, MergeAnswer, Part};
 
@@ -12,7 +12,7 @@ use trace_parts::{Merge, MergeAnswer, Part};
 const PART: usize = 96;
 
 fn number(answer: MergeAnswer) -> u32
-    ensures { result ≡ mergeNumber answer }
+    ensures { result ≡ merge_number answer }
 {
     match answer {
         MergeAnswer::BadReport => 71,
@@ -23,7 +23,7 @@ fn number(answer: MergeAnswer) -> u32
 
 // The next part, where the answer's number is none of a refusal.
 fn keep(part: &mut [u8], number: u32, next: Part)
-    ensures { part.new ≡ keptPart part.old number next }
+    ensures { part.new ≡ kept_part part.old number next }
 {
     if number == 0 {
         crate::parts::write_part(part, next);
@@ -31,7 +31,7 @@ fn keep(part: &mut [u8], number: u32, next: Part)
 }
 
 fn tell(made: Merge, part: &mut [u8]) -> u32
-    ensures { partCall result part.new ≡ toldOf part.old (mergeReturn made) }
+    ensures { part_call result part.new ≡ told_of part.old (merge_return made) }
 {
     let answer = made.answer;
     let n = number(answer);
@@ -44,7 +44,7 @@ fn tell(made: Merge, part: &mut [u8]) -> u32
 // `part` stays.
 #[unsafe(no_mangle)]
 pub extern "C" fn uf2_part_one(report: &[u8], stop: u32, part: &mut [u8]) -> u32
-    ensures { partCall result part.new ≡ oneCall report.now stop part.old }
+    ensures { part_call result part.new ≡ one_call report.now stop part.old }
 {
     if part.len() != PART {
         return 71;
@@ -56,7 +56,7 @@ pub extern "C" fn uf2_part_one(report: &[u8], stop: u32, part: &mut [u8]) -> u32
 // A part and a later one as one, in `part`: 0; or 71, and then 70, and `part` stays.
 #[unsafe(no_mangle)]
 pub extern "C" fn uf2_part_merge(part: &mut [u8], later: &[u8]) -> u32
-    ensures { partCall result part.new ≡ mergeCall part.old later.now }
+    ensures { part_call result part.new ≡ merge_call part.old later.now }
 {
     let a = crate::parts::read_part(part);
     let b = crate::parts::read_part(later);

@@ -1,6 +1,6 @@
 // Parts of a fleet's figures as bytes: how a part goes in, and how it comes back. Every byte slice is read; include/uf2_parts.h has the layout for C.
 ghost use Rattle.std.specs.Prelude.{◌≡◌};
-ghost use Rattle.partapi.specs.Parts.{no_part, partFrom, partWritten};
+ghost use Rattle.partapi.specs.Parts.{no_part, part_from, part_written};
 
 use trace_parts::Part;
 
@@ -25,7 +25,7 @@ fn no_part() -> Part
 
 // The part that bytes are.
 pub(crate) fn read_part(bytes: &[u8]) -> Part
-    ensures { result ≡ partFrom bytes.now }
+    ensures { result ≡ part_from bytes.now }
 {
     if bytes.len() != PART {
         return no_part();
@@ -41,7 +41,7 @@ pub(crate) fn read_part(bytes: &[u8]) -> Part
 
 // Writes a part, where there are bytes for it.
 pub(crate) fn write_part(bytes: &mut [u8], part: Part)
-    ensures { bytes.new ≡ partWritten bytes.old part }
+    ensures { bytes.new ≡ part_written bytes.old part }
 {
     if bytes.len() != PART {
         return;

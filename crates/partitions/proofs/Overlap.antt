@@ -10,7 +10,7 @@ use borrow.Author.Tests.{lt-ltb, le-ltb, ltb-true, ltb-false, eqb-false, ne_eqb,
 use Rattle.laws.proofs.Tests.{split, and_left, and_right, both}
 use Rattle.laws.proofs.Laws.{any-hit, any_found}
 use Rattle.partitions.specs.declared.Entry.{Entry}
-use Rattle.partitions.specs.Settings.{entry_at, overlap, overlapAt, sharesWith, sharesSector}
+use Rattle.partitions.specs.Settings.{entry_at, overlap, overlap_at, shares_with, shares_sector}
 
 -- sector x is one of the n from f
 abbrev pub Within : ℕ → ℕ → ℕ → Type 0
@@ -61,8 +61,8 @@ module _ (f n g m : ℕ) where
         overlap-yes (omega arith) (omega arith) (omega arith) (omega arith),
   )
 
-pub overlap-swaps : (f n g m : ℕ) → overlap f n g m ≡ true → overlap g m f n ≡ true
-overlap-swaps f n g m h = let t = overlap-tells f n g m h in overlap-yes g m f n t.1 t.0 t.3 t.2
+pub overlap_swaps : (f n g m : ℕ) → overlap f n g m ≡ true → overlap g m f n ≡ true
+overlap_swaps f n g m h = let t = overlap-tells f n g m h in overlap-yes g m f n t.1 t.0 t.3 t.2
 
 module _ (table : List Entry) (n k : ℕ) where
   -- sector x lies in entry k and in another used one, j
@@ -74,19 +74,19 @@ module _ (table : List Entry) (n k : ℕ) where
       × Within (entry_at table j).first (entry_at table j).sectors x
 
   -- entry k "shares a sector with another"
-  pub shares-exact : (sharesSector table n k ≡ true) ↔ ((j : ℕ) × (x : ℕ) × Shared j x)
-  unfolding sharesSector overlapAt
+  pub shares-exact : (shares_sector table n k ≡ true) ↔ ((j : ℕ) × (x : ℕ) × Shared j x)
+  unfolding shares_sector overlap_at
   shares-exact = (
     λ h.
-        let w = any_found (sharesWith table k) n h in
+        let w = any_found (shares_with table k) n h in
         let j = w.0 in
-        let d = eqb-false j k (not-true _ (and_left (not (eqb j k)) (overlapAt table k j) w.2)) in
-        let o = and_right (not (eqb j k)) (overlapAt table k j) w.2 in
+        let d = eqb-false j k (not-true _ (and_left (not (eqb j k)) (overlap_at table k j) w.2)) in
+        let o = and_right (not (eqb j k)) (overlap_at table k j) w.2 in
         let t = (overlap-exact (entry_at table k).first (entry_at table k).sectors (entry_at table j).first (entry_at table j).sectors).0 o in
         (j, t.0, (w.1, d, t.1, t.2)),
     λ w.
         let j = w.0 in
         let s = w.2 in
         let o = (overlap-exact (entry_at table k).first (entry_at table k).sectors (entry_at table j).first (entry_at table j).sectors).1 (w.1, s.2, s.3) in
-        any-hit (sharesWith table k) n j s.0 (rw (ne_eqb j k s.1) o),
+        any-hit (shares_with table k) n j s.0 (rw (ne_eqb j k s.1) o),
   )

@@ -11,19 +11,19 @@ use lib.Seq.{ext_get_or, get_or-set_same, get_or-set_other}
 use borrow.Author.Tests.{le-ltb, lt-ltb, ltb-true, ltb-false, eqb-true, eqb-false}
 use Rattle.laws.proofs.Tests.{split}
 use Rattle.partitions.specs.declared.Entry.{Entry}
-use Rattle.partitions.specs.Settings.{emptyEntry, entry_at, blankEntry}
-use Rattle.partitions.specs.Table.{row_in, rowsIn, table_of}
+use Rattle.partitions.specs.Settings.{empty_entry, entry_at, blank_entry}
+use Rattle.partitions.specs.Table.{row_in, rows_in, table_of}
 
 -- ---- entry by entry
 
 module _ (f : ℕ → Entry) (n : ℕ) where
-  rows-length : (k m : ℕ) → length (rowsIn f n k m) ≡ m
-  unfolding rowsIn
+  rows-length : (k m : ℕ) → length (rows_in f n k m) ≡ m
+  unfolding rows_in
   rows-length k zero = refl
   rows-length k (suc m) = ap suc (rows-length (k + 1) m)
 
-  rows_at : (k m j : ℕ) → j < m → entry_at (rowsIn f n k m) j ≡ row_in f n (k + j)
-  unfolding rowsIn
+  rows_at : (k m j : ℕ) → j < m → entry_at (rows_in f n k m) j ≡ row_in f n (k + j)
+  unfolding rows_in
   rows_at k zero j l = absurd (not-suc-le-zero l)
   rows_at k (suc m) zero l = ap (row_in f n) (omega arith)
   rows_at k (suc m) (suc j) l = rows_at (k + 1) m j (le_of_suc-le-suc l) ∙ ap (row_in f n) (omega arith)
@@ -42,14 +42,14 @@ module _ (f : ℕ → Entry) (n : ℕ) where
   pub table_at : (k : ℕ) → n ≤ 16 → k < n → entry_at (table_of f n) k ≡ f k
   table_at k few l = table-row k (omega arith) ∙ row-used k l
 
-  pub table-past : (k : ℕ) → n ≤ k → k < 16 → entry_at (table_of f n) k ≡ blankEntry
+  pub table-past : (k : ℕ) → n ≤ k → k < 16 → entry_at (table_of f n) k ≡ blank_entry
   unfolding row_in
   table-past k past l = table-row k l ∙ rw (le-ltb k n past)
 
 -- rules that agree where the table is used
 module _ (f g : ℕ → Entry) (n : ℕ) (h : (k : ℕ) → k < n → f k ≡ g k) where
-  rows_agree : (k m : ℕ) → rowsIn f n k m ≡ rowsIn g n k m
-  unfolding rowsIn row_in
+  rows_agree : (k m : ℕ) → rows_in f n k m ≡ rows_in g n k m
+  unfolding rows_in row_in
   rows_agree k zero = refl
   rows_agree k (suc m) =
       split (ltb k n)
@@ -65,18 +65,18 @@ module _ (f g : ℕ → Entry) (n : ℕ) (h : (k : ℕ) → k < n → f k ≡ g 
 abbrev pub Filled : (ℕ → Entry) → ℕ → List Entry → Type 0
 Filled f n t = (length t ≡ 16) × ((j : ℕ) → j < 16 → entry_at t j ≡ row_in f n j)
 
-pub filled-table : (f : ℕ → Entry) (n : ℕ) (t : List Entry) → Filled f n t → t ≡ table_of f n
-filled-table f n t h =
-    ext_get_or emptyEntry t (table_of f n) (h.0 ∙ sym (table-length f n))
+pub filled_table : (f : ℕ → Entry) (n : ℕ) (t : List Entry) → Filled f n t → t ≡ table_of f n
+filled_table f n t h =
+    ext_get_or empty_entry t (table_of f n) (h.0 ∙ sym (table-length f n))
     (λ j l.
     let m = h.0 in
     let q : j < 16 = omega arith in
     h.1 j q ∙ sym (table-row f n j q))
 
-pub filled_none : (f : ℕ → Entry) {e : Entry} → e ≡ blankEntry → Filled f 0 (replicate 16 e)
+pub filled_none : (f : ℕ → Entry) {e : Entry} → e ≡ blank_entry → Filled f 0 (replicate 16 e)
 unfolding row_in
 filled_none f {e} q =
-    (length-replicate 16 e, λ j l. rw (get_or-replicate 16 j e emptyEntry l, le-ltb j 0 (omega arith)) q)
+    (length-replicate 16 e, λ j l. rw (get_or-replicate 16 j e empty_entry l, le-ltb j 0 (omega arith)) q)
 
 row_other : (f : ℕ → Entry) (k j : ℕ) → j ≢ k → row_in f (k + 1) j ≡ row_in f k j
 unfolding row_in
@@ -91,6 +91,6 @@ filled_more f k t {e} l h q = (
   λ j m.
       let n = h.0 in
       split (eqb j k)
-      (λ x. let y = eqb-true j k x in rw (y, get_or-set_same t k e emptyEntry (omega arith), row-used f (k + 1) k (omega arith)) q)
-      (λ x. let d = eqb-false j k x in rw (get_or-set_other t k j e emptyEntry d, row_other f k j d) (h.1 j m)),
+      (λ x. let y = eqb-true j k x in rw (y, get_or-set_same t k e empty_entry (omega arith), row-used f (k + 1) k (omega arith)) q)
+      (λ x. let d = eqb-false j k x in rw (get_or-set_other t k j e empty_entry d, row_other f k j d) (h.1 j m)),
 )

@@ -3,8 +3,8 @@ pub mod sectors;
 pub mod validity;
 
 ghost use Rattle.std.specs.Prelude.{◌≡◌};
-ghost use Rattle.partitions.specs.Settings.{is_a, isUnowned, linkTarget, hasUser, accepts, isReserved, reservedUser, enabled, blankEntry, armOnly};
-ghost use Rattle.partitions.specs.Parts.{aloneBad};
+ghost use Rattle.partitions.specs.Settings.{is_a, is_unowned, link_target, has_user, accepts, is_reserved, reserved_user, enabled, blank_entry, arm_only};
+ghost use Rattle.partitions.specs.Parts.{alone_bad};
 
 use memory::flash::Flash;
 
@@ -57,7 +57,7 @@ impl Entry {
 
     // No sectors, and nothing that it accepts.
     pub fn blank() -> Self
-        ensures { result ≡ blankEntry }
+        ensures { result ≡ blank_entry }
     {
         Self {
             first: 0,
@@ -90,7 +90,7 @@ pub struct Family {
 impl Settings {
     // No partition table, Arm alone, absolute allowed or not.
     pub fn arm_only(absolute: bool) -> Self
-        ensures { result ≡ armOnly absolute }
+        ensures { result ≡ arm_only absolute }
     {
         let e = Entry::blank();
         let table = [e; Settings::ENTRIES];
@@ -134,7 +134,7 @@ pub fn is_a(e: Entry) -> bool
 
 // Linked to no other?
 pub fn unowned(e: Entry) -> bool
-    ensures { result ≡ isUnowned e }
+    ensures { result ≡ is_unowned e }
 {
     let link = e.link;
     match link {
@@ -146,7 +146,7 @@ pub fn unowned(e: Entry) -> bool
 
 // Is the family one of the entry's user families?
 pub fn has_user(e: Entry, family: u32) -> bool
-    ensures { result ≡ hasUser e family }
+    ensures { result ≡ has_user e family }
 {
     let n = e.user_count;
     let users = e.users;
@@ -168,13 +168,13 @@ pub fn accepts_family(e: Entry, family: u32) -> bool
 }
 
 pub fn reserved(family: u32) -> bool
-    ensures { result ≡ isReserved family }
+    ensures { result ≡ is_reserved family }
 {
     (Family::RP2040 <= family) & (family <= Family::ARM_NS)
 }
 
 fn reserved_user(e: Entry) -> bool
-    ensures { result ≡ reservedUser e }
+    ensures { result ≡ reserved_user e }
 {
     let n = e.user_count;
     let users = e.users;
@@ -186,7 +186,7 @@ fn reserved_user(e: Entry) -> bool
 
 // Is an entry wrong by itself?
 pub(crate) fn alone_bad(e: Entry, flash_len: usize) -> bool
-    ensures { result ≡ aloneBad flash_len e }
+    ensures { result ≡ alone_bad flash_len e }
 {
     let past = (e.first as usize + e.sectors as usize) * Flash::SECTOR;
     (e.sectors == 0) | (flash_len < past) | (Entry::USERS < e.user_count) | reserved_user(e)
@@ -194,7 +194,7 @@ pub(crate) fn alone_bad(e: Entry, flash_len: usize) -> bool
 
 // The index that an entry's link names, 0 where it names none.
 pub fn target(e: Entry) -> u8
-    ensures { result ≡ linkTarget e.link }
+    ensures { result ≡ link_target e.link }
 {
     let link = e.link;
     match link {

@@ -9,18 +9,18 @@ use native.Mathlib.Numerals.{add-one}
 use native.Mathlib.Omega.{arith}
 use Rattle.partitions.specs.declared.Entry as settings
 use Rattle.partitions.specs.Settings.{entry_at}
-use Rattle.placement.specs.Place.{or_else, first_of, passTakes, entryIf}
+use Rattle.placement.specs.Place.{or_else, first_of, pass_takes, entry_if}
 use Rattle.placement.specs.declared.passes.PassQuery.{PassQuery}
 use Rattle.placement.specs.declared.Choice.{Choice}
 use Rattle.placement.specs.declared.Choice.TheVariants.{Nothing, Entry}
 
-or-first : (a b : Choice) → or_else a b ≡ Nothing → a ≡ Nothing
-or-first Nothing b e = refl
-or-first (Entry k) b e = e
+or_first : (a b : Choice) → or_else a b ≡ Nothing → a ≡ Nothing
+or_first Nothing b e = refl
+or_first (Entry k) b e = e
 
-or-second : (a b : Choice) → or_else a b ≡ Nothing → b ≡ Nothing
-or-second Nothing b e = e
-or-second (Entry k) b e = let z : ◌≡◌ {A = ℕ} 0 1 = cc in absurd (omega arith)
+or_second : (a b : Choice) → or_else a b ≡ Nothing → b ≡ Nothing
+or_second Nothing b e = e
+or_second (Entry k) b e = let z : ◌≡◌ {A = ℕ} 0 1 = cc in absurd (omega arith)
 
 module _ (g : ℕ → Choice) where
   pub first-zero : first_of g 0 ≡ Nothing
@@ -56,9 +56,9 @@ module _ (g : ℕ → Choice) where
   unfolding first_of
   first-all zero e i l = absurd (not-suc-le-zero l)
   first-all (suc n) e i l =
-      let h = or-first (first_of g n) (g n) e in
+      let h = or_first (first_of g n) (g n) e in
       ⊎_elim
-      (λ (q : i ≡ n). rw (q, ← or-second (first_of g n) (g n) e))
+      (λ (q : i ≡ n). rw (q, ← or_second (first_of g n) (g n) e))
       (λ (b : i < n). first-all n h i b)
       (eq-or-lt_of_le (le_of_suc-le-suc l))
 
@@ -68,10 +68,10 @@ module _ (g : ℕ → Choice) where
   first-none (suc n) h = rw (first-none n (λ i l. h i (le_step l)), h n (le_refl (suc n)))
 
 module _ (table : List settings.Entry) (w : PassQuery) (pass k : ℕ) where
-  pub if-taken : passTakes w pass (entry_at table k) ≡ true → entryIf table w pass k ≡ Entry k
-  unfolding entryIf
+  pub if-taken : pass_takes w pass (entry_at table k) ≡ true → entry_if table w pass k ≡ Entry k
+  unfolding entry_if
   if-taken h = rw h
 
-  pub if-passed : passTakes w pass (entry_at table k) ≡ false → entryIf table w pass k ≡ Nothing
-  unfolding entryIf
+  pub if-passed : pass_takes w pass (entry_at table k) ≡ false → entry_if table w pass k ≡ Nothing
+  unfolding entry_if
   if-passed h = rw h

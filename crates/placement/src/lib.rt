@@ -6,14 +6,14 @@ ghost use Rattle.std.specs.Prelude.{◌≡◌, ◌≤◌};
 ghost use Rattle.laws.specs.Numbered.{numbered};
 ghost use Rattle.placement.specs.Place.{
   chosen,
-  getsWhole,
-  wholeIf,
+  gets_whole,
+  whole_if,
   bytes_of,
   StartsLow,
   place_of,
-  placeNumber,
-  askOf,
-  placeAnswerNumber,
+  place_number,
+  ask_of,
+  place_answer_number,
 };
 
 use crate::passes::PassQuery;
@@ -68,7 +68,7 @@ fn choose(table: [Entry; Settings::ENTRIES], n: usize, w: PassQuery) -> Choice
 
 // The families that get the whole flash where there is no table.
 pub fn gets_whole(arm: bool, riscv: bool, family: u32) -> bool
-    ensures { result ≡ getsWhole arm riscv family }
+    ensures { result ≡ gets_whole arm riscv family }
 {
     (family == Family::DATA)
         | ((family == Family::ARM_S) & arm)
@@ -77,7 +77,7 @@ pub fn gets_whole(arm: bool, riscv: bool, family: u32) -> bool
 
 // The whole of so many bytes, of the flash or of a window, or no place.
 pub fn whole_if(yes: bool, len: usize) -> Place
-    ensures value { result ≡ wholeIf yes len }
+    ensures value { result ≡ whole_if yes len }
     ensures low { StartsLow result }
 {
     if yes {
@@ -98,7 +98,7 @@ fn bytes_of(e: Entry) -> Place
 
 // The place of a family. The settings are taken to be good; of others it looks at no more than 16 entries.
 pub fn find(settings: Settings, flash_len: usize, family: u32) -> Place
-    ensures result_value { numbered placeNumber result ≡ numbered placeNumber (place_of settings flash_len family) }
+    ensures result_value { numbered place_number result ≡ numbered place_number (place_of settings flash_len family) }
     ensures low { StartsLow result }
 {
     let count = settings.count;
@@ -124,7 +124,7 @@ pub fn find(settings: Settings, flash_len: usize, family: u32) -> Place
 
 // A place asked for alone.
 pub fn ask(settings: Settings, flash_len: usize, family: u32) -> PlaceAnswer
-    ensures { numbered placeAnswerNumber result ≡ numbered placeAnswerNumber (askOf settings flash_len family) }
+    ensures { numbered place_answer_number result ≡ numbered place_answer_number (ask_of settings flash_len family) }
 {
     if !memory::flash::right_length(flash_len) {
         return PlaceAnswer::BadBuffers;
@@ -140,7 +140,7 @@ pub fn ask(settings: Settings, flash_len: usize, family: u32) -> PlaceAnswer
 
 // The number of a refusal, and 0 for a place that is found.
 pub fn number(a: PlaceAnswer) -> u8
-    ensures { result ≡ placeAnswerNumber a }
+    ensures { result ≡ place_answer_number a }
 {
     match a {
         PlaceAnswer::BadBuffers => 1,

@@ -1,14 +1,14 @@
 // The region that one piece names.
 ghost use Rattle.std.specs.Prelude.{◌≡◌, ◌<◌, ◌≤◌, ◌/◌, length};
-ghost use Rattle.file_check.specs.Regions.{faultIn};
-ghost use Rattle.region_checking.specs.Parts.{namesIn, notedAfter, asked_of, regionsBy, Noted, Roomy};
+ghost use Rattle.file_check.specs.Regions.{fault_in};
+ghost use Rattle.region_checking.specs.Parts.{names_in, noted_after, asked_of, regions_by, Noted, Roomy};
 
 use file_check::fileregions::RegionsChecked;
 use uf2_block::{Block, Region};
 
 // Is an arrival data, and does it name a region that counts in a place of so many bytes?
 fn names(size: usize, arrival: &[u8]) -> bool
-    ensures { result ≡ namesIn size arrival.now }
+    ensures { result ≡ names_in size arrival.now }
 {
     let flags = uf2_block::field(arrival, 8);
     let flag = uf2_block::has_region(arrival);
@@ -29,7 +29,7 @@ fn fault_in(
     requires len_bound { region.len ≤ 33554432 }
     requires held { region.len ≤ length image.old }
     requires room { length cells.old ≡ 16384 }
-    ensures { result ≡ faultIn file.now i region }
+    ensures { result ≡ fault_in file.now i region }
 {
     let stray = crate::inside::first_stray(region, file);
     if stray < file.len() / Block::ARRIVAL {
@@ -61,8 +61,8 @@ fn ask_region(
     requires len_bound { region.len ≤ 33554432 }
     requires held { region.len ≤ length image.old }
     requires room { length cells.old ≡ 16384 }
-    ensures value { result ≡ faultIn file.now i region }
-    ensures left { numbers.new ≡ notedAfter file.now i region numbers.old }
+    ensures value { result ≡ fault_in file.now i region }
+    ensures left { numbers.new ≡ noted_after file.now i region numbers.old }
 {
     let found = fault_in(region, file, i, cells, image);
     if !found.is_right() {
@@ -110,7 +110,7 @@ pub(crate) fn each_region(
 ) -> RegionsChecked
     requires roomy { Roomy size cells.old image.old }
     requires noted { Noted size file.now numbers.old }
-    ensures { result ≡ regionsBy size file.now }
+    ensures { result ≡ regions_by size file.now }
 {
     let n = file.len() / Block::ARRIVAL;
     let mut i: usize = 0;

@@ -1,15 +1,15 @@
 // The final bytes of a region, and their digest.
 ghost use Rattle.std.specs.Prelude.{◌≡◌, ◌/◌, length};
-ghost use Rattle.md5.specs.Md5.{md5Of};
-ghost use Rattle.uf2_block.specs.Regions.{sameDigest};
-ghost use Rattle.file_check.specs.Regions.{laidOn, laying, in_turn, finalOf};
+ghost use Rattle.md5.specs.Md5.{md5_of};
+ghost use Rattle.uf2_block.specs.Regions.{same_digest};
+ghost use Rattle.file_check.specs.Regions.{laid_on, laying, in_turn, final_of};
 
 use md5::Digest;
 use uf2_block::{Block, Region};
 
 // The payload of an arrival that is data in a region is put at its place there.
 fn lay_piece(region: Region, arrival: &[u8], bytes: &mut [u8])
-    ensures { bytes.new ≡ laidOn region arrival.now bytes.old }
+    ensures { bytes.new ≡ laid_on region arrival.now bytes.old }
 {
     if !crate::inside::is_inside(region, arrival) {
         return;
@@ -37,7 +37,7 @@ fn lay(region: Region, file: &[u8], bytes: &mut [u8])
 
 // Is this the digest that a region names?
 fn same_digest(found: Digest, region: Region) -> bool
-    ensures { result ≡ sameDigest found region }
+    ensures { result ≡ same_digest found region }
 {
     (found.a == region.a) & (found.b == region.b) & (found.c == region.c) & (found.d == region.d)
 }
@@ -45,7 +45,7 @@ fn same_digest(found: Digest, region: Region) -> bool
 // Have the final bytes of a region the digest that it names? As many bytes as the region has are lent.
 pub(crate) fn digest_right(region: Region, file: &[u8], bytes: &mut [u8]) -> bool
     requires { length bytes.old ≡ region.len }
-    ensures { result ≡ sameDigest (md5Of (finalOf file.now region)) region }
+    ensures { result ≡ same_digest (md5_of (final_of file.now region)) region }
 {
     memory::fill::fill(bytes, 255);
     lay(region, file, bytes);

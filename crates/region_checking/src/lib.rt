@@ -8,8 +8,8 @@ ghost use Rattle.std.specs.Prelude.{◌≡◌, length};
 ghost use Rattle.memory.specs.Many.{many};
 ghost use Rattle.memory.specs.Bitmap.{unmarked};
 ghost use Rattle.demand.specs.Demand.{size_of};
-ghost use Rattle.file_check.specs.Check.{checkOf};
-ghost use Rattle.file_check.specs.Regions.{namesRegions, regionsOf, afterCheck, checkRegionsOf};
+ghost use Rattle.file_check.specs.Check.{check_of};
+ghost use Rattle.file_check.specs.Regions.{names_regions, regions_of, after_check, check_regions_of};
 ghost use Rattle.region_checking.specs.Parts.{Opened};
 
 use file_check::Checked;
@@ -31,7 +31,7 @@ fn size_of(place: Place) -> usize
 
 // Did the first check find a valid file that names regions?
 fn names_regions(found: Checked) -> bool
-    ensures { result ≡ namesRegions found }
+    ensures { result ≡ names_regions found }
 {
     match found {
         Checked::BadBuffers => false,
@@ -60,7 +60,7 @@ fn regions(
     image: &mut [u8],
 ) -> RegionsChecked
     requires { Opened settings lens file.now numbers.old cells.old image.old }
-    ensures { result ≡ regionsOf settings lens file.now }
+    ensures { result ≡ regions_of settings lens file.now }
 {
     let family = uf2_block::field(&file[0..Block::ARRIVAL], 28);
     let rooms = uf2_checks::family::rooms_for(settings, lens.flash, family);
@@ -80,9 +80,9 @@ fn after_check(
     offsets: &[u8],
     image: &mut [u8],
 ) -> RegionsChecked
-    requires found_value { found ≡ checkOf settings lens (length numbers.old) (length cells.old) (length offsets.now) file.now }
+    requires found_value { found ≡ check_of settings lens (length numbers.old) (length cells.old) (length offsets.now) file.now }
     requires cleared { numbers.old ≡ unmarked (length numbers.old) }
-    ensures { result ≡ afterCheck settings lens (length image.old) file.now found }
+    ensures { result ≡ after_check settings lens (length image.old) file.now found }
 {
     if !names_regions(found) {
         return RegionsChecked::As(found);
@@ -104,7 +104,7 @@ pub fn check_regions(
     offsets: &mut [u8],
     image: &mut [u8],
 ) -> RegionsChecked
-    ensures value { result ≡ checkRegionsOf settings lens (length numbers.old) (length cells.old) (length offsets.old) (length image.old) file.now }
+    ensures value { result ≡ check_regions_of settings lens (length numbers.old) (length cells.old) (length offsets.old) (length image.old) file.now }
     ensures left { (numbers.new ≡ unmarked (length numbers.old)) × (cells.new ≡ unmarked (length cells.old)) × (offsets.new ≡ unmarked (length offsets.old)) × (image.new ≡ many (length image.old) 255) }
 {
     let found = file_checking::check(settings, lens, file, numbers, cells, offsets);

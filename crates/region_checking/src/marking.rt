@@ -1,13 +1,13 @@
 // Maps of a region: its sectors that hold a piece, and its pieces.
 ghost use Rattle.std.specs.Prelude.{◌≡◌, ◌/◌, length};
 ghost use Rattle.file_check.specs.Regions.{in_turn};
-ghost use Rattle.region_checking.specs.Parts.{sectorWith, sectoring, noteWith, noting};
+ghost use Rattle.region_checking.specs.Parts.{sector_with, sectoring, note_with, noting};
 
 use memory::flash::Flash;
 use uf2_block::{Block, Region};
 
 fn mark_sector(region: Region, arrival: &[u8], map: &mut [u8])
-    ensures { map.new ≡ sectorWith region arrival.now map.old }
+    ensures { map.new ≡ sector_with region arrival.now map.old }
 {
     if !crate::inside::is_inside(region, arrival) {
         return;
@@ -34,7 +34,7 @@ pub(crate) fn mark_sectors(region: Region, file: &[u8], map: &mut [u8])
 }
 
 fn note(region: Region, arrival: &[u8], k: usize, map: &mut [u8])
-    ensures { map.new ≡ noteWith region arrival.now k map.old }
+    ensures { map.new ≡ note_with region arrival.now k map.old }
 {
     if !crate::inside::is_inside(region, arrival) {
         return;

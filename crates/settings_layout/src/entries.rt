@@ -1,6 +1,6 @@
 // One entry of the settings' table, read from bytes. include/uf2_receiver.h has the layout for C.
 ghost use Rattle.std.specs.Prelude.{◌≡◌};
-ghost use Rattle.settings_layout.specs.EntryBytes.{byte_at, isOn, linkFrom, usersFrom, entryFrom, flagByte};
+ghost use Rattle.settings_layout.specs.EntryBytes.{byte_at, is_on, link_from, users_from, entry_from, flag_byte};
 
 use partitions::{Entry, Link};
 
@@ -13,14 +13,14 @@ pub fn byte(bytes: &[u8], i: usize) -> u8
 
 // Is the flag at i on?
 pub fn on(bytes: &[u8], i: usize) -> bool
-    ensures { result ≡ isOn (byte_at bytes.now i) }
+    ensures { result ≡ is_on (byte_at bytes.now i) }
 {
     byte(bytes, i) != 0
 }
 
 // Of another tag than 0, 1 and 2: a link that is bad at every index.
 fn link(tag: u8, index: u8) -> Link
-    ensures { result ≡ linkFrom tag index }
+    ensures { result ≡ link_from tag index }
 {
     if tag == 0 {
         return Link::Unlinked;
@@ -35,7 +35,7 @@ fn link(tag: u8, index: u8) -> Link
 }
 
 fn users(e: &[u8]) -> [u32; 4]
-    ensures { result ≡ usersFrom e.now }
+    ensures { result ≡ users_from e.now }
 {
     let a = uf2_block::field(e, 8);
     let b = uf2_block::field(e, 12);
@@ -46,7 +46,7 @@ fn users(e: &[u8]) -> [u32; 4]
 
 // The entry that 34 bytes are; what they lack is read as 0.
 pub(crate) fn entry(e: &[u8]) -> Entry
-    ensures { result ≡ entryFrom e.now }
+    ensures { result ≡ entry_from e.now }
 {
     let users = users(e);
     let link = link(byte(e, 31), byte(e, 32));
@@ -68,7 +68,7 @@ pub(crate) fn entry(e: &[u8]) -> Entry
 
 // A flag as a byte.
 pub(crate) fn flag(on: bool) -> u8
-    ensures { result ≡ flagByte on }
+    ensures { result ≡ flag_byte on }
 {
     if on { 1 } else { 0 }
 }

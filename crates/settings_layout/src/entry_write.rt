@@ -1,8 +1,8 @@
 // One entry of the settings' table, written as bytes. include/uf2_receiver.h has the layout for C.
 ghost use Rattle.std.specs.Prelude.{◌≡◌, length};
 ghost use Rattle.laws.specs.Over.{over};
-ghost use Rattle.partitions.specs.Settings.{linkTarget};
-ghost use Rattle.settings_layout.specs.EntryBytes.{linkTag, numbersOf, flagBytes, withEntry};
+ghost use Rattle.partitions.specs.Settings.{link_target};
+ghost use Rattle.settings_layout.specs.EntryBytes.{link_tag, numbers_of, flag_bytes, with_entry};
 
 use crate::entries::flag;
 use partitions::{Entry, Link};
@@ -13,7 +13,7 @@ const ENTRY: usize = 34;
 const NUMBERS: usize = 24;
 
 fn link_tag(link: Link) -> u8
-    ensures { result ≡ linkTag link }
+    ensures { result ≡ link_tag link }
 {
     match link {
         Link::Unlinked => 0,
@@ -23,7 +23,7 @@ fn link_tag(link: Link) -> u8
 }
 
 fn link_index(link: Link) -> u8
-    ensures { result ≡ linkTarget link }
+    ensures { result ≡ link_target link }
 {
     match link {
         Link::Unlinked => 0,
@@ -33,7 +33,7 @@ fn link_index(link: Link) -> u8
 }
 
 fn flags(e: Entry) -> [u8; 10]
-    ensures { result ≡ flagBytes e }
+    ensures { result ≡ flag_bytes e }
 {
     let link = e.link;
     [
@@ -52,7 +52,7 @@ fn flags(e: Entry) -> [u8; 10]
 
 fn put_numbers(bytes: &mut [u8], first: u32, sectors: u32, users: [u32; 4])
     requires { length bytes.old ≡ 34 }
-    ensures { bytes.new ≡ over bytes.old 0 (numbersOf first sectors users) }
+    ensures { bytes.new ≡ over bytes.old 0 (numbers_of first sectors users) }
 {
     uf2_block::put(bytes, 0, first);
     uf2_block::put(bytes, 4, sectors);
@@ -64,7 +64,7 @@ fn put_numbers(bytes: &mut [u8], first: u32, sectors: u32, users: [u32; 4])
 
 // Writes an entry, where there are bytes for it.
 pub(crate) fn write_entry(bytes: &mut [u8], e: Entry)
-    ensures { bytes.new ≡ withEntry bytes.old e }
+    ensures { bytes.new ≡ with_entry bytes.old e }
 {
     if bytes.len() != ENTRY {
         return;

@@ -5,14 +5,14 @@ mod entry_write;
 ghost use Rattle.std.specs.Prelude.{◌≡◌, ◌≤◌, length};
 ghost use Rattle.laws.specs.Rows.{rows};
 ghost use Rattle.settings_layout.specs.Layout.{
-  archFrom,
-  countFrom,
-  usedOf,
-  settingsFrom,
-  archByte,
-  rowBytes,
-  switchBytes,
-  withSettings,
+  arch_from,
+  count_from,
+  used_of,
+  settings_from,
+  arch_byte,
+  row_bytes,
+  switch_bytes,
+  with_settings,
 };
 
 use crate::entries::{byte, flag, on};
@@ -26,14 +26,14 @@ const HEAD: usize = 6;
 const ENTRY: usize = 34;
 
 fn arch(x: u8) -> Arch
-    ensures { result ≡ archFrom x }
+    ensures { result ≡ arch_from x }
 {
     if x == 0 { Arch::Arm } else { Arch::RiscV }
 }
 
 // Of bytes that are no settings: over 16, which is bad.
 pub fn count(bytes: &[u8]) -> u8
-    ensures { result ≡ countFrom bytes.now }
+    ensures { result ≡ count_from bytes.now }
 {
     if bytes.len() == SETTINGS {
         bytes[5]
@@ -43,7 +43,7 @@ pub fn count(bytes: &[u8]) -> u8
 }
 
 fn used(count: u8) -> usize
-    ensures value { result ≡ usedOf count }
+    ensures value { result ≡ used_of count }
     ensures low { result ≤ 16 }
 {
     let n = count as usize;
@@ -52,7 +52,7 @@ fn used(count: u8) -> usize
 
 // The settings that bytes are. Only the entries that are used are read: a board with few waits for no more.
 pub fn read_settings(bytes: &[u8]) -> Settings
-    ensures { result ≡ settingsFrom bytes.now }
+    ensures { result ≡ settings_from bytes.now }
 {
     let arm = on(bytes, 0);
     let riscv = on(bytes, 1);
@@ -83,7 +83,7 @@ pub fn read_settings(bytes: &[u8]) -> Settings
 }
 
 fn arch_byte(a: Arch) -> u8
-    ensures { result ≡ archByte a }
+    ensures { result ≡ arch_byte a }
 {
     match a {
         Arch::Arm => 0,
@@ -93,7 +93,7 @@ fn arch_byte(a: Arch) -> u8
 
 fn write_table(bytes: &mut [u8], table: [Entry; Settings::ENTRIES])
     requires { length bytes.old ≡ 544 }
-    ensures { bytes.new ≡ rows (rowBytes table) 16 }
+    ensures { bytes.new ≡ rows (row_bytes table) 16 }
 {
     let mut k: usize = 0;
     while k < Settings::ENTRIES {
@@ -106,7 +106,7 @@ fn write_table(bytes: &mut [u8], table: [Entry; Settings::ENTRIES])
 }
 
 fn switches(s: Settings) -> [u8; 6]
-    ensures { result ≡ switchBytes s }
+    ensures { result ≡ switch_bytes s }
 {
     let current = s.current;
     [
@@ -121,7 +121,7 @@ fn switches(s: Settings) -> [u8; 6]
 
 // Writes settings, where there are bytes for them.
 pub fn write_settings(bytes: &mut [u8], s: Settings)
-    ensures { bytes.new ≡ withSettings bytes.old s }
+    ensures { bytes.new ≡ with_settings bytes.old s }
 {
     if bytes.len() != SETTINGS {
         return;

@@ -1,7 +1,7 @@
 // The head of the packed store of settings: its 16 bits as one number.
 ghost use Rattle.std.specs.Prelude.{◌≡◌, ◌<◌};
 ghost use Rattle.laws.specs.Packing.{packed, bit};
-ghost use Rattle.settings_store.specs.Head.{headWidths, archBit, headFieldsBy};
+ghost use Rattle.settings_store.specs.Head.{head_widths, arch_bit, head_fields_by};
 
 use partitions::{Arch, Settings};
 
@@ -12,7 +12,7 @@ fn bit_of(b: bool) -> u64
 }
 
 fn arch_bit(a: Arch) -> u64
-    ensures { (result ≡ archBit a) × (result < 2) }
+    ensures { (result ≡ arch_bit a) × (result < 2) }
 {
     match a {
         Arch::Arm => 0,
@@ -22,7 +22,7 @@ fn arch_bit(a: Arch) -> u64
 
 // The head as one number, where `no_restart` says whether a used entry has "don't restart".
 pub(crate) fn head_of(s: Settings, no_restart: bool) -> u64
-    ensures value { result ≡ packed headWidths (headFieldsBy no_restart s) }
+    ensures value { result ≡ packed head_widths (head_fields_by no_restart s) }
     ensures low { result < 65536 }
 {
     let current = s.current;

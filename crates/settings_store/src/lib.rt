@@ -8,16 +8,16 @@ ghost use Rattle.laws.specs.Numbered.{numbered};
 ghost use Rattle.laws.specs.Packing.{unpacked};
 ghost use Rattle.partitions.specs.Table.{table_of};
 ghost use Rattle.settings_store.specs.Store.{
-  headWidths,
-  headIn,
+  head_widths,
+  head_in,
   entry_of,
-  archFrom,
-  settingsOf,
-  strayAt,
+  arch_from,
+  settings_of,
+  stray_at,
   refusal,
   read_head,
   read_of,
-  readNumber,
+  read_number,
 };
 
 use crate::write::StoreAnswer;
@@ -38,7 +38,7 @@ pub struct Reading {
 // The head's two bytes as one number.
 fn head_in(s: &[u8]) -> u64
     requires { 2 ≤ length s.now }
-    ensures { headIn s.now ≡ unpacked headWidths result }
+    ensures { head_in s.now ≡ unpacked head_widths result }
 {
     (s[0] as u64) * 256 + (s[1] as u64)
 }
@@ -53,7 +53,7 @@ pub struct EntryScan {
 // The first n entries of a store of that version.
 fn scan(s: &[u8], version: u8, n: usize) -> EntryScan
     requires { (n ≤ 16) × (2 + 22 * n ≤ length s.now) }
-    ensures { (result.table ≡ table_of (entry_of s.now) n) × (result.stray ≡ any n (strayAt s.now version)) }
+    ensures { (result.table ≡ table_of (entry_of s.now) n) × (result.stray ≡ any n (stray_at s.now version)) }
 {
     let e = Entry::blank();
     let mut table = [e; Settings::ENTRIES];
@@ -71,13 +71,13 @@ fn scan(s: &[u8], version: u8, n: usize) -> EntryScan
 }
 
 fn arch_of(b: bool) -> Arch
-    ensures { result ≡ archFrom b }
+    ensures { result ≡ arch_from b }
 {
     if b { Arch::RiscV } else { Arch::Arm }
 }
 
 fn settings_of(x: u64, table: [Entry; 16]) -> Settings
-    ensures { result ≡ settingsOf (unpacked headWidths x) table }
+    ensures { result ≡ settings_of (unpacked head_widths x) table }
 {
     let current = arch_of(x / 4 % 2 == 1);
     Settings {
@@ -110,7 +110,7 @@ fn refuse(answer: StoreAnswer) -> Reading
 
 // The checks of the head, and then of the entries.
 fn read_head(b: &[u8], x: u64, flash_len: usize) -> Reading
-    ensures { result ≡ read_head (unpacked headWidths x) b.now flash_len }
+    ensures { result ≡ read_head (unpacked head_widths x) b.now flash_len }
 {
     let version = (x / 4096 % 16) as u8;
     if !((version == 1) | (version == 2)) {
@@ -141,7 +141,7 @@ fn read_head(b: &[u8], x: u64, flash_len: usize) -> Reading
 
 // The settings that a store holds, for a flash of that length.
 pub fn read(bytes: &[u8], flash_len: usize) -> Reading
-    ensures { numbered readNumber result ≡ numbered readNumber (read_of bytes.now flash_len) }
+    ensures { numbered read_number result ≡ numbered read_number (read_of bytes.now flash_len) }
 {
     if !memory::flash::right_length(flash_len) {
         return refuse(StoreAnswer::BadBuffers);

@@ -5,14 +5,14 @@ ghost use Rattle.laws.specs.Numbered.{numbered};
 ghost use Rattle.laws.specs.Over.{over};
 ghost use Rattle.laws.specs.Rows.{rows};
 ghost use Rattle.settings_store.specs.Written.{
-  noRestartAt,
-  noRestartIn,
+  no_restart_at,
+  no_restart_in,
   row_at,
   store_of,
-  storeNumber,
-  writeNumber,
-  writeCall,
-  writeOf,
+  store_number,
+  write_number,
+  write_call,
+  write_of,
 };
 
 use partitions::{Entry, Settings};
@@ -34,7 +34,7 @@ pub enum StoreAnswer {
 
 impl StoreAnswer {
     pub fn number(self) -> u8
-        ensures { result ≡ storeNumber self }
+        ensures { result ≡ store_number self }
     {
         match self {
             StoreAnswer::BadBuffers => 1,
@@ -49,7 +49,7 @@ impl StoreAnswer {
 
 fn any_no_restart(table: [Entry; 16], n: usize) -> bool
     requires { n ≤ 16 }
-    ensures { result ≡ any n (noRestartAt table) }
+    ensures { result ≡ any n (no_restart_at table) }
 {
     let mut found = false;
     let mut k: usize = 0;
@@ -62,7 +62,7 @@ fn any_no_restart(table: [Entry; 16], n: usize) -> bool
 
 // Has one of the first n entries of a table of 16 "don't restart"?
 pub(crate) fn no_restart_in(table: [Entry; 16], n: usize) -> bool
-    ensures { result ≡ noRestartIn table n }
+    ensures { result ≡ no_restart_in table n }
 {
     if 16 < n {
         return false;
@@ -100,7 +100,7 @@ fn put_store(out: &mut [u8], s: Settings)
 
 // Writes the store of settings that are good for a flash of that length.
 pub fn write(settings: Settings, flash_len: usize, out: &mut [u8]) -> StoreAnswer
-    ensures { numbered writeNumber (writeCall result out.new) ≡ numbered writeNumber (writeOf settings flash_len out.old) }
+    ensures { numbered write_number (write_call result out.new) ≡ numbered write_number (write_of settings flash_len out.old) }
 {
     if !memory::flash::right_length(flash_len) {
         return StoreAnswer::BadBuffers;

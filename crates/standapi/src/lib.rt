@@ -1,7 +1,7 @@
 // Does what an arrival holds stand in the memory? For C: a library of its own, so that the call is compiled as one piece.
 ghost use Rattle.std.specs.Prelude.{◌≡◌};
-ghost use Rattle.uf2_verify.specs.Stands.{memoryAt};
-ghost use Rattle.standapi.specs.Stands.{standsCallOf};
+ghost use Rattle.uf2_verify.specs.Stands.{memory_at};
+ghost use Rattle.standapi.specs.Stands.{stands_call_of};
 
 use uf2_checks::Lengths;
 use uf2_known::Known;
@@ -15,7 +15,7 @@ pub extern "C" fn uf2_stands(
     main: &[u8],
     xip: &[u8],
 ) -> u32
-    ensures { result ≡ standsCallOf settings arrival (memoryAt flash main xip) }
+    ensures { result ≡ stands_call_of settings arrival (memory_at flash main xip) }
 {
     let lens = Lengths {
         flash: flash.len(),

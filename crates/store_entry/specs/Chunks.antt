@@ -4,21 +4,21 @@ use Rattle.std.specs.Prelude.{ℕ, ◌+◌, ◌*◌, ◌/◌, ◌%◌, ◌≡◌
 use Rattle.laws.specs.Packing.{packed, octets, bytes_of, fields_of, Fit}
 use Rattle.store_entry.specs.declared.chunk_bits.Chunks.{Chunks}
 
-abbrev pub chunkWidths : List ℕ
-chunkWidths = 42 ∷ 32 ∷ 32 ∷ 32 ∷ 32 ∷ 6 ∷ []
+abbrev pub chunk_widths : List ℕ
+chunk_widths = 42 ∷ 32 ∷ 32 ∷ 32 ∷ 32 ∷ 6 ∷ []
 
 unfoldable pub chunk_bytes : ℕ → ℕ → ℕ → ℕ → ℕ → ℕ → List ℕ
-chunk_bytes h u v w x tail = bytes_of chunkWidths 22 (h ∷ u ∷ v ∷ w ∷ x ∷ tail ∷ [])
+chunk_bytes h u v w x tail = bytes_of chunk_widths 22 (h ∷ u ∷ v ∷ w ∷ x ∷ tail ∷ [])
 
 unfoldable pub chunks_of : List ℕ → Chunks
 chunks_of bs =
     record {
-      h = get_or (fields_of chunkWidths 22 bs) 0 0;
-      u = get_or (fields_of chunkWidths 22 bs) 1 0;
-      v = get_or (fields_of chunkWidths 22 bs) 2 0;
-      w = get_or (fields_of chunkWidths 22 bs) 3 0;
-      x = get_or (fields_of chunkWidths 22 bs) 4 0;
-      tail = get_or (fields_of chunkWidths 22 bs) 5 0;
+      h = get_or (fields_of chunk_widths 22 bs) 0 0;
+      u = get_or (fields_of chunk_widths 22 bs) 1 0;
+      v = get_or (fields_of chunk_widths 22 bs) 2 0;
+      w = get_or (fields_of chunk_widths 22 bs) 3 0;
+      x = get_or (fields_of chunk_widths 22 bs) 4 0;
+      tail = get_or (fields_of chunk_widths 22 bs) 5 0;
     }
 
 -- of 22 bytes; of another length, zeros

@@ -4,9 +4,9 @@ use Rattle.laws.specs.Packing.{unpacked}
 use Rattle.store_entry.specs.declared.chunk_bits.Chunks.{Chunks}
 
 -- the widths of the first 42 bits
-abbrev pub leadWidths : List ℕ
-leadWidths = 13 ∷ 14 ∷ 2 ∷ 4 ∷ 1 ∷ 1 ∷ 1 ∷ 1 ∷ 1 ∷ 1 ∷ 3 ∷ []
+abbrev pub lead_widths : List ℕ
+lead_widths = 13 ∷ 14 ∷ 2 ∷ 4 ∷ 1 ∷ 1 ∷ 1 ∷ 1 ∷ 1 ∷ 1 ∷ 3 ∷ []
 
 -- an entry's fields
-unfoldable pub chunkFields : Chunks → List ℕ
-chunkFields c = unpacked leadWidths c.h ++ (c.u ∷ c.v ∷ c.w ∷ c.x ∷ unpacked (1 ∷ 5 ∷ []) c.tail)
+unfoldable pub chunk_fields : Chunks → List ℕ
+chunk_fields c = unpacked lead_widths c.h ++ (c.u ∷ c.v ∷ c.w ∷ c.x ∷ unpacked (1 ∷ 5 ∷ []) c.tail)

@@ -5,8 +5,8 @@ pub mod stray;
 pub mod write;
 
 ghost use Rattle.std.specs.Prelude.{◌≡◌};
-ghost use Rattle.store_entry.specs.EntryBits.{link_of, entryFrom, entryIn};
-ghost use Rattle.store_entry.specs.Fields.{chunkFields};
+ghost use Rattle.store_entry.specs.EntryBits.{link_of, entry_from, entry_in};
+ghost use Rattle.store_entry.specs.Fields.{chunk_fields};
 
 use crate::chunk_bits::Chunks;
 use partitions::{Entry, Link};
@@ -27,7 +27,7 @@ fn link_of(kind: u64, k: u8) -> Link
 }
 
 fn entry_of(c: Chunks) -> Entry
-    ensures { result ≡ entryFrom (chunkFields c) }
+    ensures { result ≡ entry_from (chunk_fields c) }
 {
     let h = c.h;
     let link = link_of(h / 8192 % 4, (h / 512 % 16) as u8);
@@ -49,7 +49,7 @@ fn entry_of(c: Chunks) -> Entry
 
 // The entry of 22 bytes; of another length, a blank one.
 pub fn unpack(bytes: &[u8]) -> Entry
-    ensures { result ≡ entryIn bytes.now }
+    ensures { result ≡ entry_in bytes.now }
 {
     if bytes.len() != ENTRY {
         return Entry::blank();

@@ -1,7 +1,7 @@
 // The bytes of the packed store that are no entry: stray bits, a link of kind 3, or a user count over 4.
 ghost use Rattle.std.specs.Prelude.{◌≡◌};
-ghost use Rattle.store_entry.specs.EntryBits.{strayFrom, strayIn};
-ghost use Rattle.store_entry.specs.Fields.{chunkFields};
+ghost use Rattle.store_entry.specs.EntryBits.{stray_from, stray_in};
+ghost use Rattle.store_entry.specs.Fields.{chunk_fields};
 
 use crate::chunk_bits::Chunks;
 
@@ -9,7 +9,7 @@ use crate::chunk_bits::Chunks;
 const ENTRY: usize = 22;
 
 fn stray_of(version: u8, c: Chunks) -> bool
-    ensures { result ≡ strayFrom version (chunkFields c) }
+    ensures { result ≡ stray_from version (chunk_fields c) }
 {
     let h = c.h;
     let kind = h / 8192 % 4;
@@ -27,7 +27,7 @@ fn stray_of(version: u8, c: Chunks) -> bool
 
 // Are 22 bytes no entry of a version: stray bits, kind 3, or a user count over 4?
 pub fn stray(bytes: &[u8], version: u8) -> bool
-    ensures { result ≡ strayIn version bytes.now }
+    ensures { result ≡ stray_in version bytes.now }
 {
     if bytes.len() != ENTRY {
         return true;

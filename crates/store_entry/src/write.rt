@@ -1,6 +1,6 @@
 // One entry of the packed store of settings, written to 22 bytes.
 ghost use Rattle.std.specs.Prelude.{◌≡◌, ◌+◌, ◌*◌, ◌<◌};
-ghost use Rattle.store_entry.specs.EntryBits.{slot, packedEntry};
+ghost use Rattle.store_entry.specs.EntryBits.{slot, packed_entry};
 
 use partitions::Entry;
 
@@ -32,7 +32,7 @@ fn marks(a: u64, b: u64, c: u64, d: u64, e: u64, f: u64, n: u64) -> u64
 
 // The bytes of an entry. A number that is too large for its field is kept to the field's width; those of good settings are not.
 pub fn pack(e: Entry) -> [u8; 22]
-    ensures { result ≡ packedEntry e }
+    ensures { result ≡ packed_entry e }
 {
     let link = e.link;
     let first = e.first as u64;

@@ -1,6 +1,6 @@
 // The packed store of settings for C: a library beside that of `capi`. Settings are bytes in the layout of `layout`.
 ghost use Rattle.std.specs.Prelude.{◌≡◌};
-ghost use Rattle.storeapi.specs.Calls.{storeCall, keptSettings, toldOf, storeReadCall, storeWriteCall};
+ghost use Rattle.storeapi.specs.Calls.{store_call, kept_settings, told_of, store_read_call, store_write_call};
 
 use partitions::Settings;
 use settings_store::Reading;
@@ -10,7 +10,7 @@ const SETTINGS: usize = 550;
 
 // The settings that were read, where the answer's number is none of a refusal.
 fn keep(settings: &mut [u8], number: u32, s: Settings)
-    ensures { settings.new ≡ keptSettings settings.old number s }
+    ensures { settings.new ≡ kept_settings settings.old number s }
 {
     if number == 0 {
         settings_layout::write_settings(settings, s);
@@ -19,7 +19,7 @@ fn keep(settings: &mut [u8], number: u32, s: Settings)
 
 // Writes the settings that were read.
 fn tell(reading: Reading, settings: &mut [u8]) -> u32
-    ensures { storeCall result settings.new ≡ toldOf settings.old reading }
+    ensures { store_call result settings.new ≡ told_of settings.old reading }
 {
     let answer = reading.answer;
     let n = answer.number() as u32;
@@ -31,7 +31,7 @@ fn tell(reading: Reading, settings: &mut [u8]) -> u32
 // The settings of a store: 0 and the settings in `settings`, or the number of a refusal.
 #[unsafe(no_mangle)]
 pub extern "C" fn uf2_store_read(store: &[u8], flash_len: usize, settings: &mut [u8]) -> u32
-    ensures { storeCall result settings.new ≡ storeReadCall store.now flash_len settings.old }
+    ensures { store_call result settings.new ≡ store_read_call store.now flash_len settings.old }
 {
     if settings.len() != SETTINGS {
         return 1;
@@ -42,7 +42,7 @@ pub extern "C" fn uf2_store_read(store: &[u8], flash_len: usize, settings: &mut 
 // The store of settings: 0 and the store at the start of `store`, or the number of a refusal.
 #[unsafe(no_mangle)]
 pub extern "C" fn uf2_store_write(settings: &[u8], flash_len: usize, store: &mut [u8]) -> u32
-    ensures { storeCall result store.new ≡ storeWriteCall settings.now flash_len store.old }
+    ensures { store_call result store.new ≡ store_write_call settings.now flash_len store.old }
 {
     let s = settings_layout::read_settings(settings);
     let answer = settings_store::write::write(s, flash_len, store);

@@ -1,7 +1,7 @@
 // The extension tags of a block for C: a library beside that of `capi`.
 ghost use Rattle.std.specs.Prelude.{◌≡◌, length};
-ghost use Rattle.uf2_tags.specs.Room.{firstPlace};
-ghost use Rattle.tagsapi.specs.Calls.{Low, tagBytes, tagCall, tagCallOf, tagAtCall, tagFindCall};
+ghost use Rattle.uf2_tags.specs.Room.{first_place};
+ghost use Rattle.tagsapi.specs.Calls.{Low, tag_bytes, tag_call, tag_call_of, tag_at_call, tag_find_call};
 
 use uf2_tags::one_tag::Answer;
 
@@ -10,7 +10,7 @@ const TAG: usize = 16;
 
 fn write(bytes: &mut [u8], kind: u32, start: u32, len: u32, next: u32)
     requires { length bytes.old ≡ 16 }
-    ensures { bytes.new ≡ tagBytes kind start len next }
+    ensures { bytes.new ≡ tag_bytes kind start len next }
 {
     uf2_block::put(bytes, 0, kind);
     uf2_block::put(bytes, 4, start);
@@ -22,7 +22,7 @@ fn write(bytes: &mut [u8], kind: u32, start: u32, len: u32, next: u32)
 fn tell(answer: Answer, tag: &mut [u8]) -> u32
     requires tag_len { length tag.old ≡ 16 }
     requires low { Low answer }
-    ensures { tagCall result tag.new ≡ tagCallOf tag.old answer }
+    ensures { tag_call result tag.new ≡ tag_call_of tag.old answer }
 {
     let n = answer.number() as u32;
     let Answer::Tag(t) = answer else {
@@ -35,7 +35,7 @@ fn tell(answer: Answer, tag: &mut [u8]) -> u32
 // The place of the first tag: after the payload.
 #[unsafe(no_mangle)]
 pub extern "C" fn uf2_tag_first(block: &[u8]) -> usize
-    ensures { result ≡ firstPlace block.now }
+    ensures { result ≡ first_place block.now }
 {
     uf2_tags::room::first_place(block)
 }
@@ -43,7 +43,7 @@ pub extern "C" fn uf2_tag_first(block: &[u8]) -> usize
 // What stands at a place: 0 and the tag in `tag`, or the number of the end or of a refusal.
 #[unsafe(no_mangle)]
 pub extern "C" fn uf2_tag(block: &[u8], place: usize, tag: &mut [u8]) -> u32
-    ensures { tagCall result tag.new ≡ tagAtCall block.now place tag.old }
+    ensures { tag_call result tag.new ≡ tag_at_call block.now place tag.old }
 {
     if tag.len() != TAG {
         return 1;
@@ -54,7 +54,7 @@ pub extern "C" fn uf2_tag(block: &[u8], place: usize, tag: &mut [u8]) -> u32
 // The first tag of a type: 0 and the tag in `tag`, or the number of the end or of the refusal before any.
 #[unsafe(no_mangle)]
 pub extern "C" fn uf2_tag_find(block: &[u8], kind: u32, tag: &mut [u8]) -> u32
-    ensures { tagCall result tag.new ≡ tagFindCall block.now kind tag.old }
+    ensures { tag_call result tag.new ≡ tag_find_call block.now kind tag.old }
 {
     if tag.len() != TAG {
         return 1;

@@ -1,7 +1,7 @@
 // An arrival taken for C: a library of its own, so that the call is compiled as one piece.
 ghost use Rattle.std.specs.Prelude.{◌≡◌};
 ghost use Rattle.uf2_receiver.specs.Receiver.{lent_at, left_at};
-ghost use Rattle.call_bytes.specs.Calls.{takeCallOf, takeReturn};
+ghost use Rattle.call_bytes.specs.Calls.{take_call_of, take_return};
 
 use uf2_checks::Lengths;
 
@@ -17,7 +17,7 @@ pub extern "C" fn uf2_take(
     main: &mut [u8],
     xip: &mut [u8],
 ) -> u32
-    ensures { takeReturn result transfer (left_at flash seen sectors main xip) ≡ takeCallOf settings transfer arrival (lent_at flash seen sectors main xip) }
+    ensures { take_return result transfer (left_at flash seen sectors main xip) ≡ take_call_of settings transfer arrival (lent_at flash seen sectors main xip) }
 {
     let lens = Lengths {
         flash: flash.len(),

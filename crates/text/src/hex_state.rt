@@ -1,7 +1,7 @@
 // The last line for a reader of Universal Hex.
 ghost use Rattle.std.specs.Prelude.{◌≡◌, length};
 ghost use Rattle.io.specs.Counts.{IsPrefixLen};
-ghost use Rattle.text.specs.HexState.{readerStateText, hexStateLine};
+ghost use Rattle.text.specs.HexState.{reader_state_text, hex_state_line};
 ghost use Rattle.laws.specs.Over.{over};
 
 use uhex_effects::Reader;
@@ -9,8 +9,8 @@ use uhex_grammar::ReaderState;
 
 // Where a reader stands.
 fn put_reader_state(out: &mut [u8; 128], state: ReaderState) -> usize
-    ensures value { result ≡ length (readerStateText state) }
-    ensures out_after { out.new ≡ over out.old 0 (readerStateText state) }
+    ensures value { result ≡ length (reader_state_text state) }
+    ensures out_after { out.new ≡ over out.old 0 (reader_state_text state) }
 {
     match state {
         ReaderState::Between => crate::put(out, 0, b"state between"),
@@ -27,8 +27,8 @@ fn put_reader_state(out: &mut [u8; 128], state: ReaderState) -> usize
 
 // The last line for a reader of Universal Hex.
 pub fn hex_state_line(out: &mut [u8; 128], reader: Reader) -> usize
-    ensures value { result ≡ length (hexStateLine reader) }
-    ensures out_after { out.new ≡ over out.old 0 (hexStateLine reader) }
+    ensures value { result ≡ length (hex_state_line reader) }
+    ensures out_after { out.new ≡ over out.old 0 (hex_state_line reader) }
     ensures prefix_len { IsPrefixLen result out.new }
 {
     let state = reader.state;

@@ -5,12 +5,12 @@ pub mod lines;
 
 ghost use Rattle.std.specs.Prelude.{◌≡◌, cond, length};
 ghost use Rattle.laws.specs.Over.{over};
-ghost use Rattle.text.specs.Parts.{end_of, putPart, decimalOf, pairText};
+ghost use Rattle.text.specs.Parts.{end_of, put_part, decimal_of, pair_text};
 
 // Puts a part at an index, and answers the index after it. Where it does not fit, nothing is put, and the answer is the index.
 pub(crate) fn put(out: &mut [u8], at: usize, part: &[u8]) -> usize
     ensures value { result ≡ end_of out.old at part.now }
-    ensures out_after { out.new ≡ putPart out.old at part.now }
+    ensures out_after { out.new ≡ put_part out.old at part.now }
 {
     if out.len() < at {
         return at;
@@ -25,8 +25,8 @@ pub(crate) fn put(out: &mut [u8], at: usize, part: &[u8]) -> usize
 
 // The same of a number in decimal.
 pub(crate) fn put_decimal(out: &mut [u8], at: usize, n: u64) -> usize
-    ensures value { result ≡ end_of out.old at (decimalOf n) }
-    ensures out_after { out.new ≡ putPart out.old at (decimalOf n) }
+    ensures value { result ≡ end_of out.old at (decimal_of n) }
+    ensures out_after { out.new ≡ put_part out.old at (decimal_of n) }
 {
     let mut text = [0u8; 20];
     let k = io::decimal(n, &mut text);
@@ -42,8 +42,8 @@ pub(crate) fn flag(b: bool) -> u8
 
 // An index and an answer, with a space between.
 pub(crate) fn put_pair(out: &mut [u8; 80], index: u64, answer: u8) -> usize
-    ensures value { result ≡ length (pairText index answer) }
-    ensures out_after { out.new ≡ over out.old 0 (pairText index answer) }
+    ensures value { result ≡ length (pair_text index answer) }
+    ensures out_after { out.new ≡ over out.old 0 (pair_text index answer) }
 {
     let a = put_decimal(out, 0, index);
     let b = put(out, a, b" ");

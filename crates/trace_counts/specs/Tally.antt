@@ -11,13 +11,13 @@ unfoldable pub tallied : List ℕ → ℕ → List ℕ
 tallied l b = raised (raised l (b / 8) 1) 32 (b / 4 % 2)
 
 -- the byte of record k of a trace
-abbrev pub recordedAt : List ℕ → ℕ → ℕ
-recordedAt t k = slice_index t (513 * k)
+abbrev pub recorded_at : List ℕ → ℕ → ℕ
+recorded_at t k = slice_index t (513 * k)
 
 -- the first n records of a trace
-unfoldable pub tallyTo : List ℕ → List ℕ → ℕ → List ℕ
-tallyTo l t zero = l
-tallyTo l t (suc n) = tallied (tallyTo l t n) (recordedAt t n)
+unfoldable pub tally_to : List ℕ → List ℕ → ℕ → List ℕ
+tally_to l t zero = l
+tally_to l t (suc n) = tallied (tally_to l t n) (recorded_at t n)
 
 -- ---- a tally added
 
@@ -29,10 +29,10 @@ number_at k = cond (nat_lt k 5) (k + 1) (k + 2)
 abbrev pub plus : ℕ → ℕ → ℕ
 plus a b = (a + b) % 4294967296
 
-abbrev pub addedAt : List ℕ → List ℕ → ℕ → ℕ
-addedAt c l k = plus (slice_index c k) (slice_index l (number_at k))
+abbrev pub added_at : List ℕ → List ℕ → ℕ → ℕ
+added_at c l k = plus (slice_index c k) (slice_index l (number_at k))
 
 -- at the first k places, and else as they were
-unfoldable pub addedCounts : List ℕ → List ℕ → ℕ → List ℕ
-addedCounts c l zero = c
-addedCounts c l (suc k) = slice_set (addedCounts c l k) k (addedAt c l k)
+unfoldable pub added_counts : List ℕ → List ℕ → ℕ → List ℕ
+added_counts c l zero = c
+added_counts c l (suc k) = slice_set (added_counts c l k) k (added_at c l k)

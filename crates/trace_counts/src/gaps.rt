@@ -2,14 +2,14 @@
 ghost use Rattle.std.specs.Prelude.{◌≡◌};
 ghost use Rattle.laws.specs.Sets.{least};
 ghost use Rattle.transfer.specs.Transfer.{count_of};
-ghost use Rattle.trace_counts.specs.Counts.{isMissing, missingAt, ended_of};
+ghost use Rattle.trace_counts.specs.Counts.{is_missing, missing_at, ended_of};
 
 use crate::{Missing, Report};
 use transfer::{State, Transfer};
 
 // The least number below a total that is not marked, and the total where each is.
 pub fn first_missing(map: &[u8], total: u32) -> u32
-    ensures { result ≡ least total (isMissing map.now) }
+    ensures { result ≡ least total (is_missing map.now) }
 {
     let mut k: u32 = 0;
     while k < total {
@@ -23,7 +23,7 @@ pub fn first_missing(map: &[u8], total: u32) -> u32
 
 // What is missing at an end.
 fn missing_at(transfer: Transfer, seen: &[u8]) -> Missing
-    ensures { result ≡ missingAt transfer.state seen.now }
+    ensures { result ≡ missing_at transfer.state seen.now }
 {
     let state = transfer.state;
     match state {

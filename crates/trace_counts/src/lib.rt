@@ -3,7 +3,7 @@ pub mod gaps;
 pub mod tallies;
 
 ghost use Rattle.std.specs.Prelude.{◌≡◌, ◌≤◌};
-ghost use Rattle.trace_counts.specs.Counts.{freshReport, sum_to, goodReport, withRoom, withTally};
+ghost use Rattle.trace_counts.specs.Counts.{fresh_report, sum_to, good_report, with_room, with_tally};
 
 use crate::tallies::TALLY;
 
@@ -32,7 +32,7 @@ const MAX: usize = 4294967295;
 
 impl Report {
     pub fn new() -> Self
-        ensures { result ≡ freshReport }
+        ensures { result ≡ fresh_report }
     {
         let missing = Missing::None;
         Self {
@@ -67,7 +67,7 @@ fn sum(counts: [u32; 16]) -> u64
 
 // Do the counts sum to the records, and are there no more discards than records?
 pub fn is_good(report: Report) -> bool
-    ensures { result ≡ goodReport report }
+    ensures { result ≡ good_report report }
 {
     let counts = report.counts;
     let total = sum(counts);
@@ -76,7 +76,7 @@ pub fn is_good(report: Report) -> bool
 
 // Is there room for so many records more?
 pub fn has_room(report: Report, pieces: usize) -> bool
-    ensures { result ≡ withRoom report pieces }
+    ensures { result ≡ with_room report pieces }
 {
     pieces <= MAX - report.records as usize
 }
@@ -85,7 +85,7 @@ pub fn has_room(report: Report, pieces: usize) -> bool
 
 // A report with the tally of so many records more.
 pub fn with_tally(report: Report, tally: [usize; TALLY], records: usize) -> Report
-    ensures { result ≡ withTally report tally records }
+    ensures { result ≡ with_tally report tally records }
 {
     let was = report.counts;
     let counts = crate::tallies::added_counts(was, tally);

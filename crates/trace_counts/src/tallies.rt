@@ -1,6 +1,6 @@
 // Records counted by the byte that they begin with: a tally, and the counts of a report with a tally added.
 ghost use Rattle.std.specs.Prelude.{◌≡◌, ◌≤◌};
-ghost use Rattle.trace_counts.specs.Tally.{number_at, raised, tallied, plus, addedCounts};
+ghost use Rattle.trace_counts.specs.Tally.{number_at, raised, tallied, plus, added_counts};
 
 // A tally: how many records said each number of five bits, and last how many discarded.
 pub const TALLY: usize = 33;
@@ -49,7 +49,7 @@ pub(crate) fn plus(count: u32, more: usize) -> u32
 
 // The counts with those of a tally.
 pub(crate) fn added_counts(was: [u32; 16], tally: [usize; TALLY]) -> [u32; 16]
-    ensures { result ≡ addedCounts was tally 16 }
+    ensures { result ≡ added_counts was tally 16 }
 {
     let mut counts = was;
     let mut k: usize = 0;

@@ -2,7 +2,7 @@
 pub mod reports;
 
 ghost use Rattle.std.specs.Prelude.{◌≡◌};
-ghost use Rattle.trace_layout.specs.Kept.{stopNumber, indexOver, withStop, figuresResult, keptReport, keptIndex};
+ghost use Rattle.trace_layout.specs.Kept.{stop_number, index_over, with_stop, figures_result, kept_report, kept_index};
 
 use trace_counts::Report;
 use trace_piece::Stop;
@@ -15,7 +15,7 @@ const WORD: usize = 4294967296;
 
 // An index, where there are bytes for it.
 fn put_index(index: &mut [u8], i: usize)
-    ensures { index.new ≡ indexOver index.old i }
+    ensures { index.new ≡ index_over index.old i }
 {
     if index.len() != INDEX {
         return;
@@ -28,7 +28,7 @@ fn put_index(index: &mut [u8], i: usize)
 
 // The index of the piece that stopped a replay.
 pub fn put_stop(index: &mut [u8], stop: Stop)
-    ensures { index.new ≡ withStop index.old stop }
+    ensures { index.new ≡ with_stop index.old stop }
 {
     match stop {
         Stop::None => {}
@@ -38,7 +38,7 @@ pub fn put_stop(index: &mut [u8], stop: Stop)
 }
 
 pub fn number(stop: Stop) -> u32
-    ensures { result ≡ stopNumber stop }
+    ensures { result ≡ stop_number stop }
 {
     match stop {
         Stop::None => 0,
@@ -49,7 +49,7 @@ pub fn number(stop: Stop) -> u32
 
 // What came of a trace that a report was handed: its stop, or 70 or 71.
 pub fn result(answer: FiguresAnswer) -> u32
-    ensures { result ≡ figuresResult answer }
+    ensures { result ≡ figures_result answer }
 {
     match answer {
         FiguresAnswer::BadReport => 71,
@@ -60,7 +60,7 @@ pub fn result(answer: FiguresAnswer) -> u32
 
 // The next report, where the trace was replayed.
 pub fn keep_report(report: &mut [u8], answer: FiguresAnswer, next: Report)
-    ensures { report.new ≡ keptReport report.old answer next }
+    ensures { report.new ≡ kept_report report.old answer next }
 {
     match answer {
         FiguresAnswer::BadReport => {}
@@ -71,7 +71,7 @@ pub fn keep_report(report: &mut [u8], answer: FiguresAnswer, next: Report)
 
 // The index of its stop.
 pub fn keep_index(index: &mut [u8], answer: FiguresAnswer)
-    ensures { index.new ≡ keptIndex index.old answer }
+    ensures { index.new ≡ kept_index index.old answer }
 {
     match answer {
         FiguresAnswer::BadReport => {}

@@ -2,8 +2,8 @@
 ghost use Rattle.std.specs.Prelude.{◌≡◌};
 ghost use Rattle.laws.specs.Numbered.{numbered};
 ghost use Rattle.laws.specs.Sets.{one};
-ghost use Rattle.trace_parts.specs.Merging.{freshPart, is_none, emptyReport, stopsFit, goodPart, onePart, fits, mergeReturn, outcomeNumber, one_of, mergeOf};
-ghost use Rattle.trace_parts.specs.Summing.{plus, summedTo, last_of, joinedBy};
+ghost use Rattle.trace_parts.specs.Merging.{fresh_part, is_none, empty_report, stops_fit, good_part, one_part, fits, merge_return, outcome_number, one_of, merge_of};
+ghost use Rattle.trace_parts.specs.Summing.{plus, summed_to, last_of, joined_by};
 
 use trace_counts::{Missing, Report};
 
@@ -44,7 +44,7 @@ const DIFFERS: u32 = 2;
 
 impl Part {
     pub fn new() -> Self
-        ensures { result ≡ freshPart }
+        ensures { result ≡ fresh_part }
     {
         let report = Report::new();
         Self {
@@ -69,7 +69,7 @@ fn is_none(missing: Missing) -> bool
 
 // No record, and no end.
 fn is_empty(report: Report) -> bool
-    ensures { result ≡ emptyReport report }
+    ensures { result ≡ empty_report report }
 {
     let missing = report.missing;
     (report.records == 0) & ((report.marked == 0) & is_none(missing))
@@ -77,14 +77,14 @@ fn is_empty(report: Report) -> bool
 
 // Does no trace stop twice?
 fn stops_fit(bad: u32, differs: u32, traces: u32) -> bool
-    ensures { result ≡ stopsFit bad differs traces }
+    ensures { result ≡ stops_fit bad differs traces }
 {
     bad as u64 + differs as u64 <= traces as u64
 }
 
 // 71 asks this of each.
 fn is_good(part: Part) -> bool
-    ensures { result ≡ goodPart part }
+    ensures { result ≡ good_part part }
 {
     let report = part.report;
     trace_counts::is_good(report)
@@ -108,7 +108,7 @@ fn bit(b: bool) -> u32
 }
 
 fn one(report: Report, stop: u32) -> Part
-    ensures { result ≡ onePart report stop }
+    ensures { result ≡ one_part report stop }
 {
     Part {
         report,
@@ -120,7 +120,7 @@ fn one(report: Report, stop: u32) -> Part
 
 // The part of one trace: the report over it alone, and where its replay stopped. A report that is not good, or another number, is refused.
 pub fn part_of_one(report: Report, stop: u32) -> Merge
-    ensures { numbered outcomeNumber (mergeReturn result) ≡ numbered outcomeNumber (one_of report stop) }
+    ensures { numbered outcome_number (merge_return result) ≡ numbered outcome_number (one_of report stop) }
 {
     if !(trace_counts::is_good(report) & (stop <= DIFFERS)) {
         return Merge {
@@ -144,7 +144,7 @@ fn plus(a: u32, b: u32) -> u32
 }
 
 fn summed(a: [u32; 16], b: [u32; 16]) -> [u32; 16]
-    ensures { result ≡ summedTo a b 16 }
+    ensures { result ≡ summed_to a b 16 }
 {
     let mut counts = a;
     let mut k: usize = 0;
@@ -174,7 +174,7 @@ fn last_marked(traces: u32, earlier: u32, later: u32) -> u32
 }
 
 fn join(a: Part, b: Part) -> Part
-    ensures { result ≡ joinedBy a b }
+    ensures { result ≡ joined_by a b }
 {
     let earlier = a.report;
     let later = b.report;
@@ -201,7 +201,7 @@ fn join(a: Part, b: Part) -> Part
 
 // Two parts as one, the earlier first. A part that is not good, and then two that would pass the most records or traces, is refused.
 pub fn merge_parts(a: Part, b: Part) -> Merge
-    ensures { numbered outcomeNumber (mergeReturn result) ≡ numbered outcomeNumber (mergeOf a b) }
+    ensures { numbered outcome_number (merge_return result) ≡ numbered outcome_number (merge_of a b) }
 {
     if !(is_good(a) & is_good(b)) {
         return Merge {

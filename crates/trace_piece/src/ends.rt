@@ -1,8 +1,8 @@
 // The two ends of a replay: both maps cleared before it; where it stops, by the place of that piece, and how many records stand before.
 ghost use Rattle.std.specs.Prelude.{◌≡◌, ◌/◌, length};
 ghost use Rattle.memory.specs.Bitmap.{unmarked};
-ghost use Rattle.trace_piece.specs.Piece.{stopOf};
-ghost use Rattle.trace_piece.specs.Ends.{beforeStop};
+ghost use Rattle.trace_piece.specs.Piece.{stop_of};
+ghost use Rattle.trace_piece.specs.Ends.{before_stop};
 
 use crate::{PieceAnswer, Stop};
 
@@ -16,14 +16,14 @@ pub fn clear_maps(seen: &mut [u8], sectors: &mut [u8])
 
 // Where a replay stops, by what came of the piece that begins at a byte of the trace.
 pub fn stop_at(answer: PieceAnswer, at: usize) -> Stop
-    ensures { result ≡ stopOf answer (at / 513) }
+    ensures { result ≡ stop_of answer (at / 513) }
 {
     crate::stop_of(answer, at / crate::RECORD)
 }
 
 // How many records stand before the stop, of a trace with so many whole pieces.
 pub fn before_stop(stop: Stop, pieces: usize) -> usize
-    ensures { result ≡ beforeStop pieces stop }
+    ensures { result ≡ before_stop pieces stop }
 {
     match stop {
         Stop::None => pieces,

@@ -4,7 +4,7 @@ pub mod ends;
 
 ghost use Rattle.std.specs.Prelude.{◌≡◌};
 ghost use Rattle.laws.specs.Sets.{one};
-ghost use Rattle.trace_piece.specs.Piece.{isBad, agrees, comparedOf, isReplayed, stopOf};
+ghost use Rattle.trace_piece.specs.Piece.{is_bad, agrees, compared_of, is_replayed, stop_of};
 
 use transfer::Answer;
 
@@ -35,7 +35,7 @@ fn bit(b: bool) -> u8
 
 // Is a piece of another length than a record's, or are there stray bits?
 pub(crate) fn is_bad(piece: &[u8]) -> bool
-    ensures { result ≡ isBad piece.now }
+    ensures { result ≡ is_bad piece.now }
 {
     if piece.len() != RECORD {
         return true;
@@ -54,7 +54,7 @@ fn agrees(recorded: u8, answer: Answer, discarded: bool) -> bool
 
 // What comes of a record, by its first byte and what we answer.
 pub(crate) fn compared(recorded: u8, answer: Answer, discarded: bool) -> PieceAnswer
-    ensures { result ≡ comparedOf recorded answer discarded }
+    ensures { result ≡ compared_of recorded answer discarded }
 {
     if agrees(recorded, answer, discarded) {
         PieceAnswer::Replayed
@@ -65,7 +65,7 @@ pub(crate) fn compared(recorded: u8, answer: Answer, discarded: bool) -> PieceAn
 
 impl PieceAnswer {
     pub fn is_replayed(self) -> bool
-        ensures { result ≡ isReplayed self }
+        ensures { result ≡ is_replayed self }
     {
         match self {
             PieceAnswer::Replayed => true,
@@ -77,7 +77,7 @@ impl PieceAnswer {
 
 // Where a replay stops, by what came of the piece at an index.
 pub(crate) fn stop_of(answer: PieceAnswer, index: usize) -> Stop
-    ensures { result ≡ stopOf answer index }
+    ensures { result ≡ stop_of answer index }
 {
     match answer {
         PieceAnswer::Replayed => Stop::None,

@@ -3,7 +3,7 @@ mod one_piece;
 
 ghost use Rattle.std.specs.Prelude.{◌≡◌, ◌+◌, ◌-◌, ◌≤◌, min};
 ghost use Rattle.uf2_receiver.specs.Receiver.{lent_at, left_at, world};
-ghost use Rattle.trace_replay.specs.Replay.{traceOutcome, replayOf, tallyReturn, countedRun, countedReplay};
+ghost use Rattle.trace_replay.specs.Replay.{trace_outcome, replay_of, tally_return, counted_run, counted_replay};
 
 use partitions::Settings;
 use trace_piece::Stop;
@@ -40,7 +40,7 @@ fn run(
     main: &mut [u8],
     xip: &mut [u8],
 ) -> TraceReceipt
-    ensures { tallyReturn result.stop result.transfer tally.new (left_at flash seen sectors main xip) ≡ countedRun settings tally.old trace.now (lent_at flash seen sectors main xip) }
+    ensures { tally_return result.stop result.transfer tally.new (left_at flash seen sectors main xip) ≡ counted_run settings tally.old trace.now (lent_at flash seen sectors main xip) }
 {
     let len = trace.len();
     let mut t = Transfer::new();
@@ -86,7 +86,7 @@ pub fn replay_counted(
     main: &mut [u8],
     xip: &mut [u8],
 ) -> TraceReceipt
-    ensures { tallyReturn result.stop result.transfer tally.new (left_at flash seen sectors main xip) ≡ countedReplay settings tally.old trace.now (lent_at flash seen sectors main xip) }
+    ensures { tally_return result.stop result.transfer tally.new (left_at flash seen sectors main xip) ≡ counted_replay settings tally.old trace.now (lent_at flash seen sectors main xip) }
 {
     trace_piece::ends::clear_maps(seen, sectors);
     run(settings, trace, tally, flash, seen, sectors, main, xip)
@@ -102,7 +102,7 @@ pub fn replay(
     main: &mut [u8],
     xip: &mut [u8],
 ) -> TraceReceipt
-    ensures { traceOutcome result.stop (world result.transfer (left_at flash seen sectors main xip)) ≡ replayOf settings (lent_at flash seen sectors main xip) trace.now }
+    ensures { trace_outcome result.stop (world result.transfer (left_at flash seen sectors main xip)) ≡ replay_of settings (lent_at flash seen sectors main xip) trace.now }
 {
     let mut tally = [0usize; 0];
     replay_counted(settings, trace, &mut tally, flash, seen, sectors, main, xip)

@@ -1,7 +1,7 @@
 // A trace of what a site sent: records of the answer and "discarded" that the site got, each with its arrival. One piece of it is replayed.
 ghost use Rattle.std.specs.Prelude.{◌≡◌};
 ghost use Rattle.uf2_receiver.specs.Receiver.{lent_at, left_at, world};
-ghost use Rattle.trace_replay.specs.Trace.{pieceOutcome, piece_of};
+ghost use Rattle.trace_replay.specs.Trace.{piece_outcome, piece_of};
 
 use partitions::Settings;
 use trace_piece::PieceAnswer;
@@ -25,7 +25,7 @@ pub(crate) fn replay_piece(
     main: &mut [u8],
     xip: &mut [u8],
 ) -> PieceReceipt
-    ensures { pieceOutcome result.answer (world result.transfer (left_at flash seen sectors main xip)) ≡ piece_of settings (world transfer (lent_at flash seen sectors main xip)) piece.now }
+    ensures { piece_outcome result.answer (world result.transfer (left_at flash seen sectors main xip)) ≡ piece_of settings (world transfer (lent_at flash seen sectors main xip)) piece.now }
 {
     let answer = trace_piece::comparing::judge(
         settings, transfer, piece, flash, seen, sectors, main, xip,

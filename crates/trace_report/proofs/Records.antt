@@ -9,11 +9,11 @@ use lib.ListN.{length, get_or, drop, length-drop}
 use lib.Seq.{drop-cons}
 use borrow.Author.Tests.{eqb-true, eq-eqb}
 use Rattle.laws.specs.Sets.{one}
-use Rattle.laws.proofs.Laws.{one-le}
+use Rattle.laws.proofs.Laws.{one_le}
 use Rattle.laws.proofs.Tests.{split, clash}
 use Rattle.transfer.specs.Transfer.{number_of}
 use Rattle.transfer.specs.declared.Answer.{Answer}
-use Rattle.trace_piece.specs.Piece.{recorded, isBad, agrees}
+use Rattle.trace_piece.specs.Piece.{recorded, is_bad, agrees}
 use Rattle.trace_report.specs.Pieces.{written, IsRecord}
 
 -- ---- not bad
@@ -23,8 +23,8 @@ pub record Good (p : List ℕ) : Type 0 where
   pub long : length p ≡ 513
   pub neat : recorded p % 4 ≡ 0
 
-pub good : (p : List ℕ) → isBad p ≡ false → Good p
-unfolding isBad
+pub good : (p : List ℕ) → is_bad p ≡ false → Good p
+unfolding is_bad
 good p h =
     split (eqb (length p) 513)
     (λ y. split (eqb (recorded p % 4) 0)
@@ -32,9 +32,9 @@ good p h =
     (λ z. clash true refl (rw (y, z) at h)))
     (λ y. clash true refl (rw y at h))
 
-pub not-bad : (p : List ℕ) → length p ≡ 513 → recorded p % 4 ≡ 0 → isBad p ≡ false
-unfolding isBad
-not-bad p l z = rw (eq-eqb (length p) 513 l, eq-eqb (recorded p % 4) 0 z)
+pub not_bad : (p : List ℕ) → length p ≡ 513 → recorded p % 4 ≡ 0 → is_bad p ≡ false
+unfolding is_bad
+not_bad p l z = rw (eq-eqb (length p) 513 l, eq-eqb (recorded p % 4) 0 z)
 
 -- ---- a record is not bad, and what is not bad is a record
 
@@ -42,8 +42,8 @@ not-bad p l z = rw (eq-eqb (length p) 513 l, eq-eqb (recorded p % 4) 0 z)
 parts : (p : List ℕ) → length p ≡ 513 → p ≡ recorded p ∷ drop 1 p
 parts p l = drop-cons p 0 0 (omega arith)
 
-pub good-record : (p : List ℕ) → isBad p ≡ false → IsRecord p
-good-record p h =
+pub good_record : (p : List ℕ) → is_bad p ≡ false → IsRecord p
+good_record p h =
     let g = good p h in
     let b = recorded p in
     let neat : b % 4 ≡ 0 = g.neat in
@@ -57,16 +57,16 @@ good-record p h =
       is = parts p g.long ∙ ap (λ (x : ℕ). x ∷ drop 1 p) e;
     }
 
-pub record-good : (p : List ℕ) → IsRecord p → isBad p ≡ false
-record-good p r =
+pub record_good : (p : List ℕ) → IsRecord p → is_bad p ≡ false
+record_good p r =
     let first : recorded p ≡ r.answer * 8 + r.discarded * 4 = ap recorded r.is in
     let long : length p ≡ suc (length r.arrival) = ap length r.is in
-    not-bad p (omega (arith, long, r.long)) (omega (arith, first))
+    not_bad p (omega (arith, long, r.long)) (omega (arith, first))
 
 -- ---- what a record says is ours
 
 module _ (p : List ℕ) (x : Answer) (d : Bool) where
-  pub agree-written : isBad p ≡ false → agrees (recorded p) x d ≡ true → p ≡ written (number_of x) (one d) (drop 1 p)
+  pub agree-written : is_bad p ≡ false → agrees (recorded p) x d ≡ true → p ≡ written (number_of x) (one d) (drop 1 p)
   unfolding agrees
   agree-written h a =
       let g = good p h in
@@ -82,7 +82,7 @@ module _ (p : List ℕ) (x : Answer) (d : Bool) where
   unfolding agrees
   written-agree e =
       let first : recorded p ≡ number_of x * 8 + one d * 4 = ap recorded e in
-      let low = one-le d in
+      let low = one_le d in
       let n : recorded p / 8 ≡ number_of x = omega arith in
       let m : recorded p / 4 % 2 ≡ one d = omega arith in
       rw (eq-eqb (recorded p / 8) (number_of x) n, eq-eqb (recorded p / 4 % 2) (one d) m)

@@ -25,16 +25,16 @@ abbrev pub piece_at : List ℕ → ℕ → List ℕ
 piece_at t k = take 513 (drop (513 * k) t)
 
 -- its arrival
-abbrev pub arrivalAt : List ℕ → ℕ → List ℕ
-arrivalAt t k = drop 1 (piece_at t k)
+abbrev pub arrival_at : List ℕ → ℕ → List ℕ
+arrival_at t k = drop 1 (piece_at t k)
 
 -- the arrivals of the first n pieces
-unfoldable pub arrivalsTo : List ℕ → ℕ → List (List ℕ)
-arrivalsTo t zero = []
-arrivalsTo t (suc n) = arrivalsTo t n ++ (arrivalAt t n ∷ [])
+unfoldable pub arrivals_to : List ℕ → ℕ → List (List ℕ)
+arrivals_to t zero = []
+arrivals_to t (suc n) = arrivals_to t n ++ (arrival_at t n ∷ [])
 
 -- how many records stand before the stop
-abbrev pub recordsBefore : List ℕ → Stop → ℕ
-recordsBefore t None = length t / 513
-recordsBefore t (Bad i) = i
-recordsBefore t (Differs i) = i
+abbrev pub records_before : List ℕ → Stop → ℕ
+records_before t None = length t / 513
+records_before t (Bad i) = i
+records_before t (Differs i) = i

@@ -1,6 +1,6 @@
 // What one trace adds to an exact report, and what comes of it: the answers, and by their meaning what is added.
 ghost use Rattle.std.specs.Prelude.{◌≡◌};
-ghost use Rattle.trace_report.specs.Report.{figuresNumber};
+ghost use Rattle.trace_report.specs.Report.{figures_number};
 
 use trace_counts::Report;
 use trace_piece::Stop;
@@ -22,7 +22,7 @@ pub struct Addition {
 
 impl FiguresAnswer {
     pub fn number(self) -> u8
-        ensures { result ≡ figuresNumber self }
+        ensures { result ≡ figures_number self }
     {
         match self {
             FiguresAnswer::BadReport => 71,

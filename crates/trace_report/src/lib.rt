@@ -4,8 +4,8 @@ pub mod adding;
 ghost use Rattle.std.specs.Prelude.{◌≡◌};
 ghost use Rattle.laws.specs.Numbered.{numbered};
 ghost use Rattle.uf2_receiver.specs.Receiver.{lent_at, left_at};
-ghost use Rattle.trace_report.specs.Report.{addReturn, outcomeNumber, addOf};
-ghost use Rattle.trace_report.specs.Counting.{replayedBy};
+ghost use Rattle.trace_report.specs.Report.{add_return, outcome_number, add_of};
+ghost use Rattle.trace_report.specs.Counting.{replayed_by};
 
 use crate::adding::{Addition, FiguresAnswer};
 use partitions::Settings;
@@ -22,7 +22,7 @@ fn add_replayed(
     main: &mut [u8],
     xip: &mut [u8],
 ) -> Addition
-    ensures { addReturn result (left_at flash seen sectors main xip) ≡ replayedBy report settings (lent_at flash seen sectors main xip) trace.now }
+    ensures { add_return result (left_at flash seen sectors main xip) ≡ replayed_by report settings (lent_at flash seen sectors main xip) trace.now }
 {
     let pieces = trace.len() / trace_piece::RECORD;
     let mut tally = [0usize; trace_counts::tallies::TALLY];
@@ -53,7 +53,7 @@ pub fn add(
     main: &mut [u8],
     xip: &mut [u8],
 ) -> Addition
-    ensures { numbered outcomeNumber (addReturn result (left_at flash seen sectors main xip)) ≡ numbered outcomeNumber (addOf report settings (lent_at flash seen sectors main xip) trace.now) }
+    ensures { numbered outcome_number (add_return result (left_at flash seen sectors main xip)) ≡ numbered outcome_number (add_of report settings (lent_at flash seen sectors main xip) trace.now) }
 {
     if !trace_counts::is_good(report) {
         return Addition {

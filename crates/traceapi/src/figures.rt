@@ -1,7 +1,7 @@
 // The call that adds a trace to a report. The report is bytes in the layout of `reports`, settings in that of `layout`.
 ghost use Rattle.std.specs.Prelude.{◌≡◌};
 ghost use Rattle.uf2_receiver.specs.Receiver.{lent_at, left_at};
-ghost use Rattle.traceapi.specs.FiguresCall.{figuresReturn, figuresCallOf};
+ghost use Rattle.traceapi.specs.FiguresCall.{figures_return, figures_call_of};
 
 // One trace more: where its replay stopped, as `uf2_replay` has it, or 70 or 71, which leave report and buffers.
 #[unsafe(no_mangle)]
@@ -16,7 +16,7 @@ pub extern "C" fn uf2_figures(
     xip: &mut [u8],
     index: &mut [u8],
 ) -> u32
-    ensures { figuresReturn result report index (left_at flash seen sectors main xip) ≡ figuresCallOf report settings trace index (lent_at flash seen sectors main xip) }
+    ensures { figures_return result report index (left_at flash seen sectors main xip) ≡ figures_call_of report settings trace index (lent_at flash seen sectors main xip) }
 {
     let was = trace_layout::reports::read_report(report);
     let s = settings_layout::read_settings(settings);

@@ -1,7 +1,7 @@
 // The call that replays a trace. Settings and the transfer are bytes in the layout of `layout`.
 ghost use Rattle.std.specs.Prelude.{◌≡◌};
 ghost use Rattle.uf2_receiver.specs.Receiver.{lent_at, left_at};
-ghost use Rattle.traceapi.specs.ReplayCall.{replayReturn, replayCallOf};
+ghost use Rattle.traceapi.specs.ReplayCall.{replay_return, replay_call_of};
 
 // A whole trace from Idle: 0, or 1 for a bad piece and 2 for one that differs, and its index. The end's transfer is written.
 #[unsafe(no_mangle)]
@@ -16,7 +16,7 @@ pub extern "C" fn uf2_replay(
     transfer: &mut [u8],
     index: &mut [u8],
 ) -> u32
-    ensures { replayReturn result transfer index (left_at flash seen sectors main xip) ≡ replayCallOf settings trace transfer index (lent_at flash seen sectors main xip) }
+    ensures { replay_return result transfer index (left_at flash seen sectors main xip) ≡ replay_call_of settings trace transfer index (lent_at flash seen sectors main xip) }
 {
     let s = settings_layout::read_settings(settings);
     let r = trace_replay::replay(s, trace, flash, seen, sectors, main, xip);

@@ -39,18 +39,18 @@ abbrev pub fresh : Transfer
 fresh = record { state = Idle }
 
 -- the kinds' numbers, by which they are compared and stored
-abbrev pub kindNumber : Kind → ℕ
-kindNumber Flash = 0
-kindNumber MainRam = 1
-kindNumber XipRam = 2
+abbrev pub kind_number : Kind → ℕ
+kind_number Flash = 0
+kind_number MainRam = 1
+kind_number XipRam = 2
 
 -- the kinds are one
-abbrev pub sameKind : Kind → Kind → Bool
-sameKind k u = eqb (kindNumber k) (kindNumber u)
+abbrev pub same_kind : Kind → Kind → Bool
+same_kind k u = eqb (kind_number k) (kind_number u)
 
 -- "(family, total)", and "The transfer carries its kind" (02, L8): what makes two blocks one transfer
-abbrev pub headWith : Kind → ℕ → ℕ → Head
-headWith k f n = record { family = f; total = n; kind = k }
+abbrev pub head_with : Kind → ℕ → ℕ → Head
+head_with k f n = record { family = f; total = n; kind = k }
 
 -- "Running (family, total, count)"
 abbrev pub running : Head → ℕ → State
@@ -63,32 +63,32 @@ count_of (Running r) = r.count
 count_of (Done g) = g.total
 
 -- row 3 is passed: "Running without 1 <= count < total <= 131,072; Done without 1 <= total <= 131,072" is bad. Nothing is asked of the kind.
-unfoldable pub goodState : State → Bool
-goodState Idle = true
-goodState (Running r) = leb 1 r.count && ltb r.count r.head.total && leb r.head.total 131072
-goodState (Done g) = leb 1 g.total && leb g.total 131072
+unfoldable pub good_state : State → Bool
+good_state Idle = true
+good_state (Running r) = leb 1 r.count && ltb r.count r.head.total && leb r.head.total 131072
+good_state (Done g) = leb 1 g.total && leb g.total 131072
 
 -- "same family and total", and "a change of kind discards like a change of family" (02, L8)
-unfoldable pub sameHead : Head → Head → Bool
-sameHead g h = eqb g.family h.family && eqb g.total h.total && sameKind g.kind h.kind
+unfoldable pub same_head : Head → Head → Bool
+same_head g h = eqb g.family h.family && eqb g.total h.total && same_kind g.kind h.kind
 
 -- "at the total the transfer is Done"
 unfoldable pub counted : Head → ℕ → State
 counted g c = cond (ltb c g.total) (running g c) (Done g)
 
 -- the answer of a block that does not complete: row 14, or for a comment "new answer 16 Noted" (02, L3), or "store nothing: answer 17 Kept" (02, L9)
-abbrev pub deedAnswer : Deed → Answer
-deedAnswer Stores = Written
-deedAnswer Notes = Noted
-deedAnswer Keeps = Kept
+abbrev pub deed_answer : Deed → Answer
+deed_answer Stores = Written
+deed_answer Notes = Noted
+deed_answer Keeps = Kept
 
 -- rows 14 and 15 (and 16, 17): that answer where "the raised count is under the block's total", Completed otherwise
 unfoldable pub raised : Deed → Head → ℕ → Answer
-raised d g c = cond (ltb c g.total) (deedAnswer d) Completed
+raised d g c = cond (ltb c g.total) (deed_answer d) Completed
 
 -- the transfer as it was, with an answer
-abbrev pub keptState : State → Answer → Unchanged
-keptState t x = record { transfer = record { state = t }; answer = x }
+abbrev pub kept_state : State → Answer → Unchanged
+kept_state t x = record { transfer = record { state = t }; answer = x }
 
 -- a block of head g is accepted, and c is the raised count
 unfoldable pub accepted : Deed → Bool → Bool → Head → ℕ → Accepted
@@ -101,17 +101,17 @@ accepted d clears discards g c =
     }
 
 -- the answer to a block that does d, where x is that to one that stores, and the transfer goes on to a state
-abbrev pub toldAnswer : Deed → State → Answer → Answer
-toldAnswer d Idle x = x
-toldAnswer d (Running r) x = deedAnswer d
-toldAnswer d (Done g) x = x
+abbrev pub told_answer : Deed → State → Answer → Answer
+told_answer d Idle x = x
+told_answer d (Running r) x = deed_answer d
+told_answer d (Done g) x = x
 
 -- a block that was accepted as one that stores does d instead
-abbrev pub withDeed : Deed → Accepted → Accepted
-withDeed d y =
+abbrev pub with_deed : Deed → Accepted → Accepted
+with_deed d y =
     record {
       transfer = y.transfer;
-      answer = toldAnswer d y.transfer.state y.answer;
+      answer = told_answer d y.transfer.state y.answer;
       discarded = y.discarded;
       clears = y.clears;
     }
@@ -120,12 +120,12 @@ withDeed d y =
 unfoldable pub step_of : State → Head → Bool → Deed → Step
 step_of Idle g marked d = Accepts (accepted d true false g 1)
 step_of (Running r) g marked d =
-    cond (sameHead r.head g)
-    (cond marked (Stays (keptState (Running r) Again)) (Accepts (accepted d false false g (r.count + 1))))
+    cond (same_head r.head g)
+    (cond marked (Stays (kept_state (Running r) Again)) (Accepts (accepted d false false g (r.count + 1))))
     (Accepts (accepted d true true g 1))
-step_of (Done h) g marked d = Stays (keptState (Done h) Finished)
+step_of (Done h) g marked d = Stays (kept_state (Done h) Finished)
 
 -- the number of a step's answer
-abbrev pub stepNumber : Step → ℕ
-stepNumber (Stays x) = number_of x.answer
-stepNumber (Accepts k) = number_of k.answer
+abbrev pub step_number : Step → ℕ
+step_number (Stays x) = number_of x.answer
+step_number (Accepts k) = number_of k.answer

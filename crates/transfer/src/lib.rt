@@ -3,7 +3,7 @@ pub mod retold;
 
 ghost use Rattle.std.specs.Prelude.{◌≡◌, ◌+◌};
 ghost use Rattle.laws.specs.Numbered.{numbered};
-ghost use Rattle.transfer.specs.Transfer.{kindNumber, sameKind, headWith, number_of, fresh, goodState, sameHead, deedAnswer, accepted, step_of, stepNumber};
+ghost use Rattle.transfer.specs.Transfer.{kind_number, same_kind, head_with, number_of, fresh, good_state, same_head, deed_answer, accepted, step_of, step_number};
 
 // Where a transfer's pages go: to the flash, to main RAM or to XIP RAM.
 #[derive(Drop)]
@@ -15,7 +15,7 @@ pub enum Kind {
 
 impl Kind {
     pub fn number(self) -> u8
-        ensures { result ≡ kindNumber self }
+        ensures { result ≡ kind_number self }
     {
         match self {
             Kind::Flash => 0,
@@ -27,7 +27,7 @@ impl Kind {
 
 // Kinds are compared by their numbers.
 pub fn same_kind(a: Kind, b: Kind) -> bool
-    ensures { result ≡ sameKind a b }
+    ensures { result ≡ same_kind a b }
 {
     a.number() == b.number()
 }
@@ -42,7 +42,7 @@ pub struct Head {
 
 impl Head {
     pub fn new(kind: Kind, family: u32, total: u32) -> Self
-        ensures { result ≡ headWith kind family total }
+        ensures { result ≡ head_with kind family total }
     {
         Self {
             family,
@@ -151,7 +151,7 @@ impl Answer {
 
 // Are the heads one? Then two blocks belong to one transfer.
 pub fn same_head(g: Head, h: Head) -> bool
-    ensures { result ≡ sameHead g h }
+    ensures { result ≡ same_head g h }
 {
     let current = g.kind;
     let other = h.kind;
@@ -161,7 +161,7 @@ pub fn same_head(g: Head, h: Head) -> bool
 
 // The answer to a block that does not complete its transfer.
 pub(crate) fn deed_answer(deed: Deed) -> Answer
-    ensures { result ≡ deedAnswer deed }
+    ensures { result ≡ deed_answer deed }
 {
     match deed {
         Deed::Stores => Answer::Written,
@@ -205,7 +205,7 @@ impl Transfer {
 
     // May this state be handed in? Nothing but these bounds is asked of it.
     pub fn sound(self) -> bool
-        ensures { result ≡ goodState self.state }
+        ensures { result ≡ good_state self.state }
     {
         let state = self.state;
         match state {
@@ -220,7 +220,7 @@ impl Transfer {
 
     // What a block of this head does, whose number is marked or not, and which does `deed` once it is accepted.
     pub fn step(self, head: Head, marked: bool, deed: Deed) -> Step
-        ensures { numbered stepNumber result ≡ numbered stepNumber (step_of self.state head marked deed) }
+        ensures { numbered step_number result ≡ numbered step_number (step_of self.state head marked deed) }
     {
         let state = self.state;
         match state {

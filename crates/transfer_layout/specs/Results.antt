@@ -6,5 +6,5 @@ abbrev pub result_of : ℕ → Bool → ℕ
 result_of n discarded = cond discarded (n + 128) n
 
 -- answers 14 and more accept the block
-abbrev pub isAcceptance : ℕ → Bool
-isAcceptance n = leb 14 n
+abbrev pub is_acceptance : ℕ → Bool
+is_acceptance n = leb 14 n

@@ -4,10 +4,10 @@ mod states;
 
 ghost use Rattle.std.specs.Prelude.{◌≡◌, length};
 ghost use Rattle.transfer_layout.specs.Transfers.{
-  transferFrom,
-  transferBytes,
-  headBytes,
-  withTransfer,
+  transfer_from,
+  transfer_bytes,
+  head_bytes,
+  with_transfer,
 };
 
 use transfer::{Head, State, Transfer};
@@ -17,7 +17,7 @@ const TRANSFER: usize = 14;
 
 // The transfer that bytes are.
 pub fn read_transfer(bytes: &[u8]) -> Transfer
-    ensures { result ≡ transferFrom bytes.now }
+    ensures { result ≡ transfer_from bytes.now }
 {
     if bytes.len() != TRANSFER {
         let state = crate::states::none();
@@ -35,7 +35,7 @@ pub fn read_transfer(bytes: &[u8]) -> Transfer
 
 fn write(bytes: &mut [u8], tag: u8, family: u32, total: u32, count: u32, kind: u8)
     requires { length bytes.old ≡ 14 }
-    ensures { bytes.new ≡ transferBytes tag family total count kind }
+    ensures { bytes.new ≡ transfer_bytes tag family total count kind }
 {
     bytes[0] = tag;
     uf2_block::put(bytes, 1, family);
@@ -47,7 +47,7 @@ fn write(bytes: &mut [u8], tag: u8, family: u32, total: u32, count: u32, kind: u
 // A transfer that is not Idle.
 fn write_head(bytes: &mut [u8], tag: u8, head: Head, count: u32)
     requires { length bytes.old ≡ 14 }
-    ensures { bytes.new ≡ headBytes tag head count }
+    ensures { bytes.new ≡ head_bytes tag head count }
 {
     let kind = head.kind;
     write(bytes, tag, head.family, head.total, count, kind.number());
@@ -55,7 +55,7 @@ fn write_head(bytes: &mut [u8], tag: u8, head: Head, count: u32)
 
 // Writes a transfer, where there are bytes for it.
 pub fn write_transfer(bytes: &mut [u8], next: Transfer)
-    ensures { bytes.new ≡ withTransfer bytes.old next.state }
+    ensures { bytes.new ≡ with_transfer bytes.old next.state }
 {
     if bytes.len() != TRANSFER {
         return;

@@ -1,7 +1,7 @@
 // The result of an arrival, as many takes and the calls for C tell it.
 ghost use Rattle.std.specs.Prelude.{◌≡◌};
 ghost use Rattle.transfer.specs.Transfer.{number_of};
-ghost use Rattle.transfer_layout.specs.Results.{result_of, isAcceptance};
+ghost use Rattle.transfer_layout.specs.Results.{result_of, is_acceptance};
 
 use transfer::Answer;
 
@@ -25,7 +25,7 @@ pub fn returned(number: u8, discarded: bool) -> u32
 
 // Is the block accepted?
 pub fn is_acceptance(answer: Answer) -> bool
-    ensures { result ≡ isAcceptance (number_of answer) }
+    ensures { result ≡ is_acceptance (number_of answer) }
 {
     14 <= answer.number()
 }

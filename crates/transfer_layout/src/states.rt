@@ -1,12 +1,12 @@
 // What the numbers of a transfer's bytes say: its kind, and its state. Every number is read; `transferbytes` has the layout.
 ghost use Rattle.std.specs.Prelude.{◌≡◌};
-ghost use Rattle.transfer_layout.specs.States.{kindFrom, noState, state_of};
+ghost use Rattle.transfer_layout.specs.States.{kind_from, no_state, state_of};
 
 use transfer::{Head, Kind, Run, State};
 
 // The kind of a number. Any but 1 and 2 gives Flash; `state` refuses one over 2 afterwards, unless the transfer is Idle.
 pub(crate) fn kind(number: u8) -> Kind
-    ensures { result ≡ kindFrom number }
+    ensures { result ≡ kind_from number }
 {
     if number == 1 {
         return Kind::MainRam;
@@ -39,7 +39,7 @@ pub(crate) fn state(tag: u8, kind: u8, head: Head, count: u32) -> State
 
 // No state: a running transfer that has counted none.
 pub(crate) fn none() -> State
-    ensures { result ≡ noState }
+    ensures { result ≡ no_state }
 {
     let head = Head::new(Kind::Flash, 0, 0);
     let run = Run { head, count: 0 };

@@ -3,10 +3,10 @@
 mod opening;
 
 ghost use Rattle.std.specs.Prelude.{◌≡◌, ◌≤◌, length};
-ghost use Rattle.arrival.specs.Arrive.{receiveOf};
+ghost use Rattle.arrival.specs.Arrive.{receive_of};
 ghost use Rattle.uf2_receiver.specs.Receiver.{lent, lent_at, left_at, world};
-ghost use Rattle.uf2_batch.specs.Batch.{fewer, batchLeft, batchOf};
-ghost use Rattle.uf2_batch.specs.Parts.{Knows, Judges, turnLeft, turn_of};
+ghost use Rattle.uf2_batch.specs.Batch.{fewer, batch_left, batch_of};
+ghost use Rattle.uf2_batch.specs.Parts.{Knows, Judges, turn_left, turn_of};
 
 use partitions::{Family, Settings};
 use transfer::Transfer;
@@ -55,7 +55,7 @@ fn take_next(
     requires judges { Judges settings (lent flash.old seen.old sectors.old main.old xip.old) right good }
     requires knows { Knows settings (length flash.old) before }
     requires whole { length arrival.now ≡ 512 }
-    ensures xip_value { turnLeft result (left_at flash seen sectors main xip) ≡ turn_of (receiveOf settings (world transfer (lent_at flash seen sectors main xip)) arrival.now) }
+    ensures xip_value { turn_left result (left_at flash seen sectors main xip) ≡ turn_of (receive_of settings (world transfer (lent_at flash seen sectors main xip)) arrival.now) }
     ensures knows { Knows settings (length flash.old) result.kept }
 {
     let family = uf2_block::field(arrival, 28);
@@ -85,7 +85,7 @@ pub fn take_all(
     main: &mut [u8],
     xip: &mut [u8],
 ) -> Batch
-    ensures { batchLeft result results.new (left_at flash seen sectors main xip) ≡ batchOf settings (world transfer (lent_at flash seen sectors main xip)) arrivals.now results.old }
+    ensures { batch_left result results.new (left_at flash seen sectors main xip) ≡ batch_of settings (world transfer (lent_at flash seen sectors main xip)) arrivals.now results.old }
 {
     let n = at_most(arrivals.len() / Block::ARRIVAL, results.len());
     let first = crate::opening::judge_lent(settings, Family::DATA, flash, seen, sectors, main, xip);

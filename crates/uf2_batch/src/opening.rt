@@ -2,7 +2,7 @@
 ghost use Rattle.std.specs.Prelude.{◌≡◌, length};
 ghost use Rattle.placement.specs.Place.{StartsLow};
 ghost use Rattle.uf2_receiver.specs.Receiver.{lent_at};
-ghost use Rattle.uf2_known.specs.Judged.{judgedOf};
+ghost use Rattle.uf2_known.specs.Judged.{judged_of};
 ghost use Rattle.uf2_batch.specs.Opening.{lens_of};
 
 use partitions::Settings;
@@ -19,7 +19,7 @@ pub(crate) fn judge_lent(
     main: &[u8],
     xip: &[u8],
 ) -> Judgement
-    ensures value { result ≡ judgedOf settings (lens_of (lent_at flash seen sectors main xip)) (length seen.now) (length sectors.now) family }
+    ensures value { result ≡ judged_of settings (lens_of (lent_at flash seen sectors main xip)) (length seen.now) (length sectors.now) family }
     ensures low { StartsLow result.kept.rooms.flash }
 {
     let lens = Lengths {

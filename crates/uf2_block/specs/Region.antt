@@ -6,8 +6,8 @@ use Rattle.uf2_block.specs.declared.Region.{Region}
 
 -- start and length are little-endian, as all fields; the digest is in the order of RFC 1321, from the low-order byte of A on, and so each of its
 -- words is little-endian too
-unfoldable pub regionOf : List ℕ → Region
-regionOf x =
+unfoldable pub region_of : List ℕ → Region
+region_of x =
     record {
       start = field_at x 484;
       len = field_at x 488;

@@ -6,8 +6,8 @@ mod words;
 
 ghost use Rattle.std.specs.Prelude.{◌≡◌};
 ghost use Rattle.laws.specs.Numbered.{numbered};
-ghost use Rattle.uf2_block.specs.Block.{hasFlag, fields_of, flaggedOf, isBlock, headerOf, headerNumber};
-ghost use Rattle.uf2_block.specs.Region.{regionOf};
+ghost use Rattle.uf2_block.specs.Block.{has_flag, fields_of, flagged_of, is_block, header_of, header_number};
+ghost use Rattle.uf2_block.specs.Region.{region_of};
 
 pub use crate::words::{field, put};
 
@@ -64,7 +64,7 @@ impl Block {
 
 // Are all three magic numbers right?
 pub fn is_block(arrival: &[u8]) -> bool
-    ensures { result ≡ isBlock arrival.now }
+    ensures { result ≡ is_block arrival.now }
 {
     (field(arrival, 0) == Block::MAGIC_FIRST)
         & (field(arrival, 4) == Block::MAGIC_SECOND)
@@ -87,7 +87,7 @@ pub fn fields(arrival: &[u8]) -> Block
 
 // The header of an arrival whose magic numbers are right.
 fn flagged(arrival: &[u8]) -> Header
-    ensures { result ≡ flaggedOf arrival.now }
+    ensures { result ≡ flagged_of arrival.now }
 {
     let flags = field(arrival, 8);
     if flags / Block::FLAG_CONTAINER % 2 == 1 {
@@ -101,7 +101,7 @@ fn flagged(arrival: &[u8]) -> Header
 
 // The header of an arrival.
 pub fn read(arrival: &[u8]) -> Header
-    ensures { numbered headerNumber result ≡ numbered headerNumber (headerOf arrival.now) }
+    ensures { numbered header_number result ≡ numbered header_number (header_of arrival.now) }
 {
     if field(arrival, 0) != Block::MAGIC_FIRST {
         return Header::NotBlock;
@@ -117,14 +117,14 @@ pub fn read(arrival: &[u8]) -> Header
 
 // Does a block name a region?
 pub fn has_region(arrival: &[u8]) -> bool
-    ensures { result ≡ hasFlag arrival.now 0x4000 }
+    ensures { result ≡ has_flag arrival.now 0x4000 }
 {
     field(arrival, 8) / Block::FLAG_MD5 % 2 == 1
 }
 
 // The region that a block names.
 pub fn read_region(arrival: &[u8]) -> Region
-    ensures { result ≡ regionOf arrival.now }
+    ensures { result ≡ region_of arrival.now }
 {
     Region {
         start: field(arrival, 484),

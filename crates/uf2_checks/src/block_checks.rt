@@ -2,21 +2,21 @@
 // the arrival alone.
 ghost use Rattle.std.specs.Prelude.{◌≡◌, ◌≢◌, ◌<◌, ◌≤◌};
 ghost use Rattle.laws.specs.Numbered.{numbered};
-ghost use Rattle.uf2_block.specs.Block.{headerNumber};
+ghost use Rattle.uf2_block.specs.Block.{header_number};
 ghost use Rattle.placement.specs.Place.{StartsLow};
 ghost use Rattle.uf2_checks.specs.Screen.{
   base_of,
   placed,
   strayed,
   fitted,
-  dataFound,
+  data_found,
   found,
   HeaderAnswer,
-  lowRooms,
-  screenAt,
-  screeningNumber,
+  low_rooms,
+  screen_at,
+  screening_number,
 };
-ghost use Rattle.uf2_checks.specs.Parts.{alignmentOf, addressed, Above};
+ghost use Rattle.uf2_checks.specs.Parts.{alignment_of, addressed, Above};
 
 use crate::{Body, Lengths, PlacedBlock, Rooms, Screening, Window};
 use memory::flash::Flash;
@@ -26,7 +26,7 @@ use uf2_block::{Block, Header};
 
 // Of what an address is a multiple: whole payloads in flash, any byte in RAM.
 fn alignment(kind: Kind) -> usize
-    ensures { result ≡ alignmentOf kind }
+    ensures { result ≡ alignment_of kind }
 {
     match kind {
         Kind::Flash => Flash::PAYLOAD,
@@ -101,7 +101,7 @@ fn fit(window: Window, b: Block, start: usize, size: usize) -> Screening
 fn check_data(window: Window, place: Place, b: Block) -> Screening
     requires starts_low { StartsLow place }
     requires above { Above window b.address }
-    ensures { result ≡ dataFound window place b }
+    ensures { result ≡ data_found window place b }
 {
     match place {
         Place::Nowhere => Screening::Refused(Answer::NoPlace),
@@ -111,7 +111,7 @@ fn check_data(window: Window, place: Place, b: Block) -> Screening
 
 // Rows 8 to 11.
 fn check(rooms: Rooms, lens: Lengths, transfer: Transfer, b: Block) -> Screening
-    ensures { result ≡ found (lowRooms rooms) lens transfer.state b }
+    ensures { result ≡ found (low_rooms rooms) lens transfer.state b }
 {
     if b.comment {
         let noted = crate::block_kind::note_kind(lens, transfer, b);
@@ -126,7 +126,7 @@ fn check(rooms: Rooms, lens: Lengths, transfer: Transfer, b: Block) -> Screening
 
 // The answer to a header that yields no block, whatever the rows after it would say. A match has to name `Found` too; nothing calls it so.
 fn header_answer(h: Header) -> Answer
-    requires { headerNumber h ≢ 0 }
+    requires { header_number h ≢ 0 }
     ensures { HeaderAnswer h result }
 {
     match h {
@@ -139,7 +139,7 @@ fn header_answer(h: Header) -> Answer
 
 // Rows 4 to 11: the first that refuses the arrival, or what it holds. `rooms` is what the settings say of the arrival's family.
 pub fn screen(rooms: Rooms, lens: Lengths, transfer: Transfer, arrival: &[u8]) -> Screening
-    ensures { numbered screeningNumber result ≡ numbered screeningNumber (screenAt rooms lens transfer.state arrival.now) }
+    ensures { numbered screening_number result ≡ numbered screening_number (screen_at rooms lens transfer.state arrival.now) }
 {
     let h = uf2_block::read(arrival);
     let Header::Found(b) = h else {

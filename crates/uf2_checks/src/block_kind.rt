@@ -1,6 +1,6 @@
 // The window that an address lies in, and the kind of a block; `screen` has the definitions.
 ghost use Rattle.std.specs.Prelude.{◌≡◌};
-ghost use Rattle.uf2_checks.specs.Screen.{base_of, isLent, inWindow, windowOf, windowKind, ownKind, noteKind};
+ghost use Rattle.uf2_checks.specs.Screen.{base_of, is_lent, in_window, window_of, window_kind, own_kind, note_kind};
 
 use crate::{Lengths, Window};
 use transfer::{Head, Kind, State, Transfer};
@@ -19,7 +19,7 @@ pub(crate) fn base(kind: Kind) -> usize
 
 // Is there a buffer for the kind? An empty one is none.
 fn is_lent(lens: Lengths, kind: Kind) -> bool
-    ensures { result ≡ isLent lens kind }
+    ensures { result ≡ is_lent lens kind }
 {
     match kind {
         Kind::Flash => true,
@@ -29,7 +29,7 @@ fn is_lent(lens: Lengths, kind: Kind) -> bool
 }
 
 fn in_window(lens: Lengths, kind: Kind, address: usize) -> bool
-    ensures { result ≡ inWindow lens kind address }
+    ensures { result ≡ in_window lens kind address }
 {
     let from = base(kind);
     let len = crate::extent(kind);
@@ -39,7 +39,7 @@ fn in_window(lens: Lengths, kind: Kind, address: usize) -> bool
 
 // The window that an address lies in.
 pub fn window_of(lens: Lengths, address: usize) -> Window
-    ensures { result ≡ windowOf lens address }
+    ensures { result ≡ window_of lens address }
 {
     if in_window(lens, Kind::Flash, address) {
         return Window::In(Kind::Flash);
@@ -55,7 +55,7 @@ pub fn window_of(lens: Lengths, address: usize) -> Window
 
 // The kind of a data block, and of one in no window.
 pub fn window_kind(window: Window) -> Kind
-    ensures { result ≡ windowKind window }
+    ensures { result ≡ window_kind window }
 {
     match window {
         Window::Outside => Kind::Flash,
@@ -65,7 +65,7 @@ pub fn window_kind(window: Window) -> Kind
 
 // The kind of a comment while a transfer runs: the transfer's, where the comment is its own and the kind has a buffer.
 fn own_kind(lens: Lengths, head: Head, family: u32, total: u32) -> Kind
-    ensures { result ≡ ownKind lens head family total }
+    ensures { result ≡ own_kind lens head family total }
 {
     let kind = head.kind;
     let lent = is_lent(lens, kind);
@@ -77,7 +77,7 @@ fn own_kind(lens: Lengths, head: Head, family: u32, total: u32) -> Kind
 
 // The kind of a comment.
 pub fn note_kind(lens: Lengths, transfer: Transfer, b: Block) -> Kind
-    ensures { result ≡ noteKind lens transfer.state b }
+    ensures { result ≡ note_kind lens transfer.state b }
 {
     let state = transfer.state;
     match state {

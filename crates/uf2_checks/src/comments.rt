@@ -1,6 +1,6 @@
 // A comment beside the place of its kind: rows 8 and 10.
 ghost use Rattle.std.specs.Prelude.{◌≡◌};
-ghost use Rattle.uf2_checks.specs.Screen.{noted, noteFound};
+ghost use Rattle.uf2_checks.specs.Screen.{noted, note_found};
 
 use crate::{Body, PlacedBlock, Screening};
 use placement::Place;
@@ -25,7 +25,7 @@ fn note(kind: Kind, b: Block, size: usize) -> Screening
 
 // A comment, by the place of its kind.
 pub(crate) fn check_note(kind: Kind, place: Place, b: Block) -> Screening
-    ensures { result ≡ noteFound kind place b }
+    ensures { result ≡ note_found kind place b }
 {
     match place {
         Place::Nowhere => Screening::Refused(Answer::NoPlace),

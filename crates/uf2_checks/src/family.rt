@@ -1,7 +1,7 @@
 // Row 8: what the settings say of a family, and the place of a block by its kind.
 ghost use Rattle.std.specs.Prelude.{◌≡◌};
 ghost use Rattle.placement.specs.Place.{StartsLow};
-ghost use Rattle.uf2_checks.specs.Screen.{rooms_of, lowPlace, lowRooms, roomIn};
+ghost use Rattle.uf2_checks.specs.Screen.{rooms_of, low_place, low_rooms, room_in};
 
 use crate::{Rooms, Window};
 use partitions::Settings;
@@ -23,7 +23,7 @@ pub fn rooms_for(settings: Settings, flash_len: usize, family: u32) -> Rooms
 
 // A place that is handed in may begin anywhere.
 fn low_place(place: Place) -> Place
-    ensures value { result ≡ lowPlace place }
+    ensures value { result ≡ low_place place }
     ensures low { StartsLow result }
 {
     match place {
@@ -39,7 +39,7 @@ fn low_place(place: Place) -> Place
 
 // The place of a block of each kind.
 pub(crate) fn room_in(rooms: Rooms, kind: Kind) -> Place
-    ensures value { result ≡ roomIn (lowRooms rooms) kind }
+    ensures value { result ≡ room_in (low_rooms rooms) kind }
     ensures low { StartsLow result }
 {
     let flash = rooms.flash;

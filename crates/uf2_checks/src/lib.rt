@@ -6,7 +6,7 @@ pub mod family;
 mod numbers;
 
 ghost use Rattle.std.specs.Prelude.{◌≡◌};
-ghost use Rattle.uf2_checks.specs.Screen.{extentOf};
+ghost use Rattle.uf2_checks.specs.Screen.{extent_of};
 
 use memory::flash::Flash;
 use placement::Place;
@@ -64,7 +64,7 @@ impl Window {
 
 // The bytes of a window.
 pub(crate) fn extent(kind: Kind) -> usize
-    ensures { result ≡ extentOf kind }
+    ensures { result ≡ extent_of kind }
 {
     match kind {
         Kind::Flash => Flash::MAX,

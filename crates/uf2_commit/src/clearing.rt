@@ -1,10 +1,10 @@
 // Both maps cleared where a transfer begins.
 ghost use Rattle.std.specs.Prelude.{◌≡◌};
-ghost use Rattle.arrival.specs.Arrive.{clearedIf};
+ghost use Rattle.arrival.specs.Arrive.{cleared_if};
 
 // Takes every mark away where a transfer begins.
 fn clear_if(clears: bool, map: &mut [u8])
-    ensures { map.new ≡ clearedIf clears map.old }
+    ensures { map.new ≡ cleared_if clears map.old }
 {
     if clears {
         memory::bitmap::clear(map);
@@ -13,7 +13,7 @@ fn clear_if(clears: bool, map: &mut [u8])
 
 // The same of the seen map and of the sector map.
 pub(crate) fn clear_maps(clears: bool, seen: &mut [u8], sectors: &mut [u8])
-    ensures { (seen.new ≡ clearedIf clears seen.old) × (sectors.new ≡ clearedIf clears sectors.old) }
+    ensures { (seen.new ≡ cleared_if clears seen.old) × (sectors.new ≡ cleared_if clears sectors.old) }
 {
     clear_if(clears, sectors);
     clear_if(clears, seen);

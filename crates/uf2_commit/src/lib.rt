@@ -4,9 +4,9 @@ mod pages;
 pub mod receipts;
 
 ghost use Rattle.std.specs.Prelude.{◌≡◌};
-ghost use Rattle.memory.specs.Flash.{payloadOf};
+ghost use Rattle.memory.specs.Flash.{payload_of};
 ghost use Rattle.arrival.specs.Arrive.{at_of};
-ghost use Rattle.uf2_commit.specs.Entering.{besideAt, besideLeft, entering, enteringOf};
+ghost use Rattle.uf2_commit.specs.Entering.{beside_at, beside_left, entering, entering_of};
 
 use flash_plan::Plan;
 use transfer::{Accepted, Deed};
@@ -33,7 +33,7 @@ pub(crate) fn enter(
     main: &mut [u8],
     xip: &mut [u8],
 ) -> Plan
-    ensures { entering result seen.new (besideLeft sectors main xip) ≡ enteringOf placed deed accepted (payloadOf arrival.now) seen.old (besideAt sectors main xip) }
+    ensures { entering result seen.new (beside_left sectors main xip) ≡ entering_of placed deed accepted (payload_of arrival.now) seen.old (beside_at sectors main xip) }
 {
     let number = placed.number as usize;
     let body = placed.body;

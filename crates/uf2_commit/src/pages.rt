@@ -1,7 +1,7 @@
 // The page of an accepted block: stored where it is one of RAM, planned where it is one of flash. What it would write to flash is a plan.
 ghost use Rattle.std.specs.Prelude.{◌≡◌};
-ghost use Rattle.memory.specs.Flash.{payloadOf};
-ghost use Rattle.uf2_commit.specs.Pages.{besideAt, besideLeft, writing, pageWriting, deedWriting};
+ghost use Rattle.memory.specs.Flash.{payload_of};
+ghost use Rattle.uf2_commit.specs.Pages.{beside_at, beside_left, writing, page_writing, deed_writing};
 
 use flash_plan::Plan;
 use transfer::{Deed, Kind};
@@ -15,7 +15,7 @@ fn page(
     main: &mut [u8],
     xip: &mut [u8],
 ) -> Plan
-    ensures { writing result (besideLeft sectors main xip) ≡ pageWriting kind at (payloadOf arrival.now) (besideAt sectors main xip) }
+    ensures { writing result (beside_left sectors main xip) ≡ page_writing kind at (payload_of arrival.now) (beside_at sectors main xip) }
 {
     match kind {
         Kind::Flash => flash_plan::flash_page(at, sectors),
@@ -40,7 +40,7 @@ pub(crate) fn write(
     main: &mut [u8],
     xip: &mut [u8],
 ) -> Plan
-    ensures { writing result (besideLeft sectors main xip) ≡ deedWriting deed kind at (payloadOf arrival.now) (besideAt sectors main xip) }
+    ensures { writing result (beside_left sectors main xip) ≡ deed_writing deed kind at (payload_of arrival.now) (beside_at sectors main xip) }
 {
     match deed {
         Deed::Stores => page(kind, at, arrival, sectors, main, xip),

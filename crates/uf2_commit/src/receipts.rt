@@ -1,8 +1,8 @@
 // What an arrival hands back: of a refusal, which changes nothing, and of an accepted block, which is entered.
 ghost use Rattle.std.specs.Prelude.{◌≡◌};
-ghost use Rattle.memory.specs.Flash.{payloadOf};
-ghost use Rattle.uf2_commit.specs.Entering.{besideAt, besideLeft};
-ghost use Rattle.uf2_commit.specs.Receipts.{unplanned, enterReturn, enterOf};
+ghost use Rattle.memory.specs.Flash.{payload_of};
+ghost use Rattle.uf2_commit.specs.Entering.{beside_at, beside_left};
+ghost use Rattle.uf2_commit.specs.Receipts.{unplanned, enter_return, enter_of};
 
 use flash_plan::Plan;
 use transfer::{Answer, Head, Run, State, Transfer};
@@ -78,7 +78,7 @@ pub fn enter(
     main: &mut [u8],
     xip: &mut [u8],
 ) -> PlanReceipt
-    ensures { enterReturn result seen.new (besideLeft sectors main xip) ≡ enterOf acceptance (payloadOf arrival.now) seen.old (besideAt sectors main xip) }
+    ensures { enter_return result seen.new (beside_left sectors main xip) ≡ enter_of acceptance (payload_of arrival.now) seen.old (beside_at sectors main xip) }
 {
     let placed = acceptance.placed;
     let deed = acceptance.deed;

@@ -4,5 +4,5 @@ use Rattle.transfer.specs.declared.Deed.{Deed}
 use Rattle.transfer.specs.declared.Deed.TheVariants.{Stores, Keeps}
 
 -- what a page does, where it is kept or not
-abbrev pub pageDeed : Bool → Deed
-pageDeed kept = cond kept Keeps Stores
+abbrev pub page_deed : Bool → Deed
+page_deed kept = cond kept Keeps Stores

@@ -1,8 +1,8 @@
 // What a block does once it is accepted: a page is stored or kept, a comment is noted. Nothing is written.
 ghost use Rattle.std.specs.Prelude.{◌≡◌, ◌&&◌};
-ghost use Rattle.transfer.specs.Transfer.{sameKind};
-ghost use Rattle.arrival.specs.Arrive.{standsAt, deed_of};
-ghost use Rattle.uf2_decide.specs.Deeds.{pageDeed};
+ghost use Rattle.transfer.specs.Transfer.{same_kind};
+ghost use Rattle.arrival.specs.Arrive.{stands_at, deed_of};
+ghost use Rattle.uf2_decide.specs.Deeds.{page_deed};
 
 use placement::Place;
 use transfer::{Deed, Kind};
@@ -10,7 +10,7 @@ use uf2_checks::{Body, PlacedBlock};
 
 // Does the region of an arrival, if it names one, count in a place of the flash, and have its digest there?
 fn stands_in(start: usize, size: usize, flash: &[u8], arrival: &[u8]) -> bool
-    ensures { result ≡ standsAt flash.now (Place.At start size) arrival.now }
+    ensures { result ≡ stands_at flash.now (Place.At start size) arrival.now }
 {
     if !uf2_block::has_region(arrival) {
         return false;
@@ -24,7 +24,7 @@ fn stands_in(start: usize, size: usize, flash: &[u8], arrival: &[u8]) -> bool
 }
 
 fn stands_at(place: Place, flash: &[u8], arrival: &[u8]) -> bool
-    ensures { result ≡ standsAt flash.now place arrival.now }
+    ensures { result ≡ stands_at flash.now place arrival.now }
 {
     match place {
         Place::Nowhere => false,
@@ -34,7 +34,7 @@ fn stands_at(place: Place, flash: &[u8], arrival: &[u8]) -> bool
 
 // A page is stored; in flash it is kept where it stands. The flash is read only there.
 fn page_deed(kind: Kind, place: Place, flash: &[u8], arrival: &[u8]) -> Deed
-    ensures { result ≡ pageDeed (sameKind kind Kind.Flash && standsAt flash.now place arrival.now) }
+    ensures { result ≡ page_deed (same_kind kind Kind.Flash && stands_at flash.now place arrival.now) }
 {
     if !transfer::same_kind(kind, Kind::Flash) {
         return Deed::Stores;
@@ -47,7 +47,7 @@ fn page_deed(kind: Kind, place: Place, flash: &[u8], arrival: &[u8]) -> Deed
 
 // What a block does once it is accepted, where `place` is its family's.
 pub(crate) fn deed_of(placed: PlacedBlock, place: Place, flash: &[u8], arrival: &[u8]) -> Deed
-    ensures { result ≡ deed_of (standsAt flash.now place arrival.now) placed }
+    ensures { result ≡ deed_of (stands_at flash.now place arrival.now) placed }
 {
     let named = placed.head;
     let kind = named.kind;

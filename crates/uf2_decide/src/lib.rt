@@ -4,10 +4,10 @@ mod settling;
 
 ghost use Rattle.std.specs.Prelude.{◌≡◌};
 ghost use Rattle.laws.specs.Numbered.{numbered};
-ghost use Rattle.uf2_checks.specs.Screen.{screenAt};
-ghost use Rattle.arrival.specs.Arrive.{standsAt, afterScreening};
+ghost use Rattle.uf2_checks.specs.Screen.{screen_at};
+ghost use Rattle.arrival.specs.Arrive.{stands_at, after_screening};
 ghost use Rattle.arrival.specs.Lending.{lent_at, world};
-ghost use Rattle.uf2_known.specs.Verdict.{decision, decisionNumber, knownDecision};
+ghost use Rattle.uf2_known.specs.Verdict.{decision, decision_number, known_decision};
 
 use transfer::{Answer, Transfer};
 use uf2_checks::{Lengths, Rooms, Screening};
@@ -22,7 +22,7 @@ fn screened(
     flash: &[u8],
     seen: &[u8],
 ) -> Verdict
-    ensures { decision result ≡ afterScreening transfer.state seen.now (standsAt flash.now rooms.flash arrival.now) (screenAt rooms lens transfer.state arrival.now) }
+    ensures { decision result ≡ after_screening transfer.state seen.now (stands_at flash.now rooms.flash arrival.now) (screen_at rooms lens transfer.state arrival.now) }
 {
     let place = rooms.flash;
     let screening = uf2_checks::block_checks::screen(rooms, lens, transfer, arrival);
@@ -45,7 +45,7 @@ pub fn judge(
     main: &[u8],
     xip: &[u8],
 ) -> Verdict
-    ensures { numbered decisionNumber (decision result) ≡ numbered decisionNumber (knownDecision known (world transfer (lent_at flash seen sectors main xip)) arrival.now) }
+    ensures { numbered decision_number (decision result) ≡ numbered decision_number (known_decision known (world transfer (lent_at flash seen sectors main xip)) arrival.now) }
 {
     if !known.right {
         return Verdict::Leaves(Answer::BadBuffers);

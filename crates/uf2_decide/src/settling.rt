@@ -1,7 +1,7 @@
 // Rows 12 to 17: what a block that has passed the screening comes to. Nothing is written.
 ghost use Rattle.std.specs.Prelude.{◌≡◌};
-ghost use Rattle.arrival.specs.Arrive.{standsAt, afterScreening};
-ghost use Rattle.uf2_known.specs.Verdict.{decision, acceptedAs};
+ghost use Rattle.arrival.specs.Arrive.{stands_at, after_screening};
+ghost use Rattle.uf2_known.specs.Verdict.{decision, accepted_as};
 
 use placement::Place;
 use transfer::{Accepted, Answer, Deed, Step, Transfer};
@@ -16,7 +16,7 @@ fn accept(
     arrival: &[u8],
     flash: &[u8],
 ) -> Verdict
-    ensures { decision result ≡ acceptedAs (standsAt flash.now place arrival.now) placed stored }
+    ensures { decision result ≡ accepted_as (stands_at flash.now place arrival.now) placed stored }
 {
     let deed = crate::deeds::deed_of(placed, place, flash, arrival);
     let accepted = transfer::retold::doing(stored, deed);
@@ -36,7 +36,7 @@ pub(crate) fn settle(
     flash: &[u8],
     seen: &[u8],
 ) -> Verdict
-    ensures { decision result ≡ afterScreening transfer.state seen.now (standsAt flash.now place arrival.now) (Screening.Passed placed) }
+    ensures { decision result ≡ after_screening transfer.state seen.now (stands_at flash.now place arrival.now) (Screening.Passed placed) }
 {
     let head = placed.head;
     let number = placed.number as usize;

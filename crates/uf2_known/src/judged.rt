@@ -2,7 +2,7 @@
 // of arrivals of it.
 ghost use Rattle.std.specs.Prelude.{◌≡◌};
 ghost use Rattle.placement.specs.Place.{StartsLow};
-ghost use Rattle.uf2_known.specs.Judged.{judgedOf, roomsNext};
+ghost use Rattle.uf2_known.specs.Judged.{judged_of, rooms_next};
 
 use partitions::Settings;
 use placement::Place;
@@ -26,7 +26,7 @@ pub struct Judgement {
 
 // Lengths, settings and a family, judged.
 pub fn judge(settings: Settings, lens: Lengths, m: usize, k: usize, family: u32) -> Judgement
-    ensures value { result ≡ judgedOf settings lens m k family }
+    ensures value { result ≡ judged_of settings lens m k family }
     ensures low { StartsLow result.kept.rooms.flash }
 {
     let right = crate::lengths_right(Block::ARRIVAL, lens, m, k);
@@ -49,7 +49,7 @@ fn same_place(place: Place) -> Place
 
 // What the settings say of a family: they are asked anew where it is not the one before.
 fn rooms_next(before: FamilyRooms, settings: Settings, flash_len: usize, family: u32) -> Rooms
-    ensures value { result ≡ (roomsNext before settings flash_len family).rooms }
+    ensures value { result ≡ (rooms_next before settings flash_len family).rooms }
     ensures low { StartsLow before.rooms.flash → StartsLow result.flash }
 {
     if before.family == family {
@@ -60,7 +60,7 @@ fn rooms_next(before: FamilyRooms, settings: Settings, flash_len: usize, family:
 
 // A family, and what the settings say of it, after an arrival of the family before.
 pub fn next(before: FamilyRooms, settings: Settings, flash_len: usize, family: u32) -> FamilyRooms
-    ensures value { result ≡ roomsNext before settings flash_len family }
+    ensures value { result ≡ rooms_next before settings flash_len family }
     ensures low { StartsLow before.rooms.flash → StartsLow result.rooms.flash }
 {
     let found = rooms_next(before, settings, flash_len, family);

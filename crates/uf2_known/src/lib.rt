@@ -3,7 +3,7 @@ pub mod judged;
 
 ghost use Rattle.std.specs.Prelude.{◌≡◌};
 ghost use Rattle.placement.specs.Place.{StartsLow};
-ghost use Rattle.arrival.specs.Arrive.{rightLengths};
+ghost use Rattle.arrival.specs.Arrive.{right_lengths};
 ghost use Rattle.uf2_known.specs.Verdict.{known_of};
 
 use partitions::Settings;
@@ -43,7 +43,7 @@ impl Known {
 
 // Are the lengths of arrival, flash, seen map, sector map, main RAM and XIP RAM right? A buffer of RAM is whole or empty.
 pub fn lengths_right(a: usize, lens: Lengths, m: usize, k: usize) -> bool
-    ensures { result ≡ rightLengths a lens m k }
+    ensures { result ≡ right_lengths a lens m k }
 {
     (a == Block::ARRIVAL)
         & memory::flash::right_length(lens.flash)

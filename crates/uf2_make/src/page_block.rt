@@ -1,6 +1,6 @@
 // One block of a UF2 file that is made: its fields, its page and the padding.
 ghost use Rattle.std.specs.Prelude.{◌≡◌, length};
-ghost use Rattle.uf2_make.specs.Uf2block.{blockBytes, blockOver};
+ghost use Rattle.uf2_make.specs.Uf2block.{block_bytes, block_over};
 
 use uf2_block::Block;
 
@@ -9,7 +9,7 @@ const PAGE: usize = 256;
 fn put_block(out: &mut [u8], address: u32, number: u32, total: u32, family: u32, page: &[u8])
     requires out_len { length out.old ≡ 512 }
     requires size { length page.now ≡ 256 }
-    ensures { out.new ≡ blockBytes address number total family page.now }
+    ensures { out.new ≡ block_bytes address number total family page.now }
 {
     crate::lead::put_first_fields(out, address);
     crate::lead::put_last_fields(out, number, total, family);
@@ -20,7 +20,7 @@ fn put_block(out: &mut [u8], address: u32, number: u32, total: u32, family: u32,
 
 // Writes one block, for a tool that makes a file page by page. Where the output has not 512 bytes or the page not 256, nothing is written.
 pub fn write_block(out: &mut [u8], address: u32, number: u32, total: u32, family: u32, page: &[u8])
-    ensures { out.new ≡ blockOver out.old address number total family page.now }
+    ensures { out.new ≡ block_over out.old address number total family page.now }
 {
     if out.len() != Block::ARRIVAL {
         return;

@@ -10,25 +10,25 @@ use types.Run.{OneOf}
 use denote.Enum.Declared.{tag_of}
 use Rattle.laws.specs.Over.{over}
 use Rattle.laws.specs.Rows.{rows}
-use Rattle.laws.proofs.OverLaws.{length_over, put-over}
+use Rattle.laws.proofs.OverLaws.{length_over, put_over}
 use Rattle.laws.proofs.RowsLaws.{rows_none, length-rows, part-rows, rows-over}
 use Rattle.md5.specs.declared.Digest.{Digest}
 use Rattle.uf2_make.specs.declared.checks.MakeAnswer.{MakeAnswer}
 use Rattle.uf2_make.specs.declared.checks.MakeAnswer.TheVariants.{BadImage, BadStart, PastWindow, ShortOutput, Made}
-use Rattle.uf2_make.specs.Uf2check.{checkOf}
+use Rattle.uf2_make.specs.Uf2check.{check_of}
 use Rattle.uf2_make.specs.contracts.checks.MakeAnswer.{the_type}
-use Rattle.uf2_make.specs.Uf2file.{page_of, makeCall}
+use Rattle.uf2_make.specs.Uf2file.{page_of, make_call}
 use Rattle.uf2_make.proofs.Files.{length-page}
-use Rattle.uf2_make_regions.specs.Sector.{sectorStart}
-use Rattle.uf2_make_regions.specs.Block.{blockBytes}
-use Rattle.uf2_make_regions.specs.File.{sectorDigest, block_at, fileBytes, makeOf}
-use Rattle.uf2_make_regions.proofs.named.Laws.{length-block}
+use Rattle.uf2_make_regions.specs.Sector.{sector_start}
+use Rattle.uf2_make_regions.specs.Block.{block_bytes}
+use Rattle.uf2_make_regions.specs.File.{sector_digest, block_at, file_bytes, make_of}
+use Rattle.uf2_make_regions.proofs.named.Laws.{length_block}
 
 -- an image of n pages
 module _ (image : List ℕ) (family start n : ℕ) (whole : length image ≡ 256 * n) where
   -- block k, as the code has its fields
-  pub block-is : (k a base : ℕ) {x : Digest} {b : List ℕ} → a ≡ start + 256 * k → base ≡ sectorStart a → x ≡ sectorDigest image start base
-      → b ≡ blockBytes a k n family (take (256 * k + 256 - 256 * k) (drop (256 * k) image)) base x → b ≡ block_at image family start k
+  pub block-is : (k a base : ℕ) {x : Digest} {b : List ℕ} → a ≡ start + 256 * k → base ≡ sector_start a → x ≡ sector_digest image start base
+      → b ≡ block_bytes a k n family (take (256 * k + 256 - 256 * k) (drop (256 * k) image)) base x → b ≡ block_at image family start k
   unfolding block_at
   block-is k a base ha hb hx e =
       let m : length image / 256 ≡ n = omega arith in
@@ -36,23 +36,23 @@ module _ (image : List ℕ) (family start n : ℕ) (whole : length image ≡ 256
       e ∙ rw (hx, hb, ha, m, p) refl
 
   pub block-at : (k : ℕ) → block_at image family start k
-      ≡ blockBytes (start + 256 * k) k n family (page_of image k) (sectorStart (start + 256 * k)) (sectorDigest image start (sectorStart (start + 256 * k)))
+      ≡ block_bytes (start + 256 * k) k n family (page_of image k) (sector_start (start + 256 * k)) (sector_digest image start (sector_start (start + 256 * k)))
   unfolding block_at
   block-at k = let e : length image / 256 ≡ n = omega arith in rw e
 
   wide : (k : ℕ) → k < n → length (block_at image family start k) ≡ 512
   wide k l =
-      let base = sectorStart (start + 256 * k) in
-      ap length (block-at k) ∙ length-block (start + 256 * k) k n family (page_of image k) base (sectorDigest image start base) (length-page image family start n whole k l)
+      let base = sector_start (start + 256 * k) in
+      ap length (block-at k) ∙ length_block (start + 256 * k) k n family (page_of image k) base (sector_digest image start base) (length-page image family start n whole k l)
 
-  pub file-rows : fileBytes image family start ≡ rows (block_at image family start) n
-  unfolding fileBytes
+  pub file-rows : file_bytes image family start ≡ rows (block_at image family start) n
+  unfolding file_bytes
   file-rows = let e : length image / 256 ≡ n = omega arith in rw e
 
-  pub length-file : length (fileBytes image family start) ≡ 512 * n
+  pub length-file : length (file_bytes image family start) ≡ 512 * n
   length-file = rw file-rows (length-rows 512 n (block_at image family start) wide n (omega arith))
 
-  pub part-file : (k : ℕ) → k < n → take 512 (drop (512 * k) (fileBytes image family start)) ≡ block_at image family start k
+  pub part-file : (k : ℕ) → k < n → take 512 (drop (512 * k) (file_bytes image family start)) ≡ block_at image family start k
   part-file k l = rw file-rows (part-rows 512 n (block_at image family start) wide n k (omega arith) l)
 
   pub blocks-long : (out₀ out : List ℕ) (k : ℕ) → 512 * n ≤ length out₀ → k ≤ n → out ≡ over out₀ 0 (rows (block_at image family start) k) → length out ≡ length out₀
@@ -67,29 +67,29 @@ module _ (image : List ℕ) (family start n : ℕ) (whole : length image ≡ 256
       → put_mid (512 * k) (512 * k + 512 - 512 * k) out ys ≡ over out₀ 0 (rows (block_at image family start) (k + 1))
   blocks_more out₀ out ys k room l s y =
       let f = block_at image family start in
-      put-over (512 * k) 512 out ys (ap length y ∙ wide k l) ∙ rw (y, s) (rows-over 512 n f wide out₀ k l (omega arith))
+      put_over (512 * k) 512 out ys (ap length y ∙ wide k l) ∙ rw (y, s) (rows-over 512 n f wide out₀ k l (omega arith))
 
-  pub blocks-whole : (out₀ out : List ℕ) (k : ℕ) → k ≡ n → out ≡ over out₀ 0 (rows (block_at image family start) k) → out ≡ over out₀ 0 (fileBytes image family start)
+  pub blocks-whole : (out₀ out : List ℕ) (k : ℕ) → k ≡ n → out ≡ over out₀ 0 (rows (block_at image family start) k) → out ≡ over out₀ 0 (file_bytes image family start)
   blocks-whole out₀ out k e s = s ∙ rw (e, ← file-rows)
 
-pub blocks-none : (image : List ℕ) (family start : ℕ) (out : List ℕ) → out ≡ over out 0 (rows (block_at image family start) 0)
+pub blocks_none : (image : List ℕ) (family start : ℕ) (out : List ℕ) → out ≡ over out 0 (rows (block_at image family start) 0)
 unfolding over
-blocks-none image family start out = rw (rows_none (block_at image family start))
+blocks_none image family start out = rw (rows_none (block_at image family start))
 
 -- ---- the call
 
 module _ (image : List ℕ) (family start : ℕ) (out : List ℕ) where
   -- none but a refusal, by its tag
-  pub make-refused : (x : MakeAnswer) → OneOf (0 ∷ 1 ∷ 2 ∷ 3 ∷ []) (tag_of the_type x) → x ≡ checkOf (length image) start (length out)
-      → makeCall x out ≡ makeOf image family start out
-  unfolding makeOf
+  pub make-refused : (x : MakeAnswer) → OneOf (0 ∷ 1 ∷ 2 ∷ 3 ∷ []) (tag_of the_type x) → x ≡ check_of (length image) start (length out)
+      → make_call x out ≡ make_of image family start out
+  unfolding make_of
   make-refused BadImage h e = rw (← e)
   make-refused BadStart h e = rw (← e)
   make-refused PastWindow h e = rw (← e)
   make-refused ShortOutput h e = rw (← e)
   make-refused (Made n) h e = absurd (⊎_elim (λ q. omega arith) (⊎_elim (λ q. omega arith) (⊎_elim (λ q. omega arith) (λ q. omega arith))) h)
 
-  pub make-made : (x : MakeAnswer) (n : ℕ) {b : List ℕ} → x ≡ checkOf (length image) start (length out) → x ≡ Made n → b ≡ over out 0 (fileBytes image family start)
-      → makeCall (Made n) b ≡ makeOf image family start out
-  unfolding makeOf
+  pub make-made : (x : MakeAnswer) (n : ℕ) {b : List ℕ} → x ≡ check_of (length image) start (length out) → x ≡ Made n → b ≡ over out 0 (file_bytes image family start)
+      → make_call (Made n) b ≡ make_of image family start out
+  unfolding make_of
   make-made x n {b} e h k = rw (← e, h, k)

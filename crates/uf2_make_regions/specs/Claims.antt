@@ -2,11 +2,11 @@
 -- bytes give region start (a window address), length and MD5"). Proved in proofs/. Assumes nothing.
 use Rattle.std.specs.Prelude.{ℕ, ◌+◌, ◌-◌, ◌*◌, ◌%◌, ◌<◌, ◌≤◌, ◌^◌, true, ◌≡◌, List, length, get_or, take, drop}
 use Rattle.memory.specs.Many.{many}
-use Rattle.uf2_block.specs.Block.{field_at, isBlock}
-use Rattle.md5.specs.Md5.{md5Of, digestBytes}
+use Rattle.uf2_block.specs.Block.{field_at, is_block}
+use Rattle.md5.specs.Md5.{md5_of, digest_bytes}
 use Rattle.md5.specs.declared.Digest.{Digest}
 use Rattle.uf2_make.specs.declared.checks.MakeAnswer.TheVariants.{Made}
-use Rattle.uf2_make_regions.specs.File.{makeOf}
+use Rattle.uf2_make_regions.specs.File.{make_of}
 
 -- c is what a sector holds at the end, where it begins at `base` and an image begins at `start`: 4,096 bytes, the image's where it has one, else 0xFF
 pub record FinalSector (image : List ℕ) (start base : ℕ) (c : List ℕ) : Type 0 where
@@ -23,31 +23,31 @@ words_in b = record { a = field_at b 492; b = field_at b 496; c = field_at b 500
 -- sector and is around the block, with the digest of what is there at the end
 pub record Reads (image : List ℕ) (family start n k : ℕ) (b : List ℕ) : Type 0 where
   pub long : length b ≡ 512
-  pub magic : isBlock b ≡ true
+  pub magic : is_block b ≡ true
   pub flags : field_at b 8 ≡ 0x6000
-  pub address-back : field_at b 12 ≡ start + 256 * k
+  pub address_back : field_at b 12 ≡ start + 256 * k
   pub size_back : field_at b 16 ≡ 256
-  pub number-back : field_at b 20 ≡ k
-  pub total-back : field_at b 24 ≡ n
-  pub family-back : field_at b 28 ≡ family
-  pub page-back : take 256 (drop 32 b) ≡ take 256 (drop (256 * k) image)
+  pub number_back : field_at b 20 ≡ k
+  pub total_back : field_at b 24 ≡ n
+  pub family_back : field_at b 28 ≡ family
+  pub page_back : take 256 (drop 32 b) ≡ take 256 (drop (256 * k) image)
   pub padding : take 196 (drop 288 b) ≡ many 196 0
   pub sector : field_at b 484 % 4096 ≡ 0
   pub window : 0x10000000 ≤ field_at b 484
   pub before : field_at b 484 ≤ field_at b 12
   pub behind : field_at b 12 + 256 ≤ field_at b 484 + 4096
-  pub one-sector : field_at b 488 ≡ 4096
-  pub digest : (c : List ℕ) → FinalSector image start (field_at b 484) c → take 16 (drop 492 b) ≡ digestBytes (md5Of c)
-  pub words : (c : List ℕ) → FinalSector image start (field_at b 484) c → words_in b ≡ md5Of c
+  pub one_sector : field_at b 488 ≡ 4096
+  pub digest : (c : List ℕ) → FinalSector image start (field_at b 484) c → take 16 (drop 492 b) ≡ digest_bytes (md5_of c)
+  pub words : (c : List ℕ) → FinalSector image start (field_at b 484) c → words_in b ≡ md5_of c
 
 -- of every file that is made, each block, in number order
-abbrev pub Blocks-read-back : Type 0
-Blocks-read-back =
-    (image out : List ℕ) (family start n : ℕ) → family < 2 ^ 32 → (makeOf image family start out).answer ≡ Made n
-    → (k : ℕ) → k < n → Reads image family start n k (take 512 (drop (512 * k) (makeOf image family start out).output))
+abbrev pub BlocksReadBack : Type 0
+BlocksReadBack =
+    (image out : List ℕ) (family start n : ℕ) → family < 2 ^ 32 → (make_of image family start out).answer ≡ Made n
+    → (k : ℕ) → k < n → Reads image family start n k (take 512 (drop (512 * k) (make_of image family start out).output))
 
 -- "output past the last block stays"
-abbrev pub Rest-stays : Type 0
-Rest-stays =
-    (image out : List ℕ) (family start n : ℕ) → (makeOf image family start out).answer ≡ Made n
-    → drop (512 * n) (makeOf image family start out).output ≡ drop (512 * n) out
+abbrev pub RestStays : Type 0
+RestStays =
+    (image out : List ℕ) (family start n : ℕ) → (make_of image family start out).answer ≡ Made n
+    → drop (512 * n) (make_of image family start out).output ≡ drop (512 * n) out

@@ -5,8 +5,8 @@ mod sector;
 ghost use Rattle.std.specs.Prelude.{◌≡◌, ◌+◌, ◌*◌, ◌<◌, ◌≤◌, length};
 ghost use Rattle.laws.specs.Over.{over};
 ghost use Rattle.laws.specs.Numbered.{numbered};
-ghost use Rattle.uf2_make.specs.Uf2file.{makeCall, callNumber};
-ghost use Rattle.uf2_make_regions.specs.File.{block_at, fileBytes, makeOf};
+ghost use Rattle.uf2_make.specs.Uf2file.{make_call, call_number};
+ghost use Rattle.uf2_make_regions.specs.File.{block_at, file_bytes, make_of};
 
 use uf2_block::Block;
 use uf2_make::checks::MakeAnswer;
@@ -37,7 +37,7 @@ fn write_blocks(image: &[u8], family: u32, start: u32, total: u32, output: &mut 
     requires image_len { length image.now ≡ 256 * total }
     requires window { start + 256 * total ≤ 0x12000000 }
     requires room { 512 * total ≤ length output.old }
-    ensures { output.new ≡ over output.old 0 (fileBytes image.now family start) }
+    ensures { output.new ≡ over output.old 0 (file_bytes image.now family start) }
 {
     let mut k: u32 = 0;
     while k < total {
@@ -51,7 +51,7 @@ fn write_blocks(image: &[u8], family: u32, start: u32, total: u32, output: &mut 
 
 // Makes the file at the start of the output.
 pub fn make(image: &[u8], family: u32, start: u32, output: &mut [u8]) -> MakeAnswer
-    ensures { numbered callNumber (makeCall result output.new) ≡ numbered callNumber (makeOf image.now family start output.old) }
+    ensures { numbered call_number (make_call result output.new) ≡ numbered call_number (make_of image.now family start output.old) }
 {
     let answer = uf2_make::checks::check(image.len(), start, output.len());
     let MakeAnswer::Made(total) = answer else {

@@ -1,7 +1,7 @@
 // One block that names its sector as its region: its fields, its page, the padding and the region.
 ghost use Rattle.std.specs.Prelude.{◌≡◌, length};
 ghost use Rattle.laws.specs.Over.{over};
-ghost use Rattle.uf2_make_regions.specs.Block.{leadBytes, regionBytes, blockBytes};
+ghost use Rattle.uf2_make_regions.specs.Block.{lead_bytes, region_bytes, block_bytes};
 
 use md5::Digest;
 use uf2_block::Block;
@@ -12,7 +12,7 @@ const FLAGS: u32 = 0x6000;
 // The fields before the data.
 fn put_lead(out: &mut [u8], address: u32, number: u32, total: u32, family: u32)
     requires { length out.old ≡ 512 }
-    ensures { out.new ≡ over out.old 0 (leadBytes address number total family) }
+    ensures { out.new ≡ over out.old 0 (lead_bytes address number total family) }
 {
     uf2_block::put(out, 0, Block::MAGIC_FIRST);
     uf2_block::put(out, 4, Block::MAGIC_SECOND);
@@ -24,7 +24,7 @@ fn put_lead(out: &mut [u8], address: u32, number: u32, total: u32, family: u32)
 // The region: where the sector begins, its length and its digest.
 fn put_region(out: &mut [u8], base: u32, digest: Digest)
     requires { length out.old ≡ 24 }
-    ensures { out.new ≡ regionBytes base digest }
+    ensures { out.new ≡ region_bytes base digest }
 {
     uf2_block::put(out, 0, base);
     uf2_block::put(out, 4, 4096);
@@ -43,7 +43,7 @@ pub(crate) fn put_block(
 )
     requires out_len { length out.old ≡ 512 }
     requires size { length page.now ≡ 256 }
-    ensures { out.new ≡ blockBytes address number total family page.now base digest }
+    ensures { out.new ≡ block_bytes address number total family page.now base digest }
 {
     put_lead(out, address, number, total, family);
     bytes::copy(page, &mut out[32..288]);

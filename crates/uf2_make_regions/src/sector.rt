@@ -2,8 +2,8 @@
 ghost use Rattle.std.specs.Prelude.{◌≡◌, ◌+◌, ◌-◌, ◌≤◌, length, take, drop};
 ghost use Rattle.memory.specs.Many.{many};
 ghost use Rattle.laws.specs.Over.{over};
-ghost use Rattle.md5.specs.Md5.{md5Of};
-ghost use Rattle.uf2_make_regions.specs.File.{sectorDigest};
+ghost use Rattle.md5.specs.Md5.{md5_of};
+ghost use Rattle.uf2_make_regions.specs.File.{sector_digest};
 
 use md5::Digest;
 
@@ -23,7 +23,7 @@ fn past(a: usize, b: usize) -> usize
 fn placed(image: &[u8], at: usize, from: usize, count: usize) -> Digest
     requires count_bound { at + count ≤ 4096 }
     requires inside { from + count ≤ length image.now }
-    ensures { result ≡ md5Of (over (many 4096 255) at (take count (drop from image.now))) }
+    ensures { result ≡ md5_of (over (many 4096 255) at (take count (drop from image.now))) }
 {
     let mut sector = [255u8; SECTOR];
     let to = from + count;
@@ -36,7 +36,7 @@ fn placed(image: &[u8], at: usize, from: usize, count: usize) -> Digest
 pub(crate) fn digest(image: &[u8], start: usize, base: usize) -> Digest
     requires start_bound { start ≤ base + 4096 }
     requires reaches { base ≤ start + length image.now }
-    ensures { result ≡ sectorDigest image.now start base }
+    ensures { result ≡ sector_digest image.now start base }
 {
     let at = past(base, start);
     let from = past(start, base);

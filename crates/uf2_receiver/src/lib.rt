@@ -3,18 +3,18 @@ pub mod looking;
 
 ghost use Rattle.std.specs.Prelude.{◌≡◌};
 ghost use Rattle.laws.specs.Numbered.{numbered};
-ghost use Rattle.arrival.specs.Arrive.{outcomeNumber, receiveOf};
-ghost use Rattle.flash_plan.specs.Plan.{acceptingNumber, acceptingOf};
+ghost use Rattle.arrival.specs.Arrive.{outcome_number, receive_of};
+ghost use Rattle.flash_plan.specs.Plan.{accepting_number, accepting_of};
 ghost use Rattle.uf2_receiver.specs.Receiver.{
   lent_at,
   left_at,
   world,
   accepting,
-  takeReturn,
-  plannedReturn,
-  leftBeside,
-  receiveKnown,
-  acceptKnown,
+  take_return,
+  planned_return,
+  left_beside,
+  receive_known,
+  accept_known,
 };
 
 use partitions::Settings;
@@ -34,7 +34,7 @@ pub fn accept_known(
     main: &mut [u8],
     xip: &mut [u8],
 ) -> PlanReceipt
-    ensures { accepting result (leftBeside flash seen sectors main xip) ≡ acceptKnown known (world transfer (lent_at flash seen sectors main xip)) arrival.now }
+    ensures { accepting result (left_beside flash seen sectors main xip) ≡ accept_known known (world transfer (lent_at flash seen sectors main xip)) arrival.now }
 {
     let verdict = uf2_decide::judge(known, transfer, arrival, flash, seen, sectors, main, xip);
     match verdict {
@@ -57,7 +57,7 @@ fn accept(
     main: &mut [u8],
     xip: &mut [u8],
 ) -> PlanReceipt
-    ensures { plannedReturn result (leftBeside flash seen sectors main xip) ≡ numbered acceptingNumber (acceptingOf settings (world transfer (lent_at flash seen sectors main xip)) arrival.now) }
+    ensures { planned_return result (left_beside flash seen sectors main xip) ≡ numbered accepting_number (accepting_of settings (world transfer (lent_at flash seen sectors main xip)) arrival.now) }
 {
     let lens = Lengths {
         flash: flash.len(),
@@ -79,7 +79,7 @@ pub fn take_known(
     main: &mut [u8],
     xip: &mut [u8],
 ) -> Receipt
-    ensures { takeReturn result (left_at flash seen sectors main xip) ≡ numbered outcomeNumber (receiveKnown known (world transfer (lent_at flash seen sectors main xip)) arrival.now) }
+    ensures { take_return result (left_at flash seen sectors main xip) ≡ numbered outcome_number (receive_known known (world transfer (lent_at flash seen sectors main xip)) arrival.now) }
 {
     let planned = accept_known(known, transfer, arrival, flash, seen, sectors, main, xip);
     let plan = planned.plan;
@@ -98,7 +98,7 @@ pub fn take(
     main: &mut [u8],
     xip: &mut [u8],
 ) -> Receipt
-    ensures { takeReturn result (left_at flash seen sectors main xip) ≡ numbered outcomeNumber (receiveOf settings (world transfer (lent_at flash seen sectors main xip)) arrival.now) }
+    ensures { take_return result (left_at flash seen sectors main xip) ≡ numbered outcome_number (receive_of settings (world transfer (lent_at flash seen sectors main xip)) arrival.now) }
 {
     let lens = Lengths {
         flash: flash.len(),

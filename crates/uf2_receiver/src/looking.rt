@@ -1,7 +1,7 @@
 // A look at an arrival: what would happen, and nothing changes.
 ghost use Rattle.std.specs.Prelude.{◌≡◌};
 ghost use Rattle.laws.specs.Numbered.{numbered};
-ghost use Rattle.arrival.specs.Arrive.{forecastNumber, look_of};
+ghost use Rattle.arrival.specs.Arrive.{forecast_number, look_of};
 ghost use Rattle.arrival.specs.Lending.{lent_at, world};
 ghost use Rattle.uf2_receiver.specs.Looking.{previewed};
 
@@ -28,7 +28,7 @@ pub fn look(
     main: &[u8],
     xip: &[u8],
 ) -> Preview
-    ensures { numbered forecastNumber (previewed result) ≡ numbered forecastNumber (look_of settings (world transfer (lent_at flash seen sectors main xip)) arrival.now) }
+    ensures { numbered forecast_number (previewed result) ≡ numbered forecast_number (look_of settings (world transfer (lent_at flash seen sectors main xip)) arrival.now) }
 {
     let lens = Lengths {
         flash: flash.len(),

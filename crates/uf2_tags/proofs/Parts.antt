@@ -9,10 +9,10 @@ use lib.Dec.{leb}
 use borrow.Author.Tests.{leb-true, leb-false}
 use Rattle.laws.proofs.Tests.{split}
 use Rattle.uf2_tags.specs.declared.one_tag.Tag.{Tag}
-use Rattle.uf2_tags.specs.Tag.{contentsOf}
+use Rattle.uf2_tags.specs.Tag.{contents_of}
 
-take-least : (n : ℕ) (l : List ℕ) → take (min n (length l)) l ≡ take n l
-take-least n l =
+take_least : (n : ℕ) (l : List ℕ) → take (min n (length l)) l ≡ take n l
+take_least n l =
     split (leb n (length l))
     (λ y.
     let e : min n (length l) ≡ n = omega (arith, leb-true n (length l) y) in
@@ -23,15 +23,15 @@ take-least n l =
 
 -- from the lesser of the start and the length, the lesser of the count and what is left
 pub clamped : (b : List ℕ) (t : Tag) (from len : ℕ) → from ≡ min t.start (length b) → len ≡ min t.len (length b - from)
-    → take (from + len - from) (drop from b) ≡ contentsOf b t
-unfolding contentsOf
+    → take (from + len - from) (drop from b) ≡ contents_of b t
+unfolding contents_of
 clamped b t from len f h =
     let n : from + len - from ≡ len = omega arith in
     split (leb t.start (length b))
     (λ y.
     let e : from ≡ t.start = omega (arith, leb-true t.start (length b) y) in
     let k : length b - from ≡ length (drop from b) = sym (length-drop from b) in
-    rw (n, h, k, take-least t.len (drop from b), e))
+    rw (n, h, k, take_least t.len (drop from b), e))
     (λ z.
     let w = leb-false t.start (length b) z in
     let past : drop from b ≡ [] = drop_of_length-le b {i = from} (omega (arith, w)) in

@@ -9,8 +9,8 @@ unfoldable pub tag_of : ℕ → ℕ → ℕ → Tag
 tag_of size kind at = record { kind = kind; start = at + 4; len = size - 4; next = at + (size + 3) / 4 * 4 }
 
 -- the contents of a tag
-unfoldable pub contentsOf : List ℕ → Tag → List ℕ
-contentsOf b t = take t.len (drop t.start b)
+unfoldable pub contents_of : List ℕ → Tag → List ℕ
+contents_of b t = take t.len (drop t.start b)
 
 -- "The end is size 0 and type 0", "62 size 1 to 3, 63 size 0 with a type, 64 a tag past the room"
 unfoldable pub sized : ℕ → ℕ → ℕ → ℕ → Answer
@@ -22,30 +22,30 @@ sized size kind at end =
     (a-tag (tag_of size kind at)))))
 
 -- the numbers of 02; a tag has 0, and the end, for which 02 has none, 60
-abbrev pub answerNumber : Answer → ℕ
-answerNumber (a-tag t) = 0
-answerNumber End = 60
-answerNumber BadLength = 1
-answerNumber BadPlace = 3
-answerNumber NotBlock = 4
-answerNumber BadPayload = 61
-answerNumber ShortTag = 62
-answerNumber TypedEnd = 63
-answerNumber PastRoom = 64
-answerNumber NoRoom = 65
+abbrev pub answer_number : Answer → ℕ
+answer_number (a-tag t) = 0
+answer_number End = 60
+answer_number BadLength = 1
+answer_number BadPlace = 3
+answer_number NotBlock = 4
+answer_number BadPayload = 61
+answer_number ShortTag = 62
+answer_number TypedEnd = 63
+answer_number PastRoom = 64
+answer_number NoRoom = 65
 
 -- what a tag gives, and d for every other answer
-abbrev pub onTag : {A : Type 0} → A → (Tag → A) → Answer → A
-onTag d f (a-tag t) = f t
-onTag d f End = d
-onTag d f BadLength = d
-onTag d f BadPlace = d
-onTag d f NotBlock = d
-onTag d f BadPayload = d
-onTag d f ShortTag = d
-onTag d f TypedEnd = d
-onTag d f PastRoom = d
-onTag d f NoRoom = d
+abbrev pub on_tag : {A : Type 0} → A → (Tag → A) → Answer → A
+on_tag d f (a-tag t) = f t
+on_tag d f End = d
+on_tag d f BadLength = d
+on_tag d f BadPlace = d
+on_tag d f NotBlock = d
+on_tag d f BadPayload = d
+on_tag d f ShortTag = d
+on_tag d f TypedEnd = d
+on_tag d f PastRoom = d
+on_tag d f NoRoom = d
 
-abbrev pub isTag : Answer → Bool
-isTag a = onTag false (λ (t : Tag). true) a
+abbrev pub is_tag : Answer → Bool
+is_tag a = on_tag false (λ (t : Tag). true) a

@@ -4,10 +4,10 @@ pub mod room;
 
 ghost use Rattle.std.specs.Prelude.{◌≡◌, min};
 ghost use Rattle.laws.specs.Numbered.{numbered};
-ghost use Rattle.uf2_tags.specs.Tag.{contentsOf, answerNumber};
-ghost use Rattle.uf2_tags.specs.Room.{tag_at, firstPlace};
-ghost use Rattle.uf2_tags.specs.Search.{stops, findOf};
-ghost use Rattle.uf2_tags.specs.Reader.{nextPlace, stepAt, moveNumber, started, stepped, stepNumber};
+ghost use Rattle.uf2_tags.specs.Tag.{contents_of, answer_number};
+ghost use Rattle.uf2_tags.specs.Room.{tag_at, first_place};
+ghost use Rattle.uf2_tags.specs.Search.{stops, find_of};
+ghost use Rattle.uf2_tags.specs.Reader.{next_place, step_at, move_number, started, stepped, step_number};
 
 use crate::one_tag::{Answer, Tag};
 
@@ -34,7 +34,7 @@ pub struct Step<'a> {
 
 // The place after an answer: after a tag the next, else the same.
 fn place_after(at: usize, answer: Answer) -> usize
-    ensures { result ≡ nextPlace at answer }
+    ensures { result ≡ next_place at answer }
 {
     let Answer::Tag(tag) = answer else {
         return at;
@@ -44,7 +44,7 @@ fn place_after(at: usize, answer: Answer) -> usize
 
 // What a call answers at a place, and the place after it.
 fn step_at(block: &[u8], at: usize) -> Move
-    ensures { numbered moveNumber result ≡ numbered moveNumber (stepAt block.now at) }
+    ensures { numbered move_number result ≡ numbered move_number (step_at block.now at) }
 {
     let answer = crate::room::tag_at(block, at);
     let next = place_after(at, answer);
@@ -62,7 +62,7 @@ impl<'a> Tags<'a> {
     }
 
     pub fn next(self) -> Step<'a>
-        ensures { numbered stepNumber result ≡ numbered stepNumber (stepped self.entry) }
+        ensures { numbered step_number result ≡ numbered step_number (stepped self.entry) }
     {
         let m = step_at(self.block, self.at);
         let answer = m.answer;
@@ -78,7 +78,7 @@ impl<'a> Tags<'a> {
 
 // What the first call of a fresh reader answers. Who calls this holds no reader.
 fn first(block: &[u8]) -> Answer
-    ensures { numbered answerNumber result ≡ numbered answerNumber (tag_at block.now (firstPlace block.now)) }
+    ensures { numbered answer_number result ≡ numbered answer_number (tag_at block.now (first_place block.now)) }
 {
     let s = Tags::new(block).next();
     s.answer
@@ -96,7 +96,7 @@ fn stops_at(kind: u32, answer: Answer) -> bool
 
 // The first tag of a type, or the end or the refusal before any.
 pub fn find(block: &[u8], kind: u32) -> Answer
-    ensures { numbered answerNumber result ≡ numbered answerNumber (findOf block.now kind) }
+    ensures { numbered answer_number result ≡ numbered answer_number (find_of block.now kind) }
 {
     let mut at = crate::room::first_place(block);
     loop {
@@ -117,7 +117,7 @@ fn least(a: usize, b: usize) -> usize
 
 // The contents of a tag, as far as they stand in the block.
 fn contents(block: &[u8], tag: Tag) -> &[u8]
-    ensures { result.now ≡ contentsOf block.now tag }
+    ensures { result.now ≡ contents_of block.now tag }
 {
     let from = least(tag.start, block.len());
     let len = least(tag.len as usize, block.len() - from);

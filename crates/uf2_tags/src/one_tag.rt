@@ -1,7 +1,7 @@
 // One extension tag of a UF2 block (02, L4): what a call answers, and what a size and a type at a place say.
 ghost use Rattle.std.specs.Prelude.{◌≡◌, ◌≤◌};
 ghost use Rattle.laws.specs.Numbered.{numbered};
-ghost use Rattle.uf2_tags.specs.Tag.{tag_of, sized, answerNumber};
+ghost use Rattle.uf2_tags.specs.Tag.{tag_of, sized, answer_number};
 
 // A tag: its type, where its contents stand in the block and how many bytes they have, and the place after it.
 #[derive(Drop)]
@@ -43,7 +43,7 @@ impl Tag {
 impl Answer {
     // The number of a refusal; 0 for a tag, 60 for the end.
     pub fn number(self) -> u8
-        ensures { result ≡ answerNumber self }
+        ensures { result ≡ answer_number self }
     {
         match self {
             Answer::Tag(_) => 0,
@@ -78,7 +78,7 @@ fn made(size: u8, kind: u32, at: u16) -> Tag
 
 // What a size and a type at a place say, in a room that ends at `end`.
 pub(crate) fn tag_sized(size: u8, kind: u32, at: u16, end: u16) -> Answer
-    ensures { numbered answerNumber result ≡ numbered answerNumber (sized size kind at end) }
+    ensures { numbered answer_number result ≡ numbered answer_number (sized size kind at end) }
 {
     if size == 0 {
         if kind == 0 {

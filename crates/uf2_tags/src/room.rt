@@ -1,8 +1,8 @@
 // The room of a block's extension tags (02, L4): where it starts and ends, and what a call answers at a place.
 ghost use Rattle.std.specs.Prelude.{◌≡◌, ◌+◌, ◌≤◌, length, get_or};
 ghost use Rattle.laws.specs.Numbered.{numbered};
-ghost use Rattle.uf2_tags.specs.Tag.{sized, answerNumber};
-ghost use Rattle.uf2_tags.specs.Room.{badPayload, badPlace, roomEnd, kind_at, standsAt, tag_at, firstPlace};
+ghost use Rattle.uf2_tags.specs.Tag.{sized, answer_number};
+ghost use Rattle.uf2_tags.specs.Room.{bad_payload, bad_place, room_end, kind_at, stands_at, tag_at, first_place};
 
 use crate::one_tag::Answer;
 use uf2_block::Block;
@@ -18,27 +18,27 @@ const ROOM: usize = 508;
 const ROOM_MD5: usize = 484;
 
 fn bad_payload(size: u32) -> bool
-    ensures { result ≡ badPayload size }
+    ensures { result ≡ bad_payload size }
 {
     (PAYLOAD < size) | (size % 4 != 0)
 }
 
 fn bad_place(from: usize, at: usize) -> bool
-    ensures { result ≡ badPlace from at }
+    ensures { result ≡ bad_place from at }
 {
     (at < from) | (at % 4 != 0)
 }
 
 // The place of the first tag: after the payload.
 pub fn first_place(block: &[u8]) -> usize
-    ensures { result ≡ firstPlace block.now }
+    ensures { result ≡ first_place block.now }
 {
     DATA + uf2_block::field(block, 16) as usize
 }
 
 // Where the room of the tags ends.
 fn room_end(block: &[u8]) -> usize
-    ensures value { result ≡ roomEnd block.now }
+    ensures value { result ≡ room_end block.now }
     ensures within { (484 ≤ result) × (result ≤ 508) }
 {
     if uf2_block::field(block, 8) / Block::FLAG_MD5 % 2 == 1 {
@@ -62,7 +62,7 @@ fn tag_in(block: &[u8], at: usize, end: usize) -> Answer
 // What a call answers at a place of a block that may have tags.
 fn stands_at(block: &[u8], at: usize) -> Answer
     requires { length block.now ≡ 512 }
-    ensures { result ≡ standsAt block.now at }
+    ensures { result ≡ stands_at block.now at }
 {
     if bad_place(first_place(block), at) {
         return Answer::BadPlace;
@@ -77,7 +77,7 @@ fn stands_at(block: &[u8], at: usize) -> Answer
 
 // What a call answers at a place of a block.
 pub fn tag_at(block: &[u8], at: usize) -> Answer
-    ensures { numbered answerNumber result ≡ numbered answerNumber (tag_at block.now at) }
+    ensures { numbered answer_number result ≡ numbered answer_number (tag_at block.now at) }
 {
     if block.len() != Block::ARRIVAL {
         return Answer::BadLength;

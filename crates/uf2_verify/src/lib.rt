@@ -1,17 +1,17 @@
 // Does what an arrival holds stand in the memory? It reads, and writes nothing.
 ghost use Rattle.std.specs.Prelude.{◌≡◌, length};
 ghost use Rattle.laws.specs.Numbered.{numbered};
-ghost use Rattle.memory.specs.Flash.{payloadOf};
-ghost use Rattle.arrival.specs.Arrive.{bufferOf};
+ghost use Rattle.memory.specs.Flash.{payload_of};
+ghost use Rattle.arrival.specs.Arrive.{buffer_of};
 ghost use Rattle.uf2_verify.specs.Stands.{
-  standNumber,
-  memoryAt,
-  samePage,
-  pageStands,
-  bodyStands,
-  toldBy,
-  standOf,
-  knownStand,
+  stand_number,
+  memory_at,
+  same_page,
+  page_stands,
+  body_stands,
+  told_by,
+  stand_of,
+  known_stand,
 };
 
 use memory::flash::Flash;
@@ -30,7 +30,7 @@ pub enum Stand {
 
 impl Stand {
     pub fn number(self) -> u8
-        ensures { result ≡ standNumber self }
+        ensures { result ≡ stand_number self }
     {
         match self {
             Stand::Refused(answer) => answer.number(),
@@ -44,7 +44,7 @@ impl Stand {
 fn same_page(a: &[u8], b: &[u8]) -> bool
     requires a_len { length a.now ≡ 256 }
     requires other { length b.now ≡ 256 }
-    ensures { result ≡ samePage a.now b.now }
+    ensures { result ≡ same_page a.now b.now }
 {
     let mut same = true;
     let mut i: usize = 0;
@@ -57,7 +57,7 @@ fn same_page(a: &[u8], b: &[u8]) -> bool
 
 // Does the payload of an arrival stand in a buffer at this address?
 fn page_stands(buffer: &[u8], at: usize, arrival: &[u8]) -> bool
-    ensures { result ≡ pageStands buffer.now at (payloadOf arrival.now) }
+    ensures { result ≡ page_stands buffer.now at (payload_of arrival.now) }
 {
     if arrival.len() < Flash::TO {
         return false;
@@ -74,7 +74,7 @@ fn page_stands(buffer: &[u8], at: usize, arrival: &[u8]) -> bool
 
 // In the buffer of its kind.
 fn page_in(kind: Kind, at: usize, arrival: &[u8], flash: &[u8], main: &[u8], xip: &[u8]) -> bool
-    ensures { result ≡ pageStands (bufferOf kind (memoryAt flash main xip)) at (payloadOf arrival.now) }
+    ensures { result ≡ page_stands (buffer_of kind (memory_at flash main xip)) at (payload_of arrival.now) }
 {
     match kind {
         Kind::Flash => page_stands(flash, at, arrival),
@@ -92,7 +92,7 @@ fn body_stands(
     main: &[u8],
     xip: &[u8],
 ) -> bool
-    ensures { result ≡ bodyStands (memoryAt flash main xip) kind body (payloadOf arrival.now) }
+    ensures { result ≡ body_stands (memory_at flash main xip) kind body (payload_of arrival.now) }
 {
     match body {
         Body::Page(at) => page_in(kind, at, arrival, flash, main, xip),
@@ -102,7 +102,7 @@ fn body_stands(
 
 // A block that has passed the rows.
 fn compared(placed: PlacedBlock, arrival: &[u8], flash: &[u8], main: &[u8], xip: &[u8]) -> Stand
-    ensures { result ≡ toldBy (bodyStands (memoryAt flash main xip) placed.head.kind placed.body (payloadOf arrival.now)) }
+    ensures { result ≡ told_by (body_stands (memory_at flash main xip) placed.head.kind placed.body (payload_of arrival.now)) }
 {
     let head = placed.head;
     let kind = head.kind;
@@ -115,7 +115,7 @@ fn compared(placed: PlacedBlock, arrival: &[u8], flash: &[u8], main: &[u8], xip:
 
 // The rows in their order, and the comparison. What the settings and the lengths say is handed in.
 pub fn stands_known(known: Known, arrival: &[u8], flash: &[u8], main: &[u8], xip: &[u8]) -> Stand
-    ensures { numbered standNumber result ≡ numbered standNumber (knownStand known (memoryAt flash main xip) arrival.now) }
+    ensures { numbered stand_number result ≡ numbered stand_number (known_stand known (memory_at flash main xip) arrival.now) }
 {
     if !known.right {
         return Stand::Refused(Answer::BadBuffers);
@@ -139,7 +139,7 @@ pub fn stands_known(known: Known, arrival: &[u8], flash: &[u8], main: &[u8], xip
 
 // Does what the arrival holds stand in the memory?
 pub fn stands(settings: Settings, arrival: &[u8], flash: &[u8], main: &[u8], xip: &[u8]) -> Stand
-    ensures { numbered standNumber result ≡ numbered standNumber (standOf settings (memoryAt flash main xip) arrival.now) }
+    ensures { numbered stand_number result ≡ numbered stand_number (stand_of settings (memory_at flash main xip) arrival.now) }
 {
     let lens = Lengths {
         flash: flash.len(),

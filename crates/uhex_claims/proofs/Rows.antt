@@ -10,30 +10,30 @@ use lib.ListN.{length, get_or, take, drop, replicate, length-append, length-repl
 use lib.Seq.{take-append_seam, get_or-append_seam, get_or-append-add, take-length}
 use borrow.Author.Tests.{lt-ltb, le-ltb, le-leb, lt-leb, eq-eqb, ne_eqb, eqb-true, eqb-false, ltb-true, ltb-false, leb-true, leb-false}
 use Rattle.laws.proofs.Tests.{split, both, clash, is_false, or_left, or_right}
-use Rattle.laws.proofs.TabLaws.{is-tab}
+use Rattle.laws.proofs.TabLaws.{is_tab}
 use Rattle.ihex_record.specs.declared.Line.{Line}
 use Rattle.ihex_record.specs.declared.ParseResult.{ParseResult}
 use Rattle.ihex_record.specs.declared.ParseResult.TheVariants.{Good, NoColon, BadShape, BadDigit, TooLong, BadLength, BadSum}
-use Rattle.ihex_record.specs.Record.{textLen, text_of, digitOf, allDigits, firstBad, bytes_of, data32, total, refused, badShape, lineOfBytes, lineOfText, read_of, allBy, firstBy, bytesBy}
+use Rattle.ihex_record.specs.Record.{text_len, text_of, digit_of, all_digits, first_bad, bytes_of, data32, total, refused, bad_shape, line_of_bytes, line_of_text, read_of, all_by, first_by, bytes_by}
 use Rattle.ihex_record.specs.Record as record'
 use Rattle.ihex_record.proofs.Endings.{text-whole, text-lf, text-crlf}
 use Rattle.ihex_record.proofs.Checks.{is-empty, is-no-colon, is-bad-shape, is-bad-digit, is-bytes, is-too-long, is-bad-length, is-bad-sum, is-good}
-use Rattle.uhex_claims.specs.Rows.{Digit, decimal, upper, lower, Bytes, no_byte, byte, TextOf, unended, ended-lf, ended-crlf, sum_of, Shaped, Says, row-20, row-21, row-22, row-23, row-24, row-25, good, Line-is-read, Every-line-says}
+use Rattle.uhex_claims.specs.Rows.{Digit, decimal, upper, lower, Bytes, no_byte, byte, TextOf, unended, ended_lf, ended_crlf, sum_of, Shaped, Says, row_20, row_21, row_22, row_23, row_24, row_25, good, LineIsRead, EveryLineSays}
 
 -- ---- digits
 
-digit-is : (c v : ℕ) → Digit c v → (digitOf c ≡ v) × (v < 16)
-unfolding digitOf
-digit-is c v (decimal h e) = (rw (e, le-leb 48 (48 + v) (omega arith), le-leb (48 + v) 57 (omega arith)) (omega arith), omega arith)
-digit-is c v (upper h l e) =
+digit_is : (c v : ℕ) → Digit c v → (digit_of c ≡ v) × (v < 16)
+unfolding digit_of
+digit_is c v (decimal h e) = (rw (e, le-leb 48 (48 + v) (omega arith), le-leb (48 + v) 57 (omega arith)) (omega arith), omega arith)
+digit_is c v (upper h l e) =
     (rw (e, le-leb 48 (55 + v) (omega arith), lt-leb (55 + v) 57 (omega arith), le-leb 65 (55 + v) (omega arith), le-leb (55 + v) 70 (omega arith)) (omega arith), l)
-digit-is c v (lower h l e) =
+digit_is c v (lower h l e) =
     (rw (e, le-leb 48 (87 + v) (omega arith), lt-leb (87 + v) 57 (omega arith), le-leb 65 (87 + v) (omega arith), lt-leb (87 + v) 70 (omega arith), le-leb 97 (87 + v) (omega arith), le-leb (87 + v) 102 (omega arith)) (omega arith), l)
 
 -- what says no digit is one for no value
-is_digit : (c : ℕ) → digitOf c < 16 → Digit c (digitOf c)
-unfolding digitOf
-is_digit c h =
+is_digit_lem : (c : ℕ) → digit_of c < 16 → Digit c (digit_of c)
+unfolding digit_of
+is_digit_lem c h =
     split (leb 48 c && leb c 57)
     (λ y. rw y (decimal (omega (arith, low48 y, high57 y)) (omega (arith, low48 y))))
     (λ n.
@@ -64,13 +64,13 @@ is_digit c h =
 
 -- ---- bytes
 
-bytes-are : {cs bs : List ℕ} → Bytes cs bs → (allDigits cs ≡ true) × (bytes_of cs ≡ bs)
-unfolding allBy bytesBy
-bytes-are no_byte = (refl, refl)
-bytes-are (byte {c} {d} {h} {l} {cs} {bs} p q w) =
-    let x = digit-is c h p in
-    let y = digit-is d l q in
-    let r = bytes-are w in
+bytes_are : {cs bs : List ℕ} → Bytes cs bs → (all_digits cs ≡ true) × (bytes_of cs ≡ bs)
+unfolding all_by bytes_by
+bytes_are no_byte = (refl, refl)
+bytes_are (byte {c} {d} {h} {l} {cs} {bs} p q w) =
+    let x = digit_is c h p in
+    let y = digit_is d l q in
+    let r = bytes_are w in
     (rw (x.0, y.0, lt-ltb h 16 x.1, lt-ltb l 16 y.1) r.0, rw (x.0, y.0, r.1) (ap (λ (n : ℕ). n ∷ bs) (omega (arith, x.1, y.1))))
 
 sum_is : (l : List ℕ) → total l ≡ sum_of l
@@ -80,16 +80,16 @@ sum_is (b ∷ l) = rw (sum_is l)
 
 -- ---- shape
 
-shape-good : (n : ℕ) → Shaped n → badShape n ≡ false
-shape-good n s =
+shape_good : (n : ℕ) → Shaped n → bad_shape n ≡ false
+shape_good n s =
     let l = s.least in
     let m = s.most in
     let o = s.odd in
     rw (le-ltb n 11 l, le-ltb 521 n m, ne_eqb (n % 2) 0 (omega arith))
 
-shape-bad : (n : ℕ) → (Shaped n → ⊥) → badShape n ≡ true
-shape-bad n h =
-    split (badShape n) (λ y. y)
+shape_bad : (n : ℕ) → (Shaped n → ⊥) → bad_shape n ≡ true
+shape_bad n h =
+    split (bad_shape n) (λ y. y)
     (λ z.
     let a = or_left (ltb n 11 || ltb 521 n) (eqb (n % 2) 0) z in
     let o = eqb-false (n % 2) 0 (or_right (ltb n 11 || ltb 521 n) (eqb (n % 2) 0) z) in
@@ -97,66 +97,66 @@ shape-bad n h =
 
 -- ---- the first bad character
 
-bad-digit : (c : ℕ) → ((v : ℕ) → Digit c v → ⊥) → ltb (digitOf c) 16 ≡ false
-bad-digit c h = is_false _ (λ y. h (digitOf c) (is_digit c (ltb-true (digitOf c) 16 y)))
+bad_digit : (c : ℕ) → ((v : ℕ) → Digit c v → ⊥) → ltb (digit_of c) 16 ≡ false
+bad_digit c h = is_false _ (λ y. h (digit_of c) (is_digit_lem c (ltb-true (digit_of c) 16 y)))
 
-good-digit : (c v : ℕ) → Digit c v → ltb (digitOf c) 16 ≡ true
-good-digit c v w = let x = digit-is c v w in rw x.0 (lt-ltb v 16 x.1)
+good_digit : (c v : ℕ) → Digit c v → ltb (digit_of c) 16 ≡ true
+good_digit c v w = let x = digit_is c v w in rw x.0 (lt-ltb v 16 x.1)
 
-first-is : (cs : List ℕ) (p : ℕ) → p < length cs → ((v : ℕ) → Digit (get_or cs p 0) v → ⊥) → ((i : ℕ) → i < p → (v : ℕ) × Digit (get_or cs i 0) v)
-    → (firstBad cs ≡ p) × (allDigits cs ≡ false)
-unfolding firstBy allBy
-first-is [] p l b g = absurd (omega arith)
-first-is (c ∷ cs) zero l b g = let z = bad-digit c b in (rw z, rw z)
-first-is (c ∷ cs) (suc p) l b g =
-    let y = good-digit c (g 0 (omega arith)).0 (g 0 (omega arith)).1 in
-    let r = first-is cs p (omega arith) b (λ i m. g (suc i) (omega arith)) in
+first_is : (cs : List ℕ) (p : ℕ) → p < length cs → ((v : ℕ) → Digit (get_or cs p 0) v → ⊥) → ((i : ℕ) → i < p → (v : ℕ) × Digit (get_or cs i 0) v)
+    → (first_bad cs ≡ p) × (all_digits cs ≡ false)
+unfolding first_by all_by
+first_is [] p l b g = absurd (omega arith)
+first_is (c ∷ cs) zero l b g = let z = bad_digit c b in (rw z, rw z)
+first_is (c ∷ cs) (suc p) l b g =
+    let y = good_digit c (g 0 (omega arith)).0 (g 0 (omega arith)).1 in
+    let r = first_is cs p (omega arith) b (λ i m. g (suc i) (omega arith)) in
     (rw (y, r.0), rw (y, r.1))
 
 -- ---- a text
 
-bytes-length : {cs bs : List ℕ} → Bytes cs bs → length cs ≡ 2 * length bs
-bytes-length no_byte = refl
-bytes-length (byte p q w) = let h = bytes-length w in omega arith
+bytes_length : {cs bs : List ℕ} → Bytes cs bs → length cs ≡ 2 * length bs
+bytes_length no_byte = refl
+bytes_length (byte p q w) = let h = bytes_length w in omega arith
 
-says-line : {t : List ℕ} {x : ParseResult} {d : List ℕ} → Says t x d → lineOfText t ≡ record { parsed = x; «data» = data32 d }
-says-line {t} (row-20 h) = sym (is-no-colon t h)
-says-line (row-21 {cs} h) = sym (is-bad-shape (58 ∷ cs) (λ q. omega arith) refl (shape-bad (length (58 ∷ cs)) h))
-says-line (row-22 {cs} p s l b g) =
-    let f = first-is cs p l b g in
-    sym (is-bad-digit (58 ∷ cs) (λ q. omega arith) refl (shape-good (length (58 ∷ cs)) s) (ap (λ (n : ℕ). 1 + n) (sym f.0)) f.1)
-says-line (row-23 {cs} {bs} {n} s w h) =
-    let r = bytes-are w in
-    sym (is-bytes (58 ∷ cs) (λ q. omega arith) refl (shape-good (length (58 ∷ cs)) s) r.0)
-    ∙ ap (lineOfBytes (length (58 ∷ cs))) r.1 ∙ sym (is-too-long (length (58 ∷ cs)) (n ∷ bs) h)
-says-line (row-24 {cs} {bs} {n} s w m h) =
-    let r = bytes-are w in
-    sym (is-bytes (58 ∷ cs) (λ q. omega arith) refl (shape-good (length (58 ∷ cs)) s) r.0)
-    ∙ ap (lineOfBytes (length (58 ∷ cs))) r.1 ∙ sym (is-bad-length (length (58 ∷ cs)) (n ∷ bs) m h)
-says-line (row-25 {cs} {bs} {n} s w m e h) =
-    let r = bytes-are w in
-    sym (is-bytes (58 ∷ cs) (λ q. omega arith) refl (shape-good (length (58 ∷ cs)) s) r.0)
-    ∙ ap (lineOfBytes (length (58 ∷ cs))) r.1 ∙ sym (is-bad-sum (length (58 ∷ cs)) (n ∷ bs) m e (rw (sum_is (n ∷ bs)) h))
-says-line (good {cs} {d} {high} {low} {kind} check w m z) =
+says_line : {t : List ℕ} {x : ParseResult} {d : List ℕ} → Says t x d → line_of_text t ≡ record { parsed = x; «data» = data32 d }
+says_line {t} (row_20 h) = sym (is-no-colon t h)
+says_line (row_21 {cs} h) = sym (is-bad-shape (58 ∷ cs) (λ q. omega arith) refl (shape_bad (length (58 ∷ cs)) h))
+says_line (row_22 {cs} p s l b g) =
+    let f = first_is cs p l b g in
+    sym (is-bad-digit (58 ∷ cs) (λ q. omega arith) refl (shape_good (length (58 ∷ cs)) s) (ap (λ (n : ℕ). 1 + n) (sym f.0)) f.1)
+says_line (row_23 {cs} {bs} {n} s w h) =
+    let r = bytes_are w in
+    sym (is-bytes (58 ∷ cs) (λ q. omega arith) refl (shape_good (length (58 ∷ cs)) s) r.0)
+    ∙ ap (line_of_bytes (length (58 ∷ cs))) r.1 ∙ sym (is-too-long (length (58 ∷ cs)) (n ∷ bs) h)
+says_line (row_24 {cs} {bs} {n} s w m h) =
+    let r = bytes_are w in
+    sym (is-bytes (58 ∷ cs) (λ q. omega arith) refl (shape_good (length (58 ∷ cs)) s) r.0)
+    ∙ ap (line_of_bytes (length (58 ∷ cs))) r.1 ∙ sym (is-bad-length (length (58 ∷ cs)) (n ∷ bs) m h)
+says_line (row_25 {cs} {bs} {n} s w m e h) =
+    let r = bytes_are w in
+    sym (is-bytes (58 ∷ cs) (λ q. omega arith) refl (shape_good (length (58 ∷ cs)) s) r.0)
+    ∙ ap (line_of_bytes (length (58 ∷ cs))) r.1 ∙ sym (is-bad-sum (length (58 ∷ cs)) (n ∷ bs) m e (rw (sum_is (n ∷ bs)) h))
+says_line (good {cs} {d} {high} {low} {kind} check w m z) =
     let b : List ℕ = length d ∷ high ∷ low ∷ kind ∷ d ++ (check ∷ []) in
-    let r = bytes-are w in
-    let k : length cs ≡ 10 + 2 * length d = omega (arith, bytes-length w, length-append d (check ∷ [])) in
+    let r = bytes_are w in
+    let k : length cs ≡ 10 + 2 * length d = omega (arith, bytes_length w, length-append d (check ∷ [])) in
     let s : Shaped (length (58 ∷ cs)) = record { least = omega arith; most = omega arith; odd = omega arith } in
-    sym (is-bytes (58 ∷ cs) (λ q. omega arith) refl (shape-good (length (58 ∷ cs)) s) r.0)
-    ∙ ap (lineOfBytes (length (58 ∷ cs))) r.1
+    sym (is-bytes (58 ∷ cs) (λ q. omega arith) refl (shape_good (length (58 ∷ cs)) s) r.0)
+    ∙ ap (line_of_bytes (length (58 ∷ cs))) r.1
     ∙ sym (is-good (length (58 ∷ cs)) b m (omega arith) (rw (sum_is b) z))
     ∙ rw (take-append_seam d (check ∷ []))
 
 -- ---- its ending
 
-text-is : {l t : List ℕ} → TextOf l t → text_of l ≡ t
+text_is : {l t : List ℕ} → TextOf l t → text_of l ≡ t
 unfolding text_of
-text-is {l} (unended h) = rw (← (text-whole l h)) (take-length l)
-text-is (ended-lf {t} h) =
+text_is {l} (unended h) = rw (← (text-whole l h)) (take-length l)
+text_is (ended_lf {t} h) =
     let l = t ++ (10 ∷ []) in
     let a : length l - 1 ≡ length t = omega (arith, length-append t (10 ∷ [])) in
     let last : get_or l (length l - 1) 0 ≡ 10 = rw a (get_or-append_seam t 10 [] 0) in
-    let e : length t ≡ textLen l = sym a ∙ text-lf l last (omega (arith, length-append t (10 ∷ []))) (before t h) in
+    let e : length t ≡ text_len l = sym a ∙ text-lf l last (omega (arith, length-append t (10 ∷ []))) (before t h) in
     rw (← e) (take-append_seam t (10 ∷ []))
   where
     before : (t : List ℕ) → get_or t (length t - 1) 0 ≢ 13 → get_or (t ++ (10 ∷ [])) (length (t ++ (10 ∷ [])) - 2) 0 ≢ 13
@@ -164,12 +164,12 @@ text-is (ended-lf {t} h) =
     before (c ∷ t) h q =
         let b : length ((c ∷ t) ++ (10 ∷ [])) - 2 ≡ length (c ∷ t) - 1 = omega (arith, length-append (c ∷ t) (10 ∷ [])) in
         h (sym (rw b (get_or-append (c ∷ t) (10 ∷ []) 0 (length (c ∷ t) - 1) (omega arith))) ∙ q)
-text-is (ended-crlf {t}) =
+text_is (ended_crlf {t}) =
     let l = t ++ (13 ∷ 10 ∷ []) in
     let a : length l - 2 ≡ length t = omega (arith, length-append t (13 ∷ 10 ∷ [])) in
     let b : length l - 1 ≡ length t + 1 = omega (arith, length-append t (13 ∷ 10 ∷ [])) in
     let last : get_or l (length l - 1) 0 ≡ 10 = rw b (get_or-append-add t (13 ∷ 10 ∷ []) 1 0) in
-    let e : length t ≡ textLen l = sym a ∙ text-crlf l last (omega (arith, length-append t (13 ∷ 10 ∷ []))) (rw a (get_or-append_seam t 13 (10 ∷ []) 0)) in
+    let e : length t ≡ text_len l = sym a ∙ text-crlf l last (omega (arith, length-append t (13 ∷ 10 ∷ []))) (rw a (get_or-append_seam t 13 (10 ∷ []) 0)) in
     rw (← e) (take-append_seam t (13 ∷ 10 ∷ []))
 
 -- ---- its data
@@ -178,7 +178,7 @@ filled : (d : List ℕ) → length d ≤ 32 → d ++ replicate (32 - length d) 0
 unfolding data32
 filled d h =
     let n = length-replicate {A = ℕ} (32 - length d) 0 in
-    is-tab (d ++ replicate (32 - length d) 0) 32 (λ i. get_or d i 0) (simp length-append (omega arith))
+    is_tab (d ++ replicate (32 - length d) 0) 32 (λ i. get_or d i 0) (simp length-append (omega arith))
     (λ j l.
     split (ltb j (length d))
     (λ y. get_or-append d (replicate (32 - length d) 0) 0 j (ltb-true j (length d) y))
@@ -189,18 +189,18 @@ filled d h =
     g ∙ get_or-replicate (32 - length d) (j - length d) 0 0 (omega arith) ∙ sym (get_or-eq_default d 0 m)))
 
 short : {t : List ℕ} {x : ParseResult} {d : List ℕ} → Says t x d → length d ≤ 32
-short (row-20 h) = omega arith
-short (row-21 h) = omega arith
-short (row-22 p s l b g) = omega arith
-short (row-23 s w h) = omega arith
-short (row-24 s w m h) = omega arith
-short (row-25 s w m e h) = omega arith
+short (row_20 h) = omega arith
+short (row_21 h) = omega arith
+short (row_22 p s l b g) = omega arith
+short (row_23 s w h) = omega arith
+short (row_24 s w m h) = omega arith
+short (row_25 s w m e h) = omega arith
 short (good check w m z) = m
 
-pub line-is-read : Line-is-read
-unfolding Line-is-read read_of
-line-is-read l t x d e s =
-    let q : lineOfText (text_of l) ≡ record { parsed = x; «data» = data32 d } = ap lineOfText (text-is e) ∙ says-line s in
+pub line_is_read : LineIsRead
+unfolding LineIsRead read_of
+line_is_read l t x d e s =
+    let q : line_of_text (text_of l) ≡ record { parsed = x; «data» = data32 d } = ap line_of_text (text_is e) ∙ says_line s in
     (ap (λ (y : Line). y.parsed) q, ap (λ (y : Line). y.«data») q ∙ sym (filled d (short s)))
 
 -- ---- every line says something
@@ -210,9 +210,9 @@ IsDigit c = (v : ℕ) × Digit c v
 
 digit_or : (c : ℕ) → IsDigit c ⊎ ((v : ℕ) → Digit c v → ⊥)
 digit_or c =
-    split (ltb (digitOf c) 16)
-    (λ y. inl (digitOf c, is_digit c (ltb-true (digitOf c) 16 y)))
-    (λ z. inr (λ v w. clash (ltb (digitOf c) 16) (good-digit c v w) z))
+    split (ltb (digit_of c) 16)
+    (λ y. inl (digit_of c, is_digit_lem c (ltb-true (digit_of c) 16 y)))
+    (λ z. inr (λ v w. clash (ltb (digit_of c) 16) (good_digit c v w) z))
 
 -- the first bad character of some
 record FirstBad (cs : List ℕ) : Type 0 where
@@ -221,15 +221,15 @@ record FirstBad (cs : List ℕ) : Type 0 where
   bad : (v : ℕ) → Digit (get_or cs place 0) v → ⊥
   first : (i : ℕ) → i < place → IsDigit (get_or cs i 0)
 
-digits-or : (cs : List ℕ) → ((i : ℕ) → i < length cs → IsDigit (get_or cs i 0)) ⊎ FirstBad cs
-digits-or [] = inl (λ i l. absurd (omega arith))
-digits-or (c ∷ cs) =
+digits_or : (cs : List ℕ) → ((i : ℕ) → i < length cs → IsDigit (get_or cs i 0)) ⊎ FirstBad cs
+digits_or [] = inl (λ i l. absurd (omega arith))
+digits_or (c ∷ cs) =
     ⊎_elim
     (λ (h : IsDigit c).
     ⊎_elim
     (λ (all : (i : ℕ) → i < length cs → IsDigit (get_or cs i 0)). inl (next h all))
     (λ (b : FirstBad cs). inr (record { place = suc b.place; within = omega (arith, b.within); bad = b.bad; first = later h b }))
-    (digits-or cs))
+    (digits_or cs))
     (λ (n : (v : ℕ) → Digit c v → ⊥). inr (record { place = 0; within = omega arith; bad = n; first = λ i l. absurd (omega arith) }))
     (digit_or c)
   where
@@ -259,8 +259,8 @@ last_of (c ∷ d ∷ l) h =
     let n : length (c ∷ d ∷ l) - 1 ≡ suc (length (d ∷ l) - 1) = omega arith in
     (c ∷ r.0, r.1, ap (λ (z : List ℕ). c ∷ z) r.2, omega (arith, r.3), rw n r.4)
 
-text-of : (l : List ℕ) → (t : List ℕ) × TextOf l t
-text-of l =
+text_of_lem : (l : List ℕ) → (t : List ℕ) × TextOf l t
+text_of_lem l =
     split (eqb (get_or l (length l - 1) 0) 10)
     (λ y. ended l (eqb-true (get_or l (length l - 1) 0) 10 y))
     (λ z. (l, unended (eqb-false (get_or l (length l - 1) 0) 10 z)))
@@ -273,8 +273,8 @@ text-of l =
         let r = last_of t (some t q) in
         let f : l ≡ r.0 ++ (13 ∷ 10 ∷ []) =
         e ∙ ap (λ (z : List ℕ). z ++ (10 ∷ [])) (r.2 ∙ ap (λ (c : ℕ). r.0 ++ (c ∷ [])) (sym r.4 ∙ q)) ∙ append_assoc r.0 (13 ∷ []) (10 ∷ []) in
-        (r.0, subst (λ (z : List ℕ). TextOf z r.0) (sym f) ended-crlf))
-        (λ z. (t, subst (λ (u : List ℕ). TextOf u t) (sym e) (ended-lf (eqb-false (get_or t (length t - 1) 0) 13 z))))
+        (r.0, subst (λ (z : List ℕ). TextOf z r.0) (sym f) ended_crlf))
+        (λ z. (t, subst (λ (u : List ℕ). TextOf u t) (sym e) (ended_lf (eqb-false (get_or t (length t - 1) 0) 13 z))))
       where
         some : (t : List ℕ) → get_or t (length t - 1) 0 ≡ 13 → 1 ≤ length t
         some [] q = absurd (omega arith)
@@ -288,20 +288,20 @@ abbrev SaysSome : List ℕ → Type 0
 SaysSome t = (x : ParseResult) × (d : List ℕ) × Says t x d
 
 -- the bytes of a record, taken apart
-says-bytes : (cs bs : List ℕ) → Shaped (length (58 ∷ cs)) → Bytes cs bs → SaysSome (58 ∷ cs)
-says-bytes cs [] s w = let k = bytes-length w in let l = s.least in absurd (omega arith)
-says-bytes cs (n ∷ bs) s w =
+says_bytes : (cs bs : List ℕ) → Shaped (length (58 ∷ cs)) → Bytes cs bs → SaysSome (58 ∷ cs)
+says_bytes cs [] s w = let k = bytes_length w in let l = s.least in absurd (omega arith)
+says_bytes cs (n ∷ bs) s w =
     split (ltb 32 n)
-    (λ y. (TooLong, [], row-23 s w (ltb-true 32 n y)))
+    (λ y. (TooLong, [], row_23 s w (ltb-true 32 n y)))
     (λ z.
     let m = ltb-false 32 n z in
     split (eqb (length (58 ∷ cs)) (11 + 2 * n))
     (λ y.
     let e = eqb-true (length (58 ∷ cs)) (11 + 2 * n) y in
     split (eqb (sum_of (n ∷ bs) % 256) 0)
-    (λ u. whole bs w (omega (arith, bytes-length w, e)) m (eqb-true _ 0 u))
-    (λ u. (BadSum, [], row-25 s w m e (eqb-false _ 0 u))))
-    (λ u. (BadLength, [], row-24 s w m (eqb-false (length (58 ∷ cs)) (11 + 2 * n) u))))
+    (λ u. whole bs w (omega (arith, bytes_length w, e)) m (eqb-true _ 0 u))
+    (λ u. (BadSum, [], row_25 s w m e (eqb-false _ 0 u))))
+    (λ u. (BadLength, [], row_24 s w m (eqb-false (length (58 ∷ cs)) (11 + 2 * n) u))))
   where
     whole : (bs : List ℕ) → Bytes cs (n ∷ bs) → length bs ≡ n + 4 → n ≤ 32 → sum_of (n ∷ bs) % 256 ≡ 0 → SaysSome (58 ∷ cs)
     whole [] w e m z = absurd (omega arith)
@@ -316,13 +316,13 @@ says-bytes cs (n ∷ bs) s w =
         (_, d, good {d = d} r.1 (subst (λ (q : List ℕ). Bytes cs q) f w) (omega (arith, k)) (subst (λ (q : List ℕ). sum_of q % 256 ≡ 0) f z))
 
 says_some : (t : List ℕ) → SaysSome t
-says_some [] = (NoColon, [], row-20 {t = []} (λ e. omega arith))
+says_some [] = (NoColon, [], row_20 {t = []} (λ e. omega arith))
 says_some (c ∷ cs) =
     split (eqb c 58)
     (λ y. subst (λ (q : ℕ). SaysSome (q ∷ cs)) (sym (eqb-true c 58 y)) after)
-    (λ z. (NoColon, [], row-20 {t = c ∷ cs} (eqb-false c 58 z)))
+    (λ z. (NoColon, [], row_20 {t = c ∷ cs} (eqb-false c 58 z)))
   where
-    shaped : (n : ℕ) → badShape n ≡ false → Shaped n
+    shaped : (n : ℕ) → bad_shape n ≡ false → Shaped n
     shaped n z =
         let a = or_left (ltb n 11 || ltb 521 n) (eqb (n % 2) 0) z in
         let o = eqb-false (n % 2) 0 (or_right (ltb n 11 || ltb 521 n) (eqb (n % 2) 0) z) in
@@ -330,15 +330,15 @@ says_some (c ∷ cs) =
 
     after : SaysSome (58 ∷ cs)
     after =
-        split (badShape (length (58 ∷ cs)))
-        (λ y. (BadShape, [], row-21 (λ s. clash (badShape (length (58 ∷ cs))) y (shape-good (length (58 ∷ cs)) s))))
+        split (bad_shape (length (58 ∷ cs)))
+        (λ y. (BadShape, [], row_21 (λ s. clash (bad_shape (length (58 ∷ cs))) y (shape_good (length (58 ∷ cs)) s))))
         (λ z.
         let s = shaped (length (58 ∷ cs)) z in
         ⊎_elim
-        (λ (all : (i : ℕ) → i < length cs → IsDigit (get_or cs i 0)). let r = pairs cs (omega (arith, s.odd)) all in says-bytes cs r.0 s r.1)
-        (λ (b : FirstBad cs). (BadDigit (1 + b.place), [], row-22 b.place s b.within b.bad b.first))
-        (digits-or cs))
+        (λ (all : (i : ℕ) → i < length cs → IsDigit (get_or cs i 0)). let r = pairs cs (omega (arith, s.odd)) all in says_bytes cs r.0 s r.1)
+        (λ (b : FirstBad cs). (BadDigit (1 + b.place), [], row_22 b.place s b.within b.bad b.first))
+        (digits_or cs))
 
-pub every-line-says : Every-line-says
-unfolding Every-line-says
-every-line-says l = let e = text-of l in let s = says_some e.0 in (e.0, s.0, s.1, e.1, s.2)
+pub every_line_says : EveryLineSays
+unfolding EveryLineSays
+every_line_says l = let e = text_of_lem l in let s = says_some e.0 in (e.0, s.0, s.1, e.1, s.2)

@@ -1,7 +1,7 @@
 -- What lines say, as numbers: each record's type, address field and data, and how long its line is. Assumes nothing.
 use Rattle.std.specs.Prelude.{ℕ, ◌+◌, ◌*◌, ◌≡◌, List, [], ◌∷◌, ◌++◌, length, get_or, take}
 use Rattle.ihex_record.specs.Record.{read_of}
-use Rattle.ihex_record.specs.Write.{recordText}
+use Rattle.ihex_record.specs.Write.{record_text}
 use Rattle.ihex_record.specs.declared.Record.{Record}
 use Rattle.ihex_record.specs.declared.ParseResult.TheVariants.{Good}
 
@@ -38,4 +38,4 @@ item kind address d = record { kind = kind; address = address; bytes = d; size =
 
 -- and that line
 abbrev pub line_for : Item → List ℕ
-line_for x = recordText x.kind x.address x.bytes ++ (10 ∷ [])
+line_for x = record_text x.kind x.address x.bytes ++ (10 ∷ [])

@@ -21,8 +21,8 @@ pub data Bytes : List ℕ → List ℕ → Type 0 where
 -- "one LF, then one CR before it, is dropped": a line and its text
 pub data TextOf : List ℕ → List ℕ → Type 0 where
   unended : {t : List ℕ} → get_or t (length t - 1) 0 ≢ 10 → TextOf t t
-  ended-lf : {t : List ℕ} → get_or t (length t - 1) 0 ≢ 13 → TextOf (t ++ (10 ∷ [])) t
-  ended-crlf : {t : List ℕ} → TextOf (t ++ (13 ∷ 10 ∷ [])) t
+  ended_lf : {t : List ℕ} → get_or t (length t - 1) 0 ≢ 13 → TextOf (t ++ (10 ∷ [])) t
+  ended_crlf : {t : List ℕ} → TextOf (t ++ (13 ∷ 10 ∷ [])) t
 
 -- ---- rows
 
@@ -39,17 +39,17 @@ pub record Shaped (n : ℕ) : Type 0 where
 -- what a text says: a refusal, or a record with its data; b are its bytes, of which the first is "the length field"
 pub data Says : List ℕ → ParseResult → List ℕ → Type 0 where
   -- "empty or not beginning with ':'"
-  row-20 : {t : List ℕ} → get_or t 0 0 ≢ 58 → Says t NoColon []
-  row-21 : {cs : List ℕ} → (Shaped (length (58 ∷ cs)) → ⊥) → Says (58 ∷ cs) BadShape []
+  row_20 : {t : List ℕ} → get_or t 0 0 ≢ 58 → Says t NoColon []
+  row_21 : {cs : List ℕ} → (Shaped (length (58 ∷ cs)) → ⊥) → Says (58 ∷ cs) BadShape []
   -- "the position of the first bad character, counted from 0 at the colon" (L12)
-  row-22 : {cs : List ℕ} (p : ℕ) → Shaped (length (58 ∷ cs)) → p < length cs → ((v : ℕ) → Digit (get_or cs p 0) v → ⊥)
+  row_22 : {cs : List ℕ} (p : ℕ) → Shaped (length (58 ∷ cs)) → p < length cs → ((v : ℕ) → Digit (get_or cs p 0) v → ⊥)
       → ((i : ℕ) → i < p → (v : ℕ) × Digit (get_or cs i 0) v) → Says (58 ∷ cs) (BadDigit (1 + p)) []
   -- "the length field is over 32"
-  row-23 : {cs bs : List ℕ} {n : ℕ} → Shaped (length (58 ∷ cs)) → Bytes cs (n ∷ bs) → 32 < n → Says (58 ∷ cs) TooLong []
+  row_23 : {cs bs : List ℕ} {n : ℕ} → Shaped (length (58 ∷ cs)) → Bytes cs (n ∷ bs) → 32 < n → Says (58 ∷ cs) TooLong []
   -- "characters aren't 11 + 2 x the length field"
-  row-24 : {cs bs : List ℕ} {n : ℕ} → Shaped (length (58 ∷ cs)) → Bytes cs (n ∷ bs) → n ≤ 32 → length (58 ∷ cs) ≢ 11 + 2 * n → Says (58 ∷ cs) BadLength []
+  row_24 : {cs bs : List ℕ} {n : ℕ} → Shaped (length (58 ∷ cs)) → Bytes cs (n ∷ bs) → n ≤ 32 → length (58 ∷ cs) ≢ 11 + 2 * n → Says (58 ∷ cs) BadLength []
   -- "the sum of all its bytes, kept to eight bits, is not zero"
-  row-25 : {cs bs : List ℕ} {n : ℕ} → Shaped (length (58 ∷ cs)) → Bytes cs (n ∷ bs) → n ≤ 32 → length (58 ∷ cs) ≡ 11 + 2 * n → sum_of (n ∷ bs) % 256 ≢ 0
+  row_25 : {cs bs : List ℕ} {n : ℕ} → Shaped (length (58 ∷ cs)) → Bytes cs (n ∷ bs) → n ≤ 32 → length (58 ∷ cs) ≡ 11 + 2 * n → sum_of (n ∷ bs) % 256 ≢ 0
       → Says (58 ∷ cs) BadSum []
   -- a record: length, address (high first), type, data, checksum
   good : {cs d : List ℕ} {high low kind : ℕ} (check : ℕ) → Bytes cs (length d ∷ high ∷ low ∷ kind ∷ d ++ (check ∷ [])) → length d ≤ 32
@@ -59,11 +59,11 @@ pub data Says : List ℕ → ParseResult → List ℕ → Type 0 where
 -- ---- the claims
 
 -- a line is read as its text says, with its data and zeros up to 32 bytes
-unfoldable pub Line-is-read : Type 0
-Line-is-read =
+unfoldable pub LineIsRead : Type 0
+LineIsRead =
     (l t : List ℕ) (x : ParseResult) (d : List ℕ) → TextOf l t → Says t x d
     → ((read_of l).parsed ≡ x) × ((read_of l).«data» ≡ d ++ replicate (32 - length d) 0)
 
 -- and there is no other line
-unfoldable pub Every-line-says : Type 0
-Every-line-says = (l : List ℕ) → (t : List ℕ) × (x : ParseResult) × (d : List ℕ) × TextOf l t × Says t x d
+unfoldable pub EveryLineSays : Type 0
+EveryLineSays = (l : List ℕ) → (t : List ℕ) × (x : ParseResult) × (d : List ℕ) × TextOf l t × Says t x d

@@ -2,11 +2,11 @@
 use Rattle.std.specs.Prelude.{ℕ, List}
 use Rattle.ihex_record.specs.Record.{word_of}
 use Rattle.ihex_record.specs.declared.Record.{Record}
-use Rattle.uhex_grammar.specs.Grammar.{roleOf}
+use Rattle.uhex_grammar.specs.Grammar.{role_of}
 use Rattle.uhex_effects.specs.declared.Reader.{Reader}
 use Rattle.uhex_effects.specs.declared.Effect.{Effect}
 use Rattle.uhex_effects.specs.Reader.{effect_of}
 
 -- what it does, by its fields and its data
-abbrev pub recordEffect : Reader → Record → List ℕ → Effect
-recordEffect r rec d = effect_of r (roleOf r.state rec.kind rec.len) rec.address rec.len (word_of d)
+abbrev pub record_effect : Reader → Record → List ℕ → Effect
+record_effect r rec d = effect_of r (role_of r.state rec.kind rec.len) rec.address rec.len (word_of d)

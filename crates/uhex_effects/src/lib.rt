@@ -5,7 +5,7 @@ mod marks;
 pub mod record_effect;
 
 ghost use Rattle.std.specs.Prelude.{◌≡◌};
-ghost use Rattle.uhex_effects.specs.Reader.{fresh_of, withState, withUpper, withSection, withData, moved_to};
+ghost use Rattle.uhex_effects.specs.Reader.{fresh_of, with_state, with_upper, with_section, with_data, moved_to};
 
 use uhex_grammar::{Answer, Boards, ReaderState};
 
@@ -53,7 +53,7 @@ impl Reader {
     }
 
     pub fn with_state(self, state: ReaderState) -> Reader
-        ensures { result ≡ withState self state }
+        ensures { result ≡ with_state self state }
     {
         let sections_seen = self.sections_seen;
         let data_seen = self.data_seen;
@@ -68,14 +68,14 @@ impl Reader {
     }
 
     pub fn with_upper(mut self, upper: u16) -> Reader
-        ensures { result ≡ withUpper self upper }
+        ensures { result ≡ with_upper self upper }
     {
         self.upper = upper;
         self
     }
 
     pub fn with_section(mut self, board: u16) -> Reader
-        ensures { result ≡ withSection self board }
+        ensures { result ≡ with_section self board }
     {
         let sections_seen = self.sections_seen;
         self.sections_seen = sections_seen.with(board);
@@ -83,7 +83,7 @@ impl Reader {
     }
 
     pub fn with_data(mut self, board: u16) -> Reader
-        ensures { result ≡ withData self board }
+        ensures { result ≡ with_data self board }
     {
         let data_seen = self.data_seen;
         self.data_seen = data_seen.with(board);

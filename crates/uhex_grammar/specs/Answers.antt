@@ -50,23 +50,23 @@ position_of Ended = 0
 position_of FileTooLong = 0
 
 -- "20 to 30 and 36 make the reader failed"
-abbrev pub isFailure : Answer → Bool
-isFailure a = leb 20 (number_of a) && leb (number_of a) 30 || eqb (number_of a) 36
+abbrev pub is_failure : Answer → Bool
+is_failure a = leb 20 (number_of a) && leb (number_of a) 30 || eqb (number_of a) 36
 
 -- "22 and a position outside 1 to 520" (02)
-abbrev pub badPosition : Answer → Bool
-badPosition a = eqb (number_of a) 22 && not (leb 1 (position_of a) && leb (position_of a) 520)
+abbrev pub bad_position : Answer → Bool
+bad_position a = eqb (number_of a) 22 && not (leb 1 (position_of a) && leb (position_of a) 520)
 
 -- a failure that a reader may remember
-unfoldable pub isKept : Answer → Bool
-isKept a = isFailure a && not (badPosition a)
+unfoldable pub is_kept : Answer → Bool
+is_kept a = is_failure a && not (bad_position a)
 
 -- the answers of rows 20 to 25; a good record gets none of them, and nothing asks for its
-abbrev pub refusalOf : ParseResult → Answer
-refusalOf parsed.NoColon = NoColon
-refusalOf parsed.BadShape = BadShape
-refusalOf (parsed.BadDigit p) = BadDigit p
-refusalOf parsed.TooLong = TooLong
-refusalOf parsed.BadLength = BadLength
-refusalOf parsed.BadSum = BadSum
-refusalOf (parsed.Good rec) = NoColon
+abbrev pub refusal_of : ParseResult → Answer
+refusal_of parsed.NoColon = NoColon
+refusal_of parsed.BadShape = BadShape
+refusal_of (parsed.BadDigit p) = BadDigit p
+refusal_of parsed.TooLong = TooLong
+refusal_of parsed.BadLength = BadLength
+refusal_of parsed.BadSum = BadSum
+refusal_of (parsed.Good rec) = NoColon

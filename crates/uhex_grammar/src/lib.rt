@@ -2,8 +2,8 @@
 pub mod roles;
 
 ghost use Rattle.std.specs.Prelude.{◌≡◌};
-ghost use Rattle.uhex_grammar.specs.Answers.{number_of, position_of, isFailure, isKept, refusalOf};
-ghost use Rattle.uhex_grammar.specs.Boards.{noBoards, hasBoard, withBoard, bothBoards};
+ghost use Rattle.uhex_grammar.specs.Answers.{number_of, position_of, is_failure, is_kept, refusal_of};
+ghost use Rattle.uhex_grammar.specs.Boards.{no_boards, has_board, with_board, both_boards};
 
 use ihex_record::ParseResult;
 
@@ -86,7 +86,7 @@ impl Boards {
     pub const V2: u16 = 0x9903;
 
     pub fn none() -> Boards
-        ensures { result ≡ noBoards }
+        ensures { result ≡ no_boards }
     {
         Boards {
             v1: false,
@@ -95,14 +95,14 @@ impl Boards {
     }
 
     pub fn has(self, board: u16) -> bool
-        ensures { result ≡ hasBoard self board }
+        ensures { result ≡ has_board self board }
     {
         ((board == Boards::V1) & self.v1) | ((board == Boards::V2) & self.v2)
     }
 
     // These and a further one; a board that is neither adds nothing.
     pub fn with(self, board: u16) -> Boards
-        ensures { result ≡ withBoard self board }
+        ensures { result ≡ with_board self board }
     {
         Boards {
             v1: self.v1 | (board == Boards::V1),
@@ -111,7 +111,7 @@ impl Boards {
     }
 
     pub fn both(self) -> bool
-        ensures { result ≡ bothBoards self }
+        ensures { result ≡ both_boards self }
     {
         self.v1 & self.v2
     }
@@ -173,7 +173,7 @@ impl Answer {
 
     // One of the answers that make a reader failed.
     pub fn is_failure(self) -> bool
-        ensures { result ≡ isFailure self }
+        ensures { result ≡ is_failure self }
     {
         let n = self.number();
         ((20 <= n) & (n <= 30)) | (n == 36)
@@ -181,7 +181,7 @@ impl Answer {
 
     // A failure that a reader may remember: a bad digit's position is 1 to 520.
     pub fn is_kept(self) -> bool
-        ensures { result ≡ isKept self }
+        ensures { result ≡ is_kept self }
     {
         let n = self.number();
         let p = self.position();
@@ -191,8 +191,8 @@ impl Answer {
 
 // The answer to a line whose text is refused.
 pub fn refusal(parsed: ParseResult) -> Answer
-    ensures value { result ≡ refusalOf parsed }
-    ensures number { number_of result ≡ number_of (refusalOf parsed) }
+    ensures value { result ≡ refusal_of parsed }
+    ensures number { number_of result ≡ number_of (refusal_of parsed) }
 {
     match parsed {
         ParseResult::Good(_) => Answer::NoColon,

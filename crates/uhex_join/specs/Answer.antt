@@ -9,15 +9,15 @@ use Rattle.uhex_join.specs.declared.answers.JoinAnswer.{JoinAnswer}
 use Rattle.uhex_join.specs.declared.answers.JoinAnswer.TheVariants.{Written, Refused}
 
 -- 01's number of a refusal; a file that is written is none, and has 0
-abbrev pub joinedNumber : JoinAnswer → ℕ
-joinedNumber (Written n) = 0
-joinedNumber (Refused r) = number_of r.answer
+abbrev pub joined_number : JoinAnswer → ℕ
+joined_number (Written n) = 0
+joined_number (Refused r) = number_of r.answer
 
 -- of a board's file, at a line; 0 and 0 for the output
 abbrev pub refusal : ℕ → ℕ → Answer → Refusal
 refusal board k a = record { board = board; line = k; answer = a }
 
 -- the refusal of a board's file; of one that is fine nothing asks for it
-abbrev pub refusedBy : ℕ → Verdict → JoinAnswer
-refusedBy board Fine = Written 0
-refusedBy board (Bad k a) = Refused (refusal board k a)
+abbrev pub refused_by : ℕ → Verdict → JoinAnswer
+refused_by board Fine = Written 0
+refused_by board (Bad k a) = Refused (refusal board k a)

@@ -1,7 +1,7 @@
 // What comes of two Intel Hex files that are made one: the answer, and it as one number.
 ghost use Rattle.std.specs.Prelude.{◌≡◌, ◌≤◌};
-ghost use Rattle.uhex_join.specs.Answer.{joinedNumber, refusedBy};
-ghost use Rattle.uhex_join.specs.Result.{boardCode, refusalResult, joinedResult};
+ghost use Rattle.uhex_join.specs.Answer.{joined_number, refused_by};
+ghost use Rattle.uhex_join.specs.Result.{board_code, refusal_result, joined_result};
 
 use ihex_file::Verdict;
 use uhex_grammar::{Answer, Boards};
@@ -25,7 +25,7 @@ pub enum JoinAnswer {
 impl JoinAnswer {
     // The number of a refusal, and 0 for a file that is written.
     pub fn number(self) -> u8
-        ensures { result ≡ joinedNumber self }
+        ensures { result ≡ joined_number self }
     {
         match self {
             JoinAnswer::Written(_) => 0,
@@ -39,7 +39,7 @@ impl JoinAnswer {
 
 // The refusal of a board's file; nothing asks for it of one that is fine.
 pub(crate) fn refused(board: u16, verdict: Verdict) -> JoinAnswer
-    ensures { result ≡ refusedBy board verdict }
+    ensures { result ≡ refused_by board verdict }
 {
     match verdict {
         Verdict::Fine => JoinAnswer::Written(0),
@@ -53,7 +53,7 @@ pub(crate) fn refused(board: u16, verdict: Verdict) -> JoinAnswer
 
 // 1 for V1, 2 for V2, 0 for any other.
 fn board_code(board: u16) -> u64
-    ensures value { result ≡ boardCode board }
+    ensures value { result ≡ board_code board }
     ensures small { result ≤ 2 }
 {
     if board == Boards::V1 {
@@ -67,7 +67,7 @@ fn board_code(board: u16) -> u64
 
 // A refusal as one number.
 fn refusal_result(refusal: Refusal) -> u64
-    ensures { result ≡ refusalResult refusal }
+    ensures { result ≡ refusal_result refusal }
 {
     let answer = refusal.answer;
     let number = answer.number() as u64;
@@ -79,7 +79,7 @@ fn refusal_result(refusal: Refusal) -> u64
 
 // What comes of two files as one number.
 pub fn joined_result(joined: JoinAnswer) -> u64
-    ensures { result ≡ joinedResult joined }
+    ensures { result ≡ joined_result joined }
 {
     match joined {
         JoinAnswer::Written(n) => 4294967296 * (n as u64),

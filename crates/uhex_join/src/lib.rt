@@ -4,9 +4,9 @@ mod sections;
 
 ghost use Rattle.std.specs.Prelude.{◌≡◌, ◌≤◌, length};
 ghost use Rattle.ihex_data.specs.Pieces.{pieces_of};
-ghost use Rattle.ihex_data.specs.Lines.{firstUpper, dataLength};
-ghost use Rattle.uhex_join.specs.Text.{sectionSize, fileText};
-ghost use Rattle.uhex_join.specs.Join.{joinCall, joinNumber, second_of, Fits, written_of, join_of};
+ghost use Rattle.ihex_data.specs.Lines.{first_upper, data_length};
+ghost use Rattle.uhex_join.specs.Text.{section_size, file_text};
+ghost use Rattle.uhex_join.specs.Join.{join_call, join_number, second_of, Fits, written_of, join_of};
 ghost use Rattle.laws.specs.Numbered.{numbered};
 ghost use Rattle.laws.specs.Over.{over};
 
@@ -18,7 +18,7 @@ use uhex_grammar::{Answer, Boards};
 // How many characters a section has whose data has so many.
 fn section_len(body: usize) -> usize
     requires { body ≤ 1000000000 }
-    ensures { result ≡ sectionSize body }
+    ensures { result ≡ section_size body }
 {
     let n = 32 + body;
     n + (12 + ihex_write::filling::missing_after(n))
@@ -26,9 +26,9 @@ fn section_len(body: usize) -> usize
 
 // Both sections and the 01, for which there is room.
 fn put_file(out: &mut [u8], v1: &[u8], v2: &[u8], first: usize, second: usize)
-    requires first_value { (first ≡ firstUpper (pieces_of v1.now)) × (second ≡ firstUpper (pieces_of v2.now)) }
-    requires room { Fits (fileText (pieces_of v1.now) (pieces_of v2.now)) out.old }
-    ensures { out.new ≡ over out.old 0 (fileText (pieces_of v1.now) (pieces_of v2.now)) }
+    requires first_value { (first ≡ first_upper (pieces_of v1.now)) × (second ≡ first_upper (pieces_of v2.now)) }
+    requires room { Fits (file_text (pieces_of v1.now) (pieces_of v2.now)) out.old }
+    ensures { out.new ≡ over out.old 0 (file_text (pieces_of v1.now) (pieces_of v2.now)) }
 {
     let middle = crate::sections::put_v1(out, first, v1);
     let end = middle + crate::sections::put_v2(out, middle, second, v2);
@@ -44,9 +44,9 @@ fn write_file(
     second: usize,
     total: usize,
 ) -> JoinAnswer
-    requires first_value { (first ≡ firstUpper (pieces_of v1.now)) × (second ≡ firstUpper (pieces_of v2.now)) }
-    requires total { total ≡ length (fileText (pieces_of v1.now) (pieces_of v2.now)) }
-    ensures { joinCall result out.new ≡ written_of (fileText (pieces_of v1.now) (pieces_of v2.now)) out.old }
+    requires first_value { (first ≡ first_upper (pieces_of v1.now)) × (second ≡ first_upper (pieces_of v2.now)) }
+    requires total { total ≡ length (file_text (pieces_of v1.now) (pieces_of v2.now)) }
+    ensures { join_call result out.new ≡ written_of (file_text (pieces_of v1.now) (pieces_of v2.now)) out.old }
 {
     if (Plain::FILE < total) | (out.len() < total) {
         return JoinAnswer::Refused(Refusal {
@@ -61,8 +61,8 @@ fn write_file(
 
 // V1's file is fine: V2's is read, and where it is fine too the output is written.
 fn join_fine(v1: &[u8], v2: &[u8], out: &mut [u8], first: usize, len: usize) -> JoinAnswer
-    requires { (first ≡ firstUpper (pieces_of v1.now)) × (len ≡ dataLength (pieces_of v1.now)) × (len ≤ 1000000000) }
-    ensures { joinCall result out.new ≡ second_of v1.now v2.now out.old }
+    requires { (first ≡ first_upper (pieces_of v1.now)) × (len ≡ data_length (pieces_of v1.now)) × (len ≤ 1000000000) }
+    ensures { join_call result out.new ≡ second_of v1.now v2.now out.old }
 {
     let b = ihex_data::scan_file(v2);
     let second = b.verdict;
@@ -75,7 +75,7 @@ fn join_fine(v1: &[u8], v2: &[u8], out: &mut [u8], first: usize, len: usize) -> 
 
 // Writes one Universal Hex file from a plain Intel Hex file for V1 and one for V2.
 pub fn join(v1: &[u8], v2: &[u8], out: &mut [u8]) -> JoinAnswer
-    ensures { numbered joinNumber (joinCall result out.new) ≡ numbered joinNumber (join_of v1.now v2.now out.old) }
+    ensures { numbered join_number (join_call result out.new) ≡ numbered join_number (join_of v1.now v2.now out.old) }
 {
     let a = ihex_data::scan_file(v1);
     let first = a.verdict;

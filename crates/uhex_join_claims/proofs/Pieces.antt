@@ -14,5 +14,5 @@ pub record Piece (s : Store) : Type 0 where
   pub bytes : Bytes s.bytes
 
 pub data Pieces : List Store → Type 0 where
-  no-piece : Pieces []
-  next-piece : {s : Store} {ss : List Store} → Piece s → Pieces ss → Pieces (s ∷ ss)
+  no_piece : Pieces []
+  next_piece : {s : Store} {ss : List Store} → Piece s → Pieces ss → Pieces (s ∷ ss)

@@ -18,21 +18,21 @@ sum_of [] = 0
 sum_of (b ∷ l) = b + sum_of l
 
 -- length, address (high first), type, data
-abbrev pub bytesIn : Item → List ℕ
-bytesIn x = length x.bytes ∷ x.address / 256 ∷ x.address % 256 ∷ x.kind ∷ x.bytes
+abbrev pub bytes_in : Item → List ℕ
+bytes_in x = length x.bytes ∷ x.address / 256 ∷ x.address % 256 ∷ x.kind ∷ x.bytes
 
 -- a record's line: the colon, those bytes, the one that makes the sum of all a multiple of 256, and LF
 pub record LineOf (x : Item) (l : List ℕ) : Type 0 where
   pub check : ℕ
   pub byte : check < 256
-  pub sums : (sum_of (bytesIn x) + check) % 256 ≡ 0
-  pub text : l ≡ (58 ∷ pairs (bytesIn x ++ (check ∷ []))) ++ (10 ∷ [])
+  pub sums : (sum_of (bytes_in x) + check) % 256 ≡ 0
+  pub text : l ≡ (58 ∷ pairs (bytes_in x ++ (check ∷ []))) ++ (10 ∷ [])
 
 -- line by line
 pub data Lines : List Item → List (List ℕ) → Type 0 where
   no_line : Lines [] []
-  next-line : {x : Item} {l : List ℕ} {xs : List Item} {ls : List (List ℕ)} → LineOf x l → Lines xs ls → Lines (x ∷ xs) (l ∷ ls)
+  next_line : {x : Item} {l : List ℕ} {xs : List Item} {ls : List (List ℕ)} → LineOf x l → Lines xs ls → Lines (x ∷ xs) (l ∷ ls)
 
 -- of every output, and its records
-unfoldable pub Joined-characters : Type 0
-Joined-characters = EveryOutput (λ a b ls. (t : TwoSections a b ls) → Lines t.items ls)
+unfoldable pub JoinedCharacters : Type 0
+JoinedCharacters = EveryOutput (λ a b ls. (t : TwoSections a b ls) → Lines t.items ls)

@@ -1,7 +1,7 @@
 -- The form of a section that is written (02, "One file from two"), by its records. Assumes nothing.
 use Rattle.std.specs.Prelude.{ℕ, ◌+◌, ◌*◌, ◌/◌, ◌%◌, ◌≤◌, ◌<◌, ◌≡◌, ◌≢◌, List, [], ◌∷◌, ◌++◌, replicate}
 use Rattle.uhex_claims.specs.Items.{Item, item}
-use Rattle.uhex_claims.specs.Whole.{dataTypeOf, Section}
+use Rattle.uhex_claims.specs.Whole.{data_type_of, Section}
 
 -- "other address fields are 0000": a record that holds a number of 16 bits, high first
 abbrev pub word : ℕ → ℕ → Item
@@ -26,13 +26,13 @@ pub record Form (board : ℕ) (s : Section) : Type 0 where
   pub records : List Item
   pub opening : s.opening ≡ word 0x04 upper
   pub low : address < 65536
-  pub uppers : UppersAsNeeded (dataTypeOf board) upper records
+  pub uppers : UppersAsNeeded (data_type_of board) upper records
   -- "0A holds the board's two bytes"
   pub naming : s.naming ≡ word 0x0A board
   -- "filled with 0C records of 26 bytes of 0xFF", each of 64 characters; "the 0B takes the rest as 0xFF", two characters a byte
   pub fillers : ℕ
   pub rest : ℕ
-  pub body : s.body ≡ (item (dataTypeOf board) address bytes ∷ records) ++ replicate fillers (filler 0x0C 26)
+  pub body : s.body ≡ (item (data_type_of board) address bytes ∷ records) ++ replicate fillers (filler 0x0C 26)
   pub closing : s.closing ≡ filler 0x0B rest
   -- to the next multiple of 512; "while more than 64 characters are missing beside an empty 0B": after the last 0C no more than 64 are, before
   -- it more than 64 were

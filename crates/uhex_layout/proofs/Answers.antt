@@ -9,37 +9,37 @@ use lib.Dec.{ltb, leb, eqb}
 use lib.ListN.{length, get_or, get_or-eq_default}
 use borrow.Author.Tests.{lt-leb, ltb-true, ltb-false, eqb-true, ne_eqb}
 use Rattle.laws.proofs.Tests.{split, or_left, or_right, and_left, and_right}
-use Rattle.uhex_grammar.specs.Answers.{number_of, position_of, isFailure, badPosition, isKept}
+use Rattle.uhex_grammar.specs.Answers.{number_of, position_of, is_failure, bad_position, is_kept}
 use Rattle.uhex_grammar.specs.declared.Answer.{Answer}
 use Rattle.uhex_grammar.specs.declared.Answer.TheVariants.{BadReader, BadImage, NoColon, BadShape, BadDigit, TooLong, BadLength, BadSum, OutOfPlace, Unaligned, Repeated, Crosses, MissingBoard, AfterEnd, Outside, Stored, Passed, Ended, FileTooLong}
-use Rattle.uhex_layout.specs.Readers.{allAnswers, answerFrom}
+use Rattle.uhex_layout.specs.Readers.{all_answers, answer_from}
 
 -- ---- a number that is no answer
 
 abbrev pub none : ℕ → Bool
 none n = ltb n 18 || ltb 36 n
 
-pub answer-low : (n : ℕ) → none n ≡ false → 18 ≤ n
-answer-low n e = ltb-false n 18 (or_left (ltb n 18) (ltb 36 n) e)
+pub answer_low : (n : ℕ) → none n ≡ false → 18 ≤ n
+answer_low n e = ltb-false n 18 (or_left (ltb n 18) (ltb 36 n) e)
 
-pub answer-high : (n : ℕ) → none n ≡ false → n - 18 < 19
-answer-high n e =
+pub answer_high : (n : ℕ) → none n ≡ false → n - 18 < 19
+answer_high n e =
     let h : n ≤ 36 = ltb-false 36 n (or_right (ltb n 18) (ltb 36 n) e) in
     omega arith
 
-low-none : (n p : ℕ) → n < 18 → answerFrom n p ≡ BadReader
-unfolding answerFrom allAnswers
-low-none n p h = let z : n - 18 ≡ 0 = omega arith in rw z
+low_none : (n p : ℕ) → n < 18 → answer_from n p ≡ BadReader
+unfolding answer_from all_answers
+low_none n p h = let z : n - 18 ≡ 0 = omega arith in rw z
 
-high-none : (n p : ℕ) → 36 < n → answerFrom n p ≡ BadReader
-unfolding answerFrom allAnswers
-high-none n p h =
-    let past : length (allAnswers p) ≤ n - 18 = omega arith in
-    get_or-eq_default (allAnswers p) BadReader past
+high_none : (n p : ℕ) → 36 < n → answer_from n p ≡ BadReader
+unfolding answer_from all_answers
+high_none n p h =
+    let past : length (all_answers p) ≤ n - 18 = omega arith in
+    get_or-eq_default (all_answers p) BadReader past
 
-pub answer-none : (n p : ℕ) → none n ≡ true → answerFrom n p ≡ BadReader
-answer-none n p e =
-    split (ltb n 18) (λ t. low-none n p (ltb-true n 18 t)) (λ f. high-none n p (ltb-true 36 n (rw f at e)))
+pub answer_none : (n p : ℕ) → none n ≡ true → answer_from n p ≡ BadReader
+answer_none n p e =
+    split (ltb n 18) (λ t. low_none n p (ltb-true n 18 t)) (λ f. high_none n p (ltb-true 36 n (rw f at e)))
 
 -- ---- a number from 18 to 36
 
@@ -48,23 +48,23 @@ numbered : ℕ → List Answer → Bool
 numbered n [] = true
 numbered n (a ∷ l) = eqb (number_of a) n && numbered (n + 1) l
 
-numbered-at : (l : List Answer) (n k : ℕ) → numbered n l ≡ true → k < length l → number_of (get_or l k BadReader) ≡ n + k
+numbered_at : (l : List Answer) (n k : ℕ) → numbered n l ≡ true → k < length l → number_of (get_or l k BadReader) ≡ n + k
 unfolding numbered
-numbered-at [] n k e h = absurd (not-suc-le-zero h)
-numbered-at (a ∷ l) n zero e h =
+numbered_at [] n k e h = absurd (not-suc-le-zero h)
+numbered_at (a ∷ l) n zero e h =
     let x = eqb-true (number_of a) n (and_left _ (numbered (n + 1) l) e) in
     omega arith
-numbered-at (a ∷ l) n (suc k) e h =
-    numbered-at l (n + 1) k (and_right (eqb (number_of a) n) _ e) (le_of_suc-le-suc h) ∙ omega arith
+numbered_at (a ∷ l) n (suc k) e h =
+    numbered_at l (n + 1) k (and_right (eqb (number_of a) n) _ e) (le_of_suc-le-suc h) ∙ omega arith
 
 -- a number that is read and written again: the failures from 20 to 30 and 36 with it
-pub number-back : (n p : ℕ) → 18 ≤ n → n ≤ 36 → number_of (answerFrom n p) ≡ n
-unfolding answerFrom allAnswers numbered
-number-back n p h l = numbered-at (allAnswers p) 18 (n - 18) refl (omega arith) ∙ omega arith
+pub number_back : (n p : ℕ) → 18 ≤ n → n ≤ 36 → number_of (answer_from n p) ≡ n
+unfolding answer_from all_answers numbered
+number_back n p h l = numbered_at (all_answers p) 18 (n - 18) refl (omega arith) ∙ omega arith
 
 -- an answer that is written and read again
-pub answer_back : (a : Answer) → answerFrom (number_of a) (position_of a) ≡ a
-unfolding answerFrom allAnswers
+pub answer_back : (a : Answer) → answer_from (number_of a) (position_of a) ≡ a
+unfolding answer_from all_answers
 answer_back BadReader = refl
 answer_back BadImage = refl
 answer_back NoColon = refl
@@ -88,43 +88,43 @@ answer_back FileTooLong = refl
 -- ---- a failure that a reader may remember
 
 -- "20 to 30 or 36"
-abbrev pub failureNumber : ℕ → Bool
-failureNumber n = leb 20 n && leb n 30 || eqb n 36
+abbrev pub failure_number : ℕ → Bool
+failure_number n = leb 20 n && leb n 30 || eqb n 36
 
-pub failure-from : (n p : ℕ) → isFailure (answerFrom n p) ≡ failureNumber n
-failure-from n p =
+pub failure_from : (n p : ℕ) → is_failure (answer_from n p) ≡ failure_number n
+failure_from n p =
     split (none n)
     (λ t.
-    rw (answer-none n p t)
+    rw (answer_none n p t)
     (split (ltb n 18)
     (λ b. let h = ltb-true n 18 b in rw (lt-leb 20 n (omega arith), ne_eqb n 36 (λ e. omega arith)))
     (λ b.
     let h = ltb-true 36 n (rw b at t) in
     rw (lt-leb n 30 (omega arith), ne_eqb n 36 (λ e. omega arith)) (rw (and-false (leb 20 n))))))
     (λ f.
-    let h = answer-high n f in
-    ap failureNumber (number-back n p (answer-low n f) (omega arith)))
+    let h = answer_high n f in
+    ap failure_number (number_back n p (answer_low n f) (omega arith)))
 
 -- with a position from 1 to 520 by 22
-abbrev pub keptNumber : ℕ → ℕ → Bool
-keptNumber n p = failureNumber n && not (eqb n 22 && not (leb 1 p && leb p 520))
+abbrev pub kept_number : ℕ → ℕ → Bool
+kept_number n p = failure_number n && not (eqb n 22 && not (leb 1 p && leb p 520))
 
-not-22 : (n p : ℕ) → eqb n 22 ≡ false → eqb (number_of (answerFrom n p)) 22 ≡ false
-not-22 n p z =
+not_22 : (n p : ℕ) → eqb n 22 ≡ false → eqb (number_of (answer_from n p)) 22 ≡ false
+not_22 n p z =
     split (none n)
-    (λ t. rw (answer-none n p t))
-    (λ f. let h = answer-high n f in rw (number-back n p (answer-low n f) (omega arith)) z)
+    (λ t. rw (answer_none n p t))
+    (λ f. let h = answer_high n f in rw (number_back n p (answer_low n f) (omega arith)) z)
 
-at-22 : (p : ℕ) → isFailure (answerFrom 22 p) && not (badPosition (answerFrom 22 p)) ≡ keptNumber 22 p
-unfolding answerFrom allAnswers
-at-22 p = refl
+at_22 : (p : ℕ) → is_failure (answer_from 22 p) && not (bad_position (answer_from 22 p)) ≡ kept_number 22 p
+unfolding answer_from all_answers
+at_22 p = refl
 
-pub kept_from : (n p : ℕ) → isKept (answerFrom n p) ≡ keptNumber n p
-unfolding isKept
+pub kept_from : (n p : ℕ) → is_kept (answer_from n p) ≡ kept_number n p
+unfolding is_kept
 kept_from n p =
     split (eqb n 22)
-    (λ y. let e : n ≡ 22 = eqb-true n 22 y in rw e (at-22 p))
-    (λ z. rw (failure-from n p, not-22 n p z, z))
+    (λ y. let e : n ≡ 22 = eqb-true n 22 y in rw e (at_22 p))
+    (λ z. rw (failure_from n p, not_22 n p z, z))
 
 -- ---- a position is the one that was handed in, or none
 
@@ -132,12 +132,12 @@ AllMost : ℕ → List Answer → Type 0
 AllMost p [] = 0 ≤ p
 AllMost p (a ∷ l) = (position_of a ≤ p) × AllMost p l
 
-most-at : (p : ℕ) (l : List Answer) (k : ℕ) → AllMost p l → position_of (get_or l k BadReader) ≤ p
+most_at : (p : ℕ) (l : List Answer) (k : ℕ) → AllMost p l → position_of (get_or l k BadReader) ≤ p
 unfolding AllMost
-most-at p [] k h = h
-most-at p (a ∷ l) zero h = h.0
-most-at p (a ∷ l) (suc k) h = most-at p l k h.1
+most_at p [] k h = h
+most_at p (a ∷ l) zero h = h.0
+most_at p (a ∷ l) (suc k) h = most_at p l k h.1
 
-pub position-most : (n p : ℕ) → position_of (answerFrom n p) ≤ p
-unfolding answerFrom allAnswers AllMost
-position-most n p = most-at p (allAnswers p) (n - 18) (omega arith)
+pub position_most : (n p : ℕ) → position_of (answer_from n p) ≤ p
+unfolding answer_from all_answers AllMost
+position_most n p = most_at p (all_answers p) (n - 18) (omega arith)

@@ -4,7 +4,7 @@ pub mod reading;
 mod states;
 
 ghost use Rattle.std.specs.Prelude.{◌≡◌};
-ghost use Rattle.uhex_layout.specs.Readers.{stateCodeOf, flagOf, readerBytes, readerWritten};
+ghost use Rattle.uhex_layout.specs.Readers.{state_code_of, flag_of, reader_bytes, reader_written};
 
 use uhex_effects::Reader;
 use uhex_grammar::ReaderState;
@@ -21,7 +21,7 @@ struct StateCode {
 }
 
 fn state_code(state: ReaderState) -> StateCode
-    ensures { result ≡ stateCodeOf state }
+    ensures { result ≡ state_code_of state }
 {
     match state {
         ReaderState::Between => StateCode {
@@ -61,14 +61,14 @@ fn state_code(state: ReaderState) -> StateCode
 }
 
 fn flag(on: bool) -> u8
-    ensures { result ≡ flagOf on }
+    ensures { result ≡ flag_of on }
 {
     if on { 1 } else { 0 }
 }
 
 // The bytes that a reader is.
 fn reader_bytes(reader: Reader) -> [u8; READER]
-    ensures { result ≡ readerBytes reader }
+    ensures { result ≡ reader_bytes reader }
 {
     let own = reader.own;
     let upper = reader.upper;
@@ -100,7 +100,7 @@ fn reader_bytes(reader: Reader) -> [u8; READER]
 
 // Writes a reader, where there are bytes for it.
 pub fn write_reader(bytes: &mut [u8], reader: Reader)
-    ensures { bytes.new ≡ readerWritten bytes.old reader }
+    ensures { bytes.new ≡ reader_written bytes.old reader }
 {
     if bytes.len() != READER {
         return;

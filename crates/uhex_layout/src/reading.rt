@@ -1,6 +1,6 @@
 // A hex reader from its bytes. Every byte slice is read; `readers` has the layout.
 ghost use Rattle.std.specs.Prelude.{◌≡◌, ◌+◌, ◌*◌, length};
-ghost use Rattle.uhex_layout.specs.Readers.{boardsFrom, stateAt, fieldsFrom, readerFrom};
+ghost use Rattle.uhex_layout.specs.Readers.{boards_from, state_at, fields_from, reader_from};
 
 use uhex_effects::Reader;
 use uhex_grammar::{Boards, ReaderState};
@@ -17,7 +17,7 @@ fn joined(low: u8, high: u8) -> u16
 
 // Of V1 and of V2, each a flag.
 fn boards(v1: u8, v2: u8) -> Boards
-    ensures { result ≡ boardsFrom v1 v2 }
+    ensures { result ≡ boards_from v1 v2 }
 {
     Boards {
         v1: v1 != 0,
@@ -28,7 +28,7 @@ fn boards(v1: u8, v2: u8) -> Boards
 // Where a reader of 16 bytes stands.
 fn state_at(bytes: &[u8]) -> ReaderState
     requires { length bytes.now ≡ 16 }
-    ensures { result ≡ stateAt bytes.now }
+    ensures { result ≡ state_at bytes.now }
 {
     let half = joined(bytes[10], bytes[11]);
     crate::states::state_from(bytes[8], bytes[9], half)
@@ -37,7 +37,7 @@ fn state_at(bytes: &[u8]) -> ReaderState
 // The reader that 16 bytes are.
 fn fields(bytes: &[u8]) -> Reader
     requires { length bytes.now ≡ 16 }
-    ensures { result ≡ fieldsFrom bytes.now }
+    ensures { result ≡ fields_from bytes.now }
 {
     Reader {
         own: joined(bytes[0], bytes[1]),
@@ -51,7 +51,7 @@ fn fields(bytes: &[u8]) -> Reader
 
 // The reader that bytes are.
 pub fn read_reader(bytes: &[u8]) -> Reader
-    ensures { result ≡ readerFrom bytes.now }
+    ensures { result ≡ reader_from bytes.now }
 {
     if bytes.len() != READER {
         return Reader::fresh(0);

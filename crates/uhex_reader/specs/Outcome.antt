@@ -8,9 +8,9 @@ use Rattle.uhex_grammar.specs.declared.ReaderState.TheVariants.{Failed}
 use Rattle.uhex_effects.specs.declared.Reader.{Reader}
 use Rattle.uhex_effects.specs.declared.Effect.{Effect}
 use Rattle.uhex_effects.specs.declared.Effect.TheVariants.{Fails, Passes, Stores, Ends}
-use Rattle.uhex_effects.specs.Reader.{withState, moved_to}
+use Rattle.uhex_effects.specs.Reader.{with_state, moved_to}
 use Rattle.uhex_reader.specs.declared.replies.Reply.{Reply}
-pub use Rattle.uhex_effects.specs.Effect.{recordEffect}
+pub use Rattle.uhex_effects.specs.Effect.{record_effect}
 
 -- the next reader and the answer, as the code hands them back
 abbrev pub reply : Reader → Answer → Reply
@@ -23,16 +23,16 @@ pub record LineOutcome : Type 0 where
   pub image : List ℕ
 
 -- all of it as one value
-abbrev pub lineOutcome : Reader → Answer → List ℕ → LineOutcome
-lineOutcome r a img = record { reader = r; answer = a; image = img }
+abbrev pub line_outcome : Reader → Answer → List ℕ → LineOutcome
+line_outcome r a img = record { reader = r; answer = a; image = img }
 
 -- "20 to 30 and 36 make the reader failed and store nothing"
-abbrev pub failedBy : Answer → Reader → Reader
-failedBy a r = withState r (Failed (record { answer = a }))
+abbrev pub failed_by : Answer → Reader → Reader
+failed_by a r = with_state r (Failed (record { answer = a }))
 
 -- a line with one of these answers
 abbrev pub failing : Reader → Answer → List ℕ → LineOutcome
-failing r a img = lineOutcome (failedBy a r) a img
+failing r a img = line_outcome (failed_by a r) a img
 
 -- ---- a good record, its fields and its data
 
@@ -51,20 +51,20 @@ stored_at at n b img = cond (ltb (length img) (at + n)) img (over img at (take n
 -- own data, of a line that ends at offset e
 unfoldable pub storing : Reader → Record → List ℕ → ℕ → List ℕ → LineOutcome
 storing r rec d e img =
-    cond (outside r rec img) (lineOutcome (moved_to r e) answer.Outside img)
-    (lineOutcome (moved_to r e) answer.Stored (over img (address_of r rec) (take rec.len d)))
+    cond (outside r rec img) (line_outcome (moved_to r e) answer.Outside img)
+    (line_outcome (moved_to r e) answer.Stored (over img (address_of r rec) (take rec.len d)))
 
 -- "Only 32 to 35 move the offset, by the line as handed, ending included": to e
-unfoldable pub effectOutcome : Reader → Record → List ℕ → ℕ → List ℕ → Effect → LineOutcome
-effectOutcome r rec d e img (Fails a) = failing r a img
-effectOutcome r rec d e img (Passes q) = lineOutcome (moved_to q e) answer.Passed img
-effectOutcome r rec d e img (Stores q) = storing q rec d e img
-effectOutcome r rec d e img (Ends q) = lineOutcome (moved_to q e) answer.Ended img
+unfoldable pub effect_outcome : Reader → Record → List ℕ → ℕ → List ℕ → Effect → LineOutcome
+effect_outcome r rec d e img (Fails a) = failing r a img
+effect_outcome r rec d e img (Passes q) = line_outcome (moved_to q e) answer.Passed img
+effect_outcome r rec d e img (Stores q) = storing q rec d e img
+effect_outcome r rec d e img (Ends q) = line_outcome (moved_to q e) answer.Ended img
 
 -- rows 26 to 30 and 32 to 35
-unfoldable pub recordOutcome : Reader → Record → List ℕ → ℕ → List ℕ → LineOutcome
-recordOutcome r rec d e img = effectOutcome r rec d e img (recordEffect r rec d)
+unfoldable pub record_outcome : Reader → Record → List ℕ → ℕ → List ℕ → LineOutcome
+record_outcome r rec d e img = effect_outcome r rec d e img (record_effect r rec d)
 
 -- the same of any record that is handed in: no line has one of more than 32 bytes
-abbrev pub boundedOutcome : Reader → Record → List ℕ → ℕ → List ℕ → LineOutcome
-boundedOutcome r rec d e img = cond (leb rec.len 32) (recordOutcome r rec d e img) (failing r answer.TooLong img)
+abbrev pub bounded_outcome : Reader → Record → List ℕ → ℕ → List ℕ → LineOutcome
+bounded_outcome r rec d e img = cond (leb rec.len 32) (record_outcome r rec d e img) (failing r answer.TooLong img)

@@ -4,8 +4,8 @@ pub mod replies;
 
 ghost use Rattle.std.specs.Prelude.{◌≡◌};
 ghost use Rattle.uhex_grammar.specs.Answers.{number_of};
-ghost use Rattle.uhex_effects.specs.Reader.{badFailure, badReader};
-ghost use Rattle.uhex_reader.specs.Line.{lineOutcome, haltOf, line_of, lineNumber};
+ghost use Rattle.uhex_effects.specs.Reader.{bad_failure, bad_reader};
+ghost use Rattle.uhex_reader.specs.Line.{line_outcome, halt_of, line_of, line_number};
 
 use crate::replies::Reply;
 use uhex_effects::Reader;
@@ -19,7 +19,7 @@ enum Halt {
 }
 
 fn halted(state: ReaderState) -> Halt
-    ensures { result ≡ haltOf state }
+    ensures { result ≡ halt_of state }
 {
     match state {
         ReaderState::Between => Halt::No,
@@ -36,7 +36,7 @@ fn halted(state: ReaderState) -> Halt
 
 // A remembered failure that cannot be.
 fn bad_failure(state: ReaderState) -> bool
-    ensures { result ≡ badFailure state }
+    ensures { result ≡ bad_failure state }
 {
     match state {
         ReaderState::Between => false,
@@ -53,7 +53,7 @@ fn bad_failure(state: ReaderState) -> bool
 
 // Row 18.
 fn is_bad(reader: Reader) -> bool
-    ensures { result ≡ badReader reader }
+    ensures { result ≡ bad_reader reader }
 {
     let own = reader.own;
     let state = reader.state;
@@ -64,8 +64,8 @@ fn is_bad(reader: Reader) -> bool
 
 // Reads one line as it is handed, its ending included.
 pub fn line(reader: Reader, line: &[u8], image: &mut [u8]) -> Reply
-    ensures image_after { lineOutcome result.reader result.answer image.new ≡ line_of reader line.now image.old }
-    ensures number { number_of result.answer ≡ lineNumber reader line.now image.old }
+    ensures image_after { line_outcome result.reader result.answer image.new ≡ line_of reader line.now image.old }
+    ensures number { number_of result.answer ≡ line_number reader line.now image.old }
 {
     if (image.len() < 1) | (Reader::IMAGE < image.len()) {
         return Reply {

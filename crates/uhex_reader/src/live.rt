@@ -1,7 +1,7 @@
 // A line of Universal Hex for a reader that is neither failed nor at the end.
 ghost use Rattle.std.specs.Prelude.{◌≡◌};
-ghost use Rattle.uhex_reader.specs.Outcome.{lineOutcome};
-ghost use Rattle.uhex_reader.specs.Live.{liveLine};
+ghost use Rattle.uhex_reader.specs.Outcome.{line_outcome};
+ghost use Rattle.uhex_reader.specs.Live.{live_line};
 
 use crate::replies::Reply;
 use ihex_record::ParseResult;
@@ -10,7 +10,7 @@ use uhex_grammar::Answer;
 
 // A line for a reader that is neither failed nor at the end.
 pub(crate) fn live(reader: Reader, line: &[u8], image: &mut [u8]) -> Reply
-    ensures { lineOutcome result.reader result.answer image.new ≡ liveLine reader line.now image.old }
+    ensures { line_outcome result.reader result.answer image.new ≡ live_line reader line.now image.old }
 {
     let offset = reader.offset as usize;
     if Reader::FILE < offset {

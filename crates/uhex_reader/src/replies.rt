@@ -3,7 +3,7 @@ ghost use Rattle.std.specs.Prelude.{◌≡◌, cond, ◌+◌, ◌≤◌, ltb, le
 ghost use Rattle.laws.specs.Over.{over};
 ghost use Rattle.uhex_grammar.specs.declared.Answer.TheVariants.{Outside, Stored};
 ghost use Rattle.uhex_effects.specs.Reader.{moved_to};
-ghost use Rattle.uhex_reader.specs.Outcome.{lineOutcome, reply, failedBy, stored_at, storing, effectOutcome, boundedOutcome};
+ghost use Rattle.uhex_reader.specs.Outcome.{line_outcome, reply, failed_by, stored_at, storing, effect_outcome, bounded_outcome};
 
 use ihex_record::Record;
 use uhex_effects::{Effect, Reader};
@@ -28,7 +28,7 @@ fn put_bytes(bytes: &[u8], n: usize, at: usize, image: &mut [u8])
 
 // A line that fails with an answer.
 pub(crate) fn failing(reader: Reader, answer: Answer) -> Reply
-    ensures { result ≡ reply (failedBy answer reader) answer }
+    ensures { result ≡ reply (failed_by answer reader) answer }
 {
     let failure = Failure { answer };
     Reply {
@@ -63,7 +63,7 @@ fn store_at(at: usize, n: usize, bytes: &[u8], image: &mut [u8]) -> Answer
 // Own data, of a line that ends at an offset.
 fn store(reader: Reader, rec: Record, data: &[u8], end: u32, image: &mut [u8]) -> Reply
     requires { (rec.len ≤ 32) × (length «data».now ≡ 32) }
-    ensures { lineOutcome result.reader result.answer image.new ≡ storing reader rec «data».now end image.old }
+    ensures { line_outcome result.reader result.answer image.new ≡ storing reader rec «data».now end image.old }
 {
     let at = Reader::REACH * (reader.upper as usize) + rec.address as usize;
     let answer = store_at(at, rec.len as usize, data, image);
@@ -80,7 +80,7 @@ fn perform(
     image: &mut [u8],
 ) -> Reply
     requires { (rec.len ≤ 32) × (length «data».now ≡ 32) }
-    ensures { lineOutcome result.reader result.answer image.new ≡ effectOutcome reader rec «data».now end image.old effect }
+    ensures { line_outcome result.reader result.answer image.new ≡ effect_outcome reader rec «data».now end image.old effect }
 {
     match effect {
         Effect::Fails(answer) => failing(reader, answer),
@@ -98,7 +98,7 @@ pub(crate) fn apply(
     end: u32,
     image: &mut [u8],
 ) -> Reply
-    ensures { lineOutcome result.reader result.answer image.new ≡ boundedOutcome reader rec «data» end image.old }
+    ensures { line_outcome result.reader result.answer image.new ≡ bounded_outcome reader rec «data» end image.old }
 {
     if Record::MAX < rec.len as usize {
         return failing(reader, Answer::TooLong);

@@ -1,10 +1,10 @@
 // Why an arrival is answered as it is, and why a family has a place or none: the check that decides, first in its row as written.
 ghost use Rattle.std.specs.Prelude.{◌≡◌};
-ghost use Rattle.why.specs.Why.{reasonOf, discardsOf, noMarks, denialMarks, entriesOf, whyNumber, whyOf};
-ghost use Rattle.why.specs.Placed.{placed_of, placedMarks, whyPlaceNumber, whyPlaceOf};
+ghost use Rattle.why.specs.Why.{reason_of, discards_of, no_marks, denial_marks, entries_of, why_number, why_of};
+ghost use Rattle.why.specs.Placed.{placed_of, placed_marks, why_place_number, why_place_of};
 ghost use Rattle.laws.specs.Numbered.{numbered};
-ghost use Rattle.why.specs.Parts.{findingRow, accessRow, accessIn, boardPart, earlyPart, blockPart, placePart};
-ghost use Rattle.why_settings.specs.Faults.{firstFault};
+ghost use Rattle.why.specs.Parts.{finding_row, access_row, access_in, board_part, early_part, block_part, place_part};
+ghost use Rattle.why_settings.specs.Faults.{first_fault};
 ghost use Rattle.arrival.specs.Lending.{lent_at, world};
 
 use partitions::Settings;
@@ -44,7 +44,7 @@ pub struct WhyPlace {
 
 // The first fault of the settings, with its numbers.
 fn fault_row(settings: Settings, flash_len: usize) -> Row
-    ensures { result ≡ findingRow settings flash_len (firstFault settings flash_len) }
+    ensures { result ≡ finding_row settings flash_len (first_fault settings flash_len) }
 {
     match why_settings::first::first(settings, flash_len) {
         Finding::Sound => Row::Passes,
@@ -57,7 +57,7 @@ fn fault_row(settings: Settings, flash_len: usize) -> Row
 
 // Row 2. Good settings have no fault, which is told sooner than each fault that they do not have.
 fn settings_row(settings: Settings, flash_len: usize) -> Row
-    ensures { result ≡ findingRow settings flash_len (firstFault settings flash_len) }
+    ensures { result ≡ finding_row settings flash_len (first_fault settings flash_len) }
 {
     if partitions::validity::good(settings, flash_len) {
         return Row::Passes;
@@ -74,7 +74,7 @@ fn board_row(
     seen: usize,
     sectors: usize,
 ) -> Row
-    ensures { result ≡ boardPart settings transfer.state arrival lens seen sectors }
+    ensures { result ≡ board_part settings transfer.state arrival lens seen sectors }
 {
     let first = why_causes::lengths::lengths_row(arrival, lens, seen, sectors);
     if let Row::Decides(x) = first {
@@ -96,7 +96,7 @@ fn early_row(
     seen: usize,
     sectors: usize,
 ) -> Row
-    ensures { result ≡ earlyPart settings transfer.state arrival.now lens seen sectors }
+    ensures { result ≡ early_part settings transfer.state arrival.now lens seen sectors }
 {
     let board = board_row(settings, transfer, arrival.len(), lens, seen, sectors);
     if let Row::Decides(x) = board {
@@ -108,7 +108,7 @@ fn early_row(
 // ---- rows 8 to 11
 
 fn access_row(access: Access, family: u32) -> Row
-    ensures { result ≡ accessRow family access }
+    ensures { result ≡ access_row family access }
 {
     match access {
         Access::Granted => Row::Passes,
@@ -118,7 +118,7 @@ fn access_row(access: Access, family: u32) -> Row
 
 // What shuts a family out, by the kind of its block.
 fn access_in(settings: Settings, kind: Kind, family: u32) -> Access
-    ensures { result ≡ accessIn settings kind family }
+    ensures { result ≡ access_in settings kind family }
 {
     match kind {
         Kind::Flash => why_place::flash_access(settings, family),
@@ -129,7 +129,7 @@ fn access_in(settings: Settings, kind: Kind, family: u32) -> Access
 
 // Rows 8 to 11, where `place` is the family's in the flash.
 fn block_row(settings: Settings, place: Place, kind: Kind, lens: Lengths, b: Block) -> Row
-    ensures { result ≡ blockPart settings place kind lens b }
+    ensures { result ≡ block_part settings place kind lens b }
 {
     let access = access_in(settings, kind, b.family);
     let denial = access_row(access, b.family);
@@ -153,7 +153,7 @@ fn reason_of(
     main: &[u8],
     xip: &[u8],
 ) -> Reason
-    ensures { result ≡ reasonOf settings (world transfer (lent_at flash seen sectors main xip)) arrival.now }
+    ensures { result ≡ reason_of settings (world transfer (lent_at flash seen sectors main xip)) arrival.now }
 {
     let lens = Lengths {
         flash: flash.len(),
@@ -179,21 +179,21 @@ fn reason_of(
 
 // Is a running transfer discarded, of a block of this head?
 fn discards(transfer: Transfer, head: Head, cause: Cause) -> bool
-    ensures { result ≡ discardsOf transfer.state head cause }
+    ensures { result ≡ discards_of transfer.state head cause }
 {
     let number = cause.answer().number();
     why_causes::progress::discards(transfer, head, number)
 }
 
 fn no_marks() -> [u8; 16]
-    ensures { result ≡ noMarks }
+    ensures { result ≡ no_marks }
 {
     [0; 16]
 }
 
 // The marks of the entries, where no entry of a table takes the family.
 fn denial_marks(settings: Settings, family: u32, denial: Denial) -> [u8; 16]
-    ensures { result ≡ denialMarks settings family denial }
+    ensures { result ≡ denial_marks settings family denial }
 {
     let Denial::NoEntry = denial else {
         return no_marks();
@@ -202,7 +202,7 @@ fn denial_marks(settings: Settings, family: u32, denial: Denial) -> [u8; 16]
 }
 
 fn entries_of(settings: Settings, family: u32, cause: Cause) -> [u8; 16]
-    ensures { result ≡ entriesOf settings family cause }
+    ensures { result ≡ entries_of settings family cause }
 {
     let Cause::NoPlace(x) = cause else {
         return no_marks();
@@ -221,7 +221,7 @@ pub fn explain(
     main: &[u8],
     xip: &[u8],
 ) -> Why
-    ensures { numbered whyNumber result ≡ numbered whyNumber (whyOf settings (world transfer (lent_at flash seen sectors main xip)) arrival.now) }
+    ensures { numbered why_number result ≡ numbered why_number (why_of settings (world transfer (lent_at flash seen sectors main xip)) arrival.now) }
 {
     let reason = reason_of(settings, transfer, arrival, flash, seen, sectors, main, xip);
     let cause = reason.cause;
@@ -246,7 +246,7 @@ pub fn explain(
 
 // Rows 1 and 2.
 fn place_row(settings: Settings, flash_len: usize) -> Row
-    ensures { result ≡ placePart settings flash_len }
+    ensures { result ≡ place_part settings flash_len }
 {
     let first = why_causes::lengths::flash_row(flash_len);
     if let Row::Decides(x) = first {
@@ -271,7 +271,7 @@ fn place_source(settings: Settings, flash_len: usize, family: u32) -> PlaceOrigi
 }
 
 fn placed_marks(settings: Settings, family: u32, placed: PlaceOrigin) -> [u8; 16]
-    ensures { result ≡ placedMarks settings family placed }
+    ensures { result ≡ placed_marks settings family placed }
 {
     match placed {
         PlaceOrigin::Refused(x) => {
@@ -285,7 +285,7 @@ fn placed_marks(settings: Settings, family: u32, placed: PlaceOrigin) -> [u8; 16
 
 // Why a family has a place in a flash of so many bytes, or none.
 pub fn explain_place(settings: Settings, flash_len: usize, family: u32) -> WhyPlace
-    ensures { numbered whyPlaceNumber result ≡ numbered whyPlaceNumber (whyPlaceOf settings flash_len family) }
+    ensures { numbered why_place_number result ≡ numbered why_place_number (why_place_of settings flash_len family) }
 {
     let found = place_source(settings, flash_len, family);
     let entries = placed_marks(settings, family, found);

@@ -6,17 +6,17 @@ use Rattle.uf2_block.specs.Block.{field_at}
 use Rattle.why_causes.specs.declared.Reason.{Reason}
 use Rattle.why_causes.specs.declared.Row.{Row}
 use Rattle.why_causes.specs.declared.Row.TheVariants.{Passes, Decides}
-use Rattle.why_causes.specs.Checks.{byNumbers, row_of, magicRow, flagsRow, headerRow}
+use Rattle.why_causes.specs.Checks.{by_numbers, row_of, magic_row, flags_row, header_row}
 use Rattle.why_causes.proofs.Rows.{row-decides, row-passes}
 
-module _ (a : List ℕ) {x y z : ℕ} {r : Row} (p : x ≡ field_at a 0) (q : y ≡ field_at a 4) (l : z ≡ field_at a 508) (e : r ≡ row_of byNumbers (magicRow x y z)) where
-  magic : r ≡ row_of byNumbers (magicRow (field_at a 0) (field_at a 4) (field_at a 508))
+module _ (a : List ℕ) {x y z : ℕ} {r : Row} (p : x ≡ field_at a 0) (q : y ≡ field_at a 4) (l : z ≡ field_at a 508) (e : r ≡ row_of by_numbers (magic_row x y z)) where
+  magic : r ≡ row_of by_numbers (magic_row (field_at a 0) (field_at a 4) (field_at a 508))
   magic = rw (← p, ← q, ← l) e
 
-  pub header-decides : {w : Reason} → r ≡ Decides w → Decides w ≡ row_of byNumbers (headerRow a)
-  unfolding headerRow
-  header-decides h = row-decides byNumbers (magicRow (field_at a 0) (field_at a 4) (field_at a 508)) (flagsRow (field_at a 8)) magic h
+  pub header-decides : {w : Reason} → r ≡ Decides w → Decides w ≡ row_of by_numbers (header_row a)
+  unfolding header_row
+  header-decides h = row-decides by_numbers (magic_row (field_at a 0) (field_at a 4) (field_at a 508)) (flags_row (field_at a 8)) magic h
 
-  pub header-passes : {f : ℕ} {w : Row} → f ≡ field_at a 8 → r ≡ Passes → w ≡ row_of byNumbers (flagsRow f) → w ≡ row_of byNumbers (headerRow a)
-  unfolding headerRow
-  header-passes g h k = row-passes byNumbers (magicRow (field_at a 0) (field_at a 4) (field_at a 508)) (flagsRow (field_at a 8)) magic h (k ∙ ap (λ (n : ℕ). row_of byNumbers (flagsRow n)) g)
+  pub header-passes : {f : ℕ} {w : Row} → f ≡ field_at a 8 → r ≡ Passes → w ≡ row_of by_numbers (flags_row f) → w ≡ row_of by_numbers (header_row a)
+  unfolding header_row
+  header-passes g h k = row-passes by_numbers (magic_row (field_at a 0) (field_at a 4) (field_at a 508)) (flags_row (field_at a 8)) magic h (k ∙ ap (λ (n : ℕ). row_of by_numbers (flags_row n)) g)

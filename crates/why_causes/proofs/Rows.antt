@@ -5,25 +5,25 @@ use mathlib.Core.List.{List, [], ◌∷◌, ◌++◌}
 use Rattle.why_causes.specs.declared.Reason.{Reason}
 use Rattle.why_causes.specs.declared.Row.{Row}
 use Rattle.why_causes.specs.declared.Row.TheVariants.{Passes, Decides}
-use Rattle.why_causes.specs.Checks.{row_of, orNext, orLast, Deciding, none, here, later}
+use Rattle.why_causes.specs.Checks.{row_of, or_next, or_last, Deciding, none, here, later}
 
 module _ (test : Reason → Bool) where
-  pub rows_next : (l m : List Reason) → row_of test (l ++ m) ≡ orNext (row_of test l) (row_of test m)
+  pub rows_next : (l m : List Reason) → row_of test (l ++ m) ≡ or_next (row_of test l) (row_of test m)
   unfolding row_of
   rows_next [] m = refl
   rows_next (c ∷ l) m = by-case (test c) c (row_of test (l ++ m)) (row_of test l) (row_of test m) (rows_next l m)
     where
-      by-case : (b : Bool) (x : Reason) (p q r : Row) → p ≡ orNext q r → cond b (Decides x) p ≡ orNext (cond b (Decides x) q) r
+      by-case : (b : Bool) (x : Reason) (p q r : Row) → p ≡ or_next q r → cond b (Decides x) p ≡ or_next (cond b (Decides x) q) r
       by-case true x p q r e = refl
       by-case false x p q r e = e
 
   -- a row that decides, and one that passes to the next
   module _ (l m : List Reason) {r : Row} (e : r ≡ row_of test l) where
     pub row-decides : {x : Reason} → r ≡ Decides x → Decides x ≡ row_of test (l ++ m)
-    row-decides h = sym (rows_next l m ∙ ap (λ (q : Row). orNext q (row_of test m)) (sym e ∙ h))
+    row-decides h = sym (rows_next l m ∙ ap (λ (q : Row). or_next q (row_of test m)) (sym e ∙ h))
 
     pub row-passes : {q : Row} → r ≡ Passes → q ≡ row_of test m → q ≡ row_of test (l ++ m)
-    row-passes h k = k ∙ sym (rows_next l m ∙ ap (λ (q : Row). orNext q (row_of test m)) (sym e ∙ h))
+    row-passes h k = k ∙ sym (rows_next l m ∙ ap (λ (q : Row). or_next q (row_of test m)) (sym e ∙ h))
 
   -- a check that passes to the next
   pub row-later : (c : Reason) (l : List Reason) {q : Row} → test c ≡ false → q ≡ row_of test l → q ≡ row_of test (c ∷ l)
@@ -31,11 +31,11 @@ module _ (test : Reason → Bool) where
   row-later c l h e = e ∙ sym (rw h)
 
   -- the reason is the true one
-  pub deciding : (last : Reason) (l : List Reason) → Deciding test last l (orLast last (row_of test l))
+  pub deciding : (last : Reason) (l : List Reason) → Deciding test last l (or_last last (row_of test l))
   unfolding row_of
   deciding last [] = none
   deciding last (c ∷ l) = by-case (test c) refl (deciding last l)
     where
-      by-case : (b : Bool) → test c ≡ b → Deciding test last l (orLast last (row_of test l)) → Deciding test last (c ∷ l) (orLast last (cond b (Decides c) (row_of test l)))
+      by-case : (b : Bool) → test c ≡ b → Deciding test last l (or_last last (row_of test l)) → Deciding test last (c ∷ l) (or_last last (cond b (Decides c) (row_of test l)))
       by-case true h d = here h
       by-case false h d = later h d

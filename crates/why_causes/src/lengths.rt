@@ -1,8 +1,8 @@
 // Row 1: the lengths of the arrival, the flash, the maps and the buffers of RAM. The first that is wrong decides.
 ghost use Rattle.std.specs.Prelude.{◌≡◌};
-ghost use Rattle.why_causes.specs.Causes.{reasonWith};
-ghost use Rattle.why_causes.specs.Checks.{byNumbers, row_of};
-ghost use Rattle.why_causes.specs.Lengths.{flashRow, bufferRow, lengthsRow};
+ghost use Rattle.why_causes.specs.Causes.{reason_with};
+ghost use Rattle.why_causes.specs.Checks.{by_numbers, row_of};
+ghost use Rattle.why_causes.specs.Lengths.{flash_row, buffer_row, lengths_row};
 
 use crate::{Cause, Length, Row};
 use memory::flash::Flash;
@@ -11,14 +11,14 @@ use uf2_checks::{Lengths, Window};
 
 // Row 1: this length is wrong.
 fn bad_length(x: Length, got: usize, against: usize) -> Row
-    ensures { result ≡ Row.Decides (reasonWith (Cause.BadBuffers x) got against) }
+    ensures { result ≡ Row.Decides (reason_with (Cause.BadBuffers x) got against) }
 {
     crate::decides(Cause::BadBuffers(x), got as u64, against as u64)
 }
 
 // The flash's length, which a place asked for alone has too.
 pub fn flash_row(len: usize) -> Row
-    ensures { result ≡ row_of byNumbers (flashRow len) }
+    ensures { result ≡ row_of by_numbers (flash_row len) }
 {
     if len % Flash::SECTOR != 0 {
         return bad_length(Length::FlashRagged, len, Flash::SECTOR);
@@ -34,7 +34,7 @@ pub fn flash_row(len: usize) -> Row
 
 // The maps, then the buffers of RAM, which may be empty.
 fn buffer_row(seen: usize, sectors: usize, main: usize, xip: usize) -> Row
-    ensures { result ≡ row_of byNumbers (bufferRow seen sectors main xip) }
+    ensures { result ≡ row_of by_numbers (buffer_row seen sectors main xip) }
 {
     if seen != 16384 {
         return bad_length(Length::Seen, seen, 16384);
@@ -53,7 +53,7 @@ fn buffer_row(seen: usize, sectors: usize, main: usize, xip: usize) -> Row
 
 // Row 1.
 pub fn lengths_row(arrival: usize, lens: Lengths, seen: usize, sectors: usize) -> Row
-    ensures { result ≡ row_of byNumbers (lengthsRow arrival lens seen sectors) }
+    ensures { result ≡ row_of by_numbers (lengths_row arrival lens seen sectors) }
 {
     if arrival != Block::ARRIVAL {
         return bad_length(Length::Arrival, arrival, Block::ARRIVAL);

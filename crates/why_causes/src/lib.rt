@@ -6,8 +6,8 @@ pub mod page;
 pub mod progress;
 
 ghost use Rattle.std.specs.Prelude.{◌≡◌};
-ghost use Rattle.why_causes.specs.Causes.{answer_of, causeNumber, lengthNumber, boundNumber, magicNumber, numbersNumber, addressNumber, notKeptNumber, reasonWith};
-ghost use Rattle.why_causes.specs.Checks.{byNumbers, row_of, runningRow, doneRow, stateRow, magicRow, flagsRow, headerRow};
+ghost use Rattle.why_causes.specs.Causes.{answer_of, cause_number, length_number, bound_number, magic_number, numbers_number, address_number, not_kept_number, reason_with};
+ghost use Rattle.why_causes.specs.Checks.{by_numbers, row_of, running_row, done_row, state_row, magic_row, flags_row, header_row};
 
 use transfer::{Answer, Head, Run, State, Transfer};
 use uf2_block::Block;
@@ -112,7 +112,7 @@ pub enum Row {
 }
 
 fn length_number(x: Length) -> u16
-    ensures { result ≡ lengthNumber x }
+    ensures { result ≡ length_number x }
 {
     match x {
         Length::Arrival => 101,
@@ -127,7 +127,7 @@ fn length_number(x: Length) -> u16
 }
 
 fn bound_number(x: Bound) -> u16
-    ensures { result ≡ boundNumber x }
+    ensures { result ≡ bound_number x }
 {
     match x {
         Bound::CountUnder => 301,
@@ -139,7 +139,7 @@ fn bound_number(x: Bound) -> u16
 }
 
 fn magic_number(x: Magic) -> u16
-    ensures { result ≡ magicNumber x }
+    ensures { result ≡ magic_number x }
 {
     match x {
         Magic::First => 401,
@@ -149,7 +149,7 @@ fn magic_number(x: Magic) -> u16
 }
 
 fn numbers_number(x: Numbers) -> u16
-    ensures { result ≡ numbersNumber x }
+    ensures { result ≡ numbers_number x }
 {
     match x {
         Numbers::TotalZero => 1001,
@@ -159,7 +159,7 @@ fn numbers_number(x: Numbers) -> u16
 }
 
 fn address_number(x: Address) -> u16
-    ensures { result ≡ addressNumber x }
+    ensures { result ≡ address_number x }
 {
     match x {
         Address::Below => 1101,
@@ -171,7 +171,7 @@ fn address_number(x: Address) -> u16
 }
 
 fn not_kept_number(x: NotKept) -> u16
-    ensures { result ≡ notKeptNumber x }
+    ensures { result ≡ not_kept_number x }
 {
     match x {
         NotKept::NoRegion => 1401,
@@ -211,7 +211,7 @@ impl Cause {
 
     // The row times 100, and the condition in it.
     pub fn number(self) -> u16
-        ensures { result ≡ causeNumber self }
+        ensures { result ≡ cause_number self }
     {
         match self {
             Cause::BadBuffers(x) => length_number(x),
@@ -236,7 +236,7 @@ impl Cause {
 
 impl Reason {
     pub fn new(cause: Cause, got: u64, against: u64) -> Self
-        ensures { result ≡ reasonWith cause got against }
+        ensures { result ≡ reason_with cause got against }
     {
         Self {
             cause,
@@ -248,21 +248,21 @@ impl Reason {
 
 // This check decides.
 pub fn decides(cause: Cause, got: u64, against: u64) -> Row
-    ensures { result ≡ Row.Decides (reasonWith cause got against) }
+    ensures { result ≡ Row.Decides (reason_with cause got against) }
 {
     Row::Decides(Reason::new(cause, got, against))
 }
 
 // Row 3: this bound is not kept.
 fn bad_state(x: Bound, got: u32, against: u32) -> Row
-    ensures { result ≡ Row.Decides (reasonWith (Cause.BadState x) got against) }
+    ensures { result ≡ Row.Decides (reason_with (Cause.BadState x) got against) }
 {
     decides(Cause::BadState(x), got as u64, against as u64)
 }
 
 // Row 4: this magic number differs.
 fn not_block(x: Magic, got: u32, against: u32) -> Row
-    ensures { result ≡ Row.Decides (reasonWith (Cause.NotBlock x) got against) }
+    ensures { result ≡ Row.Decides (reason_with (Cause.NotBlock x) got against) }
 {
     decides(Cause::NotBlock(x), got as u64, against as u64)
 }
@@ -270,7 +270,7 @@ fn not_block(x: Magic, got: u32, against: u32) -> Row
 // ---- row 3
 
 fn running_row(run: Run) -> Row
-    ensures { result ≡ row_of byNumbers (runningRow run) }
+    ensures { result ≡ row_of by_numbers (running_row run) }
 {
     let total = run.head.total;
     let count = run.count;
@@ -287,7 +287,7 @@ fn running_row(run: Run) -> Row
 }
 
 fn done_row(head: Head) -> Row
-    ensures { result ≡ row_of byNumbers (doneRow head) }
+    ensures { result ≡ row_of by_numbers (done_row head) }
 {
     let total = head.total;
     if total < 1 {
@@ -301,7 +301,7 @@ fn done_row(head: Head) -> Row
 
 // Row 3.
 pub fn state_row(transfer: Transfer) -> Row
-    ensures { result ≡ row_of byNumbers (stateRow transfer.state) }
+    ensures { result ≡ row_of by_numbers (state_row transfer.state) }
 {
     let state = transfer.state;
     match state {
@@ -314,7 +314,7 @@ pub fn state_row(transfer: Transfer) -> Row
 // ---- rows 4 to 7
 
 fn magic_row(first: u32, second: u32, last: u32) -> Row
-    ensures { result ≡ row_of byNumbers (magicRow first second last) }
+    ensures { result ≡ row_of by_numbers (magic_row first second last) }
 {
     if first != Block::MAGIC_FIRST {
         return not_block(Magic::First, first, Block::MAGIC_FIRST);
@@ -329,7 +329,7 @@ fn magic_row(first: u32, second: u32, last: u32) -> Row
 }
 
 fn flags_row(flags: u32) -> Row
-    ensures { result ≡ row_of byNumbers (flagsRow flags) }
+    ensures { result ≡ row_of by_numbers (flags_row flags) }
 {
     if flags / Block::FLAG_CONTAINER % 2 == 1 {
         return decides(Cause::Container, flags as u64, Block::FLAG_CONTAINER as u64);
@@ -342,7 +342,7 @@ fn flags_row(flags: u32) -> Row
 
 // Rows 4 to 7.
 pub fn header_row(arrival: &[u8]) -> Row
-    ensures { result ≡ row_of byNumbers (headerRow arrival.now) }
+    ensures { result ≡ row_of by_numbers (header_row arrival.now) }
 {
     let r = magic_row(
         uf2_block::field(arrival, 0),

@@ -1,9 +1,9 @@
 // Rows 9 to 17 of a block: beside its place or window, and beside the transfer and the flash.
 ghost use Rattle.std.specs.Prelude.{◌≡◌};
-ghost use Rattle.why_causes.specs.Causes.{reasonWith};
-ghost use Rattle.why_causes.specs.Checks.{byNumbers, row_of};
-ghost use Rattle.why_checks.specs.Block.{start_at, size_at, roomOf, kind_of, bodyRow, within, around};
-ghost use Rattle.why_checks.specs.Parts.{fatePart, regionPart, writtenPart, latePart};
+ghost use Rattle.why_causes.specs.Causes.{reason_with};
+ghost use Rattle.why_causes.specs.Checks.{by_numbers, row_of};
+ghost use Rattle.why_checks.specs.Block.{start_at, size_at, room_of, kind_of, body_row, within, around};
+ghost use Rattle.why_checks.specs.Parts.{fate_part, region_part, written_part, late_part};
 
 use memory::flash::Flash;
 use placement::Place;
@@ -37,7 +37,7 @@ fn size_at(place: Place) -> usize
 
 // The bytes that row 10 asks for: of the place, or of the window.
 pub fn room_of(place: Place, kind: Kind) -> usize
-    ensures { result ≡ roomOf place kind }
+    ensures { result ≡ room_of place kind }
 {
     match kind {
         Kind::Flash => size_at(place),
@@ -48,7 +48,7 @@ pub fn room_of(place: Place, kind: Kind) -> usize
 
 // Rows 9 to 11; of a comment row 10 alone.
 pub fn body_row(size: usize, lens: Lengths, b: Block) -> Row
-    ensures { result ≡ row_of byNumbers (bodyRow size lens b) }
+    ensures { result ≡ row_of by_numbers (body_row size lens b) }
 {
     if b.comment {
         return why_causes::number_checks::numbers_row(b.total, b.number, size);
@@ -72,7 +72,7 @@ pub fn kind_of(lens: Lengths, transfer: Transfer, b: Block) -> Kind
 
 // Rows 12, 13, 15 and 16.
 fn fate_row(transfer: Transfer, head: Head, number: u32, marked: bool, comment: bool) -> Row
-    ensures { result ≡ fatePart transfer.state head number marked comment }
+    ensures { result ≡ fate_part transfer.state head number marked comment }
 {
     let total = head.total as u64;
     if why_causes::progress::is_done(transfer) {
@@ -116,7 +116,7 @@ fn is_around(region: Region, address: u32) -> bool
 
 // Row 14.
 fn not_kept(x: NotKept, count: u64, total: u64) -> Row
-    ensures { result ≡ Row.Decides (reasonWith (Cause.Written x) count total) }
+    ensures { result ≡ Row.Decides (reason_with (Cause.Written x) count total) }
 {
     why_causes::decides(Cause::Written(x), count, total)
 }
@@ -131,7 +131,7 @@ fn region_row(
     count: u64,
     total: u64,
 ) -> Row
-    ensures { result ≡ regionPart flash.now start size address region count total }
+    ensures { result ≡ region_part flash.now start size address region count total }
 {
     let from = region.start as usize;
     let len = region.len as usize;
@@ -163,7 +163,7 @@ fn written_row(
     count: u64,
     total: u64,
 ) -> Row
-    ensures { result ≡ writtenPart flash.now start size kind arrival.now count total }
+    ensures { result ≡ written_part flash.now start size kind arrival.now count total }
 {
     if !uf2_block::has_region(arrival) {
         return not_kept(NotKept::NoRegion, count, total);
@@ -187,7 +187,7 @@ pub fn late(
     flash: &[u8],
     seen: &[u8],
 ) -> Reason
-    ensures { result ≡ latePart transfer.state head place comment number arrival.now flash.now seen.now }
+    ensures { result ≡ late_part transfer.state head place comment number arrival.now flash.now seen.now }
 {
     let marked = memory::bitmap::marked(seen, number as usize);
     let fate = fate_row(transfer, head, number, marked, comment);

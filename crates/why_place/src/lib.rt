@@ -2,20 +2,20 @@
 ghost use Rattle.std.specs.Prelude.{◌≡◌, true};
 ghost use Rattle.laws.specs.Numbered.{numbered};
 ghost use Rattle.laws.specs.Sets.{any};
-ghost use Rattle.placement.specs.Place.{usedCount};
+ghost use Rattle.placement.specs.Place.{used_count};
 ghost use Rattle.why_place.specs.Placing.{
-  denialNumber,
-  takesAt,
-  flashAccess,
-  ramAccess,
-  accessNumber,
-  markFor,
-  marksOf,
-  tableSpot,
+  denial_number,
+  takes_at,
+  flash_access,
+  ram_access,
+  access_number,
+  mark_for,
+  marks_of,
+  table_spot,
   spot_of,
-  spotNumber,
+  spot_number,
 };
-ghost use Rattle.why_place.specs.Parts.{deniedIf, withoutAccess};
+ghost use Rattle.why_place.specs.Parts.{denied_if, without_access};
 
 use partitions::{Entry, Family, Settings};
 
@@ -54,7 +54,7 @@ pub enum Spot {
 
 impl Denial {
     pub fn number(self) -> u16
-        ensures { result ≡ denialNumber self }
+        ensures { result ≡ denial_number self }
     {
         match self {
             Denial::AbsoluteOff => 801,
@@ -69,7 +69,7 @@ impl Denial {
 }
 
 fn denied_if(yes: bool, denial: Denial) -> Access
-    ensures { result ≡ deniedIf yes denial }
+    ensures { result ≡ denied_if yes denial }
 {
     if yes {
         Access::Denied(denial)
@@ -80,7 +80,7 @@ fn denied_if(yes: bool, denial: Denial) -> Access
 
 // Does an A entry that is used accept the family?
 fn any_takes(settings: Settings, family: u32) -> bool
-    ensures { result ≡ any (usedCount settings.count) (takesAt settings.table family) }
+    ensures { result ≡ any (used_count settings.count) (takes_at settings.table family) }
 {
     let n = placement::passes::used_count(settings.count);
     let mut k: usize = 0;
@@ -96,7 +96,7 @@ fn any_takes(settings: Settings, family: u32) -> bool
 
 // May a family that is neither absolute nor rp2040 have the flash where there is no table?
 fn without_table(arm: bool, riscv: bool, family: u32) -> Access
-    ensures { result ≡ withoutAccess arm riscv family }
+    ensures { result ≡ without_access arm riscv family }
 {
     if family == Family::DATA {
         return Access::Granted;
@@ -112,7 +112,7 @@ fn without_table(arm: bool, riscv: bool, family: u32) -> Access
 
 // Does a rule shut the family out of the flash, and which first?
 pub fn flash_access(settings: Settings, family: u32) -> Access
-    ensures { numbered accessNumber result ≡ numbered accessNumber (flashAccess settings family) }
+    ensures { numbered access_number result ≡ numbered access_number (flash_access settings family) }
 {
     if family == Family::ABSOLUTE {
         return denied_if(!settings.absolute, Denial::AbsoluteOff);
@@ -128,7 +128,7 @@ pub fn flash_access(settings: Settings, family: u32) -> Access
 
 // Does the rule for RAM shut the family out?
 pub fn ram_access(settings: Settings, family: u32) -> Access
-    ensures { numbered accessNumber result ≡ numbered accessNumber (ramAccess settings family) }
+    ensures { numbered access_number result ≡ numbered access_number (ram_access settings family) }
 {
     denied_if(
         !placement::ram::ram_family(settings, family),
@@ -138,7 +138,7 @@ pub fn ram_access(settings: Settings, family: u32) -> Access
 
 // What turns a used entry down: 1 "B of", else 2 "doesn't accept".
 fn mark(e: Entry, family: u32) -> u8
-    ensures { result ≡ markFor e family }
+    ensures { result ≡ mark_for e family }
 {
     if !partitions::is_a(e) {
         return 1;
@@ -151,7 +151,7 @@ fn mark(e: Entry, family: u32) -> u8
 
 // The marks of all 16 entries.
 pub fn marks(settings: Settings, family: u32) -> [u8; 16]
-    ensures { result ≡ marksOf settings family }
+    ensures { result ≡ marks_of settings family }
 {
     let mut out: [u8; 16] = [0; 16];
     let n = placement::passes::used_count(settings.count);
@@ -166,8 +166,8 @@ pub fn marks(settings: Settings, family: u32) -> [u8; 16]
 
 // The first pass that takes an entry, and the first entry that it takes.
 fn in_table(settings: Settings, family: u32) -> Spot
-    requires { any (usedCount settings.count) (takesAt settings.table family) ≡ true }
-    ensures { result ≡ tableSpot settings family }
+    requires { any (used_count settings.count) (takes_at settings.table family) ≡ true }
+    ensures { result ≡ table_spot settings family }
 {
     let n = placement::passes::used_count(settings.count);
     let w = placement::passes::query(settings, family);
@@ -194,7 +194,7 @@ fn in_table(settings: Settings, family: u32) -> Spot
 
 // Where the place of a family comes from, or what shuts it out.
 pub fn locate(settings: Settings, family: u32) -> Spot
-    ensures { numbered spotNumber result ≡ numbered spotNumber (spot_of settings family) }
+    ensures { numbered spot_number result ≡ numbered spot_number (spot_of settings family) }
 {
     if let Access::Denied(x) = flash_access(settings, family) {
         return Spot::Refused(x);

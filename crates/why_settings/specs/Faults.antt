@@ -5,24 +5,24 @@ use Rattle.laws.specs.Sets.{one, any, least}
 use Rattle.partitions.specs.declared.Entry.{Entry}
 use Rattle.partitions.specs.declared.Settings.{Settings}
 use Rattle.partitions.specs.Settings.{
-  familyRp2040,
-  familyArmNs,
-  isUnowned,
-  linkTarget,
+  family_rp2040,
+  family_arm_ns,
+  is_unowned,
+  link_target,
   entry_at,
   enabled,
-  countOver,
-  noSectors,
-  runsPast,
-  sharesWith,
-  linksUp,
-  linksToB,
-  manyUsers,
-  isReserved,
-  reservedAt,
-  reservedUser,
-  goodSettings,
-  blankEntry,
+  count_over,
+  no_sectors,
+  runs_past,
+  shares_with,
+  links_up,
+  links_to_b,
+  many_users,
+  is_reserved,
+  reserved_at,
+  reserved_user,
+  good_settings,
+  blank_entry,
 }
 use Rattle.why_settings.specs.declared.Fault.{Fault}
 use Rattle.why_settings.specs.declared.Fault.TheVariants.{ArchOff, CountOver, NoSectors, PastFlash, Shares, LinksUp, LinksToB, ManyUsers, ReservedUser}
@@ -33,37 +33,37 @@ use Rattle.why_settings.specs.declared.Comparison.{Comparison}
 -- ---- what each fault says
 
 -- row 2's conditions have the numbers 201 to 209, in 01's order
-abbrev pub faultNumber : Fault → ℕ
-faultNumber ArchOff = 201
-faultNumber CountOver = 202
-faultNumber (NoSectors k) = 203
-faultNumber (PastFlash k) = 204
-faultNumber (Shares k j) = 205
-faultNumber (LinksUp k) = 206
-faultNumber (LinksToB k) = 207
-faultNumber (ManyUsers k) = 208
-faultNumber (ReservedUser k) = 209
+abbrev pub fault_number : Fault → ℕ
+fault_number ArchOff = 201
+fault_number CountOver = 202
+fault_number (NoSectors k) = 203
+fault_number (PastFlash k) = 204
+fault_number (Shares k j) = 205
+fault_number (LinksUp k) = 206
+fault_number (LinksToB k) = 207
+fault_number (ManyUsers k) = 208
+fault_number (ReservedUser k) = 209
 
 -- the fault is in the settings, for a flash of len bytes
-abbrev pub faultIn : Settings → ℕ → Fault → Bool
+abbrev pub fault_in : Settings → ℕ → Fault → Bool
 -- "the current architecture isn't enabled"
-faultIn s len ArchOff = not (enabled s s.current)
+fault_in s len ArchOff = not (enabled s s.current)
 -- "the count is over 16"
-faultIn s len CountOver = countOver s
+fault_in s len CountOver = count_over s
 -- entry k "has no sectors"
-faultIn s len (NoSectors k) = noSectors (entry_at s.table k)
+fault_in s len (NoSectors k) = no_sectors (entry_at s.table k)
 -- entry k "runs past the flash"
-faultIn s len (PastFlash k) = runsPast len (entry_at s.table k)
+fault_in s len (PastFlash k) = runs_past len (entry_at s.table k)
 -- entry k "shares a sector with another", j
-faultIn s len (Shares k j) = sharesWith s.table k j
+fault_in s len (Shares k j) = shares_with s.table k j
 -- entry k "links to an index not below its own"
-faultIn s len (LinksUp k) = linksUp s.table k
+fault_in s len (LinksUp k) = links_up s.table k
 -- entry k links "to an entry that is "B of""
-faultIn s len (LinksToB k) = linksToB s.table k
+fault_in s len (LinksToB k) = links_to_b s.table k
 -- entry k "has more than 4 user families"
-faultIn s len (ManyUsers k) = manyUsers (entry_at s.table k)
+fault_in s len (ManyUsers k) = many_users (entry_at s.table k)
 -- entry k "has a user family from 0xe48bff56 to 0xe48bff5b"
-faultIn s len (ReservedUser k) = reservedUser (entry_at s.table k)
+fault_in s len (ReservedUser k) = reserved_user (entry_at s.table k)
 
 -- ---- their order: the condition before the entry
 
@@ -77,8 +77,8 @@ unfoldable pub sharing : ℕ → ℕ → List Fault
 sharing n k = each (λ j. Shares k j ∷ []) n
 
 -- 01's conditions for entry k, of n used ones, counted from 0
-unfoldable pub conditionAt : ℕ → ℕ → ℕ → List Fault
-conditionAt n rule k =
+unfoldable pub condition_at : ℕ → ℕ → ℕ → List Fault
+condition_at n rule k =
     cond (eqb rule 0) (NoSectors k ∷ [])
     (cond (eqb rule 1) (PastFlash k ∷ [])
     (cond (eqb rule 2) (sharing n k)
@@ -88,52 +88,52 @@ conditionAt n rule k =
     (ReservedUser k ∷ []))))))
 
 -- one condition for the n used entries, first to last
-unfoldable pub conditionFor : ℕ → ℕ → List Fault
-conditionFor n rule = each (conditionAt n rule) n
+unfoldable pub condition_for : ℕ → ℕ → List Fault
+condition_for n rule = each (condition_at n rule) n
 
 -- the used entries, of the 16 that there are; where the count is over 16 that is a fault before any of an entry
-abbrev pub usedOf : Settings → ℕ
-usedOf s = cond (countOver s) 16 s.count
+abbrev pub used_of : Settings → ℕ
+used_of s = cond (count_over s) 16 s.count
 
 -- every fault that settings can have, in 01's order: each of the seven conditions for all used entries before the next condition for any
-unfoldable pub faultsOf : Settings → List Fault
-faultsOf s = ArchOff ∷ CountOver ∷ each (conditionFor (usedOf s)) 7
+unfoldable pub faults_of : Settings → List Fault
+faults_of s = ArchOff ∷ CountOver ∷ each (condition_for (used_of s)) 7
 
 -- ---- the first fault
 
-abbrev pub badIf : Bool → Fault → Finding
-badIf b x = cond b (Bad x) Sound
+abbrev pub bad_if : Bool → Fault → Finding
+bad_if b x = cond b (Bad x) Sound
 
 -- the first of a list that is in the settings
-unfoldable pub firstIn : Settings → ℕ → List Fault → Finding
-firstIn s len [] = Sound
-firstIn s len (x ∷ l) = cond (faultIn s len x) (Bad x) (firstIn s len l)
+unfoldable pub first_in : Settings → ℕ → List Fault → Finding
+first_in s len [] = Sound
+first_in s len (x ∷ l) = cond (fault_in s len x) (Bad x) (first_in s len l)
 
 -- the first other of n entries that entry k shares a sector with
-unfoldable pub firstShared : List Entry → ℕ → ℕ → Finding
-firstShared table n k = badIf (any n (sharesWith table k)) (Shares k (least n (sharesWith table k)))
+unfoldable pub first_shared : List Entry → ℕ → ℕ → Finding
+first_shared table n k = bad_if (any n (shares_with table k)) (Shares k (least n (shares_with table k)))
 
-unfoldable pub firstFault : Settings → ℕ → Finding
-firstFault s len = firstIn s len (faultsOf s)
+unfoldable pub first_fault : Settings → ℕ → Finding
+first_fault s len = first_in s len (faults_of s)
 
 -- the number of a finding, and 0 where there is no fault
-abbrev pub findingNumber : Finding → ℕ
-findingNumber Sound = 0
-findingNumber (Bad x) = faultNumber x
+abbrev pub finding_number : Finding → ℕ
+finding_number Sound = 0
+finding_number (Bad x) = fault_number x
 
 -- ---- the numbers compared
 
 -- entry k; past the table, where no fault points, a blank one
 abbrev pub slot_at : List Entry → ℕ → Entry
-slot_at table k = cond (ltb k 16) (entry_at table k) blankEntry
+slot_at table k = cond (ltb k 16) (entry_at table k) blank_entry
 
 -- the first user family that is reserved, and 0, which is none, where there is none
-unfoldable pub firstReserved : Entry → ℕ
-firstReserved e =
-    cond (reservedAt e 0) (get_or e.users 0 0)
-    (cond (reservedAt e 1) (get_or e.users 1 0)
-    (cond (reservedAt e 2) (get_or e.users 2 0)
-    (cond (reservedAt e 3) (get_or e.users 3 0) 0)))
+unfoldable pub first_reserved : Entry → ℕ
+first_reserved e =
+    cond (reserved_at e 0) (get_or e.users 0 0)
+    (cond (reserved_at e 1) (get_or e.users 1 0)
+    (cond (reserved_at e 2) (get_or e.users 2 0)
+    (cond (reserved_at e 3) (get_or e.users 3 0) 0)))
 
 -- where an entry ends, in bytes
 abbrev pub end_of : Entry → ℕ
@@ -152,23 +152,23 @@ tested_of s len (PastFlash k) = told (end_of (slot_at s.table k)) len
 -- the other entry, and this one
 tested_of s len (Shares k j) = told j k
 -- the index that its link names, and its own
-tested_of s len (LinksUp k) = told (linkTarget (slot_at s.table k).link) k
-tested_of s len (LinksToB k) = told (linkTarget (slot_at s.table k).link) k
+tested_of s len (LinksUp k) = told (link_target (slot_at s.table k).link) k
+tested_of s len (LinksToB k) = told (link_target (slot_at s.table k).link) k
 tested_of s len (ManyUsers k) = told (slot_at s.table k).user_count 4
-tested_of s len (ReservedUser k) = told (firstReserved (slot_at s.table k)) familyRp2040
+tested_of s len (ReservedUser k) = told (first_reserved (slot_at s.table k)) family_rp2040
 
 -- the test of two numbers, got g and against a, that a fault is; where two numbers do not tell it (whether a link is there, two runs of sectors, an
 -- entry that is "B of") it looks at the settings besides
-abbrev pub faultTest : Settings → Fault → ℕ → ℕ → Bool
-faultTest s ArchOff g a = eqb g a
-faultTest s CountOver g a = ltb a g
-faultTest s (NoSectors k) g a = eqb g a
-faultTest s (PastFlash k) g a = ltb a g
-faultTest s (Shares k j) g a = sharesWith s.table a g
-faultTest s (LinksUp k) g a = not (isUnowned (entry_at s.table k)) && leb a g
-faultTest s (LinksToB k) g a = linksToB s.table a
-faultTest s (ManyUsers k) g a = ltb a g
-faultTest s (ReservedUser k) g a = leb a g && leb g familyArmNs
+abbrev pub fault_test : Settings → Fault → ℕ → ℕ → Bool
+fault_test s ArchOff g a = eqb g a
+fault_test s CountOver g a = ltb a g
+fault_test s (NoSectors k) g a = eqb g a
+fault_test s (PastFlash k) g a = ltb a g
+fault_test s (Shares k j) g a = shares_with s.table a g
+fault_test s (LinksUp k) g a = not (is_unowned (entry_at s.table k)) && leb a g
+fault_test s (LinksToB k) g a = links_to_b s.table a
+fault_test s (ManyUsers k) g a = ltb a g
+fault_test s (ReservedUser k) g a = leb a g && leb g family_arm_ns
 
 -- the entry that a fault is of lies in the table
 abbrev pub InTable : Fault → Type 0
@@ -185,11 +185,11 @@ InTable (ReservedUser k) = k < 16
 -- ---- the claims, proved in proofs/Theorems.antt
 
 -- no fault is found exactly in good settings
-abbrev pub Sound-is-good : Type 0
-Sound-is-good = (s : Settings) (len : ℕ) → (firstFault s len ≡ Sound) ↔ (goodSettings s len ≡ true)
+abbrev pub SoundIsGood : Type 0
+SoundIsGood = (s : Settings) (len : ℕ) → (first_fault s len ≡ Sound) ↔ (good_settings s len ≡ true)
 
 -- each fault is a test of the numbers that it names
-abbrev pub Fault-is-tested : Type 0
-Fault-is-tested =
+abbrev pub FaultIsTested : Type 0
+FaultIsTested =
     (s : Settings) (len : ℕ) (x : Fault) → InTable x
-    → faultIn s len x ≡ faultTest s x (tested_of s len x).got (tested_of s len x).against
+    → fault_in s len x ≡ fault_test s x (tested_of s len x).got (tested_of s len x).against

@@ -4,8 +4,8 @@ mod sharing;
 
 ghost use Rattle.std.specs.Prelude.{◌≡◌};
 ghost use Rattle.laws.specs.Sets.{one};
-ghost use Rattle.partitions.specs.Settings.{linksToB};
-ghost use Rattle.why_settings.specs.Faults.{faultNumber, slot_at, firstReserved, end_of, told, tested_of};
+ghost use Rattle.partitions.specs.Settings.{links_to_b};
+ghost use Rattle.why_settings.specs.Faults.{fault_number, slot_at, first_reserved, end_of, told, tested_of};
 
 use memory::flash::Flash;
 use partitions::{Entry, Family, Settings};
@@ -39,7 +39,7 @@ pub struct Comparison {
 
 impl Fault {
     pub fn number(self) -> u16
-        ensures { result ≡ faultNumber self }
+        ensures { result ≡ fault_number self }
     {
         match self {
             Fault::ArchOff => 201,
@@ -57,7 +57,7 @@ impl Fault {
 
 // The first user family that is reserved, 0 where none is.
 pub(crate) fn first_reserved(e: Entry) -> u32
-    ensures { result ≡ firstReserved e }
+    ensures { result ≡ first_reserved e }
 {
     let n = e.user_count;
     let users = e.users;
@@ -78,7 +78,7 @@ pub(crate) fn first_reserved(e: Entry) -> u32
 
 // Does entry k link to an entry that is "B of"? Past the table's end there is none.
 pub(crate) fn links_to_b(settings: Settings, k: usize) -> bool
-    ensures { result ≡ linksToB settings.table k }
+    ensures { result ≡ links_to_b settings.table k }
 {
     if Settings::ENTRIES <= k {
         return false;

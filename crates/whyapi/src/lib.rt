@@ -4,7 +4,7 @@ pub mod told;
 
 ghost use Rattle.std.specs.Prelude.{◌≡◌};
 ghost use Rattle.arrival.specs.Lending.{lent_at};
-ghost use Rattle.whyapi.specs.WhyCall.{callReturn, whyCallOf, placeCallOf};
+ghost use Rattle.whyapi.specs.WhyCall.{call_return, why_call_of, place_call_of};
 
 // Why an arrival is answered as it is: what `uf2_look` returns, and the reason. Nothing else is written.
 #[unsafe(no_mangle)]
@@ -19,7 +19,7 @@ pub extern "C" fn uf2_why(
     xip: &[u8],
     out: &mut [u8],
 ) -> u32
-    ensures { callReturn result out.new ≡ whyCallOf settings transfer arrival (lent_at flash seen sectors main xip) out.old }
+    ensures { call_return result out.new ≡ why_call_of settings transfer arrival (lent_at flash seen sectors main xip) out.old }
 {
     let s = settings_layout::read_settings(settings);
     let t = transfer_layout::read_transfer(transfer);
@@ -35,7 +35,7 @@ pub extern "C" fn uf2_why_place(
     family: u32,
     out: &mut [u8],
 ) -> u32
-    ensures { callReturn result out.new ≡ placeCallOf settings.now flash_len family out.old }
+    ensures { call_return result out.new ≡ place_call_of settings.now flash_len family out.old }
 {
     let s = settings_layout::read_settings(settings);
     let why = why::explain_place(s, flash_len, family);

@@ -1,6 +1,6 @@
 // What is told of a reason, and of bytes that are no settings.
 ghost use Rattle.std.specs.Prelude.{◌≡◌, ◌<◌, length};
-ghost use Rattle.whyapi.specs.Told.{toldWith, linkByte, linkTold, settingsTold};
+ghost use Rattle.whyapi.specs.Told.{told_with, link_byte, link_told, settings_told};
 
 // What is written of a reason.
 #[derive(Drop)]
@@ -33,7 +33,7 @@ pub(crate) fn told_with(
     other: u8,
     marks: [u8; 16],
 ) -> ReasonFields
-    ensures { result ≡ toldWith number got against entry other marks }
+    ensures { result ≡ told_with number got against entry other marks }
 {
     ReasonFields {
         number,
@@ -49,7 +49,7 @@ pub(crate) fn told_with(
 fn link_byte(bytes: &[u8], k: usize) -> u8
     requires bytes_len { length bytes.now ≡ 550 }
     requires k_bound { k < 16 }
-    ensures { result ≡ linkByte bytes.now k }
+    ensures { result ≡ link_byte bytes.now k }
 {
     let at = HEAD + k * ENTRY;
     let e = &bytes[at..at + ENTRY];
@@ -59,7 +59,7 @@ fn link_byte(bytes: &[u8], k: usize) -> u8
 // What is told of a link to a higher entry, where the byte is that of no link.
 fn link_told(bytes: &[u8], told: ReasonFields) -> ReasonFields
     requires { length bytes.now ≡ 550 }
-    ensures { result ≡ linkTold bytes.now told }
+    ensures { result ≡ link_told bytes.now told }
 {
     if told.number != LINKS_UP {
         return told;
@@ -77,7 +77,7 @@ fn link_told(bytes: &[u8], told: ReasonFields) -> ReasonFields
 
 // Bytes that are no settings: no number is told that is not theirs.
 pub(crate) fn settings_told(bytes: &[u8], told: ReasonFields) -> ReasonFields
-    ensures { result ≡ settingsTold bytes.now told }
+    ensures { result ≡ settings_told bytes.now told }
 {
     if bytes.len() != SETTINGS {
         return told_with(210, bytes.len() as u64, SETTINGS as u64, 0, 0, [0; 16]);

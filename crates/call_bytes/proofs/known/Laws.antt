@@ -9,62 +9,62 @@ use borrow.Author.Tests.{eqb-true, eqb-false, ne_eqb}
 use Rattle.laws.specs.Sets.{any}
 use Rattle.laws.proofs.Laws.{any-zero}
 use Rattle.laws.proofs.Tests.{split}
-use Rattle.partitions.specs.Settings.{goodSettings, enabled, familyData, familyArmNs, familyAbsolute, familyRp2040}
+use Rattle.partitions.specs.Settings.{good_settings, enabled, family_data, family_arm_ns, family_absolute, family_rp2040}
 use Rattle.partitions.proofs.Laws.{good-off, good_none}
-use Rattle.placement.specs.Passes.{usedCount}
-use Rattle.placement.specs.Place.{place_of, ramFamily, userOf, wholeIf, getsWhole}
+use Rattle.placement.specs.Passes.{used_count}
+use Rattle.placement.specs.Place.{place_of, ram_family, user_of, whole_if, gets_whole}
 use Rattle.placement.specs.declared.Place.{Place}
 use Rattle.placement.proofs.Laws.{place-absolute, place-rp2040, place-whole}
 use Rattle.uf2_checks.specs.Screen.{rooms_of}
 use Rattle.uf2_checks.specs.declared.Rooms.{Rooms}
-use Rattle.settings_layout.specs.Layout.{byte_at, isOn, archFrom, countFrom, settingsFrom, settingsOf}
+use Rattle.settings_layout.specs.Layout.{byte_at, is_on, arch_from, count_from, settings_from, settings_of}
 
-or-none : (b : Bool) → b || false ≡ b
-or-none true = refl
-or-none false = refl
+or_none : (b : Bool) → b || false ≡ b
+or_none true = refl
+or_none false = refl
 
-module _ (b : List ℕ) (z : countFrom b ≡ 0) where
-  none : (settingsFrom b).count ≡ 0
-  unfolding settingsFrom settingsOf
+module _ (b : List ℕ) (z : count_from b ≡ 0) where
+  none : (settings_from b).count ≡ 0
+  unfolding settings_from settings_of
   none = z
 
-  ram-without : (f : ℕ) → ramFamily (settingsFrom b) f ≡ (leb familyData f && leb f familyArmNs)
-  unfolding ramFamily
+  ram-without : (f : ℕ) → ram_family (settings_from b) f ≡ (leb family_data f && leb f family_arm_ns)
+  unfolding ram_family
   ram-without f =
-      ap (λ (n : ℕ). leb familyData f && leb f familyArmNs || any (usedCount n) (userOf (settingsFrom b).table f)) none
-      ∙ ap (λ (x : Bool). leb familyData f && leb f familyArmNs || x) (any-zero (userOf (settingsFrom b).table f))
-      ∙ or-none (leb familyData f && leb f familyArmNs)
+      ap (λ (n : ℕ). leb family_data f && leb f family_arm_ns || any (used_count n) (user_of (settings_from b).table f)) none
+      ∙ ap (λ (x : Bool). leb family_data f && leb f family_arm_ns || x) (any-zero (user_of (settings_from b).table f))
+      ∙ or_none (leb family_data f && leb f family_arm_ns)
 
-  pub good-without : (len : ℕ) → goodSettings (settingsFrom b) len ≡ enabled (settingsFrom b) (settingsFrom b).current
+  pub good-without : (len : ℕ) → good_settings (settings_from b) len ≡ enabled (settings_from b) (settings_from b).current
   good-without len =
-      split (enabled (settingsFrom b) (settingsFrom b).current)
-      (λ e. good_none (settingsFrom b) len e none ∙ sym e)
-      (λ e. good-off (settingsFrom b) len e ∙ sym e)
+      split (enabled (settings_from b) (settings_from b).current)
+      (λ e. good_none (settings_from b) len e none ∙ sym e)
+      (λ e. good-off (settings_from b) len e ∙ sym e)
 
-  pub enabled-arm : byte_at b 2 ≡ 0 → enabled (settingsFrom b) (settingsFrom b).current ≡ isOn (byte_at b 0)
-  unfolding settingsFrom settingsOf
+  pub enabled-arm : byte_at b 2 ≡ 0 → enabled (settings_from b) (settings_from b).current ≡ is_on (byte_at b 0)
+  unfolding settings_from settings_of
   enabled-arm e = rw e
 
-  pub enabled-riscv : byte_at b 2 ≢ 0 → enabled (settingsFrom b) (settingsFrom b).current ≡ isOn (byte_at b 1)
-  unfolding settingsFrom settingsOf
+  pub enabled-riscv : byte_at b 2 ≢ 0 → enabled (settings_from b) (settings_from b).current ≡ is_on (byte_at b 1)
+  unfolding settings_from settings_of
   enabled-riscv d = let e = ne_eqb (byte_at b 2) 0 d in simp e
 
   -- rp2040 is no family that gets the whole flash
-  place-without : (len : ℕ) {f : ℕ} → f ≢ familyAbsolute → place_of (settingsFrom b) len f ≡ wholeIf (getsWhole (isOn (byte_at b 0)) (isOn (byte_at b 1)) f) len
-  unfolding settingsFrom settingsOf
+  place-without : (len : ℕ) {f : ℕ} → f ≢ family_absolute → place_of (settings_from b) len f ≡ whole_if (gets_whole (is_on (byte_at b 0)) (is_on (byte_at b 1)) f) len
+  unfolding settings_from settings_of
   place-without len {f} d =
-      split (eqb f familyRp2040)
+      split (eqb f family_rp2040)
       (λ e.
-      let r = eqb-true f familyRp2040 e in
-      place-rp2040 (settingsFrom b) len f r ∙ rw r refl)
-      (λ e. place-whole (settingsFrom b) len f d (eqb-false f familyRp2040 e) none)
+      let r = eqb-true f family_rp2040 e in
+      place-rp2040 (settings_from b) len f r ∙ rw r refl)
+      (λ e. place-whole (settings_from b) len f d (eqb-false f family_rp2040 e) none)
 
-  pub place-absolute-without : (len : ℕ) {f : ℕ} {y : Bool} {p : Place} → f ≡ familyAbsolute → y ≡ isOn (byte_at b 4) → p ≡ wholeIf y len → p ≡ place_of (settingsFrom b) len f
-  unfolding settingsFrom settingsOf
-  place-absolute-without len {f} e hy hp = hp ∙ rw hy (sym (place-absolute (settingsFrom b) len f e))
+  pub place-absolute-without : (len : ℕ) {f : ℕ} {y : Bool} {p : Place} → f ≡ family_absolute → y ≡ is_on (byte_at b 4) → p ≡ whole_if y len → p ≡ place_of (settings_from b) len f
+  unfolding settings_from settings_of
+  place-absolute-without len {f} e hy hp = hp ∙ rw hy (sym (place-absolute (settings_from b) len f e))
 
-  pub place-other-without : (len : ℕ) {f : ℕ} {arm riscv y : Bool} {p : Place} → f ≢ familyAbsolute → arm ≡ isOn (byte_at b 0) → riscv ≡ isOn (byte_at b 1) → y ≡ getsWhole arm riscv f → p ≡ wholeIf y len → p ≡ place_of (settingsFrom b) len f
+  pub place-other-without : (len : ℕ) {f : ℕ} {arm riscv y : Bool} {p : Place} → f ≢ family_absolute → arm ≡ is_on (byte_at b 0) → riscv ≡ is_on (byte_at b 1) → y ≡ gets_whole arm riscv f → p ≡ whole_if y len → p ≡ place_of (settings_from b) len f
   place-other-without len d ha hr hy hp = hp ∙ rw (hy, ha, hr) (sym (place-without len d))
 
-  pub rooms-without : (len f : ℕ) {p : Place} {y : Bool} → p ≡ place_of (settingsFrom b) len f → y ≡ (leb familyData f && leb f familyArmNs) → record { flash = p; ram = y } ≡ rooms_of (settingsFrom b) len f
+  pub rooms-without : (len f : ℕ) {p : Place} {y : Bool} → p ≡ place_of (settings_from b) len f → y ≡ (leb family_data f && leb f family_arm_ns) → record { flash = p; ram = y } ≡ rooms_of (settings_from b) len f
   rooms-without len f hp hy = rw (hp, hy ∙ sym (ram-without f)) refl

@@ -1,5 +1,5 @@
 -- `checkapi::uf2_check` meets its contract. Assumes nothing.
-use Rattle.checkapi.proofs.Laws.{check-call}
+use Rattle.checkapi.proofs.Laws.{check_call_lem}
 use borrow.Author.Rules.{rules}
 use Rattle.checkapi.proofs.uf2_check.Statement.{statement}
 use Rattle.checkapi.proofs.uf2_check.Tie as tie
@@ -28,7 +28,7 @@ same-length-4 c = search rules
 returns : tie.Need-returns
 returns c =
     let e = c.before.before.before.before.before.before.before.before.before.before.check.ensures in
-    (check-call c.before.before.before.before.before.before.before.before.before.before.before.before.before.before.before.before.before.before.before.before.before.args.settings.now _ _ _ _ _ _ c.before.before.before.before.before.before.before.before.before.before.before.before.before.before.read-settings.ensures e.0 c.before.before.tell.ensures, e.1)
+    (check_call_lem c.before.before.before.before.before.before.before.before.before.before.before.before.before.before.before.before.before.before.before.before.before.args.settings.now _ _ _ _ _ _ c.before.before.before.before.before.before.before.before.before.before.before.before.before.before.read-settings.ensures e.0 c.before.before.tell.ensures, e.1)
 
 pub uf2-check-spec : {M : Type 1} → statement M
 uf2-check-spec =

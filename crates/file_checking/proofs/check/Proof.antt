@@ -1,7 +1,7 @@
 -- `checking::check` meets its contract. Assumes nothing.
 use mathlib.Core.Path.{sym, ap, ◌∙◌}
 use Rattle.memory.specs.Bitmap.{unmarked}
-use Rattle.file_checking.proofs.Files.{same-lengths}
+use Rattle.file_checking.proofs.Files.{same_lengths}
 use borrow.Author.Rules.{rules}
 use Rattle.file_checking.proofs.check.Statement.{statement}
 use Rattle.file_checking.proofs.check.Tie as tie
@@ -36,7 +36,7 @@ returns c =
     let b = c.before.before.before.before.before.before.before.before.before.before.before.before.before.before.before.before.before.before.before.before.before.before.before.cells.given in
     let d = c.before.before.before.before.before.before.before.before.before.before.before.before.before.before.before.before.before.before.before.before.before.offsets.given in
     let e = c.before.before.before.before.before.before.clear-maps2.ensures in
-    (same-lengths _ _ _ a b d c.before.before.before.before.before.before.before.before.before.before.before.before.before.before.before.before.judge.ensures, (e.0 ∙ ap unmarked (c.before.before.before.before.before.before.before.before.before.before.before.before.before.before.before.numbers2.given ∙ a), e.1 ∙ ap unmarked (c.before.before.before.before.before.before.before.before.before.before.before.before.before.cells2.given ∙ b), e.2 ∙ ap unmarked (c.before.before.before.before.before.before.before.before.before.before.before.offsets2.given ∙ d)))
+    (same_lengths _ _ _ a b d c.before.before.before.before.before.before.before.before.before.before.before.before.before.before.before.before.judge.ensures, (e.0 ∙ ap unmarked (c.before.before.before.before.before.before.before.before.before.before.before.before.before.before.before.numbers2.given ∙ a), e.1 ∙ ap unmarked (c.before.before.before.before.before.before.before.before.before.before.before.before.before.cells2.given ∙ b), e.2 ∙ ap unmarked (c.before.before.before.before.before.before.before.before.before.before.before.offsets2.given ∙ d)))
 
 pub check-spec : {M : Type 1} → statement M
 check-spec =

@@ -11,16 +11,16 @@ use Rattle.laws.specs.Sets.{any}
 use Rattle.laws.proofs.Tests.{clash}
 use Rattle.laws.proofs.Laws.{any-zero, any-more}
 use Rattle.uf2_known.specs.Judged.{rooms_at}
-use Rattle.file_check.specs.Check.{isValid, isFaulty}
+use Rattle.file_check.specs.Check.{is_valid, is_faulty}
 use Rattle.file_checking.specs.Pieces.Parts.{maps, Holds}
 use Rattle.file_checking.specs.Parts.{Knows}
-use Rattle.file_checking.proofs.Laws.{next-kept, knows-first, knows-next, found-is, holds_after, first-told, none_told}
+use Rattle.file_checking.proofs.Laws.{next_kept, knows_first, knows_next, found-is, holds_after, first_told, none_told}
 use Rattle.file_checking.proofs.each_piece.Statement.{statement}
 use Rattle.file_checking.proofs.each_piece.Tie as tie
 
 abbrev invariant-loop : tie.invariant-loop
 invariant-loop settings lens head file numbers₀ cells₀ offsets₀ n kept₀ i₀ numbers cells offsets kept i =
-    (i ≤ n) × (any i (isFaulty settings lens file) ≡ false) × Holds settings lens file i (maps numbers cells offsets) × Knows settings lens.flash kept × (length numbers ≡ length numbers₀) × (length cells ≡ length cells₀) × (length offsets ≡ length offsets₀)
+    (i ≤ n) × (any i (is_faulty settings lens file) ≡ false) × Holds settings lens file i (maps numbers cells offsets) × Knows settings lens.flash kept × (length numbers ≡ length numbers₀) × (length cells ≡ length cells₀) × (length offsets ≡ length offsets₀)
 
 abbrev decreases-loop : tie.decreases-loop
 decreases-loop settings lens head file numbers₀ cells₀ offsets₀ n kept₀ i₀ numbers cells offsets kept i = n - i
@@ -31,7 +31,7 @@ rooms-for-requires c κs = search rules
 loop-holds : tie.Need-loop-init invariant-loop decreases-loop
 loop-holds c =
     let a = c.before.before.before.before.before in
-    (search rules, any-zero _, a.requires.0.held, knows-first _ _ _ c.rooms-for.ensures.0 c.rooms-for.ensures.1, refl, refl, refl)
+    (search rules, any-zero _, a.requires.0.held, knows_first _ _ _ c.rooms-for.ensures.0 c.rooms-for.ensures.1, refl, refl, refl)
 
 add-after : tie.Need-overflow-add-after invariant-loop decreases-loop
 add-after c = search rules
@@ -63,14 +63,14 @@ returns c =
     let a = c.before.before.before.before.before.before.before.before.before.before.before.before.before.before.before.before.before.before.before.before.before in
     let f = c.before.before.before.before.before.before.before.before.before.before.before.before.before.field_in.ensures in
     let k = c.before.before.before.before.before.before.before.before.before.before.before.before.next.ensures in
-    let kept = next-kept _ _ _ at.invariant.3 k.0 ∙ ap (rooms_at _ _) f in
+    let kept = next_kept _ _ _ at.invariant.3 k.0 ∙ ap (rooms_at _ _) f in
     let low = k.1 at.invariant.3.low in
     let g = c.before.before.before.before.before.before.before.before.check-piece.ensures in
     let v = c.before.is-valid.ensures in
     let h = c.before.before.before.before.before.before.before.before.before.before.before.before.before.before.loop-test.true in
     let e = found-is _ _ _ a.requires.0 at.i _ h at.invariant.1 at.invariant.2 _ kept low a.requires.1 g.0 in
     let z = sym v ∙ not-true _ c.if1.true in
-    (first-told _ _ _ at.i h at.invariant.1 e z, λ y. clash _ y z)
+    (first_told _ _ _ at.i h at.invariant.1 e z, λ y. clash _ y z)
 
 loop-less : tie.Need-loop-smaller invariant-loop decreases-loop
 loop-less c = search rules
@@ -81,14 +81,14 @@ loop-again c =
     let a = c.before.before.before.before.before.before.before.before.before.before.before.before.before.before.before.before.before.before.before.before.before in
     let f = c.before.before.before.before.before.before.before.before.before.before.before.before.before.field_in.ensures in
     let k = c.before.before.before.before.before.before.before.before.before.before.before.before.next.ensures in
-    let kept = next-kept _ _ _ at.invariant.3 k.0 ∙ ap (rooms_at _ _) f in
+    let kept = next_kept _ _ _ at.invariant.3 k.0 ∙ ap (rooms_at _ _) f in
     let low = k.1 at.invariant.3.low in
     let g = c.before.before.before.before.before.before.before.before.check-piece.ensures in
     let v = c.before.is-valid.ensures in
     let h = c.before.before.before.before.before.before.before.before.before.before.before.before.before.before.loop-test.true in
     let e = found-is _ _ _ a.requires.0 at.i _ h at.invariant.1 at.invariant.2 _ kept low a.requires.1 g.0 in
     let y = sym v ∙ not-false _ c.if1.false in
-    (search rules, any-more _ _ at.invariant.1 (ap (λ x. not (isValid x)) (sym e) ∙ ap not y), holds_after _ _ _ a.requires.0 at.i _ h at.invariant.1 at.invariant.2 _ kept low a.requires.1 g.0 y _ g.1, knows-next _ _ _ at.invariant.3 k.0 k.1, c.before.before.before.before.before.before.before.numbers.given ∙ at.invariant.4, c.before.before.before.before.before.cells.given ∙ at.invariant.5, c.before.before.before.offsets.given ∙ at.invariant.6)
+    (search rules, any-more _ _ at.invariant.1 (ap (λ x. not (is_valid x)) (sym e) ∙ ap not y), holds_after _ _ _ a.requires.0 at.i _ h at.invariant.1 at.invariant.2 _ kept low a.requires.1 g.0 y _ g.1, knows_next _ _ _ at.invariant.3 k.0 k.1, c.before.before.before.before.before.before.before.numbers.given ∙ at.invariant.4, c.before.before.before.before.before.cells.given ∙ at.invariant.5, c.before.before.before.offsets.given ∙ at.invariant.6)
 
 same-length-4 : tie.Need-same-length-4 invariant-loop decreases-loop
 same-length-4 c = c.before.loop.invariant.4

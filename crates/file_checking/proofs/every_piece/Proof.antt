@@ -1,7 +1,7 @@
 -- `checking::every_piece` meets its contract. Assumes nothing.
 use mathlib.Core.Path.{sym, ◌∙◌}
 use borrow.Author.Tests.{not-true, not-false}
-use Rattle.file_checking.proofs.Files.{fault-first, no-fault, counted}
+use Rattle.file_checking.proofs.Files.{fault-first, no_fault, counted}
 use borrow.Author.Rules.{rules}
 use Rattle.file_checking.proofs.every_piece.Statement.{statement}
 use Rattle.file_checking.proofs.every_piece.Tie as tie
@@ -42,7 +42,7 @@ same-length-6 : tie.Need-same-length-6
 same-length-6 c = search rules
 
 returns-2 : tie.Need-returns-2
-returns-2 c = no-fault _ _ _ c.before.before.before.before.before.before.before.before.before.before.each-piece.ensures.0 (sym c.before.before.before.is-valid.ensures ∙ not-false _ c.before.before.if1.false) c.whole.ensures
+returns-2 c = no_fault _ _ _ c.before.before.before.before.before.before.before.before.before.before.each-piece.ensures.0 (sym c.before.before.before.is-valid.ensures ∙ not-false _ c.before.before.if1.false) c.whole.ensures
 
 pub every-piece-spec : {M : Type 1} → statement M
 every-piece-spec =

@@ -1,5 +1,5 @@
 -- `checking::head_of` meets its contract. Assumes nothing.
-use Rattle.file_checking.proofs.Files.{head-is}
+use Rattle.file_checking.proofs.Files.{head_is}
 use borrow.Author.Rules.{rules}
 use Rattle.file_checking.proofs.head_of.Statement.{statement}
 use Rattle.file_checking.proofs.head_of.Tie as tie
@@ -23,7 +23,7 @@ new-requires : tie.Need-new-requires
 new-requires c κs = search rules
 
 returns : tie.Need-returns
-returns c = head-is _ _ c.before.before.before.before.before.is-page.ensures c.before.before.before.before.field_in.ensures c.before.before.before.field-in2.ensures c.before.before.field-in3.ensures c.before.kind-of.ensures c.new.ensures
+returns c = head_is _ _ c.before.before.before.before.before.is-page.ensures c.before.before.before.before.field_in.ensures c.before.before.before.field-in2.ensures c.before.before.field-in3.ensures c.before.kind-of.ensures c.new.ensures
 
 pub head-of-spec : {M : Type 1} → statement M
 head-of-spec =

@@ -1,6 +1,6 @@
 -- `checking::judge` meets its contract. Assumes nothing.
 use native.Mathlib.Omega.{arith}
-use Rattle.file_checking.proofs.Files.{bad-buffers, bad-settings, ragged, nothing-there, by-pieces, right_is, good-is, opened}
+use Rattle.file_checking.proofs.Files.{bad-buffers, bad_settings, ragged, nothing-there, by-pieces, right_is, good_is, opened}
 use borrow.Author.Rules.{rules}
 use Rattle.file_checking.proofs.judge.Statement.{statement}
 use Rattle.file_checking.proofs.judge.Tie as tie
@@ -15,7 +15,7 @@ good-requires : tie.Need-good-requires
 good-requires c κs = search rules
 
 returns-2 : tie.Need-returns-2
-returns-2 c = bad-settings _ _ _ _ _ _ c.before.before.before.right-maps.ensures c.before.before.if1.false c.before.good2.ensures c.if2.true
+returns-2 c = bad_settings _ _ _ _ _ _ c.before.before.before.right-maps.ensures c.before.before.if1.false c.before.good2.ensures c.if2.true
 
 returns-3 : tie.Need-returns-3
 returns-3 c = ragged _ _ _ _ _ _ c.before.before.before.before.right-maps.ensures c.before.before.before.if1.false c.before.before.good2.ensures c.before.if2.false c.if3.true
@@ -24,7 +24,7 @@ returns-4 : tie.Need-returns-4
 returns-4 c = nothing-there _ _ _ _ _ _ c.before.before.before.before.before.right-maps.ensures c.before.before.before.before.if1.false c.before.before.before.good2.ensures c.before.before.if2.false c.before.if3.false c.if4.true
 
 every-piece-requires : tie.Need-every-piece-requires
-every-piece-requires c κs = (opened _ _ _ _ _ _ c.before.before.before.before.before.before.before.before.before.before.before.before.before.requires (right_is c.before.before.before.before.before.before.before.before.before.before.before.before.before.args.settings _ _ _ _ c.before.before.before.before.before.before.before.before.before.before.before.before.before.args.file.now c.before.before.before.before.before.before.before.before.right-maps.ensures c.before.before.before.before.before.before.before.if1.false) (good-is _ _ _ _ _ c.before.before.before.before.before.before.before.before.before.before.before.before.before.args.file.now c.before.before.before.before.before.before.before.before.right-maps.ensures c.before.before.before.before.before.before.before.if1.false c.before.before.before.before.before.before.good2.ensures c.before.before.before.before.before.if2.false), omega (arith, c.before.before.before.before.if3.false, c.before.before.before.if4.false))
+every-piece-requires c κs = (opened _ _ _ _ _ _ c.before.before.before.before.before.before.before.before.before.before.before.before.before.requires (right_is c.before.before.before.before.before.before.before.before.before.before.before.before.before.args.settings _ _ _ _ c.before.before.before.before.before.before.before.before.before.before.before.before.before.args.file.now c.before.before.before.before.before.before.before.before.right-maps.ensures c.before.before.before.before.before.before.before.if1.false) (good_is _ _ _ _ _ c.before.before.before.before.before.before.before.before.before.before.before.before.before.args.file.now c.before.before.before.before.before.before.before.before.right-maps.ensures c.before.before.before.before.before.before.before.if1.false c.before.before.before.before.before.before.good2.ensures c.before.before.before.before.before.if2.false), omega (arith, c.before.before.before.before.if3.false, c.before.before.before.if4.false))
 
 same_length : tie.Need-same-length
 same_length c = search rules

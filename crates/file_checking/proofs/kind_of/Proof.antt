@@ -1,5 +1,5 @@
 -- `checking::kind_of` meets its contract. Assumes nothing.
-use Rattle.file_checking.proofs.Files.{kind-page}
+use Rattle.file_checking.proofs.Files.{kind_page}
 use borrow.Author.Rules.{rules}
 use Rattle.file_checking.proofs.kind_of.Statement.{statement}
 use Rattle.file_checking.proofs.kind_of.Tie as tie
@@ -11,7 +11,7 @@ window-kind-requires : tie.Need-window-kind-requires
 window-kind-requires c κs = search rules
 
 returns : tie.Need-returns
-returns c = kind-page _ _ _ c.before.before.if1.true c.before.window-of.ensures c.window-kind.ensures
+returns c = kind_page _ _ _ c.before.before.if1.true c.before.window-of.ensures c.window-kind.ensures
 
 returns-2 : tie.Need-returns-2
 returns-2 c = search rules

@@ -2,7 +2,7 @@
 use mathlib.Core.Path.{refl, ◌∙◌}
 use native.Mathlib.Omega.{arith}
 use Rattle.laws.specs.Sets.{any}
-use Rattle.hex_digits.specs.Digits.{digitOf}
+use Rattle.hex_digits.specs.Digits.{digit_of}
 use Rattle.hex_digits.proofs.Table.{Bytes, tells, told-first, told-decoded}
 use borrow.Author.Rules.{rules}
 use Rattle.hex_digits.proofs.judge.Statement.{statement}
@@ -15,7 +15,7 @@ same_length : tie.Need-same-length
 same_length c = search rules
 
 returns : tie.Need-returns
-unfolding digitOf any
+unfolding digit_of any
 returns c =
     let d = c.before.before in
     let n = d.before.before.before.before in

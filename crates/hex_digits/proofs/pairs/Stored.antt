@@ -9,11 +9,11 @@ use lib.ListN.{length, get_or, take, drop, set, drop_of_length-le}
 use lib.Seq.{take_all, take-suc, drop-cons, set_at, append_snoc, length-take-le}
 use borrow.Author.Tests.{ltb-true, ltb-false}
 use Rattle.laws.proofs.Tests.{split}
-use Rattle.hex_digits.specs.Pairs.{bytesBy, decodedBy}
+use Rattle.hex_digits.specs.Pairs.{bytes_by, decoded_by}
 
 module _ (v : ℕ → ℕ) where
-  pub length-bytes : (l : List ℕ) → length (bytesBy v l) ≡ length l / 2
-  unfolding bytesBy
+  pub length-bytes : (l : List ℕ) → length (bytes_by v l) ≡ length l / 2
+  unfolding bytes_by
   length-bytes [] = refl
   length-bytes (c ∷ []) = refl
   length-bytes (c ∷ d ∷ l) = omega (arith, length-bytes l)
@@ -22,8 +22,8 @@ module _ (v : ℕ → ℕ) where
   abbrev pub pair : List ℕ → ℕ → ℕ
   pair l k = 16 * (v (get_or l (2 * k) 0) % 16) + v (get_or l (2 * k + 1) 0) % 16
 
-  pub bytes-at : (l : List ℕ) (k : ℕ) → 2 * k + 1 < length l → get_or (bytesBy v l) k 0 ≡ pair l k
-  unfolding bytesBy
+  pub bytes-at : (l : List ℕ) (k : ℕ) → 2 * k + 1 < length l → get_or (bytes_by v l) k 0 ≡ pair l k
+  unfolding bytes_by
   bytes-at [] k h = absurd (omega arith)
   bytes-at (c ∷ []) k h = absurd (omega arith)
   bytes-at (c ∷ d ∷ l) zero h = refl
@@ -34,14 +34,14 @@ module _ (v : ℕ → ℕ) where
 
   -- the first i bytes over the beginning of `out`
   abbrev pub begun : List ℕ → List ℕ → ℕ → List ℕ
-  begun l out i = take i (bytesBy v l) ++ drop i out
+  begun l out i = take i (bytes_by v l) ++ drop i out
 
   -- one byte more, as a loop stores it
   pub begun-next : (l lent out : List ℕ) (i : ℕ) {high low : ℕ} → i < min (length l / 2) (length lent)
       → high ≡ v (get_or l (2 * i) 0) → low ≡ v (get_or l (2 * i + 1) 0) → out ≡ begun l lent i
       → set out i (16 * (high % 16) + low % 16) ≡ begun l lent (i + 1)
   begun-next l lent out i {high} {low} h e f q =
-      let w = bytesBy v l in
+      let w = bytes_by v l in
       let x = 16 * (high % 16) + low % 16 in
       let k : i < length w = omega (arith, length-bytes l) in
       let b : get_or w i 0 ≡ x = bytes-at l i (omega arith) ∙ rw (e, f) in
@@ -49,10 +49,10 @@ module _ (v : ℕ → ℕ) where
       (sym (append_snoc (take i w) x (drop (suc i) lent)))
 
   -- as many as there are and `out` has room for
-  pub begun_all : (l out : List ℕ) (k : ℕ) → k ≡ min (length l / 2) (length out) → begun l out k ≡ decodedBy v l out
-  unfolding decodedBy
+  pub begun_all : (l out : List ℕ) (k : ℕ) → k ≡ min (length l / 2) (length out) → begun l out k ≡ decoded_by v l out
+  unfolding decoded_by
   begun_all l out k m =
-      let w = bytesBy v l in
+      let w = bytes_by v l in
       let n : length w ≡ length l / 2 = length-bytes l in
       split (ltb (length out) (length l / 2))
       (λ y.

@@ -1,6 +1,6 @@
 -- `hexlines::add` meets its contract. Assumes nothing.
 use native.Mathlib.Omega.{arith}
-use Rattle.text.proofs.hex_answer.Laws.{hex-answer-short}
+use Rattle.text.proofs.hex_answer.Laws.{hex_answer_short}
 use borrow.Author.Rules.{rules}
 use Rattle.hexlines.proofs.add.Statement.{statement}
 use Rattle.hexlines.proofs.add.Tie as tie
@@ -11,7 +11,7 @@ hex-answer-line-requires c κs = search rules
 room-requires : tie.Need-room-requires
 room-requires c κs =
     let x = c.before.before.before.before in
-    omega (arith, c.before.hex-answer-line.ensures.0, hex-answer-short x.args.index x.args.answer, x.requires)
+    omega (arith, c.before.hex-answer-line.ensures.0, hex_answer_short x.args.index x.args.answer, x.requires)
 
 add-e : tie.Need-overflow-add-e
 add-e c = search rules

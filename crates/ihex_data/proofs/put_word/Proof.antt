@@ -1,5 +1,5 @@
 -- `datalines::put_word` meets its contract. Assumes nothing.
-use Rattle.ihex_write.proofs.Lines.{put-record-line}
+use Rattle.ihex_write.proofs.Lines.{put_record_line}
 use native.Mathlib.Omega.{arith}
 use mathlib.Core.Path.{◌∙◌}
 use borrow.Author.Rules.{rules}
@@ -22,7 +22,7 @@ same_length : tie.Need-same-length
 same_length c = search rules
 
 returns : tie.Need-returns
-returns c = c.before.before.put_record.ensures ∙ put-record-line _ _ _ _ _ (omega arith)
+returns c = c.before.before.put_record.ensures ∙ put_record_line _ _ _ _ _ (omega arith)
 
 pub put-word-spec : {M : Type 1} → statement M
 put-word-spec =

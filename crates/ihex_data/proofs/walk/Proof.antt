@@ -1,8 +1,8 @@
 -- `datalines::walk` meets its contract. Assumes nothing.
-use Rattle.ihex_data.proofs.Walked.{Going, going-first, going_next, going-stop, going-last}
+use Rattle.ihex_data.proofs.Walked.{Going, going_first, going_next, going-stop, going-last}
 use lib.ListN.{length}
 use Prim.Native.Nat.{◌-◌}
-use Rattle.laws.proofs.Numbered.{answer-is}
+use Rattle.laws.proofs.Numbered.{answer_is}
 use borrow.Author.Rules.{rules}
 use Rattle.ihex_data.proofs.walk.Statement.{statement}
 use Rattle.ihex_data.proofs.walk.Tie as tie
@@ -20,7 +20,7 @@ fresh-requires-2 : tie.Need-fresh-requires-2 invariant-loop decreases-loop
 fresh-requires-2 c κs = search rules
 
 loop-holds : tie.Need-loop-init invariant-loop decreases-loop
-loop-holds c = rw (c.before.fresh.ensures, c.fresh2.ensures) (going-first _ _ _ _)
+loop-holds c = rw (c.before.fresh.ensures, c.fresh2.ensures) (going_first _ _ _ _)
 
 line-end-requires : tie.Need-line-end-requires invariant-loop decreases-loop
 line-end-requires c κs = search rules
@@ -76,7 +76,7 @@ same-length-2 c = search rules
 returns-2 : tie.Need-returns-2 invariant-loop decreases-loop
 returns-2 c =
     let a = c.before.before.before.before.before.before.before.before.before.args in
-    going-last a.out.now a.at a.kind a.text.now c.before.before.before.before.loop.invariant c.before.before.before.loop-test.false (answer-is c.close.ensures)
+    going-last a.out.now a.at a.kind a.text.now c.before.before.before.before.loop.invariant c.before.before.before.loop-test.false (answer_is c.close.ensures)
 
 pub walk-spec : {M : Type 1} → statement M
 walk-spec =

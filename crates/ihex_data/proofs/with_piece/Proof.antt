@@ -1,5 +1,5 @@
 -- `datalines::with_piece` meets its contract. Assumes nothing.
-use Rattle.ihex_data.proofs.Tallied.{at_most, piece-kept}
+use Rattle.ihex_data.proofs.Tallied.{at_most, piece_kept}
 use native.Mathlib.Omega.{arith}
 use borrow.Author.Rules.{rules}
 use Rattle.ihex_data.proofs.with_piece.Statement.{statement}
@@ -27,7 +27,7 @@ add-len-3 : tie.Need-overflow-add-len-3
 add-len-3 c = omega (arith, at_most c.before.before.changes.result c.before.pick2.ensures)
 
 returns : tie.Need-returns
-returns c = piece-kept c.before.before.before.before.args.tally c.before.before.before.before.args.upper c.before.before.before.before.args.n c.before.before.before.pick.ensures c.before.before.changes.ensures c.before.pick2.ensures
+returns c = piece_kept c.before.before.before.before.args.tally c.before.before.before.before.args.upper c.before.before.before.before.args.n c.before.before.before.pick.ensures c.before.before.changes.ensures c.before.pick2.ensures
 
 pub with-piece-spec : {M : Type 1} → statement M
 with-piece-spec =

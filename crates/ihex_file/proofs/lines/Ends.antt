@@ -10,70 +10,70 @@ use lib.Seq.{drop-drop, take-length}
 use borrow.Author.Tests.{lt-ltb, le-ltb, ltb-true, ltb-false, eqb-true}
 use Rattle.laws.proofs.Tests.{split}
 use Rattle.bytes.specs.Bytes.{slice, index_after, index_of}
-use Rattle.ihex_file.specs.Lines.{glue, lines_of, lineLen, end_of}
+use Rattle.ihex_file.specs.Lines.{glue, lines_of, line_len, end_of}
 
 -- ---- the first line
 
-pub len-some : (s : List ℕ) → 1 ≤ length s → 1 ≤ lineLen s
-unfolding lineLen
-len-some [] h = absurd (omega arith)
-len-some (c ∷ cs) h = split (eqb c 10) (λ y. rw y (omega arith)) (λ n. rw n (omega arith))
+pub len_some : (s : List ℕ) → 1 ≤ length s → 1 ≤ line_len s
+unfolding line_len
+len_some [] h = absurd (omega arith)
+len_some (c ∷ cs) h = split (eqb c 10) (λ y. rw y (omega arith)) (λ n. rw n (omega arith))
 
-pub len-most : (s : List ℕ) → lineLen s ≤ length s
-unfolding lineLen
-len-most [] = omega arith
-len-most (c ∷ cs) =
-    let h : lineLen cs ≤ length cs = len-most cs in
+pub len_most : (s : List ℕ) → line_len s ≤ length s
+unfolding line_len
+len_most [] = omega arith
+len_most (c ∷ cs) =
+    let h : line_len cs ≤ length cs = len_most cs in
     split (eqb c 10) (λ y. rw y (omega arith)) (λ n. rw n (omega arith))
 
-lines_step : (c : ℕ) (cs : List ℕ) → glue c (lines_of cs) ≡ (c ∷ take (lineLen cs) cs) ∷ lines_of (drop (lineLen cs) cs)
-    → lines_of (c ∷ cs) ≡ take (lineLen (c ∷ cs)) (c ∷ cs) ∷ lines_of (drop (lineLen (c ∷ cs)) (c ∷ cs))
-unfolding lines_of lineLen
+lines_step : (c : ℕ) (cs : List ℕ) → glue c (lines_of cs) ≡ (c ∷ take (line_len cs) cs) ∷ lines_of (drop (line_len cs) cs)
+    → lines_of (c ∷ cs) ≡ take (line_len (c ∷ cs)) (c ∷ cs) ∷ lines_of (drop (line_len (c ∷ cs)) (c ∷ cs))
+unfolding lines_of line_len
 lines_step c cs h =
     split (eqb c 10)
     (λ y. rw y (ap (λ (x : ℕ). (x ∷ []) ∷ lines_of cs) (sym (eqb-true c 10 y))))
     (λ n. rw n h)
 
-pub lines-first : (s : List ℕ) → 1 ≤ length s → lines_of s ≡ take (lineLen s) s ∷ lines_of (drop (lineLen s) s)
-unfolding lines_of lineLen
-lines-first [] h = absurd (omega arith)
-lines-first (c ∷ []) h = lines_step c [] refl
-lines-first (c ∷ d ∷ s) h = lines_step c (d ∷ s) (ap (glue c) (lines-first (d ∷ s) (omega arith)))
+pub lines_first : (s : List ℕ) → 1 ≤ length s → lines_of s ≡ take (line_len s) s ∷ lines_of (drop (line_len s) s)
+unfolding lines_of line_len
+lines_first [] h = absurd (omega arith)
+lines_first (c ∷ []) h = lines_step c [] refl
+lines_first (c ∷ d ∷ s) h = lines_step c (d ∷ s) (ap (glue c) (lines_first (d ∷ s) (omega arith)))
 
 -- ---- the line at an index
 
-pub end-some : (s : List ℕ) (i : ℕ) → i < length s → i < end_of s i
+pub end_some : (s : List ℕ) (i : ℕ) → i < length s → i < end_of s i
 unfolding end_of
-end-some s i h = rw (lt-ltb i (length s) h) (omega (arith, len-some (drop i s) (omega (arith, length-drop i s))))
+end_some s i h = rw (lt-ltb i (length s) h) (omega (arith, len_some (drop i s) (omega (arith, length-drop i s))))
 
-pub end-most : (s : List ℕ) (i : ℕ) → end_of s i ≤ length s
+pub end_most : (s : List ℕ) (i : ℕ) → end_of s i ≤ length s
 unfolding end_of
-end-most s i =
+end_most s i =
     split (ltb i (length s))
-    (λ y. rw y (omega (arith, len-most (drop i s), length-drop i s, ltb-true i (length s) y)))
+    (λ y. rw y (omega (arith, len_most (drop i s), length-drop i s, ltb-true i (length s) y)))
     (λ n. rw n (omega arith))
 
 pub lines_at : (s : List ℕ) (i : ℕ) → i < length s → lines_of (drop i s) ≡ take (end_of s i - i) (drop i s) ∷ lines_of (drop (end_of s i) s)
 unfolding end_of
 lines_at s i h =
-    let n = lineLen (drop i s) in
+    let n = line_len (drop i s) in
     let e : i + n - i ≡ n = omega arith in
     rw (lt-ltb i (length s) h)
-    (lines-first (drop i s) (omega (arith, length-drop i s))
+    (lines_first (drop i s) (omega (arith, length-drop i s))
     ∙ ap (λ (l : List ℕ). take n (drop i s) ∷ lines_of l) (drop-drop n i s)
     ∙ ap (λ (k : ℕ). take k (drop i s) ∷ lines_of (drop (i + n) s)) (sym e))
 
 -- ---- as the code finds it
 
 -- by the index of the first LF
-len-index : (s : List ℕ) → lineLen s ≡ cond (ltb (index_of 10 s) (length s)) (index_of 10 s + 1) (index_of 10 s)
-unfolding lineLen index_of index_after
-len-index [] = refl
-len-index (c ∷ cs) =
+len_index : (s : List ℕ) → line_len s ≡ cond (ltb (index_of 10 s) (length s)) (index_of 10 s + 1) (index_of 10 s)
+unfolding line_len index_of index_after
+len_index [] = refl
+len_index (c ∷ cs) =
     split (eqb c 10)
     (λ y. rw (y, lt-ltb 0 (suc (length cs)) (omega arith)))
     (λ n.
-    rw (n, len-index cs)
+    rw (n, len_index cs)
     (split (ltb (index_of 10 cs) (length cs))
     (λ y. rw (y, lt-ltb (suc (index_of 10 cs)) (suc (length cs)) (omega (arith, ltb-true (index_of 10 cs) (length cs) y))) (omega arith))
     (λ z. rw (z, le-ltb (suc (index_of 10 cs)) (suc (length cs)) (omega (arith, ltb-false (index_of 10 cs) (length cs) z))) (omega arith))))
@@ -81,17 +81,17 @@ len-index (c ∷ cs) =
 end_after : (s : List ℕ) (at : ℕ) → min (at + 1) (length s) ≤ end_of s at
 end_after s at =
     split (ltb at (length s))
-    (λ y. omega (arith, end-some s at (ltb-true at (length s) y)))
+    (λ y. omega (arith, end_some s at (ltb-true at (length s) y)))
     (λ n. unfold end_of in rw n (omega arith))
 
 abbrev Ends : List ℕ → ℕ → ℕ → Type 0
 Ends s at r = (r ≡ end_of s at) × ((r ≤ length s) × (min (at + 1) (length s) ≤ r))
 
 ends_at : (s : List ℕ) (at r : ℕ) → r ≡ end_of s at → Ends s at r
-ends_at s at r e = (e, (rw e (end-most s at), rw e (end_after s at)))
+ends_at s at r e = (e, (rw e (end_most s at), rw e (end_after s at)))
 
-pub ends-past : (s : List ℕ) (at : ℕ) → length s ≤ at → Ends s at (length s)
-ends-past s at h = ends_at s at (length s) (unfold end_of in rw (le-ltb at (length s) h))
+pub ends_past : (s : List ℕ) (at : ℕ) → length s ≤ at → Ends s at (length s)
+ends_past s at h = ends_at s at (length s) (unfold end_of in rw (le-ltb at (length s) h))
 
 -- the search from an index on found f
 module _ (s : List ℕ) (at f : ℕ) (inside : at < length s) (found : f ≡ at + index_of 10 (slice at (length s) s)) where
@@ -104,11 +104,11 @@ module _ (s : List ℕ) (at f : ℕ) (inside : at < length s) (found : f ≡ at 
   ends-lf h =
       let k = index_of 10 (drop at s) in
       ends_at s at (f + 1)
-      (rw (lt-ltb at (length s) inside, len-index (drop at s), lt-ltb k (length (drop at s)) (omega (arith, length-drop at s, from-here))) (omega (arith, from-here)))
+      (rw (lt-ltb at (length s) inside, len_index (drop at s), lt-ltb k (length (drop at s)) (omega (arith, length-drop at s, from-here))) (omega (arith, from-here)))
 
   pub ends-text : length s ≤ f → Ends s at f
   unfolding end_of
   ends-text h =
       let k = index_of 10 (drop at s) in
       ends_at s at f
-      (rw (lt-ltb at (length s) inside, len-index (drop at s), le-ltb k (length (drop at s)) (omega (arith, length-drop at s, from-here))) from-here)
+      (rw (lt-ltb at (length s) inside, len_index (drop at s), le-ltb k (length (drop at s)) (omega (arith, length-drop at s, from-here))) from-here)

@@ -7,7 +7,7 @@ use native.Mathlib.Omega.{arith}
 use lib.Dec.{eqb}
 use borrow.Author.Tests.{eqb-true, eqb-false}
 use Rattle.laws.proofs.Tests.{split}
-use Rattle.ihex_file.specs.Lines.{glue, lines_of, NoLF, LinesOf, no_line, last_line, line, Lines-are}
+use Rattle.ihex_file.specs.Lines.{glue, lines_of, NoLF, LinesOf, no_line, last_line_case, line, LinesAre}
 
 none_in : NoLF []
 none_in i h = absurd (omega arith)
@@ -17,12 +17,12 @@ none_more c t n h zero l = n
 none_more c t n h (suc i) l = h i (omega arith)
 
 glued : (c : ℕ) → c ≢ 10 → {s : List ℕ} {ls : List (List ℕ)} → LinesOf s ls → LinesOf (c ∷ s) (glue c ls)
-glued c n no_line = last_line {t = c ∷ []} (omega arith) (none_more c [] n none_in)
-glued c n (last_line {t} m h) = last_line {t = c ∷ t} (omega arith) (none_more c t n h)
+glued c n no_line = last_line_case {t = c ∷ []} (omega arith) (none_more c [] n none_in)
+glued c n (last_line_case {t} m h) = last_line_case {t = c ∷ t} (omega arith) (none_more c t n h)
 glued c n (line t h r) = line (c ∷ t) (none_more c t n h) r
 
-pub lines_are : Lines-are
-unfolding Lines-are lines_of
+pub lines_are : LinesAre
+unfolding LinesAre lines_of
 lines_are [] = no_line
 lines_are (c ∷ s) =
     let r = lines_are s in

@@ -3,9 +3,9 @@ use Rattle.std.proofs.Common.{◌≡◌, ℕ, ◌+◌, ◌*◌, ◌/◌, ◌%◌
 use borrow.Author.Tests.{eqb-false}
 use Rattle.laws.proofs.Tests.{split}
 use Rattle.ihex_record.specs.declared.ParseResult.TheVariants.{TooLong, BadLength, BadSum}
-use Rattle.ihex_record.specs.Record.{len_of, total, good, refused, lineOfBytes}
+use Rattle.ihex_record.specs.Record.{len_of, total, good, refused, line_of_bytes}
 use Rattle.ihex_record.proofs.Checks.{is-too-long, is-bad-length, is-bad-sum, is-good}
-use Rattle.ihex_record.specs.Bytes.{lineIn}
+use Rattle.ihex_record.specs.Bytes.{line_in}
 
 module _ (n : ℕ) (b : List ℕ) where
   -- the bytes that the length field speaks of
@@ -18,27 +18,27 @@ module _ (n : ℕ) (b : List ℕ) where
   len-all : len_of all ≡ len_of b
   len-all = len-first (len_of b + 5) (omega arith)
 
-  pub in-too-long : 32 < len_of b → refused TooLong ≡ lineIn n b
-  unfolding lineIn
+  pub in-too-long : 32 < len_of b → refused TooLong ≡ line_in n b
+  unfolding line_in
   in-too-long h = is-too-long n all (rw len-all h)
 
   module _ (fits : len_of b ≤ 32) where
-    pub in-bad-length : (n ≡ 11 + 2 * len_of b → ⊥) → refused BadLength ≡ lineIn n b
-    unfolding lineIn
+    pub in-bad-length : (n ≡ 11 + 2 * len_of b → ⊥) → refused BadLength ≡ line_in n b
+    unfolding line_in
     in-bad-length h = is-bad-length n all (rw len-all fits) (rw len-all h)
 
     module _ (long : n ≡ 11 + 2 * len_of b) where
-      pub in-bad-sum : (total all % 256 ≡ 0 → ⊥) → refused BadSum ≡ lineIn n b
-      unfolding lineIn
+      pub in-bad-sum : (total all % 256 ≡ 0 → ⊥) → refused BadSum ≡ line_in n b
+      unfolding line_in
       in-bad-sum h = is-bad-sum n all (rw len-all fits) (rw len-all long) h
 
-      pub in-good : total all % 256 ≡ 0 → good all ≡ lineIn n b
-      unfolding lineIn
+      pub in-good : total all % 256 ≡ 0 → good all ≡ line_in n b
+      unfolding line_in
       in-good h = is-good n all (rw len-all fits) (rw len-all long) h
 
   -- the bytes that n characters say
-  pub in_bytes : 10 < n → lineIn n b ≡ lineOfBytes n (take (n / 2) b)
-  unfolding lineIn
+  pub in_bytes : 10 < n → line_in n b ≡ line_of_bytes n (take (n / 2) b)
+  unfolding line_in
   in_bytes m =
       let w = take (n / 2) b in
       let f : len_of w ≡ len_of b = len-first (n / 2) (omega arith) in
@@ -52,7 +52,7 @@ module _ (n : ℕ) (b : List ℕ) where
       (λ z.
       let q : n ≡ 11 + 2 * len_of b = eqb-true _ _ z in
       let k : len_of b + 5 ≡ n / 2 = omega arith in
-      ap (λ (j : ℕ). lineOfBytes n (take j b)) k)
+      ap (λ (j : ℕ). line_of_bytes n (take j b)) k)
       (λ z.
       let q : n ≡ 11 + 2 * len_of b → ⊥ = eqb-false _ _ z in
       sym (in-bad-length h q) ∙ is-bad-length n w (rw f h) (rw f q)))

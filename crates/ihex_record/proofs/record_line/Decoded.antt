@@ -2,16 +2,16 @@
 use Rattle.std.proofs.Common.{◌≡◌, ℕ, ◌+◌, ◌-◌, ◌*◌, ◌/◌, ◌%◌, ◌<◌, ◌≤◌, true, false, ltb, List, length, get_or, take, drop, sym, ap, ◌∙◌, arith, length-drop, take_all, get_or-take, ltb-false, ltb-true}
 use Rattle.laws.proofs.Tests.{split}
 use Rattle.ihex_record.specs.declared.ParseResult.TheVariants.{BadDigit}
-use Rattle.ihex_record.specs.Record.{digitOf, allDigits, firstBad, bytes_of, len_of, badShape, refused, lineOfBytes, lineOfText}
+use Rattle.ihex_record.specs.Record.{digit_of, all_digits, first_bad, bytes_of, len_of, bad_shape, refused, line_of_bytes, line_of_text}
 use Rattle.hex_digits.proofs.Digits.{length-bytes, Decoding, rest}
-use Rattle.hex_digits.proofs.FirstBad.{bad-some, bad-all}
+use Rattle.hex_digits.proofs.FirstBad.{bad_some, bad_all}
 use Rattle.ihex_record.proofs.Checks.{is-too-long, is-bad-length, shaped, is-bad-digit, is-bytes}
-use Rattle.ihex_record.specs.Bytes.{lineIn}
+use Rattle.ihex_record.specs.Bytes.{line_in}
 use Rattle.ihex_record.proofs.record_bytes.InBytes.{in_bytes}
 
 -- the first 37 bytes decide
-first-37 : (n : ℕ) (b : List ℕ) → n ≡ 1 + 2 * length b → lineOfBytes n (take 37 b) ≡ lineOfBytes n b
-first-37 n b e =
+first_37 : (n : ℕ) (b : List ℕ) → n ≡ 1 + 2 * length b → line_of_bytes n (take 37 b) ≡ line_of_bytes n b
+first_37 n b e =
     split (ltb 37 (length b))
     (λ y.
     let h : 37 < length b = ltb-true 37 (length b) y in
@@ -23,27 +23,27 @@ first-37 n b e =
     (λ t.
     let g : len_of b ≤ 32 = ltb-false 32 (len_of b) t in
     sym (is-bad-length n (take 37 b) (rw f g) (λ q. omega arith)) ∙ is-bad-length n b g (λ q. omega arith)))
-    (λ y. ap (lineOfBytes n) (take_all 37 b (ltb-false 37 (length b) y)))
+    (λ y. ap (line_of_bytes n) (take_all 37 b (ltb-false 37 (length b) y)))
 
-module _ (t : List ℕ) (some : length t ≡ 0 → ⊥) (colon : get_or t 0 0 ≡ 58) (shape : badShape (length t) ≡ false) where
+module _ (t : List ℕ) (some : length t ≡ 0 → ⊥) (colon : get_or t 0 0 ≡ 58) (shape : bad_shape (length t) ≡ false) where
   -- as the code lends the characters, and finds the first bad one
-  module _ {b : ℕ} (found : b ≡ firstBad (take (length t - 1) (drop 1 t))) where
-    found_in : b ≡ firstBad (drop 1 t)
-    found_in = found ∙ ap firstBad (rest 1 t)
+  module _ {b : ℕ} (found : b ≡ first_bad (take (length t - 1) (drop 1 t))) where
+    found_in : b ≡ first_bad (drop 1 t)
+    found_in = found ∙ ap first_bad (rest 1 t)
 
-    pub is-bad-at : b < length t - 1 → refused (BadDigit (b + 1)) ≡ lineOfText t
+    pub is-bad-at : b < length t - 1 → refused (BadDigit (b + 1)) ≡ line_of_text t
     is-bad-at h =
-        is-bad-digit t some colon shape (omega (arith, found_in)) (bad-some (drop 1 t) (omega (arith, found_in, length-drop 1 t)))
+        is-bad-digit t some colon shape (omega (arith, found_in)) (bad_some (drop 1 t) (omega (arith, found_in, length-drop 1 t)))
 
-    pub is-all-good : length t - 1 ≤ b → allDigits (drop 1 t) ≡ true
-    is-all-good h = bad-all (drop 1 t) (omega (arith, found_in, length-drop 1 t))
+    pub is-all-good : length t - 1 ≤ b → all_digits (drop 1 t) ≡ true
+    is-all-good h = bad_all (drop 1 t) (omega (arith, found_in, length-drop 1 t))
 
-  pub is-decoded : (out : List ℕ) → allDigits (drop 1 t) ≡ true → length out ≡ 37 → Decoding (drop 1 t) out → lineIn (length t) out ≡ lineOfText t
+  pub is-decoded : (out : List ℕ) → all_digits (drop 1 t) ≡ true → length out ≡ 37 → Decoding (drop 1 t) out → line_in (length t) out ≡ line_of_text t
   is-decoded out e n d =
       let o : length t % 2 ≡ 1 = (shaped (length t) shape).odd in
       let m : 10 < length t = (shaped (length t) shape).least in
       let h : length (drop 1 t) / 2 ≡ length t / 2 = simp length-drop (omega arith) in
       let f : take (length t / 2) out ≡ take 37 (bytes_of (drop 1 t)) = rw (h, n) at d in
       in_bytes (length t) out m
-      ∙ rw f (first-37 (length t) (bytes_of (drop 1 t)) (omega (arith, length-bytes digitOf (drop 1 t), length-drop 1 t)))
+      ∙ rw f (first_37 (length t) (bytes_of (drop 1 t)) (omega (arith, length-bytes digit_of (drop 1 t), length-drop 1 t)))
       ∙ is-bytes t some colon shape e

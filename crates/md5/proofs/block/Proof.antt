@@ -1,7 +1,7 @@
 -- `md5::block` meets its contract. Assumes nothing.
 use Rattle.std.proofs.Common.{◌≡◌, ◌-◌, ◌≤◌, ap, ◌∙◌, arith, rules}
 use Rattle.md5.specs.Md5.{steps_of}
-use Rattle.md5.proofs.Laws.{steps-none, next-f, next-g, next-h, next-i, added}
+use Rattle.md5.proofs.Laws.{steps_none, next-f, next-g, next-h, next-i, added}
 use Rattle.md5.proofs.block.Statement.{statement}
 use Rattle.md5.proofs.block.Tie as tie
 
@@ -31,7 +31,7 @@ decreases-loop4 m ks ns s t₀ i₀ t i = 64 - i
 
 loop-holds :
     tie.Need-loop-init invariant-loop decreases-loop invariant-loop2 decreases-loop2 invariant-loop3 decreases-loop3 invariant-loop4 decreases-loop4
-loop-holds c = (search rules, steps-none _ _)
+loop-holds c = (search rules, steps_none _ _)
 
 mix-f-requires :
     tie.Need-mix-f-requires invariant-loop decreases-loop invariant-loop2 decreases-loop2 invariant-loop3 decreases-loop3 invariant-loop4 decreases-loop4

@@ -1,12 +1,12 @@
 -- `md5::blocks` meets its contract. Assumes nothing.
 use Rattle.std.proofs.Common.{◌≡◌, ◌-◌, ◌≤◌, ap, ◌∙◌, arith, rules}
-use Rattle.md5.specs.Md5.{blocksOf}
-use Rattle.md5.proofs.Laws.{blocks-none, blocks-next}
+use Rattle.md5.specs.Md5.{blocks_of}
+use Rattle.md5.proofs.Laws.{blocks_none, blocks_next}
 use Rattle.md5.proofs.blocks.Statement.{statement}
 use Rattle.md5.proofs.blocks.Tie as tie
 
 abbrev invariant-loop : tie.invariant-loop
-invariant-loop l n ks ns t₀ k₀ t k = (k ≤ n) × (t ≡ blocksOf l t₀ k)
+invariant-loop l n ks ns t₀ k₀ t k = (k ≤ n) × (t ≡ blocks_of l t₀ k)
 
 abbrev decreases-loop : tie.decreases-loop
 decreases-loop l n ks ns t₀ k₀ t k = n - k
@@ -18,7 +18,7 @@ shifts-requires : tie.Need-shifts-requires invariant-loop decreases-loop
 shifts-requires c κs = search rules
 
 loop-holds : tie.Need-loop-init invariant-loop decreases-loop
-loop-holds c = (search rules, blocks-none _ _)
+loop-holds c = (search rules, blocks_none _ _)
 
 mul-a : tie.Need-overflow-mul-a invariant-loop decreases-loop
 mul-a c = search rules
@@ -47,13 +47,13 @@ loop-less c = search rules
 loop-again : tie.Need-loop-preserved invariant-loop decreases-loop
 loop-again c =
     let l = c.before.before.before.before.before.loop in
-    (search rules, blocks-next _ _ l.t _ l.k l.invariant.1 c.block.ensures)
+    (search rules, blocks_next _ _ l.t _ l.k l.invariant.1 c.block.ensures)
 
 returns : tie.Need-returns invariant-loop decreases-loop
 returns c =
     let a = c.before.before.before.before.before.args in
     let e : c.before.loop.k ≡ a.n = omega arith in
-    c.before.loop.invariant.1 ∙ ap (blocksOf a.l.now a.s) e
+    c.before.loop.invariant.1 ∙ ap (blocks_of a.l.now a.s) e
 
 pub blocks-spec : {M : Type 1} → statement M
 blocks-spec =

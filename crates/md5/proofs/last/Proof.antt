@@ -1,6 +1,6 @@
 -- `md5::last` meets its contract. Assumes nothing.
 use Rattle.std.proofs.Common.{◌+◌, ◌-◌, sym, ◌∙◌, arith, rules}
-use Rattle.md5.proofs.Laws.{long, whole, head, blocks-of-head}
+use Rattle.md5.proofs.Laws.{long, whole, head, blocks_of_head}
 use Rattle.md5.proofs.last.Statement.{statement}
 use Rattle.md5.proofs.last.Tie as tie
 
@@ -50,7 +50,7 @@ returns c =
     let a = c.before.before.before.before.before.before.before.before.before.args in
     let p = c.before.before.before.before.before.before.before.before.before.requires in
     let w = head a.rest.now _ a.n a.e _ p.0 p.1 p.2 c.before.before.before.before.before.before.copy.ensures.0 c.before.before.before.before.before.before.copy.ensures.1 _ c.before.before.before.put-bits.ensures in
-    c.blocks2.ensures ∙ blocks-of-head _ _ a.s (a.e + 8) w
+    c.blocks2.ensures ∙ blocks_of_head _ _ a.s (a.e + 8) w
 
 pub last-spec : {M : Type 1} → statement M
 last-spec =

@@ -1,7 +1,7 @@
 -- `md5::put_bits` meets its contract. Assumes nothing.
 use Rattle.std.proofs.Common.{◌≡◌, suc, ◌+◌, ◌-◌, ◌*◌, ◌≤◌, ◌++◌, length, take, sym, ◌∙◌, arith, rules}
 use Rattle.laws.specs.Bytes.{low_first}
-use Rattle.md5.proofs.Laws.{low-first, low-more, low_end}
+use Rattle.md5.proofs.Laws.{low_first_lem, low_more, low_end}
 use Rattle.md5.proofs.put_bits.Statement.{statement}
 use Rattle.md5.proofs.put_bits.Tie as tie
 
@@ -21,7 +21,7 @@ slice-write-d : tie.Need-slice-write-d invariant-loop decreases-loop
 slice-write-d c = search rules
 
 loop-holds : tie.Need-loop-init invariant-loop decreases-loop
-loop-holds c = (search rules, search rules, low-first c.args.d.now c.args.n c.requires)
+loop-holds c = (search rules, search rules, low_first_lem c.args.d.now c.args.n c.requires)
 
 cast-d-2 : tie.Need-overflow-cast-d-2 invariant-loop decreases-loop
 cast-d-2 c = search rules
@@ -39,7 +39,7 @@ loop-again : tie.Need-loop-preserved invariant-loop decreases-loop
 loop-again c =
     let l = c.before.loop in
     let k : 8 - l.i ≡ suc (8 - (l.i + 1)) = omega arith in
-    (omega arith, search rules, l.invariant.2 ∙ rw k (low-more l.d l.x l.i (8 - (l.i + 1)) (search rules)))
+    (omega arith, search rules, l.invariant.2 ∙ rw k (low_more l.d l.x l.i (8 - (l.i + 1)) (search rules)))
 
 same_length : tie.Need-same-length invariant-loop decreases-loop
 same_length c = search rules

@@ -1,6 +1,6 @@
 -- `md5::step` meets its contract. Assumes nothing.
 use Rattle.std.proofs.Common.{◌-◌, rules}
-use Rattle.md5.proofs.Laws.{shift-bounds, turned}
+use Rattle.md5.proofs.Laws.{shift_bounds, turned}
 use Rattle.md5.proofs.step.Statement.{statement}
 use Rattle.md5.proofs.step.Tie as tie
 
@@ -34,7 +34,7 @@ sum-requires-3 c κs = search rules
 rotate-left-requires : tie.Need-rotate-left-requires
 rotate-left-requires c κs =
     let s = c.before.before.before.before.before.before.before in
-    shift-bounds s.args.ns.now s.args.i s.requires.4 s.requires.0
+    shift_bounds s.args.ns.now s.args.i s.requires.4 s.requires.0
 
 sum-requires-4 : tie.Need-sum-requires-4
 sum-requires-4 c κs = search rules

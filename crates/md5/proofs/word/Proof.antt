@@ -1,6 +1,6 @@
 -- `md5::word` meets its contract. Assumes nothing.
 use Rattle.std.proofs.Common.{sym, ◌∙◌, rules}
-use Rattle.laws.proofs.BytesLaws.{number-four}
+use Rattle.laws.proofs.BytesLaws.{number_four}
 use Rattle.md5.proofs.word.Statement.{statement}
 use Rattle.md5.proofs.word.Tie as tie
 
@@ -29,7 +29,7 @@ joined-requires : tie.Need-joined-requires
 joined-requires c κs = search rules
 
 returns : tie.Need-returns
-returns c = c.joined.ensures ∙ sym (number-four _ _)
+returns c = c.joined.ensures ∙ sym (number_four _ _)
 
 pub word-spec : {M : Type 1} → statement M
 word-spec =

@@ -1,5 +1,5 @@
 -- `partapi::tell` meets its contract. Assumes nothing.
-use Rattle.partapi.specs.PartCalls.{toldOf}
+use Rattle.partapi.specs.PartCalls.{told_of}
 use borrow.Author.Rules.{rules}
 use Rattle.partapi.proofs.tell.Statement.{statement}
 use Rattle.partapi.proofs.tell.Tie as tie
@@ -14,7 +14,7 @@ same_length : tie.Need-same-length
 same_length c = search rules
 
 returns : tie.Need-returns
-unfolding toldOf
+unfolding told_of
 returns c = rw (c.before.before.keep.ensures, c.before.before.before.before.before.number.ensures)
 
 pub tell-spec : {M : Type 1} → statement M

@@ -1,6 +1,6 @@
 -- `partapi::uf2_part_merge` meets its contract. Assumes nothing.
-use Rattle.laws.proofs.Numbered.{answer-is}
-use Rattle.partapi.proofs.Laws.{merge-told}
+use Rattle.laws.proofs.Numbered.{answer_is}
+use Rattle.partapi.proofs.Laws.{merge_told}
 use borrow.Author.Rules.{rules}
 use Rattle.partapi.proofs.uf2_part_merge.Statement.{statement}
 use Rattle.partapi.proofs.uf2_part_merge.Tie as tie
@@ -23,7 +23,7 @@ same_length c = search rules
 returns : tie.Need-returns
 returns c =
     let asked = c.before.before.before.before in
-    merge-told _ _ asked.before.before.read-part.ensures asked.before.read-part2.ensures (answer-is asked.merge-parts.ensures) c.before.before.tell.ensures
+    merge_told _ _ asked.before.before.read-part.ensures asked.before.read-part2.ensures (answer_is asked.merge-parts.ensures) c.before.before.tell.ensures
 
 pub uf2-part-merge-spec : {M : Type 1} → statement M
 uf2-part-merge-spec =

@@ -1,5 +1,5 @@
 -- `partapi::uf2_part_one` meets its contract. Assumes nothing.
-use Rattle.laws.proofs.Numbered.{answer-is}
+use Rattle.laws.proofs.Numbered.{answer_is}
 use Rattle.partapi.proofs.Laws.{one-other, one_told}
 use borrow.Author.Rules.{rules}
 use Rattle.partapi.proofs.uf2_part_one.Statement.{statement}
@@ -23,7 +23,7 @@ same_length c = search rules
 returns-2 : tie.Need-returns-2
 returns-2 c =
     let asked = c.before.before.before.before in
-    one_told _ _ _ asked.before.before.if1.false asked.before.read-report.ensures (answer-is asked.part-of-one.ensures) c.before.before.tell.ensures
+    one_told _ _ _ asked.before.before.if1.false asked.before.read-report.ensures (answer_is asked.part-of-one.ensures) c.before.before.tell.ensures
 
 pub uf2-part-one-spec : {M : Type 1} → statement M
 uf2-part-one-spec =

@@ -1,5 +1,5 @@
 -- `settings::alone_bad` meets its contract. Assumes nothing.
-use Rattle.partitions.specs.Parts.{aloneBad}
+use Rattle.partitions.specs.Parts.{alone_bad}
 use borrow.Author.Rules.{rules}
 use Rattle.partitions.proofs.alone_bad.Statement.{statement}
 use Rattle.partitions.proofs.alone_bad.Tie as tie
@@ -20,8 +20,8 @@ reserved-user-requires : tie.Need-reserved-user-requires
 reserved-user-requires c κs = search rules
 
 returns : tie.Need-returns
-unfolding aloneBad
-returns c = simp c.reserved-user.ensures
+unfolding alone_bad
+returns c = simp c.reserved_user_case.ensures
 
 pub alone-bad-spec : {M : Type 1} → statement M
 alone-bad-spec =

@@ -1,7 +1,7 @@
 -- `settings::has_user` meets its contract. Assumes nothing.
 use mathlib.Core.Path.{refl}
 use Rattle.laws.specs.Sets.{any}
-use Rattle.partitions.specs.Settings.{hasUser}
+use Rattle.partitions.specs.Settings.{has_user}
 use borrow.Author.Rules.{rules}
 use Rattle.partitions.proofs.has_user.Statement.{statement}
 use Rattle.partitions.proofs.has_user.Tie as tie
@@ -19,7 +19,7 @@ array-read-result-4 : tie.Need-array-read-result-4
 array-read-result-4 c = search rules
 
 returns : tie.Need-returns
-unfolding any hasUser
+unfolding any has_user
 returns c = refl
 
 pub has-user-spec : {M : Type 1} → statement M

@@ -1,6 +1,6 @@
 -- `settings::reserved_user` meets its contract. Assumes nothing.
 use Rattle.laws.specs.Sets.{any}
-use Rattle.partitions.specs.Settings.{reservedUser}
+use Rattle.partitions.specs.Settings.{reserved_user}
 use borrow.Author.Rules.{rules}
 use Rattle.partitions.proofs.reserved_user.Statement.{statement}
 use Rattle.partitions.proofs.reserved_user.Tie as tie
@@ -30,7 +30,7 @@ reserved-requires-4 : tie.Need-reserved-requires-4
 reserved-requires-4 c κs = search rules
 
 returns : tie.Need-returns
-unfolding any reservedUser
+unfolding any reserved_user
 returns c = rw (c.reserved4.ensures, c.before.reserved3.ensures, c.before.before.reserved2.ensures, c.before.before.before.reserved.ensures)
 
 pub reserved-user-spec : {M : Type 1} → statement M

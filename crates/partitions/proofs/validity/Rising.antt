@@ -10,18 +10,18 @@ use Rattle.laws.proofs.Tests.{split, and_left, and_right}
 use Rattle.laws.specs.Sets.{any}
 use Rattle.laws.proofs.Laws.{any-zero, any-more, any_none, any-hit}
 use Rattle.partitions.specs.declared.Entry.{Entry}
-use Rattle.partitions.specs.Settings.{entry_at, overlapAt}
-use Rattle.partitions.specs.Parts.{wrongEntry, sharesBelow}
+use Rattle.partitions.specs.Settings.{entry_at, overlap_at}
+use Rattle.partitions.specs.Parts.{wrong_entry, shares_below}
 use Rattle.partitions.proofs.Overlap.{overlap-before}
 
 -- the first k entries end by sector `past`, and none shares a sector with one before it
 pub record Apart (table : List Entry) (k past : ℕ) : Type 0 where
   pub ends : (j : ℕ) → j < k → (entry_at table j).first + (entry_at table j).sectors ≤ past
-  pub none : any k (sharesBelow table) ≡ false
+  pub none : any k (shares_below table) ≡ false
 
 module _ (table : List Entry) where
   pub apart_none : (past : ℕ) → Apart table 0 past
-  apart_none past = record { ends = λ j l. omega (arith, l); none = any-zero (sharesBelow table) }
+  apart_none past = record { ends = λ j l. omega (arith, l); none = any-zero (shares_below table) }
 
   module _ (k past : ℕ) (a : Apart table k past) (h : past ≤ (entry_at table k).first) where
     ends_more : (j : ℕ) → j < k + 1 → (entry_at table j).first + (entry_at table j).sectors ≤ (entry_at table k).first + (entry_at table k).sectors
@@ -30,12 +30,12 @@ module _ (table : List Entry) where
         (λ e. let z : j ≡ k = eqb-true j k e in rw z (omega arith))
         (λ e. let d = eqb-false j k e in omega (arith, h, a.ends j (omega (arith, l, d))))
 
-    apart-here : sharesBelow table k ≡ false
-    unfolding sharesBelow overlapAt
-    apart-here = any_none (overlapAt table k) k (λ j l. overlap-before _ _ _ _ (omega (arith, h, a.ends j l)))
+    apart-here : shares_below table k ≡ false
+    unfolding shares_below overlap_at
+    apart-here = any_none (overlap_at table k) k (λ j l. overlap-before _ _ _ _ (omega (arith, h, a.ends j l)))
 
     pub apart_more : Apart table (k + 1) ((entry_at table k).first + (entry_at table k).sectors)
-    apart_more = record { ends = ends_more; none = any-more (sharesBelow table) k a.none apart-here }
+    apart_more = record { ends = ends_more; none = any-more (shares_below table) k a.none apart-here }
 
   -- as the loop keeps it: `rising` says whether all were so till here
   pub rising-more : (k past : ℕ) (rising : Bool) → (rising ≡ true → Apart table k past) → rising && leb past (entry_at table k).first ≡ true → Apart table (k + 1) ((entry_at table k).first + (entry_at table k).sectors)
@@ -43,5 +43,5 @@ module _ (table : List Entry) where
       apart_more k past (f (and_left rising _ h)) (leb-true _ _ (and_right rising (leb past (entry_at table k).first) h))
 
   -- one wrong entry is enough
-  pub wrong-hit : (len n k : ℕ) → k < n → wrongEntry table len k ≡ true → any n (wrongEntry table len) || any n (sharesBelow table) ≡ true
-  wrong-hit len n k l h = rw (any-hit (wrongEntry table len) n k l h)
+  pub wrong-hit : (len n k : ℕ) → k < n → wrong_entry table len k ≡ true → any n (wrong_entry table len) || any n (shares_below table) ≡ true
+  wrong-hit len n k l h = rw (any-hit (wrong_entry table len) n k l h)

@@ -2,7 +2,7 @@
 use Prim.Native.Nat.{◌≤◌, ◌-◌}
 use mathlib.Core.Path.{◌≡◌, sym, ◌∙◌}
 use native.Mathlib.Omega.{arith}
-use Rattle.placement.specs.Place.{first_of, entryIf, inPass, chosen}
+use Rattle.placement.specs.Place.{first_of, entry_if, in_pass, chosen}
 use Rattle.placement.specs.declared.Choice.TheVariants.{Nothing}
 use Rattle.placement.proofs.First.{first-zero, first_more, first-hit, if-taken, if-passed}
 use borrow.Author.Rules.{rules}
@@ -10,13 +10,13 @@ use Rattle.placement.proofs.choose.Statement.{statement}
 use Rattle.placement.proofs.choose.Tie as tie
 
 abbrev invariant-loop : tie.invariant-loop
-invariant-loop n w table pass i₀ i = (i ≤ n) × (first_of (entryIf table w pass) i ≡ Nothing)
+invariant-loop n w table pass i₀ i = (i ≤ n) × (first_of (entry_if table w pass) i ≡ Nothing)
 
 abbrev decreases-loop : tie.decreases-loop
 decreases-loop n w table pass i₀ i = n - i
 
 abbrev invariant-search : tie.invariant-search
-invariant-search n w table pass₀ pass = (pass ≤ 4) × (first_of (inPass table n w) pass ≡ Nothing)
+invariant-search n w table pass₀ pass = (pass ≤ 4) × (first_of (in_pass table n w) pass ≡ Nothing)
 
 abbrev decreases-search : tie.decreases-search
 decreases-search n w table pass₀ pass = 4 - pass
@@ -55,7 +55,7 @@ search-less : tie.Need-search-smaller invariant-loop decreases-loop invariant-se
 search-less c = search rules
 
 search-again : tie.Need-search-preserved invariant-loop decreases-loop invariant-search decreases-search
-unfolding inPass
+unfolding in_pass
 search-again c =
     let e : c.before.loop.i ≡ c.before.before.before.before.args.n = omega arith in
     (search rules, first_more _ _ c.before.before.before.search.invariant.1 (rw e at c.before.loop.invariant.1))
@@ -65,7 +65,7 @@ unfolding chosen
 returns c = let e : c.before.search.pass ≡ 4 = omega arith in sym (rw e at c.before.search.invariant.1)
 
 returns-2 : tie.Need-returns-2 invariant-loop decreases-loop invariant-search decreases-search
-unfolding chosen inPass
+unfolding chosen in_pass
 returns-2 c =
     let d = c.before.before.before in
     sym

@@ -3,8 +3,8 @@ use mathlib.Core.Path.{sym, ap, ◌∙◌}
 use mathlib.Core.Bool.{Bool}
 use native.Mathlib.Omega.{arith}
 use Rattle.laws.specs.Numbered.{numbered}
-use Rattle.placement.specs.Place.{wholeIf, placeOfChoice, placeNumber}
-use Rattle.placement.proofs.Laws.{place-absolute, place-rp2040, place-whole, place-table, used-most, chosen_is, entry-below}
+use Rattle.placement.specs.Place.{whole_if, place_of_choice, place_number}
+use Rattle.placement.proofs.Laws.{place-absolute, place-rp2040, place-whole, place-table, used_most, chosen_is, entry_below}
 use borrow.Author.Rules.{rules}
 use Rattle.placement.proofs.find.Statement.{statement}
 use Rattle.placement.proofs.find.Tie as tie
@@ -13,10 +13,10 @@ whole-if-requires : tie.Need-whole-if-requires
 whole-if-requires c κs = search rules
 
 returns : tie.Need-returns
-returns c = (ap (numbered placeNumber) (c.whole-if.ensures.0 ∙ sym (place-absolute _ _ _ c.before.if1.true)), c.whole-if.ensures.1)
+returns c = (ap (numbered place_number) (c.whole-if.ensures.0 ∙ sym (place-absolute _ _ _ c.before.if1.true)), c.whole-if.ensures.1)
 
 returns-2 : tie.Need-returns-2
-returns-2 c = (ap (numbered placeNumber) (sym (place-rp2040 _ _ _ c.if2.true)), tt)
+returns-2 c = (ap (numbered place_number) (sym (place-rp2040 _ _ _ c.if2.true)), tt)
 
 gets-whole-requires : tie.Need-gets-whole-requires
 gets-whole-requires c κs = search rules
@@ -26,8 +26,8 @@ whole-if-requires-2 c κs = search rules
 
 returns-3 : tie.Need-returns-3
 returns-3 c = (
-  ap (numbered placeNumber) (c.whole-if2.ensures.0
-      ∙ ap (λ (b : Bool). wholeIf b c.before.before.before.before.before.args.flash-len) c.before.gets-whole.ensures
+  ap (numbered place_number) (c.whole-if2.ensures.0
+      ∙ ap (λ (b : Bool). whole_if b c.before.before.before.before.before.args.flash-len) c.before.gets-whole.ensures
       ∙ sym (place-whole _ _ _ c.before.before.before.before.if1.false c.before.before.before.if2.false c.before.before.if3.true)),
   c.whole-if2.ensures.1,
 )
@@ -39,7 +39,7 @@ used-count-requires : tie.Need-used-count-requires
 used-count-requires c κs = search rules
 
 choose-requires : tie.Need-choose-requires
-choose-requires c κs = omega (arith, c.used-count.ensures, used-most c.before.before.before.before.before.before.args.settings.count)
+choose-requires c κs = omega (arith, c.used-count.ensures, used_most c.before.before.before.before.before.before.args.settings.count)
 
 enum_told : tie.Need-enum-told
 enum_told c = search rules
@@ -52,7 +52,7 @@ mul-e c =
     let d = c.before.before.before in
     let x = d.before.before.before.before.before.before.before.args in
     let h = chosen_is x.settings x.family _ _ d.choose.ensures d.before.used-count.ensures d.before.before.before.query.ensures in
-    let l = entry-below x.settings x.family (sym h ∙ c.before.k.given.1) in
+    let l = entry_below x.settings x.family (sym h ∙ c.before.k.given.1) in
     omega arith
 
 array-copy-out-e : tie.Need-array-copy-out-e
@@ -60,7 +60,7 @@ array-copy-out-e c =
     let d = c.before.before.before in
     let x = d.before.before.before.before.before.before.before.args in
     let h = chosen_is x.settings x.family _ _ d.choose.ensures d.before.used-count.ensures d.before.before.before.query.ensures in
-    let l = entry-below x.settings x.family (sym h ∙ c.before.k.given.1) in
+    let l = entry_below x.settings x.family (sym h ∙ c.before.k.given.1) in
     omega arith
 
 bytes-of-requires : tie.Need-bytes-of-requires
@@ -71,16 +71,16 @@ returns-4 c =
     let d = c.before.before in
     let x = d.before.before.before.before.before.before.before.args in
     let h = chosen_is x.settings x.family _ _ d.choose.ensures d.before.used-count.ensures d.before.before.before.query.ensures in
-    let e = ap (placeOfChoice x.settings.table) (sym h ∙ c.enum_told.given.1) in
-    (ap (numbered placeNumber) (sym (place-table _ _ _ d.before.before.before.before.before.before.if1.false d.before.before.before.before.before.if2.false d.before.before.before.before.if3.false ∙ e)), tt)
+    let e = ap (place_of_choice x.settings.table) (sym h ∙ c.enum_told.given.1) in
+    (ap (numbered place_number) (sym (place-table _ _ _ d.before.before.before.before.before.before.if1.false d.before.before.before.before.before.if2.false d.before.before.before.before.if3.false ∙ e)), tt)
 
 returns-5 : tie.Need-returns-5
 returns-5 c =
     let d = c.before.before.before.before.before in
     let x = d.before.before.before.before.before.before.before.args in
     let h = chosen_is x.settings x.family _ _ d.choose.ensures d.before.used-count.ensures d.before.before.before.query.ensures in
-    let e = ap (placeOfChoice x.settings.table) (sym h ∙ c.before.before.before.k.given.1) in
-    (ap (numbered placeNumber) (c.bytes_of.ensures.0 ∙ sym (place-table _ _ _ d.before.before.before.before.before.before.if1.false d.before.before.before.before.before.if2.false d.before.before.before.before.if3.false ∙ e)), c.bytes_of.ensures.1)
+    let e = ap (place_of_choice x.settings.table) (sym h ∙ c.before.before.before.k.given.1) in
+    (ap (numbered place_number) (c.bytes_of.ensures.0 ∙ sym (place-table _ _ _ d.before.before.before.before.before.before.if1.false d.before.before.before.before.before.if2.false d.before.before.before.before.if3.false ∙ e)), c.bytes_of.ensures.1)
 
 pub find_spec : {M : Type 1} → statement M
 find_spec =

@@ -1,5 +1,5 @@
 -- `after_check` meets its contract. Assumes nothing.
-use Rattle.region_checking.proofs.Files.{stays, no-image, opened-is, by-regions}
+use Rattle.region_checking.proofs.Files.{stays, no-image, opened_is, by-regions}
 use borrow.Author.Rules.{rules}
 use Rattle.region_checking.proofs.after_check.Statement.{statement}
 use Rattle.region_checking.proofs.after_check.Tie as tie
@@ -14,7 +14,7 @@ returns-2 : tie.Need-returns-2
 returns-2 c = no-image _ _ _ _ _ c.before.before.before.names-regions.ensures c.before.before.if1.false c.if2.true
 
 regions-requires : tie.Need-regions-requires
-regions-requires c κs = opened-is _ _ _ _ _ c.before.before.before.before.before.before.before.before.before.before.before.before.args.offsets.now _ c.before.before.before.before.before.before.before.before.before.before.before.before.requires.0 c.before.before.before.before.before.before.before.before.before.before.before.before.requires.1 c.before.before.before.before.before.before.names-regions.ensures c.before.before.before.before.before.if1.false c.before.before.before.if2.false
+regions-requires c κs = opened_is _ _ _ _ _ c.before.before.before.before.before.before.before.before.before.before.before.before.args.offsets.now _ c.before.before.before.before.before.before.before.before.before.before.before.before.requires.0 c.before.before.before.before.before.before.before.before.before.before.before.before.requires.1 c.before.before.before.before.before.before.names-regions.ensures c.before.before.before.before.before.if1.false c.before.before.before.if2.false
 
 same_length : tie.Need-same-length
 same_length c = search rules

@@ -2,7 +2,7 @@
 use mathlib.Core.Path.{sym, ap, ◌∙◌}
 use Rattle.memory.specs.Many.{many}
 use Rattle.memory.specs.Bitmap.{unmarked}
-use Rattle.region_checking.proofs.Files.{after-lengths, whole_is}
+use Rattle.region_checking.proofs.Files.{after_lengths, whole_is}
 use borrow.Author.Rules.{rules}
 use Rattle.region_checking.proofs.check_regions.Statement.{statement}
 use Rattle.region_checking.proofs.check_regions.Tie as tie
@@ -11,7 +11,7 @@ check-requires : tie.Need-check-requires
 check-requires c κs = search rules
 
 after-check-requires : tie.Need-after-check-requires
-after-check-requires c κs = (after-lengths _ _ _ c.before.before.before.before.before.before.before.before.before.before.check.ensures.0 c.before.before.before.before.before.before.before.before.before.numbers.given c.before.before.before.before.before.before.before.cells.given c.before.before.before.before.before.offsets.given, c.before.before.before.before.before.before.before.before.before.before.check.ensures.1.0 ∙ ap unmarked (sym c.before.before.before.before.before.before.before.before.before.numbers.given))
+after-check-requires c κs = (after_lengths _ _ _ c.before.before.before.before.before.before.before.before.before.before.check.ensures.0 c.before.before.before.before.before.before.before.before.before.numbers.given c.before.before.before.before.before.before.before.cells.given c.before.before.before.before.before.offsets.given, c.before.before.before.before.before.before.before.before.before.before.check.ensures.1.0 ∙ ap unmarked (sym c.before.before.before.before.before.before.before.before.before.numbers.given))
 
 clear-requires : tie.Need-clear-requires
 clear-requires c κs = search rules

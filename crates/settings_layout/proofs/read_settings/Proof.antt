@@ -3,18 +3,18 @@ use Prim.Native.Nat.{◌≤◌, ◌-◌}
 use mathlib.Core.Path.{◌≡◌, ap, ◌∙◌}
 use native.Mathlib.Omega.{arith}
 use Rattle.partitions.proofs.Tables.{Filled, filled_none, filled_more}
-use Rattle.settings_layout.specs.Layout.{entryIn, countFrom, usedOf, settingsOf}
-use Rattle.settings_layout.proofs.Table.{entry-part, used-whole, settings-read}
+use Rattle.settings_layout.specs.Layout.{entry_in, count_from, used_of, settings_of}
+use Rattle.settings_layout.proofs.Table.{entry_part, used_whole, settings_read}
 use borrow.Author.Rules.{rules}
 use Rattle.settings_layout.proofs.read_settings.Statement.{statement}
 use Rattle.settings_layout.proofs.read_settings.Tie as tie
 
 abbrev invariant-loop : tie.invariant-loop
-invariant-loop bytes arm riscv current auto-switch absolute count n table₀ k₀ table k =
-    (k ≤ n) × (n ≤ 16) × (n ≡ usedOf (countFrom bytes)) × Filled (entryIn bytes) k table
+invariant-loop bytes arm riscv current auto_switch absolute count n table₀ k₀ table k =
+    (k ≤ n) × (n ≤ 16) × (n ≡ used_of (count_from bytes)) × Filled (entry_in bytes) k table
 
 abbrev decreases-loop : tie.decreases-loop
-decreases-loop bytes arm riscv current auto-switch absolute count n table₀ k₀ table k = n - k
+decreases-loop bytes arm riscv current auto_switch absolute count n table₀ k₀ table k = n - k
 
 on-requires : tie.Need-on-requires invariant-loop decreases-loop
 on-requires c κs = search rules
@@ -46,7 +46,7 @@ blank-requires c κs = search rules
 loop-holds : tie.Need-loop-init invariant-loop decreases-loop
 loop-holds c =
     let used = c.before.used in
-    (search rules, used.ensures.1, used.ensures.0 ∙ ap usedOf c.before.before.count.ensures, filled_none _ c.blank.ensures)
+    (search rules, used.ensures.1, used.ensures.0 ∙ ap used_of c.before.before.count.ensures, filled_none _ c.blank.ensures)
 
 mul-from : tie.Need-overflow-mul-from invariant-loop decreases-loop
 mul-from c = search rules
@@ -64,7 +64,7 @@ part-entry-start : tie.Need-slice-bounds-entry-start invariant-loop decreases-lo
 part-entry-start c = search rules
 
 part-entry-end : tie.Need-slice-bounds-entry-end invariant-loop decreases-loop
-part-entry-end c = let whole = used-whole c.before.before.before.before.before.before.before.before.before.before.before.before.args.bytes.now c.before.loop.invariant.2 (omega arith) in omega arith
+part-entry-end c = let whole = used_whole c.before.before.before.before.before.before.before.before.before.before.before.before.args.bytes.now c.before.loop.invariant.2 (omega arith) in omega arith
 
 entry-requires : tie.Need-entry-requires invariant-loop decreases-loop
 entry-requires c κs = search rules
@@ -84,16 +84,16 @@ loop-less c = search rules
 loop-again : tie.Need-loop-preserved invariant-loop decreases-loop
 loop-again c =
     let at = c.before.before.before.loop in
-    (search rules, at.invariant.1, at.invariant.2, filled_more _ at.k at.table (omega arith) at.invariant.3 (entry-part _ at.k c.entry.ensures))
+    (search rules, at.invariant.1, at.invariant.2, filled_more _ at.k at.table (omega arith) at.invariant.3 (entry_part _ at.k c.entry.ensures))
 
 returns : tie.Need-returns invariant-loop decreases-loop
-unfolding settingsOf
+unfolding settings_of
 returns c =
     let at = c.before.loop in
     let made = c.before.before.before in
     let arch = made.before.before.before.before in
     let e : at.k ≡ made.used.result = omega arith in
-    settings-read _ at.table at.invariant.2 (rw e at at.invariant.3)
+    settings_read _ at.table at.invariant.2 (rw e at at.invariant.3)
     (simp (
       arch.before.before.before.on.ensures,
       arch.before.before.on2.ensures,

@@ -1,5 +1,5 @@
 -- `layout::switches` meets its contract. Assumes nothing.
-use Rattle.settings_layout.specs.Layout.{switchBytes}
+use Rattle.settings_layout.specs.Layout.{switch_bytes}
 use borrow.Author.Rules.{rules}
 use Rattle.settings_layout.proofs.switches.Statement.{statement}
 use Rattle.settings_layout.proofs.switches.Tie as tie
@@ -20,7 +20,7 @@ flag-requires-4 : tie.Need-flag-requires-4
 flag-requires-4 c κs = search rules
 
 returns : tie.Need-returns
-unfolding switchBytes
+unfolding switch_bytes
 returns c =
     rw (
       c.before.before.before.before.flag.ensures,

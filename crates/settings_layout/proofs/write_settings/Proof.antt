@@ -1,13 +1,13 @@
 -- `layout::write_settings` meets its contract. Assumes nothing.
 use mathlib.Core.Path.{refl}
 use native.Mathlib.Omega.{arith}
-use Rattle.settings_layout.proofs.Written.{settings-other, settings-put}
+use Rattle.settings_layout.proofs.Written.{settings_other, settings_put}
 use borrow.Author.Rules.{rules}
 use Rattle.settings_layout.proofs.write_settings.Statement.{statement}
 use Rattle.settings_layout.proofs.write_settings.Tie as tie
 
 returns : tie.Need-returns
-returns c = settings-other _ _ (λ e. omega (arith, e))
+returns c = settings_other _ _ (λ e. omega (arith, e))
 
 switches-requires : tie.Need-switches-requires
 switches-requires c κs = search rules
@@ -45,7 +45,7 @@ same_length c = search rules
 returns-2 : tie.Need-returns-2
 returns-2 c =
     let start = c.before.before.before.before.before.before.before.before.before.before.before.before.before in
-    settings-put start.args.bytes.now start.args.s (omega arith) c.before.before.before.before.before.before.before.before.before.switches.ensures c.before.before.before.before.before.before.copy.ensures.1 refl c.before.before.write-table.ensures
+    settings_put start.args.bytes.now start.args.s (omega arith) c.before.before.before.before.before.before.before.before.before.switches.ensures c.before.before.before.before.before.before.copy.ensures.1 refl c.before.before.write-table.ensures
 
 pub write-settings-spec : {M : Type 1} → statement M
 write-settings-spec =

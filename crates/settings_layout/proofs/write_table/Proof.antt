@@ -5,20 +5,20 @@ use native.Mathlib.Omega.{arith}
 use lib.ListN.{length}
 use Rattle.laws.specs.Over.{over}
 use Rattle.laws.specs.Rows.{rows}
-use Rattle.settings_layout.specs.Layout.{rowBytes}
-use Rattle.settings_layout.proofs.Written.{row_is, rows-first, rows_next, rows_long, rows_whole}
+use Rattle.settings_layout.specs.Layout.{row_bytes}
+use Rattle.settings_layout.proofs.Written.{row_is, rows_first, rows_next, rows_long, rows_whole}
 use borrow.Author.Rules.{rules}
 use Rattle.settings_layout.proofs.write_table.Statement.{statement}
 use Rattle.settings_layout.proofs.write_table.Tie as tie
 
 abbrev invariant-loop : tie.invariant-loop
-invariant-loop bytes₀ table k₀ bytes k = (k ≤ 16) × (length bytes ≡ length bytes₀) × (bytes ≡ over bytes₀ 0 (rows (rowBytes table) k))
+invariant-loop bytes₀ table k₀ bytes k = (k ≤ 16) × (length bytes ≡ length bytes₀) × (bytes ≡ over bytes₀ 0 (rows (row_bytes table) k))
 
 abbrev decreases-loop : tie.decreases-loop
 decreases-loop bytes₀ table k₀ bytes k = 16 - k
 
 loop-holds : tie.Need-loop-init invariant-loop decreases-loop
-loop-holds c = (omega arith, refl, rows-first _ _)
+loop-holds c = (omega arith, refl, rows_first _ _)
 
 mul-from : tie.Need-overflow-mul-from invariant-loop decreases-loop
 mul-from c = search rules

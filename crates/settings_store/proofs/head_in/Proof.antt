@@ -1,6 +1,6 @@
 -- `store::head_in` meets its contract. Assumes nothing.
 use native.Mathlib.Omega.{arith}
-use Rattle.settings_store.proofs.Cases.{head-two}
+use Rattle.settings_store.proofs.Cases.{head_two}
 use borrow.Author.Rules.{rules}
 use Rattle.settings_store.proofs.head_in.Statement.{statement}
 use Rattle.settings_store.proofs.head_in.Tie as tie
@@ -24,7 +24,7 @@ add-result : tie.Need-overflow-add-result
 add-result c = omega (arith, c.shared-slice-known2.given 0, c.shared-slice-known2.given 1)
 
 returns : tie.Need-returns
-returns c = head-two _ (omega arith)
+returns c = head_two _ (omega arith)
 
 pub head-in-spec : {M : Type 1} → statement M
 head-in-spec =

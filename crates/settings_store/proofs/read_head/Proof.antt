@@ -2,7 +2,7 @@
 use mathlib.Core.Path.{◌∙◌}
 use native.Mathlib.Omega.{arith}
 use Rattle.settings_store.proofs.Cases.{read-40, read-many, read-41, read-42, read-2, read-good}
-use Rattle.settings_store.proofs.write.Cases.{is-off, is-on}
+use Rattle.settings_store.proofs.write.Cases.{is_off, is_on_lem}
 use borrow.Author.Rules.{rules}
 use Rattle.settings_store.proofs.read_head.Statement.{statement}
 use Rattle.settings_store.proofs.read_head.Tie as tie
@@ -68,12 +68,12 @@ returns-5 : tie.Need-returns-5
 returns-5 c =
     let a = c.before.before.before.before.before.before.before.before.before.before.before.before.args in
     c.refuse5.ensures
-    ∙ read-2 a.b.now a.flash-len a.x c.before.before.before.before.before.before.before.before.before.before.if1.false (omega arith) (omega arith) c.before.before.before.before.before.before.before.scan.ensures.0 c.before.before.before.before.before.before.before.scan.ensures.1 c.before.before.before.before.before.no-restart-in.ensures c.before.before.before.before.if4.false c.before.before.before.settings-of.ensures (is-off _ c.before.before.good2.ensures c.before.if5.true)
+    ∙ read-2 a.b.now a.flash-len a.x c.before.before.before.before.before.before.before.before.before.before.if1.false (omega arith) (omega arith) c.before.before.before.before.before.before.before.scan.ensures.0 c.before.before.before.before.before.before.before.scan.ensures.1 c.before.before.before.before.before.no-restart-in.ensures c.before.before.before.before.if4.false c.before.before.before.settings_of_lem.ensures (is_off _ c.before.before.good2.ensures c.before.if5.true)
 
 returns-6 : tie.Need-returns-6
 returns-6 c =
     let a = c.before.before.before.before.before.before.before.before.before.before.before.args in
-    read-good a.b.now a.flash-len a.x c.before.before.before.before.before.before.before.before.before.if1.false (omega arith) (omega arith) c.before.before.before.before.before.before.scan.ensures.0 c.before.before.before.before.before.before.scan.ensures.1 c.before.before.before.before.no-restart-in.ensures c.before.before.before.if4.false c.before.before.settings-of.ensures (is-on _ c.before.good2.ensures c.if5.false)
+    read-good a.b.now a.flash-len a.x c.before.before.before.before.before.before.before.before.before.if1.false (omega arith) (omega arith) c.before.before.before.before.before.before.scan.ensures.0 c.before.before.before.before.before.before.scan.ensures.1 c.before.before.before.before.no-restart-in.ensures c.before.before.before.if4.false c.before.before.settings_of_lem.ensures (is_on_lem _ c.before.good2.ensures c.if5.false)
 
 pub read-head-spec : {M : Type 1} → statement M
 read-head-spec =

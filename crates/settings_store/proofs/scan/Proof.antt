@@ -4,16 +4,16 @@ use mathlib.Core.Path.{◌≡◌, ap, ◌∙◌}
 use native.Mathlib.Omega.{arith}
 use Rattle.laws.specs.Sets.{any}
 use Rattle.partitions.specs.Table.{table_of}
-use Rattle.partitions.proofs.Tables.{Filled, filled_none, filled_more, filled-table}
-use Rattle.settings_store.specs.Store.{entry_of, strayAt}
-use Rattle.settings_store.proofs.write.Searches.{any-first, any_next}
-use Rattle.settings_store.proofs.Parts.{entry_at, stray-at}
+use Rattle.partitions.proofs.Tables.{Filled, filled_none, filled_more, filled_table}
+use Rattle.settings_store.specs.Store.{entry_of, stray_at}
+use Rattle.settings_store.proofs.write.Searches.{any_first, any_next}
+use Rattle.settings_store.proofs.Parts.{entry_at, stray_at_lem}
 use borrow.Author.Rules.{rules}
 use Rattle.settings_store.proofs.scan.Statement.{statement}
 use Rattle.settings_store.proofs.scan.Tie as tie
 
 abbrev invariant-loop : tie.invariant-loop
-invariant-loop s version n table₀ stray₀ k₀ table stray k = (k ≤ n) × Filled (entry_of s) k table × (stray ≡ any k (strayAt s version))
+invariant-loop s version n table₀ stray₀ k₀ table stray k = (k ≤ n) × Filled (entry_of s) k table × (stray ≡ any k (stray_at s version))
 
 abbrev decreases-loop : tie.decreases-loop
 decreases-loop s version n table₀ stray₀ k₀ table stray k = n - k
@@ -22,7 +22,7 @@ blank-requires : tie.Need-blank-requires invariant-loop decreases-loop
 blank-requires c κs = search rules
 
 loop-holds : tie.Need-loop-init invariant-loop decreases-loop
-loop-holds c = (omega arith, filled_none _ c.blank.ensures, any-first _)
+loop-holds c = (omega arith, filled_none _ c.blank.ensures, any_first _)
 
 mul-a : tie.Need-overflow-mul-a invariant-loop decreases-loop
 mul-a c = search rules
@@ -75,7 +75,7 @@ loop-again c =
     let l = c.before.before.before.before.before.loop in (
       omega arith,
       filled_more (entry_of a.s.now) l.k l.table (omega arith) l.invariant.1 (entry_at a.s.now l.k c.unpack.ensures),
-      any_next (strayAt a.s.now a.version) l.k l.invariant.2 (stray-at a.s.now a.version l.k c.before.before.stray.ensures),
+      any_next (stray_at a.s.now a.version) l.k l.invariant.2 (stray_at_lem a.s.now a.version l.k c.before.before.stray.ensures),
     )
 
 returns : tie.Need-returns invariant-loop decreases-loop
@@ -83,8 +83,8 @@ returns c =
     let a = c.before.before.before.before.args in
     let l = c.before.loop in
     let e : l.k ≡ a.n = omega arith in (
-      filled-table (entry_of a.s.now) l.k l.table l.invariant.1 ∙ ap (table_of (entry_of a.s.now)) e,
-      l.invariant.2 ∙ ap (λ k. any k (strayAt a.s.now a.version)) e,
+      filled_table (entry_of a.s.now) l.k l.table l.invariant.1 ∙ ap (table_of (entry_of a.s.now)) e,
+      l.invariant.2 ∙ ap (λ k. any k (stray_at a.s.now a.version)) e,
     )
 
 pub scan-spec : {M : Type 1} → statement M

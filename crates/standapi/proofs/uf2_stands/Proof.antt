@@ -1,5 +1,5 @@
 -- `standapi::uf2_stands` meets its contract. Assumes nothing.
-use Rattle.laws.proofs.Numbered.{answer-is}
+use Rattle.laws.proofs.Numbered.{answer_is}
 use Rattle.standapi.proofs.Laws.{stood}
 use borrow.Author.Rules.{rules}
 use Rattle.standapi.proofs.uf2_stands.Statement.{statement}
@@ -21,7 +21,7 @@ returns : tie.Need-returns
 returns c =
     let t = c.before in
     let k = t.before.Known-from.ensures in
-    stood _ _ _ k.0 k.1 (answer-is t.stands-known.ensures) c.number.ensures
+    stood _ _ _ k.0 k.1 (answer_is t.stands-known.ensures) c.number.ensures
 
 pub uf2-stands-spec : {M : Type 1} → statement M
 uf2-stands-spec =

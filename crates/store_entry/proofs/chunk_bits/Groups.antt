@@ -5,9 +5,9 @@ use Prim.Native.Nat.{ℕ, ◌+◌, ◌*◌, ◌/◌, ◌%◌, ◌^◌, ◌<◌}
 use native.Mathlib.Nat.{div-one}
 use native.Mathlib.Omega.{arith}
 use Rattle.laws.specs.Packing.{total, unpacked, octets}
-use Rattle.store_entry.specs.Chunks.{chunkWidths, chunk_bytes}
-use Rattle.laws.proofs.Widths.{bytes-are}
-use Rattle.laws.proofs.Groups.{Coarse, done, solo, pair, octs, coarse-fit, coarse-packed}
+use Rattle.store_entry.specs.Chunks.{chunk_widths, chunk_bytes}
+use Rattle.laws.proofs.Widths.{bytes_are}
+use Rattle.laws.proofs.Groups.{Coarse, done, solo, pair, octs, coarse_fit, coarse_packed}
 
 -- the fields that both the six large fields and the six groups of bytes are made of
 abbrev pub fine : List ℕ
@@ -30,7 +30,7 @@ as_bytes : (a b c d e f : ℕ) → a < 2 ^ 40 → b < 2 ^ 32 → c < 2 ^ 32 → 
 unfolding total octets
 as_bytes a b c d e f pa pb pc pd pe pf = octs 5 a pa (octs 4 b pb (octs 4 c pc (octs 4 d pd (octs 4 e pe (solo 8 f pf done)))))
 
-pub computes : total chunkWidths ≡ total (octets 22)
+pub computes : total chunk_widths ≡ total (octets 22)
 unfolding total octets
 computes = refl
 
@@ -38,7 +38,7 @@ module _ (h u v w x tail : ℕ) (ph : h < 2 ^ 42) (pu : u < 2 ^ 32) (pv : v < 2 
   abbrev parts : List ℕ
   parts = h / 4 ∷ h % 4 ∷ u / 4 ∷ u % 4 ∷ v / 4 ∷ v % 4 ∷ w / 4 ∷ w % 4 ∷ x / 4 ∷ x % 4 ∷ tail ∷ []
 
-  as_fields : Coarse fine parts chunkWidths (h ∷ u ∷ v ∷ w ∷ x ∷ tail ∷ [])
+  as_fields : Coarse fine parts chunk_widths (h ∷ u ∷ v ∷ w ∷ x ∷ tail ∷ [])
   as_fields =
       pair 40 2 (h / 4) (h % 4) h (omega arith) (omega arith) (omega arith)
       (pair 30 2 (u / 4) (u % 4) u (omega arith) (omega arith) (omega arith)
@@ -62,8 +62,8 @@ module _ (h u v w x tail : ℕ) (ph : h < 2 ^ 42) (pu : u < 2 ^ 32) (pv : v < 2 
   chunked : spread (h / 4) (mid h u) (mid u v) (mid v w) (mid w x) (x % 4 * 64 + tail) ≡ chunk_bytes h u v w x tail
   unfolding chunk_bytes
   chunked =
-      bytes-are chunkWidths 22 computes (h ∷ u ∷ v ∷ w ∷ x ∷ tail ∷ []) (coarse-fit all-bytes)
-      (coarse-packed all-bytes ∙ (sym (coarse-packed as-groups) ∙ coarse-packed as_fields))
+      bytes_are chunk_widths 22 computes (h ∷ u ∷ v ∷ w ∷ x ∷ tail ∷ []) (coarse_fit all-bytes)
+      (coarse_packed all-bytes ∙ (sym (coarse_packed as-groups) ∙ coarse_packed as_fields))
 
   pub chunks : (a b c d e f : ℕ) → a ≡ h / 4 → b ≡ mid h u → c ≡ mid u v → d ≡ mid v w → e ≡ mid w x → f ≡ x % 4 * 64 + tail
       → a / 4294967296 % 256 ∷ a / 16777216 % 256 ∷ a / 65536 % 256 ∷ a / 256 % 256 ∷ a % 256 ∷ b / 16777216 % 256 ∷ b / 65536 % 256 ∷ b / 256 % 256 ∷ b % 256 ∷ c / 16777216 % 256 ∷ c / 65536 % 256 ∷ c / 256 % 256 ∷ c % 256 ∷ d / 16777216 % 256 ∷ d / 65536 % 256 ∷ d / 256 % 256 ∷ d % 256 ∷ e / 16777216 % 256 ∷ e / 65536 % 256 ∷ e / 256 % 256 ∷ e % 256 ∷ f ∷ [] ≡ chunk_bytes h u v w x tail

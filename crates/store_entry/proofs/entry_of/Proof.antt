@@ -1,8 +1,8 @@
 -- `entrybits::entry_of` meets its contract. Assumes nothing.
 use mathlib.Core.Path.{refl}
 use Rattle.laws.specs.Packing.{unpacked, total}
-use Rattle.store_entry.specs.EntryBits.{entryFrom}
-use Rattle.store_entry.specs.Fields.{chunkFields}
+use Rattle.store_entry.specs.EntryBits.{entry_from}
+use Rattle.store_entry.specs.Fields.{chunk_fields}
 use borrow.Author.Rules.{rules}
 use Rattle.store_entry.proofs.entry_of.Statement.{statement}
 use Rattle.store_entry.proofs.entry_of.Tie as tie
@@ -23,7 +23,7 @@ cast-t8 : tie.Need-overflow-cast-t8
 cast-t8 c = search rules
 
 returns : tie.Need-returns
-unfolding entryFrom chunkFields unpacked total
+unfolding entry_from chunk_fields unpacked total
 returns c = rw c.before.link-of.ensures refl
 
 pub entry-of-spec : {M : Type 1} → statement M

@@ -1,6 +1,6 @@
 -- `storeapi::keep` meets its contract. Assumes nothing.
 use native.Mathlib.Omega.{arith}
-use Rattle.storeapi.proofs.Laws.{kept-some, kept-none}
+use Rattle.storeapi.proofs.Laws.{kept-some, kept_none}
 use borrow.Author.Rules.{rules}
 use Rattle.storeapi.proofs.keep.Statement.{statement}
 use Rattle.storeapi.proofs.keep.Tie as tie
@@ -15,7 +15,7 @@ returns : tie.Need-returns
 returns c = kept-some _ _ _ (omega arith) c.before.before.write-settings.ensures
 
 returns-2 : tie.Need-returns-2
-returns-2 c = kept-none _ _ _ (λ e. omega (arith, e))
+returns-2 c = kept_none _ _ _ (λ e. omega (arith, e))
 
 pub keep_spec : {M : Type 1} → statement M
 keep_spec = tie.close (tie.spec write-settings-requires same_length returns returns-2)

@@ -1,5 +1,5 @@
 -- `storeapi::uf2_store_write` meets its contract. Assumes nothing.
-use Rattle.laws.proofs.Numbered.{answer-is}
+use Rattle.laws.proofs.Numbered.{answer_is}
 use Rattle.storeapi.proofs.Laws.{written}
 use borrow.Author.Rules.{rules}
 use Rattle.storeapi.proofs.uf2_store_write.Statement.{statement}
@@ -23,7 +23,7 @@ same_length c = search rules
 returns : tie.Need-returns
 returns c =
     let a = c.before.before.before.before.before.before.before.before.args in
-    written a.settings.now a.flash-len a.store.now c.before.before.before.before.before.read-settings.ensures (answer-is c.before.before.before.write.ensures) c.number.ensures
+    written a.settings.now a.flash-len a.store.now c.before.before.before.before.before.read-settings.ensures (answer_is c.before.before.before.write.ensures) c.number.ensures
 
 pub uf2-store-write-spec : {M : Type 1} → statement M
 uf2-store-write-spec =

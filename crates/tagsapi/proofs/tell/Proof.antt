@@ -1,7 +1,7 @@
 -- `tagsapi::tell` meets its contract. Assumes nothing.
 use native.Mathlib.Omega.{arith}
-use Rattle.uf2_tags.proofs.one_tag.Laws.{not-tag}
-use Rattle.tagsapi.proofs.Laws.{other-told, tag-told}
+use Rattle.uf2_tags.proofs.one_tag.Laws.{not_tag}
+use Rattle.tagsapi.proofs.Laws.{other_told_lem, tag_told}
 use borrow.Author.Rules.{rules}
 use Rattle.tagsapi.proofs.tell.Statement.{statement}
 use Rattle.tagsapi.proofs.tell.Tie as tie
@@ -16,7 +16,7 @@ enum-known-answer : tie.Need-enum-known-answer
 enum-known-answer c = search rules
 
 returns : tie.Need-returns
-returns c = other-told _ c.before.before.before.args.answer (not-tag c.before.before.before.args.answer c.match.keys2) c.before.number.ensures
+returns c = other_told_lem _ c.before.before.before.args.answer (not_tag c.before.before.before.args.answer c.match.keys2) c.before.number.ensures
 
 cast-write : tie.Need-overflow-cast-write
 cast-write c =
@@ -41,7 +41,7 @@ returns-2 : tie.Need-returns-2
 returns-2 c =
     let known = c.before.before.before.before.before.before.before.before in
     let start = known.before.before.before.before in
-    tag-told start.args.tag.now _ start.args.answer _ c.before.before.write.ensures known.answer.given.1 known.before.before.number.ensures
+    tag_told start.args.tag.now _ start.args.answer _ c.before.before.write.ensures known.answer.given.1 known.before.before.number.ensures
 
 pub tell-spec : {M : Type 1} → statement M
 tell-spec =

@@ -1,6 +1,6 @@
 -- `tagsapi::write` meets its contract. Assumes nothing.
 use mathlib.Core.Path.{◌∙◌}
-use Rattle.tagsapi.proofs.Laws.{tag-put}
+use Rattle.tagsapi.proofs.Laws.{tag_put}
 use borrow.Author.Rules.{rules}
 use Rattle.tagsapi.proofs.write.Statement.{statement}
 use Rattle.tagsapi.proofs.write.Tie as tie
@@ -27,7 +27,7 @@ returns c =
     let second = third.before.before.before.before in
     let first = second.before.before.before.before in
     let start = first.before.before.before in
-    fourth.put4.ensures ∙ rw (third.put3.ensures, second.put2.ensures, first.put.ensures) (tag-put start.args.bytes.now _ _ _ _ start.requires)
+    fourth.put4.ensures ∙ rw (third.put3.ensures, second.put2.ensures, first.put.ensures) (tag_put start.args.bytes.now _ _ _ _ start.requires)
 
 pub write_spec : {M : Type 1} → statement M
 write_spec =

@@ -1,6 +1,6 @@
 -- `takeapi::uf2_take` meets its contract. Assumes nothing.
 use mathlib.Core.Path.{refl, ◌∙◌}
-use Rattle.laws.proofs.Numbered.{answer-is}
+use Rattle.laws.proofs.Numbered.{answer_is}
 use Rattle.uf2_receiver.proofs.KnownLaws.{known_is}
 use Rattle.call_bytes.proofs.Laws.{take-ran}
 use borrow.Author.Rules.{rules}
@@ -51,7 +51,7 @@ returns c =
     let kept = c.before.before.before in
     let got = kept.before.before.before.before.before.before.before.before.before.before.before.before.before.before in
     let read = got.before.before.before.before.before.before in
-    take-ran _ _ _ _ refl read.read-transfer.ensures (answer-is got.take-known.ensures ∙ known_is _ _ _ read.before.before.Known-from.ensures) kept.before.is-acceptance.ensures kept.keep.ensures c.result.ensures
+    take-ran _ _ _ _ refl read.read-transfer.ensures (answer_is got.take-known.ensures ∙ known_is _ _ _ read.before.before.Known-from.ensures) kept.before.is-acceptance.ensures kept.keep.ensures c.result.ensures
 
 pub uf2-take-spec : {M : Type 1} → statement M
 uf2-take-spec =

@@ -1,7 +1,7 @@
 -- `textparts::put` meets its contract. Assumes nothing.
 use mathlib.Core.Path.{refl, ◌∙◌}
 use native.Mathlib.Omega.{arith}
-use Rattle.laws.proofs.OverLaws.{copied-over}
+use Rattle.laws.proofs.OverLaws.{copied_over}
 use Rattle.text.proofs.Laws.{no_room, has_room}
 use borrow.Author.Rules.{rules}
 use Rattle.text.proofs.put.Statement.{statement}
@@ -38,7 +38,7 @@ returns-3 : tie.Need-returns-3
 returns-3 c =
     let a = c.before.before.before.before.before.before.before.before.args in
     let f = has_room a.out.now a.at a.part.now (omega arith) in
-    (f.0, copied-over _ _ _ _ _ refl (omega arith) c.before.before.copy.ensures.1 ∙ f.1)
+    (f.0, copied_over _ _ _ _ _ refl (omega arith) c.before.before.copy.ensures.1 ∙ f.1)
 
 pub put_spec : {M : Type 1} → statement M
 put_spec =

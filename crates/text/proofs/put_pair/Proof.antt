@@ -1,7 +1,7 @@
 -- `textparts::put_pair` meets its contract. Assumes nothing.
 use native.Mathlib.Omega.{arith}
 use lib.ListN.{length-append}
-use Rattle.text.proofs.Laws.{grown-none, grown-more, decimal-short}
+use Rattle.text.proofs.Laws.{grown_none, grown_more, decimal_short}
 use borrow.Author.Rules.{rules}
 use Rattle.text.proofs.put_pair.Statement.{statement}
 use Rattle.text.proofs.put_pair.Tie as tie
@@ -23,8 +23,8 @@ returns c =
     let p = c.before.before in
     let d = p.before.before.before in
     let x = d.before.before.args in
-    let g = grown-more _ _ _ (grown-more _ _ _ (grown-none _) d.put-decimal.ensures) p.put.ensures in
-    grown-more _ _ _ g c.put-decimal2.ensures (simp length-append (omega (arith, c, decimal-short x.index, decimal-short x.answer)))
+    let g = grown_more _ _ _ (grown_more _ _ _ (grown_none _) d.put-decimal.ensures) p.put.ensures in
+    grown_more _ _ _ g c.put-decimal2.ensures (simp length-append (omega (arith, c, decimal_short x.index, decimal_short x.answer)))
 
 pub put-pair-spec : {M : Type 1} → statement M
 put-pair-spec =

@@ -1,6 +1,6 @@
 -- `toolsapi::uf2_make_check` meets its contract. Assumes nothing.
 use mathlib.Core.Path.{ap, ◌∙◌}
-use Rattle.uf2_make.specs.Uf2check.{makeNumber}
+use Rattle.uf2_make.specs.Uf2check.{make_number}
 use borrow.Author.Rules.{rules}
 use Rattle.toolsapi.proofs.uf2_make_check.Statement.{statement}
 use Rattle.toolsapi.proofs.uf2_make_check.Tie as tie

@@ -1,5 +1,5 @@
 -- `toolsapi::uf2_make_regions` meets its contract. Assumes nothing.
-use Rattle.toolsapi.proofs.Laws.{regions-told}
+use Rattle.toolsapi.proofs.Laws.{regions_told}
 use borrow.Author.Rules.{rules}
 use Rattle.toolsapi.proofs.uf2_make_regions.Statement.{statement}
 use Rattle.toolsapi.proofs.uf2_make_regions.Tie as tie
@@ -17,7 +17,7 @@ same_length : tie.Need-same-length
 same_length c = search rules
 
 returns : tie.Need-returns
-returns c = regions-told _ _ _ _ c.before.before.before.make.ensures c.number.ensures
+returns c = regions_told _ _ _ _ c.before.before.before.make.ensures c.number.ensures
 
 pub uf2-make-regions-spec : {M : Type 1} → statement M
 uf2-make-regions-spec = tie.close (tie.spec make-requires number-requires cast-result same_length returns)

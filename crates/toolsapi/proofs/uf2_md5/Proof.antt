@@ -1,7 +1,7 @@
 -- `toolsapi::uf2_md5` meets its contract. Assumes nothing.
 use mathlib.Core.Path.{◌∙◌}
 use native.Mathlib.Omega.{arith}
-use Rattle.uf2_block.proofs.digest_bytes.Laws.{digest-put}
+use Rattle.uf2_block.proofs.digest_bytes.Laws.{digest_put}
 use Rattle.toolsapi.proofs.Laws.{digest-other, digest-told}
 use borrow.Author.Rules.{rules}
 use Rattle.toolsapi.proofs.uf2_md5.Statement.{statement}
@@ -20,7 +20,7 @@ same_length : tie.Need-same-length
 same_length c = search rules
 
 returns-2 : tie.Need-returns-2
-returns-2 c = digest-told _ _ (omega arith) (c.before.before.put-digest.ensures ∙ digest-put _ _ (omega arith)) c.before.before.before.hash.ensures
+returns-2 c = digest-told _ _ (omega arith) (c.before.before.put-digest.ensures ∙ digest_put _ _ (omega arith)) c.before.before.before.hash.ensures
 
 pub uf2-md5-spec : {M : Type 1} → statement M
 uf2-md5-spec = tie.close (tie.spec returns hash-requires put-digest-requires same_length returns-2)

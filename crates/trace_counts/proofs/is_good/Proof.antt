@@ -1,5 +1,5 @@
 -- `counts::is_good` meets its contract. Assumes nothing.
-use Rattle.trace_counts.specs.Counts.{goodReport}
+use Rattle.trace_counts.specs.Counts.{good_report}
 use Rattle.std.proofs.Common.{rules}
 use Rattle.trace_counts.proofs.is_good.Statement.{statement}
 use Rattle.trace_counts.proofs.is_good.Tie as tie
@@ -11,7 +11,7 @@ wide-requires : tie.Need-wide-requires
 wide-requires c κs = search rules
 
 returns : tie.Need-returns
-unfolding goodReport
+unfolding good_report
 returns c =
     simp (c.before.before.sum.ensures, c.before.wide.ensures.0)
 

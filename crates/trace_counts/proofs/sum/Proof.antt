@@ -1,7 +1,7 @@
 -- `counts::sum` meets its contract. Assumes nothing.
 use Rattle.std.proofs.Common.{◌≡◌, ℕ, ◌-◌, ◌*◌, ◌≤◌, sym, ap, ◌∙◌, arith, rules}
 use Rattle.trace_counts.specs.Counts.{sum_to}
-use Rattle.trace_counts.proofs.Sums.{sum-none, sum_more}
+use Rattle.trace_counts.proofs.Sums.{sum_none, sum_more}
 use Rattle.trace_counts.proofs.sum.Statement.{statement}
 use Rattle.trace_counts.proofs.sum.Tie as tie
 
@@ -12,7 +12,7 @@ abbrev decreases-loop : tie.decreases-loop
 decreases-loop counts total₀ i₀ total i = 16 - i
 
 loop-holds : tie.Need-loop-init invariant-loop decreases-loop
-loop-holds c = (search rules, sym (sum-none _), search rules)
+loop-holds c = (search rules, sym (sum_none _), search rules)
 
 mul_wide : tie.Need-overflow-mul-wide invariant-loop decreases-loop
 mul_wide c = search rules

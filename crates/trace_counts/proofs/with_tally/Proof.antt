@@ -1,5 +1,5 @@
 -- `counts::with_tally` meets its contract. Assumes nothing.
-use Rattle.trace_counts.proofs.Laws.{tally-added}
+use Rattle.trace_counts.proofs.Laws.{tally_added}
 use Rattle.std.proofs.Common.{rules}
 use Rattle.trace_counts.proofs.with_tally.Statement.{statement}
 use Rattle.trace_counts.proofs.with_tally.Tie as tie
@@ -17,7 +17,7 @@ plus-requires-2 : tie.Need-plus-requires-2
 plus-requires-2 c κs = search rules
 
 returns : tie.Need-returns
-returns c = tally-added _ _ _ c.before.before.added-counts.ensures c.before.plus.ensures c.plus2.ensures
+returns c = tally_added _ _ _ c.before.before.added-counts.ensures c.before.plus.ensures c.plus2.ensures
 
 pub with-tally-spec : {M : Type 1} → statement M
 with-tally-spec =

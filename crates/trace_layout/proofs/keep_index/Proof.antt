@@ -1,6 +1,6 @@
 -- `tracebytes::keep_index` meets its contract. Assumes nothing.
 use mathlib.Core.Path.{sym, ap, ◌∙◌}
-use Rattle.trace_layout.specs.Kept.{keptIndex}
+use Rattle.trace_layout.specs.Kept.{kept_index}
 use borrow.Author.Rules.{rules}
 use Rattle.trace_layout.proofs.keep_index.Statement.{statement}
 use Rattle.trace_layout.proofs.keep_index.Tie as tie
@@ -27,7 +27,7 @@ same_length : tie.Need-same-length
 same_length c = search rules
 
 returns-3 : tie.Need-returns-3
-returns-3 c = c.before.before.put-stop.ensures ∙ sym (ap (keptIndex _) c.before.before.before.before.before.answer.given.1)
+returns-3 c = c.before.before.put-stop.ensures ∙ sym (ap (kept_index _) c.before.before.before.before.before.answer.given.1)
 
 pub keep-index-spec : {M : Type 1} → statement M
 keep-index-spec =

@@ -1,6 +1,6 @@
 -- `tracebytes::put_stop` meets its contract. Assumes nothing.
 use mathlib.Core.Path.{sym, ap, ◌∙◌}
-use Rattle.trace_layout.specs.Kept.{withStop}
+use Rattle.trace_layout.specs.Kept.{with_stop}
 use borrow.Author.Rules.{rules}
 use Rattle.trace_layout.proofs.put_stop.Statement.{statement}
 use Rattle.trace_layout.proofs.put_stop.Tie as tie
@@ -27,13 +27,13 @@ same_length : tie.Need-same-length
 same_length c = search rules
 
 returns-2 : tie.Need-returns-2
-returns-2 c = c.before.before.put-index.ensures ∙ sym (ap (withStop _) c.before.before.before.before.before.stop.given.1)
+returns-2 c = c.before.before.put-index.ensures ∙ sym (ap (with_stop _) c.before.before.before.before.before.stop.given.1)
 
 same-length-2 : tie.Need-same-length-2
 same-length-2 c = search rules
 
 returns-3 : tie.Need-returns-3
-returns-3 c = c.before.before.put-index2.ensures ∙ sym (ap (withStop _) c.before.before.before.before.before.stop2.given.1)
+returns-3 c = c.before.before.put-index2.ensures ∙ sym (ap (with_stop _) c.before.before.before.before.before.stop2.given.1)
 
 pub put-stop-spec : {M : Type 1} → statement M
 put-stop-spec =

@@ -9,17 +9,17 @@ use lib.ListN.{length, get_or, take, drop, take-append-drop}
 use lib.Seq.{length-take-le}
 use borrow.Author.Tests.{lt-ltb, eq-eqb, ne_eqb}
 use Rattle.laws.specs.Rows.{rows}
-use Rattle.laws.proofs.BytesLaws.{length-low}
+use Rattle.laws.proofs.BytesLaws.{length_low}
 use Rattle.laws.proofs.RowsLaws.{length-rows, part-rows}
-use Rattle.laws.proofs.TabLaws.{is-tab}
+use Rattle.laws.proofs.TabLaws.{is_tab}
 use Rattle.uf2_block.specs.Block.{field_at}
 use Rattle.uf2_block.specs.Write.{le32}
-use Rattle.uf2_block.proofs.WriteLaws.{field-le32}
+use Rattle.uf2_block.proofs.WriteLaws.{field_le32}
 use Rattle.trace_counts.specs.declared.Missing.{Missing}
 use Rattle.trace_counts.specs.declared.Missing.TheVariants as missing
 use Rattle.trace_counts.specs.declared.Report.{Report}
-use Rattle.trace_counts.specs.Counts.{sum_to, goodReport}
-use Rattle.trace_layout.specs.Reports.{missingFrom, countAt, countsFrom, fieldsFrom, reportFrom, flagOf, missingNumber, word_of, word_bytes, reportBytes, reportWritten}
+use Rattle.trace_counts.specs.Counts.{sum_to, good_report}
+use Rattle.trace_layout.specs.Reports.{missing_from, count_at, counts_from, fields_from, report_from, flag_of, missing_number, word_of, word_bytes, report_bytes, report_written}
 
 -- every figure of a report is of 32 bits, and it has 16 counts
 pub record Small (r : Report) : Type 0 where
@@ -28,7 +28,7 @@ pub record Small (r : Report) : Type 0 where
   pub counts : (j : ℕ) → j < 16 → get_or r.counts j 0 < 2 ^ 32
   pub discards : r.discards < 2 ^ 32
   pub marked : r.marked < 2 ^ 32
-  pub missing : missingNumber r.missing < 2 ^ 32
+  pub missing : missing_number r.missing < 2 ^ 32
 
 -- a field whose four bytes are those of x
 field_of : (b : List ℕ) (at x : ℕ) → at + 4 ≤ length b → take 4 (drop at b) ≡ le32 x → x < 2 ^ 32 → field_at b at ≡ x
@@ -41,19 +41,19 @@ field_of b at x l e h =
     ∙ ap (λ (z : List ℕ). p ++ z) (sym (take-append-drop 4 (drop at b)) ∙ ap (λ (z : List ℕ). z ++ s) e) in
     ap (λ (z : List ℕ). field_at z at) q
     ∙ ap (field_at (p ++ (le32 x ++ s))) (sym n)
-    ∙ field-le32 p x s h
+    ∙ field_le32 p x s h
 
 module _ (r : Report) (c : Small r) where
   wide : (k : ℕ) → k < 21 → length (word_bytes r k) ≡ 4
-  wide k l = length-low 4 (word_of r k)
+  wide k l = length_low 4 (word_of r k)
 
-  long : length (reportBytes r) ≡ 84
-  unfolding reportBytes
+  long : length (report_bytes r) ≡ 84
+  unfolding report_bytes
   long = length-rows 4 21 (word_bytes r) wide 21 (omega arith)
 
   -- word k is read back
-  word_back : (k at : ℕ) → at ≡ 4 * k → k < 21 → word_of r k < 2 ^ 32 → field_at (reportBytes r) at ≡ word_of r k
-  unfolding reportBytes
+  word_back : (k at : ℕ) → at ≡ 4 * k → k < 21 → word_of r k < 2 ^ 32 → field_at (report_bytes r) at ≡ word_of r k
+  unfolding report_bytes
   word_back k at e l h =
       rw e
       (field_of (rows (word_bytes r) 21) (4 * k) (word_of r k) (omega (arith, length-rows 4 21 (word_bytes r) wide 21 (omega arith)))
@@ -65,26 +65,26 @@ module _ (r : Report) (c : Small r) where
       let e : j + 1 - 1 ≡ j = omega arith in
       rw (ne_eqb (j + 1) 0 (λ e. omega (arith, e)), lt-ltb (j + 1) 17 (omega arith), e)
 
-  counts-back : countsFrom (reportBytes r) ≡ r.counts
-  unfolding countsFrom
+  counts-back : counts_from (report_bytes r) ≡ r.counts
+  unfolding counts_from
   counts-back =
-      sym (is-tab r.counts 16 (countAt (reportBytes r)) c.slots
+      sym (is_tab r.counts 16 (count_at (report_bytes r)) c.slots
       (λ j l. sym (word_back (j + 1) (4 + 4 * j) (omega arith) (omega arith) (rw (count-is j l) (c.counts j l)) ∙ count-is j l)))
 
-  missing-back : (m : Missing) → missingFrom (flagOf m) (missingNumber m) ≡ m
+  missing-back : (m : Missing) → missing_from (flag_of m) (missing_number m) ≡ m
   missing-back missing.None = refl
   missing-back (missing.Number k) = refl
 
-  flag-low : (m : Missing) → flagOf m < 2 ^ 32
+  flag-low : (m : Missing) → flag_of m < 2 ^ 32
   flag-low missing.None = omega arith
   flag-low (missing.Number k) = omega arith
 
   -- a report that is written is read back
-  pub report-back : reportFrom (reportBytes r) ≡ r
-  unfolding reportFrom fieldsFrom word_of
+  pub report-back : report_from (report_bytes r) ≡ r
+  unfolding report_from fields_from word_of
   report-back =
       rw (
-        eq-eqb (length (reportBytes r)) 84 long,
+        eq-eqb (length (report_bytes r)) 84 long,
         word_back 0 0 refl (omega arith) c.records,
         counts-back,
         word_back 17 68 refl (omega arith) c.discards,
@@ -94,11 +94,11 @@ module _ (r : Report) (c : Small r) where
         missing-back r.missing,
       )
 
-  pub written_back : (b : List ℕ) → length b ≡ 84 → reportFrom (reportWritten b r) ≡ r
-  unfolding reportWritten
+  pub written_back : (b : List ℕ) → length b ≡ 84 → report_from (report_written b r) ≡ r
+  unfolding report_written
   written_back b l = rw (eq-eqb (length b) 84 l) report-back
 
 -- bytes of another length are refused, by 71
-pub other-refused : (b : List ℕ) → length b ≢ 84 → goodReport (reportFrom b) ≡ false
-unfolding reportFrom goodReport sum_to
-other-refused b h = rw (ne_eqb (length b) 84 h)
+pub other_refused : (b : List ℕ) → length b ≢ 84 → good_report (report_from b) ≡ false
+unfolding report_from good_report sum_to
+other_refused b h = rw (ne_eqb (length b) 84 h)

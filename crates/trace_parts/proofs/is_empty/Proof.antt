@@ -1,5 +1,5 @@
 -- `merging::is_empty` meets its contract. Assumes nothing.
-use Rattle.trace_parts.specs.Merging.{emptyReport}
+use Rattle.trace_parts.specs.Merging.{empty_report}
 use borrow.Author.Rules.{rules}
 use Rattle.trace_parts.proofs.is_empty.Statement.{statement}
 use Rattle.trace_parts.proofs.is_empty.Tie as tie
@@ -8,7 +8,7 @@ is-none-requires : tie.Need-is-none-requires
 is-none-requires c κs = search rules
 
 returns : tie.Need-returns
-unfolding emptyReport
+unfolding empty_report
 returns c = simp c.is_none.ensures
 
 pub is_empty_spec : {M : Type 1} → statement M

@@ -1,5 +1,5 @@
 -- `merging::is_good` meets its contract. Assumes nothing.
-use Rattle.trace_parts.specs.Merging.{goodPart}
+use Rattle.trace_parts.specs.Merging.{good_part}
 use borrow.Author.Rules.{rules}
 use Rattle.trace_parts.proofs.is_good.Statement.{statement}
 use Rattle.trace_parts.proofs.is_good.Tie as tie
@@ -14,7 +14,7 @@ stops-fit-requires : tie.Need-stops-fit-requires
 stops-fit-requires c κs = search rules
 
 returns : tie.Need-returns
-unfolding goodPart
+unfolding good_part
 returns c = simp (c.before.before.before.is-good.ensures, c.before.is-empty.ensures, c.stops-fit.ensures)
 
 pub is-good-spec : {M : Type 1} → statement M

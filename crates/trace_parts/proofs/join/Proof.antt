@@ -1,5 +1,5 @@
 -- `merging::join` meets its contract. Assumes nothing.
-use Rattle.trace_parts.specs.Summing.{joinedBy}
+use Rattle.trace_parts.specs.Summing.{joined_by}
 use borrow.Author.Rules.{rules}
 use Rattle.trace_parts.proofs.join.Statement.{statement}
 use Rattle.trace_parts.proofs.join.Tie as tie
@@ -29,7 +29,7 @@ plus-requires-5 : tie.Need-plus-requires-5
 plus-requires-5 c κs = search rules
 
 returns : tie.Need-returns
-unfolding joinedBy
+unfolding joined_by
 returns c =
     let sums = c.before.before in
     let ends = sums.before.before.before.before in

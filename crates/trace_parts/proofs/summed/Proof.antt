@@ -1,20 +1,20 @@
 -- `merging::summed` meets its contract. Assumes nothing.
 use Prim.Native.Nat.{◌-◌, ◌≤◌}
 use mathlib.Core.Path.{◌≡◌}
-use Rattle.trace_parts.specs.Summing.{summedTo}
-use Rattle.trace_parts.proofs.Sums.{summed-none, summed-more, summed-all}
+use Rattle.trace_parts.specs.Summing.{summed_to}
+use Rattle.trace_parts.proofs.Sums.{summed_none, summed_more, summed_all}
 use borrow.Author.Rules.{rules}
 use Rattle.trace_parts.proofs.summed.Statement.{statement}
 use Rattle.trace_parts.proofs.summed.Tie as tie
 
 abbrev invariant-loop : tie.invariant-loop
-invariant-loop a b counts₀ k₀ counts k = (k ≤ 16) × (counts ≡ summedTo a b k)
+invariant-loop a b counts₀ k₀ counts k = (k ≤ 16) × (counts ≡ summed_to a b k)
 
 abbrev decreases-loop : tie.decreases-loop
 decreases-loop a b counts₀ k₀ counts k = 16 - k
 
 loop-holds : tie.Need-loop-init invariant-loop decreases-loop
-loop-holds c = (search rules, summed-none _ _)
+loop-holds c = (search rules, summed_none _ _)
 
 mul-plus : tie.Need-overflow-mul-plus invariant-loop decreases-loop
 mul-plus c = search rules
@@ -44,10 +44,10 @@ loop-less : tie.Need-loop-smaller invariant-loop decreases-loop
 loop-less c = search rules
 
 loop-again : tie.Need-loop-preserved invariant-loop decreases-loop
-loop-again c = (search rules, summed-more _ _ _ c.before.before.loop.invariant.1 c.plus.ensures)
+loop-again c = (search rules, summed_more _ _ _ c.before.before.loop.invariant.1 c.plus.ensures)
 
 returns : tie.Need-returns invariant-loop decreases-loop
-returns c = summed-all _ _ c.before.loop.invariant.0 c.loop-test.false c.before.loop.invariant.1
+returns c = summed_all _ _ c.before.loop.invariant.0 c.loop-test.false c.before.loop.invariant.1
 
 pub summed-spec : {M : Type 1} → statement M
 summed-spec =

@@ -1,13 +1,13 @@
 -- `piece::is_bad` meets its contract. Assumes nothing.
 use mathlib.Core.Path.{sym, ◌∙◌}
 use native.Mathlib.Omega.{arith}
-use Rattle.trace_piece.proofs.Laws.{bad-length, bad-stray}
+use Rattle.trace_piece.proofs.Laws.{bad_length_case, bad-stray}
 use borrow.Author.Rules.{rules}
 use Rattle.trace_piece.proofs.is_bad.Statement.{statement}
 use Rattle.trace_piece.proofs.is_bad.Tie as tie
 
 returns : tie.Need-returns
-returns c = bad-length _ (λ e. omega (arith, e))
+returns c = bad_length_case _ (λ e. omega (arith, e))
 
 shared-slice-read-result : tie.Need-shared-slice-read-result
 shared-slice-read-result c = search rules

@@ -1,5 +1,5 @@
 -- `replay::replay` meets its contract. Assumes nothing.
-use Rattle.trace_replay.proofs.Laws.{outcome-alone}
+use Rattle.trace_replay.proofs.Laws.{outcome_alone}
 use borrow.Author.Rules.{rules}
 use Rattle.trace_replay.proofs.replay.Statement.{statement}
 use Rattle.trace_replay.proofs.replay.Tie as tie
@@ -26,7 +26,7 @@ same-length-5 : tie.Need-same-length-5
 same-length-5 c = search rules
 
 returns : tie.Need-returns
-returns c = outcome-alone _ _ c.before.before.before.before.before.before.before.before.before.before.before.replay-counted.ensures
+returns c = outcome_alone _ _ c.before.before.before.before.before.before.before.before.before.before.before.replay-counted.ensures
 
 pub replay-spec : {M : Type 1} → statement M
 replay-spec =

@@ -1,5 +1,5 @@
 -- `replay::replay_counted` meets its contract. Assumes nothing.
-use Rattle.trace_replay.proofs.Laws.{run-whole}
+use Rattle.trace_replay.proofs.Laws.{run_whole}
 use borrow.Author.Rules.{rules}
 use Rattle.trace_replay.proofs.replay_counted.Statement.{statement}
 use Rattle.trace_replay.proofs.replay_counted.Tie as tie
@@ -32,7 +32,7 @@ returns : tie.Need-returns
 returns c =
     let ran = c.before.before.before.before.before.before.before.before.before.before.before.before in
     let cleared = ran.before.before.before.before.before.before.before.before.before.before.before in
-    run-whole _ _ _ _ cleared.clear-maps.ensures.0 cleared.clear-maps.ensures.1 ran.run.ensures
+    run_whole _ _ _ _ cleared.clear-maps.ensures.0 cleared.clear-maps.ensures.1 ran.run.ensures
 
 pub replay-counted-spec : {M : Type 1} → statement M
 replay-counted-spec =

@@ -5,9 +5,9 @@ use native.Mathlib.Omega.{arith}
 use lib.ListN.{length}
 use borrow.Author.Tests.{not-true, not-false}
 use Rattle.uf2_receiver.specs.Receiver.{lent, world}
-use Rattle.trace_counts.specs.Tally.{tallyTo}
-use Rattle.trace_replay.specs.Replay.{pieces_of, replayFrom}
-use Rattle.trace_replay.proofs.Laws.{left, run-goes-on, run_ends, from-fresh, tally-none, tally-more, stops-counted, tally-ends, whole-next, begins-next, index-next}
+use Rattle.trace_counts.specs.Tally.{tally_to}
+use Rattle.trace_replay.specs.Replay.{pieces_of, replay_from}
+use Rattle.trace_replay.proofs.Laws.{left, run-goes-on, run_ends, from_fresh, tally_none, tally_more, stops_counted, tally-ends, whole_next, begins_next, index_next}
 use borrow.Author.Rules.{rules}
 use Rattle.trace_replay.proofs.run.Statement.{statement}
 use Rattle.trace_replay.proofs.run.Tie as tie
@@ -22,8 +22,8 @@ invariant-loop settings trace tally₀ flash₀ seen₀ sectors₀ main₀ xip�
     × (length sectors ≡ length sectors₀)
     × (length main ≡ length main₀)
     × (length xip ≡ length xip₀)
-    × (tally ≡ tallyTo tally₀ trace (at / 513))
-    × (left settings trace at (at / 513) t (lent flash seen sectors main xip) ≡ replayFrom settings 0 (world t₀ (lent flash₀ seen₀ sectors₀ main₀ xip₀)) (pieces_of trace))
+    × (tally ≡ tally_to tally₀ trace (at / 513))
+    × (left settings trace at (at / 513) t (lent flash seen sectors main xip) ≡ replay_from settings 0 (world t₀ (lent flash₀ seen₀ sectors₀ main₀ xip₀)) (pieces_of trace))
 
 abbrev decreases-loop : tie.decreases-loop
 decreases-loop settings trace tally₀ flash₀ seen₀ sectors₀ main₀ xip₀ len t₀ at₀ tally flash seen sectors main xip t at = length trace - at
@@ -32,7 +32,7 @@ new-requires : tie.Need-new-requires invariant-loop decreases-loop
 new-requires c κs = search rules
 
 loop-holds : tie.Need-loop-init invariant-loop decreases-loop
-loop-holds c = (search rules, search rules, refl, refl, refl, refl, refl, refl, tally-none _ _, refl)
+loop-holds c = (search rules, search rules, refl, refl, refl, refl, refl, refl, tally_none _ _, refl)
 
 piece-end-requires : tie.Need-piece-end-requires invariant-loop decreases-loop
 piece-end-requires c κs = search rules
@@ -80,7 +80,7 @@ returns c =
     let test = ended.before in
     let round = test.before in
     let stays = sym c.before.before.is-replayed.ensures ∙ not-true _ c.before.if1.true in
-    from-fresh _ _ _ _ (stops-counted _ _ _ _ _ _ _ test.loop-test.true ended.piece-end.ensures done.replay-piece.ensures stays c.stop-at.ensures round.loop.invariant.8 round.loop.invariant.9) round.before.new.ensures
+    from_fresh _ _ _ _ (stops_counted _ _ _ _ _ _ _ test.loop-test.true ended.piece-end.ensures done.replay-piece.ensures stays c.stop-at.ensures round.loop.invariant.8 round.loop.invariant.9) round.before.new.ensures
 
 shared-slice-read-count : tie.Need-shared-slice-read-count invariant-loop decreases-loop
 shared-slice-read-count c = search rules
@@ -107,9 +107,9 @@ loop-again c =
     let to = ended.piece-end.ensures in
     let more = test.loop-test.true in
     let goes = sym c.before.before.before.before.before.before.is-replayed.ensures ∙ not-false _ c.before.before.before.before.before.if1.false in
-    let whole = whole-next _ _ _ _ _ at.invariant.1 to done.replay-piece.ensures goes in
-    let next = index-next _ _ whole in
-    (omega (arith, to, more), begins-next _ _ whole, c.before.tally.given ∙ at.invariant.2, flash-left.flash.given ∙ at.invariant.3, seen-left.seen.given ∙ at.invariant.4, sectors-left.sectors.given ∙ at.invariant.5, main-left.main.given ∙ at.invariant.6, xip-left.xip.given ∙ at.invariant.7, tally-more _ _ _ _ next at.invariant.1 at.invariant.8 c.before.before.count.ensures, run-goes-on _ _ _ _ _ _ more to done.replay-piece.ensures next goes ∙ at.invariant.9)
+    let whole = whole_next _ _ _ _ _ at.invariant.1 to done.replay-piece.ensures goes in
+    let next = index_next _ _ whole in
+    (omega (arith, to, more), begins_next _ _ whole, c.before.tally.given ∙ at.invariant.2, flash-left.flash.given ∙ at.invariant.3, seen-left.seen.given ∙ at.invariant.4, sectors-left.sectors.given ∙ at.invariant.5, main-left.main.given ∙ at.invariant.6, xip-left.xip.given ∙ at.invariant.7, tally_more _ _ _ _ next at.invariant.1 at.invariant.8 c.before.before.count.ensures, run-goes-on _ _ _ _ _ _ more to done.replay-piece.ensures next goes ∙ at.invariant.9)
 
 same-length-7 : tie.Need-same-length-7 invariant-loop decreases-loop
 same-length-7 c = search rules
@@ -132,7 +132,7 @@ same-length-12 c = search rules
 returns-2 : tie.Need-returns-2 invariant-loop decreases-loop
 returns-2 c =
     let round = c.before in
-    from-fresh _ _ _ _ (tally-ends _ _ _ round.loop.invariant.8 _ round.loop.invariant.1 round.loop.invariant.0 c.loop-test.false (run_ends _ _ _ _ _ _ c.loop-test.false ∙ round.loop.invariant.9)) round.before.new.ensures
+    from_fresh _ _ _ _ (tally-ends _ _ _ round.loop.invariant.8 _ round.loop.invariant.1 round.loop.invariant.0 c.loop-test.false (run_ends _ _ _ _ _ _ c.loop-test.false ∙ round.loop.invariant.9)) round.before.new.ensures
 
 pub run_spec : {M : Type 1} → statement M
 run_spec =

@@ -1,6 +1,6 @@
 -- `transferbytes::read_transfer` meets its contract. Assumes nothing.
 use borrow.Author.Tests.{eq-eqb, ne_eqb}
-use Rattle.transfer_layout.specs.Transfers.{stateFrom}
+use Rattle.transfer_layout.specs.Transfers.{state_from}
 use borrow.Author.Rules.{rules}
 use Rattle.transfer_layout.proofs.read_transfer.Statement.{statement}
 use Rattle.transfer_layout.proofs.read_transfer.Tie as tie
@@ -9,7 +9,7 @@ none-requires : tie.Need-none-requires
 none-requires c κs = search rules
 
 returns : tie.Need-returns
-unfolding stateFrom
+unfolding state_from
 returns c = simp (c.none.ensures, ne_eqb _ _ c.before.if1.true)
 
 shared-slice-read-number : tie.Need-shared-slice-read-number
@@ -37,7 +37,7 @@ state-requires : tie.Need-state-requires
 state-requires c κs = search rules
 
 returns-2 : tie.Need-returns-2
-unfolding stateFrom
+unfolding state_from
 returns-2 c =
     let n = c.before.before.before in
     let k = n.before.before.before in

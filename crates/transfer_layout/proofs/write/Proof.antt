@@ -2,7 +2,7 @@
 use mathlib.Core.Path.{◌∙◌}
 use native.Mathlib.Omega.{arith}
 use lib.ListN.{length-set}
-use Rattle.transfer_layout.proofs.Transfers.{transferBytes-put}
+use Rattle.transfer_layout.proofs.Transfers.{transfer_bytes_put}
 use borrow.Author.Rules.{rules}
 use Rattle.transfer_layout.proofs.write.Statement.{statement}
 use Rattle.transfer_layout.proofs.write.Tie as tie
@@ -41,7 +41,7 @@ returns c =
     let second = third.before.before.before.before in
     let first = second.before.before.before.before in
     let start = first.before.before.before in
-    rw (third.put3.ensures, second.put2.ensures, first.put.ensures) (transferBytes-put start.args.bytes.now _ _ _ _ _ start.requires)
+    rw (third.put3.ensures, second.put2.ensures, first.put.ensures) (transfer_bytes_put start.args.bytes.now _ _ _ _ _ start.requires)
 
 pub write_spec : {M : Type 1} → statement M
 write_spec =

@@ -6,9 +6,9 @@ use native.Mathlib.Omega.{arith}
 use lib.ListN.{length, drop, length-set}
 use Rattle.uf2_receiver.specs.Receiver.{lent, world}
 use Rattle.uf2_known.specs.declared.judged.Judgement.{Judgement}
-use Rattle.uf2_batch.specs.Batch.{arrivalsOf, batchOf}
+use Rattle.uf2_batch.specs.Batch.{arrivals_of, batch_of}
 use Rattle.uf2_batch.specs.Parts.{Knows}
-use Rattle.uf2_batch.proofs.Laws.{knows-of, Stays, stays-judged, stays_on, arrival-size, endFrom, end-starts, end_more, end-ran}
+use Rattle.uf2_batch.proofs.Laws.{knows_of, Stays, stays_judged, stays_on, arrival_size, end_from, end_starts, end_more, end-ran}
 use borrow.Author.Rules.{rules}
 use Rattle.uf2_batch.proofs.take_all.Statement.{statement}
 use Rattle.uf2_batch.proofs.take_all.Tie as tie
@@ -19,7 +19,7 @@ invariant-loop settings arrivals results₀ flash₀ seen₀ sectors₀ main₀ 
     × (length results ≡ length results₀)
     × Stays settings (lent flash₀ seen₀ sectors₀ main₀ xip₀) first.right first.good (lent flash seen sectors main xip)
     × Knows settings (length flash) kept
-    × (endFrom n settings (world next (lent flash seen sectors main xip)) accepted results i (arrivalsOf (n - i) (drop (i * 512) arrivals)) ≡ batchOf settings (world next₀ (lent flash₀ seen₀ sectors₀ main₀ xip₀)) arrivals results₀)
+    × (end_from n settings (world next (lent flash seen sectors main xip)) accepted results i (arrivals_of (n - i) (drop (i * 512) arrivals)) ≡ batch_of settings (world next₀ (lent flash₀ seen₀ sectors₀ main₀ xip₀)) arrivals results₀)
 
 abbrev decreases-loop : tie.decreases-loop
 decreases-loop settings arrivals results₀ flash₀ seen₀ sectors₀ main₀ xip₀ n first kept₀ next₀ accepted₀ i₀ results flash seen sectors main xip kept next accepted i =
@@ -34,7 +34,7 @@ judge-lent-requires c κs = search rules
 loop-holds : tie.Need-loop-init invariant-loop decreases-loop
 loop-holds c =
     let judged = c.before.judge-lent.ensures in
-    (search rules, refl, stays-judged _ _ _ judged.0, knows-of _ _ (ap (λ (j : Judgement). j.kept) judged.0) judged.1, end-starts _ _ _ _ c.before.before.before.before.before.before.before.at_most.ensures.0)
+    (search rules, refl, stays_judged _ _ _ judged.0, knows_of _ _ (ap (λ (j : Judgement). j.kept) judged.0) judged.1, end_starts _ _ _ _ c.before.before.before.before.before.before.before.at_most.ensures.0)
 
 mul-from : tie.Need-overflow-mul-from invariant-loop decreases-loop
 mul-from c = search rules
@@ -59,7 +59,7 @@ take-next-requires c κs =
     let round = c.before.before.before.before.before.before in
     let at = round.before.loop in
     let made = round.before.before.before.before.before.before.before.before.before in
-    (at.invariant.2.judged, (at.invariant.3, arrival-size _ _ made.before.before.before.before.before.before.before.before.args.arrivals.now round.loop-test.true made.at_most.ensures.1.0))
+    (at.invariant.2.judged, (at.invariant.3, arrival_size _ _ made.before.before.before.before.before.before.before.before.args.arrivals.now round.loop-test.true made.at_most.ensures.1.0))
 
 slice-write-results : tie.Need-slice-write-results invariant-loop decreases-loop
 slice-write-results c =

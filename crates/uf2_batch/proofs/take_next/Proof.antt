@@ -1,6 +1,6 @@
 -- `batch::take_next` meets its contract. Assumes nothing.
-use Rattle.laws.proofs.Numbered.{answer-is}
-use Rattle.uf2_batch.proofs.Laws.{turn-knows, turn-known, turn-told}
+use Rattle.laws.proofs.Numbered.{answer_is}
+use Rattle.uf2_batch.proofs.Laws.{turn_knows, turn_known, turn_told}
 use borrow.Author.Rules.{rules}
 use Rattle.uf2_batch.proofs.take_next.Statement.{statement}
 use Rattle.uf2_batch.proofs.take_next.Tie as tie
@@ -40,9 +40,9 @@ returns c =
     let got = c.before.before.before.before.before.before.before.before.before.before.before.before.before in
     let kept = got.before.before.before.before.before.before.before in
     let start = kept.before.before.before.before.before.before.before.before in
-    let knows = turn-knows _ _ kept.before.field.result start.requires.1.0 kept.next.ensures.0 kept.next.ensures.1 in
-    let took = turn-known _ _ _ _ start.requires.0 start.requires.1.1 kept.before.field.ensures start.requires.1.0 kept.next.ensures.0 knows.low (answer-is got.take-known.ensures) in
-    (turn-told kept.next.result took c.before.result.ensures c.is-acceptance.ensures, knows)
+    let knows = turn_knows _ _ kept.before.field.result start.requires.1.0 kept.next.ensures.0 kept.next.ensures.1 in
+    let took = turn_known _ _ _ _ start.requires.0 start.requires.1.1 kept.before.field.ensures start.requires.1.0 kept.next.ensures.0 knows.low (answer_is got.take-known.ensures) in
+    (turn_told kept.next.result took c.before.result.ensures c.is-acceptance.ensures, knows)
 
 pub take-next-spec : {M : Type 1} → statement M
 take-next-spec =

@@ -1,5 +1,5 @@
 -- `block::is_block` meets its contract. Assumes nothing.
-use Rattle.uf2_block.specs.Block.{isBlock}
+use Rattle.uf2_block.specs.Block.{is_block}
 use borrow.Author.Rules.{rules}
 use Rattle.uf2_block.proofs.is_block.Statement.{statement}
 use Rattle.uf2_block.proofs.is_block.Tie as tie
@@ -14,7 +14,7 @@ field-requires-3 : tie.Need-field-requires-3
 field-requires-3 c κs = search rules
 
 returns : tie.Need-returns
-unfolding isBlock
+unfolding is_block
 returns c = simp (c.before.before.field.ensures, c.before.field2.ensures, c.field3.ensures)
 
 pub is-block-spec : {M : Type 1} → statement M

@@ -1,5 +1,5 @@
 -- `block::read_region` meets its contract. Assumes nothing.
-use Rattle.uf2_block.specs.Region.{regionOf}
+use Rattle.uf2_block.specs.Region.{region_of}
 use borrow.Author.Rules.{rules}
 use Rattle.uf2_block.proofs.read_region.Statement.{statement}
 use Rattle.uf2_block.proofs.read_region.Tie as tie
@@ -23,7 +23,7 @@ field-requires-6 : tie.Need-field-requires-6
 field-requires-6 c κs = search rules
 
 returns : tie.Need-returns
-unfolding regionOf
+unfolding region_of
 returns c = simp (c.before.before.before.before.before.field.ensures, c.before.before.before.before.field2.ensures, c.before.before.before.field3.ensures, c.before.before.field4.ensures, c.before.field5.ensures, c.field6.ensures)
 
 pub read-region-spec : {M : Type 1} → statement M

@@ -11,8 +11,8 @@ use borrow.Author.Tests.{le-leb, lt-leb, leb-true, leb-false, eq-eqb, ne_eqb, eq
 use Rattle.laws.proofs.Tests.{split, eqb_same, and_left, and_right}
 use Rattle.uf2_block.specs.declared.Region.{Region}
 use Rattle.md5.specs.declared.Digest.{Digest}
-use Rattle.md5.specs.Md5.{md5Of}
-use Rattle.uf2_block.specs.Regions.{goodRegion, sameDigest, fromOf, part_of, standsIn}
+use Rattle.md5.specs.Md5.{md5_of}
+use Rattle.uf2_block.specs.Regions.{good_region, same_digest, from_of, part_of, stands_in}
 
 -- ---- a region that counts
 
@@ -27,8 +27,8 @@ pub record Counting (size address : ℕ) (g : Region) : Type 0 where
   pub behind : address + 256 ≤ g.start + g.len
 
 module _ (size address : ℕ) (g : Region) where
-  pub good-yes : Counting size address g → goodRegion size address g ≡ true
-  unfolding goodRegion
+  pub good-yes : Counting size address g → good_region size address g ≡ true
+  unfolding good_region
   good-yes h =
       rw (
         eq-eqb (g.start % 4096) 0 h.starts,
@@ -40,8 +40,8 @@ module _ (size address : ℕ) (g : Region) where
         le-leb (address + 256) (g.start + g.len) h.behind,
       )
 
-  pub good-true : goodRegion size address g ≡ true → Counting size address g
-  unfolding goodRegion
+  pub good-true : good_region size address g ≡ true → Counting size address g
+  unfolding good_region
   good-true e =
       let c1 = eqb (g.start % 4096) 0 in
       let c2 = eqb (g.len % 4096) 0 in
@@ -65,11 +65,11 @@ module _ (size address : ℕ) (g : Region) where
         behind = leb-true _ _ (and_right (c1 && c2 && c3 && c4 && c5 && c6) c7 e);
       }
 
-  pub good-no : (Counting size address g → ⊥) → false ≡ goodRegion size address g
-  good-no n = split (goodRegion size address g) (λ y. absurd (n (good-true y))) sym
+  pub good-no : (Counting size address g → ⊥) → false ≡ good_region size address g
+  good-no n = split (good_region size address g) (λ y. absurd (n (good-true y))) sym
 
   -- the last condition decides where the others are met
-  pub good-last : (address + 256 ≤ g.start + g.len → Counting size address g) → leb (address + 256) (g.start + g.len) ≡ goodRegion size address g
+  pub good-last : (address + 256 ≤ g.start + g.len → Counting size address g) → leb (address + 256) (g.start + g.len) ≡ good_region size address g
   good-last f =
       split (leb (address + 256) (g.start + g.len))
       (λ y. y ∙ sym (good-yes (f (leb-true _ _ y))))
@@ -78,40 +78,40 @@ module _ (size address : ℕ) (g : Region) where
 -- ---- a region that the flash has
 
 module _ (flash : List ℕ) (start : ℕ) (g : Region) where
-  pub stands-low : g.start < 0x10000000 → false ≡ standsIn flash start g
-  unfolding standsIn
+  pub stands-low : g.start < 0x10000000 → false ≡ stands_in flash start g
+  unfolding stands_in
   stands-low h = rw (lt-leb 0x10000000 g.start h)
 
   module _ (w : 0x10000000 ≤ g.start) where
-    pub stands-past : length flash < fromOf start g + g.len → false ≡ standsIn flash start g
-    unfolding standsIn
-    stands-past h = rw (le-leb 0x10000000 g.start w, lt-leb (fromOf start g + g.len) (length flash) h)
+    pub stands-past : length flash < from_of start g + g.len → false ≡ stands_in flash start g
+    unfolding stands_in
+    stands-past h = rw (le-leb 0x10000000 g.start w, lt-leb (from_of start g + g.len) (length flash) h)
 
-    pub stands-there : fromOf start g + g.len ≤ length flash → sameDigest (md5Of (part_of flash start g)) g ≡ standsIn flash start g
-    unfolding standsIn
-    stands-there h = rw (le-leb 0x10000000 g.start w, le-leb (fromOf start g + g.len) (length flash) h)
+    pub stands-there : from_of start g + g.len ≤ length flash → same_digest (md5_of (part_of flash start g)) g ≡ stands_in flash start g
+    unfolding stands_in
+    stands-there h = rw (le-leb 0x10000000 g.start w, le-leb (from_of start g + g.len) (length flash) h)
 
     -- as the code has it
-    pub stands-part : fromOf start g + g.len ≤ length flash → {x : Digest} {r : Bool}
-        → x ≡ md5Of (take (fromOf start g + g.len - fromOf start g) (drop (fromOf start g) flash)) → r ≡ sameDigest x g → r ≡ standsIn flash start g
+    pub stands-part : from_of start g + g.len ≤ length flash → {x : Digest} {r : Bool}
+        → x ≡ md5_of (take (from_of start g + g.len - from_of start g) (drop (from_of start g) flash)) → r ≡ same_digest x g → r ≡ stands_in flash start g
     stands-part h d s =
-        let n : fromOf start g + g.len - fromOf start g ≡ g.len = omega arith in
-        s ∙ ap (λ (x : Digest). sameDigest x g) (d ∙ rw n) ∙ stands-there h
+        let n : from_of start g + g.len - from_of start g ≡ g.len = omega arith in
+        s ∙ ap (λ (x : Digest). same_digest x g) (d ∙ rw n) ∙ stands-there h
 
 module _ (flash : List ℕ) (start : ℕ) (g : Region) where
   -- the conditions of a region that the flash has
-  pub stands-true : standsIn flash start g ≡ true → sameDigest (md5Of (part_of flash start g)) g ≡ true
-  unfolding standsIn
+  pub stands-true : stands_in flash start g ≡ true → same_digest (md5_of (part_of flash start g)) g ≡ true
+  unfolding stands_in
   stands-true e =
-      and_right (leb 0x10000000 g.start && leb (fromOf start g + g.len) (length flash)) (sameDigest (md5Of (part_of flash start g)) g) e
+      and_right (leb 0x10000000 g.start && leb (from_of start g + g.len) (length flash)) (same_digest (md5_of (part_of flash start g)) g) e
 
 -- the digest that a region names
 abbrev pub named_by : Region → Digest
 named_by g = record { a = g.a; b = g.b; c = g.c; d = g.d }
 
-pub digest-true : (x : Digest) (g : Region) → sameDigest x g ≡ true → x ≡ named_by g
-unfolding sameDigest
-digest-true x g e =
+pub digest_true : (x : Digest) (g : Region) → same_digest x g ≡ true → x ≡ named_by g
+unfolding same_digest
+digest_true x g e =
     let c1 = eqb x.a g.a in
     let c2 = eqb x.b g.b in
     let c3 = eqb x.c g.c in
@@ -124,6 +124,6 @@ digest-true x g e =
     let s = eqb-true x.d g.d (and_right (c1 && c2 && c3) c4 e) in
     λ i. record { a = p i; b = q i; c = r i; d = s i }
 
-pub digest-yes : (g : Region) → sameDigest (named_by g) g ≡ true
-unfolding sameDigest
-digest-yes g = rw (eqb_same g.a, eqb_same g.b, eqb_same g.c, eqb_same g.d)
+pub digest_yes : (g : Region) → same_digest (named_by g) g ≡ true
+unfolding same_digest
+digest_yes g = rw (eqb_same g.a, eqb_same g.b, eqb_same g.c, eqb_same g.d)

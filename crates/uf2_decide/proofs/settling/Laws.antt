@@ -3,9 +3,9 @@ use mathlib.Core.Path.{◌≡◌, sym, ap, ◌∙◌}
 use mathlib.Core.Bool.{Bool}
 use mathlib.Core.List.{List}
 use Prim.Native.Nat.{ℕ}
-use Rattle.memory.specs.Bitmap.{markedIn}
-use Rattle.transfer.specs.Transfer.{withDeed, step_of}
-use Rattle.transfer.proofs.retold.Laws.{stays-any, accepts-any}
+use Rattle.memory.specs.Bitmap.{marked_in}
+use Rattle.transfer.specs.Transfer.{with_deed, step_of}
+use Rattle.transfer.proofs.retold.Laws.{stays_any, accepts_any}
 use Rattle.transfer.specs.declared.Transfer.{Transfer}
 use Rattle.transfer.specs.declared.Unchanged.{Unchanged}
 use Rattle.transfer.specs.declared.Deed.{Deed}
@@ -15,28 +15,28 @@ use Rattle.transfer.specs.declared.Step.{Step}
 use Rattle.transfer.specs.declared.Step.TheVariants.{Stays, Accepts}
 use Rattle.uf2_checks.specs.declared.PlacedBlock.{PlacedBlock}
 use Rattle.uf2_checks.specs.declared.Screening.TheVariants.{Passed}
-use Rattle.arrival.specs.Arrive.{Decision, deed_of, afterScreening, stays, accepts}
-use Rattle.uf2_known.specs.Verdict.{acceptedAs}
+use Rattle.arrival.specs.Arrive.{Decision, deed_of, after_screening, stays, accepts}
+use Rattle.uf2_known.specs.Verdict.{accepted_as}
 
-module _ (t : Transfer) (p : PlacedBlock) (seen : List ℕ) (kept : Bool) {m : Bool} (e : m ≡ markedIn seen p.number) where
+module _ (t : Transfer) (p : PlacedBlock) (seen : List ℕ) (kept : Bool) {m : Bool} (e : m ≡ marked_in seen p.number) where
   -- what stays, stays whatever the flash has
   pub settled-stays : {s : Step} → s ≡ step_of t.state p.head m Stores → {x : Unchanged} → s ≡ Stays x
-      → stays x.answer ≡ afterScreening t.state seen kept (Passed p)
-  unfolding afterScreening
+      → stays x.answer ≡ after_screening t.state seen kept (Passed p)
+  unfolding after_screening
   settled-stays q w =
-      let z : step_of t.state p.head (markedIn seen p.number) (deed_of kept p) ≡ Stays _ =
-      ap (λ (b : Bool). step_of t.state p.head b (deed_of kept p)) (sym e) ∙ stays-any t.state p.head m Stores (deed_of kept p) (sym q ∙ w) in
+      let z : step_of t.state p.head (marked_in seen p.number) (deed_of kept p) ≡ Stays _ =
+      ap (λ (b : Bool). step_of t.state p.head b (deed_of kept p)) (sym e) ∙ stays_any t.state p.head m Stores (deed_of kept p) (sym q ∙ w) in
       rw z
 
   -- and what is accepted is accepted
   pub settled-accepts : {s : Step} → s ≡ step_of t.state p.head m Stores → {y : Accepted} → s ≡ Accepts y
-      → {d : Decision} → d ≡ acceptedAs kept p y → d ≡ afterScreening t.state seen kept (Passed p)
-  unfolding afterScreening
+      → {d : Decision} → d ≡ accepted_as kept p y → d ≡ after_screening t.state seen kept (Passed p)
+  unfolding after_screening
   settled-accepts q {y} w g =
-      let v : step_of t.state p.head (markedIn seen p.number) (deed_of kept p) ≡ Accepts (withDeed (deed_of kept p) y) =
-      ap (λ (b : Bool). step_of t.state p.head b (deed_of kept p)) (sym e) ∙ accepts-any t.state p.head m (deed_of kept p) (sym q ∙ w) in
+      let v : step_of t.state p.head (marked_in seen p.number) (deed_of kept p) ≡ Accepts (with_deed (deed_of kept p) y) =
+      ap (λ (b : Bool). step_of t.state p.head b (deed_of kept p)) (sym e) ∙ accepts_any t.state p.head m (deed_of kept p) (sym q ∙ w) in
       rw v g
 
 -- the deed and what is done, call by call
-pub accepted-by : (kept : Bool) (p : PlacedBlock) (y : Accepted) {d : Deed} → d ≡ deed_of kept p → {z : Accepted} → z ≡ withDeed d y → accepts p d z ≡ acceptedAs kept p y
-accepted-by kept p y f g = rw (g, f)
+pub accepted_by_lem : (kept : Bool) (p : PlacedBlock) (y : Accepted) {d : Deed} → d ≡ deed_of kept p → {z : Accepted} → z ≡ with_deed d y → accepts p d z ≡ accepted_as kept p y
+accepted_by_lem kept p y f g = rw (g, f)

@@ -2,9 +2,9 @@
 use mathlib.Core.Path.{sym, ap, ◌∙◌}
 use lib.ListN.{length}
 use Rattle.laws.specs.Numbered.{numbered}
-use Rattle.laws.proofs.Numbered.{answer-is}
-use Rattle.uf2_make.specs.Uf2file.{callNumber}
-use Rattle.uf2_make.proofs.checks.Checks.{made-right}
+use Rattle.laws.proofs.Numbered.{answer_is}
+use Rattle.uf2_make.specs.Uf2file.{call_number}
+use Rattle.uf2_make.proofs.checks.Checks.{made_right}
 use Rattle.uf2_make_regions.proofs.Files.{make-refused, make-made}
 use borrow.Author.Rules.{rules}
 use Rattle.uf2_make_regions.proofs.make.Statement.{statement}
@@ -17,13 +17,13 @@ enum-known-answer : tie.Need-enum-known-answer
 enum-known-answer c = search rules
 
 returns : tie.Need-returns
-returns c = ap (numbered callNumber) (make-refused _ _ _ _ _ c.match.keys2 (answer-is c.before.check.ensures))
+returns c = ap (numbered call_number) (make-refused _ _ _ _ _ c.match.keys2 (answer_is c.before.check.ensures))
 
 write-blocks-requires : tie.Need-write-blocks-requires
 write-blocks-requires c κs =
     let made = c.before.before.answer.given.1 in
     let a = c.before.before.before.before.before.before.before.args in
-    let r = made-right (length a.image.now) a.start (length a.output.now) _ (sym (answer-is c.before.before.before.before.check.ensures) ∙ made) in
+    let r = made_right (length a.image.now) a.start (length a.output.now) _ (sym (answer_is c.before.before.before.before.check.ensures) ∙ made) in
     (r.whole, (r.window, r.space))
 
 same_length : tie.Need-same-length
@@ -32,7 +32,7 @@ same_length c = search rules
 returns-2 : tie.Need-returns-2
 returns-2 c =
     let known = c.before.before.before.before.before in
-    ap (numbered callNumber) (make-made _ _ _ _ _ _ (answer-is known.before.before.check.ensures) known.answer.given.1 c.before.before.write-blocks.ensures)
+    ap (numbered call_number) (make-made _ _ _ _ _ _ (answer_is known.before.before.check.ensures) known.answer.given.1 c.before.before.write-blocks.ensures)
 
 pub make_spec : {M : Type 1} → statement M
 make_spec =

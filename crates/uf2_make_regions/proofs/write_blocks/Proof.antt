@@ -6,7 +6,7 @@ use lib.ListN.{length}
 use Rattle.laws.specs.Over.{over}
 use Rattle.laws.specs.Rows.{rows}
 use Rattle.uf2_make_regions.specs.File.{block_at}
-use Rattle.uf2_make_regions.proofs.Files.{blocks-none, blocks_more, blocks-long, blocks-whole}
+use Rattle.uf2_make_regions.proofs.Files.{blocks_none, blocks_more, blocks-long, blocks-whole}
 use borrow.Author.Rules.{rules}
 use Rattle.uf2_make_regions.proofs.write_blocks.Statement.{statement}
 use Rattle.uf2_make_regions.proofs.write_blocks.Tie as tie
@@ -19,7 +19,7 @@ abbrev decreases-loop : tie.decreases-loop
 decreases-loop image family start total output₀ k₀ output k = total - k
 
 loop-holds : tie.Need-loop-init invariant-loop decreases-loop
-loop-holds c = (omega arith, refl, blocks-none _ _ _ _)
+loop-holds c = (omega arith, refl, blocks_none _ _ _ _)
 
 cast-i : tie.Need-overflow-cast-i invariant-loop decreases-loop
 cast-i c = search rules

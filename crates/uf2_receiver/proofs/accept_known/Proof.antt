@@ -1,6 +1,6 @@
 -- `receiver::accept_known` meets its contract. Assumes nothing.
 use mathlib.Core.Path.{ap}
-use Rattle.laws.proofs.Numbered.{answer-is}
+use Rattle.laws.proofs.Numbered.{answer_is}
 use Rattle.uf2_known.specs.Verdict.{decision}
 use Rattle.uf2_receiver.proofs.Laws.{accept-stays, accept-accepts}
 use borrow.Author.Rules.{rules}
@@ -35,7 +35,7 @@ same-length-4 : tie.Need-same-length-4
 same-length-4 c = search rules
 
 returns : tie.Need-returns
-returns c = accept-stays _ _ _ _ (answer-is c.before.before.before.before.judge.ensures) (ap decision c.before.before.verdict.given.1) c.refuse.ensures
+returns c = accept-stays _ _ _ _ (answer_is c.before.before.before.before.judge.ensures) (ap decision c.before.before.verdict.given.1) c.refuse.ensures
 
 same-length-5 : tie.Need-same-length-5
 same-length-5 c = search rules
@@ -53,7 +53,7 @@ returns-2 : tie.Need-returns-2
 returns-2 c =
     let e = c.before.before.before.before.before.before.before.before in
     let v = e.before.before.before.before.before.before in
-    accept-accepts _ _ _ _ (answer-is v.before.before.judge.ensures) (ap decision v.verdict2.given.1) e.enter.ensures
+    accept-accepts _ _ _ _ (answer_is v.before.before.judge.ensures) (ap decision v.verdict2.given.1) e.enter.ensures
 
 pub accept-known-spec : {M : Type 1} → statement M
 accept-known-spec =

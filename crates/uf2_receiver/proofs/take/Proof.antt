@@ -1,7 +1,7 @@
 -- `receiver::take` meets its contract. Assumes nothing.
 use mathlib.Core.Path.{ap, ◌∙◌}
 use Rattle.laws.specs.Numbered.{numbered}
-use Rattle.arrival.specs.Arrive.{outcomeNumber}
+use Rattle.arrival.specs.Arrive.{outcome_number}
 use Rattle.uf2_receiver.proofs.KnownLaws.{known_is}
 use borrow.Author.Rules.{rules}
 use Rattle.uf2_receiver.proofs.take.Statement.{statement}
@@ -33,7 +33,7 @@ returns c =
     let d = c.before.before.before.before.before.before.before.before.before.before in
     let r = d.before.before.before.before.before.before in
     d.take-known.ensures
-    ∙ ap (numbered outcomeNumber) (known_is _ _ _ r.Known-of.ensures)
+    ∙ ap (numbered outcome_number) (known_is _ _ _ r.Known-of.ensures)
 
 pub take_spec : {M : Type 1} → statement M
 take_spec =

@@ -1,7 +1,7 @@
 -- `receiver::take_known` meets its contract. Assumes nothing.
 use mathlib.Core.Path.{ap}
 use Rattle.laws.specs.Numbered.{numbered}
-use Rattle.arrival.specs.Arrive.{outcomeNumber}
+use Rattle.arrival.specs.Arrive.{outcome_number}
 use Rattle.uf2_receiver.proofs.Laws.{performed-taken}
 use borrow.Author.Rules.{rules}
 use Rattle.uf2_receiver.proofs.take_known.Statement.{statement}
@@ -29,7 +29,7 @@ same-length-5 : tie.Need-same-length-5
 same-length-5 c = search rules
 
 returns : tie.Need-returns
-returns c = ap (numbered outcomeNumber) (performed-taken _ _ _ _ c.before.before.before.before.before.before.before.before.before.before.before.before.before.accept-known.ensures c.before.before.before.perform.ensures)
+returns c = ap (numbered outcome_number) (performed-taken _ _ _ _ c.before.before.before.before.before.before.before.before.before.before.before.before.before.accept-known.ensures c.before.before.before.perform.ensures)
 
 pub take-known-spec : {M : Type 1} → statement M
 take-known-spec =

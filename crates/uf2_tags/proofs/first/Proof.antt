@@ -40,10 +40,10 @@ use denote.Triple.Walked.{says, Stays, stay_none_slice, walk_of, Goes-none_slice
 use denote.Exit.{yes}
 use denote.Triple.Clauses.{ensured, lasts}
 use Rattle.laws.specs.Numbered.{numbered}
-use Rattle.laws.proofs.Numbered.{answer-is}
-use Rattle.uf2_tags.specs.Tag.{answerNumber}
-use Rattle.uf2_tags.specs.Room.{tag_at, firstPlace}
-use Rattle.uf2_tags.specs.Reader.{started, stepped, stepNumber}
+use Rattle.laws.proofs.Numbered.{answer_is}
+use Rattle.uf2_tags.specs.Tag.{answer_number}
+use Rattle.uf2_tags.specs.Room.{tag_at, first_place}
+use Rattle.uf2_tags.specs.Reader.{started, stepped, step_number}
 use Rattle.uf2_tags.specs.declared.Tags.{Tags}
 use Rattle.uf2_tags.specs.declared.Step.{Step}
 use Rattle.uf2_tags.specs.declared.one_tag.Answer.{Answer}
@@ -89,7 +89,7 @@ module _ {M : Type 1} {𝓤 : Ura M} (𝓛 : Logic 𝓤) (mem : Memory → SProp
   v = slice_val s.ref_ptr (length s.now)
 
   abbrev found : Answer
-  found = tag_at s.now (firstPlace s.now)
+  found = tag_at s.now (first_place s.now)
 
   abbrev α : NamedLft
   α = named_lft 1 0 tt (κ, tt)
@@ -124,8 +124,8 @@ module _ {M : Type 1} {𝓤 : Ura M} (𝓛 : Logic 𝓤) (mem : Memory → SProp
   goes-next : (r : Tags) (u : Val) → ent 𝓤 (⋆ 𝓛 (‵ ((B (κ, tt)).own r (u ∷ [])) ∷ (‵ (flft κ q) ⊛ ‵ ftrue) ∷ [])) ((Next 𝓛 mem run).pre (to-next r u))
   goes-next r u = qed 𝓛 (‵ ((B (κ, tt)).own r (u ∷ [])) ∷ (‵ (flft κ q) ⊛ ‵ ftrue) ∷ []) ∵ nothing ! $ move ! (1 ∷ 0 ∷ []) $ fjoin ! $ move ! (1 ∷ 0 ∷ []) $ join ! $ frame ! $ done !
 
-  next-said : (r : Tags) (t : Step) → ent 𝓤 (ensured 𝓛 next.ended (next.clauses 𝓛 mem run) (κ, tt) (r, tt) tt t) (fact 𝓤 (numbered stepNumber t ≡ numbered stepNumber (stepped r)))
-  next-said r t = ex_e 𝓤 _ (λ ws. snd∗ 𝓤 (sem 𝓛 (lasts next.ended (κ, tt) (r, tt) ws)) (fact 𝓤 (numbered stepNumber t ≡ numbered stepNumber (stepped r))))
+  next-said : (r : Tags) (t : Step) → ent 𝓤 (ensured 𝓛 next.ended (next.clauses 𝓛 mem run) (κ, tt) (r, tt) tt t) (fact 𝓤 (numbered step_number t ≡ numbered step_number (stepped r)))
+  next-said r t = ex_e 𝓤 _ (λ ws. snd∗ 𝓤 (sem 𝓛 (lasts next.ended (κ, tt) (r, tt) ws)) (fact 𝓤 (numbered step_number t ≡ numbered step_number (stepped r))))
 
   -- the machine value of an answer
   abbrev low : Answer → Val
@@ -134,7 +134,7 @@ module _ {M : Type 1} {𝓤 : Ura M} (𝓛 : Logic 𝓤) (mem : Memory → SProp
   exits : (a : Answer) → a ≡ found → Is S.the_row a (low a ∷ []) → ent 𝓤 (⋆ 𝓛 ((‵ (flft κ q) ⊛ ‵ ftrue) ∷ ‵ Own ∷ [])) (Post (low a))
   exits a e is =
       qed 𝓛 ((‵ (flft κ q) ⊛ ‵ ftrue) ∷ ‵ Own ∷ []) ∵
-      suffices ! _ (ends_at 𝓛 first.ended stayed (first.clauses 𝓛 mem run) (((κ, tt), (q, tt), tt, (s, tt), (v ∷ [], tt)), tt) (low a) a (tt, tt) (tt, tt)) $ says ! (ap (numbered answerNumber) e) $
+      suffices ! _ (ends_at 𝓛 first.ended stayed (first.clauses 𝓛 mem run) (((κ, tt), (q, tt), tt, (s, tt), (v ∷ [], tt)), tt) (low a) a (tt, tt) (tt, tt)) $ says ! (ap (numbered answer_number) e) $
       frame ! $ nothing ! $ move ! (1 ∷ 0 ∷ []) $ fjoin ! $ frame ! $ owned ! S.the_row (Is S.the_row) (EL.makes S.the_type S'.the_plain 𝓛) a (low a ∷ []) is $ done !
 
   module _ (C : Calls 𝓤 H) (Λ : Loops 𝓤 H) (fm : FmC 𝓤 H 𝓛.laws C) (known-new : Triple 𝓤 (C #uf2-tags·new) (New 𝓛 mem run)) (known_next : Triple 𝓤 (C #uf2-tags·next) (Next 𝓛 mem run)) where
@@ -152,14 +152,14 @@ module _ {M : Type 1} {𝓤 : Ura M} (𝓛 : Logic 𝓤) (mem : Memory → SProp
         use2 𝓛 (raw ((Next 𝓛 mem run).pre (to-next r u))) (goes-next r u) $
         calls_at ! fm (Next 𝓛 mem run) known_next (to-next r u) (and_then ! (load ! (from ! (stop !)) (look ! 2 refl)) (no_more !)) (λ u'.
         use1 𝓛 (later (some (λ (t : Step). ((‵ (flft κ q) ⊛ ‵ ftrue) ⊛ ‵ ((P.the_row α).own_val t (u' ∷ []))) ⊛ raw (ensured 𝓛 next.ended (next.clauses 𝓛 mem run) (κ, tt) (r, tt) tt t)))) (id⊢ 𝓤 _) $ await ! tt $ pick ! (λ t.
-        split ! $ move ! (1 ∷ []) $ use1 𝓛 (raw (fact 𝓤 (numbered stepNumber t ≡ numbered stepNumber (stepped r)))) (next-said r t) $ heard ! (numbered stepNumber t ≡ numbered stepNumber (stepped r)) (λ e'. split ! $ move ! (1 ∷ []) $
+        split ! $ move ! (1 ∷ []) $ use1 𝓛 (raw (fact 𝓤 (numbered step_number t ≡ numbered step_number (stepped r)))) (next-said r t) $ heard ! (numbered step_number t ≡ numbered step_number (stepped r)) (λ e'. split ! $ move ! (1 ∷ []) $
         facts ! (P.the_row α) (Is (P.the_row α)) (shows 𝓛 (P.the_row α)) t (u' ∷ []) (λ is'.
         -- [the token; what s owns; _3; …; room for _2; …; _1; …; room for _0; …]
         let each = LL.owed (P.the_type αᵉ) (P'.the_laws αᵉ) t (u' ∷ []) is' in
         land ! (from ! (stop !)) (init ! 4 refl ((LL.lawful (P.the_type αᵉ) (P'.the_laws αᵉ) 𝓛).typed t _ is').0) $ rewrite ! 4 (λ (w : Val). ‵ (fat full_share (P'.mir erased) l₂ 0 w)) (ap only (LL.tells (P.the_type αᵉ) (P'.the_laws αᵉ) t (u' ∷ []) is')) refl $
         assigns ! (of_opd ! (load ! (from ! (fld ! refl (stop !))) (look_in ! 4 (sub ! 1 refl (whole !))))) (from ! (stop !)) (init ! 8 refl ((EL.lawful S.the_type S'.the_laws 𝓛 tt).typed t.answer _ each.1.0).0) $
         returns ! (look ! 8 refl) $ forget ! 2 refl $ forget ! 4 refl $ forget ! 6 refl $ forget ! 8 refl $ move ! (8 ∷ 9 ∷ []) $ free1 ! $ move ! (6 ∷ 7 ∷ []) $ free1 ! $ move ! (4 ∷ 5 ∷ []) $ free1 ! $ move ! (2 ∷ 3 ∷ []) $ free1 ! $ free0 ! $
-        by ! (exits t.answer (ap (λ (x : Step). x.answer) (answer-is e' ∙ ap stepped e)) each.1.0)))))))))))))
+        by ! (exits t.answer (ap (λ (x : Step). x.answer) (answer_is e' ∙ ap stepped e)) each.1.0)))))))))))))
 
 module _ {M : Type 1} {𝓤 : Ura M} (𝓛 : Logic 𝓤) (mem : Memory → SProp 𝓤) (run : Routine → Fun 𝓤) where
   open 𝓛 use {H}

@@ -12,7 +12,7 @@ use Rattle.laws.proofs.Tests.{clash}
 use Rattle.uf2_tags.specs.declared.one_tag.Tag.{Tag}
 use Rattle.uf2_tags.specs.declared.one_tag.Answer.{Answer}
 use Rattle.uf2_tags.specs.declared.one_tag.Answer.TheVariants.{Tag as a-tag, End, BadLength, BadPlace, NotBlock, BadPayload, ShortTag, TypedEnd, PastRoom, NoRoom}
-use Rattle.uf2_tags.specs.Tag.{tag_of, sized, isTag, onTag}
+use Rattle.uf2_tags.specs.Tag.{tag_of, sized, is_tag, on_tag}
 use Rattle.uf2_tags.specs.contracts.one_tag.Answer.{the_type}
 
 -- ---- a size and a type
@@ -46,8 +46,8 @@ sized_same at end e f = rw (e, f)
 -- ---- a tag that is answered
 
 -- a check that did not decide
-pub past : (c : Bool) (a x : Answer) (t : Tag) → isTag a ≡ false → cond c a x ≡ a-tag t → (c ≡ false) × (x ≡ a-tag t)
-past true a x t n e = clash (isTag a) (ap isTag e) n
+pub past : (c : Bool) (a x : Answer) (t : Tag) → is_tag a ≡ false → cond c a x ≡ a-tag t → (c ≡ false) × (x ≡ a-tag t)
+past true a x t n e = clash (is_tag a) (ap is_tag e) n
 past false a x t n e = (refl, e)
 
 pub tag_same : (s t : Tag) → a-tag s ≡ a-tag t → s ≡ t
@@ -56,46 +56,46 @@ tag_same s t e = cc
 -- ---- answers that are no tag
 
 -- by the case, as a `let .. else` tells it
-pub not-tag : (a : Answer) → OneOf (1 ∷ 2 ∷ 3 ∷ 4 ∷ 5 ∷ 6 ∷ 7 ∷ 8 ∷ 9 ∷ []) (case_of the_type a) → isTag a ≡ false
-not-tag (a-tag t) h = absurd (none h)
+pub not_tag : (a : Answer) → OneOf (1 ∷ 2 ∷ 3 ∷ 4 ∷ 5 ∷ 6 ∷ 7 ∷ 8 ∷ 9 ∷ []) (case_of the_type a) → is_tag a ≡ false
+not_tag (a-tag t) h = absurd (none h)
   where
     none : OneOf (1 ∷ 2 ∷ 3 ∷ 4 ∷ 5 ∷ 6 ∷ 7 ∷ 8 ∷ 9 ∷ []) 0 → ⊥
     none x = ⊎_elim (λ y. omega arith) (⊎_elim (λ y. omega arith) (⊎_elim (λ y. omega arith) (⊎_elim (λ y. omega arith) (⊎_elim (λ y. omega arith) (⊎_elim (λ y. omega arith) (⊎_elim (λ y. omega arith) (⊎_elim (λ y. omega arith) (λ y. omega arith)))))))) x
-not-tag End h = refl
-not-tag BadLength h = refl
-not-tag BadPlace h = refl
-not-tag NotBlock h = refl
-not-tag BadPayload h = refl
-not-tag ShortTag h = refl
-not-tag TypedEnd h = refl
-not-tag PastRoom h = refl
-not-tag NoRoom h = refl
+not_tag End h = refl
+not_tag BadLength h = refl
+not_tag BadPlace h = refl
+not_tag NotBlock h = refl
+not_tag BadPayload h = refl
+not_tag ShortTag h = refl
+not_tag TypedEnd h = refl
+not_tag PastRoom h = refl
+not_tag NoRoom h = refl
 
-pub on-other : {A : Type 0} (d : A) (f : Tag → A) (a : Answer) → isTag a ≡ false → onTag d f a ≡ d
-on-other d f (a-tag t) n = clash true refl n
-on-other d f End n = refl
-on-other d f BadLength n = refl
-on-other d f BadPlace n = refl
-on-other d f NotBlock n = refl
-on-other d f BadPayload n = refl
-on-other d f ShortTag n = refl
-on-other d f TypedEnd n = refl
-on-other d f PastRoom n = refl
-on-other d f NoRoom n = refl
+pub on_other : {A : Type 0} (d : A) (f : Tag → A) (a : Answer) → is_tag a ≡ false → on_tag d f a ≡ d
+on_other d f (a-tag t) n = clash true refl n
+on_other d f End n = refl
+on_other d f BadLength n = refl
+on_other d f BadPlace n = refl
+on_other d f NotBlock n = refl
+on_other d f BadPayload n = refl
+on_other d f ShortTag n = refl
+on_other d f TypedEnd n = refl
+on_other d f PastRoom n = refl
+on_other d f NoRoom n = refl
 
 -- the tag that an answer is
 pub record IsTag (a : Answer) : Type 0 where
   pub tag : Tag
   pub same : a ≡ a-tag tag
 
-pub the-tag : (a : Answer) → isTag a ≡ true → IsTag a
-the-tag (a-tag t) y = record { tag = t; same = refl }
-the-tag End y = clash false y refl
-the-tag BadLength y = clash false y refl
-the-tag BadPlace y = clash false y refl
-the-tag NotBlock y = clash false y refl
-the-tag BadPayload y = clash false y refl
-the-tag ShortTag y = clash false y refl
-the-tag TypedEnd y = clash false y refl
-the-tag PastRoom y = clash false y refl
-the-tag NoRoom y = clash false y refl
+pub the_tag : (a : Answer) → is_tag a ≡ true → IsTag a
+the_tag (a-tag t) y = record { tag = t; same = refl }
+the_tag End y = clash false y refl
+the_tag BadLength y = clash false y refl
+the_tag BadPlace y = clash false y refl
+the_tag NotBlock y = clash false y refl
+the_tag BadPayload y = clash false y refl
+the_tag ShortTag y = clash false y refl
+the_tag TypedEnd y = clash false y refl
+the_tag PastRoom y = clash false y refl
+the_tag NoRoom y = clash false y refl

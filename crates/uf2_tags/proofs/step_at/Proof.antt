@@ -1,5 +1,5 @@
 -- `tags::step_at` meets its contract. Assumes nothing.
-use Rattle.laws.proofs.Numbered.{answer-is}
+use Rattle.laws.proofs.Numbered.{answer_is}
 use borrow.Author.Rules.{rules}
 use Rattle.uf2_tags.proofs.step_at.Statement.{statement}
 use Rattle.uf2_tags.proofs.step_at.Tie as tie
@@ -11,7 +11,7 @@ place-after-requires : tie.Need-place-after-requires
 place-after-requires c κs = search rules
 
 returns : tie.Need-returns
-returns c = simp (c.place_after.ensures, answer-is c.before.tag_at.ensures)
+returns c = simp (c.place_after.ensures, answer_is c.before.tag_at.ensures)
 
 pub step-at-spec : {M : Type 1} → statement M
 step-at-spec = tie.close (tie.spec tag-at-requires place-after-requires returns)

@@ -4,14 +4,14 @@ use mathlib.Core.Path.{◌≡◌}
 use mathlib.Core.Bool.{not}
 use native.Mathlib.Omega.{arith}
 use Rattle.laws.specs.Sets.{any}
-use Rattle.uf2_verify.specs.Stands.{differAt}
+use Rattle.uf2_verify.specs.Stands.{differ_at}
 use Rattle.uf2_verify.proofs.Laws.{none_yet, one_more, all_read}
 use borrow.Author.Rules.{rules}
 use Rattle.uf2_verify.proofs.same_page.Statement.{statement}
 use Rattle.uf2_verify.proofs.same_page.Tie as tie
 
 abbrev invariant-loop : tie.invariant-loop
-invariant-loop a b same₀ i₀ same i = (i ≤ 256) × (same ≡ not (any i (differAt a b)))
+invariant-loop a b same₀ i₀ same i = (i ≤ 256) × (same ≡ not (any i (differ_at a b)))
 
 abbrev decreases-loop : tie.decreases-loop
 decreases-loop a b same₀ i₀ same i = 256 - i

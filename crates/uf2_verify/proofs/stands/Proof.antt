@@ -1,9 +1,9 @@
 -- `standing::stands` meets its contract. Assumes nothing.
 use mathlib.Core.Path.{ap, ◌∙◌}
 use Rattle.laws.specs.Numbered.{numbered}
-use Rattle.laws.proofs.Numbered.{answer-is}
-use Rattle.uf2_verify.specs.Stands.{standNumber}
-use Rattle.uf2_verify.proofs.Laws.{stand-is}
+use Rattle.laws.proofs.Numbered.{answer_is}
+use Rattle.uf2_verify.specs.Stands.{stand_number}
+use Rattle.uf2_verify.proofs.Laws.{stand_is}
 use borrow.Author.Rules.{rules}
 use Rattle.uf2_verify.proofs.stands.Statement.{statement}
 use Rattle.uf2_verify.proofs.stands.Tie as tie
@@ -17,7 +17,7 @@ stands-known-requires c κs = search rules
 returns : tie.Need-returns
 returns c =
     let k = c.before.Known-of.ensures in
-    ap (numbered standNumber) (answer-is c.stands-known.ensures ∙ stand-is _ _ _ k.0 k.1)
+    ap (numbered stand_number) (answer_is c.stands-known.ensures ∙ stand_is _ _ _ k.0 k.1)
 
 pub stands-spec : {M : Type 1} → statement M
 stands-spec = tie.close (tie.spec known-of-requires stands-known-requires returns)

@@ -2,18 +2,18 @@
 use mathlib.Core.Path.{ap}
 use borrow.Author.Tests.{not-true, not-false}
 use Rattle.laws.specs.Numbered.{numbered}
-use Rattle.laws.proofs.Numbered.{answer-is}
-use Rattle.uf2_verify.specs.Stands.{standNumber}
-use Rattle.uf2_verify.proofs.Laws.{fresh-screen, told-lengths, told-settings, told-refused, told-passed}
+use Rattle.laws.proofs.Numbered.{answer_is}
+use Rattle.uf2_verify.specs.Stands.{stand_number}
+use Rattle.uf2_verify.proofs.Laws.{fresh_screen, told-lengths, told-settings, told-refused, told-passed}
 use borrow.Author.Rules.{rules}
 use Rattle.uf2_verify.proofs.stands_known.Statement.{statement}
 use Rattle.uf2_verify.proofs.stands_known.Tie as tie
 
 returns : tie.Need-returns
-returns c = ap (numbered standNumber) (told-lengths _ _ _ (not-true _ c.if1.true))
+returns c = ap (numbered stand_number) (told-lengths _ _ _ (not-true _ c.if1.true))
 
 returns-2 : tie.Need-returns-2
-returns-2 c = ap (numbered standNumber) (told-settings _ _ _ (not-false _ c.before.before.if1.false) (not-true _ c.if2.true))
+returns-2 c = ap (numbered stand_number) (told-settings _ _ _ (not-false _ c.before.before.if1.false) (not-true _ c.if2.true))
 
 new-requires : tie.Need-new-requires
 new-requires c κs = search rules
@@ -34,16 +34,16 @@ returns-3 : tie.Need-returns-3
 returns-3 c =
     let d = c.before.before.before in
     let n = d.before.before in
-    ap (numbered standNumber)
-    (told-refused _ _ _ (not-false _ n.before.before.before.if1.false) (not-false _ n.before.if2.false) (fresh-screen _ _ _ (answer-is d.screen.ensures) n.new.ensures)
+    ap (numbered stand_number)
+    (told-refused _ _ _ (not-false _ n.before.before.before.if1.false) (not-false _ n.before.if2.false) (fresh_screen _ _ _ (answer_is d.screen.ensures) n.new.ensures)
     c.before.screening.given.1)
 
 returns-4 : tie.Need-returns-4
 returns-4 c =
     let d = c.before.before.before.before in
     let n = d.before.before in
-    ap (numbered standNumber)
-    (told-passed _ _ _ (not-false _ n.before.before.before.if1.false) (not-false _ n.before.if2.false) (fresh-screen _ _ _ (answer-is d.screen.ensures) n.new.ensures)
+    ap (numbered stand_number)
+    (told-passed _ _ _ (not-false _ n.before.before.before.if1.false) (not-false _ n.before.if2.false) (fresh_screen _ _ _ (answer_is d.screen.ensures) n.new.ensures)
     c.before.before.screening2.given.1 c.compared.ensures)
 
 pub stands-known-spec : {M : Type 1} → statement M

@@ -1,5 +1,5 @@
 -- `joiner::join` meets its contract. Assumes nothing.
-use Rattle.uhex_join.proofs.Files.{body-verdict, body-first, body-length, joins-bad, joins-fine}
+use Rattle.uhex_join.proofs.Files.{body-verdict, body-first, body_length, joins-bad, joins-fine}
 use borrow.Author.Rules.{rules}
 use Rattle.uhex_join.proofs.join.Statement.{statement}
 use Rattle.uhex_join.proofs.join.Tie as tie
@@ -24,7 +24,7 @@ returns c =
 join-fine-requires : tie.Need-join-fine-requires
 join-fine-requires c κs =
     let body = c.before.before.before.scan-file.ensures in
-    (body-first _ _ body.0, body-length _ _ body.0, body.1)
+    (body-first _ _ body.0, body_length _ _ body.0, body.1)
 
 same_length : tie.Need-same-length
 same_length c = search rules

@@ -1,5 +1,5 @@
 -- `joiner::join_fine` meets its contract. Assumes nothing.
-use Rattle.uhex_join.proofs.Files.{file-length, body-verdict, body-first, body-length, second-bad, second-fine}
+use Rattle.uhex_join.proofs.Files.{file-length, body-verdict, body-first, body_length, second-bad, second-fine}
 use Rattle.ihex_data.specs.Pieces.{pieces_of}
 use borrow.Author.Rules.{rules}
 use Rattle.uhex_join.proofs.join_fine.Statement.{statement}
@@ -38,7 +38,7 @@ write-file-requires : tie.Need-write-file-requires
 write-file-requires c κs =
     let x = c.before.before.before.before.before.before.before.before.before in
     let body = c.before.before.before.before.before.scan-file.ensures.0 in
-    ((x.requires.0, body-first _ _ body), file-length (pieces_of x.args.v1.now) (pieces_of x.args.v2.now) x.requires.1 (body-length _ _ body) c.before.before.section-len.ensures c.before.section-len2.ensures)
+    ((x.requires.0, body-first _ _ body), file-length (pieces_of x.args.v1.now) (pieces_of x.args.v2.now) x.requires.1 (body_length _ _ body) c.before.before.section-len.ensures c.before.section-len2.ensures)
 
 same_length : tie.Need-same-length
 same_length c = search rules

@@ -1,6 +1,6 @@
 -- `readers::reader_bytes` meets its contract. Assumes nothing.
-use Rattle.laws.proofs.BytesLaws.{low-two, low-four}
-use Rattle.uhex_layout.specs.Readers.{stateCodeBytes, readerBytes}
+use Rattle.laws.proofs.BytesLaws.{low_two, low_four}
+use Rattle.uhex_layout.specs.Readers.{state_code_bytes, reader_bytes}
 use borrow.Author.Rules.{rules}
 use Rattle.uhex_layout.proofs.reader_bytes.Statement.{statement}
 use Rattle.uhex_layout.proofs.reader_bytes.Tie as tie
@@ -51,8 +51,8 @@ flag-requires-4 : tie.Need-flag-requires-4
 flag-requires-4 c κs = search rules
 
 returns : tie.Need-returns
-unfolding readerBytes stateCodeBytes
-returns c = simp (low-two, low-four, c.before.before.before.before.state-code.ensures, c.before.before.before.flag.ensures, c.before.before.flag2.ensures, c.before.flag3.ensures, c.flag4.ensures)
+unfolding reader_bytes state_code_bytes
+returns c = simp (low_two, low_four, c.before.before.before.before.state-code.ensures, c.before.before.before.flag.ensures, c.before.before.flag2.ensures, c.before.flag3.ensures, c.flag4.ensures)
 
 pub reader-bytes-spec : {M : Type 1} → statement M
 reader-bytes-spec =

@@ -1,5 +1,5 @@
 -- `unihex::bad_failure` meets its contract. Assumes nothing.
-use Rattle.uhex_effects.specs.Reader.{badFailure}
+use Rattle.uhex_effects.specs.Reader.{bad_failure}
 use borrow.Author.Rules.{rules}
 use Rattle.uhex_reader.proofs.bad_failure.Statement.{statement}
 use Rattle.uhex_reader.proofs.bad_failure.Tie as tie
@@ -26,27 +26,27 @@ is-kept-requires : tie.Need-is-kept-requires
 is-kept-requires c κs = search rules
 
 returns : tie.Need-returns
-unfolding badFailure
+unfolding bad_failure
 returns c = rw c.enum_told.given.1
 
 returns-2 : tie.Need-returns-2
-unfolding badFailure
+unfolding bad_failure
 returns-2 c = rw c.enum-told2.given.1
 
 returns-3 : tie.Need-returns-3
-unfolding badFailure
+unfolding bad_failure
 returns-3 c = rw c.enum-told3.given.1
 
 returns-4 : tie.Need-returns-4
-unfolding badFailure
+unfolding bad_failure
 returns-4 c = rw c.enum-told4.given.1
 
 returns-5 : tie.Need-returns-5
-unfolding badFailure
+unfolding bad_failure
 returns-5 c = rw c.enum-told5.given.1
 
 returns-6 : tie.Need-returns-6
-unfolding badFailure
+unfolding bad_failure
 returns-6 c = rw (c.before.before.state.given.1, c.is-kept.ensures)
 
 pub bad-failure-spec : {M : Type 1} → statement M

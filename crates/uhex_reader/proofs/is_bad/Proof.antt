@@ -1,5 +1,5 @@
 -- `unihex::is_bad` meets its contract. Assumes nothing.
-use Rattle.uhex_effects.specs.Reader.{badReader}
+use Rattle.uhex_effects.specs.Reader.{bad_reader}
 use borrow.Author.Rules.{rules}
 use Rattle.uhex_reader.proofs.is_bad.Statement.{statement}
 use Rattle.uhex_reader.proofs.is_bad.Tie as tie
@@ -11,7 +11,7 @@ bad-failure-requires : tie.Need-bad-failure-requires
 bad-failure-requires c κs = search rules
 
 returns : tie.Need-returns
-unfolding badReader
+unfolding bad_reader
 returns c = rw c.bad-failure.ensures
 
 pub is-bad-spec : {M : Type 1} → statement M

@@ -1,19 +1,19 @@
 -- `unihex::line` meets its contract. Assumes nothing.
 use mathlib.Core.Path.{refl}
-use Rattle.uhex_reader.specs.Line.{haltLine}
-use Rattle.uhex_reader.proofs.Laws.{numbered, bad-image, bad-reader, line-by}
+use Rattle.uhex_reader.specs.Line.{halt_line}
+use Rattle.uhex_reader.proofs.Laws.{numbered, bad_image_lem, bad_reader_lem, line_by}
 use borrow.Author.Rules.{rules}
 use Rattle.uhex_reader.proofs.line.Statement.{statement}
 use Rattle.uhex_reader.proofs.line.Tie as tie
 
 returns : tie.Need-returns
-returns c = numbered _ _ _ _ _ _ (bad-image _ _ _ c.if1.true)
+returns c = numbered _ _ _ _ _ _ (bad_image_lem _ _ _ c.if1.true)
 
 is-bad-requires : tie.Need-is-bad-requires
 is-bad-requires c κs = search rules
 
 returns-2 : tie.Need-returns-2
-returns-2 c = numbered _ _ _ _ _ _ (bad-reader _ _ _ _ c.before.before.if1.false c.before.is-bad.ensures c.if2.true)
+returns-2 c = numbered _ _ _ _ _ _ (bad_reader_lem _ _ _ _ c.before.before.if1.false c.before.is-bad.ensures c.if2.true)
 
 halted-requires : tie.Need-halted-requires
 halted-requires c κs = search rules
@@ -31,12 +31,12 @@ same_length : tie.Need-same-length
 same_length c = search rules
 
 returns-3 : tie.Need-returns-3
-unfolding haltLine
-returns-3 c = numbered _ _ _ _ _ _ (line-by _ _ _ _ _ _ _ c.before.before.before.before.before.before.before.before.before.if1.false c.before.before.before.before.before.before.before.before.is-bad.ensures c.before.before.before.before.before.before.before.if2.false c.before.before.before.before.before.before.halted.ensures c.before.before.before.before.enum_told.given.1 c.before.before.live.ensures)
+unfolding halt_line
+returns-3 c = numbered _ _ _ _ _ _ (line_by _ _ _ _ _ _ _ c.before.before.before.before.before.before.before.before.before.if1.false c.before.before.before.before.before.before.before.before.is-bad.ensures c.before.before.before.before.before.before.before.if2.false c.before.before.before.before.before.before.halted.ensures c.before.before.before.before.enum_told.given.1 c.before.before.live.ensures)
 
 returns-4 : tie.Need-returns-4
-unfolding haltLine
-returns-4 c = numbered _ _ _ _ _ _ (line-by _ _ _ _ _ _ _ c.before.before.before.before.before.before.if1.false c.before.before.before.before.before.is-bad.ensures c.before.before.before.before.if2.false c.before.before.before.halted.ensures c.before.answer.given.1 refl)
+unfolding halt_line
+returns-4 c = numbered _ _ _ _ _ _ (line_by _ _ _ _ _ _ _ c.before.before.before.before.before.before.if1.false c.before.before.before.before.before.is-bad.ensures c.before.before.before.before.if2.false c.before.before.before.halted.ensures c.before.answer.given.1 refl)
 
 pub line-spec : {M : Type 1} → statement M
 line-spec =

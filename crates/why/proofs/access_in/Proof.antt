@@ -1,5 +1,5 @@
 -- `reason::access_in` meets its contract. Assumes nothing.
-use Rattle.laws.proofs.Numbered.{answer-is}
+use Rattle.laws.proofs.Numbered.{answer_is}
 use borrow.Author.Rules.{rules}
 use Rattle.why.proofs.access_in.Statement.{statement}
 use Rattle.why.proofs.access_in.Tie as tie
@@ -23,13 +23,13 @@ ram-access-requires-2 : tie.Need-ram-access-requires-2
 ram-access-requires-2 c κs = search rules
 
 returns : tie.Need-returns
-returns c = rw c.before.enum_told.given.1 (answer-is c.flash-access.ensures)
+returns c = rw c.before.enum_told.given.1 (answer_is c.flash-access.ensures)
 
 returns-2 : tie.Need-returns-2
-returns-2 c = rw c.before.enum-told2.given.1 (answer-is c.ram-access.ensures)
+returns-2 c = rw c.before.enum-told2.given.1 (answer_is c.ram-access.ensures)
 
 returns-3 : tie.Need-returns-3
-returns-3 c = rw c.before.enum-told3.given.1 (answer-is c.ram-access2.ensures)
+returns-3 c = rw c.before.enum-told3.given.1 (answer_is c.ram-access2.ensures)
 
 pub access-in-spec : {M : Type 1} → statement M
 access-in-spec =

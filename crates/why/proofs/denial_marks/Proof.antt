@@ -1,6 +1,6 @@
 -- `reason::denial_marks` meets its contract. Assumes nothing.
 use mathlib.Core.Path.{sym, ◌∙◌}
-use Rattle.why.proofs.Kept.{no-entry}
+use Rattle.why.proofs.Kept.{no_entry}
 use borrow.Author.Rules.{rules}
 use Rattle.why.proofs.denial_marks.Statement.{statement}
 use Rattle.why.proofs.denial_marks.Tie as tie
@@ -12,7 +12,7 @@ no-marks-requires : tie.Need-no-marks-requires
 no-marks-requires c κs = search rules
 
 returns : tie.Need-returns
-returns c = c.no-marks.ensures ∙ sym (no-entry _ _ c.before.before.args.denial c.before.match.keys2)
+returns c = c.no_marks_lem.ensures ∙ sym (no_entry _ _ c.before.before.args.denial c.before.match.keys2)
 
 marks-requires : tie.Need-marks-requires
 marks-requires c κs = search rules

@@ -1,6 +1,6 @@
 -- `reason::entries_of` meets its contract. Assumes nothing.
 use mathlib.Core.Path.{sym, ◌∙◌}
-use Rattle.why.proofs.Kept.{no-denial}
+use Rattle.why.proofs.Kept.{no_denial}
 use borrow.Author.Rules.{rules}
 use Rattle.why.proofs.entries_of.Statement.{statement}
 use Rattle.why.proofs.entries_of.Tie as tie
@@ -12,7 +12,7 @@ no-marks-requires : tie.Need-no-marks-requires
 no-marks-requires c κs = search rules
 
 returns : tie.Need-returns
-returns c = c.no-marks.ensures ∙ sym (no-denial _ _ c.before.before.args.cause c.before.match.keys2)
+returns c = c.no_marks_lem.ensures ∙ sym (no_denial _ _ c.before.before.args.cause c.before.match.keys2)
 
 denial-marks-requires : tie.Need-denial-marks-requires
 denial-marks-requires c κs = search rules

@@ -1,5 +1,5 @@
 -- `reason::place_row` meets its contract. Assumes nothing.
-use Rattle.why.proofs.Laws.{place-flash, place-settings}
+use Rattle.why.proofs.Laws.{place_flash, place-settings}
 use borrow.Author.Rules.{rules}
 use Rattle.why.proofs.place_row.Statement.{statement}
 use Rattle.why.proofs.place_row.Tie as tie
@@ -11,7 +11,7 @@ enum-known-first : tie.Need-enum-known-first
 enum-known-first c = search rules
 
 returns : tie.Need-returns
-returns c = place-flash _ _ c.before.before.before.flash-row.ensures c.before.first.given.1
+returns c = place_flash _ _ c.before.before.before.flash-row.ensures c.before.first.given.1
 
 enum_told : tie.Need-enum-told
 enum_told c = search rules

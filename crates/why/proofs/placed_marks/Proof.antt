@@ -25,7 +25,7 @@ returns : tie.Need-returns
 returns c = rw c.before.before.placed.given.1 c.entries-of.ensures
 
 returns-2 : tie.Need-returns-2
-returns-2 c = rw c.before.enum_told.given.1 c.no-marks.ensures
+returns-2 c = rw c.before.enum_told.given.1 c.no_marks_lem.ensures
 
 returns-3 : tie.Need-returns-3
 returns-3 c = rw c.before.enum-told2.given.1 c.no-marks2.ensures

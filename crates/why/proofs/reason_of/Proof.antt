@@ -1,5 +1,5 @@
 -- `reason::reason_of` meets its contract. Assumes nothing.
-use Rattle.laws.proofs.Numbered.{answer-is}
+use Rattle.laws.proofs.Numbered.{answer_is}
 use Rattle.arrival.specs.Lending.{lent, world}
 use Rattle.why.proofs.Laws.{reason-early, reason-block, reason-late}
 use borrow.Author.Rules.{rules}
@@ -34,7 +34,7 @@ enum-known-row : tie.Need-enum-known-row
 enum-known-row c = search rules
 
 returns-2 : tie.Need-returns-2
-returns-2 c = reason-block c.before.before.before.before.before.before.before.before.before.before.before.before.before.before.before.before.args.settings (world c.before.before.before.before.before.before.before.before.before.before.before.before.before.before.before.before.args.transfer (lent c.before.before.before.before.before.before.before.before.before.before.before.before.before.before.before.before.args.flash.now c.before.before.before.before.before.before.before.before.before.before.before.before.before.before.before.before.args.seen.now c.before.before.before.before.before.before.before.before.before.before.before.before.before.before.before.before.args.sectors.now c.before.before.before.before.before.before.before.before.before.before.before.before.before.before.before.before.args.main.now c.before.before.before.before.before.before.before.before.before.before.before.before.before.before.before.before.args.xip.now)) c.before.before.before.before.before.before.before.before.before.before.before.before.before.before.before.before.args.arrival.now c.before.before.before.before.before.before.before.before.before.early-row.ensures c.before.before.before.before.before.before.before.enum_told.given.1 c.before.before.before.before.before.before.fields.ensures c.before.before.before.before.before.kind-of.ensures (answer-is c.before.before.before.before.find.ensures.0) c.before.before.before.block_row.ensures c.before.row.given.1
+returns-2 c = reason-block c.before.before.before.before.before.before.before.before.before.before.before.before.before.before.before.before.args.settings (world c.before.before.before.before.before.before.before.before.before.before.before.before.before.before.before.before.args.transfer (lent c.before.before.before.before.before.before.before.before.before.before.before.before.before.before.before.before.args.flash.now c.before.before.before.before.before.before.before.before.before.before.before.before.before.before.before.before.args.seen.now c.before.before.before.before.before.before.before.before.before.before.before.before.before.before.before.before.args.sectors.now c.before.before.before.before.before.before.before.before.before.before.before.before.before.before.before.before.args.main.now c.before.before.before.before.before.before.before.before.before.before.before.before.before.before.before.before.args.xip.now)) c.before.before.before.before.before.before.before.before.before.before.before.before.before.before.before.before.args.arrival.now c.before.before.before.before.before.before.before.before.before.early-row.ensures c.before.before.before.before.before.before.before.enum_told.given.1 c.before.before.before.before.before.before.fields.ensures c.before.before.before.before.before.kind-of.ensures (answer_is c.before.before.before.before.find.ensures.0) c.before.before.before.block_row.ensures c.before.row.given.1
 
 enum-told-2 : tie.Need-enum-told-2
 enum-told-2 c = search rules
@@ -46,7 +46,7 @@ late-requires : tie.Need-late-requires
 late-requires c κs = search rules
 
 returns-3 : tie.Need-returns-3
-returns-3 c = reason-late c.before.before.before.before.before.before.before.before.before.before.before.before.before.before.before.before.before.args.settings (world c.before.before.before.before.before.before.before.before.before.before.before.before.before.before.before.before.before.args.transfer (lent c.before.before.before.before.before.before.before.before.before.before.before.before.before.before.before.before.before.args.flash.now c.before.before.before.before.before.before.before.before.before.before.before.before.before.before.before.before.before.args.seen.now c.before.before.before.before.before.before.before.before.before.before.before.before.before.before.before.before.before.args.sectors.now c.before.before.before.before.before.before.before.before.before.before.before.before.before.before.before.before.before.args.main.now c.before.before.before.before.before.before.before.before.before.before.before.before.before.before.before.before.before.args.xip.now)) c.before.before.before.before.before.before.before.before.before.before.before.before.before.before.before.before.before.args.arrival.now c.before.before.before.before.before.before.before.before.before.before.early-row.ensures c.before.before.before.before.before.before.before.before.enum_told.given.1 c.before.before.before.before.before.before.before.fields.ensures c.before.before.before.before.before.before.kind-of.ensures (answer-is c.before.before.before.before.before.find.ensures.0) c.before.before.before.before.block_row.ensures c.before.before.enum-told2.given.1 c.before.new.ensures c.late.ensures
+returns-3 c = reason-late c.before.before.before.before.before.before.before.before.before.before.before.before.before.before.before.before.before.args.settings (world c.before.before.before.before.before.before.before.before.before.before.before.before.before.before.before.before.before.args.transfer (lent c.before.before.before.before.before.before.before.before.before.before.before.before.before.before.before.before.before.args.flash.now c.before.before.before.before.before.before.before.before.before.before.before.before.before.before.before.before.before.args.seen.now c.before.before.before.before.before.before.before.before.before.before.before.before.before.before.before.before.before.args.sectors.now c.before.before.before.before.before.before.before.before.before.before.before.before.before.before.before.before.before.args.main.now c.before.before.before.before.before.before.before.before.before.before.before.before.before.before.before.before.before.args.xip.now)) c.before.before.before.before.before.before.before.before.before.before.before.before.before.before.before.before.before.args.arrival.now c.before.before.before.before.before.before.before.before.before.before.early-row.ensures c.before.before.before.before.before.before.before.before.enum_told.given.1 c.before.before.before.before.before.before.before.fields.ensures c.before.before.before.before.before.before.kind-of.ensures (answer_is c.before.before.before.before.before.find.ensures.0) c.before.before.before.before.block_row.ensures c.before.before.enum-told2.given.1 c.before.new.ensures c.late.ensures
 
 pub reason-of-spec : {M : Type 1} → statement M
 reason-of-spec =

@@ -1,6 +1,6 @@
 -- `reason::settings_row` meets its contract. Assumes nothing.
 use mathlib.Core.Path.{sym, ◌∙◌}
-use Rattle.why.proofs.Laws.{finding-good}
+use Rattle.why.proofs.Laws.{finding_good}
 use borrow.Author.Rules.{rules}
 use Rattle.why.proofs.settings_row.Statement.{statement}
 use Rattle.why.proofs.settings_row.Tie as tie
@@ -9,7 +9,7 @@ good-requires : tie.Need-good-requires
 good-requires c κs = search rules
 
 returns : tie.Need-returns
-returns c = finding-good _ _ (sym c.before.good2.ensures ∙ c.if1.true)
+returns c = finding_good _ _ (sym c.before.good2.ensures ∙ c.if1.true)
 
 fault-row-requires : tie.Need-fault-row-requires
 fault-row-requires c κs = search rules

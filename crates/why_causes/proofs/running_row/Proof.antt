@@ -1,7 +1,7 @@
 -- `causes::running_row` meets its contract. Assumes nothing.
 use mathlib.Core.Path.{◌∙◌}
 use borrow.Author.Tests.{lt-ltb, le-ltb, le-leb, lt-leb}
-use Rattle.why_causes.specs.Checks.{row_of, runningRow}
+use Rattle.why_causes.specs.Checks.{row_of, running_row}
 use borrow.Author.Rules.{rules}
 use Rattle.why_causes.proofs.running_row.Statement.{statement}
 use Rattle.why_causes.proofs.running_row.Tie as tie
@@ -10,25 +10,25 @@ bad-state-requires : tie.Need-bad-state-requires
 bad-state-requires c κs = search rules
 
 returns : tie.Need-returns
-unfolding row_of runningRow
+unfolding row_of running_row
 returns c = c.bad-state.ensures ∙ simp (lt-ltb _ _ c.before.if1.true)
 
 bad-state-requires-2 : tie.Need-bad-state-requires-2
 bad-state-requires-2 c κs = search rules
 
 returns-2 : tie.Need-returns-2
-unfolding row_of runningRow
+unfolding row_of running_row
 returns-2 c = c.bad-state2.ensures ∙ simp (le-ltb _ _ c.before.before.if1.false, le-leb _ _ c.before.if2.true)
 
 bad-state-requires-3 : tie.Need-bad-state-requires-3
 bad-state-requires-3 c κs = search rules
 
 returns-3 : tie.Need-returns-3
-unfolding row_of runningRow
+unfolding row_of running_row
 returns-3 c = c.bad-state3.ensures ∙ simp (le-ltb _ _ c.before.before.before.if1.false, lt-leb _ _ c.before.before.if2.false, lt-ltb _ _ c.before.if3.true)
 
 returns-4 : tie.Need-returns-4
-unfolding row_of runningRow
+unfolding row_of running_row
 returns-4 c = simp (le-ltb _ _ c.before.before.if1.false, lt-leb _ _ c.before.if2.false, le-ltb _ _ c.if3.false)
 
 pub running-row-spec : {M : Type 1} → statement M

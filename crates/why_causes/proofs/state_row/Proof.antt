@@ -1,5 +1,5 @@
 -- `causes::state_row` meets its contract. Assumes nothing.
-use Rattle.why_causes.specs.Checks.{row_of, stateRow}
+use Rattle.why_causes.specs.Checks.{row_of, state_row}
 use borrow.Author.Rules.{rules}
 use Rattle.why_causes.proofs.state_row.Statement.{statement}
 use Rattle.why_causes.proofs.state_row.Tie as tie
@@ -20,15 +20,15 @@ done-row-requires : tie.Need-done-row-requires
 done-row-requires c κs = search rules
 
 returns : tie.Need-returns
-unfolding row_of stateRow
+unfolding row_of state_row
 returns c = rw c.enum_told.given.1
 
 returns-2 : tie.Need-returns-2
-unfolding stateRow
+unfolding state_row
 returns-2 c = rw c.before.before.state.given.1 c.running-row.ensures
 
 returns-3 : tie.Need-returns-3
-unfolding stateRow
+unfolding state_row
 returns-3 c = rw c.before.before.state2.given.1 c.done-row.ensures
 
 pub state-row-spec : {M : Type 1} → statement M

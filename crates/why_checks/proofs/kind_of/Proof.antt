@@ -1,5 +1,5 @@
 -- `checks::kind_of` meets its contract. Assumes nothing.
-use Rattle.why_checks.proofs.Laws.{kind-comment, kind-page}
+use Rattle.why_checks.proofs.Laws.{kind-comment, kind_page}
 use borrow.Author.Rules.{rules}
 use Rattle.why_checks.proofs.kind_of.Statement.{statement}
 use Rattle.why_checks.proofs.kind_of.Tie as tie
@@ -20,7 +20,7 @@ window-kind-requires : tie.Need-window-kind-requires
 window-kind-requires c κs = search rules
 
 returns-2 : tie.Need-returns-2
-returns-2 c = kind-page _ _ _ c.before.before.before.if1.false c.before.window-of.ensures c.window-kind.ensures
+returns-2 c = kind_page _ _ _ c.before.before.before.if1.false c.before.window-of.ensures c.window-kind.ensures
 
 pub kind-of-spec : {M : Type 1} → statement M
 kind-of-spec =

@@ -5,16 +5,16 @@ use mathlib.Core.Bool.{false}
 use native.Mathlib.Omega.{arith}
 use Rattle.laws.specs.Sets.{any}
 use Rattle.laws.proofs.Laws.{any-zero, any-more, any-hit}
-use Rattle.placement.specs.Place.{usedCount}
-use Rattle.placement.proofs.Laws.{used-most}
-use Rattle.why_place.specs.Placing.{takesAt}
-use Rattle.why_place.proofs.Laws.{takes-by}
+use Rattle.placement.specs.Place.{used_count}
+use Rattle.placement.proofs.Laws.{used_most}
+use Rattle.why_place.specs.Placing.{takes_at}
+use Rattle.why_place.proofs.Laws.{takes_by}
 use borrow.Author.Rules.{rules}
 use Rattle.why_place.proofs.any_takes.Statement.{statement}
 use Rattle.why_place.proofs.any_takes.Tie as tie
 
 abbrev invariant-loop : tie.invariant-loop
-invariant-loop family settings n k₀ k = (k ≤ n) × (any k (takesAt settings.table family) ≡ false)
+invariant-loop family settings n k₀ k = (k ≤ n) × (any k (takes_at settings.table family) ≡ false)
 
 abbrev decreases-loop : tie.decreases-loop
 decreases-loop family settings n k₀ k = n - k
@@ -26,10 +26,10 @@ loop-holds : tie.Need-loop-init invariant-loop decreases-loop
 loop-holds c = (search rules, any-zero _)
 
 mul-e : tie.Need-overflow-mul-e invariant-loop decreases-loop
-mul-e c = omega (arith, c.before.before.used-count.ensures, used-most c.before.before.before.args.t1.count)
+mul-e c = omega (arith, c.before.before.used-count.ensures, used_most c.before.before.before.args.t1.count)
 
 element-copy-out-e : tie.Need-element-copy-out-e invariant-loop decreases-loop
-element-copy-out-e c = omega (arith, c.before.before.used-count.ensures, used-most c.before.before.before.args.t1.count)
+element-copy-out-e c = omega (arith, c.before.before.used-count.ensures, used_most c.before.before.before.args.t1.count)
 
 is-a-requires : tie.Need-is-a-requires invariant-loop decreases-loop
 is-a-requires c κs = search rules
@@ -41,8 +41,8 @@ returns : tie.Need-returns invariant-loop decreases-loop
 returns c =
     let a = c.before.before.before.before.before.before.before.args in
     let k = c.before.before.before.before.before.loop.k in
-    let below : k < usedCount a.t1.count = omega (arith, c.before.before.before.before.before.before.used-count.ensures) in
-    sym (any-hit _ _ _ below (takes-by a.t1.table a.family k c.before.before.is-a.ensures c.before.accepts-family.ensures c.if1.true))
+    let below : k < used_count a.t1.count = omega (arith, c.before.before.before.before.before.before.used-count.ensures) in
+    sym (any-hit _ _ _ below (takes_by a.t1.table a.family k c.before.before.is-a.ensures c.before.accepts-family.ensures c.if1.true))
 
 add-k : tie.Need-overflow-add-k invariant-loop decreases-loop
 add-k c = search rules
@@ -55,12 +55,12 @@ loop-again c =
     let a = c.before.before.before.before.before.before.before.args in
     let k = c.before.before.before.before.before.loop.k in (
       search rules,
-      any-more _ _ c.before.before.before.before.before.loop.invariant.1 (takes-by a.t1.table a.family k c.before.before.is-a.ensures c.before.accepts-family.ensures c.if1.false),
+      any-more _ _ c.before.before.before.before.before.loop.invariant.1 (takes_by a.t1.table a.family k c.before.before.is-a.ensures c.before.accepts-family.ensures c.if1.false),
     )
 
 returns-2 : tie.Need-returns-2 invariant-loop decreases-loop
 returns-2 c =
-    let last : c.before.loop.k ≡ usedCount c.before.before.before.args.t1.count = omega (arith, c.before.before.used-count.ensures) in
+    let last : c.before.loop.k ≡ used_count c.before.before.before.args.t1.count = omega (arith, c.before.before.used-count.ensures) in
     sym (rw last at c.before.loop.invariant.1)
 
 pub any-takes-spec : {M : Type 1} → statement M

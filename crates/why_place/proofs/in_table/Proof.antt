@@ -6,22 +6,22 @@ use native.Mathlib.Omega.{arith}
 use Rattle.laws.specs.Sets.{any}
 use Rattle.laws.proofs.Tests.{clash}
 use Rattle.laws.proofs.Laws.{any-zero, any-more}
-use Rattle.placement.specs.Place.{usedCount}
-use Rattle.placement.proofs.Laws.{used-most}
-use Rattle.why_place.specs.Placing.{takenIn, passHas}
+use Rattle.placement.specs.Place.{used_count}
+use Rattle.placement.proofs.Laws.{used_most}
+use Rattle.why_place.specs.Placing.{taken_in, pass_has}
 use Rattle.why_place.proofs.Laws.{taken-by, takes-pass, spot-found}
 use borrow.Author.Rules.{rules}
 use Rattle.why_place.proofs.in_table.Statement.{statement}
 use Rattle.why_place.proofs.in_table.Tie as tie
 
 abbrev invariant-loop : tie.invariant-loop
-invariant-loop family settings n w pass k₀ k = (k ≤ n) × (any k (takenIn settings family pass) ≡ false)
+invariant-loop family settings n w pass k₀ k = (k ≤ n) × (any k (taken_in settings family pass) ≡ false)
 
 abbrev decreases-loop : tie.decreases-loop
 decreases-loop family settings n w pass k₀ k = n - k
 
 abbrev invariant-search : tie.invariant-search
-invariant-search family settings n w pass₀ pass = (pass ≤ 4) × (any pass (passHas settings family) ≡ false)
+invariant-search family settings n w pass₀ pass = (pass ≤ 4) × (any pass (pass_has settings family) ≡ false)
 
 abbrev decreases-search : tie.decreases-search
 decreases-search family settings n w pass₀ pass = 4 - pass
@@ -39,10 +39,10 @@ loop-holds : tie.Need-loop-init invariant-loop decreases-loop invariant-search d
 loop-holds c = (search rules, any-zero _)
 
 mul-e : tie.Need-overflow-mul-e invariant-loop decreases-loop invariant-search decreases-search
-mul-e c = omega (arith, c.before.before.before.before.before.used-count.ensures, used-most c.before.before.before.before.before.before.args.t1.count)
+mul-e c = omega (arith, c.before.before.before.before.before.used-count.ensures, used_most c.before.before.before.before.before.before.args.t1.count)
 
 element-copy-out-e : tie.Need-element-copy-out-e invariant-loop decreases-loop invariant-search decreases-search
-element-copy-out-e c = omega (arith, c.before.before.before.before.before.used-count.ensures, used-most c.before.before.before.before.before.before.args.t1.count)
+element-copy-out-e c = omega (arith, c.before.before.before.before.before.used-count.ensures, used_most c.before.before.before.before.before.before.args.t1.count)
 
 takes-requires : tie.Need-takes-requires invariant-loop decreases-loop invariant-search decreases-search
 takes-requires c κs = search rules
@@ -54,7 +54,7 @@ add-t22 : tie.Need-overflow-add-t22 invariant-loop decreases-loop invariant-sear
 add-t22 c = search rules
 
 cast-t23 : tie.Need-overflow-cast-t23 invariant-loop decreases-loop invariant-search decreases-search
-cast-t23 c = record { fits = omega (arith, c.before.before.before.before.before.before.before.before.used-count.ensures, used-most c.before.before.before.before.before.before.before.before.before.args.t1.count) }
+cast-t23 c = record { fits = omega (arith, c.before.before.before.before.before.before.before.before.used-count.ensures, used_most c.before.before.before.before.before.before.before.before.before.args.t1.count) }
 
 add-k : tie.Need-overflow-add-k invariant-loop decreases-loop invariant-search decreases-search
 add-k c = search rules
@@ -77,9 +77,9 @@ search-less : tie.Need-search-smaller invariant-loop decreases-loop invariant-se
 search-less c = search rules
 
 search-again : tie.Need-search-preserved invariant-loop decreases-loop invariant-search decreases-search
-unfolding passHas
+unfolding pass_has
 search-again c =
-    let last : c.before.loop.k ≡ usedCount c.before.before.before.before.before.before.args.t1.count = omega (arith, c.before.before.before.before.before.used-count.ensures) in
+    let last : c.before.loop.k ≡ used_count c.before.before.before.before.before.before.args.t1.count = omega (arith, c.before.before.before.before.before.used-count.ensures) in
     (search rules, any-more _ _ c.before.before.before.search.invariant.1 (rw last at c.before.loop.invariant.1))
 
 returns : tie.Need-returns invariant-loop decreases-loop invariant-search decreases-search
@@ -92,7 +92,7 @@ returns-2 c =
     let a = c.before.before.before.before.before.before.before.before.before.args in
     let p = c.before.before.before.before.before.before.search.pass in
     let k = c.before.before.before.before.loop.k in
-    let below : k < usedCount a.t1.count = omega (arith, c.before.before.before.before.before.before.before.before.used-count.ensures) in
+    let below : k < used_count a.t1.count = omega (arith, c.before.before.before.before.before.before.before.before.used-count.ensures) in
     let taken = taken-by a.t1 a.family p k c.before.before.before.before.before.before.before.query.ensures c.before.takes.ensures c.if2.true in
     spot-found a.t1 a.family p k c.before.before.before.before.before.if1.false below c.before.before.before.before.before.before.search.invariant.1 c.before.before.before.before.loop.invariant.1 taken
 

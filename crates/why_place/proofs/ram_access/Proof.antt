@@ -3,8 +3,8 @@ use mathlib.Core.Path.{sym, ap, ◌∙◌}
 use mathlib.Core.Bool.{Bool, not}
 use Rattle.laws.specs.Numbered.{numbered}
 use Rattle.why_place.specs.declared.Denial.TheVariants.{NotForRam}
-use Rattle.why_place.specs.Parts.{deniedIf}
-use Rattle.why_place.specs.Placing.{accessNumber}
+use Rattle.why_place.specs.Parts.{denied_if}
+use Rattle.why_place.specs.Placing.{access_number}
 use Rattle.why_place.proofs.Laws.{ram-by}
 use borrow.Author.Rules.{rules}
 use Rattle.why_place.proofs.ram_access.Statement.{statement}
@@ -18,7 +18,7 @@ denied-if-requires c κs = search rules
 
 returns : tie.Need-returns
 returns c =
-    ap (numbered accessNumber) (c.denied-if.ensures ∙ ap (λ (b : Bool). deniedIf (not b) NotForRam) c.before.ram-family.ensures ∙ sym (ram-by _ _))
+    ap (numbered access_number) (c.denied-if.ensures ∙ ap (λ (b : Bool). denied_if (not b) NotForRam) c.before.ram-family.ensures ∙ sym (ram-by _ _))
 
 pub ram-access-spec : {M : Type 1} → statement M
 ram-access-spec = tie.close (tie.spec ram-family-requires denied-if-requires returns)

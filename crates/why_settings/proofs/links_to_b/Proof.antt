@@ -3,7 +3,7 @@ use mathlib.Core.Path.{◌≡◌, sym, ◌∙◌}
 use native.Mathlib.Omega.{arith}
 use lib.ListN.{length}
 use Rattle.partitions.specs.declared.Entry.{Entry}
-use Rattle.why_settings.proofs.Laws.{length-mapped, link-none, link-from-past, link-past, link-there}
+use Rattle.why_settings.proofs.Laws.{length_mapped, link_none, link-from-past, link-past, link-there}
 use borrow.Author.Rules.{rules}
 use Rattle.why_settings.proofs.links_to_b.Statement.{statement}
 use Rattle.why_settings.proofs.links_to_b.Tie as tie
@@ -11,7 +11,7 @@ use Rattle.why_settings.proofs.links_to_b.Tie as tie
 returns : tie.Need-returns
 returns c =
     let a = c.before.args in
-    let l : length a.t1.table ≡ 16 = length-mapped {A = Entry} _ a.t1.table 16 c.before.well-formed.0.1.1.0.1.0.1 in
+    let l : length a.t1.table ≡ 16 = length_mapped {A = Entry} _ a.t1.table 16 c.before.well-formed.0.1.1.0.1.0.1 in
     link-from-past a.t1.table a.k l c.if1.true
 
 mul-e : tie.Need-overflow-mul-e
@@ -30,13 +30,13 @@ unowned-requires : tie.Need-unowned-requires
 unowned-requires c κs = search rules
 
 returns-2 : tie.Need-returns-2
-returns-2 c = let a = c.before.before.before.before.before.args in link-none a.t1.table a.k (sym c.before.unowned.ensures ∙ c.if2.true)
+returns-2 c = let a = c.before.before.before.before.before.args in link_none a.t1.table a.k (sym c.before.unowned.ensures ∙ c.if2.true)
 
 returns-3 : tie.Need-returns-3
 returns-3 c =
     let x = c.before.before.before.before.before.before in
     let a = x.args in
-    let l : length a.t1.table ≡ 16 = length-mapped {A = Entry} _ a.t1.table 16 x.well-formed.0.1.1.0.1.0.1 in
+    let l : length a.t1.table ≡ 16 = length_mapped {A = Entry} _ a.t1.table 16 x.well-formed.0.1.1.0.1.0.1 in
     link-past a.t1.table a.k l (omega (arith, c.before.before.before.target.ensures))
 
 mul-o : tie.Need-overflow-mul-o

@@ -3,9 +3,9 @@ use Prim.Native.Nat.{ℕ}
 use mathlib.Core.Path.{ap, ◌∙◌}
 use Rattle.laws.specs.Sets.{one}
 use Rattle.partitions.specs.declared.Entry.{Entry}
-use Rattle.partitions.specs.Settings.{linkTarget}
-use Rattle.why_settings.specs.Faults.{firstReserved, end_of, told}
-use Rattle.why_settings.proofs.Laws.{tested-as}
+use Rattle.partitions.specs.Settings.{link_target}
+use Rattle.why_settings.specs.Faults.{first_reserved, end_of, told}
+use Rattle.why_settings.proofs.Laws.{tested_as}
 use borrow.Author.Rules.{rules}
 use Rattle.why_settings.proofs.numbers.Statement.{statement}
 use Rattle.why_settings.proofs.numbers.Tie as tie
@@ -134,31 +134,31 @@ tell-requires-9 : tie.Need-tell-requires-9
 tell-requires-9 c κs = search rules
 
 returns : tie.Need-returns
-returns c = tested-as _ _ c.before.before.before.enum_told.given.1 (c.tell.ensures ∙ ap (λ (n : ℕ). told n 0) (c.before.bit.ensures ∙ ap one c.before.before.is-enabled.ensures))
+returns c = tested_as _ _ c.before.before.before.enum_told.given.1 (c.tell.ensures ∙ ap (λ (n : ℕ). told n 0) (c.before.bit.ensures ∙ ap one c.before.before.is-enabled.ensures))
 
 returns-2 : tie.Need-returns-2
-returns-2 c = tested-as _ _ c.before.before.enum-told2.given.1 c.tell2.ensures
+returns-2 c = tested_as _ _ c.before.before.enum-told2.given.1 c.tell2.ensures
 
 returns-3 : tie.Need-returns-3
-returns-3 c = tested-as _ _ c.before.before.before.before.fault.given.1 (c.tell3.ensures ∙ ap (λ (e : Entry). told e.sectors 0) c.before.before.slot.ensures)
+returns-3 c = tested_as _ _ c.before.before.before.before.fault.given.1 (c.tell3.ensures ∙ ap (λ (e : Entry). told e.sectors 0) c.before.before.slot.ensures)
 
 returns-4 : tie.Need-returns-4
-returns-4 c = tested-as _ _ c.before.before.before.before.fault2.given.1 (c.tell4.ensures ∙ ap (λ (n : ℕ). told n c.before.before.before.before.before.before.args.flash-len) (c.before.end_of_lem.ensures ∙ ap end_of c.before.before.slot2.ensures))
+returns-4 c = tested_as _ _ c.before.before.before.before.fault2.given.1 (c.tell4.ensures ∙ ap (λ (n : ℕ). told n c.before.before.before.before.before.before.args.flash-len) (c.before.end_of_lem.ensures ∙ ap end_of c.before.before.slot2.ensures))
 
 returns-5 : tie.Need-returns-5
-returns-5 c = tested-as _ _ c.before.before.fault3.given.1 c.tell5.ensures
+returns-5 c = tested_as _ _ c.before.before.fault3.given.1 c.tell5.ensures
 
 returns-6 : tie.Need-returns-6
-returns-6 c = tested-as _ _ c.before.before.before.before.fault4.given.1 (c.tell6.ensures ∙ ap (λ (n : ℕ). told n c.before.before.before.before.fault4.given.0.0) (c.before.target.ensures ∙ ap (λ (e : Entry). linkTarget e.link) c.before.before.slot3.ensures))
+returns-6 c = tested_as _ _ c.before.before.before.before.fault4.given.1 (c.tell6.ensures ∙ ap (λ (n : ℕ). told n c.before.before.before.before.fault4.given.0.0) (c.before.target.ensures ∙ ap (λ (e : Entry). link_target e.link) c.before.before.slot3.ensures))
 
 returns-7 : tie.Need-returns-7
-returns-7 c = tested-as _ _ c.before.before.before.before.fault5.given.1 (c.tell7.ensures ∙ ap (λ (n : ℕ). told n c.before.before.before.before.fault5.given.0.0) (c.before.target2.ensures ∙ ap (λ (e : Entry). linkTarget e.link) c.before.before.slot4.ensures))
+returns-7 c = tested_as _ _ c.before.before.before.before.fault5.given.1 (c.tell7.ensures ∙ ap (λ (n : ℕ). told n c.before.before.before.before.fault5.given.0.0) (c.before.target2.ensures ∙ ap (λ (e : Entry). link_target e.link) c.before.before.slot4.ensures))
 
 returns-8 : tie.Need-returns-8
-returns-8 c = tested-as _ _ c.before.before.before.before.fault6.given.1 (c.tell8.ensures ∙ ap (λ (e : Entry). told e.user_count 4) c.before.before.slot5.ensures)
+returns-8 c = tested_as _ _ c.before.before.before.before.fault6.given.1 (c.tell8.ensures ∙ ap (λ (e : Entry). told e.user_count 4) c.before.before.slot5.ensures)
 
 returns-9 : tie.Need-returns-9
-returns-9 c = tested-as _ _ c.before.before.before.before.fault7.given.1 (c.tell9.ensures ∙ ap (λ (n : ℕ). told n 0xe48bff56) (c.before.first-reserved.ensures ∙ ap firstReserved c.before.before.slot6.ensures))
+returns-9 c = tested_as _ _ c.before.before.before.before.fault7.given.1 (c.tell9.ensures ∙ ap (λ (n : ℕ). told n 0xe48bff56) (c.before.first-reserved.ensures ∙ ap first_reserved c.before.before.slot6.ensures))
 
 pub numbers-spec : {M : Type 1} → statement M
 numbers-spec =

@@ -11,39 +11,39 @@ use Rattle.laws.specs.Sets.{any, least}
 use Rattle.laws.proofs.Tests.{split}
 use Rattle.laws.proofs.Laws.{any_none, any-all, least-none}
 use Rattle.partitions.specs.declared.Entry.{Entry}
-use Rattle.partitions.specs.Settings.{emptyEntry, entry_at, overlapAt, sharesWith}
+use Rattle.partitions.specs.Settings.{empty_entry, entry_at, overlap_at, shares_with}
 use Rattle.partitions.proofs.Overlap.{overlap-before, overlap-after}
 
 module _ (table : List Entry) (k : ℕ) where
   -- another entry, by what the code asks
-  pub other-shares : (j : ℕ) {b v : Bool} → b ≡ overlapAt table k j → not (eqb j k) && b ≡ v → sharesWith table k j ≡ v
+  pub other-shares : (j : ℕ) {b v : Bool} → b ≡ overlap_at table k j → not (eqb j k) && b ≡ v → shares_with table k j ≡ v
   other-shares j h t = ap (λ (b : Bool). not (eqb j k) && b) (sym h) ∙ t
 
   module _ (l : length table ≡ 16) where
-    empty-past : (i : ℕ) → 16 ≤ i → entry_at table i ≡ emptyEntry
-    empty-past i h = get_or-eq_default table emptyEntry (omega (arith, l, h))
+    empty-past : (i : ℕ) → 16 ≤ i → entry_at table i ≡ empty_entry
+    empty-past i h = get_or-eq_default table empty_entry (omega (arith, l, h))
 
     -- an entry past the table's end shares none
-    own-past : 16 ≤ k → (j : ℕ) → sharesWith table k j ≡ false
-    unfolding overlapAt
+    own-past : 16 ≤ k → (j : ℕ) → shares_with table k j ≡ false
+    unfolding overlap_at
     own-past h j =
         rw (empty-past k h, overlap-after 0 0 (entry_at table j).first (entry_at table j).sectors (omega arith)) (and-false (not (eqb j k)))
 
     -- with an entry past the table's end none is shared
-    other-past : (j : ℕ) → 16 ≤ j → sharesWith table k j ≡ false
-    unfolding overlapAt
+    other-past : (j : ℕ) → 16 ≤ j → shares_with table k j ≡ false
+    unfolding overlap_at
     other-past j h =
         rw (empty-past j h, overlap-before (entry_at table k).first (entry_at table k).sectors 0 0 (omega arith)) (and-false (not (eqb j k)))
 
-    pub least-own-past : (n : ℕ) → 16 ≤ k → n ≡ least n (sharesWith table k)
-    least-own-past n h = sym (least-none (sharesWith table k) n (any_none (sharesWith table k) n (λ j b. own-past h j)))
+    pub least-own-past : (n : ℕ) → 16 ≤ k → n ≡ least n (shares_with table k)
+    least-own-past n h = sym (least-none (shares_with table k) n (any_none (shares_with table k) n (λ j b. own-past h j)))
 
-    pub least-past : (n j : ℕ) → 16 ≤ j → any j (sharesWith table k) ≡ false → n ≡ least n (sharesWith table k)
+    pub least-past : (n j : ℕ) → 16 ≤ j → any j (shares_with table k) ≡ false → n ≡ least n (shares_with table k)
     least-past n j h q =
         sym
-        (least-none (sharesWith table k) n
-        (any_none (sharesWith table k) n
+        (least-none (shares_with table k) n
+        (any_none (shares_with table k) n
         (λ i b.
         split (ltb i j)
-        (λ y. any-all (sharesWith table k) j q i (ltb-true i j y))
+        (λ y. any-all (shares_with table k) j q i (ltb-true i j y))
         (λ y. other-past i (omega (arith, h, ltb-false i j y))))))

@@ -2,8 +2,8 @@
 use mathlib.Core.Path.{◌∙◌, subst}
 use native.Mathlib.Omega.{arith}
 use Rattle.call_bytes.specs.PlacesCalls.{Low}
-use Rattle.call_bytes.proofs.places.Laws.{refused-told, found-told}
-use Rattle.call_bytes.proofs.places.Places.{place-put}
+use Rattle.call_bytes.proofs.places.Laws.{refused_told, found_told}
+use Rattle.call_bytes.proofs.places.Places.{place_put}
 use borrow.Author.Rules.{rules}
 use Rattle.call_bytes.proofs.places.tell.Statement.{statement}
 use Rattle.call_bytes.proofs.places.tell.Tie as tie
@@ -18,7 +18,7 @@ enum-known-asked : tie.Need-enum-known-asked
 enum-known-asked c = search rules
 
 returns : tie.Need-returns
-returns c = refused-told _ c.before.before.before.args.asked c.match.keys2 c.before.number.ensures
+returns c = refused_told _ c.before.before.before.args.asked c.match.keys2 c.before.number.ensures
 
 cast-put : tie.Need-overflow-cast-put
 cast-put c =
@@ -45,8 +45,8 @@ returns-2 c =
     let first = second.before.before.before.before in
     let known = first.before.before.before in
     let start = known.before.before.before.before in
-    found-told start.args.place.now _ _ known.asked.given.1 known.before.before.number.ensures
-    (second.put2.ensures ∙ rw first.put.ensures (place-put start.args.place.now _ _ start.requires.0))
+    found_told start.args.place.now _ _ known.asked.given.1 known.before.before.number.ensures
+    (second.put2.ensures ∙ rw first.put.ensures (place_put start.args.place.now _ _ start.requires.0))
 
 pub tell-spec : {M : Type 1} → statement M
 tell-spec =

@@ -1,7 +1,7 @@
 -- `planbytes::numbers` meets its contract. Assumes nothing.
 use mathlib.Core.Path.{refl, ap, sym, ◌∙◌}
-use Rattle.call_bytes.specs.Calls.{planBytes}
-use Rattle.call_bytes.proofs.plans.Laws.{words-program, words-erase}
+use Rattle.call_bytes.specs.Calls.{plan_bytes}
+use Rattle.call_bytes.proofs.plans.Laws.{words_program, words_erase}
 use borrow.Author.Rules.{rules}
 use Rattle.call_bytes.proofs.plans.numbers.Statement.{statement}
 use Rattle.call_bytes.proofs.plans.numbers.Tie as tie
@@ -48,12 +48,12 @@ returns c = rw (c.number.ensures, c.before.enum_told.given.1) refl
 returns-2 : tie.Need-returns-2
 returns-2 c =
     let m = c.before.before in
-    words-program _ m.number2.ensures c.before.low.ensures c.low2.ensures ∙ sym (ap planBytes m.before.before.plan.given.1)
+    words_program _ m.number2.ensures c.before.low.ensures c.low2.ensures ∙ sym (ap plan_bytes m.before.before.plan.given.1)
 
 returns-3 : tie.Need-returns-3
 returns-3 c =
     let m = c.before.before in
-    words-erase _ _ m.number3.ensures c.before.low3.ensures c.low4.ensures ∙ sym (ap planBytes m.before.before.plan2.given.1)
+    words_erase _ _ m.number3.ensures c.before.low3.ensures c.low4.ensures ∙ sym (ap plan_bytes m.before.before.plan2.given.1)
 
 pub numbers-spec : {M : Type 1} → statement M
 numbers-spec =

@@ -1,6 +1,6 @@
 -- `planbytes::tell` meets its contract. Assumes nothing.
 use mathlib.Core.Path.{sym, ◌∙◌}
-use Rattle.call_bytes.proofs.plans.Laws.{plan-put, plan-whole, plan-other}
+use Rattle.call_bytes.proofs.plans.Laws.{plan_put, plan_whole, plan_other}
 use borrow.Author.Rules.{rules}
 use Rattle.call_bytes.proofs.plans.tell.Statement.{statement}
 use Rattle.call_bytes.proofs.plans.tell.Tie as tie
@@ -8,7 +8,7 @@ use Rattle.call_bytes.proofs.plans.tell.Tie as tie
 returns : tie.Need-returns
 returns c =
     let x = c.before.before.args in
-    sym (plan-other x.bytes.now x.plan c.if1.true)
+    sym (plan_other x.bytes.now x.plan c.if1.true)
 
 numbers-requires : tie.Need-numbers-requires
 numbers-requires c κs = search rules
@@ -32,9 +32,9 @@ returns-2 c =
     let long = guard.if1.false in
     let x = guard.before.before.args in
     c.before.before.put3.ensures
-    ∙ rw (c.before.before.before.before.before.before.put2.ensures, first.put.ensures) (plan-put x.bytes.now _ _ _ long)
+    ∙ rw (c.before.before.before.before.before.before.put2.ensures, first.put.ensures) (plan_put x.bytes.now _ _ _ long)
     ∙ first.before.before.numbers.ensures
-    ∙ sym (plan-whole x.bytes.now x.plan long)
+    ∙ sym (plan_whole x.bytes.now x.plan long)
 
 pub tell-spec : {M : Type 1} → statement M
 tell-spec =

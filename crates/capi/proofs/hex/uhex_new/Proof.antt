@@ -1,6 +1,6 @@
 -- `capi::hex::uhex_new` meets its contract. Assumes nothing.
 use mathlib.Core.Path.{ap, ◌∙◌}
-use Rattle.uhex_layout.specs.Readers.{readerWritten}
+use Rattle.uhex_layout.specs.Readers.{reader_written}
 use borrow.Author.Rules.{rules}
 use Rattle.capi.proofs.hex.uhex_new.Statement.{statement}
 use Rattle.capi.proofs.hex.uhex_new.Tie as tie
@@ -17,7 +17,7 @@ same_length c = search rules
 returns : tie.Need-returns
 returns c =
     let b = c.before.before in
-    b.write-reader.ensures ∙ ap (readerWritten b.before.before.before.before.args.reader.now) b.before.fresh.ensures
+    b.write-reader.ensures ∙ ap (reader_written b.before.before.before.before.args.reader.now) b.before.fresh.ensures
 
 pub uhex-new-spec : {M : Type 1} → statement M
 uhex-new-spec = tie.close (tie.spec fresh-requires write-reader-requires same_length returns)

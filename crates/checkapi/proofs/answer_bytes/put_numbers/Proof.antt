@@ -1,5 +1,5 @@
 -- `checkbytes::put_numbers` meets its contract. Assumes nothing.
-use Rattle.checkapi.specs.CheckBytes.{numbersOver}
+use Rattle.checkapi.specs.CheckBytes.{numbers_over}
 use borrow.Author.Rules.{rules}
 use Rattle.checkapi.proofs.answer_bytes.put_numbers.Statement.{statement}
 use Rattle.checkapi.proofs.answer_bytes.put_numbers.Tie as tie
@@ -32,7 +32,7 @@ same_length : tie.Need-same-length
 same_length c = search rules
 
 returns : tie.Need-returns
-unfolding numbersOver
+unfolding numbers_over
 returns c = rw (c.before.before.put4.ensures, c.before.before.before.before.before.before.put3.ensures, c.before.before.before.before.before.before.before.before.before.before.put2.ensures, c.before.before.before.before.before.before.before.before.before.before.before.before.before.before.put.ensures)
 
 pub put-numbers-spec : {M : Type 1} → statement M

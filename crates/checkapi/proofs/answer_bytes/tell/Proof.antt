@@ -26,7 +26,7 @@ same_length : tie.Need-same-length
 same_length c = search rules
 
 returns-2 : tie.Need-returns-2
-returns-2 c = written _ _ c.before.before.before.before.before.before.before.if1.false c.before.before.before.before.before.before.piece-told.ensures c.before.before.before.before.before.other-told.ensures c.before.before.before.put-numbers.ensures c.number.ensures
+returns-2 c = written _ _ c.before.before.before.before.before.before.before.if1.false c.before.before.before.before.before.before.piece-told.ensures c.before.before.before.before.before.other_told_lem.ensures c.before.before.before.put-numbers.ensures c.number.ensures
 
 pub tell-spec : {M : Type 1} → statement M
 tell-spec =

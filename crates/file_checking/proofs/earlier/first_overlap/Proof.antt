@@ -5,7 +5,7 @@ use mathlib.Core.Bool.{false}
 use native.Mathlib.Omega.{arith}
 use Rattle.laws.specs.Sets.{any}
 use Rattle.laws.proofs.Laws.{any-zero, any-more, least-is, least-none}
-use Rattle.file_check.specs.Check.{sameNumber, overlaps, fieldIn}
+use Rattle.file_check.specs.Check.{same_number, overlaps, field_in}
 use borrow.Author.Rules.{rules}
 use Rattle.file_checking.proofs.earlier.first_overlap.Statement.{statement}
 use Rattle.file_checking.proofs.earlier.first_overlap.Tie as tie

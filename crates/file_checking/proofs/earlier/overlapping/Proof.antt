@@ -1,5 +1,5 @@
 -- `earlier::overlapping` meets its contract. Assumes nothing.
-use Rattle.file_checking.proofs.earlier.Laws.{overlap-is}
+use Rattle.file_checking.proofs.earlier.Laws.{overlap_is}
 use borrow.Author.Rules.{rules}
 use Rattle.file_checking.proofs.earlier.overlapping.Statement.{statement}
 use Rattle.file_checking.proofs.earlier.overlapping.Tie as tie
@@ -20,7 +20,7 @@ close-requires : tie.Need-close-requires
 close-requires c κs = search rules
 
 returns : tie.Need-returns
-returns c = overlap-is _ _ _ c.before.before.before.before.is-page.ensures c.before.before.before.is-page2.ensures c.before.before.field_in.ensures c.before.field-in2.ensures c.close.ensures
+returns c = overlap_is _ _ _ c.before.before.before.before.is-page.ensures c.before.before.before.is-page2.ensures c.before.before.field_in.ensures c.before.field-in2.ensures c.close.ensures
 
 pub overlapping-spec : {M : Type 1} → statement M
 overlapping-spec =

@@ -1,6 +1,6 @@
 -- `piece::check_piece` meets its contract. Assumes nothing.
 use mathlib.Core.Path.{refl}
-use Rattle.file_checking.proofs.piece.Steps.{screen-piece, screened-is, maps-are}
+use Rattle.file_checking.proofs.piece.Steps.{screen_piece, screened-is, maps-are}
 use borrow.Author.Rules.{rules}
 use Rattle.file_checking.proofs.piece.check_piece.Statement.{statement}
 use Rattle.file_checking.proofs.piece.check_piece.Tie as tie
@@ -37,7 +37,7 @@ settle-requires c κs = search rules
 
 returns : tie.Need-returns
 returns c =
-    let e = screen-piece _ _ _ _ c.before.before.before.before.before.new.ensures c.before.before.before.screen.ensures c.before.screening.given.1 in
+    let e = screen_piece _ _ _ _ c.before.before.before.before.before.new.ensures c.before.before.before.screen.ensures c.before.screening.given.1 in
     (screened-is _ _ _ _ e refl, maps-are _ _ _ _ e refl)
 
 same_length : tie.Need-same-length
@@ -51,7 +51,7 @@ same-length-3 c = search rules
 
 returns-2 : tie.Need-returns-2
 returns-2 c =
-    let e = screen-piece _ _ _ _ c.before.before.before.before.before.before.before.before.before.before.before.before.before.before.before.new.ensures c.before.before.before.before.before.before.before.before.before.before.before.before.before.screen.ensures c.before.before.before.before.before.before.before.before.before.before.before.screening2.given.1 in
+    let e = screen_piece _ _ _ _ c.before.before.before.before.before.before.before.before.before.before.before.before.before.before.before.new.ensures c.before.before.before.before.before.before.before.before.before.before.before.before.before.screen.ensures c.before.before.before.before.before.before.before.before.before.before.before.screening2.given.1 in
     let t = c.before.before.before.before.before.before.settle.ensures in
     (screened-is _ _ _ _ e t.0, maps-are _ _ _ _ e t.1)
 

@@ -1,5 +1,5 @@
 -- `regions::counts_in` meets its contract. Assumes nothing.
-use Rattle.file_checking.proofs.regions.Laws.{counts-is}
+use Rattle.file_checking.proofs.regions.Laws.{counts_is}
 use borrow.Author.Rules.{rules}
 use Rattle.file_checking.proofs.regions.counts_in.Statement.{statement}
 use Rattle.file_checking.proofs.regions.counts_in.Tie as tie
@@ -25,7 +25,7 @@ returns c = search rules
 returns-2 : tie.Need-returns-2
 returns-2 c =
     rw c.before.before.before.before.place.given.1
-    (counts-is _ _ c.before.before.read-region.ensures c.before.field.ensures c.good2.ensures)
+    (counts_is _ _ c.before.before.read-region.ensures c.before.field.ensures c.good2.ensures)
 
 pub counts-in-spec : {M : Type 1} → statement M
 counts-in-spec =

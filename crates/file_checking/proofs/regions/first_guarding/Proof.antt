@@ -6,14 +6,14 @@ use native.Mathlib.Omega.{arith}
 use lib.ListN.{length}
 use Rattle.laws.specs.Sets.{any}
 use Rattle.laws.proofs.Laws.{any-zero, any-more, least-is, least-none}
-use Rattle.file_checking.proofs.earlier.Laws.{part-is}
-use Rattle.file_checking.specs.Regions.Guarding.{guardsAlone, guardsAt}
+use Rattle.file_checking.proofs.earlier.Laws.{part_is}
+use Rattle.file_checking.specs.Regions.Guarding.{guards_alone, guards_at}
 use borrow.Author.Rules.{rules}
 use Rattle.file_checking.proofs.regions.first_guarding.Statement.{statement}
 use Rattle.file_checking.proofs.regions.first_guarding.Tie as tie
 
 abbrev invariant-loop : tie.invariant-loop
-invariant-loop place file n i₀ i = (i ≤ n) × (any i (guardsAt place file) ≡ false)
+invariant-loop place file n i₀ i = (i ≤ n) × (any i (guards_at place file) ≡ false)
 
 abbrev decreases-loop : tie.decreases-loop
 decreases-loop place file n i₀ i = n - i
@@ -46,8 +46,8 @@ returns : tie.Need-returns invariant-loop decreases-loop
 returns c =
     let a = c.before.before.before.before.before.before.args in
     let at = c.before.before.before.before.loop in
-    let e = ap (guardsAlone a.place) (sym (part-is a.file.now at.i)) ∙ sym c.before.guards.ensures ∙ c.if1.true in
-    sym (least-is (guardsAt a.place a.file.now) _ _ c.before.before.before.loop-test.true at.invariant.1 e)
+    let e = ap (guards_alone a.place) (sym (part_is a.file.now at.i)) ∙ sym c.before.guards.ensures ∙ c.if1.true in
+    sym (least-is (guards_at a.place a.file.now) _ _ c.before.before.before.loop-test.true at.invariant.1 e)
 
 loop-less : tie.Need-loop-smaller invariant-loop decreases-loop
 loop-less c = search rules
@@ -56,15 +56,15 @@ loop-again : tie.Need-loop-preserved invariant-loop decreases-loop
 loop-again c =
     let a = c.before.before.before.before.before.before.args in
     let at = c.before.before.before.before.loop in
-    let e = ap (guardsAlone a.place) (sym (part-is a.file.now at.i)) ∙ sym c.before.guards.ensures ∙ c.if1.false in
-    (search rules, any-more (guardsAt a.place a.file.now) _ at.invariant.1 e)
+    let e = ap (guards_alone a.place) (sym (part_is a.file.now at.i)) ∙ sym c.before.guards.ensures ∙ c.if1.false in
+    (search rules, any-more (guards_at a.place a.file.now) _ at.invariant.1 e)
 
 returns-2 : tie.Need-returns-2 invariant-loop decreases-loop
 returns-2 c =
     let a = c.before.before.before.args in
     let at = c.before.loop in
     let e : at.i ≡ length a.file.now / 512 = omega arith in
-    sym (least-none (guardsAt a.place a.file.now) _ (rw e at at.invariant.1))
+    sym (least-none (guards_at a.place a.file.now) _ (rw e at at.invariant.1))
 
 pub first-guarding-spec : {M : Type 1} → statement M
 first-guarding-spec =

@@ -3,15 +3,15 @@ use Prim.Native.Nat.{◌+◌, ◌-◌, ◌≤◌}
 use mathlib.Core.Path.{◌≡◌}
 use native.Mathlib.Omega.{arith}
 use lib.ListN.{length, drop}
-use Rattle.hex_digits.specs.Values.{valueIn}
-use Rattle.hex_digits.specs.First.{firstBy}
+use Rattle.hex_digits.specs.Values.{value_in}
+use Rattle.hex_digits.specs.First.{first_by}
 use Rattle.hex_digits.proofs.decoding.FirstLaws.{first-here, first_next, first-end}
 use borrow.Author.Rules.{rules}
 use Rattle.hex_digits.proofs.decoding.first_bad.Statement.{statement}
 use Rattle.hex_digits.proofs.decoding.first_bad.Tie as tie
 
 abbrev invariant-loop : tie.invariant-loop
-invariant-loop table chars i₀ i = (i ≤ length chars) × (firstBy (valueIn table) chars ≡ i + firstBy (valueIn table) (drop i chars))
+invariant-loop table chars i₀ i = (i ≤ length chars) × (first_by (value_in table) chars ≡ i + first_by (value_in table) (drop i chars))
 
 abbrev decreases-loop : tie.decreases-loop
 decreases-loop table chars i₀ i = length chars - i
@@ -51,7 +51,7 @@ loop-again c =
 returns-2 : tie.Need-returns-2 invariant-loop decreases-loop
 returns-2 c =
     let s = c.before.before.args in
-    omega (arith, c.before.loop.invariant.1, first-end (valueIn s.table.now) s.chars.now c.before.loop.i c.loop-test.false)
+    omega (arith, c.before.loop.invariant.1, first-end (value_in s.table.now) s.chars.now c.before.loop.i c.loop-test.false)
 
 pub first-bad-spec : {M : Type 1} → statement M
 first-bad-spec =

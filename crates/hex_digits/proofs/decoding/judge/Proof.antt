@@ -23,7 +23,7 @@ same-length-2 : tie.Need-same-length-2
 same-length-2 c = search rules
 
 returns-2 : tie.Need-returns-2
-returns-2 c = (c.first-bad.ensures, c.before.before.before.before.decode.ensures.1)
+returns-2 c = (c.first_bad_lem.ensures, c.before.before.before.before.decode.ensures.1)
 
 pub judge-spec : {M : Type 1} → statement M
 judge-spec =

@@ -6,15 +6,15 @@ use Prim.Native.Nat.{ℕ, ◌+◌, ◌-◌, ◌*◌, ◌/◌, ◌≤◌, ◌<◌
 use lib.Bits.{bit_or}
 use lib.Dec.{ltb}
 use lib.ListN.{length, get_or, take, set, length-set}
-use Rattle.hex_digits.specs.Values.{valueIn, allBy}
-use Rattle.hex_digits.proofs.pairs.Values.{value-at, all-next}
+use Rattle.hex_digits.specs.Values.{value_in, all_by}
+use Rattle.hex_digits.proofs.pairs.Values.{value_at, all_next}
 use Rattle.hex_digits.proofs.pairs.Stored.{begun, begun-next, begun_all}
 use borrow.Author.Rules.{rules}
 use Rattle.hex_digits.proofs.pairs.pairs.Statement.{statement}
 use Rattle.hex_digits.proofs.pairs.pairs.Tie as tie
 
 abbrev invariant-loop : tie.invariant-loop
-invariant-loop table chars out₀ room found₀ i₀ out found i = (i ≤ room) × (length out ≡ length out₀) × (ltb found 16 ≡ allBy (valueIn table) (take (2 * i) chars)) × (out ≡ begun (valueIn table) chars out₀ i)
+invariant-loop table chars out₀ room found₀ i₀ out found i = (i ≤ room) × (length out ≡ length out₀) × (ltb found 16 ≡ all_by (value_in table) (take (2 * i) chars)) × (out ≡ begun (value_in table) chars out₀ i)
 
 abbrev decreases-loop : tie.decreases-loop
 decreases-loop table chars out₀ room found₀ i₀ out found i = room - i
@@ -23,7 +23,7 @@ least-requires : tie.Need-least-requires invariant-loop decreases-loop
 least-requires c κs = search rules
 
 loop-holds : tie.Need-loop-init invariant-loop decreases-loop
-unfolding allBy
+unfolding all_by
 loop-holds c = (search rules, refl, refl, refl)
 
 mul-high : tie.Need-overflow-mul-high invariant-loop decreases-loop
@@ -79,13 +79,13 @@ loop-again c =
     let k : i < min (length l / 2) (length b.out.now) = omega arith in
     let h : get_or l (2 * i) 0 < 256 = omega (arith, byte (2 * i)) in
     let w : get_or l (2 * i + 1) 0 < 256 = omega (arith, byte (2 * i + 1)) in
-    let high = all-next t l (2 * i) n.loop.found (omega arith) refl h n.loop.invariant.2 in
-    let low = all-next t l (2 * i + 1) (bit_or n.loop.found (get_or t (get_or l (2 * i) 0) 0)) (omega arith) refl w high in
+    let high = all_next t l (2 * i) n.loop.found (omega arith) refl h n.loop.invariant.2 in
+    let low = all_next t l (2 * i + 1) (bit_or n.loop.found (get_or t (get_or l (2 * i) 0) 0)) (omega arith) refl w high in
     let next : 2 * i + 1 + 1 ≡ 2 * (i + 1) = omega arith in (
       omega arith,
       simp length-set n.loop.invariant.1,
       rw next at low,
-      begun-next (valueIn t) l b.out.now n.loop.out i k (value-at t _ h) (value-at t _ w) n.loop.invariant.3,
+      begun-next (value_in t) l b.out.now n.loop.out i k (value_at t _ h) (value_at t _ w) n.loop.invariant.3,
     )
 
 same_length : tie.Need-same-length invariant-loop decreases-loop
@@ -97,7 +97,7 @@ returns c =
     let b = n.before.before.before.before.args in
     let e : n.loop.i ≡ n.before.least.result = omega arith in
     let k = e ∙ n.before.least.ensures in
-    (n.loop.invariant.2 ∙ ap (λ (j : ℕ). allBy (valueIn b.table.now) (take (2 * j) b.chars.now)) k, n.loop.invariant.3 ∙ begun_all (valueIn b.table.now) b.chars.now b.out.now n.loop.i k)
+    (n.loop.invariant.2 ∙ ap (λ (j : ℕ). all_by (value_in b.table.now) (take (2 * j) b.chars.now)) k, n.loop.invariant.3 ∙ begun_all (value_in b.table.now) b.chars.now b.out.now n.loop.i k)
 
 pub pairs-spec : {M : Type 1} → statement M
 pairs-spec =

@@ -1,11 +1,11 @@
 -- `textlines::line_end` meets its contract. Assumes nothing.
-use Rattle.ihex_file.proofs.lines.Ends.{ends-past, ends-lf, ends-text}
+use Rattle.ihex_file.proofs.lines.Ends.{ends_past, ends-lf, ends-text}
 use borrow.Author.Rules.{rules}
 use Rattle.ihex_file.proofs.lines.line_end.Statement.{statement}
 use Rattle.ihex_file.proofs.lines.line_end.Tie as tie
 
 returns : tie.Need-returns
-returns c = ends-past _ _ c.if1.true
+returns c = ends_past _ _ c.if1.true
 
 find-requires : tie.Need-find-requires
 find-requires c κs = search rules

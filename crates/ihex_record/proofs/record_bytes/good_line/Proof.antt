@@ -1,5 +1,5 @@
 -- `recordbytes::good_line` meets its contract. Assumes nothing.
-use Rattle.ihex_record.proofs.Data32.{data32-data}
+use Rattle.ihex_record.proofs.Data32.{data32_data}
 use Rattle.std.proofs.Common.{rules}
 use Rattle.ihex_record.proofs.record_bytes.good_line.Statement.{statement}
 use Rattle.ihex_record.proofs.record_bytes.good_line.Tie as tie
@@ -40,7 +40,7 @@ copy-requires c κs = search rules
 returns : tie.Need-returns
 returns c =
     let s = c.before.before.before.before.before.before.before.before.before.before in
-    let e = data32-data s.args.bytes.now s.args.used s.requires.0 s.requires.1 s.requires.2 c.before.copy.ensures.1 in
+    let e = data32_data s.args.bytes.now s.args.used s.requires.0 s.requires.1 s.requires.2 c.before.copy.ensures.1 in
     rw (c.before.before.before.before.word.ensures, e)
 
 pub good-line-spec : {M : Type 1} → statement M

@@ -53,7 +53,7 @@ good-line-requires c κs =
 returns-4 : tie.Need-returns-4
 returns-4 c =
     let l = c.before.before.before.before in
-    c.good-line.ensures ∙ in-good _ _ l.before.if1.false l.if2.false (sym c.before.before.sum.ensures ∙ c.before.if3.false)
+    c.good_line.ensures ∙ in-good _ _ l.before.if1.false l.if2.false (sym c.before.before.sum.ensures ∙ c.before.if3.false)
 
 pub read-bytes-spec : {M : Type 1} → statement M
 read-bytes-spec =

@@ -1,6 +1,6 @@
 -- `recordline::read` meets its contract. Assumes nothing.
 use Rattle.std.proofs.Common.{sym, length-take-le, rules}
-use Rattle.ihex_record.proofs.record_line.Rows.{read-numbered}
+use Rattle.ihex_record.proofs.record_line.Rows.{read_numbered}
 use Rattle.ihex_record.proofs.record_line.read.Statement.{statement}
 use Rattle.ihex_record.proofs.record_line.read.Tie as tie
 
@@ -14,7 +14,7 @@ read-text-requires : tie.Need-read-text-requires
 read-text-requires c κs = search rules
 
 returns : tie.Need-returns
-returns c = read-numbered _ _ _ c.before.before.text-len.ensures.0 c.read-text.ensures
+returns c = read_numbered _ _ _ c.before.before.text-len.ensures.0 c.read-text.ensures
 
 pub read_spec : {M : Type 1} → statement M
 read_spec =

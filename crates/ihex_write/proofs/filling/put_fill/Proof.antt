@@ -1,14 +1,14 @@
 -- `filling::put_fill` meets its contract. Assumes nothing.
-use Rattle.ihex_write.proofs.filling.Filled.{put-pad, put-close}
-use Rattle.ihex_write.specs.Fill.{missing, fillLines}
-use Rattle.ihex_write.specs.Put.{putLines}
-use Rattle.ihex_write.proofs.Lines.{put-past}
+use Rattle.ihex_write.proofs.filling.Filled.{put_pad, put_close}
+use Rattle.ihex_write.specs.Fill.{missing, fill_lines}
+use Rattle.ihex_write.specs.Put.{put_lines}
+use Rattle.ihex_write.proofs.Lines.{put_past}
 use Rattle.std.proofs.Common.{◌≡◌, ℕ, ◌+◌, ◌≤◌, List, length, sym, refl, ap, arith, rules}
 use Rattle.ihex_write.proofs.filling.put_fill.Statement.{statement}
 use Rattle.ihex_write.proofs.filling.put_fill.Tie as tie
 
 abbrev invariant-loop : tie.invariant-loop
-invariant-loop out₀ at n place₀ m₀ out place m = (place + m ≤ 9223372036854776320) × (length out ≡ length out₀) × (putLines out place (fillLines m) ≡ putLines out₀ at (fillLines (missing n)))
+invariant-loop out₀ at n place₀ m₀ out place m = (place + m ≤ 9223372036854776320) × (length out ≡ length out₀) × (put_lines out place (fill_lines m) ≡ put_lines out₀ at (fill_lines (missing n)))
 
 abbrev decreases-loop : tie.decreases-loop
 decreases-loop out₀ at n place₀ m₀ out place m = m
@@ -16,7 +16,7 @@ decreases-loop out₀ at n place₀ m₀ out place m = m
 returns : tie.Need-returns invariant-loop decreases-loop
 returns c =
     let a = c.before.before.args in
-    sym (put-past a.out.now a.at (fillLines (missing a.n)) (omega (arith, c.if1.true)))
+    sym (put_past a.out.now a.at (fill_lines (missing a.n)) (omega (arith, c.if1.true)))
 
 missing-after-requires : tie.Need-missing-after-requires invariant-loop decreases-loop
 missing-after-requires c κs = search rules
@@ -25,7 +25,7 @@ loop-holds : tie.Need-loop-init invariant-loop decreases-loop
 loop-holds c =
     let x = c.before.before.before in
     let a = x.args in
-    (omega (arith, c.missing-after.ensures, c.before.if1.false, x.well-formed.0.1), refl, ap (λ (m : ℕ). putLines a.out.now a.at (fillLines m)) c.missing-after.ensures)
+    (omega (arith, c.missing-after.ensures, c.before.if1.false, x.well-formed.0.1), refl, ap (λ (m : ℕ). put_lines a.out.now a.at (fill_lines m)) c.missing-after.ensures)
 
 put-filling-requires : tie.Need-put-filling-requires invariant-loop decreases-loop
 put-filling-requires c κs = search rules
@@ -42,7 +42,7 @@ loop-less c = search rules
 loop-again : tie.Need-loop-preserved invariant-loop decreases-loop
 loop-again c =
     let w = c.before.before.before.before.before.loop in
-    (omega arith, search rules, put-pad w.out w.place w.m c.before.before.before.before.loop-test.true w.invariant.2 c.before.before.put-filling.ensures)
+    (omega arith, search rules, put_pad w.out w.place w.m c.before.before.before.before.loop-test.true w.invariant.2 c.before.before.put-filling.ensures)
 
 put-filling-requires-2 : tie.Need-put-filling-requires-2 invariant-loop decreases-loop
 put-filling-requires-2 c κs = omega arith
@@ -53,7 +53,7 @@ same_length c = search rules
 returns-2 : tie.Need-returns-2 invariant-loop decreases-loop
 returns-2 c =
     let w = c.before.before.before.before.before.loop in
-    put-close w.out w.place w.m c.before.before.before.before.loop-test.false w.invariant.2 c.before.before.put-filling2.ensures
+    put_close w.out w.place w.m c.before.before.before.before.loop-test.false w.invariant.2 c.before.before.put-filling2.ensures
 
 pub put-fill-spec : {M : Type 1} → statement M
 put-fill-spec =

@@ -1,7 +1,7 @@
 -- `bitmap::mark` meets its contract. Assumes nothing.
 use mathlib.Core.Path.{sym}
 use borrow.Author.Rules.{rules}
-use Rattle.memory.proofs.bitmap.Laws.{mark-mask, mark-past}
+use Rattle.memory.proofs.bitmap.Laws.{mark_mask, mark_past}
 use Rattle.memory.proofs.bitmap.mark.Statement.{statement}
 use Rattle.memory.proofs.bitmap.mark.Tie as tie
 
@@ -21,10 +21,10 @@ same_length : tie.Need-same-length
 same_length c = search rules
 
 returns : tie.Need-returns
-returns c = mark-mask _ _
+returns c = mark_mask _ _
 
 returns-2 : tie.Need-returns-2
-returns-2 c = sym (mark-past _ _ c.if1.false)
+returns-2 c = sym (mark_past _ _ c.if1.false)
 
 pub mark_spec : {M : Type 1} → statement M
 mark_spec =

@@ -1,7 +1,7 @@
 -- `bitmap::marked` meets its contract. Assumes nothing.
 use mathlib.Core.Path.{sym}
 use borrow.Author.Rules.{rules}
-use Rattle.memory.proofs.bitmap.Laws.{marked-mask, marked-past}
+use Rattle.memory.proofs.bitmap.Laws.{marked_mask, marked_past}
 use Rattle.memory.proofs.bitmap.marked.Statement.{statement}
 use Rattle.memory.proofs.bitmap.marked.Tie as tie
 
@@ -15,10 +15,10 @@ shr-result : tie.Need-overflow-shr-result
 shr-result c = search rules
 
 returns : tie.Need-returns
-returns c = marked-mask _ _
+returns c = marked_mask _ _
 
 returns-2 : tie.Need-returns-2
-returns-2 c = sym (marked-past _ _ c.if1.false)
+returns-2 c = sym (marked_past _ _ c.if1.false)
 
 pub marked-spec : {M : Type 1} → statement M
 marked-spec =

@@ -1,12 +1,12 @@
 -- `flash::store` meets its contract. Assumes nothing.
 use borrow.Author.Rules.{rules}
 use native.Mathlib.Omega.{arith}
-use Rattle.memory.proofs.flash.Laws.{store-short, store_out, stored}
+use Rattle.memory.proofs.flash.Laws.{store_short, store_out, stored}
 use Rattle.memory.proofs.flash.store.Statement.{statement}
 use Rattle.memory.proofs.flash.store.Tie as tie
 
 returns : tie.Need-returns
-returns c = store-short _ _ _ c.if1.true
+returns c = store_short _ _ _ c.if1.true
 
 returns-2 : tie.Need-returns-2
 returns-2 c = store_out _ _ _ (omega arith)

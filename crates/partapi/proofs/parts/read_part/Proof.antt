@@ -1,5 +1,5 @@
 -- `parts::read_part` meets its contract. Assumes nothing.
-use Rattle.partapi.proofs.parts.Laws.{read-other, read_all}
+use Rattle.partapi.proofs.parts.Laws.{read_other, read_all}
 use borrow.Author.Rules.{rules}
 use Rattle.partapi.proofs.parts.read_part.Statement.{statement}
 use Rattle.partapi.proofs.parts.read_part.Tie as tie
@@ -9,7 +9,7 @@ no-part-requires c κs = search rules
 
 returns : tie.Need-returns
 returns c =
-    read-other _ c.before.if1.true c.no_part.ensures
+    read_other _ c.before.if1.true c.no_part.ensures
 
 sub-read-report : tie.Need-overflow-sub-read-report
 sub-read-report c = search rules

@@ -1,12 +1,12 @@
 -- `parts::write_part` meets its contract. Assumes nothing.
-use Rattle.partapi.proofs.parts.Laws.{write-other, write-all}
+use Rattle.partapi.proofs.parts.Laws.{write_other, write-all}
 use borrow.Author.Rules.{rules}
 use Rattle.partapi.proofs.parts.write_part.Statement.{statement}
 use Rattle.partapi.proofs.parts.write_part.Tie as tie
 
 returns : tie.Need-returns
 returns c =
-    write-other _ _ c.if1.true
+    write_other _ _ c.if1.true
 
 sub-write-report : tie.Need-overflow-sub-write-report
 sub-write-report c = search rules

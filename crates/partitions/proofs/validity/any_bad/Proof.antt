@@ -7,16 +7,16 @@ use borrow.Author.Tests.{not-true, not-false}
 use Rattle.laws.specs.Sets.{any}
 use Rattle.laws.proofs.Laws.{any-zero, any-more}
 use Rattle.partitions.specs.Settings.{is_a, entry_at}
-use Rattle.partitions.specs.Parts.{wrongEntry}
+use Rattle.partitions.specs.Parts.{wrong_entry}
 use Rattle.partitions.proofs.validity.Rising.{Apart, apart_none, rising-more, wrong-hit}
-use Rattle.partitions.proofs.Laws.{wrong-alone, wrong-link, right-entry, link_up, link-to-b, link-none, link-right}
+use Rattle.partitions.proofs.Laws.{wrong-alone, wrong-link, right-entry, link_up, link-to-b, link_none, link-right}
 use borrow.Author.Rules.{rules}
 use Rattle.partitions.proofs.validity.any_bad.Statement.{statement}
 use Rattle.partitions.proofs.validity.any_bad.Tie as tie
 
 abbrev invariant-loop : tie.invariant-loop
 invariant-loop count flash-len table rising₀ past₀ k₀ rising past k =
-    (k ≤ count) × (any k (wrongEntry table flash-len) ≡ false) × (rising ≡ true → Apart table k past)
+    (k ≤ count) × (any k (wrong_entry table flash-len) ≡ false) × (rising ≡ true → Apart table k past)
 
 abbrev decreases-loop : tie.decreases-loop
 decreases-loop count flash-len table rising₀ past₀ k₀ rising past k = count - k
@@ -112,7 +112,7 @@ loop-again-2 c =
       search rules,
       any-more _ _ l.invariant.1
           (right-entry _ _ _ (sym c.before.before.before.alone-bad.ensures ∙ c.before.before.if1.false)
-          (link-none _ _ (sym c.before.unowned.ensures ∙ not-false _ c.if2.false))),
+          (link_none _ _ (sym c.before.unowned.ensures ∙ not-false _ c.if2.false))),
       rising-more _ _ _ _ l.invariant.2,
     )
 

@@ -5,20 +5,20 @@ use mathlib.Core.Bool.{false}
 use native.Mathlib.Omega.{arith}
 use Rattle.laws.specs.Sets.{any}
 use Rattle.laws.proofs.Laws.{any-zero, any-more, any-hit}
-use Rattle.partitions.specs.Settings.{overlapAt}
-use Rattle.partitions.specs.Parts.{sharesBelow}
+use Rattle.partitions.specs.Settings.{overlap_at}
+use Rattle.partitions.specs.Parts.{shares_below}
 use borrow.Author.Rules.{rules}
 use Rattle.partitions.proofs.validity.any_shares.Statement.{statement}
 use Rattle.partitions.proofs.validity.any_shares.Tie as tie
 
 abbrev invariant-loop2 : tie.invariant-loop2
-invariant-loop2 count table k first sectors j₀ j = (j ≤ k) × (any j (overlapAt table k) ≡ false)
+invariant-loop2 count table k first sectors j₀ j = (j ≤ k) × (any j (overlap_at table k) ≡ false)
 
 abbrev decreases-loop2 : tie.decreases-loop2
 decreases-loop2 count table k first sectors j₀ j = k - j
 
 abbrev invariant-loop : tie.invariant-loop
-invariant-loop count table k₀ k = (k ≤ count) × (any k (sharesBelow table) ≡ false)
+invariant-loop count table k₀ k = (k ≤ count) × (any k (shares_below table) ≡ false)
 
 abbrev decreases-loop : tie.decreases-loop
 decreases-loop count table k₀ k = count - k
@@ -59,7 +59,7 @@ sectors-overlap-requires : tie.Need-sectors-overlap-requires invariant-loop2 dec
 sectors-overlap-requires c κs = search rules
 
 returns : tie.Need-returns invariant-loop2 decreases-loop2 invariant-loop decreases-loop
-unfolding sharesBelow overlapAt
+unfolding shares_below overlap_at
 returns c =
     sym
     (any-hit _ _ _ c.before.before.before.before.loop-test.true
@@ -72,7 +72,7 @@ loop2-less : tie.Need-loop2-smaller invariant-loop2 decreases-loop2 invariant-lo
 loop2-less c = search rules
 
 loop2-again : tie.Need-loop2-preserved invariant-loop2 decreases-loop2 invariant-loop decreases-loop
-unfolding overlapAt
+unfolding overlap_at
 loop2-again c = (search rules, any-more _ _ c.before.before.before.loop2.invariant.1 (sym c.before.sectors-overlap.ensures ∙ c.if1.false))
 
 add-k : tie.Need-overflow-add-k invariant-loop2 decreases-loop2 invariant-loop decreases-loop
@@ -82,7 +82,7 @@ loop-less : tie.Need-loop-smaller invariant-loop2 decreases-loop2 invariant-loop
 loop-less c = search rules
 
 loop-again : tie.Need-loop-preserved invariant-loop2 decreases-loop2 invariant-loop decreases-loop
-unfolding sharesBelow
+unfolding shares_below
 loop-again c =
     let e : c.before.loop2.j ≡ c.before.before.before.loop.k = omega arith in
     (search rules, any-more _ _ c.before.before.before.loop.invariant.1 (rw e at c.before.loop2.invariant.1))

@@ -1,6 +1,6 @@
 -- `passes::allows` meets its contract. Assumes nothing.
 use borrow.Author.Tests.{ne_eqb}
-use Rattle.placement.specs.Passes.{passAllows}
+use Rattle.placement.specs.Passes.{pass_allows}
 use borrow.Author.Rules.{rules}
 use Rattle.placement.proofs.passes.allows.Statement.{statement}
 use Rattle.placement.proofs.passes.allows.Tie as tie
@@ -18,21 +18,21 @@ unowned-requires : tie.Need-unowned-requires
 unowned-requires c κs = search rules
 
 returns : tie.Need-returns
-unfolding passAllows
+unfolding pass_allows
 returns c = rw c.before.before.match.keys1 (simp c.before.bootable.ensures)
 
 returns-2 : tie.Need-returns-2
-unfolding passAllows
+unfolding pass_allows
 returns-2 c =
     let m = c.before.before.before.match.keys2 in
     rw m (simp (c.before.bootable2.ensures, c.before.before.other.ensures))
 
 returns-3 : tie.Need-returns-3
-unfolding passAllows
+unfolding pass_allows
 returns-3 c = rw c.before.match.keys3 c.unowned.ensures
 
 returns-4 : tie.Need-returns-4
-unfolding passAllows
+unfolding pass_allows
 returns-4 c =
     simp (ne_eqb _ _ c.match.rest.0.0.1, ne_eqb _ _ c.match.rest.0.1, ne_eqb _ _ c.match.rest.1)
 

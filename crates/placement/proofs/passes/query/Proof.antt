@@ -1,5 +1,5 @@
 -- `passes::query` meets its contract. Assumes nothing.
-use Rattle.placement.specs.Passes.{passQueryOf}
+use Rattle.placement.specs.Passes.{pass_query_of}
 use borrow.Author.Rules.{rules}
 use Rattle.placement.proofs.passes.query.Statement.{statement}
 use Rattle.placement.proofs.passes.query.Tie as tie
@@ -17,7 +17,7 @@ image-requires-2 : tie.Need-image-requires-2
 image-requires-2 c κs = search rules
 
 returns : tie.Need-returns
-unfolding passQueryOf
+unfolding pass_query_of
 returns c =
     let o = c.before.before.before.before.other.ensures in
     simp (c.image2.ensures, c.before.before.image.ensures, c.before.before.before.is-enabled.ensures, o)

@@ -3,7 +3,7 @@ use mathlib.Core.Path.{sym, ◌∙◌}
 use mathlib.Core.Bool.{◌&&◌, and-true, and-false}
 use borrow.Author.Tests.{not-true, not-false}
 use Rattle.partitions.specs.Settings.{is_a, accepts}
-use Rattle.placement.specs.Passes.{passTakes}
+use Rattle.placement.specs.Passes.{pass_takes}
 use borrow.Author.Rules.{rules}
 use Rattle.placement.proofs.passes.takes.Statement.{statement}
 use Rattle.placement.proofs.passes.takes.Tie as tie
@@ -12,7 +12,7 @@ allows-requires : tie.Need-allows-requires
 allows-requires c κs = search rules
 
 returns : tie.Need-returns
-unfolding passTakes
+unfolding pass_takes
 returns c =
     let x = c.before.before.args in
     let z = sym c.before.allows.ensures ∙ not-true _ c.if1.true in
@@ -25,7 +25,7 @@ accepts-family-requires : tie.Need-accepts-family-requires
 accepts-family-requires c κs = search rules
 
 returns-2 : tie.Need-returns-2
-unfolding passTakes
+unfolding pass_takes
 returns-2 c =
     let d = c.before.before in
     let x = d.before.before.args in

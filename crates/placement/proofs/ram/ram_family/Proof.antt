@@ -5,14 +5,14 @@ use mathlib.Core.Bool.{false}
 use native.Mathlib.Omega.{arith}
 use Rattle.laws.specs.Sets.{any}
 use Rattle.laws.proofs.Laws.{any-zero, any-more, any-hit}
-use Rattle.placement.specs.Place.{usedCount, userOf}
-use Rattle.placement.proofs.Laws.{used-most, ram-named, ram-other}
+use Rattle.placement.specs.Place.{used_count, user_of}
+use Rattle.placement.proofs.Laws.{used_most, ram-named, ram-other}
 use borrow.Author.Rules.{rules}
 use Rattle.placement.proofs.ram.ram_family.Statement.{statement}
 use Rattle.placement.proofs.ram.ram_family.Tie as tie
 
 abbrev invariant-loop : tie.invariant-loop
-invariant-loop family n table i₀ i = (i ≤ n) × (any i (userOf table family) ≡ false)
+invariant-loop family n table i₀ i = (i ≤ n) × (any i (user_of table family) ≡ false)
 
 abbrev decreases-loop : tie.decreases-loop
 decreases-loop family n table i₀ i = n - i
@@ -28,11 +28,11 @@ loop-holds c = (search rules, any-zero _)
 
 mul-e : tie.Need-overflow-mul-e invariant-loop decreases-loop
 mul-e c =
-    omega (arith, c.before.before.before.used-count.ensures, used-most c.before.before.before.before.before.args.settings.count)
+    omega (arith, c.before.before.before.used-count.ensures, used_most c.before.before.before.before.before.args.settings.count)
 
 array-copy-out-e : tie.Need-array-copy-out-e invariant-loop decreases-loop
 array-copy-out-e c =
-    omega (arith, c.before.before.before.used-count.ensures, used-most c.before.before.before.before.before.args.settings.count)
+    omega (arith, c.before.before.before.used-count.ensures, used_most c.before.before.before.before.before.args.settings.count)
 
 has-user-requires : tie.Need-has-user-requires invariant-loop decreases-loop
 has-user-requires c κs = search rules
@@ -41,7 +41,7 @@ returns-2 : tie.Need-returns-2 invariant-loop decreases-loop
 returns-2 c =
     let d = c.before.before.before in
     let e = d.before.before.before in
-    let below : d.before.loop.i < usedCount e.before.before.args.settings.count = omega (arith, e.used-count.ensures) in
+    let below : d.before.loop.i < used_count e.before.before.args.settings.count = omega (arith, e.used-count.ensures) in
     sym (any-hit _ _ _ below (sym c.before.has-user.ensures ∙ c.if2.true)) ∙ ram-other _ _ e.before.if1.false
 
 add-i : tie.Need-overflow-add-i invariant-loop decreases-loop
@@ -59,7 +59,7 @@ loop-again c = (
 returns-3 : tie.Need-returns-3 invariant-loop decreases-loop
 returns-3 c =
     let e = c.before.before.before in
-    let last : c.before.loop.i ≡ usedCount e.before.before.args.settings.count = omega (arith, e.used-count.ensures) in
+    let last : c.before.loop.i ≡ used_count e.before.before.args.settings.count = omega (arith, e.used-count.ensures) in
     sym (rw last at c.before.loop.invariant.1) ∙ ram-other _ _ e.before.if1.false
 
 pub ram-family-spec : {M : Type 1} → statement M

@@ -7,14 +7,14 @@ use lib.ListN.{length}
 use borrow.Author.Tests.{not-true, not-false}
 use Rattle.laws.specs.Sets.{any}
 use Rattle.laws.proofs.Laws.{any-zero, any-more}
-use Rattle.region_checking.specs.Parts.{wrongAt, Noted}
-use Rattle.region_checking.proofs.Laws.{roomy-same, asked-right, regions-told, regions-none}
+use Rattle.region_checking.specs.Parts.{wrong_at, Noted}
+use Rattle.region_checking.proofs.Laws.{roomy_same, asked-right, regions_told, regions-none}
 use borrow.Author.Rules.{rules}
 use Rattle.region_checking.proofs.asking.each_region.Statement.{statement}
 use Rattle.region_checking.proofs.asking.each_region.Tie as tie
 
 abbrev invariant-loop : tie.invariant-loop
-invariant-loop size file numbers₀ cells₀ image₀ n i₀ numbers cells image i = (i ≤ n) × (any i (wrongAt size file) ≡ false) × Noted size file numbers × (length numbers ≡ length numbers₀) × (length cells ≡ length cells₀) × (length image ≡ length image₀)
+invariant-loop size file numbers₀ cells₀ image₀ n i₀ numbers cells image i = (i ≤ n) × (any i (wrong_at size file) ≡ false) × Noted size file numbers × (length numbers ≡ length numbers₀) × (length cells ≡ length cells₀) × (length image ≡ length image₀)
 
 abbrev decreases-loop : tie.decreases-loop
 decreases-loop size file numbers₀ cells₀ image₀ n i₀ numbers cells image i = n - i
@@ -26,7 +26,7 @@ add-after : tie.Need-overflow-add-after invariant-loop decreases-loop
 add-after c = search rules
 
 ask-requires : tie.Need-ask-requires invariant-loop decreases-loop
-ask-requires c κs = (search rules, (roomy-same _ _ _ c.before.before.before.before.before.before.before.before.before.requires.0 c.before.before.before.before.loop.invariant.4 c.before.before.before.before.loop.invariant.5, c.before.before.before.before.loop.invariant.2))
+ask-requires c κs = (search rules, (roomy_same _ _ _ c.before.before.before.before.before.before.before.before.before.requires.0 c.before.before.before.before.loop.invariant.4 c.before.before.before.before.loop.invariant.5, c.before.before.before.before.loop.invariant.2))
 
 is-right-requires : tie.Need-is-right-requires invariant-loop decreases-loop
 is-right-requires c κs = search rules
@@ -41,7 +41,7 @@ same-length-3 : tie.Need-same-length-3 invariant-loop decreases-loop
 same-length-3 c = c.before.before.before.image.given ∙ c.before.before.before.before.before.before.before.before.before.before.before.before.before.loop.invariant.5
 
 returns : tie.Need-returns invariant-loop decreases-loop
-returns c = regions-told _ _ _ c.before.before.before.before.before.before.before.before.before.before.before.before.loop-test.true c.before.before.before.before.before.before.before.before.before.before.before.before.before.loop.invariant.1 c.before.before.before.before.before.before.before.before.ask.ensures.0 (sym c.before.is_right.ensures ∙ not-true _ c.if1.true)
+returns c = regions_told _ _ _ c.before.before.before.before.before.before.before.before.before.before.before.before.loop-test.true c.before.before.before.before.before.before.before.before.before.before.before.before.before.loop.invariant.1 c.before.before.before.before.before.before.before.before.ask.ensures.0 (sym c.before.is_right.ensures ∙ not-true _ c.if1.true)
 
 loop-less : tie.Need-loop-smaller invariant-loop decreases-loop
 loop-less c = search rules

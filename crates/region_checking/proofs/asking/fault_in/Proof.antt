@@ -1,5 +1,5 @@
 -- `asking::fault_in` meets its contract. Assumes nothing.
-use Rattle.region_checking.proofs.Laws.{stray-told, bare-is, bare-told, digest-told, right-told}
+use Rattle.region_checking.proofs.Laws.{stray-told, bare_is, bare-told, digest-told, right-told}
 use borrow.Author.Rules.{rules}
 use Rattle.region_checking.proofs.asking.fault_in.Statement.{statement}
 use Rattle.region_checking.proofs.asking.fault_in.Tie as tie
@@ -29,7 +29,7 @@ same_length : tie.Need-same-length
 same_length c = search rules
 
 returns-2 : tie.Need-returns-2
-returns-2 c = bare-told _ _ _ c.before.before.before.before.before.before.before.before.before.before.before.before.before.before.first-stray.ensures c.before.before.before.before.before.before.before.before.before.before.before.before.before.if1.false (bare-is _ _ c.before.before.before.before.before.before.before.before.before.before.before.before.before.before.before.before.before.before.requires.1.1 c.before.before.before.before.before.before.before.before.before.before.before.before.before.before.before.before.before.before.requires.0 c.before.before.before.before.before.before.before.before.before.clear.ensures c.before.before.before.before.before.mark-sectors.ensures c.before.first-missing.ensures) c.if2.true
+returns-2 c = bare-told _ _ _ c.before.before.before.before.before.before.before.before.before.before.before.before.before.before.first-stray.ensures c.before.before.before.before.before.before.before.before.before.before.before.before.before.if1.false (bare_is _ _ c.before.before.before.before.before.before.before.before.before.before.before.before.before.before.before.before.before.before.requires.1.1 c.before.before.before.before.before.before.before.before.before.before.before.before.before.before.before.before.before.before.requires.0 c.before.before.before.before.before.before.before.before.before.clear.ensures c.before.before.before.before.before.mark-sectors.ensures c.before.first-missing.ensures) c.if2.true
 
 sub-digest-right : tie.Need-overflow-sub-digest-right
 sub-digest-right c = search rules
@@ -50,7 +50,7 @@ same-length-3 : tie.Need-same-length-3
 same-length-3 c = search rules
 
 returns-3 : tie.Need-returns-3
-returns-3 c = right-told _ _ _ c.before.before.before.before.before.before.before.before.before.before.before.before.before.before.before.before.before.before.before.first-stray.ensures c.before.before.before.before.before.before.before.before.before.before.before.before.before.before.before.before.before.before.if1.false (bare-is _ _ c.before.before.before.before.before.before.before.before.before.before.before.before.before.before.before.before.before.before.before.before.before.before.before.requires.1.1 c.before.before.before.before.before.before.before.before.before.before.before.before.before.before.before.before.before.before.before.before.before.before.before.requires.0 c.before.before.before.before.before.before.before.before.before.before.before.before.before.before.clear.ensures c.before.before.before.before.before.before.before.before.before.before.mark-sectors.ensures c.before.before.before.before.before.before.first-missing.ensures) c.before.before.before.before.before.if2.false c.before.before.before.digest-right.ensures c.if3.true
+returns-3 c = right-told _ _ _ c.before.before.before.before.before.before.before.before.before.before.before.before.before.before.before.before.before.before.before.first-stray.ensures c.before.before.before.before.before.before.before.before.before.before.before.before.before.before.before.before.before.before.if1.false (bare_is _ _ c.before.before.before.before.before.before.before.before.before.before.before.before.before.before.before.before.before.before.before.before.before.before.before.requires.1.1 c.before.before.before.before.before.before.before.before.before.before.before.before.before.before.before.before.before.before.before.before.before.before.before.requires.0 c.before.before.before.before.before.before.before.before.before.before.before.before.before.before.clear.ensures c.before.before.before.before.before.before.before.before.before.before.mark-sectors.ensures c.before.before.before.before.before.before.first-missing.ensures) c.before.before.before.before.before.if2.false c.before.before.before.digest-right.ensures c.if3.true
 
 same-length-4 : tie.Need-same-length-4
 same-length-4 c = search rules
@@ -59,7 +59,7 @@ same-length-5 : tie.Need-same-length-5
 same-length-5 c = search rules
 
 returns-4 : tie.Need-returns-4
-returns-4 c = digest-told _ _ _ c.before.before.before.before.before.before.before.before.before.before.before.before.before.before.before.before.before.before.before.first-stray.ensures c.before.before.before.before.before.before.before.before.before.before.before.before.before.before.before.before.before.before.if1.false (bare-is _ _ c.before.before.before.before.before.before.before.before.before.before.before.before.before.before.before.before.before.before.before.before.before.before.before.requires.1.1 c.before.before.before.before.before.before.before.before.before.before.before.before.before.before.before.before.before.before.before.before.before.before.before.requires.0 c.before.before.before.before.before.before.before.before.before.before.before.before.before.before.clear.ensures c.before.before.before.before.before.before.before.before.before.before.mark-sectors.ensures c.before.before.before.before.before.before.first-missing.ensures) c.before.before.before.before.before.if2.false c.before.before.before.digest-right.ensures c.if3.false
+returns-4 c = digest-told _ _ _ c.before.before.before.before.before.before.before.before.before.before.before.before.before.before.before.before.before.before.before.first-stray.ensures c.before.before.before.before.before.before.before.before.before.before.before.before.before.before.before.before.before.before.if1.false (bare_is _ _ c.before.before.before.before.before.before.before.before.before.before.before.before.before.before.before.before.before.before.before.before.before.before.before.requires.1.1 c.before.before.before.before.before.before.before.before.before.before.before.before.before.before.before.before.before.before.before.before.before.before.before.requires.0 c.before.before.before.before.before.before.before.before.before.before.before.before.before.before.clear.ensures c.before.before.before.before.before.before.before.before.before.before.mark-sectors.ensures c.before.before.before.before.before.before.first-missing.ensures) c.before.before.before.before.before.if2.false c.before.before.before.digest-right.ensures c.if3.false
 
 pub fault-in-spec : {M : Type 1} → statement M
 fault-in-spec =

@@ -1,5 +1,5 @@
 -- `asking::names` meets its contract. Assumes nothing.
-use Rattle.region_checking.proofs.Laws.{names-is}
+use Rattle.region_checking.proofs.Laws.{names_is}
 use borrow.Author.Rules.{rules}
 use Rattle.region_checking.proofs.asking.names.Statement.{statement}
 use Rattle.region_checking.proofs.asking.names.Tie as tie
@@ -20,7 +20,7 @@ good-requires : tie.Need-good-requires
 good-requires c κs = search rules
 
 returns : tie.Need-returns
-returns c = names-is _ _ c.before.before.before.before.field.ensures c.before.before.before.has-region.ensures c.before.before.read-region.ensures c.before.field2.ensures c.good2.ensures
+returns c = names_is _ _ c.before.before.before.before.field.ensures c.before.before.before.has-region.ensures c.before.before.read-region.ensures c.before.field2.ensures c.good2.ensures
 
 pub names-spec : {M : Type 1} → statement M
 names-spec =

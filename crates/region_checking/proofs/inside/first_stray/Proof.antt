@@ -6,14 +6,14 @@ use native.Mathlib.Omega.{arith}
 use lib.ListN.{length}
 use Rattle.laws.specs.Sets.{any}
 use Rattle.laws.proofs.Laws.{any-zero, any-more, least-is, least-none}
-use Rattle.region_checking.proofs.Laws.{part-is}
-use Rattle.file_check.specs.Regions.{straysFrom, isStray}
+use Rattle.region_checking.proofs.Laws.{part_is}
+use Rattle.file_check.specs.Regions.{strays_from, is_stray}
 use borrow.Author.Rules.{rules}
 use Rattle.region_checking.proofs.inside.first_stray.Statement.{statement}
 use Rattle.region_checking.proofs.inside.first_stray.Tie as tie
 
 abbrev invariant-loop : tie.invariant-loop
-invariant-loop region file n i₀ i = (i ≤ n) × (any i (isStray file region) ≡ false)
+invariant-loop region file n i₀ i = (i ≤ n) × (any i (is_stray file region) ≡ false)
 
 abbrev decreases-loop : tie.decreases-loop
 decreases-loop region file n i₀ i = n - i
@@ -46,8 +46,8 @@ returns : tie.Need-returns invariant-loop decreases-loop
 returns c =
     let a = c.before.before.before.before.before.before.args in
     let at = c.before.before.before.before.loop in
-    let e = ap (straysFrom a.region) (sym (part-is a.file.now at.i)) ∙ sym c.before.strays.ensures ∙ c.if1.true in
-    sym (least-is (isStray a.file.now a.region) _ _ c.before.before.before.loop-test.true at.invariant.1 e)
+    let e = ap (strays_from a.region) (sym (part_is a.file.now at.i)) ∙ sym c.before.strays.ensures ∙ c.if1.true in
+    sym (least-is (is_stray a.file.now a.region) _ _ c.before.before.before.loop-test.true at.invariant.1 e)
 
 loop-less : tie.Need-loop-smaller invariant-loop decreases-loop
 loop-less c = search rules
@@ -56,15 +56,15 @@ loop-again : tie.Need-loop-preserved invariant-loop decreases-loop
 loop-again c =
     let a = c.before.before.before.before.before.before.args in
     let at = c.before.before.before.before.loop in
-    let e = ap (straysFrom a.region) (sym (part-is a.file.now at.i)) ∙ sym c.before.strays.ensures ∙ c.if1.false in
-    (search rules, any-more (isStray a.file.now a.region) _ at.invariant.1 e)
+    let e = ap (strays_from a.region) (sym (part_is a.file.now at.i)) ∙ sym c.before.strays.ensures ∙ c.if1.false in
+    (search rules, any-more (is_stray a.file.now a.region) _ at.invariant.1 e)
 
 returns-2 : tie.Need-returns-2 invariant-loop decreases-loop
 returns-2 c =
     let a = c.before.before.before.args in
     let at = c.before.loop in
     let e : at.i ≡ length a.file.now / 512 = omega arith in
-    sym (least-none (isStray a.file.now a.region) _ (rw e at at.invariant.1))
+    sym (least-none (is_stray a.file.now a.region) _ (rw e at at.invariant.1))
 
 pub first-stray-spec : {M : Type 1} → statement M
 first-stray-spec =

@@ -1,5 +1,5 @@
 -- `laying::digest_right` meets its contract. Assumes nothing.
-use Rattle.region_checking.proofs.Laws.{digest-is}
+use Rattle.region_checking.proofs.Laws.{digest_is}
 use borrow.Author.Rules.{rules}
 use Rattle.region_checking.proofs.laying.digest_right.Statement.{statement}
 use Rattle.region_checking.proofs.laying.digest_right.Tie as tie
@@ -20,7 +20,7 @@ same_length : tie.Need-same-length
 same_length c = search rules
 
 returns : tie.Need-returns
-returns c = digest-is _ _ c.before.before.before.before.before.before.before.before.before.before.before.before.before.requires c.before.before.before.before.before.before.before.before.before.fill.ensures c.before.before.before.before.before.lay.ensures c.before.hash.ensures c.same-digest.ensures
+returns c = digest_is _ _ c.before.before.before.before.before.before.before.before.before.before.before.before.before.requires c.before.before.before.before.before.before.before.before.before.fill.ensures c.before.before.before.before.before.lay.ensures c.before.hash.ensures c.same-digest.ensures
 
 pub digest-right-spec : {M : Type 1} → statement M
 digest-right-spec =

@@ -3,8 +3,8 @@ use Prim.Native.Nat.{◌≤◌, ◌-◌, ◌/◌}
 use mathlib.Core.Path.{◌≡◌, refl, sym, ◌∙◌}
 use native.Mathlib.Omega.{arith}
 use lib.ListN.{length}
-use Rattle.file_check.specs.Regions.{laidOn, laying, in_turn}
-use Rattle.region_checking.proofs.Laws.{turn-zero, turn-next}
+use Rattle.file_check.specs.Regions.{laid_on, laying, in_turn}
+use Rattle.region_checking.proofs.Laws.{turn_zero, turn_next}
 use borrow.Author.Rules.{rules}
 use Rattle.region_checking.proofs.laying.lay.Statement.{statement}
 use Rattle.region_checking.proofs.laying.lay.Tie as tie
@@ -16,7 +16,7 @@ abbrev decreases-loop : tie.decreases-loop
 decreases-loop region file bytes₀ n i₀ bytes i = n - i
 
 loop-holds : tie.Need-loop-init invariant-loop decreases-loop
-loop-holds c = (search rules, refl, sym (turn-zero _ _))
+loop-holds c = (search rules, refl, sym (turn_zero _ _))
 
 mul-from : tie.Need-overflow-mul-from invariant-loop decreases-loop
 mul-from c = search rules
@@ -43,7 +43,7 @@ loop-less : tie.Need-loop-smaller invariant-loop decreases-loop
 loop-less c = search rules
 
 loop-again : tie.Need-loop-preserved invariant-loop decreases-loop
-loop-again c = (search rules, c.before.bytes.given ∙ c.before.before.before.before.before.before.loop.invariant.1, turn-next (λ a k m. laidOn c.before.before.before.before.before.before.before.before.before.args.region a m) c.before.before.before.before.before.before.before.before.before.args.file.now _ _ c.before.before.before.before.before.before.loop.invariant.2 c.before.before.lay-piece.ensures)
+loop-again c = (search rules, c.before.bytes.given ∙ c.before.before.before.before.before.before.loop.invariant.1, turn_next (λ a k m. laid_on c.before.before.before.before.before.before.before.before.before.args.region a m) c.before.before.before.before.before.before.before.before.before.args.file.now _ _ c.before.before.before.before.before.before.loop.invariant.2 c.before.before.lay-piece.ensures)
 
 same_length : tie.Need-same-length invariant-loop decreases-loop
 same_length c = c.before.loop.invariant.1

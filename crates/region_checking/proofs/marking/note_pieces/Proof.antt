@@ -4,8 +4,8 @@ use mathlib.Core.Path.{◌≡◌, refl, sym, ◌∙◌}
 use native.Mathlib.Omega.{arith}
 use lib.ListN.{length}
 use Rattle.file_check.specs.Regions.{in_turn}
-use Rattle.region_checking.specs.Parts.{noteWith, noting}
-use Rattle.region_checking.proofs.Laws.{turn-zero, turn-next}
+use Rattle.region_checking.specs.Parts.{note_with, noting}
+use Rattle.region_checking.proofs.Laws.{turn_zero, turn_next}
 use borrow.Author.Rules.{rules}
 use Rattle.region_checking.proofs.marking.note_pieces.Statement.{statement}
 use Rattle.region_checking.proofs.marking.note_pieces.Tie as tie
@@ -17,7 +17,7 @@ abbrev decreases-loop : tie.decreases-loop
 decreases-loop region file map₀ n i₀ map i = n - i
 
 loop-holds : tie.Need-loop-init invariant-loop decreases-loop
-loop-holds c = (search rules, refl, sym (turn-zero _ _))
+loop-holds c = (search rules, refl, sym (turn_zero _ _))
 
 mul-from : tie.Need-overflow-mul-from invariant-loop decreases-loop
 mul-from c = search rules
@@ -44,7 +44,7 @@ loop-less : tie.Need-loop-smaller invariant-loop decreases-loop
 loop-less c = search rules
 
 loop-again : tie.Need-loop-preserved invariant-loop decreases-loop
-loop-again c = (search rules, c.before.map.given ∙ c.before.before.before.before.before.before.loop.invariant.1, turn-next (λ a k m. noteWith c.before.before.before.before.before.before.before.before.before.args.region a k m) c.before.before.before.before.before.before.before.before.before.args.file.now _ _ c.before.before.before.before.before.before.loop.invariant.2 c.before.before.note.ensures)
+loop-again c = (search rules, c.before.map.given ∙ c.before.before.before.before.before.before.loop.invariant.1, turn_next (λ a k m. note_with c.before.before.before.before.before.before.before.before.before.args.region a k m) c.before.before.before.before.before.before.before.before.before.args.file.now _ _ c.before.before.before.before.before.before.loop.invariant.2 c.before.before.note.ensures)
 
 same_length : tie.Need-same-length invariant-loop decreases-loop
 same_length c = c.before.loop.invariant.1

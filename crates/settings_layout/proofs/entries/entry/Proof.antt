@@ -1,5 +1,5 @@
 -- `entrybytes::entry` meets its contract. Assumes nothing.
-use Rattle.settings_layout.specs.EntryBytes.{entryFrom}
+use Rattle.settings_layout.specs.EntryBytes.{entry_from}
 use borrow.Author.Rules.{rules}
 use Rattle.settings_layout.proofs.entries.entry.Statement.{statement}
 use Rattle.settings_layout.proofs.entries.entry.Tie as tie
@@ -47,7 +47,7 @@ on-requires-7 : tie.Need-on-requires-7
 on-requires-7 c κs = search rules
 
 returns : tie.Need-returns
-unfolding entryFrom
+unfolding entry_from
 returns c =
     let f = c.before.before.before.before.before.before.before.before in
     let l = f.before.before in

@@ -1,5 +1,5 @@
 -- `entrywrite::flags` meets its contract. Assumes nothing.
-use Rattle.settings_layout.specs.EntryBytes.{flagBytes}
+use Rattle.settings_layout.specs.EntryBytes.{flag_bytes}
 use borrow.Author.Rules.{rules}
 use Rattle.settings_layout.proofs.entry_write.flags.Statement.{statement}
 use Rattle.settings_layout.proofs.entry_write.flags.Tie as tie
@@ -32,7 +32,7 @@ flag-requires-7 : tie.Need-flag-requires-7
 flag-requires-7 c κs = search rules
 
 returns : tie.Need-returns
-unfolding flagBytes
+unfolding flag_bytes
 returns c =
     rw (
       c.before.before.before.before.before.before.before.before.flag.ensures,

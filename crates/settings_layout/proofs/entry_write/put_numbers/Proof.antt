@@ -1,5 +1,5 @@
 -- `entrywrite::put_numbers` meets its contract. Assumes nothing.
-use Rattle.settings_layout.proofs.entry_write.Pieces.{six-put}
+use Rattle.settings_layout.proofs.entry_write.Pieces.{six_put}
 use borrow.Author.Rules.{rules}
 use Rattle.settings_layout.proofs.entry_write.put_numbers.Statement.{statement}
 use Rattle.settings_layout.proofs.entry_write.put_numbers.Tie as tie
@@ -47,7 +47,7 @@ returns c =
       c.before.before.before.before.before.before.before.before.before.before.before.before.before.before.before.before.before.before.put2.ensures,
       c.before.before.before.before.before.before.before.before.before.before.before.before.before.before.before.before.before.before.before.before.before.before.put.ensures,
     )
-    (six-put _ _ _ _ _ _ _ c.before.before.before.before.before.before.before.before.before.before.before.before.before.before.before.before.before.before.before.before.before.before.before.before.before.requires)
+    (six_put _ _ _ _ _ _ _ c.before.before.before.before.before.before.before.before.before.before.before.before.before.before.before.before.before.before.before.before.before.before.before.before.before.requires)
 
 pub put-numbers-spec : {M : Type 1} → statement M
 put-numbers-spec =

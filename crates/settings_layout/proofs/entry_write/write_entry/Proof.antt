@@ -1,7 +1,7 @@
 -- `entrywrite::write_entry` meets its contract. Assumes nothing.
 use native.Mathlib.Omega.{arith}
-use Rattle.settings_layout.specs.EntryBytes.{numberBytes}
-use Rattle.settings_layout.proofs.entry_write.Pieces.{entry_other, entry-put}
+use Rattle.settings_layout.specs.EntryBytes.{number_bytes}
+use Rattle.settings_layout.proofs.entry_write.Pieces.{entry_other, entry_put}
 use borrow.Author.Rules.{rules}
 use Rattle.settings_layout.proofs.entry_write.write_entry.Statement.{statement}
 use Rattle.settings_layout.proofs.entry_write.write_entry.Tie as tie
@@ -34,10 +34,10 @@ same_length : tie.Need-same-length
 same_length c = search rules
 
 returns-2 : tie.Need-returns-2
-unfolding numberBytes
+unfolding number_bytes
 returns-2 c =
     let start = c.before.before.before.before.before.before.before.before.before.before.before.before.before in
-    entry-put start.args.bytes.now start.args.e (omega arith) c.before.before.before.before.before.before.before.before.put-numbers.ensures c.before.before.before.before.before.flags.ensures c.before.before.copy.ensures.1
+    entry_put start.args.bytes.now start.args.e (omega arith) c.before.before.before.before.before.before.before.before.put-numbers.ensures c.before.before.before.before.before.flags.ensures c.before.before.copy.ensures.1
 
 pub write-entry-spec : {M : Type 1} → statement M
 write-entry-spec =

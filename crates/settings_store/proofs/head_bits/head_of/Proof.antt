@@ -1,8 +1,8 @@
 -- `storehead::head_of` meets its contract. Assumes nothing.
 use native.Mathlib.Omega.{arith}
 use Rattle.laws.specs.Packing.{packed, total}
-use Rattle.settings_store.specs.Head.{headFields}
-use Rattle.settings_store.proofs.head_bits.Laws.{version-by}
+use Rattle.settings_store.specs.Head.{head_fields}
+use Rattle.settings_store.proofs.head_bits.Laws.{version_by_lem}
 use borrow.Author.Rules.{rules}
 use Rattle.settings_store.proofs.head_bits.head_of.Statement.{statement}
 use Rattle.settings_store.proofs.head_bits.head_of.Tie as tie
@@ -71,10 +71,10 @@ add-result-6 : tie.Need-overflow-add-result-6
 add-result-6 c = search rules
 
 returns : tie.Need-returns
-unfolding headFields packed total
+unfolding head_fields packed total
 returns c =
     let start = c.before.before.before.before.before.before.before in
-    (rw (version-by start.args.no-restart) (omega arith), omega arith)
+    (rw (version_by_lem start.args.no_restart) (omega arith), omega arith)
 
 pub head-of-spec : {M : Type 1} → statement M
 head-of-spec =

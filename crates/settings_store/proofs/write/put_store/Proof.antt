@@ -2,8 +2,8 @@
 use mathlib.Core.Path.{◌∙◌}
 use native.Mathlib.Omega.{arith}
 use lib.ListN.{length-set}
-use Rattle.settings_store.proofs.write.Rows.{head-put}
-use Rattle.settings_store.proofs.head_bits.Laws.{head-is}
+use Rattle.settings_store.proofs.write.Rows.{head_put}
+use Rattle.settings_store.proofs.head_bits.Laws.{head_is}
 use borrow.Author.Rules.{rules}
 use Rattle.settings_store.proofs.write.put_store.Statement.{statement}
 use Rattle.settings_store.proofs.write.put_store.Tie as tie
@@ -38,7 +38,7 @@ same_length c = c.before.before.write-rows.auto.0 ∙ simp length-set
 returns : tie.Need-returns
 returns c =
     let start = c.before.before.before.before.before.before.before.before.before in
-    c.before.before.write-rows.ensures ∙ head-put start.args.s start.args.out.now _ start.requires.1 (head-is start.args.s c.before.before.before.before.head_of.ensures.0 c.before.before.before.before.before.any-no-restart.ensures)
+    c.before.before.write-rows.ensures ∙ head_put start.args.s start.args.out.now _ start.requires.1 (head_is start.args.s c.before.before.before.before.head_of.ensures.0 c.before.before.before.before.before.any-no-restart.ensures)
 
 pub put-store-spec : {M : Type 1} → statement M
 put-store-spec =

@@ -6,7 +6,7 @@ use lib.ListN.{length}
 use Rattle.laws.specs.Over.{over}
 use Rattle.laws.specs.Rows.{rows}
 use Rattle.settings_store.specs.Written.{row_at}
-use Rattle.settings_store.proofs.write.Rows.{rows-first, rows_long, rows_next}
+use Rattle.settings_store.proofs.write.Rows.{rows_first, rows_long, rows_next}
 use borrow.Author.Rules.{rules}
 use Rattle.settings_store.proofs.write.write_rows.Statement.{statement}
 use Rattle.settings_store.proofs.write.write_rows.Tie as tie
@@ -18,7 +18,7 @@ abbrev decreases-loop : tie.decreases-loop
 decreases-loop out₀ n table k₀ out k = n - k
 
 loop-holds : tie.Need-loop-init invariant-loop decreases-loop
-loop-holds c = (omega arith, refl, rows-first _ _ (omega arith))
+loop-holds c = (omega arith, refl, rows_first _ _ (omega arith))
 
 mul-e : tie.Need-overflow-mul-e invariant-loop decreases-loop
 mul-e c = search rules

@@ -2,8 +2,8 @@
 use mathlib.Core.Path.{◌≡◌, ap, ◌∙◌}
 use native.Mathlib.Omega.{arith}
 use Rattle.store_entry.specs.Chunks.{chunks_of}
-use Rattle.store_entry.proofs.chunk_bits.ReadBack.{read-chunks, joined-4, joined-5}
-use Rattle.store_entry.proofs.chunk_bits.ReadBack.{row, row-all}
+use Rattle.store_entry.proofs.chunk_bits.ReadBack.{read-chunks, joined_4, joined_5}
+use Rattle.store_entry.proofs.chunk_bits.ReadBack.{row, row_all}
 use borrow.Author.Rules.{rules}
 use Rattle.store_entry.proofs.chunk_bits.chunks_in.Statement.{statement}
 use Rattle.store_entry.proofs.chunk_bits.chunks_in.Tie as tie
@@ -90,16 +90,16 @@ shared-slice-read-f : tie.Need-shared-slice-read-f
 shared-slice-read-f c = search rules
 
 regroup-requires : tie.Need-regroup-requires
-regroup-requires c κs = (joined-5 c.before.before.before.before.before.before.before.before.before.before.before.before.before.before.before.before.before.before.before.before.before.join5.ensures, joined-4 c.before.before.before.before.before.before.before.before.before.before.before.before.before.before.before.before.join4.ensures, joined-4 c.before.before.before.before.before.before.before.before.before.before.before.join42.ensures, joined-4 c.before.before.before.before.before.before.join43.ensures, joined-4 c.before.join44.ensures)
+regroup-requires c κs = (joined_5 c.before.before.before.before.before.before.before.before.before.before.before.before.before.before.before.before.before.before.before.before.before.join5.ensures, joined_4 c.before.before.before.before.before.before.before.before.before.before.before.before.before.before.before.before.join4.ensures, joined_4 c.before.before.before.before.before.before.before.before.before.before.before.join42.ensures, joined_4 c.before.before.before.before.before.before.join43.ensures, joined_4 c.before.join44.ensures)
 
 returns : tie.Need-returns
 unfolding row
 returns c =
     let start = c.before.before.before.before.before.before.before.before.before.before.before.before.before.before.before.before.before.before.before.before.before.before.before.before.before.before.before.before.before in
     let s = start.args.s.now in
-    let whole : row 22 0 s ≡ s = row-all 22 s start.requires in
+    let whole : row 22 0 s ≡ s = row_all 22 s start.requires in
     c.regroup.ensures
-    ∙ read-chunks _ _ _ _ _ _ (joined-5 c.before.before.before.before.before.before.before.before.before.before.before.before.before.before.before.before.before.before.before.before.before.before.join5.ensures) (joined-4 c.before.before.before.before.before.before.before.before.before.before.before.before.before.before.before.before.before.join4.ensures) (joined-4 c.before.before.before.before.before.before.before.before.before.before.before.before.join42.ensures) (joined-4 c.before.before.before.before.before.before.before.join43.ensures) (joined-4 c.before.before.join44.ensures) (omega (arith, c.before.shared-slice-known23.given 21))
+    ∙ read-chunks _ _ _ _ _ _ (joined_5 c.before.before.before.before.before.before.before.before.before.before.before.before.before.before.before.before.before.before.before.before.before.before.join5.ensures) (joined_4 c.before.before.before.before.before.before.before.before.before.before.before.before.before.before.before.before.before.join4.ensures) (joined_4 c.before.before.before.before.before.before.before.before.before.before.before.before.join42.ensures) (joined_4 c.before.before.before.before.before.before.before.join43.ensures) (joined_4 c.before.before.join44.ensures) (omega (arith, c.before.shared-slice-known23.given 21))
     _ _ _ _ _ _ _ _ _ _ _ _ _ _ _ _ _ _ _ _ _ c.before.before.before.before.before.before.before.before.before.before.before.before.before.before.before.before.before.before.before.before.before.before.join5.ensures c.before.before.before.before.before.before.before.before.before.before.before.before.before.before.before.before.before.join4.ensures c.before.before.before.before.before.before.before.before.before.before.before.before.join42.ensures c.before.before.before.before.before.before.before.join43.ensures c.before.before.join44.ensures
     ∙ ap chunks_of whole
 

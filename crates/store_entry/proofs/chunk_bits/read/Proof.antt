@@ -1,13 +1,13 @@
 -- `entrychunks::read` meets its contract. Assumes nothing.
 use mathlib.Core.Path.{sym, ◌∙◌}
 use native.Mathlib.Omega.{arith}
-use Rattle.store_entry.proofs.chunk_bits.ReadBack.{read_whole, read-other}
+use Rattle.store_entry.proofs.chunk_bits.ReadBack.{read_whole, read_other}
 use borrow.Author.Rules.{rules}
 use Rattle.store_entry.proofs.chunk_bits.read.Statement.{statement}
 use Rattle.store_entry.proofs.chunk_bits.read.Tie as tie
 
 returns : tie.Need-returns
-returns c = read-other _ (λ e. omega (arith, e))
+returns c = read_other _ (λ e. omega (arith, e))
 
 chunks-in-requires : tie.Need-chunks-in-requires
 chunks-in-requires c κs = search rules

@@ -3,7 +3,7 @@ use Prim.Native.Nat.{ℕ, ◌%◌}
 use mathlib.Core.Path.{ap, ◌∙◌}
 use native.Mathlib.Omega.{arith}
 use Rattle.store_entry.proofs.chunk_bits.ReadBack.{kept_whole}
-use Rattle.store_entry.proofs.Entries.{entry-joined}
+use Rattle.store_entry.proofs.Entries.{entry_joined}
 use borrow.Author.Rules.{rules}
 use Rattle.store_entry.proofs.write.pack.Statement.{statement}
 use Rattle.store_entry.proofs.write.pack.Tie as tie
@@ -76,7 +76,7 @@ returns c =
     let start = c.before.before.before.before.before.before.before.before.before.before.before.before.before.before.before.before.before.before.before in
     c.write.ensures
     ∙ kept_whole _ _ _ _ _ _ (omega (arith, c.before.before.before.before.before.before.before.before.before.before.before.before.before.lead.ensures.1, c.before.before.before.before.before.before.marks.ensures.1)) c.before.last-six.ensures.1
-    ∙ entry-joined start.args.e _ _ _ _ _ _ _ _ _ _ _ _ _ _ _
+    ∙ entry_joined start.args.e _ _ _ _ _ _ _ _ _ _ _ _ _ _ _
     c.before.before.before.before.before.before.before.before.before.before.before.before.before.lead.ensures.0 c.before.before.before.before.before.before.marks.ensures.0 c.before.before.before.before.before.before.before.before.before.before.before.before.before.before.before.kind-of.ensures.0 (ap (λ (k : ℕ). k % 16) c.before.before.before.before.before.before.before.before.before.before.before.before.before.before.index_of.ensures)
     c.before.before.before.before.before.before.before.before.before.before.before.before.bit-of.ensures.0 c.before.before.before.before.before.before.before.before.before.before.before.bit-of2.ensures.0 c.before.before.before.before.before.before.before.before.before.before.bit-of3.ensures.0 c.before.before.before.before.before.before.before.before.before.bit-of4.ensures.0 c.before.before.before.before.before.before.before.before.bit-of5.ensures.0 c.before.before.before.before.before.before.before.bit-of6.ensures.0
     c.before.before.before.before.before.slot_of.ensures c.before.before.before.before.slot-of2.ensures c.before.before.before.slot-of3.ensures c.before.before.slot-of4.ensures c.before.last-six.ensures.0

@@ -1,9 +1,9 @@
 -- `hexanswer::hex_answer_line` meets its contract. Assumes nothing.
 use native.Mathlib.Omega.{arith}
 use lib.ListN.{length-append}
-use Rattle.text.specs.HexAnswer.{hexAnswerLine}
-use Rattle.text.proofs.Laws.{grown-over, grown-more, grown-counts, pair-short, decimal-short}
-use Rattle.text.proofs.hex_answer.Laws.{position-short}
+use Rattle.text.specs.HexAnswer.{hex_answer_line}
+use Rattle.text.proofs.Laws.{grown_over, grown_more, grown_counts, pair_short, decimal_short}
+use Rattle.text.proofs.hex_answer.Laws.{position_short}
 use borrow.Author.Rules.{rules}
 use Rattle.text.proofs.hex_answer.hex_answer_line.Statement.{statement}
 use Rattle.text.proofs.hex_answer.hex_answer_line.Tie as tie
@@ -20,7 +20,7 @@ position-requires c κs = search rules
 put-position-requires : tie.Need-put-position-requires
 put-position-requires c κs =
     let p = c.before.before in
-    omega (arith, p.put-pair, pair-short p.before.before.before.args.index p.before.number.result)
+    omega (arith, p.put-pair, pair_short p.before.before.before.args.index p.before.number.result)
 
 slice-aggregate-put : tie.Need-slice-aggregate-put
 slice-aggregate-put c = search rules
@@ -29,14 +29,14 @@ put-requires : tie.Need-put-requires
 put-requires c κs = search rules
 
 returns : tie.Need-returns
-unfolding hexAnswerLine
+unfolding hex_answer_line
 returns c =
     let q = c.before.before.before in
     let p = q.before.before.before in
     let x = p.before.before.before in
-    let g = grown-over _ _ _ (λ l. p.put-pair.ensures) q.put-position.ensures in
+    let g = grown_over _ _ _ (λ l. p.put-pair.ensures) q.put-position.ensures in
     rw (← p.before.number.ensures, ← q.before.position.ensures)
-    (grown-counts _ _ (grown-more _ _ _ g c.put.ensures) (simp length-append (omega (arith, c, decimal-short x.args.index, decimal-short p.before.number.result, position-short q.before.position.result))))
+    (grown_counts _ _ (grown_more _ _ _ g c.put.ensures) (simp length-append (omega (arith, c, decimal_short x.args.index, decimal_short p.before.number.result, position_short q.before.position.result))))
 
 pub hex-answer-line-spec : {M : Type 1} → statement M
 hex-answer-line-spec =

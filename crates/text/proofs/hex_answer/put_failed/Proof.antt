@@ -1,8 +1,8 @@
 -- `hexanswer::put_failed` meets its contract. Assumes nothing.
 use native.Mathlib.Omega.{arith}
-use Rattle.text.specs.HexAnswer.{failedText}
-use Rattle.text.proofs.Laws.{grown-none, grown-over, grown-more}
-use Rattle.text.proofs.hex_answer.Laws.{start-short, text-short}
+use Rattle.text.specs.HexAnswer.{failed_text}
+use Rattle.text.proofs.Laws.{grown_none, grown_over, grown_more}
+use Rattle.text.proofs.hex_answer.Laws.{start_short, text_short}
 use borrow.Author.Rules.{rules}
 use Rattle.text.proofs.hex_answer.put_failed.Statement.{statement}
 use Rattle.text.proofs.hex_answer.put_failed.Tie as tie
@@ -29,18 +29,18 @@ put-position-requires : tie.Need-put-position-requires
 put-position-requires c κs =
     let d = c.before.before in
     let n = d.before.number.result in
-    let g = grown-more _ _ _ (grown-more _ _ _ (grown-none _) d.before.before.before.put.ensures) d.put-decimal.ensures in
-    omega (arith, g (omega (arith, start-short n, d)), start-short n, d)
+    let g = grown_more _ _ _ (grown_more _ _ _ (grown_none _) d.before.before.before.put.ensures) d.put-decimal.ensures in
+    omega (arith, g (omega (arith, start_short n, d)), start_short n, d)
 
 returns : tie.Need-returns
-unfolding failedText
+unfolding failed_text
 returns c =
     let d = c.before.before.before in
     let p = d.before.before.before in
     let n = d.before.number.result in
-    let g = grown-more _ _ _ (grown-more _ _ _ (grown-none _) p.put.ensures) d.put-decimal.ensures in
+    let g = grown_more _ _ _ (grown_more _ _ _ (grown_none _) p.put.ensures) d.put-decimal.ensures in
     rw (← d.before.number.ensures, ← c.before.position.ensures)
-    (grown-over _ _ _ g c.put-position.ensures (omega (arith, text-short n c.before.position.result, c)))
+    (grown_over _ _ _ g c.put-position.ensures (omega (arith, text_short n c.before.position.result, c)))
 
 pub put-failed-spec : {M : Type 1} → statement M
 put-failed-spec =

@@ -1,11 +1,11 @@
 -- `hexanswer::put_position` meets its contract. Assumes nothing.
-use Rattle.text.proofs.hex_answer.Laws.{position-none, position_some}
+use Rattle.text.proofs.hex_answer.Laws.{position_none, position_some}
 use borrow.Author.Rules.{rules}
 use Rattle.text.proofs.hex_answer.put_position.Statement.{statement}
 use Rattle.text.proofs.hex_answer.put_position.Tie as tie
 
 returns : tie.Need-returns
-returns c = position-none _ _ _ c.if1.true
+returns c = position_none _ _ _ c.if1.true
 
 slice-aggregate-put : tie.Need-slice-aggregate-put
 slice-aggregate-put c = search rules

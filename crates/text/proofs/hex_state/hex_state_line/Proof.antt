@@ -1,9 +1,9 @@
 -- `hexstate::hex_state_line` meets its contract. Assumes nothing.
 use native.Mathlib.Omega.{arith}
 use lib.ListN.{length-append}
-use Rattle.text.specs.HexState.{hexStateLine}
-use Rattle.text.proofs.Laws.{grown-more, grown-counts, decimal-short}
-use Rattle.text.proofs.hex_state.Laws.{state-short}
+use Rattle.text.specs.HexState.{hex_state_line}
+use Rattle.text.proofs.Laws.{grown_more, grown_counts, decimal_short}
+use Rattle.text.proofs.hex_state.Laws.{state_short}
 use borrow.Author.Rules.{rules}
 use Rattle.text.proofs.hex_state.hex_state_line.Statement.{statement}
 use Rattle.text.proofs.hex_state.hex_state_line.Tie as tie
@@ -36,16 +36,16 @@ put-requires-2 : tie.Need-put-requires-2
 put-requires-2 c κs = search rules
 
 returns : tie.Need-returns
-unfolding hexStateLine
+unfolding hex_state_line
 returns c =
     let d = c.before.before.before in
     let p = d.before.before.before in
     let s = p.before.before.before in
     let f = s.before.before in
     let r = f.before.before.args.reader in
-    let g = grown-more _ _ _ (grown-more _ _ _ (λ l. s.put-reader-state.ensures) p.put.ensures) d.put-decimal.ensures in
+    let g = grown_more _ _ _ (grown_more _ _ _ (λ l. s.put-reader-state.ensures) p.put.ensures) d.put-decimal.ensures in
     rw (← f.flag2.ensures, ← f.before.flag.ensures)
-    (grown-counts _ _ (grown-more _ _ _ g c.put2.ensures) (simp length-append (omega (arith, c, decimal-short r.offset, state-short r.state))))
+    (grown_counts _ _ (grown_more _ _ _ g c.put2.ensures) (simp length-append (omega (arith, c, decimal_short r.offset, state_short r.state))))
 
 pub hex-state-line-spec : {M : Type 1} → statement M
 hex-state-line-spec =

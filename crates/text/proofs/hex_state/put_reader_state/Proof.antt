@@ -1,7 +1,7 @@
 -- `hexstate::put_reader_state` meets its contract. Assumes nothing.
-use Rattle.text.specs.HexState.{readerStateText}
+use Rattle.text.specs.HexState.{reader_state_text}
 use native.Mathlib.Omega.{arith}
-use Rattle.text.proofs.Laws.{put-fits}
+use Rattle.text.proofs.Laws.{put_fits}
 use borrow.Author.Rules.{rules}
 use Rattle.text.proofs.hex_state.put_reader_state.Statement.{statement}
 use Rattle.text.proofs.hex_state.put_reader_state.Tie as tie
@@ -58,27 +58,27 @@ put-failed-requires : tie.Need-put-failed-requires
 put-failed-requires c κs = search rules
 
 returns : tie.Need-returns
-unfolding readerStateText
-returns c = rw c.before.before.before.enum_told.given.1 (put-fits _ _ _ (omega arith) c.put.ensures)
+unfolding reader_state_text
+returns c = rw c.before.before.before.enum_told.given.1 (put_fits _ _ _ (omega arith) c.put.ensures)
 
 returns-2 : tie.Need-returns-2
-unfolding readerStateText
-returns-2 c = rw c.before.before.before.enum-told2.given.1 (put-fits _ _ _ (omega arith) c.put2.ensures)
+unfolding reader_state_text
+returns-2 c = rw c.before.before.before.enum-told2.given.1 (put_fits _ _ _ (omega arith) c.put2.ensures)
 
 returns-3 : tie.Need-returns-3
-unfolding readerStateText
-returns-3 c = rw c.before.before.before.enum-told3.given.1 (put-fits _ _ _ (omega arith) c.put3.ensures)
+unfolding reader_state_text
+returns-3 c = rw c.before.before.before.enum-told3.given.1 (put_fits _ _ _ (omega arith) c.put3.ensures)
 
 returns-4 : tie.Need-returns-4
-unfolding readerStateText
-returns-4 c = rw c.before.before.before.enum-told4.given.1 (put-fits _ _ _ (omega arith) c.put4.ensures)
+unfolding reader_state_text
+returns-4 c = rw c.before.before.before.enum-told4.given.1 (put_fits _ _ _ (omega arith) c.put4.ensures)
 
 returns-5 : tie.Need-returns-5
-unfolding readerStateText
-returns-5 c = rw c.before.before.before.enum-told5.given.1 (put-fits _ _ _ (omega arith) c.put5.ensures)
+unfolding reader_state_text
+returns-5 c = rw c.before.before.before.enum-told5.given.1 (put_fits _ _ _ (omega arith) c.put5.ensures)
 
 returns-6 : tie.Need-returns-6
-unfolding readerStateText
+unfolding reader_state_text
 returns-6 c = rw c.before.before.before.state.given.1 c.put-failed.ensures
 
 pub put-reader-state-spec : {M : Type 1} → statement M

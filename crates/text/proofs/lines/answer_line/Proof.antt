@@ -1,8 +1,8 @@
 -- `lines::answer_line` meets its contract. Assumes nothing.
 use native.Mathlib.Omega.{arith}
 use lib.ListN.{length-append}
-use Rattle.text.specs.Lines.{answerLine}
-use Rattle.text.proofs.Laws.{grown-more, grown-counts, decimal-short}
+use Rattle.text.specs.Lines.{answer_line}
+use Rattle.text.proofs.Laws.{grown_more, grown_counts, decimal_short}
 use borrow.Author.Rules.{rules}
 use Rattle.text.proofs.lines.answer_line.Statement.{statement}
 use Rattle.text.proofs.lines.answer_line.Tie as tie
@@ -20,13 +20,13 @@ put-requires : tie.Need-put-requires
 put-requires c κs = search rules
 
 returns : tie.Need-returns
-unfolding answerLine
+unfolding answer_line
 returns c =
     let p = c.before.before.before in
     let f = p.before.before in
     let x = f.before.args in
     rw (← f.flag.ensures)
-    (grown-counts _ _ (grown-more _ _ _ (λ l. p.put-pair.ensures) c.put.ensures) (simp length-append (omega (arith, c, decimal-short x.index, decimal-short x.answer))))
+    (grown_counts _ _ (grown_more _ _ _ (λ l. p.put-pair.ensures) c.put.ensures) (simp length-append (omega (arith, c, decimal_short x.index, decimal_short x.answer))))
 
 pub answer-line-spec : {M : Type 1} → statement M
 answer-line-spec =

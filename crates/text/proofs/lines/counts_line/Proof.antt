@@ -1,8 +1,8 @@
 -- `lines::counts_line` meets its contract. Assumes nothing.
 use native.Mathlib.Omega.{arith}
 use lib.ListN.{length-append}
-use Rattle.text.specs.Lines.{countsLine}
-use Rattle.text.proofs.Laws.{grown-none, grown-more, grown-counts, decimal-short}
+use Rattle.text.specs.Lines.{counts_line}
+use Rattle.text.proofs.Laws.{grown_none, grown_more, grown_counts, decimal_short}
 use borrow.Author.Rules.{rules}
 use Rattle.text.proofs.lines.counts_line.Statement.{statement}
 use Rattle.text.proofs.lines.counts_line.Tie as tie
@@ -35,18 +35,18 @@ put-requires-4 : tie.Need-put-requires-4
 put-requires-4 c κs = search rules
 
 returns : tie.Need-returns
-unfolding countsLine
+unfolding counts_line
 returns c =
     let n = c.before.before.before in
     let s = n.before.before in
     let e = s.before.before.before in
     let p = e.before.before in
     let q = p.before.before.before in
-    let named = grown-more _ _ _ (grown-none _) q.put.ensures in
-    let told = grown-more _ _ _ (grown-more _ _ _ named p.put2.ensures) e.put-decimal.ensures in
+    let named = grown_more _ _ _ (grown_none _) q.put.ensures in
+    let told = grown_more _ _ _ (grown_more _ _ _ named p.put2.ensures) e.put-decimal.ensures in
     let x = q.before.before.before.args in
-    let g = grown-more _ _ _ (grown-more _ _ _ (grown-more _ _ _ told s.put3.ensures) n.put-decimal2.ensures) c.put4.ensures in
-    grown-counts _ _ g (simp length-append (omega (arith, c, q.before.before.before.requires, decimal-short x.total, decimal-short x.seen)))
+    let g = grown_more _ _ _ (grown_more _ _ _ (grown_more _ _ _ told s.put3.ensures) n.put-decimal2.ensures) c.put4.ensures in
+    grown_counts _ _ g (simp length-append (omega (arith, c, q.before.before.before.requires, decimal_short x.total, decimal_short x.seen)))
 
 pub counts-line-spec : {M : Type 1} → statement M
 counts-line-spec =

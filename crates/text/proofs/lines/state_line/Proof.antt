@@ -1,5 +1,5 @@
 -- `lines::state_line` meets its contract. Assumes nothing.
-use Rattle.text.specs.Lines.{stateLine}
+use Rattle.text.specs.Lines.{state_line}
 use borrow.Author.Rules.{rules}
 use Rattle.text.proofs.lines.state_line.Statement.{statement}
 use Rattle.text.proofs.lines.state_line.Tie as tie
@@ -32,15 +32,15 @@ counts-line-requires-3 : tie.Need-counts-line-requires-3
 counts-line-requires-3 c κs = search rules
 
 returns : tie.Need-returns
-unfolding stateLine
+unfolding state_line
 returns c = rw c.before.before.before.enum_told.given.1 c.counts-line.ensures
 
 returns-2 : tie.Need-returns-2
-unfolding stateLine
+unfolding state_line
 returns-2 c = rw c.before.before.before.before.state.given.1 c.counts-line2.ensures
 
 returns-3 : tie.Need-returns-3
-unfolding stateLine
+unfolding state_line
 returns-3 c = rw c.before.before.before.before.state2.given.1 c.counts-line3.ensures
 
 pub state-line-spec : {M : Type 1} → statement M

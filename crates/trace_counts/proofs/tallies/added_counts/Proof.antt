@@ -1,12 +1,12 @@
 -- `tally::added_counts` meets its contract. Assumes nothing.
 use Rattle.std.proofs.Common.{◌≡◌, ◌-◌, ◌≤◌, rules}
-use Rattle.trace_counts.specs.Tally.{addedCounts}
-use Rattle.trace_counts.proofs.tallies.Laws.{added_none, added_more, added-all}
+use Rattle.trace_counts.specs.Tally.{added_counts}
+use Rattle.trace_counts.proofs.tallies.Laws.{added_none, added_more, added_all}
 use Rattle.trace_counts.proofs.tallies.added_counts.Statement.{statement}
 use Rattle.trace_counts.proofs.tallies.added_counts.Tie as tie
 
 abbrev invariant-loop : tie.invariant-loop
-invariant-loop was tally counts₀ k₀ counts k = (k ≤ 16) × (counts ≡ addedCounts was tally k)
+invariant-loop was tally counts₀ k₀ counts k = (k ≤ 16) × (counts ≡ added_counts was tally k)
 
 abbrev decreases-loop : tie.decreases-loop
 decreases-loop was tally counts₀ k₀ counts k = 16 - k
@@ -48,7 +48,7 @@ loop-again : tie.Need-loop-preserved invariant-loop decreases-loop
 loop-again c = (search rules, added_more _ _ _ c.before.before.before.loop.invariant.1 c.before.number_at.ensures.0 c.plus.ensures)
 
 returns : tie.Need-returns invariant-loop decreases-loop
-returns c = added-all _ _ c.before.loop.invariant.0 c.loop-test.false c.before.loop.invariant.1
+returns c = added_all _ _ c.before.loop.invariant.0 c.loop-test.false c.before.loop.invariant.1
 
 pub added-counts-spec : {M : Type 1} → statement M
 added-counts-spec =

@@ -1,5 +1,5 @@
 -- `tally::raise` meets its contract. Assumes nothing.
-use Rattle.trace_counts.proofs.tallies.Laws.{raised-in, raised-out}
+use Rattle.trace_counts.proofs.tallies.Laws.{raised_in, raised_out}
 use Rattle.std.proofs.Common.{rules}
 use Rattle.trace_counts.proofs.tallies.raise.Statement.{statement}
 use Rattle.trace_counts.proofs.tallies.raise.Tie as tie
@@ -23,10 +23,10 @@ same_length : tie.Need-same-length
 same_length c = search rules
 
 returns : tie.Need-returns
-returns c = raised-in _ _ _ c.wrapping-add-usize.ensures
+returns c = raised_in _ _ _ c.wrapping-add-usize.ensures
 
 returns-2 : tie.Need-returns-2
-returns-2 c = raised-out _ _ _ c.if1.false
+returns-2 c = raised_out _ _ _ c.if1.false
 
 pub raise-spec : {M : Type 1} → statement M
 raise-spec =

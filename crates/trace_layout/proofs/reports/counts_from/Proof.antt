@@ -1,7 +1,7 @@
 -- `reports::counts_from` meets its contract. Assumes nothing.
 use Prim.Native.Nat.{◌-◌, ◌≤◌}
 use mathlib.Core.Path.{refl}
-use Rattle.trace_layout.proofs.reports.Words.{CountsTo, counts-none, counts-more, counts_all}
+use Rattle.trace_layout.proofs.reports.Words.{CountsTo, counts_none, counts_more, counts_all}
 use borrow.Author.Rules.{rules}
 use Rattle.trace_layout.proofs.reports.counts_from.Statement.{statement}
 use Rattle.trace_layout.proofs.reports.counts_from.Tie as tie
@@ -13,7 +13,7 @@ abbrev decreases-loop : tie.decreases-loop
 decreases-loop bytes counts₀ k₀ counts k = 16 - k
 
 loop-holds : tie.Need-loop-init invariant-loop decreases-loop
-loop-holds c = (search rules, counts-none _ _ refl)
+loop-holds c = (search rules, counts_none _ _ refl)
 
 mul-field : tie.Need-overflow-mul-field invariant-loop decreases-loop
 mul-field c = search rules
@@ -37,7 +37,7 @@ loop-less : tie.Need-loop-smaller invariant-loop decreases-loop
 loop-less c = search rules
 
 loop-again : tie.Need-loop-preserved invariant-loop decreases-loop
-loop-again c = (search rules, counts-more _ _ _ c.before.loop-test.true c.before.before.loop.invariant.1 c.field.ensures)
+loop-again c = (search rules, counts_more _ _ _ c.before.loop-test.true c.before.before.loop.invariant.1 c.field.ensures)
 
 returns : tie.Need-returns invariant-loop decreases-loop
 returns c = counts_all _ _ c.loop-test.false c.before.loop.invariant.1

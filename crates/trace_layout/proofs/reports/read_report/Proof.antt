@@ -1,5 +1,5 @@
 -- `reports::read_report` meets its contract. Assumes nothing.
-use Rattle.trace_layout.proofs.reports.Words.{read-other, read_all}
+use Rattle.trace_layout.proofs.reports.Words.{read_other, read_all}
 use borrow.Author.Rules.{rules}
 use Rattle.trace_layout.proofs.reports.read_report.Statement.{statement}
 use Rattle.trace_layout.proofs.reports.read_report.Tie as tie
@@ -8,7 +8,7 @@ no-report-requires : tie.Need-no-report-requires
 no-report-requires c κs = search rules
 
 returns : tie.Need-returns
-returns c = read-other _ c.before.if1.true c.no-report.ensures
+returns c = read_other _ c.before.if1.true c.no-report.ensures
 
 counts-from-requires : tie.Need-counts-from-requires
 counts-from-requires c κs = search rules

@@ -1,7 +1,7 @@
 -- `comparing::judge` meets its contract. Assumes nothing.
 use mathlib.Core.Path.{sym, ◌∙◌}
 use native.Mathlib.Omega.{arith}
-use Rattle.laws.proofs.Numbered.{answer-is}
+use Rattle.laws.proofs.Numbered.{answer_is}
 use Rattle.trace_piece.proofs.Laws.{good_length}
 use Rattle.trace_piece.proofs.comparing.Laws.{judge-bad, judge-compared}
 use borrow.Author.Rules.{rules}
@@ -33,7 +33,7 @@ compared-requires : tie.Need-compared-requires
 compared-requires c κs = search rules
 
 returns-2 : tie.Need-returns-2
-returns-2 c = c.compared.ensures ∙ judge-compared _ _ _ (sym c.before.before.before.before.before.is-bad.ensures ∙ c.before.before.before.before.if1.false) (answer-is c.before.before.look.ensures)
+returns-2 c = c.compared.ensures ∙ judge-compared _ _ _ (sym c.before.before.before.before.before.is-bad.ensures ∙ c.before.before.before.before.if1.false) (answer_is c.before.before.look.ensures)
 
 pub judge-spec : {M : Type 1} → statement M
 judge-spec =

@@ -2,7 +2,7 @@
 use mathlib.Core.Path.{sym, ◌∙◌}
 use native.Mathlib.Omega.{arith}
 use borrow.Author.Tests.{not-true, not-false}
-use Rattle.laws.proofs.Numbered.{answer-is}
+use Rattle.laws.proofs.Numbered.{answer_is}
 use Rattle.trace_piece.proofs.comparing.Laws.{told-left, told-long, told-taken}
 use borrow.Author.Rules.{rules}
 use Rattle.trace_replay.proofs.one_piece.replay_piece.Statement.{statement}
@@ -63,7 +63,7 @@ returns-2 : tie.Need-returns-2
 returns-2 c =
     let taken = c.before.before.before.before.before.before.before.before.before.before.before in
     let told = taken.before.before.before.before.before.before.before in
-    told-taken _ _ _ told.before.before.judge.ensures (sym told.before.is-replayed.ensures ∙ not-false _ told.if1.false) (answer-is taken.take.ensures)
+    told-taken _ _ _ told.before.before.judge.ensures (sym told.before.is-replayed.ensures ∙ not-false _ told.if1.false) (answer_is taken.take.ensures)
 
 pub replay-piece-spec : {M : Type 1} → statement M
 replay-piece-spec =

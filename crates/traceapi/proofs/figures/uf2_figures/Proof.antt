@@ -1,6 +1,6 @@
 -- `traceapi::figures::uf2_figures` meets its contract. Assumes nothing.
-use Rattle.laws.proofs.Numbered.{answer-is}
-use Rattle.traceapi.proofs.FiguresLaws.{figures-ran}
+use Rattle.laws.proofs.Numbered.{answer_is}
+use Rattle.traceapi.proofs.FiguresLaws.{figures_ran}
 use borrow.Author.Rules.{rules}
 use Rattle.traceapi.proofs.figures.uf2_figures.Statement.{statement}
 use Rattle.traceapi.proofs.figures.uf2_figures.Tie as tie
@@ -49,7 +49,7 @@ returns c =
     let kept = c.before.before.before.before.before.before.before in
     let ran = kept.before.before.before.before.before.before.before.before.before.before.before.before.before in
     let asked = ran.before.before.before.before.before.before in
-    figures-ran _ _ _ _ _ asked.before.read-report.ensures asked.read-settings.ensures (answer-is ran.add.ensures) kept.keep-report.ensures c.before.before.before.keep-index.ensures c.result.ensures
+    figures_ran _ _ _ _ _ asked.before.read-report.ensures asked.read-settings.ensures (answer_is ran.add.ensures) kept.keep-report.ensures c.before.before.before.keep-index.ensures c.result.ensures
 
 pub uf2-figures-spec : {M : Type 1} → statement M
 uf2-figures-spec =

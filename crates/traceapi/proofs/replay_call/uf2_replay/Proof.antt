@@ -1,5 +1,5 @@
 -- `traceapi::replay_call::uf2_replay` meets its contract. Assumes nothing.
-use Rattle.traceapi.proofs.ReplayLaws.{replay-ran}
+use Rattle.traceapi.proofs.ReplayLaws.{replay_ran}
 use borrow.Author.Rules.{rules}
 use Rattle.traceapi.proofs.replay_call.uf2_replay.Statement.{statement}
 use Rattle.traceapi.proofs.replay_call.uf2_replay.Tie as tie
@@ -44,7 +44,7 @@ returns : tie.Need-returns
 returns c =
     let wrote = c.before.before.before.before.before.before.before in
     let ran = wrote.before.before.before.before.before.before.before.before.before.before.before.before.before in
-    replay-ran _ _ _ _ _ ran.before.before.before.before.before.before.read-settings.ensures ran.replay.ensures wrote.write-transfer.ensures c.before.before.before.put-stop.ensures c.number.ensures
+    replay_ran _ _ _ _ _ ran.before.before.before.before.before.before.read-settings.ensures ran.replay.ensures wrote.write-transfer.ensures c.before.before.before.put-stop.ensures c.number.ensures
 
 pub uf2-replay-spec : {M : Type 1} → statement M
 uf2-replay-spec =

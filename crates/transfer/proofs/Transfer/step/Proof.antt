@@ -1,5 +1,5 @@
 -- `transfer::Transfer::step` meets its contract. Assumes nothing.
-use Rattle.transfer.specs.Transfer.{step_of, stepNumber}
+use Rattle.transfer.specs.Transfer.{step_of, step_number}
 use mathlib.Core.Path.{ap}
 use Rattle.transfer.specs.declared.Step.TheVariants.{Accepts}
 use Rattle.laws.specs.Numbered.{numbered}
@@ -24,11 +24,11 @@ enum-told-2 c = search rules
 
 returns : tie.Need-returns
 unfolding step_of
-returns c = rw c.before.enum_told.given.1 (ap (numbered stepNumber) (ap Accepts c.accept.ensures))
+returns c = rw c.before.enum_told.given.1 (ap (numbered step_number) (ap Accepts c.accept.ensures))
 
 returns-2 : tie.Need-returns-2
 unfolding step_of
-returns-2 c = rw c.before.before.state.given.1 (ap (numbered stepNumber) c.go_on.ensures)
+returns-2 c = rw c.before.before.state.given.1 (ap (numbered step_number) c.go_on.ensures)
 
 returns-3 : tie.Need-returns-3
 unfolding step_of

@@ -1,7 +1,7 @@
 -- `words::field` meets its contract. Assumes nothing.
 use mathlib.Core.Path.{sym, ◌∙◌}
 use native.Mathlib.Omega.{arith}
-use Rattle.uf2_block.proofs.words.Laws.{field_in, field_past}
+use Rattle.uf2_block.proofs.words.Laws.{field_in_lem, field_past}
 use borrow.Author.Rules.{rules}
 use Rattle.uf2_block.proofs.words.field.Statement.{statement}
 use Rattle.uf2_block.proofs.words.field.Tie as tie
@@ -40,7 +40,7 @@ joined-requires : tie.Need-joined-requires
 joined-requires c κs = search rules
 
 returns-3 : tie.Need-returns-3
-returns-3 c = c.joined.ensures ∙ sym (field_in _ _ (omega arith))
+returns-3 c = c.joined.ensures ∙ sym (field_in_lem _ _ (omega arith))
 
 pub field-spec : {M : Type 1} → statement M
 field-spec =

@@ -2,19 +2,19 @@
 use mathlib.Core.Path.{sym}
 use lib.ListN.{length-set}
 use native.Mathlib.Omega.{arith}
-use Rattle.uf2_block.proofs.words.WriteLaws.{put-past, put-set}
+use Rattle.uf2_block.proofs.words.WriteLaws.{put_past, put_set}
 use borrow.Author.Rules.{rules}
 use Rattle.uf2_block.proofs.words.put.Statement.{statement}
 use Rattle.uf2_block.proofs.words.put.Tie as tie
 
 returns : tie.Need-returns
-returns c = sym (put-past _ _ _ (omega arith))
+returns c = sym (put_past _ _ _ (omega arith))
 
 sub-if2 : tie.Need-overflow-sub-if2
 sub-if2 c = search rules
 
 returns-2 : tie.Need-returns-2
-returns-2 c = sym (put-past _ _ _ (omega arith))
+returns-2 c = sym (put_past _ _ _ (omega arith))
 
 cast-bytes : tie.Need-overflow-cast-bytes
 cast-bytes c = search rules
@@ -53,7 +53,7 @@ same_length : tie.Need-same-length
 same_length c = search rules
 
 returns-3 : tie.Need-returns-3
-returns-3 c = put-set _ _ _ (omega arith)
+returns-3 c = put_set _ _ _ (omega arith)
 
 pub put_spec : {M : Type 1} → statement M
 put_spec =

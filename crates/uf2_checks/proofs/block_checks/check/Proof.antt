@@ -1,6 +1,6 @@
 -- `screening::check` meets its contract. Assumes nothing.
 use Rattle.uf2_checks.proofs.Laws.{check-comment, check-window}
-use Rattle.uf2_checks.proofs.block_checks.Laws.{window-above}
+use Rattle.uf2_checks.proofs.block_checks.Laws.{window_above}
 use borrow.Author.Rules.{rules}
 use Rattle.uf2_checks.proofs.block_checks.check.Statement.{statement}
 use Rattle.uf2_checks.proofs.block_checks.check.Tie as tie
@@ -30,7 +30,7 @@ room-in-requires-2 : tie.Need-room-in-requires-2
 room-in-requires-2 c κs = search rules
 
 check-data-requires : tie.Need-check-data-requires
-check-data-requires c κs = (c.room-in2.ensures.1, window-above _ _ c.before.before.window-of.ensures)
+check-data-requires c κs = (c.room-in2.ensures.1, window_above _ _ c.before.before.window-of.ensures)
 
 returns-2 : tie.Need-returns-2
 returns-2 c =

@@ -1,6 +1,6 @@
 -- `screening::header_answer` meets its contract. Assumes nothing.
 use mathlib.Core.Path.{refl, ap}
-use Rattle.uf2_block.specs.Block.{headerNumber}
+use Rattle.uf2_block.specs.Block.{header_number}
 use borrow.Author.Rules.{rules}
 use Rattle.uf2_checks.proofs.block_checks.header_answer.Statement.{statement}
 use Rattle.uf2_checks.proofs.block_checks.header_answer.Tie as tie
@@ -28,7 +28,7 @@ returns-3 c next = rw c.enum-told3.given.1 refl
 
 -- a header that yields a block is not handed in
 returns-4 : tie.Need-returns-4
-returns-4 c next = absurd (c.before.before.requires (ap headerNumber c.enum-told4.given.1))
+returns-4 c next = absurd (c.before.before.requires (ap header_number c.enum-told4.given.1))
 
 pub header-answer-spec : {M : Type 1} → statement M
 header-answer-spec =

@@ -1,7 +1,7 @@
 -- `blockkind::note_kind` meets its contract. Assumes nothing.
 use mathlib.Core.Path.{sym}
-use Rattle.uf2_checks.specs.Screen.{noteKind}
-use Rattle.uf2_checks.proofs.Laws.{note-idle, note-done}
+use Rattle.uf2_checks.specs.Screen.{note_kind}
+use Rattle.uf2_checks.proofs.Laws.{note_idle, note_done}
 use borrow.Author.Rules.{rules}
 use Rattle.uf2_checks.proofs.block_kind.note_kind.Statement.{statement}
 use Rattle.uf2_checks.proofs.block_kind.note_kind.Tie as tie
@@ -19,14 +19,14 @@ enum-told-2 : tie.Need-enum-told-2
 enum-told-2 c = search rules
 
 returns : tie.Need-returns
-returns c = rw c.enum_told.given.1 (sym (note-idle _ _))
+returns c = rw c.enum_told.given.1 (sym (note_idle _ _))
 
 returns-2 : tie.Need-returns-2
-unfolding noteKind
+unfolding note_kind
 returns-2 c = rw c.before.before.state.given.1 c.own-kind.ensures
 
 returns-3 : tie.Need-returns-3
-returns-3 c = rw c.enum-told2.given.1 (sym (note-done _ _ _))
+returns-3 c = rw c.enum-told2.given.1 (sym (note_done _ _ _))
 
 pub note-kind-spec : {M : Type 1} → statement M
 note-kind-spec =

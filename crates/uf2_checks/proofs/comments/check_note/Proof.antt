@@ -1,5 +1,5 @@
 -- `notes::check_note` meets its contract. Assumes nothing.
-use Rattle.uf2_checks.specs.Screen.{noteFound}
+use Rattle.uf2_checks.specs.Screen.{note_found}
 use borrow.Author.Rules.{rules}
 use Rattle.uf2_checks.proofs.comments.check_note.Statement.{statement}
 use Rattle.uf2_checks.proofs.comments.check_note.Tie as tie
@@ -14,11 +14,11 @@ note-requires : tie.Need-note-requires
 note-requires c κs = search rules
 
 returns : tie.Need-returns
-unfolding noteFound
+unfolding note_found
 returns c = rw c.enum_told.given.1
 
 returns-2 : tie.Need-returns-2
-unfolding noteFound
+unfolding note_found
 returns-2 c = rw c.before.before.place.given.1 c.note.ensures
 
 pub check-note-spec : {M : Type 1} → statement M

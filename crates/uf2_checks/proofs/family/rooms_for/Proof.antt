@@ -1,5 +1,5 @@
 -- `rooms::rooms_for` meets its contract. Assumes nothing.
-use Rattle.laws.proofs.Numbered.{answer-is}
+use Rattle.laws.proofs.Numbered.{answer_is}
 use borrow.Author.Rules.{rules}
 use Rattle.uf2_checks.proofs.family.rooms_for.Statement.{statement}
 use Rattle.uf2_checks.proofs.family.rooms_for.Tie as tie
@@ -11,7 +11,7 @@ ram-family-requires : tie.Need-ram-family-requires
 ram-family-requires c κs = search rules
 
 returns : tie.Need-returns
-returns c = (rw (answer-is c.before.find.ensures.0, c.ram-family.ensures), c.before.find.ensures.1)
+returns c = (rw (answer_is c.before.find.ensures.0, c.ram-family.ensures), c.before.find.ensures.1)
 
 pub rooms-for-spec : {M : Type 1} → statement M
 rooms-for-spec = tie.close (tie.spec find-requires ram-family-requires returns)

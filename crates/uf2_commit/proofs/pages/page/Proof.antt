@@ -1,5 +1,5 @@
 -- `pages::page` meets its contract. Assumes nothing.
-use Rattle.uf2_commit.proofs.pages.Laws.{sector-beside}
+use Rattle.uf2_commit.proofs.pages.Laws.{sector_beside}
 use borrow.Author.Rules.{rules}
 use Rattle.uf2_commit.proofs.pages.page.Statement.{statement}
 use Rattle.uf2_commit.proofs.pages.page.Tie as tie
@@ -26,7 +26,7 @@ same_length : tie.Need-same-length
 same_length c = search rules
 
 returns : tie.Need-returns
-returns c = rw c.before.before.before.before.enum_told.given.1 (sector-beside _ _ _ _ c.before.before.flash-page.ensures)
+returns c = rw c.before.before.before.before.enum_told.given.1 (sector_beside _ _ _ _ c.before.before.flash-page.ensures)
 
 same-length-2 : tie.Need-same-length-2
 same-length-2 c = search rules

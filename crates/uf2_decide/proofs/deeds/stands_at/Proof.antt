@@ -1,6 +1,6 @@
 -- `deeds::stands_at` meets its contract. Assumes nothing.
 use mathlib.Core.Path.{ap, sym, ◌∙◌}
-use Rattle.uf2_decide.proofs.deeds.Laws.{stands-nowhere}
+use Rattle.uf2_decide.proofs.deeds.Laws.{stands_nowhere}
 use borrow.Author.Rules.{rules}
 use Rattle.uf2_decide.proofs.deeds.stands_at.Statement.{statement}
 use Rattle.uf2_decide.proofs.deeds.stands_at.Tie as tie
@@ -15,7 +15,7 @@ stands-in-requires : tie.Need-stands-in-requires
 stands-in-requires c κs = search rules
 
 returns : tie.Need-returns
-returns c = stands-nowhere _ _ c.enum_told.given.1
+returns c = stands_nowhere _ _ c.enum_told.given.1
 
 returns-2 : tie.Need-returns-2
 returns-2 c = rw c.before.before.place.given.1 c.stands-in.ensures

@@ -1,5 +1,5 @@
 -- `uf2lead::put_first_fields` meets its contract. Assumes nothing.
-use Rattle.uf2_make.specs.Uf2lead.{firstOver}
+use Rattle.uf2_make.specs.Uf2lead.{first_over}
 use borrow.Author.Rules.{rules}
 use Rattle.uf2_make.proofs.lead.put_first_fields.Statement.{statement}
 use Rattle.uf2_make.proofs.lead.put_first_fields.Tie as tie
@@ -20,7 +20,7 @@ same_length : tie.Need-same-length
 same_length c = search rules
 
 returns : tie.Need-returns
-unfolding firstOver
+unfolding first_over
 returns c =
     rw (
       c.before.before.put4.ensures,

@@ -1,5 +1,5 @@
 -- `uf2lead::put_last_fields` meets its contract. Assumes nothing.
-use Rattle.uf2_make.specs.Uf2lead.{lastOver}
+use Rattle.uf2_make.specs.Uf2lead.{last_over}
 use borrow.Author.Rules.{rules}
 use Rattle.uf2_make.proofs.lead.put_last_fields.Statement.{statement}
 use Rattle.uf2_make.proofs.lead.put_last_fields.Tie as tie
@@ -20,7 +20,7 @@ same_length : tie.Need-same-length
 same_length c = search rules
 
 returns : tie.Need-returns
-unfolding lastOver
+unfolding last_over
 returns c =
     rw (
       c.before.before.put4.ensures,

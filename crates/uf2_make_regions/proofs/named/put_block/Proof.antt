@@ -1,6 +1,6 @@
 -- `named::put_block` meets its contract. Assumes nothing.
 use mathlib.Core.Path.{refl}
-use Rattle.uf2_make_regions.proofs.named.Laws.{block-put}
+use Rattle.uf2_make_regions.proofs.named.Laws.{block_put}
 use borrow.Author.Rules.{rules}
 use Rattle.uf2_make_regions.proofs.named.put_block.Statement.{statement}
 use Rattle.uf2_make_regions.proofs.named.put_block.Tie as tie
@@ -53,7 +53,7 @@ same_length c = search rules
 returns : tie.Need-returns
 returns c =
     let start = c.before.before.before.before.before.before.before.before.before.before.before.before.before.before.before.before.before.before.before.before.before.before in
-    block-put start.args.out.now _ _ _ _ start.args.page.now _ _ start.requires.0 start.requires.1 c.before.before.before.before.before.before.before.before.before.before.before.before.before.before.before.before.before.before.put-lead.ensures
+    block_put start.args.out.now _ _ _ _ start.args.page.now _ _ start.requires.0 start.requires.1 c.before.before.before.before.before.before.before.before.before.before.before.before.before.before.before.before.before.before.put-lead.ensures
     c.before.before.before.before.before.before.before.before.before.before.before.before.before.before.copy.ensures.1 refl c.before.before.before.before.before.before.before.before.before.before.fill.ensures refl c.before.before.before.before.before.before.put-region.ensures refl c.before.before.put.ensures
 
 pub put-block-spec : {M : Type 1} → statement M

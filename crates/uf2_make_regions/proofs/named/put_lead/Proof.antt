@@ -1,6 +1,6 @@
 -- `named::put_lead` meets its contract. Assumes nothing.
 use mathlib.Core.Path.{◌∙◌}
-use Rattle.uf2_make_regions.proofs.named.Laws.{lead-put}
+use Rattle.uf2_make_regions.proofs.named.Laws.{lead_put}
 use borrow.Author.Rules.{rules}
 use Rattle.uf2_make_regions.proofs.named.put_lead.Statement.{statement}
 use Rattle.uf2_make_regions.proofs.named.put_lead.Tie as tie
@@ -33,7 +33,7 @@ returns c =
       c.before.before.before.before.before.before.before.before.before.before.before.before.before.before.put2.ensures,
       c.before.before.before.before.before.before.before.before.before.before.before.before.before.before.before.before.before.before.put.ensures,
     )
-    (lead-put start.args.out.now _ _ _ _ start.requires)
+    (lead_put start.args.out.now _ _ _ _ start.requires)
 
 pub put-lead-spec : {M : Type 1} → statement M
 put-lead-spec =

@@ -1,5 +1,5 @@
 -- `named::put_region` meets its contract. Assumes nothing.
-use Rattle.uf2_make_regions.proofs.named.Laws.{region-put}
+use Rattle.uf2_make_regions.proofs.named.Laws.{region_put}
 use borrow.Author.Rules.{rules}
 use Rattle.uf2_make_regions.proofs.named.put_region.Statement.{statement}
 use Rattle.uf2_make_regions.proofs.named.put_region.Tie as tie
@@ -28,7 +28,7 @@ same_length c = search rules
 returns : tie.Need-returns
 returns c =
     let start = c.before.before.before.before.before.before.before.before.before.before.before.before.before in
-    region-put start.args.out.now start.args.base start.args.digest start.requires c.before.before.before.before.before.before.before.before.before.before.put.ensures c.before.before.before.before.before.before.put2.ensures c.before.before.put-digest.ensures
+    region_put start.args.out.now start.args.base start.args.digest start.requires c.before.before.before.before.before.before.before.before.before.before.put.ensures c.before.before.before.before.before.before.put2.ensures c.before.before.put-digest.ensures
 
 pub put-region-spec : {M : Type 1} → statement M
 put-region-spec =

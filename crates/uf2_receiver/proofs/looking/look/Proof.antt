@@ -1,8 +1,8 @@
 -- `looking::look` meets its contract. Assumes nothing.
 use mathlib.Core.Path.{ap, ◌∙◌}
 use Rattle.laws.specs.Numbered.{numbered}
-use Rattle.arrival.specs.Arrive.{forecastNumber}
-use Rattle.laws.proofs.Numbered.{answer-is}
+use Rattle.arrival.specs.Arrive.{forecast_number}
+use Rattle.laws.proofs.Numbered.{answer_is}
 use Rattle.uf2_known.specs.Verdict.{decision}
 use Rattle.uf2_receiver.proofs.looking.Laws.{look-stays, look-accepts, look_is}
 use borrow.Author.Rules.{rules}
@@ -25,13 +25,13 @@ returns : tie.Need-returns
 returns c =
     let d = c.before.before.before in
     let known = look_is _ _ _ d.before.Known-of.ensures in
-    ap (numbered forecastNumber) (look-stays _ _ _ _ (answer-is d.judge.ensures) (ap decision c.before.verdict.given.1) ∙ known)
+    ap (numbered forecast_number) (look-stays _ _ _ _ (answer_is d.judge.ensures) (ap decision c.before.verdict.given.1) ∙ known)
 
 returns-2 : tie.Need-returns-2
 returns-2 c =
     let d = c.before.before.before.before in
     let known = look_is _ _ _ d.before.Known-of.ensures in
-    ap (numbered forecastNumber) (look-accepts _ _ _ _ (answer-is d.judge.ensures) (ap decision c.before.before.verdict2.given.1) ∙ known)
+    ap (numbered forecast_number) (look-accepts _ _ _ _ (answer_is d.judge.ensures) (ap decision c.before.before.verdict2.given.1) ∙ known)
 
 pub look_spec : {M : Type 1} → statement M
 look_spec =

@@ -38,7 +38,7 @@ use denote.Triple.Table.{entered, cited}
 use denote.Triple.Walked.{says, Stays, stay_none_slice, walk_of, Goes-none_slice, Walks, ends_at, walked, walk_Meets}
 use denote.Exit.{yes}
 use denote.Triple.Clauses.{ensured, lasts}
-use Rattle.uf2_tags.specs.Room.{firstPlace}
+use Rattle.uf2_tags.specs.Room.{first_place}
 use Rattle.uf2_tags.specs.declared.Tags.{Tags}
 use Rattle.uf2_tags.specs.contracts.Tags as T
 use Rattle.uf2_tags.proofs.Tags.TheLaws as T'
@@ -87,10 +87,10 @@ module _ {M : Type 1} {𝓤 : Ura M} (𝓛 : Logic 𝓤) (mem : Memory → SProp
       move ! (1 ∷ []) $ fsplit ! $ use1 𝓛 (‵ Own ⊛ ‵ Own) ((shr_slice_copy 𝓛 (named 0) κ u8).twice s (v ∷ [])) $ split ! $
       move ! (0 ∷ 2 ∷ []) $ fjoin ! $ move ! (2 ∷ 0 ∷ []) $ use2 𝓛 (raw ((FirstPlace 𝓛 mem run).pre to)) (qed 𝓛 ((‵ (flft κ q) ⊛ ‵ ftrue) ∷ ‵ (owns (ShrSlice (named 0) κ u8 ∷ []) (s, tt) (v ∷ [], tt)) ∷ []) ∵ join ! $ frame ! $ done !) $ frame ! $ done !
 
-  said : (n : ℕ) → ent 𝓤 (ensured 𝓛 place.ended (place.clauses 𝓛 mem run) (κ, tt) (s, tt) tt n) (fact 𝓤 (n ≡ firstPlace s.now))
-  said n = ex_e 𝓤 _ (λ ws. snd∗ 𝓤 (sem 𝓛 (lasts place.ended (κ, tt) (s, tt) ws)) (fact 𝓤 (n ≡ firstPlace s.now)))
+  said : (n : ℕ) → ent 𝓤 (ensured 𝓛 place.ended (place.clauses 𝓛 mem run) (κ, tt) (s, tt) tt n) (fact 𝓤 (n ≡ first_place s.now))
+  said n = ex_e 𝓤 _ (λ ws. snd∗ 𝓤 (sem 𝓛 (lasts place.ended (κ, tt) (s, tt) ws)) (fact 𝓤 (n ≡ first_place s.now)))
 
-  exits : (n : ℕ) → n ≡ firstPlace s.now → n < 2 ^ 64 → ent 𝓤 (⋆ 𝓛 ((‵ (flft κ q) ⊛ ‵ ftrue) ∷ ‵ Own ∷ [])) (Post (T'.lowered (made n)))
+  exits : (n : ℕ) → n ≡ first_place s.now → n < 2 ^ 64 → ent 𝓤 (⋆ 𝓛 ((‵ (flft κ q) ⊛ ‵ ftrue) ∷ ‵ Own ∷ [])) (Post (T'.lowered (made n)))
   exits n e fits =
       qed 𝓛 ((‵ (flft κ q) ⊛ ‵ ftrue) ∷ ‵ Own ∷ []) ∵
       suffices ! _ (ends_at 𝓛 new.ended stayed (new.clauses 𝓛 mem run) (((κ, tt), (q, tt), tt, (s, tt), (v ∷ [], tt)), tt) (T'.lowered (made n)) (made n) (tt, tt) (tt, tt)) $ says ! (ap made e) $
@@ -106,7 +106,7 @@ module _ {M : Type 1} {𝓤 : Ura M} (𝓛 : Logic 𝓤) (mem : Memory → SProp
         move ! (6 ∷ []) $ use1 𝓛 (raw ((FirstPlace 𝓛 mem run).pre to) ⊛ ‵ Own) goes $ split ! $
         calls_at ! fm (FirstPlace 𝓛 mem run) known to (and_then ! (load ! (from ! (stop !)) (look ! 4 refl)) (no_more !)) (λ u.
         use1 𝓛 (later (some (λ (n : ℕ). ((‵ (flft κ q) ⊛ ‵ ftrue) ⊛ ‵ (usize.own_val n (u ∷ []))) ⊛ raw (ensured 𝓛 place.ended (place.clauses 𝓛 mem run) (κ, tt) (s, tt) tt n)))) (id⊢ 𝓤 _) $ await ! tt $ pick ! (λ n.
-        split ! $ move ! (1 ∷ []) $ use1 𝓛 (raw (fact 𝓤 (n ≡ firstPlace s.now))) (said n) $ heard ! (n ≡ firstPlace s.now) (λ e. split ! $ move ! (1 ∷ []) $
+        split ! $ move ! (1 ∷ []) $ use1 𝓛 (raw (fact 𝓤 (n ≡ first_place s.now))) (said n) $ heard ! (n ≡ first_place s.now) (λ e. split ! $ move ! (1 ∷ []) $
         -- [the number's facts; the token; what block owns; room for _2; …; _1; …; room for _0; …]
         facts ! usize (Is usize) (shows 𝓛 usize) n (u ∷ []) (λ is.
         land ! (from ! (stop !)) (init ! 2 refl ((uint_Lawful 𝓛 w64).typed n _ is).0) $ rewrite ! 2 (λ (w : Val). ‵ (fat full_share (ty_int w64) l₂ 0 w)) (ap only is.0) refl $

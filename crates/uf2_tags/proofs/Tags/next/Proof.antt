@@ -45,8 +45,8 @@ use denote.Triple.Walked.{says, Stays, stay_none, walk_of, Goes-none, Walks, end
 use denote.Exit.{yes}
 use denote.Triple.Clauses.{ensured, lasts}
 use Rattle.laws.specs.Numbered.{numbered}
-use Rattle.laws.proofs.Numbered.{answer-is}
-use Rattle.uf2_tags.specs.Reader.{stepAt, moveNumber, stepNumber}
+use Rattle.laws.proofs.Numbered.{answer_is}
+use Rattle.uf2_tags.specs.Reader.{step_at, move_number, step_number}
 use Rattle.uf2_tags.specs.declared.Tags.{Tags}
 use Rattle.uf2_tags.specs.declared.Move.{Move}
 use Rattle.uf2_tags.specs.declared.one_tag.Answer.{Answer}
@@ -95,7 +95,7 @@ module _ {M : Type 1} {𝓤 : Ura M} (𝓛 : Logic 𝓤) (mem : Memory → SProp
   v = slice_val d.block.ref_ptr (length d.block.now)
 
   abbrev found : Move
-  found = stepAt d.block.now d.at
+  found = step_at d.block.now d.at
 
   abbrev moved : Move → Tags
   moved f = record { block = d.block; at = f.next }
@@ -145,13 +145,13 @@ module _ {M : Type 1} {𝓤 : Ura M} (𝓛 : Logic 𝓤) (mem : Memory → SProp
       move ! (1 ∷ []) $ drop ! $ nothing ! $ owned ! usize (Is usize) (uint_Makes 𝓛 w64) d.at _ (refl, fits) $ fjoin ! $ move ! (1 ∷ 0 ∷ []) $ fjoin ! $
       move ! (2 ∷ 0 ∷ []) $ use2 𝓛 (raw ((StepAt 𝓛 mem run).pre to)) asked $ frame ! $ done !)
 
-  said : (f : Move) → ent 𝓤 (ensured 𝓛 step.ended (step.clauses 𝓛 mem run) (κ, tt) (d.block, (d.at, tt)) tt f) (fact 𝓤 (numbered moveNumber f ≡ numbered moveNumber found))
-  said f = ex_e 𝓤 _ (λ ws. snd∗ 𝓤 (sem 𝓛 (lasts step.ended (κ, tt) (d.block, (d.at, tt)) ws)) (fact 𝓤 (numbered moveNumber f ≡ numbered moveNumber found)))
+  said : (f : Move) → ent 𝓤 (ensured 𝓛 step.ended (step.clauses 𝓛 mem run) (κ, tt) (d.block, (d.at, tt)) tt f) (fact 𝓤 (numbered move_number f ≡ numbered move_number found))
+  said f = ex_e 𝓤 _ (λ ws. snd∗ 𝓤 (sem 𝓛 (lasts step.ended (κ, tt) (d.block, (d.at, tt)) ws)) (fact 𝓤 (numbered move_number f ≡ numbered move_number found)))
 
   exits : (f : Move) → f ≡ found → f.next < 2 ^ 64 → Is S.the_row f.answer (low f.answer ∷ []) → ent 𝓤 (⋆ 𝓛 ((‵ (flft κ q) ⊛ ‵ ftrue) ∷ ‵ Own ∷ [])) (Post (out f))
   exits f e fits is =
       qed 𝓛 ((‵ (flft κ q) ⊛ ‵ ftrue) ∷ ‵ Own ∷ []) ∵
-      suffices ! _ (ends_at 𝓛 next.ended stayed (next.clauses 𝓛 mem run) (((κ, tt), (q, tt), tt, (d, tt), (mach ∷ [], tt)), tt) (out f) (made f) (tt, tt) (tt, tt)) $ says ! (ap (numbered stepNumber) (ap made e)) $
+      suffices ! _ (ends_at 𝓛 next.ended stayed (next.clauses 𝓛 mem run) (((κ, tt), (q, tt), tt, (d, tt), (mach ∷ [], tt)), tt) (out f) (made f) (tt, tt) (tt, tt)) $ says ! (ap (numbered step_number) (ap made e)) $
       frame ! $ use1 𝓛 (‵ Own ⊛ ‵ Own) ((LL.copy D (T'.the_copy α) 𝓛).twice d (mach ∷ [])) $ split ! $ nothing ! $ move ! (1 ∷ 0 ∷ []) $ fjoin ! $ frame ! $
       -- [what the struct owns]: the next place's facts take the place of at's
       owned ! usize (Is usize) (uint_Makes 𝓛 w64) f.next _ (refl, fits) $ move ! (1 ∷ 0 ∷ []) $ use2 𝓛 (‵ ((B (κ, tt)).own (moved f) (T'.lowered (moved f) ∷ []))) (own_put 𝓛 D L 1 vd f.next mach) $
@@ -169,7 +169,7 @@ module _ {M : Type 1} {𝓤 : Ura M} (𝓛 : Logic 𝓤) (mem : Memory → SProp
         move ! (16 ∷ []) $ use1 𝓛 (raw ((StepAt 𝓛 mem run).pre to) ⊛ ‵ Own) (apart wt.1.1.0.fits) $ split ! $
         calls_at ! fm (StepAt 𝓛 mem run) known to (and_then ! (load ! (from ! (stop !)) (look ! 8 refl)) (and_then ! (load ! (from ! (stop !)) (look ! 6 refl)) (no_more !))) (λ u.
         use1 𝓛 (later (some (λ (f : Move). ((‵ (flft κ q) ⊛ ‵ ftrue) ⊛ ‵ ((F.the_row).own_val f (u ∷ []))) ⊛ raw (ensured 𝓛 step.ended (step.clauses 𝓛 mem run) (κ, tt) (d.block, (d.at, tt)) tt f)))) (id⊢ 𝓤 _) $ await ! tt $ pick ! (λ f.
-        split ! $ move ! (1 ∷ []) $ use1 𝓛 (raw (fact 𝓤 (numbered moveNumber f ≡ numbered moveNumber found))) (said f) $ heard ! (numbered moveNumber f ≡ numbered moveNumber found) (λ e. split ! $ move ! (1 ∷ []) $
+        split ! $ move ! (1 ∷ []) $ use1 𝓛 (raw (fact 𝓤 (numbered move_number f ≡ numbered move_number found))) (said f) $ heard ! (numbered move_number f ≡ numbered move_number found) (λ e. split ! $ move ! (1 ∷ []) $
         facts ! F.the_row (Is F.the_row) (shows 𝓛 F.the_row) f (u ∷ []) (λ is.
         -- [the token; what the struct owns; _7; …; _6; …; _5; …; _4; …; _3; …; room for _2; …; _1; …; room for _0; …]
         let each = LL.owed F.the_type F'.the_laws f (u ∷ []) is in
@@ -183,7 +183,7 @@ module _ {M : Type 1} {𝓤 : Ura M} (𝓛 : Logic 𝓤) (mem : Memory → SProp
         assigns ! (agg ! (and_then ! (load ! (from ! (stop !)) (look ! 2 refl)) (and_then ! (load ! (from ! (stop !)) (look ! 10 refl)) (no_more !)))) (from ! (stop !)) (init ! 16 refl whole_out) $
         returns ! (look ! 16 refl) $ forget ! 2 refl $ forget ! 4 refl $ forget ! 6 refl $ forget ! 8 refl $ forget ! 10 refl $ forget ! 12 refl $ forget ! 14 refl $ forget ! 16 refl $
         move ! (16 ∷ 17 ∷ []) $ free1 ! $ move ! (14 ∷ 15 ∷ []) $ free1 ! $ move ! (12 ∷ 13 ∷ []) $ free1 ! $ move ! (10 ∷ 11 ∷ []) $ free1 ! $ move ! (8 ∷ 9 ∷ []) $ free1 ! $ move ! (6 ∷ 7 ∷ []) $ free1 ! $ move ! (4 ∷ 5 ∷ []) $ free1 ! $ move ! (2 ∷ 3 ∷ []) $ free1 ! $ free0 ! $
-        by ! (exits f (answer-is e) fits each.0)))))))))))))
+        by ! (exits f (answer_is e) fits each.0)))))))))))))
 
 module _ {M : Type 1} {𝓤 : Ura M} (𝓛 : Logic 𝓤) (mem : Memory → SProp 𝓤) (run : Routine → Fun 𝓤) where
   open 𝓛 use {H}

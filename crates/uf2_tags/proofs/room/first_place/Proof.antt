@@ -1,7 +1,7 @@
 -- `tagroom::first_place` meets its contract. Assumes nothing.
 use mathlib.Core.Path.{ap}
 use Prim.Native.Nat.{ℕ, ◌+◌}
-use Rattle.uf2_tags.specs.Room.{firstPlace}
+use Rattle.uf2_tags.specs.Room.{first_place}
 use borrow.Author.Rules.{rules}
 use Rattle.uf2_tags.proofs.room.first_place.Statement.{statement}
 use Rattle.uf2_tags.proofs.room.first_place.Tie as tie
@@ -16,7 +16,7 @@ add-result : tie.Need-overflow-add-result
 add-result c = search rules
 
 returns : tie.Need-returns
-unfolding firstPlace
+unfolding first_place
 returns c = ap (λ (n : ℕ). 32 + n) c.field.ensures
 
 pub first-place-spec : {M : Type 1} → statement M

@@ -2,7 +2,7 @@
 use mathlib.Core.Path.{◌∙◌, ap}
 use Prim.Native.Nat.{ℕ, ◌/◌, ◌%◌}
 use native.Mathlib.Omega.{arith}
-use Rattle.laws.proofs.Numbered.{answer-is}
+use Rattle.laws.proofs.Numbered.{answer_is}
 use Rattle.uf2_tags.proofs.one_tag.Laws.{sized_same}
 use Rattle.uf2_tags.proofs.room.Laws.{head-size, head-kind}
 use borrow.Author.Rules.{rules}
@@ -32,7 +32,7 @@ returns c =
     let b = start.args.block.now in
     let at = start.args.at in
     let low = known.shared-slice-known.given at in
-    answer-is c.tag-sized.ensures
+    answer_is c.tag-sized.ensures
     ∙ sized_same at _ (ap (λ (n : ℕ). n % 256) head.field.ensures ∙ head-size b at (omega arith) (omega (arith, low)))
     (ap (λ (n : ℕ). n / 256) head.field.ensures ∙ head-kind b at (omega arith) (omega (arith, low)))
 

@@ -1,5 +1,5 @@
 -- `hexmarks::naming` meets its contract. Assumes nothing.
-use Rattle.uhex_effects.proofs.Laws.{naming-repeats, naming-passes}
+use Rattle.uhex_effects.proofs.Laws.{naming_repeats, naming_passes}
 use borrow.Author.Rules.{rules}
 use Rattle.uhex_effects.proofs.marks.naming.Statement.{statement}
 use Rattle.uhex_effects.proofs.marks.naming.Tie as tie
@@ -8,7 +8,7 @@ has-requires : tie.Need-has-requires
 has-requires c κs = search rules
 
 returns : tie.Need-returns
-returns c = naming-repeats _ _ _ c.before.has.ensures c.if1.true
+returns c = naming_repeats _ _ _ c.before.has.ensures c.if1.true
 
 with-section-requires : tie.Need-with-section-requires
 with-section-requires c κs = search rules
@@ -17,7 +17,7 @@ with-state-requires : tie.Need-with-state-requires
 with-state-requires c κs = search rules
 
 returns-2 : tie.Need-returns-2
-returns-2 c = naming-passes _ _ _ _ _ c.before.before.before.has.ensures c.before.before.if1.false c.before.with-section.ensures c.with-state.ensures
+returns-2 c = naming_passes _ _ _ _ _ c.before.before.before.has.ensures c.before.before.if1.false c.before.with-section.ensures c.with-state.ensures
 
 pub naming-spec : {M : Type 1} → statement M
 naming-spec =

@@ -1,5 +1,5 @@
 -- `recordeffect::effect_of` meets its contract. Assumes nothing.
-use Rattle.uhex_effects.proofs.record_effect.Laws.{effect-by}
+use Rattle.uhex_effects.proofs.record_effect.Laws.{effect_by}
 use borrow.Author.Rules.{rules}
 use Rattle.uhex_effects.proofs.record_effect.effect_of.Statement.{statement}
 use Rattle.uhex_effects.proofs.record_effect.effect_of.Tie as tie
@@ -22,7 +22,7 @@ effect-requires c κs = search rules
 returns : tie.Need-returns
 returns c =
     let a = c.before.before.before.args in
-    effect-by a.reader a.rec a.t3 _ _ _ c.before.role-at.ensures c.before.before.word.ensures c.effect.ensures
+    effect_by a.reader a.rec a.t3 _ _ _ c.before.role-at.ensures c.before.before.word.ensures c.effect.ensures
 
 pub effect-of-spec : {M : Type 1} → statement M
 effect-of-spec =

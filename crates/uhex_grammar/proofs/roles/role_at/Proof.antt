@@ -1,5 +1,5 @@
 -- `roles::role_at` meets its contract. Assumes nothing.
-use Rattle.uhex_grammar.specs.Grammar.{roleOf}
+use Rattle.uhex_grammar.specs.Grammar.{role_of}
 use borrow.Author.Rules.{rules}
 use Rattle.uhex_grammar.proofs.roles.role_at.Statement.{statement}
 use Rattle.uhex_grammar.proofs.roles.role_at.Tie as tie
@@ -44,15 +44,15 @@ returns-3 : tie.Need-returns-3
 returns-3 c = rw c.before.before.state.given.1 c.inside.ensures
 
 returns-4 : tie.Need-returns-4
-unfolding roleOf
-returns-4 c = rw c.before.before.state2.given.1 c.after-padding.ensures
+unfolding role_of
+returns-4 c = rw c.before.before.state2.given.1 c.after_padding_lem.ensures
 
 returns-5 : tie.Need-returns-5
-unfolding roleOf
+unfolding role_of
 returns-5 c = rw c.enum-told3.given.1
 
 returns-6 : tie.Need-returns-6
-unfolding roleOf
+unfolding role_of
 returns-6 c = rw c.enum-told4.given.1
 
 pub role-at-spec : {M : Type 1} → statement M

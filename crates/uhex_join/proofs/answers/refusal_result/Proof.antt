@@ -1,5 +1,5 @@
 -- `joinresult::refusal_result` meets its contract. Assumes nothing.
-use Rattle.uhex_join.specs.Result.{refusalResult}
+use Rattle.uhex_join.specs.Result.{refusal_result}
 use borrow.Author.Rules.{rules}
 use Rattle.uhex_join.proofs.answers.refusal_result.Statement.{statement}
 use Rattle.uhex_join.proofs.answers.refusal_result.Tie as tie
@@ -41,7 +41,7 @@ add-result-3 : tie.Need-overflow-add-result-3
 add-result-3 c = search rules
 
 returns : tie.Need-returns
-unfolding refusalResult
+unfolding refusal_result
 returns c = rw (c.before.before.before.number.ensures, c.before.before.position.ensures, c.before.board-code.ensures.0)
 
 pub refusal-result-spec : {M : Type 1} → statement M

@@ -1,7 +1,7 @@
 -- `readerbytes::fields` meets its contract. Assumes nothing.
 use mathlib.Core.Path.{sym, ◌∙◌}
-use Rattle.laws.proofs.BytesLaws.{number-two}
-use Rattle.uhex_layout.proofs.Read.{read-fields}
+use Rattle.laws.proofs.BytesLaws.{number_two}
+use Rattle.uhex_layout.proofs.Read.{read_fields}
 use borrow.Author.Rules.{rules}
 use Rattle.uhex_layout.proofs.reading.fields.Statement.{statement}
 use Rattle.uhex_layout.proofs.reading.fields.Tie as tie
@@ -53,7 +53,7 @@ returns c =
     let b = c.before.before.before in
     let u = b.before.before.before in
     let s = u.before.before.before in
-    read-fields _ (s.before.before.joined.ensures ∙ sym (number-two _ 0)) s.before.field.ensures s.state-at.ensures (u.joined2.ensures ∙ sym (number-two _ 2)) b.boards.ensures c.boards2.ensures
+    read_fields _ (s.before.before.joined.ensures ∙ sym (number_two _ 0)) s.before.field.ensures s.state-at.ensures (u.joined2.ensures ∙ sym (number_two _ 2)) b.boards.ensures c.boards2.ensures
 
 pub fields-spec : {M : Type 1} → statement M
 fields-spec =

@@ -1,7 +1,7 @@
 -- `readerbytes::read_reader` meets its contract. Assumes nothing.
 use mathlib.Core.Path.{sym, ◌∙◌}
 use borrow.Author.Tests.{eq-eqb, ne_eqb, lt-leb}
-use Rattle.uhex_layout.specs.Readers.{readerFrom}
+use Rattle.uhex_layout.specs.Readers.{reader_from}
 use Rattle.uhex_layout.proofs.Read.{read-good}
 use borrow.Author.Rules.{rules}
 use Rattle.uhex_layout.proofs.reading.read_reader.Statement.{statement}
@@ -11,7 +11,7 @@ fresh-requires : tie.Need-fresh-requires
 fresh-requires c κs = search rules
 
 returns : tie.Need-returns
-unfolding readerFrom
+unfolding reader_from
 returns c = simp (ne_eqb _ _ c.before.if1.true) c.fresh.ensures
 
 shared-slice-read-if2 : tie.Need-shared-slice-read-if2
@@ -21,7 +21,7 @@ fresh-requires-2 : tie.Need-fresh-requires-2
 fresh-requires-2 c κs = search rules
 
 returns-2 : tie.Need-returns-2
-unfolding readerFrom
+unfolding reader_from
 returns-2 c = simp (eq-eqb _ _ c.before.before.before.if1.false, lt-leb _ _ c.before.if2.true) c.fresh2.ensures
 
 fields-requires : tie.Need-fields-requires

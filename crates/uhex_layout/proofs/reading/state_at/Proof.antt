@@ -1,7 +1,7 @@
 -- `readerbytes::state_at` meets its contract. Assumes nothing.
 use mathlib.Core.Path.{sym, ap, ◌∙◌}
-use Rattle.laws.proofs.BytesLaws.{number-two}
-use Rattle.uhex_layout.specs.Readers.{readerStateFrom}
+use Rattle.laws.proofs.BytesLaws.{number_two}
+use Rattle.uhex_layout.specs.Readers.{reader_state_from}
 use borrow.Author.Rules.{rules}
 use Rattle.uhex_layout.proofs.reading.state_at.Statement.{statement}
 use Rattle.uhex_layout.proofs.reading.state_at.Tie as tie
@@ -25,7 +25,7 @@ state-from-requires : tie.Need-state-from-requires
 state-from-requires c κs = search rules
 
 returns : tie.Need-returns
-returns c = c.state-from.ensures ∙ ap (readerStateFrom _ _) (c.before.before.before.joined.ensures ∙ sym (number-two _ 10))
+returns c = c.state-from.ensures ∙ ap (reader_state_from _ _) (c.before.before.before.joined.ensures ∙ sym (number_two _ 10))
 
 pub state-at-spec : {M : Type 1} → statement M
 state-at-spec =

@@ -1,5 +1,5 @@
 -- `replies::perform` meets its contract. Assumes nothing.
-use Rattle.uhex_reader.proofs.replies.Laws.{effect-fails, effect-passes, effect-ends, effect-stores, performed-by}
+use Rattle.uhex_reader.proofs.replies.Laws.{effect_fails, effect_passes, effect_ends, effect_stores, performed_by}
 use borrow.Author.Rules.{rules}
 use Rattle.uhex_reader.proofs.replies.perform.Statement.{statement}
 use Rattle.uhex_reader.proofs.replies.perform.Tie as tie
@@ -29,19 +29,19 @@ moving-requires-2 : tie.Need-moving-requires-2
 moving-requires-2 c κs = search rules
 
 returns : tie.Need-returns
-returns c = performed-by _ _ _ _ _ _ _ _ c.before.before.effect.given.1 (effect-fails _ _ _ _ _ _ _ c.failing.ensures)
+returns c = performed_by _ _ _ _ _ _ _ _ c.before.before.effect.given.1 (effect_fails _ _ _ _ _ _ _ c.failing.ensures)
 
 returns-2 : tie.Need-returns-2
-returns-2 c = performed-by _ _ _ _ _ _ _ _ c.before.before.effect2.given.1 (effect-passes _ _ _ _ _ _ _ c.moving.ensures)
+returns-2 c = performed_by _ _ _ _ _ _ _ _ c.before.before.effect2.given.1 (effect_passes _ _ _ _ _ _ _ c.moving.ensures)
 
 same_length : tie.Need-same-length
 same_length c = search rules
 
 returns-3 : tie.Need-returns-3
-returns-3 c = performed-by _ _ _ _ _ _ _ _ c.before.before.before.before.before.effect3.given.1 (effect-stores _ _ _ _ _ _ _ c.before.before.store.ensures)
+returns-3 c = performed_by _ _ _ _ _ _ _ _ c.before.before.before.before.before.effect3.given.1 (effect_stores _ _ _ _ _ _ _ c.before.before.store.ensures)
 
 returns-4 : tie.Need-returns-4
-returns-4 c = performed-by _ _ _ _ _ _ _ _ c.before.before.effect4.given.1 (effect-ends _ _ _ _ _ _ _ c.moving2.ensures)
+returns-4 c = performed_by _ _ _ _ _ _ _ _ c.before.before.effect4.given.1 (effect_ends _ _ _ _ _ _ _ c.moving2.ensures)
 
 pub perform-spec : {M : Type 1} → statement M
 perform-spec =

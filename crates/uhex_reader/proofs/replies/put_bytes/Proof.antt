@@ -3,7 +3,7 @@ use mathlib.Core.Path.{sym}
 use lib.Seq.{length-take-le}
 use lib.ListN.{length-take, length-drop}
 use native.Mathlib.Omega.{arith}
-use Rattle.laws.proofs.OverLaws.{copied-over}
+use Rattle.laws.proofs.OverLaws.{copied_over}
 use borrow.Author.Rules.{rules}
 use Rattle.uhex_reader.proofs.replies.put_bytes.Statement.{statement}
 use Rattle.uhex_reader.proofs.replies.put_bytes.Tie as tie
@@ -30,7 +30,7 @@ same_length : tie.Need-same-length
 same_length c = search rules
 
 returns : tie.Need-returns
-returns c = copied-over _ _ _ _ _ (length-take-le _ _ (omega arith)) c.before.before.before.before.before.before.before.requires.1 c.before.before.copy.ensures.1
+returns c = copied_over _ _ _ _ _ (length-take-le _ _ (omega arith)) c.before.before.before.before.before.before.before.requires.1 c.before.before.copy.ensures.1
 
 pub put-bytes-spec : {M : Type 1} → statement M
 put-bytes-spec =

@@ -1,5 +1,5 @@
 -- `replies::store` meets its contract. Assumes nothing.
-use Rattle.uhex_reader.proofs.replies.Laws.{stored-by}
+use Rattle.uhex_reader.proofs.replies.Laws.{stored_by}
 use borrow.Author.Rules.{rules}
 use Rattle.uhex_reader.proofs.replies.store.Statement.{statement}
 use Rattle.uhex_reader.proofs.replies.store.Tie as tie
@@ -29,7 +29,7 @@ same_length : tie.Need-same-length
 same_length c = search rules
 
 returns : tie.Need-returns
-returns c = stored-by _ _ _ _ _ _ _ _ c.before.before.before.store_at.ensures.0 c.before.before.before.store_at.ensures.1 c.moving.ensures
+returns c = stored_by _ _ _ _ _ _ _ _ c.before.before.before.store_at.ensures.0 c.before.before.before.store_at.ensures.1 c.moving.ensures
 
 pub store_spec : {M : Type 1} → statement M
 store_spec =

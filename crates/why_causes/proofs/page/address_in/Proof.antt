@@ -1,5 +1,5 @@
 -- `pagerow::address_in` meets its contract. Assumes nothing.
-use Rattle.why_causes.specs.Pages.{addressIn}
+use Rattle.why_causes.specs.Pages.{address_in}
 use borrow.Author.Rules.{rules}
 use Rattle.why_causes.proofs.page.address_in.Statement.{statement}
 use Rattle.why_causes.proofs.page.address_in.Tie as tie
@@ -23,15 +23,15 @@ window-row-requires-2 : tie.Need-window-row-requires-2
 window-row-requires-2 c κs = search rules
 
 returns : tie.Need-returns
-unfolding addressIn
+unfolding address_in
 returns c = rw c.before.enum_told.given.1 c.address-row.ensures
 
 returns-2 : tie.Need-returns-2
-unfolding addressIn
+unfolding address_in
 returns-2 c = rw c.before.enum-told2.given.1 c.window-row.ensures
 
 returns-3 : tie.Need-returns-3
-unfolding addressIn
+unfolding address_in
 returns-3 c = rw c.before.enum-told3.given.1 c.window-row2.ensures
 
 pub address-in-spec : {M : Type 1} → statement M

@@ -1,8 +1,8 @@
 -- `pagerow::inside_row` meets its contract. Assumes nothing.
-use Rattle.why_causes.specs.Checks.{byNumbers}
-use Rattle.why_causes.specs.Numbers.{payloadRow, numbersRow}
+use Rattle.why_causes.specs.Checks.{by_numbers}
+use Rattle.why_causes.specs.Numbers.{payload_row, numbers_row}
 use Rattle.why_causes.proofs.Rows.{row-decides, row-passes}
-use Rattle.why_causes.specs.Pages.{pageRow}
+use Rattle.why_causes.specs.Pages.{page_row}
 use borrow.Author.Rules.{rules}
 use Rattle.why_causes.proofs.page.inside_row.Statement.{statement}
 use Rattle.why_causes.proofs.page.inside_row.Tie as tie
@@ -14,8 +14,8 @@ enum-known-payload : tie.Need-enum-known-payload
 enum-known-payload c = search rules
 
 returns : tie.Need-returns
-unfolding pageRow
-returns c = row-decides byNumbers (payloadRow c.before.before.before.before.args.b.size) _ c.before.before.before.payload-row.ensures c.before.payload.given.1
+unfolding page_row
+returns c = row-decides by_numbers (payload_row c.before.before.before.before.args.b.size) _ c.before.before.before.payload-row.ensures c.before.payload.given.1
 
 enum_told : tie.Need-enum-told
 enum_told c = search rules
@@ -27,8 +27,8 @@ enum-known-numbers : tie.Need-enum-known-numbers
 enum-known-numbers c = search rules
 
 returns-2 : tie.Need-returns-2
-unfolding pageRow
-returns-2 c = row-passes byNumbers (payloadRow c.before.before.before.before.before.before.before.args.b.size) _ c.before.before.before.before.before.before.payload-row.ensures c.before.before.before.before.enum_told.given.1 (row-decides byNumbers (numbersRow c.before.before.before.before.before.before.before.args.b.total c.before.before.before.before.before.before.before.args.b.number c.before.before.before.before.before.before.before.args.size) _ c.before.before.before.numbers-row.ensures c.before.numbers.given.1)
+unfolding page_row
+returns-2 c = row-passes by_numbers (payload_row c.before.before.before.before.before.before.before.args.b.size) _ c.before.before.before.before.before.before.payload-row.ensures c.before.before.before.before.enum_told.given.1 (row-decides by_numbers (numbers_row c.before.before.before.before.before.before.before.args.b.total c.before.before.before.before.before.before.before.args.b.number c.before.before.before.before.before.before.before.args.size) _ c.before.before.before.numbers-row.ensures c.before.numbers.given.1)
 
 enum-told-2 : tie.Need-enum-told-2
 enum-told-2 c = search rules
@@ -37,8 +37,8 @@ address-in-requires : tie.Need-address-in-requires
 address-in-requires c κs = search rules
 
 returns-3 : tie.Need-returns-3
-unfolding pageRow
-returns-3 c = row-passes byNumbers (payloadRow c.before.before.before.before.before.before.before.args.b.size) _ c.before.before.before.before.before.before.payload-row.ensures c.before.before.before.before.enum_told.given.1 (row-passes byNumbers (numbersRow c.before.before.before.before.before.before.before.args.b.total c.before.before.before.before.before.before.before.args.b.number c.before.before.before.before.before.before.before.args.size) _ c.before.before.before.numbers-row.ensures c.before.enum-told2.given.1 c.address-in.ensures)
+unfolding page_row
+returns-3 c = row-passes by_numbers (payload_row c.before.before.before.before.before.before.before.args.b.size) _ c.before.before.before.before.before.before.payload-row.ensures c.before.before.before.before.enum_told.given.1 (row-passes by_numbers (numbers_row c.before.before.before.before.before.before.before.args.b.total c.before.before.before.before.before.before.before.args.b.number c.before.before.before.before.before.before.before.args.size) _ c.before.before.before.numbers-row.ensures c.before.enum-told2.given.1 c.address-in.ensures)
 
 pub inside-row-spec : {M : Type 1} → statement M
 inside-row-spec =

@@ -1,8 +1,8 @@
 -- `pagerow::outside_row` meets its contract. Assumes nothing.
-use Rattle.why_causes.specs.Checks.{byNumbers}
-use Rattle.why_causes.specs.Numbers.{payloadRow, strayRow}
+use Rattle.why_causes.specs.Checks.{by_numbers}
+use Rattle.why_causes.specs.Numbers.{payload_row, stray_row}
 use Rattle.why_causes.proofs.Rows.{row-decides, row-passes}
-use Rattle.why_causes.specs.Pages.{pageRow}
+use Rattle.why_causes.specs.Pages.{page_row}
 use borrow.Author.Rules.{rules}
 use Rattle.why_causes.proofs.page.outside_row.Statement.{statement}
 use Rattle.why_causes.proofs.page.outside_row.Tie as tie
@@ -14,8 +14,8 @@ enum-known-payload : tie.Need-enum-known-payload
 enum-known-payload c = search rules
 
 returns : tie.Need-returns
-unfolding pageRow
-returns c = row-decides byNumbers (payloadRow c.before.before.before.before.args.b.size) _ c.before.before.before.payload-row.ensures c.before.payload.given.1
+unfolding page_row
+returns c = row-decides by_numbers (payload_row c.before.before.before.before.args.b.size) _ c.before.before.before.payload-row.ensures c.before.payload.given.1
 
 enum_told : tie.Need-enum-told
 enum_told c = search rules
@@ -27,8 +27,8 @@ enum-known-address : tie.Need-enum-known-address
 enum-known-address c = search rules
 
 returns-2 : tie.Need-returns-2
-unfolding pageRow
-returns-2 c = row-passes byNumbers (payloadRow c.before.before.before.before.before.before.before.args.b.size) _ c.before.before.before.before.before.before.payload-row.ensures c.before.before.before.before.enum_told.given.1 (row-decides byNumbers (strayRow c.before.before.before.before.before.before.before.args.b.address) _ c.before.before.before.stray-row.ensures c.before.address.given.1)
+unfolding page_row
+returns-2 c = row-passes by_numbers (payload_row c.before.before.before.before.before.before.before.args.b.size) _ c.before.before.before.before.before.before.payload-row.ensures c.before.before.before.before.enum_told.given.1 (row-decides by_numbers (stray_row c.before.before.before.before.before.before.before.args.b.address) _ c.before.before.before.stray-row.ensures c.before.address.given.1)
 
 enum-told-2 : tie.Need-enum-told-2
 enum-told-2 c = search rules
@@ -37,8 +37,8 @@ numbers-row-requires : tie.Need-numbers-row-requires
 numbers-row-requires c κs = search rules
 
 returns-3 : tie.Need-returns-3
-unfolding pageRow
-returns-3 c = row-passes byNumbers (payloadRow c.before.before.before.before.before.before.before.args.b.size) _ c.before.before.before.before.before.before.payload-row.ensures c.before.before.before.before.enum_told.given.1 (row-passes byNumbers (strayRow c.before.before.before.before.before.before.before.args.b.address) _ c.before.before.before.stray-row.ensures c.before.enum-told2.given.1 c.numbers-row.ensures)
+unfolding page_row
+returns-3 c = row-passes by_numbers (payload_row c.before.before.before.before.before.before.before.args.b.size) _ c.before.before.before.before.before.before.payload-row.ensures c.before.before.before.before.enum_told.given.1 (row-passes by_numbers (stray_row c.before.before.before.before.before.before.before.args.b.address) _ c.before.before.before.stray-row.ensures c.before.enum-told2.given.1 c.numbers-row.ensures)
 
 pub outside-row-spec : {M : Type 1} → statement M
 outside-row-spec =

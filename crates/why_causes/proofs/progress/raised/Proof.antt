@@ -1,6 +1,6 @@
 -- `progress::raised` meets its contract. Assumes nothing.
 use mathlib.Core.Path.{sym, ◌∙◌}
-use Rattle.why_causes.specs.Progress.{raisedOf}
+use Rattle.why_causes.specs.Progress.{raised_of}
 use Rattle.why_causes.proofs.progress.Laws.{raised-same, raised-other}
 use borrow.Author.Rules.{rules}
 use Rattle.why_causes.proofs.progress.raised.Statement.{statement}
@@ -28,14 +28,14 @@ enum-told-2 : tie.Need-enum-told-2
 enum-told-2 c = search rules
 
 returns-2 : tie.Need-returns-2
-unfolding raisedOf
+unfolding raised_of
 returns-2 c = rw c.enum_told.given.1
 
 returns-3 : tie.Need-returns-3
 returns-3 c = rw c.before.before.before.before.state.given.1 (raised-other _ _ (sym c.before.same_head.ensures ∙ c.if1.false))
 
 returns-4 : tie.Need-returns-4
-unfolding raisedOf
+unfolding raised_of
 returns-4 c = rw c.enum-told2.given.1
 
 pub raised-spec : {M : Type 1} → statement M

@@ -1,10 +1,10 @@
 -- `firstfault::condition_at` meets its contract. Assumes nothing.
 use mathlib.Core.Path.{ap, ◌∙◌}
 use mathlib.Core.Bool.{Bool}
-use Rattle.partitions.specs.Settings.{entry_at, isReserved}
-use Rattle.why_settings.specs.Faults.{badIf}
+use Rattle.partitions.specs.Settings.{entry_at, is_reserved}
+use Rattle.why_settings.specs.Faults.{bad_if}
 use Rattle.why_settings.specs.declared.Fault.TheVariants.{LinksUp, LinksToB, ReservedUser}
-use Rattle.why_settings.proofs.Laws.{up_by, reserved-user, condition-0, condition-1, condition-2, condition-3, condition-4, condition-5, condition-6}
+use Rattle.why_settings.proofs.Laws.{up_by, reserved_user_case, condition-0, condition-1, condition-2, condition-3, condition-4, condition-5, condition-6}
 use borrow.Author.Rules.{rules}
 use Rattle.why_settings.proofs.first.condition_at.Statement.{statement}
 use Rattle.why_settings.proofs.first.condition_at.Tie as tie
@@ -103,7 +103,7 @@ returns-4 c =
     let len = a.flash-len in
     let n = s.count in
     let k = a.k in
-    condition-3 s len n k _ c.before.before.before.match.keys4 (c.bad-if3.ensures ∙ ap (λ (b : Bool). badIf b (LinksUp k)) (up_by s.table k c.before.before.unowned.ensures c.before.target.ensures))
+    condition-3 s len n k _ c.before.before.before.match.keys4 (c.bad-if3.ensures ∙ ap (λ (b : Bool). bad_if b (LinksUp k)) (up_by s.table k c.before.before.unowned.ensures c.before.target.ensures))
 
 returns-5 : tie.Need-returns-5
 returns-5 c =
@@ -112,7 +112,7 @@ returns-5 c =
     let len = a.flash-len in
     let n = s.count in
     let k = a.k in
-    condition-4 s len n k _ c.before.before.match.keys5 (c.bad-if4.ensures ∙ ap (λ (b : Bool). badIf b (LinksToB k)) c.before.links-to-b.ensures)
+    condition-4 s len n k _ c.before.before.match.keys5 (c.bad-if4.ensures ∙ ap (λ (b : Bool). bad_if b (LinksToB k)) c.before.links_to_b_case.ensures)
 
 returns-6 : tie.Need-returns-6
 returns-6 c =
@@ -132,7 +132,7 @@ returns-7 c =
     let k = a.k in
     let m = c.before.before.before.match.rest in
     condition-6 s len n k _ m.0.0.0.0.0.1 m.0.0.0.0.1 m.0.0.0.1 m.0.0.1 m.0.1 m.1
-    (c.bad-if6.ensures ∙ ap (λ (b : Bool). badIf b (ReservedUser k)) (c.before.reserved.ensures ∙ ap isReserved c.before.before.first-reserved.ensures ∙ reserved-user (entry_at s.table k)))
+    (c.bad-if6.ensures ∙ ap (λ (b : Bool). bad_if b (ReservedUser k)) (c.before.reserved.ensures ∙ ap is_reserved c.before.before.first-reserved.ensures ∙ reserved_user_case (entry_at s.table k)))
 
 pub condition-at-spec : {M : Type 1} → statement M
 condition-at-spec =

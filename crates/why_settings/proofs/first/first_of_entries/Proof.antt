@@ -3,20 +3,20 @@ use Prim.Native.Nat.{◌≤◌, ◌-◌}
 use mathlib.Core.Path.{◌≡◌, sym, ◌∙◌}
 use native.Mathlib.Omega.{arith}
 use Rattle.why_settings.specs.declared.Finding.TheVariants.{Sound}
-use Rattle.why_settings.specs.Faults.{each, conditionAt, conditionFor, firstIn}
+use Rattle.why_settings.specs.Faults.{each, condition_at, condition_for, first_in}
 use Rattle.why_settings.proofs.Laws.{each-zero, each_more, each-hit}
 use borrow.Author.Rules.{rules}
 use Rattle.why_settings.proofs.first.first_of_entries.Statement.{statement}
 use Rattle.why_settings.proofs.first.first_of_entries.Tie as tie
 
 abbrev invariant-loop : tie.invariant-loop
-invariant-loop settings flash-len n rule k₀ k = (k ≤ n) × (firstIn settings flash-len (each (conditionAt n rule) k) ≡ Sound)
+invariant-loop settings flash-len n rule k₀ k = (k ≤ n) × (first_in settings flash-len (each (condition_at n rule) k) ≡ Sound)
 
 abbrev decreases-loop : tie.decreases-loop
 decreases-loop settings flash-len n rule k₀ k = n - k
 
 abbrev invariant-search : tie.invariant-search
-invariant-search settings flash-len n rule₀ rule = (rule ≤ 7) × (firstIn settings flash-len (each (conditionFor n) rule) ≡ Sound)
+invariant-search settings flash-len n rule₀ rule = (rule ≤ 7) × (first_in settings flash-len (each (condition_for n) rule) ≡ Sound)
 
 abbrev decreases-search : tie.decreases-search
 decreases-search settings flash-len n rule₀ rule = 7 - rule
@@ -55,7 +55,7 @@ search-less : tie.Need-search-smaller invariant-loop decreases-loop invariant-se
 search-less c = search rules
 
 search-again : tie.Need-search-preserved invariant-loop decreases-loop invariant-search decreases-search
-unfolding conditionFor
+unfolding condition_for
 search-again c =
     let e : c.before.loop.k ≡ c.before.before.before.before.before.args.settings.count = omega arith in
     (search rules, each_more _ _ _ _ c.before.before.before.search.invariant.1 (rw e at c.before.loop.invariant.1))
@@ -64,7 +64,7 @@ returns : tie.Need-returns invariant-loop decreases-loop invariant-search decrea
 returns c = let e : c.before.search.rule ≡ 7 = omega arith in sym (rw e at c.before.search.invariant.1)
 
 returns-2 : tie.Need-returns-2 invariant-loop decreases-loop invariant-search decreases-search
-unfolding conditionFor
+unfolding condition_for
 returns-2 c =
     sym
     (each-hit _ _ _ 7 _ c.before.before.before.before.before.before.if1.false c.before.before.before.before.before.before.before.search.invariant.1

@@ -6,14 +6,14 @@ use native.Mathlib.Omega.{arith}
 use lib.ListN.{length-map}
 use Rattle.laws.specs.Sets.{any}
 use Rattle.laws.proofs.Laws.{any-zero, any-more, least-is, least-none}
-use Rattle.partitions.specs.Settings.{overlapAt, sharesWith}
+use Rattle.partitions.specs.Settings.{overlap_at, shares_with}
 use Rattle.why_settings.proofs.sharing.Laws.{other-shares, least-own-past, least-past}
 use borrow.Author.Rules.{rules}
 use Rattle.why_settings.proofs.sharing.first_other.Statement.{statement}
 use Rattle.why_settings.proofs.sharing.first_other.Tie as tie
 
 abbrev invariant-loop : tie.invariant-loop
-invariant-loop k settings n first sectors j₀ j = (j ≤ n) × (any j (sharesWith settings.table k) ≡ false)
+invariant-loop k settings n first sectors j₀ j = (j ≤ n) × (any j (shares_with settings.table k) ≡ false)
 
 abbrev decreases-loop : tie.decreases-loop
 decreases-loop k settings n first sectors j₀ j = n - j
@@ -59,7 +59,7 @@ sectors-overlap-requires : tie.Need-sectors-overlap-requires invariant-loop decr
 sectors-overlap-requires c κs = search rules
 
 returns-3 : tie.Need-returns-3 invariant-loop decreases-loop
-unfolding overlapAt
+unfolding overlap_at
 returns-3 c =
     let s = c.before.before.before.before.before.before.before.args in
     let j = c.before.before.before.before.before.loop.j in
@@ -74,7 +74,7 @@ loop-less : tie.Need-loop-smaller invariant-loop decreases-loop
 loop-less c = search rules
 
 loop-again : tie.Need-loop-preserved invariant-loop decreases-loop
-unfolding overlapAt
+unfolding overlap_at
 loop-again c =
     let s = c.before.before.before.before.before.before.before.args in
     let j = c.before.before.before.before.before.loop.j in (

@@ -1,7 +1,7 @@
 -- `whybytes::entry_of` meets its contract. Assumes nothing.
 use mathlib.Core.Path.{sym}
-use Rattle.whyapi.specs.WhyBytes.{faultEntry}
-use Rattle.whyapi.proofs.reason_bytes.Laws.{no-fault}
+use Rattle.whyapi.specs.WhyBytes.{fault_entry}
+use Rattle.whyapi.proofs.reason_bytes.Laws.{no_fault}
 use borrow.Author.Rules.{rules}
 use Rattle.whyapi.proofs.reason_bytes.entry_of.Statement.{statement}
 use Rattle.whyapi.proofs.reason_bytes.entry_of.Tie as tie
@@ -10,7 +10,7 @@ enum-known-cause : tie.Need-enum-known-cause
 enum-known-cause c = search rules
 
 returns : tie.Need-returns
-returns c = sym (no-fault faultEntry c.before.args.cause c.match.keys2)
+returns c = sym (no_fault fault_entry c.before.args.cause c.match.keys2)
 
 fault-entry-requires : tie.Need-fault-entry-requires
 fault-entry-requires c κs = search rules

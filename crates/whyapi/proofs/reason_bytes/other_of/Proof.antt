@@ -1,7 +1,7 @@
 -- `whybytes::other_of` meets its contract. Assumes nothing.
 use mathlib.Core.Path.{sym}
-use Rattle.whyapi.specs.WhyBytes.{faultOther}
-use Rattle.whyapi.proofs.reason_bytes.Laws.{no-fault}
+use Rattle.whyapi.specs.WhyBytes.{fault_other}
+use Rattle.whyapi.proofs.reason_bytes.Laws.{no_fault}
 use borrow.Author.Rules.{rules}
 use Rattle.whyapi.proofs.reason_bytes.other_of.Statement.{statement}
 use Rattle.whyapi.proofs.reason_bytes.other_of.Tie as tie
@@ -10,7 +10,7 @@ enum-known-cause : tie.Need-enum-known-cause
 enum-known-cause c = search rules
 
 returns : tie.Need-returns
-returns c = sym (no-fault faultOther c.before.args.cause c.match.keys2)
+returns c = sym (no_fault fault_other c.before.args.cause c.match.keys2)
 
 fault-other-requires : tie.Need-fault-other-requires
 fault-other-requires c κs = search rules

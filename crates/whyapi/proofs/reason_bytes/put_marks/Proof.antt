@@ -1,7 +1,7 @@
 -- `whybytes::put_marks` meets its contract. Assumes nothing.
 use mathlib.Core.Path.{refl}
 use native.Mathlib.Omega.{arith}
-use Rattle.whyapi.proofs.reason_bytes.Laws.{marks-put}
+use Rattle.whyapi.proofs.reason_bytes.Laws.{marks_put}
 use borrow.Author.Rules.{rules}
 use Rattle.whyapi.proofs.reason_bytes.put_marks.Statement.{statement}
 use Rattle.whyapi.proofs.reason_bytes.put_marks.Tie as tie
@@ -40,7 +40,7 @@ same_length : tie.Need-same-length
 same_length c = search rules
 
 returns : tie.Need-returns
-returns c = let start = c.before.before.before.before.before.before.before.before.before.before.before in marks-put start.args.out.now _ _ start.args.t4 start.requires (omega arith) c.before.before.before.before.before.before.before.copy.ensures.1 refl c.before.before.copy2.ensures.1
+returns c = let start = c.before.before.before.before.before.before.before.before.before.before.before in marks_put start.args.out.now _ _ start.args.t4 start.requires (omega arith) c.before.before.before.before.before.before.before.copy.ensures.1 refl c.before.before.copy2.ensures.1
 
 pub put-marks-spec : {M : Type 1} → statement M
 put-marks-spec = tie.close (tie.spec slice-aggregate-copy sub-copy part-copy-start part-copy-end copy-requires slice-aggregate-copy-2 sub-copy-2 part-copy-start-2 part-copy-end-2 copy-requires-2 same_length returns)

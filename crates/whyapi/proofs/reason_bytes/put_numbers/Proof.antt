@@ -1,5 +1,5 @@
 -- `whybytes::put_numbers` meets its contract. Assumes nothing.
-use Rattle.whyapi.specs.WhyBytes.{numbersOver}
+use Rattle.whyapi.specs.WhyBytes.{numbers_over}
 use borrow.Author.Rules.{rules}
 use Rattle.whyapi.proofs.reason_bytes.put_numbers.Statement.{statement}
 use Rattle.whyapi.proofs.reason_bytes.put_numbers.Tie as tie
@@ -35,7 +35,7 @@ same_length : tie.Need-same-length
 same_length c = search rules
 
 returns : tie.Need-returns
-unfolding numbersOver
+unfolding numbers_over
 returns c = rw (c.before.before.put5.ensures, c.before.before.before.before.before.before.put4.ensures, c.before.before.before.before.before.before.before.before.before.before.put3.ensures, c.before.before.before.before.before.before.before.before.before.before.before.before.before.before.put2.ensures, c.before.before.before.before.before.before.before.before.before.before.before.before.before.before.before.before.before.before.put.ensures)
 
 pub put-numbers-spec : {M : Type 1} → statement M

@@ -1,6 +1,6 @@
 -- `told::link_byte` meets its contract. Assumes nothing.
 use mathlib.Core.Path.{refl}
-use Rattle.whyapi.proofs.told.Laws.{link-part}
+use Rattle.whyapi.proofs.told.Laws.{link_part}
 use borrow.Author.Rules.{rules}
 use Rattle.whyapi.proofs.told.link_byte.Statement.{statement}
 use Rattle.whyapi.proofs.told.link_byte.Tie as tie
@@ -27,7 +27,7 @@ shared-slice-read-result : tie.Need-shared-slice-read-result
 shared-slice-read-result c = search rules
 
 returns : tie.Need-returns
-returns c = link-part _ _ refl
+returns c = link_part _ _ refl
 
 pub link-byte-spec : {M : Type 1} → statement M
 link-byte-spec =
