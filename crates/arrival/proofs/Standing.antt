@@ -7,7 +7,7 @@ use lib.ListN.{length}
 use Rattle.laws.proofs.Tests.{clash, and_left, and_right}
 use Rattle.uf2_block.specs.Block.{field_at, has_flag}
 use Rattle.uf2_block.specs.Region.{region_of}
-use Rattle.md5.specs.Md5.{md5_of}
+use Rattle.md5_digest.specs.Md5.{md5_of}
 use Rattle.uf2_block.specs.Regions.{good_region, part_of, stands_in}
 use Rattle.uf2_block.proofs.regions.Laws.{good-true, stands-true, digest_true}
 use Rattle.partitions.specs.declared.Settings.{Settings}

@@ -13,8 +13,8 @@ use Rattle.uf2_block.specs.Region.{region_of}
 use Rattle.uf2_block.proofs.Laws.{flag_comment}
 use Rattle.memory.specs.Flash.{payload_of}
 use Rattle.memory.proofs.flash.Laws.{payload_set}
-use Rattle.md5.specs.Md5.{md5_of}
-use Rattle.md5.specs.declared.Digest.{Digest}
+use Rattle.md5_digest.specs.Md5.{md5_of}
+use Rattle.md5_digest.specs.declared.Digest.{Digest}
 use Rattle.uf2_block.specs.Regions.{same_digest, part_of, stands_in}
 use Rattle.uf2_block.proofs.regions.Laws.{Counting, good-yes, stands-there, digest_yes}
 use Rattle.partitions.specs.Settings.{good_settings}

@@ -14,8 +14,8 @@ use Rattle.laws.proofs.Tests.{split, and_left, and_right, both}
 use Rattle.laws.proofs.Laws.{any_none, any-all, any_found, any_cong, size_full}
 use Rattle.uf2_block.specs.Block.{field_at, has_flag}
 use Rattle.uf2_block.specs.Region.{region_of}
-use Rattle.md5.specs.Md5.{md5_of}
-use Rattle.md5.specs.declared.Digest.{Digest}
+use Rattle.md5_digest.specs.Md5.{md5_of}
+use Rattle.md5_digest.specs.declared.Digest.{Digest}
 use Rattle.uf2_block.specs.Regions.{good_region, same_digest, part_of, stands_in}
 use Rattle.uf2_block.proofs.regions.Laws.{Counting, good-yes, good-true, stands-there, stands-true, digest_true, digest_yes}
 use Rattle.partitions.specs.declared.Settings.{Settings}

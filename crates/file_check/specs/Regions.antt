@@ -8,7 +8,7 @@ use Rattle.memory.specs.Flash.{payload_of, store_at}
 use Rattle.uf2_block.specs.Block.{field_at, has_flag}
 use Rattle.uf2_block.specs.Region.{region_of}
 use Rattle.uf2_block.specs.declared.Region.{Region}
-use Rattle.md5.specs.Md5.{md5_of}
+use Rattle.md5_digest.specs.Md5.{md5_of}
 use Rattle.uf2_block.specs.Regions.{same_digest}
 use Rattle.partitions.specs.declared.Settings.{Settings}
 use Rattle.uf2_checks.specs.declared.Lengths.{Lengths}

@@ -3,7 +3,7 @@
 use Rattle.std.specs.Prelude.{ℕ, ◌+◌, ◌-◌, ◌/◌, ◌<◌, ◌≤◌, ◌≡◌, ◌≢◌, true, false, List}
 use Rattle.uf2_block.specs.Block.{has_flag}
 use Rattle.uf2_block.specs.Region.{region_of}
-use Rattle.md5.specs.Md5.{md5_of}
+use Rattle.md5_digest.specs.Md5.{md5_of}
 use Rattle.partitions.specs.declared.Settings.{Settings}
 use Rattle.uf2_checks.specs.declared.Lengths.{Lengths}
 use Rattle.arrival.specs.Standing.{digest_in}

@@ -15,8 +15,8 @@ use Rattle.laws.proofs.Tests.{split, and_left, and_right, both}
 use Rattle.memory.specs.Flash.{payload_of, spans}
 use Rattle.uf2_block.specs.Block.{field_at, has_flag}
 use Rattle.uf2_block.specs.Region.{region_of}
-use Rattle.md5.specs.Md5.{md5_of}
-use Rattle.md5.specs.declared.Digest.{Digest}
+use Rattle.md5_digest.specs.Md5.{md5_of}
+use Rattle.md5_digest.specs.declared.Digest.{Digest}
 use Rattle.uf2_block.proofs.regions.Laws.{Counting, good-yes}
 use Rattle.partitions.specs.declared.Settings.{Settings}
 use Rattle.placement.specs.Place.{place_of, Inside}

@@ -17,8 +17,8 @@ use Rattle.laws.specs.Sets.{any, size}
 use Rattle.memory.specs.Flash.{flash_length, payload_of, spans}
 use Rattle.uf2_block.specs.Block.{field_at, fields_of, flagged_of, header_of}
 use Rattle.uf2_block.specs.Region.{region_of}
-use Rattle.md5.specs.Md5.{md5_of, digest_bytes}
-use Rattle.md5.proofs.Laws.{digest_words}
+use Rattle.md5_digest.specs.Md5.{md5_of, digest_bytes}
+use Rattle.md5_digest.proofs.Laws.{digest_words}
 use Rattle.uf2_block.specs.Regions.{good_region}
 use Rattle.partitions.specs.Settings.{family_arm_s, good_settings}
 use Rattle.placement.specs.Place.{place_of}

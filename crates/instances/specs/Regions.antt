@@ -2,7 +2,7 @@
 -- already, and one whose region is written. Proved in proofs/Regions.antt. Assumes nothing.
 use Rattle.std.specs.Prelude.{ℕ, ◌+◌, ◌*◌, ◌≡◌, ◌≢◌, true, List, [], ◌∷◌, ◌++◌, replicate}
 use Rattle.laws.specs.Bytes.{low_first}
-use Rattle.md5.specs.Md5.{md5_of, digest_bytes}
+use Rattle.md5_digest.specs.Md5.{md5_of, digest_bytes}
 use Rattle.partitions.specs.Settings.{family_arm_s}
 use Rattle.transfer.specs.declared.Kind.TheVariants.{Flash}
 use Rattle.transfer.specs.declared.State.TheVariants.{Idle}

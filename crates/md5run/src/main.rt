@@ -11,7 +11,7 @@ fn print_word(word: u32) {
 }
 
 fn print_line(text: &[u8]) {
-    let digest = md5::hash(text);
+    let digest = md5_digest::hash(text);
     io::write_all(STDOUT_FILENO, b"MD5 (\"");
     io::write_all(STDOUT_FILENO, text);
     io::write_all(STDOUT_FILENO, b"\") = ");

@@ -16,8 +16,8 @@ use Rattle.memory.specs.Bitmap.{with_mark, marked_in, unmarked}
 use Rattle.memory.proofs.bitmap.Laws.{length_mark, length_unmarked, marked_same, marked_other, marked_unmarked}
 use Rattle.memory.specs.Many.{many}
 use Rattle.trace_counts.specs.Counts.{is_missing}
-use Rattle.md5.specs.Md5.{md5_of}
-use Rattle.md5.specs.declared.Digest.{Digest}
+use Rattle.md5_digest.specs.Md5.{md5_of}
+use Rattle.md5_digest.specs.declared.Digest.{Digest}
 use Rattle.memory.specs.Flash.{payload_of, store_at}
 use Rattle.uf2_block.specs.Block.{field_at, has_flag}
 use Rattle.uf2_block.specs.Region.{region_of}

@@ -1,10 +1,10 @@
 // The final bytes of a region, and their digest.
 ghost use Rattle.std.specs.Prelude.{◌≡◌, ◌/◌, length};
-ghost use Rattle.md5.specs.Md5.{md5_of};
+ghost use Rattle.md5_digest.specs.Md5.{md5_of};
 ghost use Rattle.uf2_block.specs.Regions.{same_digest};
 ghost use Rattle.file_check.specs.Regions.{laid_on, laying, in_turn, final_of};
 
-use md5::Digest;
+use md5_digest::Digest;
 use uf2_block::{Block, Region};
 
 // The payload of an arrival that is data in a region is put at its place there.
@@ -49,6 +49,6 @@ pub(crate) fn digest_right(region: Region, file: &[u8], bytes: &mut [u8]) -> boo
 {
     memory::fill::fill(bytes, 255);
     lay(region, file, bytes);
-    let found = md5::hash(bytes);
+    let found = md5_digest::hash(bytes);
     same_digest(found, region)
 }

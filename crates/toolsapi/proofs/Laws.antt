@@ -7,8 +7,8 @@ use lib.ListN.{length}
 use borrow.Author.Tests.{eq-eqb, ne_eqb}
 use Rattle.laws.specs.Numbered.{numbered}
 use Rattle.laws.proofs.Numbered.{answer_is}
-use Rattle.md5.specs.declared.Digest.{Digest}
-use Rattle.md5.specs.Md5.{md5_of, digest_bytes}
+use Rattle.md5_digest.specs.declared.Digest.{Digest}
+use Rattle.md5_digest.specs.Md5.{md5_of, digest_bytes}
 use Rattle.uf2_make.specs.declared.checks.MakeAnswer.{MakeAnswer}
 use Rattle.uf2_make.specs.Uf2check.{make_number}
 use Rattle.uf2_make.specs.Uf2file.{make_call, call_number, make_of}

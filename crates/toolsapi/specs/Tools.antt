@@ -1,6 +1,6 @@
 -- What each call for tools answers and leaves. Assumes nothing.
 use Rattle.std.specs.Prelude.{ℕ, cond, List, eqb, length}
-use Rattle.md5.specs.Md5.{md5_of, digest_bytes}
+use Rattle.md5_digest.specs.Md5.{md5_of, digest_bytes}
 use Rattle.uf2_make.specs.Uf2check.{make_number}
 use Rattle.uf2_make.specs.Uf2file.{MakeCall, make_of}
 use Rattle.uf2_make_regions.specs.File as regions

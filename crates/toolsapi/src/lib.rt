@@ -55,7 +55,7 @@ pub extern "C" fn uf2_md5(bytes: &[u8], digest: &mut [u8])
     if digest.len() != DIGEST {
         return;
     }
-    uf2_block::digest_bytes::put_digest(digest, md5::hash(bytes));
+    uf2_block::digest_bytes::put_digest(digest, md5_digest::hash(bytes));
 }
 
 // One Universal Hex file from a plain Intel Hex file for V1 and one for V2.

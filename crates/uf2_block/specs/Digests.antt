@@ -1,7 +1,7 @@
 -- A digest written to bytes. Assumes nothing.
 use Rattle.std.specs.Prelude.{ℕ, List}
 use Rattle.uf2_block.specs.Write.{put_at}
-use Rattle.md5.specs.declared.Digest.{Digest}
+use Rattle.md5_digest.specs.declared.Digest.{Digest}
 
 -- its four words one after the other, each where there is room for it
 abbrev pub with_digest : List ℕ → Digest → List ℕ

@@ -2,8 +2,8 @@
 -- empty, within the place and around the block, and flash there has that digest". Assumes nothing.
 use Rattle.std.specs.Prelude.{ℕ, ◌+◌, ◌-◌, ◌%◌, Bool, not, ◌&&◌, List, eqb, leb, length, take, drop}
 use Rattle.uf2_block.specs.declared.Region.{Region}
-use Rattle.md5.specs.declared.Digest.{Digest}
-use Rattle.md5.specs.Md5.{md5_of}
+use Rattle.md5_digest.specs.declared.Digest.{Digest}
+use Rattle.md5_digest.specs.Md5.{md5_of}
 
 -- "whole sectors": it begins and ends with a sector; "not empty"; "within the place": of `size` bytes, which is seen from 0x10000000 on; "and
 -- around the block", whose 256 bytes are at `address`

@@ -2,7 +2,7 @@
 ghost use Rattle.std.specs.Prelude.{◌≡◌};
 ghost use Rattle.uf2_block.specs.Digests.{with_digest};
 
-use md5::Digest;
+use md5_digest::Digest;
 
 // The four words of a digest one after the other; in 16 bytes they are the whole (proofs/Laws.antt).
 pub fn put_digest(out: &mut [u8], digest: Digest)

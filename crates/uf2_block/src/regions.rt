@@ -3,7 +3,7 @@ ghost use Rattle.std.specs.Prelude.{◌≡◌};
 ghost use Rattle.uf2_block.specs.Regions.{same_digest, stands_in};
 
 use crate::Region;
-use md5::Digest;
+use md5_digest::Digest;
 
 // Where the address window begins, which is where a place's first byte is seen.
 const WINDOW: usize = 0x10000000;
@@ -38,6 +38,6 @@ pub fn stands(flash: &[u8], start: usize, region: Region) -> bool
     }
     let from = start + offset;
     let past = from + len;
-    let found = md5::hash(&flash[from..past]);
+    let found = md5_digest::hash(&flash[from..past]);
     same_digest(found, region)
 }

@@ -12,7 +12,7 @@ use Rattle.laws.specs.Over.{over}
 use Rattle.laws.specs.Rows.{rows}
 use Rattle.laws.proofs.OverLaws.{length_over, put_over}
 use Rattle.laws.proofs.RowsLaws.{rows_none, length-rows, part-rows, rows-over}
-use Rattle.md5.specs.declared.Digest.{Digest}
+use Rattle.md5_digest.specs.declared.Digest.{Digest}
 use Rattle.uf2_make.specs.declared.checks.MakeAnswer.{MakeAnswer}
 use Rattle.uf2_make.specs.declared.checks.MakeAnswer.TheVariants.{BadImage, BadStart, PastWindow, ShortOutput, Made}
 use Rattle.uf2_make.specs.Uf2check.{check_of}

@@ -14,9 +14,9 @@ use Rattle.laws.proofs.BytesLaws.{length_low}
 use Rattle.uf2_block.specs.Block.{field_at, is_block}
 use Rattle.uf2_block.specs.Write.{le32}
 use Rattle.uf2_block.proofs.WriteLaws.{field_le32}
-use Rattle.md5.specs.Md5.{md5_of, digest_bytes}
-use Rattle.md5.proofs.Laws.{Words, digest_words}
-use Rattle.md5.specs.declared.Digest.{Digest}
+use Rattle.md5_digest.specs.Md5.{md5_of, digest_bytes}
+use Rattle.md5_digest.proofs.Laws.{Words, digest_words}
+use Rattle.md5_digest.specs.declared.Digest.{Digest}
 use Rattle.uf2_make.specs.declared.checks.MakeAnswer.TheVariants.{Made}
 use Rattle.uf2_make.proofs.checks.Checks.{Right, made_right}
 use Rattle.uf2_make.specs.Uf2file.{page_of}

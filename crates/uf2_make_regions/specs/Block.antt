@@ -2,8 +2,8 @@
 use Rattle.std.specs.Prelude.{ℕ, List, ◌++◌}
 use Rattle.memory.specs.Many.{many}
 use Rattle.uf2_block.specs.Write.{le32}
-use Rattle.md5.specs.Md5.{digest_bytes}
-use Rattle.md5.specs.declared.Digest.{Digest}
+use Rattle.md5_digest.specs.Md5.{digest_bytes}
+use Rattle.md5_digest.specs.declared.Digest.{Digest}
 
 -- the fields before the data, as 01 has a block: two magic numbers, flags 0x2000 and 0x4000, address, payload size, number, total, family
 unfoldable pub lead_bytes : ℕ → ℕ → ℕ → ℕ → List ℕ

@@ -3,8 +3,8 @@
 use Rattle.std.specs.Prelude.{ℕ, ◌+◌, ◌-◌, ◌*◌, ◌%◌, ◌<◌, ◌≤◌, ◌^◌, true, ◌≡◌, List, length, get_or, take, drop}
 use Rattle.memory.specs.Many.{many}
 use Rattle.uf2_block.specs.Block.{field_at, is_block}
-use Rattle.md5.specs.Md5.{md5_of, digest_bytes}
-use Rattle.md5.specs.declared.Digest.{Digest}
+use Rattle.md5_digest.specs.Md5.{md5_of, digest_bytes}
+use Rattle.md5_digest.specs.declared.Digest.{Digest}
 use Rattle.uf2_make.specs.declared.checks.MakeAnswer.TheVariants.{Made}
 use Rattle.uf2_make_regions.specs.File.{make_of}
 

@@ -1,8 +1,8 @@
 -- A UF2 file with a region for each sector, made of an image (02, L1 and L9). Assumes nothing.
 use Rattle.std.specs.Prelude.{ℕ, ◌+◌, ◌*◌, ◌/◌, List, length}
 use Rattle.laws.specs.Rows.{rows}
-use Rattle.md5.specs.Md5.{md5_of}
-use Rattle.md5.specs.declared.Digest.{Digest}
+use Rattle.md5_digest.specs.Md5.{md5_of}
+use Rattle.md5_digest.specs.declared.Digest.{Digest}
 use Rattle.uf2_make.specs.Uf2check.{check_of}
 use Rattle.uf2_make.specs.Uf2file.{page_of, MakeCall, make_call, output_of}
 use Rattle.uf2_make_regions.specs.Sector.{sector_start, sector_of}

@@ -3,7 +3,7 @@ ghost use Rattle.std.specs.Prelude.{◌≡◌, length};
 ghost use Rattle.laws.specs.Over.{over};
 ghost use Rattle.uf2_make_regions.specs.Block.{lead_bytes, region_bytes, block_bytes};
 
-use md5::Digest;
+use md5_digest::Digest;
 use uf2_block::Block;
 
 // Flags 0x2000 and 0x4000: a family, and a region.

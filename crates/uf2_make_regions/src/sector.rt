@@ -2,10 +2,10 @@
 ghost use Rattle.std.specs.Prelude.{◌≡◌, ◌+◌, ◌-◌, ◌≤◌, length, take, drop};
 ghost use Rattle.memory.specs.Many.{many};
 ghost use Rattle.laws.specs.Over.{over};
-ghost use Rattle.md5.specs.Md5.{md5_of};
+ghost use Rattle.md5_digest.specs.Md5.{md5_of};
 ghost use Rattle.uf2_make_regions.specs.File.{sector_digest};
 
-use md5::Digest;
+use md5_digest::Digest;
 
 const SECTOR: usize = 4096;
 
@@ -29,7 +29,7 @@ fn placed(image: &[u8], at: usize, from: usize, count: usize) -> Digest
     let to = from + count;
     let end = at + count;
     bytes::copy(&image[from..to], &mut sector[at..end]);
-    md5::hash(&sector)
+    md5_digest::hash(&sector)
 }
 
 // The sector at `base`, of an image that begins at `start` and reaches into it.

@@ -11,7 +11,7 @@ use Rattle.laws.proofs.Laws.{any-all}
 use Rattle.uf2_block.specs.Block.{has_flag}
 use Rattle.uf2_block.specs.Region.{region_of}
 use Rattle.uf2_block.specs.declared.Region.{Region}
-use Rattle.md5.specs.Md5.{md5_of}
+use Rattle.md5_digest.specs.Md5.{md5_of}
 use Rattle.uf2_block.specs.Regions.{same_digest}
 use Rattle.file_check.specs.Check.{piece_at, pieces_in}
 use Rattle.file_check.specs.Regions.{inside_of, same_region, strays_from, is_stray, is_bare, final_of, fault_in, is_right}

@@ -12,8 +12,8 @@ use Rattle.laws.proofs.Laws.{any-all, any_found, least-below}
 use Rattle.uf2_block.specs.Block.{field_at, has_flag}
 use Rattle.uf2_block.specs.Region.{region_of}
 use Rattle.uf2_block.specs.declared.Region.{Region}
-use Rattle.md5.specs.Md5.{md5_of}
-use Rattle.md5.specs.declared.Digest.{Digest}
+use Rattle.md5_digest.specs.Md5.{md5_of}
+use Rattle.md5_digest.specs.declared.Digest.{Digest}
 use Rattle.uf2_block.specs.Regions.{same_digest}
 use Rattle.uf2_block.proofs.regions.Laws.{named_by, digest_true, digest_yes}
 use Rattle.partitions.specs.declared.Settings.{Settings}

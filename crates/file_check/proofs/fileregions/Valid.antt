@@ -17,7 +17,7 @@ use Rattle.memory.proofs.flash.Laws.{length_payload}
 use Rattle.uf2_block.specs.Block.{field_at, has_flag}
 use Rattle.uf2_block.specs.Region.{region_of}
 use Rattle.uf2_block.specs.declared.Region.{Region}
-use Rattle.md5.specs.Md5.{md5_of}
+use Rattle.md5_digest.specs.Md5.{md5_of}
 use Rattle.uf2_block.specs.Regions.{good_region}
 use Rattle.uf2_block.proofs.regions.Laws.{Counting, good-true}
 use Rattle.partitions.specs.declared.Settings.{Settings}

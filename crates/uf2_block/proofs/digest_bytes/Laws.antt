@@ -8,8 +8,8 @@ use Rattle.laws.specs.Bytes.{low_first}
 use Rattle.laws.proofs.OverLaws.{over_whole}
 use Rattle.uf2_block.specs.Write.{le32}
 use Rattle.uf2_block.proofs.WriteLaws.{put_over, put_after}
-use Rattle.md5.specs.declared.Digest.{Digest}
-use Rattle.md5.specs.Md5.{digest_bytes}
+use Rattle.md5_digest.specs.declared.Digest.{Digest}
+use Rattle.md5_digest.specs.Md5.{digest_bytes}
 use Rattle.uf2_block.specs.Digests.{with_digest}
 
 -- four words after each other, in 16 bytes

@@ -10,8 +10,8 @@ use lib.ListN.{length, take, drop}
 use borrow.Author.Tests.{le-leb, lt-leb, leb-true, leb-false, eq-eqb, ne_eqb, eqb-true, eqb-false, not-true}
 use Rattle.laws.proofs.Tests.{split, eqb_same, and_left, and_right}
 use Rattle.uf2_block.specs.declared.Region.{Region}
-use Rattle.md5.specs.declared.Digest.{Digest}
-use Rattle.md5.specs.Md5.{md5_of}
+use Rattle.md5_digest.specs.declared.Digest.{Digest}
+use Rattle.md5_digest.specs.Md5.{md5_of}
 use Rattle.uf2_block.specs.Regions.{good_region, same_digest, from_of, part_of, stands_in}
 
 -- ---- a region that counts

@@ -14,8 +14,8 @@ use Rattle.laws.proofs.OverLaws.{length_over, over_next, over_whole, put_over, c
 use Rattle.uf2_block.specs.Write.{le32, put_at}
 use Rattle.uf2_block.proofs.WriteLaws.{put_after}
 use Rattle.uf2_block.proofs.WriteLaws as fields
-use Rattle.md5.specs.Md5.{digest_bytes}
-use Rattle.md5.specs.declared.Digest.{Digest}
+use Rattle.md5_digest.specs.Md5.{digest_bytes}
+use Rattle.md5_digest.specs.declared.Digest.{Digest}
 use Rattle.uf2_block.specs.Digests.{with_digest}
 use Rattle.uf2_block.proofs.digest_bytes.Laws.{digest_put}
 use Rattle.uf2_make.specs.Uf2lead.{last_over}

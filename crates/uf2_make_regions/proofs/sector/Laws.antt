@@ -13,8 +13,8 @@ use Rattle.memory.proofs.fill.Laws.{length_many, get_d_many}
 use Rattle.laws.specs.Over.{over}
 use Rattle.laws.proofs.Tests.{split}
 use Rattle.laws.proofs.OverLaws.{length_over, over-inside, over-before, over-after, copied_over}
-use Rattle.md5.specs.Md5.{md5_of}
-use Rattle.md5.specs.declared.Digest.{Digest}
+use Rattle.md5_digest.specs.Md5.{md5_of}
+use Rattle.md5_digest.specs.declared.Digest.{Digest}
 use Rattle.uf2_make_regions.specs.Sector.{sector_of}
 use Rattle.uf2_make_regions.specs.File.{sector_digest}
 use Rattle.uf2_make_regions.specs.Claims.{FinalSector}

@@ -2,7 +2,7 @@
 use mathlib.Core.Path.{◌≡◌, sym, ap, ◌∙◌}
 use mathlib.Core.List.{List}
 use Prim.Native.Nat.{ℕ}
-use Rattle.md5.specs.Md5.{md5_of}
+use Rattle.md5_digest.specs.Md5.{md5_of}
 use Rattle.uf2_make_regions.proofs.sector.Laws.{blank, placed-over, placed-long}
 use borrow.Author.Rules.{rules}
 use Rattle.uf2_make_regions.proofs.sector.placed.Statement.{statement}
