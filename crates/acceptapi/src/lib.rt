@@ -1,4 +1,6 @@
 // An arrival accepted for C, with a plan for the flash's driver: a library of its own, so that the call is compiled as one piece.
+#![tactic(auto)]
+
 ghost use Rattle.std.specs.Prelude.{◌≡◌};
 ghost use Rattle.uf2_receiver.specs.Receiver.{lent_at, left_beside};
 ghost use Rattle.call_bytes.specs.Calls.{accept_call_of, accept_return};

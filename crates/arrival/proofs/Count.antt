@@ -118,8 +118,8 @@ outcome_is o p a b c e f = λ i. record { world = record { transfer = a i; seen 
 
 module _ (F : Blocks) (w : World) (Inv : Set → Held → Type 0) (Met : List ℕ → Type 0) (K : Invariant F w.held Inv Met) (d : Bool) (o : Opens F w d)
     (k : ℕ) (h : k < count F) where
-  some-now : (S : Set) → 1 ≤ size (count F) (add k S)
-  some-now S = size_some (count F) (add k S) k h (rw (eqb_same k))
+  some_now : (S : Set) → 1 ≤ size (count F) (add k S)
+  some_now S = size_some (count F) (add k S) k h (rw (eqb_same k))
 
   -- what is left where block k is new, over the seen map of S and the buffers x
   abbrev taken : Set → Held → Bool → Outcome
@@ -134,7 +134,7 @@ module _ (F : Blocks) (w : World) (Inv : Set → Held → Type 0) (Met : List �
       ≡ taken S x discards
   unfolding done accept_of accepted
   took v S x clears discards new p q =
-      let same : v.held.flash ≡ x.flash = sym (wiped-flash clears v.held) ∙ ap (λ (x : Held). x.flash) q in
+      let same : v.held.flash ≡ x.flash = sym (wiped_flash clears v.held) ∙ ap (λ (x : Held). x.flash) q in
       outcome_is _ _ (ap (counted (head_by F)) (omega (arith, size_add (count F) S k h new)))
       (ap (λ (m : List ℕ). with_mark m k) p ∙ mark_map 16384 S k (omega (arith, K.few)))
       (took_held v (bytes_of F k) (F.stands v.held.flash k) (placed_of F k) (accepted (deed_by F v.held.flash k) clears discards (head_by F) (size (count F) S + 1))
@@ -142,8 +142,8 @@ module _ (F : Blocks) (w : World) (Inv : Set → Held → Type 0) (Met : List �
       (ap (λ (f : List ℕ). raised (deed_by F f k) (head_by F) (size (count F) S + 1)) same ∙ told)
       refl
     where
-      wiped-flash : (b : Bool) (x : Held) → (wiped_if b x).flash ≡ x.flash
-      wiped-flash b x = unfold wiped_if in refl
+      wiped_flash : (b : Bool) (x : Held) → (wiped_if b x).flash ≡ x.flash
+      wiped_flash b x = unfold wiped_if in refl
 
       told : raised (deed_by F x.flash k) (head_by F) (size (count F) S + 1) ≡ verdict F S k (deed_by F x.flash k)
       told = unfold verdict in rw (lt-ltb (size (count F) S) (count F) (size_lt (count F) S k h new), new)
@@ -190,14 +190,14 @@ module _ (F : Blocks) (w : World) (Inv : Set → Held → Type 0) (Met : List �
       held x = unfold wiped_if cleared_if in refl
 
   -- over the flash f that it finds
-  pub block-step : (S : Set) (v : World) → After F w Inv S v → Met v.held.flash → Stepped F w Inv d S k v.held.flash (coming F v k)
-  block-step S v (untouched e p) m =
+  pub block_step : (S : Set) (v : World) → After F w Inv S v → Met v.held.flash → Stepped F w Inv d S k v.held.flash (coming F v k)
+  block_step S v (untouched e p) m =
       let f : coming F v k ≡ taken none (wipe w.held) d = ap (λ (u : World). coming F u k) p ∙ first in
       let same : (wipe w.held).flash ≡ v.held.flash = wiped w.held ∙ sym (ap (λ (u : World). u.held.flash) p) in
       rw e
       (record {
         next =
-            begun (applied F k (wipe w.held)) (some-now none)
+            begun (applied F k (wipe w.held)) (some_now none)
             (K.goes_on none k (wipe w.held) h refl K.begins (subst Met (sym same) m))
             (ap (λ (u : Outcome). u.world) f);
         told = ap (λ (u : Outcome). u.answer) f ∙ ap (λ (f : List ℕ). verdict F none k (deed_by F f k)) same;
@@ -205,7 +205,7 @@ module _ (F : Blocks) (w : World) (Inv : Set → Held → Type 0) (Met : List �
     where
       wiped : (x : Held) → (wipe x).flash ≡ x.flash
       wiped x = unfold wiped_if in refl
-  block-step S v (begun x s i p) m =
+  block_step S v (begun x s i p) m =
       let same : x.flash ≡ v.held.flash = sym (ap (λ (u : World). u.held.flash) p) in
       split (S k)
       (λ y.
@@ -218,7 +218,7 @@ module _ (F : Blocks) (w : World) (Inv : Set → Held → Type 0) (Met : List �
       (λ z.
       let f : coming F v k ≡ taken S x false = ap (λ (u : World). coming F u k) p ∙ newly S x z in
       record {
-        next = begun (applied F k x) (some-now S) (K.goes_on S k x h z i (subst Met (sym same) m)) (ap (λ (u : Outcome). u.world) f);
+        next = begun (applied F k x) (some_now S) (K.goes_on S k x h z i (subst Met (sym same) m)) (ap (λ (u : Outcome). u.world) f);
         told = ap (λ (u : Outcome). u.answer) f ∙ ap (λ (f : List ℕ). verdict F S k (deed_by F f k)) same;
       })
 
@@ -232,26 +232,26 @@ module _ (F : Blocks) (w : World) (Inv : Set → Held → Type 0) (S : Set) (v :
       go (untouched e p) = p
       go (begun x s i p) = absurd (omega arith)
 
-  pub some-seen : 1 ≤ size (count F) S → (x : Held) × Inv S x × (v ≡ reached F S x)
-  some-seen s = go a
+  pub some_seen : 1 ≤ size (count F) S → (x : Held) × Inv S x × (v ≡ reached F S x)
+  some_seen s = go a
     where
       go : After F w Inv S v → (x : Held) × Inv S x × (v ≡ reached F S x)
       go (untouched e p) = absurd (omega (arith, ap (size (count F)) e, size_none (count F)))
       go (begun x q i p) = (x, i, p)
 
-  pub still-running : 1 ≤ size (count F) S → size (count F) S < count F → v.transfer ≡ running (head_by F) (size (count F) S)
+  pub still_running : 1 ≤ size (count F) S → size (count F) S < count F → v.transfer ≡ running (head_by F) (size (count F) S)
   unfolding counted
-  still-running s h = ap (λ (u : World). u.transfer) (some-seen s).2 ∙ rw (lt-ltb (size (count F) S) (count F) h)
+  still_running s h = ap (λ (u : World). u.transfer) (some_seen s).2 ∙ rw (lt-ltb (size (count F) S) (count F) h)
 
-  pub whole-done : 1 ≤ count F → size (count F) S ≡ count F → v.transfer ≡ Done (head_by F)
+  pub whole_done : 1 ≤ count F → size (count F) S ≡ count F → v.transfer ≡ Done (head_by F)
   unfolding counted
-  whole-done n e =
+  whole_done n e =
       split (ltb (size (count F) S) (count F))
       (λ q. absurd (omega (arith, ltb-true (size (count F) S) (count F) q)))
-      (λ q. ap (λ (u : World). u.transfer) (some-seen (omega arith)).2 ∙ rw q)
+      (λ q. ap (λ (u : World). u.transfer) (some_seen (omega arith)).2 ∙ rw q)
 
   pub seen_map : 1 ≤ size (count F) S → v.seen ≡ map_of 16384 S
-  seen_map s = ap (λ (u : World). u.seen) (some-seen s).2
+  seen_map s = ap (λ (u : World). u.seen) (some_seen s).2
 
 -- a transfer that is w's, or one of the file
 abbrev pub Carried : Blocks → World → State → Type 0

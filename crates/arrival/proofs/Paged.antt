@@ -14,7 +14,7 @@ use Rattle.memory.specs.Bitmap.{marked_in, with_mark, map_of}
 use Rattle.memory.proofs.bitmap.Laws.{length_mark}
 use Rattle.memory.proofs.bitmap.MapLaws.{marked_map, mark_map}
 use Rattle.memory.specs.Flash.{spans}
-use Rattle.memory.proofs.flash.Laws.{length-erase, getD-erase, room-yes, length-store, getD-store}
+use Rattle.memory.proofs.flash.Laws.{length_erase, get_d_erase, room_yes, length_store, get_d_store}
 use Rattle.transfer.specs.Transfer.{same_kind}
 use Rattle.transfer.specs.declared.Kind.{Kind}
 use Rattle.transfer.specs.declared.Kind.TheVariants.{Flash, MainRam, XipRam}
@@ -34,11 +34,11 @@ unfolding prepared_at
 get_d_prepared q x j =
     split (marked_in x.sectors q)
     (λ y. rw (y, and-false (eqb (j / 4096) q && ltb q (length x.flash / 4096))))
-    (λ z. rw (z, and-true (eqb (j / 4096) q && ltb q (length x.flash / 4096))) (getD-erase x.flash q j))
+    (λ z. rw (z, and-true (eqb (j / 4096) q && ltb q (length x.flash / 4096))) (get_d_erase x.flash q j))
 
 pub length_prepared : (q : ℕ) (x : Held) → length (prepared_at q x) ≡ length x.flash
 unfolding prepared_at
-length_prepared q x = split (marked_in x.sectors q) (λ y. rw y) (λ z. rw z (length-erase x.flash q))
+length_prepared q x = split (marked_in x.sectors q) (λ y. rw y) (λ z. rw z (length_erase x.flash q))
 
 -- a page of another kind changes nothing of a buffer
 pub paged_other : (u k : Kind) (at : ℕ) (payload : List ℕ) (x : Held) → u ≢ k → buffer_of u (paged_at k at payload x) ≡ buffer_of u x
@@ -65,19 +65,19 @@ pub get_d_ram : (k : Kind) (at : ℕ) (payload : List ℕ) (x : Held) → k ≢ 
     → get_or (buffer_of k (paged_at k at payload x)) j 0 ≡ cond (spans at j) (get_or payload (j - at) 0) (get_or (buffer_of k x) j 0)
 unfolding paged_at
 get_d_ram Flash at payload x n ok j = absurd (n refl)
-get_d_ram MainRam at payload x n ok j = getD-store x.main at payload j ∙ rw (room-yes x.main at payload ok.full ok.within)
-get_d_ram XipRam at payload x n ok j = getD-store x.xip at payload j ∙ rw (room-yes x.xip at payload ok.full ok.within)
+get_d_ram MainRam at payload x n ok j = get_d_store x.main at payload j ∙ rw (room_yes x.main at payload ok.full ok.within)
+get_d_ram XipRam at payload x n ok j = get_d_store x.xip at payload j ∙ rw (room_yes x.xip at payload ok.full ok.within)
 
 pub lengths_paged : (k : Kind) (at : ℕ) (payload : List ℕ) (x : Held) → lengths_of (paged_at k at payload x) ≡ lengths_of x
 unfolding paged_at
 lengths_paged Flash at payload x =
-    let e : length (paged_at Flash at payload x).flash ≡ length x.flash = length-store _ _ _ ∙ length_prepared (at / 4096) x in
+    let e : length (paged_at Flash at payload x).flash ≡ length x.flash = length_store _ _ _ ∙ length_prepared (at / 4096) x in
     λ i. record { flash = e i; main = length x.main; xip = length x.xip }
 lengths_paged MainRam at payload x =
-    let e : length (paged_at MainRam at payload x).main ≡ length x.main = length-store _ _ _ in
+    let e : length (paged_at MainRam at payload x).main ≡ length x.main = length_store _ _ _ in
     λ i. record { flash = length x.flash; main = e i; xip = length x.xip }
 lengths_paged XipRam at payload x =
-    let e : length (paged_at XipRam at payload x).xip ≡ length x.xip = length-store _ _ _ in
+    let e : length (paged_at XipRam at payload x).xip ≡ length x.xip = length_store _ _ _ in
     λ i. record { flash = length x.flash; main = length x.main; xip = e i }
 
 -- the length of a kind's buffer
@@ -115,20 +115,20 @@ module _ (at : ℕ) (payload : List ℕ) (x : Held) (T : Set) (marks : x.sectors
       (λ e. rw e)
 
   -- each byte after the page was stored
-  getD-flash : (j : ℕ) → get_or (paged_at Flash at payload x).flash j 0
+  get_d_flash : (j : ℕ) → get_or (paged_at Flash at payload x).flash j 0
       ≡ cond (spans at j) (get_or payload (j - at) 0) (cond (eqb (j / 4096) (at / 4096) && not (T (j / 4096))) 255 (get_or x.flash j 0))
   unfolding paged_at
-  getD-flash j =
-      getD-store (prepared_at (at / 4096) x) at payload j
+  get_d_flash j =
+      get_d_store (prepared_at (at / 4096) x) at payload j
       ∙ rw (
-        room-yes (prepared_at (at / 4096) x) at payload ok.full (omega (arith, length_prepared (at / 4096) x, ok.within)),
+        room_yes (prepared_at (at / 4096) x) at payload ok.full (omega (arith, length_prepared (at / 4096) x, ok.within)),
         get_d_prepared (at / 4096) x j,
         asked (j / 4096),
       )
 
-  flash-map : (paged_at Flash at payload x).sectors ≡ map_of 1024 (add (at / 4096) T)
+  flash_map : (paged_at Flash at payload x).sectors ≡ map_of 1024 (add (at / 4096) T)
   unfolding paged_at
-  flash-map = ap (λ (s : List ℕ). with_mark s (at / 4096)) marks ∙ mark_map 1024 T (at / 4096) (omega (arith, ok.within))
+  flash_map = ap (λ (s : List ℕ). with_mark s (at / 4096)) marks ∙ mark_map 1024 T (at / 4096) (omega (arith, ok.within))
 
 -- the page of kind k is of the buffer u, and holds byte j of it
 abbrev pub owns_in : Kind → Kind → Bool → ℕ → ℕ → Bool
@@ -141,23 +141,23 @@ touches_in u k d at q = same_kind u k && (same_kind u Flash && (d && eqb q (at /
 -- each byte of each buffer after a page of each kind was stored; T are the sectors touched before
 module _ (at : ℕ) (payload : List ℕ) (x : Held) (T : Set) (marks : x.sectors ≡ map_of 1024 T)
     (whole : length x.flash % 4096 ≡ 0) (most : length x.flash ≤ 33554432) where
-  pub getD-paged : (u k : Kind) (R : Set) → (u ≡ Flash → R ≡ T) → Fits k (length (buffer_of k x)) at payload → (j : ℕ)
+  pub get_d_paged : (u k : Kind) (R : Set) → (u ≡ Flash → R ≡ T) → Fits k (length (buffer_of k x)) at payload → (j : ℕ)
       → get_or (buffer_of u (paged_at k at payload x)) j 0
       ≡ cond (owns_in u k true at j) (get_or payload (j - at) 0) (cond (touches_in u k true at (j / 4096) && not (R (j / 4096))) 255 (get_or (buffer_of u x) j 0))
   unfolding paged_at
-  getD-paged Flash Flash R e ok j = rw (e refl) (getD-flash at payload x T marks whole most ok j)
-  getD-paged MainRam MainRam R e ok j = get_d_ram MainRam at payload x (λ e. let z : ◌≡◌ {A = ℕ} 0 1 = cc in omega arith) ok j
-  getD-paged XipRam XipRam R e ok j = get_d_ram XipRam at payload x (λ e. let z : ◌≡◌ {A = ℕ} 0 1 = cc in omega arith) ok j
-  getD-paged Flash MainRam R e ok j = refl
-  getD-paged Flash XipRam R e ok j = refl
-  getD-paged MainRam Flash R e ok j = refl
-  getD-paged MainRam XipRam R e ok j = refl
-  getD-paged XipRam Flash R e ok j = refl
-  getD-paged XipRam MainRam R e ok j = refl
+  get_d_paged Flash Flash R e ok j = rw (e refl) (get_d_flash at payload x T marks whole most ok j)
+  get_d_paged MainRam MainRam R e ok j = get_d_ram MainRam at payload x (λ e. let z : ◌≡◌ {A = ℕ} 0 1 = cc in omega arith) ok j
+  get_d_paged XipRam XipRam R e ok j = get_d_ram XipRam at payload x (λ e. let z : ◌≡◌ {A = ℕ} 0 1 = cc in omega arith) ok j
+  get_d_paged Flash MainRam R e ok j = refl
+  get_d_paged Flash XipRam R e ok j = refl
+  get_d_paged MainRam Flash R e ok j = refl
+  get_d_paged MainRam XipRam R e ok j = refl
+  get_d_paged XipRam Flash R e ok j = refl
+  get_d_paged XipRam MainRam R e ok j = refl
 
-  pub paged-map : (k : Kind) → Fits k (length (buffer_of k x)) at payload
+  pub paged_map : (k : Kind) → Fits k (length (buffer_of k x)) at payload
       → (paged_at k at payload x).sectors ≡ map_of 1024 (λ q. touches_in Flash k true at q || T q)
   unfolding paged_at
-  paged-map Flash ok = flash-map at payload x T marks whole most ok
-  paged-map MainRam ok = marks
-  paged-map XipRam ok = marks
+  paged_map Flash ok = flash_map at payload x T marks whole most ok
+  paged_map MainRam ok = marks
+  paged_map XipRam ok = marks

@@ -9,7 +9,7 @@ use Rattle.uf2_block.specs.Block.{field_at, has_flag}
 use Rattle.uf2_block.specs.Region.{region_of}
 use Rattle.md5_digest.specs.Md5.{md5_of}
 use Rattle.uf2_block.specs.Regions.{good_region, part_of, stands_in}
-use Rattle.uf2_block.proofs.regions.Laws.{good-true, stands-true, digest_true}
+use Rattle.uf2_block.proofs.regions.Laws.{good_true, stands_true, digest_true}
 use Rattle.partitions.specs.declared.Settings.{Settings}
 use Rattle.placement.specs.Place.{place_of}
 use Rattle.placement.specs.declared.Place.{Place}
@@ -35,7 +35,7 @@ module _ (s : Settings) (w : World) (a : List ℕ) where
       let b = good_region size (field_at a 12) (region_of a) in
       let t = stands_in w.held.flash start (region_of a) in
       let g = and_left (f && b) t h in
-      let c = good-true size (field_at a 12) (region_of a) (and_right f b g) in
+      let c = good_true size (field_at a 12) (region_of a) (and_right f b g) in
       record {
         data_block = z;
         flash = k;
@@ -50,11 +50,11 @@ module _ (s : Settings) (w : World) (a : List ℕ) where
         within = c.within;
         before = c.before;
         behind = c.behind;
-        digest = digest_true (md5_of (part_of w.held.flash start (region_of a))) (region_of a) (stands-true w.held.flash start (region_of a) (and_right (f && b) t h));
+        digest = digest_true (md5_of (part_of w.held.flash start (region_of a))) (region_of a) (stands_true w.held.flash start (region_of a) (and_right (f && b) t h));
       }
 
-  pub standing-of : has_flag a 0x1 ≡ false → keeps_at s w a ≡ true → Standing s w a
-  standing-of z e =
+  pub standing_of : has_flag a 0x1 ≡ false → keeps_at s w a ≡ true → Standing s w a
+  standing_of z e =
       let k = same_kind (kind_of w a) Flash in
       let p = place_of s (length w.held.flash) (field_at a 28) in
       let t = stands_at w.held.flash p a in

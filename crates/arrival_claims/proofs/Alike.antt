@@ -18,20 +18,20 @@ use Rattle.arrival.specs.Lists.{receive_all, answers_of, discards_of}
 use Rattle.arrival_claims.specs.Alike.{AlikeSettingsAnswerAlike}
 
 module _ (s t : Settings) (h : Alike s t) where
-  screen-alike : (n : Lengths) (x : State) (a : List ℕ) → screen_of s n x a ≡ screen_of t n x a
+  screen_alike : (n : Lengths) (x : State) (a : List ℕ) → screen_of s n x a ≡ screen_of t n x a
   unfolding screen_of
-  screen-alike n x a =
+  screen_alike n x a =
       let p = alike_places s t n.flash (field_at a 28) h in
       rw (p.0, p.1)
 
-  decide-alike : (n : Lengths) (k : ℕ) (x : State) (seen : List ℕ) (kept : Bool) (a : List ℕ) → decide s n k x seen kept a ≡ decide t n k x seen kept a
+  decide_alike : (n : Lengths) (k : ℕ) (x : State) (seen : List ℕ) (kept : Bool) (a : List ℕ) → decide s n k x seen kept a ≡ decide t n k x seen kept a
   unfolding decide
-  decide-alike n k x seen kept a = rw (alike_good s t n.flash h, screen-alike n x a)
+  decide_alike n k x seen kept a = rw (alike_good s t n.flash h, screen_alike n x a)
 
-  pub decided-alike : (w : World) (a : List ℕ) → decided s w a ≡ decided t w a
-  decided-alike w a =
+  pub decided_alike : (w : World) (a : List ℕ) → decided s w a ≡ decided t w a
+  decided_alike w a =
       let p = alike_places s t (length w.held.flash) (field_at a 28) h in
-      rw (decide-alike (lengths_of w.held) (length w.held.sectors) w.transfer w.seen (standing s w.held.flash a) a, p.0)
+      rw (decide_alike (lengths_of w.held) (length w.held.sectors) w.transfer w.seen (standing s w.held.flash a) a, p.0)
 
 pub alike_settings_answer_alike : AlikeSettingsAnswerAlike
 unfolding AlikeSettingsAnswerAlike look_of receive_of
@@ -39,8 +39,8 @@ alike_settings_answer_alike s t h =
     record {
       good = λ len. alike_good s t len h;
       place = λ len f. (alike_places s t len f h).2;
-      look = λ w a. ap forecast_of (decided-alike s t h w a);
-      take = λ w a. ap (done w (payload_of a)) (decided-alike s t h w a);
+      look = λ w a. ap forecast_of (decided_alike s t h w a);
+      take = λ w a. ap (done w (payload_of a)) (decided_alike s t h w a);
     }
 
 -- ---- and lists of arrivals
@@ -50,17 +50,17 @@ module _ (s t : Settings) (h : Alike s t) where
   unfolding AlikeSettingsAnswerAlike
   same w a = (alike_settings_answer_alike s t h).take w a
 
-  pub alike-left : (l : List (List ℕ)) (w : World) → receive_all s w l ≡ receive_all t w l
+  pub alike_left : (l : List (List ℕ)) (w : World) → receive_all s w l ≡ receive_all t w l
   unfolding receive_all
-  alike-left [] w = refl
-  alike-left (a ∷ l) w = rw (same w a) (alike-left l (receive_of t w a).world)
+  alike_left [] w = refl
+  alike_left (a ∷ l) w = rw (same w a) (alike_left l (receive_of t w a).world)
 
-  pub alike-answers : (l : List (List ℕ)) (w : World) → answers_of s w l ≡ answers_of t w l
+  pub alike_answers : (l : List (List ℕ)) (w : World) → answers_of s w l ≡ answers_of t w l
   unfolding answers_of
-  alike-answers [] w = refl
-  alike-answers (a ∷ l) w = rw (same w a, alike-answers l (receive_of t w a).world)
+  alike_answers [] w = refl
+  alike_answers (a ∷ l) w = rw (same w a, alike_answers l (receive_of t w a).world)
 
-  pub alike-discards : (l : List (List ℕ)) (w : World) → discards_of s w l ≡ discards_of t w l
+  pub alike_discards : (l : List (List ℕ)) (w : World) → discards_of s w l ≡ discards_of t w l
   unfolding discards_of
-  alike-discards [] w = refl
-  alike-discards (a ∷ l) w = rw (same w a, alike-discards l (receive_of t w a).world)
+  alike_discards [] w = refl
+  alike_discards (a ∷ l) w = rw (same w a, alike_discards l (receive_of t w a).world)

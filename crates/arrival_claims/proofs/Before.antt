@@ -28,7 +28,7 @@ use Rattle.transfer.specs.declared.State.TheVariants.{Idle, Running, Done}
 use Rattle.transfer.specs.declared.Answer.{Answer}
 use Rattle.transfer.specs.declared.Answer.TheVariants.{BadBuffers, BadSettings, BadState, BadAddress}
 use Rattle.uf2_checks.specs.Screen.{is_lent, window_of, note_kind, rooms_of, room_in, bad_numbers, bad_address, placed, strayed, noted, window_kind, data_found, note_found, found, after_header, screen_in, screen_of, screening_number}
-use Rattle.uf2_checks.proofs.Laws.{found-comment, found-data}
+use Rattle.uf2_checks.proofs.Laws.{found_comment, found_data}
 use Rattle.uf2_checks.proofs.Windows.{InWindow, WindowFacts, window_facts, outside_bad}
 use Rattle.uf2_checks.specs.declared.Lengths.{Lengths}
 use Rattle.uf2_checks.specs.declared.Rooms.{Rooms}
@@ -41,7 +41,7 @@ use Rattle.arrival.specs.Windows.{lies, kind_of}
 use Rattle.arrival_claims.specs.Before.{placed_before, noted_before, found_before, screen_before, decide_before, receive_before, InFlash, strays, WithoutRam, StaysInFlash}
 use Rattle.arrival.proofs.Windows.{lies-is}
 use Rattle.arrival_claims.proofs.Screening.{Fielded, fielded, flash_of, lens, Board, room_of}
-use Rattle.arrival_claims.proofs.DecisionFacts.{right_true, step_late, DecisionFacts, refused, took, decision_facts, raisedCount, took-state}
+use Rattle.arrival_claims.proofs.DecisionFacts.{right_true, step_late, DecisionFacts, refused, took, decision_facts, raised_count, took_state}
 
 -- ---- rows 4 to 11
 
@@ -58,22 +58,22 @@ turned_inside false x = refl
 
 -- no RAM is lent
 module _ (n : Lengths) (m : n.main ≡ 0) (p : n.xip ≡ 0) where
-  only-flash : (k : Kind) → is_lent n k ≡ true → k ≡ Flash
-  only-flash Flash l = refl
-  only-flash MainRam l = clash (is_lent n MainRam) l (ap (λ (x : ℕ). not (eqb x 0)) m)
-  only-flash XipRam l = clash (is_lent n XipRam) l (ap (λ (x : ℕ). not (eqb x 0)) p)
+  only_flash : (k : Kind) → is_lent n k ≡ true → k ≡ Flash
+  only_flash Flash l = refl
+  only_flash MainRam l = clash (is_lent n MainRam) l (ap (λ (x : ℕ). not (eqb x 0)) m)
+  only_flash XipRam l = clash (is_lent n XipRam) l (ap (λ (x : ℕ). not (eqb x 0)) p)
 
-  note-flash : (t : State) (b : Block) → InFlash t → note_kind n t b ≡ Flash
+  note_flash : (t : State) (b : Block) → InFlash t → note_kind n t b ≡ Flash
   unfolding note_kind
-  note-flash Idle b f = refl
-  note-flash (Running r) b f =
+  note_flash Idle b f = refl
+  note_flash (Running r) b f =
       let c = eqb r.head.family b.family && eqb r.head.total b.total in
       ap (λ (k : Kind). cond (c && is_lent n k) k Flash) f ∙ either (c && true)
     where
       either : (b : Bool) → cond b Flash Flash ≡ Flash
       either true = refl
       either false = refl
-  note-flash (Done g) b f = refl
+  note_flash (Done g) b f = refl
 
 -- a comment
 note_before : (q : Place) (b : Block) → b.comment ≡ true → note_found Flash q b ≡ found_before q b
@@ -118,13 +118,13 @@ module _ (s : Settings) (w : World) (a : List ℕ) (m : length w.held.main ≡ 0
   abbrev rooms : Rooms
   rooms = rooms_of s (flash_of w) (field_at a 28)
 
-  by-window : (u : Window) → window_of (lens w) (fields_of a).address ≡ u → WindowFacts (lens w) (fields_of a).address u → (fields_of a).comment ≡ false
+  by_window : (u : Window) → window_of (lens w) (fields_of a).address ≡ u → WindowFacts (lens w) (fields_of a).address u → (fields_of a).comment ≡ false
       → data_found u (room_in rooms (window_kind u)) (fields_of a) ≡ turned false (lies Flash (fields_of a).address) (found_before here (fields_of a))
-  by-window Outside e g z =
+  by_window Outside e g z =
       stray_before (lens w) here (fields_of a) (small here refl) e z
       ∙ ap (λ (i : Bool). turned false i (found_before here (fields_of a))) (sym (g Flash))
-  by-window (In k) e g z =
-      let k-is : k ≡ Flash = only-flash (lens w) m p k g.lent in
+  by_window (In k) e g z =
+      let k-is : k ≡ Flash = only_flash (lens w) m p k g.lent in
       let i : lies Flash (fields_of a).address ≡ true = inside k k-is g in
       ap (λ (v : Kind). data_found (In v) (room_in rooms v) (fields_of a)) k-is
       ∙ data_before here (fields_of a) z
@@ -139,27 +139,27 @@ module _ (s : Settings) (w : World) (a : List ℕ) (m : length w.held.main ≡ 0
   found_before_lem =
       split (fields_of a).comment
       (λ y.
-      found-comment rooms (lens w) w.transfer (fields_of a) y
-      ∙ ap (λ (k : Kind). note_found k (room_in rooms k) (fields_of a)) (note-flash (lens w) m p w.transfer (fields_of a) f)
+      found_comment rooms (lens w) w.transfer (fields_of a) y
+      ∙ ap (λ (k : Kind). note_found k (room_in rooms k) (fields_of a)) (note_flash (lens w) m p w.transfer (fields_of a) f)
       ∙ note_before here (fields_of a) y
       ∙ sym (ap (λ (c : Bool). turned c (lies Flash (fields_of a).address) (found_before here (fields_of a))) y))
       (λ z.
-      found-data rooms (lens w) w.transfer (fields_of a) z
-      ∙ by-window (window_of (lens w) (fields_of a).address) refl (window_facts (lens w) (fields_of a).address) z
+      found_data rooms (lens w) w.transfer (fields_of a) z
+      ∙ by_window (window_of (lens w) (fields_of a).address) refl (window_facts (lens w) (fields_of a).address) z
       ∙ sym (ap (λ (c : Bool). turned c (lies Flash (fields_of a).address) (found_before here (fields_of a))) z))
 
-  header-before : (h : Header) → Fielded a h
+  header_before : (h : Header) → Fielded a h
       → after_header h (found rooms (lens w) w.transfer) ≡ turned (has_flag a 0x1) (lies Flash (field_at a 12)) (after_header h (found_before here))
-  header-before header.NotBlock g = rw (and-false (not (has_flag a 0x1) && not (lies Flash (field_at a 12))))
-  header-before header.Container g = rw (and-false (not (has_flag a 0x1) && not (lies Flash (field_at a 12))))
-  header-before header.NoFamily g = rw (and-false (not (has_flag a 0x1) && not (lies Flash (field_at a 12))))
-  header-before (header.Found b) g =
+  header_before header.NotBlock g = rw (and-false (not (has_flag a 0x1) && not (lies Flash (field_at a 12))))
+  header_before header.Container g = rw (and-false (not (has_flag a 0x1) && not (lies Flash (field_at a 12))))
+  header_before header.NoFamily g = rw (and-false (not (has_flag a 0x1) && not (lies Flash (field_at a 12))))
+  header_before (header.Found b) g =
       subst (λ (b : Block). found rooms (lens w) w.transfer b ≡ turned (has_flag a 0x1) (lies Flash (field_at a 12)) (found_before here b)) (sym g)
       (found_before_lem ∙ unfold fields_of in refl)
 
-  screen-before : screen_of s (lens w) w.transfer a ≡ turned (has_flag a 0x1) (lies Flash (field_at a 12)) (screen_before s (flash_of w) a)
+  screen_before_lem : screen_of s (lens w) w.transfer a ≡ turned (has_flag a 0x1) (lies Flash (field_at a 12)) (screen_before s (flash_of w) a)
   unfolding screen_of screen_in screen_before
-  screen-before = header-before (header_of a) (fielded a)
+  screen_before_lem = header_before (header_of a) (fielded a)
 
 -- ---- every row
 
@@ -185,12 +185,12 @@ module _ (s : Settings) (w : World) (a : List ℕ) (m : length w.held.main ≡ 0
   abbrev before : Decision
   before = decide_before s (flash_of w) (length w.held.sectors) w.transfer w.seen stood a
 
-  abbrev rightBefore : Bool
-  rightBefore = eqb (length a) 512 && flash_length (flash_of w) && eqb (length w.seen) 16384 && eqb (length w.held.sectors) 1024
+  abbrev right_before : Bool
+  right_before = eqb (length a) 512 && flash_length (flash_of w) && eqb (length w.seen) 16384 && eqb (length w.held.sectors) 1024
 
-  right-same : right_lengths (length a) (lens w) (length w.seen) (length w.held.sectors) ≡ rightBefore
+  right_same : right_lengths (length a) (lens w) (length w.seen) (length w.held.sectors) ≡ right_before
   unfolding right_lengths
-  right-same = rw (m, p, and-true rightBefore, and-true rightBefore)
+  right_same = rw (m, p, and-true right_before, and-true right_before)
 
   -- rows 1 to 3
   stop : (x : Answer) → number_of x ≤ 3 → decided s w a ≡ stays x → before ≡ stays x
@@ -206,19 +206,19 @@ module _ (s : Settings) (w : World) (a : List ℕ) (m : length w.held.main ≡ 0
   go_on B d e =
       let y = screen_before s (flash_of w) a in
       let c = not (has_flag a 0x1) && not (lies Flash (field_at a 12)) in
-      ap (done w (payload_of a)) (d ∙ ap (after_screening w.transfer w.seen stood) (screen-before s w a m p f B))
+      ap (done w (payload_of a)) (d ∙ ap (after_screening w.transfer w.seen stood) (screen_before_lem s w a m p f B))
       ∙ turn_out w (payload_of a) w.transfer w.seen stood (c && eqb (screening_number y) 10) y
       ∙ rw (e, ten w (payload_of a) w.transfer w.seen stood y)
 
   pub as_before : receive_of s w a ≡ cond (strays s w a) (unchanged w BadAddress) (receive_before s w a)
   as_before =
-      split rightBefore
+      split right_before
       (λ y.
       split (good_settings s (flash_of w))
       (λ g.
       split (good_state w.transfer)
       (λ t.
-      let r = right_true (length a) (lens w) (length w.seen) (length w.held.sectors) (right-same ∙ y) in
+      let r = right_true (length a) (lens w) (length w.seen) (length w.held.sectors) (right_same ∙ y) in
       let B : Board s w =
       record {
         flash = r.flash;
@@ -229,10 +229,10 @@ module _ (s : Settings) (w : World) (a : List ℕ) (m : length w.held.main ≡ 0
         good = g;
         state = t;
       } in
-      go_on B (unfold decide in rw (right-same ∙ y, g, t)) (unfold decide_before in rw (y, g, t)))
-      (λ t. stop BadState (omega arith) (unfold decide in rw (right-same ∙ y, g, t)) (unfold decide_before in rw (y, g, t))))
-      (λ g. stop BadSettings (omega arith) (unfold decide in rw (right-same ∙ y, g)) (unfold decide_before in rw (y, g))))
-      (λ z. stop BadBuffers (omega arith) (unfold decide in rw (right-same ∙ z)) (unfold decide_before in rw z))
+      go_on B (unfold decide in rw (right_same ∙ y, g, t)) (unfold decide_before in rw (y, g, t)))
+      (λ t. stop BadState (omega arith) (unfold decide in rw (right_same ∙ y, g, t)) (unfold decide_before in rw (y, g, t))))
+      (λ g. stop BadSettings (omega arith) (unfold decide in rw (right_same ∙ y, g)) (unfold decide_before in rw (y, g))))
+      (λ z. stop BadBuffers (omega arith) (unfold decide in rw (right_same ∙ z)) (unfold decide_before in rw z))
 
 pub without_ram : WithoutRam
 unfolding WithoutRam
@@ -249,8 +249,8 @@ in_flash : (s : Settings) (w : World) (a : List ℕ) {d : Decision} → Decision
 unfolding done accept_of
 in_flash s w a (refused x h) m p f = f
 in_flash s w a (took g k B l q t) m p f =
-    let e : g.head.kind ≡ Flash = ap (λ (h : Head). h.kind) q.head ∙ only-flash (lens w) m p (kind_of w a) q.lent in
-    rw (took-state t) (counted_flash g.head (raisedCount t) e)
+    let e : g.head.kind ≡ Flash = ap (λ (h : Head). h.kind) q.head ∙ only_flash (lens w) m p (kind_of w a) q.lent in
+    rw (took_state t) (counted_flash g.head (raised_count t) e)
 
 pub stays_in_flash : StaysInFlash
 unfolding StaysInFlash receive_of

@@ -11,7 +11,7 @@ use borrow.Author.Tests.{ne_eqb}
 use Rattle.laws.proofs.Tests.{split, clash, is_false}
 use Rattle.uf2_block.specs.Block.{field_at, has_flag}
 use Rattle.memory.specs.Flash.{payload_of, spans, room_at}
-use Rattle.memory.proofs.flash.Laws.{length_right, getD-store}
+use Rattle.memory.proofs.flash.Laws.{length_right, get_d_store}
 use Rattle.partitions.specs.declared.Settings.{Settings}
 use Rattle.placement.specs.Place.{place_of}
 use Rattle.placement.specs.declared.Place.{Place}
@@ -37,7 +37,7 @@ use Rattle.arrival.proofs.Paged.{Fits, paged_other, get_d_prepared}
 use Rattle.arrival.proofs.Facts.{done_none, wiped_buffer}
 use Rattle.arrival.proofs.Standing.{keeps_at}
 use Rattle.arrival_claims.proofs.Effect.{spans_true}
-use Rattle.arrival_claims.proofs.Screening.{flash_of, lens, Board, Passing, Good, screen-good, passing-room, passing-body, passing-fits, passing_deed}
+use Rattle.arrival_claims.proofs.Screening.{flash_of, lens, Board, Passing, Good, screen_good, passing_room, passing-body, passing-fits, passing_deed}
 use Rattle.arrival_claims.proofs.DecisionFacts.{board_decides, Rows, stopped, through, rows, deed_at, DecisionFacts, refused, took, decision_facts, took_number}
 
 -- ---- answers 1 to 13
@@ -65,15 +65,15 @@ module _ (s : Settings) (w : World) (a : List ℕ) (g : PlacedBlock) (k : Accept
   kind_is : g.head.kind ≡ kind_of w a
   kind_is = ap (λ (h : Head). h.kind) q.head
 
-  pub left-none : (d : Deed) → deed_at s w a g ≡ d → d ≢ Stores → after ≡ before
+  pub left_none : (d : Deed) → deed_at s w a g ≡ d → d ≢ Stores → after ≡ before
   unfolding done accept_of
-  left-none d e n = ap (λ (d : Deed). done_to d g.head.kind (at_of g.body) (payload_of a) before) e ∙ done_none d g.head.kind (at_of g.body) (payload_of a) before n
+  left_none d e n = ap (λ (d : Deed). done_to d g.head.kind (at_of g.body) (payload_of a) before) e ∙ done_none d g.head.kind (at_of g.body) (payload_of a) before n
 
-  pub deed-is : deed_at s w a g ≡ cond (has_flag a 0x1) Notes (cond (keeps_at s w a) Keeps Stores)
-  deed-is = passing_deed s w a g q (standing s w.held.flash a)
+  pub deed_is : deed_at s w a g ≡ cond (has_flag a 0x1) Notes (cond (keeps_at s w a) Keeps Stores)
+  deed_is = passing_deed s w a g q (standing s w.held.flash a)
 
-  pub left-note : has_flag a 0x1 ≡ true → after ≡ before
-  left-note y = left-none Notes (deed-is ∙ rw y) (λ e. let z : ◌≡◌ {A = ℕ} 0 1 = cc in omega arith)
+  pub left_note : has_flag a 0x1 ≡ true → after ≡ before
+  left_note y = left_none Notes (deed_is ∙ rw y) (λ e. let z : ◌≡◌ {A = ℕ} 0 1 = cc in omega arith)
 
   module _ (z : has_flag a 0x1 ≡ false) where
     abbrev pub at : ℕ
@@ -81,12 +81,12 @@ module _ (s : Settings) (w : World) (a : List ℕ) (g : PlacedBlock) (k : Accept
 
     -- what stands is kept
     pub left-kept : keeps_at s w a ≡ true → after ≡ before
-    left-kept y = left-none Keeps (deed-is ∙ rw (z, y)) (λ e. let u : ◌≡◌ {A = ℕ} 0 1 = cc in omega arith)
+    left-kept y = left_none Keeps (deed_is ∙ rw (z, y)) (λ e. let u : ◌≡◌ {A = ℕ} 0 1 = cc in omega arith)
 
-    pub left-page : keeps_at s w a ≡ false → after ≡ paged_at (kind_of w a) at (payload_of a) before
+    pub left_page : keeps_at s w a ≡ false → after ≡ paged_at (kind_of w a) at (payload_of a) before
     unfolding done accept_of
-    left-page n =
-        let e : deed_at s w a g ≡ Stores = deed-is ∙ rw (z, n) in
+    left_page n =
+        let e : deed_at s w a g ≡ Stores = deed_is ∙ rw (z, n) in
         ap (λ (d : Deed). done_to d g.head.kind (at_of g.body) (payload_of a) before) e
         ∙ ap (λ (b : Body). paged_at g.head.kind (at_of b) (payload_of a) before) (passing-body s w a g q B z)
         ∙ ap (λ (u : Kind). paged_at u at (payload_of a) before) kind_is
@@ -100,11 +100,11 @@ module _ (s : Settings) (w : World) (a : List ℕ) (g : PlacedBlock) (k : Accept
   pub left_other : (u : Kind) → u ≢ kind_of w a → buffer_of u after ≡ buffer_of u w.held
   left_other u n =
       split (has_flag a 0x1)
-      (λ y. ap (buffer_of u) (left-note y))
+      (λ y. ap (buffer_of u) (left_note y))
       (λ z.
       split (keeps_at s w a)
       (λ y. ap (buffer_of u) (left-kept z y))
-      (λ x. ap (buffer_of u) (left-page z x) ∙ paged_other u (kind_of w a) (at z) (payload_of a) before n))
+      (λ x. ap (buffer_of u) (left_page z x) ∙ paged_other u (kind_of w a) (at z) (payload_of a) before n))
       ∙ wiped_buffer k.clears w.held u
 
 -- ---- outside the place
@@ -117,7 +117,7 @@ outside_page start size at p x j e f l h o =
     let away : spans at j ≡ false =
     is_false (spans at j) (λ y. let r = spans_true at j y in ⊎_elim (λ b. omega (arith, r)) (λ b. omega (arith, r)) o) in
     let far : eqb (j / 4096) (at / 4096) ≡ false = ne_eqb (j / 4096) (at / 4096) (λ y. ⊎_elim (λ b. omega arith) (λ b. omega arith) o) in
-    getD-store (prepared_at (at / 4096) x) at p j
+    get_d_store (prepared_at (at / 4096) x) at p j
     ∙ split (room_at (prepared_at (at / 4096) x) at p)
     (λ y. rw (y, away) (get_d_prepared (at / 4096) x j ∙ rw far))
     (λ z. rw z (get_d_prepared (at / 4096) x j ∙ rw far))
@@ -135,7 +135,7 @@ outside_done s w a j (took g k B l q t) o =
         → get_or (paged_at (kind_of w a) (q.start + (field_at a 12 - window_start (kind_of w a))) (payload_of a) (wiped_if k.clears w.held)).flash j 0
         ≡ get_or (wiped_if k.clears w.held).flash j 0
     inside e z =
-        let i = passing-room s w a g q B in
+        let i = passing_room s w a g q B in
         let p : place_of s (flash_of w) (field_at a 28) ≡ At q.start q.size = rw (sym e) at q.place in
         let r : field_at a 12 - window_start Flash + 256 ≤ q.size = rw (sym e) at (q.page z).ends in
         rw (sym e)
@@ -145,11 +145,11 @@ outside_done s w a j (took g k B l q t) o =
     flash : Flash ≡ kind_of w a → get_or (done w (payload_of a) (accepts g (deed_at s w a g) k)).world.held.flash j 0 ≡ get_or w.held.flash j 0
     flash e =
         split (has_flag a 0x1)
-        (λ y. ap (λ (h : Held). get_or h.flash j 0) (left-note s w a g k q B y))
+        (λ y. ap (λ (h : Held). get_or h.flash j 0) (left_note s w a g k q B y))
         (λ z.
         split (keeps_at s w a)
         (λ y. ap (λ (h : Held). get_or h.flash j 0) (left-kept s w a g k q B z y))
-        (λ n. ap (λ (h : Held). get_or h.flash j 0) (left-page s w a g k q B z n) ∙ inside e z))
+        (λ n. ap (λ (h : Held). get_or h.flash j 0) (left_page s w a g k q B z n) ∙ inside e z))
         ∙ ap (λ (b : List ℕ). get_or b j 0) (wiped_buffer k.clears w.held Flash)
 
 pub outside_kept : OutsideKept
@@ -172,7 +172,7 @@ window_kept s w a n z = go (rows s w a)
     passed B (Refused x) h m = absurd (omega (arith, m, h.1))
     passed B (Passed g) h m =
         let k = kind_of w a in
-        let i = passing-room s w a g h B in
+        let i = passing_room s w a g h B in
         let p = h.page z in
         record {
           first = lies-is w (field_at a 12) k p.low p.high;
@@ -183,4 +183,4 @@ window_kept s w a n z = go (rows s w a)
     go : Rows s w a → Windowed w a
     go (stopped x h e) = let m : 12 ≤ number_of x = rw e at n in absurd (omega (arith, m, h))
     go (through B l) =
-        passed B (screen_of s (lens w) w.transfer a) (screen-good s w a) (rw (board_decides s w a B l) at n)
+        passed B (screen_of s (lens w) w.transfer a) (screen_good s w a) (rw (board_decides s w a B l) at n)

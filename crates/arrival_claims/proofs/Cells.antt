@@ -10,7 +10,7 @@ use borrow.Author.Tests.{eqb-true}
 use Rattle.laws.specs.Sets.{Set, none, add, any}
 use Rattle.laws.specs.Tab.{tab}
 use Rattle.laws.proofs.Tests.{split, clash, eqb_same, and_left, and_right}
-use Rattle.laws.proofs.Laws.{pick, any_add, any_none, any-hit, pick-none, pick-hit, pick_cong}
+use Rattle.laws.proofs.Laws.{pick, any_add, any_none, any_hit, pick_none, pick_hit, pick_cong}
 use Rattle.laws.proofs.TabLaws.{length_tab, get_d_tab, is_tab}
 
 -- Of block k: whether it holds byte j, whether it touches sector q, and its value for byte j
@@ -43,10 +43,10 @@ settle true false p d f = f refl refl
 settle false b p d f = refl
 
 module _ (n : ℕ) (L : Layout) (A : Apart n L) (lent : ℕ → ℕ) (S : Set) (k j : ℕ) (h : k < n) where
-  step-owned : L.owns k j ≡ true → cell n L lent (add k S) j ≡ L.value k j
+  step_owned : L.owns k j ≡ true → cell n L lent (add k S) j ≡ L.value k j
   unfolding cell
-  step-owned o =
-      pick-hit (λ i. add k S i && L.owns i j) (λ i. L.value i j) _ n k h
+  step_owned o =
+      pick_hit (λ i. add k S i && L.owns i j) (λ i. L.value i j) _ n k h
       (rw (eqb_same k) o)
       (λ i l e. A.alone i k j l h (and_right (add k S i) (L.owns i j) e) o)
 
@@ -58,7 +58,7 @@ module _ (n : ℕ) (L : Layout) (A : Apart n L) (lent : ℕ → ℕ) (S : Set) (
       ∙ rw (any_add n (λ i. L.touches i (j / 4096)) S k h)
       (settle (L.touches k (j / 4096)) (touched n L S (j / 4096))
       (λ d. pick n (λ i. S i && L.owns i j) (λ i. L.value i j) d) (lent j)
-      (λ t u. pick-none (λ i. S i && L.owns i j) (λ i. L.value i j) 255 n (λ i l. split (S i && L.owns i j) (λ e. hidden t u i l e) (λ e. e))))
+      (λ t u. pick_none (λ i. S i && L.owns i j) (λ i. L.value i j) 255 n (λ i l. split (S i && L.owns i j) (λ e. hidden t u i l e) (λ e. e))))
     where
       same : (i : ℕ) → i < n → add k S i && L.owns i j ≡ S i && L.owns i j
       same i l =
@@ -73,12 +73,12 @@ module _ (n : ℕ) (L : Layout) (A : Apart n L) (lent : ℕ → ℕ) (S : Set) (
       hidden t u i l e =
           let w : L.touches i (j / 4096) ≡ true = A.inside i k j l h (and_right (S i) (L.owns i j) e) t in
           clash (touched n L S (j / 4096))
-          (any-hit (λ i. S i && L.touches i (j / 4096)) n i l (rw (and_left (S i) (L.owns i j) e) w)) u
+          (any_hit (λ i. S i && L.touches i (j / 4096)) n i l (rw (and_left (S i) (L.owns i j) e) w)) u
 
   -- one block more
-  pub cell-step : cell n L lent (add k S) j
+  pub cell_step : cell n L lent (add k S) j
       ≡ cond (L.owns k j) (L.value k j) (cond (L.touches k (j / 4096) && not (touched n L S (j / 4096))) 255 (cell n L lent S j))
-  cell-step = split (L.owns k j) (λ o. rw o (step-owned o)) (λ o. rw o (step_other o))
+  cell_step = split (L.owns k j) (λ o. rw o (step_owned o)) (λ o. rw o (step_other o))
 
 -- ---- no block
 
@@ -87,21 +87,21 @@ touched_none n L q = any_none (λ k. false) n (λ j h. refl)
 
 pub cell_none : (n : ℕ) (L : Layout) (lent : ℕ → ℕ) (j : ℕ) → cell n L lent none j ≡ lent j
 unfolding cell
-cell_none n L lent j = rw (touched_none n L (j / 4096)) (pick-none (λ k. false) (λ k. L.value k j) (lent j) n (λ j h. refl))
+cell_none n L lent j = rw (touched_none n L (j / 4096)) (pick_none (λ k. false) (λ k. L.value k j) (lent j) n (λ j h. refl))
 
 -- ---- reading a byte
 
 module _ (n : ℕ) (L : Layout) (lent : ℕ → ℕ) (S : Set) (j : ℕ) where
-  pub cell-owned : Apart n L → (k : ℕ) → k < n → S k ≡ true → L.owns k j ≡ true → cell n L lent S j ≡ L.value k j
+  pub cell_owned : Apart n L → (k : ℕ) → k < n → S k ≡ true → L.owns k j ≡ true → cell n L lent S j ≡ L.value k j
   unfolding cell
-  cell-owned A k h y o =
-      pick-hit (λ i. S i && L.owns i j) (λ i. L.value i j) _ n k h (rw y o)
+  cell_owned A k h y o =
+      pick_hit (λ i. S i && L.owns i j) (λ i. L.value i j) _ n k h (rw y o)
       (λ i l e. A.alone i k j l h (and_right (S i) (L.owns i j) e) o)
 
   pub cell_free : ((k : ℕ) → k < n → S k ≡ true → L.owns k j ≡ false) → cell n L lent S j ≡ cond (touched n L S (j / 4096)) 255 (lent j)
   unfolding cell
   cell_free free =
-      pick-none (λ i. S i && L.owns i j) (λ i. L.value i j) _ n
+      pick_none (λ i. S i && L.owns i j) (λ i. L.value i j) _ n
       (λ i l. split (S i) (λ y. rw y (free i l y)) (λ z. rw z))
 
 -- ---- a buffer by its cells
@@ -135,4 +135,4 @@ buffer_add n L A lent S k h g law =
     is_tab g (length lent) _ (law.0 ∙ length_buffer n L lent S)
     (λ j l.
     law.1 j
-    ∙ rw (get_d_tab (length lent) (cell n L (λ j. get_or lent j 0) S) j l) (sym (cell-step n L A (λ j. get_or lent j 0) S k j h)))
+    ∙ rw (get_d_tab (length lent) (cell n L (λ j. get_or lent j 0) S) j l) (sym (cell_step n L A (λ j. get_or lent j 0) S k j h)))

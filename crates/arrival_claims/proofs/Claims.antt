@@ -28,10 +28,10 @@ use Rattle.arrival.specs.Arrive.{World, Outcome, buffer_of, Decision, stays, acc
 use Rattle.arrival_claims.specs.Bounds.{Outside}
 use Rattle.arrival.specs.Lists.{receive_all}
 use Rattle.arrival.specs.Windows.{window_start, kind_of}
-use Rattle.arrival_claims.proofs.Screening.{flash_of, rooms_for, Board, Passing, passing-room, passing-body, passing-fits}
+use Rattle.arrival_claims.proofs.Screening.{flash_of, rooms_for, Board, Passing, passing_room, passing-body, passing-fits}
 use Rattle.arrival_claims.proofs.DecisionFacts.{deed_at, DecisionFacts, refused, took, decision_facts}
 use Rattle.arrival.proofs.Standing.{keeps_at}
-use Rattle.arrival_claims.proofs.Bounds.{deed-is}
+use Rattle.arrival_claims.proofs.Bounds.{deed_is}
 use Rattle.flash_plan.specs.declared.Plan.{Plan}
 use Rattle.flash_plan.specs.declared.Plan.TheVariants.{Nothing, Program, EraseProgram}
 use Rattle.flash_plan.specs.Plan.{deed_plan, decision_plan, accepting_by, accepting_of}
@@ -57,10 +57,10 @@ module _ (s : Settings) (w : World) (a : List ℕ) where
     pub page-lies : kind_of w a ≡ Flash → deed_at s w a g ≡ Stores → Lies s w a (at_of g.body)
     page-lies e d =
         split (has_flag a 0x1)
-        (λ y. let z : ◌≡◌ {A = Deed} Notes Stores = sym (deed-is s w a g k q B ∙ rw y) ∙ d in absurd (let v : ◌≡◌ {A = ℕ} 0 1 = cc in omega arith))
+        (λ y. let z : ◌≡◌ {A = Deed} Notes Stores = sym (deed_is s w a g k q B ∙ rw y) ∙ d in absurd (let v : ◌≡◌ {A = ℕ} 0 1 = cc in omega arith))
         (λ z.
         let f = passing-fits s w a g q B z l in
-        let i = passing-room s w a g q B in
+        let i = passing_room s w a g q B in
         let b : at_of g.body ≡ q.start + (field_at a 12 - window_start (kind_of w a)) = ap at_of (passing-body s w a g q B z) in
         record {
           aligned = ap (λ (n : ℕ). n % 256) b ∙ f.aligned e;
@@ -86,37 +86,37 @@ module _ (s : Settings) (w : World) (a : List ℕ) where
     plan-lies Notes u e f m = tt
     plan-lies Keeps u e f m = tt
 
-  pub decided-lies : {d : Decision} → DecisionFacts s w a d → (m : List ℕ) → PlanLies s w a (decision_plan d m)
-  decided-lies (refused x h) m = tt
-  decided-lies (took g k B l q t) m = plan-lies g k B l q (deed_at s w a g) g.head.kind refl refl (cleared_if k.clears m)
+  pub decided_lies : {d : Decision} → DecisionFacts s w a d → (m : List ℕ) → PlanLies s w a (decision_plan d m)
+  decided_lies (refused x h) m = tt
+  decided_lies (took g k B l q t) m = plan-lies g k B l q (deed_at s w a g) g.head.kind refl refl (cleared_if k.clears m)
 
 pub plans_lie : PlansLie
 unfolding accepting_of accepting_by
-plans_lie s w a = decided-lies s w a (decision_facts s w a) w.held.sectors
+plans_lie s w a = decided_lies s w a (decision_facts s w a) w.held.sectors
 
 -- a byte outside the place is none of the page's, nor of its sector's
 module _ (s : Settings) (w : World) (a : List ℕ) (j : ℕ) (o : Outside (place_of s (length w.held.flash) (field_at a 28)) j) (at : ℕ) (p : Lies s w a at) where
   away : (j < p.start) ⊎ (p.start + p.size ≤ j)
   away = subst (λ (x : Place). Outside x j) p.place o
 
-  page-away : in_page at j ≡ false
-  page-away =
+  page_away : in_page at j ≡ false
+  page_away =
       ⊎_elim
       (λ b. let z : leb at j ≡ false = lt-leb at j (omega (arith, p.from)) in rw z)
       (λ b. let z : ltb j (at + 256) ≡ false = le-ltb j (at + 256) (omega (arith, p.to)) in rw z (and-false (leb at j)))
       away
 
-  sector-away : eqb (j / 4096) (at / 4096) ≡ false
-  sector-away =
+  sector_away : eqb (j / 4096) (at / 4096) ≡ false
+  sector_away =
       ne_eqb (j / 4096) (at / 4096)
       (λ e. ⊎_elim (λ b. omega (arith, p.from, p.to, p.sectors.0, p.sectors.1)) (λ b. omega (arith, p.from, p.to, p.sectors.0, p.sectors.1)) away)
 
 outside_plan : (s : Settings) (w : World) (a : List ℕ) (j : ℕ) → Outside (place_of s (length w.held.flash) (field_at a 28)) j → (x : Plan) → PlanLies s w a x → touches x j ≡ false
 outside_plan s w a j o Nothing p = refl
-outside_plan s w a j o (Program at) p = page-away s w a j o at p
+outside_plan s w a j o (Program at) p = page_away s w a j o at p
 outside_plan s w a j o (EraseProgram q at) p =
-    let z : eqb (j / 4096) q ≡ false = ap (eqb (j / 4096)) p.1 ∙ sector-away s w a j o at p.0 in
-    rw z (page-away s w a j o at p.0)
+    let z : eqb (j / 4096) q ≡ false = ap (eqb (j / 4096)) p.1 ∙ sector_away s w a j o at p.0 in
+    rw z (page_away s w a j o at p.0)
 
 pub nothing_outside : NothingOutside
 nothing_outside s w a j o = outside_plan s w a j o (accepting_of s w a).plan (plans_lie s w a)

@@ -29,7 +29,7 @@ use Rattle.transfer.specs.declared.Deed.{Deed}
 use Rattle.transfer.specs.declared.Deed.TheVariants.{Stores, Notes, Keeps}
 use Rattle.transfer.specs.declared.Accepted.{Accepted}
 use Rattle.uf2_checks.specs.Screen.{note_kind, rooms_of, room_in, noted, note_found, found, after_header, screen_in, screen_of}
-use Rattle.uf2_checks.proofs.Laws.{found-comment}
+use Rattle.uf2_checks.proofs.Laws.{found_comment}
 use Rattle.uf2_checks.specs.declared.Lengths.{Lengths}
 use Rattle.uf2_checks.specs.declared.Rooms.{Rooms}
 use Rattle.uf2_checks.specs.declared.Screening.{Screening}
@@ -41,11 +41,11 @@ use Rattle.arrival.specs.Windows.{head_of}
 use Rattle.arrival_claims.specs.Tally.{clears}
 use Rattle.arrival_claims.specs.Comments.{is_noted, CommentsNote, NothingStored, Unstored, CommentsStoreNothing, Unread, CommentsUnread, any_discard, FirstStands}
 use Rattle.arrival.proofs.Heads.{same_head_lem}
-use Rattle.arrival_claims.proofs.Screening.{lens, Board, Passing, passing-few}
-use Rattle.arrival_claims.proofs.DecisionFacts.{AcceptFacts, deed_at, DecisionFacts, raisedCount, took-state, took-answer, took-clears, took-discarded, refused, took, decision_facts, decide_same}
+use Rattle.arrival_claims.proofs.Screening.{lens, Board, Passing, passing_few}
+use Rattle.arrival_claims.proofs.DecisionFacts.{AcceptFacts, deed_at, DecisionFacts, raised_count, took_state, took_answer, took_clears, took_discarded, refused, took, decision_facts, decide_same}
 use Rattle.arrival.proofs.Standing.{keeps_at}
 use Rattle.arrival.proofs.Facts.{length_cleared, wiped_buffer, wiped_sectors, done_none}
-use Rattle.arrival_claims.proofs.Bounds.{left-none, deed-is}
+use Rattle.arrival_claims.proofs.Bounds.{left_none, deed_is}
 
 -- ---- of a decision
 
@@ -62,7 +62,7 @@ comments_note s w a p d t e = go (decision_facts s w a) e
     go (refused x h) e = let z : ◌≡◌ {A = ℕ} 0 1 = cc in absurd (omega arith)
     go (took g k B l q f) e =
         let x : deed_at s w a g ≡ d = cc in
-        ap is_noted (sym x ∙ deed-is s w a g k q B) ∙ told (has_flag a 0x1) (keeps_at s w a)
+        ap is_noted (sym x ∙ deed_is s w a g k q B) ∙ told (has_flag a 0x1) (keeps_at s w a)
 
 pub nothing_stored : NothingStored
 unfolding NothingStored receive_of
@@ -116,13 +116,13 @@ pub unstored : (s : Settings) (w : World) (a : List ℕ) (e : Deed) (g : PlacedB
     → Unstored (number_of (deed_answer e)) w a (done w (payload_of a) (accepts g (deed_at s w a g) k))
 unfolding done accept_of
 unstored s w a e g k q B t f n =
-    let m : k.clears ≡ clears w.transfer (head_of w a) = took-clears t ∙ ap (clears w.transfer) q.head in
-    let c : ℕ = raisedCount t in
-    let left = left-none s w a g k q B e f n in
-    let st : k.transfer.state ≡ counted (head_of w a) c = took-state t ∙ ap (λ (h : Head). counted h c) q.head in
+    let m : k.clears ≡ clears w.transfer (head_of w a) = took_clears t ∙ ap (clears w.transfer) q.head in
+    let c : ℕ = raised_count t in
+    let left = left_none s w a g k q B e f n in
+    let st : k.transfer.state ≡ counted (head_of w a) c = took_state t ∙ ap (λ (h : Head). counted h c) q.head in
     let some : 1 ≤ g.head.total = omega (arith, ap (λ (h : Head). h.total) q.head, q.below) in
     let r : number_of k.answer ≡ number_of (raised e g.head c) =
-    ap number_of (took-answer t) ∙ ap (λ (x : Deed). number_of (raised x g.head c)) f in
+    ap number_of (took_answer t) ∙ ap (λ (x : Deed). number_of (raised x g.head c)) f in
     record {
       buffers = λ u. ap (buffer_of u) left ∙ wiped_buffer k.clears w.held u;
       sectors =
@@ -133,7 +133,7 @@ unstored s w a e g k q B t f n =
           ap (λ (x : Bool). with_mark (cleared_if x w.seen) g.number) m
           ∙ ap (with_mark (cleared_if (clears w.transfer (head_of w a)) w.seen)) q.number;
       count =
-          ap count_of (took-state t)
+          ap count_of (took_state t)
           ∙ counted_told g.head c
           (raised_room w.transfer g.head (marked_in w.seen g.number) (deed_at s w a g) k B.state some t)
           ∙ ap (λ (h : Head). cond (clears w.transfer h) 1 (count_of w.transfer + 1)) q.head;
@@ -142,14 +142,14 @@ unstored s w a e g k q B t f n =
       answer =
           r ∙ raised_told e g.head c
           ∙ ap (λ (h : Head). cond (ltb (count_of (counted g.head c)) h.total) (number_of (deed_answer e)) 15) q.head
-          ∙ sym (ap (λ (x : State). cond (ltb (count_of x) (field_at a 24)) (number_of (deed_answer e)) 15) (took-state t));
+          ∙ sym (ap (λ (x : State). cond (ltb (count_of x) (field_at a 24)) (number_of (deed_answer e)) 15) (took_state t));
     }
 
 noting : (s : Settings) (w : World) (a : List ℕ) {d : Decision} → DecisionFacts s w a d → has_flag a 0x1 ≡ true
     → 14 ≤ number_of (done w (payload_of a) d).answer → Unstored 16 w a (done w (payload_of a) d)
 noting s w a (refused x h) y n = let m : 14 ≤ number_of x = unfold done in n in absurd (omega arith)
 noting s w a (took g k B l q t) y n =
-    unstored s w a Notes g k q B t (deed-is s w a g k q B ∙ rw y) (λ e. let z : ◌≡◌ {A = ℕ} 0 1 = cc in omega arith)
+    unstored s w a Notes g k q B t (deed_is s w a g k q B ∙ rw y) (λ e. let z : ◌≡◌ {A = ℕ} 0 1 = cc in omega arith)
 
 pub comments_store_nothing : CommentsStoreNothing
 unfolding CommentsStoreNothing receive_of
@@ -188,16 +188,16 @@ module _ (s : Settings) (n : Lengths) (t : State) (a : List ℕ) (i x : ℕ) (y 
   beside k Nowhere = refl
   beside k (At start size) = rw (family, total, between 20 (omega arith) (omega arith))
 
-  comment-b : has_flag b 0x1 ≡ true
-  comment-b = ap (λ (n : ℕ). eqb (n / 0x1 % 2) 1) (low 8 (omega arith)) ∙ y
+  comment_b : has_flag b 0x1 ≡ true
+  comment_b = ap (λ (n : ℕ). eqb (n / 0x1 % 2) 1) (low 8 (omega arith)) ∙ y
 
-  found-same : (r : Rooms) → found r n t (fields_of b) ≡ found r n t (fields_of a)
-  found-same r =
+  found_same : (r : Rooms) → found r n t (fields_of b) ≡ found r n t (fields_of a)
+  found_same r =
       let k = note_kind n t (fields_of a) in
-      found-comment r n t (fields_of b) (unfold fields_of in comment-b)
+      found_comment r n t (fields_of b) (unfold fields_of in comment_b)
       ∙ ap (λ (k : Kind). note_found k (room_in r k) (fields_of b)) (kinds t)
       ∙ beside k (room_in r k)
-      ∙ sym (found-comment r n t (fields_of a) (unfold fields_of in y))
+      ∙ sym (found_comment r n t (fields_of a) (unfold fields_of in y))
 
   abbrev after : Rooms → Header → Screening
   after r h = after_header h (found r n t)
@@ -206,23 +206,23 @@ module _ (s : Settings) (n : Lengths) (t : State) (a : List ℕ) (i x : ℕ) (y 
   pass r true h f g e = refl
   pass r false h f g e = e
 
-  screen-same : screen_of s n t b ≡ screen_of s n t a
+  screen_same : screen_of s n t b ≡ screen_of s n t a
   unfolding screen_of screen_in header_of flagged_of
-  screen-same =
+  screen_same =
       let r = rooms_of s n.flash (field_at a 28) in
       rw (family, low 0 (omega arith), low 4 (omega arith), low 8 (omega arith), last)
       (pass r (not (eqb (field_at a 0) 0x0A324655)) header.NotBlock _ _
       (pass r (not (eqb (field_at a 4) 0x9E5D5157)) header.NotBlock _ _
       (pass r (not (eqb (field_at a 508) 0x0AB16F30)) header.NotBlock _ _
       (pass r (has_flag a 0x1000) header.Container _ _
-      (pass r (not (has_flag a 0x2000)) header.NoFamily (header.Found (fields_of b)) (header.Found (fields_of a)) (found-same r))))))
+      (pass r (not (has_flag a 0x2000)) header.NoFamily (header.Found (fields_of b)) (header.Found (fields_of a)) (found_same r))))))
 
 -- an accepted comment does not read its payload
 payload_unread : (s : Settings) (w : World) (a : List ℕ) (p : List ℕ) {d : Decision} → DecisionFacts s w a d → has_flag a 0x1 ≡ true
     → done w p d ≡ done w (payload_of a) d
 unfolding done accept_of
 payload_unread s w a p (refused x h) y = refl
-payload_unread s w a p (took g k B l q t) y = let e : deed_at s w a g ≡ Notes = deed-is s w a g k q B ∙ rw y in rw e
+payload_unread s w a p (took g k B l q t) y = let e : deed_at s w a g ≡ Notes = deed_is s w a g k q B ∙ rw y in rw e
 
 pub comments_unread : CommentsUnread
 unfolding CommentsUnread receive_of
@@ -231,7 +231,7 @@ comments_unread s w a i x y o =
   where
     at : (b : Bool) → decide s (lens w) (length w.held.sectors) w.transfer w.seen b (set a i x)
         ≡ decide s (lens w) (length w.held.sectors) w.transfer w.seen b a
-    at b = unfold decide in rw (length-set a i x, screen-same s (lens w) w.transfer a i x y o)
+    at b = unfold decide in rw (length-set a i x, screen_same s (lens w) w.transfer a i x y o)
 
     -- nor is the region of a comment
     same : decided s w (set a i x) ≡ decided s w a
@@ -277,10 +277,10 @@ accepted_stands : (s : Settings) (w : World) (a : List ℕ) {d : Decision} → D
 unfolding done accept_of
 accepted_stands s w a (refused x h) n = absurd (omega arith)
 accepted_stands s w a (took g k B l q t) n =
-    let c : ℕ = raisedCount t in
+    let c : ℕ = raised_count t in
     let room : g.number / 8 < length (cleared_if k.clears w.seen) =
-    omega (arith, length_cleared k.clears w.seen, B.seen, q.number, q.below, passing-few s w a g q B) in
-    rw (took-state t, ← q.head, ← q.number)
+    omega (arith, length_cleared k.clears w.seen, B.seen, q.number, q.below, passing_few s w a g q B) in
+    rw (took_state t, ← q.head, ← q.number)
     (counted_stands g.head g.number c (with_mark (cleared_if k.clears w.seen) g.number) (marked_same (cleared_if k.clears w.seen) g.number room))
 
 stands_next : (s : Settings) (w : World) (b : List ℕ) (g : Head) (n : ℕ) {d : Decision} → DecisionFacts s w b d
@@ -290,7 +290,7 @@ unfolding done accept_of
 stands_next s w b g n (refused x h) e st = st
 stands_next s w b g n (took f k B l q t) e st =
     split (clears w.transfer f.head)
-    (λ y. ⊎_elim (λ i. absurd (subst (λ (x : State). Standing g n x w.seen) i st)) (λ i. clash true refl (sym (took-discarded t ∙ i) ∙ e)) (t.opening y))
+    (λ y. ⊎_elim (λ i. absurd (subst (λ (x : State). Standing g n x w.seen) i st)) (λ i. clash true refl (sym (took_discarded t ∙ i) ∙ e)) (t.opening y))
     (λ z. onward z (t.going z))
   where
     unclear : (m : List ℕ) → cleared_if false m ≡ m
@@ -300,11 +300,11 @@ stands_next s w b g n (took f k B l q t) e st =
         → (r : Run) × (w.transfer ≡ Running r) × (r.head ≡ f.head) × (marked_in w.seen f.number ≡ false)
         → Standing g n k.transfer.state (with_mark (cleared_if k.clears w.seen) f.number)
     onward z r =
-        let c : ℕ = raisedCount t in
+        let c : ℕ = raised_count t in
         let v : (r.0.head ≡ g) × (marked_in w.seen n ≡ true) = subst (λ (x : State). Standing g n x w.seen) r.1 st in
         let h : f.head ≡ g = sym r.2 ∙ v.0 in
-        let x : k.transfer.state ≡ counted g c = took-state t ∙ ap (λ (y : Head). counted y c) h in
-        let same : cleared_if k.clears w.seen ≡ w.seen = ap (λ (b : Bool). cleared_if b w.seen) (took-clears t ∙ z) ∙ unclear w.seen in
+        let x : k.transfer.state ≡ counted g c = took_state t ∙ ap (λ (y : Head). counted y c) h in
+        let same : cleared_if k.clears w.seen ≡ w.seen = ap (λ (b : Bool). cleared_if b w.seen) (took_clears t ∙ z) ∙ unclear w.seen in
         rw (x, same) (counted_stands g n c (with_mark w.seen f.number) (still_marked w.seen f.number n v.1))
 
 stands_all : (s : Settings) (g : Head) (n : ℕ) (l : List (List ℕ)) (w : World) → any_discard s w l ≡ false → Standing g n w.transfer w.seen

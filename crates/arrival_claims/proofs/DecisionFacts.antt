@@ -34,7 +34,7 @@ use Rattle.uf2_checks.specs.declared.Screening.TheVariants.{Refused, Passed}
 use Rattle.arrival.specs.Arrive.{World, Decision, outcome_number, done, stays, accepts, ram_length, right_lengths, standing, deed_of, stepped, after_screening, decide, decided}
 use Rattle.arrival_claims.specs.Tally.{clears}
 use Rattle.arrival.proofs.Heads.{head_same}
-use Rattle.arrival_claims.proofs.Screening.{flash_of, lens, Board, Passing, Good, screen-good}
+use Rattle.arrival_claims.proofs.Screening.{flash_of, lens, Board, Passing, Good, screen_good}
 
 -- ---- rows 1 to 3
 
@@ -166,24 +166,24 @@ took_number {t} {g} {m} {d} {k} q = rw q.is (raised_number d g (cond (clears t g
 
 -- what such a step hands back
 module _ {t : State} {g : Head} {m : Bool} {d : Deed} {k : Accepted} (q : AcceptFacts t g m d k) where
-  abbrev pub raisedCount : ℕ
-  raisedCount = cond (clears t g) 1 (count_of t + 1)
+  abbrev pub raised_count : ℕ
+  raised_count = cond (clears t g) 1 (count_of t + 1)
 
-  pub took-state : k.transfer.state ≡ counted g raisedCount
+  pub took_state : k.transfer.state ≡ counted g raised_count
   unfolding accepted
-  took-state = ap (λ (x : Accepted). x.transfer.state) q.is
+  took_state = ap (λ (x : Accepted). x.transfer.state) q.is
 
-  pub took-answer : k.answer ≡ raised d g raisedCount
+  pub took_answer : k.answer ≡ raised d g raised_count
   unfolding accepted
-  took-answer = ap (λ (x : Accepted). x.answer) q.is
+  took_answer = ap (λ (x : Accepted). x.answer) q.is
 
-  pub took-clears : k.clears ≡ clears t g
+  pub took_clears : k.clears ≡ clears t g
   unfolding accepted
-  took-clears = ap (λ (x : Accepted). x.clears) q.is
+  took_clears = ap (λ (x : Accepted). x.clears) q.is
 
-  pub took-discarded : k.discarded ≡ q.discards
+  pub took_discarded : k.discarded ≡ q.discards
   unfolding accepted
-  took-discarded = ap (λ (x : Accepted). x.discarded) q.is
+  took_discarded = ap (λ (x : Accepted). x.discarded) q.is
 
 -- ---- every row
 
@@ -215,14 +215,14 @@ decision_facts s w a = go (rows s w a)
 
     go : Rows s w a → DecisionFacts s w a (decided s w a)
     go (stopped x h e) = subst (DecisionFacts s w a) (sym e) (refused x (omega arith))
-    go (through B l) = subst (DecisionFacts s w a) (sym (board_decides s w a B l)) (look B l (screen_of s (lens w) w.transfer a) (screen-good s w a))
+    go (through B l) = subst (DecisionFacts s w a) (sym (board_decides s w a B l)) (look B l (screen_of s (lens w) w.transfer a) (screen_good s w a))
 
 -- ---- whether what the arrival would store stands is asked of a page alone
 
 pub decide_same : (s : Settings) (w : World) (a : List ℕ) (b c : Bool) → ((g : PlacedBlock) → Passing s w a g → deed_of b g ≡ deed_of c g)
     → decide s (lens w) (length w.held.sectors) w.transfer w.seen b a ≡ decide s (lens w) (length w.held.sectors) w.transfer w.seen c a
 unfolding decide
-decide_same s w a b c e = rw (same (screen_of s (lens w) w.transfer a) (screen-good s w a))
+decide_same s w a b c e = rw (same (screen_of s (lens w) w.transfer a) (screen_good s w a))
   where
     same : (x : Screening) → Good s w a x → after_screening w.transfer w.seen b x ≡ after_screening w.transfer w.seen c x
     same (Refused x) h = unfold after_screening in refl

@@ -31,7 +31,7 @@ use Rattle.arrival.specs.Arrive.{Held, World, Decision, stays, accepts, lengths_
 use Rattle.arrival.specs.Lists.{Delivery}
 use Rattle.arrival_claims.proofs.Screening.{Board, Passing}
 use Rattle.arrival.proofs.Facts.{length_cleared}
-use Rattle.arrival_claims.proofs.DecisionFacts.{deed_at, DecisionFacts, refused, took, decision_facts, took_number, took-state}
+use Rattle.arrival_claims.proofs.DecisionFacts.{deed_at, DecisionFacts, refused, took, decision_facts, took_number, took_state}
 use Rattle.flash_plan.specs.declared.Plan.{Plan}
 use Rattle.flash_plan.specs.declared.Plan.TheVariants.{Nothing, Program, EraseProgram}
 use Rattle.flash_plan.specs.Plan.{sector_plan, deed_plan, decision_plan, accepting_by, accepting_of}
@@ -80,14 +80,14 @@ Tells E w = (is_idle w.transfer ≡ true) ⊎ ((q : ℕ) → E q ≡ marked_in w
 
 -- a page of flash, in a sector map m of 1,024 bytes
 module _ (E : ℕ → Bool) (m : List ℕ) (e : (q : ℕ) → E q ≡ marked_in m q) (at : ℕ) where
-  page-allowed : Allowed E (sector_plan at m)
-  page-allowed =
+  page_allowed : Allowed E (sector_plan at m)
+  page_allowed =
       split (marked_in m (at / 4096))
       (λ y. rw y (e (at / 4096) ∙ y))
       (λ z. rw z (e (at / 4096) ∙ z, refl))
 
-  page-marked : at / 4096 / 8 < length m → (q : ℕ) → (E q || erases (sector_plan at m) q) ≡ marked_in (with_mark m (at / 4096)) q
-  page-marked l q =
+  page_marked : at / 4096 / 8 < length m → (q : ℕ) → (E q || erases (sector_plan at m) q) ≡ marked_in (with_mark m (at / 4096)) q
+  page_marked l q =
       split (eqb q (at / 4096))
       (λ y. let f = eqb-true q (at / 4096) y in
       let r : marked_in (with_mark m (at / 4096)) q ≡ true = ap (marked_in (with_mark m (at / 4096))) f ∙ marked_same m (at / 4096) l in
@@ -101,20 +101,20 @@ module _ (E : ℕ → Bool) (m : List ℕ) (e : (q : ℕ) → E q ≡ marked_in 
 
 -- what a block does that is accepted
 module _ (E : ℕ → Bool) (h : Held) (e : (q : ℕ) → E q ≡ marked_in h.sectors q) (at : ℕ) (p : List ℕ) where
-  deed-allowed : (d : Deed) (u : Kind) → Allowed E (deed_plan d u at h.sectors)
-  deed-allowed Stores Flash = page-allowed E h.sectors e at
-  deed-allowed Stores MainRam = tt
-  deed-allowed Stores XipRam = tt
-  deed-allowed Notes u = tt
-  deed-allowed Keeps u = tt
+  deed_allowed : (d : Deed) (u : Kind) → Allowed E (deed_plan d u at h.sectors)
+  deed_allowed Stores Flash = page_allowed E h.sectors e at
+  deed_allowed Stores MainRam = tt
+  deed_allowed Stores XipRam = tt
+  deed_allowed Notes u = tt
+  deed_allowed Keeps u = tt
 
-  deed-marked : (d : Deed) (u : Kind) → (d ≡ Stores → u ≡ Flash → at / 4096 / 8 < length h.sectors) → (q : ℕ) → (E q || erases (deed_plan d u at h.sectors) q) ≡ marked_in (done_to d u at p h).sectors q
+  deed_marked : (d : Deed) (u : Kind) → (d ≡ Stores → u ≡ Flash → at / 4096 / 8 < length h.sectors) → (q : ℕ) → (E q || erases (deed_plan d u at h.sectors) q) ≡ marked_in (done_to d u at p h).sectors q
   unfolding paged_at
-  deed-marked Stores Flash l q = page-marked E h.sectors e at (l refl refl) q
-  deed-marked Stores MainRam l q = or-false (E q) ∙ e q
-  deed-marked Stores XipRam l q = or-false (E q) ∙ e q
-  deed-marked Notes u l q = or-false (E q) ∙ e q
-  deed-marked Keeps u l q = or-false (E q) ∙ e q
+  deed_marked Stores Flash l q = page_marked E h.sectors e at (l refl refl) q
+  deed_marked Stores MainRam l q = or-false (E q) ∙ e q
+  deed_marked Stores XipRam l q = or-false (E q) ∙ e q
+  deed_marked Notes u l q = or-false (E q) ∙ e q
+  deed_marked Keeps u l q = or-false (E q) ∙ e q
 
 -- one arrival
 module _ (s : Settings) (w : World) (a : List ℕ) (E : ℕ → Bool) (T : Tells E w) where
@@ -127,45 +127,45 @@ module _ (s : Settings) (w : World) (a : List ℕ) (E : ℕ → Bool) (T : Tells
       }
 
   -- a refusal leaves all as it was
-  refused-tells : (b : Bool) → b ≡ false → Tells (λ q. (not b && E q) || false) w
-  refused-tells b e = rw e (⊎_elim (λ i. inl i) (λ f. inr (λ q. or-false (E q) ∙ f q)) T)
+  refused_tells : (b : Bool) → b ≡ false → Tells (λ q. (not b && E q) || false) w
+  refused_tells b e = rw e (⊎_elim (λ i. inl i) (λ f. inr (λ q. or-false (E q) ∙ f q)) T)
 
   -- the marks that are left of those before, where the maps are cleared or not
-  left-marks : (c x : Bool) → c ≡ (is_idle w.transfer || x) → (q : ℕ) → (not c && E q) ≡ marked_in (cleared_if c w.held.sectors) q
+  left_marks : (c x : Bool) → c ≡ (is_idle w.transfer || x) → (q : ℕ) → (not c && E q) ≡ marked_in (cleared_if c w.held.sectors) q
   unfolding cleared_if
-  left-marks true x e q = sym (marked_unmarked (length w.held.sectors) q)
-  left-marks false x e q =
+  left_marks true x e q = sym (marked_unmarked (length w.held.sectors) q)
+  left_marks false x e q =
       ⊎_elim
       (λ i. let z : ◌≡◌ {A = Bool} false true = e ∙ rw i in clash false z refl)
       (λ f. f q)
       T
 
-  step-obeys : {d : Decision} → DecisionFacts s w a d → Begins w.transfer d
+  step_obeys : {d : Decision} → DecisionFacts s w a d → Begins w.transfer d
       → Allowed (still_erased E (sight d)) (sight d).plan × Tells (erased_after E (sight d)) (done w (payload_of a) d).world
   unfolding done accept_of wiped_if
-  step-obeys (refused x h) b =
+  step_obeys (refused x h) b =
       let z : leb 14 (number_of x) ≡ false = lt-leb 14 (number_of x) (omega arith) in
-      (tt, refused-tells (leb 14 (number_of x) && (is_idle w.transfer || false)) (rw z))
-  step-obeys (took g k B l q t) b =
+      (tt, refused_tells (leb 14 (number_of x) && (is_idle w.transfer || false)) (rw z))
+  step_obeys (took g k B l q t) b =
       let n : leb 14 (number_of k.answer) ≡ true = le-leb 14 (number_of k.answer) (took_number t) in
       let c : (leb 14 (number_of k.answer) && (is_idle w.transfer || k.discarded)) ≡ k.clears = rw n (sym b) in
       let e : (j : ℕ) → (not (leb 14 (number_of k.answer) && (is_idle w.transfer || k.discarded)) && E j) ≡ marked_in (wiped_if k.clears w.held).sectors j =
-      λ j. ap (λ (v : Bool). not v && E j) c ∙ left-marks k.clears k.discarded b j in
+      λ j. ap (λ (v : Bool). not v && E j) c ∙ left_marks k.clears k.discarded b j in
       let at = at_of g.body in
       let low : deed_at s w a g ≡ Stores → g.head.kind ≡ Flash → at / 4096 / 8 < length (wiped_if k.clears w.held).sectors =
       λ d u.
       let p = page-lies s w a g k B l q (sym (ap (λ (h : Head). h.kind) q.head) ∙ u) d in
       omega (arith, p.to, p.within, p.flash, length_cleared k.clears w.held.sectors, B.sectors) in
       let F : ℕ → Bool = λ j. not (leb 14 (number_of k.answer) && (is_idle w.transfer || k.discarded)) && E j in (
-        deed-allowed F (wiped_if k.clears w.held) e at (payload_of a) (deed_at s w a g) g.head.kind,
-        inr (deed-marked F (wiped_if k.clears w.held) e at (payload_of a) (deed_at s w a g) g.head.kind low),
+        deed_allowed F (wiped_if k.clears w.held) e at (payload_of a) (deed_at s w a g) g.head.kind,
+        inr (deed_marked F (wiped_if k.clears w.held) e at (payload_of a) (deed_at s w a g) g.head.kind low),
       )
 
 obeys : (w : World) (l : List Delivery) (E : ℕ → Bool) → Tells E w → Obeys E (sights_of w l)
 unfolding Obeys sights_of accepting_of accepting_by receive_of
 obeys w [] E T = tt
 obeys w (t ∷ l) E T =
-    let z = step-obeys t.settings w t.arrival E T (decision_facts t.settings w t.arrival) (begins_decided t.settings w t.arrival) in
+    let z = step_obeys t.settings w t.arrival E T (decision_facts t.settings w t.arrival) (begins_decided t.settings w t.arrival) in
     (z.0, obeys (receive_of t.settings w t.arrival).world l (erased_after E (sight_of t.settings w t.arrival)) z.1)
 
 pub erased_once_and_first : ErasedOnceAndFirst

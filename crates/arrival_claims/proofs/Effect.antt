@@ -18,7 +18,7 @@ use Rattle.transfer.specs.declared.Kind.TheVariants.{Flash, MainRam, XipRam}
 use Rattle.arrival.specs.Arrive.{Held, buffer_of, lengths_of, cleared_if, wiped_if, paged_at}
 use Rattle.arrival.specs.File.{is_data}
 use Rattle.arrival.proofs.Heads.{kind_same}
-use Rattle.arrival.proofs.Paged.{Fits, length_paged, owns_in, touches_in, getD-paged, paged-map}
+use Rattle.arrival.proofs.Paged.{Fits, length_paged, owns_in, touches_in, get_d_paged, paged_map}
 use Rattle.arrival_claims.proofs.Cells.{Layout, Apart, touched, touched_add, touched_none, Leaves, buffer, length_buffer, buffer_none, buffer_add}
 use Rattle.arrival.proofs.Count.{Blocks, count, bytes_of, applied, applied_is, wipe, Grows}
 
@@ -150,42 +150,42 @@ module _ (F : Blocks) (x : Held) (ok : Valid F x) (plain : Unkept F x) (S : Set)
     pub buffers : (u : Kind) → Leaves (layout u F) k (touched (count F) (layout u F) S) (buffer_of u there) (buffer_of u g)
     pub sectors : g.sectors ≡ map_of 1024 (λ q. (layout Flash F).touches k q || sectors_of F S q)
 
-  left-page : is_data F.file k ≡ true → Left (paged_at (kind_in F) (F.at k) (payload_in F k) there)
-  left-page y =
+  left_page : is_data F.file k ≡ true → Left (paged_at (kind_in F) (F.at k) (payload_in F k) there)
+  left_page y =
       let fits : Fits (kind_in F) (length (buffer_of (kind_in F) there)) (F.at k) (payload_in F k) =
       subst (λ (n : ℕ). Fits (kind_in F) n (F.at k) (payload_in F k)) (sym (length_effect (kind_in F) F x S)) (ok.fits k h y) in
       record {
         buffers = λ u. (
           length_paged u (kind_in F) (F.at k) (payload_in F k) there,
           rw y
-              (getD-paged (F.at k) (payload_in F k) there (sectors_of F S) marks whole most u (kind_in F) (touched (count F) (layout u F) S)
+              (get_d_paged (F.at k) (payload_in F k) there (sectors_of F S) marks whole most u (kind_in F) (touched (count F) (layout u F) S)
               (λ e. ap (λ (v : Kind). touched (count F) (layout v F) S) e) fits),
         );
-        sectors = rw y (paged-map (F.at k) (payload_in F k) there (sectors_of F S) marks whole most (kind_in F) fits);
+        sectors = rw y (paged_map (F.at k) (payload_in F k) there (sectors_of F S) marks whole most (kind_in F) fits);
       }
 
-  left-note : is_data F.file k ≡ false → Left there
-  left-note z =
+  left_note : is_data F.file k ≡ false → Left there
+  left_note z =
       record {
         buffers = λ u. (refl, λ j. rw (z, and-false (same_kind u (kind_in F)), and-false (same_kind u Flash), and-false (same_kind u (kind_in F))));
         sectors = rw (z, and-false (same_kind Flash (kind_in F))) marks;
       }
 
   left : Left (applied F k there)
-  left = rw (applied_is F k there) (split (is_data F.file k) (λ y. rw (plain there.flash k h y (length_effect Flash F x S), y) (left-page y)) (λ z. rw z (left-note z)))
+  left = rw (applied_is F k there) (split (is_data F.file k) (λ y. rw (plain there.flash k h y (length_effect Flash F x S), y) (left_page y)) (λ z. rw z (left_note z)))
 
-  buffer-more : (u : Kind) → buffer_of u (applied F k there) ≡ buffer_of u (effect F x (add k S))
-  buffer-more u =
+  buffer_more : (u : Kind) → buffer_of u (applied F k there) ≡ buffer_of u (effect F x (add k S))
+  buffer_more u =
       buffer_add (count F) (layout u F) (apart_of u F x ok) (buffer_of u x) S k h (buffer_of u (applied F k there))
       (subst (λ (f : List ℕ). Leaves (layout u F) k (touched (count F) (layout u F) S) f (buffer_of u (applied F k there))) (effect_buffer u F x S) (left.buffers u))
       ∙ sym (effect_buffer u F x (add k S))
 
-  sectors-more : (applied F k there).sectors ≡ (effect F x (add k S)).sectors
+  sectors_more : (applied F k there).sectors ≡ (effect F x (add k S)).sectors
   unfolding effect
-  sectors-more = left.sectors ∙ ap (map_of 1024) (fun_ext (λ q. sym (touched_add (count F) (layout Flash F) S k q h)))
+  sectors_more = left.sectors ∙ ap (map_of 1024) (fun_ext (λ q. sym (touched_add (count F) (layout Flash F) S k q h)))
 
   pub one_more : applied F k there ≡ effect F x (add k S)
-  one_more = held_is (applied F k there) (effect F x (add k S)) buffer-more sectors-more
+  one_more = held_is (applied F k there) (effect F x (add k S)) buffer_more sectors_more
 
 pub none_yet : (F : Blocks) (x : Held) → length x.sectors ≡ 1024 → wipe x ≡ effect F x none
 none_yet F x n = held_is (wipe x) (effect F x none) (λ u. wiped u ∙ buffer_none (count F) (layout u F) (buffer_of u x) ∙ sym (effect_buffer u F x none)) maps

@@ -16,7 +16,7 @@ use Rattle.memory.proofs.flash.Laws.{payload_set}
 use Rattle.md5_digest.specs.Md5.{md5_of}
 use Rattle.md5_digest.specs.declared.Digest.{Digest}
 use Rattle.uf2_block.specs.Regions.{same_digest, part_of, stands_in}
-use Rattle.uf2_block.proofs.regions.Laws.{Counting, good-yes, stands-there, digest_yes}
+use Rattle.uf2_block.proofs.regions.Laws.{Counting, good_yes, stands_there, digest_yes}
 use Rattle.partitions.specs.Settings.{good_settings}
 use Rattle.partitions.specs.declared.Settings.{Settings}
 use Rattle.placement.proofs.Theorems.{place_inside}
@@ -45,10 +45,10 @@ use Rattle.arrival.specs.Facts.{flagged}
 use Rattle.arrival_claims.specs.Comments.{Unstored}
 use Rattle.arrival_claims.specs.Kept.{soft, Agree, FlashDecides14Or17, Flag0x4000Decides14Or17, StandingKept, KeptStands, ElseAsBefore}
 use Rattle.arrival.specs.Standing.{Standing}
-use Rattle.arrival.proofs.Standing.{keeps_at, standing-of}
+use Rattle.arrival.proofs.Standing.{keeps_at, standing_of}
 use Rattle.arrival_claims.proofs.Screening.{flash_of, lens, Board, Passing, passing_deed}
-use Rattle.arrival_claims.proofs.DecisionFacts.{raisedCount, took-answer, deed_at, DecisionFacts, refused, took, decision_facts, decide_same}
-use Rattle.arrival_claims.proofs.Bounds.{deed-is}
+use Rattle.arrival_claims.proofs.DecisionFacts.{raised_count, took_answer, deed_at, DecisionFacts, refused, took, decision_facts, decide_same}
+use Rattle.arrival_claims.proofs.Bounds.{deed_is}
 use Rattle.arrival.proofs.Facts.{decide_flags, kind_flags}
 use Rattle.arrival_claims.proofs.Comments.{unstored}
 
@@ -90,17 +90,17 @@ soft_deeds b c Note = refl
 
 -- two worlds with the same transfer and seen map
 module _ (v w : World) (p : List ℕ) (transfers : v.transfer ≡ w.transfer) (maps : v.seen ≡ w.seen) where
-  agree-stays : (x : Answer) → Agree (done v p (stays x)) (done w p (stays x))
+  agree_stays : (x : Answer) → Agree (done v p (stays x)) (done w p (stays x))
   unfolding done
-  agree-stays x = record { answer = refl; discarded = refl; transfer = transfers; seen = maps }
+  agree_stays x = record { answer = refl; discarded = refl; transfer = transfers; seen = maps }
 
-  agree-steps : (g : PlacedBlock) (d e : Deed) (x y : Step) → Like x y → Agree (done v p (stepped g d x)) (done w p (stepped g e y))
+  agree_steps : (g : PlacedBlock) (d e : Deed) (x y : Step) → Like x y → Agree (done v p (stepped g d x)) (done w p (stepped g e y))
   unfolding done accept_of
-  agree-steps g d e (Stays x) (Stays y) h =
+  agree_steps g d e (Stays x) (Stays y) h =
       record { answer = ap (λ u. soft u.answer) h; discarded = refl; transfer = transfers; seen = maps }
-  agree-steps g d e (Stays x) (Accepts l) h = absurd h
-  agree-steps g d e (Accepts k) (Stays y) h = absurd h
-  agree-steps g d e (Accepts k) (Accepts l) h =
+  agree_steps g d e (Stays x) (Accepts l) h = absurd h
+  agree_steps g d e (Accepts k) (Stays y) h = absurd h
+  agree_steps g d e (Accepts k) (Accepts l) h =
       record {
         answer = h.0;
         discarded = h.1;
@@ -108,28 +108,28 @@ module _ (v w : World) (p : List ℕ) (transfers : v.transfer ≡ w.transfer) (m
         seen = λ i. with_mark (cleared_if (h.3 i) (maps i)) g.number;
       }
 
-  agree-screened : (t : State) (seen : List ℕ) (b c : Bool) (x : Screening) → Agree (done v p (after_screening t seen b x)) (done w p (after_screening t seen c x))
+  agree_screened : (t : State) (seen : List ℕ) (b c : Bool) (x : Screening) → Agree (done v p (after_screening t seen b x)) (done w p (after_screening t seen c x))
   unfolding after_screening
-  agree-screened t seen b c (Refused x) = agree-stays x
-  agree-screened t seen b c (Passed g) =
+  agree_screened t seen b c (Refused x) = agree_stays x
+  agree_screened t seen b c (Passed g) =
       let k = same_kind g.head.kind Flash in
-      agree-steps g (deed_of b g) (deed_of c g)
+      agree_steps g (deed_of b g) (deed_of c g)
       (step_of t g.head (marked_in seen g.number) (deed_of b g))
       (step_of t g.head (marked_in seen g.number) (deed_of c g))
       (like_steps t g.head (marked_in seen g.number) (deed_of b g) (deed_of c g) (soft_deeds (k && b) (k && c) g.body))
 
-  agree-cond : (b : Bool) (x : Answer) (y z : Decision) → Agree (done v p y) (done w p z) → Agree (done v p (cond b (stays x) y)) (done w p (cond b (stays x) z))
-  agree-cond true x y z h = agree-stays x
-  agree-cond false x y z h = h
+  agree_cond : (b : Bool) (x : Answer) (y z : Decision) → Agree (done v p y) (done w p z) → Agree (done v p (cond b (stays x) y)) (done w p (cond b (stays x) z))
+  agree_cond true x y z h = agree_stays x
+  agree_cond false x y z h = h
 
-  agree-decide : (s : Settings) (n : Lengths) (k : ℕ) (t : State) (seen : List ℕ) (b c : Bool) (a : List ℕ)
+  agree_decide : (s : Settings) (n : Lengths) (k : ℕ) (t : State) (seen : List ℕ) (b c : Bool) (a : List ℕ)
       → Agree (done v p (decide s n k t seen b a)) (done w p (decide s n k t seen c a))
   unfolding decide
-  agree-decide s n k t seen b c a =
-      agree-cond (not (right_lengths (length a) n (length seen) k)) BadBuffers _ _
-      (agree-cond (not (good_settings s n.flash)) BadSettings _ _
-      (agree-cond (not (good_state t)) BadState _ _
-      (agree-screened t seen b c (screen_of s n t a))))
+  agree_decide s n k t seen b c a =
+      agree_cond (not (right_lengths (length a) n (length seen) k)) BadBuffers _ _
+      (agree_cond (not (good_settings s n.flash)) BadSettings _ _
+      (agree_cond (not (good_state t)) BadState _ _
+      (agree_screened t seen b c (screen_of s n t a))))
 
 pub flash_decides_14_or_17 : FlashDecides14Or17
 unfolding FlashDecides14Or17 receive_of
@@ -138,7 +138,7 @@ flash_decides_14_or_17 s v w a e =
     let same : decided s v a ≡ decide s (lens w) (length w.held.sectors) w.transfer w.seen b a =
     λ i. decide s (e.lengths i) (e.sectors_length i) (e.transfer i) (e.seen i) b a in
     rw same
-    (agree-decide v w (payload_of a) e.transfer e.seen s (lens w) (length w.held.sectors) w.transfer w.seen b (standing s w.held.flash a) a)
+    (agree_decide v w (payload_of a) e.transfer e.seen s (lens w) (length w.held.sectors) w.transfer w.seen b (standing s w.held.flash a) a)
 
 pub flag_0x4000_decides_14_or_17 : Flag0x4000Decides14Or17
 unfolding Flag0x4000Decides14Or17 receive_of
@@ -148,14 +148,14 @@ flag_0x4000_decides_14_or_17 s w a =
       payload_set a 9 (get_or a 9 0 + 0x40) (omega arith),
       decide_flags s (lens w) (length w.held.sectors) w.transfer w.seen b a 0x40 (omega arith),
     )
-    (agree-decide w w (payload_of a) refl refl s (lens w) (length w.held.sectors) w.transfer w.seen b (standing s w.held.flash a) a)
+    (agree_decide w w (payload_of a) refl refl s (lens w) (length w.held.sectors) w.transfer w.seen b (standing s w.held.flash a) a)
 
 -- ---- when it is kept
 
 module _ (s : Settings) (w : World) (a : List ℕ) where
-  pub standing-keeps : Board s w → Standing s w a → keeps_at s w a ≡ true
+  pub standing_keeps : Board s w → Standing s w a → keeps_at s w a ≡ true
   unfolding stands_at region_of
-  standing-keeps B q =
+  standing_keeps B q =
       let start = q.start in
       let size = q.size in
       let i = place_inside s (flash_of w) (field_at a 28) B.flash B.good start size q.place in
@@ -172,14 +172,14 @@ module _ (s : Settings) (w : World) (a : List ℕ) where
       let d : same_digest (md5_of (part_of w.held.flash start (region_of a))) (region_of a) ≡ true =
       ap (λ (x : Digest). same_digest x (region_of a)) q.digest ∙ digest_yes (region_of a) in
       let t : stands_in w.held.flash start (region_of a) ≡ true =
-      sym (stands-there w.held.flash start (region_of a) q.window (omega (arith, q.within, i.2))) ∙ d in
-      rw (q.flash, q.place) (both (both q.flag (good-yes size (field_at a 12) (region_of a) c)) t)
+      sym (stands_there w.held.flash start (region_of a) q.window (omega (arith, q.within, i.2))) ∙ d in
+      rw (q.flash, q.place) (both (both q.flag (good_yes size (field_at a 12) (region_of a) c)) t)
 
 keeping : (s : Settings) (w : World) (a : List ℕ) {d : Decision} → DecisionFacts s w a d → Standing s w a
     → 14 ≤ number_of (done w (payload_of a) d).answer → Unstored 17 w a (done w (payload_of a) d)
 keeping s w a (refused x h) q n = let m : 14 ≤ number_of x = unfold done in n in absurd (omega arith)
 keeping s w a (took g k B l p t) q n =
-    unstored s w a Keeps g k p B t (deed-is s w a g k p B ∙ rw (q.data_block, standing-keeps s w a B q)) (λ e. let z : ◌≡◌ {A = ℕ} 0 1 = cc in omega arith)
+    unstored s w a Keeps g k p B t (deed_is s w a g k p B ∙ rw (q.data_block, standing_keeps s w a B q)) (λ e. let z : ◌≡◌ {A = ℕ} 0 1 = cc in omega arith)
 
 pub standing_kept : StandingKept
 unfolding StandingKept receive_of
@@ -204,9 +204,9 @@ stands : (s : Settings) (w : World) (a : List ℕ) {d : Decision} → DecisionFa
 stands s w a (refused x h) n = let m : number_of x ≡ 17 = unfold done in n in absurd (omega arith)
 stands s w a (took g k B l p t) n =
     let m : number_of k.answer ≡ 17 = unfold done in n in
-    let e : deed_at s w a g ≡ Keeps = raised_kept (deed_at s w a g) g.head (raisedCount t) (sym (ap number_of (took-answer t)) ∙ m) in
-    let f = kept_only (has_flag a 0x1) (keeps_at s w a) (sym (deed-is s w a g k p B) ∙ e) in
-    standing-of s w a f.0 f.1
+    let e : deed_at s w a g ≡ Keeps = raised_kept (deed_at s w a g) g.head (raised_count t) (sym (ap number_of (took_answer t)) ∙ m) in
+    let f = kept_only (has_flag a 0x1) (keeps_at s w a) (sym (deed_is s w a g k p B) ∙ e) in
+    standing_of s w a f.0 f.1
 
 pub kept_stands : KeptStands
 unfolding KeptStands receive_of
@@ -240,8 +240,8 @@ else_as_before s w a n m =
             split (has_flag a 0x1)
             (λ y. rw y)
             (λ z.
-            let q : k && c ≡ false = is_false (k && c) (λ y. n (standing-of s w a z y)) in
+            let q : k && c ≡ false = is_false (k && c) (λ y. n (standing_of s w a z y)) in
             let r : k && b ≡ false =
             is_false (k && b)
-            (λ y. m (standing-of s w (flagged 0x40 a) (flag_comment a 0x40 (omega arith) ∙ z) (ap (λ (u : Kind). same_kind u Flash && b) (kind_flags w a 0x40 (omega arith)) ∙ y))) in
+            (λ y. m (standing_of s w (flagged 0x40 a) (flag_comment a 0x40 (omega arith) ∙ z) (ap (λ (u : Kind). same_kind u Flash && b) (kind_flags w a 0x40 (omega arith)) ∙ y))) in
             rw (z, q, r))

@@ -24,11 +24,11 @@ use Rattle.arrival_claims.specs.Ram.{OtherKindsKept, RamKept, RamStored, RamMark
 use Rattle.arrival.proofs.Heads.{same_kind_lem, kind_same}
 use Rattle.arrival.proofs.Paged.{get_d_ram, sectors_ram}
 use Rattle.arrival_claims.proofs.Effect.{spans_is}
-use Rattle.arrival_claims.proofs.Screening.{Board, Passing, room-origin}
-use Rattle.arrival_claims.proofs.DecisionFacts.{deed_at, DecisionFacts, refused, took, decision_facts, took-clears}
+use Rattle.arrival_claims.proofs.Screening.{Board, Passing, room_origin}
+use Rattle.arrival_claims.proofs.DecisionFacts.{deed_at, DecisionFacts, refused, took, decision_facts, took_clears}
 use Rattle.arrival.proofs.Standing.{keeps_at}
 use Rattle.arrival.proofs.Facts.{wiped_buffer, wiped_sectors}
-use Rattle.arrival_claims.proofs.Bounds.{left-note, left-page, left-fits, left_other}
+use Rattle.arrival_claims.proofs.Bounds.{left_note, left_page, left-fits, left_other}
 
 -- ---- the other kinds
 
@@ -57,19 +57,19 @@ ram_origin s w XipRam f n = refl
 
 module _ (s : Settings) (w : World) (a : List ℕ) (g : PlacedBlock) (c : Accepted) (q : Passing s w a g) (B : Board s w) (l : length a ≡ 512)
     (n : kind_of w a ≢ Flash) where
-  start-zero : q.start ≡ 0
-  start-zero =
-      room-origin s w B (field_at a 28) (kind_of w a) q.start q.size q.place ∙ ram_origin s w (kind_of w a) (field_at a 28) n
+  start_zero : q.start ≡ 0
+  start_zero =
+      room_origin s w B (field_at a 28) (kind_of w a) q.start q.size q.place ∙ ram_origin s w (kind_of w a) (field_at a 28) n
 
-  page-bytes : has_flag a 0x1 ≡ false → (j : ℕ)
+  page_bytes : has_flag a 0x1 ≡ false → (j : ℕ)
       → get_or (buffer_of (kind_of w a) (done w (payload_of a) (accepts g (deed_at s w a g) c)).world.held) j 0
       ≡ cond (spans (field_at a 12 - window_start (kind_of w a)) j) (get_or (payload_of a) (j - (field_at a 12 - window_start (kind_of w a))) 0) (get_or (buffer_of (kind_of w a) w.held) j 0)
-  page-bytes z j =
+  page_bytes z j =
       let k = kind_of w a in
       let x = field_at a 12 - window_start k in
       let h = wiped_if c.clears w.held in
-      let e : q.start + x ≡ x = omega (arith, start-zero) in
-      ap (λ (v : Held). get_or (buffer_of k v) j 0) (left-page s w a g c q B z (keeps_ram s w a n))
+      let e : q.start + x ≡ x = omega (arith, start_zero) in
+      ap (λ (v : Held). get_or (buffer_of k v) j 0) (left_page s w a g c q B z (keeps_ram s w a n))
       ∙ get_d_ram k (q.start + x) (payload_of a) h n (left-fits s w a g c q B z l) j
       ∙ ap (λ (i : ℕ). cond (spans i j) (get_or (payload_of a) (j - i) 0) (get_or (buffer_of k h) j 0)) e
       ∙ ap (λ (b : List ℕ). cond (spans x j) (get_or (payload_of a) (j - x) 0) (get_or b j 0)) (wiped_buffer c.clears w.held k)
@@ -89,11 +89,11 @@ stay s w a k j (took g c B l q t) n e =
         rw r
         (split (has_flag a 0x1)
         (λ y.
-        ap (λ (v : Held). get_or (buffer_of (kind_of w a) v) j 0) (left-note s w a g c q B y)
+        ap (λ (v : Held). get_or (buffer_of (kind_of w a) v) j 0) (left_note s w a g c q B y)
         ∙ ap (λ (b : List ℕ). get_or b j 0) (wiped_buffer c.clears w.held (kind_of w a)))
         (λ z.
         let f : spans (field_at a 12 - window_start (kind_of w a)) j ≡ false = rw r at e in
-        page-bytes s w a g c q B l (rw r at n) z j ∙ rw f))
+        page_bytes s w a g c q B l (rw r at n) z j ∙ rw f))
 
 pub ram_kept : RamKept
 unfolding RamKept receive_of
@@ -106,7 +106,7 @@ store : (s : Settings) (w : World) (a : List ℕ) (i : ℕ) {d : Decision} → D
 store s w a i (refused x h) m z n b = let r : 14 ≤ number_of x = unfold done in m in absurd (omega arith)
 store s w a i (took g c B l q t) m z n b =
     let x = field_at a 12 - window_start (kind_of w a) in
-    page-bytes s w a g c q B l n z (x + i)
+    page_bytes s w a g c q B l n z (x + i)
     ∙ rw (spans_is x (x + i) (omega arith) (omega arith))
     (ap (λ (j : ℕ). get_or (payload_of a) j 0) (omega arith) ∙ get_d_payload a i b)
 
@@ -122,12 +122,12 @@ no_mark : (s : Settings) (w : World) (a : List ℕ) {d : Decision} → DecisionF
 no_mark s w a (refused x h) m n = let r : 14 ≤ number_of x = unfold done in m in absurd (omega arith)
 no_mark s w a (took g c B l q t) m n =
     split (has_flag a 0x1)
-    (λ y. ap (λ (v : Held). v.sectors) (left-note s w a g c q B y))
+    (λ y. ap (λ (v : Held). v.sectors) (left_note s w a g c q B y))
     (λ z.
-    ap (λ (v : Held). v.sectors) (left-page s w a g c q B z (keeps_ram s w a n))
+    ap (λ (v : Held). v.sectors) (left_page s w a g c q B z (keeps_ram s w a n))
     ∙ sectors_ram (kind_of w a) (q.start + (field_at a 12 - window_start (kind_of w a))) (payload_of a) (wiped_if c.clears w.held) n)
     ∙ wiped_sectors c.clears w.held
-    ∙ ap (λ (b : Bool). cleared_if b w.held.sectors) (took-clears t ∙ ap (clears w.transfer) q.head)
+    ∙ ap (λ (b : Bool). cleared_if b w.held.sectors) (took_clears t ∙ ap (clears w.transfer) q.head)
 
 pub ram_marks_nothing : RamMarksNothing
 unfolding RamMarksNothing receive_of

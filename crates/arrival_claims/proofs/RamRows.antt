@@ -9,7 +9,7 @@ use lib.Dec.{eqb, ltb, leb}
 use lib.ListN.{get_or}
 use borrow.Author.Tests.{leb-true, le-leb, ltb-true, lt-ltb, eqb-true, eq-eqb}
 use Rattle.laws.specs.Sets.{Set, any}
-use Rattle.laws.proofs.Laws.{any-hit}
+use Rattle.laws.proofs.Laws.{any_hit}
 use Rattle.laws.proofs.Tests.{split, clash, both, and_left, and_right}
 use Rattle.memory.specs.Bitmap.{marked_in}
 use Rattle.uf2_block.specs.Block.{field_at, has_flag, fields_of, header_of}
@@ -19,7 +19,7 @@ use Rattle.uf2_block.specs.declared.Header.TheVariants as header
 use Rattle.memory.specs.Flash.{payload_of}
 use Rattle.partitions.specs.Settings.{family_data, family_arm_ns, user_is, has_user, entry_at}
 use Rattle.partitions.specs.declared.Settings.{Settings}
-use Rattle.partitions.proofs.Laws.{good-count}
+use Rattle.partitions.proofs.Laws.{good_count}
 use Rattle.placement.specs.Place.{used_count, whole_if, user_of, ram_family}
 use Rattle.placement.specs.declared.Place.{Place}
 use Rattle.placement.specs.declared.Place.TheVariants.{Nowhere, At}
@@ -29,7 +29,7 @@ use Rattle.transfer.specs.declared.Kind.TheVariants.{Flash, MainRam, XipRam}
 use Rattle.transfer.specs.declared.Answer.{Answer}
 use Rattle.transfer.specs.declared.Answer.TheVariants.{NoPlace}
 use Rattle.uf2_checks.specs.Screen.{window_of, note_kind, room_in, bad_numbers, bad_address, placed, strayed, noted, window_kind, data_found, note_found, found, after_header, screen_in, screen_of, screening_number}
-use Rattle.uf2_checks.proofs.Laws.{found-comment, found-data}
+use Rattle.uf2_checks.proofs.Laws.{found_comment, found_data}
 use Rattle.uf2_checks.proofs.Windows.{WindowFacts, window_facts}
 use Rattle.uf2_checks.specs.declared.Lengths.{Lengths}
 use Rattle.uf2_checks.specs.declared.Rooms.{Rooms}
@@ -62,9 +62,9 @@ used_is : (n : ℕ) → n ≤ 16 → used_count n ≡ n
 used_is n h = rw (le-leb n 16 h)
 
 module _ (s : Settings) (f : ℕ) (few : s.count ≤ 16) where
-  ram-yes : ram_family s f ≡ true → RamFamily s f
+  ram_yes : ram_family s f ≡ true → RamFamily s f
   unfolding ram_family has_user
-  ram-yes e =
+  ram_yes e =
       split (leb family_data f && leb f family_arm_ns)
       (λ y. named (leb-true family_data f (and_left (leb family_data f) (leb f family_arm_ns) y)) (leb-true f family_arm_ns (and_right (leb family_data f) (leb f family_arm_ns) y)))
       (λ z.
@@ -77,16 +77,16 @@ module _ (s : Settings) (f : ℕ) (few : s.count ≤ 16) where
       (ltb-true i.0 n (and_left (ltb i.0 n) (eqb u f) i.2))
       (eqb-true u f (and_right (ltb i.0 n) (eqb u f) i.2)))
 
-  ram-is : RamFamily s f → ram_family s f ≡ true
+  ram_is : RamFamily s f → ram_family s f ≡ true
   unfolding ram_family has_user
-  ram-is (named l h) = rw (le-leb family_data f l, le-leb f family_arm_ns h)
-  ram-is (user k i h l m e) =
+  ram_is (named l h) = rw (le-leb family_data f l, le-leb f family_arm_ns h)
+  ram_is (user k i h l m e) =
       let n = (entry_at s.table k).user_count in
       let u = get_or (entry_at s.table k).users i 0 in
       let x : any 4 (user_is (entry_at s.table k) f) ≡ true =
-      any-hit (user_is (entry_at s.table k) f) 4 i l (both (lt-ltb i n m) (eq-eqb u f e)) in
+      any_hit (user_is (entry_at s.table k) f) 4 i l (both (lt-ltb i n m) (eq-eqb u f e)) in
       let y : any (used_count s.count) (user_of s.table f) ≡ true =
-      any-hit (user_of s.table f) (used_count s.count) k (omega (arith, used_is s.count few)) x in
+      any_hit (user_of s.table f) (used_count s.count) k (omega (arith, used_is s.count few)) x in
       rw y (or-true (leb family_data f && leb f family_arm_ns))
 
 -- ---- row 8
@@ -137,17 +137,17 @@ data_by Outside (At start size) b = strayed_8 b
 data_by (In k) (At start size) b = placed_8 k start size b
 
 module _ (s : Settings) (w : World) (a : List ℕ) where
-  found-by : ByPlace (room_in (rooms_for s w a) (kind_of w a)) (found (rooms_for s w a) (lens w) w.transfer (fields_of a))
-  found-by =
+  found_by : ByPlace (room_in (rooms_for s w a) (kind_of w a)) (found (rooms_for s w a) (lens w) w.transfer (fields_of a))
+  found_by =
       split (has_flag a 0x1)
       (λ y.
       let k = note_kind (lens w) w.transfer (fields_of a) in
-      subst (ByPlace (room_in (rooms_for s w a) (kind_of w a))) (sym (found-comment (rooms_for s w a) (lens w) w.transfer (fields_of a) (comment_is a ∙ y)))
+      subst (ByPlace (room_in (rooms_for s w a) (kind_of w a))) (sym (found_comment (rooms_for s w a) (lens w) w.transfer (fields_of a) (comment_is a ∙ y)))
       (subst (λ (v : Kind). ByPlace (room_in (rooms_for s w a) v) (note_found k (room_in (rooms_for s w a) k) (fields_of a))) (sym (kind-note s w a y))
       (note_by k (room_in (rooms_for s w a) k) (fields_of a))))
       (λ z.
       let u = window_of (lens w) (fields_of a).address in
-      subst (ByPlace (room_in (rooms_for s w a) (kind_of w a))) (sym (found-data (rooms_for s w a) (lens w) w.transfer (fields_of a) (comment_is a ∙ z)))
+      subst (ByPlace (room_in (rooms_for s w a) (kind_of w a))) (sym (found_data (rooms_for s w a) (lens w) w.transfer (fields_of a) (comment_is a ∙ z)))
       (subst (λ (v : Kind). ByPlace (room_in (rooms_for s w a) v) (data_found u (room_in (rooms_for s w a) (window_kind u)) (fields_of a))) (sym (kind-window s w a z))
       (data_by u (room_in (rooms_for s w a) (window_kind u)) (fields_of a))))
 
@@ -163,16 +163,16 @@ module _ (s : Settings) (w : World) (a : List ℕ) where
   row_8 n (header.Found b) f =
       let x = found (rooms_for s w a) (lens w) w.transfer (fields_of a) in
       let q = ram_room (rooms_for s w a) (kind_of w a) n in
-      let e : ByPlace (whole_if (ram_family s (field_at a 28)) q.0) x = subst (λ (p : Place). ByPlace p x) q.1 found-by in
+      let e : ByPlace (whole_if (ram_family s (field_at a 28)) q.0) x = subst (λ (p : Place). ByPlace p x) q.1 found_by in
       subst (λ (b : Block). Row8 (found (rooms_for s w a) (lens w) w.transfer b)) (sym f)
       (record {
         others = λ z. (NoPlace, subst (λ (c : Bool). ByPlace (whole_if c q.0) x) z e, omega arith);
         those = λ y. subst (λ (c : Bool). ByPlace (whole_if c q.0) x) y e;
       })
 
-  screen-8 : kind_of w a ≢ Flash → Row8 (screen_of s (lens w) w.transfer a)
+  screen_8 : kind_of w a ≢ Flash → Row8 (screen_of s (lens w) w.transfer a)
   unfolding screen_of screen_in
-  screen-8 n = row_8 n (header_of a) (fielded a)
+  screen_8 n = row_8 n (header_of a) (fielded a)
 
   -- the answer to an arrival that has passed rows 1 to 3
   answered : (b : Bool) (x : Screening) → Placed8 x → number_of (done w (payload_of a) (after_screening w.transfer w.seen b x)).answer ≢ 8
@@ -194,10 +194,10 @@ over w p b x y e h l = let q : 9 ≤ number_of y = rw e at l in omega arith
 screened : (s : Settings) (w : World) (a : List ℕ) → Board s w → (b : Bool) (x : Screening) → Row8 s w a x
     → Says s w a (after_screening w.transfer w.seen b x)
 screened s w a B b x r =
-    let few = good-count s (flash_of w) B.good in (
-      λ l. split (ram_family s (field_at a 28)) (ram-yes s (field_at a 28) few)
+    let few = good_count s (flash_of w) B.good in (
+      λ l. split (ram_family s (field_at a 28)) (ram_yes s (field_at a 28) few)
           (λ z. let y = r.others z in absurd (over w (payload_of a) b x y.0 y.1 y.2 l)),
-      λ m. answered s w a b x (r.those (ram-is s (field_at a 28) few m)),
+      λ m. answered s w a b x (r.those (ram_is s (field_at a 28) few m)),
     )
 
 pub ram_families : RamFamilies
@@ -207,7 +207,7 @@ ram_families s w a n = go (rows s w a)
     go : Rows s w a → Says s w a (decided s w a)
     go (stopped x h e) = subst (Says s w a) (sym e) (unfold done in (λ l. absurd (omega arith), λ m q. omega arith))
     go (through B l) =
-        subst (Says s w a) (sym (board_decides s w a B l)) (screened s w a B (standing s w.held.flash a) (screen_of s (lens w) w.transfer a) (screen-8 s w a n))
+        subst (Says s w a) (sym (board_decides s w a B l)) (screened s w a B (standing s w.held.flash a) (screen_of s (lens w) w.transfer a) (screen_8 s w a n))
 
 -- ---- row 11
 
@@ -246,33 +246,33 @@ module _ (s : Settings) (w : World) (a : List ℕ) (n : kind_of w a ≢ Flash) (
   abbrev Past : Type 0
   Past = window_end (kind_of w a) < field_at a 12 + 256
 
-  past-found : screening_number (found (rooms_for s w a) (lens w) w.transfer (fields_of a)) ≡ 11 → Past
-  past-found e =
+  past_found : screening_number (found (rooms_for s w a) (lens w) w.transfer (fields_of a)) ≡ 11 → Past
+  past_found e =
       let u = window_of (lens w) (fields_of a).address in
       let k : kind_of w a ≡ window_kind u = kind-window s w a z in
       let q : screening_number (data_found u (room_in (rooms_for s w a) (window_kind u)) (fields_of a)) ≡ 11 =
-      ap screening_number (sym (found-data (rooms_for s w a) (lens w) w.transfer (fields_of a) (comment_is a ∙ z))) ∙ e in
+      ap screening_number (sym (found_data (rooms_for s w a) (lens w) w.transfer (fields_of a) (comment_is a ∙ z))) ∙ e in
       subst (λ (v : Kind). window_end v < field_at a 12 + 256) (sym k)
       (past_data (lens w) (field_at a 12) (rooms_for s w a) (fields_of a) (unfold fields_of in refl) u facts (λ y. n (k ∙ y)) (room_in (rooms_for s w a) (window_kind u)) refl q)
     where
       facts : WindowFacts (lens w) (field_at a 12) (window_of (lens w) (fields_of a).address)
       facts = unfold fields_of in window_facts (lens w) (field_at a 12)
 
-  past-header : (h : Header) → Fielded a h → screening_number (after_header h (found (rooms_for s w a) (lens w) w.transfer)) ≡ 11 → Past
-  past-header header.NotBlock f e = absurd (omega arith)
-  past-header header.Container f e = absurd (omega arith)
-  past-header header.NoFamily f e = absurd (omega arith)
-  past-header (header.Found b) f e =
-      past-found (subst (λ (b : Block). screening_number (found (rooms_for s w a) (lens w) w.transfer b) ≡ 11) f e)
+  past_header : (h : Header) → Fielded a h → screening_number (after_header h (found (rooms_for s w a) (lens w) w.transfer)) ≡ 11 → Past
+  past_header header.NotBlock f e = absurd (omega arith)
+  past_header header.Container f e = absurd (omega arith)
+  past_header header.NoFamily f e = absurd (omega arith)
+  past_header (header.Found b) f e =
+      past_found (subst (λ (b : Block). screening_number (found (rooms_for s w a) (lens w) w.transfer b) ≡ 11) f e)
 
-  past-screen : screening_number (screen_of s (lens w) w.transfer a) ≡ 11 → Past
+  past_screen : screening_number (screen_of s (lens w) w.transfer a) ≡ 11 → Past
   unfolding screen_of screen_in
-  past-screen e = past-header (header_of a) (fielded a) e
+  past_screen e = past_header (header_of a) (fielded a) e
 
-  past-answer : (b : Bool) (x : Screening) → number_of (done w (payload_of a) (after_screening w.transfer w.seen b x)).answer ≡ 11 → screening_number x ≡ 11
+  past_answer : (b : Bool) (x : Screening) → number_of (done w (payload_of a) (after_screening w.transfer w.seen b x)).answer ≡ 11 → screening_number x ≡ 11
   unfolding after_screening
-  past-answer b (Refused x) e = unfold done in e
-  past-answer b (Passed g) e =
+  past_answer b (Refused x) e = unfold done in e
+  past_answer b (Passed g) e =
       absurd (omega (arith, step_late w (payload_of a) g (deed_of b g) w.transfer (marked_in w.seen g.number)))
 
   pub past_end : number_of (receive_of s w a).answer ≡ 11 → Past
@@ -284,7 +284,7 @@ module _ (s : Settings) (w : World) (a : List ℕ) (n : kind_of w a ≢ Flash) (
           let q : number_of x ≡ 11 = unfold done in ap (λ (d : Decision). number_of (done w (payload_of a) d).answer) (sym d) ∙ e in
           absurd (omega arith)
       go (through B l) =
-          past-screen (past-answer (standing s w.held.flash a) (screen_of s (lens w) w.transfer a)
+          past_screen (past_answer (standing s w.held.flash a) (screen_of s (lens w) w.transfer a)
           (ap (λ (d : Decision). number_of (done w (payload_of a) d).answer) (sym (board_decides s w a B l)) ∙ e))
 
 pub ram_addresses : RamAddresses

@@ -29,7 +29,7 @@ use Rattle.transfer.specs.declared.Head.{Head}
 use Rattle.transfer.specs.declared.State.{State}
 use Rattle.transfer.specs.declared.State.TheVariants.{Idle, Running, Done}
 use Rattle.uf2_checks.specs.Screen.{extent_of, is_lent, window_of, note_kind, rooms_of, room_in, bad_numbers, bad_address, placed, strayed, noted, window_kind, data_found, note_found, found, after_header, screen_in, screen_of}
-use Rattle.uf2_checks.proofs.Laws.{numbers-false, found-comment, found-data}
+use Rattle.uf2_checks.proofs.Laws.{numbers_false, found_comment, found_data}
 use Rattle.uf2_checks.proofs.Windows.{InWindow, WindowFacts, window_facts, in_room}
 use Rattle.transfer.specs.declared.Deed.TheVariants.{Stores, Notes, Keeps}
 use Rattle.uf2_checks.specs.declared.Lengths.{Lengths}
@@ -137,9 +137,9 @@ note_lent n (Running r) b =
 note_lent n (Done g) b = refl
 
 module _ (s : Settings) (w : World) (a : List ℕ) where
-  good-cond : (b : Bool) (x y : Screening) → Good s w a x → (b ≡ false → Good s w a y) → Good s w a (cond b x y)
-  good-cond true x y p q = p
-  good-cond false x y p q = q refl
+  good_cond : (b : Bool) (x y : Screening) → Good s w a x → (b ≡ false → Good s w a y) → Good s w a (cond b x y)
+  good_cond true x y p q = p
+  good_cond false x y p q = q refl
 
   -- of a data block
   module _ (z : has_flag a 0x1 ≡ false) where
@@ -155,13 +155,13 @@ module _ (s : Settings) (w : World) (a : List ℕ) where
         → Good s w a (placed k start size (fields_of a))
     unfolding placed fields_of
     placed-good k start size f e =
-        good-cond (not (eqb (field_at a 16) 256)) _ _ (omega arith, omega arith)
+        good_cond (not (eqb (field_at a 16) 256)) _ _ (omega arith, omega arith)
         (λ e9.
-        good-cond (bad_numbers size (fields_of a)) _ _ (omega arith, omega arith)
+        good_cond (bad_numbers size (fields_of a)) _ _ (omega arith, omega arith)
         (λ e10.
-        good-cond (bad_address k size (fields_of a)) _ _ (omega arith, omega arith)
+        good_cond (bad_address k size (fields_of a)) _ _ (omega arith, omega arith)
         (λ e11.
-        let n = numbers-false size (fields_of a) e10 in
+        let n = numbers_false size (fields_of a) e10 in
         let x = in_room k size (fields_of a) e11 in
         let i = start_is k in
         rw (kind-data k f)
@@ -180,7 +180,7 @@ module _ (s : Settings) (w : World) (a : List ℕ) where
 
     strayed-good : Good s w a (strayed (fields_of a))
     unfolding strayed
-    strayed-good = good-cond (not (eqb (fields_of a).size 256)) (Refused _) (Refused _) (omega arith, omega arith) (λ e. (omega arith, omega arith))
+    strayed-good = good_cond (not (eqb (fields_of a).size 256)) (Refused _) (Refused _) (omega arith, omega arith) (λ e. (omega arith, omega arith))
 
     data-good : (u : Window) → WindowFacts (lens w) (field_at a 12) u → (p : Place) → room_in (rooms_for s w a) (window_kind u) ≡ p
         → Good s w a (data_found u p (fields_of a))
@@ -199,9 +199,9 @@ module _ (s : Settings) (w : World) (a : List ℕ) where
     unfolding note_found noted fields_of
     note-good k q l Nowhere e = (omega arith, omega arith)
     note-good k q l (At start size) e =
-        good-cond (bad_numbers size (fields_of a)) _ _ (omega arith, omega arith)
+        good_cond (bad_numbers size (fields_of a)) _ _ (omega arith, omega arith)
         (λ e10.
-        let n = numbers-false size (fields_of a) e10 in
+        let n = numbers_false size (fields_of a) e10 in
         rw q
         (record {
           start = start;
@@ -216,31 +216,31 @@ module _ (s : Settings) (w : World) (a : List ℕ) where
           room = n.room;
         }))
 
-  found-good : Good s w a (found (rooms_for s w a) (lens w) w.transfer (fields_of a))
-  found-good =
+  found_good : Good s w a (found (rooms_for s w a) (lens w) w.transfer (fields_of a))
+  found_good =
       split (has_flag a 0x1)
       (λ y.
       let k = note_kind (lens w) w.transfer (fields_of a) in
-      subst (Good s w a) (sym (found-comment (rooms_for s w a) (lens w) w.transfer (fields_of a) (comment_is a ∙ y)))
+      subst (Good s w a) (sym (found_comment (rooms_for s w a) (lens w) w.transfer (fields_of a) (comment_is a ∙ y)))
       (note-good y k (kind-note y) (note_lent (lens w) w.transfer (fields_of a)) (room_in (rooms_for s w a) k) refl))
       (λ z.
       let u = window_of (lens w) (fields_of a).address in
-      subst (Good s w a) (sym (found-data (rooms_for s w a) (lens w) w.transfer (fields_of a) (comment_is a ∙ z)))
+      subst (Good s w a) (sym (found_data (rooms_for s w a) (lens w) w.transfer (fields_of a) (comment_is a ∙ z)))
       (data-good z u facts (room_in (rooms_for s w a) (window_kind u)) refl))
     where
       facts : WindowFacts (lens w) (field_at a 12) (window_of (lens w) (fields_of a).address)
       facts = unfold fields_of in window_facts (lens w) (field_at a 12)
 
-  header-good : (h : Header) → Fielded a h → Good s w a (after_header h (found (rooms_for s w a) (lens w) w.transfer))
-  header-good header.NotBlock f = (omega arith, omega arith)
-  header-good header.Container f = (omega arith, omega arith)
-  header-good header.NoFamily f = (omega arith, omega arith)
-  header-good (header.Found b) f =
-      subst (λ (b : Block). Good s w a (found (rooms_for s w a) (lens w) w.transfer b)) (sym f) found-good
+  header_good : (h : Header) → Fielded a h → Good s w a (after_header h (found (rooms_for s w a) (lens w) w.transfer))
+  header_good header.NotBlock f = (omega arith, omega arith)
+  header_good header.Container f = (omega arith, omega arith)
+  header_good header.NoFamily f = (omega arith, omega arith)
+  header_good (header.Found b) f =
+      subst (λ (b : Block). Good s w a (found (rooms_for s w a) (lens w) w.transfer b)) (sym f) found_good
 
-  pub screen-good : Good s w a (screen_of s (lens w) w.transfer a)
+  pub screen_good : Good s w a (screen_of s (lens w) w.transfer a)
   unfolding screen_of screen_in
-  screen-good = header-good (header_of a) (fielded a)
+  screen_good = header_good (header_of a) (fielded a)
 
 -- ---- the transfer is asked for the kind of a comment alone
 
@@ -255,10 +255,10 @@ header_turn r n t u a (header.Found b) f e =
     subst (λ (b : Block). found r n t b ≡ found r n u b) (sym f)
     (split (has_flag a 0x1)
     (λ y.
-    found-comment r n t (fields_of a) (comment_is a ∙ y)
+    found_comment r n t (fields_of a) (comment_is a ∙ y)
     ∙ ap (λ (k : Kind). note_found k (room_in r k) (fields_of a)) (e refl y)
-    ∙ sym (found-comment r n u (fields_of a) (comment_is a ∙ y)))
-    (λ z. found-data r n t (fields_of a) (comment_is a ∙ z) ∙ sym (found-data r n u (fields_of a) (comment_is a ∙ z))))
+    ∙ sym (found_comment r n u (fields_of a) (comment_is a ∙ y)))
+    (λ z. found_data r n t (fields_of a) (comment_is a ∙ z) ∙ sym (found_data r n u (fields_of a) (comment_is a ∙ z))))
 
 pub screen_turn : (s : Settings) (n : Lengths) (t u : State) (a : List ℕ)
     → (is_found (header_of a) ≡ true → has_flag a 0x1 ≡ true → note_kind n t (fields_of a) ≡ note_kind n u (fields_of a))
@@ -322,20 +322,20 @@ module _ (s : Settings) (w : World) (B : Board s w) (f : ℕ) where
       }
 
   -- it starts where the claims say
-  pub room-origin : (k : Kind) (start size : ℕ) → room_in (rooms_of s (flash_of w) f) k ≡ At start size → start ≡ origin_of s w k f
-  room-origin Flash start size e = sym (ap start_of e)
-  room-origin MainRam start size e = (whole_is (ram_family s f) 532480 start size e).0
-  room-origin XipRam start size e = (whole_is (ram_family s f) 16384 start size e).0
+  pub room_origin : (k : Kind) (start size : ℕ) → room_in (rooms_of s (flash_of w) f) k ≡ At start size → start ≡ origin_of s w k f
+  room_origin Flash start size e = sym (ap start_of e)
+  room_origin MainRam start size e = (whole_is (ram_family s f) 532480 start size e).0
+  room_origin XipRam start size e = (whole_is (ram_family s f) 16384 start size e).0
 
 -- ---- with rows 1 to 3 passed
 
 module _ (s : Settings) (w : World) (a : List ℕ) (g : PlacedBlock) (p : Passing s w a g) (B : Board s w) where
-  pub passing-room : Room w (kind_of w a) p.start p.size
-  passing-room = room_of s w B (field_at a 28) (kind_of w a) p.start p.size p.place p.lent
+  pub passing_room : Room w (kind_of w a) p.start p.size
+  passing_room = room_of s w B (field_at a 28) (kind_of w a) p.start p.size p.place p.lent
 
   -- its total has room in the seen map
-  pub passing-few : field_at a 24 ≤ 131072
-  passing-few = omega (arith, passing-room.most, p.room)
+  pub passing_few : field_at a 24 ≤ 131072
+  passing_few = omega (arith, passing_room.most, p.room)
 
   -- of a data block
   module _ (z : has_flag a 0x1 ≡ false) where
@@ -348,7 +348,7 @@ module _ (s : Settings) (w : World) (a : List ℕ) (g : PlacedBlock) (p : Passin
 
     pub passing-fits : length a ≡ 512 → Fits (kind_of w a) (length (buffer_of (kind_of w a) w.held)) pageAt (payload_of a)
     passing-fits l =
-        let i = passing-room in
+        let i = passing_room in
         let y = p.page z in
         record {
           aligned = λ e. multiple (kind_of w a) e (i.whole e).0 (y.aligned e) y.low;
@@ -363,8 +363,8 @@ module _ (s : Settings) (w : World) (a : List ℕ) (g : PlacedBlock) (p : Passin
         multiple XipRam e x y l = let z : ◌≡◌ {A = ℕ} 0 1 = cc in absurd (omega arith)
 
   -- a comment holds no page
-  pub passing-note : has_flag a 0x1 ≡ true → g.body ≡ Note
-  passing-note y = p.body ∙ rw y
+  pub passing_note : has_flag a 0x1 ≡ true → g.body ≡ Note
+  passing_note y = p.body ∙ rw y
 
 -- what it does once it is accepted, where what it would store stands or not
 pub passing_deed : (s : Settings) (w : World) (a : List ℕ) (g : PlacedBlock) → Passing s w a g → (b : Bool)

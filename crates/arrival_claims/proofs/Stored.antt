@@ -13,7 +13,7 @@ use Rattle.memory.specs.Bitmap.{marked_in, with_mark, unmarked}
 use Rattle.memory.proofs.bitmap.Laws.{marked_after, marked_unmarked}
 use Rattle.uf2_block.specs.Block.{field_at, has_flag}
 use Rattle.memory.specs.Flash.{payload_of, spans, store_at}
-use Rattle.memory.proofs.flash.Laws.{get_d_payload, getD-store, room-yes, length_right}
+use Rattle.memory.proofs.flash.Laws.{get_d_payload, get_d_store, room_yes, length_right}
 use Rattle.partitions.specs.declared.Settings.{Settings}
 use Rattle.placement.specs.Place.{place_of}
 use Rattle.placement.specs.declared.Place.{Place}
@@ -35,12 +35,12 @@ use Rattle.arrival.specs.Windows.{window_start, kind_of, head_of}
 use Rattle.arrival_claims.specs.Tally.{clears}
 use Rattle.arrival.proofs.Heads.{head_same, same_head_lem}
 use Rattle.arrival.proofs.Paged.{Fits, get_d_prepared, length_prepared}
-use Rattle.arrival.proofs.Standing.{keeps_at, standing-of}
+use Rattle.arrival.proofs.Standing.{keeps_at, standing_of}
 use Rattle.arrival.proofs.Facts.{length_cleared, wiped_buffer, wiped_sectors}
 use Rattle.uf2_checks.specs.Screen.{room_in}
-use Rattle.arrival_claims.proofs.Screening.{rooms_for, Board, Passing, passing-few, passing-room}
-use Rattle.arrival_claims.proofs.DecisionFacts.{AcceptFacts, runs_other, deed_at, DecisionFacts, raisedCount, took-state, took-answer, took-clears, took-discarded, refused, took, decision_facts}
-use Rattle.arrival_claims.proofs.Bounds.{deed-is, left-page, left-fits}
+use Rattle.arrival_claims.proofs.Screening.{rooms_for, Board, Passing, passing_few, passing_room}
+use Rattle.arrival_claims.proofs.DecisionFacts.{AcceptFacts, runs_other, deed_at, DecisionFacts, raised_count, took_state, took_answer, took_clears, took_discarded, refused, took, decision_facts}
+use Rattle.arrival_claims.proofs.Bounds.{deed_is, left_page, left-fits}
 use Rattle.arrival_claims.specs.Stored.{Raised, goes_on_case, opens, discards, Stored, FlashStored, FlashStoredStated}
 
 -- ---- a map after a mark
@@ -67,7 +67,7 @@ record Going (w : World) (a : List ℕ) (d : Bool) : Type 0 where
 going : (w : World) (a : List ℕ) {m : Bool} {d : Deed} {k : Accepted} → AcceptFacts w.transfer (head_of w a) m d k → (x : State) → w.transfer ≡ x → Going w a k.discarded
 going w a t Idle e =
     let o : t.discards ≡ false = t.told ∙ ap (λ (y : State). runs_other y (head_of w a)) e in
-    record { on = false; count = 1; raised = rw (took-discarded t, o) (opens e); clear = ap (λ (y : State). clears y (head_of w a)) e; same = rw (ap (λ (y : State). clears y (head_of w a)) e) }
+    record { on = false; count = 1; raised = rw (took_discarded t, o) (opens e); clear = ap (λ (y : State). clears y (head_of w a)) e; same = rw (ap (λ (y : State). clears y (head_of w a)) e) }
 going w a t (Running r) e =
     let o : t.discards ≡ not (same_head r.head (head_of w a)) = t.told ∙ ap (λ (y : State). runs_other y (head_of w a)) e in
     split (same_head r.head (head_of w a))
@@ -78,7 +78,7 @@ going w a t (Running r) e =
     record {
       on = true;
       count = r.count + 1;
-      raised = rw (took-discarded t, o, y) (goes_on_case r.count f);
+      raised = rw (took_discarded t, o, y) (goes_on_case r.count f);
       clear = c;
       same = rw c (ap (λ (x : State). count_of x + 1) (sym e));
     })
@@ -87,7 +87,7 @@ going w a t (Running r) e =
     record {
       on = false;
       count = 1;
-      raised = rw (took-discarded t, o, z) (discards r e (λ h. clash (same_head r.head (head_of w a)) (rw h (same_head_lem (head_of w a))) z));
+      raised = rw (took_discarded t, o, z) (discards r e (λ h. clash (same_head r.head (head_of w a)) (rw h (same_head_lem (head_of w a))) z));
       clear = c;
       same = rw c;
     })
@@ -116,19 +116,19 @@ module _ (s : Settings) (w : World) (a : List ℕ) (g : PlacedBlock) (k : Accept
   h0 = wiped_if k.clears w.held
 
   held : (done w (payload_of a) (accepts g (deed_at s w a g) k)).world.held ≡ paged_at Flash at (payload_of a) h0
-  held = left-page s w a g k q B z keeps ∙ ap (λ (u : Kind). paged_at u (q.start + (field_at a 12 - window_start u)) (payload_of a) h0) f
+  held = left_page s w a g k q B z keeps ∙ ap (λ (u : Kind). paged_at u (q.start + (field_at a 12 - window_start u)) (payload_of a) h0) f
 
   fits : Fits Flash (length h0.flash) at (payload_of a)
   fits = subst (λ (u : Kind). Fits u (length (buffer_of u h0)) (q.start + (field_at a 12 - window_start u)) (payload_of a)) f (left-fits s w a g k q B z l)
 
-  flash-same : h0.flash ≡ w.held.flash
-  flash-same = wiped_buffer k.clears w.held Flash
+  flash_same : h0.flash ≡ w.held.flash
+  flash_same = wiped_buffer k.clears w.held Flash
 
   head_is : g.head ≡ head_of w a
   head_is = q.head
 
-  clear-is : k.clears ≡ clears w.transfer (head_of w a)
-  clear-is = took-clears t ∙ ap (clears w.transfer) q.head
+  clear_is : k.clears ≡ clears w.transfer (head_of w a)
+  clear_is = took_clears t ∙ ap (clears w.transfer) q.head
 
   -- each byte
   byte : (j : ℕ) → get_or (paged_at Flash at (payload_of a) h0).flash j 0
@@ -137,30 +137,30 @@ module _ (s : Settings) (w : World) (a : List ℕ) (g : PlacedBlock) (k : Accept
   unfolding paged_at
   byte j =
       let n : at + 256 ≤ length (prepared_at (at / 4096) h0) = omega (arith, length_prepared (at / 4096) h0, fits.within) in
-      getD-store (prepared_at (at / 4096) h0) at (payload_of a) j
-      ∙ rw (room-yes (prepared_at (at / 4096) h0) at (payload_of a) fits.full n) (ap (cond (spans at j) (get_or (payload_of a) (j - at) 0)) (get_d_prepared (at / 4096) h0 j))
+      get_d_store (prepared_at (at / 4096) h0) at (payload_of a) j
+      ∙ rw (room_yes (prepared_at (at / 4096) h0) at (payload_of a) fits.full n) (ap (cond (spans at j) (get_or (payload_of a) (j - at) 0)) (get_d_prepared (at / 4096) h0 j))
 
-  sector-in : at / 4096 < length h0.flash / 4096
-  sector-in = let r = length_right (length w.held.flash) B.flash in let e = ap length flash-same in omega (arith, r.whole, fits.within, fits.aligned refl)
+  sector_in_lem : at / 4096 < length h0.flash / 4096
+  sector_in_lem = let r = length_right (length w.held.flash) B.flash in let e = ap length flash_same in omega (arith, r.whole, fits.within, fits.aligned refl)
 
   -- all of it
-  pub left-stored : FlashStored w a at (done w (payload_of a) (accepts g (deed_at s w a g) k))
+  pub left_stored : FlashStored w a at (done w (payload_of a) (accepts g (deed_at s w a g) k))
   unfolding done accept_of counted raised paged_at
-  left-stored =
+  left_stored =
       let u = going w a (subst (λ (x : Head). AcceptFacts w.transfer x (marked_in w.seen g.number) (deed_at s w a g) k) head_is t) w.transfer refl in
-      let b : k.clears ≡ not u.on = clear-is ∙ u.clear in
-      let c : u.count ≡ raisedCount t = u.same ∙ ap (λ (x : Head). cond (clears w.transfer x) 1 (count_of w.transfer + 1)) (sym head_is) in
+      let b : k.clears ≡ not u.on = clear_is ∙ u.clear in
+      let c : u.count ≡ raised_count t = u.same ∙ ap (λ (x : Head). cond (clears w.transfer x) 1 (count_of w.transfer + 1)) (sym head_is) in
       let n : g.head.total ≡ field_at a 24 = ap (λ (x : Head). x.total) head_is in
-      let st : k.transfer.state ≡ counted (head_of w a) u.count = took-state t ∙ ap (λ (x : ℕ). counted g.head x) (sym c) ∙ ap (λ (x : Head). counted x u.count) head_is in
-      let deed : deed_at s w a g ≡ Stores = deed-is s w a g k q B ∙ rw (z, keeps) in
+      let st : k.transfer.state ≡ counted (head_of w a) u.count = took_state t ∙ ap (λ (x : ℕ). counted g.head x) (sym c) ∙ ap (λ (x : Head). counted x u.count) head_is in
+      let deed : deed_at s w a g ≡ Stores = deed_is s w a g k q B ∙ rw (z, keeps) in
       let an : number_of k.answer ≡ cond (ltb u.count (field_at a 24)) 14 15 =
-      ap number_of (took-answer t) ∙ ap (λ (x : ℕ). number_of (raised (deed_at s w a g) g.head x)) (sym c)
+      ap number_of (took_answer t) ∙ ap (λ (x : ℕ). number_of (raised (deed_at s w a g) g.head x)) (sym c)
       ∙ ap (λ (x : Deed). number_of (raised x g.head u.count)) deed ∙ told g.head u.count (field_at a 24) n in
       let sec : h0.sectors ≡ cleared_if (not u.on) w.held.sectors = wiped_sectors k.clears w.held ∙ ap (λ (x : Bool). cleared_if x w.held.sectors) b in
-      let few = passing-few s w a g q B in
+      let few = passing_few s w a g q B in
       let low = q.below in
       let r = length_right (length w.held.flash) B.flash in
-      let fl = ap length flash-same in
+      let fl = ap length flash_same in
       let mark : marked_in h0.sectors (at / 4096) ≡ u.on && marked_in w.held.sectors (at / 4096) =
       ap (λ (m : List ℕ). marked_in m (at / 4096)) sec ∙ cleared_marks (not u.on) w.held.sectors (at / 4096) ∙ ap (λ (x : Bool). x && marked_in w.held.sectors (at / 4096)) (twice u.on) in
       record {
@@ -185,11 +185,11 @@ module _ (s : Settings) (w : World) (a : List ℕ) (g : PlacedBlock) (k : Accept
               ∙ rw (le-leb at (at + i) (omega arith), lt-ltb (at + i) (at + 256) (omega arith)) (ap (λ (x : ℕ). get_or (payload_of a) x 0) (omega arith) ∙ get_d_payload a i h);
           rest = λ j e h.
               ap (λ (x : Held). get_or x.flash j 0) held ∙ byte j
-              ∙ rw (either_out at j h, eq-eqb (j / 4096) (at / 4096) e, lt-ltb (at / 4096) (length h0.flash / 4096) sector-in, mark, flash-same)
+              ∙ rw (either_out at j h, eq-eqb (j / 4096) (at / 4096) e, lt-ltb (at / 4096) (length h0.flash / 4096) sector_in_lem, mark, flash_same)
               (swap (u.on && marked_in w.held.sectors (at / 4096)) (get_or w.held.flash j 0));
           others = λ j e.
               ap (λ (x : Held). get_or x.flash j 0) held ∙ byte j
-              ∙ rw (out j e, ne_eqb (j / 4096) (at / 4096) e, flash-same);
+              ∙ rw (out j e, ne_eqb (j / 4096) (at / 4096) e, flash_same);
         };
       }
     where
@@ -223,9 +223,9 @@ flash_stored s w a start size z f st m e = go (decision_facts s w a) m
     go : {d : Decision} → DecisionFacts s w a d → 14 ≤ number_of (done w (payload_of a) d).answer → FlashStored w a (start + (field_at a 12 - 0x10000000)) (done w (payload_of a) d)
     go (refused x h) m = let r : 14 ≤ number_of x = unfold done in m in absurd (omega arith)
     go (took g k B l q t) m =
-        let keeps : keeps_at s w a ≡ false = is_false (keeps_at s w a) (λ y. st (standing-of s w a z y)) in
+        let keeps : keeps_at s w a ≡ false = is_false (keeps_at s w a) (λ y. st (standing_of s w a z y)) in
         let p : place_of s (length w.held.flash) (field_at a 28) ≡ At q.start q.size = place_flash s w a (kind_of w a) f q.start q.size q.place in
         let x : At start size ≡ At q.start q.size = sym e ∙ p in
         let y : q.start ≡ start = cc in
         subst (λ (i : ℕ). FlashStored w a (i + (field_at a 12 - 0x10000000)) (done w (payload_of a) (accepts g (deed_at s w a g) k))) y
-        (left-stored s w a g k q B l t z f keeps)
+        (left_stored s w a g k q B l t z f keeps)

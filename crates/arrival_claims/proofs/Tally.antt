@@ -25,7 +25,7 @@ use Rattle.arrival.specs.Arrive.{World, Outcome, Decision, cleared_if, accept_of
 use Rattle.arrival.specs.Lists.{Delivery, play_all}
 use Rattle.arrival.specs.Windows.{head_of}
 use Rattle.arrival_claims.specs.Tally.{is_accepted, clears, accepted_by, accepted_of, any_accepted, CountIsMarks}
-use Rattle.arrival_claims.proofs.Screening.{passing-few}
+use Rattle.arrival_claims.proofs.Screening.{passing_few}
 use Rattle.arrival_claims.proofs.DecisionFacts.{AcceptFacts, took_number, deed_at, DecisionFacts, refused, took, decision_facts}
 
 -- ---- the transfer and the seen map, A being what was accepted since the last clearing
@@ -104,7 +104,7 @@ keeping s w a A (took g k B l q t) e =
     let b = clears w.transfer g.head in
     let y : is_accepted k.answer ≡ true = le-leb 14 (number_of k.answer) (took_number t) in
     let total : g.head.total ≡ field_at a 24 = ap (λ (h : Head). h.total) q.head in
-    let few : g.head.total ≤ 131072 = omega (arith, passing-few s w a g q B) in
+    let few : g.head.total ≤ 131072 = omega (arith, passing_few s w a g q B) in
     let below : g.number < g.head.total = omega (arith, q.number, q.below) in
     let r = ready w.transfer w.seen A g.head g.number (deed_at s w a g) k B.seen few below t e b refl in
     let c : cond b 0 (count_of w.transfer) + 1 ≡ cond b 1 (count_of w.transfer + 1) = plus b in

@@ -23,27 +23,27 @@ use Rattle.uf2_batch.specs.Batch.{batch_left, batch_of}
 use Rattle.call_bytes.specs.Calls.{arrival_call, look_result, look_bytes, kept_transfer, arrival_call_of, take_bytes, plan_bytes, planned_call, planned_call_of, accept_bytes, batch_call, batch_call_end, take_batch}
 
 module _ (s t a : List ℕ) (h : Lent) where
-  pub look-ran : {z : Settings} {u : Transfer} {r : Preview} {y : ℕ} → z ≡ settings_from s → u ≡ transfer_from t → previewed r ≡ look_of z (world u h) a → y ≡ result_of (number_of r.answer) r.discarded → y ≡ look_bytes s t a h
+  pub look_ran : {z : Settings} {u : Transfer} {r : Preview} {y : ℕ} → z ≡ settings_from s → u ≡ transfer_from t → previewed r ≡ look_of z (world u h) a → y ≡ result_of (number_of r.answer) r.discarded → y ≡ look_bytes s t a h
   unfolding look_bytes
-  look-ran {u = u} hz hu ho hy =
+  look_ran {u = u} hz hu ho hy =
       hy
       ∙ ap look_result
       (ho
       ∙ ap (λ (z : Settings). look_of z (world u h) a) hz
       ∙ ap (λ (u : Transfer). look_of (settings_from s) (world u h) a) hu)
 
-  pub take-ran : {z : Settings} {u : Transfer} {r : Receipt} {g : Lent} {v : List ℕ} {y : ℕ} {b : Bool} → z ≡ settings_from s → u ≡ transfer_from t → outcome r g ≡ receive_of z (world u h) a → b ≡ is_acceptance (number_of r.answer) → v ≡ kept_transfer t b r.transfer.state → y ≡ result_of (number_of r.answer) r.discarded → arrival_call y v g ≡ take_bytes s t a h
+  pub take_ran : {z : Settings} {u : Transfer} {r : Receipt} {g : Lent} {v : List ℕ} {y : ℕ} {b : Bool} → z ≡ settings_from s → u ≡ transfer_from t → outcome r g ≡ receive_of z (world u h) a → b ≡ is_acceptance (number_of r.answer) → v ≡ kept_transfer t b r.transfer.state → y ≡ result_of (number_of r.answer) r.discarded → arrival_call y v g ≡ take_bytes s t a h
   unfolding take_bytes
-  take-ran {u = u} hz hu ho hb hv hy =
+  take_ran {u = u} hz hu ho hb hv hy =
       let p =
       ho
       ∙ ap (λ (z : Settings). receive_of z (world u h) a) hz
       ∙ ap (λ (u : Transfer). receive_of (settings_from s) (world u h) a) hu in
       rw (hy, hv, hb) (ap (arrival_call_of t) p)
 
-  pub batch-ran : (r : List ℕ) {z : Settings} {u : Transfer} {b : Batch} {g : Lent} {v r₁ : List ℕ} → z ≡ settings_from s → u ≡ transfer_from t → batch_left b r₁ g ≡ batch_of z (world u h) a r → v ≡ kept_transfer t b.accepted b.transfer.state → batch_call b.number v r₁ g ≡ take_batch s t a r h
+  pub batch_ran : (r : List ℕ) {z : Settings} {u : Transfer} {b : Batch} {g : Lent} {v r₁ : List ℕ} → z ≡ settings_from s → u ≡ transfer_from t → batch_left b r₁ g ≡ batch_of z (world u h) a r → v ≡ kept_transfer t b.accepted b.transfer.state → batch_call b.number v r₁ g ≡ take_batch s t a r h
   unfolding take_batch
-  batch-ran r {u = u} hz hu ho hv =
+  batch_ran r {u = u} hz hu ho hv =
       let p =
       ho
       ∙ ap (λ (z : Settings). batch_of z (world u h) a r) hz

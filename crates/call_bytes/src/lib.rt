@@ -1,4 +1,6 @@
 // What the calls for arrivals share: the next transfer is written where a block was accepted.
+#![tactic(auto)]
+
 pub mod hex;
 pub mod known;
 pub mod places;

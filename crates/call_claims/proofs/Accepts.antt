@@ -11,7 +11,7 @@ use Rattle.uf2_block.specs.Block.{field_at}
 use Rattle.uf2_block.specs.Write.{le32}
 use Rattle.uf2_block.proofs.WriteLaws.{field_le32}
 use Rattle.memory.specs.Flash.{erase_at, payload_of, store_at}
-use Rattle.memory.proofs.flash.Laws.{erase-in, length-erase, length_payload, room-yes}
+use Rattle.memory.proofs.flash.Laws.{erase_in, length_erase, length_payload, room_yes}
 use Rattle.partitions.specs.declared.Settings.{Settings}
 use Rattle.arrival.specs.Arrive.{World, Decision}
 use Rattle.arrival_claims.proofs.DecisionFacts.{DecisionFacts, refused, took, decision_facts}
@@ -19,7 +19,7 @@ use Rattle.flash_plan.specs.declared.Plan.{Plan}
 use Rattle.flash_plan.specs.declared.Plan.TheVariants.{Nothing, Program, EraseProgram}
 use Rattle.flash_plan.specs.Plan.{decision_plan, performed, outcome_with, accepting_by, accepting_of}
 use Rattle.arrival_claims.specs.Performed.{PlanLies}
-use Rattle.arrival_claims.proofs.Claims.{performed_is_taken, decided-lies}
+use Rattle.arrival_claims.proofs.Claims.{performed_is_taken, decided_lies}
 use Rattle.demand.specs.Demand.{seen_of, Ends}
 use Rattle.settings_layout.specs.Layout.{settings_from}
 use Rattle.call_bytes.specs.Calls.{ArrivalCall, arrival_call_of, plan_words, plan_bytes, PlannedCall, planned_call_of, take_bytes, accept_bytes}
@@ -30,47 +30,47 @@ use Rattle.call_claims.proofs.CallLists.{calls_end, calls_cut}
 -- ---- the three numbers are read as they were written
 
 module _ (d q p : ℕ) (hd : d < 2 ^ 32) (hq : q < 2 ^ 32) (hp : p < 2 ^ 32) where
-  deed-back : field_at (plan_words d q p) 0 ≡ d
+  deed_back : field_at (plan_words d q p) 0 ≡ d
   unfolding low_first
-  deed-back = field_le32 [] d (le32 q ++ le32 p) hd
+  deed_back = field_le32 [] d (le32 q ++ le32 p) hd
 
-  sector-back : field_at (plan_words d q p) 4 ≡ q
+  sector_back : field_at (plan_words d q p) 4 ≡ q
   unfolding low_first
-  sector-back = field_le32 (le32 d) q (le32 p) hq
+  sector_back = field_le32 (le32 d) q (le32 p) hq
 
   page_back : field_at (plan_words d q p) 8 ≡ p
   unfolding low_first
   page_back = field_le32 (le32 d ++ le32 q) p [] hp
 
-  words-driven : (a f : List ℕ) → driven_by (plan_words d q p) a f ≡ drives d q p a f
-  words-driven a f = rw (deed-back, sector-back, page_back) refl
+  words_driven : (a f : List ℕ) → driven_by (plan_words d q p) a f ≡ drives d q p a f
+  words_driven a f = rw (deed_back, sector_back, page_back) refl
 
 -- ---- the driver does what the plan says
 
 store_in : (f : List ℕ) (at : ℕ) (p : List ℕ) → length p ≡ 256 → at + 256 ≤ length f → store_at f at p ≡ over f at p
 unfolding store_at
-store_in f at p n l = rw (room-yes f at p n l) refl
+store_in f at p n l = rw (room_yes f at p n l) refl
 
 module _ (s : Settings) (w : World) (a : List ℕ) where
-  plan-driven : (x : Plan) → length a ≡ 512 → PlanLies s w a x → driven_by (plan_bytes x) a w.held.flash ≡ performed x (payload_of a) w.held.flash
+  plan_driven : (x : Plan) → length a ≡ 512 → PlanLies s w a x → driven_by (plan_bytes x) a w.held.flash ≡ performed x (payload_of a) w.held.flash
   unfolding payload_of
-  plan-driven Nothing l p = words-driven 0 0 0 (omega arith) (omega arith) (omega arith) a w.held.flash
-  plan-driven (Program at) l p =
+  plan_driven Nothing l p = words_driven 0 0 0 (omega arith) (omega arith) (omega arith) a w.held.flash
+  plan_driven (Program at) l p =
       let f = w.held.flash in
-      words-driven 1 (at / 4096 * 4096) at (omega arith) (omega (arith, p.to, p.within, p.flash)) (omega (arith, p.to, p.within, p.flash)) a f
+      words_driven 1 (at / 4096 * 4096) at (omega arith) (omega (arith, p.to, p.within, p.flash)) (omega (arith, p.to, p.within, p.flash)) a f
       ∙ sym (store_in f at (payload_of a) (length_payload a (omega arith)) (omega (arith, p.to, p.within)))
-  plan-driven (EraseProgram q at) l p =
+  plan_driven (EraseProgram q at) l p =
       let f = w.held.flash in
       let g = p.0 in
       let within : q < length f / 4096 = omega (arith, p.1, g.sectors.0, g.sectors.1, g.to, g.within) in
-      words-driven 2 (q * 4096) at (omega arith) (omega (arith, g.flash)) (omega (arith, g.to, g.within, g.flash)) a f
-      ∙ ap (λ (e : List ℕ). over e at (payload_of a)) (sym (erase-in f q within))
-      ∙ sym (store_in (erase_at f q) at (payload_of a) (length_payload a (omega arith)) (omega (arith, length-erase f q, g.to, g.within)))
+      words_driven 2 (q * 4096) at (omega arith) (omega (arith, g.flash)) (omega (arith, g.to, g.within, g.flash)) a f
+      ∙ ap (λ (e : List ℕ). over e at (payload_of a)) (sym (erase_in f q within))
+      ∙ sym (store_in (erase_at f q) at (payload_of a) (length_payload a (omega arith)) (omega (arith, length_erase f q, g.to, g.within)))
 
-  decided-driven : {d : Decision} → DecisionFacts s w a d → (m : List ℕ)
+  decided_driven : {d : Decision} → DecisionFacts s w a d → (m : List ℕ)
       → driven_by (plan_bytes (decision_plan d m)) a w.held.flash ≡ performed (decision_plan d m) (payload_of a) w.held.flash
-  decided-driven (refused x h) m = words-driven 0 0 0 (omega arith) (omega arith) (omega arith) a w.held.flash
-  decided-driven {d = d} (took g k B l q t) m = plan-driven (decision_plan d m) l (decided-lies s w a (took g k B l q t) m)
+  decided_driven (refused x h) m = words_driven 0 0 0 (omega arith) (omega arith) (omega arith) a w.held.flash
+  decided_driven {d = d} (took g k B l q t) m = plan_driven (decision_plan d m) l (decided_lies s w a (took g k B l q t) m)
 
 -- ---- one call
 
@@ -87,7 +87,7 @@ carried s h p a e =
     let w = world_of h in
     let o = (accepting_of z w a).outcome in
     ap (carried_out a) (accepted s h p a e)
-    ∙ ap (λ (f : List ℕ). arrival_call_of h.transfer (outcome_with f o)) (decided-driven z w a (decision_facts z w a) w.held.sectors)
+    ∙ ap (λ (f : List ℕ). arrival_call_of h.transfer (outcome_with f o)) (decided_driven z w a (decision_facts z w a) w.held.sectors)
     ∙ ap (arrival_call_of h.transfer) (performed_is_taken z w a)
 
 pub accept_is_take : AcceptIsTake

@@ -346,8 +346,8 @@ module _ (w : World) (F : File) (S : Set) (y : World) (C : Counts w F S y) (n : 
       (λ t. ap is_idle (C.going n (ltb-true (how_many F S) F.total t)))
       (λ z. ap is_idle (C.whole (omega (arith, ltb-false (how_many F S) F.total z, size_le F.total S))))
 
-  of-file : (r : Run) → y.transfer ≡ Running r → r.head ≡ head_in F
-  of-file r e =
+  of_file : (r : Run) → y.transfer ≡ Running r → r.head ≡ head_in F
+  of_file r e =
       split (ltb (how_many F S) F.total)
       (λ t. ap (head_now r.head) (sym e ∙ C.going n (ltb-true (how_many F S) F.total t)))
       (λ z.
@@ -365,7 +365,7 @@ calls_stopped s h k F Z v p l m b n =
     let free : y.transfer ≢ (world_of k).transfer =
     λ e. clash (is_idle y.transfer) (ap is_idle (e ∙ Z.idle)) (busy (world_of k) F (seen_of F l) y C n) in
     let other : x.transfer ≢ (world_of h).transfer =
-    λ e. Z.differs (of-file (world_of k) F (seen_of F l) y C n Z.run (sym E.transfer ∙ e ∙ Z.running)) in
+    λ e. Z.differs (of_file (world_of k) F (seen_of F l) y C n Z.run (sym E.transfer ∙ e ∙ Z.running)) in
     record {
       ends =
           subst (λ (u : World). EndsAlike z (world_of k) F l u (world_of (call_all s k l))) (sym (calls_world s h l b))

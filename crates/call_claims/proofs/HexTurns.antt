@@ -15,7 +15,7 @@ use Rattle.ihex_record.specs.declared.Record.{Record}
 use Rattle.ihex_record.specs.declared.ParseResult.{ParseResult}
 use Rattle.ihex_record.specs.declared.ParseResult.TheVariants as parsed
 use Rattle.ihex_record.proofs.Good.{good_line}
-use Rattle.ihex_record.proofs.Positions.{bad-position}
+use Rattle.ihex_record.proofs.Positions.{bad_position_lem}
 use Rattle.ihex_record.proofs.Data32.{get_d_data32}
 use Rattle.uhex_grammar.specs.Answers.{position_of}
 use Rattle.uhex_grammar.specs.Boards.{is_v1, is_v2, has_board, both_boards}
@@ -111,40 +111,40 @@ NarrowStep (Stores q) = Narrow q
 NarrowStep (Ends q) = Narrow q
 
 module _ (r : Reader) (h : Narrow r) where
-  step-narrow : (x : Role) (address len word : ℕ) → NarrowRole x → word < 2 ^ 16 → NarrowStep (effect_of r x address len word)
+  step_narrow : (x : Role) (address len word : ℕ) → NarrowRole x → word < 2 ^ 16 → NarrowStep (effect_of r x address len word)
   unfolding effect_of given_of with_state with_upper with_section with_data
-  step-narrow Opening address len word n w = either NarrowStep (not (eqb (r.offset % 512) 0)) (omega arith) (w, tt)
-  step-narrow Naming address len word n w = either NarrowStep (has_board r.sections_seen word) (omega arith) (h.0, w)
-  step-narrow Address address len word n w = (w, h.1)
-  step-narrow (Data b) address len word n w =
+  step_narrow Opening address len word n w = either NarrowStep (not (eqb (r.offset % 512) 0)) (omega arith) (w, tt)
+  step_narrow Naming address len word n w = either NarrowStep (has_board r.sections_seen word) (omega arith) (h.0, w)
+  step_narrow Address address len word n w = (w, h.1)
+  step_narrow (Data b) address len word n w =
       either NarrowStep (ltb 65536 (address + len)) (omega arith)
       (either NarrowStep (eqb len 0) h (either NarrowStep (eqb b r.own) h h))
-  step-narrow (Padding b) address len word n w = (h.0, n)
-  step-narrow Other address len word n w = h
-  step-narrow Closing address len word n w = (h.0, tt)
-  step-narrow Ending address len word n w = either NarrowStep (both_boards r.data_seen) (h.0, tt) (omega arith)
-  step-narrow Refused address len word n w = omega arith
+  step_narrow (Padding b) address len word n w = (h.0, n)
+  step_narrow Other address len word n w = h
+  step_narrow Closing address len word n w = (h.0, tt)
+  step_narrow Ending address len word n w = either NarrowStep (both_boards r.data_seen) (h.0, tt) (omega arith)
+  step_narrow Refused address len word n w = omega arith
 
   abbrev NarrowOut : LineOutcome → Type 0
   NarrowOut o = Narrow o.reader
 
-  stepped-narrow : (rec : Record) (d : List ℕ) (e : ℕ) (img : List ℕ) (x : Effect) → NarrowStep x → NarrowOut (effect_outcome r rec d e img x)
+  stepped_narrow : (rec : Record) (d : List ℕ) (e : ℕ) (img : List ℕ) (x : Effect) → NarrowStep x → NarrowOut (effect_outcome r rec d e img x)
   unfolding effect_outcome storing moved_to with_state
-  stepped-narrow rec d e img (Fails a) n = (h.0, n)
-  stepped-narrow rec d e img (Passes q) n = n
-  stepped-narrow rec d e img (Stores q) n = either NarrowOut (outside q rec img) n n
-  stepped-narrow rec d e img (Ends q) n = n
+  stepped_narrow rec d e img (Fails a) n = (h.0, n)
+  stepped_narrow rec d e img (Passes q) n = n
+  stepped_narrow rec d e img (Stores q) n = either NarrowOut (outside q rec img) n n
+  stepped_narrow rec d e img (Ends q) n = n
 
   module _ (l img : List ℕ) where
     parsed-narrow : (e : ℕ) (p : ParseResult) → (read_of l).parsed ≡ p → NarrowOut (parsed_line r (read_of l).«data» e img p)
     unfolding parsed_line record_outcome with_state
     parsed-narrow e (parsed.Good rec) q =
-        stepped-narrow rec (read_of l).«data» e img _
-        (step-narrow (role_of r.state rec.kind rec.len) rec.address rec.len (word_of (read_of l).«data»)
+        stepped_narrow rec (read_of l).«data» e img _
+        (step_narrow (role_of r.state rec.kind rec.len) rec.address rec.len (word_of (read_of l).«data»)
         (role_narrow r.state rec.kind rec.len h.1) (word_low l rec q))
     parsed-narrow e parsed.NoColon q = (h.0, omega arith)
     parsed-narrow e parsed.BadShape q = (h.0, omega arith)
-    parsed-narrow e (parsed.BadDigit k) q = (h.0, omega (arith, bad-position l k q))
+    parsed-narrow e (parsed.BadDigit k) q = (h.0, omega (arith, bad_position_lem l k q))
     parsed-narrow e parsed.TooLong q = (h.0, omega arith)
     parsed-narrow e parsed.BadLength q = (h.0, omega arith)
     parsed-narrow e parsed.BadSum q = (h.0, omega arith)

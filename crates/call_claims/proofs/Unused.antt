@@ -11,10 +11,10 @@ use Rattle.partitions.specs.declared.Settings.{Settings}
 use Rattle.partitions.specs.Settings.{entry_at}
 use Rattle.partitions.specs.Table.{table_of}
 use Rattle.partitions.specs.Alike.{AlikeEntry, Alike}
-use Rattle.partitions.proofs.Tables.{table-cong}
+use Rattle.partitions.proofs.Tables.{table_cong}
 use Rattle.arrival.specs.Arrive.{World}
 use Rattle.arrival_claims.specs.Alike.{AlikeSettingsAnswerAlike}
-use Rattle.arrival_claims.proofs.Alike.{decided-alike, alike_settings_answer_alike, alike-left, alike-answers, alike-discards}
+use Rattle.arrival_claims.proofs.Alike.{decided_alike, alike_settings_answer_alike, alike_left, alike_answers, alike_discards}
 use Rattle.flash_plan.specs.Plan.{accepting_by, accepting_of}
 use Rattle.uf2_receiver.specs.Receiver.{world}
 use Rattle.uf2_batch.specs.Batch.{arrivals_of, fewer, batch_of}
@@ -34,22 +34,22 @@ module _ (b c : List ℕ) (n : ℕ) (e : take n b ≡ take n c) where
   same_byte : (i : ℕ) → i < n → byte_at b i ≡ byte_at c i
   same_byte i l = sym (get_or-take n b i 0 l) ∙ ap (λ (x : List ℕ). byte_at x i) e ∙ get_or-take n c i 0 l
 
-  same-front : (k : ℕ) → k ≤ n → take k b ≡ take k c
-  same-front k l = sym (take-take k n b l) ∙ ap (take k) e ∙ take-take k n c l
+  same_front : (k : ℕ) → k ≤ n → take k b ≡ take k c
+  same_front k l = sym (take-take k n b l) ∙ ap (take k) e ∙ take-take k n c l
 
-  same-part : (j m : ℕ) → j + m ≤ n → take m (drop j b) ≡ take m (drop j c)
-  same-part j m l = drop_take j m b ∙ ap (drop j) (same-front (j + m) l) ∙ sym (drop_take j m c)
+  same_part : (j m : ℕ) → j + m ≤ n → take m (drop j b) ≡ take m (drop j c)
+  same_part j m l = drop_take j m b ∙ ap (drop j) (same_front (j + m) l) ∙ sym (drop_take j m c)
 
 -- ---- the table
 
 -- u entries are used
 module _ (b c : List ℕ) (n u : ℕ) (fits : 6 + 34 * u ≤ n) (e : take n b ≡ take n c) where
-  same-entry : (k : ℕ) → k < u → entry_in b k ≡ entry_in c k
+  same_entry : (k : ℕ) → k < u → entry_in b k ≡ entry_in c k
   unfolding entry_in
-  same-entry k l = ap entry_from (same-part b c n e (6 + k * 34) 34 (omega arith))
+  same_entry k l = ap entry_from (same_part b c n e (6 + k * 34) 34 (omega arith))
 
-  same-table : table_of (entry_in b) u ≡ table_of (entry_in c) u
-  same-table = table-cong (entry_in b) (entry_in c) u same-entry
+  same_table : table_of (entry_in b) u ≡ table_of (entry_in c) u
+  same_table = table_cong (entry_in b) (entry_in c) u same_entry
 
 -- ---- the settings
 
@@ -59,7 +59,7 @@ unused_change_nothing b c h =
     let byte : (i : ℕ) → i < 6 → byte_at b i ≡ byte_at c i = λ i l. same_byte b c (used_bytes b) h.front i (omega arith) in
     let count : count_from b ≡ count_from c = rw (h.size, byte 5 (omega arith)) in
     let table : table_of (entry_in b) (used_of (count_from b)) ≡ table_of (entry_in c) (used_of (count_from c)) =
-    same-table b c (used_bytes b) (used_of (count_from b)) (omega arith) h.front ∙ ap (λ (n : ℕ). table_of (entry_in c) (used_of n)) count in
+    same_table b c (used_bytes b) (used_of (count_from b)) (omega arith) h.front ∙ ap (λ (n : ℕ). table_of (entry_in c) (used_of n)) count in
     cc (byte 0 (omega arith), byte 1 (omega arith), byte 2 (omega arith), byte 3 (omega arith), byte 4 (omega arith))
 
 -- ---- the calls
@@ -87,11 +87,11 @@ batch_alike : (s t : Settings) → Alike s t → (w : World) (a r : List ℕ) �
 unfolding batch_of
 batch_alike s t h w a r =
     let l = arrivals_of (fewer (length a / 512) (length r)) a in
-    rw (alike-left s t h l w, alike-answers s t h l w, alike-discards s t h l w)
+    rw (alike_left s t h l w, alike_answers s t h l w, alike_discards s t h l w)
 
 accept_alike : (s t : Settings) → Alike s t → (w : World) (a : List ℕ) → accepting_of s w a ≡ accepting_of t w a
 unfolding accepting_of
-accept_alike s t h w a = ap (accepting_by w a) (decided-alike s t h w a)
+accept_alike s t h w a = ap (accepting_by w a) (decided_alike s t h w a)
 
 pub alike_change_no_call : AlikeChangeNoCall
 unfolding AlikeChangeNoCall AlikeSettingsAnswerAlike ask_bytes look_bytes take_bytes accept_bytes take_batch

@@ -1,4 +1,6 @@
 // The C interface: its calls. Settings and transfers are bytes in the layout of `layout`, everything else numbers and slices of bytes.
+#![tactic(auto)]
+
 ghost use Rattle.std.specs.Prelude.{◌≡◌};
 ghost use Rattle.transfer.specs.Transfer.{fresh};
 ghost use Rattle.uf2_receiver.specs.Receiver.{lent_at, left_at};

@@ -1,4 +1,6 @@
 // A file checked before it is sent, for C: a library of its own.
+#![tactic(auto)]
+
 mod answer_bytes;
 
 ghost use Rattle.std.specs.Prelude.{◌≡◌, length};

@@ -10,7 +10,7 @@ use lib.Seq.{ext_get_or}
 use borrow.Author.Tests.{leb-true, ltb-true, lt-ltb}
 use Rattle.laws.specs.Sets.{Set, any}
 use Rattle.laws.proofs.Tests.{split, clash, is_false, and_left, and_right, both}
-use Rattle.laws.proofs.Laws.{any_found, any-hit, size_full}
+use Rattle.laws.proofs.Laws.{any_found, any_hit, size_full}
 use Rattle.memory.specs.Bitmap.{map_of}
 use Rattle.memory.specs.Flash.{payload_of, spans}
 use Rattle.partitions.specs.declared.Settings.{Settings}
@@ -25,7 +25,7 @@ use Rattle.arrival.specs.Windows.{window_start}
 use Rattle.arrival.proofs.Heads.{kind_same}
 use Rattle.demand.specs.Demand.{File, address_of, ValidFile, Sent, is_data, seen_of, how_many, storage_of, holds, held_by, lies_in, touched_by, changed_by, Plain, Ends, ListEnds}
 use Rattle.demand.proofs.Demand.{list_ends}
-use Rattle.demand.proofs.Starts.{origin-there, valid-there, sent-there, plain-there}
+use Rattle.demand.proofs.Starts.{origin_there, valid-there, sent-there, plain-there}
 use Rattle.demand.specs.Cut.{all_of, Cut, CutThenWhole, Standing, StandingIsReceived}
 
 under : (x y z : Bool) → (y ≡ false → z ≡ false) → x && y ≡ false → x && z ≡ false
@@ -38,14 +38,14 @@ as_all n S R P all h =
     is_false (any n (λ k. R k && P k))
     (λ t.
     let f = any_found (λ k. R k && P k) n t in
-    clash (any n (λ k. S k && P k)) (any-hit (λ k. S k && P k) n f.0 f.1 (both (all f.0 f.1) (and_right (R f.0) (P f.0) f.2))) h)
+    clash (any n (λ k. S k && P k)) (any_hit (λ k. S k && P k) n f.0 f.1 (both (all f.0 f.1) (and_right (R f.0) (P f.0) f.2))) h)
 
 module _ (s : Settings) (v w : World) (F : File) (C : Cut s F v w) where
   abbrev o : ℕ
   o = origin_of s w F.kind F.family
 
   same : origin_of s v F.kind F.family ≡ o
-  same = origin-there s v w C.lengths (C.back ∙ sym C.before) F.kind F.family
+  same = origin_there s v w C.lengths (C.back ∙ sym C.before) F.kind F.family
 
   -- the words of demand 3 by the origin alone
   abbrev store_at : ℕ → ℕ → ℕ
@@ -54,19 +54,19 @@ module _ (s : Settings) (v w : World) (F : File) (C : Cut s F v w) where
   abbrev held_at : ℕ → Set → Kind → ℕ → Bool
   held_at x S u j = same_kind u F.kind && any F.total (λ k. S k && (is_data F k && spans (store_at x k) j))
 
-  abbrev touchedAt : ℕ → Set → Set
-  touchedAt x S q = same_kind Flash F.kind && any F.total (λ k. S k && (is_data F k && eqb q (store_at x k / 4096)))
+  abbrev touched_at : ℕ → Set → Set
+  touched_at x S q = same_kind Flash F.kind && any F.total (λ k. S k && (is_data F k && eqb q (store_at x k / 4096)))
 
-  touched-same : (S : Set) → touched_by s v F S ≡ touched_by s w F S
-  touched-same S = ap (λ (x : ℕ). touchedAt x S) same
+  touched_same : (S : Set) → touched_by s v F S ≡ touched_by s w F S
+  touched_same S = ap (λ (x : ℕ). touched_at x S) same
 
   held_same : (S : Set) (u : Kind) (j : ℕ) → held_by s v F S u j ≡ held_by s w F S u j
   held_same S u j = ap (λ (x : ℕ). held_at x S u j) same
 
-  changed-same : (S : Set) (u : Kind) (j : ℕ) → changed_by s v F S u j ≡ changed_by s w F S u j
-  changed-same S Flash j = ap (λ (R : Set). R (j / 4096)) (touched-same S)
-  changed-same S MainRam j = held_same S MainRam j
-  changed-same S XipRam j = held_same S XipRam j
+  changed_same : (S : Set) (u : Kind) (j : ℕ) → changed_by s v F S u j ≡ changed_by s w F S u j
+  changed_same S Flash j = ap (λ (R : Set). R (j / 4096)) (touched_same S)
+  changed_same S MainRam j = held_same S MainRam j
+  changed_same S XipRam j = held_same S XipRam j
 
   store_same : (k : ℕ) → storage_of s v F k ≡ storage_of s w F k
   store_same k = ap (λ (x : ℕ). store_at x k) same
@@ -97,7 +97,7 @@ module _ (s : Settings) (v w : World) (F : File) (C : Cut s F v w) where
 
     -- a byte that the file does not change
     other_byte : (u : Kind) (j : ℕ) → changed_by s w F S u j ≡ false → get_or (buffer_of u a.held) j 0 ≡ get_or (buffer_of u b.held) j 0
-    other_byte u j h = p.contents.others u j (changed-same S u j ∙ h) ∙ C.others u j (full u h) ∙ sym (q.contents.others u j h)
+    other_byte u j h = p.contents.others u j (changed_same S u j ∙ h) ∙ C.others u j (full u h) ∙ sym (q.contents.others u j h)
       where
         held : (u : Kind) → held_by s w F S u j ≡ false → held_by s w F (all_of F) u j ≡ false
         held u h =
@@ -116,7 +116,7 @@ module _ (s : Settings) (v w : World) (F : File) (C : Cut s F v w) where
         split (touched_by s w F S (j / 4096))
         (λ t. split (held_by s w F S Flash j)
         (λ h. held-byte Flash j h)
-        (λ n. p.contents.erased j (subst (λ (k : ℕ). j < k) (sym (ap (λ (m : Lengths). m.flash) C.lengths.buffers)) l) (ap (λ (R : Set). R (j / 4096)) (touched-same S) ∙ t) (held_same S Flash j ∙ n) ∙ sym (q.contents.erased j l t n)))
+        (λ n. p.contents.erased j (subst (λ (k : ℕ). j < k) (sym (ap (λ (m : Lengths). m.flash) C.lengths.buffers)) l) (ap (λ (R : Set). R (j / 4096)) (touched_same S) ∙ t) (held_same S Flash j ∙ n) ∙ sym (q.contents.erased j l t n)))
         (λ t. other_byte Flash j t)
 
     ram-byte : (u : Kind) (j : ℕ) → changed_by s w F S u j ≡ held_by s w F S u j → get_or (buffer_of u a.held) j 0 ≡ get_or (buffer_of u b.held) j 0
@@ -125,8 +125,8 @@ module _ (s : Settings) (v w : World) (F : File) (C : Cut s F v w) where
     lengths-same : lengths_of a.held ≡ lengths_of b.held
     lengths-same = p.contents.lengths ∙ C.lengths.buffers ∙ sym q.contents.lengths
 
-    flash-same : a.held.flash ≡ b.held.flash
-    flash-same =
+    flash_same : a.held.flash ≡ b.held.flash
+    flash_same =
         let n = ap (λ (m : Lengths). m.flash) lengths-same in
         let m = ap (λ (m : Lengths). m.flash) q.contents.lengths in
         ext_get_or 0 a.held.flash b.held.flash n (λ j l. flash-byte j (omega arith))
@@ -138,10 +138,10 @@ module _ (s : Settings) (v w : World) (F : File) (C : Cut s F v w) where
     xip-same = ext_get_or 0 a.held.xip b.held.xip (ap (λ (m : Lengths). m.xip) lengths-same) (λ j l. ram-byte XipRam j refl)
 
     sectors-same : a.held.sectors ≡ b.held.sectors
-    sectors-same = p.sector_map (omega arith) ∙ ap (map_of 1024) (touched-same S) ∙ sym (q.sector_map (omega arith))
+    sectors-same = p.sector_map (omega arith) ∙ ap (map_of 1024) (touched_same S) ∙ sym (q.sector_map (omega arith))
 
     held_is : a.held ≡ b.held
-    held_is = λ i. record { flash = flash-same i; sectors = sectors-same i; main = main-same i; xip = xip-same i }
+    held_is = λ i. record { flash = flash_same i; sectors = sectors-same i; main = main-same i; xip = xip-same i }
 
     transfer-is : a.transfer ≡ b.transfer
     transfer-is = p.counts.whole whole ∙ sym (q.counts.whole whole)
@@ -164,8 +164,8 @@ cut_then_whole s v w F C ok plain l sent e =
 -- ---- what stands already
 
 module _ (s : Settings) (w : World) (F : File) (S : Set) (b : World) (q : Ends s w F S b) (Z : Standing s w F S) where
-  stands-held : (u : Kind) (j : ℕ) → held_by s w F S u j ≡ true → get_or (buffer_of u b.held) j 0 ≡ get_or (buffer_of u w.held) j 0
-  stands-held u j h =
+  stands_held : (u : Kind) (j : ℕ) → held_by s w F S u j ≡ true → get_or (buffer_of u b.held) j 0 ≡ get_or (buffer_of u w.held) j 0
+  stands_held u j h =
       let e : u ≡ F.kind = kind_same u F.kind (and_left (same_kind u F.kind) (any F.total (λ k. S k && holds s w F k j)) h) in
       let f = any_found (λ k. S k && holds s w F k j) F.total (and_right (same_kind u F.kind) (any F.total (λ k. S k && holds s w F k j)) h) in
       let k = f.0 in
@@ -184,25 +184,25 @@ module _ (s : Settings) (w : World) (F : File) (S : Set) (b : World) (q : Ends s
       ∙ ap (λ (n : ℕ). get_or (buffer_of F.kind w.held) n 0) z
       ∙ ap (λ (t : Kind). get_or (buffer_of t w.held) j 0) (sym e)
 
-  stands-byte : (u : Kind) (j : ℕ) → j < length (buffer_of u w.held) → get_or (buffer_of u b.held) j 0 ≡ get_or (buffer_of u w.held) j 0
-  stands-byte Flash j l =
+  stands_byte : (u : Kind) (j : ℕ) → j < length (buffer_of u w.held) → get_or (buffer_of u b.held) j 0 ≡ get_or (buffer_of u w.held) j 0
+  stands_byte Flash j l =
       split (touched_by s w F S (j / 4096))
       (λ t. split (held_by s w F S Flash j)
-      (λ h. stands-held Flash j h)
+      (λ h. stands_held Flash j h)
       (λ n. q.contents.erased j l t n ∙ sym (Z.rest j l t n)))
       (λ t. q.contents.others Flash j t)
-  stands-byte MainRam j l = split (held_by s w F S MainRam j) (λ h. stands-held MainRam j h) (λ n. q.contents.others MainRam j n)
-  stands-byte XipRam j l = split (held_by s w F S XipRam j) (λ h. stands-held XipRam j h) (λ n. q.contents.others XipRam j n)
+  stands_byte MainRam j l = split (held_by s w F S MainRam j) (λ h. stands_held MainRam j h) (λ n. q.contents.others MainRam j n)
+  stands_byte XipRam j l = split (held_by s w F S XipRam j) (λ h. stands_held XipRam j h) (λ n. q.contents.others XipRam j n)
 
-  length-same : (u : Kind) → length (buffer_of u b.held) ≡ length (buffer_of u w.held)
-  length-same Flash = ap (λ (m : Lengths). m.flash) q.contents.lengths
-  length-same MainRam = ap (λ (m : Lengths). m.main) q.contents.lengths
-  length-same XipRam = ap (λ (m : Lengths). m.xip) q.contents.lengths
+  length_same : (u : Kind) → length (buffer_of u b.held) ≡ length (buffer_of u w.held)
+  length_same Flash = ap (λ (m : Lengths). m.flash) q.contents.lengths
+  length_same MainRam = ap (λ (m : Lengths). m.main) q.contents.lengths
+  length_same XipRam = ap (λ (m : Lengths). m.xip) q.contents.lengths
 
   stands_same : (u : Kind) → buffer_of u b.held ≡ buffer_of u w.held
   stands_same u =
-      let n = length-same u in
-      ext_get_or 0 (buffer_of u b.held) (buffer_of u w.held) n (λ j l. stands-byte u j (subst (λ (k : ℕ). j < k) n l))
+      let n = length_same u in
+      ext_get_or 0 (buffer_of u b.held) (buffer_of u w.held) n (λ j l. stands_byte u j (subst (λ (k : ℕ). j < k) n l))
 
 pub standing_is_received : StandingIsReceived
 unfolding StandingIsReceived ListEnds

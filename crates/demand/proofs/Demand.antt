@@ -33,15 +33,15 @@ use Rattle.arrival.specs.Lists.{receive_all, answers_of}
 use Rattle.arrival_claims.specs.Kept.{soft}
 use Rattle.demand.specs.Demand.{File, answer_number, ValidFile, Foreign, Sent, nothing, own, other, seen_of, is_whole, unfinished, reply_to, with_arrival, replies_to, Counts, Ends, size_of, Plain, ListCounts, OtherKindsStay, ListAnswers, ListEnds, PlainAnswers, is_completed, CompletedExactly, SameSet, SameSetSameEnd, EitherFirst, SameCount, SameSetSameCount, EitherFirstSameCount}
 use Rattle.arrival.proofs.Pages.{apply}
-use Rattle.arrival.proofs.Count.{Blocks, count, head_by, deed_by, Any, Invariant, After, untouched, begun, verdict, Stepped, nothing_seen, some-seen, still-running, whole-done, seen_map, after_carried, invariant_of, after, after_is}
+use Rattle.arrival.proofs.Count.{Blocks, count, head_by, deed_by, Any, Invariant, After, untouched, begun, verdict, Stepped, nothing_seen, some_seen, still_running, whole_done, seen_map, after_carried, invariant_of, after, after_is}
 use Rattle.arrival_claims.proofs.Cells.{cell, cell_none, get_d_buffer}
 use Rattle.arrival_claims.proofs.Effect.{kind_in, Valid, layout, sectors_of, Unkept, effect, effect_buffer, lengths_effect, grows}
 use Rattle.arrival.proofs.Paged.{paged_other}
 use Rattle.arrival.proofs.Facts.{wiped_buffer}
-use Rattle.demand.proofs.Contents.{byte_in, As, touchedIn, sectors-in, contents_of_lem}
+use Rattle.demand.proofs.Contents.{byte_in, As, touched_in, sectors_in, contents_of_lem}
 use Rattle.demand.proofs.Lists.{Reached, reached_next, reached_after}
-use Rattle.demand.proofs.Runs.{mixed_append, mixed_split, seen_nothing, seen_append, seen-own, seen_other, along_any, own_step, other_step, run-after}
-use Rattle.demand.proofs.Files.{blocks_of, board, valid, opens, foreign-is, steady}
+use Rattle.demand.proofs.Runs.{mixed_append, mixed_split, seen_nothing, seen_append, seen_own, seen_other, along_any, own_step, other_step, run_after}
+use Rattle.demand.proofs.Files.{blocks_of, board, valid, opens, foreign_is, steady}
 
 -- ---- transfer and seen map, with regions or without
 
@@ -49,8 +49,8 @@ pub counts_of : (F : Blocks) (w : World) (Inv : Set → Held → Type 0) (S : Se
 counts_of F w Inv S v a n =
     record {
       untouched = nothing_seen F w Inv S v a;
-      going = still-running F w Inv S v a;
-      whole = whole-done F w Inv S v a n;
+      going = still_running F w Inv S v a;
+      whole = whole_done F w Inv S v a n;
       seen_map = seen_map F w Inv S v a;
     }
 
@@ -97,11 +97,11 @@ module _ (F : Blocks) (w : World) (S : Set) (v : World) (a : After F w (Same F w
       go (untouched e p) = ap (λ (x : World). lengths_of x.held) p
       go (begun x s i p) = ap (λ (x : World). lengths_of x.held) p ∙ ap lengths_of i ∙ lengths_effect F w.held S
 
-  sectors-are : 1 ≤ size (count F) S → v.held.sectors ≡ map_of 1024 (touchedIn F S)
-  sectors-are s =
-      let r = some-seen F w (Same F w.held) S v a s in
+  sectors_are : 1 ≤ size (count F) S → v.held.sectors ≡ map_of 1024 (touched_in F S)
+  sectors_are s =
+      let r = some_seen F w (Same F w.held) S v a s in
       let e : (effect F w.held S).sectors ≡ map_of 1024 (sectors_of F S) = unfold effect in refl in
-      ap (λ (u : World). u.held.sectors) r.2 ∙ ap (λ (x : Held). x.sectors) r.1 ∙ e ∙ ap (map_of 1024) (fun_ext (sectors-in F S))
+      ap (λ (u : World). u.held.sectors) r.2 ∙ ap (λ (x : Held). x.sectors) r.1 ∙ e ∙ ap (map_of 1024) (fun_ext (sectors_in F S))
 
 -- ---- Completed exactly where the set becomes whole
 
@@ -144,8 +144,8 @@ module _ (s : Settings) (w : World) (F : File) (idle : w.transfer ≡ Idle) (ok 
   sound : Valid P w.held
   sound = valid s w F idle ok
 
-  at-start : Reached s w w
-  at-start = record { board = board s w F idle ok; lengths = refl }
+  at_start : Reached s w w
+  at_start = record { board = board s w F idle ok; lengths = refl }
 
   K : Invariant P w.held (Others P w.held) Any
   K = keeps_others P w.held sound.few
@@ -153,7 +153,7 @@ module _ (s : Settings) (w : World) (F : File) (idle : w.transfer ≡ Idle) (ok 
   -- what is left after a list, by the blocks seen
   pub after_any : {l : List (List ℕ)} → Sent s w F l → After P w (Others P w.held) (seen_of F l) (receive_all s w l)
   after_any {l} sent =
-      run-after s w P (Foreign s w F) (steady s w F idle ok) (Others P w.held) Any K false (opens s w F idle ok) sent none w at-start (untouched refl refl)
+      run_after s w P (Foreign s w F) (steady s w F idle ok) (Others P w.held) Any K false (opens s w F idle ok) sent none w at_start (untouched refl refl)
       (along_any s l w)
 
   pub counts : {l : List (List ℕ)} → Sent s w F l → Counts w F (seen_of F l) (receive_all s w l)
@@ -177,8 +177,8 @@ module _ (s : Settings) (w : World) (F : File) (idle : w.transfer ≡ Idle) (ok 
       record { transfer = ap (λ (v : World). v.transfer) f; seen = ap (λ (v : World). v.seen) f })
       (λ n.
       let ne : size F.total (seen_of F l) ≢ 0 = eqb-false (size F.total (seen_of F l)) 0 n in
-      let g = some-seen P w (Others P w.held) (seen_of F l) (receive_all s w l) (after_any p) (omega arith) in
-      let h = some-seen P w (Others P w.held) (seen_of F m) (receive_all s w m) (after_any q) (omega (arith, ap (size F.total) e)) in
+      let g = some_seen P w (Others P w.held) (seen_of F l) (receive_all s w l) (after_any p) (omega arith) in
+      let h = some_seen P w (Others P w.held) (seen_of F m) (receive_all s w m) (after_any q) (omega (arith, ap (size F.total) e)) in
       record {
         transfer = ap (λ (v : World). v.transfer) g.2 ∙ ap (λ (S : Set). counted (head_by P) (size F.total S)) e ∙ sym (ap (λ (v : World). v.transfer) h.2);
         seen = ap (λ (v : World). v.seen) g.2 ∙ ap (map_of 16384) e ∙ sym (ap (λ (v : World). v.seen) h.2);
@@ -187,21 +187,21 @@ module _ (s : Settings) (w : World) (F : File) (idle : w.transfer ≡ Idle) (ok 
   -- ---- the answers
 
   -- S, with the arrival a, as the claims say it
-  grow-own : (S : Set) (k : ℕ) → k < F.total → add k S ≡ with_arrival s w S (F.block k)
+  grow_own : (S : Set) (k : ℕ) → k < F.total → add k S ≡ with_arrival s w S (F.block k)
   unfolding with_arrival
-  grow-own S k h = rw (lt-leb (answer_number s w (F.block k)) 11 (omega (arith, ok.passes k h)), ok.numbers k h)
+  grow_own S k h = rw (lt-leb (answer_number s w (F.block k)) 11 (omega (arith, ok.passes k h)), ok.numbers k h)
 
-  grow-other : (S : Set) (a : List ℕ) → Foreign s w F a → with_arrival s w S a ≡ S
+  grow_other : (S : Set) (a : List ℕ) → Foreign s w F a → with_arrival s w S a ≡ S
   unfolding with_arrival
-  grow-other S a f = rw (le-leb (answer_number s w a) 11 f.most)
+  grow_other S a f = rw (le-leb (answer_number s w a) 11 f.most)
 
-  reply-other : (S : Set) (a : List ℕ) → Foreign s w F a → reply_to s w F S a ≡ (receive_of s w a).answer
+  reply_other : (S : Set) (a : List ℕ) → Foreign s w F a → reply_to s w F S a ≡ (receive_of s w a).answer
   unfolding reply_to
-  reply-other S a f = rw (le-leb (answer_number s w a) 11 f.most)
+  reply_other S a f = rw (le-leb (answer_number s w a) 11 f.most)
 
-  own-told : (k : ℕ) → k < F.total → (S : Set) (v : World) → Reached s w v → After P w (Others P w.held) S v
+  own_told : (k : ℕ) → k < F.total → (S : Set) (v : World) → Reached s w v → After P w (Others P w.held) S v
       → Stepped P w (Others P w.held) false S k v.held.flash (receive_of s v (F.block k))
-  own-told k h S v m a = own_step s w P (Foreign s w F) (steady s w F idle ok) (Others P w.held) Any K false (opens s w F idle ok) k h S v m a tt
+  own_told k h S v m a = own_step s w P (Foreign s w F) (steady s w F idle ok) (Others P w.held) Any K false (opens s w F idle ok) k h S v m a tt
 
   -- as t tells the answers: t leaves all below 14 and 15, and of a new block that does not complete tells what the claims say
   module _ (t : Answer → Answer) (low : (x : Answer) → number_of x ≤ 13 → t x ≡ x) (last : t Completed ≡ Completed)
@@ -225,25 +225,25 @@ module _ (s : Settings) (w : World) (F : File) (idle : w.transfer ≡ Idle) (ok 
     unfolding answers_of replies_to
     told-after nothing S v m a = refl
     told-after (own {l = l} k h r) S v m a =
-        let p = own-told k h S v m a in
+        let p = own_told k h S v m a in
         let n : length v.held.flash ≡ length w.held.flash = ap (λ (n : Lengths). n.flash) m.lengths in
         let x : t (receive_of s v (F.block k)).answer ≡ reply_to s w F S (F.block k) = ap t p.told ∙ reply-own v.held.flash n S k h in
         let y : map t (answers_of s (receive_of s v (F.block k)).world l) ≡ replies_to s w F (with_arrival s w S (F.block k)) l =
         told-after r (add k S) (receive_of s v (F.block k)).world (reached_next s w v (F.block k) m) p.next
-        ∙ ap (λ (T : Set). replies_to s w F T l) (grow-own S k h) in
+        ∙ ap (λ (T : Set). replies_to s w F T l) (grow_own S k h) in
         λ i. x i ∷ y i
     told-after (other {l = l} a f r) S v m u =
-        let e = foreign-is s w F idle ok v m (after_carried P w (Others P w.held) S v u) a f in
+        let e = foreign_is s w F idle ok v m (after_carried P w (Others P w.held) S v u) a f in
         let x : t (receive_of s v a).answer ≡ reply_to s w F S a =
-        ap (λ (o : Outcome). t o.answer) e ∙ low (receive_of s w a).answer (omega (arith, f.most)) ∙ sym (reply-other S a f) in
+        ap (λ (o : Outcome). t o.answer) e ∙ low (receive_of s w a).answer (omega (arith, f.most)) ∙ sym (reply_other S a f) in
         let y : map t (answers_of s (receive_of s v a).world l) ≡ replies_to s w F (with_arrival s w S a) l =
         told-after r S (receive_of s v a).world (reached_next s w v a m)
         (other_step s w P (Foreign s w F) (steady s w F idle ok) (Others P w.held) Any K false (opens s w F idle ok) a f S v m u)
-        ∙ ap (λ (T : Set). replies_to s w F T l) (sym (grow-other S a f)) in
+        ∙ ap (λ (T : Set). replies_to s w F T l) (sym (grow_other S a f)) in
         λ i. x i ∷ y i
 
     pub told : {l : List (List ℕ)} → Sent s w F l → map t (answers_of s w l) ≡ replies_to s w F none l
-    told sent = told-after sent none w at-start (untouched refl refl)
+    told sent = told-after sent none w at_start (untouched refl refl)
 
   -- ---- Completed
 
@@ -252,13 +252,13 @@ module _ (s : Settings) (w : World) (F : File) (idle : w.transfer ≡ Idle) (ok 
       is_completed (receive_of s (receive_all s w l) a).answer ≡ not (is_whole F (seen_of F l)) && is_whole F (seen_of F (l ++ (a ∷ [])))
 
   -- the worlds after the list
-  reached-list : (l : List (List ℕ)) → Reached s w (receive_all s w l)
-  reached-list l = reached_after s w l w at-start
+  reached_list : (l : List (List ℕ)) → Reached s w (receive_all s w l)
+  reached_list l = reached_after s w l w at_start
 
-  exactly-own : {l : List (List ℕ)} → Sent s w F l → (k : ℕ) → k < F.total → Exactly l (F.block k)
-  exactly-own {l} sent k h =
+  exactly_own : {l : List (List ℕ)} → Sent s w F l → (k : ℕ) → k < F.total → Exactly l (F.block k)
+  exactly_own {l} sent k h =
       let S = seen_of F l in
-      let t = own-told k h S (receive_all s w l) (reached-list l) (after_any sent) in
+      let t = own_told k h S (receive_all s w l) (reached_list l) (after_any sent) in
       ap is_completed t.told
       ∙ completes P S k (deed_by P (receive_all s w l).held.flash k) h
       ∙ sym (ap (λ (R : Set). not (is_whole F S) && is_whole F R) more)
@@ -268,14 +268,14 @@ module _ (s : Settings) (w : World) (F : File) (idle : w.transfer ≡ Idle) (ok 
           fun_ext
           (λ j.
           seen_append F l (F.block k ∷ []) j
-          ∙ ap (λ (R : Set). seen_of F l j || R j) (seen-own s w P (Foreign s w F) (steady s w F idle ok) k [] h)
+          ∙ ap (λ (R : Set). seen_of F l j || R j) (seen_own s w P (Foreign s w F) (steady s w F idle ok) k [] h)
           ∙ ap (λ (b : Bool). seen_of F l j || (eqb j k || b)) (seen_nothing F j)
           ∙ ap (λ (b : Bool). seen_of F l j || b) (or_comm (eqb j k) false)
           ∙ or_comm (seen_of F l j) (eqb j k))
 
-  exactly-other : {l : List (List ℕ)} → Sent s w F l → (a : List ℕ) → Foreign s w F a → Exactly l a
-  exactly-other {l} sent a f =
-      ap (λ (o : Outcome). is_completed o.answer) (foreign-is s w F idle ok (receive_all s w l) (reached-list l) (after_carried P w (Others P w.held) (seen_of F l) (receive_all s w l) (after_any sent)) a f)
+  exactly_other : {l : List (List ℕ)} → Sent s w F l → (a : List ℕ) → Foreign s w F a → Exactly l a
+  exactly_other {l} sent a f =
+      ap (λ (o : Outcome). is_completed o.answer) (foreign_is s w F idle ok (receive_all s w l) (reached_list l) (after_carried P w (Others P w.held) (seen_of F l) (receive_all s w l) (after_any sent)) a f)
       ∙ ne_eqb (answer_number s w a) 15 (λ e. omega (arith, f.most))
       ∙ sym (not-and_self (is_whole F (seen_of F l)))
       ∙ sym (ap (λ (R : Set). not (is_whole F (seen_of F l)) && is_whole F R) same)
@@ -294,8 +294,8 @@ module _ (s : Settings) (w : World) (F : File) (idle : w.transfer ≡ Idle) (ok 
     where
       last : (l : List (List ℕ)) {a : List ℕ} → Sent s w F l → {m : List (List ℕ)} → m ≡ a ∷ [] → Sent s w F m → Exactly l a
       last l p e nothing = absurd (omega (arith, ap length e))
-      last l {a} p e (own k h r) = let x : F.block k ≡ a = cc in subst (Exactly l) x (exactly-own p k h)
-      last l {a} p e (other b f r) = let x : b ≡ a = cc in subst (Exactly l) x (exactly-other p b f)
+      last l {a} p e (own k h r) = let x : F.block k ≡ a = cc in subst (Exactly l) x (exactly_own p k h)
+      last l {a} p e (other b f r) = let x : b ≡ a = cc in subst (Exactly l) x (exactly_other p b f)
 
   -- ---- without regions
 
@@ -319,7 +319,7 @@ module _ (s : Settings) (w : World) (F : File) (idle : w.transfer ≡ Idle) (ok 
 
     pub after_list : {l : List (List ℕ)} → Sent s w F l → After P w (Same P w.held) (seen_of F l) (receive_all s w l)
     after_list {l} sent =
-        run-after s w P (Foreign s w F) (steady s w F idle ok) (Same P w.held) Any L false (opens s w F idle ok) sent none w at-start (untouched refl refl)
+        run_after s w P (Foreign s w F) (steady s w F idle ok) (Same P w.held) Any L false (opens s w F idle ok) sent none w at_start (untouched refl refl)
         (along_any s l w)
 
     pub ends : {l : List (List ℕ)} → Sent s w F l → Ends s w F (seen_of F l) (receive_all s w l)
@@ -329,7 +329,7 @@ module _ (s : Settings) (w : World) (F : File) (idle : w.transfer ≡ Idle) (ok 
         let a = after_list sent in
         record {
           counts = counts sent;
-          sector_map = sectors-are P w S v a;
+          sector_map = sectors_are P w S v a;
           contents = contents_of_lem s w F sound S v (there P w S v a) (same_lengths P w S v a);
         }
 

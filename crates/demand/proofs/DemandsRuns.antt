@@ -19,16 +19,16 @@ use Rattle.arrival.specs.Lists.{receive_all, AtEach}
 use Rattle.demand.specs.Demand.{Mixed, nothing, own, other, answer_number}
 use Rattle.arrival.proofs.Heads.{same_head_lem}
 use Rattle.arrival.proofs.Pages.{arrive, apply, took_held}
-use Rattle.arrival.proofs.Count.{Blocks, count, head_by, bytes_of, placed_of, deed_by, coming, applied, wipe, reached, Any, Invariant, Opens, After, untouched, begun, verdict, Stepped, some-seen, after_carried}
+use Rattle.arrival.proofs.Count.{Blocks, count, head_by, bytes_of, placed_of, deed_by, coming, applied, wipe, reached, Any, Invariant, Opens, After, untouched, begun, verdict, Stepped, some_seen, after_carried}
 use Rattle.arrival_claims.proofs.DecisionFacts.{raised_number}
 use Rattle.demand.proofs.Lists.{Reached, reached_next}
-use Rattle.demand.proofs.Runs.{Steady, seen_nothing, seen_from, from-own, from-other, own_step}
+use Rattle.demand.proofs.Runs.{Steady, seen_nothing, seen_from, from_own, from_other, own_step}
 
 -- ---- what block k leaves in the buffers and the sector map
 
 module _ (F : Blocks) (few : count F ≤ 131072) (k : ℕ) (h : k < count F) where
-  wiped-flash : (b : Bool) (x : Held) → (wiped_if b x).flash ≡ x.flash
-  wiped-flash b x = unfold wiped_if in refl
+  wiped_flash : (b : Bool) (x : Held) → (wiped_if b x).flash ≡ x.flash
+  wiped_flash b x = unfold wiped_if in refl
 
   unwiped : (x : Held) → wiped_if false x ≡ x
   unwiped x = unfold wiped_if cleared_if in refl
@@ -39,7 +39,7 @@ module _ (F : Blocks) (few : count F ≤ 131072) (k : ℕ) (h : k < count F) whe
       let e = deed_by F w.held.flash k in
       ap (λ st. (done w (payload_of (bytes_of F k)) (stepped (placed_of F k) e st)).world.held) (o.opens (marked_in w.seen k) e)
       ∙ took_held w (bytes_of F k) (F.stands w.held.flash k) (placed_of F k) (accepted e true d (head_by F) 1)
-      ∙ ap (λ (f : List ℕ). apply (F.stands f k) (placed_of F k) (bytes_of F k) (wipe w.held)) (sym (wiped-flash true w.held))
+      ∙ ap (λ (f : List ℕ). apply (F.stands f k) (placed_of F k) (bytes_of F k) (wipe w.held)) (sym (wiped_flash true w.held))
 
   held_new : (S : Set) (x : Held) → S k ≡ false → (coming F (reached F S x) k).world.held ≡ applied F k x
   unfolding arrive step_of counted done accepted
@@ -49,9 +49,9 @@ module _ (F : Blocks) (few : count F ≤ 131072) (k : ℕ) (h : k < count F) whe
       (took_held (record { transfer = running (head_by F) (size (count F) S); seen = map_of 16384 S; held = x }) (bytes_of F k) (F.stands x.flash k) (placed_of F k) (accepted (deed_by F x.flash k) false false (head_by F) (size (count F) S + 1))
       ∙ ap (apply (F.stands x.flash k) (placed_of F k) (bytes_of F k)) (unwiped x))
 
-  held-again : (S : Set) (x : Held) → S k ≡ true → (coming F (reached F S x) k).world.held ≡ x
+  held_again : (S : Set) (x : Held) → S k ≡ true → (coming F (reached F S x) k).world.held ≡ x
   unfolding arrive step_of counted done
-  held-again S x y =
+  held_again S x y =
       let m : marked_in (map_of 16384 S) k ≡ S k = marked_map 16384 S k (omega (arith, few)) in
       split (ltb (size (count F) S) (count F)) (λ q. rw (q, same_head_lem (head_by F), m, y)) (λ q. rw q)
 
@@ -84,7 +84,7 @@ module _ (s : Settings) (w : World) (F : Blocks) (P : List ℕ → Type 0) (R : 
 
     -- it is the world of the set, with some buffers
     told : (y : Held) × Unit {0} × (next ≡ reached F (add k S) y)
-    told = some-seen F w Free (add k S) next stepping.next some
+    told = some_seen F w Free (add k S) next stepping.next some
 
     came : next.held ≡ (coming F v k).world.held
     came = ap (λ (o : Outcome). o.world.held) (R.ours v m (after_carried F w Inv S v a) k h)
@@ -102,7 +102,7 @@ module _ (s : Settings) (w : World) (F : Blocks) (P : List ℕ → Type 0) (R : 
     go : After F w Inv S v → After F w Inv (add k S) next
     go (untouched e p) =
         let z : S k ≡ false = ap (λ (T : Set). T k) e in
-        let same : (wipe w.held).flash ≡ v.held.flash = wiped-flash F few k h true w.held ∙ sym (ap (λ (u : World). u.held.flash) p) in
+        let same : (wipe w.held).flash ≡ v.held.flash = wiped_flash F few k h true w.held ∙ sym (ap (λ (u : World). u.held.flash) p) in
         let i : Inv (add k none) (applied F k (wipe w.held)) = goes_on none k (wipe w.held) h begins (subst (λ (f : List ℕ). Met f k) (sym same) (met (late z))) in
         begun (applied F k (wipe w.held)) some (subst (λ (T : Set). Inv (add k T) (applied F k (wipe w.held))) (sym e) i)
         (to (applied F k (wipe w.held)) (ap (λ (u : World). (coming F u k).world.held) p ∙ held_first F few k h w d o))
@@ -111,7 +111,7 @@ module _ (s : Settings) (w : World) (F : Blocks) (P : List ℕ → Type 0) (R : 
         split (S k)
         (λ y.
         begun x some (subst (λ (T : Set). Inv T x) (sym (add_idle k S y)) i)
-        (to x (ap (λ (u : World). (coming F u k).world.held) p ∙ held-again F few k h S x y)))
+        (to x (ap (λ (u : World). (coming F u k).world.held) p ∙ held_again F few k h S x y)))
         (λ z.
         begun (applied F k x) some (goes_on S k x h i (subst (λ (f : List ℕ). Met f k) (sym same) (met (late z))))
         (to (applied F k x) (ap (λ (u : World). (coming F u k).world.held) p ∙ held_new F few k h S x z)))
@@ -127,9 +127,9 @@ module _ (s : Settings) (w : World) (F : Blocks) (P : List ℕ → Type 0) (R : 
     run-met nothing S v m a e =
         subst (λ (T : Set). After F w Inv T v) (fun_ext (λ j. sym (ap (λ (b : Bool). S j || b) (seen_nothing F.file j) ∙ or_comm (S j) false))) a
     run-met (own {l = l} k h r) S v m a e =
-        subst (λ (T : Set). After F w Inv T (receive_all s (receive_of s v (bytes_of F k)).world l)) (from-own s w F P R Free Any free d o S k l h)
+        subst (λ (T : Set). After F w Inv T (receive_all s (receive_of s v (bytes_of F k)).world l)) (from_own s w F P R Free Any free d o S k l h)
         (run-met r (add k S) (receive_of s v (bytes_of F k)).world (reached_next s w v (bytes_of F k) m) (met-step k h S v m a (asks k v h e.0)) e.1)
     run-met (other {l = l} x f r) S v m a e =
-        subst (λ (T : Set). After F w Inv T (receive_all s (receive_of s v x).world l)) (from-other s w F P R Free Any free d o S x l f)
+        subst (λ (T : Set). After F w Inv T (receive_all s (receive_of s v x).world l)) (from_other s w F P R Free Any free d o S x l f)
         (run-met r S (receive_of s v x).world (reached_next s w v x m)
         (subst (After F w Inv S) (sym (R.foreign v m (after_carried F w Inv S v a) x f)) a) e.1)

@@ -37,9 +37,9 @@ use Rattle.arrival.proofs.Pages.{arrive}
 use Rattle.arrival.proofs.Count.{Blocks, body_of, placed_of, Opens, Carried}
 use Rattle.arrival.proofs.Paged.{Fits}
 use Rattle.arrival_claims.proofs.Effect.{Valid, spans_true, spans_is}
-use Rattle.arrival_claims.proofs.Screening.{flash_of, lens, Board, Passing, Good, screen-good, screen_turn, note_counted, room-origin, passing-few, passing-fits}
+use Rattle.arrival_claims.proofs.Screening.{flash_of, lens, Board, Passing, Good, screen_good, screen_turn, note_counted, room_origin, passing_few, passing-fits}
 use Rattle.arrival_claims.proofs.DecisionFacts.{Rows, stopped, through, rows, raised_number}
-use Rattle.demand.proofs.Lists.{receive-refused, receive-passed, Reached}
+use Rattle.demand.proofs.Lists.{receive_refused, receive_passed, Reached}
 use Rattle.demand.proofs.Runs.{Steady}
 
 -- ---- an arrival that earns 4 or more has passed rows 1 to 3
@@ -76,12 +76,12 @@ module _ (s : Settings) (w : World) (F : File) (idle : w.transfer ≡ Idle) (ok 
   Earned a (Passed g) = 14 ≤ answer_number s w a
 
   first : (a : List ℕ) → length a ≡ 512 → (x : Screening) → screen_of s (lens w) w.transfer a ≡ x → Earned a x
-  first a l (Refused x) e = ap (λ (o : Outcome). o.answer) (receive-refused s w a board l x e)
-  first a l (Passed g) e = rw (receive-passed s w a board l g e) (unfold arrive step_of done accepted in rw idle (raised_number (deed_of (standing s w.held.flash a) g) g.head 1))
+  first a l (Refused x) e = ap (λ (o : Outcome). o.answer) (receive_refused s w a board l x e)
+  first a l (Passed g) e = rw (receive_passed s w a board l g e) (unfold arrive step_of done accepted in rw idle (raised_number (deed_of (standing s w.held.flash a) g) g.head 1))
 
   -- a block of the file passes
   passed : (k : ℕ) → k < F.total → (g : PlacedBlock) × (screen_of s (lens w) w.transfer (F.block k) ≡ Passed g) × Passing s w (F.block k) g
-  passed k h = go (screen_of s (lens w) w.transfer a) refl (screen-good s w a)
+  passed k h = go (screen_of s (lens w) w.transfer a) refl (screen_good s w a)
     where
       a : List ℕ
       a = F.block k
@@ -98,44 +98,44 @@ module _ (s : Settings) (w : World) (F : File) (idle : w.transfer ≡ Idle) (ok 
   block_size k h = (earned s w (F.block k) (omega (arith, ok.passes k h))).1
 
   -- of a data block: its flag, its address in the window of the file's kind
-  data-clear : (k : ℕ) → is_data F k ≡ true → has_flag (F.block k) 0x1 ≡ false
-  data-clear k y = not-true (has_flag (F.block k) 0x1) y
+  data_clear : (k : ℕ) → is_data F k ≡ true → has_flag (F.block k) 0x1 ≡ false
+  data_clear k y = not-true (has_flag (F.block k) 0x1) y
 
   in_window : (k : ℕ) → k < F.total → is_data F k ≡ true → (window_start F.kind ≤ address_of F k) × (address_of F k < window_end F.kind)
   in_window k h y = lies_true F.kind (address_of F k) (ok.kinds k h y)
 
   -- a file with a comment is one of flash
-  pub comment-flash : (k : ℕ) → k < F.total → has_flag (F.block k) 0x1 ≡ true → F.kind ≡ Flash
-  comment-flash k h y =
+  pub comment_flash : (k : ℕ) → k < F.total → has_flag (F.block k) 0x1 ≡ true → F.kind ≡ Flash
+  comment_flash k h y =
       split (same_kind F.kind Flash)
       (kind_same F.kind Flash)
-      (λ z. clash (has_flag (F.block k) 0x1) y (data-clear k (ok.quiet (λ e. clash (same_kind F.kind Flash) (ap (λ (u : Kind). same_kind u Flash) e) z) k h)))
+      (λ z. clash (has_flag (F.block k) 0x1) y (data_clear k (ok.quiet (λ e. clash (same_kind F.kind Flash) (ap (λ (u : Kind). same_kind u Flash) e) z) k h)))
 
   -- the kind that a block has at the start is the file's
   kind_is : (k : ℕ) (h : k < F.total) → kind_of w (F.block k) ≡ F.kind
   kind_is k h =
       split (has_flag (F.block k) 0x1)
-      (λ y. unfold kind_of in rw (y, idle) (sym (comment-flash k h y)))
+      (λ y. unfold kind_of in rw (y, idle) (sym (comment_flash k h y)))
       (λ z.
       let p = (passed k h).2.page z in
       let i = in_window k h (ap not z) in
       window_one (kind_of w (F.block k)) F.kind (address_of F k) p.low p.high i.0 i.1)
 
-  storage-is : (k : ℕ) (h : k < F.total)
+  storage_is : (k : ℕ) (h : k < F.total)
       → (passed k h).2.start + (address_of F k - window_start (kind_of w (F.block k))) ≡ storage_of s w F k
-  storage-is k h =
+  storage_is k h =
       let p = (passed k h).2 in
       let u = kind_of w (F.block k) in
-      ap (λ (x : ℕ). x + (address_of F k - window_start u)) (room-origin s w board (field_at (F.block k) 28) u p.start p.size p.place)
+      ap (λ (x : ℕ). x + (address_of F k - window_start u)) (room_origin s w board (field_at (F.block k) 28) u p.start p.size p.place)
       ∙ (λ i. origin_of s w (kind_is k h i) (ok.families k h i) + (address_of F k - window_start (kind_is k h i)))
 
   body_is : (k : ℕ) (h : k < F.total) → (passed k h).0.body ≡ body_of (blocks_of s w F) k
   body_is k h =
       (passed k h).2.body
-      ∙ split (has_flag (F.block k) 0x1) (λ y. rw y) (λ z. rw z (ap Page (storage-is k h)))
+      ∙ split (has_flag (F.block k) 0x1) (λ y. rw y) (λ z. rw z (ap Page (storage_is k h)))
 
-  placed-is : (k : ℕ) (h : k < F.total) → (passed k h).0 ≡ placed_of (blocks_of s w F) k
-  placed-is k h =
+  placed_is : (k : ℕ) (h : k < F.total) → (passed k h).0 ≡ placed_of (blocks_of s w F) k
+  placed_is k h =
       let p = (passed k h).2 in
       let e : (passed k h).0.head ≡ head_in F = p.head ∙ (λ i. head_with (kind_is k h i) (ok.families k h i) (ok.totals k h i)) in
       let n : (passed k h).0.number ≡ k = p.number ∙ ok.numbers k h in
@@ -152,8 +152,8 @@ module _ (s : Settings) (w : World) (F : File) (idle : w.transfer ≡ Idle) (ok 
       let i = place_inside s (flash_of w) F.family board.flash board.good p.start p.size e in
       record { start = p.start; size = p.size; place = e; first = i.0; within = i.2 }
 
-  pub screen-block : (k : ℕ) → k < F.total → screen_of s (lens w) w.transfer (F.block k) ≡ Passed (placed_of (blocks_of s w F) k)
-  screen-block k h = (passed k h).1 ∙ ap Passed (placed-is k h)
+  pub screen_block : (k : ℕ) → k < F.total → screen_of s (lens w) w.transfer (F.block k) ≡ Passed (placed_of (blocks_of s w F) k)
+  screen_block k h = (passed k h).1 ∙ ap Passed (placed_is k h)
 
   pub valid : Valid (blocks_of s w F) w.held
   valid =
@@ -169,14 +169,14 @@ module _ (s : Settings) (w : World) (F : File) (idle : w.transfer ≡ Idle) (ok 
       }
     where
       few : field_at (F.block 0) 24 ≤ 131072
-      few = passing-few s w (F.block 0) (passed 0 ok.some).0 (passed 0 ok.some).2 board
+      few = passing_few s w (F.block 0) (passed 0 ok.some).0 (passed 0 ok.some).2 board
 
       fits : (k : ℕ) → k < F.total → is_data F k ≡ true
           → Fits F.kind (length (buffer_of F.kind w.held)) (storage_of s w F k) (payload_of (F.block k))
       fits k h y =
           subst (λ (u : Kind). Fits u (length (buffer_of u w.held)) (storage_of s w F k) (payload_of (F.block k))) (kind_is k h)
-          (subst (λ (x : ℕ). Fits (kind_of w (F.block k)) (length (buffer_of (kind_of w (F.block k)) w.held)) x (payload_of (F.block k))) (storage-is k h)
-          (passing-fits s w (F.block k) (passed k h).0 (passed k h).2 board (data-clear k y) (block_size k h)))
+          (subst (λ (x : ℕ). Fits (kind_of w (F.block k)) (length (buffer_of (kind_of w (F.block k)) w.held)) x (payload_of (F.block k))) (storage_is k h)
+          (passing-fits s w (F.block k) (passed k h).0 (passed k h).2 board (data_clear k y) (block_size k h)))
 
       -- one kind and family has one origin, so that disjoint ranges are stored apart
       apart : (i k j : ℕ) → i < F.total → k < F.total → is_data F i ≡ true → is_data F k ≡ true
@@ -197,8 +197,8 @@ module _ (s : Settings) (w : World) (F : File) (idle : w.transfer ≡ Idle) (ok 
 
   -- ---- a foreign arrival
 
-  pub screen-foreign : (a : List ℕ) → Foreign s w F a → (screen_of s (lens w) w.transfer a ≡ Refused (receive_of s w a).answer) × (length a ≡ 512)
-  screen-foreign a f = (go (screen_of s (lens w) w.transfer a) refl, l)
+  pub screen_foreign : (a : List ℕ) → Foreign s w F a → (screen_of s (lens w) w.transfer a ≡ Refused (receive_of s w a).answer) × (length a ≡ 512)
+  screen_foreign a f = (go (screen_of s (lens w) w.transfer a) refl, l)
     where
       l : length a ≡ 512
       l = (earned s w a f.least).1
@@ -226,9 +226,9 @@ module _ (s : Settings) (w : World) (F : File) (idle : w.transfer ≡ Idle) (ok 
       c)
 
   -- "no foreign arrival is a comment of its family and total"
-  pub foreign-apart : (a : List ℕ) → Foreign s w F a → is_found (header_of a) ≡ true → has_flag a 0x1 ≡ true
+  pub foreign_apart : (a : List ℕ) → Foreign s w F a → is_found (header_of a) ≡ true → has_flag a 0x1 ≡ true
       → (F.kind ≡ Flash) ⊎ (eqb F.family (field_at a 28) && eqb F.total (field_at a 24) ≡ false)
-  foreign-apart a f d y =
+  foreign_apart a f d y =
       split (same_kind F.kind Flash)
       (λ e. inl (kind_same F.kind Flash e))
       (λ z.
@@ -236,18 +236,18 @@ module _ (s : Settings) (w : World) (F : File) (idle : w.transfer ≡ Idle) (ok 
       inr (rw (d, y) at (f.quiet n)))
 
   -- so a foreign arrival is answered all through the list as at its start
-  pub foreign-is : (v : World) → Reached s w v → Carried (blocks_of s w F) w v.transfer → (a : List ℕ) → Foreign s w F a
+  pub foreign_is : (v : World) → Reached s w v → Carried (blocks_of s w F) w v.transfer → (a : List ℕ) → Foreign s w F a
       → receive_of s v a ≡ unchanged v (receive_of s w a).answer
-  foreign-is v m c a f =
-      receive-refused s v a m.board (screen-foreign a f).1 (receive_of s w a).answer (turn v m c a (foreign-apart a f) ∙ (screen-foreign a f).0)
+  foreign_is v m c a f =
+      receive_refused s v a m.board (screen_foreign a f).1 (receive_of s w a).answer (turn v m c a (foreign_apart a f) ∙ (screen_foreign a f).0)
 
   pub steady : Steady s w (blocks_of s w F) (Foreign s w F)
   steady =
       record {
         ours = λ v m c k h.
-            receive-passed s v (F.block k) m.board (block_size k h) (placed_of (blocks_of s w F) k)
-            (turn v m c (F.block k) (λ f y. inl (comment-flash k h y)) ∙ screen-block k h);
-        foreign = λ v m c a f. ap (λ (o : Outcome). o.world) (foreign-is v m c a f);
+            receive_passed s v (F.block k) m.board (block_size k h) (placed_of (blocks_of s w F) k)
+            (turn v m c (F.block k) (λ f y. inl (comment_flash k h y)) ∙ screen_block k h);
+        foreign = λ v m c a f. ap (λ (o : Outcome). o.world) (foreign_is v m c a f);
         different = λ j k hj hk e. sym (ok.numbers j hj) ∙ ap (λ (x : List ℕ). field_at x 20) e ∙ ok.numbers k hk;
         apart = λ j h f. omega (arith, f.most, ok.passes j h);
       }

@@ -21,10 +21,10 @@ use Rattle.transfer.specs.declared.Kind.TheVariants.{Flash}
 use Rattle.uf2_checks.specs.declared.Lengths.{Lengths}
 use Rattle.arrival.specs.Arrive.{Held, buffer_of, lengths_of, cleared_if, wiped_if, paged_at}
 use Rattle.demand.specs.Demand.{is_data}
-use Rattle.arrival_claims.proofs.Cells.{touched, touched_add, touched_none, cell, cell_none, cell-step}
+use Rattle.arrival_claims.proofs.Cells.{touched, touched_add, touched_none, cell, cell_none, cell_step}
 use Rattle.arrival.proofs.Pages.{apply}
 use Rattle.arrival.proofs.Count.{Blocks, count, applied, wipe}
-use Rattle.arrival.proofs.Paged.{Fits, lengths_paged, paged_other, getD-paged, paged-map}
+use Rattle.arrival.proofs.Paged.{Fits, lengths_paged, paged_other, get_d_paged, paged_map}
 use Rattle.arrival_claims.proofs.Effect.{spans_true, payload_in, kind_in, Valid, layout, sectors_of, owned_touches, apart_of}
 use Rattle.arrival.proofs.Facts.{wiped_buffer}
 
@@ -121,7 +121,7 @@ module _ (F : Blocks) (start : Held) (Met : List ℕ → ℕ → Type 0) (G : Gu
     -- in a sector that block k does not touch, nothing changes that is said of S
     away-byte : (j : ℕ) → lies (j / 4096) ≡ false → byte_of F start.flash (add k S) j ≡ byte_of F start.flash S j
     away-byte j l =
-        cell-step (count F) (layout Flash F) (apart_of Flash F start ok) (λ j. get_or start.flash j 0) S k j h ∙ rw (clear, l)
+        cell_step (count F) (layout Flash F) (apart_of Flash F start ok) (λ j. get_or start.flash j 0) S k j h ∙ rw (clear, l)
       where
         clear : (layout Flash F).owns k j ≡ false
         clear = is_false ((layout Flash F).owns k j) (λ o. clash (lies (j / 4096)) (owned_touches Flash F start ok refl k j h o) l)
@@ -188,7 +188,7 @@ module _ (F : Blocks) (start : Held) (Met : List ℕ → ℕ → Type 0) (G : Gu
 
           byte : (j : ℕ) → get_or stored.flash j 0
               ≡ cond (spans at j) (get_or (payload_in F k) (j - at) 0) (cond (eqb (j / 4096) (at / 4096) && not (I.marks (j / 4096))) 255 (get_or x.flash j 0))
-          byte j = getD-paged at (payload_in F k) x I.marks I.sectors whole most Flash Flash I.marks (λ e. refl) fits j
+          byte j = get_d_paged at (payload_in F k) x I.marks I.sectors whole most Flash Flash I.marks (λ e. refl) fits j
 
           -- other sectors keep their bytes
           byte-away : (j : ℕ) → j / 4096 ≢ at / 4096 → get_or stored.flash j 0 ≡ get_or x.flash j 0
@@ -220,7 +220,7 @@ module _ (F : Blocks) (start : Held) (Met : List ℕ → ℕ → Type 0) (G : Gu
               byte j
               ∙ rw (w, f j l e)
               (sym
-              (cell-step (count F) (layout Flash F) (apart_of Flash F start ok) (λ j. get_or start.flash j 0) S k j h
+              (cell_step (count F) (layout Flash F) (apart_of Flash F start ok) (λ j. get_or start.flash j 0) S k j h
               ∙ rw (owns-is j, lies-is (j / 4096)))))
               (rw c (sym (touched_add (count F) (layout Flash F) S k q h ∙ rw (lies-is q, c)))))
               (λ c.
@@ -234,7 +234,7 @@ module _ (F : Blocks) (start : Held) (Met : List ℕ → ℕ → Type 0) (G : Gu
               record {
                 marks = λ q. eqb q (at / 4096) || I.marks q;
                 lengths = lengths_paged Flash at (payload_in F k) x ∙ I.lengths;
-                sectors = paged-map at (payload_in F k) x I.marks I.sectors whole most Flash fits;
+                sectors = paged_map at (payload_in F k) x I.marks I.sectors whole most Flash fits;
                 others = λ u n. paged_other u Flash at (payload_in F k) x n ∙ I.others u n;
                 state = λ q. stores-state q (I.state q);
               }
@@ -267,27 +267,27 @@ module _ (F : Blocks) (start : Held) (Met : List ℕ → ℕ → Type 0) (G : Gu
   -- ---- at completion
 
   -- a set that is whole
-  cell-whole : (lent : ℕ → ℕ) (S : Set) → count F ≤ size (count F) S → (j : ℕ) → cell (count F) (layout Flash F) lent S j ≡ cell (count F) (layout Flash F) lent every j
+  cell_whole : (lent : ℕ → ℕ) (S : Set) → count F ≤ size (count F) S → (j : ℕ) → cell (count F) (layout Flash F) lent S j ≡ cell (count F) (layout Flash F) lent every j
   unfolding cell
-  cell-whole lent S full j =
+  cell_whole lent S full j =
       pick_cong (count F) (λ k. S k && (layout Flash F).owns k j) (λ k. true && (layout Flash F).owns k j) (λ k. (layout Flash F).value k j) _
       (λ k h. rw (size_full (count F) S k full h))
       ∙ rw (any_cong (count F) (λ k. S k && (layout Flash F).touches k (j / 4096)) (λ k. true && (layout Flash F).touches k (j / 4096)) (λ k h. rw (size_full (count F) S k full h)))
 
   -- what was lent does not show in a touched sector
-  cell-lent : (lent : ℕ → ℕ) (j : ℕ) → touched (count F) (layout Flash F) every (j / 4096) ≡ true → final F j ≡ cell (count F) (layout Flash F) lent every j
+  cell_lent : (lent : ℕ → ℕ) (j : ℕ) → touched (count F) (layout Flash F) every (j / 4096) ≡ true → final F j ≡ cell (count F) (layout Flash F) lent every j
   unfolding cell
-  cell-lent lent j t = rw t
+  cell_lent lent j t = rw t
 
   -- flash is as without regions
-  pub whole-flash : (S : Set) (x : Held) → Inv F start Met G S x → count F ≤ size (count F) S → (j : ℕ) → j < length start.flash
+  pub whole_flash : (S : Set) (x : Held) → Inv F start Met G S x → count F ≤ size (count F) S → (j : ℕ) → j < length start.flash
       → get_or x.flash j 0 ≡ byte_of F start.flash S j
-  whole-flash S x I full j l = go (I.state (j / 4096))
+  whole_flash S x I full j l = go (I.state (j / 4096))
     where
       go : Sector F start Met G x I.marks S (j / 4096) → get_or x.flash j 0 ≡ byte_of F start.flash S j
       go (ordinary f t) = f j l refl
       go (settled i hi g a b f) =
           let r = G.facts i hi g in
           f j (omega (arith, a)) (omega (arith, b, r.first, r.full))
-          ∙ cell-lent (λ j. get_or start.flash j 0) j (G.each i (j / 4096) hi g a b)
-          ∙ sym (cell-whole (λ j. get_or start.flash j 0) S full j)
+          ∙ cell_lent (λ j. get_or start.flash j 0) j (G.each i (j / 4096) hi g a b)
+          ∙ sym (cell_whole (λ j. get_or start.flash j 0) S full j)

@@ -21,22 +21,22 @@ use Rattle.arrival.specs.Facts.{LengthsKept, ArrivalsKeepLengths}
 use Rattle.arrival.specs.Lists.{receive_all}
 use Rattle.arrival_claims.specs.Tally.{clears}
 use Rattle.arrival.proofs.Pages.{arrive}
-use Rattle.arrival_claims.proofs.Screening.{lens, Board, passing-few}
+use Rattle.arrival_claims.proofs.Screening.{lens, Board, passing_few}
 use Rattle.arrival_claims.proofs.DecisionFacts.{board_decides, DecisionFacts, refused, took, decision_facts, counted_good}
 use Rattle.arrival.proofs.Facts.{arrivals_keep_lengths}
 
 -- ---- an arrival that has passed rows 1 to 3, by what it is screened to
 
 module _ (s : Settings) (w : World) (a : List ℕ) (B : Board s w) (l : length a ≡ 512) where
-  pub receive-refused : (x : Answer) → screen_of s (lens w) w.transfer a ≡ Refused x → receive_of s w a ≡ unchanged w x
+  pub receive_refused : (x : Answer) → screen_of s (lens w) w.transfer a ≡ Refused x → receive_of s w a ≡ unchanged w x
   unfolding receive_of
-  receive-refused x e =
+  receive_refused x e =
       ap (done w (payload_of a)) (board_decides s w a B l ∙ ap (after_screening w.transfer w.seen (standing s w.held.flash a)) e)
       ∙ unfold after_screening done in refl
 
-  pub receive-passed : (p : PlacedBlock) → screen_of s (lens w) w.transfer a ≡ Passed p → receive_of s w a ≡ arrive w (standing s w.held.flash a) p a
+  pub receive_passed : (p : PlacedBlock) → screen_of s (lens w) w.transfer a ≡ Passed p → receive_of s w a ≡ arrive w (standing s w.held.flash a) p a
   unfolding receive_of
-  receive-passed p e =
+  receive_passed p e =
       ap (done w (payload_of a)) (board_decides s w a B l ∙ ap (after_screening w.transfer w.seen (standing s w.held.flash a)) e)
       ∙ unfold after_screening arrive in refl
 
@@ -50,7 +50,7 @@ state_next s w a (took g k B l q t) e =
     rw t.is
     (counted_good g.head g.number (cond (clears w.transfer g.head) 1 (count_of w.transfer + 1)) (least (clears w.transfer g.head))
     (omega (arith, q.number, q.below, ap (λ (h : Head). h.total) q.head))
-    (omega (arith, passing-few s w a g q B, ap (λ (h : Head). h.total) q.head)))
+    (omega (arith, passing_few s w a g q B, ap (λ (h : Head). h.total) q.head)))
   where
     least : (b : Bool) → 1 ≤ cond b 1 (count_of w.transfer + 1)
     least true = omega arith

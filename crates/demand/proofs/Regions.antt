@@ -11,13 +11,13 @@ use lib.Seq.{get_or-take, get_or-drop, length-take-le, ext_get_or}
 use borrow.Author.Tests.{le-leb, lt-ltb, leb-true, ltb-true}
 use Rattle.laws.specs.Sets.{Set, none, size, any}
 use Rattle.laws.proofs.Tests.{split, and_left, and_right, both}
-use Rattle.laws.proofs.Laws.{any_none, any-all, any_found, any_cong, size_full}
+use Rattle.laws.proofs.Laws.{any_none, any_all, any_found, any_cong, size_full}
 use Rattle.uf2_block.specs.Block.{field_at, has_flag}
 use Rattle.uf2_block.specs.Region.{region_of}
 use Rattle.md5_digest.specs.Md5.{md5_of}
 use Rattle.md5_digest.specs.declared.Digest.{Digest}
 use Rattle.uf2_block.specs.Regions.{good_region, same_digest, part_of, stands_in}
-use Rattle.uf2_block.proofs.regions.Laws.{Counting, good-yes, good-true, stands-there, stands-true, digest_true, digest_yes}
+use Rattle.uf2_block.proofs.regions.Laws.{Counting, good_yes, good_true, stands_there, stands_true, digest_true, digest_yes}
 use Rattle.partitions.specs.declared.Settings.{Settings}
 use Rattle.placement.specs.Place.{place_of}
 use Rattle.placement.specs.declared.Place.{Place}
@@ -35,13 +35,13 @@ use Rattle.demand.specs.Demand.{File, is_data, address_of, ValidFile, Foreign, S
 use Rattle.demand.specs.Regions.{region_start, region_length, region_in, in_region, Final, Regions, NoOther, Complete, RegionsEnd, WholeSame, WholeAlike}
 use Rattle.arrival.proofs.Heads.{kind_same}
 use Rattle.arrival.proofs.Windows.{lies_true}
-use Rattle.arrival_claims.proofs.Cells.{touched, cell, cell-owned, cell_free}
-use Rattle.arrival.proofs.Count.{Blocks, count, After, untouched, some-seen}
+use Rattle.arrival_claims.proofs.Cells.{touched, cell, cell_owned, cell_free}
+use Rattle.arrival.proofs.Count.{Blocks, count, After, untouched, some_seen}
 use Rattle.arrival_claims.proofs.Effect.{spans_true, spans_is, Valid, layout, apart_of}
 use Rattle.arrival_claims.proofs.Screening.{flash_of}
 use Rattle.demand.proofs.Contents.{byte_in, As, contents_of_lem}
 use Rattle.demand.proofs.Files.{Located, blocks_of, board, valid, located, opens, steady}
-use Rattle.demand.proofs.Guards.{every, final, Finished, Guard, Guards, Inv, begins, goes_on, whole-flash}
+use Rattle.demand.proofs.Guards.{every, final, Finished, Guard, Guards, Inv, begins, goes_on, whole_flash}
 use Rattle.demand.proofs.DemandsRuns.{run-met}
 use Rattle.demand.proofs.Demand.{ends, same_set, same_count, others}
 
@@ -70,15 +70,15 @@ module _ (s : Settings) (w : World) (F : File) (idle : w.transfer ≡ Idle) (ok 
   there : same_kind F.kind Flash ≡ true
   there = ap (λ (u : Kind). same_kind u Flash) flat
 
-  origin-is : origin_of s w Flash F.family ≡ L.start
-  origin-is = ap start_of L.place
+  origin_is : origin_of s w Flash F.family ≡ L.start
+  origin_is = ap start_of L.place
 
-  storage-is : (k : ℕ) → storage_of s w F k ≡ L.start + (address_of F k - 0x10000000)
-  storage-is k =
-      (λ i. origin_of s w (flat i) F.family + (address_of F k - window_start (flat i))) ∙ ap (λ (x : ℕ). x + (address_of F k - 0x10000000)) origin-is
+  storage_is : (k : ℕ) → storage_of s w F k ≡ L.start + (address_of F k - 0x10000000)
+  storage_is k =
+      (λ i. origin_of s w (flat i) F.family + (address_of F k - window_start (flat i))) ∙ ap (λ (x : ℕ). x + (address_of F k - 0x10000000)) origin_is
 
-  region-is : (i : ℕ) → region_start s w F i ≡ L.start + (field_at (F.block i) 484 - 0x10000000)
-  region-is i = ap (λ (x : ℕ). x + (field_at (F.block i) 484 - 0x10000000)) origin-is
+  region_is : (i : ℕ) → region_start s w F i ≡ L.start + (field_at (F.block i) 484 - 0x10000000)
+  region_is i = ap (λ (x : ℕ). x + (field_at (F.block i) 484 - 0x10000000)) origin_is
 
   -- the address of a data block, and its storage address
   low : (k : ℕ) → k < F.total → is_data F k ≡ true → 0x10000000 ≤ address_of F k
@@ -105,7 +105,7 @@ module _ (s : Settings) (w : World) (F : File) (idle : w.transfer ≡ Idle) (ok 
         data_block = and_right a b (and_left (a && b) c e);
         flag = and_right (a && b) c e;
         counting =
-            good-true L.size (address_of F i) (region_of (F.block i))
+            good_true L.size (address_of F i) (region_of (F.block i))
             (ap (λ (p : Place). good_region (size_of p) (address_of F i) (region_of (F.block i))) (sym L.place) ∙ and_right (a && b && c) d g);
       }
 
@@ -114,7 +114,7 @@ module _ (s : Settings) (w : World) (F : File) (idle : w.transfer ≡ Idle) (ok 
   guarded_is i y f c =
       both (both (both there y) f)
       (ap (λ (p : Place). good_region (size_of p) (address_of F i) (region_of (F.block i))) L.place
-      ∙ good-yes L.size (address_of F i) (region_of (F.block i)) c)
+      ∙ good_yes L.size (address_of F i) (region_of (F.block i)) c)
 
   facts : (i : ℕ) → i < F.total → is_guarded s w F i ≡ true → Guard P (flash_of w) i (region_start s w F i) (region_length F i)
   unfolding region_of
@@ -123,27 +123,27 @@ module _ (s : Settings) (w : World) (F : File) (idle : w.transfer ≡ Idle) (ok 
       let c = n.counting in
       record {
         data_block = n.data_block;
-        first = omega (arith, region-is i, L.first, c.starts, c.window);
+        first = omega (arith, region_is i, L.first, c.starts, c.window);
         full = c.ends;
-        within = omega (arith, region-is i, L.within, c.within);
-        before = omega (arith, region-is i, storage-is i, c.before);
-        behind = omega (arith, region-is i, storage-is i, c.before, c.behind, c.window);
+        within = omega (arith, region_is i, L.within, c.within);
+        before = omega (arith, region_is i, storage_is i, c.before);
+        behind = omega (arith, region_is i, storage_is i, c.before, c.behind, c.window);
       }
 
-  in-region : (i j : ℕ) → region_start s w F i ≤ j → j < region_start s w F i + region_length F i → in_region s w F i j ≡ true
-  in-region i j a b = both (le-leb (region_start s w F i) j a) (lt-ltb j (region_start s w F i + region_length F i) b)
+  in_region_lem : (i j : ℕ) → region_start s w F i ≤ j → j < region_start s w F i + region_length F i → in_region s w F i j ≡ true
+  in_region_lem i j a b = both (le-leb (region_start s w F i) j a) (lt-ltb j (region_start s w F i + region_length F i) b)
 
   -- ---- the final bytes
 
-  final-owned : (k : ℕ) → k < F.total → is_data F k ≡ true → (i : ℕ) → i < 256 → final P (storage_of s w F k + i) ≡ get_or (payload_of (F.block k)) i 0
-  final-owned k h y i l =
-      cell-owned F.total (layout Flash P) (λ j. 255) every (storage_of s w F k + i) (apart_of Flash P w.held sound) k h refl
+  final_owned : (k : ℕ) → k < F.total → is_data F k ≡ true → (i : ℕ) → i < 256 → final P (storage_of s w F k + i) ≡ get_or (payload_of (F.block k)) i 0
+  final_owned k h y i l =
+      cell_owned F.total (layout Flash P) (λ j. 255) every (storage_of s w F k + i) (apart_of Flash P w.held sound) k h refl
       (rw (here, y) (spans_is (storage_of s w F k) (storage_of s w F k + i) (omega arith) (omega arith)))
       ∙ ap (λ (x : ℕ). get_or (payload_of (F.block k)) x 0) (omega arith)
 
-  final-free : (j : ℕ) → any F.total (λ k. holds s w F k j) ≡ false → final P j ≡ 255
-  final-free j z =
-      cell_free F.total (layout Flash P) (λ j. 255) every j (λ k h e. rw here (any-all (λ k. holds s w F k j) F.total z k h))
+  final_free : (j : ℕ) → any F.total (λ k. holds s w F k j) ≡ false → final P j ≡ 255
+  final_free j z =
+      cell_free F.total (layout Flash P) (λ j. 255) every j (λ k h e. rw here (any_all (λ k. holds s w F k j) F.total z k h))
       ∙ either (touched F.total (layout Flash P) every (j / 4096))
     where
       either : (b : Bool) → ◌≡◌ {A = ℕ} (cond b 255 255) 255
@@ -151,9 +151,9 @@ module _ (s : Settings) (w : World) (F : File) (idle : w.transfer ≡ Idle) (ok 
       either false = refl
 
   -- a flash of that length whose region has the final bytes
-  final-of : (i : ℕ) (h : i < F.total) (g : is_guarded s w F i ≡ true) (f : List ℕ) → length f ≡ flash_of w
+  final_of_lem : (i : ℕ) (h : i < F.total) (g : is_guarded s w F i ≡ true) (f : List ℕ) → length f ≡ flash_of w
       → Finished P f (region_start s w F i) (region_length F i) → Final s w F i (region_in s w F i f)
-  final-of i h g f n e =
+  final_of_lem i h g f n e =
       let r = facts i h g in
       let lo = region_start s w F i in
       let len = region_length F i in
@@ -167,8 +167,8 @@ module _ (s : Settings) (w : World) (F : File) (idle : w.transfer ≡ Idle) (ok 
             part_at f lo len (at - lo + j) (omega arith)
             ∙ ap (λ (x : ℕ). get_or f x 0) (omega arith)
             ∙ e (at + j) (omega arith) (omega arith)
-            ∙ final-owned k hk y j l;
-        erased = λ j l z. part_at f lo len j l ∙ e (lo + j) (omega arith) (omega arith) ∙ final-free (lo + j) z;
+            ∙ final_owned k hk y j l;
+        erased = λ j l z. part_at f lo len j l ∙ e (lo + j) (omega arith) (omega arith) ∙ final_free (lo + j) z;
       }
 
   -- and the other way round
@@ -182,7 +182,7 @@ module _ (s : Settings) (w : World) (F : File) (idle : w.transfer ≡ Idle) (ok 
       let v : lo + x ≡ j = omega arith in
       ap (λ (x : ℕ). get_or f x 0) (sym v) ∙ sym (part_at f lo len x (omega arith))
       ∙ e.erased x (omega arith) (ap (λ (x : ℕ). any F.total (λ k. holds s w F k x)) v ∙ z)
-      ∙ sym (final-free j z))
+      ∙ sym (final_free j z))
     where
       lo : ℕ
       lo = region_start s w F i
@@ -204,8 +204,8 @@ module _ (s : Settings) (w : World) (F : File) (idle : w.transfer ≡ Idle) (ok 
           let v : lo + (at - lo + x) ≡ j = omega (arith, p) in
           let u : at + x ≡ j = omega (arith, p) in
           ap (λ (x : ℕ). get_or f x 0) (sym v) ∙ sym (part_at f lo len (at - lo + x) (omega arith))
-          ∙ e.payloads k q.1 y (in-region i at c d) x l
-          ∙ sym (final-owned k q.1 y x l) ∙ ap (final P) u
+          ∙ e.payloads k q.1 y (in_region_lem i at c d) x l
+          ∙ sym (final_owned k q.1 y x l) ∙ ap (final P) u
 
   -- ---- what stands
 
@@ -215,7 +215,7 @@ module _ (s : Settings) (w : World) (F : File) (idle : w.transfer ≡ Idle) (ok 
 
   part_is : (k : ℕ) (f : List ℕ) → part_of f L.start (region_of (F.block k)) ≡ region_in s w F k f
   unfolding region_of
-  part_is k f = ap (λ (x : ℕ). take (field_at (F.block k) 488) (drop (x + (field_at (F.block k) 484 - 0x10000000)) f)) (sym origin-is)
+  part_is k f = ap (λ (x : ℕ). take (field_at (F.block k) 488) (drop (x + (field_at (F.block k) 484 - 0x10000000)) f)) (sym origin_is)
 
   place_at : (f : List ℕ) (k : ℕ) → k < F.total → length f ≡ flash_of w → place_of s (length f) (field_at (F.block k) 28) ≡ At L.start L.size
   place_at f k h n = (λ i. place_of s (n i) (ok.families k h i)) ∙ L.place
@@ -229,11 +229,11 @@ module _ (s : Settings) (w : World) (F : File) (idle : w.transfer ≡ Idle) (ok 
       let u = stands_in f L.start (region_of (F.block k)) in
       let r : b && t && u ≡ true = ap (λ (p : Place). stands_at f p (F.block k)) (sym (place_at f k h n)) ∙ e in
       let q = and_left (b && t) u r in
-      let c = good-true L.size (address_of F k) (region_of (F.block k)) (and_right b t q) in
+      let c = good_true L.size (address_of F k) (region_of (F.block k)) (and_right b t q) in
       let g : is_guarded s w F k ≡ true = guarded_is k y (and_left b t q) c in
       let d : md5_of (region_in s w F k f) ≡ digest_in (F.block k) =
       ap md5_of (sym (part_is k f))
-      ∙ digest_true (md5_of (part_of f L.start (region_of (F.block k)))) (region_of (F.block k)) (stands-true f L.start (region_of (F.block k)) (and_right (b && t) u r)) in
+      ∙ digest_true (md5_of (part_of f L.start (region_of (F.block k)))) (region_of (F.block k)) (stands_true f L.start (region_of (F.block k)) (and_right (b && t) u r)) in
       (g, finished k h g f n (m g d))
 
   module _ (R : Regions s w F) where
@@ -242,7 +242,7 @@ module _ (s : Settings) (w : World) (F : File) (idle : w.transfer ≡ Idle) (ok 
         → (is_guarded s w F k ≡ true) × (region_start s w F k ≡ region_start s w F i) × (region_length F k ≡ region_length F i)
     unfolding region_of
     same i k hi hk g y a b =
-        let q = R.same i k hi hk g y (in-region i (storage_of s w F k) a b) in
+        let q = R.same i k hi hk g y (in_region_lem i (storage_of s w F k) a b) in
         let c = (named i g).counting in
         let r = facts i hi g in
         let z = low k hk y in
@@ -256,8 +256,8 @@ module _ (s : Settings) (w : World) (F : File) (idle : w.transfer ≡ Idle) (ok 
                 some = rw n c.some;
                 window = rw e c.window;
                 within = rw (e, n) c.within;
-                before = omega (arith, e, a, region-is i, storage-is k, z, c.window);
-                behind = omega (arith, e, n, x, region-is i, storage-is k, z, c.window);
+                before = omega (arith, e, a, region_is i, storage_is k, z, c.window);
+                behind = omega (arith, e, n, x, region_is i, storage_is k, z, c.window);
               }),
           ap (λ (x : ℕ). origin_of s w Flash F.family + (x - 0x10000000)) e,
           n,
@@ -267,7 +267,7 @@ module _ (s : Settings) (w : World) (F : File) (idle : w.transfer ≡ Idle) (ok 
         → touched F.total (layout Flash P) every q ≡ true
     each i q h g a b =
         any_cong F.total (λ k. true && (layout Flash P).touches k q) (λ k. lies_in s w F k q) (λ k l. rw here)
-        ∙ R.every i q h g (in-region i (q * 4096) a b)
+        ∙ R.every i q h g (in_region_lem i (q * 4096) a b)
 
     keeps : (f : List ℕ) (k : ℕ) → k < F.total → is_guarded s w F k ≡ true → length f ≡ flash_of w
         → Finished P f (region_start s w F k) (region_length F k) → standing s f (F.block k) ≡ true
@@ -276,12 +276,12 @@ module _ (s : Settings) (w : World) (F : File) (idle : w.transfer ≡ Idle) (ok 
         let m = named k g in
         let c = m.counting in
         let d : md5_of (part_of f L.start (region_of (F.block k))) ≡ digest_in (F.block k) =
-        ap md5_of (part_is k f) ∙ R.right k h g (region_in s w F k f) (final-of k h g f n e) in
+        ap md5_of (part_is k f) ∙ R.right k h g (region_in s w F k f) (final_of_lem k h g f n e) in
         let t : stands_in f L.start (region_of (F.block k)) ≡ true =
-        sym (stands-there f L.start (region_of (F.block k)) c.window (omega (arith, c.within, L.within)))
+        sym (stands_there f L.start (region_of (F.block k)) c.window (omega (arith, c.within, L.within)))
         ∙ ap (λ (x : Digest). same_digest x (region_of (F.block k))) d
         ∙ digest_yes (region_of (F.block k)) in
-        rw (place_at f k h n) (both (both m.flag (good-yes L.size (address_of F k) (region_of (F.block k)) c)) t)
+        rw (place_at f k h n) (both (both m.flag (good_yes L.size (address_of F k) (region_of (F.block k)) c)) t)
 
     guards : Guards P w.held Met
     guards =
@@ -315,12 +315,12 @@ module _ (s : Settings) (w : World) (F : File) (idle : w.transfer ≡ Idle) (ok 
 
       inv : (x : Held) × Inv P w.held Met guards S x × (v.held ≡ x)
       inv =
-          let r = some-seen P w (Inv P w.held Met guards) S v (after-regions C.sent C.met) (omega (arith, C.whole, ok.some)) in
+          let r = some_seen P w (Inv P w.held Met guards) S v (after-regions C.sent C.met) (omega (arith, C.whole, ok.some)) in
           (r.0, r.1, ap (λ (u : World). u.held) r.2)
 
       pub flash-is : (j : ℕ) → j < flash_of w → get_or v.held.flash j 0 ≡ cell F.total (layout Flash P) (byte_in Flash w.held) S j
       flash-is j h =
-          ap (λ (x : Held). get_or x.flash j 0) inv.2 ∙ whole-flash P w.held Met guards sound S inv.0 inv.1 (omega (arith, C.whole)) j h
+          ap (λ (x : Held). get_or x.flash j 0) inv.2 ∙ whole_flash P w.held Met guards sound S inv.0 inv.1 (omega (arith, C.whole)) j h
 
       pub lengths-are : lengths_of v.held ≡ lengths_of w.held
       lengths-are = ap lengths_of inv.2 ∙ inv.1.lengths

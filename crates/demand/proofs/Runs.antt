@@ -13,7 +13,7 @@ use Rattle.partitions.specs.declared.Settings.{Settings}
 use Rattle.arrival.specs.Arrive.{Held, World, receive_of}
 use Rattle.arrival.specs.Lists.{receive_all, AtEach}
 use Rattle.demand.specs.Demand.{File, Mixed, nothing, own, other, same_bytes, among, seen_of}
-use Rattle.arrival.proofs.Count.{Blocks, count, bytes_of, coming, Any, Invariant, Opens, After, Stepped, block-step, Carried, after_carried}
+use Rattle.arrival.proofs.Count.{Blocks, count, bytes_of, coming, Any, Invariant, Opens, After, Stepped, block_step, Carried, after_carried}
 use Rattle.demand.proofs.Lists.{Reached, reached_next}
 
 -- the bytes of two arrivals
@@ -107,9 +107,9 @@ module _ (s : Settings) (w : World) (F : Blocks) (P : List ℕ → Type 0) (R : 
       let b : bytes_of F j ≡ a = same_true (bytes_of F j) a (and_right (ltb j (count F)) (same_bytes (bytes_of F j) a) t) in
       R.apart j l (subst P (sym b) f))
 
-  pub seen-own : (k : ℕ) (l : List (List ℕ)) → k < count F → seen_of F.file (bytes_of F k ∷ l) ≡ add k (seen_of F.file l)
+  pub seen_own : (k : ℕ) (l : List (List ℕ)) → k < count F → seen_of F.file (bytes_of F k ∷ l) ≡ add k (seen_of F.file l)
   unfolding among
-  seen-own k l h =
+  seen_own k l h =
       fun_ext
       (λ j.
       and-or_distrib_left (ltb j (count F)) (same_bytes (bytes_of F j) (bytes_of F k)) (among (bytes_of F j) l)
@@ -140,36 +140,36 @@ seen_from F S l j = S j || seen_of F.file l j
 
 module _ (s : Settings) (w : World) (F : Blocks) (P : List ℕ → Type 0) (R : Steady s w F P) (Inv : Set → Held → Type 0) (Met : List ℕ → Type 0)
     (K : Invariant F w.held Inv Met) (d : Bool) (o : Opens F w d) where
-  pub from-own : (S : Set) (k : ℕ) (l : List (List ℕ)) → k < count F → seen_from F (add k S) l ≡ seen_from F S (bytes_of F k ∷ l)
-  from-own S k l h =
+  pub from_own : (S : Set) (k : ℕ) (l : List (List ℕ)) → k < count F → seen_from F (add k S) l ≡ seen_from F S (bytes_of F k ∷ l)
+  from_own S k l h =
       fun_ext
       (λ j.
       ap (λ (b : Bool). b || seen_of F.file l j) (or_comm (eqb j k) (S j))
       ∙ or_assoc (S j) (eqb j k) (seen_of F.file l j)
-      ∙ sym (ap (λ (T : Set). S j || T j) (seen-own s w F P R k l h)))
+      ∙ sym (ap (λ (T : Set). S j || T j) (seen_own s w F P R k l h)))
 
-  pub from-other : (S : Set) (a : List ℕ) (l : List (List ℕ)) → P a → seen_from F S l ≡ seen_from F S (a ∷ l)
-  from-other S a l f = fun_ext (λ j. ap (λ (T : Set). S j || T j) (sym (seen_other s w F P R a l f)))
+  pub from_other : (S : Set) (a : List ℕ) (l : List (List ℕ)) → P a → seen_from F S l ≡ seen_from F S (a ∷ l)
+  from_other S a l f = fun_ext (λ j. ap (λ (T : Set). S j || T j) (sym (seen_other s w F P R a l f)))
 
   -- what a block leaves, and what it is told
   pub own_step : (k : ℕ) → k < count F → (S : Set) (v : World) → Reached s w v → After F w Inv S v → Met v.held.flash
       → Stepped F w Inv d S k v.held.flash (receive_of s v (bytes_of F k))
   own_step k h S v m a e =
-      subst (Stepped F w Inv d S k v.held.flash) (sym (R.ours v m (after_carried F w Inv S v a) k h)) (block-step F w Inv Met K d o k h S v a e)
+      subst (Stepped F w Inv d S k v.held.flash) (sym (R.ours v m (after_carried F w Inv S v a) k h)) (block_step F w Inv Met K d o k h S v a e)
 
   -- a foreign arrival leaves what it finds
   pub other_step : (x : List ℕ) → P x → (S : Set) (v : World) → Reached s w v → After F w Inv S v → After F w Inv S (receive_of s v x).world
   other_step x f S v m a = subst (After F w Inv S) (sym (R.foreign v m (after_carried F w Inv S v a) x f)) a
 
   -- the flash that each arrival finds is as `Met` says
-  pub run-after : {l : List (List ℕ)} → Mixed F.file P l → (S : Set) (v : World) → Reached s w v → After F w Inv S v → Along Met s v l
+  pub run_after : {l : List (List ℕ)} → Mixed F.file P l → (S : Set) (v : World) → Reached s w v → After F w Inv S v → Along Met s v l
       → After F w Inv (seen_from F S l) (receive_all s v l)
   unfolding receive_all AtEach
-  run-after nothing S v m a e =
+  run_after nothing S v m a e =
       subst (λ (T : Set). After F w Inv T v) (fun_ext (λ j. sym (ap (λ (b : Bool). S j || b) (seen_nothing F.file j) ∙ or_comm (S j) false))) a
-  run-after (own {l = l} k h r) S v m a e =
-      subst (λ (T : Set). After F w Inv T (receive_all s (receive_of s v (bytes_of F k)).world l)) (from-own S k l h)
-      (run-after r (add k S) (receive_of s v (bytes_of F k)).world (reached_next s w v (bytes_of F k) m) (own_step k h S v m a e.0).next e.1)
-  run-after (other {l = l} x f r) S v m a e =
-      subst (λ (T : Set). After F w Inv T (receive_all s (receive_of s v x).world l)) (from-other S x l f)
-      (run-after r S (receive_of s v x).world (reached_next s w v x m) (other_step x f S v m a) e.1)
+  run_after (own {l = l} k h r) S v m a e =
+      subst (λ (T : Set). After F w Inv T (receive_all s (receive_of s v (bytes_of F k)).world l)) (from_own S k l h)
+      (run_after r (add k S) (receive_of s v (bytes_of F k)).world (reached_next s w v (bytes_of F k) m) (own_step k h S v m a e.0).next e.1)
+  run_after (other {l = l} x f r) S v m a e =
+      subst (λ (T : Set). After F w Inv T (receive_all s (receive_of s v x).world l)) (from_other S x l f)
+      (run_after r S (receive_of s v x).world (reached_next s w v x m) (other_step x f S v m a) e.1)

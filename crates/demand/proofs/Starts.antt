@@ -28,7 +28,7 @@ use Rattle.arrival.proofs.Pages.{arrive}
 use Rattle.arrival_claims.proofs.Screening.{lens, Board}
 use Rattle.arrival_claims.proofs.DecisionFacts.{step_late}
 use Rattle.demand.specs.Demand.{File, answer_number, address_of, is_data, ValidFile, Foreign, Sent, size_of, Plain}
-use Rattle.demand.proofs.Lists.{board_same, receive-refused, receive-passed}
+use Rattle.demand.proofs.Lists.{board_same, receive_refused, receive_passed}
 use Rattle.demand.proofs.Runs.{mixed_map}
 use Rattle.demand.proofs.Files.{earned}
 
@@ -40,7 +40,7 @@ module _ (s : Settings) (v w : World) (L : LengthsKept v w) (t : v.transfer ≡ 
 
   late : (u : World) (a : List ℕ) (B : Board s u) → length a ≡ 512 → (g : PlacedBlock) → screen_of s (lens u) u.transfer a ≡ Passed g → 12 ≤ answer_number s u a
   late u a B l g e =
-      rw (receive-passed s u a B l g e) (unfold arrive in step_late u (payload_of a) g _ u.transfer _)
+      rw (receive_passed s u a B l g e) (unfold arrive in step_late u (payload_of a) g _ u.transfer _)
 
   pub answered : (a : List ℕ) → 4 ≤ answer_number s w a → Answered a
   answered a h = go (screen_of s (lens w) w.transfer a) refl
@@ -58,8 +58,8 @@ module _ (s : Settings) (v w : World) (L : LengthsKept v w) (t : v.transfer ≡ 
       go (Refused x) e =
           let l = (earned s w a h).1 in
           let p : answer_number s v a ≡ answer_number s w a =
-          ap (λ (o : Outcome). number_of o.answer) (receive-refused s v a here l x (same ∙ e))
-          ∙ sym (ap (λ (o : Outcome). number_of o.answer) (receive-refused s w a there l x e)) in
+          ap (λ (o : Outcome). number_of o.answer) (receive_refused s v a here l x (same ∙ e))
+          ∙ sym (ap (λ (o : Outcome). number_of o.answer) (receive_refused s w a there l x e)) in
           record { refusal = λ n. p; passing = λ n. omega (arith, p) }
       go (Passed g) e =
           let l = (earned s w a h).1 in
@@ -69,10 +69,10 @@ module _ (s : Settings) (v w : World) (L : LengthsKept v w) (t : v.transfer ≡ 
           }
 
   -- a kind's window starts at the same byte of its buffer
-  pub origin-there : (u : Kind) (f : ℕ) → origin_of s v u f ≡ origin_of s w u f
-  origin-there Flash f = ap (λ (n : Lengths). start_of (place_of s n.flash f)) L.buffers
-  origin-there MainRam f = refl
-  origin-there XipRam f = refl
+  pub origin_there : (u : Kind) (f : ℕ) → origin_of s v u f ≡ origin_of s w u f
+  origin_there Flash f = ap (λ (n : Lengths). start_of (place_of s n.flash f)) L.buffers
+  origin_there MainRam f = refl
+  origin_there XipRam f = refl
 
   module _ (F : File) where
     pub valid-there : ValidFile s w F → ValidFile s v F

@@ -11,7 +11,7 @@ use lib.Seq.{get_or-take, get_or-drop}
 use borrow.Author.Tests.{le-leb, eq-eqb, eqb-true, eqb-false, not-true, not-false}
 use Rattle.laws.specs.Sets.{any}
 use Rattle.laws.proofs.Tests.{split, clash}
-use Rattle.laws.proofs.Laws.{any_none, any-all, any_found}
+use Rattle.laws.proofs.Laws.{any_none, any_all, any_found}
 use Rattle.memory.specs.Flash.{payload_of}
 use Rattle.partitions.specs.Settings.{good_settings}
 use Rattle.partitions.specs.declared.Settings.{Settings}
@@ -31,16 +31,16 @@ use Rattle.arrival.specs.Lists.{receive_all}
 use Rattle.arrival.specs.Windows.{window_start}
 use Rattle.arrival.proofs.Count.{body_of, placed_of}
 use Rattle.arrival.proofs.Paged.{Fits}
-use Rattle.arrival_claims.proofs.Screening.{lens, Board, Good, screen-good}
+use Rattle.arrival_claims.proofs.Screening.{lens, Board, Good, screen_good}
 use Rattle.arrival_claims.proofs.DecisionFacts.{raised_number}
 use Rattle.arrival_claims.proofs.Effect.{Valid}
 use Rattle.uf2_verify.specs.declared.Stand.{Stand}
 use Rattle.uf2_verify.specs.declared.Stand.TheVariants.{Refused}
 use Rattle.uf2_verify.specs.Stands.{stand_number, differ_at, same_page, page_stands, body_stands, told_by, after_rows, stand_of}
 use Rattle.demand.specs.Demand.{File, address_of, is_data, origin_of, storage_of, ValidFile, Sent, seen_of, Plain, ListEnds}
-use Rattle.demand.proofs.Files.{blocks_of, board, block_size, screen-block, valid}
+use Rattle.demand.proofs.Files.{blocks_of, board, block_size, screen_block, valid}
 use Rattle.demand.proofs.Demand.{list_ends}
-use Rattle.demand.proofs.Starts.{origin-there, valid-there}
+use Rattle.demand.proofs.Starts.{origin_there, valid-there}
 use Rattle.demand.specs.Verify.{told_of, payload_byte, memory_byte, InMemory, EveryMemory, AllStand, DiffersByAByte, EitherIsTold, InMemoryIsTold, ReceivedStands, RefusalsOfALook}
 
 -- ---- 95 and 96 by the comparison
@@ -62,7 +62,7 @@ told_96 true e = absurd (omega (arith, e))
 module _ (a b : List ℕ) where
   pub same_byte : same_page a b ≡ true → (i : ℕ) → i < 256 → get_or a i 0 ≡ get_or b i 0
   unfolding same_page
-  same_byte e i h = eqb-true _ _ (not-false _ (any-all (differ_at a b) 256 (not-true _ e) i h))
+  same_byte e i h = eqb-true _ _ (not-false _ (any_all (differ_at a b) 256 (not-true _ e) i h))
 
   pub bytes_same : ((i : ℕ) → i < 256 → get_or a i 0 ≡ get_or b i 0) → same_page a b ≡ true
   unfolding same_page
@@ -87,10 +87,10 @@ module _ (s : Settings) (w : World) (F : File) (idle : w.transfer ≡ Idle) (ok 
   there : ValidFile s v F
   there = valid-there s v w alike (sym idle) F ok
 
-  buffer-is : (u : Kind) → buffer_of u v.held ≡ buffer_of u h
-  buffer-is Kind.Flash = refl
-  buffer-is Kind.MainRam = refl
-  buffer-is Kind.XipRam = refl
+  buffer_is : (u : Kind) → buffer_of u v.held ≡ buffer_of u h
+  buffer_is Kind.Flash = refl
+  buffer_is Kind.MainRam = refl
+  buffer_is Kind.XipRam = refl
 
   B : Board s v
   B = board s v F refl there
@@ -105,7 +105,7 @@ module _ (s : Settings) (w : World) (F : File) (idle : w.transfer ≡ Idle) (ok 
 
     stand-block : stand_of s h a ≡ told_by (body_stands h F.kind (body_of (blocks_of s v F) k) (payload_of a))
     unfolding stand_of after_rows
-    stand-block = rw (right, B.good, screen-block s v F refl there k l)
+    stand-block = rw (right, B.good, screen_block s v F refl there k l)
 
     abbrev at : ℕ
     at = storage_of s v F k
@@ -121,7 +121,7 @@ module _ (s : Settings) (w : World) (F : File) (idle : w.transfer ≡ Idle) (ok 
       fits = (valid s v F refl there).fits k l d
 
       room : at + 256 ≤ length (buffer_of F.kind h)
-      room = subst (λ (b : List ℕ). at + 256 ≤ length b) (buffer-is F.kind) fits.within
+      room = subst (λ (b : List ℕ). at + 256 ≤ length b) (buffer_is F.kind) fits.within
 
       page-told : told_of s h a ≡ stand_number (told_by (same_page page (payload_of a)))
       unfolding page_stands
@@ -131,7 +131,7 @@ module _ (s : Settings) (w : World) (F : File) (idle : w.transfer ≡ Idle) (ok 
       byte-there : (i : ℕ) → i < 256 → get_or page i 0 ≡ memory_byte s w h F k i
       byte-there i b =
           rw (get_or-take, get_or-drop)
-          (ap (λ (o : ℕ). get_or (buffer_of F.kind h) (o + (address_of F k - window_start F.kind) + i) 0) (origin-there s v w alike (sym idle) F.kind F.family))
+          (ap (λ (o : ℕ). get_or (buffer_of F.kind h) (o + (address_of F k - window_start F.kind) + i) 0) (origin_there s v w alike (sym idle) F.kind F.family))
 
       byte-sent : (i : ℕ) → i < 256 → get_or (payload_of a) i 0 ≡ payload_byte F k i
       unfolding payload_of
@@ -219,5 +219,5 @@ unfolding RefusalsOfALook look_of stand_of decide good_state
 refusals_of_a_look s w a idle m k =
     let f =
     both s w a (right_lengths (length a) (lengths_of w.held) 16384 1024) (good_settings s (length w.held.flash)) (screen_of s (lens w) Idle a)
-    (subst (λ (t : State). Good s w a (screen_of s (lens w) t a)) idle (screen-good s w a)) in
+    (subst (λ (t : State). Good s w a (screen_of s (lens w) t a)) idle (screen_good s w a)) in
     rw (m, k, idle) f

@@ -10,7 +10,7 @@ use lib.ListN.{length}
 use borrow.Author.Tests.{eqb-true, eqb-false, not-true, not-false}
 use Rattle.laws.specs.Sets.{Set, any, least, size}
 use Rattle.laws.proofs.Tests.{split, clash, is_false, and_left}
-use Rattle.laws.proofs.Laws.{any-all, any-hit, least-below, size_le, size_lt}
+use Rattle.laws.proofs.Laws.{any_all, any_hit, least_below, size_le, size_lt}
 use Rattle.partitions.specs.Settings.{good_settings}
 use Rattle.partitions.specs.declared.Settings.{Settings}
 use Rattle.memory.specs.Flash.{payload_of}
@@ -26,7 +26,7 @@ use Rattle.arrival.specs.Arrive.{World, right_lengths, receive_of, after_screeni
 use Rattle.arrival.proofs.Heads.{kind_same, kind_other, same_kind_lem}
 use Rattle.arrival_claims.proofs.Screening.{lens, Board}
 use Rattle.arrival_claims.proofs.DecisionFacts.{board_decides, right_true, step_late}
-use Rattle.demand.proofs.Lists.{receive-refused}
+use Rattle.demand.proofs.Lists.{receive_refused}
 use Rattle.file_check.specs.declared.Checked.{Checked}
 use Rattle.file_check.specs.declared.Checked.TheVariants.{BadBuffers, BadSettings, Ragged, Empty, Refused, OtherFamily, OtherTotal, OtherKind, SameNumber, Overlap, Missing, Guarded, Valid}
 use Rattle.file_check.specs.Check.{piece_at, pieces_in, field_in, kind_alone, total_in, family_in, kind_in, same_number, overlaps, beside_of, screened_to, fault_at, is_valid, is_faulty, is_missing, is_guarding, whole_of, pieces_of, right_maps, check_of, numbers_below}
@@ -84,10 +84,10 @@ module _ (s : Settings) (n : Lengths) (a b c : ℕ) (f : List ℕ) where
           let fits : Fits n f i = record { family = eqb-true _ _ y1; total = eqb-true _ _ y2; kind = kind_same _ _ y3 } in
           rw y3
           (split (any i (same_number f i))
-          (λ y4. let r = least-below (same_number f i) i y4 in rw y4 (λ z. (o, first, t, fits, r.0, r.1, r.2)))
+          (λ y4. let r = least_below (same_number f i) i y4 in rw y4 (λ z. (o, first, t, fits, r.0, r.1, r.2)))
           (λ z4. rw z4
           (split (any i (overlaps f i))
-          (λ y5. let r = least-below (overlaps f i) i y5 in rw y5 (λ z. (o, first, t, fits, z4, r.0, r.1, r.2)))
+          (λ y5. let r = least_below (overlaps f i) i y5 in rw y5 (λ z. (o, first, t, fits, z4, r.0, r.1, r.2)))
           (λ z5. rw z5 (λ z. clash true refl z))))))
           (λ z3. rw z3 (λ z. (o, first, t, eqb-true _ _ y1, eqb-true _ _ y2, λ e. clash (same_kind (kind_alone n (piece_at f i)) (kind_in n f)) (ap (λ (k : Kind). same_kind k (kind_in n f)) e ∙ same_kind_lem (kind_in n f)) z3)))))
           (λ z2. rw z2 (λ z. (o, first, t, eqb-true _ _ y1, eqb-false _ _ z2)))))
@@ -99,12 +99,12 @@ module _ (s : Settings) (n : Lengths) (a b c : ℕ) (f : List ℕ) where
           rw (board_decides s w (piece_at f i) (board w st) (piece_size f i first.here), screened w st ∙ e)
           (step_late w (payload_of (piece_at f i)) p _ w.transfer _)
 
-      fault-told : is_valid (fault_at s n f i) ≡ false → T (fault_at s n f i)
+      fault_told : is_valid (fault_at s n f i) ≡ false → T (fault_at s n f i)
       unfolding fault_at
-      fault-told = go (screen_of s n Idle (piece_at f i)) refl
+      fault_told = go (screen_of s n Idle (piece_at f i)) refl
         where
           go : (x : Screening) → screen_of s n Idle (piece_at f i) ≡ x → is_valid (screened_to n f i x) ≡ false → T (screened_to n f i x)
-          go (screening.Refused x) e z = (o, first, λ w st. receive-refused s w (piece_at f i) (board w st) (piece_size f i first.here) x (screened w st ∙ e))
+          go (screening.Refused x) e z = (o, first, λ w st. receive_refused s w (piece_at f i) (board w st) (piece_size f i first.here) x (screened w st ∙ e))
           go (screening.Passed p) e z = beside-told (taken p e) z
 
     -- ---- every piece is fine
@@ -129,7 +129,7 @@ module _ (s : Settings) (n : Lengths) (a b c : ℕ) (f : List ℕ) where
           let less : pieces_in f < total_in f = omega (arith, sized) in (
             less,
             split (any (total_in f) (is_missing f)) (λ y. y)
-                (λ z. absurd (d (sym sized ∙ size_all (total_in f) (numbers_below f (pieces_in f)) (λ k h. not-false _ (any-all (is_missing f) (total_in f) z k h))))),
+                (λ z. absurd (d (sym sized ∙ size_all (total_in f) (numbers_below f (pieces_in f)) (λ k h. not-false _ (any_all (is_missing f) (total_in f) z k h))))),
           )
 
       whole_told : T (whole_of s n f)
@@ -138,12 +138,12 @@ module _ (s : Settings) (n : Lengths) (a b c : ℕ) (f : List ℕ) where
           by (not (eqb (pieces_in f) (total_in f))) (Missing (least (total_in f) (is_missing f))) _
           (λ y.
           let m = missing-some (eqb-false _ _ (not-true _ y)) in
-          let r = least-below (is_missing f) (total_in f) m.1 in
+          let r = least_below (is_missing f) (total_in f) m.1 in
           (o, ok, m.0, r.0, r.1, r.2))
           (λ z.
           let e : pieces_in f ≡ total_in f = eqb-true _ _ (not-false _ z) in
           by (any (pieces_in f) (is_guarding s n f)) (Guarded (least (pieces_in f) (is_guarding s n f))) Valid
-          (λ y. let r = least-below (is_guarding s n f) (pieces_in f) y in (o, ok, e, r.0, r.1, r.2))
+          (λ y. let r = least_below (is_guarding s n f) (pieces_in f) y in (o, ok, e, r.0, r.1, r.2))
           (λ g. (o, ok, e, g)))
 
     pieces-told : T (pieces_of s n f)
@@ -151,12 +151,12 @@ module _ (s : Settings) (n : Lengths) (a b c : ℕ) (f : List ℕ) where
     pieces-told =
         by (any (pieces_in f) (is_faulty s n f)) _ _
         (λ y.
-        let r = least-below (is_faulty s n f) (pieces_in f) y in
+        let r = least_below (is_faulty s n f) (pieces_in f) y in
         let i = least (pieces_in f) (is_faulty s n f) in
-        fault-told i
-        (record { here = r.0; before = λ j l. valid_is _ (not-false _ (any-all (is_faulty s n f) i r.2 j l)) })
+        fault_told i
+        (record { here = r.0; before = λ j l. valid_is _ (not-false _ (any_all (is_faulty s n f) i r.2 j l)) })
         (not-true _ r.1))
-        (λ z. whole_told (λ j l. valid_is _ (not-false _ (any-all (is_faulty s n f) (pieces_in f) z j l))))
+        (λ z. whole_told (λ j l. valid_is _ (not-false _ (any_all (is_faulty s n f) (pieces_in f) z j l))))
 
   told : T (check_of s n a b c f)
   unfolding check_of

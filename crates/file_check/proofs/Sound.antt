@@ -13,7 +13,7 @@ use lib.Seq.{length-take-le}
 use borrow.Author.Tests.{eqb-true, eqb-false, eq-eqb, ne_eqb, ltb-true, ltb-false, leb-true, lt-ltb, le-leb, not-true, not-false}
 use Rattle.laws.specs.Sets.{Set, none, add, one, size, any, least}
 use Rattle.laws.proofs.Tests.{split, clash, is_false, eqb_same, and_left, and_right, both}
-use Rattle.laws.proofs.Laws.{size_none, size_add, size_full, size_cong, any-hit, any-all, any_none, least-below, least-is}
+use Rattle.laws.proofs.Laws.{size_none, size_add, size_full, size_cong, any_hit, any_all, any_none, least_below, least_is}
 use Rattle.memory.specs.Flash.{flash_length, payload_of, spans}
 use Rattle.uf2_block.specs.Block.{field_at, has_flag, fields_of}
 use Rattle.partitions.specs.Settings.{good_settings}
@@ -32,7 +32,7 @@ use Rattle.uf2_checks.specs.declared.Screening.TheVariants as screening
 use Rattle.arrival.specs.Arrive.{World, lengths_of, ram_length, right_lengths, receive_of, after_screening, standing, deed_of}
 use Rattle.arrival.specs.Windows.{window_start, window_end, lies, kind_of}
 use Rattle.arrival.proofs.Heads.{kind_same, same_kind_lem}
-use Rattle.arrival_claims.proofs.Screening.{lens, Board, Passing, Good, screen-good, kind-window}
+use Rattle.arrival_claims.proofs.Screening.{lens, Board, Passing, Good, screen_good, kind-window}
 use Rattle.arrival_claims.proofs.DecisionFacts.{board_decides, right_true, step_late}
 use Rattle.demand.specs.Demand.{File, is_data, address_of, answer_number, ValidFile}
 use Rattle.file_check.specs.declared.Checked.{Checked}
@@ -172,7 +172,7 @@ board_of_lem s n w st right good =
 pub passing_of : (s : Settings) (n : Lengths) (f : List ℕ) (w : World) → Start n w → (i : ℕ) (p : PlacedBlock) → screen_of s n Idle (piece_at f i) ≡ screening.Passed p
     → Passing s w (piece_at f i) p
 passing_of s n f w st i p e =
-    subst (Good s w (piece_at f i)) ((λ j. screen_of s (st.lengths j) (st.idle j) (piece_at f i)) ∙ e) (screen-good s w (piece_at f i))
+    subst (Good s w (piece_at f i)) ((λ j. screen_of s (st.lengths j) (st.idle j) (piece_at f i)) ∙ e) (screen_good s w (piece_at f i))
 
 -- where the conditions hold
 pub record Sound (s : Settings) (n : Lengths) (f : List ℕ) : Type 0 where
@@ -189,7 +189,7 @@ module _ (s : Settings) (n : Lengths) (f : List ℕ) (ok : Sound s n f) where
   at k = least (pieces_in f) (λ i. eqb (field_in f i 20) k)
 
   pub at_of : (i : ℕ) → i < pieces_in f → at (field_in f i 20) ≡ i
-  at_of i h = least-is (λ j. eqb (field_in f j 20) (field_in f i 20)) (pieces_in f) i h (ok.fines i h).beside.new (eqb_same (field_in f i 20))
+  at_of i h = least_is (λ j. eqb (field_in f j 20) (field_in f i 20)) (pieces_in f) i h (ok.fines i h).beside.new (eqb_same (field_in f i 20))
 
   module _ (w : World) (st : Start n w) where
     board : Board s w
@@ -199,7 +199,7 @@ module _ (s : Settings) (n : Lengths) (f : List ℕ) (ok : Sound s n f) where
     screened i h = (λ j. screen_of s (st.lengths j) (st.idle j) (piece_at f i)) ∙ (ok.fines i h).passes
 
     passing : (i : ℕ) (h : i < pieces_in f) → Passing s w (piece_at f i) (ok.fines i h).placed
-    passing i h = subst (Good s w (piece_at f i)) (screened i h) (screen-good s w (piece_at f i))
+    passing i h = subst (Good s w (piece_at f i)) (screened i h) (screen_good s w (piece_at f i))
 
     pub number-below : (i : ℕ) → i < pieces_in f → field_in f i 20 < total_in f
     number-below i h = omega (arith, (passing i h).below, (ok.fines i h).beside.total)
@@ -208,7 +208,7 @@ module _ (s : Settings) (n : Lengths) (f : List ℕ) (ok : Sound s n f) where
     found_at k h =
         let c : size (total_in f) (numbers_below f (pieces_in f)) ≡ pieces_in f = counted f (total_in f) (pieces_in f) (λ j l. (number-below j l, (ok.fines j l).beside.new)) in
         let y : numbers_below f (pieces_in f) k ≡ true = size_full (total_in f) (numbers_below f (pieces_in f)) k (omega (arith, c, ok.count)) h in
-        let r = least-below (λ i. eqb (field_in f i 20) k) (pieces_in f) y in
+        let r = least_below (λ i. eqb (field_in f i 20) k) (pieces_in f) y in
         (r.0, eqb-true _ _ r.1)
 
     kind_is : (i : ℕ) → i < pieces_in f → kind_of w (piece_at f i) ≡ kind_in n f
@@ -224,7 +224,7 @@ module _ (s : Settings) (n : Lengths) (f : List ℕ) (ok : Sound s n f) where
     apart : (a b j : ℕ) → b < pieces_in f → a < b → is_page f a ≡ true → is_page f b ≡ true → spans (field_in f a 12) j ≡ true → spans (field_in f b 12) j ≡ true → ⊥
     apart a b j h l ya yb p q =
         clash (overlaps f b a) (both (both yb ya) (spans_near (field_in f a 12) (field_in f b 12) j p q))
-        (any-all (overlaps f b) b (ok.fines b h).beside.apart a l)
+        (any_all (overlaps f b) b (ok.fines b h).beside.apart a l)
 
     pub valid : ValidFile s w (file_of n f)
     valid =
@@ -290,12 +290,12 @@ piece_fault s n f i e = go (screen_of s n Idle (piece_at f i)) e
 
 module _ (s : Settings) (n : Lengths) (f : List ℕ) where
   -- the first piece with which something is wrong is told
-  pieces-fine : is_sound (pieces_of s n f) ≡ true → (any (pieces_in f) (is_faulty s n f) ≡ false) × (is_sound (whole_of s n f) ≡ true)
+  pieces_fine : is_sound (pieces_of s n f) ≡ true → (any (pieces_in f) (is_faulty s n f) ≡ false) × (is_sound (whole_of s n f) ≡ true)
   unfolding pieces_of
-  pieces-fine e =
+  pieces_fine e =
       split (any (pieces_in f) (is_faulty s n f))
       (λ y.
-      let r = least-below (is_faulty s n f) (pieces_in f) y in
+      let r = least_below (is_faulty s n f) (pieces_in f) y in
       let i = least (pieces_in f) (is_faulty s n f) in
       clash (is_valid (fault_at s n f i)) (piece_fault s n f i (rw y at e)) (not-true (is_valid (fault_at s n f i)) r.1))
       (λ z. (z, rw z at e))
@@ -307,14 +307,14 @@ module _ (s : Settings) (n : Lengths) (f : List ℕ) where
       let q = sound_by _ BadSettings _ refl p.1 in
       let r = sound_by _ Ragged _ refl q.1 in
       let t = sound_by _ Empty _ refl r.1 in
-      let u = pieces-fine t.1 in
+      let u = pieces_fine t.1 in
       let v = sound_by _ (Missing _) _ refl u.1 in
       record {
         right = and_left _ true (and_left _ true (not-false _ p.0));
         good = not-false _ q.0;
         whole = eqb-true _ _ (not-false _ r.0);
         some = eqb-false _ _ t.0;
-        fines = λ i h. fine s n f i (not-false _ (any-all (is_faulty s n f) (pieces_in f) u.0 i h));
+        fines = λ i h. fine s n f i (not-false _ (any_all (is_faulty s n f) (pieces_in f) u.0 i h));
         count = eqb-true _ _ (not-false _ v.0);
       }
 

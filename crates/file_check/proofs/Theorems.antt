@@ -10,7 +10,7 @@ use lib.ListN.{length}
 use borrow.Author.Tests.{eqb-true, eqb-false, eq-eqb, ne_eqb, ltb-true, ltb-false, leb-true, leb-false, lt-ltb, le-leb, not-true, not-false}
 use Rattle.laws.specs.Sets.{Set, any, least, size}
 use Rattle.laws.proofs.Tests.{split, clash, is_false, eqb_same, and_left, and_right, both}
-use Rattle.laws.proofs.Laws.{any_none, any-all, any-hit, size_cong}
+use Rattle.laws.proofs.Laws.{any_none, any_all, any_hit, size_cong}
 use Rattle.memory.specs.Many.{many}
 use Rattle.memory.proofs.fill.Laws.{length_many}
 use Rattle.memory.specs.Flash.{spans}
@@ -39,9 +39,9 @@ use Rattle.arrival.specs.Windows.{kind_of}
 use Rattle.arrival.specs.Lists.{receive_all}
 use Rattle.arrival.proofs.Heads.{same_kind_lem}
 use Rattle.arrival.proofs.Count.{placed_of}
-use Rattle.arrival_claims.proofs.Screening.{lens, Board, Good, screen-good}
+use Rattle.arrival_claims.proofs.Screening.{lens, Board, Good, screen_good}
 use Rattle.demand.specs.Demand.{File, is_data, address_of, ValidFile, Foreign, Mixed, nothing, own, Sent, same_bytes, among, seen_of, how_many, size_of, is_guarded, Plain, Contents, Ends, ListEnds, PlainAnswers}
-use Rattle.demand.proofs.Files.{board, blocks_of, screen-block}
+use Rattle.demand.proofs.Files.{board, blocks_of, screen_block}
 use Rattle.demand.proofs.Demand.{list_ends, plain_answers}
 use Rattle.file_check.specs.declared.Checked.{Checked}
 use Rattle.file_check.specs.declared.Checked.TheVariants.{BadBuffers, BadSettings, Ragged, Empty, Refused, OtherFamily, OtherTotal, OtherKind, SameNumber, Overlap, Missing, Guarded, Valid}
@@ -77,7 +77,7 @@ guards_is (At start size) a = refl
 pub plain : (s : Settings) (n : Lengths) (f : List ℕ) (ok : Sound s n f) → any (pieces_in f) (is_guarding s n f) ≡ false → PlainAt s n (file_of n f)
 plain s n f ok e w st k h =
     let i = least (pieces_in f) (λ i. eqb (field_in f i 20) k) in
-    let z : is_guarding s n f i ≡ false = any-all (is_guarding s n f) (pieces_in f) e i (found_at s n f ok w st k h).0 in
+    let z : is_guarding s n f i ≡ false = any_all (is_guarding s n f) (pieces_in f) e i (found_at s n f ok w st k h).0 in
     let a = piece_at f i in
     ap (λ (b : Bool). same_kind (kind_in n f) Flash && is_page f i && has_flag a 0x4000 && b)
     (ap (λ (x : Lengths). good_region (size_of (place_of s x.flash (family_in f))) (field_at a 12) (region_of a)) st.lengths
@@ -174,44 +174,44 @@ module _ (s : Settings) (w : World) (f : List ℕ) (F : File) (idle : w.transfer
   st : Start n w
   st = record { idle = idle; lengths = refl; seen = B.seen; sectors = B.sectors }
 
-  many-pieces : pieces_in f ≡ F.total
-  many-pieces = omega (arith, p.count)
+  many_pieces : pieces_in f ≡ F.total
+  many_pieces = omega (arith, p.count)
 
   abbrev number : ℕ → ℕ
   number i = field_in f i 20
 
   -- what a block has, its piece has
-  of-block : (A : Type 0) (g : List ℕ → A) (i : ℕ) → i < F.total → g (piece_at f i) ≡ g (F.block (number i))
-  of-block A g i h = sym (ap g (p.each i h))
+  of_block : (A : Type 0) (g : List ℕ → A) (i : ℕ) → i < F.total → g (piece_at f i) ≡ g (F.block (number i))
+  of_block A g i h = sym (ap g (p.each i h))
 
   screened : (i : ℕ) → i < F.total → screen_of s n Idle (piece_at f i) ≡ screening.Passed (placed_of (blocks_of s w F) (number i))
   screened i h =
-      of-block Screening (screen_of s n Idle) i h
+      of_block Screening (screen_of s n Idle) i h
       ∙ (λ j. screen_of s n (sym idle j) (F.block (number i)))
-      ∙ screen-block s w F idle ok (number i) (p.below i h)
+      ∙ screen_block s w F idle ok (number i) (p.below i h)
 
   kind_at : (i : ℕ) → i < F.total → kind_alone n (piece_at f i) ≡ F.kind
   kind_at i h =
       let e : screen_of s (lens w) w.transfer (piece_at f i) ≡ screening.Passed (placed_of (blocks_of s w F) (number i)) =
-      of-block Screening (screen_of s (lens w) w.transfer) i h ∙ screen-block s w F idle ok (number i) (p.below i h) in
-      let g : Good s w (piece_at f i) (screening.Passed (placed_of (blocks_of s w F) (number i))) = subst (Good s w (piece_at f i)) e (screen-good s w (piece_at f i)) in
+      of_block Screening (screen_of s (lens w) w.transfer) i h ∙ screen_block s w F idle ok (number i) (p.below i h) in
+      let g : Good s w (piece_at f i) (screening.Passed (placed_of (blocks_of s w F) (number i))) = subst (Good s w (piece_at f i)) e (screen_good s w (piece_at f i)) in
       sym (kind_alone_lem s n w st (piece_at f i)) ∙ sym (ap (λ (x : Head). x.kind) g.head)
 
-  page-data : (i : ℕ) → i < F.total → is_page f i ≡ is_data F (number i)
-  page-data i h = of-block Bool (λ a. not (has_flag a 0x1)) i h
+  page_data : (i : ℕ) → i < F.total → is_page f i ≡ is_data F (number i)
+  page_data i h = of_block Bool (λ a. not (has_flag a 0x1)) i h
 
   -- two pieces with a byte in common are one
-  overlap-not : (i j : ℕ) → i < F.total → j < i → overlaps f i j ≡ true → ⊥
-  overlap-not i j h l e =
+  overlap_not : (i j : ℕ) → i < F.total → j < i → overlaps f i j ≡ true → ⊥
+  overlap_not i j h l e =
       let hj : j < F.total = omega arith in
       let yy = and_left (is_page f i && is_page f j) (near (field_in f j 12) (field_in f i 12)) e in
       let nn = and_right (is_page f i && is_page f j) (near (field_in f j 12) (field_in f i 12)) e in
-      let yi = sym (page-data i h) ∙ and_left (is_page f i) (is_page f j) yy in
-      let yj = sym (page-data j hj) ∙ and_right (is_page f i) (is_page f j) yy in
+      let yi = sym (page_data i h) ∙ and_left (is_page f i) (is_page f j) yy in
+      let yj = sym (page_data j hj) ∙ and_right (is_page f i) (is_page f j) yy in
       let a = field_in f j 12 in
       let b = field_in f i 12 in
-      let ea : a ≡ address_of F (number j) = of-block ℕ (λ x. field_at x 12) j hj in
-      let eb : b ≡ address_of F (number i) = of-block ℕ (λ x. field_at x 12) i h in
+      let ea : a ≡ address_of F (number j) = of_block ℕ (λ x. field_at x 12) j hj in
+      let eb : b ≡ address_of F (number i) = of_block ℕ (λ x. field_at x 12) i h in
       let la : a < b + 256 = ltb-true _ _ (and_left (ltb a (b + 256)) (ltb b (a + 256)) nn) in
       let lb : b < a + 256 = ltb-true _ _ (and_right (ltb a (b + 256)) (ltb b (a + 256)) nn) in
       split (leb a b)
@@ -232,11 +232,11 @@ module _ (s : Settings) (w : World) (f : List ℕ) (F : File) (idle : w.transfer
         placed = placed_of (blocks_of s w F) (number i);
         passes = screened i h;
         beside = record {
-          family = of-block ℕ (λ a. field_at a 28) i h ∙ ok.families (number i) (p.below i h) ∙ sym (of-block ℕ (λ a. field_at a 28) 0 z ∙ ok.families (number 0) (p.below 0 z));
-          total = of-block ℕ (λ a. field_at a 24) i h ∙ ok.totals (number i) (p.below i h) ∙ sym (of-block ℕ (λ a. field_at a 24) 0 z ∙ ok.totals (number 0) (p.below 0 z));
+          family = of_block ℕ (λ a. field_at a 28) i h ∙ ok.families (number i) (p.below i h) ∙ sym (of_block ℕ (λ a. field_at a 28) 0 z ∙ ok.families (number 0) (p.below 0 z));
+          total = of_block ℕ (λ a. field_at a 24) i h ∙ ok.totals (number i) (p.below i h) ∙ sym (of_block ℕ (λ a. field_at a 24) 0 z ∙ ok.totals (number 0) (p.below 0 z));
           kind = kind_at i h ∙ sym (kind_at 0 z);
           new = any_none (same_number f i) i (λ j l. ne_eqb (number j) (number i) (λ e. let d = p.once j i (omega arith) h e in omega arith));
-          apart = any_none (overlaps f i) i (λ j l. is_false (overlaps f i j) (λ e. overlap-not i j h l e));
+          apart = any_none (overlaps f i) i (λ j l. is_false (overlaps f i j) (λ e. overlap_not i j h l e));
         };
       }
 
@@ -247,16 +247,16 @@ module _ (s : Settings) (w : World) (f : List ℕ) (F : File) (idle : w.transfer
         good = B.good;
         whole = omega (arith, p.count);
         some = λ e. omega (arith, p.count, ok.some);
-        fines = λ i h. fine i (omega (arith, many-pieces));
-        count = many-pieces ∙ sym (of-block ℕ (λ a. field_at a 24) 0 ok.some ∙ ok.totals (number 0) (p.below 0 ok.some));
+        fines = λ i h. fine i (omega (arith, many_pieces));
+        count = many_pieces ∙ sym (of_block ℕ (λ a. field_at a 24) 0 ok.some ∙ ok.totals (number 0) (p.below 0 ok.some));
       }
 
   -- a piece names a region that counts exactly if its block does
-  guarding-is : (i : ℕ) → i < F.total → is_guarding s n f i ≡ is_guarded s w F (number i)
-  guarding-is i h =
+  guarding_is : (i : ℕ) → i < F.total → is_guarding s n f i ≡ is_guarded s w F (number i)
+  guarding_is i h =
       let z : 0 < F.total = ok.some in
       let k : kind_in n f ≡ F.kind = kind_at 0 z in
-      let m : family_in f ≡ F.family = of-block ℕ (λ a. field_at a 28) 0 z ∙ ok.families (number 0) (p.below 0 z) in
+      let m : family_in f ≡ F.family = of_block ℕ (λ a. field_at a 28) 0 z ∙ ok.families (number 0) (p.below 0 z) in
       let a : piece_at f i ≡ F.block (number i) = sym (p.each i h) in
       (λ t. same_kind (k t) Flash && not (has_flag (a t) 0x1) && has_flag (a t) 0x4000 && guards_in (place_of s n.flash (m t)) (a t))
       ∙ ap (λ (b : Bool). same_kind F.kind Flash && is_data F (number i) && has_flag (F.block (number i)) 0x4000 && b)
@@ -274,10 +274,10 @@ unfolding PlainIsValid
 plain_is_valid s w f F idle ok p none =
     let n = lengths_of w.held in
     let ok-here = whole s w f F idle ok p in
-    let count = many-pieces s w f F idle ok p in
+    let count = many_pieces s w f F idle ok p in
     let unguarded : any (pieces_in f) (is_guarding s n f) ≡ false =
     any_none (is_guarding s n f) (pieces_in f)
     (λ i h.
     let hi : i < F.total = omega arith in
-    guarding-is s w f F idle ok p i hi ∙ none (field_in f i 20) (p.below i hi)) in
+    guarding_is s w f F idle ok p i hi ∙ none (field_in f i 20) (p.below i hi)) in
     answer_is s n f ok-here ∙ rw unguarded

@@ -1,4 +1,6 @@
 // A file checked before it is sent: what the check answers.
+#![tactic(auto)]
+
 pub mod fileregions;
 
 ghost use Rattle.std.specs.Prelude.{◌≡◌};

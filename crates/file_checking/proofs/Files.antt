@@ -11,7 +11,7 @@ use lib.ListN.{length}
 use borrow.Author.Tests.{eqb-true, eqb-false, eq-eqb, ne_eqb, lt-ltb, not-true, not-false}
 use Rattle.laws.specs.Sets.{Set, none, any, least}
 use Rattle.laws.proofs.Tests.{split, clash, and_left, and_right}
-use Rattle.laws.proofs.Laws.{any_none, any-all, any_cong, least-none, least-below}
+use Rattle.laws.proofs.Laws.{any_none, any_all, any_cong, least_none, least_below}
 use Rattle.memory.specs.Bitmap.{marked_in, unmarked, map_of}
 use Rattle.memory.proofs.bitmap.MapLaws.{map_none, marked_map}
 use Rattle.memory.specs.Cells.{Kept}
@@ -31,7 +31,7 @@ use Rattle.uf2_checks.specs.declared.Lengths.{Lengths}
 use Rattle.uf2_checks.specs.declared.Window.{Window}
 use Rattle.uf2_checks.specs.declared.Rooms.{Rooms}
 use Rattle.arrival.specs.Arrive.{right_lengths}
-use Rattle.arrival_claims.proofs.Screening.{passing-few}
+use Rattle.arrival_claims.proofs.Screening.{passing_few}
 use Rattle.arrival_claims.proofs.DecisionFacts.{right_true}
 use Rattle.trace_counts.specs.Counts as counts
 use Rattle.file_check.specs.declared.Checked.{Checked}
@@ -66,9 +66,9 @@ least_cong (suc n) P Q h =
     rw (any_cong n P Q (λ j l. h j (omega arith)), least_cong n P Q (λ j l. h j (omega arith)), h n (omega arith))
 
 module _ (p : Place) (k : Kind) (f : List ℕ) where
-  pub in-ram : {b : Bool} → b ≡ same_kind k Flash → not b ≡ true → Valid ≡ guarded_by p k f
+  pub in_ram : {b : Bool} → b ≡ same_kind k Flash → not b ≡ true → Valid ≡ guarded_by p k f
   unfolding guarded_by
-  in-ram {b} e y = let z : same_kind k Flash ≡ false = sym e ∙ not-true b y in rw z
+  in_ram {b} e y = let z : same_kind k Flash ≡ false = sym e ∙ not-true b y in rw z
 
   module _ {b : Bool} (e : b ≡ same_kind k Flash) (y : not b ≡ false) {i : ℕ} (q : i ≡ least (pieces_in f) (guards_at p f)) where
     flash : same_kind k Flash ≡ true
@@ -79,13 +79,13 @@ module _ (p : Place) (k : Kind) (f : List ℕ) where
     one-guards l =
         split (any (pieces_in f) (guards_at p f))
         (λ t. rw (flash, t) (ap Guarded q))
-        (λ z. let d = least-none (guards_at p f) (pieces_in f) z in absurd (omega (arith, d, q)))
+        (λ z. let d = least_none (guards_at p f) (pieces_in f) z in absurd (omega (arith, d, q)))
 
     pub none-guards : pieces_in f ≤ i → Valid ≡ guarded_by p k f
     unfolding guarded_by
     none-guards l =
         split (any (pieces_in f) (guards_at p f))
-        (λ t. let d = (least-below (guards_at p f) (pieces_in f) t).0 in absurd (omega (arith, d, q)))
+        (λ t. let d = (least_below (guards_at p f) (pieces_in f) t).0 in absurd (omega (arith, d, q)))
         (λ z. rw (flash, z))
 
 guarded_is : (s : Settings) (n : Lengths) (f : List ℕ)
@@ -106,19 +106,19 @@ guarded_is s n f =
 -- ---- all of them
 
 module _ (s : Settings) (n : Lengths) (f m : List ℕ) (ct : Counted f m) {h : Head} (hd : h ≡ file_head n f) where
-  missing-same : (k : ℕ) → k < total_in f → counts.is_missing m k ≡ is_missing f k
-  missing-same k l = ap not ((λ t. marked_in (ct.numbers t) k) ∙ marked_map 16384 (numbers_below f (pieces_in f)) k (omega (arith, ct.few)))
+  missing_same : (k : ℕ) → k < total_in f → counts.is_missing m k ≡ is_missing f k
+  missing_same k l = ap not ((λ t. marked_in (ct.numbers t) k) ∙ marked_map 16384 (numbers_below f (pieces_in f)) k (omega (arith, ct.few)))
 
-  pub number-missing : pieces_in f ≢ h.total → {k : ℕ} → k ≡ least h.total (counts.is_missing m) → Missing k ≡ whole_of s n f
+  pub number_missing : pieces_in f ≢ h.total → {k : ℕ} → k ≡ least h.total (counts.is_missing m) → Missing k ≡ whole_of s n f
   unfolding whole_of
-  number-missing d {k} e =
+  number_missing d {k} e =
       let t : h.total ≡ total_in f = ap (λ (x : Head). x.total) hd in
       let z : eqb (pieces_in f) (total_in f) ≡ false = ne_eqb _ _ (λ q. d (q ∙ sym t)) in
-      rw z (ap Missing (e ∙ ap (λ (x : ℕ). least x (counts.is_missing m)) t ∙ least_cong (total_in f) (counts.is_missing m) (is_missing f) missing-same))
+      rw z (ap Missing (e ∙ ap (λ (x : ℕ). least x (counts.is_missing m)) t ∙ least_cong (total_in f) (counts.is_missing m) (is_missing f) missing_same))
 
-  pub numbers-whole : pieces_in f ≡ h.total → {r : Rooms} → r ≡ rooms_of s n.flash h.family → {x : Checked} → x ≡ guarded_by r.flash h.kind f → x ≡ whole_of s n f
+  pub numbers_whole : pieces_in f ≡ h.total → {r : Rooms} → r ≡ rooms_of s n.flash h.family → {x : Checked} → x ≡ guarded_by r.flash h.kind f → x ≡ whole_of s n f
   unfolding whole_of
-  numbers-whole q {r} g e =
+  numbers_whole q {r} g e =
       let t : h.total ≡ total_in f = ap (λ (x : Head). x.total) hd in
       let y : eqb (pieces_in f) (total_in f) ≡ true = eq-eqb _ _ (q ∙ t) in
       e ∙ ap (λ (x : Rooms). guarded_by x.flash h.kind f) g ∙ ap (λ (x : Head). guarded_by (place_of s n.flash x.family) x.kind f) hd ∙ guarded_is s n f ∙ sym (rw y)
@@ -127,32 +127,32 @@ module _ (s : Settings) (n : Lengths) (f m : List ℕ) (ct : Counted f m) {h : H
 
 module _ (s : Settings) (n : Lengths) (f : List ℕ) where
   -- a fault at the first faulty piece is none that says Valid
-  none-faulty : {x : Checked} → x ≡ first_of s n f → is_valid x ≡ true → any (pieces_in f) (is_faulty s n f) ≡ false
+  none_faulty : {x : Checked} → x ≡ first_of s n f → is_valid x ≡ true → any (pieces_in f) (is_faulty s n f) ≡ false
   unfolding first_of
-  none-faulty e v =
+  none_faulty e v =
       split (any (pieces_in f) (is_faulty s n f))
       (λ y.
-      let r = least-below (is_faulty s n f) (pieces_in f) y in
+      let r = least_below (is_faulty s n f) (pieces_in f) y in
       let q : first_of s n f ≡ fault_at s n f (least (pieces_in f) (is_faulty s n f)) = rw y in
       clash _ (sym (ap is_valid (e ∙ q)) ∙ v) (not-true _ r.1))
       (λ z. z)
 
-  pub fault-first : {x : Checked} → x ≡ first_of s n f → is_valid x ≡ false → x ≡ pieces_of s n f
+  pub fault_first : {x : Checked} → x ≡ first_of s n f → is_valid x ≡ false → x ≡ pieces_of s n f
   unfolding first_of pieces_of
-  fault-first e v =
+  fault_first e v =
       split (any (pieces_in f) (is_faulty s n f))
       (λ y. rw y (e ∙ rw y))
       (λ z. let q : first_of s n f ≡ Valid = rw z in clash (is_valid Valid) refl (sym (ap is_valid (e ∙ q)) ∙ v))
 
   pub no_fault : {x : Checked} → x ≡ first_of s n f → is_valid x ≡ true → {r : Checked} → r ≡ whole_of s n f → r ≡ pieces_of s n f
   unfolding pieces_of
-  no_fault e v q = q ∙ sym (rw (none-faulty e v))
+  no_fault e v q = q ∙ sym (rw (none_faulty e v))
 
   pub counted : {m₀ : Maps} → Opened s n f m₀ → 0 < pieces_in f → {x : Checked} → x ≡ first_of s n f → is_valid x ≡ true → (m : Maps) → Holds s n f (pieces_in f) m → Counted f m.numbers
   counted op some e v m held =
-      let x = fine s n f 0 (not-false _ (any-all (is_faulty s n f) (pieces_in f) (none-faulty e v) 0 some)) in
+      let x = fine s n f 0 (not-false _ (any_all (is_faulty s n f) (pieces_in f) (none_faulty e v) 0 some)) in
       let B = board_of_lem s n (empty n) (empty_start n) op.right op.good in
-      record { few = passing-few s (empty n) (piece_at f 0) x.placed (passing_of s n f (empty n) (empty_start n) 0 x.placed x.passes) B; numbers = held.numbers }
+      record { few = passing_few s (empty n) (piece_at f 0) x.placed (passing_of s n f (empty n) (empty_start n) 0 x.placed x.passes) B; numbers = held.numbers }
 
 -- ---- cleared maps
 
@@ -186,9 +186,9 @@ module _ (s : Settings) (n : Lengths) (f : List ℕ) (a b c : List ℕ) (cl : Cl
 -- ---- the conditions in their order
 
 module _ (s : Settings) (n : Lengths) (a b c : ℕ) (f : List ℕ) where
-  pub bad-buffers : {x : Bool} → x ≡ right_maps n a b c → not x ≡ true → BadBuffers ≡ check_of s n a b c f
+  pub bad_buffers : {x : Bool} → x ≡ right_maps n a b c → not x ≡ true → BadBuffers ≡ check_of s n a b c f
   unfolding check_of
-  bad-buffers {x} e y = let z : right_maps n a b c ≡ false = sym e ∙ not-true x y in rw z
+  bad_buffers {x} e y = let z : right_maps n a b c ≡ false = sym e ∙ not-true x y in rw z
 
   module _ {x : Bool} (e : x ≡ right_maps n a b c) (y : not x ≡ false) where
     pub right_is : right_maps n a b c ≡ true

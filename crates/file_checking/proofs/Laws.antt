@@ -9,7 +9,7 @@ use lib.Dec.{eqb}
 use borrow.Author.Tests.{eqb-true, not-false}
 use Rattle.laws.specs.Sets.{any, least}
 use Rattle.laws.proofs.Tests.{split, clash}
-use Rattle.laws.proofs.Laws.{any-hit, any-all, any-more, least-is}
+use Rattle.laws.proofs.Laws.{any_hit, any_all, any_more, least_is}
 use Rattle.uf2_block.specs.Block.{field_at}
 use Rattle.partitions.specs.declared.Settings.{Settings}
 use Rattle.placement.specs.Place.{StartsLow}
@@ -62,19 +62,19 @@ module _ (s : Settings) (n : Lengths) (f : List ℕ) {m₀ : Maps} (op : Opened 
     (clean : any i (is_faulty s n f) ≡ false) (held : Holds s n f i m) (k : FamilyRooms) (kept : k ≡ rooms_at s n.flash (field_in f i 28)) (low : StartsLow k.rooms.flash)
     {head : Head} (hd : head ≡ file_head n f) where
   fines : (j : ℕ) → j < i → Fine s n f j
-  fines j l = fine s n f j (not-false _ (any-all (is_faulty s n f) i clean j l))
+  fines j l = fine s n f j (not-false _ (any_all (is_faulty s n f) i clean j l))
 
   said : screen_at k.rooms n Idle (piece_at f i) ≡ screen_of s n Idle (piece_at f i)
   said = screen_known s n (piece_at f i) (ap (λ (x : FamilyRooms). x.rooms) kept) low
 
-  by-screening : (x : Screening) → screen_of s n Idle (piece_at f i) ≡ x → screened_by (file_head n f) f i m x ≡ screened_to n f i x
-  by-screening (screening.Refused x) e = refl
-  by-screening (screening.Passed p) e =
+  by_screening : (x : Screening) → screen_of s n Idle (piece_at f i) ≡ x → screened_by (file_head n f) f i m x ≡ screened_to n f i x
+  by_screening (screening.Refused x) e = refl
+  by_screening (screening.Passed p) e =
       beside-is s n f (empty n) (empty_start n) (board_of_lem s n (empty n) (empty_start n) op.right op.good) i m held h fines p e
 
-  pub found-is : {found : Checked} → found ≡ screened_by head f i m (screen_at k.rooms n Idle (piece_at f i)) → found ≡ fault_at s n f i
+  pub found_is : {found : Checked} → found ≡ screened_by head f i m (screen_at k.rooms n Idle (piece_at f i)) → found ≡ fault_at s n f i
   unfolding fault_at
-  found-is e = e ∙ (λ t. screened_by (hd t) f i m (said t)) ∙ by-screening (screen_of s n Idle (piece_at f i)) refl
+  found_is e = e ∙ (λ t. screened_by (hd t) f i m (said t)) ∙ by_screening (screen_of s n Idle (piece_at f i)) refl
 
   after : (x : Screening) → screen_of s n Idle (piece_at f i) ≡ x → is_valid (screened_to n f i x) ≡ true → Holds s n f (suc i) (maps_then (file_head n f) f i m x)
   after (screening.Refused x) e v = clash false v refl
@@ -87,7 +87,7 @@ module _ (s : Settings) (n : Lengths) (f : List ℕ) {m₀ : Maps} (op : Opened 
       → (m' : Maps) → m' ≡ maps_then head f i m (screen_at k.rooms n Idle (piece_at f i)) → Holds s n f (i + 1) m'
   unfolding fault_at
   holds_after e v m' q =
-      let w : is_valid (screened_to n f i (screen_of s n Idle (piece_at f i))) ≡ true = ap is_valid (sym (found-is e)) ∙ v in
+      let w : is_valid (screened_to n f i (screen_of s n Idle (piece_at f i))) ≡ true = ap is_valid (sym (found_is e)) ∙ v in
       rw add-one
       (subst (Holds s n f (suc i)) (sym (q ∙ (λ t. maps_then (hd t) f i m (said t)))) (after (screen_of s n Idle (piece_at f i)) refl w))
 
@@ -98,7 +98,7 @@ pub first_told : (s : Settings) (n : Lengths) (f : List ℕ) (i : ℕ) → i < p
 unfolding first_of
 first_told s n f i h clean e z =
     let y : is_faulty s n f i ≡ true = ap (λ (x : Checked). not (is_valid x)) (sym e) ∙ ap not z in
-    rw (any-hit (is_faulty s n f) (pieces_in f) i h y, least-is (is_faulty s n f) (pieces_in f) i h clean y) e
+    rw (any_hit (is_faulty s n f) (pieces_in f) i h y, least_is (is_faulty s n f) (pieces_in f) i h clean y) e
 
 pub none_told : (s : Settings) (n : Lengths) (f : List ℕ) → any (pieces_in f) (is_faulty s n f) ≡ false → Valid ≡ first_of s n f
 unfolding first_of

@@ -1,4 +1,6 @@
 // A file checked before it is sent: every piece in turn, then whether every number came, then whether a region is named.
+#![tactic(auto)]
+
 mod earlier;
 mod piece;
 mod regions;

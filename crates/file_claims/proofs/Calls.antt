@@ -179,20 +179,20 @@ module _ (b : List ℕ) (kind : ℕ) where
       before zero h = n
       before (suc j) h = f.others j (omega arith)
 
-  seek-first : (n at : ℕ) → 508 ≤ at + 4 * n → FirstFrom b kind at (seek n b kind at)
+  seek_first : (n at : ℕ) → 508 ≤ at + 4 * n → FirstFrom b kind at (seek n b kind at)
   unfolding seek
-  seek-first zero at h =
+  seek_first zero at h =
       split (stops kind (tag_at b at))
       (λ y. here at (tag_at b at) refl y)
       (λ n. absurd (omega (arith, tag_room b at (going_on kind (tag_at b at) n))))
-  seek-first (suc n) at h =
+  seek_first (suc n) at h =
       let next = next_place at (tag_at b at) in
       split (stops kind (tag_at b at))
       (λ y. here at _ (ap (λ (x : Bool). cond x (tag_at b at) (seek n b kind next)) y) y)
       (λ f.
       let m = moves b at (going_on kind (tag_at b at) f) in
       let goes : cond (stops kind (tag_at b at)) (tag_at b at) (seek n b kind next) ≡ seek n b kind next = ap (λ (x : Bool). cond x (tag_at b at) (seek n b kind next)) f in
-      rw goes (later at (seek n b kind next) f (seek-first n next (omega (arith, m.up)))))
+      rw goes (later at (seek n b kind next) f (seek_first n next (omega (arith, m.up)))))
 
 stopped : (kind : ℕ) (a : Answer) → stops kind a ≡ true → Stopping kind a
 stopped kind a y =
@@ -206,7 +206,7 @@ pub find_first : FindFirst
 unfolding find_of first_place
 find_first b kind =
     let from = first_place b.now in
-    let f = seek-first b.now kind 119 from (omega arith) in
+    let f = seek_first b.now kind 119 from (omega arith) in
     record {
       calls = f.calls;
       same = f.same ∙ sym (answer_in f.calls b from);

@@ -32,7 +32,7 @@ use Rattle.uf2_make.specs.Claims.{Reads}
 use Rattle.uf2_make.proofs.checks.Checks.{Right, made_right}
 use Rattle.uf2_make.proofs.ReadBack.{blocks_read_back}
 use Rattle.file_claims.specs.Delivery.{made_file, IsMade, Deliverable, MadeFileIsValid, Arrived, Delivered, has_number, InAnyOrder}
-use Rattle.file_claims.proofs.Made.{made-passes}
+use Rattle.file_claims.proofs.Made.{made_passes}
 
 -- a set that holds every number below n
 size_all : (n : ℕ) (S : Set) → ((k : ℕ) → k < n → S k ≡ true) → size n S ≡ n
@@ -71,8 +71,8 @@ module _ (s : Settings) (w : World) (image out : List ℕ) (family start at byte
         state = rw D.idle (unfold good_state in refl);
       }
 
-  page-data : (k : ℕ) → k < n → is_data F k ≡ true
-  page-data k h = rw (reads k h).flags
+  page_data : (k : ℕ) → k < n → is_data F k ≡ true
+  page_data k h = rw (reads k h).flags
 
   passes : (k : ℕ) → k < n → 12 ≤ answer_number s w (F.block k)
   passes k h =
@@ -83,7 +83,7 @@ module _ (s : Settings) (w : World) (image out : List ℕ) (family start at byte
       let room = D.fits in
       let a = r.address_back in
       let family-is : place_of s (length w.held.flash) (field_at (F.block k) 28) ≡ At at bytes = ap (place_of s (length w.held.flash)) r.family_back ∙ D.placed in
-      made-passes s w (F.block k) at bytes board r.long family-is
+      made_passes s w (F.block k) at bytes board r.long family-is
       (record {
         magic = r.magic;
         flags = r.flags;
@@ -152,7 +152,7 @@ module _ (s : Settings) (w : World) (image out : List ℕ) (family start at byte
         let hi : i < 256 = omega arith in
         let here : at + (start - 0x10000000) + j ≡ storage_of s w F k + i = omega (arith, stands_at k hk, j-is) in
         ap (λ x. get_or flash x 0) here
-        ∙ ends.contents.payloads k hk (all k hk) (page-data k hk) i hi
+        ∙ ends.contents.payloads k hk (all k hk) (page_data k hk) i hi
         ∙ ap (λ p. get_or p i 0) (payload k hk)
         ∙ get_or-take 256 (drop (256 * k) image) i 0 hi
         ∙ get_or-drop (256 * k) image i 0
@@ -165,7 +165,7 @@ module _ (s : Settings) (w : World) (image out : List ℕ) (family start at byte
         let some = right.some in
         let hk : k < n = omega arith in
         let e : length flash ≡ length w.held.flash = ap (λ x. x.flash) ends.contents.lengths in
-        omega (arith, e, stands_at k hk, ends.contents.inside k hk (page-data k hk), right.whole)
+        omega (arith, e, stands_at k hk, ends.contents.inside k hk (page_data k hk), right.whole)
 
     arrived : Arrived (receive_all s w l) image at start F
     arrived =

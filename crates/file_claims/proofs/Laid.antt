@@ -14,7 +14,7 @@ use Rattle.uf2_block.specs.Block.{field_at, has_flag}
 use Rattle.uf2_tags.specs.declared.one_tag.Tag.{Tag}
 use Rattle.uf2_tags.specs.declared.one_tag.Answer.TheVariants.{Tag as a-tag, End}
 use Rattle.uf2_tags.specs.Tag.{tag_of, contents_of, sized}
-use Rattle.uf2_tags.proofs.one_tag.Laws.{sized-end, sized-tag}
+use Rattle.uf2_tags.proofs.one_tag.Laws.{sized_end, sized-tag}
 use Rattle.uf2_tags.specs.Room.{first_place, kind_at, room_end, tag_at}
 use Rattle.uf2_tags.proofs.room.Laws.{Carries, at-stands, stands-tag}
 use Rattle.uf2_tags.specs.Reader.{next_place}
@@ -30,9 +30,9 @@ module _ (pre rest : List ℕ) (i : Item) where
   abbrev whole : List ℕ
   whole = pre ++ (item_bytes i ++ rest)
 
-  length-item : length (item_bytes i) ≡ 4 + (length i.bytes + length i.fill)
+  length_item : length (item_bytes i) ≡ 4 + (length i.bytes + length i.fill)
   unfolding item_bytes
-  length-item =
+  length_item =
       let a = length-append (low_first 3 i.kind) (i.bytes ++ i.fill) in
       let c = length-append i.bytes i.fill in
       omega (arith, a, c, length_low 3 i.kind)
@@ -41,18 +41,18 @@ module _ (pre rest : List ℕ) (i : Item) where
   unfolding item_bytes
   size_in = get_or-append_seam pre size ((low_first 3 i.kind ++ (i.bytes ++ i.fill)) ++ rest) 0
 
-  kind-in : i.kind < 16777216 → kind_at whole (length pre) ≡ i.kind
+  kind_in_lem : i.kind < 16777216 → kind_at whole (length pre) ≡ i.kind
   unfolding item_bytes kind_at
-  kind-in h =
+  kind_in_lem h =
       let low = low_first 3 i.kind in
       let tail = (i.bytes ++ i.fill) ++ rest in
       let parts : whole ≡ (pre ++ (size ∷ [])) ++ (low ++ tail) = ap (λ (x : List ℕ). pre ++ (size ∷ x)) (append_assoc low (i.bytes ++ i.fill) rest) ∙ sym (append_assoc pre (size ∷ []) (low ++ tail)) in
       let place : length pre + 1 ≡ length (pre ++ (size ∷ [])) = sym (length-append pre (size ∷ [])) in
       rw (parts, place) (number_back 3 i.kind (pre ++ (size ∷ [])) tail h)
 
-  contents-in : take (length i.bytes) (drop (length pre + 4) whole) ≡ i.bytes
+  contents_in : take (length i.bytes) (drop (length pre + 4) whole) ≡ i.bytes
   unfolding item_bytes
-  contents-in =
+  contents_in =
       let low = low_first 3 i.kind in
       let tail = i.fill ++ rest in
       let parts : whole ≡ (pre ++ (size ∷ low)) ++ (i.bytes ++ tail) =
@@ -77,31 +77,31 @@ module _ (b : List ℕ) (pre rest : List ℕ) (i : Item) (e : b ≡ pre ++ (item
   abbrev tag : Tag
   tag = tag_of (4 + length i.bytes) i.kind (length pre)
 
-  tag-answer : tag_at b (length pre) ≡ a-tag tag
-  tag-answer =
-      let l = length-item pre rest i in
+  tag_answer : tag_at b (length pre) ≡ a-tag tag
+  tag_answer =
+      let l = length_item pre rest i in
       let z : get_or b (length pre) 0 ≡ 4 + length i.bytes = ap (λ (x : List ℕ). get_or x (length pre) 0) e ∙ size_in pre rest i in
-      let k : kind_at b (length pre) ≡ i.kind = ap (λ (x : List ℕ). kind_at x (length pre)) e ∙ kind-in pre rest i p.kind_fits in
+      let k : kind_at b (length pre) ≡ i.kind = ap (λ (x : List ℕ). kind_at x (length pre)) e ∙ kind_in_lem pre rest i p.kind_fits in
       call b (length pre) s (omega (arith, l)) ∙ (rw (z, k) (sym (sized-tag (4 + length i.bytes) i.kind (length pre) (room_end b) (λ x. omega arith) (omega arith) (omega (arith, l)))))
 
-  tag-contents : contents_of b tag ≡ i.bytes
+  tag_contents : contents_of b tag ≡ i.bytes
   unfolding contents_of tag_of
-  tag-contents =
+  tag_contents =
       let n : 4 + length i.bytes - 4 ≡ length i.bytes = omega arith in
-      rw n (ap (λ (x : List ℕ). take (length i.bytes) (drop (length pre + 4) x)) e ∙ contents-in pre rest i)
+      rw n (ap (λ (x : List ℕ). take (length i.bytes) (drop (length pre + 4) x)) e ∙ contents_in pre rest i)
 
-  tag-next : next_place (length pre) (tag_at b (length pre)) ≡ length (pre ++ item_bytes i)
+  tag_next : next_place (length pre) (tag_at b (length pre)) ≡ length (pre ++ item_bytes i)
   unfolding tag_of
-  tag-next =
-      let n : tag.next ≡ length (pre ++ item_bytes i) = omega (arith, length-append pre (item_bytes i), length-item pre rest i, p.step, p.least) in
-      ap (next_place (length pre)) tag-answer ∙ n
+  tag_next =
+      let n : tag.next ≡ length (pre ++ item_bytes i) = omega (arith, length-append pre (item_bytes i), length_item pre rest i, p.step, p.least) in
+      ap (next_place (length pre)) tag_answer ∙ n
 
-  next-spot : Spot b (length (pre ++ item_bytes i))
-  next-spot =
+  next_spot : Spot b (length (pre ++ item_bytes i))
+  next_spot =
       record {
         carries = s.carries;
         from = omega (arith, s.from, length-append pre (item_bytes i));
-        even = omega (arith, s.even, length-append pre (item_bytes i), length-item pre rest i, p.step);
+        even = omega (arith, s.even, length-append pre (item_bytes i), length_item pre rest i, p.step);
       }
 
 -- four zeros
@@ -112,7 +112,7 @@ end_answer b pre rest e s h =
     let k : kind_at b (length pre) ≡ 0 =
     ap (λ (x : List ℕ). kind_at x (length pre)) (e ∙ sym (append_assoc pre (0 ∷ []) (0 ∷ 0 ∷ 0 ∷ rest)))
     ∙ (ap (number_in 3 ((pre ++ (0 ∷ [])) ++ (0 ∷ 0 ∷ 0 ∷ rest))) (sym (length-append pre (0 ∷ []))) ∙ number_back 3 0 (pre ++ (0 ∷ [])) rest (omega arith)) in
-    call b (length pre) s h ∙ sym (sized-end (get_or b (length pre) 0) (kind_at b (length pre)) (length pre) (room_end b) z k)
+    call b (length pre) s h ∙ sym (sized_end (get_or b (length pre) 0) (kind_at b (length pre)) (length pre) (room_end b) z k)
 
 reads_from : (b : Bor (List ℕ)) (pre rest : List ℕ) (is : List Item) → AllProper is → b.now ≡ pre ++ (laid is ++ rest) → Spot b.now (length pre) → length pre + length (laid is) ≤ room_end b.now
     → Reads (reader b (length pre)) is
@@ -124,14 +124,14 @@ reads_from b pre rest (i ∷ is) all e s h =
     let r : b.now ≡ (pre ++ item_bytes i) ++ (laid is ++ rest) = q ∙ sym (append_assoc pre (item_bytes i) (laid is ++ rest)) in
     let fits : length pre + length (item_bytes i) ≤ room_end b.now = omega (arith, l) in
     let tail = laid is ++ rest in
-    let more = reads_from b (pre ++ item_bytes i) rest is all.1 r (next-spot b.now pre tail i q all.0 s fits) (omega (arith, l, length-append pre (item_bytes i))) in (
+    let more = reads_from b (pre ++ item_bytes i) rest is all.1 r (next_spot b.now pre tail i q all.0 s fits) (omega (arith, l, length-append pre (item_bytes i))) in (
       record {
         tag = tag b.now pre tail i q all.0 s fits;
-        answer = tag-answer b.now pre tail i q all.0 s fits;
+        answer = tag_answer b.now pre tail i q all.0 s fits;
         kind = refl;
-        contents = tag-contents b.now pre tail i q all.0 s fits;
+        contents = tag_contents b.now pre tail i q all.0 s fits;
       },
-      subst (λ (k : ℕ). Reads (reader b k) is) (sym (tag-next b.now pre tail i q all.0 s fits)) more,
+      subst (λ (k : ℕ). Reads (reader b k) is) (sym (tag_next b.now pre tail i q all.0 s fits)) more,
     )
 
 pub tags_read_back : TagsReadBack

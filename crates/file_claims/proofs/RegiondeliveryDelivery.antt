@@ -10,14 +10,14 @@ use lib.ListN.{length, get_or, take, drop, length-drop}
 use lib.Seq.{get_or-take, get_or-drop}
 use borrow.Author.Tests.{leb-true, leb-false, ltb-true, le-leb, lt-leb, lt-ltb, le-ltb, eq-eqb}
 use Rattle.laws.specs.Sets.{any}
-use Rattle.laws.proofs.Laws.{any-hit, any_none}
+use Rattle.laws.proofs.Laws.{any_hit, any_none}
 use Rattle.laws.proofs.Tests.{split, and_left, and_right, both}
 use Rattle.memory.specs.Flash.{payload_of, spans}
 use Rattle.uf2_block.specs.Block.{field_at, has_flag}
 use Rattle.uf2_block.specs.Region.{region_of}
 use Rattle.md5_digest.specs.Md5.{md5_of}
 use Rattle.md5_digest.specs.declared.Digest.{Digest}
-use Rattle.uf2_block.proofs.regions.Laws.{Counting, good-yes}
+use Rattle.uf2_block.proofs.regions.Laws.{Counting, good_yes}
 use Rattle.partitions.specs.declared.Settings.{Settings}
 use Rattle.placement.specs.Place.{place_of, Inside}
 use Rattle.placement.specs.declared.Place.{Place}
@@ -48,7 +48,7 @@ use Rattle.uf2_make_regions.specs.File.{make_of}
 use Rattle.uf2_make_regions.specs.Claims.{FinalSector, Reads}
 use Rattle.uf2_make_regions.proofs.ReadBack.{blocks_read_back}
 use Rattle.file_claims.specs.RegiondeliveryDelivery.{made_file, IsMade, MadeFileIsValid, EveryRegionCounts, MadeRegions, Delivered, FinishedSectorStands, Finished, AgainKept, NoneWritten, AllBelow, AgainChangesNothing}
-use Rattle.file_claims.proofs.RegiondeliveryMade.{made-passes}
+use Rattle.file_claims.proofs.RegiondeliveryMade.{made_passes}
 
 spans_true : (at j : ℕ) → spans at j ≡ true → (at ≤ j) × (j < at + 256)
 spans_true at j e = (leb-true at j (and_left (leb at j) (ltb j (at + 256)) e), ltb-true j (at + 256) (and_right (leb at j) (ltb j (at + 256)) e))
@@ -91,8 +91,8 @@ module _ (s : Settings) (w : World) (image out : List ℕ) (family start at byte
   inside : Inside (length w.held.flash) at bytes
   inside = place_inside s (length w.held.flash) family board.flash D.good at bytes D.placed
 
-  page-data : (k : ℕ) → k < n → is_data F k ≡ true
-  page-data k h = rw (reads k h).flags
+  page_data : (k : ℕ) → k < n → is_data F k ≡ true
+  page_data k h = rw (reads k h).flags
 
   names : (k : ℕ) → k < n → has_flag (F.block k) 0x4000 ≡ true
   names k h = rw (reads k h).flags
@@ -106,7 +106,7 @@ module _ (s : Settings) (w : World) (image out : List ℕ) (family start at byte
       let room = D.fits in
       let a = r.address_back in
       let family-is : place_of s (length w.held.flash) (field_at (F.block k) 28) ≡ At at bytes = ap (place_of s (length w.held.flash)) r.family_back ∙ D.placed in
-      made-passes s w (F.block k) at bytes board r.long family-is
+      made_passes s w (F.block k) at bytes board r.long family-is
       (record {
         magic = r.magic;
         flags = r.flags;
@@ -162,17 +162,17 @@ module _ (s : Settings) (w : World) (image out : List ℕ) (family start at byte
 
   guarded : (k : ℕ) → k < n → is_guarded s w F k ≡ true
   guarded k h =
-      both (both (both refl (page-data k h)) (names k h))
+      both (both (both refl (page_data k h)) (names k h))
       (ap (λ (p : Place). good_region (size_of p) (address_of F k) (region_of (F.block k))) D.placed
-      ∙ good-yes bytes (address_of F k) (region_of (F.block k)) (counting k h))
+      ∙ good_yes bytes (address_of F k) (region_of (F.block k)) (counting k h))
 
-  storage-is : (k : ℕ) → k < n → storage_of s w F k ≡ at + (start - 0x10000000) + 256 * k
-  storage-is k h =
+  storage_is : (k : ℕ) → k < n → storage_of s w F k ≡ at + (start - 0x10000000) + 256 * k
+  storage_is k h =
       let o : origin_of s w Flash family ≡ at = ap start_of D.placed in
       omega (arith, o, (reads k h).address_back, right.low)
 
-  region-is : (k : ℕ) → region_start s w F k ≡ at + (field_at (F.block k) 484 - 0x10000000)
-  region-is k = ap (λ (p : Place). start_of p + (field_at (F.block k) 484 - 0x10000000)) D.placed
+  region_is : (k : ℕ) → region_start s w F k ≡ at + (field_at (F.block k) 484 - 0x10000000)
+  region_is k = ap (λ (p : Place). start_of p + (field_at (F.block k) 484 - 0x10000000)) D.placed
 
   -- byte j of the flash lies in the region of block i
   in_bounds : (i j : ℕ) → i < n → in_region s w F i j ≡ true
@@ -183,7 +183,7 @@ module _ (s : Settings) (w : World) (image out : List ℕ) (family start at byte
       let a : lo ≤ j = leb-true lo j (and_left (leb lo j) (ltb j (lo + len)) e) in
       let b : j < lo + len = ltb-true j (lo + len) (and_right (leb lo j) (ltb j (lo + len)) e) in
       let l = (reads i h).one_sector in
-      (omega (arith, region-is i, a), omega (arith, region-is i, b, l))
+      (omega (arith, region_is i, a), omega (arith, region_is i, b, l))
 
   -- ---- "It asks that every data block in a region carry that same region,"
 
@@ -192,20 +192,20 @@ module _ (s : Settings) (w : World) (image out : List ℕ) (family start at byte
       let b = in_bounds i (storage_of s w F k) hi e in
       let p = reads i hi in
       let q = reads k hk in
-      omega (arith, b, storage-is k hk, right.low, p.sector, p.window, q.sector, q.window, q.address_back, q.before, q.behind)
+      omega (arith, b, storage_is k hk, right.low, p.sector, p.window, q.sector, q.window, q.address_back, q.before, q.behind)
 
   -- "that every sector of it have one,": block i itself
-  sector-is : (i q : ℕ) → i < n → in_region s w F i (q * 4096) ≡ true → q ≡ storage_of s w F i / 4096
-  sector-is i q h e =
+  sector_is : (i q : ℕ) → i < n → in_region s w F i (q * 4096) ≡ true → q ≡ storage_of s w F i / 4096
+  sector_is i q h e =
       let b = in_bounds i (q * 4096) h e in
       let p = reads i h in
-      omega (arith, b, storage-is i h, right.low, p.sector, p.window, p.address_back, p.before, p.behind, inside.0)
+      omega (arith, b, storage_is i h, right.low, p.sector, p.window, p.address_back, p.before, p.behind, inside.0)
 
   -- ---- "that the digest be of the final bytes,"
 
-  payload-at : (k : ℕ) → k < n → (i : ℕ) → i < 256 → get_or (payload_of (F.block k)) i 0 ≡ get_or image (256 * k + i) 0
+  payload_at : (k : ℕ) → k < n → (i : ℕ) → i < 256 → get_or (payload_of (F.block k)) i 0 ≡ get_or image (256 * k + i) 0
   unfolding payload_of
-  payload-at k h i l =
+  payload_at k h i l =
       ap (λ (p : List ℕ). get_or p i 0) (reads k h).page_back ∙ get_or-take 256 (drop (256 * k) image) i 0 l ∙ get_or-drop (256 * k) image i 0
 
   module _ (i : ℕ) (h : i < n) (c : List ℕ) (f : Final s w F i c) where
@@ -221,16 +221,16 @@ module _ (s : Settings) (w : World) (image out : List ℕ) (family start at byte
         let hk : k < n = omega (arith, right.whole) in
         let u = o % 256 in
         let hu : u < 256 = omega arith in
-        let st = storage-is k hk in
-        let rg = region-is i in
+        let st = storage_is k hk in
+        let rg = region_is i in
         let there : in_region s w F i (storage_of s w F k) ≡ true =
         both (le-leb (region_start s w F i) (storage_of s w F k) (omega (arith, st, rg, p.sector, p.window, right.low, right.aligned, lo)))
         (lt-ltb (storage_of s w F k) (region_start s w F i + region_length F i) (omega (arith, st, rg, p.one_sector, p.window, right.low, lo))) in
         let here : storage_of s w F k - region_start s w F i + u ≡ j = omega (arith, st, rg, p.sector, p.window, right.low, right.aligned, lo) in
         let back : 256 * k + u ≡ o = omega arith in
         ap (λ (x : ℕ). get_or c x 0) (sym here)
-        ∙ f.payloads k hk (page-data k hk) there u hu
-        ∙ payload-at k hk u hu
+        ∙ f.payloads k hk (page_data k hk) there u hu
+        ∙ payload_at k hk u hu
         ∙ ap (λ (x : ℕ). get_or image x 0) back
 
     none-holds : (j : ℕ) → ((k : ℕ) → k < n → spans (storage_of s w F k) (region_start s w F i + j) ≡ false)
@@ -240,17 +240,17 @@ module _ (s : Settings) (w : World) (image out : List ℕ) (family start at byte
     sector-final : FinalSector image start base c
     sector-final =
         let p = reads i h in
-        let rg = region-is i in
+        let rg = region_is i in
         let len : region_length F i ≡ 4096 = p.one_sector in
         record {
           long = f.whole ∙ len;
           pages = on-page;
           before = λ j l e.
               f.erased j (omega (arith, len))
-              (none-holds j (λ k hk. spans_before (storage_of s w F k) (region_start s w F i + j) (omega (arith, storage-is k hk, rg, p.window, right.low, e))));
+              (none-holds j (λ k hk. spans_before (storage_of s w F k) (region_start s w F i + j) (omega (arith, storage_is k hk, rg, p.window, right.low, e))));
           after = λ j l e.
               f.erased j (omega (arith, len))
-              (none-holds j (λ k hk. spans_after (storage_of s w F k) (region_start s w F i + j) (omega (arith, storage-is k hk, rg, p.window, right.low, right.whole, e, hk))));
+              (none-holds j (λ k hk. spans_after (storage_of s w F k) (region_start s w F i + j) (omega (arith, storage_is k hk, rg, p.window, right.low, right.whole, e, hk))));
         }
 
     digest-right : md5_of c ≡ digest_in (F.block i)
@@ -261,7 +261,7 @@ module _ (s : Settings) (w : World) (image out : List ℕ) (family start at byte
       record {
         same = λ i k hi hk g y e. (names k hk, same_start i k hi hk e, (reads k hk).one_sector ∙ sym (reads i hi).one_sector);
         every = λ i q h g e.
-            any-hit (λ k. lies_in s w F k q) n i h (both (page-data i h) (eq-eqb q (storage_of s w F i / 4096) (sector-is i q h e)));
+            any_hit (λ k. lies_in s w F k q) n i h (both (page_data i h) (eq-eqb q (storage_of s w F i / 4096) (sector_is i q h e)));
         right = λ i h g c f. digest-right i h c f;
       }
 
@@ -300,7 +300,7 @@ module _ (s : Settings) (w : World) (image out : List ℕ) (family start at byte
           before = r.before;
           behind = omega (arith, l, r.behind);
           digest =
-              ap (λ (x : ℕ). md5_of (take (field_at (F.block k) 488) (drop x v.held.flash))) (sym (region-is k))
+              ap (λ (x : ℕ). md5_of (take (field_at (F.block k) 488) (drop x v.held.flash))) (sym (region_is k))
               ∙ digest-right k h (region_in s w F k v.held.flash) f;
         }
 
@@ -311,8 +311,8 @@ module _ (s : Settings) (w : World) (image out : List ℕ) (family start at byte
   again_kept v f k h l = unfold StandingKept in standing_kept s v (F.block k) (stands v f.lengths k h (f.final k h)) l
 
   -- the same buffers, and so it is finished again
-  finished-same : (v u : World) → Finished s w F v → ((x : Kind) → buffer_of x u.held ≡ buffer_of x v.held) → Finished s w F u
-  finished-same v u f e =
+  finished_same : (v u : World) → Finished s w F v → ((x : Kind) → buffer_of x u.held ≡ buffer_of x v.held) → Finished s w F u
+  finished_same v u f e =
       record {
         lengths = (λ i. record { flash = length (e Flash i); main = length (e MainRam i); xip = length (e XipRam i) }) ∙ f.lengths;
         final = λ k h. subst (λ (m : List ℕ). Final s w F k (region_in s w F k m)) (sym (e Flash)) (f.final k h);
@@ -352,7 +352,7 @@ module _ (s : Settings) (w : World) (image out : List ℕ) (family start at byte
   again [] v f h = (λ x. refl, tt)
   again (k ∷ l) v f h =
       let p = step v f k h.0 in
-      let r = again l (receive_of s v (F.block k)).world (finished-same v (receive_of s v (F.block k)).world f p.buffers) h.1 in
+      let r = again l (receive_of s v (F.block k)).world (finished_same v (receive_of s v (F.block k)).world f p.buffers) h.1 in
       (λ x. r.0 x ∙ p.buffers x, (p.answer, r.1))
 
 -- ---- the claims

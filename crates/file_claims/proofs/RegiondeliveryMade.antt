@@ -85,8 +85,8 @@ module _ (s : Settings) (w : World) (b : List ℕ) (at size : ℕ) (B : Board s 
   unfolding screen_of screen_in found data_found placed fields_of
   passed = rw (made_found b I.magic I.flags, comment, window, place, I.payload, numbers, address)
 
-  pub made-passes : 12 ≤ answer_number s w b
+  pub made_passes : 12 ≤ answer_number s w b
   unfolding receive_of after_screening
-  made-passes =
+  made_passes =
       rw (board_decides s w b B long, passed)
       (step_late w (payload_of b) (placed_at Flash (Page (at + (field_at b 12 - 0x10000000))) (fields_of b)) _ w.transfer _)

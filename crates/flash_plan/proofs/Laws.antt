@@ -17,11 +17,11 @@ use Rattle.flash_plan.specs.Plan.{sector_paged, sector_paged_of, deed_plan, perf
 -- ---- a page of flash
 
 module _ (at : ℕ) (k : List ℕ) {b : Bool} (e : b ≡ marked_in k (at / 4096)) {k1 : List ℕ} (m : k1 ≡ with_mark k (at / 4096)) where
-  pub sector-erased : b ≡ true → sector_paged (Program at) k1 ≡ sector_paged_of at k
-  sector-erased h = let z : marked_in k (at / 4096) ≡ true = sym e ∙ h in rw (z, m)
+  pub sector_erased : b ≡ true → sector_paged (Program at) k1 ≡ sector_paged_of at k
+  sector_erased h = let z : marked_in k (at / 4096) ≡ true = sym e ∙ h in rw (z, m)
 
-  pub sector-new : b ≡ false → sector_paged (EraseProgram (at / 4096) at) k1 ≡ sector_paged_of at k
-  sector-new h = let z : marked_in k (at / 4096) ≡ false = sym e ∙ h in rw (z, m)
+  pub sector_new : b ≡ false → sector_paged (EraseProgram (at / 4096) at) k1 ≡ sector_paged_of at k
+  sector_new h = let z : marked_in k (at / 4096) ≡ false = sym e ∙ h in rw (z, m)
 
 -- ---- the plan performed gives the take's flash, and all else is the take's
 

@@ -1,4 +1,6 @@
 // A plan for the flash, which a driver carries out, or `perform` on flash that is memory: made for a page, and performed.
+#![tactic(auto)]
+
 ghost use Rattle.std.specs.Prelude.{◌≡◌};
 ghost use Rattle.memory.specs.Flash.{payload_of};
 ghost use Rattle.flash_plan.specs.Plan.{plan_number, performed, sector_paged, sector_paged_of};

@@ -8,7 +8,7 @@ use lib.ListN.{length, take, drop, length-append, drop_of_length-le}
 use lib.Seq.{take_all, take_at, length-take-le}
 use borrow.Author.Tests.{ltb-true, ltb-false}
 use Rattle.laws.proofs.Tests.{split}
-pub use Rattle.hex_digits.proofs.pairs.Stored.{length-bytes}
+pub use Rattle.hex_digits.proofs.pairs.Stored.{length_bytes}
 pub use Rattle.hex_digits.proofs.decoding.FirstLaws.{rest}
 use Rattle.hex_digits.specs.Digits.{digit_of, bytes_of, decoded, decoded_by}
 
@@ -21,7 +21,7 @@ unfolding decoded_by
 decoding l lent {out} e =
     let w = bytes_of l in
     let r = drop (length l / 2) lent in
-    let n : length w ≡ length l / 2 = length-bytes digit_of l in
+    let n : length w ≡ length l / 2 = length_bytes digit_of l in
     split (ltb (length lent) (length l / 2))
     (λ y.
     let h : length lent < length l / 2 = ltb-true _ _ y in

@@ -6,7 +6,7 @@ use mathlib.Core.List.{List, [], ◌∷◌}
 use native.Mathlib.Omega.{arith}
 use lib.ListN.{length, get_or}
 use Rattle.laws.proofs.Tests.{split}
-use Rattle.hex_digits.proofs.decoding.FirstLaws.{first-none}
+use Rattle.hex_digits.proofs.decoding.FirstLaws.{first_none}
 use Rattle.hex_digits.specs.Digits.{digit_of, is_digit, all_digits, first_bad, all_by, first_by}
 
 pub bad_most : (l : List ℕ) → first_bad l ≤ length l
@@ -18,7 +18,7 @@ bad_most (c ∷ l) =
 
 -- below their number there is one
 pub bad_some : (l : List ℕ) → first_bad l < length l → all_digits l ≡ false
-bad_some l h = split (all_digits l) (λ y. absurd (omega (arith, first-none digit_of l y))) (λ z. z)
+bad_some l h = split (all_digits l) (λ y. absurd (omega (arith, first_none digit_of l y))) (λ z. z)
 
 pub bad_all : (l : List ℕ) → length l ≤ first_bad l → all_digits l ≡ true
 unfolding all_by first_by

@@ -1,4 +1,6 @@
 // Hex digits: the value of each by one table, the bytes that they say, and the first character that is none.
+#![tactic(auto)]
+
 mod decoding;
 mod pairs;
 

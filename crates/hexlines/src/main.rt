@@ -1,4 +1,6 @@
 // Reads lines of Universal Hex from standard input for one board and prints the answer to each: a board image of 262,144 bytes.
+#![tactic(auto)]
+
 ghost use Rattle.std.specs.Prelude.{◌+◌, ◌≤◌, length};
 
 use libc::{STDIN_FILENO, STDOUT_FILENO};

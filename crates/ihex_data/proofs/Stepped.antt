@@ -50,18 +50,18 @@ module _ (out : List ℕ) (kind at : ℕ) (s : Scan) (l : List ℕ) where
   abbrev Steps : Step → List ℕ → Type 0
   Steps r o = (r ≡ step_of s l) × (o ≡ put_lines out (at + s.tally.len) (pieces_lines kind s.tally (line_pieces s.plain l)))
 
-  pub step-refused : (a : Answer) → taken_of s.plain l ≡ Refused a → Steps (Stop a) out
+  pub step_refused : (a : Answer) → taken_of s.plain l ≡ Refused a → Steps (Stop a) out
   unfolding step_of line_pieces split_all pieces_lines
-  step-refused a e = (rw e refl, rw e (sym (put_none out (at + s.tally.len))))
+  step_refused a e = (rw e refl, rw e (sym (put_none out (at + s.tally.len))))
 
-  pub step-passed : (q : Plain) → taken_of s.plain l ≡ Passed q → Steps (On (scan q s.tally)) out
+  pub step_passed : (q : Plain) → taken_of s.plain l ≡ Passed q → Steps (On (scan q s.tally)) out
   unfolding step_of line_pieces split_all pieces_lines tally_all
-  step-passed q e = (rw e refl, rw e (sym (put_none out (at + s.tally.len))))
+  step_passed q e = (rw e refl, rw e (sym (put_none out (at + s.tally.len))))
 
-  pub step-data : (q : Plain) (a n : ℕ) {r : Step} {o : List ℕ} → taken_of s.plain l ≡ Data q a n → let ss = split_of (piece a (take n (read_of l).«data»)) in
+  pub step_data : (q : Plain) (a n : ℕ) {r : Step} {o : List ℕ} → taken_of s.plain l ≡ Data q a n → let ss = split_of (piece a (take n (read_of l).«data»)) in
       r ≡ On (scan q (tally_all s.tally ss)) → o ≡ put_lines out (at + s.tally.len) (pieces_lines kind s.tally ss) → Steps r o
   unfolding step_of line_pieces split_all
-  step-data q a n e f g =
+  step_data q a n e f g =
       let ss = split_of (piece a (take n (read_of l).«data»)) in
       let same : ss ++ [] ≡ ss = append-nil ss in (
         f ∙ rw (e, same) refl,

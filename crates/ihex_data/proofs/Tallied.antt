@@ -47,15 +47,15 @@ length_piece kind t u a d =
 
 -- written after an 04, and without one
 module _ (out : List ℕ) (kind from : ℕ) (t : Tally) (u a : ℕ) (d : List ℕ) where
-  pub put-changed : {b : Bool} {one two : List ℕ} → b ≡ changes t u → b ≡ true → one ≡ put_line out from (upper_line u)
+  pub put_changed : {b : Bool} {one two : List ℕ} → b ≡ changes t u → b ≡ true → one ≡ put_line out from (upper_line u)
       → two ≡ put_line one (from + 16) (record_line kind a d) → two ≡ put_lines out from (piece_lines kind t u a d)
   unfolding piece_lines
-  put-changed e y f g = rw (← e, y) (g ∙ rw (f, ← length_upper u) (sym (put_two out from (upper_line u) (record_line kind a d))))
+  put_changed e y f g = rw (← e, y) (g ∙ rw (f, ← length_upper u) (sym (put_two out from (upper_line u) (record_line kind a d))))
 
-  pub put-unchanged : {b : Bool} {one : List ℕ} → b ≡ changes t u → b ≡ false → one ≡ put_line out from (record_line kind a d)
+  pub put_unchanged : {b : Bool} {one : List ℕ} → b ≡ changes t u → b ≡ false → one ≡ put_line out from (record_line kind a d)
       → one ≡ put_lines out from (piece_lines kind t u a d)
   unfolding piece_lines
-  put-unchanged e n f = rw (← e, n) (f ∙ sym (put_one out from (record_line kind a d)))
+  put_unchanged e n f = rw (← e, n) (f ∙ sym (put_one out from (record_line kind a d)))
 
 pub piece_most : (t : Tally) (u n : ℕ) → n ≤ 32 → (tally_piece t u n).len ≤ t.len + 92
 unfolding tally_piece
@@ -81,14 +81,14 @@ module _ (out : List ℕ) (kind at : ℕ) (t : Tally) where
   abbrev Puts : List Store → Tally → List ℕ → Type 0
   Puts ss r o = (r ≡ tally_all t ss) × (o ≡ put_lines out (at + t.len) (pieces_lines kind t ss))
 
-  pub put-single : (s : Store) {r : Tally} {o : List ℕ} → r ≡ after t s → o ≡ put_lines out (at + t.len) (lines_one kind t s) → Puts (s ∷ []) r o
+  pub put_single : (s : Store) {r : Tally} {o : List ℕ} → r ≡ after t s → o ≡ put_lines out (at + t.len) (lines_one kind t s) → Puts (s ∷ []) r o
   unfolding tally_all pieces_lines
-  put-single s e f = (e, f ∙ ap (put_lines out (at + t.len)) (sym (append-nil (lines_one kind t s))))
+  put_single s e f = (e, f ∙ ap (put_lines out (at + t.len)) (sym (append-nil (lines_one kind t s))))
 
-  pub put-pair : (s v : Store) {q r : Tally} {m o : List ℕ} → q ≡ after t s → m ≡ put_lines out (at + t.len) (lines_one kind t s)
+  pub put_pair : (s v : Store) {q r : Tally} {m o : List ℕ} → q ≡ after t s → m ≡ put_lines out (at + t.len) (lines_one kind t s)
       → r ≡ after q v → o ≡ put_lines m (at + q.len) (lines_one kind q v) → Puts (s ∷ v ∷ []) r o
   unfolding tally_all pieces_lines
-  put-pair s v e f g h = (
+  put_pair s v e f g h = (
     g ∙ rw e refl,
     h
         ∙ rw (f, e)
@@ -100,24 +100,24 @@ module _ (out : List ℕ) (kind at : ℕ) (t : Tally) where
   pub put_whole : (a : ℕ) (d : List ℕ) {r : Tally} {o : List ℕ} → length d ≤ room_of a → r ≡ after t (piece a d)
       → o ≡ put_lines out (at + t.len) (lines_one kind t (piece a d)) → Puts (split_of (piece a d)) r o
   unfolding split_of
-  put_whole a d h e f = rw (le-ltb (room_of a) (length d) h) (put-single (piece a d) e f)
+  put_whole a d h e f = rw (le-ltb (room_of a) (length d) h) (put_single (piece a d) e f)
 
-  pub put-cut : (a : ℕ) (d : List ℕ) {q r : Tally} {m o : List ℕ} → room_of a < length d → q ≡ after t (piece a (take (room_of a) d))
+  pub put_cut : (a : ℕ) (d : List ℕ) {q r : Tally} {m o : List ℕ} → room_of a < length d → q ≡ after t (piece a (take (room_of a) d))
       → m ≡ put_lines out (at + t.len) (lines_one kind t (piece a (take (room_of a) d))) → r ≡ after q (piece (a + room_of a) (drop (room_of a) d))
       → o ≡ put_lines m (at + q.len) (lines_one kind q (piece (a + room_of a) (drop (room_of a) d))) → Puts (split_of (piece a d)) r o
   unfolding split_of
-  put-cut a d h e f g k =
-      rw (lt-ltb (room_of a) (length d) h) (put-pair (piece a (take (room_of a) d)) (piece (a + room_of a) (drop (room_of a) d)) e f g k)
+  put_cut a d h e f g k =
+      rw (lt-ltb (room_of a) (length d) h) (put_pair (piece a (take (room_of a) d)) (piece (a + room_of a) (drop (room_of a) d)) e f g k)
 
   -- where the code lends the last part of the data by its length, at the beginning of the next 64 KiB
-  pub put-cut-by : (a : ℕ) (d : List ℕ) (e : List ℕ) {q r : Tally} {m o : List ℕ} → room_of a < length d → e ≡ take (length d - room_of a) (drop (room_of a) d)
+  pub put_cut_by : (a : ℕ) (d : List ℕ) (e : List ℕ) {q r : Tally} {m o : List ℕ} → room_of a < length d → e ≡ take (length d - room_of a) (drop (room_of a) d)
       → q ≡ after t (piece a (take (room_of a) d)) → m ≡ put_lines out (at + t.len) (lines_one kind t (piece a (take (room_of a) d)))
       → r ≡ tally_piece q (a / 65536 + 1) (length e) → o ≡ put_lines m (at + q.len) (piece_lines kind q (a / 65536 + 1) 0 e) → Puts (split_of (piece a d)) r o
-  put-cut-by a d e {q} {r} {m} {o} h w f g k p =
+  put_cut_by a d e {q} {r} {m} {o} h w f g k p =
       let same : e ≡ drop (room_of a) d = w ∙ take_all (length d - room_of a) (drop (room_of a) d) (omega (arith, length-drop (room_of a) d)) in
       let upper : a / 65536 + 1 ≡ (a + room_of a) / 65536 = omega arith in
       let lower : 0 ≡ (a + room_of a) % 65536 = omega arith in
-      put-cut a d h f g (k ∙ rw (same, upper) refl) (p ∙ rw (same, upper, lower) refl)
+      put_cut a d h f g (k ∙ rw (same, upper) refl) (p ∙ rw (same, upper, lower) refl)
 
 -- which of the two it is, by the code's test
 pub is_cut : (a : ℕ) {n : ℕ} {b : Bool} → b ≡ crosses a n → b ≡ true → room_of a < n

@@ -217,9 +217,9 @@ module _ (out : List ℕ) (at kind : ℕ) (s : List ℕ) {o : List ℕ} {w : Sca
 
   -- ---- at the end of the text
 
-  pub going-last : {v : Verdict} → length s ≤ i → v ≡ close_of w.plain k w.tally.some → Walk out at kind s (body v w.tally) o
+  pub going_last : {v : Verdict} → length s ≤ i → v ≡ close_of w.plain k w.tally.some → Walk out at kind s (body v w.tally) o
   unfolding verdict_of close_of pieces_of
-  going-last {v} past e =
+  going_last {v} past e =
       let none : lines_of (drop i s) ≡ [] = no_line (drop i s) (drop_of_length-le s past) in
       let empty : left w.plain (lines_of (drop i s)) ≡ [] = rw none (none_left w.plain) in
       let t : w.tally ≡ tally_all fresh_tally (pieces_of s) = no_more w.tally g.tally empty in

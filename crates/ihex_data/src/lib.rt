@@ -1,4 +1,6 @@
 // The data of a plain Intel Hex file: read, split where the upper half of its address changes, counted, and written as lines.
+#![tactic(auto)]
+
 mod cuts;
 
 ghost use Rattle.std.specs.Prelude.{◌≡◌, cond, ◌+◌, ◌≤◌, length};

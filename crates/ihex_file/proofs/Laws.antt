@@ -27,13 +27,13 @@ skips : (b : Bool) (x : LineReading) {y z : LineReading} → b ≡ false → z �
 skips b x e f = rw e f
 
 module _ (p : Plain) (n : ℕ) (x : ParseResult) (w : ℕ) where
-  pub line-ended : p.ended ≡ true → Refused AfterEnd ≡ line_taken p n x w
+  pub line_ended : p.ended ≡ true → Refused AfterEnd ≡ line_taken p n x w
   unfolding line_taken
-  line-ended e = simp e
+  line_ended e = simp e
 
-  pub line-long : p.ended ≡ false → 4194304 < p.offset + n → Refused FileTooLong ≡ line_taken p n x w
+  pub line_long : p.ended ≡ false → 4194304 < p.offset + n → Refused FileTooLong ≡ line_taken p n x w
   unfolding line_taken
-  line-long e h = simp (e, lt-ltb _ _ h)
+  line_long e h = simp (e, lt-ltb _ _ h)
 
   -- a line within the limit, by what its text says
   pub line_by : (y : ParseResult) (t : LineReading) → p.ended ≡ false → p.offset + n ≤ 4194304 → x ≡ y
@@ -44,9 +44,9 @@ module _ (p : Plain) (n : ℕ) (x : ParseResult) (w : ℕ) where
       (skips (ltb 4194304 (p.offset + n)) (Refused FileTooLong) (le-ltb _ _ h)
       (f ∙ ap (λ (z : ParseResult). on_record (Refused (refusal_of z)) (fields_taken (moved_by p n) w) z) (sym k)))
 
-  pub line-record : (rec : Record) (q : Plain) (t : LineReading) → p.ended ≡ false → p.offset + n ≤ 4194304 → x ≡ parsed.Good rec → q ≡ moved_by p n
+  pub line_record : (rec : Record) (q : Plain) (t : LineReading) → p.ended ≡ false → p.offset + n ≤ 4194304 → x ≡ parsed.Good rec → q ≡ moved_by p n
       → t ≡ fields_taken q w rec → t ≡ line_taken p n x w
-  line-record rec q t e h k m f = line_by (parsed.Good rec) t e h k (f ∙ ap (λ (z : Plain). fields_taken z w rec) m)
+  line_record rec q t e h k m f = line_by (parsed.Good rec) t e h k (f ∙ ap (λ (z : Plain). fields_taken z w rec) m)
 
 -- what a text says is no record, by its tag
 no_record : (x : ParseResult) (f : Record → LineReading) → OneOf (1 ∷ 2 ∷ 3 ∷ 4 ∷ 5 ∷ 6 ∷ []) (tag_of the_type x)

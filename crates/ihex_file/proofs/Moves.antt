@@ -13,7 +13,7 @@ use Rattle.ihex_record.specs.Record.{word_of, on_record, read_of}
 use Rattle.ihex_record.specs.declared.Record.{Record}
 use Rattle.ihex_record.specs.declared.ParseResult.{ParseResult}
 use Rattle.ihex_record.specs.declared.ParseResult.TheVariants as parsed
-use Rattle.ihex_record.proofs.Good.{good-len}
+use Rattle.ihex_record.proofs.Good.{good_len}
 use Rattle.uhex_grammar.specs.Answers.{refusal_of}
 use Rattle.uhex_grammar.specs.declared.Answer.{Answer}
 use Rattle.ihex_file.specs.declared.Plain.{Plain}
@@ -46,18 +46,18 @@ module _ (p : Plain) (n : ℕ) (fits : p.offset + n ≤ 4194304) where
   moved : (base : ℕ) (b : Bool) → Moved p n (plain (p.offset + n) base b)
   moved base b = record { offset = refl; within = fits }
 
-  sound-data : (address len : ℕ) → len ≤ 32 → Sound p n (data_taken (moved_by p n) address len)
+  sound_data : (address len : ℕ) → len ≤ 32 → Sound p n (data_taken (moved_by p n) address len)
   unfolding data_taken
-  sound-data address len few =
+  sound_data address len few =
       either (ltb 65536 (address + len)) (λ y. refused)
       (λ z.
       either (eqb len 0) (λ y. passed (moved _ _))
       (λ w. given (moved _ _) (record { few = few; near = omega (arith, ltb-false 65536 (address + len) z) })))
 
-  sound-record : (word kind address len : ℕ) → len ≤ 32 → Sound p n (record_taken (moved_by p n) kind address len word)
+  sound_record : (word kind address len : ℕ) → len ≤ 32 → Sound p n (record_taken (moved_by p n) kind address len word)
   unfolding record_taken
-  sound-record word kind address len few =
-      either (eqb kind data_type) (λ y. sound-data address len few)
+  sound_record word kind address len few =
+      either (eqb kind data_type) (λ y. sound_data address len few)
       (λ a.
       either (is_end kind len) (λ y. passed (moved _ _))
       (λ b.
@@ -68,7 +68,7 @@ module _ (p : Plain) (n : ℕ) (fits : p.offset + n ≤ 4194304) where
 
 sound_parsed : (p : Plain) (n w : ℕ) (x : ParseResult) → p.offset + n ≤ 4194304 → ((rec : Record) → x ≡ parsed.Good rec → rec.len ≤ 32)
     → Sound p n (on_record (Refused (refusal_of x)) (fields_taken (moved_by p n) w) x)
-sound_parsed p n w (parsed.Good rec) h f = sound-record p n h w rec.kind rec.address rec.len (f rec refl)
+sound_parsed p n w (parsed.Good rec) h f = sound_record p n h w rec.kind rec.address rec.len (f rec refl)
 sound_parsed p n w parsed.NoColon h f = refused
 sound_parsed p n w parsed.BadShape h f = refused
 sound_parsed p n w (parsed.BadDigit k) h f = refused
@@ -84,7 +84,7 @@ sound p l =
     either p.ended (λ y. refused)
     (λ z.
     either (ltb 4194304 (p.offset + length l)) (λ y. refused)
-    (λ k. sound_parsed p (length l) w x (ltb-false 4194304 (p.offset + length l) k) (λ rec e. good-len l rec e)))
+    (λ k. sound_parsed p (length l) w x (ltb-false 4194304 (p.offset + length l) k) (λ rec e. good_len l rec e)))
 
 moved_by_lem : {p : Plain} {n : ℕ} {t : LineReading} → Sound p n t → goes_on t ≡ true → Moved p n (next_of p t)
 moved_by_lem refused e = clash false e refl

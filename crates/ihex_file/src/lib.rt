@@ -1,5 +1,7 @@
 // A plain Intel Hex file, a line at a time: where its reading stands, and its end. What a line is, of types 00 to 05 or refused, is a definition
 // here.
+#![tactic(auto)]
+
 pub mod line;
 pub mod lines;
 mod records;

@@ -9,9 +9,9 @@ use Rattle.ihex_record.specs.Record.{all_digits, first_bad, bytes_of, len_of, to
 -- ---- rows 23 to 25, of n characters and their bytes
 
 module _ (n : ℕ) (b : List ℕ) where
-  pub is-too-long : 32 < len_of b → refused TooLong ≡ line_of_bytes n b
+  pub is_too_long : 32 < len_of b → refused TooLong ≡ line_of_bytes n b
   unfolding line_of_bytes
-  is-too-long h = rw (lt-ltb 32 (len_of b) h)
+  is_too_long h = rw (lt-ltb 32 (len_of b) h)
 
   module _ (fits : len_of b ≤ 32) where
     pub is-bad-length : (n ≡ 11 + 2 * len_of b → ⊥) → refused BadLength ≡ line_of_bytes n b
@@ -24,9 +24,9 @@ module _ (n : ℕ) (b : List ℕ) where
       is-bad-sum h =
           rw (le-ltb 32 (len_of b) fits, eq-eqb n (11 + 2 * len_of b) long, ne_eqb (total b % 256) 0 h)
 
-      pub is-good : total b % 256 ≡ 0 → good b ≡ line_of_bytes n b
+      pub is_good_lem : total b % 256 ≡ 0 → good b ≡ line_of_bytes n b
       unfolding line_of_bytes
-      is-good h =
+      is_good_lem h =
           rw (le-ltb 32 (len_of b) fits, eq-eqb n (11 + 2 * len_of b) long, eq-eqb (total b % 256) 0 h)
 
 -- ---- rows 20 to 22, of a text
@@ -47,13 +47,13 @@ shaped n e =
     }
 
 module _ (t : List ℕ) where
-  pub is-empty : length t ≡ 0 → refused NoColon ≡ line_of_text t
+  pub is_empty : length t ≡ 0 → refused NoColon ≡ line_of_text t
   unfolding line_of_text
-  is-empty e = rw (eq-eqb (length t) 0 e)
+  is_empty e = rw (eq-eqb (length t) 0 e)
 
-  pub is-no-colon : (get_or t 0 0 ≡ 58 → ⊥) → refused NoColon ≡ line_of_text t
+  pub is_no_colon : (get_or t 0 0 ≡ 58 → ⊥) → refused NoColon ≡ line_of_text t
   unfolding line_of_text
-  is-no-colon h = rw (ne_eqb (get_or t 0 0) 58 h, or-true (eqb (length t) 0))
+  is_no_colon h = rw (ne_eqb (get_or t 0 0) 58 h, or-true (eqb (length t) 0))
 
   module _ (some : length t ≡ 0 → ⊥) (colon : get_or t 0 0 ≡ 58) where
     pub is-bad-shape : bad_shape (length t) ≡ true → refused BadShape ≡ line_of_text t

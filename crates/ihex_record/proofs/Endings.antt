@@ -14,13 +14,13 @@ module _ (l : List ℕ) where
   before : length l - 1 - 1 ≡ length l - 2
   before = omega arith
 
-  pub text-empty : length l ≡ 0 → 0 ≡ text_len l
+  pub text_empty : length l ≡ 0 → 0 ≡ text_len l
   unfolding text_len
-  text-empty e = rw e
+  text_empty e = rw e
 
-  pub text-whole : (get_or l (length l - 1) 0 ≡ 10 → ⊥) → length l ≡ text_len l
+  pub text_whole : (get_or l (length l - 1) 0 ≡ 10 → ⊥) → length l ≡ text_len l
   unfolding text_len
-  text-whole h = rw (ends_other 10 l (length l) h)
+  text_whole h = rw (ends_other 10 l (length l) h)
 
   module _ (last : get_or l (length l - 1) 0 ≡ 10) where
     pub text-alone : length l ≡ 1 → 0 ≡ text_len l

@@ -8,7 +8,7 @@ use Rattle.ihex_record.specs.declared.ParseResult.{ParseResult}
 use Rattle.ihex_record.specs.declared.ParseResult.TheVariants.{Good, NoColon, BadShape, BadDigit, TooLong, BadLength, BadSum}
 use Rattle.ihex_record.specs.Record.{text_of, digit_of, is_digit, all_digits, first_bad, bytes_of, len_of, data_of, record_of, total, no_colon, bad_shape, bad_length, bad_sum, good, refused, line_of_bytes, line_of_text, read_of, parsed_number, all_by, bytes_by}
 use Rattle.ihex_record.specs.Write.{Bytes}
-use Rattle.hex_digits.proofs.Digits.{length-bytes}
+use Rattle.hex_digits.proofs.Digits.{length_bytes}
 use Rattle.ihex_record.proofs.Data32.{length_data32, data32_take}
 
 -- a row that a good line has passed
@@ -58,22 +58,22 @@ module _ (l : List ℕ) (r : Record) (e : (read_of l).parsed ≡ Good r) where
   pub good_record : r ≡ record_of (bytes_of (drop 1 (text_of l)))
   good_record = said.fields
 
-  pub good-len : r.len ≤ 32
-  good-len = rw said.fields said.fits
+  pub good_len : r.len ≤ 32
+  good_len = rw said.fields said.fits
 
-  pub good-data-length : length (data_of (bytes_of (drop 1 (text_of l)))) ≡ r.len
-  good-data-length =
+  pub good_data_length : length (data_of (bytes_of (drop 1 (text_of l)))) ≡ r.len
+  good_data_length =
       let t = text_of l in
       let n : length (bytes_of (drop 1 t)) ≡ len_of (bytes_of (drop 1 t)) + 5 =
-      omega (arith, said.long, length-bytes digit_of (drop 1 t), length-drop 1 t) in
+      omega (arith, said.long, length_bytes digit_of (drop 1 t), length-drop 1 t) in
       rw said.fields (simp (length-take, length-drop) (omega arith))
 
   -- the used part of the 32 bytes is the record's data
-  pub good-data : take r.len (read_of l).«data» ≡ data_of (bytes_of (drop 1 (text_of l)))
-  good-data =
+  pub good_data : take r.len (read_of l).«data» ≡ data_of (bytes_of (drop 1 (text_of l)))
+  good_data =
       let d = data_of (bytes_of (drop 1 (text_of l))) in
-      let n : length d ≤ 32 = omega (arith, good-data-length, good-len) in
-      rw (good_line, ← good-data-length) (data32_take d n)
+      let n : length d ≤ 32 = omega (arith, good_data_length, good_len) in
+      rw (good_line, ← good_data_length) (data32_take d n)
 
 -- the data of any line, a refusal too, has 32 bytes
 either : (b : Bool) (x y : Line) → length x.«data» ≡ 32 → length y.«data» ≡ 32 → length (cond b x y).«data» ≡ 32

@@ -62,19 +62,19 @@ module _ (l : List ℕ) (p : ℕ) (e : (read_of l).parsed ≡ BadDigit p) where
       let full : length (drop 1 text) ≤ first_bad (drop 1 text) = ltb-false (first_bad (drop 1 text)) (length (drop 1 text)) z in
       clash (all_digits (drop 1 text)) (bad_all (drop 1 text) full) at.some)
 
-  pub bad-position : (1 ≤ p) × (p ≤ 520)
-  bad-position =
+  pub bad_position_lem : (1 ≤ p) × (p ≤ 520)
+  bad_position_lem =
       let most = (shaped (length text) at.shape).most in
       (omega (arith, at.place), omega (arith, at.place, below, length-drop 1 text))
 
-  pub bad-inside : p < length text
-  bad-inside = omega (arith, at.place, below, length-drop 1 text, (shaped (length text) at.shape).least)
+  pub bad_inside : p < length text
+  bad_inside = omega (arith, at.place, below, length-drop 1 text, (shaped (length text) at.shape).least)
 
-  pub bad-there : is_digit (get_or text p 0) ≡ false
-  bad-there =
+  pub bad_there : is_digit (get_or text p 0) ≡ false
+  bad_there =
       rw at.place (ap (λ (c : ℕ). is_digit c) (sym (get_or-drop 1 text (first_bad (drop 1 text)) 0)) ∙ bad_is (drop 1 text) below)
 
-  pub good-before : (i : ℕ) → 1 ≤ i → i < p → is_digit (get_or text i 0) ≡ true
-  good-before i h k =
+  pub good_before : (i : ℕ) → 1 ≤ i → i < p → is_digit (get_or text i 0) ≡ true
+  good_before i h k =
       let n : i ≡ 1 + (i - 1) = omega arith in
       rw n (ap (λ (c : ℕ). is_digit c) (sym (get_or-drop 1 text (i - 1) 0)) ∙ bad_first (drop 1 text) (i - 1) (omega (arith, at.place)))

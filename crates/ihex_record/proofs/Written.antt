@@ -4,14 +4,14 @@ use lib.ListN.{get_or-append}
 use lib.Seq.{take-append_seam, get_or-append_seam}
 use borrow.Author.Tests.{not-false}
 use Rattle.laws.specs.Sets.{Set, any}
-use Rattle.laws.proofs.Laws.{any-all}
+use Rattle.laws.proofs.Laws.{any_all}
 use Rattle.laws.proofs.Tests.{split, both}
 use Rattle.ihex_record.specs.declared.ParseResult.TheVariants.{Good}
 use Rattle.ihex_record.specs.Record.{text_len, text_of, digit_of, all_digits, bytes_of, data32, total, bad_shape, line_of_bytes, line_of_text, read_of, all_by, bytes_by}
 use Rattle.ihex_record.specs.Write.{digit_text, bytes_text, field_bytes, checksum, record_text, Ending, none, lf, crlf, Bytes, ReadsBack}
-use Rattle.ihex_record.proofs.Endings.{text-whole, text-lf, text-crlf}
+use Rattle.ihex_record.proofs.Endings.{text_whole, text-lf, text-crlf}
 use Rattle.ihex_record.proofs.Sums.{total_append, total_one}
-use Rattle.ihex_record.proofs.Checks.{is-bytes, is-good}
+use Rattle.ihex_record.proofs.Checks.{is-bytes, is_good_lem}
 
 -- ---- digits
 
@@ -20,7 +20,7 @@ wrong n = not (eqb (digit_of (digit_text n)) n)
 
 digit_text_lem : (n : ℕ) → n < 16 → digit_of (digit_text n) ≡ n
 unfolding wrong digit_of any
-digit_text_lem n h = eqb-true (digit_of (digit_text n)) n (not-false _ (any-all wrong 16 refl n h))
+digit_text_lem n h = eqb-true (digit_of (digit_text n)) n (not-false _ (any_all wrong 16 refl n h))
 
 digit_high : (n : ℕ) → 48 ≤ digit_text n
 digit_high n = split (ltb n 10) (λ y. rw y (omega arith)) (λ y. rw y (omega arith))
@@ -61,7 +61,7 @@ unfolding text_of
 cut t e h = rw (← h) (take-append_seam t e)
 
 ended : (t e : List ℕ) → 0 < length t → 48 ≤ get_or t (length t - 1) 0 → Ending e → text_of (t ++ e) ≡ t
-ended t e n h none = cut t [] (rw (append-nil t) (text-whole t (λ q. omega arith)))
+ended t e n h none = cut t [] (rw (append-nil t) (text_whole t (λ q. omega arith)))
 ended t e n h lf =
     let l = t ++ (10 ∷ []) in
     let a : length l - 1 ≡ length t = omega (arith, length-append t (10 ∷ [])) in
@@ -110,33 +110,33 @@ module _ (kind address : ℕ) (d : List ℕ) (hk : kind < 256) (ha : address < 6
       (bytes_cons (address % 256) (kind ∷ d) (omega arith) (bytes_cons kind d hk hb))))
       (bytes_cons (checksum fields) [] (omega arith) (λ i n. absurd (omega arith)))
 
-  pub length-record : length (record_text kind address d) ≡ 11 + 2 * length d
+  pub length_record : length (record_text kind address d) ≡ 11 + 2 * length d
   unfolding record_text
-  length-record = omega (arith, length_text whole, long)
+  length_record = omega (arith, length_text whole, long)
 
-  last-high : 48 ≤ get_or (record_text kind address d) (length (record_text kind address d) - 1) 0
+  last_high : 48 ≤ get_or (record_text kind address d) (length (record_text kind address d) - 1) 0
   unfolding record_text
-  last-high =
-      let e : length (record_text kind address d) - 1 ≡ suc (9 + 2 * length d) = omega (arith, length-record) in
+  last_high =
+      let e : length (record_text kind address d) - 1 ≡ suc (9 + 2 * length d) = omega (arith, length_record) in
       rw e (text_high whole (9 + 2 * length d) (omega (arith, long)))
 
-  text-back : line_of_text (record_text kind address d) ≡ record { parsed = Good (record { kind = kind; address = address; len = length d }); «data» = data32 d }
+  text_back : line_of_text (record_text kind address d) ≡ record { parsed = Good (record { kind = kind; address = address; len = length d }); «data» = data32 d }
   unfolding record_text
-  text-back =
+  text_back =
       let t : List ℕ = 58 ∷ bytes_text whole in
-      let n : length t ≡ 11 + 2 * length d = length-record in
+      let n : length t ≡ 11 + 2 * length d = length_record in
       let r = back whole small in
       let shape : bad_shape (length t) ≡ false =
       rw (le-ltb (length t) 11 (omega arith), le-ltb 521 (length t) (omega arith), ne_eqb (length t % 2) 0 (λ q. omega arith)) in
       let a : 256 * (address / 256) + address % 256 ≡ address = omega arith in
       sym (is-bytes t (λ q. omega arith) refl shape r.digits)
       ∙ ap (line_of_bytes (length t)) r.bytes
-      ∙ sym (is-good (length t) whole hd n (sums fields))
+      ∙ sym (is_good_lem (length t) whole hd n (sums fields))
       ∙ rw (a, take-append_seam d (checksum fields ∷ []))
 
 pub reads_back : ReadsBack
 unfolding read_of
 reads_back kind address d e hk ha hd hb ending =
     let t = record_text kind address d in
-    rw (ended t e (omega (arith, length-record kind address d hk ha hd hb)) (last-high kind address d hk ha hd hb) ending)
-    (text-back kind address d hk ha hd hb)
+    rw (ended t e (omega (arith, length_record kind address d hk ha hd hb)) (last_high kind address d hk ha hd hb) ending)
+    (text_back kind address d hk ha hd hb)

@@ -1,4 +1,6 @@
 // One line of Intel Hex: a record, or the check that it fails; the length of its text, a sum, a word, and the line of a refusal.
+#![tactic(auto)]
+
 mod record_bytes;
 pub mod record_line;
 

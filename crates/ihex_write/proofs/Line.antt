@@ -35,11 +35,11 @@ module _ (kind address : ℕ) (d : List ℕ) where
       let f = head ++ d in
       rw (e, text_append f (checksum f ∷ []), text_append head d)
 
-  pub line-put : (out : List ℕ) (at c : ℕ) {one two three four five : List ℕ} → at + (12 + 2 * length d) ≤ length out → c ≡ checksum (field_bytes kind address d)
+  pub line_put : (out : List ℕ) (at c : ℕ) {one two three four five : List ℕ} → at + (12 + 2 * length d) ≤ length out → c ≡ checksum (field_bytes kind address d)
       → one ≡ over out at (58 ∷ []) → two ≡ over one (at + 1) (bytes_text head) → three ≡ over two (at + 9) (bytes_text d)
       → four ≡ over three (at + 9 + 2 * length d) (bytes_text (c ∷ [])) → five ≡ over four (at + 9 + 2 * length d + 2) (10 ∷ [])
       → five ≡ over out at (record_line kind address d)
-  line-put out at c h e a b p q r =
+  line_put out at c h e a b p q r =
       let colon : List ℕ = 58 ∷ [] in
       let h4 = bytes_text head in
       let body = bytes_text d in
@@ -63,15 +63,15 @@ module _ (out : List ℕ) (at kind address : ℕ) (d : List ℕ) where
   unfolding put_record
   too_much h = rw (lt-leb (length d) 32 h)
 
-  put-by : {r : List ℕ} → length d ≤ 32 → r ≡ put_line out at (record_line kind address d) → r ≡ put_record out at kind address d
+  put_by : {r : List ℕ} → length d ≤ 32 → r ≡ put_line out at (record_line kind address d) → r ≡ put_record out at kind address d
   unfolding put_record
-  put-by h e = rw (le-leb (length d) 32 h) e
+  put_by h e = rw (le-leb (length d) 32 h) e
 
   too_short : length d ≤ 32 → length out < at + (12 + 2 * length d) → out ≡ put_record out at kind address d
   unfolding put_line
   too_short h l =
       let n = length_line kind address d in
-      put-by h (rw (lt-leb (at + length (record_line kind address d)) (length out) (omega arith)))
+      put_by h (rw (lt-leb (at + length (record_line kind address d)) (length out) (omega arith)))
 
   -- by the code's test
   pub no_room : {b : Bool} → b ≡ has_room (length out) at (length d) → b ≡ false → out ≡ put_record out at kind address d
@@ -81,10 +81,10 @@ module _ (out : List ℕ) (at kind address : ℕ) (d : List ℕ) where
       (λ y. too_short (leb-true (length d) 32 y) (leb-false (at + (12 + 2 * length d)) (length out) (rw y at f)))
       (λ z. too_much (leb-false (length d) 32 z))
 
-  pub is-put : {b : Bool} {r : List ℕ} → b ≡ has_room (length out) at (length d) → b ≡ true → r ≡ over out at (record_line kind address d)
+  pub is_put : {b : Bool} {r : List ℕ} → b ≡ has_room (length out) at (length d) → b ≡ true → r ≡ over out at (record_line kind address d)
       → r ≡ put_record out at kind address d
   unfolding put_line
-  is-put f y e =
+  is_put f y e =
       let n = length_line kind address d in
       let fits = within (length out) at (length d) f y in
-      put-by (few (length out) at (length d) f y) (rw (le-leb (at + length (record_line kind address d)) (length out) (omega arith)) e)
+      put_by (few (length out) at (length d) f y) (rw (le-leb (at + length (record_line kind address d)) (length out) (omega arith)) e)

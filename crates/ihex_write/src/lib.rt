@@ -1,4 +1,6 @@
 // Records written as lines of Intel Hex: upper case, checksum, LF.
+#![tactic(auto)]
+
 mod digit_text;
 pub mod filling;
 

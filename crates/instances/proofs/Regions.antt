@@ -10,7 +10,7 @@ use lib.ListN.{length, get_or, take, drop, replicate, length-replicate, get_or-r
 use lib.Seq.{ext_get_or}
 use borrow.Author.Tests.{leb-true, ltb-true, le-leb, lt-ltb, eqb-true, eq-eqb}
 use Rattle.laws.proofs.Tests.{split, eqb_same, and_left, and_right, both}
-use Rattle.laws.proofs.Laws.{any_found, any-hit}
+use Rattle.laws.proofs.Laws.{any_found, any_hit}
 use Rattle.memory.specs.Many.{many}
 use Rattle.laws.specs.Bytes.{low_first, number_in}
 use Rattle.laws.specs.Sets.{any, size}
@@ -147,8 +147,8 @@ module _ (w : World) (place : place_of plain (length w.held.flash) family_arm_s 
   says : (k : ℕ) → k < n → Saying k n
   says k h = sayings n k some few h
 
-  is-data : (k : ℕ) → k < n → is_data F k ≡ true
-  is-data k h = ap (λ (x : ℕ). not (eqb (x / 0x1 % 2) 1)) (says k h).flags
+  is_data_lem : (k : ℕ) → k < n → is_data F k ≡ true
+  is_data_lem k h = ap (λ (x : ℕ). not (eqb (x / 0x1 % 2) 1)) (says k h).flags
 
   origin : origin_of plain w Flash family_arm_s ≡ 0
   origin = ap start_of place
@@ -159,27 +159,27 @@ module _ (w : World) (place : place_of plain (length w.held.flash) family_arm_s 
   start_is : (k : ℕ) → k < n → region_start plain w F k ≡ 0
   start_is k h = omega (arith, origin, (says k h).start)
 
-  length-is : (k : ℕ) → k < n → region_length F k ≡ 4096
-  length-is k h = (says k h).len
+  length_is : (k : ℕ) → k < n → region_length F k ≡ 4096
+  length_is k h = (says k h).len
 
   guarded : (k : ℕ) → k < n → is_guarded plain w F k ≡ true
   unfolding good_region region_of
   guarded k h =
       let q = says k h in
-      both (both (is-data k h) (ap (λ (x : ℕ). eqb (x / 0x4000 % 2) 1) q.flags))
+      both (both (is_data_lem k h) (ap (λ (x : ℕ). eqb (x / 0x4000 % 2) 1) q.flags))
       (rw (place, q.start, q.len, q.address) (both (le-leb 0x10000000 (0x10000000 + k * 256) (omega arith)) (le-leb (0x10000000 + k * 256 + 256) 0x10001000 (omega arith))))
 
   -- every final byte is 0xFF
-  final-is : (i : ℕ) → i < n → (c : List ℕ) → Final plain w F i c → c ≡ final_bytes
-  final-is i h c f =
-      ext_get_or 0 c final_bytes (f.whole ∙ length-is i h ∙ sym final_length)
-      (λ j l. byte j (omega (arith, f.whole, length-is i h)) ∙ sym (get_or-replicate 4096 j 255 0 (omega (arith, f.whole, length-is i h))))
+  final_is : (i : ℕ) → i < n → (c : List ℕ) → Final plain w F i c → c ≡ final_bytes
+  final_is i h c f =
+      ext_get_or 0 c final_bytes (f.whole ∙ length_is i h ∙ sym final_length)
+      (λ j l. byte j (omega (arith, f.whole, length_is i h)) ∙ sym (get_or-replicate 4096 j 255 0 (omega (arith, f.whole, length_is i h))))
     where
       byte : (j : ℕ) → j < 4096 → get_or c j 0 ≡ 255
       byte j l =
           split (any n (λ k. holds plain w F k (region_start plain w F i + j)))
           (λ t. held (any_found (λ k. holds plain w F k (region_start plain w F i + j)) n t))
-          (λ z. f.erased j (omega (arith, length-is i h)) z)
+          (λ z. f.erased j (omega (arith, length_is i h)) z)
         where
           held : (k : ℕ) × (k < n) × (holds plain w F k (region_start plain w F i + j) ≡ true) → get_or c j 0 ≡ 255
           held q =
@@ -192,21 +192,21 @@ module _ (w : World) (place : place_of plain (length w.held.flash) family_arm_s 
               let e = start_is i h in
               let x : ℕ = j - at in
               let inside : in_region plain w F i at ≡ true =
-              both (le-leb lo at (omega arith)) (lt-ltb at (lo + region_length F i) (omega (arith, length-is i h))) in
+              both (le-leb lo at (omega arith)) (lt-ltb at (lo + region_length F i) (omega (arith, length_is i h))) in
               ap (λ (x : ℕ). get_or c x 0) (omega arith)
-              ∙ f.payloads k q.1 (is-data k q.1) inside x (omega arith)
+              ∙ f.payloads k q.1 (is_data_lem k q.1) inside x (omega arith)
               ∙ ap (λ (p : List ℕ). get_or p x 0) (says k q.1).payload
               ∙ get_or-replicate 256 x 255 0 (omega arith)
 
   -- and such bytes are final
-  is-final : (i : ℕ) → i < n → Final plain w F i final_bytes
-  is-final i h =
+  is_final : (i : ℕ) → i < n → Final plain w F i final_bytes
+  is_final i h =
       record {
-        whole = final_length ∙ sym (length-is i h);
+        whole = final_length ∙ sym (length_is i h);
         payloads = λ k hk y q j l.
             get_or-replicate 4096 (storage_of plain w F k - region_start plain w F i + j) 255 0 (omega (arith, storage k hk, few))
             ∙ sym (ap (λ (p : List ℕ). get_or p j 0) (says k hk).payload ∙ get_or-replicate 256 j 255 0 l);
-        erased = λ j l z. get_or-replicate 4096 j 255 0 (omega (arith, length-is i h));
+        erased = λ j l z. get_or-replicate 4096 j 255 0 (omega (arith, length_is i h));
       }
 
   regions : Regions plain w F
@@ -220,25 +220,25 @@ module _ (w : World) (place : place_of plain (length w.held.flash) family_arm_s 
         every = λ i q h g r.
             let lo = region_start plain w F i in
             let l = ltb-true (q * 4096) (lo + region_length F i) (and_right (leb lo (q * 4096)) (ltb (q * 4096) (lo + region_length F i)) r) in
-            let z : q ≡ 0 = omega (arith, start_is i h, length-is i h) in
-            any-hit (λ k. lies_in plain w F k q) n 0 some
-            (both (is-data 0 some) (eq-eqb q (storage_of plain w F 0 / 4096) (omega (arith, storage 0 some))));
-        right = λ i h g c f. ap md5_of (final-is i h c f) ∙ sym (says i h).digest;
+            let z : q ≡ 0 = omega (arith, start_is i h, length_is i h) in
+            any_hit (λ k. lies_in plain w F k q) n 0 some
+            (both (is_data_lem 0 some) (eq-eqb q (storage_of plain w F 0 / 4096) (omega (arith, storage 0 some))));
+        right = λ i h g c f. ap md5_of (final_is i h c f) ∙ sym (says i h).digest;
       }
 
   part : (f : List ℕ) (i : ℕ) → i < n → region_in plain w F i f ≡ take 4096 f
-  part f i h = rw (start_is i h, length-is i h)
+  part f i h = rw (start_is i h, length_is i h)
 
   -- a flash whose region is final, and one of another digest
-  final-there : (v : World) (a : List ℕ) → take 4096 v.held.flash ≡ final_bytes → NoOther plain w F v a
-  final-there v a e i h b t g d = subst (Final plain w F i) (sym (part v.held.flash i h ∙ e)) (is-final i h)
+  final_there : (v : World) (a : List ℕ) → take 4096 v.held.flash ≡ final_bytes → NoOther plain w F v a
+  final_there v a e i h b t g d = subst (Final plain w F i) (sym (part v.held.flash i h ∙ e)) (is_final i h)
 
-  other-there : (v : World) (a : List ℕ) → (md5_of (take 4096 v.held.flash) ≡ md5_of final_bytes → ⊥) → NoOther plain w F v a
-  other-there v a differs i h b t g d = absurd (differs (ap md5_of (sym (part v.held.flash i h)) ∙ d ∙ (says i h).digest))
+  other_there : (v : World) (a : List ℕ) → (md5_of (take 4096 v.held.flash) ≡ md5_of final_bytes → ⊥) → NoOther plain w F v a
+  other_there v a differs i h b t g d = absurd (differs (ap md5_of (sym (part v.held.flash i h)) ∙ d ∙ (says i h).digest))
 
   -- the answers at the start, but for what stands
-  soft-late : (x : Answer) → 14 ≤ number_of (soft x) → 14 ≤ number_of x
-  soft-late x h = split (eqb (number_of x) 17) (λ y. omega (arith, eqb-true (number_of x) 17 y)) (λ z. rw z at h)
+  soft_late : (x : Answer) → 14 ≤ number_of (soft x) → 14 ≤ number_of x
+  soft_late x h = split (eqb (number_of x) 17) (λ y. omega (arith, eqb-true (number_of x) 17 y)) (λ z. rw z at h)
 
   late : (k : ℕ) → k < n → 14 ≤ number_of (soft (receive_of plain w (naming_block 0x2000 k n)).answer) → 14 ≤ answer_number plain w (F.block k)
   unfolding Flag0x4000Decides14Or17
@@ -246,7 +246,7 @@ module _ (w : World) (place : place_of plain (length w.held.flash) family_arm_s 
       let f : soft (receive_of plain w (F.block k)).answer ≡ soft (receive_of plain w (naming_block 0x2000 k n)).answer =
       ap (λ (a : List ℕ). soft (receive_of plain w a).answer) (sym (says k h).marked)
       ∙ (flag_0x4000_decides_14_or_17 plain w (naming_block 0x2000 k n)).answer in
-      soft-late (receive_of plain w (F.block k)).answer (rw f m)
+      soft_late (receive_of plain w (F.block k)).answer (rw f m)
 
   valid : ((k : ℕ) → k < n → 14 ≤ number_of (soft (receive_of plain w (naming_block 0x2000 k n)).answer)) → ValidFile plain w F
   valid m =
@@ -333,7 +333,7 @@ met_where_it_stands =
       complete =
           record {
             sent = own 1 (omega arith) (own 0 (omega arith) nothing);
-            met = unfold AtEach in (final-there erased_start (place_is 255) 2 (omega arith) (omega arith) erased_start (naming_block 0x6000 1 2) refl, (final-there erased_start (place_is 255) 2 (omega arith) (omega arith) next (naming_block 0x6000 0 2) (ap (take 4096) same), tt));
+            met = unfold AtEach in (final_there erased_start (place_is 255) 2 (omega arith) (omega arith) erased_start (naming_block 0x6000 1 2) refl, (final_there erased_start (place_is 255) 2 (omega arith) (omega arith) next (naming_block 0x6000 0 2) (ap (take 4096) same), tt));
             whole = whole;
           };
     }
@@ -364,7 +364,7 @@ met_where_it_is_written differs =
       complete =
           record {
             sent = own 0 (omega arith) nothing;
-            met = unfold AtEach in (other-there (lent_to Idle) (place_is 7) 1 (omega arith) (omega arith) (lent_to Idle) (naming_block 0x6000 0 1) differs, tt);
+            met = unfold AtEach in (other_there (lent_to Idle) (place_is 7) 1 (omega arith) (omega arith) (lent_to Idle) (naming_block 0x6000 0 1) differs, tt);
             whole = unfold size among in rw (same_refl (naming_block 0x6000 0 1));
           };
     }

@@ -100,30 +100,30 @@ within_add n k S h wi j e = split (eqb j k) (λ q. omega (arith, eqb-true j k q)
 -- ---- whether one passes
 
 module _ (P : Set) where
-  pub any-zero : any 0 P ≡ false
+  pub any_zero : any 0 P ≡ false
   unfolding any
-  any-zero = refl
+  any_zero = refl
 
   -- one number more, as a loop takes it
-  pub any-more : (i : ℕ) → any i P ≡ false → P i ≡ false → any (i + 1) P ≡ false
+  pub any_more : (i : ℕ) → any i P ≡ false → P i ≡ false → any (i + 1) P ≡ false
   unfolding any
-  any-more i h q = rw (add-one, h, q)
+  any_more i h q = rw (add-one, h, q)
 
-  pub any-hit : (n k : ℕ) → k < n → P k ≡ true → any n P ≡ true
+  pub any_hit : (n k : ℕ) → k < n → P k ≡ true → any n P ≡ true
   unfolding any
-  any-hit zero k h e = absurd (not-suc-le-zero h)
-  any-hit (suc n) k h e =
+  any_hit zero k h e = absurd (not-suc-le-zero h)
+  any_hit (suc n) k h e =
       split (eqb k n)
       (λ q. let f : P n ≡ true = ap P (sym (eqb-true k n q)) ∙ e in rw f (or-true (any n P)))
-      (λ q. let d : k ≢ n = eqb-false k n q in rw (any-hit n k (omega arith) e))
+      (λ q. let d : k ≢ n = eqb-false k n q in rw (any_hit n k (omega arith) e))
 
   pub any_none : (n : ℕ) → ((j : ℕ) → j < n → P j ≡ false) → any n P ≡ false
   unfolding any
   any_none zero h = refl
   any_none (suc n) h = rw (h n (omega arith), any_none n (λ j l. h j (omega arith)))
 
-  pub any-all : (n : ℕ) → any n P ≡ false → (j : ℕ) → j < n → P j ≡ false
-  any-all n h j l = is_false (P j) (λ t. clash (any n P) (any-hit n j l t) h)
+  pub any_all : (n : ℕ) → any n P ≡ false → (j : ℕ) → j < n → P j ≡ false
+  any_all n h j l = is_false (P j) (λ t. clash (any n P) (any_hit n j l t) h)
 
   pub any_found : (n : ℕ) → any n P ≡ true → (k : ℕ) × (k < n) × (P k ≡ true)
   unfolding any
@@ -155,7 +155,7 @@ any_or (suc n) P Q = rw (any_or n P Q) (four (any n P) (any n Q) (P n) (Q n))
 pub any_add : (n : ℕ) (Q S : Set) (k : ℕ) → k < n → any n (λ i. add k S i && Q i) ≡ Q k || any n (λ i. S i && Q i)
 any_add n Q S k h =
     split (Q k)
-    (λ q. rw q (any-hit (λ i. add k S i && Q i) n k h (rw (eqb_same k) q)))
+    (λ q. rw q (any_hit (λ i. add k S i && Q i) n k h (rw (eqb_same k) q)))
     (λ q. rw q (any_cong n (λ i. add k S i && Q i) (λ i. S i && Q i) (λ i l. same q i)))
   where
     same : Q k ≡ false → (i : ℕ) → add k S i && Q i ≡ S i && Q i
@@ -167,27 +167,27 @@ any_add n Q S k h =
 -- ---- the least that passes
 
 module _ (P : Set) where
-  pub least-none : (n : ℕ) → any n P ≡ false → least n P ≡ n
+  pub least_none : (n : ℕ) → any n P ≡ false → least n P ≡ n
   unfolding least any
-  least-none zero h = refl
-  least-none (suc n) h = rw (or_left (any n P) (P n) h, or_right (any n P) (P n) h)
+  least_none zero h = refl
+  least_none (suc n) h = rw (or_left (any n P) (P n) h, or_right (any n P) (P n) h)
 
   -- the number below which none passes, and which passes
-  pub least-is : (n k : ℕ) → k < n → any k P ≡ false → P k ≡ true → least n P ≡ k
+  pub least_is : (n k : ℕ) → k < n → any k P ≡ false → P k ≡ true → least n P ≡ k
   unfolding least
-  least-is zero k h e t = absurd (not-suc-le-zero h)
-  least-is (suc n) k h e t =
+  least_is zero k h e t = absurd (not-suc-le-zero h)
+  least_is (suc n) k h e t =
       split (eqb k n)
       (λ q. let s : k ≡ n = eqb-true k n q in let a : any n P ≡ false = ap (λ (m : ℕ). any m P) (sym s) ∙ e in let b : P n ≡ true = ap P (sym s) ∙ t in rw (a, b) (sym s))
-      (λ q. let d : k ≢ n = eqb-false k n q in rw (any-hit P n k (omega arith) t) (least-is n k (omega arith) e t))
+      (λ q. let d : k ≢ n = eqb-false k n q in rw (any_hit P n k (omega arith) t) (least_is n k (omega arith) e t))
 
   -- where one passes, the least is one that passes, and none below it does
-  pub least-below : (n : ℕ) → any n P ≡ true → (least n P < n) × (P (least n P) ≡ true) × (any (least n P) P ≡ false)
+  pub least_below : (n : ℕ) → any n P ≡ true → (least n P < n) × (P (least n P) ≡ true) × (any (least n P) P ≡ false)
   unfolding least any
-  least-below zero e = clash false e refl
-  least-below (suc n) e =
+  least_below zero e = clash false e refl
+  least_below (suc n) e =
       split (any n P)
-      (λ q. let r = least-below n q in rw q (omega (arith, r.0), r.1, r.2))
+      (λ q. let r = least_below n q in rw q (omega (arith, r.0), r.1, r.2))
       (λ q. let p : P n ≡ true = rw q at e in rw (q, p) (omega arith, p, q))
 
 -- ---- the value of the one that passes
@@ -198,20 +198,20 @@ pick zero P v d = d
 pick (suc n) P v d = cond (P n) (v n) (pick n P v d)
 
 module _ (P : Set) (v : ℕ → ℕ) (d : ℕ) where
-  pub pick-none : (n : ℕ) → ((j : ℕ) → j < n → P j ≡ false) → pick n P v d ≡ d
+  pub pick_none : (n : ℕ) → ((j : ℕ) → j < n → P j ≡ false) → pick n P v d ≡ d
   unfolding pick
-  pick-none zero h = refl
-  pick-none (suc n) h = rw (h n (omega arith), pick-none n (λ j l. h j (omega arith)))
+  pick_none zero h = refl
+  pick_none (suc n) h = rw (h n (omega arith), pick_none n (λ j l. h j (omega arith)))
 
-  pub pick-hit : (n k : ℕ) → k < n → P k ≡ true → ((j : ℕ) → j < n → P j ≡ true → j ≡ k) → pick n P v d ≡ v k
+  pub pick_hit : (n k : ℕ) → k < n → P k ≡ true → ((j : ℕ) → j < n → P j ≡ true → j ≡ k) → pick n P v d ≡ v k
   unfolding pick
-  pick-hit zero k h e u = absurd (not-suc-le-zero h)
-  pick-hit (suc n) k h e u =
+  pick_hit zero k h e u = absurd (not-suc-le-zero h)
+  pick_hit (suc n) k h e u =
       split (P n)
       (λ q. rw q (ap v (u n (omega arith) q)))
       (λ q.
       let w : k ≢ n = λ s. clash (P n) (ap P (sym s) ∙ e) q in
-      rw q (pick-hit n k (omega arith) e (λ j l. u j (omega arith))))
+      rw q (pick_hit n k (omega arith) e (λ j l. u j (omega arith))))
 
 pub pick_cong : (n : ℕ) (P Q : Set) (v : ℕ → ℕ) (d : ℕ) → ((j : ℕ) → j < n → P j ≡ Q j) → pick n P v d ≡ pick n Q v d
 unfolding pick

@@ -16,22 +16,22 @@ module _ (d : List ℕ) (at : ℕ) (s : List ℕ) (fits : at + length s ≤ leng
   unfolding over
   length_over = simp (length-append, length-take, length-drop) (omega arith)
 
-  pub over-inside : (j : ℕ) → at ≤ j → j < at + length s → get_or (over d at s) j 0 ≡ get_or s (j - at) 0
+  pub over_inside : (j : ℕ) → at ≤ j → j < at + length s → get_or (over d at s) j 0 ≡ get_or s (j - at) 0
   unfolding over
-  over-inside j h l =
+  over_inside j h l =
       let e : at + (j - at) ≡ j = omega arith in
       subst (λ (k : ℕ). get_or (take at d ++ (s ++ drop (at + length s) d)) k 0 ≡ get_or s (j - at) 0) e
       (subst (λ (n : ℕ). get_or (take at d ++ (s ++ drop (at + length s) d)) (n + (j - at)) 0 ≡ get_or s (j - at) 0) (length-take-le at d (omega arith))
       (get_or-append-add (take at d) (s ++ drop (at + length s) d) (j - at) 0 ∙ get_or-append s (drop (at + length s) d) 0 (j - at) (omega arith)))
 
-  pub over-before : (j : ℕ) → j < at → get_or (over d at s) j 0 ≡ get_or d j 0
+  pub over_before : (j : ℕ) → j < at → get_or (over d at s) j 0 ≡ get_or d j 0
   unfolding over
-  over-before j l =
+  over_before j l =
       get_or-append (take at d) _ 0 j (rw (length-take-le at d (omega arith)) l) ∙ get_or-take at d j 0 l
 
-  pub over-after : (j : ℕ) → at + length s ≤ j → get_or (over d at s) j 0 ≡ get_or d j 0
+  pub over_after : (j : ℕ) → at + length s ≤ j → get_or (over d at s) j 0 ≡ get_or d j 0
   unfolding over
-  over-after j l =
+  over_after j l =
       let n = length s in
       let e : j ≡ at + (n + (j - (at + n))) = omega arith in
       let g : at + n + (j - (at + n)) ≡ j = omega arith in

@@ -8,7 +8,7 @@ use lib.ListN.{length, get_or}
 use borrow.Author.Tests.{leb-true, leb-false, ltb-true, ltb-false}
 use Rattle.laws.specs.Over.{over}
 use Rattle.laws.proofs.Tests.{split, or_left, or_right}
-use Rattle.laws.proofs.OverLaws.{over-inside, over-before, over-after}
+use Rattle.laws.proofs.OverLaws.{over_inside, over_before, over_after}
 use Rattle.laws.specs.Stores.{Store, covers, byte_of, any_covers, latest}
 
 pub latest_append : (j : ℕ) (xs ys : List Store) (d : ℕ) → latest j (xs ++ ys) d ≡ latest j ys (latest j xs d)
@@ -36,6 +36,6 @@ get_d_over d at s j f =
     split (leb at j)
     (λ y.
     split (ltb j (at + length s))
-    (λ t. rw (y, t) (over-inside d at s f j (leb-true at j y) (ltb-true j (at + length s) t)))
-    (λ t. rw (y, t) (over-after d at s f j (ltb-false j (at + length s) t))))
-    (λ n. rw n (over-before d at s f j (leb-false at j n)))
+    (λ t. rw (y, t) (over_inside d at s f j (leb-true at j y) (ltb-true j (at + length s) t)))
+    (λ t. rw (y, t) (over_after d at s f j (ltb-false j (at + length s) t))))
+    (λ n. rw n (over_before d at s f j (leb-false at j n)))

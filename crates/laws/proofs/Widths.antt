@@ -53,13 +53,13 @@ packed_unpacked ws n h = packed_mod ws n ∙ mod-eq_of_lt h
 
 -- fields go to bytes and come back; bytes go to fields and come back
 module _ (ws : List ℕ) (n : ℕ) (even : total ws ≡ total (octets n)) where
-  pub fields-bytes : {vs : List ℕ} → Fit ws vs → fields_of ws n (bytes_of ws n vs) ≡ vs
+  pub fields_bytes : {vs : List ℕ} → Fit ws vs → fields_of ws n (bytes_of ws n vs) ≡ vs
   unfolding fields_of bytes_of
-  fields-bytes {vs} f = rw (packed_unpacked (octets n) (packed ws vs) (rw (← even) (packed_lt f))) (unpacked_packed f)
+  fields_bytes {vs} f = rw (packed_unpacked (octets n) (packed ws vs) (rw (← even) (packed_lt f))) (unpacked_packed f)
 
-  pub bytes-fields : {bs : List ℕ} → Fit (octets n) bs → bytes_of ws n (fields_of ws n bs) ≡ bs
+  pub bytes_fields : {bs : List ℕ} → Fit (octets n) bs → bytes_of ws n (fields_of ws n bs) ≡ bs
   unfolding fields_of bytes_of
-  bytes-fields {bs} f = rw (packed_unpacked ws (packed (octets n) bs) (rw even (packed_lt f))) (unpacked_packed f)
+  bytes_fields {bs} f = rw (packed_unpacked ws (packed (octets n) bs) (rw even (packed_lt f))) (unpacked_packed f)
 
   pub bytes_fit : {vs : List ℕ} → Fit ws vs → Fit (octets n) (bytes_of ws n vs)
   unfolding bytes_of
@@ -74,9 +74,9 @@ module _ (ws : List ℕ) (n : ℕ) (even : total ws ≡ total (octets n)) where
   unfolding bytes_of
   bytes_are vs f e = rw (← e) (sym (unpacked_packed f))
 
-  pub fields-are : {vs : List ℕ} (bs : List ℕ) → Fit ws vs → packed ws vs ≡ packed (octets n) bs → vs ≡ fields_of ws n bs
+  pub fields_are : {vs : List ℕ} (bs : List ℕ) → Fit ws vs → packed ws vs ≡ packed (octets n) bs → vs ≡ fields_of ws n bs
   unfolding fields_of
-  fields-are bs f e = rw (← e) (sym (unpacked_packed f))
+  fields_are bs f e = rw (← e) (sym (unpacked_packed f))
 
 -- ---- flags
 

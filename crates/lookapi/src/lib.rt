@@ -1,4 +1,6 @@
 // A look at an arrival for C: a library of its own, so that the call is compiled as one piece.
+#![tactic(auto)]
+
 ghost use Rattle.std.specs.Prelude.{◌≡◌};
 ghost use Rattle.arrival.specs.Lending.{lent_at};
 ghost use Rattle.call_bytes.specs.Calls.{look_call_of};

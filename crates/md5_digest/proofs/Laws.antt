@@ -61,17 +61,17 @@ module _ (m : List ℕ) (s t u : Digest) (i f k : ℕ) (e : t ≡ steps_of m s i
   next : (g p : ℕ) → f ≡ g → k ≡ p → operation_of m i g p t ≡ step_of m i t → u ≡ steps_of m s (i + 1)
   next g p hf hk h = o ∙ rw (hf, hk) h ∙ ap (step_of m i) e ∙ steps_more m s i
 
-  pub next-f : f ≡ f_of t.b t.c t.d → k ≡ i → i < 16 → u ≡ steps_of m s (i + 1)
-  next-f hf hk h = next _ _ hf hk (step_f m i t h)
+  pub next_f : f ≡ f_of t.b t.c t.d → k ≡ i → i < 16 → u ≡ steps_of m s (i + 1)
+  next_f hf hk h = next _ _ hf hk (step_f m i t h)
 
-  pub next-g : f ≡ g_of t.b t.c t.d → k ≡ (5 * i + 1) % 16 → 16 ≤ i → i < 32 → u ≡ steps_of m s (i + 1)
-  next-g hf hk l h = next _ _ hf hk (step_g m i t l h)
+  pub next_g : f ≡ g_of t.b t.c t.d → k ≡ (5 * i + 1) % 16 → 16 ≤ i → i < 32 → u ≡ steps_of m s (i + 1)
+  next_g hf hk l h = next _ _ hf hk (step_g m i t l h)
 
-  pub next-h : f ≡ h_of t.b t.c t.d → k ≡ (3 * i + 5) % 16 → 32 ≤ i → i < 48 → u ≡ steps_of m s (i + 1)
-  next-h hf hk l h = next _ _ hf hk (step_h m i t l h)
+  pub next_h : f ≡ h_of t.b t.c t.d → k ≡ (3 * i + 5) % 16 → 32 ≤ i → i < 48 → u ≡ steps_of m s (i + 1)
+  next_h hf hk l h = next _ _ hf hk (step_h m i t l h)
 
-  pub next-i : f ≡ i_of t.b t.c t.d → k ≡ 7 * i % 16 → 48 ≤ i → u ≡ steps_of m s (i + 1)
-  next-i hf hk l = next _ _ hf hk (step_i m i t l)
+  pub next_i : f ≡ i_of t.b t.c t.d → k ≡ 7 * i % 16 → 48 ≤ i → u ≡ steps_of m s (i + 1)
+  next_i hf hk l = next _ _ hf hk (step_i m i t l)
 
 pub blocks_none : (l : List ℕ) (s : Digest) → s ≡ blocks_of l s 0
 unfolding blocks_of

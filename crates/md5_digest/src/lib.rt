@@ -1,4 +1,6 @@
 // The MD5 message digest (RFC 1321) of a slice of bytes.
+#![tactic(auto)]
+
 mod schedule;
 
 ghost use Rattle.std.specs.Prelude.{◌≡◌, ◌+◌, ◌-◌, ◌*◌, ◌/◌, ◌%◌, ◌^◌, ◌<◌, ◌≤◌, ◌++◌, length};

@@ -1,4 +1,6 @@
 // Prints the MD5 digests of the strings of RFC 1321's test suite (A.5), in the lines that the RFC has.
+#![tactic(auto)]
+
 use libc::STDOUT_FILENO;
 
 // A word's four bytes in hexadecimal, the lowest first.

@@ -17,14 +17,14 @@ module _ (b : List ℕ) (p : Part) (n : ℕ) where
   unfolding kept_part
   kept_next e = rw (eq-eqb n 0 e)
 
-  pub kept-as-it-was : n ≢ 0 → b ≡ kept_part b n p
+  pub kept_as_it_was : n ≢ 0 → b ≡ kept_part b n p
   unfolding kept_part
-  kept-as-it-was e = rw (ne_eqb n 0 e)
+  kept_as_it_was e = rw (ne_eqb n 0 e)
 
 module _ (r b : List ℕ) (stop : ℕ) where
-  pub one-other : length b ≢ 96 → part_call 71 b ≡ one_call r stop b
+  pub one_other : length b ≢ 96 → part_call 71 b ≡ one_call r stop b
   unfolding one_call
-  one-other h = rw (ne_eqb (length b) 96 h)
+  one_other h = rw (ne_eqb (length b) 96 h)
 
   pub one_told : length b ≡ 96 → {q : Report} {o : MergeOutcome} {x : PartCall} → q ≡ report_from r → o ≡ one_of q stop → x ≡ told_of b o → x ≡ one_call r stop b
   unfolding one_call

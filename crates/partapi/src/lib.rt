@@ -1,5 +1,7 @@
 // The C interface for parts of a fleet's figures: the part of one trace, and two parts as one. It is a library of its own, with no replay in it.
 // Reports are bytes in the layout of `reports`, parts in that of `parts`.
+#![tactic(auto)]
+
 mod parts;
 
 ghost use Rattle.std.specs.Prelude.{◌≡◌};

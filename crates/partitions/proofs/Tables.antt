@@ -17,10 +17,10 @@ use Rattle.partitions.specs.Table.{row_in, rows_in, table_of}
 -- ---- entry by entry
 
 module _ (f : ℕ → Entry) (n : ℕ) where
-  rows-length : (k m : ℕ) → length (rows_in f n k m) ≡ m
+  rows_length : (k m : ℕ) → length (rows_in f n k m) ≡ m
   unfolding rows_in
-  rows-length k zero = refl
-  rows-length k (suc m) = ap suc (rows-length (k + 1) m)
+  rows_length k zero = refl
+  rows_length k (suc m) = ap suc (rows_length (k + 1) m)
 
   rows_at : (k m j : ℕ) → j < m → entry_at (rows_in f n k m) j ≡ row_in f n (k + j)
   unfolding rows_in
@@ -28,23 +28,23 @@ module _ (f : ℕ → Entry) (n : ℕ) where
   rows_at k (suc m) zero l = ap (row_in f n) (omega arith)
   rows_at k (suc m) (suc j) l = rows_at (k + 1) m j (le_of_suc-le-suc l) ∙ ap (row_in f n) (omega arith)
 
-  row-used : (k : ℕ) → k < n → row_in f n k ≡ f k
+  row_used : (k : ℕ) → k < n → row_in f n k ≡ f k
   unfolding row_in
-  row-used k l = rw (lt-ltb k n l)
+  row_used k l = rw (lt-ltb k n l)
 
-  pub table-length : length (table_of f n) ≡ 16
-  table-length = rows-length 0 16
+  pub table_length : length (table_of f n) ≡ 16
+  table_length = rows_length 0 16
 
-  table-row : (k : ℕ) → k < 16 → entry_at (table_of f n) k ≡ row_in f n k
-  table-row k l = rows_at 0 16 k l ∙ ap (row_in f n) (omega arith)
+  table_row : (k : ℕ) → k < 16 → entry_at (table_of f n) k ≡ row_in f n k
+  table_row k l = rows_at 0 16 k l ∙ ap (row_in f n) (omega arith)
 
   -- a used entry, and one that is not
   pub table_at : (k : ℕ) → n ≤ 16 → k < n → entry_at (table_of f n) k ≡ f k
-  table_at k few l = table-row k (omega arith) ∙ row-used k l
+  table_at k few l = table_row k (omega arith) ∙ row_used k l
 
-  pub table-past : (k : ℕ) → n ≤ k → k < 16 → entry_at (table_of f n) k ≡ blank_entry
+  pub table_past : (k : ℕ) → n ≤ k → k < 16 → entry_at (table_of f n) k ≡ blank_entry
   unfolding row_in
-  table-past k past l = table-row k l ∙ rw (le-ltb k n past)
+  table_past k past l = table_row k l ∙ rw (le-ltb k n past)
 
 -- rules that agree where the table is used
 module _ (f g : ℕ → Entry) (n : ℕ) (h : (k : ℕ) → k < n → f k ≡ g k) where
@@ -56,8 +56,8 @@ module _ (f g : ℕ → Entry) (n : ℕ) (h : (k : ℕ) → k < n → f k ≡ g 
       (λ t. rw (t, h k (ltb-true k n t), rows_agree (k + 1) m))
       (λ t. rw (t, rows_agree (k + 1) m))
 
-  pub table-cong : table_of f n ≡ table_of g n
-  table-cong = rows_agree 0 16
+  pub table_cong : table_of f n ≡ table_of g n
+  table_cong = rows_agree 0 16
 
 -- ---- as a loop fills it
 
@@ -67,11 +67,11 @@ Filled f n t = (length t ≡ 16) × ((j : ℕ) → j < 16 → entry_at t j ≡ r
 
 pub filled_table : (f : ℕ → Entry) (n : ℕ) (t : List Entry) → Filled f n t → t ≡ table_of f n
 filled_table f n t h =
-    ext_get_or empty_entry t (table_of f n) (h.0 ∙ sym (table-length f n))
+    ext_get_or empty_entry t (table_of f n) (h.0 ∙ sym (table_length f n))
     (λ j l.
     let m = h.0 in
     let q : j < 16 = omega arith in
-    h.1 j q ∙ sym (table-row f n j q))
+    h.1 j q ∙ sym (table_row f n j q))
 
 pub filled_none : (f : ℕ → Entry) {e : Entry} → e ≡ blank_entry → Filled f 0 (replicate 16 e)
 unfolding row_in
@@ -91,6 +91,6 @@ filled_more f k t {e} l h q = (
   λ j m.
       let n = h.0 in
       split (eqb j k)
-      (λ x. let y = eqb-true j k x in rw (y, get_or-set_same t k e empty_entry (omega arith), row-used f (k + 1) k (omega arith)) q)
+      (λ x. let y = eqb-true j k x in rw (y, get_or-set_same t k e empty_entry (omega arith), row_used f (k + 1) k (omega arith)) q)
       (λ x. let d = eqb-false j k x in rw (get_or-set_other t k j e empty_entry d, row_other f k j d) (h.1 j m)),
 )

@@ -1,4 +1,6 @@
 // The settings: what the device may run, and its partition table; what one entry of it says by itself.
+#![tactic(auto)]
+
 pub mod sectors;
 pub mod validity;
 

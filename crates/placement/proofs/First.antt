@@ -23,22 +23,22 @@ or_second Nothing b e = e
 or_second (Entry k) b e = let z : ◌≡◌ {A = ℕ} 0 1 = cc in absurd (omega arith)
 
 module _ (g : ℕ → Choice) where
-  pub first-zero : first_of g 0 ≡ Nothing
+  pub first_zero : first_of g 0 ≡ Nothing
   unfolding first_of
-  first-zero = refl
+  first_zero = refl
 
   -- one choice more, as a loop takes it
   pub first_more : (i : ℕ) → first_of g i ≡ Nothing → g i ≡ Nothing → first_of g (i + 1) ≡ Nothing
   unfolding first_of
   first_more i h q = rw (add-one, h, q)
 
-  pub first-hit : (n i : ℕ) {k : ℕ} → i < n → first_of g i ≡ Nothing → g i ≡ Entry k → first_of g n ≡ Entry k
+  pub first_hit : (n i : ℕ) {k : ℕ} → i < n → first_of g i ≡ Nothing → g i ≡ Entry k → first_of g n ≡ Entry k
   unfolding first_of
-  first-hit zero i l h q = absurd (not-suc-le-zero l)
-  first-hit (suc n) i l h q =
+  first_hit zero i l h q = absurd (not-suc-le-zero l)
+  first_hit (suc n) i l h q =
       ⊎_elim
       (λ (e : i ≡ n). rw (← e, h, q))
-      (λ (b : i < n). rw (first-hit n i b h q))
+      (λ (b : i < n). rw (first_hit n i b h q))
       (eq-or-lt_of_le (le_of_suc-le-suc l))
 
   -- what is chosen is one of the choices
@@ -52,26 +52,26 @@ module _ (g : ℕ → Choice) where
       go (Entry j) h f = let r = f (h ∙ rw h at e) in (r.0, le_step r.1, r.2)
 
   -- where nothing is chosen, no choice is an entry
-  pub first-all : (n : ℕ) → first_of g n ≡ Nothing → (i : ℕ) → i < n → g i ≡ Nothing
+  pub first_all : (n : ℕ) → first_of g n ≡ Nothing → (i : ℕ) → i < n → g i ≡ Nothing
   unfolding first_of
-  first-all zero e i l = absurd (not-suc-le-zero l)
-  first-all (suc n) e i l =
+  first_all zero e i l = absurd (not-suc-le-zero l)
+  first_all (suc n) e i l =
       let h = or_first (first_of g n) (g n) e in
       ⊎_elim
       (λ (q : i ≡ n). rw (q, ← or_second (first_of g n) (g n) e))
-      (λ (b : i < n). first-all n h i b)
+      (λ (b : i < n). first_all n h i b)
       (eq-or-lt_of_le (le_of_suc-le-suc l))
 
-  pub first-none : (n : ℕ) → ((i : ℕ) → i < n → g i ≡ Nothing) → first_of g n ≡ Nothing
+  pub first_none : (n : ℕ) → ((i : ℕ) → i < n → g i ≡ Nothing) → first_of g n ≡ Nothing
   unfolding first_of
-  first-none zero h = refl
-  first-none (suc n) h = rw (first-none n (λ i l. h i (le_step l)), h n (le_refl (suc n)))
+  first_none zero h = refl
+  first_none (suc n) h = rw (first_none n (λ i l. h i (le_step l)), h n (le_refl (suc n)))
 
 module _ (table : List settings.Entry) (w : PassQuery) (pass k : ℕ) where
-  pub if-taken : pass_takes w pass (entry_at table k) ≡ true → entry_if table w pass k ≡ Entry k
+  pub if_taken : pass_takes w pass (entry_at table k) ≡ true → entry_if table w pass k ≡ Entry k
   unfolding entry_if
-  if-taken h = rw h
+  if_taken h = rw h
 
-  pub if-passed : pass_takes w pass (entry_at table k) ≡ false → entry_if table w pass k ≡ Nothing
+  pub if_passed : pass_takes w pass (entry_at table k) ≡ false → entry_if table w pass k ≡ Nothing
   unfolding entry_if
-  if-passed h = rw h
+  if_passed h = rw h

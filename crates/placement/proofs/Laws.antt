@@ -24,13 +24,13 @@ use Rattle.placement.proofs.First.{first_found}
 -- ---- the place by cases
 
 module _ (s : Settings) (len f : ℕ) where
-  pub place-absolute : f ≡ family_absolute → place_of s len f ≡ whole_if s.absolute len
+  pub place_absolute : f ≡ family_absolute → place_of s len f ≡ whole_if s.absolute len
   unfolding place_of
-  place-absolute h = let z = eq-eqb f family_absolute h in simp z
+  place_absolute h = let z = eq-eqb f family_absolute h in simp z
 
-  pub place-rp2040 : f ≡ family_rp2040 → place_of s len f ≡ Nowhere
+  pub place_rp2040 : f ≡ family_rp2040 → place_of s len f ≡ Nowhere
   unfolding place_of
-  place-rp2040 h =
+  place_rp2040 h =
       let y = ne_eqb f family_absolute (λ e. absurd (omega arith)) in
       let z = eq-eqb f family_rp2040 h in
       simp (y, z)
@@ -58,13 +58,13 @@ used_whole n l = split (leb n 16) (λ h. rw h (omega arith)) (λ h. absurd (omeg
 -- ---- families in RAM
 
 module _ (s : Settings) (f : ℕ) where
-  pub ram-named : leb family_data f && leb f family_arm_ns ≡ true → true ≡ ram_family s f
+  pub ram_named : leb family_data f && leb f family_arm_ns ≡ true → true ≡ ram_family s f
   unfolding ram_family
-  ram-named h = rw h
+  ram_named h = rw h
 
-  pub ram-other : leb family_data f && leb f family_arm_ns ≡ false → any (used_count s.count) (user_of s.table f) ≡ ram_family s f
+  pub ram_other : leb family_data f && leb f family_arm_ns ≡ false → any (used_count s.count) (user_of s.table f) ≡ ram_family s f
   unfolding ram_family
-  ram-other h = rw h
+  ram_other h = rw h
 
 -- ---- the chosen entry
 
@@ -97,14 +97,14 @@ entry_below s f h =
 -- ---- a place asked for alone, by cases
 
 module _ (s : Settings) (len f : ℕ) where
-  pub ask-length : flash_length len ≡ false → ask_of s len f ≡ BadBuffers
+  pub ask_length : flash_length len ≡ false → ask_of s len f ≡ BadBuffers
   unfolding ask_of
-  ask-length h = simp h
+  ask_length h = simp h
 
-  pub ask-settings : flash_length len ≡ true → good_settings s len ≡ false → ask_of s len f ≡ BadSettings
+  pub ask_settings : flash_length len ≡ true → good_settings s len ≡ false → ask_of s len f ≡ BadSettings
   unfolding ask_of
-  ask-settings h g = simp (h, g)
+  ask_settings h g = simp (h, g)
 
-  pub ask-place : flash_length len ≡ true → good_settings s len ≡ true → ask_of s len f ≡ found_at (place_of s len f)
+  pub ask_place : flash_length len ≡ true → good_settings s len ≡ true → ask_of s len f ≡ found_at (place_of s len f)
   unfolding ask_of
-  ask-place h g = simp (h, g)
+  ask_place h g = simp (h, g)

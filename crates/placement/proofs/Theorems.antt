@@ -11,14 +11,14 @@ use Rattle.memory.specs.Flash.{flash_length}
 use Rattle.partitions.specs.declared.Entry as settings
 use Rattle.partitions.specs.declared.Settings.{Settings}
 use Rattle.partitions.specs.Settings.{family_rp2040, family_absolute, entry_at, is_a, accepts, good_settings}
-use Rattle.partitions.proofs.Laws.{good-count, good-fits}
+use Rattle.partitions.proofs.Laws.{good_count, good_fits}
 use Rattle.placement.specs.Place.{pass_allows, pass_takes, in_pass, chosen, used_count, pass_query_of, chosen_entry, gets_whole, whole_if, place_of_choice, place_of, Accepting, Inside, NoPlaceStated, PlaceInside}
 use Rattle.placement.specs.declared.passes.PassQuery.{PassQuery}
 use Rattle.placement.specs.declared.Choice.{Choice}
 use Rattle.placement.specs.declared.Choice.TheVariants.{Nothing, Entry}
 use Rattle.placement.specs.declared.Place.TheVariants.{Nowhere, At}
-use Rattle.placement.proofs.First.{first-all, first-none, if-taken, if-passed}
-use Rattle.placement.proofs.Laws.{place-absolute, place-rp2040, place-whole, place-table, used_least, used_whole, chosen_taken}
+use Rattle.placement.proofs.First.{first_all, first_none, if_taken, if_passed}
+use Rattle.placement.proofs.Laws.{place_absolute, place_rp2040, place-whole, place-table, used_least, used_whole, chosen_taken}
 
 -- ---- what the passes take
 
@@ -35,21 +35,21 @@ takes_tells w pass e h =
 
 module _ (s : Settings) (f : ℕ) where
   -- the chosen entry is used, is an A entry and accepts the family
-  pub chosen-accepts : {k : ℕ} → chosen_entry s f ≡ Entry k → Accepting s f k
+  pub chosen_accepts : {k : ℕ} → chosen_entry s f ≡ Entry k → Accepting s f k
   unfolding chosen_entry pass_query_of
-  chosen-accepts {k} h =
+  chosen_accepts {k} h =
       let q = chosen_taken s.table (used_count s.count) (pass_query_of s f) h in
       let t = takes_tells (pass_query_of s f) q.0 (entry_at s.table k) q.2 in
       (omega (arith, q.1, used_least s.count), t.0, t.1)
 
-  none-chosen : ((k : ℕ) → Accepting s f k → ⊥) → chosen_entry s f ≡ Nothing
+  none_chosen : ((k : ℕ) → Accepting s f k → ⊥) → chosen_entry s f ≡ Nothing
   unfolding chosen_entry chosen in_pass pass_query_of
-  none-chosen h =
-      first-none _ 4
+  none_chosen h =
+      first_none _ 4
       (λ pass l.
-      first-none _ (used_count s.count)
+      first_none _ (used_count s.count)
       (λ k b.
-      if-passed s.table (pass_query_of s f) pass k
+      if_passed s.table (pass_query_of s f) pass k
       (is_false _
       (λ t.
       let a = takes_tells (pass_query_of s f) pass (entry_at s.table k) t in
@@ -60,8 +60,8 @@ module _ (s : Settings) (f : ℕ) where
   chosen_none n e k h =
       let w = pass_query_of s f in
       let l : k < used_count s.count = omega (arith, h.0, used_whole s.count n) in
-      let p = first-all _ (used_count s.count) (first-all _ 4 e 3 (omega arith)) k l in
-      let q = if-taken s.table w 3 k (last_takes w (entry_at s.table k) h.1 h.2) in
+      let p = first_all _ (used_count s.count) (first_all _ 4 e 3 (omega arith)) k l in
+      let q = if_taken s.table w 3 k (last_takes w (entry_at s.table k) h.1 h.2) in
       let x : Entry k ≡ Nothing = sym q ∙ p in
       let z : ◌≡◌ {A = ℕ} 0 1 = cc in
       omega arith
@@ -75,8 +75,8 @@ choice_none table (Entry k) e = let z : ◌≡◌ {A = ℕ} 0 1 = cc in absurd (
 pub no_place : NoPlaceStated
 no_place s len f good table na nr =
     let placed = place-table s len f na nr table in (
-      λ e. chosen_none s f (good-count s len good) (choice_none s.table (chosen_entry s f) (sym placed ∙ e)),
-      λ h. placed ∙ ap (place_of_choice s.table) (none-chosen s f h),
+      λ e. chosen_none s f (good_count s len good) (choice_none s.table (chosen_entry s f) (sym placed ∙ e)),
+      λ h. placed ∙ ap (place_of_choice s.table) (none_chosen s f h),
     )
 
 -- ---- where a place lies
@@ -97,17 +97,17 @@ module _ (s : Settings) (len f : ℕ) (right : flash_length len ≡ true) (good 
   entry {a} {n} (Entry k) q h =
       let x : (entry_at s.table k).first * 4096 ≡ a = cc in
       let y : (entry_at s.table k).sectors * 4096 ≡ n = cc in
-      (omega arith, omega arith, omega (arith, good-fits s len good k (chosen-accepts s f q).0))
+      (omega arith, omega arith, omega (arith, good_fits s len good k (chosen_accepts s f q).0))
 
   inside : {a n : ℕ} → place_of s len f ≡ At a n → Inside len a n
   inside {a} {n} e =
       split (eqb f family_absolute)
-      (λ p. whole s.absolute (sym (place-absolute s len f (eqb-true f family_absolute p)) ∙ e))
+      (λ p. whole s.absolute (sym (place_absolute s len f (eqb-true f family_absolute p)) ∙ e))
       (λ p.
       let na = eqb-false f family_absolute p in
       split (eqb f family_rp2040)
       (λ q.
-      let x : Nowhere ≡ At a n = sym (place-rp2040 s len f (eqb-true f family_rp2040 q)) ∙ e in
+      let x : Nowhere ≡ At a n = sym (place_rp2040 s len f (eqb-true f family_rp2040 q)) ∙ e in
       let z : ◌≡◌ {A = ℕ} 0 1 = cc in
       absurd (omega arith))
       (λ q.

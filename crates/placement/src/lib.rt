@@ -1,4 +1,6 @@
 // The place of a family: the whole flash, the bytes of a partition entry, or none.
+#![tactic(auto)]
+
 pub mod passes;
 pub mod ram;
 

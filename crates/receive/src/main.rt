@@ -1,5 +1,7 @@
 // Reads arrivals of 512 bytes from standard input and prints the answer to each: a flash of 32,768 bytes, no RAM, no partition table, Arm
 // alone, absolute allowed.
+#![tactic(auto)]
+
 use libc::{STDIN_FILENO, STDOUT_FILENO};
 use partitions::Settings;
 use transfer::Transfer;

@@ -65,8 +65,8 @@ module _ (s : Settings) (n : Lengths) (f : List ℕ) (yes : names_regions (answe
   ok : Sound s n f
   ok = sound s n f (ap is_sound (guarded_of (answer_to s n f) yes).1)
 
-  pub some-piece : 512 ≤ length f
-  some-piece = omega (arith, ok.whole, ok.some)
+  pub some_piece : 512 ≤ length f
+  some_piece = omega (arith, ok.whole, ok.some)
 
   guarding : any (pieces_in f) (is_guarding s n f) ≡ true
   guarding =

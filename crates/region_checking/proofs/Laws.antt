@@ -11,7 +11,7 @@ use lib.ListN.{length, take, drop}
 use borrow.Author.Tests.{eq-eqb, ne_eqb, eqb-true, eqb-false, not-true, not-false, leb-true, ltb-true}
 use Rattle.laws.specs.Sets.{Set, any, least}
 use Rattle.laws.proofs.Tests.{split, clash, is_false, and_left, and_right, both}
-use Rattle.laws.proofs.Laws.{any_none, any-all, any-hit, any_found, any_cong, least-none, least-below, least-is}
+use Rattle.laws.proofs.Laws.{any_none, any_all, any_hit, any_found, any_cong, least_none, least_below, least_is}
 use Rattle.memory.specs.Bitmap.{with_mark, marked_in, unmarked}
 use Rattle.memory.proofs.bitmap.Laws.{length_mark, length_unmarked, marked_same, marked_other, marked_unmarked}
 use Rattle.memory.specs.Many.{many}
@@ -23,7 +23,7 @@ use Rattle.uf2_block.specs.Block.{field_at, has_flag}
 use Rattle.uf2_block.specs.Region.{region_of}
 use Rattle.uf2_block.specs.declared.Region.{Region}
 use Rattle.uf2_block.specs.Regions.{good_region, same_digest}
-use Rattle.uf2_block.proofs.regions.Laws.{good-true}
+use Rattle.uf2_block.proofs.regions.Laws.{good_true}
 use Rattle.file_check.proofs.fileregions.Laws.{Fine, carries, right_is, fine_of, right_of}
 use Rattle.file_check.specs.Check.{piece_at, pieces_in}
 use Rattle.file_check.specs.Regions.{inside_of, same_region, strays_from, is_stray, is_bare, sector_in, laid_on, laying, in_turn, final_of, fault_in, region_fault, is_right}
@@ -45,23 +45,23 @@ module _ (g : Region) (a : List ℕ) where
   unfolding inside_of
   inside_is p q = (λ t. not (eqb (p t / 1 % 2) 1) && leb g.start (q t) && ltb (q t) (g.start + g.len))
 
-  pub strays-is : {own flag same : Bool} {x : Region} → own ≡ inside_of g a → flag ≡ has_flag a 0x4000 → x ≡ region_of a → same ≡ same_region x g
+  pub strays_is : {own flag same : Bool} {x : Region} → own ≡ inside_of g a → flag ≡ has_flag a 0x4000 → x ≡ region_of a → same ≡ same_region x g
       → own && not (flag && same) ≡ strays_from g a
   unfolding strays_from
-  strays-is p q r e = (λ t. p t && not (q t && (e ∙ ap (λ (x : Region). same_region x g) r) t))
+  strays_is p q r e = (λ t. p t && not (q t && (e ∙ ap (λ (x : Region). same_region x g) r) t))
 
   -- data in the region lies behind its start
-  pub inside-low : inside_of g a ≡ true → g.start ≤ field_at a 12
+  pub inside_low : inside_of g a ≡ true → g.start ≤ field_at a 12
   unfolding inside_of
-  inside-low e =
+  inside_low e =
       let u = not (has_flag a 0x1) in
       let v = leb g.start (field_at a 12) in
       let w = ltb (field_at a 12) (g.start + g.len) in
       leb-true _ _ (and_right u v (and_left (u && v) w e))
 
-  pub inside-high : inside_of g a ≡ true → field_at a 12 < g.start + g.len
+  pub inside_high : inside_of g a ≡ true → field_at a 12 < g.start + g.len
   unfolding inside_of
-  inside-high e =
+  inside_high e =
       let u = not (has_flag a 0x1) in
       let v = leb g.start (field_at a 12) in
       let w = ltb (field_at a 12) (g.start + g.len) in
@@ -69,7 +69,7 @@ module _ (g : Region) (a : List ℕ) where
 
   module _ {b : Bool} (e : b ≡ inside_of g a) where
     pub low-is : not b ≡ false → {y : ℕ} → y ≡ field_at a 12 → g.start ≤ y
-    low-is z q = let l = inside-low (sym e ∙ not-false b z) in omega (arith, l, q)
+    low-is z q = let l = inside_low (sym e ∙ not-false b z) in omega (arith, l, q)
 
     pub not-laid : not b ≡ true → (c : List ℕ) → c ≡ laid_on g a c
     unfolding laid_on
@@ -147,13 +147,13 @@ or_yes true = refl
 or_yes false = refl
 
 module _ (f : List ℕ) (g : Region) (m : List ℕ) where
-  length-sectors : (n : ℕ) → length (in_turn (sectoring f g) m n) ≡ length m
+  length_sectors : (n : ℕ) → length (in_turn (sectoring f g) m n) ≡ length m
   unfolding in_turn sector_with
-  length-sectors zero = refl
-  length-sectors (suc n) =
+  length_sectors zero = refl
+  length_sectors (suc n) =
       split (inside_of g (piece_at f n))
-      (λ y. rw y (length_mark _ _ ∙ length-sectors n))
-      (λ z. rw z (length-sectors n))
+      (λ y. rw y (length_mark _ _ ∙ length_sectors n))
+      (λ z. rw z (length_sectors n))
 
 -- a piece in sector q of the region
 abbrev in_sector : List ℕ → Region → ℕ → Set
@@ -165,7 +165,7 @@ marked_sector f g len q zero h = marked_unmarked len q
 marked_sector f g len q (suc n) h =
     let m = in_turn (sectoring f g) (unmarked len) n in
     let s = sector_in g (piece_at f n) in
-    let l : length m ≡ len = length-sectors f g (unmarked len) n ∙ length_unmarked len in
+    let l : length m ≡ len = length_sectors f g (unmarked len) n ∙ length_unmarked len in
     split (inside_of g (piece_at f n))
     (λ y.
     split (eqb s q)
@@ -192,16 +192,16 @@ bare_is f g {len} l few p e h =
 
 told : (n : ℕ) (P : Set) {k : ℕ} → k ≡ least n P → k < n → any n P ≡ true
 told n P e l =
-    split (any n P) (λ y. y) (λ z. let d = least-none P n z in absurd (omega (arith, d, e)))
+    split (any n P) (λ y. y) (λ z. let d = least_none P n z in absurd (omega (arith, d, e)))
 
 untold : (n : ℕ) (P : Set) {k : ℕ} → k ≡ least n P → n ≤ k → any n P ≡ false
 untold n P e l =
-    split (any n P) (λ y. let d = (least-below P n y).0 in absurd (omega (arith, d, e))) (λ z. z)
+    split (any n P) (λ y. let d = (least_below P n y).0 in absurd (omega (arith, d, e))) (λ z. z)
 
 module _ (f : List ℕ) (i : ℕ) (g : Region) {k : ℕ} (e : k ≡ least (pieces_in f) (is_stray f g)) where
-  pub stray-told : k < pieces_in f → OtherRegion i k ≡ fault_in f i g
+  pub stray_told : k < pieces_in f → OtherRegion i k ≡ fault_in f i g
   unfolding fault_in
-  stray-told l = let y = told (pieces_in f) (is_stray f g) e l in rw y (ap (OtherRegion i) e)
+  stray_told l = let y = told (pieces_in f) (is_stray f g) e l in rw y (ap (OtherRegion i) e)
 
   module _ (l : pieces_in f ≤ k) {q : ℕ} (h : q ≡ least (g.len / 4096) (is_bare f g)) where
     pub bare-told : q < g.len / 4096 → BareSector i q ≡ fault_in f i g
@@ -212,9 +212,9 @@ module _ (f : List ℕ) (i : ℕ) (g : Region) {k : ℕ} (e : k ≡ least (piece
         rw (z, y) (ap (BareSector i) h)
 
     module _ (b : g.len / 4096 ≤ q) {r : Bool} (d : r ≡ same_digest (md5_of (final_of f g)) g) where
-      pub digest-told : r ≡ false → OtherDigest i ≡ fault_in f i g
+      pub digest_told : r ≡ false → OtherDigest i ≡ fault_in f i g
       unfolding fault_in
-      digest-told x =
+      digest_told x =
           let z = untold (pieces_in f) (is_stray f g) e l in
           let y = untold (g.len / 4096) (is_bare f g) h b in
           let v : same_digest (md5_of (final_of f g)) g ≡ false = sym d ∙ x in
@@ -231,13 +231,13 @@ module _ (f : List ℕ) (i : ℕ) (g : Region) {k : ℕ} (e : k ≡ least (piece
 -- ---- what is marked
 
 module _ (f : List ℕ) (i : ℕ) (g : Region) {x : RegionsChecked} (e : x ≡ fault_in f i g) {b : Bool} (h : b ≡ is_right x) where
-  pub not-marked : not b ≡ true → (m : List ℕ) → m ≡ noted_after f i g m
+  pub not_marked : not b ≡ true → (m : List ℕ) → m ≡ noted_after f i g m
   unfolding noted_after
-  not-marked y m = let z : is_right (fault_in f i g) ≡ false = sym (h ∙ ap is_right e) ∙ not-true b y in rw z
+  not_marked y m = let z : is_right (fault_in f i g) ≡ false = sym (h ∙ ap is_right e) ∙ not-true b y in rw z
 
-  pub is-marked : not b ≡ false → (m : List ℕ) {r : List ℕ} → r ≡ in_turn (noting f g) m (pieces_in f) → r ≡ noted_after f i g m
+  pub is_marked_lem : not b ≡ false → (m : List ℕ) {r : List ℕ} → r ≡ in_turn (noting f g) m (pieces_in f) → r ≡ noted_after f i g m
   unfolding noted_after
-  is-marked y m q = let z : is_right (fault_in f i g) ≡ true = sym (h ∙ ap is_right e) ∙ not-false b y in q ∙ sym (rw z)
+  is_marked_lem y m q = let z : is_right (fault_in f i g) ≡ true = sym (h ∙ ap is_right e) ∙ not-false b y in q ∙ sym (rw z)
 
 -- what is marked and was not is a piece in the region
 marked_new : (f : List ℕ) (g : Region) (m : List ℕ) (n j : ℕ) → marked_in m j ≡ false → marked_in (in_turn (noting f g) m n) j ≡ true → inside_of g (piece_at f j) ≡ true
@@ -254,10 +254,10 @@ marked_new f g m (suc n) j z e =
 
 module _ (size : ℕ) (f : List ℕ) where
   -- nothing is wrong with the region of any piece in a region that is right
-  not-wrong : (i j : ℕ) (g : Region) → j < pieces_in f → is_right (fault_in f i g) ≡ true → inside_of g (piece_at f j) ≡ true → wrong_at size f j ≡ false
-  not-wrong i j g h y p =
+  not_wrong : (i j : ℕ) (g : Region) → j < pieces_in f → is_right (fault_in f i g) ≡ true → inside_of g (piece_at f j) ≡ true → wrong_at size f j ≡ false
+  not_wrong i j g h y p =
       let ok = fine_of f i g y in
-      let c = carries g (piece_at f j) p (any-all (is_stray f g) (pieces_in f) ok.carried j h) in
+      let c = carries g (piece_at f j) p (any_all (is_stray f g) (pieces_in f) ok.carried j h) in
       let t : is_right (region_fault f j) ≡ true = ap (λ (x : Region). is_right (fault_in f j x)) c.1 ∙ right_of f j g ok in
       rw t (and_no (names_at size f j))
     where
@@ -265,20 +265,20 @@ module _ (size : ℕ) (f : List ℕ) where
       and_no true = refl
       and_no false = refl
 
-  pub noted-after : (i : ℕ) (g : Region) (m : List ℕ) {r : List ℕ} → Noted size f m → r ≡ noted_after f i g m → Noted size f r
-  noted-after i g m {r} before e j h y =
+  pub noted_after_lem : (i : ℕ) (g : Region) (m : List ℕ) {r : List ℕ} → Noted size f m → r ≡ noted_after f i g m → Noted size f r
+  noted_after_lem i g m {r} before e j h y =
       split (is_right (fault_in f i g))
       (λ t.
       let q : r ≡ in_turn (noting f g) m (pieces_in f) = e ∙ unfold noted_after in rw t in
       split (marked_in m j)
       (λ old. before j h old)
-      (λ new. not-wrong i j g h t (marked_new f g m (pieces_in f) j new (ap (λ (x : List ℕ). marked_in x j) (sym q) ∙ y))))
+      (λ new. not_wrong i j g h t (marked_new f g m (pieces_in f) j new (ap (λ (x : List ℕ). marked_in x j) (sym q) ∙ y))))
       (λ z.
       let q : r ≡ m = e ∙ unfold noted_after in rw z in
       before j h (ap (λ (x : List ℕ). marked_in x j) (sym q) ∙ y))
 
-  pub noted-none : (m : List ℕ) → m ≡ unmarked (length m) → Noted size f m
-  noted-none m e j h y = clash (marked_in m j) y (ap (λ (x : List ℕ). marked_in x j) e ∙ marked_unmarked (length m) j)
+  pub noted_none : (m : List ℕ) → m ≡ unmarked (length m) → Noted size f m
+  noted_none m e j h y = clash (marked_in m j) y (ap (λ (x : List ℕ). marked_in x j) e ∙ marked_unmarked (length m) j)
 
   -- ---- one piece
 
@@ -309,15 +309,15 @@ module _ (size : ℕ) (f : List ℕ) where
       unfolding names_in
       region-few {g} p =
           let a = piece_at f i in
-          let q = good-true size (field_at a 12) (region_of a) (and_right (not (has_flag a 0x1) && has_flag a 0x4000) _ names) in
+          let q = good_true size (field_at a 12) (region_of a) (and_right (not (has_flag a 0x1) && has_flag a 0x4000) _ names) in
           let d : g.len ≡ (region_of a).len = ap (λ (x : Region). x.len) (p ∙ ap region_of (part_is f i)) in
           omega (arith, d, q.within)
 
   -- ---- every piece
 
-  pub asked-right : (i : ℕ) {r : RegionsChecked} → r ≡ asked_of size f i → is_right r ≡ true → wrong_at size f i ≡ false
+  pub asked_right : (i : ℕ) {r : RegionsChecked} → r ≡ asked_of size f i → is_right r ≡ true → wrong_at size f i ≡ false
   unfolding asked_of
-  asked-right i e y =
+  asked_right i e y =
       split (names_at size f i)
       (λ t. let k : asked_of size f i ≡ region_fault f i = rw t in let q : is_right (region_fault f i) ≡ true = sym (ap is_right (e ∙ k)) ∙ y in rw (t, q))
       (λ z. rw z)
@@ -331,14 +331,14 @@ module _ (size : ℕ) (f : List ℕ) where
       let k = e ∙ u in
       let q : is_right (region_fault f i) ≡ false = sym (ap is_right k) ∙ y in
       let v : wrong_at size f i ≡ true = rw (t, q) in
-      let a = any-hit (wrong_at size f) (pieces_in f) i h v in
-      let l = least-is (wrong_at size f) (pieces_in f) i h before v in
+      let a = any_hit (wrong_at size f) (pieces_in f) i h v in
+      let l = least_is (wrong_at size f) (pieces_in f) i h before v in
       k ∙ sym (rw (a, l)))
       (λ z. let u : asked_of size f i ≡ Right = rw z in clash (is_right Right) refl (sym (ap is_right (e ∙ u)) ∙ y))
 
-  pub regions-none : any (pieces_in f) (wrong_at size f) ≡ false → Right ≡ regions_by size f
+  pub regions_none : any (pieces_in f) (wrong_at size f) ≡ false → Right ≡ regions_by size f
   unfolding regions_by
-  regions-none z = rw z
+  regions_none z = rw z
 
 pub roomy_same : (size : ℕ) (c b : List ℕ) {c' b' : List ℕ} → Roomy size c b → length c' ≡ length c → length b' ≡ length b → Roomy size c' b'
 roomy_same size c b h p q = record { most = h.most; image = omega (arith, h.image, q); marks = p ∙ h.marks }

@@ -10,7 +10,7 @@ use lib.Pow.{pow-add}
 use lib.Seq.{length-take-le}
 use Rattle.laws.specs.Sets.{any}
 use Rattle.laws.proofs.Tests.{split}
-use Rattle.laws.proofs.Laws.{any-hit, any_none}
+use Rattle.laws.proofs.Laws.{any_hit, any_none}
 use Rattle.memory.specs.Flash.{flash_length}
 use Rattle.partitions.specs.declared.Arch.{Arch}
 use Rattle.partitions.specs.declared.Arch.TheVariants.{Arm, RiscV}
@@ -19,7 +19,7 @@ use Rattle.partitions.specs.declared.Link.TheVariants.{Unlinked, OwnedBy, BOf}
 use Rattle.partitions.specs.declared.Entry.{Entry}
 use Rattle.partitions.specs.declared.Settings.{Settings}
 use Rattle.partitions.specs.Settings.{entry_at, good_settings}
-use Rattle.partitions.proofs.Laws.{good-count}
+use Rattle.partitions.proofs.Laws.{good_count}
 use Rattle.laws.specs.Packing.{total, packed, unpacked, octets, bytes_of, fields_of, bit}
 use Rattle.store_entry.specs.EntryBits.{kind_of, index_of, slot, entry_widths, entry_fields, packed_entry}
 use Rattle.store_entry.proofs.OneEntry.{Fits}
@@ -27,7 +27,7 @@ use Rattle.settings_store.specs.Store.{arch_bit, head_fields, head_in, head_widt
 use Rattle.settings_store.proofs.write.Rows.{length_row}
 use Rattle.settings_claims.specs.Claims.{Narrow}
 use Rattle.settings_claims.specs.Bits.{value_of, head_bits, entry_bits, flag, arch_number, link_kind, link_index, slot_of, EntryLaid, Laid, StoreIsLaid}
-use Rattle.settings_claims.proofs.Written.{good-fields, store_length, head-length, head_back, part-back, row-fields}
+use Rattle.settings_claims.proofs.Written.{good_fields, store_length, head_length, head_back, part_back, row_fields}
 
 -- ---- bytes as one number
 
@@ -73,9 +73,9 @@ module _ (s : Settings) (few : s.count ≤ 16) (fits : (k : ℕ) → k < s.count
 
     fields : unpacked entry_widths (value_of (take 22 (drop (2 + 22 * k) (store_of s)))) ≡ entry_fields e
     fields =
-        let p = part-back s few fits narrow k l in
+        let p = part_back s few fits narrow k l in
         ap (λ (x : List ℕ). unpacked entry_widths (value_of x)) p
-        ∙ sym (value_fields entry_widths 22 (row_at s.table k) (length_row s.table k)) ∙ row-fields s few fits narrow k l
+        ∙ sym (value_fields entry_widths 22 (row_at s.table k) (length_row s.table k)) ∙ row_fields s few fits narrow k l
 
     at : (i : ℕ) → get_or (unpacked entry_widths (value_of (take 22 (drop (2 + 22 * k) (store_of s))))) i 0 ≡ get_or (entry_fields e) i 0
     at i = ap (λ (x : List ℕ). get_or x i 0) fields
@@ -114,7 +114,7 @@ module _ (s : Settings) (few : s.count ≤ 16) (fits : (k : ℕ) → k < s.count
   laid =
       record {
         long = store_length s few fits narrow;
-        version_2 = λ k l h. head_at 0 ∙ rw (any-hit (no_restart_at s.table) s.count k l h);
+        version_2 = λ k l h. head_at 0 ∙ rw (any_hit (no_restart_at s.table) s.count k l h);
         version_1 = λ h. head_at 0 ∙ rw (any_none (no_restart_at s.table) s.count h);
         count = head_at 1;
         auto_switch = head_at 2 ∙ flag_is s.auto_switch;
@@ -128,4 +128,4 @@ module _ (s : Settings) (few : s.count ≤ 16) (fits : (k : ℕ) → k < s.count
 
 pub store_is_laid : StoreIsLaid
 unfolding StoreIsLaid
-store_is_laid s len right good narrow = laid s (good-count s len good) (good-fields s len right good) narrow
+store_is_laid s len right good narrow = laid s (good_count s len good) (good_fields s len right good) narrow

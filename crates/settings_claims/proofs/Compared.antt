@@ -19,7 +19,7 @@ use Rattle.partitions.specs.Alike.{AlikeEntry, Alike, Compared}
 use Rattle.partitions.proofs.Alike.{alike_good}
 use Rattle.partitions.proofs.Tables.{table_at}
 use Rattle.store_entry.specs.EntryBits.{slot, entry_fields, packed_entry, neat_entry}
-use Rattle.store_entry.proofs.Entries.{slot-used}
+use Rattle.store_entry.proofs.Entries.{slot_used}
 use Rattle.settings_store.specs.Store.{no_restart_at, version_of, head_fields, row_at, store_of}
 use Rattle.settings_claims.specs.Claims.{neat_at, neat}
 
@@ -33,9 +33,9 @@ module _ {d e : Entry} (h : AlikeEntry d e) where
       (λ t. rw (← h.user_count, t, h.users i (ltb-true i d.user_count t)))
       (λ t. rw (← h.user_count, t))
 
-  packed-same : d.no_restart ≡ e.no_restart → packed_entry d ≡ packed_entry e
+  packed_same : d.no_restart ≡ e.no_restart → packed_entry d ≡ packed_entry e
   unfolding packed_entry entry_fields
-  packed-same r =
+  packed_same r =
       rw (
         slot_same 0,
         slot_same 1,
@@ -57,18 +57,18 @@ module _ {d e : Entry} (h : AlikeEntry d e) where
 module _ (s t : Settings) (h : Compared s t) where
   row_same : (k : ℕ) → k < s.count → row_at s.table k ≡ row_at t.table k
   unfolding row_at
-  row_same k l = packed-same (h.alike.entries k l) (h.no_restart k l)
+  row_same k l = packed_same (h.alike.entries k l) (h.no_restart k l)
 
-  no-restart-same : (k : ℕ) → k < s.count → no_restart_at s.table k ≡ no_restart_at t.table k
+  no_restart_same : (k : ℕ) → k < s.count → no_restart_at s.table k ≡ no_restart_at t.table k
   unfolding no_restart_at
-  no-restart-same k l = h.no_restart k l
+  no_restart_same k l = h.no_restart k l
 
-  pub compared-store : store_of s ≡ store_of t
+  pub compared_store : store_of s ≡ store_of t
   unfolding store_of head_fields version_of
-  compared-store =
+  compared_store =
       let g = h.alike in
       rw (
-        any_cong s.count (no_restart_at s.table) (no_restart_at t.table) no-restart-same,
+        any_cong s.count (no_restart_at s.table) (no_restart_at t.table) no_restart_same,
         rows_cong (row_at s.table) (row_at t.table) s.count row_same,
         g.count,
         g.auto_switch,
@@ -113,7 +113,7 @@ same_alike d e q few =
       not_bootable_arm = ap (λ (x : Entry). x.not_bootable_arm) q;
       not_bootable_riscv = ap (λ (x : Entry). x.not_bootable_riscv) q;
       user_count = n;
-      users = λ i l. (let m : i < 4 = omega arith in slot-used d i l ∙ sym (slot_at d i m) ∙ ap (λ (x : Entry). get_or x.users i 0) q ∙ slot_at e i m ∙ sym (slot-used e i (omega arith)));
+      users = λ i l. (let m : i < 4 = omega arith in slot_used d i l ∙ sym (slot_at d i m) ∙ ap (λ (x : Entry). get_or x.users i 0) q ∙ slot_at e i m ∙ sym (slot_used e i (omega arith)));
     }
 
 same_no_restart : (d e : Entry) → neat_entry d ≡ neat_entry e → d.no_restart ≡ e.no_restart
@@ -126,14 +126,14 @@ module _ (s t : Settings) (few : Few s) (small : t.count ≤ 16) (q : neat s ≡
   unfolding neat
   same_count = ap (λ (x : Settings). x.count) q
 
-  same-entry : (k : ℕ) → k < s.count → neat_entry (entry_at s.table k) ≡ neat_entry (entry_at t.table k)
-  same-entry k l =
+  same_entry : (k : ℕ) → k < s.count → neat_entry (entry_at s.table k) ≡ neat_entry (entry_at t.table k)
+  same_entry k l =
       let n = same_count in
       sym (neat_entry_lem s few.entries k l) ∙ ap (λ (x : Settings). entry_at x.table k) q ∙ neat_entry_lem t small k (omega arith)
 
-  pub neat-compared : Compared s t
+  pub neat_compared : Compared s t
   unfolding neat
-  neat-compared =
+  neat_compared =
       record {
         alike = record {
           arm = ap (λ (x : Settings). x.arm) q;
@@ -142,9 +142,9 @@ module _ (s t : Settings) (few : Few s) (small : t.count ≤ 16) (q : neat s ≡
           auto_switch = ap (λ (x : Settings). x.auto_switch) q;
           absolute = ap (λ (x : Settings). x.absolute) q;
           count = same_count;
-          entries = λ k l. same_alike (entry_at s.table k) (entry_at t.table k) (same-entry k l) (few.users k l);
+          entries = λ k l. same_alike (entry_at s.table k) (entry_at t.table k) (same_entry k l) (few.users k l);
         };
-        no_restart = λ k l. same_no_restart (entry_at s.table k) (entry_at t.table k) (same-entry k l);
+        no_restart = λ k l. same_no_restart (entry_at s.table k) (entry_at t.table k) (same_entry k l);
       }
 
 -- ---- the canonical form is as good
@@ -163,7 +163,7 @@ neat_alike e few =
       not_bootable_arm = refl;
       not_bootable_riscv = refl;
       user_count = refl;
-      users = λ i l. slot_at e i (omega arith) ∙ sym (slot-used e i l);
+      users = λ i l. slot_at e i (omega arith) ∙ sym (slot_used e i l);
     }
 
 alike_neat : (s : Settings) → Few s → Alike (neat s) s

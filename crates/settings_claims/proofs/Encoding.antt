@@ -12,16 +12,16 @@ use borrow.Author.Tests.{eq-eqb, ne_eqb, eqb-true, ltb-false}
 use Rattle.laws.specs.Sets.{any}
 use Rattle.laws.specs.Rows.{rows}
 use Rattle.laws.proofs.Tests.{split, or_left, or_right}
-use Rattle.laws.proofs.Laws.{any-all, any_none}
+use Rattle.laws.proofs.Laws.{any_all, any_none}
 use Rattle.memory.specs.Flash.{flash_length}
 use Rattle.partitions.specs.declared.Entry.{Entry}
 use Rattle.partitions.specs.declared.Settings.{Settings}
 use Rattle.partitions.specs.Settings.{entry_at, good_settings}
 use Rattle.partitions.specs.Table.{table_of}
-use Rattle.partitions.proofs.Laws.{good-count}
+use Rattle.partitions.proofs.Laws.{good_count}
 use Rattle.partitions.proofs.Tables.{table_at}
 use Rattle.laws.specs.Packing.{octets, bytes_of, fields_of, Fit, none, one, on}
-use Rattle.laws.proofs.Widths.{bytes-fields, fields_fit, bit_on}
+use Rattle.laws.proofs.Widths.{bytes_fields, fields_fit, bit_on}
 use Rattle.store_entry.specs.EntryBits.{slot, entry_widths, packed_entry, entry_from, stray_from, entry_in, stray_in}
 use Rattle.store_entry.proofs.ReadBack.{even}
 use Rattle.store_entry.proofs.OneEntry.{entry_only, old_unmarked}
@@ -32,7 +32,7 @@ use Rattle.settings_store.specs.declared.Reading.{Reading}
 use Rattle.settings_store.specs.Store.{no_restart_at, version_of, head_widths, arch_bit, head_fields, row_at, store_of, head_in, part_in, entry_of, arch_from, settings_in, stray_at, strays_in, refusal, found, read_head, read_of}
 use Rattle.settings_claims.specs.Claims.{Narrow, Bytes, neat, ReadIsTheEncoding, OneEncoding, NoOtherBytes}
 use Rattle.settings_claims.proofs.Parts.{rows_parts}
-use Rattle.settings_claims.proofs.Compared.{Few, compared-store, neat-compared}
+use Rattle.settings_claims.proofs.Compared.{Few, compared_store, neat_compared}
 use Rattle.settings_claims.proofs.Written.{head_even, good_few, written_reads_back}
 
 -- ---- the checks, where settings are read
@@ -127,35 +127,35 @@ module _ (b : List ℕ) (low : Bytes b) (n v : ℕ) (few : n ≤ 16) (whole : le
   part_length : (k : ℕ) → k < n → length (part_in b k) ≡ 22
   part_length k l = simp (length-take, length-drop) (omega arith)
 
-  part-fields : (k : ℕ) → k < n → Fit (octets 22) (part_in b k)
-  part-fields k l = part_fit 22 (part_in b k) (part_length k l) (low_part 22 (2 + 22 * k) b low)
+  part_fields : (k : ℕ) → k < n → Fit (octets 22) (part_in b k)
+  part_fields k l = part_fit 22 (part_in b k) (part_length k l) (low_part 22 (2 + 22 * k) b low)
 
   entry_fields_lem : (k : ℕ) → k < n → Fit entry_widths (fields_of entry_widths 22 (part_in b k))
-  entry_fields_lem k l = fields_fit entry_widths 22 even (part-fields k l)
+  entry_fields_lem k l = fields_fit entry_widths 22 even (part_fields k l)
 
   unstray : (k : ℕ) → k < n → stray_from v (fields_of entry_widths 22 (part_in b k)) ≡ false
   unstray k l = sym (stray_whole b v k (part_length k l)) ∙ clean k l
 
-  entry-is : (k : ℕ) → k < n → entry_at table k ≡ entry_from (fields_of entry_widths 22 (part_in b k))
-  entry-is k l = table_at (entry_of b) n k few l ∙ entry_whole b k (part_length k l)
+  entry_is : (k : ℕ) → k < n → entry_at table k ≡ entry_from (fields_of entry_widths 22 (part_in b k))
+  entry_is k l = table_at (entry_of b) n k few l ∙ entry_whole b k (part_length k l)
 
-  row-only : (k : ℕ) → k < n → row_at table k ≡ part_in b k
-  row-only k l = row_of table k (entry-is k l) ∙ entry_only v (part_in b k) (part-fields k l) (unstray k l)
+  row_only : (k : ℕ) → k < n → row_at table k ≡ part_in b k
+  row_only k l = row_of table k (entry_is k l) ∙ entry_only v (part_in b k) (part_fields k l) (unstray k l)
 
-  pub rows-only : rows (row_at table) n ≡ drop 2 b
-  rows-only =
+  pub rows_only : rows (row_at table) n ≡ drop 2 b
+  rows_only =
       rows_parts 22 (row_at table) n (drop 2 b) (length-drop 2 b ∙ omega arith)
-      (λ k l. ap (take 22) (drop-drop (22 * k) 2 b) ∙ sym (row-only k l))
+      (λ k l. ap (take 22) (drop-drop (22 * k) 2 b) ∙ sym (row_only k l))
 
-  pub table-narrow : (k i : ℕ) → k < n → slot (entry_at table k) i < 2 ^ 32
-  table-narrow k i l = rw (entry-is k l) (fields_narrow (fields_of entry_widths 22 (part_in b k)) (entry_fields_lem k l) i)
+  pub table_narrow : (k i : ℕ) → k < n → slot (entry_at table k) i < 2 ^ 32
+  table_narrow k i l = rw (entry_is k l) (fields_narrow (fields_of entry_widths 22 (part_in b k)) (entry_fields_lem k l) i)
 
   -- in version 1 no entry has "don't restart"
-  pub old-table : v ≡ 1 → any n (no_restart_at table) ≡ false
-  old-table e =
+  pub old_table : v ≡ 1 → any n (no_restart_at table) ≡ false
+  old_table e =
       any_none (no_restart_at table) n
       (λ k l.
-      no_restart_of table k (entry-is k l)
+      no_restart_of table k (entry_is k l)
       ∙ old_unmarked (fields_of entry_widths 22 (part_in b k)) (entry_fields_lem k l) (subst (λ (x : ℕ). stray_from x (fields_of entry_widths 22 (part_in b k)) ≡ false) e (unstray k l)))
 
 -- ---- the head
@@ -178,7 +178,7 @@ head_fields_lem b f = fields_fit head_widths 2 head_even f
 
 pub head_whole : (b : List ℕ) → Fit (octets 2) (take 2 b) → bytes_of head_widths 2 (head_in b) ≡ take 2 b
 unfolding head_in
-head_whole b f = bytes-fields head_widths 2 head_even f
+head_whole b f = bytes_fields head_widths 2 head_even f
 
 -- ---- the store
 
@@ -212,7 +212,7 @@ unfolding settings_in
 rows_in_lem b e = e
 
 module _ (b : List ℕ) (low : Bytes b) (known : not (eqb (get_or (head_in b) 0 0) 1 || eqb (get_or (head_in b) 0 0) 2) ≡ false)
-    (few : get_or (head_in b) 1 0 ≤ 16) (whole : length b ≡ 2 + 22 * get_or (head_in b) 1 0) (none-stray : strays_in (head_in b) b ≡ false) where
+    (few : get_or (head_in b) 1 0 ≤ 16) (whole : length b ≡ 2 + 22 * get_or (head_in b) 1 0) (none_stray : strays_in (head_in b) b ≡ false) where
   abbrev h : List ℕ
   h = head_in b
 
@@ -224,30 +224,30 @@ module _ (b : List ℕ) (low : Bytes b) (known : not (eqb (get_or (head_in b) 0 
 
   parts : (not (eqb (get_or h 7 0) 0) || stray ≡ false) × (needless ≡ false)
   unfolding strays_in
-  parts = (or_left (not (eqb (get_or h 7 0) 0) || stray) needless none-stray, or_right (not (eqb (get_or h 7 0) 0) || stray) needless none-stray)
+  parts = (or_left (not (eqb (get_or h 7 0) 0) || stray) needless none_stray, or_right (not (eqb (get_or h 7 0) 0) || stray) needless none_stray)
 
   zeros : get_or h 7 0 ≡ 0
   zeros = eqb-true (get_or h 7 0) 0 (not_false (eqb (get_or h 7 0) 0) (or_left (not (eqb (get_or h 7 0) 0)) stray parts.0))
 
   unstrayed : (k : ℕ) → k < get_or h 1 0 → stray_at b (get_or h 0 0) k ≡ false
-  unstrayed k l = any-all (stray_at b (get_or h 0 0)) (get_or h 1 0) (or_right (not (eqb (get_or h 7 0) 0)) stray parts.0) k l
+  unstrayed k l = any_all (stray_at b (get_or h 0 0)) (get_or h 1 0) (or_right (not (eqb (get_or h 7 0) 0)) stray parts.0) k l
 
   version : version_of (settings_in h b) ≡ get_or h 0 0
   version =
       version_in_lem h b
-      (version_of_lem (get_or h 0 0) (any (get_or h 1 0) (no_restart_at (table_of (entry_of b) (get_or h 1 0)))) known parts.1 (old-table b low (get_or h 1 0) (get_or h 0 0) few whole unstrayed))
+      (version_of_lem (get_or h 0 0) (any (get_or h 1 0) (no_restart_at (table_of (entry_of b) (get_or h 1 0)))) known parts.1 (old_table b low (get_or h 1 0) (get_or h 0 0) few whole unstrayed))
 
-  head-fit : Fit (octets 2) (take 2 b)
-  head-fit = part_fit 2 (take 2 b) (simp length-take (omega arith)) (low_part 2 0 b low)
+  head_fit : Fit (octets 2) (take 2 b)
+  head_fit = part_fit 2 (take 2 b) (simp length-take (omega arith)) (low_part 2 0 b low)
 
   head_bytes : bytes_of head_widths 2 (head_fields (settings_in h b)) ≡ take 2 b
-  head_bytes = ap (bytes_of head_widths 2) (head_only b h (head_fields_lem b head-fit) version zeros) ∙ head_whole b head-fit
+  head_bytes = ap (bytes_of head_widths 2) (head_only b h (head_fields_lem b head_fit) version zeros) ∙ head_whole b head_fit
 
-  pub store-only : store_of (settings_in h b) ≡ b
-  store-only = store_parts (settings_in h b) head_bytes (rows_in_lem b (rows-only b low (get_or h 1 0) (get_or h 0 0) few whole unstrayed)) ∙ take-append-drop 2 b
+  pub store_only : store_of (settings_in h b) ≡ b
+  store_only = store_parts (settings_in h b) head_bytes (rows_in_lem b (rows_only b low (get_or h 1 0) (get_or h 0 0) few whole unstrayed)) ∙ take-append-drop 2 b
 
-  pub store-narrow : Narrow (settings_in h b)
-  store-narrow = narrow_in h b (table-narrow b low (get_or h 1 0) (get_or h 0 0) few whole unstrayed)
+  pub store_narrow : Narrow (settings_in h b)
+  store_narrow = narrow_in h b (table_narrow b low (get_or h 1 0) (get_or h 0 0) few whole unstrayed)
 
 -- ---- the claims
 
@@ -271,8 +271,8 @@ read_found b len s low e =
     record {
       right = not_false (flash_length len) p.0;
       good = ap (λ (x : Settings). good_settings x len) (sym q.5) ∙ not_false (good_settings (settings_in h b) len) q.4;
-      encoded = ap store_of (sym q.5) ∙ store-only b low q.0 few whole q.3;
-      narrow = subst Narrow q.5 (store-narrow b low q.0 few whole q.3);
+      encoded = ap store_of (sym q.5) ∙ store_only b low q.0 few whole q.3;
+      narrow = subst Narrow q.5 (store_narrow b low q.0 few whole q.3);
     }
 
 settings_of_lem : Reading → Settings
@@ -290,9 +290,9 @@ unfolding settings_of_lem
 one_encoding s t len right gs gt ns nt = (
   λ e.
       let same : neat s ≡ neat t = ap settings_of_lem (sym (written_reads_back s len right gs ns) ∙ ap (λ (b : List ℕ). read_of b len) e ∙ written_reads_back t len right gt nt) in
-      neat-compared s t (good_few s len right gs) (good-count t len gt) same,
-  λ h. compared-store s t h,
+      neat_compared s t (good_few s len right gs) (good_count t len gt) same,
+  λ h. compared_store s t h,
 )
 
 pub no_other_bytes : NoOtherBytes
-no_other_bytes b len s t low e h = sym (read_found b len t low e).encoded ∙ compared-store t s h
+no_other_bytes b len s t low e h = sym (read_found b len t low e).encoded ∙ compared_store t s h

@@ -10,7 +10,7 @@ use lib.ListN.{get_or}
 use borrow.Author.Tests.{eqb-true, eqb-false, eq-eqb, ne_eqb, lt-ltb, ltb-true, le-leb, leb-true, not-true, not-false}
 use Rattle.laws.specs.Sets.{any}
 use Rattle.laws.proofs.Tests.{split, clash, and_left, and_right}
-use Rattle.laws.proofs.Laws.{any-hit, any_found}
+use Rattle.laws.proofs.Laws.{any_hit, any_found}
 use Rattle.partitions.specs.declared.Settings.{Settings}
 use Rattle.partitions.specs.declared.Entry.{Entry}
 use Rattle.partitions.specs.declared.Arch.{Arch}
@@ -18,8 +18,8 @@ use Rattle.partitions.specs.declared.Arch.TheVariants.{Arm, RiscV}
 use Rattle.partitions.specs.declared.Link.{Link}
 use Rattle.partitions.specs.declared.Link.TheVariants.{Unlinked, OwnedBy, BOf}
 use Rattle.partitions.specs.Settings.{link_is_b, link_is_none, link_target, is_a, is_unowned, entry_at, enabled, count_over, no_sectors, runs_past, overlap_at, shares_with, shares_sector, links_up, links_to_b, many_users, is_reserved, reserved_at, reserved_user, bad_entry, good_settings}
-use Rattle.partitions.proofs.Laws.{good-off, good-over}
-use Rattle.partitions.proofs.Overlap.{overlap-exact}
+use Rattle.partitions.proofs.Laws.{good_off, good_over}
+use Rattle.partitions.proofs.Overlap.{overlap_exact}
 use Rattle.settings_claims.specs.Targeting.{row}
 use Rattle.settings_claims.specs.Good.{LinksTo, owned, b_of, Bad, arm_off, riscv_off, count_over_case, no_sectors_case, past_flash, shares, links_up_case, links_to_b_case, many_users_case, reserved_user_case, BadByFields}
 
@@ -51,36 +51,36 @@ module _ (s : Settings) (len : ℕ) where
   abbrev t : List Entry
   t = s.table
 
-  bad-entry : (k : ℕ) → k < s.count → bad_entry t n len k ≡ true → good_settings s len ≡ false
+  bad_entry_lem : (k : ℕ) → k < s.count → bad_entry t n len k ≡ true → good_settings s len ≡ false
   unfolding good_settings
-  bad-entry k l h = let z = any-hit (bad_entry t n len) n k l h in simp (z, or-true)
+  bad_entry_lem k l h = let z = any_hit (bad_entry t n len) n k l h in simp (z, or-true)
 
   shared : (k j q : ℕ) → j < s.count → j ≢ k → ((row s k).first ≤ q) × (q < (row s k).first + (row s k).sectors) → ((row s j).first ≤ q) × (q < (row s j).first + (row s j).sectors)
       → shares_sector t n k ≡ true
   unfolding shares_sector overlap_at
   shared k j q l d a b =
-      any-hit (shares_with t k) n j l
-      (rw (ne_eqb j k d) ((overlap-exact (row s k).first (row s k).sectors (row s j).first (row s j).sectors).1 (q, a, b)))
+      any_hit (shares_with t k) n j l
+      (rw (ne_eqb j k d) ((overlap_exact (row s k).first (row s k).sectors (row s j).first (row s j).sectors).1 (q, a, b)))
 
-  said-bad : Bad s len → good_settings s len ≡ false
+  said_bad : Bad s len → good_settings s len ≡ false
   unfolding bad_entry reserved_user
-  said-bad (arm_off c h) = good-off s len (rw (c, h))
-  said-bad (riscv_off c h) = good-off s len (rw (c, h))
-  said-bad (count_over_case h) = good-over s len h
-  said-bad (no_sectors_case k l h) = bad-entry k l (simp (eq-eqb (row s k).sectors 0 h))
-  said-bad (past_flash k l h) = bad-entry k l (simp (lt-ltb len (((row s k).first + (row s k).sectors) * 4096) h, or-true))
-  said-bad (shares k j q l m d a b) = bad-entry k l (simp (shared k j q m d a b, or-true))
-  said-bad (links_up_case k j l h u) =
+  said_bad (arm_off c h) = good_off s len (rw (c, h))
+  said_bad (riscv_off c h) = good_off s len (rw (c, h))
+  said_bad (count_over_case h) = good_over s len h
+  said_bad (no_sectors_case k l h) = bad_entry_lem k l (simp (eq-eqb (row s k).sectors 0 h))
+  said_bad (past_flash k l h) = bad_entry_lem k l (simp (lt-ltb len (((row s k).first + (row s k).sectors) * 4096) h, or-true))
+  said_bad (shares k j q l m d a b) = bad_entry_lem k l (simp (shared k j q m d a b, or-true))
+  said_bad (links_up_case k j l h u) =
       let x = linked (row s k) j h in
-      bad-entry k l (simp (x.0, x.1, le-leb k j u, or-true))
-  said-bad (links_to_b_case k j i l h b) =
+      bad_entry_lem k l (simp (x.0, x.1, le-leb k j u, or-true))
+  said_bad (links_to_b_case k j i l h b) =
       let x = linked (row s k) j h in
-      bad-entry k l (simp (x.0, x.1, b, or-true))
-  said-bad (many_users_case k l h) = bad-entry k l (simp (lt-ltb 4 (row s k).user_count h, or-true))
-  said-bad (reserved_user_case k i l m u p q) =
+      bad_entry_lem k l (simp (x.0, x.1, b, or-true))
+  said_bad (many_users_case k l h) = bad_entry_lem k l (simp (lt-ltb 4 (row s k).user_count h, or-true))
+  said_bad (reserved_user_case k i l m u p q) =
       let z : any 4 (reserved_at (row s k)) ≡ true =
-      any-hit (reserved_at (row s k)) 4 i m (rw (lt-ltb i (row s k).user_count u, le-leb 0xe48bff56 (get_or (row s k).users i 0) p, le-leb (get_or (row s k).users i 0) 0xe48bff5b q)) in
-      bad-entry k l (simp (z, or-true))
+      any_hit (reserved_at (row s k)) 4 i m (rw (lt-ltb i (row s k).user_count u, le-leb 0xe48bff56 (get_or (row s k).users i 0) p, le-leb (get_or (row s k).users i 0) 0xe48bff5b q)) in
+      bad_entry_lem k l (simp (z, or-true))
 
   -- ---- and back
 
@@ -88,9 +88,9 @@ module _ (s : Settings) (len : ℕ) where
   by_arch Arm c h = arm_off c h
   by_arch RiscV c h = riscv_off c h
 
-  entry-bad : (k : ℕ) → k < s.count → bad_entry t n len k ≡ true → Bad s len
+  entry_bad : (k : ℕ) → k < s.count → bad_entry t n len k ≡ true → Bad s len
   unfolding bad_entry shares_sector overlap_at reserved_user
-  entry-bad k l h =
+  entry_bad k l h =
       let e = row s k in
       split (no_sectors e) (λ y. no_sectors_case k l (eqb-true e.sectors 0 y))
       (λ z1.
@@ -100,7 +100,7 @@ module _ (s : Settings) (len : ℕ) where
       (λ y.
       let w = any_found (shares_with t k) n y in
       let d = and_left (not (eqb w.0 k)) (overlap_at t k w.0) w.2 in
-      let o = (overlap-exact e.first e.sectors (row s w.0).first (row s w.0).sectors).0 (and_right (not (eqb w.0 k)) (overlap_at t k w.0) w.2) in
+      let o = (overlap_exact e.first e.sectors (row s w.0).first (row s w.0).sectors).0 (and_right (not (eqb w.0 k)) (overlap_at t k w.0) w.2) in
       shares k w.0 o.0 l w.1 (eqb-false w.0 k (not-true _ d)) o.1 o.2)
       (λ z3.
       split (links_up t k)
@@ -123,18 +123,18 @@ module _ (s : Settings) (len : ℕ) where
       reserved_user_case k w.0 l w.1 (ltb-true w.0 e.user_count (and_left (ltb w.0 e.user_count) (is_reserved x) w.2))
       (leb-true 0xe48bff56 x (and_left (leb 0xe48bff56 x) (leb x 0xe48bff5b) g)) (leb-true x 0xe48bff5b (and_right (leb 0xe48bff56 x) (leb x 0xe48bff5b) g))))))))
 
-  bad-said : good_settings s len ≡ false → Bad s len
+  bad_said : good_settings s len ≡ false → Bad s len
   unfolding good_settings
-  bad-said h =
+  bad_said h =
       split (enabled s s.current)
       (λ y.
       split (ltb 16 s.count) (λ o. count_over_case (ltb-true 16 s.count o))
       (λ z.
       let a : any n (bad_entry t n len) ≡ true = not-false _ (rw (y, z) at h) in
       let w = any_found (bad_entry t n len) n a in
-      entry-bad w.0 w.1 w.2))
+      entry_bad w.0 w.1 w.2))
       (λ z. by_arch s.current refl z)
 
 pub bad_by_fields : BadByFields
 unfolding BadByFields
-bad_by_fields s len = (bad-said s len, said-bad s len)
+bad_by_fields s len = (bad_said s len, said_bad s len)

@@ -13,12 +13,12 @@ use borrow.Author.Tests.{le-ltb}
 use Rattle.laws.specs.Sets.{any}
 use Rattle.laws.specs.Rows.{rows}
 use Rattle.laws.proofs.Tests.{split}
-use Rattle.laws.proofs.Laws.{any-all, any_found}
+use Rattle.laws.proofs.Laws.{any_all, any_found}
 use Rattle.partitions.specs.declared.Entry.{Entry}
 use Rattle.partitions.specs.declared.Settings.{Settings}
 use Rattle.partitions.specs.Settings.{entry_at}
 use Rattle.laws.specs.Packing.{total, unpacked, octets, bytes_of, fields_of, Fit}
-use Rattle.laws.proofs.Widths.{bytes-fields}
+use Rattle.laws.proofs.Widths.{bytes_fields}
 use Rattle.store_entry.specs.EntryBits.{index_of, slot, entry_widths, entry_fields, packed_entry}
 use Rattle.store_entry.proofs.ReadBack.{even}
 use Rattle.store_entry.proofs.OneEntry.{Fits}
@@ -82,14 +82,14 @@ module _ (s : Settings) (b : List ℕ) (low : Bytes b) (few : s.count ≤ 16) (u
 
     row_is : row_at s.table k ≡ part_in b k
     unfolding row_at packed_entry
-    row_is = ap (bytes_of entry_widths 22) (sym fields) ∙ bytes-fields entry_widths 22 even (part_fit 22 (part_in b k) part-22 (low_part 22 (2 + 22 * k) b low))
+    row_is = ap (bytes_of entry_widths 22) (sym fields) ∙ bytes_fields entry_widths 22 even (part_fit 22 (part_in b k) part-22 (low_part 22 (2 + 22 * k) b low))
 
   version : head_bits b 0 4 ≡ version_of s
   unfolding version_of no_restart_at
   version =
       split (any s.count (no_restart_at s.table))
       (λ t. let m = any_found (no_restart_at s.table) s.count t in laid.version_2 m.0 m.1 m.2 ∙ rw t)
-      (λ t. laid.version_1 (any-all (no_restart_at s.table) s.count t) ∙ rw t)
+      (λ t. laid.version_1 (any_all (no_restart_at s.table) s.count t) ∙ rw t)
 
   head_is : head_in b ≡ head_fields s
   unfolding head_in unpacked total head_fields
@@ -107,11 +107,11 @@ module _ (s : Settings) (b : List ℕ) (low : Bytes b) (few : s.count ≤ 16) (u
       rows_parts 22 (row_at s.table) s.count (drop 2 b) (let long = laid.long in length-drop 2 b ∙ omega arith)
       (λ k l. ap (take 22) (drop-drop (22 * k) 2 b) ∙ sym (row_is k l))
 
-  pub laid-store : store_of s ≡ b
-  laid-store = store_parts s head_bytes rows_are ∙ take-append-drop 2 b
+  pub laid_store : store_of s ≡ b
+  laid_store = store_parts s head_bytes rows_are ∙ take-append-drop 2 b
 
-  pub laid-fits : (k : ℕ) → k < s.count → Fits (entry_at s.table k)
-  laid-fits k l = fits k l
+  pub laid_fits : (k : ℕ) → k < s.count → Fits (entry_at s.table k)
+  laid_fits k l = fits k l
 
-  pub laid-narrow : Narrow s
-  laid-narrow k i l = narrow_at k l i
+  pub laid_narrow : Narrow s
+  laid_narrow k i l = narrow_at k l i

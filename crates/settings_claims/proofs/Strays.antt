@@ -10,7 +10,7 @@ use lib.ListN.{length, get_or, take, drop, length-take, length-drop}
 use borrow.Author.Tests.{eq-eqb, ne_eqb, lt-ltb, le-leb}
 use Rattle.laws.specs.Sets.{any}
 use Rattle.laws.proofs.Tests.{split, clash, both}
-use Rattle.laws.proofs.Laws.{any-hit, any_none}
+use Rattle.laws.proofs.Laws.{any_hit, any_none}
 use Rattle.partitions.specs.declared.Entry.{Entry}
 use Rattle.partitions.specs.Table.{table_of}
 use Rattle.partitions.proofs.Tables.{table_at}
@@ -18,7 +18,7 @@ use Rattle.laws.specs.Packing.{total, unpacked, fields_of}
 use Rattle.store_entry.specs.EntryBits.{entry_widths, entry_from, stray_from}
 use Rattle.store_entry.proofs.OneEntry.{nine}
 use Rattle.settings_store.specs.Written.{no_restart_in}
-use Rattle.settings_store.proofs.write.Cases.{no-restart-few}
+use Rattle.settings_store.proofs.write.Cases.{no_restart_few}
 use Rattle.settings_store.specs.Store.{no_restart_at, part_in, entry_of, stray_at}
 use Rattle.settings_claims.specs.Bits.{value_of, entry_bits}
 use Rattle.settings_claims.specs.Refusals.{version_in, count_in, zeros_in, Headed, Whole, Stray, head_zeros, kind_3, unlinked_index, many_users_case, unused_slot_0, unused_slot_1, unused_slot_2, unused_slot_3, sixth_last, last_five, needless_2}
@@ -101,7 +101,7 @@ module _ (b : List ℕ) (len : ℕ) (w : Whole b len) where
     unused i e h n = both {a = leb (get_or f 10 0) i} (rw users (le-leb (entry_bits b k 39 3) i h)) (not_zero e n)
 
     strayed : stray_from (version_in b) f ≡ true → any (count_in b) (stray_at b (version_in b)) ≡ true
-    strayed t = any-hit (stray_at b (version_in b)) (count_in b) k l (stray_whole b (version_in b) k part-22 ∙ t)
+    strayed t = any_hit (stray_at b (version_in b)) (count_in b) k l (stray_whole b (version_in b) k part-22 ∙ t)
 
     restarts : entry_bits b k 170 1 ≡ 0 → no_restart_at (table_of (entry_of b) (count_in b)) k ≡ false
     unfolding entry_from
@@ -115,34 +115,34 @@ module _ (b : List ℕ) (len : ℕ) (w : Whole b len) where
       not (eqb ((get_or b 0 0 * 256 + get_or b 1 0) / 1 % 4) 0) || any (count_in b) (stray_at b (version_in b))
       || eqb (version_in b) 2 && not (no_restart_in (table_of (entry_of b) (count_in b)) (count_in b))
 
-  entry-test : any (count_in b) (stray_at b (version_in b)) ≡ true → test ≡ true
-  entry-test t = rw (t, or-true (not (eqb ((get_or b 0 0 * 256 + get_or b 1 0) / 1 % 4) 0)))
+  entry_test : any (count_in b) (stray_at b (version_in b)) ≡ true → test ≡ true
+  entry_test t = rw (t, or-true (not (eqb ((get_or b 0 0 * 256 + get_or b 1 0) / 1 % 4) 0)))
 
-  version-test : eqb (version_in b) 2 && not (no_restart_in (table_of (entry_of b) (count_in b)) (count_in b)) ≡ true → test ≡ true
-  version-test t = rw (t, or-true (not (eqb ((get_or b 0 0 * 256 + get_or b 1 0) / 1 % 4) 0) || any (count_in b) (stray_at b (version_in b))))
+  version_test : eqb (version_in b) 2 && not (no_restart_in (table_of (entry_of b) (count_in b)) (count_in b)) ≡ true → test ≡ true
+  version_test t = rw (t, or-true (not (eqb ((get_or b 0 0 * 256 + get_or b 1 0) / 1 % 4) 0) || any (count_in b) (stray_at b (version_in b))))
 
-  entry-hit : (k : ℕ) (l : k < count_in b) (x : Bool) → (stray_from (version_in b) (f k l) ≡ false → x ≡ false) → x ≡ true → test ≡ true
-  entry-hit k l x h t = entry-test (strayed k l (by (version_in b) (f k l) x h t))
+  entry_hit : (k : ℕ) (l : k < count_in b) (x : Bool) → (stray_from (version_in b) (f k l) ≡ false → x ≡ false) → x ≡ true → test ≡ true
+  entry_hit k l x h t = entry_test (strayed k l (by (version_in b) (f k l) x h t))
 
-  pub stray-tested : Stray b → test ≡ true
-  stray-tested (head_zeros h) = rw (ne_eqb ((get_or b 0 0 * 256 + get_or b 1 0) / 1 % 4) 0 (λ z. h (omega (arith, z))))
-  stray-tested (kind_3 k l h) =
-      entry-hit k l (eqb (get_or (f k l) 2 0) 3) (λ z. (unstrayed (version_in b) (f k l) z).0) (eq-eqb (get_or (f k l) 2 0) 3 (kind k l ∙ h))
-  stray-tested (unlinked_index k l h n) =
-      entry-hit k l (eqb (get_or (f k l) 2 0) 0 && not (eqb (get_or (f k l) 3 0) 0)) (λ z. (unstrayed (version_in b) (f k l) z).1)
+  pub stray_tested : Stray b → test ≡ true
+  stray_tested (head_zeros h) = rw (ne_eqb ((get_or b 0 0 * 256 + get_or b 1 0) / 1 % 4) 0 (λ z. h (omega (arith, z))))
+  stray_tested (kind_3 k l h) =
+      entry_hit k l (eqb (get_or (f k l) 2 0) 3) (λ z. (unstrayed (version_in b) (f k l) z).0) (eq-eqb (get_or (f k l) 2 0) 3 (kind k l ∙ h))
+  stray_tested (unlinked_index k l h n) =
+      entry_hit k l (eqb (get_or (f k l) 2 0) 0 && not (eqb (get_or (f k l) 3 0) 0)) (λ z. (unstrayed (version_in b) (f k l) z).1)
       (both (eq-eqb (get_or (f k l) 2 0) 0 (kind k l ∙ h)) (not_zero (index k l) n))
-  stray-tested (many_users_case k l h) =
-      entry-hit k l (ltb 4 (get_or (f k l) 10 0)) (λ z. (unstrayed (version_in b) (f k l) z).2) (rw (users k l) (lt-ltb 4 (entry_bits b k 39 3) h))
-  stray-tested (unused_slot_0 k l h n) = entry-hit k l (free (version_in b) (f k l) 0) (λ z. (unstrayed (version_in b) (f k l) z).3) (unused k l 0 (slot-0 k l) h n)
-  stray-tested (unused_slot_1 k l h n) = entry-hit k l (free (version_in b) (f k l) 1) (λ z. (unstrayed (version_in b) (f k l) z).4) (unused k l 1 (slot-1 k l) h n)
-  stray-tested (unused_slot_2 k l h n) = entry-hit k l (free (version_in b) (f k l) 2) (λ z. (unstrayed (version_in b) (f k l) z).5) (unused k l 2 (slot-2 k l) h n)
-  stray-tested (unused_slot_3 k l h n) = entry-hit k l (free (version_in b) (f k l) 3) (λ z. (unstrayed (version_in b) (f k l) z).6) (unused k l 3 (slot-3 k l) h n)
-  stray-tested (sixth_last k l v n) =
-      entry-hit k l (eqb (version_in b) 1 && not (eqb (get_or (f k l) 15 0) 0)) (λ z. (unstrayed (version_in b) (f k l) z).7)
+  stray_tested (many_users_case k l h) =
+      entry_hit k l (ltb 4 (get_or (f k l) 10 0)) (λ z. (unstrayed (version_in b) (f k l) z).2) (rw (users k l) (lt-ltb 4 (entry_bits b k 39 3) h))
+  stray_tested (unused_slot_0 k l h n) = entry_hit k l (free (version_in b) (f k l) 0) (λ z. (unstrayed (version_in b) (f k l) z).3) (unused k l 0 (slot-0 k l) h n)
+  stray_tested (unused_slot_1 k l h n) = entry_hit k l (free (version_in b) (f k l) 1) (λ z. (unstrayed (version_in b) (f k l) z).4) (unused k l 1 (slot-1 k l) h n)
+  stray_tested (unused_slot_2 k l h n) = entry_hit k l (free (version_in b) (f k l) 2) (λ z. (unstrayed (version_in b) (f k l) z).5) (unused k l 2 (slot-2 k l) h n)
+  stray_tested (unused_slot_3 k l h n) = entry_hit k l (free (version_in b) (f k l) 3) (λ z. (unstrayed (version_in b) (f k l) z).6) (unused k l 3 (slot-3 k l) h n)
+  stray_tested (sixth_last k l v n) =
+      entry_hit k l (eqb (version_in b) 1 && not (eqb (get_or (f k l) 15 0) 0)) (λ z. (unstrayed (version_in b) (f k l) z).7)
       (both (eq-eqb (version_in b) 1 v) (not_zero (restart k l) n))
-  stray-tested (last_five k l n) = entry-hit k l (not (eqb (get_or (f k l) 16 0) 0)) (λ z. (unstrayed (version_in b) (f k l) z).8) (not_zero (zeros k l) n)
-  stray-tested (needless_2 v h) =
+  stray_tested (last_five k l n) = entry_hit k l (not (eqb (get_or (f k l) 16 0) 0)) (λ z. (unstrayed (version_in b) (f k l) z).8) (not_zero (zeros k l) n)
+  stray_tested (needless_2 v h) =
       let t = table_of (entry_of b) (count_in b) in
-      version-test
+      version_test
       (both (eq-eqb (version_in b) 2 v)
-      (rw (no-restart-few t (count_in b) w.few, any_none (no_restart_at t) (count_in b) (λ k l. restarts k l (h k l)))))
+      (rw (no_restart_few t (count_in b) w.few, any_none (no_restart_at t) (count_in b) (λ k l. restarts k l (h k l)))))

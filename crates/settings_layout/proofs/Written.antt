@@ -12,14 +12,14 @@ use borrow.Rule.Slice.PartMut.{put_mid}
 use Rattle.laws.specs.Over.{over}
 use Rattle.laws.specs.Rows.{rows}
 use Rattle.laws.proofs.OverLaws.{length_over, over_next, over_whole, put_over, copied_over}
-use Rattle.laws.proofs.RowsLaws.{rows_none, length-rows, part-rows, rows-over}
+use Rattle.laws.proofs.RowsLaws.{rows_none, length_rows, part_rows, rows_over}
 use Rattle.partitions.specs.declared.Arch.{Arch}
 use Rattle.partitions.specs.declared.Arch.TheVariants.{Arm, RiscV}
 use Rattle.partitions.specs.declared.Entry.{Entry}
 use Rattle.partitions.specs.declared.Settings.{Settings}
 use Rattle.partitions.specs.Settings.{entry_at}
 use Rattle.partitions.specs.Table.{table_of}
-use Rattle.partitions.proofs.Tables.{table-cong}
+use Rattle.partitions.proofs.Tables.{table_cong}
 use Rattle.settings_layout.specs.EntryBytes.{with_entry}
 use Rattle.settings_layout.proofs.entries.Entries.{length_numbers, length_flags, entry_whole, flag_back, Typed, entry_back}
 use Rattle.settings_layout.specs.Layout.{entry_from, arch_from, entry_bytes, entry_in, count_from, used_of, settings_of, settings_from, arch_byte, number_bytes, flag_bytes, row_bytes, switch_bytes, settings_bytes, with_settings}
@@ -59,18 +59,18 @@ module _ (t : List Entry) where
       → put_mid (34 * k) (34 * k + 34 - 34 * k) out ys ≡ over out₀ 0 (rows f (k + 1))
   rows_next out₀ out ys k e l s y =
       let long : length ys ≡ 34 = ap length y ∙ length_row t k in
-      put_over (34 * k) 34 out ys long ∙ rw (y, s) (rows-over 34 16 f wide out₀ k l (omega arith))
+      put_over (34 * k) 34 out ys long ∙ rw (y, s) (rows_over 34 16 f wide out₀ k l (omega arith))
 
   pub rows_long : (out₀ out : List ℕ) (k : ℕ) → length out₀ ≡ 544 → k ≤ 16 → out ≡ over out₀ 0 (rows f k) → length out ≡ length out₀
   rows_long out₀ out k e l s =
-      let fits : 0 + length (rows f k) ≤ length out₀ = omega (arith, length-rows 34 16 f wide k l) in
+      let fits : 0 + length (rows f k) ≤ length out₀ = omega (arith, length_rows 34 16 f wide k l) in
       ap length s ∙ length_over out₀ 0 (rows f k) fits
 
-  pub length-table : length (rows f 16) ≡ 544
-  length-table = length-rows 34 16 f wide 16 (omega arith)
+  pub length_table : length (rows f 16) ≡ 544
+  length_table = length_rows 34 16 f wide 16 (omega arith)
 
   pub rows_whole : (out₀ out : List ℕ) (k : ℕ) → length out₀ ≡ 544 → k ≡ 16 → out ≡ over out₀ 0 (rows f k) → out ≡ rows f 16
-  rows_whole out₀ out k e h s = s ∙ rw h (over_whole out₀ (rows f 16) (length-table ∙ sym e))
+  rows_whole out₀ out k e h s = s ∙ rw h (over_whole out₀ (rows f 16) (length_table ∙ sym e))
 
 -- ---- the settings
 
@@ -90,7 +90,7 @@ settings_put b s {c} {h} {ys} {zs} hb hh hy hc hz =
     let r = rows (row_bytes s.table) 16 in
     let w = switch_bytes s in
     let lw = length_switches s in
-    let lr = length-table s.table in
+    let lr = length_table s.table in
     let lh : length h ≡ 6 = ap length hh ∙ lw in
     let lz : length zs ≡ 544 = ap length hz ∙ lr in
     let first : c ≡ over b 0 w = hc ∙ copied_over 0 6 b h ys lh (omega arith) hy ∙ ap (over b 0) hh in
@@ -110,25 +110,25 @@ module _ (s : Settings) where
   abbrev table : List ℕ
   table = rows (row_bytes s.table) 16
 
-  length-settings : length (settings_bytes s) ≡ 550
+  length_settings : length (settings_bytes s) ≡ 550
   unfolding settings_bytes
-  length-settings = omega (arith, length-append (switch_bytes s) table, length_switches s, length-table s.table)
+  length_settings = omega (arith, length-append (switch_bytes s) table, length_switches s, length_table s.table)
 
-  part-back : (k : ℕ) → k < 16 → entry_bytes (settings_bytes s) k ≡ row_bytes s.table k
+  part_back : (k : ℕ) → k < 16 → entry_bytes (settings_bytes s) k ≡ row_bytes s.table k
   unfolding settings_bytes
-  part-back k l =
+  part_back k l =
       ap (λ (i : ℕ). take 34 (drop (6 + i) (switch_bytes s ++ table))) (mul_comm k 34)
       ∙ ap (take 34) (sym (drop-drop (34 * k) 6 (switch_bytes s ++ table)) ∙ ap (drop (34 * k)) (drop_at (switch_bytes s) table 6 (length_switches s)))
-      ∙ part-rows 34 16 (row_bytes s.table) (wide s.table) 16 k (omega arith) l
+      ∙ part_rows 34 16 (row_bytes s.table) (wide s.table) 16 k (omega arith) l
 
   module _ (few : s.count ≤ 16) (typed : (k : ℕ) → k < s.count → Typed (entry_at s.table k)) where
     entry-same : (k : ℕ) → k < s.count → entry_in (settings_bytes s) k ≡ entry_at s.table k
     unfolding entry_in row_bytes
-    entry-same k l = ap entry_from (part-back k (omega arith)) ∙ entry_back (entry_at s.table k) (typed k l)
+    entry-same k l = ap entry_from (part_back k (omega arith)) ∙ entry_back (entry_at s.table k) (typed k l)
 
     count-back : count_from (settings_bytes s) ≡ s.count
     unfolding settings_bytes switch_bytes
-    count-back = rw (eq-eqb (length (settings_bytes s)) 550 length-settings)
+    count-back = rw (eq-eqb (length (settings_bytes s)) 550 length_settings)
 
     used-back : used_of (count_from (settings_bytes s)) ≡ s.count
     used-back = rw (count-back, le-leb s.count 16 few)
@@ -155,9 +155,9 @@ module _ (s : Settings) where
         )
 
     -- settings whose unused entries are blank
-    pub settings-back : s.table ≡ table_of (entry_at s.table) s.count → settings_from (settings_bytes s) ≡ s
+    pub settings_back : s.table ≡ table_of (entry_at s.table) s.count → settings_from (settings_bytes s) ≡ s
     unfolding settings_from
-    settings-back blank =
+    settings_back blank =
         let read : table_of (entry_in (settings_bytes s)) (used_of (count_from (settings_bytes s))) ≡ s.table =
-        ap (table_of (entry_in (settings_bytes s))) used-back ∙ table-cong (entry_in (settings_bytes s)) (entry_at s.table) s.count entry-same ∙ sym blank in
+        ap (table_of (entry_in (settings_bytes s))) used-back ∙ table_cong (entry_in (settings_bytes s)) (entry_at s.table) s.count entry-same ∙ sym blank in
         ap (settings_of (settings_bytes s)) read ∙ switches-back s.table

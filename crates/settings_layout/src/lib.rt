@@ -1,4 +1,6 @@
 // Settings as bytes: how they go in, and how they come back. Every byte slice is read; include/uf2_receiver.h has the layout for C.
+#![tactic(auto)]
+
 pub mod entries;
 mod entry_write;
 

@@ -17,7 +17,7 @@ use Rattle.partitions.specs.Table.{table_of}
 use Rattle.laws.specs.Packing.{total, packed, unpacked, octets, fields_of}
 use Rattle.settings_store.specs.declared.write.StoreAnswer.TheVariants.{BadBuffers, BadSettings, BadVersion, BadLength, BadBits, Good}
 use Rattle.settings_store.specs.Written.{no_restart_in}
-use Rattle.settings_store.proofs.write.Cases.{no-restart-few}
+use Rattle.settings_store.proofs.write.Cases.{no_restart_few}
 use Rattle.settings_store.specs.declared.Reading.{Reading}
 use Rattle.settings_store.specs.Store.{no_restart_at, head_widths, head_in, entry_of, settings_of, settings_in, stray_at, strays_in, refusal, found, read_head, read_of}
 
@@ -29,9 +29,9 @@ head_two (x ∷ []) h = absurd (omega arith)
 head_two (x ∷ y ∷ b) h = ap (unpacked head_widths) (omega arith)
 
 module _ (b : List ℕ) (len : ℕ) where
-  pub read-1 : flash_length len ≡ false → refusal BadBuffers ≡ read_of b len
+  pub read_1 : flash_length len ≡ false → refusal BadBuffers ≡ read_of b len
   unfolding read_of
-  read-1 h = rw h
+  read_1 h = rw h
 
   module _ (p : flash_length len ≡ true) where
     pub read_short : length b < 2 → refusal BadLength ≡ read_of b len
@@ -44,9 +44,9 @@ module _ (b : List ℕ) (len : ℕ) where
 
 -- the head's number x
 module _ (b : List ℕ) (len x : ℕ) where
-  pub read-40 : not (eqb (x / 4096 % 16) 1 || eqb (x / 4096 % 16) 2) ≡ true → refusal BadVersion ≡ read_head (unpacked head_widths x) b len
+  pub read_40 : not (eqb (x / 4096 % 16) 1 || eqb (x / 4096 % 16) 2) ≡ true → refusal BadVersion ≡ read_head (unpacked head_widths x) b len
   unfolding read_head unpacked total
-  read-40 h = rw h
+  read_40 h = rw h
 
   module _ (r : not (eqb (x / 4096 % 16) 1 || eqb (x / 4096 % 16) 2) ≡ false) where
     pub read-many : 16 < x / 128 % 32 → refusal BadBits ≡ read_head (unpacked head_widths x) b len
@@ -63,7 +63,7 @@ module _ (b : List ℕ) (len x : ℕ) where
         strays : strays_in (unpacked head_widths x) b ≡ not (eqb (x / 1 % 4) 0) || y || eqb (x / 4096 % 16) 2 && not v
         unfolding strays_in unpacked total
         strays =
-            let few : v ≡ any (x / 128 % 32) (no_restart_at table) = m ∙ no-restart-few table (x / 128 % 32) s in
+            let few : v ≡ any (x / 128 % 32) (no_restart_at table) = m ∙ no_restart_few table (x / 128 % 32) s in
             rw (k, few, ht)
 
         reach : read_head (unpacked head_widths x) b len
@@ -83,5 +83,5 @@ module _ (b : List ℕ) (len x : ℕ) where
           pub read-2 : good_settings z len ≡ false → refusal BadSettings ≡ read_head (unpacked head_widths x) b len
           read-2 h = sym (reach ∙ rw (strays, u, whole, h))
 
-          pub read-good : good_settings z len ≡ true → found z ≡ read_head (unpacked head_widths x) b len
-          read-good h = sym (reach ∙ rw (strays, u, whole, h))
+          pub read_good : good_settings z len ≡ true → found z ≡ read_head (unpacked head_widths x) b len
+          read_good h = sym (reach ∙ rw (strays, u, whole, h))

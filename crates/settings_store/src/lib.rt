@@ -1,4 +1,6 @@
 // The packed store of settings, read from bytes.
+#![tactic(auto)]
+
 mod head_bits;
 pub mod write;
 

@@ -1,4 +1,6 @@
 // Does what an arrival holds stand in the memory? For C: a library of its own, so that the call is compiled as one piece.
+#![tactic(auto)]
+
 ghost use Rattle.std.specs.Prelude.{◌≡◌};
 ghost use Rattle.uf2_verify.specs.Stands.{memory_at};
 ghost use Rattle.standapi.specs.Stands.{stands_call_of};

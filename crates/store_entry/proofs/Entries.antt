@@ -21,9 +21,9 @@ kind_lt (OwnedBy k) = omega arith
 kind_lt (BOf k) = omega arith
 
 module _ (kind k : ℕ) where
-  pub link-owned : kind ≡ 1 → OwnedBy k ≡ link_of kind k
+  pub link_owned : kind ≡ 1 → OwnedBy k ≡ link_of kind k
   unfolding link_of
-  link-owned h = rw (eq-eqb kind 1 h) refl
+  link_owned h = rw (eq-eqb kind 1 h) refl
 
   pub link_b : (kind ≡ 1 → ⊥) → kind ≡ 2 → BOf k ≡ link_of kind k
   unfolding link_of
@@ -34,13 +34,13 @@ module _ (kind k : ℕ) where
   link_none n m = rw (ne_eqb kind 1 n, ne_eqb kind 2 m) refl
 
 module _ (e : Entry) (k : ℕ) where
-  pub slot-used : k < e.user_count → get_or e.users k 0 ≡ slot e k
+  pub slot_used : k < e.user_count → get_or e.users k 0 ≡ slot e k
   unfolding slot
-  slot-used h = rw (lt-ltb k e.user_count h) refl
+  slot_used h = rw (lt-ltb k e.user_count h) refl
 
-  pub slot-free : e.user_count ≤ k → 0 ≡ slot e k
+  pub slot_free : e.user_count ≤ k → 0 ≡ slot e k
   unfolding slot
-  slot-free h = rw (le-ltb k e.user_count h) refl
+  slot_free h = rw (le-ltb k e.user_count h) refl
 
 pub coarse : (f s k i a b c d m n u x y z w r h t : ℕ)
     → f < 2 ^ 13 → s < 2 ^ 14 → k < 2 ^ 2 → i < 2 ^ 4 → a < 2 → b < 2 → c < 2 → d < 2 → m < 2 → n < 2 → u < 2 ^ 3

@@ -15,7 +15,7 @@ use Rattle.store_entry.specs.EntryBits.{kind_of, index_of, link_of, slot, entry_
 use Rattle.partitions.specs.declared.Entry.{Entry}
 use Rattle.partitions.specs.declared.Link.{Link}
 use Rattle.partitions.specs.declared.Link.TheVariants.{Unlinked, OwnedBy, BOf}
-use Rattle.laws.proofs.Widths.{fields-bytes, bytes-fields, fields_fit, bit_lt, on_bit, bit_on}
+use Rattle.laws.proofs.Widths.{fields_bytes, bytes_fields, fields_fit, bit_lt, on_bit, bit_on}
 use Rattle.laws.proofs.Tests.{or_left, or_right}
 use Rattle.store_entry.proofs.Entries.{kind_lt}
 use Rattle.store_entry.proofs.ReadBack.{even}
@@ -150,13 +150,13 @@ entry_fit e s =
 -- an entry that is written and read is the entry, its unused slots zero
 pub entry_read : (e : Entry) → Fits e → Narrow e → entry_from (fields_of entry_widths 22 (packed_entry e)) ≡ neat_entry e
 unfolding packed_entry
-entry_read e p s = rw (fields-bytes entry_widths 22 even (entry_fit e s)) (entry_back e p)
+entry_read e p s = rw (fields_bytes entry_widths 22 even (entry_fit e s)) (entry_back e p)
 
 -- bytes that are read with nothing stray are the bytes of the entry read: it has no other
 pub entry_only : (version : ℕ) (bs : List ℕ) → Fit (octets 22) bs → stray_from version (fields_of entry_widths 22 bs) ≡ false
     → packed_entry (entry_from (fields_of entry_widths 22 bs)) ≡ bs
 unfolding packed_entry
-entry_only version bs f s = rw (fields_forth version (fields_of entry_widths 22 bs) (fields_fit entry_widths 22 even f) s) (bytes-fields entry_widths 22 even f)
+entry_only version bs f s = rw (fields_forth version (fields_of entry_widths 22 bs) (fields_fit entry_widths 22 even f) s) (bytes_fields entry_widths 22 even f)
 
 -- ---- an entry's own fields are not stray
 

@@ -32,9 +32,9 @@ module _ (b : List ℕ) where
   unfolding entry_in
   entry_other h {e} q = q ∙ rw (ne_eqb (length b) 22 h)
 
-  pub stray-other : (version : ℕ) → length b ≢ 22 → true ≡ stray_in version b
+  pub stray_other : (version : ℕ) → length b ≢ 22 → true ≡ stray_in version b
   unfolding stray_in
-  stray-other version h = rw (ne_eqb (length b) 22 h)
+  stray_other version h = rw (ne_eqb (length b) 22 h)
 
   module _ (n : length b ≡ 22) (low : (i : ℕ) → get_or b i 0 < 256) {c : Chunks} (k : c ≡ chunks_in b) where
     same : chunk_fields c ≡ fields_of entry_widths 22 b

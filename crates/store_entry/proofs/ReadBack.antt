@@ -5,7 +5,7 @@ use Prim.Native.Nat.{ℕ, ◌/◌, ◌%◌, ◌^◌, ◌<◌}
 use native.Mathlib.Nat.{mod-lt}
 use lib.Pow.{pow_pos}
 use Rattle.laws.specs.Packing.{total, packed, unpacked, octets, fields_of, Fit}
-use Rattle.laws.proofs.Widths.{fields-are, packed_unpacked, packed_lt}
+use Rattle.laws.proofs.Widths.{fields_are, packed_unpacked, packed_lt}
 use Rattle.laws.proofs.Groups.{Coarse, done, solo, many, coarse_fit, coarse_packed}
 use Rattle.store_entry.specs.Chunks.{chunk_widths, chunks_of}
 use Rattle.store_entry.proofs.chunk_bits.Groups.{computes}
@@ -29,4 +29,4 @@ unfolding chunk_fields chunks_of fields_of unpacked total
 entry_fields_lem bs f =
     let n = packed (octets 22) bs in
     let c = as_entry (n / 2 ^ 134 % 2 ^ 42) (n / 2 ^ 102 % 2 ^ 32) (n / 2 ^ 70 % 2 ^ 32) (n / 2 ^ 38 % 2 ^ 32) (n / 2 ^ 6 % 2 ^ 32) (n / 2 ^ 0 % 2 ^ 6) (mod-lt _ (pow_pos 42)) (mod-lt _ (pow_pos 32)) (mod-lt _ (pow_pos 32)) (mod-lt _ (pow_pos 32)) (mod-lt _ (pow_pos 32)) (mod-lt _ (pow_pos 6)) in
-    fields-are entry_widths 22 even bs (coarse_fit c) (coarse_packed c ∙ packed_unpacked chunk_widths n (short bs f))
+    fields_are entry_widths 22 even bs (coarse_fit c) (coarse_packed c ∙ packed_unpacked chunk_widths n (short bs f))

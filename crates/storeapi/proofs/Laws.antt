@@ -13,9 +13,9 @@ use Rattle.settings_store.specs.Store.{store_number, read_of, write_call, write_
 use Rattle.storeapi.specs.Calls.{StoreCall, store_call, kept_settings, told_of, store_read_call, written_call, store_write_call}
 
 module _ (l : List ℕ) (n : ℕ) (s : Settings) where
-  pub kept-some : n ≡ 0 → {b : List ℕ} → b ≡ with_settings l s → b ≡ kept_settings l n s
+  pub kept_some : n ≡ 0 → {b : List ℕ} → b ≡ with_settings l s → b ≡ kept_settings l n s
   unfolding kept_settings
-  kept-some h q = q ∙ rw (eq-eqb n 0 h)
+  kept_some h q = q ∙ rw (eq-eqb n 0 h)
 
   pub kept_none : n ≢ 0 → l ≡ kept_settings l n s
   unfolding kept_settings

@@ -1,4 +1,6 @@
 // The packed store of settings for C: a library beside that of `capi`. Settings are bytes in the layout of `layout`.
+#![tactic(auto)]
+
 ghost use Rattle.std.specs.Prelude.{◌≡◌};
 ghost use Rattle.storeapi.specs.Calls.{store_call, kept_settings, told_of, store_read_call, store_write_call};
 

@@ -71,18 +71,18 @@ pub tag_told : (l b : List ℕ) (a : Answer) (t : Tag) {n : ℕ} → b ≡ tag_b
 tag_told l b a t q e h = rw (h, q, e)
 
 module _ (b : List ℕ) (n : ℕ) (l : List ℕ) where
-  pub tag-short : length l ≢ 16 → tag_call 1 l ≡ tag_at_call b n l
+  pub tag_short : length l ≢ 16 → tag_call 1 l ≡ tag_at_call b n l
   unfolding tag_at_call
-  tag-short h = simp (ne_eqb (length l) 16 h)
+  tag_short h = simp (ne_eqb (length l) 16 h)
 
-  pub find-short : length l ≢ 16 → tag_call 1 l ≡ tag_find_call b n l
+  pub find_short : length l ≢ 16 → tag_call 1 l ≡ tag_find_call b n l
   unfolding tag_find_call
-  find-short h = simp (ne_eqb (length l) 16 h)
+  find_short h = simp (ne_eqb (length l) 16 h)
 
-  pub tag-call : {a : Answer} {o : TagCall} → length l ≡ 16 → a ≡ tag_at b n → o ≡ tag_call_of l a → o ≡ tag_at_call b n l
+  pub tag_call_lem : {a : Answer} {o : TagCall} → length l ≡ 16 → a ≡ tag_at b n → o ≡ tag_call_of l a → o ≡ tag_at_call b n l
   unfolding tag_at_call
-  tag-call h e f = simp (eq-eqb (length l) 16 h) (f ∙ ap (tag_call_of l) e)
+  tag_call_lem h e f = simp (eq-eqb (length l) 16 h) (f ∙ ap (tag_call_of l) e)
 
-  pub find-call : {a : Answer} {o : TagCall} → length l ≡ 16 → a ≡ find_of b n → o ≡ tag_call_of l a → o ≡ tag_find_call b n l
+  pub find_call : {a : Answer} {o : TagCall} → length l ≡ 16 → a ≡ find_of b n → o ≡ tag_call_of l a → o ≡ tag_find_call b n l
   unfolding tag_find_call
-  find-call h e f = simp (eq-eqb (length l) 16 h) (f ∙ ap (tag_call_of l) e)
+  find_call h e f = simp (eq-eqb (length l) 16 h) (f ∙ ap (tag_call_of l) e)

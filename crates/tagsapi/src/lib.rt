@@ -1,4 +1,6 @@
 // The extension tags of a block for C: a library beside that of `capi`.
+#![tactic(auto)]
+
 ghost use Rattle.std.specs.Prelude.{◌≡◌, length};
 ghost use Rattle.uf2_tags.specs.Room.{first_place};
 ghost use Rattle.tagsapi.specs.Calls.{Low, tag_bytes, tag_call, tag_call_of, tag_at_call, tag_find_call};

@@ -1,4 +1,6 @@
 // An arrival taken for C: a library of its own, so that the call is compiled as one piece.
+#![tactic(auto)]
+
 ghost use Rattle.std.specs.Prelude.{◌≡◌};
 ghost use Rattle.uf2_receiver.specs.Receiver.{lent_at, left_at};
 ghost use Rattle.call_bytes.specs.Calls.{take_call_of, take_return};

@@ -1,4 +1,6 @@
 // The parts of a line of text, put one after the other: bytes, a number in decimal, a flag, two numbers.
+#![tactic(auto)]
+
 pub mod hex_answer;
 pub mod hex_state;
 pub mod lines;

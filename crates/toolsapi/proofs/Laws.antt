@@ -30,13 +30,13 @@ unfolding make_regions_bytes
 regions_told image family start out {n} {x} {b} e h = ap (λ (k : ℕ). make_result k b) h ∙ ap result_of (answer_is e)
 
 module _ (out l : List ℕ) where
-  pub digest-other : length out ≢ 16 → out ≡ digest_over out l
+  pub digest_other : length out ≢ 16 → out ≡ digest_over out l
   unfolding digest_over
-  digest-other h = rw (ne_eqb (length out) 16 h)
+  digest_other h = rw (ne_eqb (length out) 16 h)
 
-  pub digest-told : length out ≡ 16 → {b : List ℕ} {x : Digest} → b ≡ digest_bytes x → x ≡ md5_of l → b ≡ digest_over out l
+  pub digest_told : length out ≡ 16 → {b : List ℕ} {x : Digest} → b ≡ digest_bytes x → x ≡ md5_of l → b ≡ digest_over out l
   unfolding digest_over
-  digest-told h {b} {x} e k = e ∙ ap digest_bytes k ∙ rw (eq-eqb (length out) 16 h)
+  digest_told h {b} {x} e k = e ∙ ap digest_bytes k ∙ rw (eq-eqb (length out) 16 h)
 
 -- ---- one file from two
 

@@ -1,5 +1,7 @@
 // The C interface for tools on a host: files made of images, digests, and one Universal Hex file from two. What a board links is `capi`, the
 // calls for traces are in `traceapi`.
+#![tactic(auto)]
+
 ghost use Rattle.std.specs.Prelude.{◌≡◌};
 ghost use Rattle.uf2_make.specs.Uf2block.{block_over};
 ghost use Rattle.uf2_make.specs.Uf2check.{check_of, make_number};

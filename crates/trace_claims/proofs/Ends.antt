@@ -9,7 +9,7 @@ use lib.ListN.{length}
 use borrow.Author.Tests.{ltb-true, leb-true, leb-false}
 use Rattle.laws.specs.Sets.{Set, size, any, least}
 use Rattle.laws.proofs.Tests.{split, clash}
-use Rattle.laws.proofs.Laws.{any-all, least-below}
+use Rattle.laws.proofs.Laws.{any_all, least_below}
 use Rattle.memory.specs.Bitmap.{marked_in, marks}
 use Rattle.memory.proofs.bitmap.Laws.{marked_past}
 use Rattle.partitions.specs.declared.Settings.{Settings}
@@ -100,33 +100,33 @@ has_missing : (m : List ℕ) (n : ℕ) → marks m < n → any n (is_missing m) 
 has_missing m n l =
     split (any n (is_missing m))
     (λ y. y)
-    (λ z. absurd (omega (arith, marks_below m n (λ j b. marked_here (marked_in m j) (any-all (is_missing m) n z j b)))))
+    (λ z. absurd (omega (arith, marks_below m n (λ j b. marked_here (marked_in m j) (any_all (is_missing m) n z j b)))))
 
 -- ---- what is missing
 
 module _ (s : Settings) (h : Lent) (t : List ℕ) where
-  abbrev end-world : World
-  end-world = (replay_of s h t).world
+  abbrev end_world : World
+  end_world = (replay_of s h t).world
 
-  running-missing : (r : Run) → end-world.transfer ≡ Running r → any r.head.total (is_missing end-world.seen) ≡ true
-  running-missing r e =
+  running_missing : (r : Run) → end_world.transfer ≡ Running r → any r.head.total (is_missing end_world.seen) ≡ true
+  running_missing r e =
       let less : ltb r.count r.head.total ≡ true = sym (ap below e) ∙ below_end s h t in
-      let same : r.count ≡ marks end-world.seen = sym (ap count_of e) ∙ replay_count s h t in
-      has_missing end-world.seen r.head.total (omega (arith, same, ltb-true r.count r.head.total less))
+      let same : r.count ≡ marks end_world.seen = sym (ap count_of e) ∙ replay_count s h t in
+      has_missing end_world.seen r.head.total (omega (arith, same, ltb-true r.count r.head.total less))
 
-  missing-by : (x : State) → end-world.transfer ≡ x → MissingFacts end-world (missing_at x end-world.seen)
-  missing-by Idle e = λ r q. idle-run r (sym e ∙ q)
+  missing_by : (x : State) → end_world.transfer ≡ x → MissingFacts end_world (missing_at x end_world.seen)
+  missing_by Idle e = λ r q. idle-run r (sym e ∙ q)
     where
       idle-run : (r : Run) → Idle ≡ Running r → ⊥
       idle-run r q = let z : ◌≡◌ {A = ℕ} 0 1 = cc in omega arith
-  missing-by (Running r) e =
-      let m = end-world.seen in
-      let b = least-below (is_missing m) r.head.total (running-missing r e) in
-      (r, e, b.0, marked_back (marked_in m (least r.head.total (is_missing m))) b.1, λ j l. marked_here (marked_in m j) (any-all (is_missing m) (least r.head.total (is_missing m)) b.2 j l))
-  missing-by (Done g) e = λ r q. done-run r (sym e ∙ q)
+  missing_by (Running r) e =
+      let m = end_world.seen in
+      let b = least_below (is_missing m) r.head.total (running_missing r e) in
+      (r, e, b.0, marked_back (marked_in m (least r.head.total (is_missing m))) b.1, λ j l. marked_here (marked_in m j) (any_all (is_missing m) (least r.head.total (is_missing m)) b.2 j l))
+  missing_by (Done g) e = λ r q. done-run r (sym e ∙ q)
     where
       done-run : (r : Run) → Done g ≡ Running r → ⊥
       done-run r q = let z : ◌≡◌ {A = ℕ} 0 1 = cc in omega arith
 
-  pub missing-facts : MissingFacts end-world (missing_at end-world.transfer end-world.seen)
-  missing-facts = missing-by end-world.transfer refl
+  pub missing_facts : MissingFacts end_world (missing_at end_world.transfer end_world.seen)
+  missing_facts = missing_by end_world.transfer refl

@@ -23,7 +23,7 @@ use Rattle.trace_report.specs.Report.{added_to, FiguresOutcome, figures_outcome,
 use Rattle.trace_report.proofs.adding.Adds.{replay_count}
 use Rattle.trace_claims.specs.Claims.{sum_of, Sound, Refused71, Refused70, ReportNumbers, ElseReplayed, RefusalsLeaveAll, times_of, times_yes, place_of, count_in, arrivals_in, Adds, ReplayAdds, EndFacts, ReplayEnds, Job, done_by, add_all, told_by, all_answers, all_discards, FromFresh}
 use Rattle.trace_claims.proofs.Counts.{place_is, place_low, sum_is, yes_is, length_all, counts_at, sum_at, times_append, yes_append, yes_most, length_answers, length_discards}
-use Rattle.trace_claims.proofs.Ends.{missing-facts}
+use Rattle.trace_claims.proofs.Ends.{missing_facts}
 
 -- ---- a good report is a sound one
 
@@ -55,79 +55,79 @@ module _ (r : Report) (s : Settings) (h : Lent) (t : List ℕ) where
   abbrev full : FiguresOutcome
   full = figures_outcome (Replayed (replay_of s h t).stop) (added_to r s h t) (lent_of (replay_of s h t).world)
 
-  is-bad : good_report r ≡ false → call ≡ figures_outcome BadReport r h
+  is_bad_lem : good_report r ≡ false → call ≡ figures_outcome BadReport r h
   unfolding add_of
-  is-bad g = rw g
+  is_bad_lem g = rw g
 
-  is-many : good_report r ≡ true → room ≡ false → call ≡ figures_outcome TooMany r h
+  is_many : good_report r ≡ true → room ≡ false → call ≡ figures_outcome TooMany r h
   unfolding add_of
-  is-many g m = rw (g, m)
+  is_many g m = rw (g, m)
 
-  is-full : good_report r ≡ true → room ≡ true → call ≡ full
+  is_full : good_report r ≡ true → room ≡ true → call ≡ full
   unfolding add_of
-  is-full g m = rw (g, m)
+  is_full g m = rw (g, m)
 
   -- by the number of the answer
-  number-bad : good_report r ≡ false → figures_number call.answer ≡ 71
-  number-bad g = ap (λ (o : FiguresOutcome). figures_number o.answer) (is-bad g)
+  number_bad : good_report r ≡ false → figures_number call.answer ≡ 71
+  number_bad g = ap (λ (o : FiguresOutcome). figures_number o.answer) (is_bad_lem g)
 
-  number-many : good_report r ≡ true → room ≡ false → figures_number call.answer ≡ 70
-  number-many g m = ap (λ (o : FiguresOutcome). figures_number o.answer) (is-many g m)
+  number_many : good_report r ≡ true → room ≡ false → figures_number call.answer ≡ 70
+  number_many g m = ap (λ (o : FiguresOutcome). figures_number o.answer) (is_many g m)
 
-  number-full : good_report r ≡ true → room ≡ true → figures_number call.answer ≡ 0
-  number-full g m = ap (λ (o : FiguresOutcome). figures_number o.answer) (is-full g m)
+  number_full : good_report r ≡ true → room ≡ true → figures_number call.answer ≡ 0
+  number_full g m = ap (λ (o : FiguresOutcome). figures_number o.answer) (is_full g m)
 
-  if-71 : figures_number call.answer ≡ 71 → good_report r ≡ false
-  if-71 e =
+  if_71 : figures_number call.answer ≡ 71 → good_report r ≡ false
+  if_71 e =
       split (good_report r)
-      (λ g. split room (λ m. absurd (omega (arith, number-full g m))) (λ m. absurd (omega (arith, number-many g m))))
+      (λ g. split room (λ m. absurd (omega (arith, number_full g m))) (λ m. absurd (omega (arith, number_many g m))))
       (λ g. g)
 
-  if-70 : figures_number call.answer ≡ 70 → (good_report r ≡ true) × (room ≡ false)
-  if-70 e =
+  if_70 : figures_number call.answer ≡ 70 → (good_report r ≡ true) × (room ≡ false)
+  if_70 e =
       split (good_report r)
-      (λ g. split room (λ m. absurd (omega (arith, number-full g m))) (λ m. (g, m)))
-      (λ g. absurd (omega (arith, number-bad g)))
+      (λ g. split room (λ m. absurd (omega (arith, number_full g m))) (λ m. (g, m)))
+      (λ g. absurd (omega (arith, number_bad g)))
 
-  if-0 : figures_number call.answer ≡ 0 → (good_report r ≡ true) × (room ≡ true)
-  if-0 e =
+  if_0 : figures_number call.answer ≡ 0 → (good_report r ≡ true) × (room ≡ true)
+  if_0 e =
       split (good_report r)
-      (λ g. split room (λ m. (g, m)) (λ m. absurd (omega (arith, number-many g m))))
-      (λ g. absurd (omega (arith, number-bad g)))
+      (λ g. split room (λ m. (g, m)) (λ m. absurd (omega (arith, number_many g m))))
+      (λ g. absurd (omega (arith, number_bad g)))
 
-  if-replayed : {x : Stop} → call.answer ≡ Replayed x → call ≡ full
-  if-replayed e = let b = if-0 (ap figures_number e) in is-full b.0 b.1
+  if_replayed : {x : Stop} → call.answer ≡ Replayed x → call ≡ full
+  if_replayed e = let b = if_0 (ap figures_number e) in is_full b.0 b.1
 
-  room-few : room ≡ true → r.records + length t / 513 ≤ 4294967295
+  room_few : room ≡ true → r.records + length t / 513 ≤ 4294967295
   unfolding with_room
-  room-few m = leb-true (r.records + length t / 513) 4294967295 m
+  room_few m = leb-true (r.records + length t / 513) 4294967295 m
 
-  few-room : r.records + length t / 513 ≤ 4294967295 → room ≡ true
+  few_room : r.records + length t / 513 ≤ 4294967295 → room ≡ true
   unfolding with_room
-  few-room l = le-leb (r.records + length t / 513) 4294967295 l
+  few_room l = le-leb (r.records + length t / 513) 4294967295 l
 
-  room-many : room ≡ false → 4294967295 < r.records + length t / 513
+  room_many : room ≡ false → 4294967295 < r.records + length t / 513
   unfolding with_room
-  room-many m = leb-false (r.records + length t / 513) 4294967295 m
+  room_many m = leb-false (r.records + length t / 513) 4294967295 m
 
-  many-room : 4294967295 < r.records + length t / 513 → room ≡ false
+  many_room : 4294967295 < r.records + length t / 513 → room ≡ false
   unfolding with_room
-  many-room l = lt-leb (r.records + length t / 513) 4294967295 l
+  many_room l = lt-leb (r.records + length t / 513) 4294967295 l
 
 pub refused_71 : Refused71
 unfolding Refused71
 refused_71 r s h t l = (
-  λ e c. clash (good_report r) (sound_good r c) (if-71 r s h t (ap figures_number e)),
+  λ e c. clash (good_report r) (sound_good r c) (if_71 r s h t (ap figures_number e)),
   λ n. split (good_report r)
       (λ g. absurd (n (good_sound r l g)))
-      (λ g. ap (λ (o : FiguresOutcome). o.answer) (is-bad r s h t g)),
+      (λ g. ap (λ (o : FiguresOutcome). o.answer) (is_bad_lem r s h t g)),
 )
 
 pub refused_70 : Refused70
 unfolding Refused70
 refused_70 r s h t l = (
-  λ e. let b = if-70 r s h t (ap figures_number e) in (good_sound r l b.0, omega (arith, room-many r s h t b.1)),
-  λ b. ap (λ (o : FiguresOutcome). o.answer) (is-many r s h t (sound_good r b.0) (many-room r s h t (omega (arith, b.1)))),
+  λ e. let b = if_70 r s h t (ap figures_number e) in (good_sound r l b.0, omega (arith, room_many r s h t b.1)),
+  λ b. ap (λ (o : FiguresOutcome). o.answer) (is_many r s h t (sound_good r b.0) (many_room r s h t (omega (arith, b.1)))),
 )
 
 pub report_numbers : ReportNumbers
@@ -137,16 +137,16 @@ report_numbers = refl
 pub else_replayed : ElseReplayed
 unfolding ElseReplayed
 else_replayed r s h t c l =
-    ap (λ (o : FiguresOutcome). o.answer) (is-full r s h t (sound_good r c) (few-room r s h t l))
+    ap (λ (o : FiguresOutcome). o.answer) (is_full r s h t (sound_good r c) (few_room r s h t l))
 
 pub refusals_leave_all : RefusalsLeaveAll
 unfolding RefusalsLeaveAll
 refusals_leave_all r s h t n =
     split (good_report r)
     (λ g. split (room r s h t)
-    (λ m. absurd (n (replay_of s h t).stop (ap (λ (o : FiguresOutcome). o.answer) (is-full r s h t g m))))
-    (λ m. left (is-many r s h t g m)))
-    (λ g. left (is-bad r s h t g))
+    (λ m. absurd (n (replay_of s h t).stop (ap (λ (o : FiguresOutcome). o.answer) (is_full r s h t g m))))
+    (λ m. left (is_many r s h t g m)))
+    (λ g. left (is_bad_lem r s h t g))
   where
     left : {x : FiguresAnswer} → add_of r s h t ≡ figures_outcome x r h → ((add_of r s h t).report ≡ r) × ((add_of r s h t).lent ≡ h)
     left e = (ap (λ (o : FiguresOutcome). o.report) e, ap (λ (o : FiguresOutcome). o.lent) e)
@@ -181,17 +181,17 @@ module _ (r : Report) (s : Settings) (h : Lent) (t : List ℕ) where
 
   ends : EndFacts (replay_of s h t).world (added_to r s h t)
   unfolding added_to
-  ends = record { marked = refl; count = sym (replay_count s h t); missing = missing-facts s h t }
+  ends = record { marked = refl; count = sym (replay_count s h t); missing = missing_facts s h t }
 
 pub replay_adds : ReplayAdds
 unfolding ReplayAdds
 replay_adds r s h t x c e =
-    subst (λ (o : FiguresOutcome). Adds r s h t o.report) (sym (if-replayed r s h t e)) (adds r s h t c)
+    subst (λ (o : FiguresOutcome). Adds r s h t o.report) (sym (if_replayed r s h t e)) (adds r s h t c)
 
 pub replay_ends : ReplayEnds
 unfolding ReplayEnds
 replay_ends r s h t x e =
-    subst (λ (o : FiguresOutcome). EndFacts (replay_of s h t).world o.report) (sym (if-replayed r s h t e)) (ends r s h t)
+    subst (λ (o : FiguresOutcome). EndFacts (replay_of s h t).world o.report) (sym (if_replayed r s h t e)) (ends r s h t)
 
 -- ---- many traces
 
@@ -213,8 +213,8 @@ adds_one : (r : Report) (j : Job) → Sound r → AddsOne r j (done_by r j)
 adds_one r j c =
     split (good_report r)
     (λ g. split (room r j.settings j.lent j.trace)
-    (λ m. subst (AddsOne r j) (sym (is-full r j.settings j.lent j.trace g m)) (replayed (adds r j.settings j.lent j.trace c)))
-    (λ m. subst (AddsOne r j) (sym (is-many r j.settings j.lent j.trace g m)) many))
+    (λ m. subst (AddsOne r j) (sym (is_full r j.settings j.lent j.trace g m)) (replayed (adds r j.settings j.lent j.trace c)))
+    (λ m. subst (AddsOne r j) (sym (is_many r j.settings j.lent j.trace g m)) many))
     (λ g. clash (good_report r) (sound_good r c) g)
   where
     replayed : Adds r j.settings j.lent j.trace (added_to r j.settings j.lent j.trace) → AddsOne r j (full r j.settings j.lent j.trace)

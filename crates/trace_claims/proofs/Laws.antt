@@ -65,18 +65,18 @@ module _ (a b c : Part) (wa : Whole a) (wb : Whole b) (wc : Whole c) where
   abbrev total : Bool
   total = fits (a.report.records + b.report.records) c.report.records (a.traces + b.traces) c.traces
 
-  left-merged : total ≡ true → left ≡ merge_outcome Merged (joined (joined a b) c)
+  left_merged : total ≡ true → left ≡ merge_outcome Merged (joined (joined a b) c)
   unfolding room_for joined
-  left-merged e =
+  left_merged e =
       let f = fits_both (a.report.records + b.report.records) c.report.records (a.traces + b.traces) c.traces e in
       let m : room_for a b ≡ true = fits_in_lem a.report.records b.report.records a.traces b.traces (omega (arith, f.0)) (omega (arith, f.1)) in
       ap (λ (o : MergeOutcome). merge_both o (merge_outcome Merged c)) (merged_is a b wa.good wb.good m)
       ∙ both_merged (joined a b) c
       ∙ merged_is (joined a b) c (good_joined a b wa.good wb.good) wc.good e
 
-  right-merged : total ≡ true → right ≡ merge_outcome Merged (joined a (joined b c))
+  right_merged : total ≡ true → right ≡ merge_outcome Merged (joined a (joined b c))
   unfolding room_for joined
-  right-merged e =
+  right_merged e =
       let f = fits_both (a.report.records + b.report.records) c.report.records (a.traces + b.traces) c.traces e in
       let m : room_for b c ≡ true = fits_in_lem b.report.records c.report.records b.traces c.traces (omega (arith, f.0)) (omega (arith, f.1)) in
       let k : room_for a (joined b c) ≡ true = fits_in_lem a.report.records (b.report.records + c.report.records) a.traces (b.traces + c.traces) (omega (arith, f.0)) (omega (arith, f.1)) in
@@ -84,16 +84,16 @@ module _ (a b c : Part) (wa : Whole a) (wb : Whole b) (wc : Whole c) where
       ∙ both_merged a (joined b c)
       ∙ merged_is a (joined b c) wa.good (good_joined b c wb.good wc.good) k
 
-  left-many : total ≡ false → merge_number left.answer ≡ 70
+  left_many : total ≡ false → merge_number left.answer ≡ 70
   unfolding room_for joined merge_both
-  left-many e =
+  left_many e =
       split (room_for a b)
       (λ m. ap (λ (o : MergeOutcome). merge_number o.answer) (ap (λ (o : MergeOutcome). merge_both o (merge_outcome Merged c)) (merged_is a b wa.good wb.good m) ∙ both_merged (joined a b) c ∙ many_is (joined a b) c (good_joined a b wa.good wb.good) wc.good e))
       (λ n. ap (λ (o : MergeOutcome). merge_number (merge_both o (merge_outcome Merged c)).answer) (many_is a b wa.good wb.good n))
 
-  right-many : total ≡ false → merge_number right.answer ≡ 70
+  right_many : total ≡ false → merge_number right.answer ≡ 70
   unfolding room_for joined merge_both
-  right-many e =
+  right_many e =
       split (room_for b c)
       (λ m.
       let k : room_for a (joined b c) ≡ false =
@@ -108,5 +108,5 @@ pub merges_associate : MergesAssociate
 unfolding MergesAssociate
 merges_associate a b c wa wb wc =
     split (total a b c wa wb wc)
-    (λ e. let s = left-merged a b c wa wb wc e ∙ ap (merge_outcome Merged) (joined_assoc a b c) ∙ sym (right-merged a b c wa wb wc e) in (ap (λ (o : MergeOutcome). merge_number o.answer) s, λ z. s))
-    (λ e. let l = left-many a b c wa wb wc e in let r = right-many a b c wa wb wc e in (l ∙ sym r, λ z. absurd (omega (arith, l, z))))
+    (λ e. let s = left_merged a b c wa wb wc e ∙ ap (merge_outcome Merged) (joined_assoc a b c) ∙ sym (right_merged a b c wa wb wc e) in (ap (λ (o : MergeOutcome). merge_number o.answer) s, λ z. s))
+    (λ e. let l = left_many a b c wa wb wc e in let r = right_many a b c wa wb wc e in (l ∙ sym r, λ z. absurd (omega (arith, l, z))))

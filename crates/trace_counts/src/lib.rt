@@ -1,4 +1,6 @@
 // A report over many traces: records counted by their answers, whether it is good and has room, and a tally added to it.
+#![tactic(auto)]
+
 pub mod gaps;
 pub mod tallies;
 

@@ -40,13 +40,13 @@ words_low i q a e l =
     top q a l = omega arith
 
 module _ (l : List ℕ) (i : ℕ) where
-  pub index-other : length l ≢ 8 → l ≡ index_over l i
+  pub index_other : length l ≢ 8 → l ≡ index_over l i
   unfolding index_over
-  index-other h = rw (ne_eqb (length l) 8 h)
+  index_other h = rw (ne_eqb (length l) 8 h)
 
-  pub index-put : length l ≡ 8 → put_at (put_at l 0 (i % 4294967296)) 4 (i / 4294967296) ≡ index_over l i
+  pub index_put : length l ≡ 8 → put_at (put_at l 0 (i % 4294967296)) 4 (i / 4294967296) ≡ index_over l i
   unfolding index_over low_first
-  index-put e =
+  index_put e =
       let a = i % 4294967296 in
       let b = i / 4294967296 in
       rw (put_over l 0 a (omega arith))

@@ -1,4 +1,6 @@
 // What the calls for traces share: where a replay stopped and what came of a trace as numbers, and the bytes of index and report.
+#![tactic(auto)]
+
 pub mod reports;
 
 ghost use Rattle.std.specs.Prelude.{◌≡◌};

@@ -63,69 +63,69 @@ module _ (a b : Part) (la : length a.report.counts ≡ 16) (ga : good_part a ≡
   abbrev q : Report
   q = b.report
 
-  records-fit : p.records + q.records ≤ 4294967295
+  records_fit : p.records + q.records ≤ 4294967295
   unfolding room_for
-  records-fit = leb-true (p.records + q.records) 4294967295 (and_left (leb (p.records + q.records) 4294967295) (leb (a.traces + b.traces) 4294967295) m)
+  records_fit = leb-true (p.records + q.records) 4294967295 (and_left (leb (p.records + q.records) 4294967295) (leb (a.traces + b.traces) 4294967295) m)
 
-  traces-fit : a.traces + b.traces ≤ 4294967295
+  traces_fit : a.traces + b.traces ≤ 4294967295
   unfolding room_for
-  traces-fit = leb-true (a.traces + b.traces) 4294967295 (and_right (leb (p.records + q.records) 4294967295) (leb (a.traces + b.traces) 4294967295) m)
+  traces_fit = leb-true (a.traces + b.traces) 4294967295 (and_right (leb (p.records + q.records) 4294967295) (leb (a.traces + b.traces) 4294967295) m)
 
-  counts-fit : summed_to p.counts q.counts 16 ≡ tab 16 (both_at p.counts q.counts)
-  counts-fit =
+  counts_fit : summed_to p.counts q.counts 16 ≡ tab 16 (both_at p.counts q.counts)
+  counts_fit =
       is_tab (summed_to p.counts q.counts 16) 16 (both_at p.counts q.counts) (length_summed p.counts q.counts 16 ∙ la)
       (λ j l.
       summed_at p.counts q.counts 16 j l (omega arith)
       ∙ plus_fits (get_or p.counts j 0) (get_or q.counts j 0)
-      (omega (arith, sum_has 16 p.counts j l, sum_has 16 q.counts j l, (good_is a ga).sums, (good_is b gb).sums, records-fit)))
+      (omega (arith, sum_has 16 p.counts j l, sum_has 16 q.counts j l, (good_is a ga).sums, (good_is b gb).sums, records_fit)))
 
-  pub by-is : joined_by a b ≡ joined a b
+  pub by_is : joined_by a b ≡ joined a b
   unfolding joined_by joined
-  by-is =
+  by_is =
       rw (
-        counts-fit,
-        plus_fits p.records q.records records-fit,
-        plus_fits p.discards q.discards (omega (arith, (good_is a ga).discards, (good_is b gb).discards, records-fit)),
-        plus_fits a.traces b.traces traces-fit,
-        plus_fits a.bad b.bad (omega (arith, (good_is a ga).stops, (good_is b gb).stops, traces-fit)),
-        plus_fits a.differs b.differs (omega (arith, (good_is a ga).stops, (good_is b gb).stops, traces-fit)),
+        counts_fit,
+        plus_fits p.records q.records records_fit,
+        plus_fits p.discards q.discards (omega (arith, (good_is a ga).discards, (good_is b gb).discards, records_fit)),
+        plus_fits a.traces b.traces traces_fit,
+        plus_fits a.bad b.bad (omega (arith, (good_is a ga).stops, (good_is b gb).stops, traces_fit)),
+        plus_fits a.differs b.differs (omega (arith, (good_is a ga).stops, (good_is b gb).stops, traces_fit)),
       )
 
 -- ---- the two ends of a call for one trace
 
 module _ (r : Report) (n : ℕ) {x : Bool} (e : x ≡ good_report r) where
-  pub one-bad : {p : Part} → p ≡ fresh_part → not (x && leb n 2) ≡ true → merge_outcome BadReport p ≡ one_of r n
+  pub one_bad : {p : Part} → p ≡ fresh_part → not (x && leb n 2) ≡ true → merge_outcome BadReport p ≡ one_of r n
   unfolding one_of
-  one-bad f b = rw (← e, b, f)
+  one_bad f b = rw (← e, b, f)
 
-  pub one-is : {p : Part} → p ≡ one_part r n → not (x && leb n 2) ≡ false → merge_outcome Merged p ≡ one_of r n
+  pub one_is : {p : Part} → p ≡ one_part r n → not (x && leb n 2) ≡ false → merge_outcome Merged p ≡ one_of r n
   unfolding one_of
-  one-is f b = rw (← e, b, f)
+  one_is f b = rw (← e, b, f)
 
 -- ---- the three ends of a call for two parts
 
 module _ (a b : Part) where
-  pub merge-bad : good_part a && good_part b ≡ false → merge_outcome BadReport a ≡ merge_of a b
+  pub merge_bad : good_part a && good_part b ≡ false → merge_outcome BadReport a ≡ merge_of a b
   unfolding merge_of
-  merge-bad g = rw g
+  merge_bad g = rw g
 
-  pub merge-many : good_part a && good_part b ≡ true → room_for a b ≡ false → merge_outcome TooMany a ≡ merge_of a b
+  pub merge_many : good_part a && good_part b ≡ true → room_for a b ≡ false → merge_outcome TooMany a ≡ merge_of a b
   unfolding merge_of
-  merge-many g m = rw (g, m)
+  merge_many g m = rw (g, m)
 
-  pub merge-is : {c : Part} → length a.report.counts ≡ 16 → good_part a && good_part b ≡ true → room_for a b ≡ true → c ≡ joined_by a b → merge_outcome Merged c ≡ merge_of a b
+  pub merge_is : {c : Part} → length a.report.counts ≡ 16 → good_part a && good_part b ≡ true → room_for a b ≡ true → c ≡ joined_by a b → merge_outcome Merged c ≡ merge_of a b
   unfolding merge_of
-  merge-is l g m e =
-      rw (g, m, e, by-is a b l (and_left (good_part a) (good_part b) g) (and_right (good_part a) (good_part b) g) m)
+  merge_is l g m e =
+      rw (g, m, e, by_is a b l (and_left (good_part a) (good_part b) g) (and_right (good_part a) (good_part b) g) m)
 
   -- as the code asks
-  pub ends-bad : {x y : Bool} → x ≡ good_part a → y ≡ good_part b → not (x && y) ≡ true → merge_outcome BadReport a ≡ merge_of a b
-  ends-bad {x} {y} e f n = merge-bad (rw (← e, ← f) (not-true (x && y) n))
+  pub ends_bad : {x y : Bool} → x ≡ good_part a → y ≡ good_part b → not (x && y) ≡ true → merge_outcome BadReport a ≡ merge_of a b
+  ends_bad {x} {y} e f n = merge_bad (rw (← e, ← f) (not-true (x && y) n))
 
-  pub ends-many : {x y z : Bool} → x ≡ good_part a → y ≡ good_part b → not (x && y) ≡ false → z ≡ fits a.report.records b.report.records a.traces b.traces → not z ≡ true → merge_outcome TooMany a ≡ merge_of a b
+  pub ends_many : {x y z : Bool} → x ≡ good_part a → y ≡ good_part b → not (x && y) ≡ false → z ≡ fits a.report.records b.report.records a.traces b.traces → not z ≡ true → merge_outcome TooMany a ≡ merge_of a b
   unfolding room_for
-  ends-many {x} {y} {z} e f n g m = merge-many (rw (← e, ← f) (not-false (x && y) n)) (sym g ∙ not-true z m)
+  ends_many {x} {y} {z} e f n g m = merge_many (rw (← e, ← f) (not-false (x && y) n)) (sym g ∙ not-true z m)
 
-  pub ends-merged : {x y z : Bool} {c : Part} → length a.report.counts ≡ 16 → x ≡ good_part a → y ≡ good_part b → not (x && y) ≡ false → z ≡ fits a.report.records b.report.records a.traces b.traces → not z ≡ false → c ≡ joined_by a b → merge_outcome Merged c ≡ merge_of a b
+  pub ends_merged : {x y z : Bool} {c : Part} → length a.report.counts ≡ 16 → x ≡ good_part a → y ≡ good_part b → not (x && y) ≡ false → z ≡ fits a.report.records b.report.records a.traces b.traces → not z ≡ false → c ≡ joined_by a b → merge_outcome Merged c ≡ merge_of a b
   unfolding room_for
-  ends-merged {x} {y} {z} l e f n g m h = merge-is l (rw (← e, ← f) (not-false (x && y) n)) (sym g ∙ not-false z m) h
+  ends_merged {x} {y} {z} l e f n g m h = merge_is l (rw (← e, ← f) (not-false (x && y) n)) (sym g ∙ not-false z m) h

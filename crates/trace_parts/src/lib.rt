@@ -1,4 +1,6 @@
 // Parts of a fleet's figures: the part of one trace, and two parts as one, which are over two lists of traces, one list after the other.
+#![tactic(auto)]
+
 ghost use Rattle.std.specs.Prelude.{◌≡◌};
 ghost use Rattle.laws.specs.Numbered.{numbered};
 ghost use Rattle.laws.specs.Sets.{one};

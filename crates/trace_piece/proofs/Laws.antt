@@ -21,9 +21,9 @@ module _ (p : List ℕ) where
   unfolding is_bad
   bad_length_case h = rw (ne_eqb (length p) 513 h)
 
-  pub bad-stray : length p ≡ 513 → not (eqb (recorded p % 4) 0) ≡ is_bad p
+  pub bad_stray : length p ≡ 513 → not (eqb (recorded p % 4) 0) ≡ is_bad p
   unfolding is_bad
-  bad-stray h = rw (eq-eqb (length p) 513 h)
+  bad_stray h = rw (eq-eqb (length p) 513 h)
 
   pub good_length : is_bad p ≡ false → length p ≡ 513
   unfolding is_bad

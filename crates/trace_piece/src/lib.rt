@@ -1,4 +1,6 @@
 // One piece of a trace by itself: whether it is a record, whether it says what we answer, what comes of it, and where a replay stops then.
+#![tactic(auto)]
+
 pub mod comparing;
 pub mod ends;
 

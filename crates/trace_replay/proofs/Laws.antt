@@ -23,7 +23,7 @@ use Rattle.trace_piece.specs.declared.Stop.TheVariants.{None, Bad, Differs}
 use Rattle.trace_piece.specs.Piece.{is_replayed, stop_of}
 use Rattle.trace_replay.specs.declared.one_piece.PieceReceipt.{PieceReceipt}
 use Rattle.trace_replay.specs.Trace.{PieceOutcome, piece_outcome, piece_of}
-use Rattle.trace_piece.proofs.comparing.Laws.{piece-taken}
+use Rattle.trace_piece.proofs.comparing.Laws.{piece_taken}
 use Rattle.trace_counts.specs.Tally.{tallied, recorded_at, tally_to}
 use Rattle.trace_replay.specs.Replay.{cut, pieces_of, TraceOutcome, trace_outcome, went_on, replay_from, begun, replay_of, before_stop, TallyOutcome, tally_outcome, with_counts}
 
@@ -118,7 +118,7 @@ pub whole_next : (s : Settings) (w : World) (t : List ℕ) (at i : ℕ) {to : �
     → piece_outcome x v ≡ piece_of s w (take (to - at) (drop at t)) → is_replayed x ≡ true → to ≡ 513 * (i + 1)
 whole_next s w t at i {to} e h q y =
     let p = take (to - at) (drop at t) in
-    let long = (piece-taken s w p (ap (λ (o : PieceOutcome). is_replayed o.answer) (sym q) ∙ y)).long in
+    let long = (piece_taken s w p (ap (λ (o : PieceOutcome). is_replayed o.answer) (sym q) ∙ y)).long in
     omega (arith, e, h, long, length-take (to - at) (drop at t), length-drop at t)
 
 -- so the next begins at a whole number of pieces, and has the next index
@@ -135,15 +135,15 @@ stop_before piece.Differs n i z = refl
 
 module _ (l₀ t : List ℕ) (i : ℕ) {l : List ℕ} (h : l ≡ tally_to l₀ t i) {o : TraceOutcome} {w : World} where
   -- at a stop, and at the end
-  tally-stops : (x : PieceAnswer) {y : Stop} → is_replayed x ≡ false → y ≡ stop_of x i → trace_outcome y w ≡ o → tally_outcome (trace_outcome y w) l ≡ with_counts l₀ t o
+  tally_stops : (x : PieceAnswer) {y : Stop} → is_replayed x ≡ false → y ≡ stop_of x i → trace_outcome y w ≡ o → tally_outcome (trace_outcome y w) l ≡ with_counts l₀ t o
   unfolding with_counts
-  tally-stops x z hy e =
+  tally_stops x z hy e =
       let n : before_stop (length t / 513) o.stop ≡ i = ap (λ (o : TraceOutcome). before_stop (length t / 513) o.stop) (sym e) ∙ ap (before_stop (length t / 513)) hy ∙ stop_before x (length t / 513) i z in
       rw (n, ← h, e)
 
-  pub tally-ends : (at : ℕ) → at ≡ 513 * i → at ≤ length t → length t ≤ at → trace_outcome None w ≡ o → tally_outcome (trace_outcome None w) l ≡ with_counts l₀ t o
+  pub tally_ends : (at : ℕ) → at ≡ 513 * i → at ≤ length t → length t ≤ at → trace_outcome None w ≡ o → tally_outcome (trace_outcome None w) l ≡ with_counts l₀ t o
   unfolding with_counts
-  tally-ends at a b c e =
+  tally_ends at a b c e =
       let n : length t / 513 ≡ i = omega (arith, a, b, c) in
       let m : before_stop (length t / 513) o.stop ≡ i = ap (λ (o : TraceOutcome). before_stop (length t / 513) o.stop) (sym e) ∙ n in
       rw (m, ← h, e)
@@ -152,7 +152,7 @@ module _ (l₀ t : List ℕ) (i : ℕ) {l : List ℕ} (h : l ≡ tally_to l₀ t
 pub stops_counted : (s : Settings) (l₀ trace : List ℕ) (at i : ℕ) (u : Transfer) (h : Lent) → at < length trace → {to : ℕ} → to ≡ at + min 513 (length trace - at) → {r : PieceReceipt} {k : Lent} → piece_outcome r.answer (world r.transfer k) ≡ piece_of s (world u h) (take (to - at) (drop at trace))
     → is_replayed r.answer ≡ false → {x : Stop} → x ≡ stop_of r.answer i → {l : List ℕ} → l ≡ tally_to l₀ trace i → {o : TraceOutcome} → left s trace at i u h ≡ o → tally_outcome (trace_outcome x (world r.transfer k)) l ≡ with_counts l₀ trace o
 stops_counted s l₀ trace at i u h more e {r} {k} q z hx hl eo =
-    tally-stops l₀ trace i hl r.answer z hx (run-stops s trace at i u h more e {r = r} {k = k} q z hx ∙ eo)
+    tally_stops l₀ trace i hl r.answer z hx (run-stops s trace at i u h more e {r = r} {k = k} q z hx ∙ eo)
 
 -- without the tally
 pub outcome_alone : (l t : List ℕ) {o p : TraceOutcome} {m : List ℕ} → tally_outcome p m ≡ with_counts l t o → p ≡ o

@@ -1,4 +1,6 @@
 // A whole trace of what a site sent, replayed from Idle: its pieces one after the other, and a tally of the records that were replayed.
+#![tactic(auto)]
+
 mod one_piece;
 
 ghost use Rattle.std.specs.Prelude.{◌≡◌, ◌+◌, ◌-◌, ◌≤◌, min};

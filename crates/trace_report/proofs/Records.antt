@@ -66,9 +66,9 @@ record_good p r =
 -- ---- what a record says is ours
 
 module _ (p : List ℕ) (x : Answer) (d : Bool) where
-  pub agree-written : is_bad p ≡ false → agrees (recorded p) x d ≡ true → p ≡ written (number_of x) (one d) (drop 1 p)
+  pub agree_written : is_bad p ≡ false → agrees (recorded p) x d ≡ true → p ≡ written (number_of x) (one d) (drop 1 p)
   unfolding agrees
-  agree-written h a =
+  agree_written h a =
       let g = good p h in
       split (eqb (recorded p / 8) (number_of x))
       (λ y.
@@ -78,9 +78,9 @@ module _ (p : List ℕ) (x : Answer) (d : Bool) where
       parts p g.long ∙ ap (λ (b : ℕ). b ∷ drop 1 p) e)
       (λ z. clash false (rw z at a) refl)
 
-  pub written-agree : {a : List ℕ} → p ≡ written (number_of x) (one d) a → agrees (recorded p) x d ≡ true
+  pub written_agree : {a : List ℕ} → p ≡ written (number_of x) (one d) a → agrees (recorded p) x d ≡ true
   unfolding agrees
-  written-agree e =
+  written_agree e =
       let first : recorded p ≡ number_of x * 8 + one d * 4 = ap recorded e in
       let low = one_le d in
       let n : recorded p / 8 ≡ number_of x = omega arith in

@@ -29,7 +29,7 @@ use Rattle.trace_piece.specs.declared.Stop.TheVariants.{None, Bad, Differs}
 use Rattle.trace_replay.proofs.Laws.{pieces_none, pieces_next}
 use Rattle.trace_report.specs.Pieces.{IsRecord, piece_at, arrival_at, arrivals_to, records_before}
 use Rattle.trace_report.specs.Claims.{our_record, after, IsOurs, BeginsIdle, StoppedAt, StopIsTheFirst, EndsAfter, EndsBeforeTheStop, recording_of, AllWhole, RecordingReplays}
-use Rattle.trace_report.proofs.Records.{good, good_record, record_good, not_bad, agree-written, written-agree}
+use Rattle.trace_report.proofs.Records.{good, good_record, record_good, not_bad, agree_written, written_agree}
 
 -- ---- what the replay comes to
 
@@ -37,9 +37,9 @@ module _ (s : Settings) (w : World) (p : List ℕ) (l : List (List ℕ)) (i : �
   abbrev whole : TraceOutcome
   whole = replay_from s i w (p ∷ l)
 
-  from-bad : is_bad p ≡ true → whole ≡ trace_outcome (Bad i) w
+  from_bad : is_bad p ≡ true → whole ≡ trace_outcome (Bad i) w
   unfolding replay_from piece_of
-  from-bad b = rw b
+  from_bad b = rw b
 
   module _ (g : is_bad p ≡ false) where
     from-differs : agrees (recorded p) (receive_of s w (drop 1 p)).answer (receive_of s w (drop 1 p)).discarded ≡ false → whole ≡ trace_outcome (Differs i) w
@@ -114,7 +114,7 @@ module _ (s : Settings) (h : Lent) (t : List ℕ) where
 
     at-bad : is_bad p ≡ true → Right s h t (replay_from s i w (pieces_of (from i)))
     at-bad y =
-        by_next (from-bad s w p (pieces_of (from (i + 1))) i y)
+        by_next (from_bad s w p (pieces_of (from (i + 1))) i y)
         (record { stopped = (lt, b.ours, λ r. clash (is_bad p) y (record_good p r)); ended = refl })
 
     module _ (g : is_bad p ≡ false) where
@@ -126,7 +126,7 @@ module _ (s : Settings) (h : Lent) (t : List ℕ) where
               lt,
               b.ours,
               good_record p g,
-              λ o. clash agreed (written-agree p (receive_of s w (drop 1 p)).answer (receive_of s w (drop 1 p)).discarded o.1) a,
+              λ o. clash agreed (written_agree p (receive_of s w (drop 1 p)).answer (receive_of s w (drop 1 p)).discarded o.1) a,
             );
             ended = refl;
           })
@@ -134,7 +134,7 @@ module _ (s : Settings) (h : Lent) (t : List ℕ) where
       before-next : agreed ≡ true → Before (i + 1)
       before-next a =
           let size : length p ≡ 513 = (good p g).long in
-          let mine : IsOurs s h t i = (size, agree-written p (receive_of s w (drop 1 p)).answer (receive_of s w (drop 1 p)).discarded g a) in
+          let mine : IsOurs s h t i = (size, agree_written p (receive_of s w (drop 1 p)).answer (receive_of s w (drop 1 p)).discarded g a) in
           record {
             ours = λ k l. split (eqb k i)
                 (λ e. subst (IsOurs s h t) (sym (eqb-true k i e)) mine)
@@ -174,18 +174,18 @@ module _ (s : Settings) (h : Lent) (t : List ℕ) where
   index (Bad i) = i
   index (Differs i) = i
 
-  ours-below : (x : Stop) → StoppedAt s h t x → (k : ℕ) → k < index x → IsOurs s h t k
-  ours-below None c k l = c k (omega arith)
-  ours-below (Bad i) c k l = c.1 k l
-  ours-below (Differs i) c k l = c.1 k l
+  ours_below : (x : Stop) → StoppedAt s h t x → (k : ℕ) → k < index x → IsOurs s h t k
+  ours_below None c k l = c k (omega arith)
+  ours_below (Bad i) c k l = c.1 k l
+  ours_below (Differs i) c k l = c.1 k l
 
-  in-trace : (x : Stop) → StoppedAt s h t x → index x ≤ (length t + 512) / 513
-  in-trace None c = omega arith
-  in-trace (Bad i) c = omega (arith, c.0)
-  in-trace (Differs i) c = omega (arith, c.0)
+  in_trace : (x : Stop) → StoppedAt s h t x → index x ≤ (length t + 512) / 513
+  in_trace None c = omega arith
+  in_trace (Bad i) c = omega (arith, c.0)
+  in_trace (Differs i) c = omega (arith, c.0)
 
-  ours-record : (k : ℕ) → IsOurs s h t k → IsRecord (piece_at t k)
-  ours-record k o =
+  ours_record : (k : ℕ) → IsOurs s h t k → IsRecord (piece_at t k)
+  ours_record k o =
       let v = receive_of s (after s h t k) (arrival_at t k) in
       record {
         answer = number_of v.answer;
@@ -196,10 +196,10 @@ module _ (s : Settings) (h : Lent) (t : List ℕ) where
         is = o.1;
       }
 
-  no-later : (x y : Stop) → StoppedAt s h t x → StoppedAt s h t y → index x < index y → ⊥
-  no-later None y c d l = omega (arith, in-trace y d)
-  no-later (Bad i) y c d l = c.2 (ours-record i (ours-below y d i l))
-  no-later (Differs i) y c d l = c.3 (ours-below y d i l)
+  no_later : (x y : Stop) → StoppedAt s h t x → StoppedAt s h t y → index x < index y → ⊥
+  no_later None y c d l = omega (arith, in_trace y d)
+  no_later (Bad i) y c d l = c.2 (ours_record i (ours_below y d i l))
+  no_later (Differs i) y c d l = c.3 (ours_below y d i l)
 
   same_stop : (x y : Stop) → StoppedAt s h t x → StoppedAt s h t y → index x ≡ index y → x ≡ y
   same_stop None None c d e = refl
@@ -215,9 +215,9 @@ module _ (s : Settings) (h : Lent) (t : List ℕ) where
   one_stop : (x y : Stop) → StoppedAt s h t x → StoppedAt s h t y → x ≡ y
   one_stop x y c d =
       split (ltb (index x) (index y))
-      (λ l. absurd (no-later x y c d (ltb-true (index x) (index y) l)))
+      (λ l. absurd (no_later x y c d (ltb-true (index x) (index y) l)))
       (λ m. split (ltb (index y) (index x))
-      (λ l. absurd (no-later y x d c (ltb-true (index y) (index x) l)))
+      (λ l. absurd (no_later y x d c (ltb-true (index y) (index x) l)))
       (λ n. same_stop x y c d (omega (arith, ltb-false (index x) (index y) m, ltb-false (index y) (index x) n))))
 
 pub stop_is_the_first : StopIsTheFirst
@@ -232,7 +232,7 @@ unfolding EndsBeforeTheStop
 ends_before_the_stop s h t =
     let r = right s h t in
     let x = (replay_of s h t).stop in
-    record { world = r.ended; ours = λ k l. ours-below s h t x r.stopped k (below x l) }
+    record { world = r.ended; ours = λ k l. ours_below s h t x r.stopped k (below x l) }
   where
     below : (x : Stop) {k : ℕ} → k < records_before t x → k < index s h t x
     below None l = omega arith
@@ -251,7 +251,7 @@ recording_from s (a ∷ l) i w h =
     let size : length q ≡ 513 = omega (arith, h.0) in
     let bit = one_le o.discarded in
     let g : is_bad q ≡ false = not_bad q size (omega arith) in
-    let y : agrees (recorded q) o.answer o.discarded ≡ true = written-agree q o.answer o.discarded refl in
+    let y : agrees (recorded q) o.answer o.discarded ≡ true = written_agree q o.answer o.discarded refl in
     let e : pieces_of (q ++ rest) ≡ q ∷ pieces_of rest =
     pieces_next (q ++ rest) (omega (arith, length-append q rest))
     ∙ rw (take_at q rest 513 size, drop_at q rest 513 size) in

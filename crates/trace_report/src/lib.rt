@@ -1,4 +1,6 @@
 // An exact report over traces: each call adds one trace, replayed from Idle.
+#![tactic(auto)]
+
 pub mod adding;
 
 ghost use Rattle.std.specs.Prelude.{◌≡◌};

@@ -23,13 +23,13 @@ abbrev pub taken_to : State → Answer → Bool → Bool → Accepted
 taken_to s a clears discards = record { transfer = record { state = s }; answer = a; discarded = discards; clears = clears }
 
 module _ (d : Deed) (clears discards : Bool) (g : Head) (c : ℕ) where
-  pub accepted-more : c < g.total → accepted d clears discards g c ≡ taken_to (running g c) (deed_answer d) clears discards
+  pub accepted_more : c < g.total → accepted d clears discards g c ≡ taken_to (running g c) (deed_answer d) clears discards
   unfolding accepted counted raised
-  accepted-more h = simp (lt-ltb c g.total h)
+  accepted_more h = simp (lt-ltb c g.total h)
 
-  pub accepted-last : g.total ≤ c → accepted d clears discards g c ≡ taken_to (Done g) Completed clears discards
+  pub accepted_last : g.total ≤ c → accepted d clears discards g c ≡ taken_to (Done g) Completed clears discards
   unfolding accepted counted raised
-  accepted-last h = simp (le-ltb c g.total h)
+  accepted_last h = simp (le-ltb c g.total h)
 
 -- ---- a step
 

@@ -1,4 +1,6 @@
 // The transfer: its state, the answers to an arrival, and one step of it.
+#![tactic(auto)]
+
 pub mod retold;
 
 ghost use Rattle.std.specs.Prelude.{◌≡◌, ◌+◌};

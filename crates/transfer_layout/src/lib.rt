@@ -1,4 +1,6 @@
 // A transfer as bytes: how it goes in, and how it comes back. Every byte slice is read; include/uf2_receiver.h has the layout for C.
+#![tactic(auto)]
+
 pub mod results;
 mod states;
 

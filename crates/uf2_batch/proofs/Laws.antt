@@ -115,9 +115,9 @@ module _ (n : ℕ) (s : Settings) (accepted : Bool) (r : List ℕ) (i : ℕ) whe
   abbrev after : List (List ℕ) → TurnEnd → BatchEnd
   after l e = end_from n s e.world (accepted || e.accepted) (set r i e.result) (i + 1) l
 
-  end-next : (w : World) (a : List ℕ) (l : List (List ℕ)) → end_from n s w accepted r i (a ∷ l) ≡ after l (turn_of (receive_of s w a))
+  end_next : (w : World) (a : List ℕ) (l : List (List ℕ)) → end_from n s w accepted r i (a ∷ l) ≡ after l (turn_of (receive_of s w a))
   unfolding end_from receive_all answers_of discards_of results_of any_acceptance stored_from
-  end-next w a l = simp or_assoc
+  end_next w a l = simp or_assoc
 
   end_none : (w : World) → end_from n s w accepted r i [] ≡ record { number = n; world = w; accepted = accepted; results = r }
   unfolding end_from receive_all answers_of discards_of results_of any_acceptance stored_from
@@ -130,12 +130,12 @@ module _ (n : ℕ) (s : Settings) (accepted : Bool) (r : List ℕ) (i : ℕ) whe
       let w = world u h in
       let size : i * 512 + 512 - i * 512 ≡ 512 = omega arith in
       ap (after l) (ho ∙ ap (λ (j : ℕ). turn_of (receive_of s w (take j (drop (i * 512) a)))) size)
-      ∙ sym (end-next w (take 512 (drop (i * 512) a)) l)
+      ∙ sym (end_next w (take 512 (drop (i * 512) a)) l)
       ∙ ap (end_from n s w accepted r i) (sym (arrivals_next n i a lt))
 
   -- the end of the loop
-  pub end-ran : (u : Transfer) (a : List ℕ) (h : Lent) {e : BatchEnd} → n ≤ i → end_from n s (world u h) accepted r i (arrivals_of (n - i) (drop (i * 512) a)) ≡ e → batch_left (record { number = n; transfer = u; accepted = accepted }) r h ≡ e
-  end-ran u a h l q =
+  pub end_ran : (u : Transfer) (a : List ℕ) (h : Lent) {e : BatchEnd} → n ≤ i → end_from n s (world u h) accepted r i (arrivals_of (n - i) (drop (i * 512) a)) ≡ e → batch_left (record { number = n; transfer = u; accepted = accepted }) r h ≡ e
+  end_ran u a h l q =
       sym (ap (end_from n s (world u h) accepted r i) (arrivals_none n i (drop (i * 512) a) l) ∙ end_none (world u h)) ∙ q
 
 -- the loop begins

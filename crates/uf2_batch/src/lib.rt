@@ -1,5 +1,7 @@
 // Arrivals taken one after the other. Settings and the lengths of what is lent are the same for all of them: they are judged once, and what
 // the settings say of a family is asked once for a run of arrivals of one family (`judged`).
+#![tactic(auto)]
+
 mod opening;
 
 ghost use Rattle.std.specs.Prelude.{◌≡◌, ◌≤◌, length};

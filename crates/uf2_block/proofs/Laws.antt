@@ -24,9 +24,9 @@ pub use Rattle.uf2_block.proofs.words.Laws.{field_number, field_in_lem, field_pa
 
 -- n is the flags
 module _ (a : List ℕ) {n : ℕ} (e : n ≡ field_at a 8) where
-  pub flagged-container : n / 0x1000 % 2 ≡ 1 → Container ≡ flagged_of a
+  pub flagged_container : n / 0x1000 % 2 ≡ 1 → Container ≡ flagged_of a
   unfolding flagged_of
-  flagged-container h = rw (← e, eq-eqb (n / 0x1000 % 2) 1 h)
+  flagged_container h = rw (← e, eq-eqb (n / 0x1000 % 2) 1 h)
 
   module _ (p : n / 0x1000 % 2 ≡ 1 → ⊥) where
     pub flagged-bare : (n / 0x2000 % 2 ≡ 1 → ⊥) → NoFamily ≡ flagged_of a
@@ -38,9 +38,9 @@ module _ (a : List ℕ) {n : ℕ} (e : n ≡ field_at a 8) where
     flagged-found h f = rw (← e, ne_eqb (n / 0x1000 % 2) 1 p, eq-eqb (n / 0x2000 % 2) 1 h, f)
 
 module _ (a : List ℕ) where
-  pub header-first : (field_at a 0 ≡ 0x0A324655 → ⊥) → header_of a ≡ NotBlock
+  pub header_first : (field_at a 0 ≡ 0x0A324655 → ⊥) → header_of a ≡ NotBlock
   unfolding header_of
-  header-first n = rw (ne_eqb (field_at a 0) 0x0A324655 n) refl
+  header_first n = rw (ne_eqb (field_at a 0) 0x0A324655 n) refl
 
   module _ (p : field_at a 0 ≡ 0x0A324655) where
     pub header-second : (field_at a 4 ≡ 0x9E5D5157 → ⊥) → header_of a ≡ NotBlock

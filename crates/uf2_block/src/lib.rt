@@ -1,4 +1,6 @@
 // A UF2 block: its fields and the answer of its header. What reads and writes a field is passed on from `words`.
+#![tactic(auto)]
+
 pub mod covering;
 pub mod digest_bytes;
 pub mod regions;

@@ -43,9 +43,9 @@ window_low MainRam = omega arith
 window_low XipRam = omega arith
 
 module _ (n : Lengths) (x : ℕ) where
-  pub window-flash : in_window n Flash x ≡ true → window_of n x ≡ In Flash
+  pub window_flash : in_window n Flash x ≡ true → window_of n x ≡ In Flash
   unfolding window_of
-  window-flash f = rw f
+  window_flash f = rw f
 
   module _ (f : in_window n Flash x ≡ false) where
     pub window-main : in_window n MainRam x ≡ true → window_of n x ≡ In MainRam
@@ -69,12 +69,12 @@ pub record Numbers (size : ℕ) (b : Block) : Type 0 where
   pub below : b.number < b.total
 
 module _ (size : ℕ) (b : Block) where
-  pub numbers-right : Numbers size b → bad_numbers size b ≡ false
-  numbers-right n =
+  pub numbers_right : Numbers size b → bad_numbers size b ≡ false
+  numbers_right n =
       rw (ne_eqb b.total 0 n.some, le-ltb size (b.total * 256) n.room, lt-leb b.total b.number n.below)
 
-  pub numbers-false : bad_numbers size b ≡ false → Numbers size b
-  numbers-false h =
+  pub numbers_false : bad_numbers size b ≡ false → Numbers size b
+  numbers_false h =
       let l = or_left (eqb b.total 0 || ltb size (b.total * 256)) (leb b.total b.number) h in
       record {
         some = eqb-false _ _ (or_left (eqb b.total 0) (ltb size (b.total * 256)) l);
@@ -83,34 +83,34 @@ module _ (size : ℕ) (b : Block) where
       }
 
   -- row 10 by cases, as the code asks it
-  pub numbers-wrong : (Numbers size b → ⊥) → true ≡ bad_numbers size b
-  numbers-wrong n = split (bad_numbers size b) sym (λ h. absurd (n (numbers-false h)))
+  pub numbers_wrong : (Numbers size b → ⊥) → true ≡ bad_numbers size b
+  numbers_wrong n = split (bad_numbers size b) sym (λ h. absurd (n (numbers_false h)))
 
-  pub numbers-last : b.total ≢ 0 → b.total * 256 ≤ size → leb b.total b.number ≡ bad_numbers size b
-  numbers-last n m = rw (ne_eqb b.total 0 n, le-ltb size (b.total * 256) m)
+  pub numbers_last : b.total ≢ 0 → b.total * 256 ≤ size → leb b.total b.number ≡ bad_numbers size b
+  numbers_last n m = rw (ne_eqb b.total 0 n, le-ltb size (b.total * 256) m)
 
 -- ---- a data block in no window
 
 module _ (b : Block) where
-  pub strayed-payload : b.size ≢ 256 → strayed b ≡ Refused BadPayload
+  pub strayed_payload : b.size ≢ 256 → strayed b ≡ Refused BadPayload
   unfolding strayed
-  strayed-payload n = rw (ne_eqb b.size 256 n)
+  strayed_payload n = rw (ne_eqb b.size 256 n)
 
-  pub strayed-address : b.size ≡ 256 → strayed b ≡ Refused BadAddress
+  pub strayed_address : b.size ≡ 256 → strayed b ≡ Refused BadAddress
   unfolding strayed
-  strayed-address p = rw (eq-eqb b.size 256 p)
+  strayed_address p = rw (eq-eqb b.size 256 p)
 
 -- ---- a comment beside its place
 
 module _ (k : Kind) (size : ℕ) (b : Block) where
-  pub noted-numbers : bad_numbers size b ≡ true → noted k size b ≡ Refused BadNumbers
+  pub noted_numbers : bad_numbers size b ≡ true → noted k size b ≡ Refused BadNumbers
   unfolding noted
-  noted-numbers h = rw h
+  noted_numbers h = rw h
 
-  pub noted-passed : bad_numbers size b ≡ false → {g : Head} → g ≡ head_with k b.family b.total
+  pub noted_passed : bad_numbers size b ≡ false → {g : Head} → g ≡ head_with k b.family b.total
       → Passed (record { head = g; number = b.number; body = Note }) ≡ noted k size b
   unfolding noted
-  noted-passed h e = rw (h, e)
+  noted_passed h e = rw (h, e)
 
 -- ---- the kind of a comment while a transfer runs
 
@@ -118,11 +118,11 @@ module _ (n : Lengths) (h : Head) (f total : ℕ) {lent : Bool} (e : lent ≡ is
   abbrev Own : Bool
   Own = eqb h.family f && eqb h.total total
 
-  pub own-taken : Own && lent ≡ true → own_kind n h f total ≡ h.kind
-  own-taken q = ap (λ (c : Bool). cond c h.kind Flash) (ap (λ (x : Bool). Own && x) (sym e) ∙ q)
+  pub own_taken : Own && lent ≡ true → own_kind n h f total ≡ h.kind
+  own_taken q = ap (λ (c : Bool). cond c h.kind Flash) (ap (λ (x : Bool). Own && x) (sym e) ∙ q)
 
-  pub own-other : Own && lent ≡ false → own_kind n h f total ≡ Flash
-  own-other q = ap (λ (c : Bool). cond c h.kind Flash) (ap (λ (x : Bool). Own && x) (sym e) ∙ q)
+  pub own_other : Own && lent ≡ false → own_kind n h f total ≡ Flash
+  own_other q = ap (λ (c : Bool). cond c h.kind Flash) (ap (λ (x : Bool). Own && x) (sym e) ∙ q)
 
 -- "any other is flash": one to a transfer that is Idle or Done
 pub note_idle : (n : Lengths) (b : Block) → note_kind n Idle b ≡ Flash
@@ -136,28 +136,28 @@ note_done n g b = refl
 -- ---- a block
 
 module _ (r : Rooms) (n : Lengths) (t : State) (b : Block) where
-  abbrev noteAt : Kind → Screening
-  noteAt k = note_found k (room_in r k) b
+  abbrev note_at : Kind → Screening
+  note_at k = note_found k (room_in r k) b
 
   abbrev data_at : Window → Screening
   data_at u = data_found u (room_in r (window_kind u)) b
 
-  pub found-comment : b.comment ≡ true → found r n t b ≡ noteAt (note_kind n t b)
+  pub found_comment : b.comment ≡ true → found r n t b ≡ note_at (note_kind n t b)
   unfolding found
-  found-comment h = ap (λ (c : Bool). cond c (noteAt (note_kind n t b)) (data_at (window_of n b.address))) h
+  found_comment h = ap (λ (c : Bool). cond c (note_at (note_kind n t b)) (data_at (window_of n b.address))) h
 
-  pub found-data : b.comment ≡ false → found r n t b ≡ data_at (window_of n b.address)
+  pub found_data : b.comment ≡ false → found r n t b ≡ data_at (window_of n b.address)
   unfolding found
-  found-data h = ap (λ (c : Bool). cond c (noteAt (note_kind n t b)) (data_at (window_of n b.address))) h
+  found_data h = ap (λ (c : Bool). cond c (note_at (note_kind n t b)) (data_at (window_of n b.address))) h
 
   -- as the code goes, call by call
-  pub check-comment : b.comment ≡ true → {k : Kind} → k ≡ note_kind n t b → {p : Place} → p ≡ room_in r k → {x : Screening} → x ≡ note_found k p b → x ≡ found r n t b
-  check-comment h {k} e q y = y ∙ ap (λ (p : Place). note_found k p b) q ∙ ap noteAt e ∙ sym (found-comment h)
+  pub check_comment : b.comment ≡ true → {k : Kind} → k ≡ note_kind n t b → {p : Place} → p ≡ room_in r k → {x : Screening} → x ≡ note_found k p b → x ≡ found r n t b
+  check_comment h {k} e q y = y ∙ ap (λ (p : Place). note_found k p b) q ∙ ap note_at e ∙ sym (found_comment h)
 
-  pub check-window : b.comment ≡ false → {u : Window} → u ≡ window_of n b.address → {k : Kind} → k ≡ window_kind u → {p : Place} → p ≡ room_in r k
+  pub check_window : b.comment ≡ false → {u : Window} → u ≡ window_of n b.address → {k : Kind} → k ≡ window_kind u → {p : Place} → p ≡ room_in r k
       → {x : Screening} → x ≡ data_found u p b → x ≡ found r n t b
-  check-window h {u} e q i y =
-      y ∙ ap (λ (p : Place). data_found u p b) (i ∙ ap (room_in r) q) ∙ ap data_at e ∙ sym (found-data h)
+  check_window h {u} e q i y =
+      y ∙ ap (λ (p : Place). data_found u p b) (i ∙ ap (room_in r) q) ∙ ap data_at e ∙ sym (found_data h)
 
 -- ---- a place that is handed in
 
@@ -178,13 +178,13 @@ refusal_header header.NoFamily n = λ e. omega arith
 refusal_header (header.Found b) n = absurd (⊎_elim (λ x. omega arith) (⊎_elim (λ x. omega arith) (λ x. omega arith)) n)
 
 module _ (r : Rooms) (n : Lengths) (t : State) (a : List ℕ) where
-  pub screen-header : {h : Header} → h ≡ header_of a → {x : Screening} → x ≡ after_header h (found (low_rooms r) n t) → x ≡ screen_at r n t a
+  pub screen_header : {h : Header} → h ≡ header_of a → {x : Screening} → x ≡ after_header h (found (low_rooms r) n t) → x ≡ screen_at r n t a
   unfolding screen_at screen_in
-  screen-header e q = rw (sym e) q
+  screen_header e q = rw (sym e) q
 
-  pub screen-found : (b : Block) → header_of a ≡ header.Found b → screen_at r n t a ≡ found (low_rooms r) n t b
+  pub screen_found : (b : Block) → header_of a ≡ header.Found b → screen_at r n t a ≡ found (low_rooms r) n t b
   unfolding screen_at screen_in
-  screen-found b e = rw e
+  screen_found b e = rw e
 
 -- ---- the numbers of the header's refusals are the answers'
 

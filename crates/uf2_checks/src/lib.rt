@@ -1,4 +1,6 @@
 // What the screening of an arrival speaks of: windows and their bytes, what the settings say of a family, and a block that passes.
+#![tactic(auto)]
+
 pub mod block_checks;
 pub mod block_kind;
 mod comments;

@@ -32,9 +32,9 @@ deed_writes Notes kind at p h = refl
 deed_writes Keeps kind at p h = refl
 
 module _ (p : PlacedBlock) (d : Deed) (t : Accepted) (payload : List ℕ) (w : World) where
-  entering-is : entering_of p d t payload w.seen (beside_of w.held) ≡ entering (decision_plan (accepts p d t) w.held.sectors) (accept_of w payload p d t).seen (beside_of (accept_of w payload p d t).held)
+  entering_is : entering_of p d t payload w.seen (beside_of w.held) ≡ entering (decision_plan (accepts p d t) w.held.sectors) (accept_of w payload p d t).seen (beside_of (accept_of w payload p d t).held)
   unfolding accept_of wiped_if entering_of
-  entering-is =
+  entering_is =
       ap (λ (x : Writing). record { writing = x; seen = with_mark (cleared_if t.clears w.seen) p.number })
       (deed_writes d p.head.kind (at_of p.body) payload (wiped_if t.clears w.held))
 
@@ -42,5 +42,5 @@ module _ (p : PlacedBlock) (d : Deed) (t : Accepted) (payload : List ℕ) (w : W
   pub entered : {r : Plan} {m k u x : List ℕ} → entering r m (beside k u x) ≡ entering_of p d t payload w.seen (beside_of w.held) → (r ≡ decision_plan (accepts p d t) w.held.sectors) × (record { transfer = t.transfer.state; seen = m; held = record { flash = w.held.flash; sectors = k; main = u; xip = x } } ≡ with_flash w.held.flash (accept_of w payload p d t))
   unfolding accept_of
   entered e =
-      let z = e ∙ entering-is in
+      let z = e ∙ entering_is in
       (ap (λ (q : Entering). q.writing.plan) z, rw (ap (λ (q : Entering). q.seen) z, ap (λ (q : Entering). q.writing.left.sectors) z, ap (λ (q : Entering). q.writing.left.main) z, ap (λ (q : Entering). q.writing.left.xip) z))

@@ -1,4 +1,6 @@
 // What an accepted block writes beside the flash: the maps and, of a RAM block, its bytes. What it would write to flash is a plan.
+#![tactic(auto)]
+
 mod clearing;
 mod pages;
 pub mod receipts;

@@ -21,12 +21,12 @@ use Rattle.uf2_known.specs.declared.Known.{Known}
 -- ---- rows 4 to 17
 
 module _ (t : State) (seen : List ℕ) (kept : Bool) {c : Screening} where
-  pub screened-refused : {x : Answer} → c ≡ Refused x → stays x ≡ after_screening t seen kept c
+  pub screened_refused : {x : Answer} → c ≡ Refused x → stays x ≡ after_screening t seen kept c
   unfolding after_screening
-  screened-refused q = rw q
+  screened_refused q = rw q
 
-  pub screened-passed : {p : PlacedBlock} → c ≡ Passed p → {d : Decision} → d ≡ after_screening t seen kept (Passed p) → d ≡ after_screening t seen kept c
-  screened-passed q y = rw q y
+  pub screened_passed : {p : PlacedBlock} → c ≡ Passed p → {d : Decision} → d ≡ after_screening t seen kept (Passed p) → d ≡ after_screening t seen kept c
+  screened_passed q y = rw q y
 
 -- ---- every row
 
@@ -34,9 +34,9 @@ module _ (known : Known) (t : Transfer) (a : List ℕ) (h : Lent) where
   abbrev sizes : Lengths
   sizes = lengths_of (world t h).held
 
-  pub judge-lengths : known.right ≡ false → stays BadBuffers ≡ known_decision known (world t h) a
+  pub judge_lengths : known.right ≡ false → stays BadBuffers ≡ known_decision known (world t h) a
   unfolding known_decision
-  judge-lengths l = rw l
+  judge_lengths l = rw l
 
   module _ (l : known.right ≡ true) where
     pub judge-settings : known.good ≡ false → stays BadSettings ≡ known_decision known (world t h) a

@@ -1,4 +1,6 @@
 // What an arrival comes to: the checks in their order, and what an accepted block does. Nothing is written.
+#![tactic(auto)]
+
 mod deeds;
 mod settling;
 

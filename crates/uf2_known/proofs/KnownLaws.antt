@@ -29,9 +29,9 @@ Knows s w a k =
     (k ≡ known_of s (lengths_of w.held) (length w.seen) (length w.held.sectors) a) × StartsLow k.rooms.flash
 
 module _ (s : Settings) (w : World) (a : List ℕ) {k : Known} (e : Knows s w a k) where
-  pub decision-is : known_decision k w a ≡ decided s w a
+  pub decision_is : known_decision k w a ≡ decided s w a
   unfolding known_decision decide
-  decision-is =
+  decision_is =
       let n = lengths_of w.held in
       let r = ap (λ (k : Known). k.right) e.0 in
       let g = ap (λ (k : Known). k.good) e.0 in

@@ -1,4 +1,6 @@
 // What an arrival can come to, and what the settings and the lengths say of it before it is judged.
+#![tactic(auto)]
+
 pub mod judged;
 
 ghost use Rattle.std.specs.Prelude.{◌≡◌};

@@ -11,7 +11,7 @@ use denote.Enum.Declared.{tag_of}
 use Rattle.laws.specs.Over.{over}
 use Rattle.laws.specs.Rows.{rows}
 use Rattle.laws.proofs.OverLaws.{length_over, put_over}
-use Rattle.laws.proofs.RowsLaws.{rows_none, length-rows, part-rows, rows-over}
+use Rattle.laws.proofs.RowsLaws.{rows_none, length_rows, part_rows, rows_over}
 use Rattle.uf2_make.specs.declared.checks.MakeAnswer.{MakeAnswer}
 use Rattle.uf2_make.specs.declared.checks.MakeAnswer.TheVariants.{BadImage, BadStart, PastWindow, ShortOutput, Made}
 use Rattle.uf2_make.specs.Uf2check.{check_of}
@@ -22,30 +22,30 @@ use Rattle.uf2_make.proofs.page_block.Blocks.{length_block, one_block}
 
 -- an image of n pages
 module _ (image : List ℕ) (family start n : ℕ) (whole : length image ≡ 256 * n) where
-  pub length-page : (k : ℕ) → k < n → length (page_of image k) ≡ 256
-  length-page k l = simp (length-take, length-drop) (omega arith)
+  pub length_page : (k : ℕ) → k < n → length (page_of image k) ≡ 256
+  length_page k l = simp (length-take, length-drop) (omega arith)
 
-  pub block-at : (k : ℕ) → block_at image family start k ≡ block_bytes (start + 256 * k) k n family (page_of image k)
+  pub block_at_lem : (k : ℕ) → block_at image family start k ≡ block_bytes (start + 256 * k) k n family (page_of image k)
   unfolding block_at
-  block-at k = let e : length image / 256 ≡ n = omega arith in rw e
+  block_at_lem k = let e : length image / 256 ≡ n = omega arith in rw e
 
   wide : (k : ℕ) → k < n → length (block_at image family start k) ≡ 512
-  wide k l = ap length (block-at k) ∙ length_block (start + 256 * k) k n family (page_of image k) (length-page k l)
+  wide k l = ap length (block_at_lem k) ∙ length_block (start + 256 * k) k n family (page_of image k) (length_page k l)
 
-  pub file-rows : file_bytes image family start ≡ rows (block_at image family start) n
+  pub file_rows : file_bytes image family start ≡ rows (block_at image family start) n
   unfolding file_bytes
-  file-rows = let e : length image / 256 ≡ n = omega arith in rw e
+  file_rows = let e : length image / 256 ≡ n = omega arith in rw e
 
-  pub length-file : length (file_bytes image family start) ≡ 512 * n
-  length-file = rw file-rows (length-rows 512 n (block_at image family start) wide n (omega arith))
+  pub length_file : length (file_bytes image family start) ≡ 512 * n
+  length_file = rw file_rows (length_rows 512 n (block_at image family start) wide n (omega arith))
 
-  pub part-file : (k : ℕ) → k < n → take 512 (drop (512 * k) (file_bytes image family start)) ≡ block_at image family start k
-  part-file k l = rw file-rows (part-rows 512 n (block_at image family start) wide n k (omega arith) l)
+  pub part_file : (k : ℕ) → k < n → take 512 (drop (512 * k) (file_bytes image family start)) ≡ block_at image family start k
+  part_file k l = rw file_rows (part_rows 512 n (block_at image family start) wide n k (omega arith) l)
 
-  pub blocks-long : (out₀ out : List ℕ) (k : ℕ) → 512 * n ≤ length out₀ → k ≤ n → out ≡ over out₀ 0 (rows (block_at image family start) k) → length out ≡ length out₀
-  blocks-long out₀ out k room l s =
+  pub blocks_long : (out₀ out : List ℕ) (k : ℕ) → 512 * n ≤ length out₀ → k ≤ n → out ≡ over out₀ 0 (rows (block_at image family start) k) → length out ≡ length out₀
+  blocks_long out₀ out k room l s =
       let f = block_at image family start in
-      let fits : 0 + length (rows f k) ≤ length out₀ = omega (arith, length-rows 512 n f wide k l) in
+      let fits : 0 + length (rows f k) ≤ length out₀ = omega (arith, length_rows 512 n f wide k l) in
       ap length s ∙ length_over out₀ 0 (rows f k) fits
 
   -- one block more, which a callee left in the part that it was lent; its address and its page as the code has them
@@ -55,19 +55,19 @@ module _ (image : List ℕ) (family start n : ℕ) (whole : length image ≡ 256
       → put_mid (512 * k) (512 * k + 512 - 512 * k) out ys ≡ over out₀ 0 (rows (block_at image family start) (k + 1))
   blocks_more out₀ out ys k a room l ha s hy =
       let f = block_at image family start in
-      let same : length out ≡ length out₀ = blocks-long out₀ out k room (omega arith) s in
+      let same : length out ≡ length out₀ = blocks_long out₀ out k room (omega arith) s in
       let part = take (512 * k + 512 - 512 * k) (drop (512 * k) out) in
       let page = take (256 * k + 256 - 256 * k) (drop (256 * k) image) in
       let p : length part ≡ 512 = simp (length-take, length-drop) (omega (arith, same)) in
       let q : length page ≡ 256 = simp (length-take, length-drop) (omega arith) in
       let b : block_bytes a k n family page ≡ block_over part a k n family page = one_block part a k n family page p q refl in
       let e : 256 * k + 256 - 256 * k ≡ 256 = omega arith in
-      let y : ys ≡ f k = hy ∙ (sym b ∙ rw (e, ha) (sym (block-at k))) in
+      let y : ys ≡ f k = hy ∙ (sym b ∙ rw (e, ha) (sym (block_at_lem k))) in
       let long : length ys ≡ 512 = ap length y ∙ wide k l in
-      put_over (512 * k) 512 out ys long ∙ rw (y, s) (rows-over 512 n f wide out₀ k l (omega arith))
+      put_over (512 * k) 512 out ys long ∙ rw (y, s) (rows_over 512 n f wide out₀ k l (omega arith))
 
-  pub blocks-whole : (out₀ out : List ℕ) (k : ℕ) → k ≡ n → out ≡ over out₀ 0 (rows (block_at image family start) k) → out ≡ over out₀ 0 (file_bytes image family start)
-  blocks-whole out₀ out k e s = s ∙ rw (e, ← file-rows)
+  pub blocks_whole : (out₀ out : List ℕ) (k : ℕ) → k ≡ n → out ≡ over out₀ 0 (rows (block_at image family start) k) → out ≡ over out₀ 0 (file_bytes image family start)
+  blocks_whole out₀ out k e s = s ∙ rw (e, ← file_rows)
 
 pub blocks_none : (image : List ℕ) (family start : ℕ) (out : List ℕ) → out ≡ over out 0 (rows (block_at image family start) 0)
 unfolding over
@@ -77,16 +77,16 @@ blocks_none image family start out = rw (rows_none (block_at image family start)
 
 module _ (image : List ℕ) (family start : ℕ) (out : List ℕ) where
   -- none but a refusal, by its tag
-  pub make-refused : (x : MakeAnswer) → OneOf (0 ∷ 1 ∷ 2 ∷ 3 ∷ []) (tag_of the_type x) → x ≡ check_of (length image) start (length out)
+  pub make_refused : (x : MakeAnswer) → OneOf (0 ∷ 1 ∷ 2 ∷ 3 ∷ []) (tag_of the_type x) → x ≡ check_of (length image) start (length out)
       → make_call x out ≡ make_of image family start out
   unfolding make_of
-  make-refused BadImage h e = rw (← e)
-  make-refused BadStart h e = rw (← e)
-  make-refused PastWindow h e = rw (← e)
-  make-refused ShortOutput h e = rw (← e)
-  make-refused (Made n) h e = absurd (⊎_elim (λ q. omega arith) (⊎_elim (λ q. omega arith) (⊎_elim (λ q. omega arith) (λ q. omega arith))) h)
+  make_refused BadImage h e = rw (← e)
+  make_refused BadStart h e = rw (← e)
+  make_refused PastWindow h e = rw (← e)
+  make_refused ShortOutput h e = rw (← e)
+  make_refused (Made n) h e = absurd (⊎_elim (λ q. omega arith) (⊎_elim (λ q. omega arith) (⊎_elim (λ q. omega arith) (λ q. omega arith))) h)
 
-  pub make-made : (x : MakeAnswer) (n : ℕ) {b : List ℕ} → x ≡ check_of (length image) start (length out) → x ≡ Made n → b ≡ over out 0 (file_bytes image family start)
+  pub make_made : (x : MakeAnswer) (n : ℕ) {b : List ℕ} → x ≡ check_of (length image) start (length out) → x ≡ Made n → b ≡ over out 0 (file_bytes image family start)
       → make_call (Made n) b ≡ make_of image family start out
   unfolding make_of
-  make-made x n {b} e h k = rw (← e, h, k)
+  make_made x n {b} e h k = rw (← e, h, k)

@@ -19,7 +19,7 @@ use Rattle.uf2_make.specs.Claims.{Reads, BlocksReadBack, RestStays}
 use Rattle.uf2_make.proofs.checks.Checks.{Right, made_right}
 use Rattle.uf2_make.specs.Uf2block.{lead_bytes, block_bytes}
 use Rattle.uf2_make.proofs.page_block.Blocks.{length_lead, length_data, length_block}
-use Rattle.uf2_make.proofs.Files.{length-page, block-at, length-file, part-file}
+use Rattle.uf2_make.proofs.Files.{length_page, block_at_lem, length_file, part_file}
 
 -- ---- one block
 
@@ -69,25 +69,25 @@ module _ (a n t f : ℕ) (page : List ℕ) (size : length page ≡ 256) where
       let p = (lead_bytes a n t f ++ page) ++ many 220 0 in
       subst (λ (k : ℕ). field_at (p ++ le32 0x0AB16F30) k ≡ 0x0AB16F30) (length_data a n t f page size) (field_le32 p 0x0AB16F30 [] (omega arith))
 
-  in-lead : (k x : ℕ) → field_at (lead_bytes a n t f ++ ((page ++ many 220 0) ++ le32 0x0AB16F30)) k ≡ x → field_at (block_bytes a n t f page) k ≡ x
-  in-lead k x h = rw parts h
+  in_lead : (k x : ℕ) → field_at (lead_bytes a n t f ++ ((page ++ many 220 0) ++ le32 0x0AB16F30)) k ≡ x → field_at (block_bytes a n t f page) k ≡ x
+  in_lead k x h = rw parts h
 
   block_reads : a < 2 ^ 32 → n < 2 ^ 32 → t < 2 ^ 32 → f < 2 ^ 32 → Reads (block_bytes a n t f page) a n t f page
   unfolding is_block
   block_reads ha hn ht hf =
       let s = (page ++ many 220 0) ++ le32 0x0AB16F30 in
-      let first = in-lead 0 0x0A324655 (at0 a n t f s) in
-      let second = in-lead 4 0x9E5D5157 (at4 a n t f s) in
+      let first = in_lead 0 0x0A324655 (at0 a n t f s) in
+      let second = in_lead 4 0x9E5D5157 (at4 a n t f s) in
       let long : length (page ++ many 220 0) ≡ 476 = omega (arith, length-append page (many 220 0), size, length_many 220 0) in
       record {
         long = length_block a n t f page size;
         magic = rw (eq-eqb (field_at (block_bytes a n t f page) 0) 0x0A324655 first, eq-eqb (field_at (block_bytes a n t f page) 4) 0x9E5D5157 second, eq-eqb (field_at (block_bytes a n t f page) 508) 0x0AB16F30 at508);
-        flags = in-lead 8 0x2000 (at8 a n t f s);
-        address_back = in-lead 12 a (at12 a n t f s ha);
-        size_back = in-lead 16 256 (at16 a n t f s);
-        number_back = in-lead 20 n (at20 a n t f s hn);
-        total_back = in-lead 24 t (at24 a n t f s ht);
-        family_back = in-lead 28 f (at28 a n t f s hf);
+        flags = in_lead 8 0x2000 (at8 a n t f s);
+        address_back = in_lead 12 a (at12 a n t f s ha);
+        size_back = in_lead 16 256 (at16 a n t f s);
+        number_back = in_lead 20 n (at20 a n t f s hn);
+        total_back = in_lead 24 t (at24 a n t f s ht);
+        family_back = in_lead 28 f (at28 a n t f s hf);
         page_back = ap (λ (l : List ℕ). take 476 (drop 32 l)) parts ∙ ap (take 476) (drop_at (lead_bytes a n t f) s 32 (length_lead a n t f)) ∙ take_at (page ++ many 220 0) (le32 0x0AB16F30) 476 long;
       }
 
@@ -106,29 +106,29 @@ module _ (image out : List ℕ) (family start n : ℕ) (made : (make_of image fa
   unfolding make_of
   written =
       let file = file_bytes image family start in
-      rw made (over_first out file ∙ ap (λ (k : ℕ). file ++ drop k out) (length-file image family start n right.whole))
+      rw made (over_first out file ∙ ap (λ (k : ℕ). file ++ drop k out) (length_file image family start n right.whole))
 
   -- block k of the output is block k of the file
-  pub output-block : (k : ℕ) → k < n → take 512 (drop (512 * k) (make_of image family start out).output) ≡ block_bytes (start + 256 * k) k n family (page_of image k)
-  output-block k l =
+  pub output_block : (k : ℕ) → k < n → take 512 (drop (512 * k) (make_of image family start out).output) ≡ block_bytes (start + 256 * k) k n family (page_of image k)
+  output_block k l =
       let file = file_bytes image family start in
-      let long : length file ≡ 512 * n = length-file image family start n right.whole in
+      let long : length file ≡ 512 * n = length_file image family start n right.whole in
       let rest : 512 ≤ length (drop (512 * k) file) = rw (length-drop (512 * k) file) (omega arith) in
       ap (λ (b : List ℕ). take 512 (drop (512 * k) b)) written
       ∙ ap (take 512) (drop-append-le (512 * k) file (drop (512 * n) out) (omega arith))
       ∙ take-append-le 512 (drop (512 * k) file) (drop (512 * n) out) rest
-      ∙ part-file image family start n right.whole k l
-      ∙ block-at image family start n right.whole k
+      ∙ part_file image family start n right.whole k l
+      ∙ block_at_lem image family start n right.whole k
 
 pub blocks_read_back : BlocksReadBack
 blocks_read_back image out family start n narrow made k l =
     let r = right image out family start n made in
     let window = r.window in
-    rw (output-block image out family start n made k l)
-    (block_reads (start + 256 * k) k n family (page_of image k) (length-page image family start n r.whole k l) (omega arith) (omega arith) (omega arith) narrow)
+    rw (output_block image out family start n made k l)
+    (block_reads (start + 256 * k) k n family (page_of image k) (length_page image family start n r.whole k l) (omega arith) (omega arith) (omega arith) narrow)
 
 pub rest_stays : RestStays
 rest_stays image out family start n made =
     let r = right image out family start n made in
     ap (drop (512 * n)) (written image out family start n made)
-    ∙ drop_at (file_bytes image family start) (drop (512 * n) out) (512 * n) (length-file image family start n r.whole)
+    ∙ drop_at (file_bytes image family start) (drop (512 * n) out) (512 * n) (length_file image family start n r.whole)

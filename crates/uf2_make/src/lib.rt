@@ -1,4 +1,6 @@
 // A UF2 file made of an image of whole pages.
+#![tactic(auto)]
+
 pub mod checks;
 pub mod lead;
 pub mod page_block;

@@ -20,12 +20,12 @@ use Rattle.md5_digest.specs.declared.Digest.{Digest}
 use Rattle.uf2_make.specs.declared.checks.MakeAnswer.TheVariants.{Made}
 use Rattle.uf2_make.proofs.checks.Checks.{Right, made_right}
 use Rattle.uf2_make.specs.Uf2file.{page_of}
-use Rattle.uf2_make.proofs.Files.{length-page}
+use Rattle.uf2_make.proofs.Files.{length_page}
 use Rattle.uf2_make_regions.specs.Sector.{sector_start, sector_of}
 use Rattle.uf2_make_regions.specs.Block.{lead_bytes, region_bytes, block_bytes}
 use Rattle.uf2_make_regions.specs.File.{sector_digest, file_bytes, make_of}
 use Rattle.uf2_make_regions.specs.Claims.{FinalSector, words_in, Reads, BlocksReadBack, RestStays}
-use Rattle.uf2_make_regions.proofs.Files.{block-at, length-file, part-file}
+use Rattle.uf2_make_regions.proofs.Files.{block_at_lem, length_file, part_file}
 use Rattle.uf2_make_regions.proofs.named.Laws.{length_lead, length_padded, length_data, length_block, length_digest}
 use Rattle.uf2_make_regions.proofs.sector.Laws.{final, one_content}
 
@@ -81,38 +81,38 @@ module _ (a n t f : ℕ) (page : List ℕ) (base : ℕ) (x : Digest) (size : len
   rest = (many 196 0 ++ region_bytes base x) ++ le32 0x0AB16F30
 
   -- the lead, the page, and what comes after them
-  by-lead : b ≡ lead_bytes a n t f ++ (page ++ rest)
+  by_lead : b ≡ lead_bytes a n t f ++ (page ++ rest)
   unfolding block_bytes
-  by-lead = simp append_assoc
+  by_lead = simp append_assoc
 
-  by-page : b ≡ (lead_bytes a n t f ++ page) ++ (many 196 0 ++ (region_bytes base x ++ le32 0x0AB16F30))
+  by_page : b ≡ (lead_bytes a n t f ++ page) ++ (many 196 0 ++ (region_bytes base x ++ le32 0x0AB16F30))
   unfolding block_bytes
-  by-page = simp append_assoc
+  by_page = simp append_assoc
 
-  by-start : b ≡ padded ++ (le32 base ++ (le32 4096 ++ (digest_bytes x ++ le32 0x0AB16F30)))
+  by_start : b ≡ padded ++ (le32 base ++ (le32 4096 ++ (digest_bytes x ++ le32 0x0AB16F30)))
   unfolding block_bytes region_bytes
-  by-start = simp append_assoc
+  by_start = simp append_assoc
 
   by_length : b ≡ (padded ++ le32 base) ++ (le32 4096 ++ (digest_bytes x ++ le32 0x0AB16F30))
   unfolding block_bytes region_bytes
   by_length = simp append_assoc
 
-  by-digest : b ≡ ((padded ++ le32 base) ++ le32 4096) ++ (digest_bytes x ++ le32 0x0AB16F30)
+  by_digest : b ≡ ((padded ++ le32 base) ++ le32 4096) ++ (digest_bytes x ++ le32 0x0AB16F30)
   unfolding block_bytes region_bytes
-  by-digest = simp append_assoc
+  by_digest = simp append_assoc
 
   by_last : b ≡ (padded ++ region_bytes base x) ++ (le32 0x0AB16F30 ++ [])
   unfolding block_bytes low_first
   by_last = refl
 
-  pub in-lead : (k y : ℕ) → field_at (lead_bytes a n t f ++ (page ++ rest)) k ≡ y → field_at b k ≡ y
-  in-lead k y h = rw by-lead h
+  pub in_lead : (k y : ℕ) → field_at (lead_bytes a n t f ++ (page ++ rest)) k ≡ y → field_at b k ≡ y
+  in_lead k y h = rw by_lead h
 
   pub at508 : field_at b 508 ≡ 0x0AB16F30
   at508 = rw by_last (field_after (padded ++ region_bytes base x) 0x0AB16F30 [] 508 (length_data a n t f page base x size) (omega arith))
 
   pub at484 : base < 2 ^ 32 → field_at b 484 ≡ base
-  at484 h = rw by-start (field_after padded base (le32 4096 ++ (digest_bytes x ++ le32 0x0AB16F30)) 484 (length_padded a n t f page size) h)
+  at484 h = rw by_start (field_after padded base (le32 4096 ++ (digest_bytes x ++ le32 0x0AB16F30)) 484 (length_padded a n t f page size) h)
 
   to488 : length (padded ++ le32 base) ≡ 488
   to488 = omega (arith, length-append padded (le32 base), length_padded a n t f page size, length_low 4 base)
@@ -120,18 +120,18 @@ module _ (a n t f : ℕ) (page : List ℕ) (base : ℕ) (x : Digest) (size : len
   pub at488 : field_at b 488 ≡ 4096
   at488 = rw by_length (field_after (padded ++ le32 base) 4096 (digest_bytes x ++ le32 0x0AB16F30) 488 to488 (omega arith))
 
-  pub digest-at : take 16 (drop 492 b) ≡ digest_bytes x
-  digest-at =
+  pub digest_at : take 16 (drop 492 b) ≡ digest_bytes x
+  digest_at =
       let p = (padded ++ le32 base) ++ le32 4096 in
       let l : length p ≡ 492 = omega (arith, length-append (padded ++ le32 base) (le32 4096), to488, length_low 4 4096) in
-      ap (λ (z : List ℕ). take 16 (drop 492 z)) by-digest
+      ap (λ (z : List ℕ). take 16 (drop 492 z)) by_digest
       ∙ ap (take 16) (drop_at p (digest_bytes x ++ le32 0x0AB16F30) 492 l)
       ∙ take_at (digest_bytes x) (le32 0x0AB16F30) 16 (length_digest x)
 
   -- the words of the digest, of 32 bits each
-  pub words-at : Words x → words_in b ≡ x
+  pub words_at : Words x → words_in b ≡ x
   unfolding digest_bytes
-  words-at h =
+  words_at h =
       let p = (padded ++ le32 base) ++ le32 4096 in
       let l : length p ≡ 492 = omega (arith, length-append (padded ++ le32 base) (le32 4096), to488, length_low 4 4096) in
       let pa = p ++ le32 x.a in
@@ -141,28 +141,28 @@ module _ (a n t f : ℕ) (page : List ℕ) (base : ℕ) (x : Digest) (size : len
       let pc = pb ++ le32 x.c in
       let lc : length pc ≡ 504 = omega (arith, length-append pb (le32 x.c), lb, length_low 4 x.c) in
       let last = le32 0x0AB16F30 in
-      let ea : b ≡ p ++ (le32 x.a ++ (le32 x.b ++ (le32 x.c ++ (le32 x.d ++ last)))) = by-digest ∙ simp append_assoc in
-      let eb : b ≡ pa ++ (le32 x.b ++ (le32 x.c ++ (le32 x.d ++ last))) = by-digest ∙ simp append_assoc in
-      let ec : b ≡ pb ++ (le32 x.c ++ (le32 x.d ++ last)) = by-digest ∙ simp append_assoc in
-      let ed : b ≡ pc ++ (le32 x.d ++ last) = by-digest ∙ simp append_assoc in
+      let ea : b ≡ p ++ (le32 x.a ++ (le32 x.b ++ (le32 x.c ++ (le32 x.d ++ last)))) = by_digest ∙ simp append_assoc in
+      let eb : b ≡ pa ++ (le32 x.b ++ (le32 x.c ++ (le32 x.d ++ last))) = by_digest ∙ simp append_assoc in
+      let ec : b ≡ pb ++ (le32 x.c ++ (le32 x.d ++ last)) = by_digest ∙ simp append_assoc in
+      let ed : b ≡ pc ++ (le32 x.d ++ last) = by_digest ∙ simp append_assoc in
       let fa : field_at b 492 ≡ x.a = rw ea (field_after p x.a _ 492 l h.a) in
       let fb : field_at b 496 ≡ x.b = rw eb (field_after pa x.b _ 496 la h.b) in
       let fc : field_at b 500 ≡ x.c = rw ec (field_after pb x.c _ 500 lb h.c) in
       let fd : field_at b 504 ≡ x.d = rw ed (field_after pc x.d last 504 lc h.d) in
       λ i. record { a = fa i; b = fb i; c = fc i; d = fd i }
 
-  pub page-at : take 256 (drop 32 b) ≡ page
-  page-at =
-      ap (λ (z : List ℕ). take 256 (drop 32 z)) by-lead
+  pub page_at : take 256 (drop 32 b) ≡ page
+  page_at =
+      ap (λ (z : List ℕ). take 256 (drop 32 z)) by_lead
       ∙ ap (take 256) (drop_at (lead_bytes a n t f) (page ++ rest) 32 (length_lead a n t f))
       ∙ take_at page rest 256 size
 
-  pub padding-at : take 196 (drop 288 b) ≡ many 196 0
-  padding-at =
+  pub padding_at : take 196 (drop 288 b) ≡ many 196 0
+  padding_at =
       let p = lead_bytes a n t f ++ page in
       let q = region_bytes base x ++ le32 0x0AB16F30 in
       let l : length p ≡ 288 = omega (arith, length-append (lead_bytes a n t f) page, length_lead a n t f, size) in
-      ap (λ (z : List ℕ). take 196 (drop 288 z)) by-page
+      ap (λ (z : List ℕ). take 196 (drop 288 z)) by_page
       ∙ ap (take 196) (drop_at p (many 196 0 ++ q) 288 l)
       ∙ take_at (many 196 0) q 196 (length_many 196 0)
 
@@ -182,7 +182,7 @@ module _ (image : List ℕ) (family start n room : ℕ) (r : Right (length image
   made = block_bytes a k n family (page_of image k) base x
 
   size : length (page_of image k) ≡ 256
-  size = length-page image family start n r.whole k l
+  size = length_page image family start n r.whole k l
 
   block_reads : Reads image family start n k made
   unfolding is_block
@@ -192,7 +192,7 @@ module _ (image : List ℕ) (family start n room : ℕ) (r : Right (length image
       let low = r.low in
       let aligned = r.aligned in
       let s = page ++ ((many 196 0 ++ region_bytes base x) ++ le32 0x0AB16F30) in
-      let lead = in-lead a k n family page base x size in
+      let lead = in_lead a k n family page base x size in
       let first = lead 0 0x0A324655 (at0 a k n family s) in
       let second = lead 4 0x9E5D5157 (at4 a k n family s) in
       let here = lead 12 a (at12 a k n family s (omega arith)) in
@@ -206,8 +206,8 @@ module _ (image : List ℕ) (family start n room : ℕ) (r : Right (length image
         number_back = lead 20 k (at20 a k n family s (omega arith));
         total_back = lead 24 n (at24 a k n family s (omega arith));
         family_back = lead 28 family (at28 a k n family s narrow);
-        page_back = page-at a k n family page base x size;
-        padding = padding-at a k n family page base x size;
+        page_back = page_at a k n family page base x size;
+        padding = padding_at a k n family page base x size;
         sector = omega (arith, region);
         window = omega (arith, region);
         before = omega (arith, region, here);
@@ -216,11 +216,11 @@ module _ (image : List ℕ) (family start n room : ℕ) (r : Right (length image
         digest = λ c h.
             let there : FinalSector image start base c = subst (λ (y : ℕ). FinalSector image start y c) region h in
             let same : sector_of image start base ≡ c = one_content image start base (sector_of image start base) c (final image start base (omega arith)) there in
-            digest-at a k n family page base x size ∙ ap (λ (z : List ℕ). digest_bytes (md5_of z)) same;
+            digest_at a k n family page base x size ∙ ap (λ (z : List ℕ). digest_bytes (md5_of z)) same;
         words = λ c h.
             let there : FinalSector image start base c = subst (λ (y : ℕ). FinalSector image start y c) region h in
             let same : sector_of image start base ≡ c = one_content image start base (sector_of image start base) c (final image start base (omega arith)) there in
-            words-at a k n family page base x size (digest_words (sector_of image start base)) ∙ ap md5_of same;
+            words_at a k n family page base x size (digest_words (sector_of image start base)) ∙ ap md5_of same;
       }
 
 -- ---- the output
@@ -238,28 +238,28 @@ module _ (image out : List ℕ) (family start n : ℕ) (made : (make_of image fa
   unfolding make_of
   written =
       let file = file_bytes image family start in
-      rw made (over_first out file ∙ ap (λ (k : ℕ). file ++ drop k out) (length-file image family start n right.whole))
+      rw made (over_first out file ∙ ap (λ (k : ℕ). file ++ drop k out) (length_file image family start n right.whole))
 
   -- block k of the output is block k of the file
-  pub output-block : (k : ℕ) → k < n → take 512 (drop (512 * k) (make_of image family start out).output)
+  pub output_block : (k : ℕ) → k < n → take 512 (drop (512 * k) (make_of image family start out).output)
       ≡ block_bytes (start + 256 * k) k n family (page_of image k) (sector_start (start + 256 * k)) (sector_digest image start (sector_start (start + 256 * k)))
-  output-block k l =
+  output_block k l =
       let file = file_bytes image family start in
-      let long : length file ≡ 512 * n = length-file image family start n right.whole in
+      let long : length file ≡ 512 * n = length_file image family start n right.whole in
       let rest : 512 ≤ length (drop (512 * k) file) = rw (length-drop (512 * k) file) (omega arith) in
       ap (λ (b : List ℕ). take 512 (drop (512 * k) b)) written
       ∙ ap (take 512) (drop-append-le (512 * k) file (drop (512 * n) out) (omega arith))
       ∙ take-append-le 512 (drop (512 * k) file) (drop (512 * n) out) rest
-      ∙ part-file image family start n right.whole k l
-      ∙ block-at image family start n right.whole k
+      ∙ part_file image family start n right.whole k l
+      ∙ block_at_lem image family start n right.whole k
 
 pub blocks_read_back : BlocksReadBack
 blocks_read_back image out family start n narrow made k l =
-    rw (output-block image out family start n made k l)
+    rw (output_block image out family start n made k l)
     (block_reads image family start n (length out) (right image out family start n made) narrow k l)
 
 pub rest_stays : RestStays
 rest_stays image out family start n made =
     let r = right image out family start n made in
     ap (drop (512 * n)) (written image out family start n made)
-    ∙ drop_at (file_bytes image family start) (drop (512 * n) out) (512 * n) (length-file image family start n r.whole)
+    ∙ drop_at (file_bytes image family start) (drop (512 * n) out) (512 * n) (length_file image family start n r.whole)

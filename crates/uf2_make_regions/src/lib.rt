@@ -1,4 +1,6 @@
 // A UF2 file made of an image of whole pages, with a region for each sector.
+#![tactic(auto)]
+
 mod named;
 mod sector;
 

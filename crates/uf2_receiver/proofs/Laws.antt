@@ -38,9 +38,9 @@ module _ (known : Known) (t : Transfer) (a : List ℕ) (h : Lent) where
         ∙ ap (accepting_by (world t h) a) (sym q ∙ k)
 
   -- what is accepted and performed is taken
-  pub performed-taken : {o : Receipt} {r : Plan} {m s u x f : List ℕ} → record { outcome = outcome o (lent h.flash m s u x); plan = r } ≡ accept_known known (world t h) a → f ≡ performed r (payload_of a) h.flash → outcome o (lent f m s u x) ≡ receive_known known (world t h) a
+  pub performed_taken : {o : Receipt} {r : Plan} {m s u x f : List ℕ} → record { outcome = outcome o (lent h.flash m s u x); plan = r } ≡ accept_known known (world t h) a → f ≡ performed r (payload_of a) h.flash → outcome o (lent f m s u x) ≡ receive_known known (world t h) a
   unfolding accept_known receive_known
-  performed-taken {o} {r} {m} {s} {u} {x} e p =
+  performed_taken {o} {r} {m} {s} {u} {x} e p =
       ap (λ (f : List ℕ). outcome o (lent f m s u x)) p
       ∙ ap (performed_on (world t h) a) e
       ∙ performs_by (world t h) a (known_decision known (world t h) a)

@@ -1,4 +1,6 @@
 // One arrival: taken, or accepted with a plan for the flash.
+#![tactic(auto)]
+
 pub mod looking;
 
 ghost use Rattle.std.specs.Prelude.{◌≡◌};

@@ -65,9 +65,9 @@ unfolding find_of first_place
 go_first b kind = record { calls = 119; same = refl; enough = omega arith }
 
 module _ (b : List ℕ) (kind at : ℕ) (g : Going b kind at) where
-  pub go-stop : stops kind (tag_at b at) ≡ true → tag_at b at ≡ find_of b kind
+  pub go_stop : stops kind (tag_at b at) ≡ true → tag_at b at ≡ find_of b kind
   unfolding seek
-  go-stop y = by-calls g.calls g.same
+  go_stop y = by-calls g.calls g.same
     where
       by-calls : (c : ℕ) → seek c b kind at ≡ find_of b kind → tag_at b at ≡ find_of b kind
       by-calls zero same = same
@@ -90,7 +90,7 @@ module _ (b : List ℕ) (kind at : ℕ) (g : Going b kind at) where
     answered h = ap (λ (x : Move). stops kind x.answer) (sym e) ∙ h
 
     pub step_stop : stops kind m.answer ≡ true → m.answer ≡ find_of b kind
-    step_stop y = ap (λ (x : Move). x.answer) e ∙ go-stop (answered y)
+    step_stop y = ap (λ (x : Move). x.answer) e ∙ go_stop (answered y)
 
     pub step_on : stops kind m.answer ≡ false → Going b kind m.next
     step_on n = rw (ap (λ (x : Move). x.next) e) (go_on (answered n))

@@ -1,4 +1,6 @@
 // The extension tags of a UF2 block (02, L4): a reader that keeps hold of the block it reads and its place, giving tag after tag.
+#![tactic(auto)]
+
 pub mod one_tag;
 pub mod room;
 

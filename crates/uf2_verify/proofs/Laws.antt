@@ -9,7 +9,7 @@ use lib.Dec.{eqb, leb}
 use lib.ListN.{length, get_or, take, drop, length-take, length-drop}
 use borrow.Author.Tests.{le-leb, lt-leb, eq-eqb, ne_eqb}
 use Rattle.laws.specs.Sets.{any}
-use Rattle.laws.proofs.Laws.{any-zero}
+use Rattle.laws.proofs.Laws.{any_zero}
 use Rattle.memory.specs.Flash.{payload_of}
 use Rattle.memory.proofs.flash.Laws.{length_payload}
 use Rattle.uf2_block.specs.Block.{field_at}
@@ -39,18 +39,18 @@ use Rattle.uf2_verify.specs.Stands.{differ_at, same_page, page_stands, body_stan
 
 module _ (a b : List ℕ) where
   pub none_yet : true ≡ not (any 0 (differ_at a b))
-  none_yet = ap not (sym (any-zero (differ_at a b)))
+  none_yet = ap not (sym (any_zero (differ_at a b)))
 
-  both-not : (x y : Bool) → not x && y ≡ not (x || not y)
-  both-not true y = refl
-  both-not false true = refl
-  both-not false false = refl
+  both_not : (x y : Bool) → not x && y ≡ not (x || not y)
+  both_not true y = refl
+  both_not false true = refl
+  both_not false false = refl
 
   pub one_more : (i : ℕ) {s : Bool} → s ≡ not (any i (differ_at a b)) → s && eqb (get_or a i 0) (get_or b i 0) ≡ not (any (i + 1) (differ_at a b))
   unfolding any
   one_more i e =
       rw add-one
-      (ap (λ (s : Bool). s && eqb (get_or a i 0) (get_or b i 0)) e ∙ both-not (any i (differ_at a b)) (eqb (get_or a i 0) (get_or b i 0)))
+      (ap (λ (s : Bool). s && eqb (get_or a i 0) (get_or b i 0)) e ∙ both_not (any i (differ_at a b)) (eqb (get_or a i 0) (get_or b i 0)))
 
   pub all_read : (i : ℕ) → i ≡ 256 → {s : Bool} → s ≡ not (any i (differ_at a b)) → s ≡ same_page a b
   unfolding same_page
@@ -59,21 +59,21 @@ module _ (a b : List ℕ) where
 -- ---- a page at an address
 
 module _ (b : List ℕ) (at : ℕ) (a : List ℕ) where
-  pub stands-short : length a < 288 → false ≡ page_stands b at (payload_of a)
+  pub stands_short : length a < 288 → false ≡ page_stands b at (payload_of a)
   unfolding page_stands payload_of
-  stands-short h = rw (ne_eqb (length (take 256 (drop 32 a))) 256 (λ e. omega (arith, short, e)))
+  stands_short h = rw (ne_eqb (length (take 256 (drop 32 a))) 256 (λ e. omega (arith, short, e)))
     where
       short : length (take 256 (drop 32 a)) < 256
       short = simp (length-take, length-drop) (omega arith)
 
-  pub stands-out : length b < at + 256 → false ≡ page_stands b at (payload_of a)
+  pub stands_out : length b < at + 256 → false ≡ page_stands b at (payload_of a)
   unfolding page_stands
-  stands-out h = rw (lt-leb (at + 256) (length b) h, and-false (eqb (length (payload_of a)) 256))
+  stands_out h = rw (lt-leb (at + 256) (length b) h, and-false (eqb (length (payload_of a)) 256))
 
   -- the parts as the code lends them
-  pub stands-there : 288 ≤ length a → at + 256 ≤ length b → {r : Bool} → r ≡ same_page (take (at + 256 - at) (drop at b)) (take 256 (drop 32 a)) → r ≡ page_stands b at (payload_of a)
+  pub stands_there : 288 ≤ length a → at + 256 ≤ length b → {r : Bool} → r ≡ same_page (take (at + 256 - at) (drop at b)) (take 256 (drop 32 a)) → r ≡ page_stands b at (payload_of a)
   unfolding page_stands payload_of
-  stands-there l h e =
+  stands_there l h e =
       let n : at + 256 - at ≡ 256 = omega arith in
       rw (eq-eqb (length (take 256 (drop 32 a))) 256 (unfold payload_of in length_payload a l), le-leb (at + 256) (length b) h)
       (e ∙ ap (λ (m : ℕ). same_page (take m (drop at b)) (take 256 (drop 32 a))) n)
@@ -85,9 +85,9 @@ pub fresh_screen : (r : Rooms) (n : Lengths) (a : List ℕ) {t : Transfer} {c : 
 fresh_screen r n a e q = e ∙ ap (λ (t : Transfer). screen_at r n t.state a) q
 
 module _ (known : Known) (h : Held) (a : List ℕ) where
-  pub told-lengths : known.right ≡ false → Refused BadBuffers ≡ known_stand known h a
+  pub told_lengths : known.right ≡ false → Refused BadBuffers ≡ known_stand known h a
   unfolding known_stand
-  told-lengths l = rw l
+  told_lengths l = rw l
 
   module _ (l : known.right ≡ true) where
     pub told-settings : known.good ≡ false → Refused BadSettings ≡ known_stand known h a

@@ -1,4 +1,6 @@
 // Does what an arrival holds stand in the memory? It reads, and writes nothing.
+#![tactic(auto)]
+
 ghost use Rattle.std.specs.Prelude.{◌≡◌, length};
 ghost use Rattle.laws.specs.Numbered.{numbered};
 ghost use Rattle.memory.specs.Flash.{payload_of};

@@ -25,7 +25,7 @@ use Rattle.uhex_reader.specs.Line.{LineOutcome, line_outcome, address_of, bad_im
 use Rattle.uhex_claims.specs.Facts.{Ready, LengthKept, BadExactly, FailedRepeats, AfterEndStated, FailuresFail, moves_offset, move_of, OffsetMoves, OwnKept, StaysGood, EndEnds, PassedOrRepeated, StoresOwnData}
 use Rattle.uhex_claims.specs.Lines.{Session, fresh_session, read_line, next, read_all, line_answers, store_of, is_stored, stores_of, bytes_taken, any_line, gives, any_gives, names, any_names, allows_extended_linear, says_extended_linear, sets_upper, latest_upper}
 use Rattle.uhex_claims.specs.Claims.{ImageIsLatest, ImageLengthKept, OthersAsLent, LastStoreStands, StoresAreOwn, NeverBad, FailureStays, EndStays, OffsetIsSum, FreshOffsetIsSum, DataSeenIsGiven, EndAfterBoth, SectionsSeenAreNamed, SecondIsRepeated, UpperIsLatest}
-use Rattle.uhex_claims.proofs.LineCase.{After, LineCase, bad, past, again, failed, out, stored, passed, ended, lineCase}
+use Rattle.uhex_claims.proofs.LineCase.{After, LineCase, bad, past, again, failed, out, stored, passed, ended, line_case}
 use Rattle.uhex_claims.proofs.Facts.{failure_from, failure_not_moves, fits, length_kept, bad_exactly, failed_repeats, after_end, failures_fail, offset_moves, own_kept, stays_good, end_ends, passed_or_repeated, stores_own_data}
 
 -- ---- one line
@@ -50,44 +50,44 @@ module _ (r : Reader) (l img : List ℕ) where
   byte_next j (ended rec p w b m) = refl
 
   -- a mark of the reader, which only a line that moves the offset can set
-  mark-next : (p : Reader → Bool) (is : Bool) → ((s : ReaderState) → p (with_state r s) ≡ p r) → ((q : Reader) (e : ℕ) → p (moved_to q e) ≡ p q)
+  mark_next : (p : Reader → Bool) (is : Bool) → ((s : ReaderState) → p (with_state r s) ≡ p r) → ((q : Reader) (e : ℕ) → p (moved_to q e) ≡ p q)
       → ((rec : Record) (q : Reader) → (read_of l).parsed ≡ Good rec → After r l rec q → p q ≡ p r || is)
       → {o : LineOutcome} → LineCase r l img o → p o.reader ≡ p r || moves_offset o.answer && is
-  mark-next p is s m f (bad a n x) = rw (lt-leb 32 (number_of a) (omega arith)) (sym (or-false (p r)))
-  mark-next p is s m f (past e) = sym (or-false (p r))
-  mark-next p is s m f (again x e g) = rw (failure_not_moves x.answer (kept_failure x.answer g)) (sym (or-false (p r)))
-  mark-next p is s m f (failed a g) = rw (failure_not_moves a (kept_failure a g)) (s (Failed (record { answer = a })) ∙ sym (or-false (p r)))
-  mark-next p is s m f (out rec q y w k) = m q (r.offset + length l) ∙ f rec q y w
-  mark-next p is s m f (stored rec q d w k) = m q (r.offset + length l) ∙ f rec q d.says w
-  mark-next p is s m f (passed rec q y w k) = m q (r.offset + length l) ∙ f rec q y w
-  mark-next p is s m f (ended rec y w c k) = m (with_state r Ended) (r.offset + length l) ∙ f rec (with_state r Ended) y w
+  mark_next p is s m f (bad a n x) = rw (lt-leb 32 (number_of a) (omega arith)) (sym (or-false (p r)))
+  mark_next p is s m f (past e) = sym (or-false (p r))
+  mark_next p is s m f (again x e g) = rw (failure_not_moves x.answer (kept_failure x.answer g)) (sym (or-false (p r)))
+  mark_next p is s m f (failed a g) = rw (failure_not_moves a (kept_failure a g)) (s (Failed (record { answer = a })) ∙ sym (or-false (p r)))
+  mark_next p is s m f (out rec q y w k) = m q (r.offset + length l) ∙ f rec q y w
+  mark_next p is s m f (stored rec q d w k) = m q (r.offset + length l) ∙ f rec q d.says w
+  mark_next p is s m f (passed rec q y w k) = m q (r.offset + length l) ∙ f rec q y w
+  mark_next p is s m f (ended rec y w c k) = m (with_state r Ended) (r.offset + length l) ∙ f rec (with_state r Ended) y w
 
-  data-seen-next : (b : ℕ) → is_v1 b || is_v2 b ≡ true → {o : LineOutcome} → LineCase r l img o
+  data_seen_next : (b : ℕ) → is_v1 b || is_v2 b ≡ true → {o : LineOutcome} → LineCase r l img o
       → has_board o.reader.data_seen b ≡ has_board r.data_seen b || moves_offset o.answer && gives b r l
   unfolding with_state moved_to
-  data-seen-next b v =
-      mark-next (λ q. has_board q.data_seen b) (gives b r l) (λ s. refl) (λ q e. refl) (λ rec q p w. rw p (w.data_seen b v))
+  data_seen_next b v =
+      mark_next (λ q. has_board q.data_seen b) (gives b r l) (λ s. refl) (λ q e. refl) (λ rec q p w. rw p (w.data_seen b v))
 
-  sections-seen-next : (b : ℕ) → is_v1 b || is_v2 b ≡ true → {o : LineOutcome} → LineCase r l img o
+  sections_seen_next : (b : ℕ) → is_v1 b || is_v2 b ≡ true → {o : LineOutcome} → LineCase r l img o
       → has_board o.reader.sections_seen b ≡ has_board r.sections_seen b || moves_offset o.answer && names b r l
   unfolding with_state moved_to
-  sections-seen-next b v =
-      mark-next (λ q. has_board q.sections_seen b) (names b r l) (λ s. refl) (λ q e. refl) (λ rec q p w. rw p (w.sections_seen b v))
+  sections_seen_next b v =
+      mark_next (λ q. has_board q.sections_seen b) (names b r l) (λ s. refl) (λ q e. refl) (λ rec q p w. rw p (w.sections_seen b v))
 
-  upper-onward : {rec : Record} {q : Reader} → (read_of l).parsed ≡ Good rec → After r l rec q
+  upper_onward : {rec : Record} {q : Reader} → (read_of l).parsed ≡ Good rec → After r l rec q
       → q.upper ≡ cond (allows_extended_linear r.state && says_extended_linear (read_of l).parsed) (word_of (read_of l).«data») r.upper
-  upper-onward p w = rw p w.upper
+  upper_onward p w = rw p w.upper
 
-  upper-next : {o : LineOutcome} → LineCase r l img o → o.reader.upper ≡ cond (sets_upper r l o.answer) (word_of (read_of l).«data») r.upper
+  upper_next : {o : LineOutcome} → LineCase r l img o → o.reader.upper ≡ cond (sets_upper r l o.answer) (word_of (read_of l).«data») r.upper
   unfolding with_state moved_to
-  upper-next (bad a n x) = rw (lt-leb 32 (number_of a) (omega arith))
-  upper-next (past e) = refl
-  upper-next (again f e g) = rw (failure_not_moves f.answer (kept_failure f.answer g))
-  upper-next (failed a f) = rw (failure_not_moves a (kept_failure a f))
-  upper-next (out rec q p w m) = upper-onward p w
-  upper-next (stored rec q d w m) = upper-onward d.says w
-  upper-next (passed rec q p w m) = upper-onward p w
-  upper-next (ended rec p w c m) = upper-onward p w
+  upper_next (bad a n x) = rw (lt-leb 32 (number_of a) (omega arith))
+  upper_next (past e) = refl
+  upper_next (again f e g) = rw (failure_not_moves f.answer (kept_failure f.answer g))
+  upper_next (failed a f) = rw (failure_not_moves a (kept_failure a f))
+  upper_next (out rec q p w m) = upper_onward p w
+  upper_next (stored rec q d w m) = upper_onward d.says w
+  upper_next (passed rec q p w m) = upper_onward p w
+  upper_next (ended rec p w c m) = upper_onward p w
 
 -- ---- lists
 
@@ -137,19 +137,19 @@ data_seen_all : (b : ℕ) → is_v1 b || is_v2 b ≡ true → (h : Session) (ls 
     → has_board (read_all h ls).reader.data_seen b ≡ has_board h.reader.data_seen b || any_gives h ls b
 data_seen_all b v =
     mark_all (λ q. has_board q.data_seen b) (gives b)
-    (λ h l. data-seen-next h.reader l h.image b v (lineCase h.reader l h.image))
+    (λ h l. data_seen_next h.reader l h.image b v (line_case h.reader l h.image))
 
 sections_seen_all : (b : ℕ) → is_v1 b || is_v2 b ≡ true → (h : Session) (ls : List (List ℕ))
     → has_board (read_all h ls).reader.sections_seen b ≡ has_board h.reader.sections_seen b || any_names h ls b
 sections_seen_all b v =
     mark_all (λ q. has_board q.sections_seen b) (names b)
-    (λ h l. sections-seen-next h.reader l h.image b v (lineCase h.reader l h.image))
+    (λ h l. sections_seen_next h.reader l h.image b v (line_case h.reader l h.image))
 
 upper_all : (h : Session) (ls : List (List ℕ)) → (read_all h ls).reader.upper ≡ latest_upper h ls h.reader.upper
 unfolding read_all latest_upper
 upper_all h [] = refl
 upper_all h (l ∷ ls) =
-    upper_all (next h l) ls ∙ ap (latest_upper (next h l) ls) (upper-next h.reader l h.image (lineCase h.reader l h.image))
+    upper_all (next h l) ls ∙ ap (latest_upper (next h l) ls) (upper_next h.reader l h.image (line_case h.reader l h.image))
 
 own_all : (h : Session) (ls : List (List ℕ)) → (read_all h ls).reader.own ≡ h.reader.own
 unfolding read_all
@@ -164,7 +164,7 @@ byte_all j h [] = unfold latest in refl
 byte_all j h (l ∷ ls) =
     let s = cond (is_stored (read_line h l).answer) (store_of h.reader (read_of l).«data» (read_of l).parsed) [] in
     byte_all j (next h l) ls
-    ∙ ap (latest j (stores_of (next h l) ls)) (byte_next h.reader l h.image j (lineCase h.reader l h.image))
+    ∙ ap (latest j (stores_of (next h l) ls)) (byte_next h.reader l h.image j (line_case h.reader l h.image))
     ∙ sym (latest_append j s (stores_of (next h l) ls) (get_or h.image j 0))
 
 pub image_is_latest : ImageIsLatest

@@ -136,17 +136,17 @@ module _ (r : Reader) (l img : List ℕ) (rec : Record) (o : Reading r l img rec
   upper b e k n = read_at (Inside b) e ∙ rw (k, n)
 
   -- 0C, 0E and 0B
-  after-0C : (b : ℕ) → (rec.kind ≡ 12) ⊎ (rec.kind ≡ 14) ⊎ (rec.kind ≡ 11)
+  after_0_c : (b : ℕ) → (rec.kind ≡ 12) ⊎ (rec.kind ≡ 14) ⊎ (rec.kind ≡ 11)
       → (effect_outcome r rec (read_of l).«data» (r.offset + length l) img (effect_of r (after_padding b rec.kind) rec.address rec.len (word_of (read_of l).«data»))).answer
       ≡ answer.Passed
   unfolding after_padding effect_of effect_outcome
-  after-0C b k = ⊎_elim (λ (e : rec.kind ≡ 12). rw e) (⊎_elim (λ (e : rec.kind ≡ 14). rw e) (λ (e : rec.kind ≡ 11). rw e)) k
+  after_0_c b k = ⊎_elim (λ (e : rec.kind ≡ 12). rw e) (⊎_elim (λ (e : rec.kind ≡ 14). rw e) (λ (e : rec.kind ≡ 11). rw e)) k
 
   others : (b : ℕ) → (r.state ≡ Inside b) ⊎ (r.state ≡ Padded b) → (rec.kind ≡ 12) ⊎ (rec.kind ≡ 14) ⊎ (rec.kind ≡ 11) → (line_of r l img).answer ≡ answer.Passed
   others b s k =
       ⊎_elim
-      (λ (e : r.state ≡ Inside b). read_at (Inside b) e ∙ rw (role_plain b rec.len rec.kind (not-kind 4 refl) (not-kind 0 refl) (not-kind 13 refl)) (after-0C b k))
-      (λ (e : r.state ≡ Padded b). read_at (Padded b) e ∙ unfold role_of in after-0C b k) s
+      (λ (e : r.state ≡ Inside b). read_at (Inside b) e ∙ rw (role_plain b rec.len rec.kind (not-kind 4 refl) (not-kind 0 refl) (not-kind 13 refl)) (after_0_c b k))
+      (λ (e : r.state ≡ Padded b). read_at (Padded b) e ∙ unfold role_of in after_0_c b k) s
     where
       not-kind : (n : ℕ) → eqb n 12 || eqb n 14 || eqb n 11 ≡ false → rec.kind ≢ n
       not-kind n h e =

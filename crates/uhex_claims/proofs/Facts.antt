@@ -11,7 +11,7 @@ use lib.Seq.{length-take-le, get_or-take}
 use borrow.Author.Tests.{leb-true, eqb-true, le-ltb, le-leb, lt-leb, eq-eqb, ne_eqb}
 use Rattle.laws.specs.Over.{over}
 use Rattle.laws.proofs.Tests.{split, clash, is_false, eqb_same, or_left, or_right, and_left, and_right}
-use Rattle.laws.proofs.OverLaws.{length_over, over-inside, over-before, over-after}
+use Rattle.laws.proofs.OverLaws.{length_over, over_inside, over_before, over_after}
 use Rattle.ihex_record.specs.Record.{word_of, read_of}
 use Rattle.ihex_record.specs.declared.Record.{Record}
 use Rattle.ihex_record.specs.declared.ParseResult.TheVariants.{Good}
@@ -28,9 +28,9 @@ use Rattle.uhex_effects.specs.declared.Effect.TheVariants.{Stores}
 use Rattle.uhex_reader.specs.Reader.{bad_failure, bad_reader, with_state, with_data, moved_to, given_of, effect_of}
 use Rattle.uhex_reader.specs.Line.{LineOutcome, line_outcome, failed_by, failing, address_of, storing, effect_outcome, record_outcome, parsed_line, live_line, halt_of, halt_line, bad_image, line_of}
 use Rattle.uhex_claims.specs.Facts.{reads_on, Only33Stores, LengthKept, Ready, BadChangesNothing, BadExactly, FailedRepeats, AfterEndStated, FailuresFail, moves_offset, move_of, OffsetMoves, OwnKept, StaysGood, EndEnds, EndOrMissing, PassedOrRepeated, OwnData, StoreIn, StoresOwnData, OwnDataIsStored, ElsewhereUnchanged, OtherBoardUnchanged, BadDigitAt, BadDigitAnswered, BadPosition}
-use Rattle.ihex_record.proofs.Good.{good-len, length_data}
-use Rattle.ihex_record.proofs.Positions.{bad-position, bad-inside, bad-there, good-before}
-use Rattle.uhex_claims.proofs.LineCase.{After, LineCase, bad, past, again, failed, out, stored, passed, ended, good_state_lem, lineCase, linear_no_data}
+use Rattle.ihex_record.proofs.Good.{good_len, length_data}
+use Rattle.ihex_record.proofs.Positions.{bad_position_lem, bad_inside, bad_there, good_before}
+use Rattle.uhex_claims.proofs.LineCase.{After, LineCase, bad, past, again, failed, out, stored, passed, ended, good_state_lem, line_case, linear_no_data}
 
 -- ---- the numbers of failures
 
@@ -54,25 +54,25 @@ failure_not_moves a e = is_false (moves_offset a) (λ y. clash (is_failure a) e 
 
 own_length : {r : Reader} {l img : List ℕ} (rec : Record) → OwnData r l img rec → length (take rec.len (read_of l).«data») ≡ rec.len
 own_length {r} {l} rec d =
-    length-take-le rec.len (read_of l).«data» (omega (arith, good-len l rec d.says, length_data l))
+    length-take-le rec.len (read_of l).«data» (omega (arith, good_len l rec d.says, length_data l))
 
 module _ (r : Reader) (l img : List ℕ) where
   pub fits : (rec : Record) → OwnData r l img rec → address_of r rec + length (take rec.len (read_of l).«data») ≤ length img
   fits rec d = omega (arith, own_length rec d, d.fits)
 
-  stored-in : (rec : Record) → OwnData r l img rec → StoreIn r l img rec (over img (address_of r rec) (take rec.len (read_of l).«data»))
-  stored-in rec d =
+  stored_in : (rec : Record) → OwnData r l img rec → StoreIn r l img rec (over img (address_of r rec) (take rec.len (read_of l).«data»))
+  stored_in rec d =
       let at = address_of r rec in
       let s = take rec.len (read_of l).«data» in
       record {
         whole = refl;
         inside = λ i h.
             let e : at + i - at ≡ i = omega arith in
-            over-inside img at s (fits rec d) (at + i) (omega arith) (omega (arith, own_length rec d))
+            over_inside img at s (fits rec d) (at + i) (omega arith) (omega (arith, own_length rec d))
             ∙ rw e (get_or-take rec.len (read_of l).«data» i 0 h);
         outside = λ j. ⊎_elim
-            (λ b. over-before img at s (fits rec d) j b)
-            (λ b. over-after img at s (fits rec d) j (omega (arith, own_length rec d)));
+            (λ b. over_before img at s (fits rec d) j b)
+            (λ b. over_after img at s (fits rec d) j (omega (arith, own_length rec d)));
       }
 
   -- ---- what changes nothing
@@ -87,25 +87,25 @@ module _ (r : Reader) (l img : List ℕ) where
   unstored (passed rec q p w m) h = refl
   unstored (ended rec p w b m) h = refl
 
-  keeps-length : {o : LineOutcome} → LineCase r l img o → length o.image ≡ length img
-  keeps-length (bad a n x) = refl
-  keeps-length (past e) = refl
-  keeps-length (again f e g) = refl
-  keeps-length (failed a f) = refl
-  keeps-length (out rec q p w m) = refl
-  keeps-length (stored rec q d w m) = length_over img (address_of r rec) (take rec.len (read_of l).«data») (fits rec d)
-  keeps-length (passed rec q p w m) = refl
-  keeps-length (ended rec p w b m) = refl
+  keeps_length : {o : LineOutcome} → LineCase r l img o → length o.image ≡ length img
+  keeps_length (bad a n x) = refl
+  keeps_length (past e) = refl
+  keeps_length (again f e g) = refl
+  keeps_length (failed a f) = refl
+  keeps_length (out rec q p w m) = refl
+  keeps_length (stored rec q d w m) = length_over img (address_of r rec) (take rec.len (read_of l).«data») (fits rec d)
+  keeps_length (passed rec q p w m) = refl
+  keeps_length (ended rec p w b m) = refl
 
-  nothing-bad : {o : LineOutcome} → LineCase r l img o → number_of o.answer ≤ 19 → o ≡ line_outcome r o.answer img
-  nothing-bad (bad a n x) h = refl
-  nothing-bad (past e) h = refl
-  nothing-bad (again f e g) h = refl
-  nothing-bad (failed a f) h = absurd (omega (arith, failure_from a (kept_failure a f)))
-  nothing-bad (out rec q p w m) h = absurd (omega arith)
-  nothing-bad (stored rec q d w m) h = absurd (omega arith)
-  nothing-bad (passed rec q p w m) h = absurd (omega arith)
-  nothing-bad (ended rec p w b m) h = absurd (omega arith)
+  nothing_bad : {o : LineOutcome} → LineCase r l img o → number_of o.answer ≤ 19 → o ≡ line_outcome r o.answer img
+  nothing_bad (bad a n x) h = refl
+  nothing_bad (past e) h = refl
+  nothing_bad (again f e g) h = refl
+  nothing_bad (failed a f) h = absurd (omega (arith, failure_from a (kept_failure a f)))
+  nothing_bad (out rec q p w m) h = absurd (omega arith)
+  nothing_bad (stored rec q d w m) h = absurd (omega arith)
+  nothing_bad (passed rec q p w m) h = absurd (omega arith)
+  nothing_bad (ended rec p w b m) h = absurd (omega arith)
 
   not_bad : {o : LineOutcome} → LineCase r l img o → Ready r img → 20 ≤ number_of o.answer
   not_bad (bad a n x) y = absurd (x y)
@@ -141,16 +141,16 @@ module _ (r : Reader) (l img : List ℕ) where
   moves (passed rec q p w m) = refl
   moves (ended rec p w b m) = refl
 
-  keeps-own : {o : LineOutcome} → LineCase r l img o → o.reader.own ≡ r.own
+  keeps_own : {o : LineOutcome} → LineCase r l img o → o.reader.own ≡ r.own
   unfolding with_state moved_to
-  keeps-own (bad a n x) = refl
-  keeps-own (past e) = refl
-  keeps-own (again f e g) = refl
-  keeps-own (failed a f) = refl
-  keeps-own (out rec q p w m) = w.own
-  keeps-own (stored rec q d w m) = w.own
-  keeps-own (passed rec q p w m) = w.own
-  keeps-own (ended rec p w b m) = refl
+  keeps_own (bad a n x) = refl
+  keeps_own (past e) = refl
+  keeps_own (again f e g) = refl
+  keeps_own (failed a f) = refl
+  keeps_own (out rec q p w m) = w.own
+  keeps_own (stored rec q d w m) = w.own
+  keeps_own (passed rec q p w m) = w.own
+  keeps_own (ended rec p w b m) = refl
 
   good_own : bad_reader r ≡ false → not (is_v1 r.own || is_v2 r.own) ≡ false
   unfolding bad_reader
@@ -165,27 +165,27 @@ module _ (r : Reader) (l img : List ℕ) where
       (or_left (not (is_v1 r.own || is_v2 r.own) || ltb 4194304 r.offset) (bad_failure r.state) n)
 
   -- a reader of the same board, whose offset is within the limit
-  good-next : (q : Reader) → q.own ≡ r.own → ltb 4194304 q.offset ≡ false → bad_failure q.state ≡ false → bad_reader r ≡ false
+  good_next : (q : Reader) → q.own ≡ r.own → ltb 4194304 q.offset ≡ false → bad_failure q.state ≡ false → bad_reader r ≡ false
       → bad_reader q ≡ false
   unfolding bad_reader
-  good-next q o e s n = rw (o, e, s, good_own n)
+  good_next q o e s n = rw (o, e, s, good_own n)
 
-  good-onward : {rec : Record} {q : Reader} → After r l rec q → r.offset + length l ≤ 4194304 → bad_reader r ≡ false
+  good_onward : {rec : Record} {q : Reader} → After r l rec q → r.offset + length l ≤ 4194304 → bad_reader r ≡ false
       → bad_reader (moved_to q (r.offset + length l)) ≡ false
   unfolding moved_to
-  good-onward {q = q} w m h =
-      good-next (moved_to q (r.offset + length l)) w.own (le-ltb 4194304 (r.offset + length l) m) (w.state (good_state_lem r h)) h
+  good_onward {q = q} w m h =
+      good_next (moved_to q (r.offset + length l)) w.own (le-ltb 4194304 (r.offset + length l) m) (w.state (good_state_lem r h)) h
 
-  good-stays : {o : LineOutcome} → LineCase r l img o → bad_reader r ≡ false → bad_reader o.reader ≡ false
+  good_stays : {o : LineOutcome} → LineCase r l img o → bad_reader r ≡ false → bad_reader o.reader ≡ false
   unfolding with_state moved_to bad_failure
-  good-stays (bad a n x) h = h
-  good-stays (past e) h = h
-  good-stays (again f e g) h = h
-  good-stays (failed a f) h = good-next (failed_by a r) refl (good_offset h) (rw f) h
-  good-stays (out rec q p w m) h = good-onward w m h
-  good-stays (stored rec q d w m) h = good-onward w m h
-  good-stays (passed rec q p w m) h = good-onward w m h
-  good-stays (ended rec p w b m) h = good-next (moved_to (with_state r Ended) (r.offset + length l)) refl (le-ltb 4194304 (r.offset + length l) m) refl h
+  good_stays (bad a n x) h = h
+  good_stays (past e) h = h
+  good_stays (again f e g) h = h
+  good_stays (failed a f) h = good_next (failed_by a r) refl (good_offset h) (rw f) h
+  good_stays (out rec q p w m) h = good_onward w m h
+  good_stays (stored rec q d w m) h = good_onward w m h
+  good_stays (passed rec q p w m) h = good_onward w m h
+  good_stays (ended rec p w b m) h = good_next (moved_to (with_state r Ended) (r.offset + length l)) refl (le-ltb 4194304 (r.offset + length l) m) refl h
 
   ends : {o : LineOutcome} → LineCase r l img o → o.answer ≡ answer.Ended → (both_boards r.data_seen ≡ true) × (o.reader.state ≡ Ended)
   unfolding with_state moved_to
@@ -206,7 +206,7 @@ module _ (r : Reader) (l img : List ℕ) where
   stores (again f e g) h = clash (is_failure f.answer) (kept_failure f.answer g) (ap is_failure h)
   stores (failed a f) h = clash (is_failure a) (kept_failure a f) (ap is_failure h)
   stores (out rec q p w m) h = absurd (omega (arith, ap number_of h))
-  stores (stored rec q d w m) h = (rec, d, stored-in rec d)
+  stores (stored rec q d w m) h = (rec, d, stored_in rec d)
   stores (passed rec q p w m) h = absurd (omega (arith, ap number_of h))
   stores (ended rec p w b m) h = absurd (omega (arith, ap number_of h))
 
@@ -224,15 +224,15 @@ module _ (r : Reader) (l img : List ℕ) where
 
 pub only_33_stores : Only33Stores
 unfolding Only33Stores
-only_33_stores r l img = unstored r l img (lineCase r l img)
+only_33_stores r l img = unstored r l img (line_case r l img)
 
 pub length_kept : LengthKept
 unfolding LengthKept
-length_kept r l img = keeps-length r l img (lineCase r l img)
+length_kept r l img = keeps_length r l img (line_case r l img)
 
 pub bad_changes_nothing : BadChangesNothing
 unfolding BadChangesNothing
-bad_changes_nothing r l img = nothing-bad r l img (lineCase r l img)
+bad_changes_nothing r l img = nothing_bad r l img (line_case r l img)
 
 pub bad_exactly : BadExactly
 unfolding BadExactly line_of
@@ -243,7 +243,7 @@ bad_exactly r l img = (
       split (bad_reader r)
       (λ y. let n : 20 ≤ 18 = rw (z, y) at h in absurd (omega arith))
       (λ n. record { image = z; reader = n })),
-  not_bad r l img (lineCase r l img),
+  not_bad r l img (line_case r l img),
 )
 
 pub failed_repeats : FailedRepeats
@@ -256,36 +256,36 @@ after_end r l img y e = rw (y.image, y.reader, e)
 
 pub failures_fail : FailuresFail
 unfolding FailuresFail
-failures_fail r l img = fails r l img (lineCase r l img)
+failures_fail r l img = fails r l img (line_case r l img)
 
 pub offset_moves : OffsetMoves
 unfolding OffsetMoves
-offset_moves r l img = moves r l img (lineCase r l img)
+offset_moves r l img = moves r l img (line_case r l img)
 
 pub own_kept : OwnKept
 unfolding OwnKept
-own_kept r l img = keeps-own r l img (lineCase r l img)
+own_kept r l img = keeps_own r l img (line_case r l img)
 
 pub stays_good : StaysGood
 unfolding StaysGood
-stays_good r l img = good-stays r l img (lineCase r l img)
+stays_good r l img = good_stays r l img (line_case r l img)
 
 pub end_ends : EndEnds
 unfolding EndEnds
-end_ends r l img = ends r l img (lineCase r l img)
+end_ends r l img = ends r l img (line_case r l img)
 
 pub stores_own_data : StoresOwnData
 unfolding StoresOwnData
-stores_own_data r l img = stores r l img (lineCase r l img)
+stores_own_data r l img = stores r l img (line_case r l img)
 
 pub elsewhere_unchanged : ElsewhereUnchanged
 unfolding ElsewhereUnchanged
-elsewhere_unchanged r l img = elsewhere r l img (lineCase r l img)
+elsewhere_unchanged r l img = elsewhere r l img (line_case r l img)
 
 pub other_board_unchanged : OtherBoardUnchanged
 unfolding OtherBoardUnchanged
 other_board_unchanged r l img b n s =
-    elsewhere r l img (lineCase r l img)
+    elsewhere r l img (line_case r l img)
     (λ e. ⊎_elim (λ i. let x : b ≡ r.own = cc in n x) (λ i. let z : ◌≡◌ {A = ℕ} 0 1 = cc in omega arith) s)
 
 -- ---- what a good record comes to, by where the reader stands
@@ -344,10 +344,10 @@ pub bad_digit_at : BadDigitAt
 unfolding BadDigitAt
 bad_digit_at l p e =
     record {
-      after = (bad-position l p e).0;
-      within = (bad-inside l p e, (bad-position l p e).1);
-      bad = bad-there l p e;
-      first = good-before l p e;
+      after = (bad_position_lem l p e).0;
+      within = (bad_inside l p e, (bad_position_lem l p e).1);
+      bad = bad_there l p e;
+      first = good_before l p e;
     }
 
 -- a reader that reads on

@@ -19,7 +19,7 @@ use Rattle.uhex_grammar.specs.Answers.{number_of, is_kept}
 use Rattle.uhex_grammar.specs.Boards.{is_v1, is_v2, has_board, with_board, both_boards}
 use Rattle.uhex_grammar.specs.Grammar.{is_extended_linear, is_end_of_file, is_block_start, data_kind, after_padding, role_of}
 use Rattle.uhex_grammar.proofs.Laws.{kept_digit}
-use Rattle.ihex_record.proofs.Positions.{bad-position}
+use Rattle.ihex_record.proofs.Positions.{bad_position_lem}
 use Rattle.uhex_grammar.specs.declared.Answer.{Answer}
 use Rattle.uhex_grammar.specs.declared.Answer.TheVariants as answer
 use Rattle.uhex_grammar.specs.declared.Boards.{Boards}
@@ -150,33 +150,33 @@ has_with s c b k =
     swap false false = refl
 
 module _ (r : Reader) (rec : Record) (word : ℕ) where
-  same-data-seen : (q : Reader) → rec.kind ≢ 0 → rec.kind ≢ 13 → q.data_seen ≡ r.data_seen → DataSeen r rec q
-  same-data-seen q z t g b v =
+  same_data_seen : (q : Reader) → rec.kind ≢ 0 → rec.kind ≢ 13 → q.data_seen ≡ r.data_seen → DataSeen r rec q
+  same_data_seen q z t g b v =
       rw (g, no_data rec.kind b z t, and-false (is_inside r.state b)) (sym (or-false (has_board r.data_seen b)))
 
-  same-sections-seen : (q : Reader) → rec.kind ≢ 10 → q.sections_seen ≡ r.sections_seen → SectionsSeen r rec word q
-  same-sections-seen q n g b v = rw (g, ne_eqb rec.kind 10 n, and-false (is_opened r.state)) (sym (or-false (has_board r.sections_seen b)))
+  same_sections_seen : (q : Reader) → rec.kind ≢ 10 → q.sections_seen ≡ r.sections_seen → SectionsSeen r rec word q
+  same_sections_seen q n g b v = rw (g, ne_eqb rec.kind 10 n, and-false (is_opened r.state)) (sym (or-false (has_board r.sections_seen b)))
 
-  same-upper : (q : Reader) → rec.kind ≢ 4 → q.upper ≡ r.upper → Upper r rec word q
-  same-upper q n g = rw (ne_eqb rec.kind 4 n, and-false (allows_extended_linear r.state)) g
+  same_upper : (q : Reader) → rec.kind ≢ 4 → q.upper ≡ r.upper → Upper r rec word q
+  same_upper q n g = rw (ne_eqb rec.kind 4 n, and-false (allows_extended_linear r.state)) g
 
   -- by data of board c
-  onward-given : (q : Reader) (c : ℕ) → q.own ≡ r.own → q.state ≡ r.state → q.sections_seen ≡ r.sections_seen → q.upper ≡ r.upper → rec.kind ≡ data_kind c
+  onward_given : (q : Reader) (c : ℕ) → q.own ≡ r.own → q.state ≡ r.state → q.sections_seen ≡ r.sections_seen → q.upper ≡ r.upper → rec.kind ≡ data_kind c
       → DataSeen r rec q → Onward r rec word q
-  onward-given q c o s n u k g =
+  onward_given q c o s n u k g =
       record {
         own = o;
         state = λ e. ap bad_failure s ∙ e;
         data_seen = g;
-        sections_seen = same-sections-seen q (data_not rec.kind c 10 (λ f. omega arith) (λ f. omega arith) k) n;
-        upper = same-upper q (data_not rec.kind c 4 (λ f. omega arith) (λ f. omega arith) k) u;
+        sections_seen = same_sections_seen q (data_not rec.kind c 10 (λ f. omega arith) (λ f. omega arith) k) n;
+        upper = same_upper q (data_not rec.kind c 4 (λ f. omega arith) (λ f. omega arith) k) u;
       }
 
   -- of at least one byte, in its section
-  onward-data : (c : ℕ) → r.state ≡ Inside c → rec.kind ≡ data_kind c → 1 ≤ rec.len → Onward r rec word (with_data r c)
+  onward_data : (c : ℕ) → r.state ≡ Inside c → rec.kind ≡ data_kind c → 1 ≤ rec.len → Onward r rec word (with_data r c)
   unfolding with_data
-  onward-data c s k n =
-      onward-given (with_data r c) c refl refl refl refl k
+  onward_data c s k n =
+      onward_given (with_data r c) c refl refl refl refl k
       (λ b v. has_with r.data_seen c b v ∙ ap (λ (x : Bool). has_board r.data_seen b || x) (given b))
     where
       given : (b : ℕ) → eqb c b ≡ given_at r.state rec b
@@ -185,51 +185,51 @@ module _ (r : Reader) (rec : Record) (word : ℕ) where
           (split (eqb c b) (λ y. rw (y, eqb-true c b y, eqb_same (data_kind b))) (λ z. rw z))
 
   -- of none
-  onward-empty : (c : ℕ) → rec.kind ≡ data_kind c → rec.len ≡ 0 → Onward r rec word r
-  onward-empty c k e =
-      onward-given r c refl refl refl refl k
+  onward_empty : (c : ℕ) → rec.kind ≡ data_kind c → rec.len ≡ 0 → Onward r rec word r
+  onward_empty c k e =
+      onward_given r c refl refl refl refl k
       (λ b v.
       rw (e, and-false (eqb rec.kind (data_kind b)), and-false (is_inside r.state b)) (sym (or-false (has_board r.data_seen b))))
 
   -- by an 04 in its place
-  onward-linear : (q : Reader) → q.own ≡ r.own → q.data_seen ≡ r.data_seen → q.sections_seen ≡ r.sections_seen → q.upper ≡ word
+  onward_linear : (q : Reader) → q.own ≡ r.own → q.data_seen ≡ r.data_seen → q.sections_seen ≡ r.sections_seen → q.upper ≡ word
       → (bad_failure r.state ≡ false → bad_failure q.state ≡ false) → (allows_extended_linear r.state ≡ true) × (is_extended_linear rec.kind rec.len ≡ true) → Onward r rec word q
-  onward-linear q o g c u s h =
+  onward_linear q o g c u s h =
       let e : rec.kind ≡ 4 = kind_linear rec.kind rec.len h.1 in
       record {
         own = o;
         state = s;
-        data_seen = same-data-seen q (λ f. omega arith) (λ f. omega arith) g;
-        sections_seen = same-sections-seen q (λ f. omega arith) c;
+        data_seen = same_data_seen q (λ f. omega arith) (λ f. omega arith) g;
+        sections_seen = same_sections_seen q (λ f. omega arith) c;
         upper = rw (h.0, h.1) u;
       }
 
   -- by a record that is no data, no 0A and no 04
-  onward-other : (q : Reader) → q.own ≡ r.own → q.data_seen ≡ r.data_seen → q.sections_seen ≡ r.sections_seen → q.upper ≡ r.upper
+  onward_other : (q : Reader) → q.own ≡ r.own → q.data_seen ≡ r.data_seen → q.sections_seen ≡ r.sections_seen → q.upper ≡ r.upper
       → (bad_failure r.state ≡ false → bad_failure q.state ≡ false) → plain rec.kind ≡ true → Onward r rec word q
-  onward-other q o g c u s h =
+  onward_other q o g c u s h =
       record {
         own = o;
         state = s;
-        data_seen = same-data-seen q (other 0 refl) (other 13 refl) g;
-        sections_seen = same-sections-seen q (other 10 refl) c;
-        upper = same-upper q (other 4 refl) u;
+        data_seen = same_data_seen q (other 0 refl) (other 13 refl) g;
+        sections_seen = same_sections_seen q (other 10 refl) c;
+        upper = same_upper q (other 4 refl) u;
       }
     where
       other : (n : ℕ) → plain n ≡ false → rec.kind ≢ n
       other n y f = clash (plain n) (ap plain (sym f) ∙ h) y
 
   -- by the 0A of a section
-  onward-name : (is_opened r.state ≡ true) × (is_block_start rec.kind rec.len ≡ true) → Onward r rec word (with_state (with_section r word) (Inside word))
+  onward_name : (is_opened r.state ≡ true) × (is_block_start rec.kind rec.len ≡ true) → Onward r rec word (with_state (with_section r word) (Inside word))
   unfolding with_state with_section bad_failure
-  onward-name h =
+  onward_name h =
       let e : rec.kind ≡ 10 = kind_start rec.kind rec.len h.1 in
       record {
         own = refl;
         state = λ f. refl;
-        data_seen = same-data-seen (with_state (with_section r word) (Inside word)) (λ f. omega arith) (λ f. omega arith) refl;
+        data_seen = same_data_seen (with_state (with_section r word) (Inside word)) (λ f. omega arith) (λ f. omega arith) refl;
         sections_seen = λ b v. has_with r.sections_seen word b v ∙ rw (h.0, h.1);
-        upper = same-upper (with_state (with_section r word) (Inside word)) (λ f. omega arith) refl;
+        upper = same_upper (with_state (with_section r word) (Inside word)) (λ f. omega arith) refl;
       }
 
 -- ---- what a good record does
@@ -242,11 +242,11 @@ pub data EffectCase (r : Reader) (rec : Record) (word : ℕ) : Effect → Type 0
   closed : Onward r rec word (with_state r Ended) → both_boards r.data_seen ≡ true → EffectCase r rec word (Ends (with_state r Ended))
 
 module _ (r : Reader) (rec : Record) (word : ℕ) where
-  stores-data : (c : ℕ) → r.state ≡ Inside c → rec.kind ≡ data_kind c → rec.address + rec.len ≤ 65536 → EffectCase r rec word (given_of r c rec.len)
+  stores_data : (c : ℕ) → r.state ≡ Inside c → rec.kind ≡ data_kind c → rec.address + rec.len ≤ 65536 → EffectCase r rec word (given_of r c rec.len)
   unfolding given_of
-  stores-data c s k w =
+  stores_data c s k w =
       split (eqb rec.len 0)
-      (λ y. rw y (went r (onward-empty r rec word c k (eqb-true rec.len 0 y))))
+      (λ y. rw y (went r (onward_empty r rec word c k (eqb-true rec.len 0 y))))
       (λ n.
       let some : 1 ≤ rec.len = omega (arith, eqb-false rec.len 0 n) in
       split (eqb c r.own)
@@ -254,29 +254,29 @@ module _ (r : Reader) (rec : Record) (word : ℕ) where
       let e : c ≡ r.own = eqb-true c r.own y in
       rw (n, y)
       (subst (λ (d : ℕ). EffectCase r rec word (Stores (with_data r d))) (sym e) (stores (s ∙ ap Inside e) (k ∙ ap data_kind e) some w)))
-      (λ m. rw (n, m) (went (with_data r c) (onward-data r rec word c s k some))))
+      (λ m. rw (n, m) (went (with_data r c) (onward_data r rec word c s k some))))
 
   steps : (x : Role) → RoleFacts r.state rec.kind rec.len x → EffectCase r rec word (effect_of r x rec.address rec.len word)
   unfolding effect_of with_state with_upper bad_failure is_kept
   steps Opening h =
       split (not (eqb (r.offset % 512) 0))
       (λ y. rw y (broke answer.Unaligned refl))
-      (λ n. rw n (went (with_state (with_upper r word) Opened) (onward-linear r rec word _ refl refl refl refl (λ e. refl) h)))
+      (λ n. rw n (went (with_state (with_upper r word) Opened) (onward_linear r rec word _ refl refl refl refl (λ e. refl) h)))
   steps Naming h =
       split (has_board r.sections_seen word)
       (λ y. rw y (broke answer.Repeated refl))
-      (λ n. rw n (went (with_state (with_section r word) (Inside word)) (onward-name r rec word h)))
-  steps Address h = went (with_upper r word) (onward-linear r rec word _ refl refl refl refl (λ e. e) h)
+      (λ n. rw n (went (with_state (with_section r word) (Inside word)) (onward_name r rec word h)))
+  steps Address h = went (with_upper r word) (onward_linear r rec word _ refl refl refl refl (λ e. e) h)
   steps (Data c) h =
       split (ltb 65536 (rec.address + rec.len))
       (λ y. rw y (broke answer.Crosses refl))
-      (λ n. rw n (stores-data c h.0 h.1 (ltb-false 65536 (rec.address + rec.len) n)))
-  steps (Padding c) h = went (with_state r (Padded c)) (onward-other r rec word _ refl refl refl refl (λ e. refl) h)
-  steps Other h = went r (onward-other r rec word _ refl refl refl refl (λ e. e) h)
-  steps Closing h = went (with_state r Between) (onward-other r rec word _ refl refl refl refl (λ e. refl) h)
+      (λ n. rw n (stores_data c h.0 h.1 (ltb-false 65536 (rec.address + rec.len) n)))
+  steps (Padding c) h = went (with_state r (Padded c)) (onward_other r rec word _ refl refl refl refl (λ e. refl) h)
+  steps Other h = went r (onward_other r rec word _ refl refl refl refl (λ e. e) h)
+  steps Closing h = went (with_state r Between) (onward_other r rec word _ refl refl refl refl (λ e. refl) h)
   steps Ending h =
       split (both_boards r.data_seen)
-      (λ y. rw y (closed (onward-other r rec word (with_state r Ended) refl refl refl refl (λ e. refl) h) y))
+      (λ y. rw y (closed (onward_other r rec word (with_state r Ended) refl refl refl refl (λ e. refl) h) y))
       (λ n. rw n (broke answer.MissingBoard refl))
   steps Refused h = broke answer.OutOfPlace refl
 
@@ -309,13 +309,13 @@ unfolding bad_reader
 good_state_lem r n = or_right (not (is_v1 r.own || is_v2 r.own) || ltb 4194304 r.offset) (bad_failure r.state) n
 
 module _ (r : Reader) (l img : List ℕ) where
-  effect-case : (rec : Record) {x : Effect} → (read_of l).parsed ≡ parsed.Good rec → end_of r l ≤ 4194304 → EffectCase r rec (word_of (read_of l).«data») x
+  effect_case : (rec : Record) {x : Effect} → (read_of l).parsed ≡ parsed.Good rec → end_of r l ≤ 4194304 → EffectCase r rec (word_of (read_of l).«data») x
       → LineCase r l img (effect_outcome r rec (read_of l).«data» (end_of r l) img x)
   unfolding effect_outcome storing with_data
-  effect-case rec p m (broke a f) = failed a f
-  effect-case rec p m (went q o) = passed rec q p o m
-  effect-case rec p m (stores s k n w) =
-      let o = onward-data r rec (word_of (read_of l).«data») r.own s k n in
+  effect_case rec p m (broke a f) = failed a f
+  effect_case rec p m (went q o) = passed rec q p o m
+  effect_case rec p m (stores s k n w) =
+      let o = onward_data r rec (word_of (read_of l).«data») r.own s k n in
       split (outside r rec img)
       (λ y. rw y (out rec (with_data r r.own) p o m))
       (λ z.
@@ -323,42 +323,42 @@ module _ (r : Reader) (l img : List ℕ) where
       (stored rec (with_data r r.own)
       (record { says = p; section = s; kind = k; some = n; within = w; fits = ltb-false (length img) (address_of r rec + rec.len) z })
       o m))
-  effect-case rec p m (closed o b) = ended rec p o b m
+  effect_case rec p m (closed o b) = ended rec p o b m
 
-  parsed-case : (p : ParseResult) → (read_of l).parsed ≡ p → end_of r l ≤ 4194304 → LineCase r l img (parsed_line r (read_of l).«data» (end_of r l) img p)
+  parsed_case : (p : ParseResult) → (read_of l).parsed ≡ p → end_of r l ≤ 4194304 → LineCase r l img (parsed_line r (read_of l).«data» (end_of r l) img p)
   unfolding parsed_line record_outcome is_kept
-  parsed-case (parsed.Good rec) p m =
-      effect-case rec p m (steps r rec (word_of (read_of l).«data») (role_of r.state rec.kind rec.len) (role_facts r.state rec.kind rec.len))
-  parsed-case parsed.NoColon p m = failed answer.NoColon refl
-  parsed-case parsed.BadShape p m = failed answer.BadShape refl
-  parsed-case (parsed.BadDigit k) p m =
-      let w = bad-position l k p in failed (answer.BadDigit k) (kept_digit k w.0 w.1)
-  parsed-case parsed.TooLong p m = failed answer.TooLong refl
-  parsed-case parsed.BadLength p m = failed answer.BadLength refl
-  parsed-case parsed.BadSum p m = failed answer.BadSum refl
+  parsed_case (parsed.Good rec) p m =
+      effect_case rec p m (steps r rec (word_of (read_of l).«data») (role_of r.state rec.kind rec.len) (role_facts r.state rec.kind rec.len))
+  parsed_case parsed.NoColon p m = failed answer.NoColon refl
+  parsed_case parsed.BadShape p m = failed answer.BadShape refl
+  parsed_case (parsed.BadDigit k) p m =
+      let w = bad_position_lem l k p in failed (answer.BadDigit k) (kept_digit k w.0 w.1)
+  parsed_case parsed.TooLong p m = failed answer.TooLong refl
+  parsed_case parsed.BadLength p m = failed answer.BadLength refl
+  parsed_case parsed.BadSum p m = failed answer.BadSum refl
 
-  live-case : LineCase r l img (live_line r l img)
+  live_case : LineCase r l img (live_line r l img)
   unfolding live_line is_kept
-  live-case =
+  live_case =
       split (ltb 4194304 (end_of r l))
       (λ y. rw y (failed answer.FileTooLong refl))
-      (λ z. rw z (parsed-case (read_of l).parsed refl (ltb-false 4194304 (end_of r l) z)))
+      (λ z. rw z (parsed_case (read_of l).parsed refl (ltb-false 4194304 (end_of r l) z)))
 
-  state-case : (s : ReaderState) → r.state ≡ s → bad_failure s ≡ false → LineCase r l img (halt_line r l img (halt_of s))
+  state_case : (s : ReaderState) → r.state ≡ s → bad_failure s ≡ false → LineCase r l img (halt_line r l img (halt_of s))
   unfolding halt_line bad_failure
-  state-case Between e n = live-case
-  state-case Opened e n = live-case
-  state-case (Inside b) e n = live-case
-  state-case (Padded b) e n = live-case
-  state-case Ended e n = past e
-  state-case (Failed f) e n = again f e (not-false (is_kept f.answer) n)
+  state_case Between e n = live_case
+  state_case Opened e n = live_case
+  state_case (Inside b) e n = live_case
+  state_case (Padded b) e n = live_case
+  state_case Ended e n = past e
+  state_case (Failed f) e n = again f e (not-false (is_kept f.answer) n)
 
-  pub lineCase : LineCase r l img (line_of r l img)
+  pub line_case : LineCase r l img (line_of r l img)
   unfolding line_of
-  lineCase =
+  line_case =
       split (bad_image (length img))
       (λ y. rw y (bad answer.BadImage (omega arith) (λ w. clash (bad_image (length img)) y w.image)))
       (λ z.
       split (bad_reader r)
       (λ y. rw (z, y) (bad answer.BadReader (omega arith) (λ w. clash (bad_reader r) y w.reader)))
-      (λ n. rw (z, n) (state-case r.state refl (good_state_lem r n))))
+      (λ n. rw (z, n) (state_case r.state refl (good_state_lem r n))))

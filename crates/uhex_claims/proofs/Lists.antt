@@ -27,14 +27,14 @@ use Rattle.uhex_reader.specs.Line.{LineOutcome, line_outcome, failing, bad_image
 use Rattle.uhex_claims.specs.Facts.{Ready, moves_offset, LengthKept, StaysGood, FailuresFail}
 use Rattle.uhex_claims.specs.Lines.{Session, read_line, next, read_all, line_answers, store_of, is_stored, stores_of}
 use Rattle.uhex_claims.specs.Claims.{FailureStays, EndStays}
-use Rattle.uhex_claims.proofs.LineCase.{LineCase, bad, past, again, failed, out, stored, passed, ended, lineCase}
+use Rattle.uhex_claims.proofs.LineCase.{LineCase, bad, past, again, failed, out, stored, passed, ended, line_case}
 use Rattle.uhex_claims.proofs.Facts.{failure_not_moves, length_kept, stays_good, failures_fail}
 use Rattle.uhex_claims.proofs.Claims.{failure_stays, end_stays}
 use Rattle.uhex_claims.specs.Items.{Item, item_of, Says, none, line}
 use Rattle.uhex_claims.specs.State.{Place, between, opened, body, padded, gives_for, State, after, state_after, fits_in, answer_for, answers_for, image_with, image_for, stores_with, stores_for, reader_state_of, both_of, reader_of}
 use Rattle.uhex_claims.specs.WholefileClaims as claims
 use Rattle.uhex_claims.specs.WholefileClaims.{Acceptance, Stop}
-use Rattle.uhex_claims.proofs.OneRecord.{Goes, EffectCase, fails, goes, ends, steps, made, word-item, line_made, line-goes, line-ends, answer_most, answer_least}
+use Rattle.uhex_claims.proofs.OneRecord.{Goes, EffectCase, fails, goes, ends, steps, made, word_item, line_made, line-goes, line-ends, answer_most, answer_least}
 use Rattle.uhex_claims.proofs.Runs.{Runs, stop, step}
 
 -- a reader that knows what records say, and an image
@@ -66,17 +66,17 @@ module _ (own : ℕ) where
     unfolding LengthKept
     length-on = sym (ap (λ (o : LineOutcome). length o.image) e) ∙ length_kept (reader_of own s) l img
 
-  pub run-reads : {ls : List (List ℕ)} {xs : List Item} → Says ls xs → (s : State) (img : List ℕ) → Ready (reader_of own s) img → Runs s xs
+  pub run_reads : {ls : List (List ℕ)} {xs : List Item} → Says ls xs → (s : State) (img : List ℕ) → Ready (reader_of own s) img → Runs s xs
       → (read_all (session own s img) ls ≡ session own (state_after s xs) (image_for own s xs img))
       × (line_answers (session own s img) ls ≡ answers_for own (length img) s xs)
       × Ready (reader_of own (state_after s xs)) (image_for own s xs img)
   unfolding read_all line_answers state_after image_for answers_for
-  run-reads none s img y r = (refl, refl, y)
-  run-reads (line {l} {ls} {xs} rec p t) s img y (step _ _ q e g m r) =
+  run_reads none s img y r = (refl, refl, y)
+  run_reads (line {l} {ls} {xs} rec p t) s img y (step _ _ q e g m r) =
       let x = item_of l rec in
       let w = line-goes l rec p own s img y m e g in
       let n = next_is s l img x w in
-      let h = run-reads t (after s x) (image_with own s x img) (ready_on s l img x w y) r in (
+      let h = run_reads t (after s x) (image_with own s x img) (ready_on s l img x w y) r in (
         ap (λ (k : Session). read_all k ls) n ∙ h.0,
         ap (λ (o : LineOutcome). o.answer ∷ line_answers (session_of o) ls) w
             ∙ ap (λ (k : List Answer). answer_for own (length img) s x ∷ k)
@@ -85,25 +85,25 @@ module _ (own : ℕ) where
       )
 
   -- and store what they say
-  store-one : (s : State) (l img : List ℕ) (rec : Record) → (read_of l).parsed ≡ Good rec → (o : LineOutcome) → o ≡ onward s (item_of l rec) img
+  store_one : (s : State) (l img : List ℕ) (rec : Record) → (read_of l).parsed ≡ Good rec → (o : LineOutcome) → o ≡ onward s (item_of l rec) img
       → cond (is_stored o.answer) (store_of (reader_of own s) (read_of l).«data» (read_of l).parsed) [] ≡ stores_with own (length img) s (item_of l rec)
   unfolding stores_with answer_for
-  store-one s l img rec p o e =
+  store_one s l img rec p o e =
       let x = item_of l rec in
       rw (e, p)
       (split (gives_for s.place x own)
       (λ y. rw y (split (fits_in (length img) s x) (λ z. rw z) (λ z. rw z)))
       (λ z. rw z))
 
-  pub run-stores : {ls : List (List ℕ)} {xs : List Item} → Says ls xs → (s : State) (img : List ℕ) → Ready (reader_of own s) img → Runs s xs
+  pub run_stores : {ls : List (List ℕ)} {xs : List Item} → Says ls xs → (s : State) (img : List ℕ) → Ready (reader_of own s) img → Runs s xs
       → stores_of (session own s img) ls ≡ stores_for own (length img) s xs
   unfolding stores_of stores_for
-  run-stores none s img y r = refl
-  run-stores (line {l} {ls} {xs} rec p t) s img y (step _ _ q e g m r) =
+  run_stores none s img y r = refl
+  run_stores (line {l} {ls} {xs} rec p t) s img y (step _ _ q e g m r) =
       let x = item_of l rec in
       let w = line-goes l rec p own s img y m e g in
-      let h = run-stores t (after s x) (image_with own s x img) (ready_on s l img x w y) r in
-      ap (λ (z : List Store). z ++ stores_of (next (session own s img) l) ls) (store-one s l img rec p (read_line (session own s img) l) w)
+      let h = run_stores t (after s x) (image_with own s x img) (ready_on s l img x w y) r in
+      ap (λ (z : List Store). z ++ stores_of (next (session own s img) l) ls) (store_one s l img rec p (read_line (session own s img) l) w)
       ∙ ap (λ (k : Session). stores_with own (length img) s x ++ stores_of k ls) (next_is s l img x w)
       ∙ ap (λ (z : List Store). stores_with own (length img) s x ++ z) (h ∙ ap (λ (k : ℕ). stores_for own k (after s x) xs) (length-on s l img x w))
 
@@ -128,30 +128,30 @@ not_failed (body b) f e = let z : ◌≡◌ {A = ℕ} 0 1 = cc in omega arith
 not_failed (padded b) f e = let z : ◌≡◌ {A = ℕ} 0 1 = cc in omega arith
 
 module _ (own : ℕ) (s : State) (l img : List ℕ) (y : Ready (reader_of own s) img) where
-  outcome-viewed : (rec : Record) → (read_of l).parsed ≡ Good rec → s.size + length l ≤ 4194304 → {t : Effect} → EffectCase s (item_of l rec) s.place t
+  outcome_viewed : (rec : Record) → (read_of l).parsed ≡ Good rec → s.size + length l ≤ 4194304 → {t : Effect} → EffectCase s (item_of l rec) s.place t
       → AfterRecords own s l img (effect_outcome (reader_of own s) rec (read_of l).«data» (s.size + length l) img t)
   unfolding effect_outcome
-  outcome-viewed rec p m (fails a f) = refused f
-  outcome-viewed rec p m (goes g) = went rec p m g
-  outcome-viewed rec p m (ends q e k n a b) = last rec p m e k n a b refl
+  outcome_viewed rec p m (fails a f) = refused f
+  outcome_viewed rec p m (goes g) = went rec p m g
+  outcome_viewed rec p m (ends q e k n a b) = last rec p m e k n a b refl
 
-  record-viewed : (rec : Record) → (read_of l).parsed ≡ Good rec → s.size + length l ≤ 4194304 → AfterRecords own s l img (line_of (reader_of own s) l img)
-  record-viewed rec p m =
+  record_viewed : (rec : Record) → (read_of l).parsed ≡ Good rec → s.size + length l ≤ 4194304 → AfterRecords own s l img (line_of (reader_of own s) l img)
+  record_viewed rec p m =
       rw (line_made l rec p own s img y m s.place refl)
-      (outcome-viewed rec p m (steps own s (item_of l rec) (word_at (read_of l).«data») (word-item l rec p) s.place))
+      (outcome_viewed rec p m (steps own s (item_of l rec) (word_at (read_of l).«data») (word_item l rec p) s.place))
 
-  lined-viewed : {o : LineOutcome} → LineCase (reader_of own s) l img o → line_of (reader_of own s) l img ≡ o → AfterRecords own s l img o
-  lined-viewed (bad a n x) e = absurd (x y)
-  lined-viewed (past f) e = absurd (not_ended s.place f)
-  lined-viewed (again f g h) e = absurd (not_failed s.place f g)
-  lined-viewed (failed a f) e = refused (kept_failure a f)
-  lined-viewed (out rec q p w m) e = subst (AfterRecords own s l img) e (record-viewed rec p m)
-  lined-viewed (stored rec q d w m) e = subst (AfterRecords own s l img) e (record-viewed rec d.says m)
-  lined-viewed (passed rec q p w m) e = subst (AfterRecords own s l img) e (record-viewed rec p m)
-  lined-viewed (ended rec p w b m) e = subst (AfterRecords own s l img) e (record-viewed rec p m)
+  lined_viewed : {o : LineOutcome} → LineCase (reader_of own s) l img o → line_of (reader_of own s) l img ≡ o → AfterRecords own s l img o
+  lined_viewed (bad a n x) e = absurd (x y)
+  lined_viewed (past f) e = absurd (not_ended s.place f)
+  lined_viewed (again f g h) e = absurd (not_failed s.place f g)
+  lined_viewed (failed a f) e = refused (kept_failure a f)
+  lined_viewed (out rec q p w m) e = subst (AfterRecords own s l img) e (record_viewed rec p m)
+  lined_viewed (stored rec q d w m) e = subst (AfterRecords own s l img) e (record_viewed rec d.says m)
+  lined_viewed (passed rec q p w m) e = subst (AfterRecords own s l img) e (record_viewed rec p m)
+  lined_viewed (ended rec p w b m) e = subst (AfterRecords own s l img) e (record_viewed rec p m)
 
   pub viewed : AfterRecords own s l img (line_of (reader_of own s) l img)
-  viewed = lined-viewed (lineCase (reader_of own s) l img) refl
+  viewed = lined_viewed (line_case (reader_of own s) l img) refl
 
 -- ---- lines that are taken say records that go on
 
@@ -176,10 +176,10 @@ module _ (own : ℕ) where
       (g : Goes s (item_of l rec) s.place) → RecordsOf (after s (item_of l rec)) ls → RecordsOf s (l ∷ ls)
   one_more s l img ls rec p m g r = (item_of l rec ∷ r.0, line rec p r.1, step s (item_of l rec) s.place refl g m r.2)
 
-  pub taken-run : (ls : List (List ℕ)) (s : State) (img : List ℕ) → Ready (reader_of own s) img → Acceptance (line_answers (session own s img) ls) → RecordsOf s ls
+  pub taken_run : (ls : List (List ℕ)) (s : State) (img : List ℕ) → Ready (reader_of own s) img → Acceptance (line_answers (session own s img) ls) → RecordsOf s ls
   unfolding line_answers
-  taken-run [] s img y t = ([], none, stop)
-  taken-run (l ∷ ls) s img y (claims.next h k t) = first (viewed own s l img y) (λ x e. taken-run ls (after s x) (image_with own s x img) (ready_on own s l img x e y) (subst (λ (h : Session). Acceptance (line_answers h ls)) (next_is own s l img x e) t))
+  taken_run [] s img y t = ([], none, stop)
+  taken_run (l ∷ ls) s img y (claims.next h k t) = first (viewed own s l img y) (λ x e. taken_run ls (after s x) (image_with own s x img) (ready_on own s l img x e y) (subst (λ (h : Session). Acceptance (line_answers h ls)) (next_is own s l img x e) t))
     where
       first : AfterRecords own s l img (line_of (reader_of own s) l img)
           → ((x : Item) → line_of (reader_of own s) l img ≡ onward own s x img → RecordsOf (after s x) ls) → RecordsOf s (l ∷ ls)
@@ -188,15 +188,15 @@ module _ (own : ℕ) where
       first (last rec p m e n z a b q) r = absurd (omega (arith, ap number_of q))
 
   -- an answer 32 to 35 comes only after such lines
-  pub last-run : (ls : List (List ℕ)) (l : List ℕ) (s : State) (img : List ℕ) → Ready (reader_of own s) img
+  pub last_run : (ls : List (List ℕ)) (l : List ℕ) (s : State) (img : List ℕ) → Ready (reader_of own s) img
       → 32 ≤ number_of (read_line (read_all (session own s img) ls) l).answer → number_of (read_line (read_all (session own s img) ls) l).answer ≤ 35 → RecordsOf s ls
   unfolding read_all line_answers FailureStays EndStays
-  last-run [] l s img y h k = ([], none, stop)
-  last-run (f ∷ ls) l s img y h k =
+  last_run [] l s img y h k = ([], none, stop)
+  last_run (f ∷ ls) l s img y h k =
       first (viewed own s f img y)
       (λ x e.
       let n = next_is own s f img x e in
-      last-run ls l (after s x) (image_with own s x img) (ready_on own s f img x e y)
+      last_run ls l (after s x) (image_with own s x img) (ready_on own s f img x e y)
       (subst (λ (q : Session). 32 ≤ number_of (read_line (read_all q ls) l).answer) n h)
       (subst (λ (q : Session). number_of (read_line (read_all q ls) l).answer ≤ 35) n k))
     where
@@ -226,9 +226,9 @@ module _ (own : ℕ) where
   accepts k s [] = claims.none
   accepts k s (x ∷ xs) = claims.next (answer_least own k s x) (answer_most own k s x) (accepts k (after s x) xs)
 
-  pub run-accepted : {ls : List (List ℕ)} {xs : List Item} → Says ls xs → (s : State) (img : List ℕ) → Ready (reader_of own s) img → Runs s xs
+  pub run_accepted : {ls : List (List ℕ)} {xs : List Item} → Says ls xs → (s : State) (img : List ℕ) → Ready (reader_of own s) img → Runs s xs
       → Acceptance (line_answers (session own s img) ls)
-  run-accepted {ls} {xs} t s img y r = rw (run-reads own t s img y r).1 (accepts (length img) s xs)
+  run_accepted {ls} {xs} t s img y r = rw (run_reads own t s img y r).1 (accepts (length img) s xs)
 
   -- ---- any lines: the records of those before the first that is refused or ends
 
@@ -246,10 +246,10 @@ module _ (own : ℕ) where
     pub image : (read_all (session own s img) ls).image ≡ image_for own s items img
 
   -- a reader that went no further
-  nothing-more : (s : State) (img : List ℕ) (ls : List (List ℕ)) (t : ReaderState) (e : ℕ)
+  nothing_more : (s : State) (img : List ℕ) (ls : List (List ℕ)) (t : ReaderState) (e : ℕ)
       → Stop (session own s img) ls → read_all (session own s img) ls ≡ record { reader = moved_to (with_state (reader_of own s) t) e; image = img } → Recall s img ls
   unfolding read_all state_after image_for moved_to with_state
-  nothing-more s img ls t e q h =
+  nothing_more s img ls t e q h =
       record {
         before = [];
         rest = ls;
@@ -266,7 +266,7 @@ module _ (own : ℕ) where
 
   pub recall : (ls : List (List ℕ)) (s : State) (img : List ℕ) → Ready (reader_of own s) img → Recall s img ls
   unfolding read_all state_after image_for moved_to with_state FailureStays EndStays FailuresFail
-  recall [] s img y = nothing-more s img [] (reader_state_of s.place) s.size claims.no_line refl
+  recall [] s img y = nothing_more s img [] (reader_state_of s.place) s.size claims.no_line refl
   recall (l ∷ ls) s img y =
       first (viewed own s l img y) (λ x e. recall ls (after s x) (image_with own s x img) (ready_on own s l img x e y))
     where
@@ -274,7 +274,7 @@ module _ (own : ℕ) where
           → ((x : Item) → line_of (reader_of own s) l img ≡ onward own s x img → Recall (after s x) (image_with own s x img) ls) → Recall s img (l ∷ ls)
       first (refused f) r =
           let a = (read_line (session own s img) l).answer in
-          nothing-more s img (l ∷ ls) (state.Failed (record { answer = a })) s.size (claims.other_answer (failure_number_lem a f))
+          nothing_more s img (l ∷ ls) (state.Failed (record { answer = a })) s.size (claims.other_answer (failure_number_lem a f))
           ((failure_stays (session own s img) l ls f).0 ∙ ap session_of (failures_fail (reader_of own s) l img f))
       first (went rec p m g) r =
           let x = item_of l rec in
@@ -295,5 +295,5 @@ module _ (own : ℕ) where
             image = ap (λ (h : Session). (read_all h ls).image) n ∙ k.image;
           }
       first (last rec p m e k n a b q) r =
-          nothing-more s img (l ∷ ls) state.Ended (s.size + length l) (claims.other_answer (inr (omega (arith, ap number_of q))))
+          nothing_more s img (l ∷ ls) state.Ended (s.size + length l) (claims.other_answer (inr (omega (arith, ap number_of q))))
           ((end_stays (session own s img) l ls q).0 ∙ ap session_of (line-ends l rec p own s img y m e k n a b))

@@ -14,7 +14,7 @@ use Rattle.laws.proofs.Tests.{split, clash, is_false, eqb_same, or_right, and_le
 use Rattle.ihex_record.specs.Record.{read_of, word_of as word_at}
 use Rattle.ihex_record.specs.declared.Record.{Record}
 use Rattle.ihex_record.specs.declared.ParseResult.TheVariants as parsed
-use Rattle.ihex_record.proofs.Good.{good-len, length_data}
+use Rattle.ihex_record.proofs.Good.{good_len, length_data}
 use Rattle.uhex_grammar.specs.Answers.{number_of, is_failure}
 use Rattle.uhex_grammar.specs.Boards.{is_v1, is_v2, has_board, with_board, both_boards}
 use Rattle.uhex_grammar.specs.Grammar.{is_extended_linear, is_end_of_file, is_block_start, data_kind, after_padding, role_of}
@@ -72,25 +72,25 @@ module _ (x : Item) where
   unfolding names_for
   no_name n b = rw (ne_eqb x.kind 10 n)
 
-  pub a-name : x.kind ≡ 10 → (b : ℕ) → names_for x b ≡ eqb (word_of x) b
+  pub a_name : x.kind ≡ 10 → (b : ℕ) → names_for x b ≡ eqb (word_of x) b
   unfolding names_for
-  a-name n b = rw n
+  a_name n b = rw n
 
-  pub no-gift : x.kind ≢ 0 → x.kind ≢ 13 → (p : Place) (b : ℕ) → gives_for p x b ≡ false
+  pub no_gift : x.kind ≢ 0 → x.kind ≢ 13 → (p : Place) (b : ℕ) → gives_for p x b ≡ false
   unfolding gives_for
-  no-gift z t p b = rw (not_data x.kind b z t, and-false (is_in p b))
+  no_gift z t p b = rw (not_data x.kind b z t, and-false (is_in p b))
 
-  pub no-gift-at : (p : Place) → ((b : ℕ) → is_in p b ≡ false) → (b : ℕ) → gives_for p x b ≡ false
+  pub no_gift_at : (p : Place) → ((b : ℕ) → is_in p b ≡ false) → (b : ℕ) → gives_for p x b ≡ false
   unfolding gives_for
-  no-gift-at p h b = rw (h b)
+  no_gift_at p h b = rw (h b)
 
   pub no_bytes : length x.bytes ≡ 0 → (p : Place) (b : ℕ) → gives_for p x b ≡ false
   unfolding gives_for
   no_bytes e p b = rw (e, and-false (eqb x.kind (data_type_of b)), and-false (is_in p b))
 
-  pub a-gift : (c : ℕ) → x.kind ≡ data_type_of c → 1 ≤ length x.bytes → (b : ℕ) → gives_for (body c) x b ≡ eqb c b
+  pub a_gift : (c : ℕ) → x.kind ≡ data_type_of c → 1 ≤ length x.bytes → (b : ℕ) → gives_for (body c) x b ≡ eqb c b
   unfolding gives_for
-  a-gift c k n b =
+  a_gift c k n b =
       rw (k, le-leb 1 (length x.bytes) n)
       (split (eqb c b) (λ y. rw (y, eqb-true c b y, eqb_same (data_type_of b))) (λ z. rw z))
 
@@ -130,11 +130,11 @@ module _ (own : ℕ) (s : State) (x : Item) where
       (idle (s.data_seen 0x9900) (gives_for s.place x 0x9900) (g 0x9900))
       (idle (s.data_seen 0x9903) (gives_for s.place x 0x9903) (g 0x9903))
 
-  not-04 : x.kind ≢ 4 → s.upper ≡ cond (eqb x.kind 4) (word_of x) s.upper
-  not-04 n = rw (ne_eqb x.kind 4 n)
+  not_04 : x.kind ≢ 4 → s.upper ≡ cond (eqb x.kind 4) (word_of x) s.upper
+  not_04 n = rw (ne_eqb x.kind 4 n)
 
-  is-04 : (w : ℕ) → x.kind ≡ 4 → w ≡ word_of x → w ≡ cond (eqb x.kind 4) (word_of x) s.upper
-  is-04 w k e = rw k e
+  is_04 : (w : ℕ) → x.kind ≡ 4 → w ≡ word_of x → w ≡ cond (eqb x.kind 4) (word_of x) s.upper
+  is_04 w k e = rw k e
 
 has_second : (s : State) (w : ℕ) → is_v1 w && s.section_seen 0x9900 || is_v2 w && s.section_seen 0x9903 ≡ second s w
 has_second s w =
@@ -178,35 +178,35 @@ module _ (own : ℕ) (s : State) (x : Item) (w : ℕ) (hw : 2 ≤ length x.bytes
   passing p q g h f = h ∙ ap Passes f ∙ choose (gives_for s.place x own) (Stores (next_of own s x)) (Passes (next_of own s x)) g
 
   -- a record that names nothing and gives nothing
-  passing-plain : (p : Place) (t : ReaderState) (u : ℕ) → made own s x w p ≡ Passes (moved own s t u) → t ≡ reader_state_of (place_after s.place x)
+  passing_plain : (p : Place) (t : ReaderState) (u : ℕ) → made own s x w p ≡ Passes (moved own s t u) → t ≡ reader_state_of (place_after s.place x)
       → u ≡ cond (eqb x.kind 4) (word_of x) s.upper → x.kind ≢ 10 → ((b : ℕ) → gives_for s.place x b ≡ false)
       → made own s x w p ≡ effect_for own s x
-  passing-plain p t u h e f n g = passing p (moved own s t u) (g own) h (plain own s x t u e f n g)
+  passing_plain p t u h e f n g = passing p (moved own s t u) (g own) h (plain own s x t u e f n g)
 
-  made-opening : s.place ≡ between → x.kind ≡ 4 → length x.bytes ≡ 2 → s.size % 512 ≡ 0 → made own s x w between ≡ effect_for own s x
+  made_opening : s.place ≡ between → x.kind ≡ 4 → length x.bytes ≡ 2 → s.size % 512 ≡ 0 → made own s x w between ≡ effect_for own s x
   unfolding role_of effect_of with_state with_upper place_after
-  made-opening e k n m =
-      passing-plain between Opened w (rw (k, n, m)) (rw e) (is-04 own s x w k (hw (omega arith))) (λ f. omega arith)
-      (no-gift x (λ f. omega arith) (λ f. omega arith) s.place)
+  made_opening e k n m =
+      passing_plain between Opened w (rw (k, n, m)) (rw e) (is_04 own s x w k (hw (omega arith))) (λ f. omega arith)
+      (no_gift x (λ f. omega arith) (λ f. omega arith) s.place)
 
-  made-upper : (b : ℕ) → s.place ≡ body b → x.kind ≡ 4 → length x.bytes ≡ 2 → made own s x w (body b) ≡ effect_for own s x
+  made_upper : (b : ℕ) → s.place ≡ body b → x.kind ≡ 4 → length x.bytes ≡ 2 → made own s x w (body b) ≡ effect_for own s x
   unfolding role_of effect_of with_upper place_after
-  made-upper b e k n =
-      passing-plain (body b) (reader_state_of s.place) w (rw (k, n)) (rw (e, k)) (is-04 own s x w k (hw (omega arith))) (λ f. omega arith)
-      (no-gift x (λ f. omega arith) (λ f. omega arith) s.place)
+  made_upper b e k n =
+      passing_plain (body b) (reader_state_of s.place) w (rw (k, n)) (rw (e, k)) (is_04 own s x w k (hw (omega arith))) (λ f. omega arith)
+      (no_gift x (λ f. omega arith) (λ f. omega arith) s.place)
 
-  made-naming : s.place ≡ opened → x.kind ≡ 10 → 2 ≤ length x.bytes → second s (word_of x) ≡ false → made own s x w opened ≡ effect_for own s x
+  made_naming : s.place ≡ opened → x.kind ≡ 10 → 2 ≤ length x.bytes → second s (word_of x) ≡ false → made own s x w opened ≡ effect_for own s x
   unfolding role_of effect_of with_state with_section with_board moved_to place_after
-  made-naming e k n f =
-      let g : (b : ℕ) → gives_for s.place x b ≡ false = no-gift x (λ f. omega arith) (λ f. omega arith) s.place in
+  made_naming e k n f =
+      let g : (b : ℕ) → gives_for s.place x b ≡ false = no_gift x (λ f. omega arith) (λ f. omega arith) s.place in
       let new : is_v1 w && s.section_seen 0x9900 || is_v2 w && s.section_seen 0x9903 ≡ false = has_second s w ∙ ap (second s) (hw n) ∙ f in
       let at : reader_state_of (place_after s.place x) ≡ Inside (word_of x) = rw e in
       passing opened
       (rd own s.size (Inside w) s.upper (s.section_seen 0x9900 || is_v1 w) (s.section_seen 0x9903 || is_v2 w) (s.data_seen 0x9900) (s.data_seen 0x9903))
       (g own) (rw (k, le-leb 2 (length x.bytes) n, new))
-      (same own s.size (ap Inside (hw n) ∙ sym at) (not-04 own s x (λ f. omega arith))
-      (ap (λ (y : Bool). s.section_seen 0x9900 || y) (ap (λ (y : ℕ). eqb y 0x9900) (hw n) ∙ sym (a-name x k 0x9900)))
-      (ap (λ (y : Bool). s.section_seen 0x9903 || y) (ap (λ (y : ℕ). eqb y 0x9903) (hw n) ∙ sym (a-name x k 0x9903)))
+      (same own s.size (ap Inside (hw n) ∙ sym at) (not_04 own s x (λ f. omega arith))
+      (ap (λ (y : Bool). s.section_seen 0x9900 || y) (ap (λ (y : ℕ). eqb y 0x9900) (hw n) ∙ sym (a_name x k 0x9900)))
+      (ap (λ (y : Bool). s.section_seen 0x9903 || y) (ap (λ (y : ℕ). eqb y 0x9903) (hw n) ∙ sym (a_name x k 0x9903)))
       (idle (s.data_seen 0x9900) (gives_for s.place x 0x9900) (g 0x9900))
       (idle (s.data_seen 0x9903) (gives_for s.place x 0x9903) (g 0x9903)))
 
@@ -217,7 +217,7 @@ module _ (own : ℕ) (s : State) (x : Item) (w : ℕ) (hw : 2 ≤ length x.bytes
         rw (e, ne_eqb x.kind 11 (data_not x.kind b 11 (λ f. omega arith) (λ f. omega arith) k), ne_eqb x.kind 12 (data_not x.kind b 12 (λ f. omega arith) (λ f. omega arith) k))
 
     no-upper : s.upper ≡ cond (eqb x.kind 4) (word_of x) s.upper
-    no-upper = not-04 own s x (data_not x.kind b 4 (λ f. omega arith) (λ f. omega arith) k)
+    no-upper = not_04 own s x (data_not x.kind b 4 (λ f. omega arith) (λ f. omega arith) k)
 
     no-0A : x.kind ≢ 10
     no-0A = data_not x.kind b 10 (λ f. omega arith) (λ f. omega arith) k
@@ -225,7 +225,7 @@ module _ (own : ℕ) (s : State) (x : Item) (w : ℕ) (hw : 2 ≤ length x.bytes
     given-next : 1 ≤ length x.bytes → with_data (reader_of own s) b ≡ next_of own s x
     unfolding with_data with_board moved_to
     given-next n =
-        let g : (c : ℕ) → eqb b c ≡ gives_for s.place x c = λ c. sym (rw e (a-gift x b k n c)) in
+        let g : (c : ℕ) → eqb b c ≡ gives_for s.place x c = λ c. sym (rw e (a_gift x b k n c)) in
         same own s.size stays no-upper
         (idle (s.section_seen 0x9900) (names_for x 0x9900) (no_name x no-0A 0x9900))
         (idle (s.section_seen 0x9903) (names_for x 0x9903) (no_name x no-0A 0x9903))
@@ -242,11 +242,11 @@ module _ (own : ℕ) (s : State) (x : Item) (w : ℕ) (hw : 2 ≤ length x.bytes
     made-given m =
         split (eqb (length x.bytes) 0)
         (λ y.
-        passing-plain (body b) (reader_state_of s.place) s.upper (made-data m ∙ rw y) stays no-upper no-0A
+        passing_plain (body b) (reader_state_of s.place) s.upper (made-data m ∙ rw y) stays no-upper no-0A
         (no_bytes x (eqb-true (length x.bytes) 0 y) s.place))
         (λ z.
         let n : 1 ≤ length x.bytes = omega (arith, eqb-false (length x.bytes) 0 z) in
-        let g : gives_for s.place x own ≡ eqb b own = rw e (a-gift x b k n own) in
+        let g : gives_for s.place x own ≡ eqb b own = rw e (a_gift x b k n own) in
         split (eqb b own)
         (λ y.
         made-data m ∙ rw (z, y)
@@ -258,38 +258,38 @@ module _ (own : ℕ) (s : State) (x : Item) (w : ℕ) (hw : 2 ≤ length x.bytes
       → reader_state_of s.place ≡ reader_state_of (place_after s.place x) → x.kind ≡ 14 → made own s x w p ≡ effect_for own s x
   unfolding effect_of after_padding
   made_other p b r e k =
-      passing-plain p (reader_state_of s.place) s.upper (rw (r, k)) e (not-04 own s x (λ f. omega arith)) (λ f. omega arith)
-      (no-gift x (λ f. omega arith) (λ f. omega arith) s.place)
+      passing_plain p (reader_state_of s.place) s.upper (rw (r, k)) e (not_04 own s x (λ f. omega arith)) (λ f. omega arith)
+      (no_gift x (λ f. omega arith) (λ f. omega arith) s.place)
 
-  made-padding : (p : Place) (b : ℕ) → role_of (reader_state_of p) x.kind (length x.bytes) ≡ after_padding b x.kind
+  made_padding : (p : Place) (b : ℕ) → role_of (reader_state_of p) x.kind (length x.bytes) ≡ after_padding b x.kind
       → Padded b ≡ reader_state_of (place_after s.place x) → x.kind ≡ 12 → made own s x w p ≡ effect_for own s x
   unfolding effect_of after_padding with_state
-  made-padding p b r e k =
-      passing-plain p (Padded b) s.upper (rw (r, k)) e (not-04 own s x (λ f. omega arith)) (λ f. omega arith)
-      (no-gift x (λ f. omega arith) (λ f. omega arith) s.place)
+  made_padding p b r e k =
+      passing_plain p (Padded b) s.upper (rw (r, k)) e (not_04 own s x (λ f. omega arith)) (λ f. omega arith)
+      (no_gift x (λ f. omega arith) (λ f. omega arith) s.place)
 
-  made-closing : (p : Place) (b : ℕ) → role_of (reader_state_of p) x.kind (length x.bytes) ≡ after_padding b x.kind
+  made_closing : (p : Place) (b : ℕ) → role_of (reader_state_of p) x.kind (length x.bytes) ≡ after_padding b x.kind
       → Between ≡ reader_state_of (place_after s.place x) → x.kind ≡ 11 → made own s x w p ≡ effect_for own s x
   unfolding effect_of after_padding with_state
-  made-closing p b r e k =
-      passing-plain p Between s.upper (rw (r, k)) e (not-04 own s x (λ f. omega arith)) (λ f. omega arith)
-      (no-gift x (λ f. omega arith) (λ f. omega arith) s.place)
+  made_closing p b r e k =
+      passing_plain p Between s.upper (rw (r, k)) e (not_04 own s x (λ f. omega arith)) (λ f. omega arith)
+      (no_gift x (λ f. omega arith) (λ f. omega arith) s.place)
 
-  made-goes : {p : Place} → s.place ≡ p → Goes s x p → made own s x w p ≡ effect_for own s x
+  made_goes : {p : Place} → s.place ≡ p → Goes s x p → made own s x w p ≡ effect_for own s x
   unfolding place_after role_of
-  made-goes e (opening k n m) = made-opening e k n m
-  made-goes e (naming k n f) = made-naming e k n f
-  made-goes e (upper {b} k n) = made-upper b e k n
-  made-goes e (given {b} k m) = made-given b e k m
-  made-goes e (other {b} k) =
+  made_goes e (opening k n m) = made_opening e k n m
+  made_goes e (naming k n f) = made_naming e k n f
+  made_goes e (upper {b} k n) = made_upper b e k n
+  made_goes e (given {b} k m) = made-given b e k m
+  made_goes e (other {b} k) =
       made_other (body b) b (role_plain b (length x.bytes) x.kind (λ f. omega arith) (λ f. omega arith) (λ f. omega arith)) (rw (e, k)) k
-  made-goes e (padding {b} k) =
-      made-padding (body b) b (role_plain b (length x.bytes) x.kind (λ f. omega arith) (λ f. omega arith) (λ f. omega arith)) (rw (e, k)) k
-  made-goes e (closing {b} k) =
-      made-closing (body b) b (role_plain b (length x.bytes) x.kind (λ f. omega arith) (λ f. omega arith) (λ f. omega arith)) (rw (e, k)) k
-  made-goes e (tail_other {b} k) = made_other (padded b) b refl (rw (e, k)) k
-  made-goes e (tail_padding {b} k) = made-padding (padded b) b refl (rw (e, k)) k
-  made-goes e (tail_closing {b} k) = made-closing (padded b) b refl (rw (e, k)) k
+  made_goes e (padding {b} k) =
+      made_padding (body b) b (role_plain b (length x.bytes) x.kind (λ f. omega arith) (λ f. omega arith) (λ f. omega arith)) (rw (e, k)) k
+  made_goes e (closing {b} k) =
+      made_closing (body b) b (role_plain b (length x.bytes) x.kind (λ f. omega arith) (λ f. omega arith) (λ f. omega arith)) (rw (e, k)) k
+  made_goes e (tail_other {b} k) = made_other (padded b) b refl (rw (e, k)) k
+  made_goes e (tail_padding {b} k) = made_padding (padded b) b refl (rw (e, k)) k
+  made_goes e (tail_closing {b} k) = made_closing (padded b) b refl (rw (e, k)) k
 
 -- ---- every record at every place
 
@@ -303,9 +303,9 @@ module _ (own : ℕ) (s : State) (x : Item) (w : ℕ) (hw : 2 ≤ length x.bytes
   abbrev n : ℕ
   n = length x.bytes
 
-  steps-between : EffectCase s x between (made own s x w between)
+  steps_between : EffectCase s x between (made own s x w between)
   unfolding role_of effect_of
-  steps-between =
+  steps_between =
       split (is_extended_linear x.kind n)
       (λ y.
       split (eqb (s.size % 512) 0)
@@ -326,9 +326,9 @@ module _ (own : ℕ) (s : State) (x : Item) (w : ℕ) (hw : 2 ≤ length x.bytes
       (λ z. rw (m, y, z) (fails answer.MissingBoard refl)))
       (λ o. rw (m, o) (fails answer.OutOfPlace refl)))
 
-  steps-opened : EffectCase s x opened (made own s x w opened)
+  steps_opened : EffectCase s x opened (made own s x w opened)
   unfolding role_of effect_of
-  steps-opened =
+  steps_opened =
       split (is_block_start x.kind n)
       (λ y.
       let some : 2 ≤ n = leb-true 2 n (and_right (eqb x.kind 10) (leb 2 n) y) in
@@ -339,9 +339,9 @@ module _ (own : ℕ) (s : State) (x : Item) (w : ℕ) (hw : 2 ≤ length x.bytes
       (λ z. goes (naming (eqb-true x.kind 10 (and_left (eqb x.kind 10) (leb 2 n) y)) some z)))
       (λ m. rw m (fails answer.OutOfPlace refl))
 
-  steps-body : (b : ℕ) → EffectCase s x (body b) (made own s x w (body b))
+  steps_body : (b : ℕ) → EffectCase s x (body b) (made own s x w (body b))
   unfolding role_of effect_of after_padding
-  steps-body b =
+  steps_body b =
       split (is_extended_linear x.kind n)
       (λ y.
       goes (upper (eqb-true x.kind 4 (and_left (eqb x.kind 4) (eqb n 2) y)) (eqb-true n 2 (and_right (eqb x.kind 4) (eqb n 2) y))))
@@ -362,9 +362,9 @@ module _ (own : ℕ) (s : State) (x : Item) (w : ℕ) (hw : 2 ≤ length x.bytes
       (λ y. goes (closing (eqb-true x.kind 11 y)))
       (λ t. rw (m, o, u, v, t) (fails answer.OutOfPlace refl))))))
 
-  steps-padded : (b : ℕ) → EffectCase s x (padded b) (made own s x w (padded b))
+  steps_padded : (b : ℕ) → EffectCase s x (padded b) (made own s x w (padded b))
   unfolding role_of effect_of after_padding
-  steps-padded b =
+  steps_padded b =
       split (eqb x.kind 12)
       (λ y. goes (tail_padding (eqb-true x.kind 12 y)))
       (λ u.
@@ -376,10 +376,10 @@ module _ (own : ℕ) (s : State) (x : Item) (w : ℕ) (hw : 2 ≤ length x.bytes
       (λ t. rw (u, v, t) (fails answer.OutOfPlace refl))))
 
   pub steps : (p : Place) → EffectCase s x p (made own s x w p)
-  steps between = steps-between
-  steps opened = steps-opened
-  steps (body b) = steps-body b
-  steps (padded b) = steps-padded b
+  steps between = steps_between
+  steps opened = steps_opened
+  steps (body b) = steps_body b
+  steps (padded b) = steps_padded b
 
 -- ---- a line
 
@@ -391,12 +391,12 @@ live r l img (body b) = refl
 live r l img (padded b) = refl
 
 module _ (l : List ℕ) (rec : Record) (says : (read_of l).parsed ≡ parsed.Good rec) where
-  pub len-item : length (item_of l rec).bytes ≡ rec.len
-  len-item = length-take-le rec.len (read_of l).«data» (omega (arith, good-len l rec says, length_data l))
+  pub len_item : length (item_of l rec).bytes ≡ rec.len
+  len_item = length-take-le rec.len (read_of l).«data» (omega (arith, good_len l rec says, length_data l))
 
-  pub word-item : 2 ≤ length (item_of l rec).bytes → word_at (read_of l).«data» ≡ word_of (item_of l rec)
-  word-item h =
-      let n : 2 ≤ rec.len = omega (arith, len-item) in
+  pub word_item : 2 ≤ length (item_of l rec).bytes → word_at (read_of l).«data» ≡ word_of (item_of l rec)
+  word_item h =
+      let n : 2 ≤ rec.len = omega (arith, len_item) in
       rw (get_or-take rec.len (read_of l).«data» 0 0 (omega arith), get_or-take rec.len (read_of l).«data» 1 0 (omega arith))
 
   module _ (own : ℕ) (s : State) (img : List ℕ) (ready : Ready (reader_of own s) img) (m : s.size + length l ≤ 4194304) where
@@ -407,7 +407,7 @@ module _ (l : List ℕ) (rec : Record) (says : (read_of l).parsed ≡ parsed.Goo
         let r = reader_of own s in
         let d = (read_of l).«data» in
         good_line r l img rec (reader_state_of p) ready m says (ap reader_state_of e) (live r l img p)
-        ∙ ap (λ (k : ℕ). effect_outcome r rec d (s.size + length l) img (effect_of r (role_of (reader_state_of p) rec.kind k) rec.address k (word_at d))) (sym len-item)
+        ∙ ap (λ (k : ℕ). effect_outcome r rec d (s.size + length l) img (effect_of r (role_of (reader_state_of p) rec.kind k) rec.address k (word_at d))) (sym len_item)
 
     -- own data that goes on, by its address
     own-address : gives_for s.place (item_of l rec) own ≡ true → unihex.address_of (next_of own s (item_of l rec)) rec ≡ address_of s (item_of l rec)
@@ -428,11 +428,11 @@ module _ (l : List ℕ) (rec : Record) (says : (read_of l).parsed ≡ parsed.Goo
         split (fits_in (length img) s x)
         (λ y.
         let f : ltb (length img) (unihex.address_of (next_of own s x) rec + rec.len) ≡ false =
-        le-ltb (length img) (unihex.address_of (next_of own s x) rec + rec.len) (omega (arith, a, len-item, leb-true (address_of s x + length x.bytes) (length img) y)) in
+        le-ltb (length img) (unihex.address_of (next_of own s x) rec + rec.len) (omega (arith, a, len_item, leb-true (address_of s x + length x.bytes) (length img) y)) in
         rw (g, y, f) (ap (λ (k : ℕ). line_outcome (reader_of own (after s x)) answer.Stored (over img k x.bytes)) a))
         (λ z.
         let f : ltb (length img) (unihex.address_of (next_of own s x) rec + rec.len) ≡ true =
-        lt-ltb (length img) (unihex.address_of (next_of own s x) rec + rec.len) (omega (arith, a, len-item, leb-false (address_of s x + length x.bytes) (length img) z)) in
+        lt-ltb (length img) (unihex.address_of (next_of own s x) rec + rec.len) (omega (arith, a, len_item, leb-false (address_of s x + length x.bytes) (length img) z)) in
         rw (g, z, f))
 
     line-passed : gives_for s.place (item_of l rec) own ≡ false
@@ -446,7 +446,7 @@ module _ (l : List ℕ) (rec : Record) (says : (read_of l).parsed ≡ parsed.Goo
         ≡ line_outcome (reader_of own (after s (item_of l rec))) (answer_for own (length img) s (item_of l rec)) (image_with own s (item_of l rec) img)
     line-goes {p} e h =
         let x = item_of l rec in
-        let made-it = made-goes own s x (word_at (read_of l).«data») word-item e h in
+        let made-it = made_goes own s x (word_at (read_of l).«data») word_item e h in
         line_made p e ∙ ap (effect_outcome (reader_of own s) rec (read_of l).«data» (s.size + length l) img) made-it
         ∙ split (gives_for s.place x own)
         (λ y. ap (effect_outcome (reader_of own s) rec (read_of l).«data» (s.size + length l) img)

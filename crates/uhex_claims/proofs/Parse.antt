@@ -12,7 +12,7 @@ use Rattle.laws.proofs.Tests.{split, clash, eqb_same, both}
 use Rattle.uhex_claims.specs.Items.{Item, size_of, word_of}
 use Rattle.uhex_claims.specs.Whole.{data_type_of, Tail, tail_ends, tail_0_c, tail_0_e, Body, body_ends, body_04, body_data, body_0_e, body_0_c, Section, section_items, board_of, IsSection, Sections, no_section, section, all_items, how_many}
 use Rattle.uhex_claims.specs.State.{Place, between, opened, body, padded, place_after, State, after, state_after}
-use Rattle.uhex_claims.proofs.OneRecord.{second, Goes, opening, naming, upper, given, other, padding, closing, tail_other, tail_padding, tail_closing, data_not, a-name}
+use Rattle.uhex_claims.proofs.OneRecord.{second, Goes, opening, naming, upper, given, other, padding, closing, tail_other, tail_padding, tail_closing, data_not, a_name}
 use Rattle.uhex_claims.proofs.Runs.{Runs, stop, step, Once, is_v, same_sections, stays_body, size_append}
 
 -- ---- what is left, by the place where it begins
@@ -104,7 +104,7 @@ names_it s x xs k n f r =
       inside = r.inside;
       closes = r.closes;
       ordered = subst (λ (k : ℕ). Sections k r.sections) (omega arith) r.ordered;
-      once = λ c v. rw (a-name x k c) at (r.once c v);
+      once = λ c v. rw (a_name x k c) at (r.once c v);
     }
 
 counted : (s : State) (w c k : ℕ) → is_v c ≡ true → second s w ≡ false → cond (s.section_seen c || eqb w c) 1 0 + k ≤ 1

@@ -69,11 +69,11 @@ said_kept answer.FileTooLong h = file_too_long
 -- ---- the reader
 
 module _ (r : Reader) where
-  bad-said : Bad r → bad_reader r ≡ true
+  bad_said : Bad r → bad_reader r ≡ true
   unfolding bad_reader bad_failure
-  bad-said (board a b) = rw (ne_eqb r.own 0x9900 a, ne_eqb r.own 0x9903 b)
-  bad-said (offset h) = simp (lt-ltb 4194304 r.offset h, or-true)
-  bad-said (failure f e h) =
+  bad_said (board a b) = rw (ne_eqb r.own 0x9900 a, ne_eqb r.own 0x9903 b)
+  bad_said (offset h) = simp (lt-ltb 4194304 r.offset h, or-true)
+  bad_said (failure f e h) =
       let z : is_kept f.answer ≡ false = is_false _ (λ y. h (said_kept f.answer y)) in
       let b : bad_failure r.state ≡ true = ap bad_failure e ∙ rw z in
       simp (b, or-true)
@@ -87,9 +87,9 @@ module _ (r : Reader) where
   failed Ended e h = clash false h refl
   failed (Failed f) e h = failure f e (λ k. clash (is_kept f.answer) (kept_said f.answer k) (not-true _ h))
 
-  said-bad : bad_reader r ≡ true → Bad r
+  said_bad : bad_reader r ≡ true → Bad r
   unfolding bad_reader
-  said-bad h =
+  said_bad h =
       split (is_v1 r.own || is_v2 r.own)
       (λ y.
       split (ltb 4194304 r.offset) (λ o. offset (ltb-true 4194304 r.offset o))
@@ -101,13 +101,13 @@ unfolding BadReaderExactly BadExactly ImageBeforeReader
 bad_reader_exactly r l img some most =
     let b = (image_before_reader r l img).1 some most in (
       λ e.
-          split (bad_reader r) (λ y. said-bad r y)
+          split (bad_reader r) (λ y. said_bad r y)
           (λ z.
           let ready : Ready r img = record { image = rw (le-ltb (length img) 1 some, le-ltb 1048576 (length img) most); reader = z } in
           let k = (bad_exactly r l img).1 ready in
           let n = ap number_of e in
           absurd (omega (arith, k, n))),
-      λ h. ap (λ (o : LineOutcome). o.answer) (b (bad-said r h)),
+      λ h. ap (λ (o : LineOutcome). o.answer) (b (bad_said r h)),
     )
 
 pub numbers_are_01s : NumbersAre01s

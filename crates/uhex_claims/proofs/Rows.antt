@@ -16,8 +16,8 @@ use Rattle.ihex_record.specs.declared.ParseResult.{ParseResult}
 use Rattle.ihex_record.specs.declared.ParseResult.TheVariants.{Good, NoColon, BadShape, BadDigit, TooLong, BadLength, BadSum}
 use Rattle.ihex_record.specs.Record.{text_len, text_of, digit_of, all_digits, first_bad, bytes_of, data32, total, refused, bad_shape, line_of_bytes, line_of_text, read_of, all_by, first_by, bytes_by}
 use Rattle.ihex_record.specs.Record as record'
-use Rattle.ihex_record.proofs.Endings.{text-whole, text-lf, text-crlf}
-use Rattle.ihex_record.proofs.Checks.{is-empty, is-no-colon, is-bad-shape, is-bad-digit, is-bytes, is-too-long, is-bad-length, is-bad-sum, is-good}
+use Rattle.ihex_record.proofs.Endings.{text_whole, text-lf, text-crlf}
+use Rattle.ihex_record.proofs.Checks.{is_empty, is_no_colon, is-bad-shape, is-bad-digit, is-bytes, is_too_long, is-bad-length, is-bad-sum, is_good_lem}
 use Rattle.uhex_claims.specs.Rows.{Digit, decimal, upper, lower, Bytes, no_byte, byte, TextOf, unended, ended_lf, ended_crlf, sum_of, Shaped, Says, row_20, row_21, row_22, row_23, row_24, row_25, good, LineIsRead, EveryLineSays}
 
 -- ---- digits
@@ -120,7 +120,7 @@ bytes_length no_byte = refl
 bytes_length (byte p q w) = let h = bytes_length w in omega arith
 
 says_line : {t : List ℕ} {x : ParseResult} {d : List ℕ} → Says t x d → line_of_text t ≡ record { parsed = x; «data» = data32 d }
-says_line {t} (row_20 h) = sym (is-no-colon t h)
+says_line {t} (row_20 h) = sym (is_no_colon t h)
 says_line (row_21 {cs} h) = sym (is-bad-shape (58 ∷ cs) (λ q. omega arith) refl (shape_bad (length (58 ∷ cs)) h))
 says_line (row_22 {cs} p s l b g) =
     let f = first_is cs p l b g in
@@ -128,7 +128,7 @@ says_line (row_22 {cs} p s l b g) =
 says_line (row_23 {cs} {bs} {n} s w h) =
     let r = bytes_are w in
     sym (is-bytes (58 ∷ cs) (λ q. omega arith) refl (shape_good (length (58 ∷ cs)) s) r.0)
-    ∙ ap (line_of_bytes (length (58 ∷ cs))) r.1 ∙ sym (is-too-long (length (58 ∷ cs)) (n ∷ bs) h)
+    ∙ ap (line_of_bytes (length (58 ∷ cs))) r.1 ∙ sym (is_too_long (length (58 ∷ cs)) (n ∷ bs) h)
 says_line (row_24 {cs} {bs} {n} s w m h) =
     let r = bytes_are w in
     sym (is-bytes (58 ∷ cs) (λ q. omega arith) refl (shape_good (length (58 ∷ cs)) s) r.0)
@@ -144,14 +144,14 @@ says_line (good {cs} {d} {high} {low} {kind} check w m z) =
     let s : Shaped (length (58 ∷ cs)) = record { least = omega arith; most = omega arith; odd = omega arith } in
     sym (is-bytes (58 ∷ cs) (λ q. omega arith) refl (shape_good (length (58 ∷ cs)) s) r.0)
     ∙ ap (line_of_bytes (length (58 ∷ cs))) r.1
-    ∙ sym (is-good (length (58 ∷ cs)) b m (omega arith) (rw (sum_is b) z))
+    ∙ sym (is_good_lem (length (58 ∷ cs)) b m (omega arith) (rw (sum_is b) z))
     ∙ rw (take-append_seam d (check ∷ []))
 
 -- ---- its ending
 
 text_is : {l t : List ℕ} → TextOf l t → text_of l ≡ t
 unfolding text_of
-text_is {l} (unended h) = rw (← (text-whole l h)) (take-length l)
+text_is {l} (unended h) = rw (← (text_whole l h)) (take-length l)
 text_is (ended_lf {t} h) =
     let l = t ++ (10 ∷ []) in
     let a : length l - 1 ≡ length t = omega (arith, length-append t (10 ∷ [])) in

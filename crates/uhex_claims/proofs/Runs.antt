@@ -13,7 +13,7 @@ use Rattle.laws.proofs.Tests.{split, is_false, eqb_same, and_left, and_right}
 use Rattle.uhex_claims.specs.Items.{Item, size_of, word_of}
 use Rattle.uhex_claims.specs.Whole.{data_type_of, Tail, tail_ends, tail_0_c, tail_0_e, Body, body_ends, body_04, body_data, body_0_e, body_0_c, Section, section_items, board_of, IsSection, Sections, no_section, section, all_items, how_many, any_data, any_gives}
 use Rattle.uhex_claims.specs.State.{Place, between, opened, body, padded, place_after, is_in, gives_for, names_for, State, after, state_after}
-use Rattle.uhex_claims.proofs.OneRecord.{second, Goes, opening, naming, upper, given, other, padding, closing, tail_other, tail_padding, tail_closing, not_data, data_not, no_name, a-name, no-gift, no-gift-at}
+use Rattle.uhex_claims.proofs.OneRecord.{second, Goes, opening, naming, upper, given, other, padding, closing, tail_other, tail_padding, tail_closing, not_data, data_not, no_name, a_name, no_gift, no_gift_at}
 
 pub data Runs : State → List Item → Type 0 where
   stop : {s : State} → Runs s []
@@ -80,7 +80,7 @@ kept_none s b = record { section_seen = λ c. refl; data_seen = λ c. rw (and-fa
 
 quiet : (s : State) (b : ℕ) (x : Item) → x.kind ≢ 0 → x.kind ≢ 13 → (c : ℕ)
     → gives_for s.place x c ≡ eqb b c && (eqb x.kind (data_type_of c) && leb 1 (length x.bytes))
-quiet s b x z t c = rw (no-gift x z t s.place c, not_data x.kind c z t) (sym (and-false (eqb b c)))
+quiet s b x z t c = rw (no_gift x z t s.place c, not_data x.kind c z t) (sym (and-false (eqb b c)))
 
 tail_kept : (b : ℕ) {xs : List Item} → Tail xs → (s : State) → s.place ≡ padded b → ((state_after s xs).place ≡ padded b) × BodyEffect s b xs
 unfolding state_after place_after
@@ -127,7 +127,7 @@ unfolding In place_after
 closed s b x i k = ⊎_elim (λ (e : s.place ≡ body b). rw (e, k)) (λ (e : s.place ≡ padded b). rw (e, k)) i
 
 same_data : (s : State) (x : Item) → x.kind ≢ 0 → x.kind ≢ 13 → (c : ℕ) → (after s x).data_seen c ≡ s.data_seen c
-same_data s x z t c = rw (no-gift x z t s.place c) (or-false (s.data_seen c))
+same_data s x z t c = rw (no_gift x z t s.place c) (or-false (s.data_seen c))
 
 -- a section leaves off between sections, its board named
 record SectionEffect (s : State) (sec : Section) : Type 0 where
@@ -145,9 +145,9 @@ module _ (s : State) (sec : Section) (e : s.place ≡ between) (i : IsSection se
   abbrev s3 : State
   s3 = state_after s2 sec.body
 
-  pub at-opened : s1.place ≡ opened
+  pub at_opened : s1.place ≡ opened
   unfolding place_after
-  at-opened = rw e
+  at_opened = rw e
 
   pub at_body : s2.place ≡ body (board_of sec)
   unfolding place_after
@@ -171,7 +171,7 @@ module _ (s : State) (sec : Section) (e : s.place ≡ between) (i : IsSection se
             ap (λ (t : State). t.section_seen c) whole
             ∙ same_sections s3 sec.closing (λ f. omega arith) c
             ∙ kept.1.section_seen c
-            ∙ ap (λ (y : Bool). s1.section_seen c || y) (a-name sec.naming n c)
+            ∙ ap (λ (y : Bool). s1.section_seen c || y) (a_name sec.naming n c)
             ∙ ap (λ (y : Bool). y || eqb (board_of sec) c) (same_sections s sec.opening (λ f. omega arith) c);
         data_seen = λ c.
             ap (λ (t : State). t.data_seen c) whole
@@ -238,7 +238,7 @@ section_runs s sec e i a f m =
     let g : second (s1 s sec e i) (board_of sec) ≡ false =
     ap (λ (y : Bool). (eqb (board_of sec) 0x9900 || eqb (board_of sec) 0x9903) && y) (same_sections s sec.opening (λ f. omega arith) (board_of sec)) ∙ f in
     step s sec.opening between e (opening i.opens i.upper a) (omega arith)
-    (step (s1 s sec e i) sec.naming opened (at-opened s sec e i) (naming i.names i.board g) (omega arith)
+    (step (s1 s sec e i) sec.naming opened (at_opened s sec e i) (naming i.names i.board g) (omega arith)
     (runs_append (sec.closing ∷ []) (body_runs (board_of sec) i.body t2 (at_body s sec e i) (omega arith))
     (closing_goes (state_after t2 sec.body) (board_of sec) sec.closing (kept s sec e i).0 i.closes
     (omega (arith, size_after t2 sec.body)))))

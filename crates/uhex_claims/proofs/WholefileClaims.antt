@@ -33,7 +33,7 @@ use Rattle.uhex_claims.specs.WholefileClaims.{Setup, FileEnd, FileEnds, EndedIsF
 use Rattle.uhex_claims.proofs.OneRecord.{line-goes, line-ends, answer_most, answer_stored}
 use Rattle.uhex_claims.proofs.Runs.{Runs, Once, is_v, size_append, size_after, sections_run, data_all}
 use Rattle.uhex_claims.proofs.Parse.{parsed}
-use Rattle.uhex_claims.proofs.Lists.{session, run-reads, run-stores, AfterRecords, refused, went, last, viewed, RecordsOf, taken-run, last-run, run-accepted, recall}
+use Rattle.uhex_claims.proofs.Lists.{session, run_reads, run_stores, AfterRecords, refused, went, last, viewed, RecordsOf, taken_run, last_run, run_accepted, recall}
 
 -- ---- lists
 
@@ -116,37 +116,37 @@ module _ (own : ℕ) (img : List ℕ) (g : Setup own img) (xs : List Item) (f : 
   abbrev items : List Item
   items = all_items f.sections
 
-  abbrev before-end : State
-  before-end = state_after begin items
+  abbrev before_end : State
+  before_end = state_after begin items
 
-  file-size : size_of items + f.ending.size ≤ 4194304
+  file_size : size_of items + f.ending.size ≤ 4194304
   unfolding size_of
-  file-size =
+  file_size =
       let e : size_of xs ≡ size_of items + (f.ending.size + 0) = ap size_of f.whole ∙ size_append items (f.ending ∷ []) in
       omega (arith, f.short)
 
-  file-runs : Runs begin items
-  file-runs =
-      sections_run f.ordered begin refl refl (once_begin f.sections f.once_v1 f.once_v2) (omega (arith, file-size))
+  file_runs : Runs begin items
+  file_runs =
+      sections_run f.ordered begin refl refl (once_begin f.sections f.once_v1 f.once_v2) (omega (arith, file_size))
 
   module _ (ls : List (List ℕ)) (p : LastLine ls items f.ending) where
-    reads : (read_all (fresh_session own img) p.before ≡ session own before-end (image_for own begin items img))
+    reads : (read_all (fresh_session own img) p.before ≡ session own before_end (image_for own begin items img))
         × (line_answers (fresh_session own img) p.before ≡ answers_for own (length img) begin items)
-        × Ready (reader_of own before-end) (image_for own begin items img)
-    reads = run-reads own p.says begin img (ready_set own img g) file-runs
+        × Ready (reader_of own before_end) (image_for own begin items img)
+    reads = run_reads own p.says begin img (ready_set own img g) file_runs
 
-    last_line : line_of (reader_of own before-end) p.final (image_for own begin items img)
-        ≡ line_outcome (moved_to (with_state (reader_of own before-end) state.Ended) (before-end.size + length p.final)) answer.Ended (image_for own begin items img)
+    last_line : line_of (reader_of own before_end) p.final (image_for own begin items img)
+        ≡ line_outcome (moved_to (with_state (reader_of own before_end) state.Ended) (before_end.size + length p.final)) answer.Ended (image_for own begin items img)
     last_line =
         let i : f.ending.size ≡ length p.final = ap (λ (x : Item). x.size) p.item in
-        line-ends p.final p.rec p.good own before-end (image_for own begin items img) reads.2
-        (omega (arith, size_after begin items, file-size)) (data_all 0x9900 f.ordered begin refl).0
+        line-ends p.final p.rec p.good own before_end (image_for own begin items img) reads.2
+        (omega (arith, size_after begin items, file_size)) (data_all 0x9900 f.ordered begin refl).0
         (sym (ap (λ (x : Item). x.kind) p.item) ∙ f.ends)
         (sym (ap (λ (x : Item). length x.bytes) p.item) ∙ f.empty)
         ((data_all 0x9900 f.ordered begin refl).1 ∙ f.data_v1)
         ((data_all 0x9903 f.ordered begin refl).1 ∙ f.data_v2)
 
-    all_read : read_all (fresh_session own img) ls ≡ next (session own before-end (image_for own begin items img)) p.final
+    all_read : read_all (fresh_session own img) ls ≡ next (session own before_end (image_for own begin items img)) p.final
     unfolding read_all
     all_read =
         ap (read_all (fresh_session own img)) p.whole
@@ -154,7 +154,7 @@ module _ (own : ℕ) (img : List ℕ) (g : Setup own img) (xs : List Item) (f : 
         ∙ ap (λ (h : Session). next h p.final) reads.0
 
     -- the last line stores nothing
-    last-stores : stores_of (session own before-end (image_for own begin items img)) (p.final ∷ []) ≡ []
+    last-stores : stores_of (session own before_end (image_for own begin items img)) (p.final ∷ []) ≡ []
     unfolding stores_of
     last-stores = rw (ap (λ (o : LineOutcome). is_stored o.answer) last_line)
 
@@ -173,7 +173,7 @@ module _ (own : ℕ) (img : List ℕ) (g : Setup own img) (xs : List Item) (f : 
               ap (stores_of (fresh_session own img)) p.whole
               ∙ stores_append (fresh_session own img) p.before (p.final ∷ [])
               ∙ ap (λ (z : List Store). z ++ stores_of (read_all (fresh_session own img) p.before) (p.final ∷ []))
-              (run-stores own p.says begin img (ready_set own img g) file-runs)
+              (run_stores own p.says begin img (ready_set own img g) file_runs)
               ∙ ap (λ (h : Session). stores_for own (length img) begin items ++ stores_of h (p.final ∷ [])) reads.0
               ∙ ap (λ (z : List Store). stores_for own (length img) begin items ++ z) last-stores
               ∙ append-nil (stores_for own (length img) begin items);
@@ -216,8 +216,8 @@ ended_is_file own img ls l g a =
     let h : 32 ≤ number_of (read_line (read_all (fresh_session own img) ls) l).answer = omega (arith, ap number_of a) in
     let k : number_of (read_line (read_all (fresh_session own img) ls) l).answer ≤ 35 = omega (arith, ap number_of a) in
     let y = ready_set own img g in
-    let r = last-run own ls l begin img y h k in
-    let w = run-reads own r.1 begin img y r.2 in
+    let r = last_run own ls l begin img y h k in
+    let w = run_reads own r.1 begin img y r.2 in
     let i = image_for own begin r.0 img in
     file-of r.0 r.1 r.2 i w.2 (viewed own (state_after begin r.0) l i w.2) (sym (ap (λ (h : Session). (read_line h l).answer) w.0) ∙ a)
   where
@@ -237,8 +237,8 @@ pub taken_is_known : TakenIsKnown
 unfolding TakenIsKnown
 taken_is_known own img ls g t =
     let y = ready_set own img g in
-    let r = taken-run own ls begin img y t in
-    let w = run-reads own r.1 begin img y r.2 in
+    let r = taken_run own ls begin img y t in
+    let w = run_reads own r.1 begin img y r.2 in
     (r.0, r.1, record { reader = ap (λ (h : Session). h.reader) w.0; answers = w.1; image = ap (λ (h : Session). h.image) w.0 })
 
 -- ---- any lines
@@ -253,7 +253,7 @@ memory_is_records own img ls g =
       k.items,
       k.whole,
       k.says,
-      run-accepted own k.says begin img y k.runs,
+      run_accepted own k.says begin img y k.runs,
       k.stops,
       record { upper = k.upper; sections = k.sections; given = k.given; image = k.image },
     )
@@ -288,8 +288,8 @@ pub stored_is_own : StoredIsOwn
 unfolding StoredIsOwn ImageLengthKept
 stored_is_own own img ls l g a =
     let y = ready_set own img g in
-    let r = last-run own ls l begin img y (omega (arith, ap number_of a)) (omega (arith, ap number_of a)) in
-    let w = run-reads own r.1 begin img y r.2 in
+    let r = last_run own ls l begin img y (omega (arith, ap number_of a)) (omega (arith, ap number_of a)) in
+    let w = run_reads own r.1 begin img y r.2 in
     let i = image_for own begin r.0 img in
     let n : length i ≡ length img = sym (ap (λ (h : Session). length h.image) w.0) ∙ image_length_kept (fresh_session own img) ls in
     store-of r.0 r.1 i n w.2 (viewed own (state_after begin r.0) l i w.2) (sym (ap (λ (h : Session). (read_line h l).answer) w.0) ∙ a)

@@ -1,4 +1,6 @@
 // A reader of Universal Hex, and a reader with one thing changed. What a good record does to it is a definition here.
+#![tactic(auto)]
+
 mod data_record;
 mod effects;
 mod marks;

@@ -1,4 +1,6 @@
 // Universal Hex: the answers to a line, the boards, where a reader stands, and what a record can be there.
+#![tactic(auto)]
+
 pub mod roles;
 
 ghost use Rattle.std.specs.Prelude.{◌≡◌};

@@ -31,7 +31,7 @@ use Rattle.uhex_join.specs.declared.answers.JoinAnswer.{JoinAnswer}
 use Rattle.uhex_join.specs.declared.answers.JoinAnswer.TheVariants.{Written, Refused}
 use Rattle.uhex_join.specs.Text.{section_lines, section_size, file_lines, file_text}
 use Rattle.uhex_join.specs.Join.{join_call, join_number, refusal, refused_by, second_of, written_of, Fits, join_of}
-use Rattle.uhex_join.proofs.Sectioned.{as_written, length-section}
+use Rattle.uhex_join.proofs.Sectioned.{as_written, length_section}
 
 -- ---- the file
 
@@ -39,9 +39,9 @@ abbrev last_line : List ℕ
 last_line = record_line end_of_file 0 []
 
 module _ (a b : List Store) where
-  pub length-file : length (file_text a b) ≡ length (flatten (section_lines 0x9900 a)) + (length (flatten (section_lines 0x9903 b)) + 12)
+  pub length_file : length (file_text a b) ≡ length (flatten (section_lines 0x9900 a)) + (length (flatten (section_lines 0x9903 b)) + 12)
   unfolding file_text file_lines flatten
-  length-file =
+  length_file =
       let first = section_lines 0x9900 a in
       let second = section_lines 0x9903 b in
       let last = last_line ∷ [] in
@@ -53,18 +53,18 @@ module _ (a b : List Store) where
         length_line end_of_file 0 [],
       )
 
-  pub file-length : {k l m n : ℕ} → k ≡ data_length a → l ≡ data_length b → m ≡ section_size k → n ≡ section_size l → m + (n + 12) ≡ length (file_text a b)
-  file-length e f p q =
-      let x : section_size (data_length a) ≡ length (flatten (section_lines 0x9900 a)) = sym (length-section 0x9900 a) in
-      let y : section_size (data_length b) ≡ length (flatten (section_lines 0x9903 b)) = sym (length-section 0x9903 b) in
-      rw (p, e, x, q, f, y) (sym length-file)
+  pub file_length : {k l m n : ℕ} → k ≡ data_length a → l ≡ data_length b → m ≡ section_size k → n ≡ section_size l → m + (n + 12) ≡ length (file_text a b)
+  file_length e f p q =
+      let x : section_size (data_length a) ≡ length (flatten (section_lines 0x9900 a)) = sym (length_section 0x9900 a) in
+      let y : section_size (data_length b) ≡ length (flatten (section_lines 0x9903 b)) = sym (length_section 0x9903 b) in
+      rw (p, e, x, q, f, y) (sym length_file)
 
-  file-lines : (out : List ℕ) {one two three : List ℕ} {mid last : ℕ} → Fits (file_text a b) out
+  file_lines_lem : (out : List ℕ) {one two three : List ℕ} {mid last : ℕ} → Fits (file_text a b) out
       → one ≡ put_lines out 0 (section_lines 0x9900 a) → mid ≡ 0 + length (flatten (section_lines 0x9900 a))
       → two ≡ put_lines one mid (section_lines 0x9903 b) → last ≡ mid + length (flatten (section_lines 0x9903 b))
       → three ≡ put_line two last last_line → three ≡ over out 0 (file_text a b)
   unfolding file_text file_lines
-  file-lines out f e m g n h =
+  file_lines_lem out f e m g n h =
       let first = section_lines 0x9900 a in
       let second = section_lines 0x9903 b in
       let all : 0 + length (flatten (file_lines a b)) ≤ length out = omega (arith, f.room) in
@@ -75,29 +75,29 @@ module _ (a b : List Store) where
       ∙ put_fits out 0 (file_lines a b) all
 
   -- the length of both sections
-  pub sections-short : (out : List ℕ) {m n : ℕ} → Fits (file_text a b) out → m ≡ section_size (data_length a) → n ≡ section_size (data_length b) → m + n ≤ 4194304
-  sections-short out f p q =
-      omega (arith, f.short, length-file, length-section 0x9900 a, length-section 0x9903 b)
+  pub sections_short : (out : List ℕ) {m n : ℕ} → Fits (file_text a b) out → m ≡ section_size (data_length a) → n ≡ section_size (data_length b) → m + n ≤ 4194304
+  sections_short out f p q =
+      omega (arith, f.short, length_file, length_section 0x9900 a, length_section 0x9903 b)
 
-  pub file-put : (out : List ℕ) {one two three : List ℕ} {u v m n : ℕ} → Fits (file_text a b) out → u ≡ first_upper a → v ≡ first_upper b
+  pub file_put : (out : List ℕ) {one two three : List ℕ} {u v m n : ℕ} → Fits (file_text a b) out → u ≡ first_upper a → v ≡ first_upper b
       → one ≡ put_lines out 0 (section_with 0x9900 data_type u a) → m ≡ section_size (data_length a)
       → two ≡ put_lines one m (section_with 0x9903 custom_data v b) → n ≡ section_size (data_length b) → three ≡ put_line two (m + n) last_line
       → three ≡ over out 0 (file_text a b)
   unfolding data_kind
-  file-put out {one} {m = m} f p q e k g l h =
-      file-lines out f (e ∙ ap (put_lines out 0) (as_written 0x9900 a refl p)) (omega (arith, length-section 0x9900 a))
-      (g ∙ ap (put_lines one m) (as_written 0x9903 b refl q)) (omega (arith, length-section 0x9903 b)) h
+  file_put out {one} {m = m} f p q e k g l h =
+      file_lines_lem out f (e ∙ ap (put_lines out 0) (as_written 0x9900 a refl p)) (omega (arith, length_section 0x9900 a))
+      (g ∙ ap (put_lines one m) (as_written 0x9903 b refl q)) (omega (arith, length_section 0x9903 b)) h
 
 -- ---- what a file comes to
 
 module _ (r : Body) (s : List ℕ) (e : r ≡ body_of s) where
-  pub body-verdict : r.verdict ≡ verdict_of s
+  pub body_verdict : r.verdict ≡ verdict_of s
   unfolding body_of
-  body-verdict = ap (λ (x : Body). x.verdict) e
+  body_verdict = ap (λ (x : Body). x.verdict) e
 
-  pub body-first : r.first ≡ first_upper (pieces_of s)
+  pub body_first : r.first ≡ first_upper (pieces_of s)
   unfolding body_of
-  body-first = ap (λ (x : Body). x.first) e
+  body_first = ap (λ (x : Body). x.first) e
 
   pub body_length : r.len ≡ data_length (pieces_of s)
   unfolding body_of
@@ -124,20 +124,20 @@ module _ (text out : List ℕ) (n : ℕ) (e : n ≡ length text) where
 -- ---- the call
 
 module _ (a b out : List ℕ) where
-  pub second-bad : {v : Verdict} {k : ℕ} {x : Answer} {r : JoinAnswer} → v ≡ verdict_of b → v ≡ Bad k x → r ≡ refused_by 0x9903 v → join_call r out ≡ second_of a b out
-  second-bad e f g = rw (← e, f) (ap (λ (y : JoinAnswer). join_call y out) (g ∙ rw f refl))
+  pub second_bad : {v : Verdict} {k : ℕ} {x : Answer} {r : JoinAnswer} → v ≡ verdict_of b → v ≡ Bad k x → r ≡ refused_by 0x9903 v → join_call r out ≡ second_of a b out
+  second_bad e f g = rw (← e, f) (ap (λ (y : JoinAnswer). join_call y out) (g ∙ rw f refl))
 
-  pub second-fine : {v : Verdict} {r : JoinAnswer} {o : List ℕ} → v ≡ verdict_of b → v ≡ Fine → join_call r o ≡ written_of (file_text (pieces_of a) (pieces_of b)) out
+  pub second_fine : {v : Verdict} {r : JoinAnswer} {o : List ℕ} → v ≡ verdict_of b → v ≡ Fine → join_call r o ≡ written_of (file_text (pieces_of a) (pieces_of b)) out
       → join_call r o ≡ second_of a b out
-  second-fine e f g = rw (← e, f) g
+  second_fine e f g = rw (← e, f) g
 
   abbrev Joins : JoinAnswer → List ℕ → Type 0
   Joins r o = numbered join_number (join_call r o) ≡ numbered join_number (join_of a b out)
 
-  pub joins-bad : {v : Verdict} {k : ℕ} {x : Answer} {r : JoinAnswer} → v ≡ verdict_of a → v ≡ Bad k x → r ≡ refused_by 0x9900 v → Joins r out
+  pub joins_bad : {v : Verdict} {k : ℕ} {x : Answer} {r : JoinAnswer} → v ≡ verdict_of a → v ≡ Bad k x → r ≡ refused_by 0x9900 v → Joins r out
   unfolding join_of
-  joins-bad e f g = ap (numbered join_number) (rw (← e, f) (ap (λ (y : JoinAnswer). join_call y out) (g ∙ rw f refl)))
+  joins_bad e f g = ap (numbered join_number) (rw (← e, f) (ap (λ (y : JoinAnswer). join_call y out) (g ∙ rw f refl)))
 
-  pub joins-fine : {v : Verdict} {r : JoinAnswer} {o : List ℕ} → v ≡ verdict_of a → v ≡ Fine → join_call r o ≡ second_of a b out → Joins r o
+  pub joins_fine : {v : Verdict} {r : JoinAnswer} {o : List ℕ} → v ≡ verdict_of a → v ≡ Fine → join_call r o ≡ second_of a b out → Joins r o
   unfolding join_of
-  joins-fine e f g = ap (numbered join_number) (rw (← e, f) g)
+  joins_fine e f g = ap (numbered join_number) (rw (← e, f) g)

@@ -1,4 +1,6 @@
 // One Universal Hex file from two plain Intel Hex files, one for V1 and one for V2.
+#![tactic(auto)]
+
 pub mod answers;
 mod sections;
 

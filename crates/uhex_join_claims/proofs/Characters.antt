@@ -8,7 +8,7 @@ use lib.Dec.{eqb}
 use lib.ListN.{length, get_or}
 use borrow.Author.Tests.{eqb-true, not-false}
 use Rattle.laws.specs.Sets.{Set, any}
-use Rattle.laws.proofs.Laws.{any-all}
+use Rattle.laws.proofs.Laws.{any_all}
 use Rattle.ihex_record.specs.Record.{total, read_of}
 use Rattle.ihex_record.specs.Write.{digit_text, bytes_text, field_bytes, checksum, record_text, record_line, Bytes}
 use Rattle.ihex_record.specs.declared.Record.{Record}
@@ -17,8 +17,8 @@ use Rattle.uhex_claims.specs.Items.{Item, item_of, item, Says, none, line}
 use Rattle.uhex_join_claims.specs.Claims.{TwoSections}
 use Rattle.uhex_join_claims.proofs.Written.{Fits, Written, nothing, more, written_says}
 use Rattle.ihex_data.specs.Pieces.{pieces_of}
-use Rattle.uhex_join_claims.proofs.Claims.{output, part-a, part-b, lines-there, says_there}
-use Rattle.uhex_join_claims.proofs.Whole.{file-written}
+use Rattle.uhex_join_claims.proofs.Claims.{output, part_a, part_b, lines_there, says_there}
+use Rattle.uhex_join_claims.proofs.Whole.{file_written}
 use Rattle.uhex_join_claims.specs.Characters.{digits, pairs, sum_of, bytes_in, LineOf, Lines, no_line, next_line, JoinedCharacters}
 
 -- ---- the digits are those of the text
@@ -28,7 +28,7 @@ wrong n = not (eqb (digit_text n) (get_or digits n 0))
 
 digit_is : (n : ℕ) → n < 16 → digit_text n ≡ get_or digits n 0
 unfolding wrong any
-digit_is n h = eqb-true (digit_text n) (get_or digits n 0) (not-false _ (any-all wrong 16 refl n h))
+digit_is n h = eqb-true (digit_text n) (get_or digits n 0) (not-false _ (any_all wrong 16 refl n h))
 
 text_is : (l : List ℕ) → Bytes l → bytes_text l ≡ pairs l
 unfolding bytes_text pairs
@@ -83,6 +83,6 @@ pub joined_characters : JoinedCharacters
 unfolding JoinedCharacters
 joined_characters a b out n e t =
     let o = output a b out n e in
-    let w = file-written (part-a a b out n o).pieces (part-b a b out n o).pieces in
+    let w = file_written (part_a a b out n o).pieces (part_b a b out n o).pieces in
     let same = says_one (says_there a b out n o) t.says in
-    rw (← same, lines-there a b out n o) (written_lines w)
+    rw (← same, lines_there a b out n o) (written_lines w)

@@ -40,8 +40,8 @@ use Rattle.uhex_join_claims.proofs.PlainfileClaims.{text_refused_once}
 use Rattle.uhex_join_claims.specs.Claims.{JoinedReadsBack, SectionOf, JoinedIsFile, CutsChangeNoByte, CutsAreOne, JoinedArePlain, RefusalCase, of_v1, of_v2, of_both, FittingIsWritten, RefusedByBoard, RefusalIsOne, RefusalWritesNothing, PastOutputStays}
 use Rattle.uhex_join_claims.proofs.Written.{written_says, written_lines, written_map}
 use Rattle.uhex_join_claims.proofs.Pieces.{Pieces, no_piece, next_piece}
-use Rattle.uhex_join_claims.proofs.Sections.{section, board-is, section-linear, section-size, section_form}
-use Rattle.uhex_join_claims.proofs.Whole.{sections, fileItems, file-written, file-stores, is_file}
+use Rattle.uhex_join_claims.proofs.Sections.{section, board_is, section_linear, section_size_lem, section_form}
+use Rattle.uhex_join_claims.proofs.Whole.{sections, file_items, file_written, file_stores, is_file}
 use Rattle.uhex_join_claims.proofs.One.{section_data, section_one, lines_are}
 use Rattle.uhex_join_claims.proofs.PlainFiles.{said_length, PartedText, parted, fine_data, data_fine, bad_text}
 use Rattle.uhex_join_claims.proofs.Cuts.{cuts_byte, cuts_one}
@@ -102,28 +102,28 @@ module _ (a b out : List ℕ) (n : ℕ) (o : OutputFacts a b out n) where
   abbrev pub ls : List (List ℕ)
   ls = lines_of (take n (join_of a b out).room)
 
-  text-there : take n (join_of a b out).room ≡ text
+  text_there : take n (join_of a b out).room ≡ text
   unfolding over
-  text-there = rw (o.size, o.room) (take-append_seam text (drop (0 + length text) out))
+  text_there = rw (o.size, o.room) (take-append_seam text (drop (0 + length text) out))
 
-  pub part-a : PartedText a
-  part-a = parted a o.fine_a
+  pub part_a : PartedText a
+  part_a = parted a o.fine_a
 
-  pub part-b : PartedText b
-  part-b = parted b o.fine_b
+  pub part_b : PartedText b
+  part_b = parted b o.fine_b
 
-  pub lines-there : ls ≡ file_lines (pieces_of a) (pieces_of b)
+  pub lines_there : ls ≡ file_lines (pieces_of a) (pieces_of b)
   unfolding file_text
-  lines-there = ap lines_of text-there ∙ written_lines (file-written part-a.pieces part-b.pieces)
+  lines_there = ap lines_of text_there ∙ written_lines (file_written part_a.pieces part_b.pieces)
 
-  pub says_there : Says ls (fileItems (pieces_of a) (pieces_of b))
-  says_there = rw lines-there (written_says (file-written part-a.pieces part-b.pieces))
+  pub says_there : Says ls (file_items (pieces_of a) (pieces_of b))
+  says_there = rw lines_there (written_says (file_written part_a.pieces part_b.pieces))
 
-  file-there : (f : File (fileItems (pieces_of a) (pieces_of b))) × (f.sections ≡ sections (pieces_of a) (pieces_of b)) × (f.ending ≡ item 0x01 0 [])
-  file-there = by-pieces part-a.pieces part-b.pieces part-a.some part-b.some (omega (arith, o.size, o.most))
+  file_there : (f : File (file_items (pieces_of a) (pieces_of b))) × (f.sections ≡ sections (pieces_of a) (pieces_of b)) × (f.ending ≡ item 0x01 0 [])
+  file_there = by-pieces part_a.pieces part_b.pieces part_a.some part_b.some (omega (arith, o.size, o.most))
     where
       by-pieces : {p q : List Store} → Pieces p → Pieces q → 1 ≤ length p → 1 ≤ length q → length (file_text p q) ≤ 4194304
-          → (f : File (fileItems p q)) × (f.sections ≡ sections p q) × (f.ending ≡ item 0x01 0 [])
+          → (f : File (file_items p q)) × (f.sections ≡ sections p q) × (f.ending ≡ item 0x01 0 [])
       by-pieces no_piece w h k m = absurd (omega arith)
       by-pieces (next_piece f fs) no_piece h k m = absurd (omega arith)
       by-pieces (next_piece f fs) (next_piece g gs) h k m = is_file f fs g gs m
@@ -144,14 +144,14 @@ joined_reads_back a b out n e own img g =
     let m = ls a b out n o in
     let xs = all_items (sections (pieces_of a) (pieces_of b)) in
     let ps = cond (eqb own 0x9900) (pieces_of a) (pieces_of b) in
-    let w = file-there a b out n o in
+    let w = file_there a b out n o in
     let f : FileEnd own img m xs =
     subst (λ (z : List Section). FileEnd own img m (all_items z)) w.1
-    (file_ends own img m (fileItems (pieces_of a) (pieces_of b)) g (says_there a b out n o) w.0) in
+    (file_ends own img m (file_items (pieces_of a) (pieces_of b)) g (says_there a b out n o) w.0) in
     let s : stores_of (fresh_session own img) m ≡ within (length img) ps =
-    f.stores ∙ file-stores (part-a a b out n o).pieces (part-b a b out n o).pieces own (length img) g.board in (
+    f.stores ∙ file_stores (part_a a b out n o).pieces (part_b a b out n o).pieces own (length img) g.board in (
       ps,
-      own_pieces own a b (part-a a b out n o).plain (part-b a b out n o).plain,
+      own_pieces own a b (part_a a b out n o).plain (part_b a b out n o).plain,
       record {
         before = answers_for own (length img) begin xs;
         accepted = accepted own (length img) begin xs;
@@ -166,22 +166,22 @@ joined_reads_back a b out n e own img g =
 section_of_lem : (board : ℕ) → board < 65536 → (s : List ℕ) → PartedText s → SectionOf board s (section board (pieces_of s))
 section_of_lem board h s p =
     record {
-      named = board-is board (pieces_of s);
+      named = board_is board (pieces_of s);
       form = section_form board h p.pieces p.some;
-      aligned = omega (arith, section-size board h p.pieces);
-      pieces = rw (section-linear board (pieces_of s)) p.plain;
+      aligned = omega (arith, section_size_lem board h p.pieces);
+      pieces = rw (section_linear board (pieces_of s)) p.plain;
     }
 
 pub joined_is_file : JoinedIsFile
 unfolding JoinedIsFile
 joined_is_file a b out n e =
     let o = output a b out n e in
-    let w = file-there a b out n o in
-    let p = part-a a b out n o in
-    let q = part-b a b out n o in
+    let w = file_there a b out n o in
+    let p = part_a a b out n o in
+    let q = part_b a b out n o in
     record {
-      items = fileItems (pieces_of a) (pieces_of b);
-      lines = lines-there a b out n o ∙ written_map (file-written p.pieces q.pieces);
+      items = file_items (pieces_of a) (pieces_of b);
+      lines = lines_there a b out n o ∙ written_map (file_written p.pieces q.pieces);
       says = says_there a b out n o;
       file = w.0;
       v1 = section 0x9900 (pieces_of a);
@@ -246,7 +246,7 @@ fitting_is_written a b out ls x h =
     lines_are a b ls x
     ∙ ap (λ (s : Section). map line_for (all_items (s ∷ x.v2 ∷ []) ++ (item 0x01 0 [] ∷ []))) v1
     ∙ ap (λ (s : Section). map line_for (all_items (section 0x9900 (pieces_of a) ∷ s ∷ []) ++ (item 0x01 0 [] ∷ []))) v2
-    ∙ sym (written_map (file-written p.pieces q.pieces)) in
+    ∙ sym (written_map (file_written p.pieces q.pieces)) in
     let n : length (flatten ls) ≡ length t = ap (λ (z : List (List ℕ)). length (flatten z)) e in
     let m : length t ≤ 4194304 = omega (arith, said_length x.says, x.file.short) in
     rw (fa, fb) (ap (λ (z : JoinCall). z.answer) (written_there t out m (omega arith)) ∙ ap Written (sym n))

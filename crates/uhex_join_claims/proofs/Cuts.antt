@@ -15,9 +15,9 @@ use Rattle.ihex_record.specs.Record.{text_of, bytes_of, read_of}
 use Rattle.ihex_record.specs.Write.{Bytes}
 use Rattle.ihex_record.specs.declared.Record.{Record}
 use Rattle.ihex_record.specs.declared.ParseResult.TheVariants.{Good}
-use Rattle.ihex_record.proofs.Good.{says, good-len, good-data, bytes_small}
+use Rattle.ihex_record.proofs.Good.{says, good_len, good_data, bytes_small}
 use Rattle.uhex_claims.specs.Items.{Item, item_of, Says, line, word_of}
-use Rattle.uhex_claims.proofs.OneRecord.{len-item}
+use Rattle.uhex_claims.proofs.OneRecord.{len_item}
 use Rattle.ihex_data.specs.Pieces.{room_of, split_of, split_all}
 use Rattle.uhex_join_claims.specs.PlainFile.{Records, ending_01, data_00, segment_02, start_03, linear_04, start_05, at, base_after, data_from, Cut, uncut, crossing, Cuts, none, one}
 use Rattle.uhex_join_claims.proofs.Pieces.{Piece, Pieces, no_piece, next_piece}
@@ -36,7 +36,7 @@ unfolding read_of
 item_bytes_lem l rec e =
     let b = bytes_of (drop 1 (text_of l)) in
     let small : Bytes b = bytes_small (drop 1 (text_of l)) (says (text_of l) rec e).digits in
-    rw (good-data l rec e) (bytes_take (get_or b 0 0) (drop 4 b) (bytes_drop 4 b small))
+    rw (good_data l rec e) (bytes_take (get_or b 0 0) (drop 4 b) (bytes_drop 4 b small))
 
 -- and its first two are a number of 16 bits
 word_small : (x : Item) → length x.bytes ≡ 2 → Bytes x.bytes → word_of x < 65536
@@ -74,7 +74,7 @@ module _ (base : ℕ) (low : base ≤ 4294901760) where
 pub data_all : {ls : List (List ℕ)} {xs : List Item} → Says ls xs → Records xs → (base : ℕ) → base ≤ 4294901760 → AllData (data_from base xs)
 data_all (line {l} {ls} {xs} rec p t) (ending_01 k n) base m = drops base m (item_of l rec) [] (rw k) (unfold data_from in no_data)
 data_all (line {l} {ls} {xs} rec p t) (data_00 k n r) base m =
-    gives base m (item_of l rec) xs k n (omega (arith, len-item l rec p, good-len l rec p)) (item_bytes_lem l rec p) (data_all t r base m)
+    gives base m (item_of l rec) xs k n (omega (arith, len_item l rec p, good_len l rec p)) (item_bytes_lem l rec p) (data_all t r base m)
 data_all (line {l} {ls} {xs} rec p t) (segment_02 k n r) base m =
     let x = item_of l rec in
     drops base m x xs (rw k) (data_all t r (base_after base x) (rw k (omega (arith, word_small x n (item_bytes_lem l rec p)))))

@@ -34,17 +34,17 @@ module _ (b : ℕ) where
   abbrev kind : ℕ
   kind = data_type_of b
 
-  not-04 : kind ≢ 4
-  not-04 = data_not kind b 4 (λ f. omega arith) (λ f. omega arith) refl
+  not_04 : kind ≢ 4
+  not_04 = data_not kind b 4 (λ f. omega arith) (λ f. omega arith) refl
 
   -- a data record's piece
-  data-linear : (u a : ℕ) (d : List ℕ) (xs : List Item) → linear_data kind u (item kind a d ∷ xs) ≡ at (65536 * u + a) d ∷ linear_data kind u xs
+  data_linear : (u a : ℕ) (d : List ℕ) (xs : List Item) → linear_data kind u (item kind a d ∷ xs) ≡ at (65536 * u + a) d ∷ linear_data kind u xs
   unfolding linear_data
-  data-linear u a d xs = rw (eqb_same kind, ne_eqb kind 4 not-04)
+  data_linear u a d xs = rw (eqb_same kind, ne_eqb kind 4 not_04)
 
-  upper-linear : (u v : ℕ) (xs : List Item) → linear_data kind u (word 0x04 v ∷ xs) ≡ linear_data kind v xs
+  upper_linear : (u v : ℕ) (xs : List Item) → linear_data kind u (word 0x04 v ∷ xs) ≡ linear_data kind v xs
   unfolding linear_data
-  upper-linear u v xs = rw (not_data 4 b (λ f. omega arith) (λ f. omega arith)) (ap (λ (k : ℕ). linear_data kind k xs) (word_back 0x04 v))
+  upper_linear u v xs = rw (not_data 4 b (λ f. omega arith) (λ f. omega arith)) (ap (λ (k : ℕ). linear_data kind k xs) (word_back 0x04 v))
 
   module _ (u a : ℕ) (d : List ℕ) (ps : List Store) (low : a < 65536) where
     upper_is : (65536 * u + a) / 65536 ≡ u
@@ -62,22 +62,22 @@ module _ (b : ℕ) where
     body-changed t n = rw (upper_is, lower-is, ne_eqb t u (λ e. n (sym e)))
 
   -- records are given by their pieces
-  uppers-are : {u : ℕ} {xs : List Item} → UppersAsNeeded kind u xs → xs ≡ body_items kind u (linear_data kind u xs)
-  uppers-are no_more = unfold linear_data body_items in refl
-  uppers-are (same {u} {a} {d} {xs} h r) =
-      ap (λ (z : List Item). item kind a d ∷ z) (uppers-are r)
-      ∙ sym (ap (body_items kind u) (data-linear u a d xs) ∙ body_same u a d (linear_data kind u xs) h)
-  uppers-are (changed {u} {v} {a} {d} {xs} n h r) =
-      ap (λ (z : List Item). word 0x04 v ∷ item kind a d ∷ z) (uppers-are r)
-      ∙ sym (ap (body_items kind u) (upper-linear u v (item kind a d ∷ xs) ∙ data-linear v a d xs) ∙ body-changed v a d (linear_data kind v xs) h u n)
+  uppers_are : {u : ℕ} {xs : List Item} → UppersAsNeeded kind u xs → xs ≡ body_items kind u (linear_data kind u xs)
+  uppers_are no_more = unfold linear_data body_items in refl
+  uppers_are (same {u} {a} {d} {xs} h r) =
+      ap (λ (z : List Item). item kind a d ∷ z) (uppers_are r)
+      ∙ sym (ap (body_items kind u) (data_linear u a d xs) ∙ body_same u a d (linear_data kind u xs) h)
+  uppers_are (changed {u} {v} {a} {d} {xs} n h r) =
+      ap (λ (z : List Item). word 0x04 v ∷ item kind a d ∷ z) (uppers_are r)
+      ∙ sym (ap (body_items kind u) (upper_linear u v (item kind a d ∷ xs) ∙ data_linear v a d xs) ∙ body-changed v a d (linear_data kind v xs) h u n)
 
   -- the filling gives no piece
-  linear-filled : (k u : ℕ) (xs : List Item) → linear_data kind u (xs ++ replicate k pad_item) ≡ linear_data kind u xs
+  linear_filled : (k u : ℕ) (xs : List Item) → linear_data kind u (xs ++ replicate k pad_item) ≡ linear_data kind u xs
   unfolding linear_data
-  linear-filled k u [] = pads_linear b k u
-  linear-filled k u (x ∷ xs) =
+  linear_filled k u [] = pads_linear b k u
+  linear_filled k u (x ∷ xs) =
       ap (λ (z : List Store). cond (eqb x.kind kind) (at (65536 * u + x.address) x.bytes ∷ []) [] ++ z)
-      (linear-filled k (cond (eqb x.kind 4) (word_of x) u) xs)
+      (linear_filled k (cond (eqb x.kind 4) (word_of x) u) xs)
 
   -- ---- a section, by its pieces and its filling
 
@@ -102,14 +102,14 @@ module _ (b : ℕ) where
         ap (λ (x : Item). linear_data kind (word_of x) s.body) f.opening
         ∙ ap (λ (k : ℕ). linear_data kind k s.body) (word_back 0x04 f.upper)
         ∙ ap (linear_data kind f.upper) f.body
-        ∙ linear-filled f.fillers f.upper records
+        ∙ linear_filled f.fillers f.upper records
 
     first_is : first_upper (pieces_in s) ≡ f.upper
-    first_is = ap first_upper (in_pieces ∙ data-linear f.upper f.address f.bytes f.records) ∙ upper_is f.upper f.address f.bytes [] f.low
+    first_is = ap first_upper (in_pieces ∙ data_linear f.upper f.address f.bytes f.records) ∙ upper_is f.upper f.address f.bytes [] f.low
 
     records-are : records ≡ body_items kind (first_upper (pieces_in s)) (pieces_in s)
     records-are =
-        uppers-are (same f.low f.uppers)
+        uppers_are (same f.low f.uppers)
         ∙ ap (body_items kind f.upper) (sym in_pieces)
         ∙ ap (λ (k : ℕ). body_items kind k (pieces_in s)) (sym first_is)
 
@@ -127,10 +127,10 @@ module _ (b : ℕ) where
         }) f.closing
 
   -- how long it is
-  abbrev startSize : List Store → ℕ
-  startSize ps = 32 + size_of (body_items kind (first_upper ps) ps)
+  abbrev start_size : List Store → ℕ
+  start_size ps = 32 + size_of (body_items kind (first_upper ps) ps)
 
-  shape_size : (ps : List Store) (f r : ℕ) → size_of (section_items (shape ps f r)) ≡ startSize ps + (64 * f + (12 + 2 * r))
+  shape_size : (ps : List Store) (f r : ℕ) → size_of (section_items (shape ps f r)) ≡ start_size ps + (64 * f + (12 + 2 * r))
   unfolding size_of
   shape_size ps f r =
       let xs = body_items kind (first_upper ps) ps in
@@ -185,7 +185,7 @@ fill_one n f r g q x y =
 pub section_data : (b : ℕ) (text : List ℕ) (s : Section) → SectionOf b text s → WithData text
 section_data b text s x =
     let f = x.form in
-    let e = ap length (in_pieces b s f ∙ data-linear b f.upper f.address f.bytes f.records) in
+    let e = ap length (in_pieces b s f ∙ data_linear b f.upper f.address f.bytes f.records) in
     record { items = x.pieces.items; file = x.pieces.file; some = some-cut x.pieces.cut (omega arith) }
   where
     some-cut : {ss ps : List Store} → Cuts ss ps → 1 ≤ length ps → 1 ≤ length ss
@@ -194,7 +194,7 @@ section_data b text s x =
 
 -- ---- one section, one file
 
-section_fill : (b : ℕ) (text : List ℕ) (s : Section) (x : SectionOf b text s) → Fill (startSize b (pieces_in b s)) x.form.fillers x.form.rest
+section_fill : (b : ℕ) (text : List ℕ) (s : Section) (x : SectionOf b text s) → Fill (start_size b (pieces_in b s)) x.form.fillers x.form.rest
 section_fill b text s x =
     let f = x.form in
     let e = ap (λ (z : Section). size_of (section_items z)) (section-is b s f) ∙ shape_size b (pieces_in b s) f.fillers f.rest in
@@ -208,8 +208,8 @@ section_fill b text s x =
 pub section_one : (b : ℕ) (text : List ℕ) (s t : Section) → SectionOf b text s → SectionOf b text t → s ≡ t
 section_one b text s t x y =
     let e : pieces_in b s ≡ pieces_in b t = pieces_one text (pieces_in b s) (pieces_in b t) x.pieces y.pieces in
-    let w = fill_one (startSize b (pieces_in b t)) x.form.fillers x.form.rest y.form.fillers y.form.rest
-    (subst (λ (ps : List Store). Fill (startSize b ps) x.form.fillers x.form.rest) e (section_fill b text s x))
+    let w = fill_one (start_size b (pieces_in b t)) x.form.fillers x.form.rest y.form.fillers y.form.rest
+    (subst (λ (ps : List Store). Fill (start_size b ps) x.form.fillers x.form.rest) e (section_fill b text s x))
     (section_fill b text t y) in
     section-is b s x.form
     ∙ ap (λ (ps : List Store). shape b ps x.form.fillers x.form.rest) e

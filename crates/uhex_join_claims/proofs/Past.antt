@@ -11,7 +11,7 @@ use Rattle.ihex_record.specs.declared.Record.{Record}
 use Rattle.ihex_record.specs.declared.ParseResult.TheVariants.{Good}
 use Rattle.uhex_grammar.specs.declared.Answer.{Answer}
 use Rattle.uhex_claims.specs.Items.{Item, item_of, Says, none, line, size_of}
-use Rattle.uhex_claims.proofs.OneRecord.{len-item}
+use Rattle.uhex_claims.proofs.OneRecord.{len_item}
 use Rattle.ihex_file.specs.declared.Plain.{Plain}
 use Rattle.ihex_file.specs.declared.Verdict.TheVariants.{Fine, Bad}
 use Rattle.ihex_file.specs.Line.{plain, fresh_plain, line_taken, taken_of}
@@ -29,13 +29,13 @@ good_line size l rec e m t c (row_36 h) = omega arith
 good_line size l rec e m t c (rows_20_to_25 h f) = f rec e
 good_line size l rec e m t c (row_26 h r f n) =
     let s : rec ≡ r = cc in
-    n (subst (λ (z : Record). PlainType z.kind z.len) s (subst (PlainType rec.kind) (len-item l rec e) t))
+    n (subst (λ (z : Record). PlainType z.kind z.len) s (subst (PlainType rec.kind) (len_item l rec e) t))
 good_line size l rec e m t c (row_29 h r f k n) =
     let s : r ≡ rec = cc in
     let i = ap (λ (z : Record). z.kind) s in
     let a = ap (λ (z : Record). z.address) s in
     let b = ap (λ (z : Record). z.len) s in
-    omega (arith, c (sym i ∙ k), len-item l rec e)
+    omega (arith, c (sym i ∙ k), len_item l rec e)
 
 -- a 00 of any length has its type
 not_00 : (l : List ℕ) (q r : Record) → (read_of l).parsed ≡ Good q → (read_of l).parsed ≡ Good r → (PlainType q.kind q.len → ⊥) → r.kind ≡ 0 → ⊥

@@ -100,21 +100,21 @@ fine_data s e =
     plain_data s (plain_reading (lines_of s) fresh_plain 0 refl f.0) f.1
 
 module _ (s : List ℕ) {xs : List Item} (f : PlainFile s xs) where
-  file-fine : lines_verdict fresh_plain 0 (lines_of s) ≡ Fine
-  file-fine =
+  file_fine : lines_verdict fresh_plain 0 (lines_of s) ≡ Fine
+  file_fine =
       let n : length s ≡ size_of xs = ap length (sym (lines_flat s)) ∙ sym (said_length f.says) in
       plain_fine f.says f.records (omega (arith, f.short))
 
-  file-data : records_of s ≡ data_from 0 xs
+  file_data : records_of s ≡ data_from 0 xs
   unfolding records_of
-  file-data =
-      let r = plain_reading (lines_of s) fresh_plain 0 refl file-fine in
+  file_data =
+      let r = plain_reading (lines_of s) fresh_plain 0 refl file_fine in
       r.stores ∙ ap (data_from 0) (says_one r.says f.says)
 
 pub data_fine : (s : List ℕ) → WithData s → verdict_of s ≡ Fine
 unfolding verdict_of
 data_fine s w =
-    rw (file-fine s w.file, file-data s w.file) (has-data (length (lines_of s)) (data_from 0 w.items) w.some)
+    rw (file_fine s w.file, file_data s w.file) (has-data (length (lines_of s)) (data_from 0 w.items) w.some)
   where
     has-data : (k : ℕ) (ss : List Store) → 1 ≤ length ss → data_verdict k (is_some ss) ≡ Fine
     has-data k [] h = absurd (omega arith)
@@ -144,4 +144,4 @@ bad_text s k x e = by_lines (lines_verdict fresh_plain 0 (lines_of s)) refl e
 pub text_told : (s : List ℕ) (k : ℕ) (x : Answer) → BadText s k x → verdict_of s ≡ Bad k x
 unfolding verdict_of
 text_told s k x (lines b) = rw (first_told (lines_of s) k x b)
-text_told s k x (no_data xs f e) = rw (file-fine s f, file-data s f, e)
+text_told s k x (no_data xs f e) = rw (file_fine s f, file_data s f, e)

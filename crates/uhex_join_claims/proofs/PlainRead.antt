@@ -18,7 +18,7 @@ use Rattle.uhex_grammar.specs.Answers.{refusal_of}
 use Rattle.uhex_grammar.specs.declared.Answer.{Answer}
 use Rattle.uhex_grammar.specs.declared.Answer.TheVariants.{FileTooLong}
 use Rattle.uhex_claims.specs.Items.{Item, item_of, Says, none, line, size_of, word_of}
-use Rattle.uhex_claims.proofs.OneRecord.{len-item, word-item}
+use Rattle.uhex_claims.proofs.OneRecord.{len_item, word_item}
 use Rattle.ihex_file.specs.declared.Plain.{Plain}
 use Rattle.ihex_file.specs.declared.LineReading.{LineReading}
 use Rattle.ihex_file.specs.declared.LineReading.TheVariants.{Refused, Passed}
@@ -71,7 +71,7 @@ module _ (p : Plain) (l : List ℕ) (unended : p.ended ≡ false) (fits : p.offs
     q = moved_by p (length l)
 
     bytes_are : length x.bytes ≡ rec.len
-    bytes_are = len-item l rec says
+    bytes_are = len_item l rec says
 
     -- a record that gives nothing
     no_data : rec.kind ≢ 0 → [] ≡ data_at p.base x
@@ -106,7 +106,7 @@ module _ (p : Plain) (l : List ℕ) (unended : p.ended ≡ false) (fits : p.offs
     base-view : (k factor : ℕ) → rec.kind ≡ k → 1 < k → rec.len ≡ 2 → (factor * word_of x ≡ base_after p.base x)
         → PlainType k 2 → ((xs : List Item) → Records xs → Records (x ∷ xs)) → View p l (Passed (with_base q (factor * word_at (read_of l).«data»)))
     base-view k factor e n m b t r =
-        let w : word_at (read_of l).«data» ≡ word_of x = word-item l rec says (omega (arith, bytes_are)) in
+        let w : word_at (read_of l).«data» ≡ word_of x = word_item l rec says (omega (arith, bytes_are)) in
         goes
         (record {
           rec = rec;
@@ -195,15 +195,15 @@ module _ (p : Plain) (l : List ℕ) (unended : p.ended ≡ false) (fits : p.offs
   unread r e n =
       stops refl (subst (λ (z : ParseResult). BadLine p.offset l (refusal_of z)) e (rows_20_to_25 fits (λ rec f. n rec (sym e ∙ f))))
 
-  parsed-view : (r : ParseResult) → (read_of l).parsed ≡ r
+  parsed_view : (r : ParseResult) → (read_of l).parsed ≡ r
       → View p l (on_record (Refused (refusal_of r)) (fields_taken (moved_by p (length l)) (word_at (read_of l).«data»)) r)
-  parsed-view (parsed.Good rec) e = record-view rec e
-  parsed-view parsed.NoColon e = unread parsed.NoColon e (λ rec f. omega (arith, ap parsed_number f))
-  parsed-view parsed.BadShape e = unread parsed.BadShape e (λ rec f. omega (arith, ap parsed_number f))
-  parsed-view (parsed.BadDigit k) e = unread (parsed.BadDigit k) e (λ rec f. omega (arith, ap parsed_number f))
-  parsed-view parsed.TooLong e = unread parsed.TooLong e (λ rec f. omega (arith, ap parsed_number f))
-  parsed-view parsed.BadLength e = unread parsed.BadLength e (λ rec f. omega (arith, ap parsed_number f))
-  parsed-view parsed.BadSum e = unread parsed.BadSum e (λ rec f. omega (arith, ap parsed_number f))
+  parsed_view (parsed.Good rec) e = record-view rec e
+  parsed_view parsed.NoColon e = unread parsed.NoColon e (λ rec f. omega (arith, ap parsed_number f))
+  parsed_view parsed.BadShape e = unread parsed.BadShape e (λ rec f. omega (arith, ap parsed_number f))
+  parsed_view (parsed.BadDigit k) e = unread (parsed.BadDigit k) e (λ rec f. omega (arith, ap parsed_number f))
+  parsed_view parsed.TooLong e = unread parsed.TooLong e (λ rec f. omega (arith, ap parsed_number f))
+  parsed_view parsed.BadLength e = unread parsed.BadLength e (λ rec f. omega (arith, ap parsed_number f))
+  parsed_view parsed.BadSum e = unread parsed.BadSum e (λ rec f. omega (arith, ap parsed_number f))
 
 taken_is : (p : Plain) (l : List ℕ) → p.ended ≡ false → p.offset + length l ≤ 4194304
     → on_record (Refused (refusal_of (read_of l).parsed)) (fields_taken (moved_by p (length l)) (word_at (read_of l).«data»)) (read_of l).parsed ≡ taken_of p l
@@ -220,7 +220,7 @@ line_view p l u =
     (λ y. subst (View p l) (too_long p l u y) (stops refl (row_36 (ltb-true 4194304 (p.offset + length l) y))))
     (λ n.
     let m = ltb-false 4194304 (p.offset + length l) n in
-    subst (View p l) (taken_is p l u m) (parsed-view p l u m (read_of l).parsed refl))
+    subst (View p l) (taken_is p l u m) (parsed_view p l u m (read_of l).parsed refl))
 
 -- ---- lines
 

@@ -15,7 +15,7 @@ use Rattle.uhex_grammar.specs.Grammar.{data_kind}
 use Rattle.uhex_claims.specs.Items.{Item, size_of, word_of, item}
 use Rattle.uhex_claims.specs.Whole.{data_type_of, Tail, tail_ends, tail_0_c, Body, body_ends, body_04, body_data, body_0_c, Section, section_items, board_of, IsSection, any_data}
 use Rattle.uhex_claims.specs.State.{between, body, place_after, State, after, state_after, address_of, stores_with, stores_for}
-use Rattle.uhex_claims.proofs.OneRecord.{not_data, data_not, data_kind_lem, no-gift, a-gift}
+use Rattle.uhex_claims.proofs.OneRecord.{not_data, data_not, data_kind_lem, no_gift, a_gift}
 use Rattle.uhex_claims.proofs.Runs.{size_append, stays_body}
 use Rattle.ihex_data.specs.Lines.{word_bytes, upper_of, body_lines, first_upper}
 use Rattle.ihex_write.specs.Fill.{missing, pads, pad_line, fill_lines}
@@ -94,7 +94,7 @@ module _ (own n : ℕ) where
   -- of a record that is no data: nothing
   no_store : (s : State) (x : Item) → x.kind ≢ 0 → x.kind ≢ 13 → stores_with own n s x ≡ []
   unfolding stores_with
-  no_store s x z t = rw (no-gift x z t s.place own)
+  no_store s x z t = rw (no_gift x z t s.place own)
 
   module _ (b : ℕ) where
     abbrev ownOnly : List Store → List Store
@@ -107,7 +107,7 @@ module _ (own n : ℕ) where
     one_store s t p e f =
         let x = data_item (data_kind b) t in
         let a : address_of s x ≡ t.address = omega arith in
-        rw (e, a-gift x b (data_kind_lem b) p.some own, a)
+        rw (e, a_gift x b (data_kind_lem b) p.some own, a)
         (split (eqb b own) (λ y. rw y) (λ z. rw z))
 
     own-more : (t : Store) (ts : List Store) → cond (eqb b own) (cond (leb (t.address + length t.bytes) n) (t ∷ []) []) [] ++ ownOnly ts ≡ ownOnly (t ∷ ts)
@@ -222,87 +222,87 @@ module _ (b : ℕ) (ss : List Store) where
   abbrev m : ℕ
   m = missing (length (flatten (start_lines b ss)))
 
-  abbrev startItems : List Item
-  startItems = word 0x04 u ∷ word 0x0A b ∷ body_items (data_kind b) u ss
+  abbrev start_items : List Item
+  start_items = word 0x04 u ∷ word 0x0A b ∷ body_items (data_kind b) u ss
 
-  abbrev padItems : List Item
-  padItems = replicate (pads m) pad_item
+  abbrev pad_items : List Item
+  pad_items = replicate (pads m) pad_item
 
-  abbrev lastItem : Item
-  lastItem = close_item (m - 64 * pads m)
+  abbrev last_item : Item
+  last_item = close_item (m - 64 * pads m)
 
   abbrev pub section : Section
   section =
-      record { opening = word 0x04 u; naming = word 0x0A b; body = body_items (data_kind b) u ss ++ padItems; closing = lastItem }
+      record { opening = word 0x04 u; naming = word 0x0A b; body = body_items (data_kind b) u ss ++ pad_items; closing = last_item }
 
-  pub board-is : board_of section ≡ b
-  board-is = word_back 0x0A b
+  pub board_is : board_of section ≡ b
+  board_is = word_back 0x0A b
 
   -- the records, in order
-  items-are : section_items section ≡ startItems ++ (padItems ++ (lastItem ∷ []))
-  items-are =
-      ap (λ (z : List Item). word 0x04 u ∷ word 0x0A b ∷ z) (append_assoc (body_items (data_kind b) u ss) padItems (lastItem ∷ []))
+  items_are : section_items section ≡ start_items ++ (pad_items ++ (last_item ∷ []))
+  items_are =
+      ap (λ (z : List Item). word 0x04 u ∷ word 0x0A b ∷ z) (append_assoc (body_items (data_kind b) u ss) pad_items (last_item ∷ []))
 
-  pub section-linear : linear_data (data_type_of b) (word_of section.opening) section.body ≡ ss
-  section-linear = rw (word_back 0x04 u) (linear_data_lem b u padItems (pads_linear b (pads m)) ss)
+  pub section_linear : linear_data (data_type_of b) (word_of section.opening) section.body ≡ ss
+  section_linear = rw (word_back 0x04 u) (linear_data_lem b u pad_items (pads_linear b (pads m)) ss)
 
-  data-small : data_kind b < 256
+  data_small : data_kind b < 256
   unfolding data_kind
-  data-small = split (eqb b 0x9900) (λ y. rw y (omega arith)) (λ z. rw z (omega arith))
+  data_small = split (eqb b 0x9900) (λ y. rw y (omega arith)) (λ z. rw z (omega arith))
 
 first_upper_lem : {ss : List Store} → Pieces ss → first_upper ss < 65536
 first_upper_lem no_piece = omega arith
 first_upper_lem (next_piece p ps) = p.wide
 
 module _ (b : ℕ) (hb : b < 65536) {ss : List Store} (ps : Pieces ss) where
-  start-written : Written (start_lines b ss) (startItems b ss)
+  start_written : Written (start_lines b ss) (start_items b ss)
   unfolding start_lines
-  start-written =
+  start_written =
       word_written 0x04 (u b ss) (omega arith) (first_upper_lem ps)
-      (word_written 0x0A b (omega arith) hb (body_written (data_kind b) (data-small b ss) (u b ss) ps))
+      (word_written 0x0A b (omega arith) hb (body_written (data_kind b) (data_small b ss) (u b ss) ps))
 
-  pub section-written : Written (section_lines b ss) (section_items (section b ss))
+  pub section_written : Written (section_lines b ss) (section_items (section b ss))
   unfolding section_lines
-  section-written = rw (items-are b ss) (written_append start-written (fill_written (m b ss) (omega arith)))
+  section_written = rw (items_are b ss) (written_append start_written (fill_written (m b ss) (omega arith)))
 
-  pub section-size : size_of (section_items (section b ss)) % 512 ≡ 0
+  pub section_size_lem : size_of (section_items (section b ss)) % 512 ≡ 0
   unfolding size_of
-  section-size =
+  section_size_lem =
       let n = length (flatten (start_lines b ss)) in
-      let s = startItems b ss in
-      let k = padItems b ss in
-      let c = lastItem b ss in
-      let e : size_of s ≡ n = sym (written_size start-written) in
+      let s = start_items b ss in
+      let k = pad_items b ss in
+      let c = last_item b ss in
+      let e : size_of s ≡ n = sym (written_size start_written) in
       let l : length c.bytes ≡ (m b ss - 64 * pads (m b ss)) / 2 = length-replicate ((m b ss - 64 * pads (m b ss)) / 2) 255 in
       let f : size_of (section_items (section b ss)) ≡ size_of s + (size_of k + (c.size + 0)) =
-      ap size_of (items-are b ss) ∙ size_append s (k ++ (c ∷ [])) ∙ ap (λ (z : ℕ). size_of s + z) (size_append k (c ∷ [])) in
-      let g : n % 2 ≡ 0 = sym (ap (λ (z : ℕ). z % 2) e) ∙ written_even start-written in
+      ap size_of (items_are b ss) ∙ size_append s (k ++ (c ∷ [])) ∙ ap (λ (z : ℕ). size_of s + z) (size_append k (c ∷ [])) in
+      let g : n % 2 ≡ 0 = sym (ap (λ (z : ℕ). z % 2) e) ∙ written_even start_written in
       omega (arith, filled_up n g, pads_size (pads (m b ss)))
 
-  pub is-section : IsSection (section b ss)
-  is-section =
+  pub is_section : IsSection (section b ss)
+  is_section =
       record {
         opens = refl;
         upper = refl;
         names = refl;
         board = omega arith;
-        body = rw (board-is b ss) (body_is b (u b ss) (padItems b ss) (pads_body b (pads (m b ss))) ps);
+        body = rw (board_is b ss) (body_is b (u b ss) (pad_items b ss) (pads_body b (pads (m b ss))) ps);
         closes = refl;
       }
 
-  pub section-stores : (own n : ℕ) (s : State) → s.place ≡ between → stores_for own n s (section_items (section b ss)) ≡ cond (eqb b own) (within n ss) []
+  pub section_stores : (own n : ℕ) (s : State) → s.place ≡ between → stores_for own n s (section_items (section b ss)) ≡ cond (eqb b own) (within n ss) []
   unfolding stores_for
-  section-stores own n s e =
+  section_stores own n s e =
       let x = word 0x04 (u b ss) in
       let y = word 0x0A b in
       let s1 = after s x in
       let s2 = after s1 y in
       let bs = body_items (data_kind b) (u b ss) ss in
       let s3 = state_after s2 bs in
-      let k = padItems b ss in
-      let c = lastItem b ss in
-      let in_body : s2.place ≡ body b = unfold place_after in rw e (ap body (board-is b ss)) in
-      ap (stores_for own n s) (items-are b ss)
+      let k = pad_items b ss in
+      let c = last_item b ss in
+      let in_body : s2.place ≡ body b = unfold place_after in rw e (ap body (board_is b ss)) in
+      ap (stores_for own n s) (items_are b ss)
       ∙ rw (no_store own n s x (λ f. omega arith) (λ f. omega arith), no_store own n s1 y (λ f. omega arith) (λ f. omega arith))
       (stores_append own n s2 bs (k ++ (c ∷ []))
       ∙ ap (λ (z : List Store). z ++ stores_for own n s3 (k ++ (c ∷ []))) (body-stores own n b (u b ss) ps s2 in_body (word_back 0x04 (u b ss)))
@@ -312,7 +312,7 @@ module _ (b : ℕ) (hb : b < 65536) {ss : List Store} (ps : Pieces ss) where
       ∙ append-nil (cond (eqb b own) (within n ss) []))
 
 pub section_gives : (b : ℕ) (s : Store) (ss : List Store) → Piece s → any_data b (section b (s ∷ ss)).body ≡ true
-section_gives b s ss p = body_gives b (upper_of s) (padItems b (s ∷ ss)) s ss p
+section_gives b s ss p = body_gives b (upper_of s) (pad_items b (s ∷ ss)) s ss p
 
 -- ---- the form of a section
 
@@ -333,7 +333,7 @@ unfolding body_items
 some_form b hb s ss p ps =
     let v = upper_of s in
     let k = m b (s ∷ ss) in
-    let w = start-written b hb (next_piece p ps) in
+    let w = start_written b hb (next_piece p ps) in
     let n = length (flatten (start_lines b (s ∷ ss))) in
     let e : n % 2 ≡ 0 = ap (λ (z : ℕ). z % 2) (written_size w) ∙ written_even w in
     record {

@@ -17,14 +17,14 @@ use Rattle.uhex_join.specs.Text.{file_lines, file_text}
 use Rattle.uhex_join_claims.specs.PlainFile.{within}
 use Rattle.uhex_join_claims.proofs.Written.{Written, nothing, more, written_append, written_size}
 use Rattle.uhex_join_claims.proofs.Pieces.{Piece, Pieces, next_piece}
-use Rattle.uhex_join_claims.proofs.Sections.{stores_append, section, section-written, section-size, is-section, section-stores, section_gives}
+use Rattle.uhex_join_claims.proofs.Sections.{stores_append, section, section_written, section_size_lem, is_section, section_stores, section_gives}
 
 module _ (a b : List Store) where
   abbrev pub sections : List Section
   sections = section 0x9900 a ∷ section 0x9903 b ∷ []
 
-  abbrev pub fileItems : List Item
-  fileItems = all_items sections ++ (item 0x01 0 [] ∷ [])
+  abbrev pub file_items : List Item
+  file_items = all_items sections ++ (item 0x01 0 [] ∷ [])
 
 module _ {a b : List Store} (ps : Pieces a) (qs : Pieces b) where
   abbrev s1 : List Item
@@ -37,34 +37,34 @@ module _ {a b : List Store} (ps : Pieces a) (qs : Pieces b) where
   unfolding all_items
   all_are = ap (λ (z : List Item). s1 ++ z) (append-nil s2)
 
-  pub file-written : Written (file_lines a b) (fileItems a b)
+  pub file_written : Written (file_lines a b) (file_items a b)
   unfolding file_lines
-  file-written =
+  file_written =
       rw (all_are, append_assoc s1 s2 (item 0x01 0 [] ∷ []))
-      (written_append (section-written 0x9900 (omega arith) ps)
-      (written_append (section-written 0x9903 (omega arith) qs)
+      (written_append (section_written 0x9900 (omega arith) ps)
+      (written_append (section_written 0x9903 (omega arith) qs)
       (more (record { kind = omega arith; address = omega arith; short = omega arith; bytes = λ i n. absurd (omega arith) }) nothing)))
 
   in_order : Sections 0 (sections a b)
   in_order =
-      whole.section {at = 0} refl (is-section 0x9900 (omega arith) ps)
-      (whole.section {at = 0 + size_of s1} (omega (arith, section-size 0x9900 (omega arith) ps)) (is-section 0x9903 (omega arith) qs) no_section)
+      whole.section {at = 0} refl (is_section 0x9900 (omega arith) ps)
+      (whole.section {at = 0 + size_of s1} (omega (arith, section_size_lem 0x9900 (omega arith) ps)) (is_section 0x9903 (omega arith) qs) no_section)
 
   after_first : (state_after begin s1).place ≡ between
   unfolding all_items
   after_first =
-      let first : Sections 0 (section 0x9900 a ∷ []) = whole.section {at = 0} refl (is-section 0x9900 (omega arith) ps) no_section in
+      let first : Sections 0 (section 0x9900 a ∷ []) = whole.section {at = 0} refl (is_section 0x9900 (omega arith) ps) no_section in
       ap (λ (z : List Item). (state_after begin z).place) (sym (append-nil s1)) ∙ (data_all 0x9900 first begin refl).0
 
   -- the own board's pieces, those of V1 or those of V2
-  pub file-stores : (own n : ℕ) → (own ≡ 0x9900) ⊎ (own ≡ 0x9903)
+  pub file_stores : (own n : ℕ) → (own ≡ 0x9900) ⊎ (own ≡ 0x9903)
       → stores_for own n begin (all_items (sections a b)) ≡ within n (cond (eqb own 0x9900) a b)
-  file-stores own n board =
+  file_stores own n board =
       let t = state_after begin s1 in
       ap (stores_for own n begin) all_are
       ∙ stores_append own n begin s1 s2
-      ∙ ap (λ (z : List Store). z ++ stores_for own n t s2) (section-stores 0x9900 (omega arith) ps own n begin refl)
-      ∙ ap (λ (z : List Store). cond (eqb 0x9900 own) (within n a) [] ++ z) (section-stores 0x9903 (omega arith) qs own n t after_first)
+      ∙ ap (λ (z : List Store). z ++ stores_for own n t s2) (section_stores 0x9900 (omega arith) ps own n begin refl)
+      ∙ ap (λ (z : List Store). cond (eqb 0x9900 own) (within n a) [] ++ z) (section_stores 0x9903 (omega arith) qs own n t after_first)
       ∙ ⊎_elim (λ (f : own ≡ 0x9900). rw f (append-nil (within n a))) (λ (f : own ≡ 0x9903). rw f) board
 
 -- of two boards with a piece each
@@ -75,7 +75,7 @@ module _ {s t : Store} {ss ts : List Store} (p : Piece s) (ps : Pieces ss) (q : 
   abbrev b : List Store
   b = t ∷ ts
 
-  pub is_file : length (file_text a b) ≤ 4194304 → (f : File (fileItems a b)) × (f.sections ≡ sections a b) × (f.ending ≡ item 0x01 0 [])
+  pub is_file : length (file_text a b) ≤ 4194304 → (f : File (file_items a b)) × (f.sections ≡ sections a b) × (f.ending ≡ item 0x01 0 [])
   unfolding how_many any_gives file_text
   is_file h = (
     record {
@@ -89,7 +89,7 @@ module _ {s t : Store} {ss ts : List Store} (p : Piece s) (ps : Pieces ss) (q : 
       once_v2 = omega arith;
       data_v1 = rw (section_gives 0x9900 s ss p);
       data_v2 = rw (section_gives 0x9903 t ts q);
-      short = omega (arith, written_size (file-written (next_piece p ps) (next_piece q qs)));
+      short = omega (arith, written_size (file_written (next_piece p ps) (next_piece q qs)));
     },
     refl,
     refl,

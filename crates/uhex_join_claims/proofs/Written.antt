@@ -11,7 +11,7 @@ use Rattle.ihex_record.specs.declared.Record.{Record}
 use Rattle.ihex_record.specs.declared.Line.{Line}
 use Rattle.ihex_record.specs.declared.ParseResult.TheVariants.{Good}
 use Rattle.ihex_record.proofs.Data32.{data32_take}
-use Rattle.ihex_record.proofs.Written.{length_text, text_high, length-record, reads_back}
+use Rattle.ihex_record.proofs.Written.{length_text, text_high, length_record, reads_back}
 use Rattle.ihex_file.specs.Lines.{glue, lines_of}
 use Rattle.uhex_claims.specs.Items.{Item, item_of, Says, none, line, size_of, item, line_for}
 
@@ -52,13 +52,13 @@ module _ (k a : ℕ) (d : List ℕ) (f : Fits k a d) where
   unfolding record_line
   back = reads_back k a d (10 ∷ []) f.kind f.address f.short f.bytes lf
 
-  line-length : length (record_line k a d) ≡ 12 + 2 * length d
+  line_length : length (record_line k a d) ≡ 12 + 2 * length d
   unfolding record_line
-  line-length =
-      length-append (record_text k a d) (10 ∷ []) ∙ omega (arith, length-record k a d f.kind f.address f.short f.bytes)
+  line_length =
+      length-append (record_text k a d) (10 ∷ []) ∙ omega (arith, length_record k a d f.kind f.address f.short f.bytes)
 
-  item-is : item_of (record_line k a d) rec ≡ item k a d
-  item-is = rw (back, line-length) (ap (λ (b : List ℕ). record { kind = k; address = a; bytes = b; size = 12 + 2 * length d }) (data32_take d f.short))
+  item_is : item_of (record_line k a d) rec ≡ item k a d
+  item_is = rw (back, line_length) (ap (λ (b : List ℕ). record { kind = k; address = a; bytes = b; size = 12 + 2 * length d }) (data32_take d f.short))
 
 -- ---- lines of records
 
@@ -74,14 +74,14 @@ written_append (more f v) w = more f (written_append v w)
 pub written_says : {ls : List (List ℕ)} {xs : List Item} → Written ls xs → Says ls xs
 written_says nothing = none
 written_says (more {k} {a} {d} {ls} {xs} f w) =
-    subst (λ (x : Item). Says (record_line k a d ∷ ls) (x ∷ xs)) (item-is k a d f)
+    subst (λ (x : Item). Says (record_line k a d ∷ ls) (x ∷ xs)) (item_is k a d f)
     (line (rec k a d f) (ap (λ (x : Line). x.parsed) (back k a d f)) (written_says w))
 
 pub written_size : {ls : List (List ℕ)} {xs : List Item} → Written ls xs → length (flatten ls) ≡ size_of xs
 unfolding flatten size_of
 written_size nothing = refl
 written_size (more {k} {a} {d} {ls} f w) =
-    length-append (record_line k a d) (flatten ls) ∙ omega (arith, line-length k a d f, written_size w)
+    length-append (record_line k a d) (flatten ls) ∙ omega (arith, line_length k a d f, written_size w)
 
 pub written_lines : {ls : List (List ℕ)} {xs : List Item} → Written ls xs → lines_of (flatten ls) ≡ ls
 unfolding flatten lines_of record_line

@@ -20,9 +20,9 @@ same_reader a b c d e f = rw (a, b, c, d, e, f)
 
 -- 16 bytes that stand at most at 5
 module _ (b : List ℕ) (l : length b ≡ 16) (k : byte_at b 8 ≤ 5) where
-  pub read-good : reader_from b ≡ fields_from b
+  pub read_good : reader_from b ≡ fields_from b
   unfolding reader_from
-  read-good = rw (eq-eqb (length b) 16 l, le-leb (byte_at b 8) 5 k)
+  read_good = rw (eq-eqb (length b) 16 l, le-leb (byte_at b 8) 5 k)
 
 -- the fields one by one, as the code reads them
 pub read_fields : (b : List ℕ) {own offset upper : ℕ} {s : ReaderState} {v w : Boards} → own ≡ half_at b 0 → offset ≡ field_at b 4 → s ≡ state_at b → upper ≡ half_at b 2

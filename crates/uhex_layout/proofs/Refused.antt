@@ -14,7 +14,7 @@ use Rattle.uhex_effects.specs.declared.Reader.{Reader}
 use Rattle.uhex_effects.specs.Reader.{bad_failure, bad_reader}
 use Rattle.uhex_layout.specs.Readers.{half_at, reader_state_from, fields_from, no_reader, reader_from}
 use Rattle.uhex_layout.proofs.Answers.{kept_number, kept_from}
-use Rattle.uhex_layout.proofs.Read.{read-good}
+use Rattle.uhex_layout.proofs.Read.{read_good}
 
 none_bad : bad_reader no_reader ≡ true
 unfolding bad_reader bad_failure
@@ -33,12 +33,12 @@ unfolding reader_state_from bad_failure
 failed_bad n half f = ap not (kept_from n half ∙ f)
 
 module _ (b : List ℕ) (e : length b ≡ 16) where
-  pub state-bad : 5 < byte_at b 8 → bad_reader (reader_from b) ≡ true
+  pub state_bad : 5 < byte_at b 8 → bad_reader (reader_from b) ≡ true
   unfolding reader_from
-  state-bad h = rw (eq-eqb (length b) 16 e, lt-leb (byte_at b 8) 5 h) none_bad
+  state_bad h = rw (eq-eqb (length b) 16 e, lt-leb (byte_at b 8) 5 h) none_bad
 
   pub failure_bad : byte_at b 8 ≡ 5 → kept_number (byte_at b 9) (half_at b 10) ≡ false → bad_reader (reader_from b) ≡ true
   unfolding fields_from
   failure_bad k f =
-      rw (read-good b e (omega arith))
+      rw (read_good b e (omega arith))
       (by_failure (fields_from b) (rw k (failed_bad (byte_at b 9) (half_at b 10) f)))

@@ -111,23 +111,23 @@ module _ (r : Reader) (h : Small r) where
   unfolding reader_bytes
   own_back = half_back [] r.own (upper ++ (offset ++ (tag ++ sections))) h.own
 
-  upper-back : half_at (reader_bytes r) 2 ≡ r.upper
+  upper_back : half_at (reader_bytes r) 2 ≡ r.upper
   unfolding reader_bytes low_first
-  upper-back = half_back own r.upper (offset ++ (tag ++ sections)) h.upper
+  upper_back = half_back own r.upper (offset ++ (tag ++ sections)) h.upper
 
-  offset-back : field_at (reader_bytes r) 4 ≡ r.offset
+  offset_back : field_at (reader_bytes r) 4 ≡ r.offset
   unfolding reader_bytes low_first
-  offset-back = field_le32 (own ++ upper) r.offset (tag ++ sections) h.offset
+  offset_back = field_le32 (own ++ upper) r.offset (tag ++ sections) h.offset
 
-  code-half-back : half_at (reader_bytes r) 10 ≡ (state_code_of r.state).half
+  code_half_back : half_at (reader_bytes r) 10 ≡ (state_code_of r.state).half
   unfolding reader_bytes state_code_bytes low_first
-  code-half-back =
+  code_half_back =
       half_back (own ++ (upper ++ (offset ++ ((state_code_of r.state).kind ∷ (state_code_of r.state).failure ∷ [])))) (state_code_of r.state).half sections (half_most r.state h.state)
 
   fields_back : fields_from (reader_bytes r) ≡ r
   unfolding fields_from reader_bytes state_code_bytes low_first
   fields_back =
-      same_reader own_back offset-back (ap (reader_state_from _ _) code-half-back ∙ state_back r.state) upper-back (boards_back r.sections_seen) (boards_back r.data_seen)
+      same_reader own_back offset_back (ap (reader_state_from _ _) code_half_back ∙ state_back r.state) upper_back (boards_back r.sections_seen) (boards_back r.data_seen)
 
 -- the reader that is read from the bytes written for a reader is that reader
 pub round_trip : (r : Reader) → Small r → reader_from (reader_bytes r) ≡ r

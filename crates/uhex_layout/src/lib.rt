@@ -1,4 +1,6 @@
 // Hex readers as bytes: how a reader is written. include/uf2_receiver.h has the layout for C; `readerbytes` reads it.
+#![tactic(auto)]
+
 pub mod kept;
 pub mod reading;
 mod states;

@@ -1,4 +1,6 @@
 // The reader of Universal Hex, a line at a time, for one board.
+#![tactic(auto)]
+
 mod live;
 pub mod replies;
 

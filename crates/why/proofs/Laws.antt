@@ -46,26 +46,26 @@ use Rattle.why.specs.declared.WhyPlace.{WhyPlace}
 use Rattle.why.specs.Why.{settings_row, denial_reason, denial_row, block_kind, head_in, place_in, last_of, reason_of, discards_of, entries_of, why_of}
 use Rattle.why.specs.Placed.{place_checks, holds_of, placed_spot, placed_by, placed_of, placed_marks, why_place_of}
 use Rattle.why.specs.Parts.{finding_row, access_row, access_in, board_part, early_part, block_part, place_part}
-use Rattle.why.proofs.Rows.{or_three, settings-rows, denial-rows, reason-parts}
+use Rattle.why.proofs.Rows.{or_three, settings_rows, denial_rows, reason_parts}
 
 -- ---- rows one after the other
 
 module _ (p q : Row) {r : Row} (e : r ≡ p) where
-  pub next-decides : {x : Reason} → r ≡ Decides x → Decides x ≡ or_next p q
-  next-decides h = ap (λ (u : Row). or_next u q) (sym h ∙ e)
+  pub next_decides : {x : Reason} → r ≡ Decides x → Decides x ≡ or_next p q
+  next_decides h = ap (λ (u : Row). or_next u q) (sym h ∙ e)
 
-  pub next-passes : r ≡ Passes → {v : Row} → v ≡ q → v ≡ or_next p q
-  next-passes h k = k ∙ ap (λ (u : Row). or_next u q) (sym h ∙ e)
+  pub next_passes : r ≡ Passes → {v : Row} → v ≡ q → v ≡ or_next p q
+  next_passes h k = k ∙ ap (λ (u : Row). or_next u q) (sym h ∙ e)
 
 -- ---- row 2
 
 module _ (s : Settings) (len : ℕ) {r : Finding} (e : r ≡ first_fault s len) where
-  pub finding-sound : r ≡ Sound → Passes ≡ finding_row s len (first_fault s len)
-  finding-sound h = ap (finding_row s len) (sym h ∙ e)
+  pub finding_sound : r ≡ Sound → Passes ≡ finding_row s len (first_fault s len)
+  finding_sound h = ap (finding_row s len) (sym h ∙ e)
 
-  pub finding-bad : {x : Fault} → r ≡ Bad x → {n : Comparison} → n ≡ tested_of s len x → {q : Row} → q ≡ Decides (reason_with (BadSettings x) n.got n.against)
+  pub finding_bad : {x : Fault} → r ≡ Bad x → {n : Comparison} → n ≡ tested_of s len x → {q : Row} → q ≡ Decides (reason_with (BadSettings x) n.got n.against)
       → q ≡ finding_row s len (first_fault s len)
-  finding-bad {x} h t k = k ∙ (ap (λ (n : Comparison). Decides (reason_with (BadSettings x) n.got n.against)) t ∙ ap (finding_row s len) (sym h ∙ e))
+  finding_bad {x} h t k = k ∙ (ap (λ (n : Comparison). Decides (reason_with (BadSettings x) n.got n.against)) t ∙ ap (finding_row s len) (sym h ∙ e))
 
 -- good settings have no fault
 pub finding_good : (s : Settings) (len : ℕ) → good_settings s len ≡ true → Passes ≡ finding_row s len (first_fault s len)
@@ -74,42 +74,42 @@ finding_good s len g = ap (finding_row s len) (sym ((sound_is_good s len).1 g))
 -- ---- rows 1 to 7
 
 module _ (s : Settings) (t : State) (a : ℕ) (n : Lengths) (m k : ℕ) {r : Row} (e : r ≡ row_of by_numbers (lengths_row a n m k)) where
-  abbrev second-of : Row
-  second-of = finding_row s n.flash (first_fault s n.flash)
+  abbrev second_of_lem : Row
+  second_of_lem = finding_row s n.flash (first_fault s n.flash)
 
   abbrev third_of : Row
   third_of = row_of by_numbers (state_row t)
 
-  pub board-lengths : {x : Reason} → r ≡ Decides x → Decides x ≡ board_part s t a n m k
+  pub board_lengths : {x : Reason} → r ≡ Decides x → Decides x ≡ board_part s t a n m k
   unfolding board_part
-  board-lengths h = next-decides (row_of by_numbers (lengths_row a n m k)) (or_next second-of third_of) e h
+  board_lengths h = next_decides (row_of by_numbers (lengths_row a n m k)) (or_next second_of_lem third_of) e h
 
   module _ (h : r ≡ Passes) {v : Row} (q : v ≡ finding_row s n.flash (first_fault s n.flash)) where
     pub board-settings : {x : Reason} → v ≡ Decides x → Decides x ≡ board_part s t a n m k
     unfolding board_part
-    board-settings j = next-passes (row_of by_numbers (lengths_row a n m k)) (or_next second-of third_of) e h (next-decides second-of third_of q j)
+    board-settings j = next_passes (row_of by_numbers (lengths_row a n m k)) (or_next second_of_lem third_of) e h (next_decides second_of_lem third_of q j)
 
     pub board-state : v ≡ Passes → {u : Row} → u ≡ row_of by_numbers (state_row t) → u ≡ board_part s t a n m k
     unfolding board_part
-    board-state j o = next-passes (row_of by_numbers (lengths_row a n m k)) (or_next second-of third_of) e h (next-passes second-of third_of q j o)
+    board-state j o = next_passes (row_of by_numbers (lengths_row a n m k)) (or_next second_of_lem third_of) e h (next_passes second_of_lem third_of q j o)
 
 module _ (s : Settings) (t : State) (a : List ℕ) (n : Lengths) (m k : ℕ) {r : Row} (e : r ≡ board_part s t (length a) n m k) where
-  pub early-board : {x : Reason} → r ≡ Decides x → Decides x ≡ early_part s t a n m k
+  pub early_board : {x : Reason} → r ≡ Decides x → Decides x ≡ early_part s t a n m k
   unfolding early_part
-  early-board h = next-decides (board_part s t (length a) n m k) (row_of by_numbers (header_row a)) e h
+  early_board h = next_decides (board_part s t (length a) n m k) (row_of by_numbers (header_row a)) e h
 
-  pub early-header : r ≡ Passes → {u : Row} → u ≡ row_of by_numbers (header_row a) → u ≡ early_part s t a n m k
+  pub early_header : r ≡ Passes → {u : Row} → u ≡ row_of by_numbers (header_row a) → u ≡ early_part s t a n m k
   unfolding early_part
-  early-header h o = next-passes (board_part s t (length a) n m k) (row_of by_numbers (header_row a)) e h o
+  early_header h o = next_passes (board_part s t (length a) n m k) (row_of by_numbers (header_row a)) e h o
 
 module _ (s : Settings) (len : ℕ) {r : Row} (e : r ≡ row_of by_numbers (flash_row len)) where
   pub place_flash : {x : Reason} → r ≡ Decides x → Decides x ≡ place_part s len
   unfolding place_part
-  place_flash h = next-decides (row_of by_numbers (flash_row len)) (finding_row s len (first_fault s len)) e h
+  place_flash h = next_decides (row_of by_numbers (flash_row len)) (finding_row s len (first_fault s len)) e h
 
-  pub place-settings : r ≡ Passes → {u : Row} → u ≡ finding_row s len (first_fault s len) → u ≡ place_part s len
+  pub place_settings : r ≡ Passes → {u : Row} → u ≡ finding_row s len (first_fault s len) → u ≡ place_part s len
   unfolding place_part
-  place-settings h o = next-passes (row_of by_numbers (flash_row len)) (finding_row s len (first_fault s len)) e h o
+  place_settings h o = next_passes (row_of by_numbers (flash_row len)) (finding_row s len (first_fault s len)) e h o
 
 -- ---- rows 8 to 11
 
@@ -117,13 +117,13 @@ module _ (s : Settings) (p : Place) (k : Kind) (n : Lengths) (b : Block) {a : Ac
   denied : r ≡ access_row b.family (access_in s k b.family)
   denied = q ∙ ap (access_row b.family) e
 
-  pub block-denied : {x : Reason} → r ≡ Decides x → Decides x ≡ block_part s p k n b
+  pub block_denied : {x : Reason} → r ≡ Decides x → Decides x ≡ block_part s p k n b
   unfolding block_part
-  block-denied h = next-decides (access_row b.family (access_in s k b.family)) (row_of by_numbers (body_row (room_of p k) n b)) denied h
+  block_denied h = next_decides (access_row b.family (access_in s k b.family)) (row_of by_numbers (body_row (room_of p k) n b)) denied h
 
-  pub block-open : r ≡ Passes → {size : ℕ} → size ≡ room_of p k → {v : Row} → v ≡ row_of by_numbers (body_row size n b) → v ≡ block_part s p k n b
+  pub block_open : r ≡ Passes → {size : ℕ} → size ≡ room_of p k → {v : Row} → v ≡ row_of by_numbers (body_row size n b) → v ≡ block_part s p k n b
   unfolding block_part
-  block-open h z o = next-passes (access_row b.family (access_in s k b.family)) (row_of by_numbers (body_row (room_of p k) n b)) denied h (o ∙ ap (λ (m : ℕ). row_of by_numbers (body_row m n b)) z)
+  block_open h z o = next_passes (access_row b.family (access_in s k b.family)) (row_of by_numbers (body_row (room_of p k) n b)) denied h (o ∙ ap (λ (m : ℕ). row_of by_numbers (body_row m n b)) z)
 
 -- ---- an arrival
 
@@ -159,7 +159,7 @@ module _ (s : Settings) (w : World) (a : List ℕ) where
 
   module _ {e : Row} (p : e ≡ early_part s w.transfer a (lengths_of w.held) (length w.seen) (length w.held.sectors)) where
     pub reason-early : {x : Reason} → e ≡ Decides x → x ≡ reason_of s w a
-    reason-early h = sym (reason-parts s w a ∙ ap (λ (u : Row). or_last (last_of w a) (or_next u (or_next block_of late_of))) (sym p ∙ h))
+    reason-early h = sym (reason_parts s w a ∙ ap (λ (u : Row). or_last (last_of w a) (or_next u (or_next block_of late_of))) (sym p ∙ h))
 
     module _ (h : e ≡ Passes) {b : Block} (q : b ≡ fields_of a) {k : Kind} (l : k ≡ kind_of (lengths_of w.held) w.transfer b)
         {o : Place} (u : o ≡ place_of s (length w.held.flash) b.family) {r : Row} (z : r ≡ block_part s o k (lengths_of w.held) b) where
@@ -176,7 +176,7 @@ module _ (s : Settings) (w : World) (a : List ℕ) where
       pub reason-block : {y : Reason} → r ≡ Decides y → y ≡ reason_of s w a
       reason-block j =
           sym
-          (reason-parts s w a
+          (reason_parts s w a
           ∙ (ap (λ (x : Row). or_last (last_of w a) (or_next x (or_next block_of late_of))) (sym p ∙ h)
           ∙ ap (λ (x : Row). or_last (last_of w a) (or_next x late_of)) (sym row_is ∙ j)))
 
@@ -189,7 +189,7 @@ module _ (s : Settings) (w : World) (a : List ℕ) where
           ∙ (ap (λ (x : Place). late_part w.transfer (head_in w a) x b.comment b.number a w.held.flash w.seen) spot_is
           ∙ (ap (λ (x : Block). late_part w.transfer (head_in w a) (place_in s w a) x.comment x.number a w.held.flash w.seen) q
           ∙ sym
-          (reason-parts s w a
+          (reason_parts s w a
           ∙ (ap (λ (x : Row). or_last (last_of w a) (or_next x (or_next block_of late_of))) (sym p ∙ h)
           ∙ ap (λ (x : Row). or_last (last_of w a) (or_next x late_of)) (sym row_is ∙ j))))))
 
@@ -209,18 +209,18 @@ module _ (s : Settings) (w : World) (a : List ℕ) where
 -- ---- a place asked for alone
 
 module _ (s : Settings) (len f : ℕ) where
-  flash-rows : row_of (holds_of s len f) (flash_row len) ≡ row_of by_numbers (flash_row len)
+  flash_rows : row_of (holds_of s len f) (flash_row len) ≡ row_of by_numbers (flash_row len)
   unfolding row_of flash_row
-  flash-rows = refl
+  flash_rows = refl
 
   next : (l m : List Reason) {p q : Row} → row_of (holds_of s len f) l ≡ p → row_of (holds_of s len f) m ≡ q → row_of (holds_of s len f) (l ++ m) ≡ or_next p q
   next l m {p} e k = rows_next (holds_of s len f) l m ∙ (ap (λ (r : Row). or_next r (row_of (holds_of s len f) m)) e ∙ ap (or_next p) k)
 
-  pub place-parts : row_of (holds_of s len f) (place_checks s len f) ≡ or_next (place_part s len) (access_row f (flash_access s f))
+  pub place_parts : row_of (holds_of s len f) (place_checks s len f) ≡ or_next (place_part s len) (access_row f (flash_access s f))
   unfolding place_checks place_part flash_access
-  place-parts =
-      next (flash_row len) _ flash-rows
-      (next (settings_row s len) _ (settings-rows (holds_of s len f) s len (λ x. refl)) (denial-rows (holds_of s len f) s f (λ x. refl) flash_denials))
+  place_parts =
+      next (flash_row len) _ flash_rows
+      (next (settings_row s len) _ (settings_rows (holds_of s len f) s len (λ x. refl)) (denial_rows (holds_of s len f) s f (λ x. refl) flash_denials))
       ∙ sym (or_three (row_of by_numbers (flash_row len)) (finding_row s len (first_fault s len)) (access_row f (flash_access s f)))
 
   by_access : (x : Access) (y : Spot) → placed_spot f (spot_by x y) ≡ placed_by (access_row f x) (placed_spot f y)
@@ -228,21 +228,21 @@ module _ (s : Settings) (len f : ℕ) where
   by_access (Denied x) y = refl
 
   module _ {r : Row} (e : r ≡ place_part s len) where
-    placed-is : {q : Row} → r ≡ q → placed_of s len f ≡ placed_by (or_next q (access_row f (flash_access s f))) (placed_spot f (granted_spot s f))
+    placed_is : {q : Row} → r ≡ q → placed_of s len f ≡ placed_by (or_next q (access_row f (flash_access s f))) (placed_spot f (granted_spot s f))
     unfolding placed_of
-    placed-is h = ap (λ (x : Row). placed_by x (placed_spot f (granted_spot s f))) (place-parts ∙ ap (λ (x : Row). or_next x (access_row f (flash_access s f))) (sym e ∙ h))
+    placed_is h = ap (λ (x : Row). placed_by x (placed_spot f (granted_spot s f))) (place_parts ∙ ap (λ (x : Row). or_next x (access_row f (flash_access s f))) (sym e ∙ h))
 
     pub placed_row : {x : Reason} → r ≡ Decides x → Refused x ≡ placed_of s len f
-    placed_row h = sym (placed-is h)
+    placed_row h = sym (placed_is h)
 
     pub placed-spot : r ≡ Passes → {y : Spot} → y ≡ spot_of s f → placed_spot f y ≡ placed_of s len f
     unfolding spot_of
-    placed-spot h k = ap (placed_spot f) k ∙ (by_access (flash_access s f) (granted_spot s f) ∙ sym (placed-is h))
+    placed-spot h k = ap (placed_spot f) k ∙ (by_access (flash_access s f) (granted_spot s f) ∙ sym (placed_is h))
 
   abbrev told : PlaceOrigin → List ℕ → WhyPlace
   told p m = record { placed = p; entries = m }
 
-  pub place-explained : {p : PlaceOrigin} → p ≡ placed_of s len f → {m : List ℕ} → m ≡ placed_marks s f p → record { placed = p; entries = m } ≡ why_place_of s len f
+  pub place_explained : {p : PlaceOrigin} → p ≡ placed_of s len f → {m : List ℕ} → m ≡ placed_marks s f p → record { placed = p; entries = m } ≡ why_place_of s len f
   unfolding why_place_of
-  place-explained {p} e k =
+  place_explained {p} e k =
       ap (told p) k ∙ ap (λ (p : PlaceOrigin). told p (placed_marks s f p)) e

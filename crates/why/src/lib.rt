@@ -1,4 +1,6 @@
 // Why an arrival is answered as it is, and why a family has a place or none: the check that decides, first in its row as written.
+#![tactic(auto)]
+
 ghost use Rattle.std.specs.Prelude.{◌≡◌};
 ghost use Rattle.why.specs.Why.{reason_of, discards_of, no_marks, denial_marks, entries_of, why_number, why_of};
 ghost use Rattle.why.specs.Placed.{placed_of, placed_marks, why_place_number, why_place_of};

@@ -13,10 +13,10 @@ module _ (a : List ℕ) {x y z : ℕ} {r : Row} (p : x ≡ field_at a 0) (q : y 
   magic : r ≡ row_of by_numbers (magic_row (field_at a 0) (field_at a 4) (field_at a 508))
   magic = rw (← p, ← q, ← l) e
 
-  pub header-decides : {w : Reason} → r ≡ Decides w → Decides w ≡ row_of by_numbers (header_row a)
+  pub header_decides : {w : Reason} → r ≡ Decides w → Decides w ≡ row_of by_numbers (header_row a)
   unfolding header_row
-  header-decides h = row-decides by_numbers (magic_row (field_at a 0) (field_at a 4) (field_at a 508)) (flags_row (field_at a 8)) magic h
+  header_decides h = row-decides by_numbers (magic_row (field_at a 0) (field_at a 4) (field_at a 508)) (flags_row (field_at a 8)) magic h
 
-  pub header-passes : {f : ℕ} {w : Row} → f ≡ field_at a 8 → r ≡ Passes → w ≡ row_of by_numbers (flags_row f) → w ≡ row_of by_numbers (header_row a)
+  pub header_passes : {f : ℕ} {w : Row} → f ≡ field_at a 8 → r ≡ Passes → w ≡ row_of by_numbers (flags_row f) → w ≡ row_of by_numbers (header_row a)
   unfolding header_row
-  header-passes g h k = row-passes by_numbers (magic_row (field_at a 0) (field_at a 4) (field_at a 508)) (flags_row (field_at a 8)) magic h (k ∙ ap (λ (n : ℕ). row_of by_numbers (flags_row n)) g)
+  header_passes g h k = row-passes by_numbers (magic_row (field_at a 0) (field_at a 4) (field_at a 508)) (flags_row (field_at a 8)) magic h (k ∙ ap (λ (n : ℕ). row_of by_numbers (flags_row n)) g)

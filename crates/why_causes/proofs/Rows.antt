@@ -26,9 +26,9 @@ module _ (test : Reason → Bool) where
     row-passes h k = k ∙ sym (rows_next l m ∙ ap (λ (q : Row). or_next q (row_of test m)) (sym e ∙ h))
 
   -- a check that passes to the next
-  pub row-later : (c : Reason) (l : List Reason) {q : Row} → test c ≡ false → q ≡ row_of test l → q ≡ row_of test (c ∷ l)
+  pub row_later : (c : Reason) (l : List Reason) {q : Row} → test c ≡ false → q ≡ row_of test l → q ≡ row_of test (c ∷ l)
   unfolding row_of
-  row-later c l h e = e ∙ sym (rw h)
+  row_later c l h e = e ∙ sym (rw h)
 
   -- the reason is the true one
   pub deciding : (last : Reason) (l : List Reason) → Deciding test last l (or_last last (row_of test l))

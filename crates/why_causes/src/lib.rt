@@ -1,5 +1,7 @@
 // Why an arrival is answered as it is: the condition that decided, with the number tested and what it is tested against. Here are the conditions,
 // and the rows of the transfer's state and of a block's header, which are tests of two numbers each: 3 to 7.
+#![tactic(auto)]
+
 pub mod lengths;
 pub mod number_checks;
 pub mod page;

@@ -35,22 +35,22 @@ use Rattle.why_checks.specs.Parts.{fate_part, region_part, written_part, late_pa
 -- ---- the kind of a block, and rows 9 to 11
 
 module _ (size : ℕ) (n : Lengths) (b : Block) where
-  pub body-comment : b.comment ≡ true → {r : Row} → r ≡ row_of by_numbers (numbers_row b.total b.number size) → r ≡ row_of by_numbers (body_row size n b)
+  pub body_comment : b.comment ≡ true → {r : Row} → r ≡ row_of by_numbers (numbers_row b.total b.number size) → r ≡ row_of by_numbers (body_row size n b)
   unfolding body_row
-  body-comment h e =
+  body_comment h e =
       e ∙ ap (λ (x : Bool). row_of by_numbers (cond x (numbers_row b.total b.number size) (page_row (window_of n b.address) size b))) (sym h)
 
-  pub body-page : b.comment ≡ false → {u : Window} → u ≡ window_of n b.address → {r : Row} → r ≡ row_of by_numbers (page_row u size b) → r ≡ row_of by_numbers (body_row size n b)
+  pub body_page : b.comment ≡ false → {u : Window} → u ≡ window_of n b.address → {r : Row} → r ≡ row_of by_numbers (page_row u size b) → r ≡ row_of by_numbers (body_row size n b)
   unfolding body_row
-  body-page h q e =
+  body_page h q e =
       e
       ∙ (ap (λ (u : Window). row_of by_numbers (page_row u size b)) q
       ∙ ap (λ (x : Bool). row_of by_numbers (cond x (numbers_row b.total b.number size) (page_row (window_of n b.address) size b))) (sym h))
 
 module _ (n : Lengths) (t : State) (b : Block) where
-  pub kind-comment : b.comment ≡ true → {k : Kind} → k ≡ note_kind n t b → k ≡ kind_of n t b
+  pub kind_comment : b.comment ≡ true → {k : Kind} → k ≡ note_kind n t b → k ≡ kind_of n t b
   unfolding kind_of
-  kind-comment h e = e ∙ ap (λ (x : Bool). cond x (note_kind n t b) (window_kind (window_of n b.address))) (sym h)
+  kind_comment h e = e ∙ ap (λ (x : Bool). cond x (note_kind n t b) (window_kind (window_of n b.address))) (sym h)
 
   pub kind_page : b.comment ≡ false → {u : Window} → u ≡ window_of n b.address → {k : Kind} → k ≡ window_kind u → k ≡ kind_of n t b
   unfolding kind_of
@@ -59,9 +59,9 @@ module _ (n : Lengths) (t : State) (b : Block) where
 -- ---- rows 12, 13, 15 and 16
 
 module _ (t : State) (g : Head) (number : ℕ) (m cm : Bool) where
-  pub fate-done : is_done t ≡ true → Decides (reason_with Finished number g.total) ≡ fate_part t g number m cm
+  pub fate_done : is_done t ≡ true → Decides (reason_with Finished number g.total) ≡ fate_part t g number m cm
   unfolding fate_part
-  fate-done d = rw d
+  fate_done d = rw d
 
   module _ (d : is_done t ≡ false) where
     pub fate-again : is_again t g m ≡ true → Decides (reason_with Again number g.total) ≡ fate_part t g number m cm
@@ -84,9 +84,9 @@ module _ (t : State) (g : Head) (number : ℕ) (m cm : Bool) where
 -- ---- row 14
 
 module _ (flash : List ℕ) (start size at : ℕ) (g : Region) (n total : ℕ) where
-  pub region-ragged : ragged g ≡ true → Decides (reason_with (Written Ragged) n total) ≡ region_part flash start size at g n total
+  pub region_ragged : ragged g ≡ true → Decides (reason_with (Written Ragged) n total) ≡ region_part flash start size at g n total
   unfolding region_part
-  region-ragged h = rw h
+  region_ragged h = rw h
 
   module _ (p : ragged g ≡ false) where
     pub region-empty : g.len ≡ 0 → Decides (reason_with (Written Empty) n total) ≡ region_part flash start size at g n total
@@ -134,9 +134,9 @@ module _ (t : State) (g : Head) (p : Place) (cm : Bool) (number : ℕ) (a flash 
   fated : {y : Row} → f ≡ y → fate_part t g number (marked_in seen number) cm ≡ y
   fated h = ap (λ (b : Bool). fate_part t g number b cm) (sym q) ∙ (sym e ∙ h)
 
-  pub late-fate : {x : Reason} → f ≡ Decides x → x ≡ late_part t g p cm number a flash seen
+  pub late_fate : {x : Reason} → f ≡ Decides x → x ≡ late_part t g p cm number a flash seen
   unfolding late_part
-  late-fate h = rw (fated h)
+  late_fate h = rw (fated h)
 
   module _ (h : f ≡ Passes) {n start size : ℕ} (c : n ≡ raised_of t g) (b : start ≡ start_at p) (l : size ≡ size_at p) {w : Row}
       (o : w ≡ written_part flash start size g.kind a n g.total) where

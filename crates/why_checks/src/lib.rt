@@ -1,4 +1,6 @@
 // Rows 9 to 17 of a block: beside its place or window, and beside the transfer and the flash.
+#![tactic(auto)]
+
 ghost use Rattle.std.specs.Prelude.{◌≡◌};
 ghost use Rattle.why_causes.specs.Causes.{reason_with};
 ghost use Rattle.why_causes.specs.Checks.{by_numbers, row_of};

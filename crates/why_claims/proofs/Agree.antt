@@ -57,9 +57,9 @@ use Rattle.why_checks.specs.Block.{start_at, size_at, room_of, address_in, page_
 use Rattle.why_checks.specs.Parts.{fate_part, written_part}
 use Rattle.why.specs.Why.{block_kind, head_in, place_in, last_of, reason_of}
 use Rattle.why.specs.Parts.{finding_row, access_row, access_in, board_part, early_part, block_part}
-use Rattle.why.proofs.Rows.{reason-parts}
+use Rattle.why.proofs.Rows.{reason_parts}
 use Rattle.why_claims.proofs.Answers.{told, told_next, lengths_answer, state_answer, payload_answer, numbers_answer, address_answer, stray_answer, window_answer}
-use Rattle.why_claims.proofs.Steps.{settled, settled_refused, note-late, page-late}
+use Rattle.why_claims.proofs.Steps.{settled, settled_refused, note_late, page_late}
 
 -- ---- row 2
 
@@ -77,7 +77,7 @@ finding_answer s len y = by-case (first_fault s len) refl
 -- ---- rows 4 to 7
 
 module _ (t : State) (seen : List ℕ) (kept : Bool) (next : Block → Screening) where
-  by-header : (m1 m2 m3 c f : Bool) (b : Block) (x1 x2 x3 flags : ℕ)
+  by_header : (m1 m2 m3 c f : Bool) (b : Block) (x1 x2 x3 flags : ℕ)
       → told
       (or_next
       (cond (not m1) (Decides (reason_with (NotBlock First) x1 0x0A324655))
@@ -93,39 +93,39 @@ module _ (t : State) (seen : List ℕ) (kept : Bool) (next : Block → Screening
       (cond c header.Container (cond (not f) header.NoFamily (header.Found b))))))
       next)
   unfolding after_screening
-  by-header false m2 m3 c f b x1 x2 x3 flags = refl
-  by-header true false m3 c f b x1 x2 x3 flags = refl
-  by-header true true false c f b x1 x2 x3 flags = refl
-  by-header true true true true f b x1 x2 x3 flags = refl
-  by-header true true true false false b x1 x2 x3 flags = refl
-  by-header true true true false true b x1 x2 x3 flags = refl
+  by_header false m2 m3 c f b x1 x2 x3 flags = refl
+  by_header true false m3 c f b x1 x2 x3 flags = refl
+  by_header true true false c f b x1 x2 x3 flags = refl
+  by_header true true true true f b x1 x2 x3 flags = refl
+  by_header true true true false false b x1 x2 x3 flags = refl
+  by_header true true true false true b x1 x2 x3 flags = refl
 
-  pub header-answer : (a : List ℕ) → told (row_of by_numbers (header_row a)) (settled t seen kept (next (fields_of a))) ≡ settled t seen kept (after_header (header_of a) next)
+  pub header_answer : (a : List ℕ) → told (row_of by_numbers (header_row a)) (settled t seen kept (next (fields_of a))) ≡ settled t seen kept (after_header (header_of a) next)
   unfolding row_of header_row magic_row flags_row header_of flagged_of
-  header-answer a =
+  header_answer a =
       ap (λ (r : Row). told r (settled t seen kept (next (fields_of a)))) (rows_next by_numbers (magic_row (field_at a 0) (field_at a 4) (field_at a 508)) (flags_row (field_at a 8)))
-      ∙ by-header (eqb (field_at a 0) 0x0A324655) (eqb (field_at a 4) 0x9E5D5157) (eqb (field_at a 508) 0x0AB16F30) (has_flag a 0x1000) (has_flag a 0x2000)
+      ∙ by_header (eqb (field_at a 0) 0x0A324655) (eqb (field_at a 4) 0x9E5D5157) (eqb (field_at a 508) 0x0AB16F30) (has_flag a 0x1000) (has_flag a 0x2000)
       (fields_of a) (field_at a 0) (field_at a 4) (field_at a 508) (field_at a 8)
 
 -- ---- row 8
 
 -- a family that is shut out has no place, and one that is not has some
 module _ (s : Settings) (len f : ℕ) (y : Answer) where
-  pub flash-denied : place_of s len f ≡ Nowhere → told (access_row f (flash_access s f)) y ≡ answer.NoPlace
-  flash-denied e = by-case (flash_access s f) refl
+  pub flash_denied : place_of s len f ≡ Nowhere → told (access_row f (flash_access s f)) y ≡ answer.NoPlace
+  flash_denied e = by-case (flash_access s f) refl
     where
       by-case : (x : Access) → flash_access s f ≡ x → told (access_row f x) y ≡ answer.NoPlace
       by-case Granted h = absurd ((granted_is_placed s len f).0 h e)
       by-case (Denied x) h = refl
 
-  pub flash-open : {start size : ℕ} → place_of s len f ≡ At start size → told (access_row f (flash_access s f)) y ≡ y
-  flash-open {start} {size} e =
+  pub flash_open : {start size : ℕ} → place_of s len f ≡ At start size → told (access_row f (flash_access s f)) y ≡ y
+  flash_open {start} {size} e =
       ap (λ (x : Access). told (access_row f x) y)
       ((granted_is_placed s len f).1 (λ h. let q : Nowhere ≡ At start size = sym h ∙ e in let z : ◌≡◌ {A = ℕ} 0 1 = cc in omega arith))
 
 module _ (s : Settings) (f : ℕ) (y : Answer) where
-  pub ram-answer : told (access_row f (ram_access s f)) y ≡ cond (ram_family s f) y answer.NoPlace
-  ram-answer = by-case (ram_access s f) refl
+  pub ram_answer : told (access_row f (ram_access s f)) y ≡ cond (ram_family s f) y answer.NoPlace
+  ram_answer = by-case (ram_access s f) refl
     where
       by-case : (x : Access) → ram_access s f ≡ x → told (access_row f x) y ≡ cond (ram_family s f) y answer.NoPlace
       by-case Granted h = sym (ap (λ (b : Bool). cond b y answer.NoPlace) ((granted_is_for_ram s f).0 h))
@@ -137,17 +137,17 @@ module _ (s : Settings) (f : ℕ) (y : Answer) where
 -- ---- rows 8 to 11
 
 module _ (s : Settings) (n : Lengths) (t : State) (seen flash a : List ℕ) (kept : Bool) (b : Block) where
-  settled-if : (c : Bool) (x : Answer) (q : Screening) → cond c x (settled t seen kept q) ≡ settled t seen kept (cond c (Refused x) q)
-  settled-if true x q = sym (settled_refused t seen kept x)
-  settled-if false x q = refl
+  settled_if : (c : Bool) (x : Answer) (q : Screening) → cond c x (settled t seen kept q) ≡ settled t seen kept (cond c (Refused x) q)
+  settled_if true x q = sym (settled_refused t seen kept x)
+  settled_if false x q = refl
 
   -- two and three rows that compare numbers
-  told-two : (l m : List Reason) (y : Answer) → told (row_of by_numbers (l ++ m)) y ≡ told (row_of by_numbers l) (told (row_of by_numbers m) y)
-  told-two l m y = ap (λ (r : Row). told r y) (rows_next by_numbers l m) ∙ told_next (row_of by_numbers l) (row_of by_numbers m) y
+  told_two : (l m : List Reason) (y : Answer) → told (row_of by_numbers (l ++ m)) y ≡ told (row_of by_numbers l) (told (row_of by_numbers m) y)
+  told_two l m y = ap (λ (r : Row). told r y) (rows_next by_numbers l m) ∙ told_next (row_of by_numbers l) (row_of by_numbers m) y
 
-  told-three : (l m o : List Reason) (y : Answer)
+  told_three : (l m o : List Reason) (y : Answer)
       → told (row_of by_numbers (l ++ (m ++ o))) y ≡ told (row_of by_numbers l) (told (row_of by_numbers m) (told (row_of by_numbers o) y))
-  told-three l m o y = told-two l (m ++ o) y ∙ ap (told (row_of by_numbers l)) (told-two m o y)
+  told_three l m o y = told_two l (m ++ o) y ∙ ap (told (row_of by_numbers l)) (told_two m o y)
 
   -- a comment
   module _ (y : Answer) where
@@ -156,14 +156,14 @@ module _ (s : Settings) (n : Lengths) (t : State) (seen flash a : List ℕ) (kep
     unfolding noted
     numbers-told k size e =
         numbers_answer size b y
-        ∙ (ap (cond (bad_numbers size b) answer.BadNumbers) e ∙ settled-if (bad_numbers size b) answer.BadNumbers (Passed (placed_at k Note b)))
+        ∙ (ap (cond (bad_numbers size b) answer.BadNumbers) e ∙ settled_if (bad_numbers size b) answer.BadNumbers (Passed (placed_at k Note b)))
 
-    note-flash : (p : Place) → place_of s n.flash b.family ≡ p → y ≡ settled t seen kept (Passed (placed_at Flash Note b))
+    note_flash : (p : Place) → place_of s n.flash b.family ≡ p → y ≡ settled t seen kept (Passed (placed_at Flash Note b))
         → told (access_row b.family (flash_access s b.family)) (told (row_of by_numbers (numbers_row b.total b.number (size_at p))) y)
         ≡ settled t seen kept (note_found Flash p b)
     unfolding note_found
-    note-flash Nowhere e h = flash-denied s n.flash b.family _ e ∙ sym (settled_refused t seen kept answer.NoPlace)
-    note-flash (At start size) e h = flash-open s n.flash b.family _ e ∙ numbers-told Flash size h
+    note_flash Nowhere e h = flash_denied s n.flash b.family _ e ∙ sym (settled_refused t seen kept answer.NoPlace)
+    note_flash (At start size) e h = flash_open s n.flash b.family _ e ∙ numbers-told Flash size h
 
     note-ram : (k : Kind) (r : Bool) (size : ℕ) → y ≡ settled t seen kept (Passed (placed_at k Note b))
         → cond r (told (row_of by_numbers (numbers_row b.total b.number size)) y) answer.NoPlace ≡ settled t seen kept (note_found k (whole_if r size) b)
@@ -175,9 +175,9 @@ module _ (s : Settings) (n : Lengths) (t : State) (seen flash a : List ℕ) (kep
         → told (access_row b.family (access_in s k b.family))
         (told (row_of by_numbers (numbers_row b.total b.number (room_of (place_of s n.flash b.family) k))) y)
         ≡ settled t seen kept (note_found k (room_in (rooms_of s n.flash b.family) k) b)
-    note-answer Flash h = note-flash (place_of s n.flash b.family) refl h
-    note-answer MainRam h = ram-answer s b.family _ ∙ note-ram MainRam (ram_family s b.family) (extent_of MainRam) h
-    note-answer XipRam h = ram-answer s b.family _ ∙ note-ram XipRam (ram_family s b.family) (extent_of XipRam) h
+    note-answer Flash h = note_flash (place_of s n.flash b.family) refl h
+    note-answer MainRam h = ram_answer s b.family _ ∙ note-ram MainRam (ram_family s b.family) (extent_of MainRam) h
+    note-answer XipRam h = ram_answer s b.family _ ∙ note-ram XipRam (ram_family s b.family) (extent_of XipRam) h
 
   -- a data block
   module _ (y : Answer) where
@@ -186,24 +186,24 @@ module _ (s : Settings) (n : Lengths) (t : State) (seen flash a : List ℕ) (kep
         → told (row_of by_numbers (page_row (In k) size b)) y ≡ settled t seen kept (placed k start size b)
     unfolding page_row placed
     inside-told k start size e h =
-        told-three (payload_row b.size) (numbers_row b.total b.number size) (address_in k b.address size) y
+        told_three (payload_row b.size) (numbers_row b.total b.number size) (address_in k b.address size) y
         ∙ (payload_answer b.size _
         ∙ (ap (cond (not (eqb b.size 256)) answer.BadPayload)
         (numbers_answer size b _
         ∙ (ap (cond (bad_numbers size b) answer.BadNumbers)
         (h
-        ∙ (ap (cond (bad_address k size b) answer.BadAddress) e ∙ settled-if (bad_address k size b) answer.BadAddress _))
-        ∙ settled-if (bad_numbers size b) answer.BadNumbers _))
-        ∙ settled-if (not (eqb b.size 256)) answer.BadPayload _))
+        ∙ (ap (cond (bad_address k size b) answer.BadAddress) e ∙ settled_if (bad_address k size b) answer.BadAddress _))
+        ∙ settled_if (bad_numbers size b) answer.BadNumbers _))
+        ∙ settled_if (not (eqb b.size 256)) answer.BadPayload _))
 
     outside_told : (size : ℕ) → window_of n b.address ≡ Outside → told (row_of by_numbers (page_row Outside size b)) y ≡ settled t seen kept (strayed b)
     unfolding page_row strayed
     outside_told size h =
-        told-three (payload_row b.size) (stray_row b.address) (numbers_row b.total b.number size) y
+        told_three (payload_row b.size) (stray_row b.address) (numbers_row b.total b.number size) y
         ∙ (payload_answer b.size _
         ∙ (ap (cond (not (eqb b.size 256)) answer.BadPayload)
         (stray_answer n b h _ ∙ sym (settled_refused t seen kept answer.BadAddress))
-        ∙ settled-if (not (eqb b.size 256)) answer.BadPayload _))
+        ∙ settled_if (not (eqb b.size 256)) answer.BadPayload _))
 
 -- ---- a data block by its window
 
@@ -218,63 +218,63 @@ module _ (s : Settings) (n : Lengths) (t : State) (seen flash a : List ℕ) (b :
       told (fate_part t (head_with k b.family b.total) b.number (marked_in seen b.number) false)
       (told (written_part flash start size k a (raised_of t (head_with k b.family b.total)) b.total) answer.Kept)
 
-  page-outside : (p : Place) → place_of s n.flash b.family ≡ p → window_of n b.address ≡ Outside → (kept : Bool) (y : Answer)
+  page_outside : (p : Place) → place_of s n.flash b.family ≡ p → window_of n b.address ≡ Outside → (kept : Bool) (y : Answer)
       → told (access_row b.family (flash_access s b.family)) (told (row_of by_numbers (page_row Outside (size_at p) b)) y) ≡ settled t seen kept (data_found Outside p b)
   unfolding data_found
-  page-outside Nowhere e u kept y = flash-denied s n.flash b.family _ e ∙ sym (settled_refused t seen kept answer.NoPlace)
-  page-outside (At start size) e u kept y =
-      flash-open s n.flash b.family _ e
+  page_outside Nowhere e u kept y = flash_denied s n.flash b.family _ e ∙ sym (settled_refused t seen kept answer.NoPlace)
+  page_outside (At start size) e u kept y =
+      flash_open s n.flash b.family _ e
       ∙ outside_told s n t seen flash a kept b y size u
 
-  page-flash : (p : Place) → place_of s n.flash b.family ≡ p
+  page_flash : (p : Place) → place_of s n.flash b.family ≡ p
       → told (access_row b.family (flash_access s b.family)) (told (row_of by_numbers (page_row (In Flash) (size_at p) b)) (after Flash (start_at p) (size_at p)))
       ≡ settled t seen (stands_at flash p a) (data_found (In Flash) p b)
   unfolding data_found
-  page-flash Nowhere e = flash-denied s n.flash b.family _ e ∙ sym (settled_refused t seen (stands_at flash Nowhere a) answer.NoPlace)
-  page-flash (At start size) e =
-      flash-open s n.flash b.family _ e
+  page_flash Nowhere e = flash_denied s n.flash b.family _ e ∙ sym (settled_refused t seen (stands_at flash Nowhere a) answer.NoPlace)
+  page_flash (At start size) e =
+      flash_open s n.flash b.family _ e
       ∙ inside-told s n t seen flash a (stands_at flash (At start size) a) b (after Flash start size) Flash start size
-      (page-late t seen flash a b Flash start size (start + (b.address - base_of Flash)) (stands_at flash (At start size) a) refl)
+      (page_late t seen flash a b Flash start size (start + (b.address - base_of Flash)) (stands_at flash (At start size) a) refl)
       (flash_address size b (after Flash start size))
 
   -- in RAM nothing is kept, wherever the family's place in the flash is
   ram_kept : (k : Kind) → same_kind k Flash ≡ false → (p q : Bool) → same_kind k Flash && p ≡ same_kind k Flash && q
   ram_kept k e p q = rw e
 
-  page-ram : (k : Kind) → (k ≡ Flash → ⊥) → same_kind k Flash ≡ false → base_of k ≤ b.address → (f kept : Bool) (start size : ℕ)
+  page_ram : (k : Kind) → (k ≡ Flash → ⊥) → same_kind k Flash ≡ false → base_of k ≤ b.address → (f kept : Bool) (start size : ℕ)
       → cond f (told (row_of by_numbers (page_row (In k) (extent_of k) b)) (after k start size)) answer.NoPlace
       ≡ settled t seen kept (data_found (In k) (whole_if f (extent_of k)) b)
   unfolding data_found
-  page-ram k i j l true kept start size =
+  page_ram k i j l true kept start size =
       inside-told s n t seen flash a kept b (after k start size) k 0 (extent_of k)
-      (page-late t seen flash a b k start size (0 + (b.address - base_of k)) kept (ram_kept k j (stands_at flash (At start size) a) kept))
+      (page_late t seen flash a b k start size (0 + (b.address - base_of k)) kept (ram_kept k j (stands_at flash (At start size) a) kept))
       (window_answer k (extent_of k) b l i refl (after k start size))
-  page-ram k i j l false kept start size = sym (settled_refused t seen kept answer.NoPlace)
+  page_ram k i j l false kept start size = sym (settled_refused t seen kept answer.NoPlace)
 
   low_of : (u : Window) (k : Kind) → u ≡ In k → WindowFacts n b.address u → base_of k ≤ b.address
   low_of u k e h = (rw e at h).low
 
-  pub page-answer : (u : Window) → window_of n b.address ≡ u
+  pub page_answer : (u : Window) → window_of n b.address ≡ u
       → told (access_row b.family (access_in s (window_kind u) b.family))
       (told (row_of by_numbers (page_row u (room_of (place_of s n.flash b.family) (window_kind u)) b))
       (after (window_kind u) (start_at (place_of s n.flash b.family)) (size_at (place_of s n.flash b.family))))
       ≡ settled t seen (stands_at flash (place_of s n.flash b.family) a) (data_found u (room_in (rooms_of s n.flash b.family) (window_kind u)) b)
-  page-answer Outside e = page-outside (place_of s n.flash b.family) refl e (stands_at flash (place_of s n.flash b.family) a) _
-  page-answer (In Flash) e = page-flash (place_of s n.flash b.family) refl
-  page-answer (In MainRam) e =
-      ram-answer s b.family _
-      ∙ page-ram MainRam (λ q. let z : ◌≡◌ {A = ℕ} 0 1 = cc in omega arith) refl (low_of (window_of n b.address) MainRam e (window_facts n b.address))
+  page_answer Outside e = page_outside (place_of s n.flash b.family) refl e (stands_at flash (place_of s n.flash b.family) a) _
+  page_answer (In Flash) e = page_flash (place_of s n.flash b.family) refl
+  page_answer (In MainRam) e =
+      ram_answer s b.family _
+      ∙ page_ram MainRam (λ q. let z : ◌≡◌ {A = ℕ} 0 1 = cc in omega arith) refl (low_of (window_of n b.address) MainRam e (window_facts n b.address))
       (ram_family s b.family) (stands_at flash (place_of s n.flash b.family) a) (start_at (place_of s n.flash b.family)) (size_at (place_of s n.flash b.family))
-  page-answer (In XipRam) e =
-      ram-answer s b.family _
-      ∙ page-ram XipRam (λ q. let z : ◌≡◌ {A = ℕ} 0 1 = cc in omega arith) refl (low_of (window_of n b.address) XipRam e (window_facts n b.address))
+  page_answer (In XipRam) e =
+      ram_answer s b.family _
+      ∙ page_ram XipRam (λ q. let z : ◌≡◌ {A = ℕ} 0 1 = cc in omega arith) refl (low_of (window_of n b.address) XipRam e (window_facts n b.address))
       (ram_family s b.family) (stands_at flash (place_of s n.flash b.family) a) (start_at (place_of s n.flash b.family)) (size_at (place_of s n.flash b.family))
 
   -- rows 8 to 17, of a block that is a comment or not
   abbrev kind_if : Bool → Kind
   kind_if c = cond c (note_kind n t b) (window_kind (window_of n b.address))
 
-  pub block-answer : (c : Bool)
+  pub block_answer : (c : Bool)
       → told (access_row b.family (access_in s (kind_if c) b.family))
       (told
       (row_of by_numbers
@@ -288,11 +288,11 @@ module _ (s : Settings) (n : Lengths) (t : State) (seen flash a : List ℕ) (b :
       ≡ settled t seen (stands_at flash (place_of s n.flash b.family) a)
       (cond c (note_found (note_kind n t b) (room_in (rooms_of s n.flash b.family) (note_kind n t b)) b)
       (data_found (window_of n b.address) (room_in (rooms_of s n.flash b.family) (window_kind (window_of n b.address))) b))
-  block-answer true =
+  block_answer true =
       note-answer s n t seen flash a (stands_at flash (place_of s n.flash b.family) a) b _ (note_kind n t b)
-      (note-late t seen flash a b (note_kind n t b) (start_at (place_of s n.flash b.family)) (size_at (place_of s n.flash b.family))
+      (note_late t seen flash a b (note_kind n t b) (start_at (place_of s n.flash b.family)) (size_at (place_of s n.flash b.family))
       (stands_at flash (place_of s n.flash b.family) a))
-  block-answer false = page-answer (window_of n b.address) refl
+  block_answer false = page_answer (window_of n b.address) refl
 
 -- ---- every row
 
@@ -322,12 +322,12 @@ module _ (s : Settings) (w : World) (a : List ℕ) where
       (written_part w.held.flash (start_at (place_in s w a)) (size_at (place_in s w a)) (block_kind w a) a (raised_of w.transfer (head_in w a)) (field_at a 24))
       answer.Kept))
 
-  rest-answer : rest
+  rest_answer : rest
       ≡ settled w.transfer w.seen (standing s w.held.flash a) (found (rooms_of s (length w.held.flash) (field_at a 28)) (lengths_of w.held) w.transfer (fields_of a))
   unfolding block_part body_row kind_of found fields_of
-  rest-answer =
+  rest_answer =
       told_next (access_row (field_at a 28) (access_in s (block_kind w a) (field_at a 28))) _ _
-      ∙ block-answer s (lengths_of w.held) w.transfer w.seen w.held.flash a (fields_of a) (has_flag a 0x1)
+      ∙ block_answer s (lengths_of w.held) w.transfer w.seen w.held.flash a (fields_of a) (has_flag a 0x1)
 
   -- rows 1 to 3, where every later row agrees once they pass
   by_rows : (x : Answer) (d : Screening) (r g q : Bool)
@@ -344,13 +344,13 @@ module _ (s : Settings) (w : World) (a : List ℕ) where
   by_rows x d true true true h = h
 
   -- the answer by rows
-  rows-answer : answer_of (reason_of s w a).cause
+  rows_answer : answer_of (reason_of s w a).cause
       ≡ told (row_of by_numbers (lengths_row (length a) (lengths_of w.held) (length w.seen) (length w.held.sectors)))
       (told (finding_row s (length w.held.flash) (first_fault s (length w.held.flash)))
       (told (row_of by_numbers (state_row w.transfer)) (told (row_of by_numbers (header_row a)) rest)))
   unfolding early_part board_part
-  rows-answer =
-      ap (λ (r : Reason). answer_of r.cause) (reason-parts s w a)
+  rows_answer =
+      ap (λ (r : Reason). answer_of r.cause) (reason_parts s w a)
       ∙ all_told (last_of w a) (row_of by_numbers (lengths_row (length a) (lengths_of w.held) (length w.seen) (length w.held.sectors)))
       (finding_row s (length w.held.flash) (first_fault s (length w.held.flash))) (row_of by_numbers (state_row w.transfer)) (row_of by_numbers (header_row a))
       (block_part s (place_in s w a) (block_kind w a) (lengths_of w.held) (fields_of a))
@@ -360,12 +360,12 @@ module _ (s : Settings) (w : World) (a : List ℕ) where
   pub answers_agree : answer_of (reason_of s w a).cause ≡ (look_of s w a).answer
   unfolding look_of decide screen_of screen_in
   answers_agree =
-      rows-answer
+      rows_answer
       ∙ (lengths_answer _ _ _ _ _
       ∙ (ap (cond (not (right_lengths (length a) (lengths_of w.held) (length w.seen) (length w.held.sectors))) answer.BadBuffers)
       (finding_answer s (length w.held.flash) _
       ∙ ap (cond (not (good_settings s (length w.held.flash))) answer.BadSettings) (state_answer w.transfer _))
       ∙ by_rows _ _ (right_lengths (length a) (lengths_of w.held) (length w.seen) (length w.held.sectors)) (good_settings s (length w.held.flash)) (good_state w.transfer)
-      (ap (told (row_of by_numbers (header_row a))) rest-answer
-      ∙ header-answer w.transfer w.seen (standing s w.held.flash a)
+      (ap (told (row_of by_numbers (header_row a))) rest_answer
+      ∙ header_answer w.transfer w.seen (standing s w.held.flash a)
       (found (rooms_of s (length w.held.flash) (field_at a 28)) (lengths_of w.held) w.transfer) a)))

@@ -60,13 +60,13 @@ module _ (b : List ℕ) (x : ReasonFields) (e : length b ≡ 550) where
   link : link_byte b x.entry ≡ at
   link = link_place b x.entry
 
-  link-told : x.number ≡ 206 → x.entry < 16 → NoLink b x.entry → settings_told b x ≡ told_with 211 at 2 x.entry 0 (replicate 16 0)
+  link_told_lem : x.number ≡ 206 → x.entry < 16 → NoLink b x.entry → settings_told b x ≡ told_with 211 at 2 x.entry 0 (replicate 16 0)
   unfolding settings_told link_told link_over
-  link-told n l o = rw (eq-eqb (length b) 550 e, eq-eqb x.number 206 n, lt-ltb x.entry 16 l, link, lt-ltb 2 at o)
+  link_told_lem n l o = rw (eq-eqb (length b) 550 e, eq-eqb x.number 206 n, lt-ltb x.entry 16 l, link, lt-ltb 2 at o)
 
-  link-silent : (x.number ≡ 206 → x.entry < 16 → NoLink b x.entry → ⊥) → settings_told b x ≡ x
+  link_silent : (x.number ≡ 206 → x.entry < 16 → NoLink b x.entry → ⊥) → settings_told b x ≡ x
   unfolding settings_told link_told link_over
-  link-silent n =
+  link_silent n =
       split (first && over)
       (λ y.
       let p = and_left first over y in
@@ -76,4 +76,4 @@ module _ (b : List ℕ) (x : ReasonFields) (e : length b ≡ 550) where
 
 pub link_kind_told : LinkKindTold
 unfolding LinkKindTold
-link_kind_told b x e = (link-told b x e, link-silent b x e)
+link_kind_told b x e = (link_told_lem b x e, link_silent b x e)

@@ -30,7 +30,7 @@ use Rattle.arrival.specs.Facts.{LookTells}
 use Rattle.arrival.proofs.Facts.{look_tells}
 use Rattle.arrival.proofs.Heads.{head_same}
 use Rattle.arrival_claims.specs.Tally.{clears}
-use Rattle.arrival_claims.proofs.DecisionFacts.{DecisionFacts, refused, took, decision_facts, raisedCount, took-state}
+use Rattle.arrival_claims.proofs.DecisionFacts.{DecisionFacts, refused, took, decision_facts, raised_count, took_state}
 use Rattle.why_settings.specs.Faults.{faults_of}
 use Rattle.why_settings.specs.declared.Fault.{Fault}
 use Rattle.why_place.specs.Placing.{flash_denials, ram_denials}
@@ -76,82 +76,82 @@ module _ (n t : ℕ) where
   under x [] m h = tt
   under x (c ∷ l) m h = (λ k. let q = ap number_of h.0 in absurd (omega (arith, m, k, q)), under x l m h.1)
 
-  lengths-tell : (x : ℕ) (m : Lengths) (u k : ℕ) → Each (lengths_row x m u k)
+  lengths_tell : (x : ℕ) (m : Lengths) (u k : ℕ) → Each (lengths_row x m u k)
   unfolding lengths_row flash_row buffer_row
-  lengths-tell x m u k = under answer.BadBuffers (lengths_row x m u k) (omega arith) (refl, (refl, (refl, (refl, (refl, (refl, (refl, (refl, tt))))))))
+  lengths_tell x m u k = under answer.BadBuffers (lengths_row x m u k) (omega arith) (refl, (refl, (refl, (refl, (refl, (refl, (refl, (refl, tt))))))))
 
-  faults-tell : (s : Settings) (len : ℕ) (l : List Fault) → Each (fault_row s len l)
+  faults_tell : (s : Settings) (len : ℕ) (l : List Fault) → Each (fault_row s len l)
   unfolding fault_row
-  faults-tell s len [] = tt
-  faults-tell s len (x ∷ l) = (λ h. absurd (omega (arith, h)), faults-tell s len l)
+  faults_tell s len [] = tt
+  faults_tell s len (x ∷ l) = (λ h. absurd (omega (arith, h)), faults_tell s len l)
 
-  state-tells : (x : State) → Each (state_row x)
+  state_tells : (x : State) → Each (state_row x)
   unfolding state_row running_row done_row
-  state-tells Idle = tt
-  state-tells (Running r) = under answer.BadState (running_row r) (omega arith) (refl, (refl, (refl, tt)))
-  state-tells (Done g) = under answer.BadState (done_row g) (omega arith) (refl, (refl, tt))
+  state_tells Idle = tt
+  state_tells (Running r) = under answer.BadState (running_row r) (omega arith) (refl, (refl, (refl, tt)))
+  state_tells (Done g) = under answer.BadState (done_row g) (omega arith) (refl, (refl, tt))
 
-  header-tells : (a : List ℕ) → Each (header_row a)
+  header_tells : (a : List ℕ) → Each (header_row a)
   unfolding header_row magic_row flags_row
-  header-tells a =
+  header_tells a =
       all_next (Tells n t) (magic_row (field_at a 0) (field_at a 4) (field_at a 508)) (flags_row (field_at a 8))
       (under answer.NotBlock (magic_row (field_at a 0) (field_at a 4) (field_at a 508)) (omega arith) (refl, (refl, (refl, tt))))
       (λ h. absurd (omega (arith, h)), (λ h. absurd (omega (arith, h)), tt))
 
-  denials-tell : (f : ℕ) (l : List Denial) → Each (denial_row f l)
+  denials_tell : (f : ℕ) (l : List Denial) → Each (denial_row f l)
   unfolding denial_row
-  denials-tell f [] = tt
-  denials-tell f (x ∷ l) = (λ h. absurd (omega (arith, h)), denials-tell f l)
+  denials_tell f [] = tt
+  denials_tell f (x ∷ l) = (λ h. absurd (omega (arith, h)), denials_tell f l)
 
-  place-tells : (k : Kind) (f : ℕ) → Each (place_row k f)
+  place_tells : (k : Kind) (f : ℕ) → Each (place_row k f)
   unfolding place_row
-  place-tells Flash f = denials-tell f flash_denials
-  place-tells MainRam f = denials-tell f ram_denials
-  place-tells XipRam f = denials-tell f ram_denials
+  place_tells Flash f = denials_tell f flash_denials
+  place_tells MainRam f = denials_tell f ram_denials
+  place_tells XipRam f = denials_tell f ram_denials
 
-  payload-tells : (z : ℕ) → Each (payload_row z)
+  payload_tells : (z : ℕ) → Each (payload_row z)
   unfolding payload_row
-  payload-tells z = (λ h. absurd (omega (arith, h)), tt)
+  payload_tells z = (λ h. absurd (omega (arith, h)), tt)
 
-  numbers-tell : (x y z : ℕ) → Each (numbers_row x y z)
+  numbers_tell : (x y z : ℕ) → Each (numbers_row x y z)
   unfolding numbers_row
-  numbers-tell x y z = under answer.BadNumbers (numbers_row x y z) (omega arith) (refl, (refl, (refl, tt)))
+  numbers_tell x y z = under answer.BadNumbers (numbers_row x y z) (omega arith) (refl, (refl, (refl, tt)))
 
-  address-tells : (x z : ℕ) → Each (address_row x z)
+  address_tells : (x z : ℕ) → Each (address_row x z)
   unfolding address_row
-  address-tells x z = under answer.BadAddress (address_row x z) (omega arith) (refl, (refl, (refl, tt)))
+  address_tells x z = under answer.BadAddress (address_row x z) (omega arith) (refl, (refl, (refl, tt)))
 
-  stray-tells : (x : ℕ) → Each (stray_row x)
+  stray_tells : (x : ℕ) → Each (stray_row x)
   unfolding stray_row
-  stray-tells x = under answer.BadAddress (stray_row x) (omega arith) (refl, (refl, tt))
+  stray_tells x = under answer.BadAddress (stray_row x) (omega arith) (refl, (refl, tt))
 
-  in-tells : (k : Kind) (x z : ℕ) → Each (address_in k x z)
+  in_tells : (k : Kind) (x z : ℕ) → Each (address_in k x z)
   unfolding address_in window_row
-  in-tells Flash x z = address-tells x z
-  in-tells MainRam x z = (λ h. absurd (omega (arith, h)), tt)
-  in-tells XipRam x z = (λ h. absurd (omega (arith, h)), tt)
+  in_tells Flash x z = address_tells x z
+  in_tells MainRam x z = (λ h. absurd (omega (arith, h)), tt)
+  in_tells XipRam x z = (λ h. absurd (omega (arith, h)), tt)
 
-  page-tells : (u : Window) (z : ℕ) (b : Block) → Each (page_row u z b)
+  page_tells : (u : Window) (z : ℕ) (b : Block) → Each (page_row u z b)
   unfolding page_row
-  page-tells Outside z b =
-      all_next (Tells n t) (payload_row b.size) _ (payload-tells b.size)
-      (all_next (Tells n t) (stray_row b.address) _ (stray-tells b.address) (numbers-tell b.total b.number z))
-  page-tells (In k) z b =
-      all_next (Tells n t) (payload_row b.size) _ (payload-tells b.size)
-      (all_next (Tells n t) (numbers_row b.total b.number z) _ (numbers-tell b.total b.number z) (in-tells k b.address z))
+  page_tells Outside z b =
+      all_next (Tells n t) (payload_row b.size) _ (payload_tells b.size)
+      (all_next (Tells n t) (stray_row b.address) _ (stray_tells b.address) (numbers_tell b.total b.number z))
+  page_tells (In k) z b =
+      all_next (Tells n t) (payload_row b.size) _ (payload_tells b.size)
+      (all_next (Tells n t) (numbers_row b.total b.number z) _ (numbers_tell b.total b.number z) (in_tells k b.address z))
 
-  body-tells : (z : ℕ) (m : Lengths) (b : Block) → Each (body_row z m b)
+  body_tells : (z : ℕ) (m : Lengths) (b : Block) → Each (body_row z m b)
   unfolding body_row
-  body-tells z m b = by-case b.comment
+  body_tells z m b = by-case b.comment
     where
       by-case : (c : Bool) → Each (cond c (numbers_row b.total b.number z) (page_row (window_of m b.address) z b))
-      by-case true = numbers-tell b.total b.number z
-      by-case false = page-tells (window_of m b.address) z b
+      by-case true = numbers_tell b.total b.number z
+      by-case false = page_tells (window_of m b.address) z b
 
   -- the rest tell them
-  written-tells : Each (written_row n t)
+  written_tells : Each (written_row n t)
   unfolding written_row
-  written-tells = (both, (both, (both, (both, (both, (both, (both, tt)))))))
+  written_tells = (both, (both, (both, (both, (both, (both, (both, tt)))))))
     where
       both : 14 ≤ 14 → (n ≡ n) × (t ≡ t)
       both h = (refl, refl)
@@ -174,17 +174,17 @@ module _ (s : Settings) (w : World) (a : List ℕ) where
       let len = length w.held.flash in
       let lens = lengths_of w.held in
       all_next P (board_rows s w.transfer (length a) lens (length w.seen) (length w.held.sectors)) _
-      (all_next P (lengths_row (length a) lens (length w.seen) (length w.held.sectors)) _ (lengths-tell count total _ _ _ _)
-      (all_next P (settings_row s len) _ (faults-tell count total s len (faults_of s)) (state-tells count total w.transfer)))
-      (all_next P (header_row a) _ (header-tells count total a)
+      (all_next P (lengths_row (length a) lens (length w.seen) (length w.held.sectors)) _ (lengths_tell count total _ _ _ _)
+      (all_next P (settings_row s len) _ (faults_tell count total s len (faults_of s)) (state_tells count total w.transfer)))
+      (all_next P (header_row a) _ (header_tells count total a)
       (all_next P (block_row (place_in s w a) (block_kind w a) lens (fields_of a)) _
-      (all_next P (place_row (block_kind w a) (fields_of a).family) _ (place-tells count total _ _) (body-tells count total _ lens (fields_of a)))
+      (all_next P (place_row (block_kind w a) (fields_of a).family) _ (place_tells count total _ _) (body_tells count total _ lens (fields_of a)))
       (all_next P (fate_row w.transfer (head_in w a) (field_at a 20)) _ (fate_tells w.transfer (head_in w a) (field_at a 20))
-      (written-tells count total))))
+      (written_tells count total))))
 
-  told-are : 14 ≤ number_of (answer_of (why_of s w a).reason.cause) → ((why_of s w a).reason.got ≡ count) × ((why_of s w a).reason.against ≡ total)
+  told_are : 14 ≤ number_of (answer_of (why_of s w a).reason.cause) → ((why_of s w a).reason.got ≡ count) × ((why_of s w a).reason.against ≡ total)
   unfolding ReasonIsTrue
-  told-are h = decided_tells (Tells count total) (holds_in s w a) (last_of w a) (reason_is_true s w a) (λ q. (refl, refl)) every h
+  told_are h = decided_tells (Tells count total) (holds_in s w a) (last_of w a) (reason_is_true s w a) (λ q. (refl, refl)) every h
 
 -- ---- the transfer that the take leaves
 
@@ -225,16 +225,16 @@ left s w a (refused x h) n = absurd (omega arith)
 left s w a (took g k B l q t) n =
     let x = w.transfer in
     let i : g.head ≡ head_in w a = q.head ∙ ap (λ (u : Kind). head_with u (field_at a 28) (field_at a 24)) (sym (kinds s w a)) in
-    let c : raisedCount t ≡ raised_of x g.head = raised_took x g.head (λ e. let r = t.going e in (r.0, r.1)) in
+    let c : raised_count t ≡ raised_of x g.head = raised_took x g.head (λ e. let r = t.going e in (r.0, r.1)) in
     let e = ap (λ (u : Head). u.total) i in
     let m = raised_within x g.head B.state (omega (arith, e, q.below)) in
-    ap count_of (took-state t) ∙ (ap (λ (u : ℕ). count_of (counted g.head u)) c ∙ (counted_count g.head (raised_of x g.head) m ∙ ap (raised_of x) i))
+    ap count_of (took_state t) ∙ (ap (λ (u : ℕ). count_of (counted g.head u)) c ∙ (counted_count g.head (raised_of x g.head) m ∙ ap (raised_of x) i))
 
 pub count_is_raised : CountIsRaised
 unfolding CountIsRaised AnswerIsTheReceivers LookTells receive_of
 count_is_raised s w a h =
     let e : answer_of (why_of s w a).reason.cause ≡ (receive_of s w a).answer = answer_is_the_receivers s w a ∙ ap (λ (o : Forecast). o.answer) (look_tells s w a) in
-    let t = told-are s w a (subst (λ (x : Answer). 14 ≤ number_of x) (sym e) h) in (
+    let t = told_are s w a (subst (λ (x : Answer). 14 ≤ number_of x) (sym e) h) in (
       t.0 ∙ sym (left s w a (decision_facts s w a) h),
       t.1,
     )

@@ -27,7 +27,7 @@ use Rattle.uf2_checks.specs.declared.Screening.{Screening}
 use Rattle.uf2_checks.specs.declared.Screening.TheVariants.{Refused, Passed}
 use Rattle.arrival.specs.Windows as windows
 use Rattle.arrival.specs.Arrive.{World, Forecast, stays, lengths_of, right_lengths, standing, deed_of, stepped, after_screening, decide, decided, forecast_of, look_of}
-use Rattle.arrival_claims.proofs.Screening.{Good, screen-good, comment_is, kind-window, kind-note}
+use Rattle.arrival_claims.proofs.Screening.{Good, screen_good, comment_is, kind-window, kind-note}
 use Rattle.why_causes.specs.Causes.{answer_of}
 use Rattle.why_causes.specs.declared.Cause.{Cause}
 use Rattle.why_causes.specs.declared.Cause.TheVariants.{BadBuffers, BadSettings, BadState, NotBlock, Container, NoFamily, NoPlace, BadPayload, BadNumbers, BadAddress, Finished, Again, Written, Completed, Noted, Kept}
@@ -108,9 +108,9 @@ module _ (s : Settings) (w : World) (a : List ℕ) where
       (h.head ∙ ap (λ (k : Kind). head_with k (field_at a 28) (field_at a 24)) (sym kinds))
       (step_told w.transfer p (deed_of kept p) (marked_in w.seen p.number))
 
-  look-told : Told w.transfer (head_in w a) (look_of s w a)
+  look_told : Told w.transfer (head_in w a) (look_of s w a)
   unfolding look_of decide
-  look-told =
+  look_told =
       by_rows (right_lengths (length a) (lengths_of w.held) (length w.seen) (length w.held.sectors)) (good_settings s (length w.held.flash)) (good_state w.transfer)
     where
       by_rows : (r g q : Bool) → Told w.transfer (head_in w a)
@@ -122,10 +122,10 @@ module _ (s : Settings) (w : World) (a : List ℕ) where
       by_rows false g q = refl
       by_rows true false q = refl
       by_rows true true false = refl
-      by_rows true true true = screened (standing s w.held.flash a) (screen_of s (lengths_of w.held) w.transfer a) (screen-good s w a)
+      by_rows true true true = screened (standing s w.held.flash a) (screen_of s (lengths_of w.held) w.transfer a) (screen_good s w a)
 
 pub discard_is_the_receivers : DiscardIsTheReceivers
 unfolding DiscardIsTheReceivers why_of
 discard_is_the_receivers s w a =
     by_answer w.transfer (head_in w a) (reason_of s w a).cause
-    ∙ (ap (discards_at w.transfer (head_in w a)) (answers_agree s w a) ∙ sym (look-told s w a))
+    ∙ (ap (discards_at w.transfer (head_in w a)) (answers_agree s w a) ∙ sym (look_told s w a))

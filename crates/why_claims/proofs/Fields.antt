@@ -15,7 +15,7 @@ use Rattle.placement.specs.Place.{pass_query_of, pass_takes, used_count}
 use Rattle.placement.proofs.Laws.{used_least, used_whole}
 use Rattle.why_place.specs.Placing.{taken_in, Marked, FirstMatch}
 use Rattle.settings_claims.specs.Targeting.{First}
-use Rattle.settings_claims.proofs.Targeting.{a_link, accepts-said, takes-said, said-takes}
+use Rattle.settings_claims.proofs.Targeting.{a_link, accepts_said, takes_said, said_takes}
 use Rattle.why_claims.specs.Claims.{MarkTrue, b_of, does_not_accept}
 
 -- ---- a mark
@@ -27,7 +27,7 @@ link_b (BOf k) h = (k, refl)
 
 pub mark_fields : (e : Entry) (f m : ℕ) → Marked e f m → MarkTrue e f m
 mark_fields e f m (inl (n, b)) = let q = link_b e.link b in rw n (b_of q.0 q.1)
-mark_fields e f m (inr (n, a, b)) = rw n (does_not_accept (a_link e.link a) (λ x. clash (accepts e f) (accepts-said e f x) b))
+mark_fields e f m (inr (n, a, b)) = rw n (does_not_accept (a_link e.link a) (λ x. clash (accepts e f) (accepts_said e f x) b))
 
 -- an entry that is used and has its place in the table
 pub low_used : (n k : ℕ) → k < 16 → k < n → k < used_count n
@@ -40,13 +40,13 @@ unfolding taken_in
 first_fields s f most q k m =
     let w = pass_query_of s f in
     record {
-      taken = said-takes s f q k m.pass (omega (arith, m.used, used_least s.count)) m.taken;
+      taken = said_takes s f q k m.pass (omega (arith, m.used, used_least s.count)) m.taken;
       earlier = λ p j l t.
-          let u = takes-said s f p j t in
+          let u = takes_said s f p j t in
           let b : j < used_count s.count = omega (arith, t.accepting.used, used_whole s.count most) in
           clash (pass_takes w u.0 (entry_at s.table j)) u.3 (m.earlier u.0 (omega (arith, u.1)) j b);
       before = λ j l t.
-          let u = takes-said s f (suc q) j t in
+          let u = takes_said s f (suc q) j t in
           let same : u.0 ≡ q = omega (arith, u.1) in
           clash (pass_takes w q (entry_at s.table j)) (rw same at u.3) (m.before j l);
     }

@@ -177,21 +177,21 @@ module _ (s : Settings) (w : World) (a : List ℕ) where
 
   -- ---- row 8
 
-  flash-denials : windows.kind_of w a ≡ Flash → (before l : List Denial) → flash_denials ≡ before ++ l → Tells (denial_row (field_at a 28) l)
+  flash_denials_lem : windows.kind_of w a ≡ Flash → (before l : List Denial) → flash_denials ≡ before ++ l → Tells (denial_row (field_at a 28) l)
   unfolding denial_row
-  flash-denials k before [] e = tt
-  flash-denials k before (x ∷ l) e =
-      (λ h. no_place k (denied_nowhere s (length w.held.flash) (field_at a 28) before x l e h), flash-denials k (before ++ (x ∷ [])) l (e ∙ sym (append_assoc before (x ∷ []) l)))
+  flash_denials_lem k before [] e = tt
+  flash_denials_lem k before (x ∷ l) e =
+      (λ h. no_place k (denied_nowhere s (length w.held.flash) (field_at a 28) before x l e h), flash_denials_lem k (before ++ (x ∷ [])) l (e ∙ sym (append_assoc before (x ∷ []) l)))
 
-  ram-denials : windows.kind_of w a ≢ Flash → Tells (denial_row (field_at a 28) ram_denials)
+  ram_denials_lem : windows.kind_of w a ≢ Flash → Tells (denial_row (field_at a 28) ram_denials)
   unfolding denial_row
-  ram-denials k = (λ h. no_ram_place k (not-true _ h), tt)
+  ram_denials_lem k = (λ h. no_ram_place k (not-true _ h), tt)
 
   places : (k : Kind) → windows.kind_of w a ≡ k → Tells (place_row k (field_at a 28))
   unfolding place_row
-  places Flash e = flash-denials e [] flash_denials refl
-  places MainRam e = ram-denials (λ f. let g : MainRam ≡ Flash = sym e ∙ f in let z : ◌≡◌ {A = ℕ} 0 1 = cc in omega arith)
-  places XipRam e = ram-denials (λ f. let g : XipRam ≡ Flash = sym e ∙ f in let z : ◌≡◌ {A = ℕ} 0 1 = cc in omega arith)
+  places Flash e = flash_denials_lem e [] flash_denials refl
+  places MainRam e = ram_denials_lem (λ f. let g : MainRam ≡ Flash = sym e ∙ f in let z : ◌≡◌ {A = ℕ} 0 1 = cc in omega arith)
+  places XipRam e = ram_denials_lem (λ f. let g : XipRam ≡ Flash = sym e ∙ f in let z : ◌≡◌ {A = ℕ} 0 1 = cc in omega arith)
 
   granted : (l : List Denial) → Passed (holds_in s w a) (last_of w a) Is (denial_row (field_at a 28) l) → first_denial s (field_at a 28) l ≡ Granted
   unfolding denial_row first_denial
@@ -230,9 +230,9 @@ module _ (s : Settings) (w : World) (a : List ℕ) where
   stray o = (λ h. below (ltb-true _ _ h), (λ h. no_window (leb-true _ _ h) o, tt))
 
   -- an address that passes there is in flash's window
-  pub stray-gone : Gone (stray_row (field_at a 12)) → Windowed w (field_at a 12)
+  pub stray_gone : Gone (stray_row (field_at a 12)) → Windowed w (field_at a 12)
   unfolding stray_row
-  stray-gone p = flash_window (ltb-false _ _ p.0) (leb-false _ _ p.1.0)
+  stray_gone p = flash_window (ltb-false _ _ p.0) (leb-false _ _ p.1.0)
 
   windowed : (u : Window) → WindowFacts (lengths_of w.held) (field_at a 12) u → (k : Kind) → u ≡ In k → Windowed w (field_at a 12)
   windowed Outside f k e = let z : ◌≡◌ {A = ℕ} 0 1 = cc in absurd (omega arith)
@@ -262,15 +262,15 @@ module _ (s : Settings) (w : World) (a : List ℕ) where
 
     -- the bytes of a RAM's window
     ram_room : (k : Kind) → windows.kind_of w a ≡ k → k ≢ Flash → size ≡ extent_of k
-    ram_room k e n = by-room R
+    ram_room k e n = by_room R
       where
         same : (j : Kind) → windows.kind_of w a ≡ j → k ≡ j
         same j f = sym e ∙ f
 
-        by-room : {m : ℕ} → Room s w a m → m ≡ extent_of k
-        by-room (in_flash start m f p) = absurd (n (same Flash f))
-        by-room (in_main f) = ap extent_of (sym (same MainRam f))
-        by-room (in_xip f) = ap extent_of (sym (same XipRam f))
+        by_room : {m : ℕ} → Room s w a m → m ≡ extent_of k
+        by_room (in_flash start m f p) = absurd (n (same Flash f))
+        by_room (in_main f) = ap extent_of (sym (same MainRam f))
+        by_room (in_xip f) = ap extent_of (sym (same XipRam f))
 
     inside : (k : Kind) → windows.kind_of w a ≡ k → field_at a 12 < base_of k + extent_of k → Numbered a size → Tells (address_in k (field_at a 12) size)
     unfolding address_in window_row
@@ -294,7 +294,7 @@ module _ (s : Settings) (w : World) (a : List ℕ) where
         parts T L Is p _ (assoc p (x ++ n) late d) payload
         (λ gone d1.
         parts T L Is x _ (assoc x n late d1) (stray (strays e))
-        (λ out d2. absurd (strays e (stray-gone out))))
+        (λ out d2. absurd (strays e (stray_gone out))))
     page late c (In v) e f g d k =
         let T = holds_in s w a in
         let L = last_of w a in

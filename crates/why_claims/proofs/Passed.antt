@@ -95,43 +95,43 @@ module _ (s : Settings) (w : World) (a : List ℕ) where
   abbrev rest : List Reason
   rest = fate_row w.transfer (head_in w a) (field_at a 20) ++ written_row (raised_of w.transfer (head_in w a)) (field_at a 24)
 
-  lens-1 : (k : ℕ) → 1 ≤ k → All (λ c. row c ≤ k) lens
+  lens_1 : (k : ℕ) → 1 ≤ k → All (λ c. row c ≤ k) lens
   unfolding lengths_row flash_row buffer_row
-  lens-1 k b = (b, (b, (b, (b, (b, (b, (b, (b, tt))))))))
+  lens_1 k b = (b, (b, (b, (b, (b, (b, (b, (b, tt))))))))
 
-  state-3 : (k : ℕ) → 3 ≤ k → (t : State) → All (λ c. row c ≤ k) (state_row t)
+  state_3 : (k : ℕ) → 3 ≤ k → (t : State) → All (λ c. row c ≤ k) (state_row t)
   unfolding state_row running_row done_row
-  state-3 k b Idle = tt
-  state-3 k b (Running r) = (b, (b, (b, tt)))
-  state-3 k b (Done g) = (b, (b, tt))
+  state_3 k b Idle = tt
+  state_3 k b (Running r) = (b, (b, (b, tt)))
+  state_3 k b (Done g) = (b, (b, tt))
 
-  place-8 : (k : ℕ) → 8 ≤ k → (u : Kind) (f : ℕ) → All (λ c. row c ≤ k) (place_row u f)
+  place_8 : (k : ℕ) → 8 ≤ k → (u : Kind) (f : ℕ) → All (λ c. row c ≤ k) (place_row u f)
   unfolding place_row
-  place-8 k b Flash f = all_denials k b f flash_denials
-  place-8 k b MainRam f = all_denials k b f ram_denials
-  place-8 k b XipRam f = all_denials k b f ram_denials
+  place_8 k b Flash f = all_denials k b f flash_denials
+  place_8 k b MainRam f = all_denials k b f ram_denials
+  place_8 k b XipRam f = all_denials k b f ram_denials
 
-  numbers-11 : (x y z : ℕ) → All (λ c. row c ≤ 11) (numbers_row x y z)
+  numbers_11 : (x y z : ℕ) → All (λ c. row c ≤ 11) (numbers_row x y z)
   unfolding numbers_row
-  numbers-11 x y z = (omega arith, (omega arith, (omega arith, tt)))
+  numbers_11 x y z = (omega arith, (omega arith, (omega arith, tt)))
 
-  address-11 : (x z : ℕ) → All (λ c. row c ≤ 11) (address_row x z)
+  address_11 : (x z : ℕ) → All (λ c. row c ≤ 11) (address_row x z)
   unfolding address_row
-  address-11 x z = (omega arith, (omega arith, (omega arith, tt)))
+  address_11 x z = (omega arith, (omega arith, (omega arith, tt)))
 
-  stray-11 : (x : ℕ) → All (λ c. row c ≤ 11) (stray_row x)
+  stray_11 : (x : ℕ) → All (λ c. row c ≤ 11) (stray_row x)
   unfolding stray_row
-  stray-11 x = (omega arith, (omega arith, tt))
+  stray_11 x = (omega arith, (omega arith, tt))
 
-  in-11 : (u : Kind) (x z : ℕ) → All (λ c. row c ≤ 11) (address_in u x z)
+  in_11 : (u : Kind) (x z : ℕ) → All (λ c. row c ≤ 11) (address_in u x z)
   unfolding address_in window_row
-  in-11 Flash x z = address-11 x z
-  in-11 MainRam x z = (omega arith, tt)
-  in-11 XipRam x z = (omega arith, tt)
+  in_11 Flash x z = address_11 x z
+  in_11 MainRam x z = (omega arith, tt)
+  in_11 XipRam x z = (omega arith, tt)
 
-  payload-9 : (k : ℕ) → 9 ≤ k → (z : ℕ) → All (λ c. row c ≤ k) (payload_row z)
+  payload_9 : (k : ℕ) → 9 ≤ k → (z : ℕ) → All (λ c. row c ≤ k) (payload_row z)
   unfolding payload_row
-  payload-9 k b z = (b, tt)
+  payload_9 k b z = (b, tt)
 
 -- ---- one part after the other
 
@@ -178,31 +178,31 @@ module _ (s : Settings) (w : World) (a : List ℕ) {r : Reason} (d : Deciding (h
       d
 
   at_1 : 1 ≤ k → False (lens s w a) × After (settings_row s len ++ (state_row w.transfer ++ m5))
-  at_1 b = step T L k (lens s w a) _ whole (lens-1 s w a k b) n
+  at_1 b = step T L k (lens s w a) _ whole (lens_1 s w a k b) n
 
-  at-2 : 2 ≤ k → False (settings_row s len) × After (state_row w.transfer ++ m5)
-  at-2 b = step T L k (settings_row s len) _ (at_1 (omega arith)).1 (unfold settings_row in all_faults k b s len (faults_of s)) n
+  at_2 : 2 ≤ k → False (settings_row s len) × After (state_row w.transfer ++ m5)
+  at_2 b = step T L k (settings_row s len) _ (at_1 (omega arith)).1 (unfold settings_row in all_faults k b s len (faults_of s)) n
 
-  at-3 : 3 ≤ k → False (state_row w.transfer) × After m5
-  at-3 b = step T L k (state_row w.transfer) _ (at-2 (omega arith)).1 (state-3 s w a k b w.transfer) n
+  at_3 : 3 ≤ k → False (state_row w.transfer) × After m5
+  at_3 b = step T L k (state_row w.transfer) _ (at_2 (omega arith)).1 (state_3 s w a k b w.transfer) n
 
   abbrev magic : List Reason
   magic = magic_row (field_at a 0) (field_at a 4) (field_at a 508)
 
-  at-4 : 4 ≤ k → False magic × After (flags_row (field_at a 8) ++ (place_row (block_kind w a) (field_at a 28) ++ m7))
+  at_4 : 4 ≤ k → False magic × After (flags_row (field_at a 8) ++ (place_row (block_kind w a) (field_at a 28) ++ m7))
   unfolding header_row magic_row
-  at-4 b = step T L k magic _ (subst After (append_assoc magic (flags_row (field_at a 8)) _) (at-3 (omega arith)).1) (b, (b, (b, tt))) n
+  at_4 b = step T L k magic _ (subst After (append_assoc magic (flags_row (field_at a 8)) _) (at_3 (omega arith)).1) (b, (b, (b, tt))) n
 
   at_5 : 5 ≤ k → (field_at a 8 / 0x1000 % 2 ≢ 1)
   unfolding flags_row
-  at_5 b = eqb-false _ _ (step T L k (_ ∷ []) _ (at-4 (omega arith)).1 (b, tt) n).0.0
+  at_5 b = eqb-false _ _ (step T L k (_ ∷ []) _ (at_4 (omega arith)).1 (b, tt) n).0.0
 
   at_7 : 7 ≤ k → (field_at a 8 / 0x2000 % 2 ≡ 1) × After (place_row (block_kind w a) (field_at a 28) ++ m7)
   unfolding flags_row
-  at_7 b = let x = step T L k (_ ∷ _ ∷ []) _ (at-4 (omega arith)).1 (omega arith, (b, tt)) n in (eqb-true _ _ (not-false _ x.0.1.0), x.1)
+  at_7 b = let x = step T L k (_ ∷ _ ∷ []) _ (at_4 (omega arith)).1 (omega arith, (b, tt)) n in (eqb-true _ _ (not-false _ x.0.1.0), x.1)
 
   at_8 : 8 ≤ k → False (place_row (block_kind w a) (field_at a 28)) × After m7
-  at_8 b = step T L k (place_row (block_kind w a) (field_at a 28)) _ (at_7 (omega arith)).1 (place-8 s w a k b (block_kind w a) (field_at a 28)) n
+  at_8 b = step T L k (place_row (block_kind w a) (field_at a 28)) _ (at_7 (omega arith)).1 (place_8 s w a k b (block_kind w a) (field_at a 28)) n
 
   -- the parts of a data block's rows 9 to 11, and of a comment's row 10
   abbrev room : ℕ
@@ -213,33 +213,33 @@ module _ (s : Settings) (w : World) (a : List ℕ) {r : Reason} (d : Deciding (h
 
   at_9 : 9 ≤ k → has_flag a 0x1 ≡ false → field_at a 16 ≡ 256
   unfolding body_row fields_of page_row payload_row
-  at_9 b c = by-window window (subst (λ (x : Bool). After (cond x (numbers_row (field_at a 24) (field_at a 20) room) (page_row window room (fields_of a)) ++ rest s w a)) c (at_8 (omega arith)).1)
+  at_9 b c = by_window window (subst (λ (x : Bool). After (cond x (numbers_row (field_at a 24) (field_at a 20) room) (page_row window room (fields_of a)) ++ rest s w a)) c (at_8 (omega arith)).1)
     where
       first : (m : List Reason) → After (payload_row (field_at a 16) ++ m) → field_at a 16 ≡ 256
       first m x = eqb-true _ _ (not-false _ (step T L k (payload_row (field_at a 16)) m x (b, tt) n).0.0)
 
-      by-window : (u : Window) → After (page_row u room (fields_of a) ++ rest s w a) → field_at a 16 ≡ 256
-      by-window Outside x = first _ x
-      by-window (In v) x = first _ x
+      by_window : (u : Window) → After (page_row u room (fields_of a) ++ rest s w a) → field_at a 16 ≡ 256
+      by_window Outside x = first _ x
+      by_window (In v) x = first _ x
 
-  body-11 : All (λ c. row c ≤ 11) (body s w a)
+  body_11 : All (λ c. row c ≤ 11) (body s w a)
   unfolding body_row fields_of page_row
-  body-11 = by-case (has_flag a 0x1) window
+  body_11 = by-case (has_flag a 0x1) window
     where
       by-case : (c : Bool) (u : Window) → All (λ c. row c ≤ 11) (cond c (numbers_row (field_at a 24) (field_at a 20) room) (page_row u room (fields_of a)))
-      by-case true u = numbers-11 s w a _ _ _
-      by-case false Outside = all_next _ (payload_row (field_at a 16)) _ (payload-9 s w a 11 (omega arith) _) (all_next _ (stray_row (field_at a 12)) _ (stray-11 s w a _) (numbers-11 s w a _ _ _))
-      by-case false (In v) = all_next _ (payload_row (field_at a 16)) _ (payload-9 s w a 11 (omega arith) _) (all_next _ (numbers_row (field_at a 24) (field_at a 20) room) _ (numbers-11 s w a _ _ _) (in-11 s w a v _ _))
+      by-case true u = numbers_11 s w a _ _ _
+      by-case false Outside = all_next _ (payload_row (field_at a 16)) _ (payload_9 s w a 11 (omega arith) _) (all_next _ (stray_row (field_at a 12)) _ (stray_11 s w a _) (numbers_11 s w a _ _ _))
+      by-case false (In v) = all_next _ (payload_row (field_at a 16)) _ (payload_9 s w a 11 (omega arith) _) (all_next _ (numbers_row (field_at a 24) (field_at a 20) room) _ (numbers_11 s w a _ _ _) (in_11 s w a v _ _))
 
   abbrev NumbersFalse : Type 0
   NumbersFalse = False (numbers_row (field_at a 24) (field_at a 20) room)
 
-  at-11 : k ≡ 11 → False (body s w a)
-  at-11 e = (step T L k (body s w a) _ (at_8 (omega arith)).1 (subst (λ (i : ℕ). All (λ c. row c ≤ i) (body s w a)) (sym e) body-11) n).0
+  at_11 : k ≡ 11 → False (body s w a)
+  at_11 e = (step T L k (body s w a) _ (at_8 (omega arith)).1 (subst (λ (i : ℕ). All (λ c. row c ≤ i) (body s w a)) (sym e) body_11) n).0
 
-  numbers-false : k ≡ 11 → NumbersFalse
+  numbers_false : k ≡ 11 → NumbersFalse
   unfolding body_row fields_of page_row
-  numbers-false e = by-case (has_flag a 0x1) window (at-11 e)
+  numbers_false e = by-case (has_flag a 0x1) window (at_11 e)
     where
       by-case : (c : Bool) (u : Window) → False (cond c (numbers_row (field_at a 24) (field_at a 20) room) (page_row u room (fields_of a))) → NumbersFalse
       by-case true u x = x
@@ -250,16 +250,16 @@ module _ (s : Settings) (w : World) (a : List ℕ) {r : Reason} (d : Deciding (h
   abbrev AddressFalse : Kind → Type 0
   AddressFalse u = False (address_in u (field_at a 12) room)
 
-  kind-in : has_flag a 0x1 ≡ false → (u : Window) → window ≡ u → (v : Kind) → windows.kind_of w a ≡ v → False (page_row u room (fields_of a)) → AddressFalse v
+  kind_in_lem : has_flag a 0x1 ≡ false → (u : Window) → window ≡ u → (v : Kind) → windows.kind_of w a ≡ v → False (page_row u room (fields_of a)) → AddressFalse v
   unfolding page_row fields_of kind_of address_in
-  kind-in c Outside e v f x = absurd (numbers.strays s w a e (numbers.stray-gone s w a (all_left _ (stray_row (field_at a 12)) _ (all_right _ (payload_row (field_at a 16)) _ x))))
-  kind-in c (In u) e v f x =
+  kind_in_lem c Outside e v f x = absurd (numbers.strays s w a e (numbers.stray_gone s w a (all_left _ (stray_row (field_at a 12)) _ (all_right _ (payload_row (field_at a 16)) _ x))))
+  kind_in_lem c (In u) e v f x =
       let g : v ≡ u = sym f ∙ sym (kinds s w a) ∙ rw (c, e) in
       subst AddressFalse (sym g) (all_right _ (numbers_row (field_at a 24) (field_at a 20) room) _ (all_right _ (payload_row (field_at a 16)) _ x))
 
-  address-false : k ≡ 11 → has_flag a 0x1 ≡ false → (v : Kind) → windows.kind_of w a ≡ v → AddressFalse v
+  address_false : k ≡ 11 → has_flag a 0x1 ≡ false → (v : Kind) → windows.kind_of w a ≡ v → AddressFalse v
   unfolding body_row fields_of
-  address-false e c v f = kind-in c window refl v f (subst (λ (x : Bool). False (cond x (numbers_row (field_at a 24) (field_at a 20) room) (page_row window room (fields_of a)))) c (at-11 e))
+  address_false e c v f = kind_in_lem c window refl v f (subst (λ (x : Bool). False (cond x (numbers_row (field_at a 24) (field_at a 20) room) (page_row window room (fields_of a)))) c (at_11 e))
 
 -- ---- the bytes of the place
 
@@ -300,24 +300,24 @@ by_reason s w a d =
             main = either _ _ x.1.1.1.1.1.1.0;
             xip = either _ _ x.1.1.1.1.1.1.1.0;
           };
-      row_2 = λ n. (sound_is_good s (length w.held.flash)).0 (no_fault s w a (faults_of s) (at-2 s w a d 2 n (omega arith)).0);
-      row_3 = λ n. sound_state (holds_in s w a) s w a w.transfer (at-3 s w a d 3 n (omega arith)).0;
-      row_4 = λ n. let x = (at-4 s w a d 4 n (omega arith)).0 in (eqb-true _ _ (not-false _ x.0), eqb-true _ _ (not-false _ x.1.0), eqb-true _ _ (not-false _ x.1.1.0));
+      row_2 = λ n. (sound_is_good s (length w.held.flash)).0 (no_fault s w a (faults_of s) (at_2 s w a d 2 n (omega arith)).0);
+      row_3 = λ n. sound_state (holds_in s w a) s w a w.transfer (at_3 s w a d 3 n (omega arith)).0;
+      row_4 = λ n. let x = (at_4 s w a d 4 n (omega arith)).0 in (eqb-true _ _ (not-false _ x.0), eqb-true _ _ (not-false _ x.1.0), eqb-true _ _ (not-false _ x.1.1.0));
       row_5 = λ n. at_5 s w a d 5 n (omega arith);
       row_7 = λ n. (at_7 s w a d 7 n (omega arith)).0;
       row_8 = λ n. (room_of (place_in s w a) (block_kind w a), numbers.room s w a (block_kind w a) (sym (kinds s w a)) (at_8 s w a d 8 n (omega arith)).0);
       row_9 = λ n c. at_9 s w a d 9 n (omega arith) c;
       row_10 = λ n size R.
-          let x = numbers-false s w a d 11 n refl in
+          let x = numbers_false s w a d 11 n refl in
           let e = room_is s w a size R in
           let z : field_at a 24 ≢ 0 = eqb-false _ _ x.0 in
           (omega (arith, z), rw e (ltb-false _ _ x.1.0), leb-false _ _ x.1.1.0);
       row_11 = λ n c size R.
           let e = room_is s w a size R in
           record {
-            flash = λ f. let x = address-false s w a d 11 n refl c Flash f in (ltb-false _ _ x.0, eqb-true _ _ (not-false _ x.1.0), rw e (ltb-false _ _ x.1.1.0));
-            main = λ f. ltb-false _ _ (address-false s w a d 11 n refl c MainRam f).0;
-            xip = λ f. ltb-false _ _ (address-false s w a d 11 n refl c XipRam f).0;
+            flash = λ f. let x = address_false s w a d 11 n refl c Flash f in (ltb-false _ _ x.0, eqb-true _ _ (not-false _ x.1.0), rw e (ltb-false _ _ x.1.1.0));
+            main = λ f. ltb-false _ _ (address_false s w a d 11 n refl c MainRam f).0;
+            xip = λ f. ltb-false _ _ (address_false s w a d 11 n refl c XipRam f).0;
           };
     }
 

@@ -14,8 +14,8 @@ use Rattle.placement.specs.declared.Place.{Place}
 use Rattle.placement.specs.declared.Place.TheVariants.{Nowhere, At}
 use Rattle.placement.specs.declared.PlaceAnswer.TheVariants as ask
 use Rattle.why_place.specs.declared.Rule.TheVariants.{Absolute, NoTable}
-use Rattle.partitions.proofs.Laws.{good-count}
-use Rattle.placement.proofs.Laws.{ask-length, ask-settings, ask-place}
+use Rattle.partitions.proofs.Laws.{good_count}
+use Rattle.placement.proofs.Laws.{ask_length, ask_settings, ask_place}
 use Rattle.transfer.specs.Transfer.{number_of}
 use Rattle.transfer.specs.declared.Answer.{Answer}
 use Rattle.transfer.specs.declared.Answer.TheVariants as answer
@@ -41,10 +41,10 @@ use Rattle.why.specs.Why.{entries_of}
 use Rattle.why.specs.Placed.{place_checks, place_test, holds_of, placed_spot, placed_by, placed_of, placed_number, placed_marks, why_place_of}
 use Rattle.why.specs.declared.PlaceOrigin.{PlaceOrigin}
 use Rattle.why.specs.declared.PlaceOrigin.TheVariants.{Refused, Whole, Entry}
-use Rattle.why.proofs.Laws.{place-parts}
+use Rattle.why.proofs.Laws.{place_parts}
 use Rattle.why_claims.specs.Claims.{PlaceAnswerIsTheReceivers, refusal_or, PlaceReasonIsTrue, FoundTrue, FoundPlaceIsTrue, place_named, FoundPlaceIsTheReceivers, PlaceMarksAreTrue}
 use Rattle.why_claims.proofs.Answers.{told, told_next, flash_answer}
-use Rattle.why_claims.proofs.Agree.{finding_answer, flash-denied, flash-open}
+use Rattle.why_claims.proofs.Agree.{finding_answer, flash_denied, flash_open}
 use Rattle.why_claims.proofs.Fields.{mark_fields, low_used, first_fields}
 use Rattle.settings_claims.proofs.Targeting.{gets_said}
 use Rattle.why_claims.proofs.Theorems.{never, decided_holds, marks_denied}
@@ -70,69 +70,69 @@ module _ (s : Settings) (len f : ℕ) where
   unfolding place_part
   row_told y =
       let z = told (access_row f (flash_access s f)) y in
-      ap (λ (r : Row). told r y) (place-parts s len f)
+      ap (λ (r : Row). told r y) (place_parts s len f)
       ∙ told_next (place_part s len) (access_row f (flash_access s f)) y
       ∙ told_next (row_of by_numbers (flash_row len)) (finding_row s len (first_fault s len)) z
       ∙ flash_answer len (told (finding_row s len (first_fault s len)) z)
       ∙ ap (cond (not (flash_length len)) answer.BadBuffers) (finding_answer s len z)
 
   -- a family that is not shut out has a spot
-  granted-found : flash_access s f ≡ Granted → (z : Spot) → granted_spot s f ≡ z → (y : Reason) → (placed_number (placed_spot f z) ≡ 0) × (refusal_or y (placed_spot f z) ≡ y)
+  granted_found : flash_access s f ≡ Granted → (z : Spot) → granted_spot s f ≡ z → (y : Reason) → (placed_number (placed_spot f z) ≡ 0) × (refusal_or y (placed_spot f z) ≡ y)
   unfolding spot_of
-  granted-found g (spot.Refused x) e y =
+  granted_found g (spot.Refused x) e y =
       let p : spot_place s len (spot_of s f) ≡ Nowhere = rw (g, e) refl in
       absurd ((granted_is_placed s len f).0 g (sym (spot_is_placed s len f) ∙ p))
-  granted-found g (spot.Whole r) e y = (refl, refl)
-  granted-found g (spot.Entry p k) e y = (refl, refl)
+  granted_found g (spot.Whole r) e y = (refl, refl)
+  granted_found g (spot.Entry p k) e y = (refl, refl)
 
   -- the last of the rows passes where all do
-  access-granted : (p : Row) (x : Access) → or_next p (access_row f x) ≡ Passes → x ≡ Granted
-  access-granted p Granted e = refl
-  access-granted Passes (Denied x) e = absurd (let u : ◌≡◌ {A = ℕ} 0 1 = cc in omega arith)
-  access-granted (Decides z) (Denied x) e = absurd (let u : ◌≡◌ {A = ℕ} 0 1 = cc in omega arith)
+  access_granted : (p : Row) (x : Access) → or_next p (access_row f x) ≡ Passes → x ≡ Granted
+  access_granted p Granted e = refl
+  access_granted Passes (Denied x) e = absurd (let u : ◌≡◌ {A = ℕ} 0 1 = cc in omega arith)
+  access_granted (Decides z) (Denied x) e = absurd (let u : ◌≡◌ {A = ℕ} 0 1 = cc in omega arith)
 
   number_at : (p : Place) → place_of s len f ≡ p → flash_length len ≡ true → good_settings s len ≡ true → placed_number (placed_of s len f) ≡ place_answer_number (found_at p)
   unfolding placed_of
   number_at Nowhere e l g =
-      let denied : (y : Answer) → told row y ≡ answer.NoPlace = λ y. row_told y ∙ rw (l, g) (flash-denied s len f y e) in
+      let denied : (y : Answer) → told row y ≡ answer.NoPlace = λ y. row_told y ∙ rw (l, g) (flash_denied s len f y e) in
       number_decides row (placed_spot f (granted_spot s f)) answer.NoPlace (denied answer.Kept) (denied answer.Noted)
   number_at (At a n) e l g =
-      let open_is : (y : Answer) → told row y ≡ y = λ y. row_told y ∙ rw (l, g) (flash-open s len f y e) in
+      let open_is : (y : Answer) → told row y ≡ y = λ y. row_told y ∙ rw (l, g) (flash_open s len f y e) in
       number_passes row (placed_spot f (granted_spot s f)) (open_is answer.Kept) (open_is answer.Noted)
-      ∙ (granted-found ((granted_is_placed s len f).1 (λ h. let q : Nowhere ≡ At a n = sym h ∙ e in let z : ◌≡◌ {A = ℕ} 0 1 = cc in omega arith)) (granted_spot s f) refl no_reason).0
+      ∙ (granted_found ((granted_is_placed s len f).1 (λ h. let q : Nowhere ≡ At a n = sym h ∙ e in let z : ◌≡◌ {A = ℕ} 0 1 = cc in omega arith)) (granted_spot s f) refl no_reason).0
 
-  answer-is-asked : placed_number (placed_of s len f) ≡ place_answer_number (ask_of s len f)
+  answer_is_asked : placed_number (placed_of s len f) ≡ place_answer_number (ask_of s len f)
   unfolding placed_of
-  answer-is-asked =
+  answer_is_asked =
       split (flash_length len)
       (λ l.
       split (good_settings s len)
-      (λ g. number_at (place_of s len f) refl l g ∙ ap place_answer_number (sym (ask-place s len f l g)))
+      (λ g. number_at (place_of s len f) refl l g ∙ ap place_answer_number (sym (ask_place s len f l g)))
       (λ g.
       let bad : (y : Answer) → told row y ≡ answer.BadSettings = λ y. row_told y ∙ rw (l, g) refl in
       number_decides row (placed_spot f (granted_spot s f)) answer.BadSettings (bad answer.Kept) (bad answer.Noted)
-      ∙ ap place_answer_number (sym (ask-settings s len f l g))))
+      ∙ ap place_answer_number (sym (ask_settings s len f l g))))
       (λ l.
       let bad : (y : Answer) → told row y ≡ answer.BadBuffers = λ y. row_told y ∙ rw l refl in
       number_decides row (placed_spot f (granted_spot s f)) answer.BadBuffers (bad answer.Kept) (bad answer.Noted)
-      ∙ ap place_answer_number (sym (ask-length s len f l)))
+      ∙ ap place_answer_number (sym (ask_length s len f l)))
 
-  reason-decides : (y : Reason) → Deciding (holds_of s len f) y (place_checks s len f) (refusal_or y (placed_of s len f))
+  reason_decides : (y : Reason) → Deciding (holds_of s len f) y (place_checks s len f) (refusal_or y (placed_of s len f))
   unfolding placed_of
-  reason-decides y =
+  reason_decides y =
       subst (Deciding (holds_of s len f) y (place_checks s len f)) (by_row row refl) (deciding (holds_of s len f) y (place_checks s len f))
     where
       by_row : (r : Row) → row ≡ r → or_last y r ≡ refusal_or y (placed_by r (placed_spot f (granted_spot s f)))
       by_row (Decides x) e = refl
       by_row Passes e =
-          sym (granted-found (access-granted (place_part s len) (flash_access s f) (sym (place-parts s len f) ∙ e)) (granted_spot s f) refl y).1
+          sym (granted_found (access_granted (place_part s len) (flash_access s f) (sym (place_parts s len f) ∙ e)) (granted_spot s f) refl y).1
 
   -- ---- where no entry takes the family
 
-  marks-true : (x : Reason) → placed_of s len f ≡ Refused x → x.cause ≡ NoPlace NoEntry → (k : ℕ) → k < used_count s.count
+  marks_true : (x : Reason) → placed_of s len f ≡ Refused x → x.cause ≡ NoPlace NoEntry → (k : ℕ) → k < used_count s.count
       → Marked (entry_at s.table k) f (get_or (placed_marks s f (placed_of s len f)) k 0)
-  marks-true x e h k l =
-      let d = subst (λ (p : PlaceOrigin). Deciding (holds_of s len f) no_reason (place_checks s len f) (refusal_or no_reason p)) e (reason-decides no_reason) in
+  marks_true x e h k l =
+      let d = subst (λ (p : PlaceOrigin). Deciding (holds_of s len f) no_reason (place_checks s len f) (refusal_or no_reason p)) e (reason_decides no_reason) in
       let t : denies s f NoEntry ≡ true =
       ⊎_elim
       (λ q. let c : NoPlace NoEntry ≡ Kept = sym h ∙ ap (λ (r : Reason). r.cause) q in let z : ◌≡◌ {A = ℕ} 0 1 = cc in absurd (never z))
@@ -143,15 +143,15 @@ module _ (s : Settings) (len f : ℕ) where
   -- ---- where it is found
 
   -- what a spot tells is told of the place
-  spot-found : s.count ≤ 16 → (z : Spot) → SpotTrue s f z → FoundTrue s f (placed_spot f z)
-  spot-found most (spot.Refused x) t = tt
-  spot-found most (spot.Whole Absolute) t = t
-  spot-found most (spot.Whole NoTable) t = (t.0, gets_said s f t.2)
-  spot-found most (spot.Entry p k) t = rw t.1 (first_fields s f most t.0 k t.2)
+  spot_found : s.count ≤ 16 → (z : Spot) → SpotTrue s f z → FoundTrue s f (placed_spot f z)
+  spot_found most (spot.Refused x) t = tt
+  spot_found most (spot.Whole Absolute) t = t
+  spot_found most (spot.Whole NoTable) t = (t.0, gets_said s f t.2)
+  spot_found most (spot.Entry p k) t = rw t.1 (first_fields s f most t.0 k t.2)
 
   -- where every row passes, the settings are good
-  passed-good : row ≡ Passes → good_settings s len ≡ true
-  passed-good e =
+  passed_good : row ≡ Passes → good_settings s len ≡ true
+  passed_good e =
       split (good_settings s len)
       (λ g. g)
       (λ g.
@@ -162,69 +162,69 @@ module _ (s : Settings) (len f : ℕ) where
       (λ l. let q : answer.Kept ≡ answer.BadBuffers = rw l at h in absurd (let z : ◌≡◌ {A = ℕ} 0 1 = cc in omega arith)))
 
   -- where every row passes, the spot is the one of the place
-  passed-spot : row ≡ Passes → spot_of s f ≡ granted_spot s f
+  passed_spot : row ≡ Passes → spot_of s f ≡ granted_spot s f
   unfolding spot_of
-  passed-spot e = ap (λ (x : Access). spot_by x (granted_spot s f)) (access-granted (place_part s len) (flash_access s f) (sym (place-parts s len f) ∙ e))
+  passed_spot e = ap (λ (x : Access). spot_by x (granted_spot s f)) (access_granted (place_part s len) (flash_access s f) (sym (place_parts s len f) ∙ e))
 
-  found-true : FoundTrue s f (placed_of s len f)
+  found_true : FoundTrue s f (placed_of s len f)
   unfolding placed_of
-  found-true = by_row row refl
+  found_true = by_row row refl
     where
       by_row : (r : Row) → row ≡ r → FoundTrue s f (placed_by r (placed_spot f (granted_spot s f)))
       by_row (Decides x) e = tt
-      by_row Passes e = spot-found (good-count s len (passed-good e)) (granted_spot s f) (subst (SpotTrue s f) (passed-spot e) (place_is_true s f))
+      by_row Passes e = spot_found (good_count s len (passed_good e)) (granted_spot s f) (subst (SpotTrue s f) (passed_spot e) (place_is_true s f))
 
   -- the place that is named is the spot's
-  spot-named : (z : Spot) → place_named s len (placed_spot f z) ≡ spot_place s len z
-  spot-named (spot.Refused x) = refl
-  spot-named (spot.Whole r) = refl
-  spot-named (spot.Entry p k) = refl
+  spot_named : (z : Spot) → place_named s len (placed_spot f z) ≡ spot_place s len z
+  spot_named (spot.Refused x) = refl
+  spot_named (spot.Whole r) = refl
+  spot_named (spot.Entry p k) = refl
 
   -- where the receiver finds a place rows 1 and 2 pass
-  asked-found : (a n : ℕ) → ask_of s len f ≡ ask.Found a n → (flash_length len ≡ true) × (good_settings s len ≡ true) × (place_of s len f ≡ At a n)
-  asked-found a n e =
+  asked_found : (a n : ℕ) → ask_of s len f ≡ ask.Found a n → (flash_length len ≡ true) × (good_settings s len ≡ true) × (place_of s len f ≡ At a n)
+  asked_found a n e =
       split (flash_length len)
       (λ l.
       split (good_settings s len)
-      (λ g. (l, g, same (place_of s len f) (sym (ask-place s len f l g) ∙ e)))
-      (λ g. let h : ask.BadSettings ≡ ask.Found a n = sym (ask-settings s len f l g) ∙ e in let z : ◌≡◌ {A = ℕ} 0 1 = cc in absurd (omega arith)))
-      (λ l. let h : ask.BadBuffers ≡ ask.Found a n = sym (ask-length s len f l) ∙ e in let z : ◌≡◌ {A = ℕ} 0 1 = cc in absurd (omega arith))
+      (λ g. (l, g, same (place_of s len f) (sym (ask_place s len f l g) ∙ e)))
+      (λ g. let h : ask.BadSettings ≡ ask.Found a n = sym (ask_settings s len f l g) ∙ e in let z : ◌≡◌ {A = ℕ} 0 1 = cc in absurd (omega arith)))
+      (λ l. let h : ask.BadBuffers ≡ ask.Found a n = sym (ask_length s len f l) ∙ e in let z : ◌≡◌ {A = ℕ} 0 1 = cc in absurd (omega arith))
     where
       same : (p : Place) → found_at p ≡ ask.Found a n → p ≡ At a n
       same Nowhere h = absurd (let z : ◌≡◌ {A = ℕ} 0 1 = cc in omega arith)
       same (At b m) h = let x : b ≡ a = cc in let y : m ≡ n = cc in rw (x, y)
 
-  found-named : (a n : ℕ) → ask_of s len f ≡ ask.Found a n → place_named s len (placed_of s len f) ≡ At a n
+  found_named : (a n : ℕ) → ask_of s len f ≡ ask.Found a n → place_named s len (placed_of s len f) ≡ At a n
   unfolding placed_of
-  found-named a n e = by_row row refl
+  found_named a n e = by_row row refl
     where
       open_is : (y : Answer) → told row y ≡ y
-      open_is y = let q = asked-found a n e in row_told y ∙ rw (q.0, q.1) (flash-open s len f y q.2)
+      open_is y = let q = asked_found a n e in row_told y ∙ rw (q.0, q.1) (flash_open s len f y q.2)
 
       by_row : (r : Row) → row ≡ r → place_named s len (placed_by r (placed_spot f (granted_spot s f))) ≡ At a n
       by_row (Decides x) h =
           let told_is : (y : Answer) → answer_of x.cause ≡ y = λ y. ap (λ (r : Row). told r y) (sym h) ∙ open_is y in
           let v : answer.Kept ≡ answer.Noted = sym (told_is answer.Kept) ∙ told_is answer.Noted in
           let z : ◌≡◌ {A = ℕ} 0 1 = cc in absurd (omega arith)
-      by_row Passes h = spot-named (granted_spot s f) ∙ (ap (spot_place s len) (sym (passed-spot h)) ∙ (spot_is_placed s len f ∙ (asked-found a n e).2))
+      by_row Passes h = spot_named (granted_spot s f) ∙ (ap (spot_place s len) (sym (passed_spot h)) ∙ (spot_is_placed s len f ∙ (asked_found a n e).2))
 
 pub found_place_is_true : FoundPlaceIsTrue
 unfolding FoundPlaceIsTrue why_place_of
-found_place_is_true s len f = found-true s len f
+found_place_is_true s len f = found_true s len f
 
 pub found_place_is_the_receivers : FoundPlaceIsTheReceivers
 unfolding FoundPlaceIsTheReceivers why_place_of
-found_place_is_the_receivers s len f a n e = found-named s len f a n e
+found_place_is_the_receivers s len f a n e = found_named s len f a n e
 
 pub place_marks_are_true : PlaceMarksAreTrue
 unfolding PlaceMarksAreTrue why_place_of
 place_marks_are_true s len f x e h k l u =
-    mark_fields (entry_at s.table k) f _ (marks-true s len f x e h k (low_used s.count k l u))
+    mark_fields (entry_at s.table k) f _ (marks_true s len f x e h k (low_used s.count k l u))
 
 pub place_answer_is_the_receivers : PlaceAnswerIsTheReceivers
 unfolding PlaceAnswerIsTheReceivers why_place_of
-place_answer_is_the_receivers s len f = answer-is-asked s len f
+place_answer_is_the_receivers s len f = answer_is_asked s len f
 
 pub place_reason_is_true : PlaceReasonIsTrue
 unfolding PlaceReasonIsTrue why_place_of
-place_reason_is_true s len f y = reason-decides s len f y
+place_reason_is_true s len f y = reason_decides s len f y

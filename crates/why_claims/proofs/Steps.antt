@@ -81,11 +81,11 @@ module _ (g : Head) (number : ℕ) (m cm : Bool) (p : PlacedBlock) (d : Deed) (z
       again false = tail (c + 1)
   same_case false c r = tail 1
 
-  pub fate-answer : (t : State) → told (fate_part t g number m cm) z ≡ (forecast_of (stepped p d (step_of t g m d))).answer
+  pub fate_answer : (t : State) → told (fate_part t g number m cm) z ≡ (forecast_of (stepped p d (step_of t g m d))).answer
   unfolding fate_part raised_of step_of accepted
-  fate-answer Idle = tail 1
-  fate-answer (Done h) = refl
-  fate-answer (Running r) = same_case (same_head r.head g) r.count (step_of (Running r) g m d) ∙ steps (same_head r.head g) m
+  fate_answer Idle = tail 1
+  fate_answer (Done h) = refl
+  fate_answer (Running r) = same_case (same_head r.head g) r.count (step_of (Running r) g m d) ∙ steps (same_head r.head g) m
     where
       steps : (s m : Bool) → cond s (cond m answer.Again (raised d g (r.count + 1))) (raised d g 1)
           ≡ (forecast_of
@@ -136,22 +136,22 @@ written_answer flash a start size k n total =
 -- ---- a block that passed rows 1 to 11
 
 module _ (t : State) (seen flash a : List ℕ) (b : Block) (k : Kind) where
-  pub note-late : (start size : ℕ) (kept : Bool)
+  pub note_late : (start size : ℕ) (kept : Bool)
       → told (fate_part t (head_with k b.family b.total) b.number (marked_in seen b.number) true)
       (told (written_part flash start size k a (raised_of t (head_with k b.family b.total)) b.total) answer.Kept)
       ≡ settled t seen kept (Passed (placed_at k Note b))
   unfolding after_screening
-  note-late start size kept =
-      fate-answer (head_with k b.family b.total) b.number (marked_in seen b.number) true (placed_at k Note b) Notes
+  note_late start size kept =
+      fate_answer (head_with k b.family b.total) b.number (marked_in seen b.number) true (placed_at k Note b) Notes
       (told (written_part flash start size k a (raised_of t (head_with k b.family b.total)) b.total) answer.Kept) refl t
 
-  pub page-late : (start size at : ℕ) (kept : Bool) → same_kind k Flash && stands_at flash (At start size) a ≡ same_kind k Flash && kept
+  pub page_late : (start size at : ℕ) (kept : Bool) → same_kind k Flash && stands_at flash (At start size) a ≡ same_kind k Flash && kept
       → told (fate_part t (head_with k b.family b.total) b.number (marked_in seen b.number) false)
       (told (written_part flash start size k a (raised_of t (head_with k b.family b.total)) b.total) answer.Kept)
       ≡ settled t seen kept (Passed (placed_at k (Page at) b))
   unfolding after_screening
-  page-late start size at kept h =
-      fate-answer (head_with k b.family b.total) b.number (marked_in seen b.number) false (placed_at k (Page at) b) (cond (same_kind k Flash && kept) Keeps Stores)
+  page_late start size at kept h =
+      fate_answer (head_with k b.family b.total) b.number (marked_in seen b.number) false (placed_at k (Page at) b) (cond (same_kind k Flash && kept) Keeps Stores)
       (told (written_part flash start size k a (raised_of t (head_with k b.family b.total)) b.total) answer.Kept)
       (written_answer flash a start size k (raised_of t (head_with k b.family b.total)) b.total
       ∙ (ap (λ (c : Bool). cond c answer.Kept answer.Written) h ∙ deeds (same_kind k Flash && kept)))

@@ -16,7 +16,7 @@ use lib.ListN.{get_or}
 use borrow.Author.Tests.{leb-true, lt-ltb, not-true}
 use Rattle.laws.specs.Sets.{any}
 use Rattle.laws.proofs.Tests.{split, and_right}
-use Rattle.laws.proofs.Laws.{any-all}
+use Rattle.laws.proofs.Laws.{any_all}
 use Rattle.laws.proofs.TabLaws.{get_d_tab}
 use Rattle.uf2_block.specs.Block.{field_at}
 use Rattle.partitions.specs.Settings.{family_absolute, entry_at, is_a, accepts}
@@ -97,7 +97,7 @@ unfolding marks_of mark_of
 marks_denied s f t k l =
     let n = used_count s.count in
     let none = not-true _ (and_right (not (no_table s) && not (eqb f family_absolute)) (not (any n (takes_at s.table f))) t) in
-    rw (get_d_tab 16 (mark_of s f) k (used_low s.count k l), lt-ltb k n l) (marked_entry s f k (any-all (takes_at s.table f) n none k l))
+    rw (get_d_tab 16 (mark_of s f) k (used_low s.count k l), lt-ltb k n l) (marked_entry s f k (any_all (takes_at s.table f) n none k l))
 
 pub marks_are_true : MarksAreTrue
 unfolding ReasonIsTrue MarksAreTrue why_of

@@ -12,7 +12,7 @@ use lib.Seq.{get_or-set_same, get_or-set_other}
 use borrow.Author.Tests.{eq-eqb, ne_eqb, eqb-true, eqb-false, lt-ltb, le-ltb, ltb-true, ltb-false, not-true, not-false}
 use Rattle.laws.specs.Sets.{any, least}
 use Rattle.laws.proofs.Tests.{split, clash, and_left, and_right}
-use Rattle.laws.proofs.Laws.{any-hit, any_found, any-all, least-is}
+use Rattle.laws.proofs.Laws.{any_hit, any_found, any_all, least_is}
 use Rattle.laws.proofs.TabLaws.{is_tab}
 use Rattle.partitions.specs.declared.Entry as settings
 use Rattle.partitions.specs.declared.Settings.{Settings}
@@ -32,13 +32,13 @@ use Rattle.why_place.specs.Placing.{no_table, takes_at, denies, first_denial, fl
 -- ---- the rules for the flash, by cases
 
 module _ (s : Settings) (f : ℕ) where
-  pub flash-absolute : f ≡ family_absolute → flash_access s f ≡ denied_if (not s.absolute) AbsoluteOff
+  pub flash_absolute : f ≡ family_absolute → flash_access s f ≡ denied_if (not s.absolute) AbsoluteOff
   unfolding flash_access first_denial
-  flash-absolute h = split (no_table s) (λ q. rw (h, q)) (λ q. rw (h, q))
+  flash_absolute h = split (no_table s) (λ q. rw (h, q)) (λ q. rw (h, q))
 
-  pub flash-rp2040 : f ≡ family_rp2040 → flash_access s f ≡ Denied Rp2040
+  pub flash_rp2040 : f ≡ family_rp2040 → flash_access s f ≡ Denied Rp2040
   unfolding flash_access first_denial
-  flash-rp2040 h = rw h
+  flash_rp2040 h = rw h
 
   module _ (na : f ≢ family_absolute) (nr : f ≢ family_rp2040) where
     pub flash_whole : s.count ≡ 0 → flash_access s f ≡ without_access s.arm s.riscv f
@@ -59,18 +59,18 @@ module _ (s : Settings) (f : ℕ) where
     unfolding flash_access first_denial
     flash-table h = rw (ne_eqb f family_absolute na, ne_eqb f family_rp2040 nr, ne_eqb s.count 0 h)
 
-  pub ram-by : ram_access s f ≡ denied_if (not (ram_family s f)) NotForRam
+  pub ram_by : ram_access s f ≡ denied_if (not (ram_family s f)) NotForRam
   unfolding ram_access first_denial
-  ram-by = refl
+  ram_by = refl
 
   -- the rule that shuts a family out is one that does
-  pub denial-true : (l : List Denial) {x : Denial} → first_denial s f l ≡ Denied x → denies s f x ≡ true
+  pub denial_true : (l : List Denial) {x : Denial} → first_denial s f l ≡ Denied x → denies s f x ≡ true
   unfolding first_denial
-  denial-true [] h = let z : ◌≡◌ {A = ℕ} 0 1 = cc in absurd (omega arith)
-  denial-true (y ∷ l) {x} h =
+  denial_true [] h = let z : ◌≡◌ {A = ℕ} 0 1 = cc in absurd (omega arith)
+  denial_true (y ∷ l) {x} h =
       split (denies s f y)
       (λ t. let q : Denied y ≡ Denied x = rw t at h in let e : y ≡ x = cc in rw (← e) t)
-      (λ t. denial-true l (rw t at h))
+      (λ t. denial_true l (rw t at h))
 
 -- ---- the test of an entry, as the code makes it
 
@@ -79,14 +79,14 @@ unfolding takes_at
 takes_by table f k p q h = rw (← p, ← q) h
 
 module _ (s : Settings) (f p k : ℕ) where
-  pub taken-by : {w : PassQuery} {b v : Bool} → w ≡ pass_query_of s f → b ≡ pass_takes w p (entry_at s.table k) → b ≡ v → taken_in s f p k ≡ v
+  pub taken_by_lem : {w : PassQuery} {b v : Bool} → w ≡ pass_query_of s f → b ≡ pass_takes w p (entry_at s.table k) → b ≡ v → taken_in s f p k ≡ v
   unfolding taken_in
-  taken-by q e h = ap (λ (w : PassQuery). pass_takes w p (entry_at s.table k)) (sym q) ∙ sym e ∙ h
+  taken_by_lem q e h = ap (λ (w : PassQuery). pass_takes w p (entry_at s.table k)) (sym q) ∙ sym e ∙ h
 
   -- what a pass takes is an A entry that accepts the family
-  pub taken-takes : taken_in s f p k ≡ true → takes_at s.table f k ≡ true
+  pub taken_takes : taken_in s f p k ≡ true → takes_at s.table f k ≡ true
   unfolding taken_in takes_at pass_takes pass_query_of
-  taken-takes h = and_left (is_a (entry_at s.table k) && accepts (entry_at s.table k) f) (pass_allows (pass_query_of s f) p (entry_at s.table k)) h
+  taken_takes h = and_left (is_a (entry_at s.table k) && accepts (entry_at s.table k) f) (pass_allows (pass_query_of s f) p (entry_at s.table k)) h
 
 -- the last pass takes every such entry
 pub last_takes : (s : Settings) (f k : ℕ) → takes_at s.table f k ≡ true → taken_in s f 3 k ≡ true
@@ -95,19 +95,19 @@ last_takes s f k h = rw h
 
 module _ (s : Settings) (f : ℕ) where
   -- so a pass takes one exactly if there is one
-  pub takes-pass : any (used_count s.count) (takes_at s.table f) ≡ true → any 4 (pass_has s f) ≡ true
+  pub takes_pass : any (used_count s.count) (takes_at s.table f) ≡ true → any 4 (pass_has s f) ≡ true
   unfolding pass_has
-  takes-pass h =
+  takes_pass h =
       let n = used_count s.count in
       let q = any_found (takes_at s.table f) n h in
-      any-hit (pass_has s f) 4 3 (omega arith) (any-hit (taken_in s f 3) n q.0 q.1 (last_takes s f q.0 q.2))
+      any_hit (pass_has s f) 4 3 (omega arith) (any_hit (taken_in s f 3) n q.0 q.1 (last_takes s f q.0 q.2))
 
-  pub spot-found : (p k : ℕ) → p < 4 → k < used_count s.count → any p (pass_has s f) ≡ false → any k (taken_in s f p) ≡ false → taken_in s f p k ≡ true → spot.Entry (p + 1) k ≡ table_spot s f
+  pub spot_found : (p k : ℕ) → p < 4 → k < used_count s.count → any p (pass_has s f) ≡ false → any k (taken_in s f p) ≡ false → taken_in s f p k ≡ true → spot.Entry (p + 1) k ≡ table_spot s f
   unfolding table_spot pass_of entry_in pass_has
-  spot-found p k l b e q t =
+  spot_found p k l b e q t =
       let n = used_count s.count in
-      let x : least 4 (pass_has s f) ≡ p = least-is (pass_has s f) 4 p l e (any-hit (taken_in s f p) n k b t) in
-      let y : least n (taken_in s f p) ≡ k = least-is (taken_in s f p) n k b q t in
+      let x : least 4 (pass_has s f) ≡ p = least_is (pass_has s f) 4 p l e (any_hit (taken_in s f p) n k b t) in
+      let y : least n (taken_in s f p) ≡ k = least_is (taken_in s f p) n k b q t in
       rw (x, y, add-one)
 
 -- ---- a place by cases
@@ -120,9 +120,9 @@ granted_if true x h = refl
 granted_if false x h = not_granted h
 
 module _ (s : Settings) (f : ℕ) where
-  pub spot-refused : {x : Denial} → flash_access s f ≡ Denied x → spot_of s f ≡ spot.Refused x
+  pub spot_refused : {x : Denial} → flash_access s f ≡ Denied x → spot_of s f ≡ spot.Refused x
   unfolding spot_of
-  spot-refused h = rw h
+  spot_refused h = rw h
 
   module _ (h : flash_access s f ≡ Granted) where
     pub spot-absolute : f ≡ family_absolute → spot_of s f ≡ spot.Whole Absolute
@@ -139,7 +139,7 @@ module _ (s : Settings) (f : ℕ) where
       spot-table z = rw (h, ne_eqb f family_absolute na, ne_eqb s.count 0 z)
 
       pub granted-other : f ≢ family_rp2040
-      granted-other e = not_granted (sym (flash-rp2040 s f e) ∙ h)
+      granted-other e = not_granted (sym (flash_rp2040 s f e) ∙ h)
 
       pub granted-takes : s.count ≢ 0 → any (used_count s.count) (takes_at s.table f) ≡ true
       granted-takes z = granted_if (any (used_count s.count) (takes_at s.table f)) NoEntry (sym (flash-table s f na granted-other z) ∙ h)
@@ -148,8 +148,8 @@ module _ (s : Settings) (f : ℕ) where
 
 -- the mark of one entry, as the code makes it
 module _ (e : settings.Entry) (f : ℕ) {a : Bool} (h : a ≡ is_a e) where
-  pub mark-b : not a ≡ true → 1 ≡ mark_for e f
-  mark-b t = rw (← h, not-true a t)
+  pub mark_b : not a ≡ true → 1 ≡ mark_for e f
+  mark_b t = rw (← h, not-true a t)
 
   module _ (t : not a ≡ false) {b : Bool} (q : b ≡ accepts e f) where
     pub mark-takes : b ≡ true → 0 ≡ mark_for e f
@@ -163,9 +163,9 @@ unfoldable pub MarkedTo : Settings → ℕ → ℕ → List ℕ → Type 0
 MarkedTo s f k out = (length out ≡ 16) × ((j : ℕ) → j < 16 → get_or out j 0 ≡ cond (ltb j k) (mark_for (entry_at s.table j) f) 0)
 
 module _ (s : Settings) (f : ℕ) where
-  pub marked-none : MarkedTo s f 0 (replicate 16 0)
+  pub marked_none : MarkedTo s f 0 (replicate 16 0)
   unfolding MarkedTo
-  marked-none = (length-replicate {A = ℕ} 16 0, λ j l. rw (get_or-replicate {A = ℕ} 16 j 0 0 l, le-ltb j 0 (omega arith)))
+  marked_none = (length-replicate {A = ℕ} 16 0, λ j l. rw (get_or-replicate {A = ℕ} 16 j 0 0 l, le-ltb j 0 (omega arith)))
 
   pub marked_more : (k : ℕ) (out : List ℕ) {m : ℕ} → k < 16 → MarkedTo s f k out → m ≡ mark_for (entry_at s.table k) f → MarkedTo s f (k + 1) (set out k m)
   unfolding MarkedTo

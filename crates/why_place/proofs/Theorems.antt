@@ -8,15 +8,15 @@ use lib.Dec.{ltb, eqb}
 use borrow.Author.Tests.{eqb-true, eqb-false, lt-ltb, not-true}
 use Rattle.laws.specs.Sets.{any, least}
 use Rattle.laws.proofs.Tests.{split, clash, is_false, and_left, and_right}
-use Rattle.laws.proofs.Laws.{any-all, any-hit, least-below}
+use Rattle.laws.proofs.Laws.{any_all, any_hit, least_below}
 use Rattle.partitions.specs.declared.Settings.{Settings}
 use Rattle.partitions.specs.Settings.{family_rp2040, family_absolute, family_data, family_arm_s, family_risc_v, entry_at, is_a, accepts}
 use Rattle.placement.specs.declared.Choice.TheVariants.{Nothing, Entry}
 use Rattle.placement.specs.declared.Place.{Place}
 use Rattle.placement.specs.declared.Place.TheVariants.{Nowhere, At}
 use Rattle.placement.specs.Place.{pass_query_of, in_pass, chosen, used_count, chosen_entry, gets_whole, whole_if, place_of_choice, place_of, ram_family}
-use Rattle.placement.proofs.First.{first-hit, first-none, if-taken, if-passed}
-use Rattle.placement.proofs.Laws.{place-absolute, place-rp2040, place-whole, place-table}
+use Rattle.placement.proofs.First.{first_hit, first_none, if_taken, if_passed}
+use Rattle.placement.proofs.Laws.{place_absolute, place_rp2040, place-whole, place-table}
 use Rattle.why_place.specs.declared.Denial.{Denial}
 use Rattle.why_place.specs.declared.Denial.TheVariants.{AbsoluteOff, ArmOff, RiscvOff, NoEntry, NotForRam}
 use Rattle.why_place.specs.declared.Access.{Access}
@@ -25,7 +25,7 @@ use Rattle.why_place.specs.declared.Spot.{Spot}
 use Rattle.why_place.specs.declared.Spot.TheVariants as spot
 use Rattle.why_place.specs.Parts.{denied_if, without_access}
 use Rattle.why_place.specs.Placing.{no_table, takes_at, flash_denials, flash_access, ram_access, mark_for, mark_of, taken_in, pass_has, pass_of, entry_in, table_spot, granted_spot, spot_of, spot_place, FirstMatch, SpotTrue, Marked, GrantedIsPlaced, GrantedIsForRam, SpotIsPlaced, MarksAreTrue, PlaceIsTrue}
-use Rattle.why_place.proofs.Laws.{flash-absolute, flash-rp2040, flash_whole, flash-table, ram-by, denial-true, taken-takes, takes-pass, not_granted, granted_if, spot-refused, spot-absolute, spot-whole, spot-table, granted-other, granted-takes}
+use Rattle.why_place.proofs.Laws.{flash_absolute, flash_rp2040, flash_whole, flash-table, ram_by, denial_true, taken_takes, takes_pass, not_granted, granted_if, spot_refused, spot-absolute, spot-whole, spot-table, granted-other, granted-takes}
 
 -- ---- the first match
 
@@ -35,36 +35,36 @@ module _ (s : Settings) (f : ℕ) where
   unfolding pass_of entry_in pass_has
   match h =
       let n = used_count s.count in
-      let p = least-below (pass_has s f) 4 (takes-pass s f h) in
-      let k = least-below (taken_in s f (pass_of s f)) n p.1 in
+      let p = least_below (pass_has s f) 4 (takes_pass s f h) in
+      let k = least_below (taken_in s f (pass_of s f)) n p.1 in
       record {
         pass = p.0;
         used = k.0;
-        earlier = λ q l j b. any-all (taken_in s f q) n (any-all (pass_has s f) (pass_of s f) p.2 q l) j b;
-        before = any-all (taken_in s f (pass_of s f)) (entry_in s f (pass_of s f)) k.2;
+        earlier = λ q l j b. any_all (taken_in s f q) n (any_all (pass_has s f) (pass_of s f) p.2 q l) j b;
+        before = any_all (taken_in s f (pass_of s f)) (entry_in s f (pass_of s f)) k.2;
         taken = k.1;
       }
 
   -- and it is the entry that the passes choose
-  chosen-match : (p k : ℕ) → FirstMatch s f p k → chosen_entry s f ≡ Entry k
+  chosen_match : (p k : ℕ) → FirstMatch s f p k → chosen_entry s f ≡ Entry k
   unfolding chosen_entry chosen in_pass taken_in
-  chosen-match p k m =
+  chosen_match p k m =
       let w = pass_query_of s f in
       let n = used_count s.count in
-      first-hit _ 4 p m.pass
-      (first-none _ p (λ q l. first-none _ n (λ j b. if-passed s.table w q j (m.earlier q l j b))))
-      (first-hit _ n k m.used (first-none _ k (λ j b. if-passed s.table w p j (m.before j b))) (if-taken s.table w p k m.taken))
+      first_hit _ 4 p m.pass
+      (first_none _ p (λ q l. first_none _ n (λ j b. if_passed s.table w q j (m.earlier q l j b))))
+      (first_hit _ n k m.used (first_none _ k (λ j b. if_passed s.table w p j (m.before j b))) (if_taken s.table w p k m.taken))
 
   chosen_none : any (used_count s.count) (takes_at s.table f) ≡ false → chosen_entry s f ≡ Nothing
   unfolding chosen_entry chosen in_pass taken_in
   chosen_none h =
       let n = used_count s.count in
-      first-none _ 4
+      first_none _ 4
       (λ q l.
-      first-none _ n
+      first_none _ n
       (λ j b.
-      if-passed s.table (pass_query_of s f) q j
-      (is_false _ (λ t. clash (takes_at s.table f j) (taken-takes s f q j t) (any-all (takes_at s.table f) n h j b)))))
+      if_passed s.table (pass_query_of s f) q j
+      (is_false _ (λ t. clash (takes_at s.table f j) (taken_takes s f q j t) (any_all (takes_at s.table f) n h j b)))))
 
 -- ---- the place of a spot
 
@@ -100,14 +100,14 @@ denied_none true y h = let z : ◌≡◌ {A = ℕ} 0 1 = cc in absurd (omega ari
 denied_none false y h = refl
 
 module _ (s : Settings) (len f : ℕ) where
-  absolute-placed : f ≡ family_absolute → spot_place s len (spot_of s f) ≡ place_of s len f
-  absolute-placed e =
+  absolute_placed : f ≡ family_absolute → spot_place s len (spot_of s f) ≡ place_of s len f
+  absolute_placed e =
       split s.absolute
-      (λ b. let h : flash_access s f ≡ Granted = flash-absolute s f e ∙ rw b in rw (spot-absolute s f h e, place-absolute s len f e, b))
-      (λ b. let h : flash_access s f ≡ Denied AbsoluteOff = flash-absolute s f e ∙ rw b in rw (spot-refused s f h, place-absolute s len f e, b))
+      (λ b. let h : flash_access s f ≡ Granted = flash_absolute s f e ∙ rw b in rw (spot-absolute s f h e, place_absolute s len f e, b))
+      (λ b. let h : flash_access s f ≡ Denied AbsoluteOff = flash_absolute s f e ∙ rw b in rw (spot_refused s f h, place_absolute s len f e, b))
 
-  rp2040-placed : f ≡ family_rp2040 → spot_place s len (spot_of s f) ≡ place_of s len f
-  rp2040-placed e = rw (spot-refused s f (flash-rp2040 s f e), place-rp2040 s len f e)
+  rp2040_placed : f ≡ family_rp2040 → spot_place s len (spot_of s f) ≡ place_of s len f
+  rp2040_placed e = rw (spot_refused s f (flash_rp2040 s f e), place_rp2040 s len f e)
 
   module _ (na : f ≢ family_absolute) (nr : f ≢ family_rp2040) where
     gets-whole : s.count ≡ 0 → gets_whole s.arm s.riscv f ≡ granted (flash_access s f)
@@ -116,7 +116,7 @@ module _ (s : Settings) (len f : ℕ) where
     whole-placed : s.count ≡ 0 → spot_place s len (spot_of s f) ≡ place_of s len f
     whole-placed z =
         by_access (flash_access s f)
-        (λ x h. let g = gets-whole z ∙ ap granted h in rw (spot-refused s f h, place-whole s len f na nr z, g))
+        (λ x h. let g = gets-whole z ∙ ap granted h in rw (spot_refused s f h, place-whole s len f na nr z, g))
         (λ h. let g = gets-whole z ∙ ap granted h in rw (spot-whole s f h na z, place-whole s len f na nr z, g))
 
     table-placed : s.count ≢ 0 → spot_place s len (spot_of s f) ≡ place_of s len f
@@ -125,18 +125,18 @@ module _ (s : Settings) (len f : ℕ) where
         by_access (flash_access s f)
         (λ x h.
         let none = denied_none (any (used_count s.count) (takes_at s.table f)) NoEntry (sym (flash-table s f na nr z) ∙ h) in
-        rw (spot-refused s f h, place-table s len f na nr z, chosen_none s f none))
+        rw (spot_refused s f h, place-table s len f na nr z, chosen_none s f none))
         (λ h.
-        let c = chosen-match s f (pass_of s f) (entry_in s f (pass_of s f)) (match s f (granted-takes s f h na z)) in
+        let c = chosen_match s f (pass_of s f) (entry_in s f (pass_of s f)) (match s f (granted-takes s f h na z)) in
         rw (spot-table s f h na z, place-table s len f na nr z, c))
 
 pub spot_is_placed : SpotIsPlaced
 spot_is_placed s len f =
     split (eqb f family_absolute)
-    (λ a. absolute-placed s len f (eqb-true f family_absolute a))
+    (λ a. absolute_placed s len f (eqb-true f family_absolute a))
     (λ a.
     split (eqb f family_rp2040)
-    (λ r. rp2040-placed s len f (eqb-true f family_rp2040 r))
+    (λ r. rp2040_placed s len f (eqb-true f family_rp2040 r))
     (λ r.
     let na = eqb-false f family_absolute a in
     let nr = eqb-false f family_rp2040 r in
@@ -150,9 +150,9 @@ module _ (s : Settings) (len f : ℕ) where
   somewhere : (a n : ℕ) → At a n ≢ Nowhere
   somewhere a n h = let z : ◌≡◌ {A = ℕ} 0 1 = cc in absurd (omega arith)
 
-  granted-somewhere : flash_access s f ≡ Granted → spot_place s len (spot_of s f) ≢ Nowhere
+  granted_somewhere : flash_access s f ≡ Granted → spot_place s len (spot_of s f) ≢ Nowhere
   unfolding table_spot
-  granted-somewhere h e =
+  granted_somewhere h e =
       split (eqb f family_absolute)
       (λ a. let q = rw (spot-absolute s f h (eqb-true f family_absolute a)) at e in somewhere 0 len q)
       (λ a.
@@ -161,22 +161,22 @@ module _ (s : Settings) (len f : ℕ) where
       (λ z. let q = rw (spot-whole s f h na (eqb-true s.count 0 z)) at e in somewhere 0 len q)
       (λ z. let q = rw (spot-table s f h na (eqb-false s.count 0 z)) at e in somewhere _ _ q))
 
-  granted-placed : flash_access s f ≡ Granted → place_of s len f ≢ Nowhere
-  granted-placed h e = granted-somewhere h (spot_is_placed s len f ∙ e)
+  granted_placed : flash_access s f ≡ Granted → place_of s len f ≢ Nowhere
+  granted_placed h e = granted_somewhere h (spot_is_placed s len f ∙ e)
 
-  placed-granted : place_of s len f ≢ Nowhere → flash_access s f ≡ Granted
-  placed-granted n =
+  placed_granted : place_of s len f ≢ Nowhere → flash_access s f ≡ Granted
+  placed_granted n =
       by_access (flash_access s f)
-      (λ x h. absurd (n (sym (spot_is_placed s len f) ∙ ap (spot_place s len) (spot-refused s f h))))
+      (λ x h. absurd (n (sym (spot_is_placed s len f) ∙ ap (spot_place s len) (spot_refused s f h))))
       (λ h. h)
 
 pub granted_is_placed : GrantedIsPlaced
-granted_is_placed s len f = (granted-placed s len f, placed-granted s len f)
+granted_is_placed s len f = (granted_placed s len f, placed_granted s len f)
 
 pub granted_is_for_ram : GrantedIsForRam
 granted_is_for_ram s f = (
-  λ h. granted_if (ram_family s f) NotForRam (sym (ram-by s f) ∙ h),
-  λ h. ram-by s f ∙ rw h,
+  λ h. granted_if (ram_family s f) NotForRam (sym (ram_by s f) ∙ h),
+  λ h. ram_by s f ∙ rw h,
 )
 
 -- ---- what a spot tells
@@ -185,12 +185,12 @@ pub place_is_true : PlaceIsTrue
 unfolding table_spot
 place_is_true s f =
     by_access (flash_access s f)
-    (λ x h. rw (spot-refused s f h) h)
+    (λ x h. rw (spot_refused s f h) h)
     (λ h.
     split (eqb f family_absolute)
     (λ a.
     let e = eqb-true f family_absolute a in
-    rw (spot-absolute s f h e) (e, granted_if s.absolute AbsoluteOff (sym (flash-absolute s f e) ∙ h)))
+    rw (spot-absolute s f h e) (e, granted_if s.absolute AbsoluteOff (sym (flash_absolute s f e) ∙ h)))
     (λ a.
     let na = eqb-false f family_absolute a in
     split (eqb s.count 0)
@@ -216,6 +216,6 @@ pub marks_are_true : MarksAreTrue
 unfolding flash_access mark_of
 marks_are_true s f h k l =
     let n = used_count s.count in
-    let t = denial-true s f flash_denials h in
+    let t = denial_true s f flash_denials h in
     let none = not-true _ (and_right (not (no_table s) && not (eqb f family_absolute)) (not (any n (takes_at s.table f))) t) in
-    rw (lt-ltb k n l) (marked_entry s f k (any-all (takes_at s.table f) n none k l))
+    rw (lt-ltb k n l) (marked_entry s f k (any_all (takes_at s.table f) n none k l))

@@ -1,4 +1,6 @@
 // Row 8 by its rules: what shuts a family out, what turns each entry down, and where a place comes from.
+#![tactic(auto)]
+
 ghost use Rattle.std.specs.Prelude.{◌≡◌, true};
 ghost use Rattle.laws.specs.Numbered.{numbered};
 ghost use Rattle.laws.specs.Sets.{any};

@@ -12,7 +12,7 @@ use lib.ListN.{length, get_or, length-map, get_or-eq_default}
 use borrow.Author.Tests.{ne_eqb, eq-eqb, lt-ltb, le-ltb}
 use Rattle.laws.specs.Sets.{any, least}
 use Rattle.laws.proofs.Tests.{split, is_false, clash, and_right}
-use Rattle.laws.proofs.Laws.{any_none, any-all, any_found, any-hit, least-below, least-none}
+use Rattle.laws.proofs.Laws.{any_none, any_all, any_found, any_hit, least_below, least_none}
 use Rattle.partitions.specs.declared.Entry.{Entry}
 use Rattle.partitions.specs.declared.Settings.{Settings}
 use Rattle.partitions.specs.Settings.{is_a, is_unowned, link_target, empty_entry, is_reserved, reserved_at, entry_at, shares_with, no_sectors, runs_past, links_up, links_to_b, many_users, reserved_user, count_over, enabled}
@@ -26,12 +26,12 @@ use Rattle.why_settings.specs.Faults.{fault_in, each, sharing, condition_at, con
 -- ---- the first user family that is reserved
 
 module _ (e : Entry) where
-  pub reserved-by : (k : ℕ) {b v : Bool} → b ≡ is_reserved (get_or e.users k 0) → ltb k e.user_count && b ≡ v → reserved_at e k ≡ v
-  reserved-by k h t = ap (λ (b : Bool). ltb k e.user_count && b) (sym h) ∙ t
+  pub reserved_by : (k : ℕ) {b v : Bool} → b ≡ is_reserved (get_or e.users k 0) → ltb k e.user_count && b ≡ v → reserved_at e k ≡ v
+  reserved_by k h t = ap (λ (b : Bool). ltb k e.user_count && b) (sym h) ∙ t
 
-  pub reserved-0 : reserved_at e 0 ≡ true → get_or e.users 0 0 ≡ first_reserved e
+  pub reserved_0 : reserved_at e 0 ≡ true → get_or e.users 0 0 ≡ first_reserved e
   unfolding first_reserved
-  reserved-0 h = rw h
+  reserved_0 h = rw h
 
   module _ (n0 : reserved_at e 0 ≡ false) where
     pub reserved-1 : reserved_at e 1 ≡ true → get_or e.users 1 0 ≡ first_reserved e
@@ -74,15 +74,15 @@ reserved_user_case e =
 -- ---- the first other entry
 
 pub least_most : (P : ℕ → Bool) (n : ℕ) → least n P ≤ n
-least_most P n = split (any n P) (λ h. omega (arith, (least-below P n h).0)) (λ h. omega (arith, least-none P n h))
+least_most P n = split (any n P) (λ h. omega (arith, (least_below P n h).0)) (λ h. omega (arith, least_none P n h))
 
 pub shared_by : (table : List Entry) (n k j : ℕ) → j ≡ least n (shares_with table k) → bad_if (ltb j n) (Shares k j) ≡ first_shared table n k
 unfolding first_shared
 shared_by table n k j h =
     rw h
     (split (any n (shares_with table k))
-    (λ q. rw (q, lt-ltb (least n (shares_with table k)) n (least-below (shares_with table k) n q).0))
-    (λ q. rw (q, le-ltb (least n (shares_with table k)) n (omega (arith, least-none (shares_with table k) n q)))))
+    (λ q. rw (q, lt-ltb (least n (shares_with table k)) n (least_below (shares_with table k) n q).0))
+    (λ q. rw (q, le-ltb (least n (shares_with table k)) n (omega (arith, least_none (shares_with table k) n q)))))
 
 -- ---- a link
 
@@ -98,19 +98,19 @@ module _ (table : List Entry) (k : ℕ) where
   up_by h e = rw (h, e)
 
   -- past the table's end no entry is linked
-  pub link-from-past : length table ≡ 16 → 16 ≤ k → false ≡ links_to_b table k
-  link-from-past l h =
+  pub link_from_past : length table ≡ 16 → 16 ≤ k → false ≡ links_to_b table k
+  link_from_past l h =
       let e : entry_at table k ≡ empty_entry = get_or-eq_default table empty_entry (omega (arith, l, h)) in
       rw e
 
   -- past the table's end there is no entry that is "B of"
-  pub link-past : length table ≡ 16 → 16 ≤ link_target (entry_at table k).link → false ≡ links_to_b table k
-  link-past l h =
+  pub link_past : length table ≡ 16 → 16 ≤ link_target (entry_at table k).link → false ≡ links_to_b table k
+  link_past l h =
       let e : entry_at table (link_target (entry_at table k).link) ≡ empty_entry = get_or-eq_default table empty_entry (omega (arith, l, h)) in
       rw (e, and-false (not (is_unowned (entry_at table k))))
 
-  pub link-there : {b : Bool} {j : ℕ} → is_unowned (entry_at table k) ≡ false → j ≡ link_target (entry_at table k).link → b ≡ is_a (entry_at table j) → not b ≡ links_to_b table k
-  link-there u h e = rw (u, e, h)
+  pub link_there : {b : Bool} {j : ℕ} → is_unowned (entry_at table k) ≡ false → j ≡ link_target (entry_at table k).link → b ≡ is_a (entry_at table j) → not b ≡ links_to_b table k
+  link_there u h e = rw (u, e, h)
 
 -- ---- the numbers of a fault that is known
 
@@ -124,10 +124,10 @@ or_next Sound y = y
 or_next (Bad x) y = Bad x
 
 module _ (s : Settings) (len : ℕ) where
-  first-join : (l m : List Fault) → first_in s len (l ++ m) ≡ or_next (first_in s len l) (first_in s len m)
+  first_join : (l m : List Fault) → first_in s len (l ++ m) ≡ or_next (first_in s len l) (first_in s len m)
   unfolding first_in
-  first-join [] m = refl
-  first-join (x ∷ l) m = by-case (fault_in s len x) (first_in s len (l ++ m)) (first_in s len l) (first-join l m)
+  first_join [] m = refl
+  first_join (x ∷ l) m = by-case (fault_in s len x) (first_in s len (l ++ m)) (first_in s len l) (first_join l m)
     where
       by-case : (b : Bool) (p q : Finding) → p ≡ or_next q (first_in s len m) → cond b (Bad x) p ≡ or_next (cond b (Bad x) q) (first_in s len m)
       by-case true p q e = refl
@@ -145,7 +145,7 @@ module _ (s : Settings) (len : ℕ) where
 
     step : (n : ℕ) → first_in s len (each f (suc n)) ≡ or_next (first_in s len (each f n)) (first_in s len (f n))
     unfolding each
-    step n = first-join (each f n) (f n)
+    step n = first_join (each f n) (f n)
 
     -- one list more, as a loop takes it
     pub each_more : (i : ℕ) → first_in s len (each f i) ≡ Sound → first_in s len (f i) ≡ Sound → first_in s len (each f (i + 1)) ≡ Sound
@@ -185,22 +185,22 @@ module _ (s : Settings) (len : ℕ) where
 
 module _ (s : Settings) (len n k : ℕ) where
   -- the first other entry that shares a sector
-  one-shared : (j : ℕ) {b : Bool} → shares_with s.table k j ≡ b → first_in s len (Shares k j ∷ []) ≡ bad_if b (Shares k j)
-  one-shared j h = sym (first_one s len (Shares k j)) ∙ ap (λ (b : Bool). bad_if b (Shares k j)) h
+  one_shared : (j : ℕ) {b : Bool} → shares_with s.table k j ≡ b → first_in s len (Shares k j ∷ []) ≡ bad_if b (Shares k j)
+  one_shared j h = sym (first_one s len (Shares k j)) ∙ ap (λ (b : Bool). bad_if b (Shares k j)) h
 
-  pub first-sharing : first_in s len (sharing n k) ≡ first_shared s.table n k
+  pub first_sharing : first_in s len (sharing n k) ≡ first_shared s.table n k
   unfolding sharing first_shared
-  first-sharing =
+  first_sharing =
       let P = shares_with s.table k in
       let f : ℕ → List Fault = λ (j : ℕ). Shares k j ∷ [] in
       split (any n P)
       (λ h.
-      let l = least-below P n h in
+      let l = least_below P n h in
       rw h
       (each-hit s len f n (least n P) l.0
-      (each_none s len f (least n P) (λ i b. one-shared i (any-all P (least n P) l.2 i b)))
-      (one-shared (least n P) l.1)))
-      (λ h. rw h (each_none s len f n (λ i b. one-shared i (any-all P n h i b))))
+      (each_none s len f (least n P) (λ i b. one_shared i (any_all P (least n P) l.2 i b)))
+      (one_shared (least n P) l.1)))
+      (λ h. rw h (each_none s len f n (λ i b. one_shared i (any_all P n h i b))))
 
   module _ {x : Finding} (rule : ℕ) where
     pub condition-0 : rule ≡ 0 → x ≡ bad_if (no_sectors (entry_at s.table k)) (NoSectors k) → x ≡ first_in s len (condition_at n rule k)
@@ -213,7 +213,7 @@ module _ (s : Settings) (len n k : ℕ) where
 
     pub condition-2 : rule ≡ 2 → x ≡ first_shared s.table n k → x ≡ first_in s len (condition_at n rule k)
     unfolding condition_at
-    condition-2 h e = rw h (e ∙ sym first-sharing)
+    condition-2 h e = rw h (e ∙ sym first_sharing)
 
     pub condition-3 : rule ≡ 3 → x ≡ bad_if (links_up s.table k) (LinksUp k) → x ≡ first_in s len (condition_at n rule k)
     unfolding condition_at first_in
@@ -239,10 +239,10 @@ module _ (s : Settings) (len : ℕ) where
   unfolding first_fault faults_of first_in
   first_off h = rw h
 
-  pub first-over : enabled s s.current ≡ true → 16 < s.count → first_fault s len ≡ Bad CountOver
+  pub first_over_lem : enabled s s.current ≡ true → 16 < s.count → first_fault s len ≡ Bad CountOver
   unfolding first_fault faults_of first_in
-  first-over h l = rw (h, lt-ltb 16 s.count l)
+  first_over_lem h l = rw (h, lt-ltb 16 s.count l)
 
-  pub first-entries : enabled s s.current ≡ true → s.count ≤ 16 → first_fault s len ≡ first_in s len (each (condition_for s.count) 7)
+  pub first_entries : enabled s s.current ≡ true → s.count ≤ 16 → first_fault s len ≡ first_in s len (each (condition_for s.count) 7)
   unfolding first_fault faults_of first_in
-  first-entries h l = rw (h, le-ltb 16 s.count l)
+  first_entries h l = rw (h, le-ltb 16 s.count l)

@@ -7,15 +7,15 @@ use lib.Dec.{ltb, leb, eqb}
 use borrow.Author.Tests.{lt-ltb, le-ltb, ltb-true, ltb-false, not-true, not-false}
 use Rattle.laws.specs.Sets.{any, one}
 use Rattle.laws.proofs.Tests.{split, clash, or_left, or_right}
-use Rattle.laws.proofs.Laws.{any_none, any-all}
+use Rattle.laws.proofs.Laws.{any_none, any_all}
 use Rattle.partitions.specs.declared.Settings.{Settings}
 use Rattle.partitions.specs.Settings.{entry_at, enabled, count_over, no_sectors, runs_past, shares_with, shares_sector, links_up, links_to_b, many_users, reserved_user, bad_entry, good_settings}
-use Rattle.partitions.proofs.Laws.{good-count, good-entry, good-off}
+use Rattle.partitions.proofs.Laws.{good_count, good_entry, good_off}
 use Rattle.why_settings.specs.declared.Fault.{Fault}
 use Rattle.why_settings.specs.declared.Fault.TheVariants.{ArchOff, CountOver, NoSectors, PastFlash, Shares, LinksUp, LinksToB, ManyUsers, ReservedUser}
 use Rattle.why_settings.specs.declared.Finding.TheVariants.{Sound, Bad}
 use Rattle.why_settings.specs.Faults.{each, condition_at, condition_for, bad_if, first_in, first_shared, first_fault, SoundIsGood, FaultIsTested}
-use Rattle.why_settings.proofs.Laws.{reserved_user_case, each_none, each_all, condition-0, condition-1, condition-2, condition-3, condition-4, condition-5, condition-6, first_off, first-over, first-entries}
+use Rattle.why_settings.proofs.Laws.{reserved_user_case, each_none, each_all, condition-0, condition-1, condition-2, condition-3, condition-4, condition-5, condition-6, first_off, first_over_lem, first_entries}
 
 not_sound : {A : Type 0} {x : Fault} → Bad x ≡ Sound → A
 not_sound h = let z : ◌≡◌ {A = ℕ} 0 1 = cc in absurd (omega arith)
@@ -37,13 +37,13 @@ record Clean (s : Settings) (len n k : ℕ) : Type 0 where
   free : reserved_user (entry_at s.table k) ≡ false
 
 module _ (s : Settings) (len n k : ℕ) where
-  clean-good : Clean s len n k → bad_entry s.table n len k ≡ false
+  clean_good : Clean s len n k → bad_entry s.table n len k ≡ false
   unfolding bad_entry
-  clean-good C = rw (C.sectors, C.within, C.alone, C.down, C.to_a, C.few, C.free)
+  clean_good C = rw (C.sectors, C.within, C.alone, C.down, C.to_a, C.few, C.free)
 
-  good-clean : bad_entry s.table n len k ≡ false → Clean s len n k
+  good_clean : bad_entry s.table n len k ≡ false → Clean s len n k
   unfolding bad_entry
-  good-clean h =
+  good_clean h =
       let e = entry_at s.table k in
       let o2 = no_sectors e || runs_past len e in
       let o3 = o2 || shares_sector s.table n k in
@@ -65,34 +65,34 @@ module _ (s : Settings) (len n k : ℕ) where
         free = or_right o6 (reserved_user e) h;
       }
 
-  shared-none : shares_sector s.table n k ≡ false → first_shared s.table n k ≡ Sound
+  shared_none : shares_sector s.table n k ≡ false → first_shared s.table n k ≡ Sound
   unfolding shares_sector first_shared
-  shared-none h = rw h
+  shared_none h = rw h
 
-  none-shared : first_shared s.table n k ≡ Sound → shares_sector s.table n k ≡ false
+  none_shared : first_shared s.table n k ≡ Sound → shares_sector s.table n k ≡ false
   unfolding shares_sector first_shared
-  none-shared h = clear (any n (shares_with s.table k)) _ h
+  none_shared h = clear (any n (shares_with s.table k)) _ h
 
-  clean-sound : Clean s len n k → (rule : ℕ) → rule < 7 → first_in s len (condition_at n rule k) ≡ Sound
-  clean-sound C zero l = sym (condition-0 s len n k 0 refl (rw C.sectors))
-  clean-sound C (suc zero) l = sym (condition-1 s len n k 1 refl (rw C.within))
-  clean-sound C (suc (suc zero)) l = sym (condition-2 s len n k 2 refl (sym (shared-none C.alone)))
-  clean-sound C (suc (suc (suc zero))) l = sym (condition-3 s len n k 3 refl (rw C.down))
-  clean-sound C (suc (suc (suc (suc zero)))) l = sym (condition-4 s len n k 4 refl (rw C.to_a))
-  clean-sound C (suc (suc (suc (suc (suc zero))))) l = sym (condition-5 s len n k 5 refl (rw C.few))
-  clean-sound C (suc (suc (suc (suc (suc (suc r)))))) l =
+  clean_sound : Clean s len n k → (rule : ℕ) → rule < 7 → first_in s len (condition_at n rule k) ≡ Sound
+  clean_sound C zero l = sym (condition-0 s len n k 0 refl (rw C.sectors))
+  clean_sound C (suc zero) l = sym (condition-1 s len n k 1 refl (rw C.within))
+  clean_sound C (suc (suc zero)) l = sym (condition-2 s len n k 2 refl (sym (shared_none C.alone)))
+  clean_sound C (suc (suc (suc zero))) l = sym (condition-3 s len n k 3 refl (rw C.down))
+  clean_sound C (suc (suc (suc (suc zero)))) l = sym (condition-4 s len n k 4 refl (rw C.to_a))
+  clean_sound C (suc (suc (suc (suc (suc zero))))) l = sym (condition-5 s len n k 5 refl (rw C.few))
+  clean_sound C (suc (suc (suc (suc (suc (suc r)))))) l =
       let m = suc (suc (suc (suc (suc (suc r))))) in
       sym
       (condition-6 s len n k m (λ h. absurd (omega arith)) (λ h. absurd (omega arith)) (λ h. absurd (omega arith)) (λ h. absurd (omega arith))
       (λ h. absurd (omega arith)) (λ h. absurd (omega arith)) (rw C.free))
 
-  sound-clean : ((rule : ℕ) → rule < 7 → first_in s len (condition_at n rule k) ≡ Sound) → Clean s len n k
-  sound-clean h =
+  sound_clean : ((rule : ℕ) → rule < 7 → first_in s len (condition_at n rule k) ≡ Sound) → Clean s len n k
+  sound_clean h =
       let e = entry_at s.table k in
       record {
         sectors = clear (no_sectors e) (NoSectors k) (condition-0 s len n k 0 refl refl ∙ h 0 (omega arith));
         within = clear (runs_past len e) (PastFlash k) (condition-1 s len n k 1 refl refl ∙ h 1 (omega arith));
-        alone = none-shared (condition-2 s len n k 2 refl refl ∙ h 2 (omega arith));
+        alone = none_shared (condition-2 s len n k 2 refl refl ∙ h 2 (omega arith));
         down = clear (links_up s.table k) (LinksUp k) (condition-3 s len n k 3 refl refl ∙ h 3 (omega arith));
         to_a = clear (links_to_b s.table k) (LinksToB k) (condition-4 s len n k 4 refl refl ∙ h 4 (omega arith));
         few = clear (many_users e) (ManyUsers k) (condition-5 s len n k 5 refl refl ∙ h 5 (omega arith));
@@ -104,47 +104,47 @@ module _ (s : Settings) (len n k : ℕ) where
 -- ---- all entries
 
 module _ (s : Settings) (len n : ℕ) where
-  grid-sound : any n (bad_entry s.table n len) ≡ false → first_in s len (each (condition_for n) 7) ≡ Sound
+  grid_sound : any n (bad_entry s.table n len) ≡ false → first_in s len (each (condition_for n) 7) ≡ Sound
   unfolding condition_for
-  grid-sound h =
+  grid_sound h =
       each_none s len (condition_for n) 7
       (λ rule l.
       each_none s len (condition_at n rule) n
-      (λ k b. clean-sound s len n k (good-clean s len n k (any-all (bad_entry s.table n len) n h k b)) rule l))
+      (λ k b. clean_sound s len n k (good_clean s len n k (any_all (bad_entry s.table n len) n h k b)) rule l))
 
-  sound-grid : first_in s len (each (condition_for n) 7) ≡ Sound → any n (bad_entry s.table n len) ≡ false
+  sound_grid : first_in s len (each (condition_for n) 7) ≡ Sound → any n (bad_entry s.table n len) ≡ false
   unfolding condition_for
-  sound-grid h =
+  sound_grid h =
       any_none (bad_entry s.table n len) n
       (λ k b.
-      clean-good s len n k
-      (sound-clean s len n k
+      clean_good s len n k
+      (sound_clean s len n k
       (λ rule l. each_all s len (condition_at n rule) n (each_all s len (condition_for n) 7 h rule l) k b)))
 
 -- ---- the settings
 
 module _ (s : Settings) (len : ℕ) where
-  is-good : enabled s s.current ≡ true → s.count ≤ 16 → any s.count (bad_entry s.table s.count len) ≡ false → good_settings s len ≡ true
+  is_good_lem : enabled s s.current ≡ true → s.count ≤ 16 → any s.count (bad_entry s.table s.count len) ≡ false → good_settings s len ≡ true
   unfolding good_settings
-  is-good e l h = let z = le-ltb 16 s.count l in simp (e, z, h)
+  is_good_lem e l h = let z = le-ltb 16 s.count l in simp (e, z, h)
 
-  good-enabled : good_settings s len ≡ true → enabled s s.current ≡ true
-  good-enabled h = split (enabled s s.current) (λ e. e) (λ e. clash (good_settings s len) h (good-off s len e))
+  good_enabled : good_settings s len ≡ true → enabled s s.current ≡ true
+  good_enabled h = split (enabled s s.current) (λ e. e) (λ e. clash (good_settings s len) h (good_off s len e))
 
   good_sound : good_settings s len ≡ true → first_fault s len ≡ Sound
   good_sound h =
-      first-entries s len (good-enabled h) (good-count s len h)
-      ∙ grid-sound s len s.count (any_none (bad_entry s.table s.count len) s.count (good-entry s len h))
+      first_entries s len (good_enabled h) (good_count s len h)
+      ∙ grid_sound s len s.count (any_none (bad_entry s.table s.count len) s.count (good_entry s len h))
 
   sound_good : first_fault s len ≡ Sound → good_settings s len ≡ true
   sound_good h =
       split (enabled s s.current)
       (λ e.
       split (ltb 16 s.count)
-      (λ o. not_sound (sym (first-over s len e (ltb-true 16 s.count o)) ∙ h))
+      (λ o. not_sound (sym (first_over_lem s len e (ltb-true 16 s.count o)) ∙ h))
       (λ o.
       let l = ltb-false 16 s.count o in
-      is-good e l (sound-grid s len s.count (sym (first-entries s len e l) ∙ h))))
+      is_good_lem e l (sound_grid s len s.count (sym (first_entries s len e l) ∙ h))))
       (λ e. not_sound (sym (first_off s len e) ∙ h))
 
 pub sound_is_good : SoundIsGood

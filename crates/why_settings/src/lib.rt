@@ -1,4 +1,6 @@
 // Row 2 by its conditions: what makes settings bad, and the numbers that a fault compares.
+#![tactic(auto)]
+
 pub mod first;
 mod sharing;
 

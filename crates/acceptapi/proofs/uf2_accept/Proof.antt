@@ -1,6 +1,6 @@
 -- `acceptapi::uf2_accept` meets its contract. Assumes nothing.
 use mathlib.Core.Path.{refl, ◌∙◌}
-use Rattle.uf2_receiver.proofs.KnownLaws.{accept-is}
+use Rattle.uf2_receiver.proofs.KnownLaws.{accept_is}
 use Rattle.call_bytes.proofs.Laws.{accept-short, accept-ran}
 use Rattle.call_bytes.proofs.plans.Laws.{plan_whole}
 use borrow.Author.Rules.{rules}
@@ -48,7 +48,7 @@ returns-2 c =
     let fork = read.before.before in
     let x = fork.before.before.before.before.before.before.before.before.before.before.before.args in
     let long = fork.if1.false in
-    accept-ran _ _ _ _ _ long refl read.read-transfer.ensures (got.accept-known.ensures ∙ accept-is _ _ _ fork.before.Known-from.ensures) refl told.hand-back.ensures.1.0 told.hand-back.ensures.0 (told.hand-back.ensures.1.1 ∙ plan_whole x.plan.now got.accept-known.result.plan long)
+    accept-ran _ _ _ _ _ long refl read.read-transfer.ensures (got.accept-known.ensures ∙ accept_is _ _ _ fork.before.Known-from.ensures) refl told.hand-back.ensures.1.0 told.hand-back.ensures.0 (told.hand-back.ensures.1.1 ∙ plan_whole x.plan.now got.accept-known.result.plan long)
 
 pub uf2-accept-spec : {M : Type 1} → statement M
 uf2-accept-spec =

@@ -23,9 +23,9 @@ use Rattle.uhex_layout.specs.Kept.{has_failed, changes, kept_reader}
 use Rattle.call_bytes.specs.HexCalls.{line_return, line_return_of, line_call_of}
 
 module _ (t l img : List ℕ) where
-  pub line-case : {r : Reader} {x : Reply} {g v : List ℕ} {f b : Bool} {n k y : ℕ} → r ≡ reader_from t → line_outcome x.reader x.answer g ≡ line_of r l img → f ≡ has_failed r.state → b ≡ changes f x.answer → v ≡ kept_reader t b x.reader → n ≡ number_of x.answer → k ≡ position_of x.answer → y ≡ n + 256 * k → line_return y v g ≡ line_call_of t l img
+  pub line_case_lem : {r : Reader} {x : Reply} {g v : List ℕ} {f b : Bool} {n k y : ℕ} → r ≡ reader_from t → line_outcome x.reader x.answer g ≡ line_of r l img → f ≡ has_failed r.state → b ≡ changes f x.answer → v ≡ kept_reader t b x.reader → n ≡ number_of x.answer → k ≡ position_of x.answer → y ≡ n + 256 * k → line_return y v g ≡ line_call_of t l img
   unfolding line_call_of
-  line-case {r} hr ho hf hb hv hn hk hy =
+  line_case_lem {r} hr ho hf hb hv hn hk hy =
       rw (hy, hn, hk, hv, hb, hf) (ap (line_return_of t r) ho ∙ ap (λ (q : Reader). line_return_of t q (line_of q l img)) hr)
 
 -- ---- the reader stays as it was where its bytes are left
@@ -44,18 +44,18 @@ module _ (r : Reader) (l img : List ℕ) where
   same_by (ended rec p o b m) e = clash true refl e
 
   -- by any answer to a failed one
-  failed-same : (f : Failure) → r.state ≡ Failed f → (line_of r l img).reader ≡ r
+  failed_same : (f : Failure) → r.state ≡ Failed f → (line_of r l img).reader ≡ r
   unfolding line_of halt_line
-  failed-same f q =
+  failed_same f q =
       split (bad_image (length img)) (λ y. rw y) (λ z. split (bad_reader r) (λ y. rw (z, y)) (λ n. rw (z, n, q)))
 
   same_at : (s : ReaderState) → r.state ≡ s → changes (has_failed s) (line_of r l img).answer ≡ false → (line_of r l img).reader ≡ r
-  same_at Between q e = same_by (every.lineCase r l img) e
-  same_at Opened q e = same_by (every.lineCase r l img) e
-  same_at (Inside b) q e = same_by (every.lineCase r l img) e
-  same_at (Padded b) q e = same_by (every.lineCase r l img) e
-  same_at Ended q e = same_by (every.lineCase r l img) e
-  same_at (Failed f) q e = failed-same f q
+  same_at Between q e = same_by (every.line_case r l img) e
+  same_at Opened q e = same_by (every.line_case r l img) e
+  same_at (Inside b) q e = same_by (every.line_case r l img) e
+  same_at (Padded b) q e = same_by (every.line_case r l img) e
+  same_at Ended q e = same_by (every.line_case r l img) e
+  same_at (Failed f) q e = failed_same f q
 
   pub line_same : changes (has_failed r.state) (line_of r l img).answer ≡ false → (line_of r l img).reader ≡ r
   line_same e = same_at r.state refl e

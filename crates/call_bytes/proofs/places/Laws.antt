@@ -36,10 +36,10 @@ pub asked_numbers : (place_answer_number asked.BadBuffers ≡ number_of BadBuffe
 asked_numbers = (refl, refl, refl)
 
 module _ (s : List ℕ) (len f : ℕ) (l : List ℕ) where
-  pub ask-short : length l ≢ 8 → place_call 1 l ≡ ask_bytes s len f l
+  pub ask_short : length l ≢ 8 → place_call 1 l ≡ ask_bytes s len f l
   unfolding ask_bytes
-  ask-short h = simp (ne_eqb (length l) 8 h)
+  ask_short h = simp (ne_eqb (length l) 8 h)
 
-  pub ask-told : {z : Settings} {x : PlaceAnswer} {o : PlaceCall} → length l ≡ 8 → z ≡ settings_from s → x ≡ ask_of z len f → o ≡ place_call_of l x → o ≡ ask_bytes s len f l
+  pub ask_told : {z : Settings} {x : PlaceAnswer} {o : PlaceCall} → length l ≡ 8 → z ≡ settings_from s → x ≡ ask_of z len f → o ≡ place_call_of l x → o ≡ ask_bytes s len f l
   unfolding ask_bytes
-  ask-told n hz hx ho = simp (eq-eqb (length l) 8 n) (ho ∙ ap (place_call_of l) (hx ∙ ap (λ (z : Settings). ask_of z len f) hz))
+  ask_told n hz hx ho = simp (eq-eqb (length l) 8 n) (ho ∙ ap (place_call_of l) (hx ∙ ap (λ (z : Settings). ask_of z len f) hz))

@@ -18,7 +18,7 @@ use Rattle.placement.specs.declared.Place.{Place}
 use Rattle.placement.specs.declared.Place.TheVariants.{Nowhere, At}
 use Rattle.placement.specs.declared.PlaceAnswer.{PlaceAnswer}
 use Rattle.placement.specs.Place.{found_at, place_of, ask_of}
-use Rattle.placement.proofs.Laws.{ask-length, ask-settings, ask-place}
+use Rattle.placement.proofs.Laws.{ask_length, ask_settings, ask_place}
 use Rattle.placement.proofs.Theorems.{place_inside}
 use Rattle.uf2_block.specs.Write.{le32, put_at}
 use Rattle.uf2_block.proofs.WriteLaws.{put_over, field_le32}
@@ -27,22 +27,22 @@ use Rattle.call_bytes.specs.PlacesCalls.{Low}
 -- ---- it fits
 
 module _ (s : Settings) (len f : ℕ) where
-  found-low : flash_length len ≡ true → good_settings s len ≡ true → (p : Place) → place_of s len f ≡ p → Low (found_at p)
-  found-low right good Nowhere e = tt
-  found-low right good (At a n) e =
+  found_low : flash_length len ≡ true → good_settings s len ≡ true → (p : Place) → place_of s len f ≡ p → Low (found_at p)
+  found_low right good Nowhere e = tt
+  found_low right good (At a n) e =
       let inside = (place_inside s len f right good a n e).2 in
       let most = (length_right len right).most in
       (omega arith, omega arith)
 
-  pub ask-low : {x : PlaceAnswer} → x ≡ ask_of s len f → Low x
-  ask-low e =
+  pub ask_low : {x : PlaceAnswer} → x ≡ ask_of s len f → Low x
+  ask_low e =
       subst Low (sym e)
       (split (flash_length len)
       (λ right.
       split (good_settings s len)
-      (λ good. subst Low (sym (ask-place s len f right good)) (found-low right good (place_of s len f) refl))
-      (λ bad. subst Low (sym (ask-settings s len f right bad)) tt))
-      (λ wrong. subst Low (sym (ask-length s len f wrong)) tt))
+      (λ good. subst Low (sym (ask_place s len f right good)) (found_low right good (place_of s len f) refl))
+      (λ bad. subst Low (sym (ask_settings s len f right bad)) tt))
+      (λ wrong. subst Low (sym (ask_length s len f wrong)) tt))
 
 -- ---- it is written
 

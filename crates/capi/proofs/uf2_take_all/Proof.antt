@@ -1,5 +1,5 @@
 -- `capi::uf2_take_all` meets its contract. Assumes nothing.
-use Rattle.call_bytes.proofs.Laws.{batch-ran}
+use Rattle.call_bytes.proofs.Laws.{batch_ran}
 use borrow.Author.Rules.{rules}
 use Rattle.capi.proofs.uf2_take_all.Statement.{statement}
 use Rattle.capi.proofs.uf2_take_all.Tie as tie
@@ -42,7 +42,7 @@ returns c =
     let kept = c.before.before in
     let got = kept.before.before.before.before.before.before.before.before.before.before.before.before.before.before.before in
     let read = got.before.before.before.before.before.before.before in
-    batch-ran _ _ _ _ _ read.before.before.read-settings.ensures read.read-transfer.ensures got.take_all.ensures kept.keep.ensures
+    batch_ran _ _ _ _ _ read.before.before.read-settings.ensures read.read-transfer.ensures got.take_all.ensures kept.keep.ensures
 
 pub uf2-take-all-spec : {M : Type 1} → statement M
 uf2-take-all-spec =

@@ -7,7 +7,7 @@ use lib.Dec.{eqb}
 use borrow.Author.Tests.{eqb-true, not-true, not-false}
 use Rattle.laws.specs.Sets.{any}
 use Rattle.laws.proofs.Tests.{split, clash, eqb_same, and_left, and_right, both}
-use Rattle.laws.proofs.Laws.{any-all}
+use Rattle.laws.proofs.Laws.{any_all}
 use Rattle.uf2_block.specs.Block.{has_flag}
 use Rattle.uf2_block.specs.Region.{region_of}
 use Rattle.uf2_block.specs.declared.Region.{Region}

@@ -11,7 +11,7 @@ use lib.Seq.{ext_get_or}
 use borrow.Author.Tests.{eqb-true, eqb-false, eq-eqb, leb-true, ltb-true, lt-ltb, le-leb, not-true}
 use Rattle.laws.specs.Sets.{Set, any, least}
 use Rattle.laws.proofs.Tests.{split, clash, is_false, and_left, and_right, both}
-use Rattle.laws.proofs.Laws.{any-hit, any-all, any_found}
+use Rattle.laws.proofs.Laws.{any_hit, any_all, any_found}
 use Rattle.memory.specs.Flash.{payload_of, spans}
 use Rattle.memory.proofs.flash.Laws.{length_payload}
 use Rattle.uf2_block.specs.Block.{field_at, has_flag}
@@ -19,7 +19,7 @@ use Rattle.uf2_block.specs.Region.{region_of}
 use Rattle.uf2_block.specs.declared.Region.{Region}
 use Rattle.md5_digest.specs.Md5.{md5_of}
 use Rattle.uf2_block.specs.Regions.{good_region}
-use Rattle.uf2_block.proofs.regions.Laws.{Counting, good-true}
+use Rattle.uf2_block.proofs.regions.Laws.{Counting, good_true}
 use Rattle.partitions.specs.declared.Settings.{Settings}
 use Rattle.placement.specs.Place.{place_of}
 use Rattle.placement.specs.declared.Place.{Place}
@@ -52,8 +52,8 @@ use Rattle.file_check.specs.declared.fileregions.RegionsChecked.TheVariants.{Rig
 use Rattle.file_check.specs.Regions.{inside_of, final_of, names_regions, check_regions_of}
 use Rattle.file_check.specs.Told.{InRegion, Carries, sector_of, RightRegion, Told, RegionsAnswersAreTrue}
 use Rattle.file_check.specs.FileregionsValid.{answer_on, RightIsRight, RightArrives}
-use Rattle.file_check.proofs.fileregions.Told.{inside-true, inside-yes, length-is, regions_answers_are_true}
-use Rattle.file_check.proofs.fileregions.Final.{spot, length-final, final-free, final-owned}
+use Rattle.file_check.proofs.fileregions.Told.{inside_true, inside_yes, length_is, regions_answers_are_true}
+use Rattle.file_check.proofs.fileregions.Final.{spot, length_final, final_free, final_owned}
 
 guarded_sound : (x : Checked) → names_regions x ≡ true → is_sound x ≡ true
 guarded_sound (Guarded i) e = refl
@@ -84,13 +84,13 @@ module _ (s : Settings) (n : Lengths) (f : List ℕ) (ok : Sound s n f) (w : Wor
     L : Located s w F
     L = located s w F st.idle whole flat
 
-    storage-is : (k : ℕ) → storage_of s w F k ≡ L.start + (field_in f (at s n f ok k) 12 - 0x10000000)
-    storage-is k =
+    storage_is : (k : ℕ) → storage_of s w F k ≡ L.start + (field_in f (at s n f ok k) 12 - 0x10000000)
+    storage_is k =
         (λ i. origin_of s w (flat i) (family_in f) + (address_of F k - window_start (flat i)))
         ∙ ap (λ (x : ℕ). x + (address_of F k - 0x10000000)) (ap start_of L.place)
 
-    region-is : (i : ℕ) → region_start s w F i ≡ L.start + (field_in f (at s n f ok i) 484 - 0x10000000)
-    region-is i = ap (λ (x : ℕ). x + (field_at (F.block i) 484 - 0x10000000)) (ap start_of L.place)
+    region_is : (i : ℕ) → region_start s w F i ≡ L.start + (field_in f (at s n f ok i) 484 - 0x10000000)
+    region_is i = ap (λ (x : ℕ). x + (field_at (F.block i) 484 - 0x10000000)) (ap start_of L.place)
 
     low : (k : ℕ) → k < total_in f → is_page f (at s n f ok k) ≡ true → 0x10000000 ≤ field_in f (at s n f ok k) 12
     low k h y = (lies_true Flash (address_of F k) (subst (λ (u : Kind). lies u (address_of F k) ≡ true) flat (whole.kinds k h y))).0
@@ -115,7 +115,7 @@ module _ (s : Settings) (n : Lengths) (f : List ℕ) (ok : Sound s n f) (w : Wor
       unfolding region_of
       facts =
           let x = same_kind (kind_in n f) Flash && is_data F i && has_flag a 0x4000 in
-          let c = good-true L.size (field_at a 12) (region_of a)
+          let c = good_true L.size (field_at a 12) (region_of a)
           (ap (λ (p : Place). good_region (size_of p) (field_at a 12) (region_of a)) (sym L.place) ∙ and_right x (good_region (size_of (place_of s (flash_of w) (family_in f))) (field_at a 12) (region_of a)) gd) in
           record { starts = c.starts; ends = c.ends; window = c.window }
 
@@ -130,8 +130,8 @@ module _ (s : Settings) (n : Lengths) (f : List ℕ) (ok : Sound s n f) (w : Wor
           let v = facts.window in
           record {
             page = y;
-            from = omega (arith, p, region-is i, storage-is k, u, v);
-            to = omega (arith, q, region-is i, storage-is k, u, v);
+            from = omega (arith, p, region_is i, storage_is k, u, v);
+            to = omega (arith, q, region_is i, storage_is k, u, v);
           }
 
       same : (k : ℕ) → k < total_in f → is_data F k ≡ true → in_region s w F i (storage_of s w F k) ≡ true
@@ -147,8 +147,8 @@ module _ (s : Settings) (n : Lengths) (f : List ℕ) (ok : Sound s n f) (w : Wor
           let num = field_in f k 20 in
           let back : at s n f ok num ≡ k = at_of s n f ok k h in
           let z : field_in f (at s n f ok num) 12 ≡ field_in f k 12 = ap (λ (x : ℕ). field_in f x 12) back in
-          let v : storage_of s w F num / 4096 ≡ q = omega (arith, storage-is num, z, region-is i, facts.window, r.from, e, m, x) in
-          any-hit (λ k. lies_in s w F k q) (total_in f) num (number-below s n f ok w st k h)
+          let v : storage_of s w F num / 4096 ≡ q = omega (arith, storage_is num, z, region_is i, facts.window, r.from, e, m, x) in
+          any_hit (λ k. lies_in s w F k q) (total_in f) num (number-below s n f ok w st k h)
           (both {a = is_page f (at s n f ok num)} {b = eqb q (storage_of s w F num / 4096)} (ap (is_page f) back ∙ r.page) (eq-eqb q (storage_of s w F num / 4096) (sym v)))
 
       every : (q : ℕ) → in_region s w F i (q * 4096) ≡ true → any (total_in f) (λ k. lies_in s w F k q) ≡ true
@@ -159,7 +159,7 @@ module _ (s : Settings) (n : Lengths) (f : List ℕ) (ok : Sound s n f) (w : Wor
           let r : q * 4096 < lo + len = ltb-true _ _ (and_right (leb lo (q * 4096)) (ltb (q * 4096) (lo + len)) e) in
           let fa = facts in
           let d : ℕ = q - lo / 4096 in
-          let m : lo % 4096 ≡ 0 = omega (arith, region-is i, L.first, fa.starts, fa.window) in
+          let m : lo % 4096 ≡ 0 = omega (arith, region_is i, L.first, fa.starts, fa.window) in
           let b : d < field_at a 488 / 4096 = omega (arith, p, r, m, fa.ends) in
           let t = R.every d b in
           reach q d t.0 t.1 t.2 t.3 m (omega (arith, p, m))
@@ -172,9 +172,9 @@ module _ (s : Settings) (n : Lengths) (f : List ℕ) (ok : Sound s n f) (w : Wor
       span k h y e =
           let r = in-of k h y e in
           let fa = facts in (
-            inside-yes f (at s n f ok i) (at s n f ok k) r,
-            omega (arith, region-is i, storage-is k, low k h y, fa.window, r.from),
-            omega (arith, region-is i, storage-is k, low k h y, fa.window, fa.starts, fa.ends, L.first, r.from, r.to, aligned k h y),
+            inside_yes f (at s n f ok i) (at s n f ok k) r,
+            omega (arith, region_is i, storage_is k, low k h y, fa.window, r.from),
+            omega (arith, region_is i, storage_is k, low k h y, fa.window, fa.starts, fa.ends, L.first, r.from, r.to, aligned k h y),
           )
 
       -- the block of a piece in the region, and where it stands
@@ -182,10 +182,10 @@ module _ (s : Settings) (n : Lengths) (f : List ℕ) (ok : Sound s n f) (w : Wor
           → (is_page f m ≡ true) × (field_at a 484 ≤ field_in f m 12) × (storage_of s w F (field_in f m 20) ≡ region_start s w F i + spot f g m)
       unfolding region_of
       stands m h y =
-          let r = inside-true f (at s n f ok i) m y in
+          let r = inside_true f (at s n f ok i) m y in
           let num = field_in f m 20 in
           let z : field_in f (at s n f ok num) 12 ≡ field_in f m 12 = ap (λ (x : ℕ). field_in f x 12) (at_of s n f ok m h) in
-          (r.page, r.from, omega (arith, storage-is num, z, region-is i, facts.window, r.from))
+          (r.page, r.from, omega (arith, storage_is num, z, region_is i, facts.window, r.from))
 
       -- two pieces in the region that hold one byte are one
       one : (m k j : ℕ) → m < pieces_in f → k < pieces_in f → inside_of g (piece_at f m) ≡ true → inside_of g (piece_at f k) ≡ true → spans (spot f g m) j ≡ true → spans (spot f g k) j ≡ true → m ≡ k
@@ -206,8 +206,8 @@ module _ (s : Settings) (n : Lengths) (f : List ℕ) (ok : Sound s n f) (w : Wor
           (spans_is _ x (omega (arith, zk, uk, sk.1)) (omega (arith, zk, uk, sk.1))) in
           sym bm ∙ ap (at s n f ok) e ∙ bk
 
-      final-is : (c : List ℕ) → Final s w F i c → c ≡ final_of f g
-      final-is c C = ext_get_or 0 c (final_of f g) (C.whole ∙ sym (length-final f g ∙ length-is f (at s n f ok i))) byte
+      final_is : (c : List ℕ) → Final s w F i c → c ≡ final_of f g
+      final_is c C = ext_get_or 0 c (final_of f g) (C.whole ∙ sym (length_final f g ∙ length_is f (at s n f ok i))) byte
         where
           lo : ℕ
           lo = region_start s w F i
@@ -223,7 +223,7 @@ module _ (s : Settings) (n : Lengths) (f : List ℕ) (ok : Sound s n f) (w : Wor
               clash (holds s w F num (lo + j))
               (both {a = is_page f (at s n f ok num)} {b = spans (storage_of s w F num) (lo + j)} (ap (is_page f) (at_of s n f ok k h) ∙ t.0)
               (spans_is (storage_of s w F num) (lo + j) (omega (arith, u, t.2)) (omega (arith, u, t.2))))
-              (any-all (λ k. holds s w F k (lo + j)) (total_in f) z num (number-below s n f ok w st k h)))
+              (any_all (λ k. holds s w F k (lo + j)) (total_in f) z num (number-below s n f ok w st k h)))
 
           -- a byte that block k holds
           owned : (j : ℕ) → j < region_length F i → (k : ℕ) → k < total_in f → holds s w F k (lo + j) ≡ true → get_or c j 0 ≡ get_or (final_of f g) j 0
@@ -232,7 +232,7 @@ module _ (s : Settings) (n : Lengths) (f : List ℕ) (ok : Sound s n f) (w : Wor
               let x = storage_of s w F k in
               let u = spans_true x (lo + j) (and_right (is_page f (at s n f ok k)) (spans x (lo + j)) e) in
               let fa = facts in
-              let v : lo % 4096 ≡ 0 = omega (arith, region-is i, L.first, fa.starts, fa.window) in
+              let v : lo % 4096 ≡ 0 = omega (arith, region_is i, L.first, fa.starts, fa.window) in
               let al = aligned k h y in
               let p : lo ≤ x = omega (arith, u, v, al) in
               let q : x < lo + region_length F i = omega (arith, u, m) in
@@ -246,8 +246,8 @@ module _ (s : Settings) (n : Lengths) (f : List ℕ) (ok : Sound s n f) (w : Wor
               ∙ C.payloads k h y b d (omega (arith, u))
               ∙ ap (λ (x : ℕ). get_or (payload_of (piece_at f (at s n f ok k))) x 0) (sym ds)
               ∙ sym
-              (final-owned f g (at s n f ok k) j (here k h) r.0 near (length_payload (piece_at f (at s n f ok k)) (omega (arith, piece_size f (at s n f ok k) (here k h))))
-              (omega (arith, r.1, r.2, p, length-is f (at s n f ok i)))
+              (final_owned f g (at s n f ok k) j (here k h) r.0 near (length_payload (piece_at f (at s n f ok k)) (omega (arith, piece_size f (at s n f ok k) (here k h))))
+              (omega (arith, r.1, r.2, p, length_is f (at s n f ok i)))
               (λ o ho ne yo. is_false _ (λ po. ne (one o (at s n f ok k) j ho (here k h) yo r.0 po near))))
 
           byte : (j : ℕ) → j < length c → get_or c j 0 ≡ get_or (final_of f g) j 0
@@ -255,10 +255,10 @@ module _ (s : Settings) (n : Lengths) (f : List ℕ) (ok : Sound s n f) (w : Wor
               let m : j < region_length F i = omega (arith, l, C.whole) in
               split (any (total_in f) (λ k. holds s w F k (lo + j)))
               (λ y. let q = any_found (λ k. holds s w F k (lo + j)) (total_in f) y in owned j m q.0 q.1 q.2)
-              (λ z. C.erased j m z ∙ sym (final-free f g j (omega (arith, m, length-is f (at s n f ok i))) (free j z)))
+              (λ z. C.erased j m z ∙ sym (final_free f g j (omega (arith, m, length_is f (at s n f ok i))) (free j z)))
 
       right : (c : List ℕ) → Final s w F i c → md5_of c ≡ digest_in a
-      right c C = ap md5_of (final-is c C) ∙ R.digest
+      right c C = ap md5_of (final_is c C) ∙ R.digest
 
 -- ---- the claims
 

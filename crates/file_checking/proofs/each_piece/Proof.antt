@@ -9,12 +9,12 @@ use borrow.Author.Rules.{rules}
 use borrow.Author.Tests.{not-true, not-false}
 use Rattle.laws.specs.Sets.{any}
 use Rattle.laws.proofs.Tests.{clash}
-use Rattle.laws.proofs.Laws.{any-zero, any-more}
+use Rattle.laws.proofs.Laws.{any_zero, any_more}
 use Rattle.uf2_known.specs.Judged.{rooms_at}
 use Rattle.file_check.specs.Check.{is_valid, is_faulty}
 use Rattle.file_checking.specs.Pieces.Parts.{maps, Holds}
 use Rattle.file_checking.specs.Parts.{Knows}
-use Rattle.file_checking.proofs.Laws.{next_kept, knows_first, knows_next, found-is, holds_after, first_told, none_told}
+use Rattle.file_checking.proofs.Laws.{next_kept, knows_first, knows_next, found_is, holds_after, first_told, none_told}
 use Rattle.file_checking.proofs.each_piece.Statement.{statement}
 use Rattle.file_checking.proofs.each_piece.Tie as tie
 
@@ -31,7 +31,7 @@ rooms-for-requires c κs = search rules
 loop-holds : tie.Need-loop-init invariant-loop decreases-loop
 loop-holds c =
     let a = c.before.before.before.before.before in
-    (search rules, any-zero _, a.requires.0.held, knows_first _ _ _ c.rooms-for.ensures.0 c.rooms-for.ensures.1, refl, refl, refl)
+    (search rules, any_zero _, a.requires.0.held, knows_first _ _ _ c.rooms-for.ensures.0 c.rooms-for.ensures.1, refl, refl, refl)
 
 add-after : tie.Need-overflow-add-after invariant-loop decreases-loop
 add-after c = search rules
@@ -68,7 +68,7 @@ returns c =
     let g = c.before.before.before.before.before.before.before.before.check-piece.ensures in
     let v = c.before.is-valid.ensures in
     let h = c.before.before.before.before.before.before.before.before.before.before.before.before.before.before.loop-test.true in
-    let e = found-is _ _ _ a.requires.0 at.i _ h at.invariant.1 at.invariant.2 _ kept low a.requires.1 g.0 in
+    let e = found_is _ _ _ a.requires.0 at.i _ h at.invariant.1 at.invariant.2 _ kept low a.requires.1 g.0 in
     let z = sym v ∙ not-true _ c.if1.true in
     (first_told _ _ _ at.i h at.invariant.1 e z, λ y. clash _ y z)
 
@@ -86,9 +86,9 @@ loop-again c =
     let g = c.before.before.before.before.before.before.before.before.check-piece.ensures in
     let v = c.before.is-valid.ensures in
     let h = c.before.before.before.before.before.before.before.before.before.before.before.before.before.before.loop-test.true in
-    let e = found-is _ _ _ a.requires.0 at.i _ h at.invariant.1 at.invariant.2 _ kept low a.requires.1 g.0 in
+    let e = found_is _ _ _ a.requires.0 at.i _ h at.invariant.1 at.invariant.2 _ kept low a.requires.1 g.0 in
     let y = sym v ∙ not-false _ c.if1.false in
-    (search rules, any-more _ _ at.invariant.1 (ap (λ x. not (is_valid x)) (sym e) ∙ ap not y), holds_after _ _ _ a.requires.0 at.i _ h at.invariant.1 at.invariant.2 _ kept low a.requires.1 g.0 y _ g.1, knows_next _ _ _ at.invariant.3 k.0 k.1, c.before.before.before.before.before.before.before.numbers.given ∙ at.invariant.4, c.before.before.before.before.before.cells.given ∙ at.invariant.5, c.before.before.before.offsets.given ∙ at.invariant.6)
+    (search rules, any_more _ _ at.invariant.1 (ap (λ x. not (is_valid x)) (sym e) ∙ ap not y), holds_after _ _ _ a.requires.0 at.i _ h at.invariant.1 at.invariant.2 _ kept low a.requires.1 g.0 y _ g.1, knows_next _ _ _ at.invariant.3 k.0 k.1, c.before.before.before.before.before.before.before.numbers.given ∙ at.invariant.4, c.before.before.before.before.before.cells.given ∙ at.invariant.5, c.before.before.before.offsets.given ∙ at.invariant.6)
 
 same-length-4 : tie.Need-same-length-4 invariant-loop decreases-loop
 same-length-4 c = c.before.loop.invariant.4

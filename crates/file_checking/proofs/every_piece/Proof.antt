@@ -1,7 +1,7 @@
 -- `checking::every_piece` meets its contract. Assumes nothing.
 use mathlib.Core.Path.{sym, ◌∙◌}
 use borrow.Author.Tests.{not-true, not-false}
-use Rattle.file_checking.proofs.Files.{fault-first, no_fault, counted}
+use Rattle.file_checking.proofs.Files.{fault_first, no_fault, counted}
 use borrow.Author.Rules.{rules}
 use Rattle.file_checking.proofs.every_piece.Statement.{statement}
 use Rattle.file_checking.proofs.every_piece.Tie as tie
@@ -25,7 +25,7 @@ same-length-3 : tie.Need-same-length-3
 same-length-3 c = search rules
 
 returns : tie.Need-returns
-returns c = fault-first _ _ _ c.before.before.before.before.before.before.before.before.each-piece.ensures.0 (sym c.before.is-valid.ensures ∙ not-true _ c.if1.true)
+returns c = fault_first _ _ _ c.before.before.before.before.before.before.before.before.each-piece.ensures.0 (sym c.before.is-valid.ensures ∙ not-true _ c.if1.true)
 
 whole-requires : tie.Need-whole-requires
 whole-requires c κs =

@@ -1,5 +1,5 @@
 -- `checking::guarded` meets its contract. Assumes nothing.
-use Rattle.file_checking.proofs.Files.{in-ram, one-guards, none-guards}
+use Rattle.file_checking.proofs.Files.{in_ram, one-guards, none-guards}
 use borrow.Author.Rules.{rules}
 use Rattle.file_checking.proofs.guarded.Statement.{statement}
 use Rattle.file_checking.proofs.guarded.Tie as tie
@@ -8,7 +8,7 @@ same-kind-requires : tie.Need-same-kind-requires
 same-kind-requires c κs = search rules
 
 returns : tie.Need-returns
-returns c = in-ram _ _ _ c.before.same_kind.ensures c.if1.true
+returns c = in_ram _ _ _ c.before.same_kind.ensures c.if1.true
 
 first-guarding-requires : tie.Need-first-guarding-requires
 first-guarding-requires c κs = search rules

@@ -1,6 +1,6 @@
 -- `checking::judge` meets its contract. Assumes nothing.
 use native.Mathlib.Omega.{arith}
-use Rattle.file_checking.proofs.Files.{bad-buffers, bad_settings, ragged, nothing-there, by-pieces, right_is, good_is, opened}
+use Rattle.file_checking.proofs.Files.{bad_buffers, bad_settings, ragged, nothing-there, by-pieces, right_is, good_is, opened}
 use borrow.Author.Rules.{rules}
 use Rattle.file_checking.proofs.judge.Statement.{statement}
 use Rattle.file_checking.proofs.judge.Tie as tie
@@ -9,7 +9,7 @@ right-maps-requires : tie.Need-right-maps-requires
 right-maps-requires c κs = search rules
 
 returns : tie.Need-returns
-returns c = bad-buffers _ _ _ _ _ _ c.before.right-maps.ensures c.if1.true
+returns c = bad_buffers _ _ _ _ _ _ c.before.right-maps.ensures c.if1.true
 
 good-requires : tie.Need-good-requires
 good-requires c κs = search rules

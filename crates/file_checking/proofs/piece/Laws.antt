@@ -10,12 +10,12 @@ use lib.ListN.{length, set, length-set}
 use borrow.Author.Tests.{eqb-true, eqb-false, eq-eqb, ne_eqb, ltb-true, lt-ltb, not-true}
 use Rattle.laws.specs.Sets.{Set, any, add, least}
 use Rattle.laws.proofs.Tests.{split, clash, is_false, eqb_same, and_left, and_right, both}
-use Rattle.laws.proofs.Laws.{any-hit, any_none, any_found}
+use Rattle.laws.proofs.Laws.{any_hit, any_none, any_found}
 use Rattle.memory.specs.Bitmap.{marked_in, with_mark, map_of}
 use Rattle.memory.proofs.bitmap.Laws.{length_mark}
 use Rattle.memory.proofs.bitmap.MapLaws.{marked_map, mark_map}
 use Rattle.memory.specs.Cells.{touches_in, Kept}
-use Rattle.memory.proofs.cells.Laws.{touched, touches-near, entered as cell-entered}
+use Rattle.memory.proofs.cells.Laws.{touched, touches_near, entered as cell-entered}
 use Rattle.uf2_block.specs.Block.{field_at, has_flag}
 use Rattle.memory.specs.Flash.{payload_of}
 use Rattle.memory.proofs.flash.Laws.{length_right}
@@ -39,7 +39,7 @@ use Rattle.arrival.specs.Windows.{window_start, kind_of}
 use Rattle.arrival.proofs.Heads.{kind_same, same_kind_lem}
 use Rattle.arrival.proofs.Windows.{start_is}
 use Rattle.arrival.proofs.Paged.{Fits}
-use Rattle.arrival_claims.proofs.Screening.{lens, Board, Passing, Good, Room, screen-good, passing-room, passing-few, passing-body, passing-note, passing-fits}
+use Rattle.arrival_claims.proofs.Screening.{lens, Board, Passing, Good, Room, screen_good, passing_room, passing_few, passing-body, passing_note, passing-fits}
 use Rattle.file_check.specs.declared.Checked.{Checked}
 use Rattle.file_check.specs.declared.Checked.TheVariants.{OtherFamily, OtherTotal, OtherKind, SameNumber, Overlap, Valid}
 use Rattle.file_check.specs.Check.{piece_at, pieces_in, field_in, is_page, kind_alone, total_in, family_in, kind_in, numbers_below, same_number, near, overlaps, beside_of, is_valid}
@@ -78,13 +78,13 @@ module _ (s : Settings) (n : Lengths) (f : List ℕ) (w : World) (st : Start n w
   -- a piece that passes
   module _ (i : ℕ) (p : PlacedBlock) (e : screen_of s n Idle (piece_at f i) ≡ screening.Passed p) where
     passing : Passing s w (piece_at f i) p
-    passing = subst (Good s w (piece_at f i)) ((λ j. screen_of s (st.lengths j) (st.idle j) (piece_at f i)) ∙ e) (screen-good s w (piece_at f i))
+    passing = subst (Good s w (piece_at f i)) ((λ j. screen_of s (st.lengths j) (st.idle j) (piece_at f i)) ∙ e) (screen_good s w (piece_at f i))
 
     head_is : p.head ≡ head_with (kind_alone n (piece_at f i)) (field_in f i 28) (field_in f i 24)
     head_is = passing.head ∙ ap (λ (k : Kind). head_with k (field_in f i 28) (field_in f i 24)) (kind_alone_lem s n w st (piece_at f i))
 
     number-few : field_in f i 20 < 131072
-    number-few = omega (arith, passing.below, passing-few s w (piece_at f i) p passing B)
+    number-few = omega (arith, passing.below, passing_few s w (piece_at f i) p passing B)
 
     -- of the file's family and kind, and data: where it is stored
     module _ (fam : field_in f i 28 ≡ family_in f) (knd : kind_alone n (piece_at f i) ≡ kind_in n f) (z : has_flag (piece_at f i) 0x1 ≡ false) where
@@ -138,7 +138,7 @@ module _ (s : Settings) (n : Lengths) (f : List ℕ) (w : World) (st : Start n w
               let at : start_in s n f j ≡ t.0 = eqb-true _ _ (and_right (is_page f j) _ r.2) in
               let lj = low-at j r.1 yj in
               let c = t.2 in
-              any-hit (overlaps f i) i j r.1
+              any_hit (overlaps f i) i j r.1
               (both (both yi yj)
               (both (lt-ltb (field_in f j 12) (field_in f i 12 + 256) (omega (arith, at, c, li, lj))) (lt-ltb (field_in f i 12) (field_in f j 12 + 256) (omega (arith, at, c, li, lj)))))
 
@@ -153,15 +153,15 @@ module _ (s : Settings) (n : Lengths) (f : List ℕ) (w : World) (st : Start n w
               let u : a < b + 256 = ltb-true _ _ (and_left (ltb a (b + 256)) (ltb b (a + 256)) c) in
               let v : b < a + 256 = ltb-true _ _ (and_right (ltb a (b + 256)) (ltb b (a + 256)) c) in
               let lj = low-at j r.1 yj in
-              touches-near (starts_below s n f i) m.cells m.offsets held.kept (start_in s n f i) (start_in s n f j)
-              (any-hit (λ k. is_page f k && eqb (start_in s n f k) (start_in s n f j)) i j r.1 (both yj (eqb_same (start_in s n f j))))
+              touches_near (starts_below s n f i) m.cells m.offsets held.kept (start_in s n f i) (start_in s n f j)
+              (any_hit (λ k. is_page f k && eqb (start_in s n f k) (start_in s n f j)) i j r.1 (both yj (eqb_same (start_in s n f j))))
               (omega (arith, li, lj), omega (arith, li, lj))
 
       touching-is : touching p.body m ≡ any i (overlaps f i)
       touching-is =
           split (has_flag (piece_at f i) 0x1)
           (λ y.
-          ap (λ (b : Body). touching b m) (passing-note s w (piece_at f i) p (passing i p e) B y)
+          ap (λ (b : Body). touching b m) (passing_note s w (piece_at f i) p (passing i p e) B y)
           ∙ sym (any_none (overlaps f i) i (λ j l. rw y)))
           (λ z. ap (λ (b : Body). touching b m) (body_at i p e fam knd z) ∙ page-touches z)
 
@@ -247,7 +247,7 @@ module _ (s : Settings) (n : Lengths) (f : List ℕ) (w : World) (st : Start n w
       next : Holds s n f (suc i) (entered p.body p.number m)
       next =
           split (has_flag (piece_at f i) 0x1)
-          (λ y. subst (λ (c : Body). Holds s n f (suc i) (entered c p.number m)) (sym (passing-note s w (piece_at f i) p (passing i p e) B y)) (note-next y))
+          (λ y. subst (λ (c : Body). Holds s n f (suc i) (entered c p.number m)) (sym (passing_note s w (piece_at f i) p (passing i p e) B y)) (note-next y))
           (λ z. subst (λ (c : Body). Holds s n f (suc i) (entered c p.number m)) (sym (body_at i p e b.family b.kind z)) (page-next z))
 
     pub holds-next : is_valid (beside_of n f i) ≡ true → Holds s n f (suc i) (entered p.body p.number m)

@@ -29,9 +29,9 @@ use Rattle.file_check.specs.Check.{piece_at, same_number, overlaps, is_valid}
 use Rattle.file_checking.specs.Pieces.Parts.{Maps, maps, touching, cells_with, offsets_with, entered, beside_by, maps_by, screened_by, maps_then}
 
 module _ (h : Head) (p : PlacedBlock) (f : List ℕ) (i : ℕ) (m : Maps) where
-  pub by-family : p.head.family ≢ h.family → OtherFamily i ≡ beside_by h p f i m
+  pub by_family : p.head.family ≢ h.family → OtherFamily i ≡ beside_by h p f i m
   unfolding beside_by
-  by-family d = rw (ne_eqb p.head.family h.family d)
+  by_family d = rw (ne_eqb p.head.family h.family d)
 
   module _ (e : p.head.family ≡ h.family) where
     pub by_total : p.head.total ≢ h.total → OtherTotal i ≡ beside_by h p f i m
@@ -65,21 +65,21 @@ module _ (h : Head) (p : PlacedBlock) (f : List ℕ) (i : ℕ) (m : Maps) {r : C
   unfolding maps_by
   stays_by t = let z : is_valid (beside_by h p f i m) ≡ false = ap is_valid (sym e) ∙ sym g ∙ not-true v t in rw z
 
-  pub enters-by : not v ≡ false → (a b c : List ℕ) → a ≡ with_mark m.numbers p.number → (b ≡ cells_with p.body m.cells) × (c ≡ offsets_with p.body m.offsets)
+  pub enters_by : not v ≡ false → (a b c : List ℕ) → a ≡ with_mark m.numbers p.number → (b ≡ cells_with p.body m.cells) × (c ≡ offsets_with p.body m.offsets)
       → maps a b c ≡ maps_by h p f i m
   unfolding maps_by
-  enters-by t a b c x y =
+  enters_by t a b c x y =
       let z : is_valid (beside_by h p f i m) ≡ true = ap is_valid (sym e) ∙ sym g ∙ not-false v t in
       rw z (λ j. maps (x j) (y.0 j) (y.1 j))
 
 -- ---- by the screening
 
 module _ (h : Head) (f : List ℕ) (i : ℕ) (m : Maps) {x y : Screening} (e : x ≡ y) where
-  pub screened-is : {r : Checked} → r ≡ screened_by h f i m x → r ≡ screened_by h f i m y
-  screened-is q = q ∙ ap (screened_by h f i m) e
+  pub screened_is : {r : Checked} → r ≡ screened_by h f i m x → r ≡ screened_by h f i m y
+  screened_is q = q ∙ ap (screened_by h f i m) e
 
-  pub maps-are : {k : Maps} → k ≡ maps_then h f i m x → k ≡ maps_then h f i m y
-  maps-are q = q ∙ ap (maps_then h f i m) e
+  pub maps_are : {k : Maps} → k ≡ maps_then h f i m x → k ≡ maps_then h f i m y
+  maps_are q = q ∙ ap (maps_then h f i m) e
 
 -- what piece i is screened to, as the code takes it
 pub screen_piece : (r : Rooms) (n : Lengths) (f : List ℕ) (i : ℕ) {t : Transfer} → t ≡ fresh → {x : Screening}

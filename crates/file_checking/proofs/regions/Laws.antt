@@ -21,15 +21,15 @@ module _ (p : Place) (a : List ℕ) {h : Bool} (e : h ≡ has_flag a 0x4000) whe
       let z : has_flag a 0x4000 ≡ false = sym e ∙ not-true h y in
       rw (z, and-false (not (has_flag a 0x1)))
 
-  pub by-comment : {x : ℕ} → x ≡ field_at a 8 → x / 1 % 2 ≡ 1 → false ≡ guards_alone p a
+  pub by_comment : {x : ℕ} → x ≡ field_at a 8 → x / 1 % 2 ≡ 1 → false ≡ guards_alone p a
   unfolding guards_alone
-  by-comment g y =
+  by_comment g y =
       let z : has_flag a 0x1 ≡ true = ap (λ (x : ℕ). eqb (x / 1 % 2) 1) (sym g) ∙ eq-eqb _ _ y in
       rw z
 
-  pub by-region : not h ≡ false → {x : ℕ} → x ≡ field_at a 8 → x / 1 % 2 ≢ 1 → {r : Bool} → r ≡ guards_in p a → r ≡ guards_alone p a
+  pub by_region : not h ≡ false → {x : ℕ} → x ≡ field_at a 8 → x / 1 % 2 ≢ 1 → {r : Bool} → r ≡ guards_in p a → r ≡ guards_alone p a
   unfolding guards_alone
-  by-region y g d q =
+  by_region y g d q =
       let z : has_flag a 0x1 ≡ false = ap (λ (x : ℕ). eqb (x / 1 % 2) 1) (sym g) ∙ ne_eqb _ _ d in
       let u : has_flag a 0x4000 ≡ true = sym e ∙ not-false h y in
       q ∙ rw (z, u)

@@ -18,23 +18,23 @@ pub rest : (k : ℕ) (l : List ℕ) → take (length l - k) (drop k l) ≡ drop 
 rest k l = take_all (length l - k) (drop k l) (omega (arith, length-drop k l))
 
 module _ (v : ℕ → ℕ) where
-  pub first-none : (l : List ℕ) → all_by v l ≡ true → length l ≡ first_by v l
+  pub first_none : (l : List ℕ) → all_by v l ≡ true → length l ≡ first_by v l
   unfolding all_by first_by
-  first-none [] e = refl
-  first-none (c ∷ l) e =
+  first_none [] e = refl
+  first_none (c ∷ l) e =
       split (is_digit_by v c)
-      (λ y. rw y (ap suc (first-none l (and_right (is_digit_by v c) (all_by v l) e))))
+      (λ y. rw y (ap suc (first_none l (and_right (is_digit_by v c) (all_by v l) e))))
       (λ z. clash (is_digit_by v c && all_by v l) e (rw z))
 
-  pub first-end : (l : List ℕ) (i : ℕ) → length l ≤ i → first_by v (drop i l) ≡ 0
+  pub first_end : (l : List ℕ) (i : ℕ) → length l ≤ i → first_by v (drop i l) ≡ 0
   unfolding first_by
-  first-end l i h = rw (drop_of_length-le l h)
+  first_end l i h = rw (drop_of_length-le l h)
 
 -- by a table
 module _ (t l : List ℕ) (i : ℕ) (byte : get_or l i 0 < 256) where
-  pub first-here : i < length l → 16 ≤ get_or t (get_or l i 0) 0 → first_by (value_in t) (drop i l) ≡ 0
+  pub first_here : i < length l → 16 ≤ get_or t (get_or l i 0) 0 → first_by (value_in t) (drop i l) ≡ 0
   unfolding first_by
-  first-here h n =
+  first_here h n =
       let z : is_digit_by (value_in t) (get_or l i 0) ≡ false = le-ltb _ 16 (rw (value_at t _ byte) at n) in
       rw (drop-cons l i 0 h, z)
 

@@ -3,7 +3,7 @@ use mathlib.Core.Path.{refl, ◌∙◌}
 use native.Mathlib.Omega.{arith}
 use Rattle.laws.specs.Sets.{any}
 use Rattle.hex_digits.specs.Digits.{digit_of}
-use Rattle.hex_digits.proofs.Table.{Bytes, tells, told-first, told-decoded}
+use Rattle.hex_digits.proofs.Table.{Bytes, tells, told_first, told_decoded}
 use borrow.Author.Rules.{rules}
 use Rattle.hex_digits.proofs.judge.Statement.{statement}
 use Rattle.hex_digits.proofs.judge.Tie as tie
@@ -21,7 +21,7 @@ returns c =
     let n = d.before.before.before.before in
     let bytes : Bytes n.before.args.chars.now = λ i. omega (arith, n.shared-slice-known.given i) in
     let told = tells _ refl in
-    (d.judge.ensures.0 ∙ told-first _ told _ bytes, d.judge.ensures.1 ∙ told-decoded _ told _ _ bytes)
+    (d.judge.ensures.0 ∙ told_first _ told _ bytes, d.judge.ensures.1 ∙ told_decoded _ told _ _ bytes)
 
 pub judge-spec : {M : Type 1} → statement M
 judge-spec = tie.close (tie.spec judge-requires same_length returns)

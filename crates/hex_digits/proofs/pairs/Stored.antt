@@ -12,39 +12,39 @@ use Rattle.laws.proofs.Tests.{split}
 use Rattle.hex_digits.specs.Pairs.{bytes_by, decoded_by}
 
 module _ (v : ℕ → ℕ) where
-  pub length-bytes : (l : List ℕ) → length (bytes_by v l) ≡ length l / 2
+  pub length_bytes : (l : List ℕ) → length (bytes_by v l) ≡ length l / 2
   unfolding bytes_by
-  length-bytes [] = refl
-  length-bytes (c ∷ []) = refl
-  length-bytes (c ∷ d ∷ l) = omega (arith, length-bytes l)
+  length_bytes [] = refl
+  length_bytes (c ∷ []) = refl
+  length_bytes (c ∷ d ∷ l) = omega (arith, length_bytes l)
 
   -- the byte that two characters say
   abbrev pub pair : List ℕ → ℕ → ℕ
   pair l k = 16 * (v (get_or l (2 * k) 0) % 16) + v (get_or l (2 * k + 1) 0) % 16
 
-  pub bytes-at : (l : List ℕ) (k : ℕ) → 2 * k + 1 < length l → get_or (bytes_by v l) k 0 ≡ pair l k
+  pub bytes_at : (l : List ℕ) (k : ℕ) → 2 * k + 1 < length l → get_or (bytes_by v l) k 0 ≡ pair l k
   unfolding bytes_by
-  bytes-at [] k h = absurd (omega arith)
-  bytes-at (c ∷ []) k h = absurd (omega arith)
-  bytes-at (c ∷ d ∷ l) zero h = refl
-  bytes-at (c ∷ d ∷ l) (suc k) h =
+  bytes_at [] k h = absurd (omega arith)
+  bytes_at (c ∷ []) k h = absurd (omega arith)
+  bytes_at (c ∷ d ∷ l) zero h = refl
+  bytes_at (c ∷ d ∷ l) (suc k) h =
       let e : 2 * suc k ≡ suc (suc (2 * k)) = omega arith in
       let f : 2 * suc k + 1 ≡ suc (suc (2 * k + 1)) = omega arith in
-      rw (f, e) (bytes-at l k (omega arith))
+      rw (f, e) (bytes_at l k (omega arith))
 
   -- the first i bytes over the beginning of `out`
   abbrev pub begun : List ℕ → List ℕ → ℕ → List ℕ
   begun l out i = take i (bytes_by v l) ++ drop i out
 
   -- one byte more, as a loop stores it
-  pub begun-next : (l lent out : List ℕ) (i : ℕ) {high low : ℕ} → i < min (length l / 2) (length lent)
+  pub begun_next : (l lent out : List ℕ) (i : ℕ) {high low : ℕ} → i < min (length l / 2) (length lent)
       → high ≡ v (get_or l (2 * i) 0) → low ≡ v (get_or l (2 * i + 1) 0) → out ≡ begun l lent i
       → set out i (16 * (high % 16) + low % 16) ≡ begun l lent (i + 1)
-  begun-next l lent out i {high} {low} h e f q =
+  begun_next l lent out i {high} {low} h e f q =
       let w = bytes_by v l in
       let x = 16 * (high % 16) + low % 16 in
-      let k : i < length w = omega (arith, length-bytes l) in
-      let b : get_or w i 0 ≡ x = bytes-at l i (omega arith) ∙ rw (e, f) in
+      let k : i < length w = omega (arith, length_bytes l) in
+      let b : get_or w i 0 ≡ x = bytes_at l i (omega arith) ∙ rw (e, f) in
       rw (q, drop-cons lent i 0 (omega arith), set_at (take i w) (get_or lent i 0) (drop (suc i) lent) x i (length-take-le i w (omega arith)), add-one, take-suc w i 0 k, b)
       (sym (append_snoc (take i w) x (drop (suc i) lent)))
 
@@ -53,7 +53,7 @@ module _ (v : ℕ → ℕ) where
   unfolding decoded_by
   begun_all l out k m =
       let w = bytes_by v l in
-      let n : length w ≡ length l / 2 = length-bytes l in
+      let n : length w ≡ length l / 2 = length_bytes l in
       split (ltb (length out) (length l / 2))
       (λ y.
       let h : length out < length l / 2 = ltb-true _ _ y in

@@ -36,8 +36,8 @@ module _ (v : ℕ → ℕ) where
   all_append (c ∷ k) l =
       ap (λ (b : Bool). is_digit_by v c && b) (all_append k l) ∙ sym (and_assoc (is_digit_by v c) (all_by v k) (all_by v l))
 
-  pub all-parts : (j : ℕ) (l : List ℕ) → all_by v (take j l) && all_by v (drop j l) ≡ all_by v l
-  all-parts j l = sym (all_append (take j l) (drop j l)) ∙ ap (all_by v) (take-append-drop j l)
+  pub all_parts : (j : ℕ) (l : List ℕ) → all_by v (take j l) && all_by v (drop j l) ≡ all_by v l
+  all_parts j l = sym (all_append (take j l) (drop j l)) ∙ ap (all_by v) (take-append-drop j l)
 
 -- one character more
 pub all_next : (t l : List ℕ) (j m : ℕ) {v : ℕ} → j < length l → v ≡ get_or t (get_or l j 0) 0 → get_or l j 0 < 256 → ltb m 16 ≡ all_by (value_in t) (take j l)

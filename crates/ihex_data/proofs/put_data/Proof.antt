@@ -1,5 +1,5 @@
 -- `datalines::put_data` meets its contract. Assumes nothing.
-use Rattle.ihex_data.proofs.Tallied.{is_cut, is_whole, put_whole, put-cut-by, second_fits}
+use Rattle.ihex_data.proofs.Tallied.{is_cut, is_whole, put_whole, put_cut_by, second_fits}
 use lib.Seq.{length-take-le}
 use lib.ListN.{length-take}
 use native.Mathlib.Omega.{arith}
@@ -50,7 +50,7 @@ same_length c = search rules
 returns : tie.Need-returns
 returns c =
     let a = c.before.before.before.before.before.before.before.before.before.before.before.before.before.before.args in
-    put-cut-by a.out.now a.kind a.at a.tally a.address a.bytes.now _ (is_cut c.before.before.before.before.before.before.before.before.before.before.before.before.before.before.args.address c.before.before.before.before.before.before.before.before.before.before.before.crosses.ensures c.before.before.before.before.before.before.before.before.before.before.if1.true) refl c.before.before.before.before.before.before.before.put-piece.ensures.0 c.before.before.before.before.before.before.before.put-piece.ensures.1 c.before.before.put-piece2.ensures.0 c.before.before.put-piece2.ensures.1
+    put_cut_by a.out.now a.kind a.at a.tally a.address a.bytes.now _ (is_cut c.before.before.before.before.before.before.before.before.before.before.before.before.before.before.args.address c.before.before.before.before.before.before.before.before.before.before.before.crosses.ensures c.before.before.before.before.before.before.before.before.before.before.if1.true) refl c.before.before.before.before.before.before.before.put-piece.ensures.0 c.before.before.before.before.before.before.before.put-piece.ensures.1 c.before.before.put-piece2.ensures.0 c.before.before.put-piece2.ensures.1
 
 put-piece-requires-3 : tie.Need-put-piece-requires-3
 put-piece-requires-3 c κs = search rules

@@ -1,5 +1,5 @@
 -- `datalines::put_line` meets its contract. Assumes nothing.
-use Rattle.ihex_data.proofs.Stepped.{is_taken, taken_few, taken_within, step-refused, step-passed, step-data}
+use Rattle.ihex_data.proofs.Stepped.{is_taken, taken_few, taken_within, step_refused, step_passed, step_data}
 use lib.Seq.{length-take-le}
 use lib.ListN.{length-take}
 use native.Mathlib.Omega.{arith}
@@ -60,13 +60,13 @@ returns : tie.Need-returns
 returns c =
     let a = c.before.before.before.before.before.before.before.before.before.before.before.args in
     let t = is_taken a.state.plain a.line.now c.before.before.before.before.before.before.before.before.read.ensures.0 c.before.before.before.before.word.ensures (answer_is c.before.before.before.line.ensures) c.before.taken.given.1 in
-    step-refused a.out.now a.kind a.at a.state a.line.now _ t
+    step_refused a.out.now a.kind a.at a.state a.line.now _ t
 
 returns-2 : tie.Need-returns-2
 returns-2 c =
     let a = c.before.before.before.before.before.before.before.before.before.before.before.args in
     let t = is_taken a.state.plain a.line.now c.before.before.before.before.before.before.before.before.read.ensures.0 c.before.before.before.before.word.ensures (answer_is c.before.before.before.line.ensures) c.before.taken2.given.1 in
-    step-passed a.out.now a.kind a.at a.state a.line.now _ t
+    step_passed a.out.now a.kind a.at a.state a.line.now _ t
 
 same_length : tie.Need-same-length
 same_length c = search rules
@@ -76,7 +76,7 @@ returns-3 c =
     let a = c.before.before.before.before.before.before.before.before.before.before.before.before.before.before.before.before.args in
     let x = c.before.before.before.before.before.before.before.before.before.before.before.before.before.read.ensures.0 in
     let t = is_taken a.state.plain a.line.now x c.before.before.before.before.before.before.before.before.before.word.ensures (answer_is c.before.before.before.before.before.before.before.before.line.ensures) c.before.before.before.before.before.before.taken3.given.1 in
-    step-data a.out.now a.kind a.at a.state a.line.now _ _ _ t (rw (← x) c.before.before.put-taken.ensures.0) (rw (← x) c.before.before.put-taken.ensures.1)
+    step_data a.out.now a.kind a.at a.state a.line.now _ _ _ t (rw (← x) c.before.before.put-taken.ensures.0) (rw (← x) c.before.before.put-taken.ensures.1)
 
 pub put-line-spec : {M : Type 1} → statement M
 put-line-spec =

@@ -1,5 +1,5 @@
 -- `datalines::put_piece` meets its contract. Assumes nothing.
-use Rattle.ihex_data.proofs.Tallied.{put-changed, put-unchanged}
+use Rattle.ihex_data.proofs.Tallied.{put_changed, put_unchanged}
 use Rattle.ihex_write.proofs.Lines.{put_record_line}
 use native.Mathlib.Omega.{arith}
 use Prim.Native.Nat.{◌+◌}
@@ -32,7 +32,7 @@ same_length c = search rules
 returns : tie.Need-returns
 returns c =
     let a = c.before.before.before.before.before.before.before.before.before.before.before.before.before.before.args in
-    (c.before.before.before.before.before.before.before.before.before.before.with-piece.ensures, put-changed a.out.now a.kind (a.at + a.tally.len) a.tally a.upper a.lower a.bytes.now c.before.before.before.before.before.before.before.before.before.changes.ensures c.before.before.before.before.before.before.before.before.if1.true c.before.before.before.before.before.before.put_word.ensures (c.before.before.put_record.ensures ∙ put_record_line _ _ _ _ _ (omega arith)))
+    (c.before.before.before.before.before.before.before.before.before.before.with-piece.ensures, put_changed a.out.now a.kind (a.at + a.tally.len) a.tally a.upper a.lower a.bytes.now c.before.before.before.before.before.before.before.before.before.changes.ensures c.before.before.before.before.before.before.before.before.if1.true c.before.before.before.before.before.before.put_word.ensures (c.before.before.put_record.ensures ∙ put_record_line _ _ _ _ _ (omega arith)))
 
 put-record-requires-2 : tie.Need-put-record-requires-2
 put-record-requires-2 c κs = search rules
@@ -43,7 +43,7 @@ same-length-2 c = search rules
 returns-2 : tie.Need-returns-2
 returns-2 c =
     let a = c.before.before.before.before.before.before.before.before.before.before.args in
-    (c.before.before.before.before.before.before.with-piece.ensures, put-unchanged a.out.now a.kind (a.at + a.tally.len) a.tally a.upper a.lower a.bytes.now c.before.before.before.before.before.changes.ensures c.before.before.before.before.if1.false (c.before.before.put-record2.ensures ∙ put_record_line _ _ _ _ _ (omega arith)))
+    (c.before.before.before.before.before.before.with-piece.ensures, put_unchanged a.out.now a.kind (a.at + a.tally.len) a.tally a.upper a.lower a.bytes.now c.before.before.before.before.before.changes.ensures c.before.before.before.before.if1.false (c.before.before.put-record2.ensures ∙ put_record_line _ _ _ _ _ (omega arith)))
 
 pub put-piece-spec : {M : Type 1} → statement M
 put-piece-spec =

@@ -1,5 +1,5 @@
 -- `datalines::walk` meets its contract. Assumes nothing.
-use Rattle.ihex_data.proofs.Walked.{Going, going_first, going_next, going-stop, going-last}
+use Rattle.ihex_data.proofs.Walked.{Going, going_first, going_next, going-stop, going_last}
 use lib.ListN.{length}
 use Prim.Native.Nat.{◌-◌}
 use Rattle.laws.proofs.Numbered.{answer_is}
@@ -76,7 +76,7 @@ same-length-2 c = search rules
 returns-2 : tie.Need-returns-2 invariant-loop decreases-loop
 returns-2 c =
     let a = c.before.before.before.before.before.before.before.before.before.args in
-    going-last a.out.now a.at a.kind a.text.now c.before.before.before.before.loop.invariant c.before.before.before.loop-test.false (answer_is c.close.ensures)
+    going_last a.out.now a.at a.kind a.text.now c.before.before.before.before.loop.invariant c.before.before.before.loop-test.false (answer_is c.close.ensures)
 
 pub walk-spec : {M : Type 1} → statement M
 walk-spec =

@@ -95,20 +95,20 @@ ends_past s at h = ends_at s at (length s) (unfold end_of in rw (le-ltb at (leng
 
 -- the search from an index on found f
 module _ (s : List ℕ) (at f : ℕ) (inside : at < length s) (found : f ≡ at + index_of 10 (slice at (length s) s)) where
-  from-here : f ≡ at + index_of 10 (drop at s)
+  from_here : f ≡ at + index_of 10 (drop at s)
   unfolding slice
-  from-here = rw (take-length s) at found
+  from_here = rw (take-length s) at found
 
-  pub ends-lf : f < length s → Ends s at (f + 1)
+  pub ends_lf : f < length s → Ends s at (f + 1)
   unfolding end_of
-  ends-lf h =
+  ends_lf h =
       let k = index_of 10 (drop at s) in
       ends_at s at (f + 1)
-      (rw (lt-ltb at (length s) inside, len_index (drop at s), lt-ltb k (length (drop at s)) (omega (arith, length-drop at s, from-here))) (omega (arith, from-here)))
+      (rw (lt-ltb at (length s) inside, len_index (drop at s), lt-ltb k (length (drop at s)) (omega (arith, length-drop at s, from_here))) (omega (arith, from_here)))
 
-  pub ends-text : length s ≤ f → Ends s at f
+  pub ends_text : length s ≤ f → Ends s at f
   unfolding end_of
-  ends-text h =
+  ends_text h =
       let k = index_of 10 (drop at s) in
       ends_at s at f
-      (rw (lt-ltb at (length s) inside, len_index (drop at s), le-ltb k (length (drop at s)) (omega (arith, length-drop at s, from-here))) from-here)
+      (rw (lt-ltb at (length s) inside, len_index (drop at s), le-ltb k (length (drop at s)) (omega (arith, length-drop at s, from_here))) from_here)

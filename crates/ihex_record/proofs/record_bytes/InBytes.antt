@@ -4,7 +4,7 @@ use borrow.Author.Tests.{eqb-false}
 use Rattle.laws.proofs.Tests.{split}
 use Rattle.ihex_record.specs.declared.ParseResult.TheVariants.{TooLong, BadLength, BadSum}
 use Rattle.ihex_record.specs.Record.{len_of, total, good, refused, line_of_bytes}
-use Rattle.ihex_record.proofs.Checks.{is-too-long, is-bad-length, is-bad-sum, is-good}
+use Rattle.ihex_record.proofs.Checks.{is_too_long, is-bad-length, is-bad-sum, is_good_lem}
 use Rattle.ihex_record.specs.Bytes.{line_in}
 
 module _ (n : ℕ) (b : List ℕ) where
@@ -12,40 +12,40 @@ module _ (n : ℕ) (b : List ℕ) where
   abbrev all : List ℕ
   all = take (len_of b + 5) b
 
-  len-first : (k : ℕ) → 0 < k → len_of (take k b) ≡ len_of b
-  len-first k h = get_or-take k b 0 0 h
+  len_first : (k : ℕ) → 0 < k → len_of (take k b) ≡ len_of b
+  len_first k h = get_or-take k b 0 0 h
 
-  len-all : len_of all ≡ len_of b
-  len-all = len-first (len_of b + 5) (omega arith)
+  len_all : len_of all ≡ len_of b
+  len_all = len_first (len_of b + 5) (omega arith)
 
-  pub in-too-long : 32 < len_of b → refused TooLong ≡ line_in n b
+  pub in_too_long : 32 < len_of b → refused TooLong ≡ line_in n b
   unfolding line_in
-  in-too-long h = is-too-long n all (rw len-all h)
+  in_too_long h = is_too_long n all (rw len_all h)
 
   module _ (fits : len_of b ≤ 32) where
     pub in-bad-length : (n ≡ 11 + 2 * len_of b → ⊥) → refused BadLength ≡ line_in n b
     unfolding line_in
-    in-bad-length h = is-bad-length n all (rw len-all fits) (rw len-all h)
+    in-bad-length h = is-bad-length n all (rw len_all fits) (rw len_all h)
 
     module _ (long : n ≡ 11 + 2 * len_of b) where
       pub in-bad-sum : (total all % 256 ≡ 0 → ⊥) → refused BadSum ≡ line_in n b
       unfolding line_in
-      in-bad-sum h = is-bad-sum n all (rw len-all fits) (rw len-all long) h
+      in-bad-sum h = is-bad-sum n all (rw len_all fits) (rw len_all long) h
 
       pub in-good : total all % 256 ≡ 0 → good all ≡ line_in n b
       unfolding line_in
-      in-good h = is-good n all (rw len-all fits) (rw len-all long) h
+      in-good h = is_good_lem n all (rw len_all fits) (rw len_all long) h
 
   -- the bytes that n characters say
   pub in_bytes : 10 < n → line_in n b ≡ line_of_bytes n (take (n / 2) b)
   unfolding line_in
   in_bytes m =
       let w = take (n / 2) b in
-      let f : len_of w ≡ len_of b = len-first (n / 2) (omega arith) in
+      let f : len_of w ≡ len_of b = len_first (n / 2) (omega arith) in
       split (ltb 32 (len_of b))
       (λ y.
       let h : 32 < len_of b = ltb-true 32 (len_of b) y in
-      sym (in-too-long h) ∙ is-too-long n w (rw f h))
+      sym (in_too_long h) ∙ is_too_long n w (rw f h))
       (λ y.
       let h : len_of b ≤ 32 = ltb-false 32 (len_of b) y in
       split (eqb n (11 + 2 * len_of b))

@@ -3,9 +3,9 @@ use Rattle.std.proofs.Common.{◌≡◌, ℕ, ◌+◌, ◌-◌, ◌*◌, ◌/◌
 use Rattle.laws.proofs.Tests.{split}
 use Rattle.ihex_record.specs.declared.ParseResult.TheVariants.{BadDigit}
 use Rattle.ihex_record.specs.Record.{digit_of, all_digits, first_bad, bytes_of, len_of, bad_shape, refused, line_of_bytes, line_of_text}
-use Rattle.hex_digits.proofs.Digits.{length-bytes, Decoding, rest}
+use Rattle.hex_digits.proofs.Digits.{length_bytes, Decoding, rest}
 use Rattle.hex_digits.proofs.FirstBad.{bad_some, bad_all}
-use Rattle.ihex_record.proofs.Checks.{is-too-long, is-bad-length, shaped, is-bad-digit, is-bytes}
+use Rattle.ihex_record.proofs.Checks.{is_too_long, is-bad-length, shaped, is-bad-digit, is-bytes}
 use Rattle.ihex_record.specs.Bytes.{line_in}
 use Rattle.ihex_record.proofs.record_bytes.InBytes.{in_bytes}
 
@@ -19,7 +19,7 @@ first_37 n b e =
     split (ltb 32 (len_of b))
     (λ t.
     let g : 32 < len_of b = ltb-true 32 (len_of b) t in
-    sym (is-too-long n (take 37 b) (rw f g)) ∙ is-too-long n b g)
+    sym (is_too_long n (take 37 b) (rw f g)) ∙ is_too_long n b g)
     (λ t.
     let g : len_of b ≤ 32 = ltb-false 32 (len_of b) t in
     sym (is-bad-length n (take 37 b) (rw f g) (λ q. omega arith)) ∙ is-bad-length n b g (λ q. omega arith)))
@@ -38,12 +38,12 @@ module _ (t : List ℕ) (some : length t ≡ 0 → ⊥) (colon : get_or t 0 0 �
     pub is-all-good : length t - 1 ≤ b → all_digits (drop 1 t) ≡ true
     is-all-good h = bad_all (drop 1 t) (omega (arith, found_in, length-drop 1 t))
 
-  pub is-decoded : (out : List ℕ) → all_digits (drop 1 t) ≡ true → length out ≡ 37 → Decoding (drop 1 t) out → line_in (length t) out ≡ line_of_text t
-  is-decoded out e n d =
+  pub is_decoded : (out : List ℕ) → all_digits (drop 1 t) ≡ true → length out ≡ 37 → Decoding (drop 1 t) out → line_in (length t) out ≡ line_of_text t
+  is_decoded out e n d =
       let o : length t % 2 ≡ 1 = (shaped (length t) shape).odd in
       let m : 10 < length t = (shaped (length t) shape).least in
       let h : length (drop 1 t) / 2 ≡ length t / 2 = simp length-drop (omega arith) in
       let f : take (length t / 2) out ≡ take 37 (bytes_of (drop 1 t)) = rw (h, n) at d in
       in_bytes (length t) out m
-      ∙ rw f (first_37 (length t) (bytes_of (drop 1 t)) (omega (arith, length-bytes digit_of (drop 1 t), length-drop 1 t)))
+      ∙ rw f (first_37 (length t) (bytes_of (drop 1 t)) (omega (arith, length_bytes digit_of (drop 1 t), length-drop 1 t)))
       ∙ is-bytes t some colon shape e

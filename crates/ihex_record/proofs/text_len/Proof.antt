@@ -1,11 +1,11 @@
 -- `record::text_len` meets its contract. Assumes nothing.
 use Rattle.std.proofs.Common.{arith, rules}
-use Rattle.ihex_record.proofs.Endings.{text-empty, text-whole, text-alone, text-lf, text-crlf}
+use Rattle.ihex_record.proofs.Endings.{text_empty, text_whole, text-alone, text-lf, text-crlf}
 use Rattle.ihex_record.proofs.text_len.Statement.{statement}
 use Rattle.ihex_record.proofs.text_len.Tie as tie
 
 returns : tie.Need-returns
-returns c = (text-empty _ c.if1.true, omega arith)
+returns c = (text_empty _ c.if1.true, omega arith)
 
 sub-if2 : tie.Need-overflow-sub-if2
 sub-if2 c = search rules
@@ -14,7 +14,7 @@ shared-slice-read-if2 : tie.Need-shared-slice-read-if2
 shared-slice-read-if2 c = search rules
 
 returns-2 : tie.Need-returns-2
-returns-2 c = (text-whole _ c.if2.true, omega arith)
+returns-2 c = (text_whole _ c.if2.true, omega arith)
 
 returns-3 : tie.Need-returns-3
 returns-3 c = (text-alone _ c.before.if2.false c.if3.true, omega arith)

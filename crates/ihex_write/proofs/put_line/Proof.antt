@@ -1,5 +1,5 @@
 -- `hexwrite::put_line` meets its contract. Assumes nothing.
-use Rattle.ihex_write.proofs.Line.{line-put}
+use Rattle.ihex_write.proofs.Line.{line_put}
 use Rattle.ihex_write.proofs.Digits.{check_sum}
 use Rattle.std.proofs.Common.{rules}
 use Rattle.ihex_write.proofs.put_line.Statement.{statement}
@@ -69,7 +69,7 @@ returns : tie.Need-returns
 returns c =
     let a = c.before.before.before.before.before.before.before.before.before.before.before.before.before.before.before.before.before.before.before.before.before.before.before.before.before.before.before.before.args in
     let check = check_sum _ _ _ _ _ _ c.before.before.before.before.before.before.before.before.before.before.before.before.before.before.before.before.before.before.before.before.before.before.before.before.sum.ensures c.before.before.before.before.before.before.before.before.before.before.before.before.before.before.before.before.before.before.before.before.before.before.before.sum2.ensures c.before.before.before.before.before.before.before.before.before.before.before.before.before.before.before.before.before.before.before.before.before.before.wrapping-add-u8.ensures c.before.before.before.before.before.before.before.before.before.before.before.before.before.before.before.before.before.before.before.before.before.wrapping-sub-u8.ensures (search rules) in
-    line-put a.kind a.address a.«data».now a.out.now a.at _ c.before.before.before.before.before.before.before.before.before.before.before.before.before.before.before.before.before.before.before.before.before.before.before.before.before.before.before.before.requires.1 check c.before.before.before.before.before.before.before.before.before.before.before.before.before.before.before.before.before.before.before.put-char.ensures c.before.before.before.before.before.before.before.before.before.before.before.before.before.before.put-bytes.ensures c.before.before.before.before.before.before.before.before.before.before.put-bytes2.ensures c.before.before.before.before.before.before.put_byte.ensures c.before.before.put-char2.ensures
+    line_put a.kind a.address a.«data».now a.out.now a.at _ c.before.before.before.before.before.before.before.before.before.before.before.before.before.before.before.before.before.before.before.before.before.before.before.before.before.before.before.before.requires.1 check c.before.before.before.before.before.before.before.before.before.before.before.before.before.before.before.before.before.before.before.put-char.ensures c.before.before.before.before.before.before.before.before.before.before.before.before.before.before.put-bytes.ensures c.before.before.before.before.before.before.before.before.before.before.put-bytes2.ensures c.before.before.before.before.before.before.put_byte.ensures c.before.before.put-char2.ensures
 
 pub put-line-spec : {M : Type 1} → statement M
 put-line-spec =

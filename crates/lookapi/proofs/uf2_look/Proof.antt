@@ -1,6 +1,6 @@
 -- `lookapi::uf2_look` meets its contract. Assumes nothing.
 use Rattle.laws.proofs.Numbered.{answer_is}
-use Rattle.call_bytes.proofs.Laws.{look-ran}
+use Rattle.call_bytes.proofs.Laws.{look_ran}
 use borrow.Author.Rules.{rules}
 use Rattle.lookapi.proofs.uf2_look.Statement.{statement}
 use Rattle.lookapi.proofs.uf2_look.Tie as tie
@@ -24,7 +24,7 @@ returns : tie.Need-returns
 returns c =
     let l = c.before in
     let t = l.before in
-    look-ran _ _ _ _ t.before.read-settings.ensures t.read-transfer.ensures (answer_is l.look.ensures) c.result.ensures
+    look_ran _ _ _ _ t.before.read-settings.ensures t.read-transfer.ensures (answer_is l.look.ensures) c.result.ensures
 
 pub uf2-look-spec : {M : Type 1} → statement M
 uf2-look-spec =

@@ -1,7 +1,7 @@
 -- `md5::block` meets its contract. Assumes nothing.
 use Rattle.std.proofs.Common.{◌≡◌, ◌-◌, ◌≤◌, ap, ◌∙◌, arith, rules}
 use Rattle.md5_digest.specs.Md5.{steps_of}
-use Rattle.md5_digest.proofs.Laws.{steps_none, next-f, next-g, next-h, next-i, added}
+use Rattle.md5_digest.proofs.Laws.{steps_none, next_f, next_g, next_h, next_i, added}
 use Rattle.md5_digest.proofs.block.Statement.{statement}
 use Rattle.md5_digest.proofs.block.Tie as tie
 
@@ -53,7 +53,7 @@ loop-again :
 loop-again c =
     let a = c.before.before.before.before.before.args in
     let l = c.before.before.before.loop in
-    (omega arith, next-f a.m.now a.s l.t _ l.i _ _ l.invariant.1 c.step.ensures c.before.mix-f.ensures (omega arith) (omega arith))
+    (omega arith, next_f a.m.now a.s l.t _ l.i _ _ l.invariant.1 c.step.ensures c.before.mix-f.ensures (omega arith) (omega arith))
 
 loop2-holds :
     tie.Need-loop2-init invariant-loop decreases-loop invariant-loop2 decreases-loop2 invariant-loop3 decreases-loop3 invariant-loop4 decreases-loop4
@@ -87,7 +87,7 @@ loop2-again :
 loop2-again c =
     let a = c.before.before.before.before.before.before.before.before.args in
     let l = c.before.before.before.before.loop2 in
-    (omega arith, omega arith, next-g a.m.now a.s l.t _ l.i _ _ l.invariant.2 c.step2.ensures c.before.before.mix-g.ensures (omega (arith, c.before.word-g.ensures)) (omega arith) (omega arith))
+    (omega arith, omega arith, next_g a.m.now a.s l.t _ l.i _ _ l.invariant.2 c.step2.ensures c.before.before.mix-g.ensures (omega (arith, c.before.word-g.ensures)) (omega arith) (omega arith))
 
 loop3-holds :
     tie.Need-loop3-init invariant-loop decreases-loop invariant-loop2 decreases-loop2 invariant-loop3 decreases-loop3 invariant-loop4 decreases-loop4
@@ -121,7 +121,7 @@ loop3-again :
 loop3-again c =
     let a = c.before.before.before.before.before.before.before.before.before.before.args in
     let l = c.before.before.before.before.loop3 in
-    (omega arith, omega arith, next-h a.m.now a.s l.t _ l.i _ _ l.invariant.2 c.step3.ensures c.before.before.mix-h.ensures (omega (arith, c.before.word-h.ensures)) (omega arith) (omega arith))
+    (omega arith, omega arith, next_h a.m.now a.s l.t _ l.i _ _ l.invariant.2 c.step3.ensures c.before.before.mix-h.ensures (omega (arith, c.before.word-h.ensures)) (omega arith) (omega arith))
 
 loop4-holds :
     tie.Need-loop4-init invariant-loop decreases-loop invariant-loop2 decreases-loop2 invariant-loop3 decreases-loop3 invariant-loop4 decreases-loop4
@@ -155,7 +155,7 @@ loop4-again :
 loop4-again c =
     let a = c.before.before.before.before.before.before.before.before.before.before.before.before.args in
     let l = c.before.before.before.before.loop4 in
-    (omega arith, omega arith, next-i a.m.now a.s l.t _ l.i _ _ l.invariant.2 c.step4.ensures c.before.before.mix-i.ensures (omega (arith, c.before.word-i.ensures)) (omega arith))
+    (omega arith, omega arith, next_i a.m.now a.s l.t _ l.i _ _ l.invariant.2 c.step4.ensures c.before.before.mix-i.ensures (omega (arith, c.before.word-i.ensures)) (omega arith))
 
 sum-requires :
     tie.Need-sum-requires invariant-loop decreases-loop invariant-loop2 decreases-loop2 invariant-loop3 decreases-loop3 invariant-loop4 decreases-loop4

@@ -44,9 +44,9 @@ module _ (c : Set) where
   unfolding Ones
   ones = (one_le (c 0), one_le (c 1), one_le (c 2), one_le (c 3), one_le (c 4), one_le (c 5), one_le (c 6), one_le (c 7))
 
-  bit-pack : (i : ℕ) → i < 8 → bit (pack c) i ≡ c i
+  bit_pack : (i : ℕ) → i < 8 → bit (pack c) i ≡ c i
   unfolding bit pack Ones
-  bit-pack =
+  bit_pack =
       let o = ones in
       eight (λ i. bit (pack c) i ≡ c i)
       (at 0 (omega arith)) (at 1 (omega arith)) (at 2 (omega arith)) (at 3 (omega arith))
@@ -55,16 +55,16 @@ module _ (c : Set) where
       at : (i : ℕ) → pack c / 2 ^ (7 - i) % 2 ≡ one (c i) → bit (pack c) i ≡ c i
       at i e = rw e (eqb_one (c i))
 
-  new-bit : (i : ℕ) → i < 8 → c i ≡ false → pack c + 2 ^ (7 - i) ≡ pack (add i c)
+  new_bit : (i : ℕ) → i < 8 → c i ≡ false → pack c + 2 ^ (7 - i) ≡ pack (add i c)
   unfolding pack
-  new-bit =
+  new_bit =
       eight (λ i. c i ≡ false → pack c + 2 ^ (7 - i) ≡ pack (add i c))
       (λ e. rw e (omega arith)) (λ e. rw e (omega arith)) (λ e. rw e (omega arith)) (λ e. rw e (omega arith))
       (λ e. rw e (omega arith)) (λ e. rw e (omega arith)) (λ e. rw e (omega arith)) (λ e. rw e (omega arith))
 
-  with-pack : (i : ℕ) → i < 8 → with_bit (pack c) i ≡ pack (add i c)
+  with_pack : (i : ℕ) → i < 8 → with_bit (pack c) i ≡ pack (add i c)
   unfolding with_bit
-  with-pack i l = rw (bit-pack i l) (split (c i) (λ e. rw e (ap pack (sym (add_idle i c e)))) (λ e. rw e (new-bit i l e)))
+  with_pack i l = rw (bit_pack i l) (split (c i) (λ e. rw e (ap pack (sym (add_idle i c e)))) (λ e. rw e (new_bit i l e)))
 
 pack_cong : (c d : Set) → ((i : ℕ) → i < 8 → c i ≡ d i) → pack c ≡ pack d
 unfolding pack
@@ -85,7 +85,7 @@ pub marked_map : (n : ℕ) (S : Set) (k : ℕ) → k < n * 8 → marked_in (map_
 unfolding marked_in map_of octet
 marked_map n S k h =
     rw (get_d_tab n (octet S) (k / 8) (omega arith))
-    (bit-pack (λ i. S (k / 8 * 8 + i)) (k % 8) (omega arith) ∙ ap S (omega arith))
+    (bit_pack (λ i. S (k / 8 * 8 + i)) (k % 8) (omega arith) ∙ ap S (omega arith))
 
 pub marks_map : (n : ℕ) (S : Set) → marks (map_of n S) ≡ size (n * 8) S
 unfolding marks
@@ -120,7 +120,7 @@ mark_map n S k h =
         rw e
         (get_or-set_same (map_of n S) (k / 8) _ 0 len
         ∙ ap (λ (x : ℕ). with_bit x (k % 8)) (get_d_tab n (octet S) (k / 8) l')
-        ∙ with-pack (λ i. S (k / 8 * 8 + i)) (k % 8) (omega arith)
+        ∙ with_pack (λ i. S (k / 8 * 8 + i)) (k % 8) (omega arith)
         ∙ sym (octet_here S (k / 8) (k % 8))
         ∙ ap (λ (x : ℕ). octet (add x S) (k / 8)) (omega arith))
 

@@ -46,9 +46,9 @@ module _ (A : Set) (m d : List ℕ) (k : Kept A m d) where
       ((at / 256 - 1) * 256 + get_or d (at / 256 - 1) 0, t.1, (omega (arith, t.0), omega (arith, t.0))))))
 
   -- and where there is one it is yes
-  pub touches-near : (at a : ℕ) → A a ≡ true → Near a at → touches_in m d at ≡ true
+  pub touches_near : (at a : ℕ) → A a ≡ true → Near a at → touches_in m d at ≡ true
   unfolding touches_in left_in
-  touches-near at a y l =
+  touches_near at a y l =
       let t = k.all a y in
       split (marked_in m (at / 256))
       (λ q. rw q)
@@ -132,10 +132,10 @@ module _ (m d : List ℕ) (c o : ℕ) {b : Bool} {x : ℕ} (e : b ≡ marked_in 
   unfolding left_in
   left_after y = rw ((λ i. sym e i && ltb (sym f i) o) ∙ y)
 
-  pub left-zero : b && ltb x o ≡ false → c ≡ 0 → false ≡ left_in m d c o
+  pub left_zero : b && ltb x o ≡ false → c ≡ 0 → false ≡ left_in m d c o
   unfolding left_in
-  left-zero n z = rw ((λ i. sym e i && ltb (sym f i) o) ∙ n, eq-eqb c 0 z)
+  left_zero n z = rw ((λ i. sym e i && ltb (sym f i) o) ∙ n, eq-eqb c 0 z)
 
-  pub left-before : b && ltb x o ≡ false → c ≢ 0 → {b' : Bool} {x' : ℕ} → b' ≡ marked_in m (c - 1) → x' ≡ get_or d (c - 1) 0 → b' && ltb o x' ≡ left_in m d c o
+  pub left_before : b && ltb x o ≡ false → c ≢ 0 → {b' : Bool} {x' : ℕ} → b' ≡ marked_in m (c - 1) → x' ≡ get_or d (c - 1) 0 → b' && ltb o x' ≡ left_in m d c o
   unfolding left_in
-  left-before n z g h = rw ((λ i. sym e i && ltb (sym f i) o) ∙ n, ne_eqb c 0 z) (λ i. g i && ltb o (h i))
+  left_before n z g h = rw ((λ i. sym e i && ltb (sym f i) o) ∙ n, ne_eqb c 0 z) (λ i. g i && ltb o (h i))

@@ -13,7 +13,7 @@ use lib.Dec.{eqb, ltb, leb}
 use borrow.Rule.Slice.PartMut.{put_mid}
 use borrow.Author.Tests.{lt-ltb, le-ltb, le-leb, eq-eqb, ltb-true, ltb-false, leb-true, leb-false, eqb-true, eqb-false}
 use Rattle.laws.specs.Over.{over}
-use Rattle.laws.proofs.OverLaws.{length_over, over-inside, over-before, over-after, put_over, copied_over}
+use Rattle.laws.proofs.OverLaws.{length_over, over_inside, over_before, over_after, put_over, copied_over}
 use Rattle.laws.proofs.Tests.{split, and_left, and_right, is_false}
 use Rattle.memory.specs.Many.{many}
 use Rattle.memory.proofs.fill.Laws.{length_many, get_d_many}
@@ -44,49 +44,49 @@ right_length n w = rw (eq-eqb (n % 4096) 0 w.whole, le-leb 4096 n w.least, le-le
 -- ---- a sector erased
 
 module _ (f : List ℕ) (k : ℕ) where
-  pub erase-in : k < length f / 4096 → erase_at f k ≡ over f (k * 4096) (many 4096 255)
+  pub erase_in : k < length f / 4096 → erase_at f k ≡ over f (k * 4096) (many 4096 255)
   unfolding erase_at
-  erase-in h = rw (lt-ltb k (length f / 4096) h) refl
+  erase_in h = rw (lt-ltb k (length f / 4096) h) refl
 
-  pub erase-past : length f / 4096 ≤ k → erase_at f k ≡ f
+  pub erase_past : length f / 4096 ≤ k → erase_at f k ≡ f
   unfolding erase_at
-  erase-past h = rw (le-ltb k (length f / 4096) h) refl
+  erase_past h = rw (le-ltb k (length f / 4096) h) refl
 
   room : k < length f / 4096 → k * 4096 + length (many 4096 255) ≤ length f
   room h = rw (length_many 4096 255) (omega arith)
 
-  pub length-erase : length (erase_at f k) ≡ length f
-  length-erase =
+  pub length_erase : length (erase_at f k) ≡ length f
+  length_erase =
       split (ltb k (length f / 4096))
       (λ y.
       let h = ltb-true _ _ y in
-      rw (erase-in h) (length_over f (k * 4096) (many 4096 255) (room h)))
-      (λ z. rw (erase-past (ltb-false _ _ z)) refl)
+      rw (erase_in h) (length_over f (k * 4096) (many 4096 255) (room h)))
+      (λ z. rw (erase_past (ltb-false _ _ z)) refl)
 
   inside : k < length f / 4096 → (j : ℕ) → j / 4096 ≡ k → get_or (erase_at f k) j 0 ≡ 255
   inside h j e =
-      rw (erase-in h)
-      (over-inside f (k * 4096) (many 4096 255) (room h) j (omega arith) (rw (length_many 4096 255) (omega arith))
+      rw (erase_in h)
+      (over_inside f (k * 4096) (many 4096 255) (room h) j (omega arith) (rw (length_many 4096 255) (omega arith))
       ∙ get_d_many 4096 255 (j - k * 4096) (omega arith))
 
   outside : k < length f / 4096 → (j : ℕ) → j / 4096 ≢ k → get_or (erase_at f k) j 0 ≡ get_or f j 0
   outside h j n =
-      rw (erase-in h)
+      rw (erase_in h)
       (split (ltb j (k * 4096))
-      (λ y. over-before f (k * 4096) (many 4096 255) (room h) j (ltb-true _ _ y))
+      (λ y. over_before f (k * 4096) (many 4096 255) (room h) j (ltb-true _ _ y))
       (λ z.
       let b : k * 4096 ≤ j = ltb-false _ _ z in
-      over-after f (k * 4096) (many 4096 255) (room h) j (rw (length_many 4096 255) (omega arith))))
+      over_after f (k * 4096) (many 4096 255) (room h) j (rw (length_many 4096 255) (omega arith))))
 
   -- each byte afterwards
-  pub getD-erase : (j : ℕ) → get_or (erase_at f k) j 0 ≡ cond (eqb (j / 4096) k && ltb k (length f / 4096)) 255 (get_or f j 0)
-  getD-erase j =
+  pub get_d_erase : (j : ℕ) → get_or (erase_at f k) j 0 ≡ cond (eqb (j / 4096) k && ltb k (length f / 4096)) 255 (get_or f j 0)
+  get_d_erase j =
       split (ltb k (length f / 4096))
       (λ y.
       split (eqb (j / 4096) k)
       (λ e. rw (y, e) (inside (ltb-true _ _ y) j (eqb-true _ _ e)))
       (λ e. rw (y, e) (outside (ltb-true _ _ y) j (eqb-false _ _ e))))
-      (λ z. rw (z, and-false (eqb (j / 4096) k), erase-past (ltb-false _ _ z)) refl)
+      (λ z. rw (z, and-false (eqb (j / 4096) k), erase_past (ltb-false _ _ z)) refl)
 
 -- ---- a payload stored
 
@@ -115,11 +115,11 @@ unfolding payload_of
 get_d_payload a i l = get_or-take 256 (drop 32 a) i 0 l ∙ get_or-drop 32 a i 0
 
 module _ (f : List ℕ) (at : ℕ) (p : List ℕ) where
-  pub room-yes : length p ≡ 256 → at + 256 ≤ length f → room_at f at p ≡ true
-  room-yes n l = rw (eq-eqb (length p) 256 n, le-leb (at + 256) (length f) l)
+  pub room_yes : length p ≡ 256 → at + 256 ≤ length f → room_at f at p ≡ true
+  room_yes n l = rw (eq-eqb (length p) 256 n, le-leb (at + 256) (length f) l)
 
-  room-true : room_at f at p ≡ true → (length p ≡ 256) × (at + 256 ≤ length f)
-  room-true h = (
+  room_true : room_at f at p ≡ true → (length p ≡ 256) × (at + 256 ≤ length f)
+  room_true h = (
     eqb-true _ _ (and_left (eqb (length p) 256) (leb (at + 256) (length f)) h),
     leb-true _ _ (and_right (eqb (length p) 256) (leb (at + 256) (length f)) h),
   )
@@ -128,36 +128,36 @@ module _ (f : List ℕ) (at : ℕ) (p : List ℕ) where
   unfolding store_at
   store_in h = rw h refl
 
-  store-no : room_at f at p ≡ false → store_at f at p ≡ f
+  store_no : room_at f at p ≡ false → store_at f at p ≡ f
   unfolding store_at
-  store-no h = rw h refl
+  store_no h = rw h refl
 
   -- a payload of another length, or past the end, changes nothing
-  pub store-past : ((length p ≡ 256) × (at + 256 ≤ length f) → ⊥) → store_at f at p ≡ f
-  store-past n = store-no (is_false (room_at f at p) (λ h. n (room-true h)))
+  pub store_past : ((length p ≡ 256) × (at + 256 ≤ length f) → ⊥) → store_at f at p ≡ f
+  store_past n = store_no (is_false (room_at f at p) (λ h. n (room_true h)))
 
-  pub length-store : length (store_at f at p) ≡ length f
-  length-store =
+  pub length_store : length (store_at f at p) ≡ length f
+  length_store =
       split (room_at f at p)
-      (λ y. let r = room-true y in rw (store_in y) (length_over f at p (omega (arith, r))))
-      (λ z. rw (store-no z) refl)
+      (λ y. let r = room_true y in rw (store_in y) (length_over f at p (omega (arith, r))))
+      (λ z. rw (store_no z) refl)
 
   -- each byte afterwards
-  pub getD-store : (j : ℕ) → get_or (store_at f at p) j 0 ≡ cond (room_at f at p && spans at j) (get_or p (j - at) 0) (get_or f j 0)
-  getD-store j = split (room_at f at p) (λ y. rw y (fitted y)) (λ z. rw z (ap (λ (l : List ℕ). get_or l j 0) (store-no z)))
+  pub get_d_store : (j : ℕ) → get_or (store_at f at p) j 0 ≡ cond (room_at f at p && spans at j) (get_or p (j - at) 0) (get_or f j 0)
+  get_d_store j = split (room_at f at p) (λ y. rw y (fitted y)) (λ z. rw z (ap (λ (l : List ℕ). get_or l j 0) (store_no z)))
     where
       fitted : room_at f at p ≡ true → get_or (store_at f at p) j 0 ≡ cond (spans at j) (get_or p (j - at) 0) (get_or f j 0)
       fitted y =
-          let r = room-true y in
+          let r = room_true y in
           let fits : at + length p ≤ length f = omega (arith, r) in
           let n : length p ≡ 256 = r.0 in
           rw (store_in y)
           (split (leb at j)
           (λ u.
           split (ltb j (at + 256))
-          (λ v. rw (u, v) (over-inside f at p fits j (leb-true _ _ u) (rw n (ltb-true _ _ v))))
-          (λ v. rw (u, v) (over-after f at p fits j (rw n (ltb-false _ _ v)))))
-          (λ u. rw u (over-before f at p fits j (leb-false _ _ u))))
+          (λ v. rw (u, v) (over_inside f at p fits j (leb-true _ _ u) (rw n (ltb-true _ _ v))))
+          (λ v. rw (u, v) (over_after f at p fits j (rw n (ltb-false _ _ v)))))
+          (λ u. rw u (over_before f at p fits j (leb-false _ _ u))))
 
 -- ---- in the shape of the code's returns
 
@@ -169,10 +169,10 @@ filled a n v xs ys l e =
     put_over a n xs ys (rw y (length_many n v)) ∙ rw y refl
 
 pub store_short : (f : List ℕ) (at : ℕ) (a : List ℕ) → length a < 288 → f ≡ store_at f at (payload_of a)
-store_short f at a h = sym (store-past f at (payload_of a) (λ r. omega (arith, r, short_payload a h)))
+store_short f at a h = sym (store_past f at (payload_of a) (λ r. omega (arith, r, short_payload a h)))
 
 pub store_out : (f : List ℕ) (at : ℕ) (a : List ℕ) → length f < at + 256 → f ≡ store_at f at (payload_of a)
-store_out f at a h = sym (store-past f at (payload_of a) (λ r. omega (arith, r)))
+store_out f at a h = sym (store_past f at (payload_of a) (λ r. omega (arith, r)))
 
 -- a part of 256 bytes into which the payload was copied
 pub stored : (at : ℕ) (f a ys : List ℕ) → 288 ≤ length a → at + 256 ≤ length f
@@ -181,4 +181,4 @@ pub stored : (at : ℕ) (f a ys : List ℕ) → 288 ≤ length a → at + 256 �
 unfolding payload_of
 stored at f a ys h l e =
     let n : length (payload_of a) ≡ 256 = length_payload a h in
-    copied_over at 256 f (payload_of a) ys n l e ∙ sym (store_in f at (payload_of a) (room-yes f at (payload_of a) n l))
+    copied_over at 256 f (payload_of a) ys n l e ∙ sym (store_in f at (payload_of a) (room_yes f at (payload_of a) n l))

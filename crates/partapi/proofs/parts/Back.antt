@@ -13,7 +13,7 @@ use Rattle.uf2_block.specs.Block.{field_at}
 use Rattle.uf2_block.specs.Write.{le32}
 use Rattle.uf2_block.proofs.WriteLaws.{field_le32}
 use Rattle.trace_layout.specs.Reports.{report_from, report_bytes}
-use Rattle.trace_layout.proofs.reports.Back.{Small, report-back, other_refused}
+use Rattle.trace_layout.proofs.reports.Back.{Small, report_back, other_refused}
 use Rattle.trace_parts.specs.declared.Part.{Part}
 use Rattle.trace_parts.specs.Merging.{good_part}
 use Rattle.partapi.specs.Parts.{part_from, part_bytes, part_written}
@@ -39,18 +39,18 @@ module _ (p : Part) (c : SmallPart p) where
   abbrev d : List ℕ
   d = le32 p.differs
 
-  traces-back : field_at (r ++ (t ++ (x ++ d))) 84 ≡ p.traces
-  traces-back = ap (field_at (r ++ (t ++ (x ++ d)))) (sym (report_long p.report)) ∙ field_le32 r p.traces (x ++ d) c.traces
+  traces_back : field_at (r ++ (t ++ (x ++ d))) 84 ≡ p.traces
+  traces_back = ap (field_at (r ++ (t ++ (x ++ d)))) (sym (report_long p.report)) ∙ field_le32 r p.traces (x ++ d) c.traces
 
-  bad-back : field_at (r ++ (t ++ (x ++ d))) 88 ≡ p.bad
-  bad-back =
+  bad_back : field_at (r ++ (t ++ (x ++ d))) 88 ≡ p.bad
+  bad_back =
       let n : 88 ≡ length (r ++ t) = sym (simp (length-append, report_long p.report, length_low)) in
       ap (field_at (r ++ (t ++ (x ++ d)))) n
       ∙ ap (λ (b : List ℕ). field_at b (length (r ++ t))) (sym (append_assoc r t (x ++ d)))
       ∙ field_le32 (r ++ t) p.bad d c.bad
 
-  differs-back : field_at (r ++ (t ++ (x ++ d))) 92 ≡ p.differs
-  differs-back =
+  differs_back : field_at (r ++ (t ++ (x ++ d))) 92 ≡ p.differs
+  differs_back =
       let q = (r ++ t) ++ x in
       let n : 92 ≡ length q = sym (simp (length-append, report_long p.report, length_low)) in
       let e : r ++ (t ++ (x ++ d)) ≡ q ++ (d ++ []) =
@@ -60,16 +60,16 @@ module _ (p : Part) (c : SmallPart p) where
       ∙ field_le32 q p.differs [] c.differs
 
   -- a part that is written is read back
-  pub part-back : part_from (part_bytes p) ≡ p
+  pub part_back : part_from (part_bytes p) ≡ p
   unfolding part_from part_bytes
-  part-back =
+  part_back =
       let n = report_long p.report in
       let h : take 84 (r ++ (t ++ (x ++ d))) ≡ r = take_at r (t ++ (x ++ d)) 84 n in
-      rw (eq-eqb (length (r ++ (t ++ (x ++ d)))) 96 (words_long p), h, report-back p.report c.report, traces-back, bad-back, differs-back)
+      rw (eq-eqb (length (r ++ (t ++ (x ++ d)))) 96 (words_long p), h, report_back p.report c.report, traces_back, bad_back, differs_back)
 
   pub written_back : (b : List ℕ) → length b ≡ 96 → part_from (part_written b p) ≡ p
   unfolding part_written
-  written_back b l = rw (eq-eqb (length b) 96 l) part-back
+  written_back b l = rw (eq-eqb (length b) 96 l) part_back
 
 -- bytes of another length are refused, by 71
 pub other_length : (b : List ℕ) → length b ≢ 96 → good_part (part_from b) ≡ false

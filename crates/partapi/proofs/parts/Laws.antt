@@ -11,7 +11,7 @@ use borrow.Rule.Slice.PartMut.{put_mid}
 use Rattle.laws.specs.Over.{over}
 use Rattle.laws.proofs.BytesLaws.{length_low}
 use Rattle.laws.proofs.OverLaws as overs
-use Rattle.laws.proofs.RowsLaws.{length-rows}
+use Rattle.laws.proofs.RowsLaws.{length_rows}
 use Rattle.uf2_block.specs.Block.{field_at}
 use Rattle.uf2_block.specs.Write.{le32, put_at}
 use Rattle.uf2_block.proofs.WriteLaws.{put_after}
@@ -35,7 +35,7 @@ module _ (b : List ℕ) where
 
 pub report_long : (r : Report) → length (report_bytes r) ≡ 84
 unfolding report_bytes
-report_long r = length-rows 4 21 (word_bytes r) (λ k l. length_low 4 (word_of r k)) 21 (omega arith)
+report_long r = length_rows 4 21 (word_bytes r) (λ k l. length_low 4 (word_of r k)) 21 (omega arith)
 
 pub words_long : (p : Part) → length (part_bytes p) ≡ 96
 unfolding part_bytes
@@ -50,16 +50,16 @@ module _ (b : List ℕ) (p : Part) (l : length b ≡ 96) where
   abbrev r : List ℕ
   r = report_bytes p.report
 
-  report-first : {ys : List ℕ} → ys ≡ report_written (take 84 b) p.report → put_mid 0 84 b ys ≡ over b 0 r
+  report_first : {ys : List ℕ} → ys ≡ report_written (take 84 b) p.report → put_mid 0 84 b ys ≡ over b 0 r
   unfolding report_written
-  report-first {ys} e =
+  report_first {ys} e =
       let h : length (take 84 b) ≡ 84 = length-take-le 84 b (omega arith) in
       let y : ys ≡ r = e ∙ rw (eq-eqb (length (take 84 b)) 84 h) in
       overs.put_over 0 84 b ys (ap length y ∙ report_long p.report) ∙ ap (over b 0) y
 
-  pub write-all : {ys : List ℕ} → ys ≡ report_written (take 84 b) p.report → put_at (put_at (put_at (put_mid 0 84 b ys) 84 p.traces) 88 p.bad) 92 p.differs ≡ part_written b p
+  pub write_all : {ys : List ℕ} → ys ≡ report_written (take 84 b) p.report → put_at (put_at (put_at (put_mid 0 84 b ys) 84 p.traces) 88 p.bad) 92 p.differs ≡ part_written b p
   unfolding part_written part_bytes
-  write-all e =
+  write_all e =
       let t = le32 p.traces in
       let x = le32 p.bad in
       let d = le32 p.differs in
@@ -67,7 +67,7 @@ module _ (b : List ℕ) (p : Part) (l : length b ≡ 96) where
       let n1 : length (r ++ t) ≡ 88 = simp (length-append, n, length_low) in
       let n2 : length ((r ++ t) ++ x) ≡ 92 = simp (length-append, n, length_low) in
       rw (
-        report-first e,
+        report_first e,
         put_after b r 84 p.traces n (omega arith),
         put_after b (r ++ t) 88 p.bad n1 (omega arith),
         put_after b ((r ++ t) ++ x) 92 p.differs n2 (omega arith),

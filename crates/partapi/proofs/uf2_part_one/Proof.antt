@@ -1,12 +1,12 @@
 -- `partapi::uf2_part_one` meets its contract. Assumes nothing.
 use Rattle.laws.proofs.Numbered.{answer_is}
-use Rattle.partapi.proofs.Laws.{one-other, one_told}
+use Rattle.partapi.proofs.Laws.{one_other, one_told}
 use borrow.Author.Rules.{rules}
 use Rattle.partapi.proofs.uf2_part_one.Statement.{statement}
 use Rattle.partapi.proofs.uf2_part_one.Tie as tie
 
 returns : tie.Need-returns
-returns c = one-other _ _ _ c.if1.true
+returns c = one_other _ _ _ c.if1.true
 
 read-report-requires : tie.Need-read-report-requires
 read-report-requires c κs = search rules

@@ -4,7 +4,7 @@ use mathlib.Core.Path.{◌≡◌, sym, ◌∙◌}
 use native.Mathlib.Omega.{arith}
 use Rattle.placement.specs.Place.{first_of, entry_if, in_pass, chosen}
 use Rattle.placement.specs.declared.Choice.TheVariants.{Nothing}
-use Rattle.placement.proofs.First.{first-zero, first_more, first-hit, if-taken, if-passed}
+use Rattle.placement.proofs.First.{first_zero, first_more, first_hit, if_taken, if_passed}
 use borrow.Author.Rules.{rules}
 use Rattle.placement.proofs.choose.Statement.{statement}
 use Rattle.placement.proofs.choose.Tie as tie
@@ -22,10 +22,10 @@ abbrev decreases-search : tie.decreases-search
 decreases-search n w table pass₀ pass = 4 - pass
 
 search-holds : tie.Need-search-init invariant-loop decreases-loop invariant-search decreases-search
-search-holds c = (search rules, first-zero _)
+search-holds c = (search rules, first_zero _)
 
 loop-holds : tie.Need-loop-init invariant-loop decreases-loop invariant-search decreases-search
-loop-holds c = (search rules, first-zero _)
+loop-holds c = (search rules, first_zero _)
 
 mul-e : tie.Need-overflow-mul-e invariant-loop decreases-loop invariant-search decreases-search
 mul-e c = search rules
@@ -45,7 +45,7 @@ loop-less c = search rules
 loop-again : tie.Need-loop-preserved invariant-loop decreases-loop invariant-search decreases-search
 loop-again c = (
   search rules,
-  first_more _ _ c.before.before.before.before.loop.invariant.1 (if-passed _ _ _ _ (sym c.before.takes.ensures ∙ c.if2.false)),
+  first_more _ _ c.before.before.before.before.loop.invariant.1 (if_passed _ _ _ _ (sym c.before.takes.ensures ∙ c.if2.false)),
 )
 
 add-pass : tie.Need-overflow-add-pass invariant-loop decreases-loop invariant-search decreases-search
@@ -69,9 +69,9 @@ unfolding chosen in_pass
 returns-2 c =
     let d = c.before.before.before in
     sym
-    (first-hit _ 4 _ d.before.before.if1.false d.before.before.before.search.invariant.1
-    (first-hit _ _ _ d.loop-test.true d.before.loop.invariant.1
-    (if-taken _ _ _ _ (sym c.before.takes.ensures ∙ c.if2.true))))
+    (first_hit _ 4 _ d.before.before.if1.false d.before.before.before.search.invariant.1
+    (first_hit _ _ _ d.loop-test.true d.before.loop.invariant.1
+    (if_taken _ _ _ _ (sym c.before.takes.ensures ∙ c.if2.true))))
 
 pub choose_spec : {M : Type 1} → statement M
 choose_spec =

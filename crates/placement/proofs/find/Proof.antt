@@ -4,7 +4,7 @@ use mathlib.Core.Bool.{Bool}
 use native.Mathlib.Omega.{arith}
 use Rattle.laws.specs.Numbered.{numbered}
 use Rattle.placement.specs.Place.{whole_if, place_of_choice, place_number}
-use Rattle.placement.proofs.Laws.{place-absolute, place-rp2040, place-whole, place-table, used_most, chosen_is, entry_below}
+use Rattle.placement.proofs.Laws.{place_absolute, place_rp2040, place-whole, place-table, used_most, chosen_is, entry_below}
 use borrow.Author.Rules.{rules}
 use Rattle.placement.proofs.find.Statement.{statement}
 use Rattle.placement.proofs.find.Tie as tie
@@ -13,10 +13,10 @@ whole-if-requires : tie.Need-whole-if-requires
 whole-if-requires c κs = search rules
 
 returns : tie.Need-returns
-returns c = (ap (numbered place_number) (c.whole-if.ensures.0 ∙ sym (place-absolute _ _ _ c.before.if1.true)), c.whole-if.ensures.1)
+returns c = (ap (numbered place_number) (c.whole-if.ensures.0 ∙ sym (place_absolute _ _ _ c.before.if1.true)), c.whole-if.ensures.1)
 
 returns-2 : tie.Need-returns-2
-returns-2 c = (ap (numbered place_number) (sym (place-rp2040 _ _ _ c.if2.true)), tt)
+returns-2 c = (ap (numbered place_number) (sym (place_rp2040 _ _ _ c.if2.true)), tt)
 
 gets-whole-requires : tie.Need-gets-whole-requires
 gets-whole-requires c κs = search rules

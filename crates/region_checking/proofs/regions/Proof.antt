@@ -1,7 +1,7 @@
 -- `regions` meets its contract. Assumes nothing.
 use native.Mathlib.Omega.{arith}
-use Rattle.region_checking.proofs.Laws.{noted-none}
-use Rattle.region_checking.proofs.Files.{some-piece, roomy_is, regions-is}
+use Rattle.region_checking.proofs.Laws.{noted_none}
+use Rattle.region_checking.proofs.Files.{some_piece, roomy_is, regions-is}
 use borrow.Author.Rules.{rules}
 use Rattle.region_checking.proofs.regions.Statement.{statement}
 use Rattle.region_checking.proofs.regions.Tie as tie
@@ -13,7 +13,7 @@ part-field-start : tie.Need-slice-bounds-field-start
 part-field-start c = search rules
 
 part-field-end : tie.Need-slice-bounds-field-end
-part-field-end c = let e = some-piece _ _ _ c.before.before.before.before.requires.checked in omega (arith, e)
+part-field-end c = let e = some_piece _ _ _ c.before.before.before.before.requires.checked in omega (arith, e)
 
 field-requires : tie.Need-field-requires
 field-requires c κs = search rules
@@ -25,7 +25,7 @@ size-of-requires : tie.Need-size-of-requires
 size-of-requires c κs = search rules
 
 each-region-requires : tie.Need-each-region-requires
-each-region-requires c κs = (roomy_is _ _ _ c.before.before.before.before.before.before.before.before.before.before.before.requires c.before.before.before.type_size.ensures c.before.before.before.before.rooms-for.ensures.0 c.before.before.before.before.before.field.ensures, noted-none _ _ _ c.before.before.before.before.before.before.before.before.before.before.before.requires.clear)
+each-region-requires c κs = (roomy_is _ _ _ c.before.before.before.before.before.before.before.before.before.before.before.requires c.before.before.before.type_size.ensures c.before.before.before.before.rooms-for.ensures.0 c.before.before.before.before.before.field.ensures, noted_none _ _ _ c.before.before.before.before.before.before.before.before.before.before.before.requires.clear)
 
 same_length : tie.Need-same-length
 same_length c = search rules

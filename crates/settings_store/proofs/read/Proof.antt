@@ -3,7 +3,7 @@ use mathlib.Core.Path.{ap, ◌∙◌}
 use native.Mathlib.Omega.{arith}
 use Rattle.laws.specs.Numbered.{numbered}
 use Rattle.settings_store.specs.Store.{read_number}
-use Rattle.settings_store.proofs.Cases.{read-1, read_short, read-on}
+use Rattle.settings_store.proofs.Cases.{read_1, read_short, read-on}
 use Rattle.settings_store.proofs.write.Cases.{is_off, is_on_lem}
 use borrow.Author.Rules.{rules}
 use Rattle.settings_store.proofs.read.Statement.{statement}
@@ -16,7 +16,7 @@ refuse-requires : tie.Need-refuse-requires
 refuse-requires c κs = search rules
 
 returns : tie.Need-returns
-returns c = ap (numbered read_number) (c.refuse.ensures ∙ read-1 _ _ (is_off _ c.before.before.right_length.ensures c.before.if1.true))
+returns c = ap (numbered read_number) (c.refuse.ensures ∙ read_1 _ _ (is_off _ c.before.before.right_length.ensures c.before.if1.true))
 
 refuse-requires-2 : tie.Need-refuse-requires-2
 refuse-requires-2 c κs = search rules

@@ -1,7 +1,7 @@
 -- `store::read_head` meets its contract. Assumes nothing.
 use mathlib.Core.Path.{◌∙◌}
 use native.Mathlib.Omega.{arith}
-use Rattle.settings_store.proofs.Cases.{read-40, read-many, read-41, read-42, read-2, read-good}
+use Rattle.settings_store.proofs.Cases.{read_40, read-many, read-41, read-42, read-2, read_good}
 use Rattle.settings_store.proofs.write.Cases.{is_off, is_on_lem}
 use borrow.Author.Rules.{rules}
 use Rattle.settings_store.proofs.read_head.Statement.{statement}
@@ -16,7 +16,7 @@ refuse-requires c κs = search rules
 returns : tie.Need-returns
 returns c =
     let a = c.before.before.before.args in
-    c.refuse.ensures ∙ read-40 a.b.now a.flash-len a.x c.before.if1.true
+    c.refuse.ensures ∙ read_40 a.b.now a.flash-len a.x c.before.if1.true
 
 refuse-requires-2 : tie.Need-refuse-requires-2
 refuse-requires-2 c κs = search rules
@@ -73,7 +73,7 @@ returns-5 c =
 returns-6 : tie.Need-returns-6
 returns-6 c =
     let a = c.before.before.before.before.before.before.before.before.before.before.before.args in
-    read-good a.b.now a.flash-len a.x c.before.before.before.before.before.before.before.before.before.if1.false (omega arith) (omega arith) c.before.before.before.before.before.before.scan.ensures.0 c.before.before.before.before.before.before.scan.ensures.1 c.before.before.before.before.no-restart-in.ensures c.before.before.before.if4.false c.before.before.settings_of_lem.ensures (is_on_lem _ c.before.good2.ensures c.if5.false)
+    read_good a.b.now a.flash-len a.x c.before.before.before.before.before.before.before.before.before.if1.false (omega arith) (omega arith) c.before.before.before.before.before.before.scan.ensures.0 c.before.before.before.before.before.before.scan.ensures.1 c.before.before.before.before.no-restart-in.ensures c.before.before.before.if4.false c.before.before.settings_of_lem.ensures (is_on_lem _ c.before.good2.ensures c.if5.false)
 
 pub read-head-spec : {M : Type 1} → statement M
 read-head-spec =

@@ -26,18 +26,18 @@ is_on_lem false e h = absurd (true≢false h)
 -- ---- "don't restart" in a table
 
 module _ (table : List Entry) (n : ℕ) where
-  pub no-restart-few : n ≤ 16 → no_restart_in table n ≡ any n (no_restart_at table)
-  no-restart-few h = rw (le-leb n 16 h) refl
+  pub no_restart_few : n ≤ 16 → no_restart_in table n ≡ any n (no_restart_at table)
+  no_restart_few h = rw (le-leb n 16 h) refl
 
-  pub no-restart-many : 16 < n → no_restart_in table n ≡ false
-  no-restart-many h = rw (lt-leb n 16 h) refl
+  pub no_restart_many : 16 < n → no_restart_in table n ≡ false
+  no_restart_many h = rw (lt-leb n 16 h) refl
 
 -- ---- writing
 
 module _ (s : Settings) (len : ℕ) (out : List ℕ) where
-  pub write-1 : flash_length len ≡ false → write_call BadBuffers out ≡ write_of s len out
+  pub write_1 : flash_length len ≡ false → write_call BadBuffers out ≡ write_of s len out
   unfolding write_of
-  write-1 h = rw h
+  write_1 h = rw h
 
   module _ (p : flash_length len ≡ true) where
     pub write-2 : good_settings s len ≡ false → write_call BadSettings out ≡ write_of s len out

@@ -8,7 +8,7 @@ use borrow.Rule.Slice.PartMut.{put_mid}
 use Rattle.laws.specs.Over.{over}
 use Rattle.laws.specs.Rows.{rows}
 use Rattle.laws.proofs.OverLaws.{length_over, set_over, over_next, copied_over}
-use Rattle.laws.proofs.RowsLaws.{rows_none, rows_more, length-rows}
+use Rattle.laws.proofs.RowsLaws.{rows_none, rows_more, length_rows}
 use Rattle.partitions.specs.declared.Entry.{Entry}
 use Rattle.partitions.specs.declared.Settings.{Settings}
 use Rattle.partitions.specs.Settings.{entry_at}
@@ -33,7 +33,7 @@ rows_first out t h = rw (rows_none (row_at t)) (sym (take-append-drop 2 out))
 module _ (out₀ : List ℕ) (t : List Entry) where
   pub rows_long : (out : List ℕ) (k : ℕ) → 2 + 22 * k ≤ length out₀ → out ≡ over out₀ 2 (rows (row_at t) k) → length out ≡ length out₀
   rows_long out k room s =
-      let fits : 2 + length (rows (row_at t) k) ≤ length out₀ = omega (arith, length-rows 22 k (row_at t) (λ j l. length_row t j) k (omega arith)) in
+      let fits : 2 + length (rows (row_at t) k) ≤ length out₀ = omega (arith, length_rows 22 k (row_at t) (λ j l. length_row t j) k (omega arith)) in
       ap length s ∙ length_over out₀ 2 (rows (row_at t) k) fits
 
   -- one row more, copied into the part that was lent
@@ -45,7 +45,7 @@ module _ (out₀ : List ℕ) (t : List Entry) where
       let y : r ≡ row_at t k = row_is t k he hr in
       let long : length r ≡ 22 = ap length y ∙ length_row t k in
       let same = rows_long out k (omega arith) s in
-      let at : 2 + length (rows (row_at t) k) ≡ 2 + 22 * k = omega (arith, length-rows 22 k (row_at t) (λ j l. length_row t j) k (omega arith)) in
+      let at : 2 + length (rows (row_at t) k) ≡ 2 + 22 * k = omega (arith, length_rows 22 k (row_at t) (λ j l. length_row t j) k (omega arith)) in
       copied_over (2 + 22 * k) 22 out r ys long (omega arith) hy
       ∙ rw (y, s, rows_more (row_at t) k) (over_next out₀ 2 (rows (row_at t) k) (2 + 22 * k) (row_at t k) at (omega (arith, length_row t k)))
 
@@ -58,7 +58,7 @@ head_put s out x room e =
     let r = rows (row_at s.table) s.count in
     let a = x / 256 % 256 in
     let b = x / 1 % 256 in
-    let long : length r ≡ 22 * s.count = length-rows 22 s.count (row_at s.table) (λ j l. length_row s.table j) s.count (omega arith) in
+    let long : length r ≡ 22 * s.count = length_rows 22 s.count (row_at s.table) (λ j l. length_row s.table j) s.count (omega arith) in
     let one : set out 0 a ≡ over out 0 (a ∷ []) = set_over out 0 a (omega arith) in
     let same = length_over out 0 (a ∷ []) (omega arith) in
     let two : set (over out 0 (a ∷ [])) 1 b ≡ over out 0 (a ∷ b ∷ []) = set_over (over out 0 (a ∷ [])) 1 b (omega arith) ∙ over_next out 0 (a ∷ []) 1 (b ∷ []) refl (omega arith) in

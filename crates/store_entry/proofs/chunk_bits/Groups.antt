@@ -47,8 +47,8 @@ module _ (h u v w x tail : ℕ) (ph : h < 2 ^ 42) (pu : u < 2 ^ 32) (pv : v < 2 
       (pair 30 2 (x / 4) (x % 4) x (omega arith) (omega arith) (omega arith)
       (solo 6 tail pt done)))))
 
-  as-groups : Coarse fine parts grouped (h / 4 ∷ mid h u ∷ mid u v ∷ mid v w ∷ mid w x ∷ (x % 4 * 64 + tail) ∷ [])
-  as-groups =
+  as_groups : Coarse fine parts grouped (h / 4 ∷ mid h u ∷ mid u v ∷ mid v w ∷ mid w x ∷ (x % 4 * 64 + tail) ∷ [])
+  as_groups =
       solo 40 (h / 4) (omega arith)
       (pair 2 30 (h % 4) (u / 4) (mid h u) (omega arith) (omega arith) refl
       (pair 2 30 (u % 4) (v / 4) (mid u v) (omega arith) (omega arith) refl
@@ -56,14 +56,14 @@ module _ (h u v w x tail : ℕ) (ph : h < 2 ^ 42) (pu : u < 2 ^ 32) (pv : v < 2 
       (pair 2 30 (w % 4) (x / 4) (mid w x) (omega arith) (omega arith) refl
       (pair 2 6 (x % 4) tail (x % 4 * 64 + tail) (omega arith) pt refl done)))))
 
-  all-bytes : Coarse (octets 22) (spread (h / 4) (mid h u) (mid u v) (mid v w) (mid w x) (x % 4 * 64 + tail)) grouped (h / 4 ∷ mid h u ∷ mid u v ∷ mid v w ∷ mid w x ∷ (x % 4 * 64 + tail) ∷ [])
-  all-bytes = as_bytes (h / 4) (mid h u) (mid u v) (mid v w) (mid w x) (x % 4 * 64 + tail) (omega arith) (omega arith) (omega arith) (omega arith) (omega arith) (omega arith)
+  all_bytes : Coarse (octets 22) (spread (h / 4) (mid h u) (mid u v) (mid v w) (mid w x) (x % 4 * 64 + tail)) grouped (h / 4 ∷ mid h u ∷ mid u v ∷ mid v w ∷ mid w x ∷ (x % 4 * 64 + tail) ∷ [])
+  all_bytes = as_bytes (h / 4) (mid h u) (mid u v) (mid v w) (mid w x) (x % 4 * 64 + tail) (omega arith) (omega arith) (omega arith) (omega arith) (omega arith) (omega arith)
 
   chunked : spread (h / 4) (mid h u) (mid u v) (mid v w) (mid w x) (x % 4 * 64 + tail) ≡ chunk_bytes h u v w x tail
   unfolding chunk_bytes
   chunked =
-      bytes_are chunk_widths 22 computes (h ∷ u ∷ v ∷ w ∷ x ∷ tail ∷ []) (coarse_fit all-bytes)
-      (coarse_packed all-bytes ∙ (sym (coarse_packed as-groups) ∙ coarse_packed as_fields))
+      bytes_are chunk_widths 22 computes (h ∷ u ∷ v ∷ w ∷ x ∷ tail ∷ []) (coarse_fit all_bytes)
+      (coarse_packed all_bytes ∙ (sym (coarse_packed as_groups) ∙ coarse_packed as_fields))
 
   pub chunks : (a b c d e f : ℕ) → a ≡ h / 4 → b ≡ mid h u → c ≡ mid u v → d ≡ mid v w → e ≡ mid w x → f ≡ x % 4 * 64 + tail
       → a / 4294967296 % 256 ∷ a / 16777216 % 256 ∷ a / 65536 % 256 ∷ a / 256 % 256 ∷ a % 256 ∷ b / 16777216 % 256 ∷ b / 65536 % 256 ∷ b / 256 % 256 ∷ b % 256 ∷ c / 16777216 % 256 ∷ c / 65536 % 256 ∷ c / 256 % 256 ∷ c % 256 ∷ d / 16777216 % 256 ∷ d / 65536 % 256 ∷ d / 256 % 256 ∷ d % 256 ∷ e / 16777216 % 256 ∷ e / 65536 % 256 ∷ e / 256 % 256 ∷ e % 256 ∷ f ∷ [] ≡ chunk_bytes h u v w x tail

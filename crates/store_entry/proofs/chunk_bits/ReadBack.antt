@@ -8,7 +8,7 @@ use native.Mathlib.Omega.{arith}
 use lib.ListN.{length, get_or}
 use borrow.Author.Tests.{eq-eqb, ne_eqb}
 use Rattle.laws.specs.Packing.{total, packed, octets, Fit, none, one}
-use Rattle.laws.proofs.Widths.{fields-are, packed_lt}
+use Rattle.laws.proofs.Widths.{fields_are, packed_lt}
 use Rattle.laws.proofs.Groups.{Coarse, done, group, solo, pair, coarse_packed}
 use Rattle.store_entry.specs.declared.chunk_bits.Chunks.{Chunks}
 use Rattle.store_entry.specs.Chunks.{Joined, chunk_widths, chunk_bytes, chunks_of, chunks_in, regrouped}
@@ -43,8 +43,8 @@ module _ (a b c d e f : ℕ) (pa : a < 2 ^ 40) (pb : b < 2 ^ 32) (pc : c < 2 ^ 3
   abbrev parts : List ℕ
   parts = a ∷ b / 1073741824 ∷ b % 1073741824 ∷ c / 1073741824 ∷ c % 1073741824 ∷ d / 1073741824 ∷ d % 1073741824 ∷ e / 1073741824 ∷ e % 1073741824 ∷ f / 64 ∷ f % 64 ∷ []
 
-  as-groups : Coarse fine parts grouped (a ∷ b ∷ c ∷ d ∷ e ∷ f ∷ [])
-  as-groups =
+  as_groups : Coarse fine parts grouped (a ∷ b ∷ c ∷ d ∷ e ∷ f ∷ [])
+  as_groups =
       solo 40 a pa
       (pair 2 30 (b / 1073741824) (b % 1073741824) b (omega arith) (omega arith) (omega arith)
       (pair 2 30 (c / 1073741824) (c % 1073741824) c (omega arith) (omega arith) (omega arith)
@@ -52,8 +52,8 @@ module _ (a b c d e f : ℕ) (pa : a < 2 ^ 40) (pb : b < 2 ^ 32) (pc : c < 2 ^ 3
       (pair 2 30 (e / 1073741824) (e % 1073741824) e (omega arith) (omega arith) (omega arith)
       (pair 2 6 (f / 64) (f % 64) f (omega arith) (omega arith) (omega arith) done)))))
 
-  as-chunks : Coarse fine parts chunk_widths (list (regrouped a b c d e f))
-  as-chunks =
+  as_chunks : Coarse fine parts chunk_widths (list (regrouped a b c d e f))
+  as_chunks =
       pair 40 2 a (b / 1073741824) (a * 4 + b / 1073741824) pa (omega arith) refl
       (pair 30 2 (b % 1073741824) (c / 1073741824) (b % 1073741824 * 4 + c / 1073741824) (omega arith) (omega arith) refl
       (pair 30 2 (c % 1073741824) (d / 1073741824) (c % 1073741824 * 4 + d / 1073741824) (omega arith) (omega arith) refl
@@ -64,12 +64,12 @@ module _ (a b c d e f : ℕ) (pa : a < 2 ^ 40) (pb : b < 2 ^ 32) (pc : c < 2 ^ 3
   chunks_fit : Fit chunk_widths (list (regrouped a b c d e f))
   chunks_fit = one {w = 42} {v = a * 4 + b / 1073741824} (omega arith) (one {w = 32} {v = b % 1073741824 * 4 + c / 1073741824} (omega arith) (one {w = 32} {v = c % 1073741824 * 4 + d / 1073741824} (omega arith) (one {w = 32} {v = d % 1073741824 * 4 + e / 1073741824} (omega arith) (one {w = 32} {v = e % 1073741824 * 4 + f / 64} (omega arith) (one {w = 6} {v = f % 64} (omega arith) none)))))
 
-  pub read-chunks : (p0 p1 p2 p3 p4 p5 p6 p7 p8 p9 p10 p11 p12 p13 p14 p15 p16 p17 p18 p19 p20 : ℕ) → Joined 5 (p0 ∷ p1 ∷ p2 ∷ p3 ∷ p4 ∷ []) a → Joined 4 (p5 ∷ p6 ∷ p7 ∷ p8 ∷ []) b → Joined 4 (p9 ∷ p10 ∷ p11 ∷ p12 ∷ []) c → Joined 4 (p13 ∷ p14 ∷ p15 ∷ p16 ∷ []) d → Joined 4 (p17 ∷ p18 ∷ p19 ∷ p20 ∷ []) e
+  pub read_chunks : (p0 p1 p2 p3 p4 p5 p6 p7 p8 p9 p10 p11 p12 p13 p14 p15 p16 p17 p18 p19 p20 : ℕ) → Joined 5 (p0 ∷ p1 ∷ p2 ∷ p3 ∷ p4 ∷ []) a → Joined 4 (p5 ∷ p6 ∷ p7 ∷ p8 ∷ []) b → Joined 4 (p9 ∷ p10 ∷ p11 ∷ p12 ∷ []) c → Joined 4 (p13 ∷ p14 ∷ p15 ∷ p16 ∷ []) d → Joined 4 (p17 ∷ p18 ∷ p19 ∷ p20 ∷ []) e
       → regrouped a b c d e f ≡ chunks_of (p0 ∷ p1 ∷ p2 ∷ p3 ∷ p4 ∷ p5 ∷ p6 ∷ p7 ∷ p8 ∷ p9 ∷ p10 ∷ p11 ∷ p12 ∷ p13 ∷ p14 ∷ p15 ∷ p16 ∷ p17 ∷ p18 ∷ p19 ∷ p20 ∷ f ∷ [])
   unfolding chunks_of octets total
-  read-chunks p0 p1 p2 p3 p4 p5 p6 p7 p8 p9 p10 p11 p12 p13 p14 p15 p16 p17 p18 p19 p20 ja jb jc jd je =
+  read_chunks p0 p1 p2 p3 p4 p5 p6 p7 p8 p9 p10 p11 p12 p13 p14 p15 p16 p17 p18 p19 p20 ja jb jc jd je =
       let bytes : Coarse (octets 22) (p0 ∷ p1 ∷ p2 ∷ p3 ∷ p4 ∷ p5 ∷ p6 ∷ p7 ∷ p8 ∷ p9 ∷ p10 ∷ p11 ∷ p12 ∷ p13 ∷ p14 ∷ p15 ∷ p16 ∷ p17 ∷ p18 ∷ p19 ∷ p20 ∷ f ∷ []) grouped (a ∷ b ∷ c ∷ d ∷ e ∷ f ∷ []) = group ja.fit refl ja.number (group jb.fit refl jb.number (group jc.fit refl jc.number (group jd.fit refl jd.number (group je.fit refl je.number (solo 8 f pf done))))) in
-      rw (← fields-are chunk_widths 22 computes (p0 ∷ p1 ∷ p2 ∷ p3 ∷ p4 ∷ p5 ∷ p6 ∷ p7 ∷ p8 ∷ p9 ∷ p10 ∷ p11 ∷ p12 ∷ p13 ∷ p14 ∷ p15 ∷ p16 ∷ p17 ∷ p18 ∷ p19 ∷ p20 ∷ f ∷ []) chunks_fit (sym (coarse_packed as-chunks) ∙ (coarse_packed as-groups ∙ sym (coarse_packed bytes)))) refl
+      rw (← fields_are chunk_widths 22 computes (p0 ∷ p1 ∷ p2 ∷ p3 ∷ p4 ∷ p5 ∷ p6 ∷ p7 ∷ p8 ∷ p9 ∷ p10 ∷ p11 ∷ p12 ∷ p13 ∷ p14 ∷ p15 ∷ p16 ∷ p17 ∷ p18 ∷ p19 ∷ p20 ∷ f ∷ []) chunks_fit (sym (coarse_packed as_chunks) ∙ (coarse_packed as_groups ∙ sym (coarse_packed bytes)))) refl
 
 pub joined_4 : {bs : List ℕ} {x : ℕ} → Joined 4 bs x → x < 2 ^ 32
 unfolding total octets

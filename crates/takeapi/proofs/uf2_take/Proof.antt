@@ -2,7 +2,7 @@
 use mathlib.Core.Path.{refl, ◌∙◌}
 use Rattle.laws.proofs.Numbered.{answer_is}
 use Rattle.uf2_receiver.proofs.KnownLaws.{known_is}
-use Rattle.call_bytes.proofs.Laws.{take-ran}
+use Rattle.call_bytes.proofs.Laws.{take_ran}
 use borrow.Author.Rules.{rules}
 use Rattle.takeapi.proofs.uf2_take.Statement.{statement}
 use Rattle.takeapi.proofs.uf2_take.Tie as tie
@@ -51,7 +51,7 @@ returns c =
     let kept = c.before.before.before in
     let got = kept.before.before.before.before.before.before.before.before.before.before.before.before.before.before in
     let read = got.before.before.before.before.before.before in
-    take-ran _ _ _ _ refl read.read-transfer.ensures (answer_is got.take-known.ensures ∙ known_is _ _ _ read.before.before.Known-from.ensures) kept.before.is-acceptance.ensures kept.keep.ensures c.result.ensures
+    take_ran _ _ _ _ refl read.read-transfer.ensures (answer_is got.take-known.ensures ∙ known_is _ _ _ read.before.before.Known-from.ensures) kept.before.is-acceptance.ensures kept.keep.ensures c.result.ensures
 
 pub uf2-take-spec : {M : Type 1} → statement M
 uf2-take-spec =

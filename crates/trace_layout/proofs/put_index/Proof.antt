@@ -1,13 +1,13 @@
 -- `tracebytes::put_index` meets its contract. Assumes nothing.
 use mathlib.Core.Path.{◌∙◌}
 use native.Mathlib.Omega.{arith}
-use Rattle.trace_layout.proofs.Laws.{index-other, index-put}
+use Rattle.trace_layout.proofs.Laws.{index_other, index_put}
 use borrow.Author.Rules.{rules}
 use Rattle.trace_layout.proofs.put_index.Statement.{statement}
 use Rattle.trace_layout.proofs.put_index.Tie as tie
 
 returns : tie.Need-returns
-returns c = index-other _ _ (λ e. omega (arith, e))
+returns c = index_other _ _ (λ e. omega (arith, e))
 
 cast-put : tie.Need-overflow-cast-put
 cast-put c = search rules
@@ -28,7 +28,7 @@ returns-2 : tie.Need-returns-2
 returns-2 c =
     let first = c.before.before.before.before.before.before in
     let start = first.before.before.before.before in
-    c.before.before.put2.ensures ∙ rw first.put.ensures (index-put start.args.index.now start.args.i (omega arith))
+    c.before.before.put2.ensures ∙ rw first.put.ensures (index_put start.args.index.now start.args.i (omega arith))
 
 pub put-index-spec : {M : Type 1} → statement M
 put-index-spec =

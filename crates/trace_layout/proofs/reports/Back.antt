@@ -10,7 +10,7 @@ use lib.Seq.{length-take-le}
 use borrow.Author.Tests.{lt-ltb, eq-eqb, ne_eqb}
 use Rattle.laws.specs.Rows.{rows}
 use Rattle.laws.proofs.BytesLaws.{length_low}
-use Rattle.laws.proofs.RowsLaws.{length-rows, part-rows}
+use Rattle.laws.proofs.RowsLaws.{length_rows, part_rows}
 use Rattle.laws.proofs.TabLaws.{is_tab}
 use Rattle.uf2_block.specs.Block.{field_at}
 use Rattle.uf2_block.specs.Write.{le32}
@@ -49,54 +49,54 @@ module _ (r : Report) (c : Small r) where
 
   long : length (report_bytes r) ≡ 84
   unfolding report_bytes
-  long = length-rows 4 21 (word_bytes r) wide 21 (omega arith)
+  long = length_rows 4 21 (word_bytes r) wide 21 (omega arith)
 
   -- word k is read back
   word_back : (k at : ℕ) → at ≡ 4 * k → k < 21 → word_of r k < 2 ^ 32 → field_at (report_bytes r) at ≡ word_of r k
   unfolding report_bytes
   word_back k at e l h =
       rw e
-      (field_of (rows (word_bytes r) 21) (4 * k) (word_of r k) (omega (arith, length-rows 4 21 (word_bytes r) wide 21 (omega arith)))
-      (part-rows 4 21 (word_bytes r) wide 21 k (omega arith) l) h)
+      (field_of (rows (word_bytes r) 21) (4 * k) (word_of r k) (omega (arith, length_rows 4 21 (word_bytes r) wide 21 (omega arith)))
+      (part_rows 4 21 (word_bytes r) wide 21 k (omega arith) l) h)
 
-  count-is : (j : ℕ) → j < 16 → word_of r (j + 1) ≡ get_or r.counts j 0
+  count_is : (j : ℕ) → j < 16 → word_of r (j + 1) ≡ get_or r.counts j 0
   unfolding word_of
-  count-is j l =
+  count_is j l =
       let e : j + 1 - 1 ≡ j = omega arith in
       rw (ne_eqb (j + 1) 0 (λ e. omega (arith, e)), lt-ltb (j + 1) 17 (omega arith), e)
 
-  counts-back : counts_from (report_bytes r) ≡ r.counts
+  counts_back : counts_from (report_bytes r) ≡ r.counts
   unfolding counts_from
-  counts-back =
+  counts_back =
       sym (is_tab r.counts 16 (count_at (report_bytes r)) c.slots
-      (λ j l. sym (word_back (j + 1) (4 + 4 * j) (omega arith) (omega arith) (rw (count-is j l) (c.counts j l)) ∙ count-is j l)))
+      (λ j l. sym (word_back (j + 1) (4 + 4 * j) (omega arith) (omega arith) (rw (count_is j l) (c.counts j l)) ∙ count_is j l)))
 
-  missing-back : (m : Missing) → missing_from (flag_of m) (missing_number m) ≡ m
-  missing-back missing.None = refl
-  missing-back (missing.Number k) = refl
+  missing_back : (m : Missing) → missing_from (flag_of m) (missing_number m) ≡ m
+  missing_back missing.None = refl
+  missing_back (missing.Number k) = refl
 
-  flag-low : (m : Missing) → flag_of m < 2 ^ 32
-  flag-low missing.None = omega arith
-  flag-low (missing.Number k) = omega arith
+  flag_low : (m : Missing) → flag_of m < 2 ^ 32
+  flag_low missing.None = omega arith
+  flag_low (missing.Number k) = omega arith
 
   -- a report that is written is read back
-  pub report-back : report_from (report_bytes r) ≡ r
+  pub report_back : report_from (report_bytes r) ≡ r
   unfolding report_from fields_from word_of
-  report-back =
+  report_back =
       rw (
         eq-eqb (length (report_bytes r)) 84 long,
         word_back 0 0 refl (omega arith) c.records,
-        counts-back,
+        counts_back,
         word_back 17 68 refl (omega arith) c.discards,
         word_back 18 72 refl (omega arith) c.marked,
-        word_back 19 76 refl (omega arith) (flag-low r.missing),
+        word_back 19 76 refl (omega arith) (flag_low r.missing),
         word_back 20 80 refl (omega arith) c.missing,
-        missing-back r.missing,
+        missing_back r.missing,
       )
 
   pub written_back : (b : List ℕ) → length b ≡ 84 → report_from (report_written b r) ≡ r
   unfolding report_written
-  written_back b l = rw (eq-eqb (length b) 84 l) report-back
+  written_back b l = rw (eq-eqb (length b) 84 l) report_back
 
 -- bytes of another length are refused, by 71
 pub other_refused : (b : List ℕ) → length b ≢ 84 → good_report (report_from b) ≡ false

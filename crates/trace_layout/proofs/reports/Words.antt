@@ -14,7 +14,7 @@ use Rattle.laws.specs.Rows.{rows}
 use Rattle.laws.proofs.Tests.{split}
 use Rattle.laws.proofs.BytesLaws.{length_low}
 use Rattle.laws.proofs.OverLaws.{length_over, over_whole}
-use Rattle.laws.proofs.RowsLaws.{rows_none, length-rows, rows-over}
+use Rattle.laws.proofs.RowsLaws.{rows_none, length_rows, rows_over}
 use Rattle.laws.proofs.TabLaws.{is_tab}
 use Rattle.uf2_block.specs.Block.{field_at}
 use Rattle.uf2_block.specs.Write.{put_at}
@@ -61,9 +61,9 @@ module _ (b : List ℕ) where
 -- ---- a word of a report
 
 module _ (r : Report) where
-  pub word-records : (k : ℕ) → k ≡ 0 → r.records ≡ word_of r k
+  pub word_records : (k : ℕ) → k ≡ 0 → r.records ≡ word_of r k
   unfolding word_of
-  word-records k e = rw (eq-eqb k 0 e)
+  word_records k e = rw (eq-eqb k 0 e)
 
   module _ (k : ℕ) (some : k ≢ 0) where
     pub word_count : k < 17 → get_or r.counts (k - 1) 0 ≡ word_of r k
@@ -94,13 +94,13 @@ module _ (r : Report) where
   wide : (k : ℕ) → k < 21 → length (word_bytes r k) ≡ 4
   wide k l = length_low 4 (word_of r k)
 
-  pub words-none : (b : List ℕ) → b ≡ over b 0 (rows (word_bytes r) 0)
+  pub words_none : (b : List ℕ) → b ≡ over b 0 (rows (word_bytes r) 0)
   unfolding over
-  words-none b = rw (rows_none (word_bytes r))
+  words_none b = rw (rows_none (word_bytes r))
 
   pub words_long : (b₀ b : List ℕ) (k : ℕ) → length b₀ ≡ 84 → k ≤ 21 → b ≡ over b₀ 0 (rows (word_bytes r) k) → length b ≡ 84
   words_long b₀ b k l h s =
-      let long : length (rows (word_bytes r) k) ≡ 4 * k = length-rows 4 21 (word_bytes r) wide k h in
+      let long : length (rows (word_bytes r) k) ≡ 4 * k = length_rows 4 21 (word_bytes r) wide k h in
       ap length s ∙ length_over b₀ 0 (rows (word_bytes r) k) (omega arith) ∙ l
 
   pub words_more : (b₀ b : List ℕ) (k : ℕ) {x : ℕ} → length b₀ ≡ 84 → k < 21 → b ≡ over b₀ 0 (rows (word_bytes r) k) → x ≡ word_of r k
@@ -108,14 +108,14 @@ module _ (r : Report) where
   words_more b₀ b k {x} l₀ h s e =
       let l : length b ≡ 84 = words_long b₀ b k l₀ (omega arith) s in
       put_over b (4 * k) x (omega arith)
-      ∙ rw (e, s) (rows-over 4 21 (word_bytes r) wide b₀ k h (omega arith))
+      ∙ rw (e, s) (rows_over 4 21 (word_bytes r) wide b₀ k h (omega arith))
 
-  pub words-all : (b₀ b : List ℕ) (k : ℕ) → length b₀ ≡ 84 → k ≡ 21 → b ≡ over b₀ 0 (rows (word_bytes r) k) → b ≡ report_written b₀ r
+  pub words_all : (b₀ b : List ℕ) (k : ℕ) → length b₀ ≡ 84 → k ≡ 21 → b ≡ over b₀ 0 (rows (word_bytes r) k) → b ≡ report_written b₀ r
   unfolding report_written report_bytes
-  words-all b₀ b k l e s =
-      let long : length (rows (word_bytes r) 21) ≡ length b₀ = omega (arith, length-rows 4 21 (word_bytes r) wide 21 (omega arith)) in
+  words_all b₀ b k l e s =
+      let long : length (rows (word_bytes r) 21) ≡ length b₀ = omega (arith, length_rows 4 21 (word_bytes r) wide 21 (omega arith)) in
       s ∙ rw (e, eq-eqb (length b₀) 84 l) (over_whole b₀ (rows (word_bytes r) 21) long)
 
-  pub written-other : (b : List ℕ) → length b ≢ 84 → b ≡ report_written b r
+  pub written_other : (b : List ℕ) → length b ≢ 84 → b ≡ report_written b r
   unfolding report_written
-  written-other b h = rw (ne_eqb (length b) 84 h)
+  written_other b h = rw (ne_eqb (length b) 84 h)

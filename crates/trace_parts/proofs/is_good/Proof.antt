@@ -15,7 +15,7 @@ stops-fit-requires c κs = search rules
 
 returns : tie.Need-returns
 unfolding good_part
-returns c = simp (c.before.before.before.is-good.ensures, c.before.is-empty.ensures, c.stops-fit.ensures)
+returns c = simp (c.before.before.before.is_good_lem.ensures, c.before.is_empty.ensures, c.stops-fit.ensures)
 
 pub is-good-spec : {M : Type 1} → statement M
 is-good-spec = tie.close (tie.spec is-good-requires is-empty-requires stops-fit-requires returns)

@@ -2,7 +2,7 @@
 use mathlib.Core.Path.{ap}
 use Rattle.laws.specs.Numbered.{numbered}
 use Rattle.trace_parts.specs.Merging.{outcome_number}
-use Rattle.trace_parts.proofs.Sums.{one-bad, one-is}
+use Rattle.trace_parts.proofs.Sums.{one_bad, one_is}
 use borrow.Author.Rules.{rules}
 use Rattle.trace_parts.proofs.part_of_one.Statement.{statement}
 use Rattle.trace_parts.proofs.part_of_one.Tie as tie
@@ -14,13 +14,13 @@ new-requires : tie.Need-new-requires
 new-requires c κs = search rules
 
 returns : tie.Need-returns
-returns c = ap (numbered outcome_number) (one-bad _ _ c.before.before.is-good.ensures c.new.ensures c.before.if1.true)
+returns c = ap (numbered outcome_number) (one_bad _ _ c.before.before.is_good_lem.ensures c.new.ensures c.before.if1.true)
 
 one-requires : tie.Need-one-requires
 one-requires c κs = search rules
 
 returns-2 : tie.Need-returns-2
-returns-2 c = ap (numbered outcome_number) (one-is _ _ c.before.before.is-good.ensures c.one.ensures c.before.if1.false)
+returns-2 c = ap (numbered outcome_number) (one_is _ _ c.before.before.is_good_lem.ensures c.one.ensures c.before.if1.false)
 
 pub part-of-one-spec : {M : Type 1} → statement M
 part-of-one-spec =

@@ -33,37 +33,37 @@ module _ (s : Settings) (w : World) (p : List ℕ) where
   unfolding piece_of
   bad_is b = rw b
 
-  differs-is : is_bad p ≡ false → agreed ≡ false → piece_of s w p ≡ piece_outcome piece.Differs w
+  differs_is : is_bad p ≡ false → agreed ≡ false → piece_of s w p ≡ piece_outcome piece.Differs w
   unfolding piece_of
-  differs-is g a = rw (g, a)
+  differs_is g a = rw (g, a)
 
-  replayed-is : is_bad p ≡ false → agreed ≡ true → piece_of s w p ≡ piece_outcome piece.Replayed ours.world
+  replayed_is : is_bad p ≡ false → agreed ≡ true → piece_of s w p ≡ piece_outcome piece.Replayed ours.world
   unfolding piece_of
-  replayed-is g a = rw (g, a)
+  replayed_is g a = rw (g, a)
 
   -- ---- by what comes of it
 
   -- nothing changes
-  pub piece-left : is_replayed (piece_of s w p).answer ≡ false → piece_outcome (piece_of s w p).answer w ≡ piece_of s w p
-  piece-left z =
+  pub piece_left : is_replayed (piece_of s w p).answer ≡ false → piece_outcome (piece_of s w p).answer w ≡ piece_of s w p
+  piece_left z =
       split (is_bad p)
       (λ b. let e = bad_is b in rw e refl)
       (λ g. split agreed
-      (λ a. let e = replayed-is g a in clash true refl (sym (ap (λ (o : PieceOutcome). is_replayed o.answer) e) ∙ z))
-      (λ a. let e = differs-is g a in rw e refl))
+      (λ a. let e = replayed_is g a in clash true refl (sym (ap (λ (o : PieceOutcome). is_replayed o.answer) e) ∙ z))
+      (λ a. let e = differs_is g a in rw e refl))
 
   -- it is received, and has a record's length
   pub record Taken : Type 0 where
     pub long : length p ≡ 513
     pub is : piece_outcome (piece_of s w p).answer ours.world ≡ piece_of s w p
 
-  pub piece-taken : is_replayed (piece_of s w p).answer ≡ true → Taken
-  piece-taken y =
+  pub piece_taken : is_replayed (piece_of s w p).answer ≡ true → Taken
+  piece_taken y =
       split (is_bad p)
       (λ b. clash false (sym (ap (λ (o : PieceOutcome). is_replayed o.answer) (bad_is b)) ∙ y) refl)
       (λ g. split agreed
-      (λ a. let e = replayed-is g a in record { long = good_length p g; is = rw e refl })
-      (λ a. clash false (sym (ap (λ (o : PieceOutcome). is_replayed o.answer) (differs-is g a)) ∙ y) refl))
+      (λ a. let e = replayed_is g a in record { long = good_length p g; is = rw e refl })
+      (λ a. clash false (sym (ap (λ (o : PieceOutcome). is_replayed o.answer) (differs_is g a)) ∙ y) refl))
 
 -- ---- as the code comes to it
 
@@ -72,30 +72,30 @@ module _ (s : Settings) (w : World) (p : List ℕ) where
   abbrev arrival : List ℕ
   arrival = take (length p - 1) (drop 1 p)
 
-  arrival-is : arrival ≡ arrival_in p
-  arrival-is = take_all (length p - 1) (drop 1 p) (rw (length-drop 1 p) (omega arith))
+  arrival_is : arrival ≡ arrival_in p
+  arrival_is = take_all (length p - 1) (drop 1 p) (rw (length-drop 1 p) (omega arith))
 
-  pub judge-bad : is_bad p ≡ true → piece.Bad ≡ (piece_of s w p).answer
-  judge-bad b = sym (ap (λ (o : PieceOutcome). o.answer) (bad_is s w p b))
+  pub judge_bad : is_bad p ≡ true → piece.Bad ≡ (piece_of s w p).answer
+  judge_bad b = sym (ap (λ (o : PieceOutcome). o.answer) (bad_is s w p b))
 
-  pub judge-compared : is_bad p ≡ false → {x : Preview} → previewed x ≡ look_of s w arrival → compared_of (recorded p) x.answer x.discarded ≡ (piece_of s w p).answer
+  pub judge_compared : is_bad p ≡ false → {x : Preview} → previewed x ≡ look_of s w arrival → compared_of (recorded p) x.answer x.discarded ≡ (piece_of s w p).answer
   unfolding LookTells
-  judge-compared g {x} e =
-      let same : agrees (recorded p) x.answer x.discarded ≡ agreed s w p = ap (λ (o : Forecast). agrees (recorded p) o.answer o.discarded) (e ∙ ap (look_of s w) arrival-is ∙ look_tells s w (arrival_in p)) in
+  judge_compared g {x} e =
+      let same : agrees (recorded p) x.answer x.discarded ≡ agreed s w p = ap (λ (o : Forecast). agrees (recorded p) o.answer o.discarded) (e ∙ ap (look_of s w) arrival_is ∙ look_tells s w (arrival_in p)) in
       split (agreed s w p)
-      (λ a. rw (same ∙ a) (sym (ap (λ (o : PieceOutcome). o.answer) (replayed-is s w p g a))))
-      (λ a. rw (same ∙ a) (sym (ap (λ (o : PieceOutcome). o.answer) (differs-is s w p g a))))
+      (λ a. rw (same ∙ a) (sym (ap (λ (o : PieceOutcome). o.answer) (replayed_is s w p g a))))
+      (λ a. rw (same ∙ a) (sym (ap (λ (o : PieceOutcome). o.answer) (differs_is s w p g a))))
 
   -- what judge told, and what was taken
   module _ {x : PieceAnswer} (e : x ≡ (piece_of s w p).answer) where
     pub told-left : is_replayed x ≡ false → piece_outcome x w ≡ piece_of s w p
-    told-left z = ap (λ (x : PieceAnswer). piece_outcome x w) e ∙ piece-left s w p (ap is_replayed (sym e) ∙ z)
+    told-left z = ap (λ (x : PieceAnswer). piece_outcome x w) e ∙ piece_left s w p (ap is_replayed (sym e) ∙ z)
 
     pub told-long : is_replayed x ≡ true → length p ≡ 513
-    told-long y = (piece-taken s w p (ap is_replayed (sym e) ∙ y)).long
+    told-long y = (piece_taken s w p (ap is_replayed (sym e) ∙ y)).long
 
     pub told-taken : is_replayed x ≡ true → {r : Receipt} {k : Lent} → outcome r k ≡ receive_of s w arrival → piece_outcome x (world r.transfer k) ≡ piece_of s w p
     told-taken y {r} {k} q =
-        ap (λ (o : Outcome). piece_outcome x o.world) (q ∙ ap (receive_of s w) arrival-is)
+        ap (λ (o : Outcome). piece_outcome x o.world) (q ∙ ap (receive_of s w) arrival_is)
         ∙ ap (λ (x : PieceAnswer). piece_outcome x (ours s w p).world) e
-        ∙ (piece-taken s w p (ap is_replayed (sym e) ∙ y)).is
+        ∙ (piece_taken s w p (ap is_replayed (sym e) ∙ y)).is

@@ -1,7 +1,7 @@
 -- `piece::is_bad` meets its contract. Assumes nothing.
 use mathlib.Core.Path.{sym, ◌∙◌}
 use native.Mathlib.Omega.{arith}
-use Rattle.trace_piece.proofs.Laws.{bad_length_case, bad-stray}
+use Rattle.trace_piece.proofs.Laws.{bad_length_case, bad_stray}
 use borrow.Author.Rules.{rules}
 use Rattle.trace_piece.proofs.is_bad.Statement.{statement}
 use Rattle.trace_piece.proofs.is_bad.Tie as tie
@@ -13,7 +13,7 @@ shared-slice-read-result : tie.Need-shared-slice-read-result
 shared-slice-read-result c = search rules
 
 returns-2 : tie.Need-returns-2
-returns-2 c = bad-stray _ (omega arith)
+returns-2 c = bad_stray _ (omega arith)
 
 pub is-bad-spec : {M : Type 1} → statement M
 is-bad-spec = tie.close (tie.spec returns shared-slice-read-result returns-2)

@@ -7,7 +7,7 @@ use borrow.Author.Tests.{not-true, not-false}
 use Rattle.uf2_receiver.specs.Receiver.{lent, world}
 use Rattle.trace_counts.specs.Tally.{tally_to}
 use Rattle.trace_replay.specs.Replay.{pieces_of, replay_from}
-use Rattle.trace_replay.proofs.Laws.{left, run-goes-on, run_ends, from_fresh, tally_none, tally_more, stops_counted, tally-ends, whole_next, begins_next, index_next}
+use Rattle.trace_replay.proofs.Laws.{left, run-goes-on, run_ends, from_fresh, tally_none, tally_more, stops_counted, tally_ends, whole_next, begins_next, index_next}
 use borrow.Author.Rules.{rules}
 use Rattle.trace_replay.proofs.run.Statement.{statement}
 use Rattle.trace_replay.proofs.run.Tie as tie
@@ -132,7 +132,7 @@ same-length-12 c = search rules
 returns-2 : tie.Need-returns-2 invariant-loop decreases-loop
 returns-2 c =
     let round = c.before in
-    from_fresh _ _ _ _ (tally-ends _ _ _ round.loop.invariant.8 _ round.loop.invariant.1 round.loop.invariant.0 c.loop-test.false (run_ends _ _ _ _ _ _ c.loop-test.false ∙ round.loop.invariant.9)) round.before.new.ensures
+    from_fresh _ _ _ _ (tally_ends _ _ _ round.loop.invariant.8 _ round.loop.invariant.1 round.loop.invariant.0 c.loop-test.false (run_ends _ _ _ _ _ _ c.loop-test.false ∙ round.loop.invariant.9)) round.before.new.ensures
 
 pub run_spec : {M : Type 1} → statement M
 run_spec =

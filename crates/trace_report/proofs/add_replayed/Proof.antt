@@ -1,5 +1,5 @@
 -- `report::add_replayed` meets its contract. Assumes nothing.
-use Rattle.trace_report.proofs.adding.Adds.{replayed-is}
+use Rattle.trace_report.proofs.adding.Adds.{replayed_is}
 use borrow.Author.Rules.{rules}
 use Rattle.trace_report.proofs.add_replayed.Statement.{statement}
 use Rattle.trace_report.proofs.add_replayed.Tie as tie
@@ -35,7 +35,7 @@ same-length-5 : tie.Need-same-length-5
 same-length-5 c = search rules
 
 returns : tie.Need-returns
-returns c = replayed-is _ _ _ _ c.before.before.before.before.before.before.before.before.before.before.before.before.before.before.before.before.replay-counted.ensures c.before.before.before.before-stop.ensures c.before.before.with-tally.ensures c.with-end.ensures
+returns c = replayed_is _ _ _ _ c.before.before.before.before.before.before.before.before.before.before.before.before.before.before.before.before.replay-counted.ensures c.before.before.before.before-stop.ensures c.before.before.with-tally.ensures c.with-end.ensures
 
 pub add-replayed-spec : {M : Type 1} → statement M
 add-replayed-spec =

@@ -64,15 +64,15 @@ number_range Kept = (omega arith, omega arith, λ e. omega (arith, e))
 -- ---- lists with one arrival more
 
 module _ (s : Settings) where
-  answers-last : (w : World) (l : List (List ℕ)) (a : List ℕ) → answers_of s w (l ++ (a ∷ [])) ≡ answers_of s w l ++ ((receive_of s (receive_all s w l) a).answer ∷ [])
+  answers_last : (w : World) (l : List (List ℕ)) (a : List ℕ) → answers_of s w (l ++ (a ∷ [])) ≡ answers_of s w l ++ ((receive_of s (receive_all s w l) a).answer ∷ [])
   unfolding answers_of receive_all
-  answers-last w [] a = refl
-  answers-last w (b ∷ l) a = rw (answers-last (receive_of s w b).world l a)
+  answers_last w [] a = refl
+  answers_last w (b ∷ l) a = rw (answers_last (receive_of s w b).world l a)
 
-  yes-last : (w : World) (l : List (List ℕ)) (a : List ℕ) → how_many_yes (discards_of s w (l ++ (a ∷ []))) ≡ how_many_yes (discards_of s w l) + one (receive_of s (receive_all s w l) a).discarded
+  yes_last : (w : World) (l : List (List ℕ)) (a : List ℕ) → how_many_yes (discards_of s w (l ++ (a ∷ []))) ≡ how_many_yes (discards_of s w l) + one (receive_of s (receive_all s w l) a).discarded
   unfolding discards_of receive_all how_many_yes
-  yes-last w [] a = omega arith
-  yes-last w (b ∷ l) a = rw (yes-last (receive_of s w b).world l a) (omega arith)
+  yes_last w [] a = omega arith
+  yes_last w (b ∷ l) a = rw (yes_last (receive_of s w b).world l a) (omega arith)
 
 pub length_arrivals : (t : List ℕ) (n : ℕ) → length (arrivals_to t n) ≡ n
 unfolding arrivals_to
@@ -90,8 +90,8 @@ module _ (s : Settings) (h : Lent) (t : List ℕ) where
   abbrev ours : ℕ → Outcome
   ours k = receive_of s (after s h t k) (arrival_at t k)
 
-  byte-is : (k : ℕ) → IsOurs s h t k → recorded_at t k ≡ number_of (ours k).answer * 8 + one (ours k).discarded * 4
-  byte-is k o =
+  byte_is : (k : ℕ) → IsOurs s h t k → recorded_at t k ≡ number_of (ours k).answer * 8 + one (ours k).discarded * 4
+  byte_is k o =
       let e : get_or (piece_at t k) 0 0 ≡ recorded_at t k =
       get_or-take 513 (drop (513 * k) t) 0 0 (omega arith)
       ∙ get_or-drop (513 * k) t 0 0
@@ -99,23 +99,23 @@ module _ (s : Settings) (h : Lent) (t : List ℕ) where
       sym e ∙ ap (λ (l : List ℕ). get_or l 0 0) o.1
 
   answer_is : (k : ℕ) → IsOurs s h t k → recorded_at t k / 8 ≡ number_of (ours k).answer
-  answer_is k o = omega (arith, byte-is k o, one_le (ours k).discarded)
+  answer_is k o = omega (arith, byte_is k o, one_le (ours k).discarded)
 
-  discard-is : (k : ℕ) → IsOurs s h t k → recorded_at t k / 4 % 2 ≡ one (ours k).discarded
-  discard-is k o = omega (arith, byte-is k o, one_le (ours k).discarded)
+  discard_is : (k : ℕ) → IsOurs s h t k → recorded_at t k / 4 % 2 ≡ one (ours k).discarded
+  discard_is k o = omega (arith, byte_is k o, one_le (ours k).discarded)
 
-  numbers-are : (n : ℕ) → ((k : ℕ) → k < n → IsOurs s h t k) → numbers_to t n ≡ map number_of (answers_of s (begun h) (arrivals_to t n))
+  numbers_are : (n : ℕ) → ((k : ℕ) → k < n → IsOurs s h t k) → numbers_to t n ≡ map number_of (answers_of s (begun h) (arrivals_to t n))
   unfolding numbers_to arrivals_to answers_of
-  numbers-are zero f = refl
-  numbers-are (suc n) f =
-      rw (numbers-are n (λ k l. f k (omega arith)), answer_is n (f n (omega arith)), answers-last s (begun h) (arrivals_to t n) (arrival_at t n))
+  numbers_are zero f = refl
+  numbers_are (suc n) f =
+      rw (numbers_are n (λ k l. f k (omega arith)), answer_is n (f n (omega arith)), answers_last s (begun h) (arrivals_to t n) (arrival_at t n))
       (sym (map-append number_of (answers_of s (begun h) (arrivals_to t n)) ((ours n).answer ∷ [])))
 
-  discards-are : (n : ℕ) → ((k : ℕ) → k < n → IsOurs s h t k) → discards_to t n ≡ how_many_yes (discards_of s (begun h) (arrivals_to t n))
+  discards_are : (n : ℕ) → ((k : ℕ) → k < n → IsOurs s h t k) → discards_to t n ≡ how_many_yes (discards_of s (begun h) (arrivals_to t n))
   unfolding discards_to arrivals_to discards_of how_many_yes
-  discards-are zero f = refl
-  discards-are (suc n) f =
-      rw (discards-are n (λ k l. f k (omega arith)), discard-is n (f n (omega arith)), yes-last s (begun h) (arrivals_to t n) (arrival_at t n))
+  discards_are zero f = refl
+  discards_are (suc n) f =
+      rw (discards_are n (λ k l. f k (omega arith)), discard_is n (f n (omega arith)), yes_last s (begun h) (arrivals_to t n) (arrival_at t n))
 
   whole : (n : ℕ) → ((k : ℕ) → k < n → IsOurs s h t k) → 513 * n ≤ length t
   whole zero f = omega arith
@@ -125,16 +125,16 @@ module _ (s : Settings) (h : Lent) (t : List ℕ) where
   abbrev replayed : ℕ
   replayed = records_before t (replay_of s h t).stop
 
-  each-ours : (k : ℕ) → k < replayed → IsOurs s h t k
+  each_ours : (k : ℕ) → k < replayed → IsOurs s h t k
   unfolding EndsBeforeTheStop
-  each-ours = (ends_before_the_stop s h t).ours
+  each_ours = (ends_before_the_stop s h t).ours
 
   countable : (r : Report) → good_report r ≡ true → with_room r (length t / 513) ≡ true → Countable r t replayed
   unfolding good_report with_room
   countable r g m =
-      let long = whole replayed each-ours in
+      let long = whole replayed each_ours in
       record {
-        ours = λ k l. let b = number_range (ours k).answer in rw (answer_is k (each-ours k l)) b;
+        ours = λ k l. let b = number_range (ours k).answer in rw (answer_is k (each_ours k l)) b;
         sum = eqb-true (sum_to 16 r.counts) r.records (and_left (eqb (sum_to 16 r.counts) r.records) (leb r.discards r.records) g);
         few = leb-true r.discards r.records (and_right (eqb (sum_to 16 r.counts) r.records) (leb r.discards r.records) g);
         room = omega (arith, long, leb-true (r.records + length t / 513) 4294967295 m);
@@ -183,26 +183,26 @@ replay_count s h t =
 -- ---- a call
 
 module _ (r : Report) (s : Settings) (h : Lent) (t : List ℕ) where
-  pub add-bad : good_report r ≡ false → figures_outcome BadReport r h ≡ add_of r s h t
+  pub add_bad : good_report r ≡ false → figures_outcome BadReport r h ≡ add_of r s h t
   unfolding add_of
-  add-bad g = rw g
+  add_bad g = rw g
 
-  pub add-many : good_report r ≡ true → with_room r (length t / 513) ≡ false → figures_outcome TooMany r h ≡ add_of r s h t
+  pub add_many : good_report r ≡ true → with_room r (length t / 513) ≡ false → figures_outcome TooMany r h ≡ add_of r s h t
   unfolding add_of
-  add-many g m = rw (g, m)
+  add_many g m = rw (g, m)
 
   -- the records are counted, and the end is the replay's
-  tallied-is : good_report r ≡ true → with_room r (length t / 513) ≡ true → tallied_by r t (replay_of s h t) ≡ added_to r s h t
+  tallied_is : good_report r ≡ true → with_room r (length t / 513) ≡ true → tallied_by r t (replay_of s h t) ≡ added_to r s h t
   unfolding tallied_by ended_of added_to
-  tallied-is g m =
+  tallied_is g m =
       let n = replayed s h t in
-      let f = each-ours s h t in
-      rw (before_is t (replay_of s h t).stop, tally_is r t n (countable s h t r g m), length_arrivals t n, ← numbers-are s h t n f, ← discards-are s h t n f, ← replay_count s h t)
+      let f = each_ours s h t in
+      rw (before_is t (replay_of s h t).stop, tally_is r t n (countable s h t r g m), length_arrivals t n, ← numbers_are s h t n f, ← discards_are s h t n f, ← replay_count s h t)
       (unfold counted_of in refl)
 
-  pub add-replayed : {o : FiguresOutcome} → good_report r ≡ true → with_room r (length t / 513) ≡ true → o ≡ replayed_by r s h t → o ≡ add_of r s h t
+  pub add_replayed : {o : FiguresOutcome} → good_report r ≡ true → with_room r (length t / 513) ≡ true → o ≡ replayed_by r s h t → o ≡ add_of r s h t
   unfolding add_of replayed_by
-  add-replayed g m e = e ∙ rw (g, m, tallied-is g m)
+  add_replayed g m e = e ∙ rw (g, m, tallied_is g m)
 
 -- ---- a trace that is replayed, as the code comes to it
 
@@ -211,15 +211,15 @@ module _ (r : Report) (s : Settings) (h : Lent) (t : List ℕ) {x : Stop} {u : T
   unfolding with_counts
   alone = ap (λ (o : TallyOutcome). o.outcome) e
 
-  stop-alone : x ≡ (replay_of s h t).stop
-  stop-alone = ap (λ (o : TraceOutcome). o.stop) alone
+  stop_alone : x ≡ (replay_of s h t).stop
+  stop_alone = ap (λ (o : TraceOutcome). o.stop) alone
 
   counts_alone : l ≡ tally_to zeros t (before_stop (length t / 513) x)
   unfolding with_counts
-  counts_alone = ap (λ (o : TallyOutcome). o.tally) e ∙ ap (λ (y : Stop). tally_to zeros t (before_stop (length t / 513) y)) (sym stop-alone)
+  counts_alone = ap (λ (o : TallyOutcome). o.tally) e ∙ ap (λ (y : Stop). tally_to zeros t (before_stop (length t / 513) y)) (sym stop_alone)
 
-  pub replayed-is : {n : ℕ} {c d : Report} → n ≡ before_stop (length t / 513) x → c ≡ with_tally r l n → d ≡ ended_of c u.state k.seen → figures_outcome (Replayed x) d k ≡ replayed_by r s h t
+  pub replayed_is : {n : ℕ} {c d : Report} → n ≡ before_stop (length t / 513) x → c ≡ with_tally r l n → d ≡ ended_of c u.state k.seen → figures_outcome (Replayed x) d k ≡ replayed_by r s h t
   unfolding replayed_by tallied_by
-  replayed-is hn hc hd =
+  replayed_is hn hc hd =
       rw (hd, hc, counts_alone, hn)
       (ap (λ (o : TraceOutcome). figures_outcome (Replayed o.stop) (ended_of (with_tally r (tally_to zeros t (before_stop (length t / 513) o.stop)) (before_stop (length t / 513) o.stop)) o.world.transfer o.world.seen) (lent_of o.world)) alone)

@@ -80,44 +80,44 @@ module _ (l : List ℕ) (b : ℕ) (long : length l ≡ 33) (low : b / 8 ≤ 31) 
   abbrev once : List ℕ
   once = raised l (b / 8) 1
 
-  long-once : length once ≡ 33
+  long_once : length once ≡ 33
   unfolding raised
-  long-once = length-set l (b / 8) ((get_or l (b / 8) 0 + 1) % 18446744073709551616) ∙ long
+  long_once = length-set l (b / 8) ((get_or l (b / 8) 0 + 1) % 18446744073709551616) ∙ long
 
-  tallied-at : (m : ℕ) → m ≤ 31 → get_or l m 0 < 4294967296 → get_or (tallied l b) m 0 ≡ get_or l m 0 + one (eqb m (b / 8))
+  tallied_at : (m : ℕ) → m ≤ 31 → get_or l m 0 < 4294967296 → get_or (tallied l b) m 0 ≡ get_or l m 0 + one (eqb m (b / 8))
   unfolding tallied raised
-  tallied-at m h few =
+  tallied_at m h few =
       get_or-set_other once 32 m ((get_or once 32 0 + b / 4 % 2) % 18446744073709551616) 0 (λ e. omega (arith, e))
       ∙ split (eqb m (b / 8))
       (λ y. let q : m ≡ b / 8 = eqb-true m (b / 8) y in rw (y, ← q) (get_or-set_same l m ((get_or l m 0 + 1) % 18446744073709551616) 0 (omega arith) ∙ omega arith))
       (λ z. let d : m ≢ b / 8 = eqb-false m (b / 8) z in rw z (get_or-set_other l (b / 8) m ((get_or l (b / 8) 0 + 1) % 18446744073709551616) 0 d ∙ omega arith))
 
-  tallied-last : get_or l 32 0 < 4294967296 → get_or (tallied l b) 32 0 ≡ get_or l 32 0 + b / 4 % 2
+  tallied_last : get_or l 32 0 < 4294967296 → get_or (tallied l b) 32 0 ≡ get_or l 32 0 + b / 4 % 2
   unfolding tallied raised
-  tallied-last few =
+  tallied_last few =
       let same : get_or once 32 0 ≡ get_or l 32 0 = get_or-set_other l (b / 8) 32 ((get_or l (b / 8) 0 + 1) % 18446744073709551616) 0 (λ e. omega (arith, e)) in
-      get_or-set_same once 32 ((get_or once 32 0 + b / 4 % 2) % 18446744073709551616) 0 (omega (arith, long-once))
+      get_or-set_same once 32 ((get_or once 32 0 + b / 4 % 2) % 18446744073709551616) 0 (omega (arith, long_once))
       ∙ omega (arith, same, few)
 
 module _ (t : List ℕ) where
-  tally-has : (n : ℕ) → n ≤ 4294967295 → ((k : ℕ) → k < n → recorded_at t k / 8 ≤ 17) → (m : ℕ) → m ≤ 31 → get_or (tally_to zeros t n) m 0 ≡ times_to t m n
+  tally_has : (n : ℕ) → n ≤ 4294967295 → ((k : ℕ) → k < n → recorded_at t k / 8 ≤ 17) → (m : ℕ) → m ≤ 31 → get_or (tally_to zeros t n) m 0 ≡ times_to t m n
   unfolding tally_to times_to
-  tally-has zero s f m h = get_or-replicate {A = ℕ} 33 m 0 0 (omega arith)
-  tally-has (suc n) s f m h =
+  tally_has zero s f m h = get_or-replicate {A = ℕ} 33 m 0 0 (omega arith)
+  tally_has (suc n) s f m h =
       let l = tally_to zeros t n in
       let low = f n (omega arith) in
-      let was = tally-has n (omega arith) (λ k b. f k (omega arith)) m h in
-      tallied-at l (recorded_at t n) (length_tally zeros t n) (omega (arith, low)) m h (omega (arith, was, times_few t m n))
+      let was = tally_has n (omega arith) (λ k b. f k (omega arith)) m h in
+      tallied_at l (recorded_at t n) (length_tally zeros t n) (omega (arith, low)) m h (omega (arith, was, times_few t m n))
       ∙ ap (λ (x : ℕ). x + one (eqb m (recorded_at t n / 8))) was
 
-  tally-discards : (n : ℕ) → n ≤ 4294967295 → ((k : ℕ) → k < n → recorded_at t k / 8 ≤ 17) → get_or (tally_to zeros t n) 32 0 ≡ discards_to t n
+  tally_discards : (n : ℕ) → n ≤ 4294967295 → ((k : ℕ) → k < n → recorded_at t k / 8 ≤ 17) → get_or (tally_to zeros t n) 32 0 ≡ discards_to t n
   unfolding tally_to discards_to
-  tally-discards zero s f = get_or-replicate {A = ℕ} 33 32 0 0 (omega arith)
-  tally-discards (suc n) s f =
+  tally_discards zero s f = get_or-replicate {A = ℕ} 33 32 0 0 (omega arith)
+  tally_discards (suc n) s f =
       let l = tally_to zeros t n in
       let low = f n (omega arith) in
-      let was = tally-discards n (omega arith) (λ k b. f k (omega arith)) in
-      tallied-last l (recorded_at t n) (length_tally zeros t n) (omega (arith, low)) (omega (arith, was, discards_few t n))
+      let was = tally_discards n (omega arith) (λ k b. f k (omega arith)) in
+      tallied_last l (recorded_at t n) (length_tally zeros t n) (omega (arith, low)) (omega (arith, was, discards_few t n))
       ∙ ap (λ (x : ℕ). x + recorded_at t n / 4 % 2) was
 
 -- ---- and so have the counts
@@ -155,16 +155,16 @@ length_all c [] = refl
 length_all c (n ∷ l) = length_all (count_one c n) l ∙ length_one c n
 
 module _ (t c : List ℕ) where
-  counts-have : (n : ℕ) → ((k : ℕ) → k < n → (1 ≤ recorded_at t k / 8) × (recorded_at t k / 8 ≤ 17) × (recorded_at t k / 8 ≢ 6)) → (k : ℕ) → k < 16 → k < length c
+  counts_have : (n : ℕ) → ((k : ℕ) → k < n → (1 ≤ recorded_at t k / 8) × (recorded_at t k / 8 ≤ 17) × (recorded_at t k / 8 ≢ 6)) → (k : ℕ) → k < 16 → k < length c
       → get_or (count_all c (numbers_to t n)) k 0 ≡ get_or c k 0 + times_to t (number_at k) n
   unfolding numbers_to times_to count_all
-  counts-have zero f k h low = omega arith
-  counts-have (suc n) f k h low =
+  counts_have zero f k h low = omega arith
+  counts_have (suc n) f k h low =
       let all = count_all c (numbers_to t n) in
       let o = f n (omega arith) in
       ap (λ (l : List ℕ). get_or l k 0) (count_last c (numbers_to t n) (recorded_at t n / 8))
       ∙ one_at all (recorded_at t n / 8) k o.0 o.1 o.2 h (omega (arith, length_all c (numbers_to t n)))
-      ∙ ap (λ (x : ℕ). x + one (eqb (number_at k) (recorded_at t n / 8))) (counts-have n (λ j b. f j (omega arith)) k h low)
+      ∙ ap (λ (x : ℕ). x + one (eqb (number_at k) (recorded_at t n / 8))) (counts_have n (λ j b. f j (omega arith)) k h low)
       ∙ omega arith
 
   -- past the 16 places all stays
@@ -180,13 +180,13 @@ module _ (t c : List ℕ) where
       ∙ get_or-set_other all (slot_of x) k (get_or all (slot_of x) 0 + 1) 0 (λ e. omega (arith, e, low))
       ∙ counts_past n (λ j b. f j (omega arith)) k h
 
-  sum-most : (n : ℕ) → sum_to 16 (count_all c (numbers_to t n)) ≤ sum_to 16 c + n
+  sum_most : (n : ℕ) → sum_to 16 (count_all c (numbers_to t n)) ≤ sum_to 16 c + n
   unfolding numbers_to count_all count_one
-  sum-most zero = omega arith
-  sum-most (suc n) =
+  sum_most zero = omega arith
+  sum_most (suc n) =
       let all = count_all c (numbers_to t n) in
       rw (count_last c (numbers_to t n) (recorded_at t n / 8))
-      (omega (arith, sum_raised_le 16 all (slot_of (recorded_at t n / 8)), sum-most n))
+      (omega (arith, sum_raised_le 16 all (slot_of (recorded_at t n / 8)), sum_most n))
 
 -- ---- a tally added
 
@@ -218,15 +218,15 @@ tally_is r t n c =
     let small : n ≤ 4294967295 = omega (arith, c.room) in
     let low : (k : ℕ) → k < n → recorded_at t k / 8 ≤ 17 = λ k b. (c.ours k b).1 in
     let all = count_all r.counts (numbers_to t n) in
-    let discards = tally-discards t n small low in
-    let most = sum-most t r.counts n in
+    let discards = tally_discards t n small low in
+    let most = sum_most t r.counts n in
     let same : (j : ℕ) → j < length (added_counts r.counts l 16) → get_or (added_counts r.counts l 16) j 0 ≡ get_or all j 0 = λ j b.
     let long : j < length r.counts = omega (arith, b, length_added r.counts l 16) in
     split (ltb j 16)
     (λ y.
     let i : j < 16 = ltb-true j 16 y in
-    let have = counts-have t r.counts n c.ours j i long in
-    let tally = tally-has t n small low (number_at j) (number_low j i) in
+    let have = counts_have t r.counts n c.ours j i long in
+    let tally = tally_has t n small low (number_at j) (number_low j i) in
     added_in r.counts l 16 j i long ∙ omega (arith, have, tally, sum_has 16 all j i, most, c.sum, c.room))
     (λ z.
     let i : 16 ≤ j = ltb-false j 16 z in

@@ -1,6 +1,6 @@
 -- `transfer::accept` meets its contract. Assumes nothing.
 use mathlib.Core.Path.{sym}
-use Rattle.transfer.proofs.Laws.{accepted-more, accepted-last}
+use Rattle.transfer.proofs.Laws.{accepted_more, accepted_last}
 use borrow.Author.Rules.{rules}
 use Rattle.transfer.proofs.accept.Statement.{statement}
 use Rattle.transfer.proofs.accept.Tie as tie
@@ -18,10 +18,10 @@ deed-answer-requires : tie.Need-deed-answer-requires
 deed-answer-requires c κs = search rules
 
 returns : tie.Need-returns
-returns c = rw c.deed-answer.ensures (sym (accepted-more _ _ _ _ _ c.before.if1.true))
+returns c = rw c.deed-answer.ensures (sym (accepted_more _ _ _ _ _ c.before.if1.true))
 
 returns-2 : tie.Need-returns-2
-returns-2 c = sym (accepted-last _ _ _ _ _ c.if1.false)
+returns-2 c = sym (accepted_last _ _ _ _ _ c.if1.false)
 
 pub accept-spec : {M : Type 1} → statement M
 accept-spec = tie.close (tie.spec add-raised cast-if1 cast-count deed-answer-requires returns returns-2)

@@ -8,7 +8,7 @@ use Rattle.uf2_receiver.specs.Receiver.{lent, world}
 use Rattle.uf2_known.specs.declared.judged.Judgement.{Judgement}
 use Rattle.uf2_batch.specs.Batch.{arrivals_of, batch_of}
 use Rattle.uf2_batch.specs.Parts.{Knows}
-use Rattle.uf2_batch.proofs.Laws.{knows_of, Stays, stays_judged, stays_on, arrival_size, end_from, end_starts, end_more, end-ran}
+use Rattle.uf2_batch.proofs.Laws.{knows_of, Stays, stays_judged, stays_on, arrival_size, end_from, end_starts, end_more, end_ran}
 use borrow.Author.Rules.{rules}
 use Rattle.uf2_batch.proofs.take_all.Statement.{statement}
 use Rattle.uf2_batch.proofs.take_all.Tie as tie
@@ -99,7 +99,7 @@ same-length-6 : tie.Need-same-length-6 invariant-loop decreases-loop
 same-length-6 c = search rules
 
 returns : tie.Need-returns invariant-loop decreases-loop
-returns c = let at = c.before.loop in end-ran _ _ _ _ _ _ _ _ c.loop-test.false at.invariant.4
+returns c = let at = c.before.loop in end_ran _ _ _ _ _ _ _ _ c.loop-test.false at.invariant.4
 
 pub take_all_spec : {M : Type 1} → statement M
 take_all_spec =

@@ -1,5 +1,5 @@
 -- `block::flagged` meets its contract. Assumes nothing.
-use Rattle.uf2_block.proofs.Laws.{flagged-container, flagged-bare, flagged-found}
+use Rattle.uf2_block.proofs.Laws.{flagged_container, flagged-bare, flagged-found}
 use borrow.Author.Rules.{rules}
 use Rattle.uf2_block.proofs.flagged.Statement.{statement}
 use Rattle.uf2_block.proofs.flagged.Tie as tie
@@ -8,7 +8,7 @@ field-requires : tie.Need-field-requires
 field-requires c κs = search rules
 
 returns : tie.Need-returns
-returns c = flagged-container _ c.before.field.ensures c.if1.true
+returns c = flagged_container _ c.before.field.ensures c.if1.true
 
 returns-2 : tie.Need-returns-2
 returns-2 c = flagged-bare _ c.before.before.field.ensures c.before.if1.false c.if2.true

@@ -3,7 +3,7 @@ use mathlib.Core.Path.{sym, ap, ◌∙◌}
 use native.Mathlib.Omega.{arith}
 use Rattle.laws.specs.Numbered.{numbered}
 use Rattle.uf2_block.specs.Block.{header_number}
-use Rattle.uf2_block.proofs.Laws.{header-first, header-second, header-last, header-flagged}
+use Rattle.uf2_block.proofs.Laws.{header_first, header-second, header-last, header-flagged}
 use borrow.Author.Rules.{rules}
 use Rattle.uf2_block.proofs.read.Statement.{statement}
 use Rattle.uf2_block.proofs.read.Tie as tie
@@ -12,7 +12,7 @@ field-requires : tie.Need-field-requires
 field-requires c κs = search rules
 
 returns : tie.Need-returns
-returns c = ap (numbered header_number) (sym (header-first _ (λ e. omega arith)))
+returns c = ap (numbered header_number) (sym (header_first _ (λ e. omega arith)))
 
 field-requires-2 : tie.Need-field-requires-2
 field-requires-2 c κs = search rules

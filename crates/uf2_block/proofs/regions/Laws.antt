@@ -27,9 +27,9 @@ pub record Counting (size address : ℕ) (g : Region) : Type 0 where
   pub behind : address + 256 ≤ g.start + g.len
 
 module _ (size address : ℕ) (g : Region) where
-  pub good-yes : Counting size address g → good_region size address g ≡ true
+  pub good_yes : Counting size address g → good_region size address g ≡ true
   unfolding good_region
-  good-yes h =
+  good_yes h =
       rw (
         eq-eqb (g.start % 4096) 0 h.starts,
         eq-eqb (g.len % 4096) 0 h.ends,
@@ -40,9 +40,9 @@ module _ (size address : ℕ) (g : Region) where
         le-leb (address + 256) (g.start + g.len) h.behind,
       )
 
-  pub good-true : good_region size address g ≡ true → Counting size address g
+  pub good_true : good_region size address g ≡ true → Counting size address g
   unfolding good_region
-  good-true e =
+  good_true e =
       let c1 = eqb (g.start % 4096) 0 in
       let c2 = eqb (g.len % 4096) 0 in
       let c3 = not (eqb g.len 0) in
@@ -65,44 +65,44 @@ module _ (size address : ℕ) (g : Region) where
         behind = leb-true _ _ (and_right (c1 && c2 && c3 && c4 && c5 && c6) c7 e);
       }
 
-  pub good-no : (Counting size address g → ⊥) → false ≡ good_region size address g
-  good-no n = split (good_region size address g) (λ y. absurd (n (good-true y))) sym
+  pub good_no : (Counting size address g → ⊥) → false ≡ good_region size address g
+  good_no n = split (good_region size address g) (λ y. absurd (n (good_true y))) sym
 
   -- the last condition decides where the others are met
-  pub good-last : (address + 256 ≤ g.start + g.len → Counting size address g) → leb (address + 256) (g.start + g.len) ≡ good_region size address g
-  good-last f =
+  pub good_last : (address + 256 ≤ g.start + g.len → Counting size address g) → leb (address + 256) (g.start + g.len) ≡ good_region size address g
+  good_last f =
       split (leb (address + 256) (g.start + g.len))
-      (λ y. y ∙ sym (good-yes (f (leb-true _ _ y))))
-      (λ z. let l = leb-false (address + 256) (g.start + g.len) z in z ∙ good-no (λ h. omega arith))
+      (λ y. y ∙ sym (good_yes (f (leb-true _ _ y))))
+      (λ z. let l = leb-false (address + 256) (g.start + g.len) z in z ∙ good_no (λ h. omega arith))
 
 -- ---- a region that the flash has
 
 module _ (flash : List ℕ) (start : ℕ) (g : Region) where
-  pub stands-low : g.start < 0x10000000 → false ≡ stands_in flash start g
+  pub stands_low : g.start < 0x10000000 → false ≡ stands_in flash start g
   unfolding stands_in
-  stands-low h = rw (lt-leb 0x10000000 g.start h)
+  stands_low h = rw (lt-leb 0x10000000 g.start h)
 
   module _ (w : 0x10000000 ≤ g.start) where
     pub stands-past : length flash < from_of start g + g.len → false ≡ stands_in flash start g
     unfolding stands_in
     stands-past h = rw (le-leb 0x10000000 g.start w, lt-leb (from_of start g + g.len) (length flash) h)
 
-    pub stands-there : from_of start g + g.len ≤ length flash → same_digest (md5_of (part_of flash start g)) g ≡ stands_in flash start g
+    pub stands_there : from_of start g + g.len ≤ length flash → same_digest (md5_of (part_of flash start g)) g ≡ stands_in flash start g
     unfolding stands_in
-    stands-there h = rw (le-leb 0x10000000 g.start w, le-leb (from_of start g + g.len) (length flash) h)
+    stands_there h = rw (le-leb 0x10000000 g.start w, le-leb (from_of start g + g.len) (length flash) h)
 
     -- as the code has it
     pub stands-part : from_of start g + g.len ≤ length flash → {x : Digest} {r : Bool}
         → x ≡ md5_of (take (from_of start g + g.len - from_of start g) (drop (from_of start g) flash)) → r ≡ same_digest x g → r ≡ stands_in flash start g
     stands-part h d s =
         let n : from_of start g + g.len - from_of start g ≡ g.len = omega arith in
-        s ∙ ap (λ (x : Digest). same_digest x g) (d ∙ rw n) ∙ stands-there h
+        s ∙ ap (λ (x : Digest). same_digest x g) (d ∙ rw n) ∙ stands_there h
 
 module _ (flash : List ℕ) (start : ℕ) (g : Region) where
   -- the conditions of a region that the flash has
-  pub stands-true : stands_in flash start g ≡ true → same_digest (md5_of (part_of flash start g)) g ≡ true
+  pub stands_true : stands_in flash start g ≡ true → same_digest (md5_of (part_of flash start g)) g ≡ true
   unfolding stands_in
-  stands-true e =
+  stands_true e =
       and_right (leb 0x10000000 g.start && leb (from_of start g + g.len) (length flash)) (same_digest (md5_of (part_of flash start g)) g) e
 
 -- the digest that a region names

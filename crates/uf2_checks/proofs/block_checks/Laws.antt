@@ -34,30 +34,30 @@ module _ (size : ℕ) (b : Block) where
   aligned MainRam r = omega arith
   aligned XipRam r = omega arith
 
-  address-right : (k : Kind) → base_of k ≤ b.address → b.address % alignment_of k ≡ 0 → b.address - base_of k + 256 ≤ size → bad_address k size b ≡ false
-  address-right Flash l w i =
+  address_right : (k : Kind) → base_of k ≤ b.address → b.address % alignment_of k ≡ 0 → b.address - base_of k + 256 ≤ size → bad_address k size b ≡ false
+  address_right Flash l w i =
       rw (
         le-ltb b.address 0x10000000 l,
         eq-eqb (b.address % 256) 0 w,
         le-ltb size (b.address - 0x10000000 + 256) i,
       )
-  address-right MainRam l w i = le-ltb size (b.address - 0x20000000 + 256) i
-  address-right XipRam l w i = le-ltb size (b.address - 0x13ffc000 + 256) i
+  address_right MainRam l w i = le-ltb size (b.address - 0x20000000 + 256) i
+  address_right XipRam l w i = le-ltb size (b.address - 0x13ffc000 + 256) i
 
 module _ (k : Kind) (start size : ℕ) (b : Block) where
-  address-true : bad_address k size b ≡ true → addressed k start size b ≡ Refused BadAddress
+  address_true : bad_address k size b ≡ true → addressed k start size b ≡ Refused BadAddress
   unfolding addressed
-  address-true h = rw h
+  address_true h = rw h
 
-  address-wrong : (InRoom k size b → ⊥) → addressed k start size b ≡ Refused BadAddress
-  address-wrong a = split (bad_address k size b) address-true (λ h. absurd (a (in_room k size b h)))
+  address_wrong : (InRoom k size b → ⊥) → addressed k start size b ≡ Refused BadAddress
+  address_wrong a = split (bad_address k size b) address_true (λ h. absurd (a (in_room k size b h)))
 
-  pub address-ragged : {step : ℕ} → step ≡ alignment_of k → b.address % step ≢ 0 → addressed k start size b ≡ Refused BadAddress
-  address-ragged e w = address-wrong (λ r. w (ap (λ (m : ℕ). b.address % m) e ∙ aligned size b k r))
+  pub address_ragged : {step : ℕ} → step ≡ alignment_of k → b.address % step ≢ 0 → addressed k start size b ≡ Refused BadAddress
+  address_ragged e w = address_wrong (λ r. w (ap (λ (m : ℕ). b.address % m) e ∙ aligned size b k r))
 
   module _ {from : ℕ} (f : from ≡ base_of k) (l : base_of k ≤ b.address) where
     pub address-past : {past : ℕ} → size < past - from → past ≡ b.address + 256 → addressed k start size b ≡ Refused BadAddress
-    address-past h q = address-wrong (λ r. omega (arith, h, q, f, l, r.inside))
+    address-past h q = address_wrong (λ r. omega (arith, h, q, f, l, r.inside))
 
     pub address-passed : {step : ℕ} → step ≡ alignment_of k → b.address % step ≡ 0 → {past : ℕ} → past - from ≤ size → past ≡ b.address + 256
         → {g : Head} → g ≡ head_with k b.family b.total
@@ -65,14 +65,14 @@ module _ (k : Kind) (start size : ℕ) (b : Block) where
     unfolding addressed
     address-passed e w i q h =
         let whole = sym (ap (λ (m : ℕ). b.address % m) e) ∙ w in
-        rw (address-right size b k l whole (omega (arith, f, l, i, q)), h, f)
+        rw (address_right size b k l whole (omega (arith, f, l, i, q)), h, f)
 
 -- ---- a data block in a window
 
 module _ (k : Kind) (start size : ℕ) (b : Block) where
-  pub placed-payload : b.size ≢ 256 → placed k start size b ≡ Refused BadPayload
+  pub placed_payload : b.size ≢ 256 → placed k start size b ≡ Refused BadPayload
   unfolding placed
-  placed-payload n = rw (ne_eqb b.size 256 n)
+  placed_payload n = rw (ne_eqb b.size 256 n)
 
   module _ (p : b.size ≡ 256) where
     pub placed-numbers : bad_numbers size b ≡ true → placed k start size b ≡ Refused BadNumbers

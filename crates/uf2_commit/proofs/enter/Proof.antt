@@ -35,7 +35,7 @@ returns : tie.Need-returns
 returns c =
     let w = c.before.before.before.before.before.before.before.before.before.before in
     let k = w.before.before.before.before.before.before.before.before in
-    enters _ _ _ _ _ _ _ _ k.before.before.before.before.page-at.ensures k.clear-maps.ensures w.write.ensures c.before.before.mark.ensures
+    enters _ _ _ _ _ _ _ _ k.before.before.before.before.page_at.ensures k.clear-maps.ensures w.write.ensures c.before.before.mark.ensures
 
 pub enter_spec : {M : Type 1} → statement M
 enter_spec =

@@ -12,9 +12,9 @@ use Rattle.placement.specs.declared.Place.TheVariants.{Nowhere, At}
 use Rattle.arrival.specs.Arrive.{stands_at}
 
 module _ (f a : List ℕ) (start size : ℕ) where
-  pub stands-bare : has_flag a 0x4000 ≡ false → false ≡ stands_at f (At start size) a
+  pub stands_bare : has_flag a 0x4000 ≡ false → false ≡ stands_at f (At start size) a
   unfolding stands_at
-  stands-bare h = rw h
+  stands_bare h = rw h
 
   module _ (h : has_flag a 0x4000 ≡ true) {g : Region} (e : g ≡ region_of a) {x : ℕ} (q : x ≡ field_at a 12) where
     pub stands-bad : good_region size x g ≡ false → false ≡ stands_at f (At start size) a

@@ -3,13 +3,13 @@ use mathlib.Core.Path.{sym, ap, ◌∙◌}
 use borrow.Author.Tests.{not-true, not-false}
 use Rattle.laws.specs.Numbered.{numbered}
 use Rattle.uf2_known.specs.Verdict.{decision_number}
-use Rattle.uf2_decide.proofs.Laws.{judge-lengths, judge-settings, judge-state, judge-screened}
+use Rattle.uf2_decide.proofs.Laws.{judge_lengths, judge-settings, judge-state, judge-screened}
 use borrow.Author.Rules.{rules}
 use Rattle.uf2_decide.proofs.judge.Statement.{statement}
 use Rattle.uf2_decide.proofs.judge.Tie as tie
 
 returns : tie.Need-returns
-returns c = ap (numbered decision_number) (judge-lengths _ _ _ _ (not-true _ c.if1.true))
+returns c = ap (numbered decision_number) (judge_lengths _ _ _ _ (not-true _ c.if1.true))
 
 returns-2 : tie.Need-returns-2
 returns-2 c = ap (numbered decision_number) (judge-settings _ _ _ _ (not-false _ c.before.before.if1.false) (not-true _ c.if2.true))

@@ -20,19 +20,19 @@ use Rattle.uf2_known.specs.Verdict.{accepted_as}
 
 module _ (t : Transfer) (p : PlacedBlock) (seen : List ℕ) (kept : Bool) {m : Bool} (e : m ≡ marked_in seen p.number) where
   -- what stays, stays whatever the flash has
-  pub settled-stays : {s : Step} → s ≡ step_of t.state p.head m Stores → {x : Unchanged} → s ≡ Stays x
+  pub settled_stays : {s : Step} → s ≡ step_of t.state p.head m Stores → {x : Unchanged} → s ≡ Stays x
       → stays x.answer ≡ after_screening t.state seen kept (Passed p)
   unfolding after_screening
-  settled-stays q w =
+  settled_stays q w =
       let z : step_of t.state p.head (marked_in seen p.number) (deed_of kept p) ≡ Stays _ =
       ap (λ (b : Bool). step_of t.state p.head b (deed_of kept p)) (sym e) ∙ stays_any t.state p.head m Stores (deed_of kept p) (sym q ∙ w) in
       rw z
 
   -- and what is accepted is accepted
-  pub settled-accepts : {s : Step} → s ≡ step_of t.state p.head m Stores → {y : Accepted} → s ≡ Accepts y
+  pub settled_accepts : {s : Step} → s ≡ step_of t.state p.head m Stores → {y : Accepted} → s ≡ Accepts y
       → {d : Decision} → d ≡ accepted_as kept p y → d ≡ after_screening t.state seen kept (Passed p)
   unfolding after_screening
-  settled-accepts q {y} w g =
+  settled_accepts q {y} w g =
       let v : step_of t.state p.head (marked_in seen p.number) (deed_of kept p) ≡ Accepts (with_deed (deed_of kept p) y) =
       ap (λ (b : Bool). step_of t.state p.head b (deed_of kept p)) (sym e) ∙ accepts_any t.state p.head m (deed_of kept p) (sym q ∙ w) in
       rw v g

@@ -18,9 +18,9 @@ start_low start e =
     (or_left (leb 0x12000000 start) (not (eqb (start % 256) 0)) (or_right (ltb start 0x10000000) (leb 0x12000000 start || not (eqb (start % 256) 0)) e))
 
 module _ (n start room : ℕ) where
-  pub image-bad : bad_image n ≡ true → BadImage ≡ check_of n start room
+  pub image_bad : bad_image n ≡ true → BadImage ≡ check_of n start room
   unfolding check_of
-  image-bad h = rw h
+  image_bad h = rw h
 
   module _ (p : bad_image n ≡ false) where
     pub start-bad : bad_start start ≡ true → BadStart ≡ check_of n start room

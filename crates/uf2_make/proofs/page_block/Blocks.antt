@@ -85,13 +85,13 @@ block_put b a n t f page {x} {c} {d} {e} {g} {ys} {zs} hb hp hx hl hy hd hz he h
 -- ---- one block by itself
 
 module _ (out : List ℕ) (a n t f : ℕ) (page : List ℕ) where
-  pub other-output : length out ≢ 512 → out ≡ block_over out a n t f page
+  pub other_output : length out ≢ 512 → out ≡ block_over out a n t f page
   unfolding block_over
-  other-output h = rw (ne_eqb (length out) 512 h)
+  other_output h = rw (ne_eqb (length out) 512 h)
 
-  pub other-page : length page ≢ 256 → out ≡ block_over out a n t f page
+  pub other_page : length page ≢ 256 → out ≡ block_over out a n t f page
   unfolding block_over
-  other-page h = rw (ne_eqb (length page) 256 h, and-false (eqb (length out) 512))
+  other_page h = rw (ne_eqb (length page) 256 h, and-false (eqb (length out) 512))
 
   pub one_block : length out ≡ 512 → length page ≡ 256 → {b : List ℕ} → b ≡ block_bytes a n t f page → b ≡ block_over out a n t f page
   unfolding block_over

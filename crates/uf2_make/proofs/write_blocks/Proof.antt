@@ -6,7 +6,7 @@ use lib.ListN.{length}
 use Rattle.laws.specs.Over.{over}
 use Rattle.laws.specs.Rows.{rows}
 use Rattle.uf2_make.specs.Uf2file.{block_at}
-use Rattle.uf2_make.proofs.Files.{blocks_none, blocks_more, blocks-long, blocks-whole}
+use Rattle.uf2_make.proofs.Files.{blocks_none, blocks_more, blocks_long, blocks_whole}
 use borrow.Author.Rules.{rules}
 use Rattle.uf2_make.proofs.write_blocks.Statement.{statement}
 use Rattle.uf2_make.proofs.write_blocks.Tie as tie
@@ -77,7 +77,7 @@ loop-again c =
     let one =
     blocks_more a.image.now a.family a.start a.total start.requires.0 a.output.now l.output _ l.k _ start.requires.1.1 (omega arith) (omega arith)
     l.invariant.2 c.before.before.write-block.ensures in
-    (omega arith, blocks-long a.image.now a.family a.start a.total start.requires.0 a.output.now _ (l.k + 1) start.requires.1.1 (omega arith) one, one)
+    (omega arith, blocks_long a.image.now a.family a.start a.total start.requires.0 a.output.now _ (l.k + 1) start.requires.1.1 (omega arith) one, one)
 
 same_length : tie.Need-same-length invariant-loop decreases-loop
 same_length c = search rules
@@ -87,7 +87,7 @@ returns c =
     let a = c.before.before.before.before.args in
     let p = c.before.before.before.before.requires in
     let l = c.before.loop in
-    blocks-whole a.image.now a.family a.start a.total p.0 a.output.now l.output l.k (omega arith) l.invariant.2
+    blocks_whole a.image.now a.family a.start a.total p.0 a.output.now l.output l.k (omega arith) l.invariant.2
 
 pub write-blocks-spec : {M : Type 1} → statement M
 write-blocks-spec =

@@ -5,7 +5,7 @@ use Rattle.laws.specs.Numbered.{numbered}
 use Rattle.laws.proofs.Numbered.{answer_is}
 use Rattle.uf2_make.specs.Uf2file.{call_number}
 use Rattle.uf2_make.proofs.checks.Checks.{made_right}
-use Rattle.uf2_make_regions.proofs.Files.{make-refused, make-made}
+use Rattle.uf2_make_regions.proofs.Files.{make_refused, make_made}
 use borrow.Author.Rules.{rules}
 use Rattle.uf2_make_regions.proofs.make.Statement.{statement}
 use Rattle.uf2_make_regions.proofs.make.Tie as tie
@@ -17,7 +17,7 @@ enum-known-answer : tie.Need-enum-known-answer
 enum-known-answer c = search rules
 
 returns : tie.Need-returns
-returns c = ap (numbered call_number) (make-refused _ _ _ _ _ c.match.keys2 (answer_is c.before.check.ensures))
+returns c = ap (numbered call_number) (make_refused _ _ _ _ _ c.match.keys2 (answer_is c.before.check.ensures))
 
 write-blocks-requires : tie.Need-write-blocks-requires
 write-blocks-requires c κs =
@@ -32,7 +32,7 @@ same_length c = search rules
 returns-2 : tie.Need-returns-2
 returns-2 c =
     let known = c.before.before.before.before.before in
-    ap (numbered call_number) (make-made _ _ _ _ _ _ (answer_is known.before.before.check.ensures) known.answer.given.1 c.before.before.write-blocks.ensures)
+    ap (numbered call_number) (make_made _ _ _ _ _ _ (answer_is known.before.before.check.ensures) known.answer.given.1 c.before.before.write-blocks.ensures)
 
 pub make_spec : {M : Type 1} → statement M
 make_spec =

@@ -1,6 +1,6 @@
 -- `put_page` meets its contract. Assumes nothing.
 use mathlib.Core.Path.{refl}
-use Rattle.uf2_make_regions.proofs.Files.{block-is}
+use Rattle.uf2_make_regions.proofs.Files.{block_is}
 use borrow.Author.Rules.{rules}
 use Rattle.uf2_make_regions.proofs.put_page.Statement.{statement}
 use Rattle.uf2_make_regions.proofs.put_page.Tie as tie
@@ -44,7 +44,7 @@ same_length c = search rules
 returns : tie.Need-returns
 returns c =
     let a = c.before.before.before.before.before.before.before.before.args in
-    block-is a.image.now a.family a.start a.total c.before.before.before.before.before.before.before.before.requires.0 a.k _ _ refl refl c.before.before.before.before.before.digest.ensures c.before.before.put-block.ensures
+    block_is a.image.now a.family a.start a.total c.before.before.before.before.before.before.before.before.requires.0 a.k _ _ refl refl c.before.before.before.before.before.digest.ensures c.before.before.put-block.ensures
 
 pub put-page-spec : {M : Type 1} → statement M
 put-page-spec =

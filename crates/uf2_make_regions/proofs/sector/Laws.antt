@@ -12,7 +12,7 @@ use Rattle.memory.specs.Many.{many}
 use Rattle.memory.proofs.fill.Laws.{length_many, get_d_many}
 use Rattle.laws.specs.Over.{over}
 use Rattle.laws.proofs.Tests.{split}
-use Rattle.laws.proofs.OverLaws.{length_over, over-inside, over-before, over-after, copied_over}
+use Rattle.laws.proofs.OverLaws.{length_over, over_inside, over_before, over_after, copied_over}
 use Rattle.md5_digest.specs.Md5.{md5_of}
 use Rattle.md5_digest.specs.declared.Digest.{Digest}
 use Rattle.uf2_make_regions.specs.Sector.{sector_of}
@@ -26,39 +26,39 @@ blank = refl
 -- ---- the image's part, copied into a blank sector
 
 module _ (image : List ℕ) (at from count : ℕ) (room : at + count ≤ 4096) (inside : from + count ≤ length image) where
-  pub placed-over : {d ys : List ℕ} → d ≡ many 4096 255
+  pub placed_over : {d ys : List ℕ} → d ≡ many 4096 255
       → ys ≡ take (length (take (from + count - from) (drop from image))) (take (from + count - from) (drop from image)) ++ drop (length (take (from + count - from) (drop from image))) (take (at + count - at) (drop at d))
       → put_mid at (at + count - at) d ys ≡ over (many 4096 255) at (take count (drop from image))
-  placed-over {d} {ys} hd hy =
+  placed_over {d} {ys} hd hy =
       let p = take (from + count - from) (drop from image) in
       let n : from + count - from ≡ count = omega arith in
       let long : length p ≡ count = simp (length-take, length-drop) (omega arith) in
       let size : length d ≡ 4096 = ap length hd ∙ length_many 4096 255 in
       copied_over at count d p ys long (omega arith) hy ∙ rw (hd, n) refl
 
-  pub placed-long : {d ys : List ℕ} → d ≡ many 4096 255
+  pub placed_long : {d ys : List ℕ} → d ≡ many 4096 255
       → ys ≡ take (length (take (from + count - from) (drop from image))) (take (from + count - from) (drop from image)) ++ drop (length (take (from + count - from) (drop from image))) (take (at + count - at) (drop at d))
       → length (put_mid at (at + count - at) d ys) ≡ 4096
-  placed-long hd hy =
+  placed_long hd hy =
       let fits : at + length (take count (drop from image)) ≤ length (many 4096 255) =
       omega (arith, length_many 4096 255, length-take-le count (drop from image) (omega (arith, length-drop from image))) in
-      ap length (placed-over hd hy) ∙ length_over (many 4096 255) at (take count (drop from image)) fits ∙ length_many 4096 255
+      ap length (placed_over hd hy) ∙ length_over (many 4096 255) at (take count (drop from image)) fits ∙ length_many 4096 255
 
 -- ---- the part that the image has of it
 
 module _ (image : List ℕ) (start base : ℕ) {at from : ℕ} (ha : at ≡ start - base) (hf : from ≡ base - start) {x : Digest} where
   -- as much as there is room for
-  pub by-room : x ≡ md5_of (over (many 4096 255) at (take (4096 - at) (drop from image))) → x ≡ sector_digest image start base
+  pub by_room : x ≡ md5_of (over (many 4096 255) at (take (4096 - at) (drop from image))) → x ≡ sector_digest image start base
   unfolding sector_of
-  by-room e = e ∙ rw (ha, hf) refl
+  by_room e = e ∙ rw (ha, hf) refl
 
   -- all that is left, where there is room for more
-  pub by-rest : x ≡ md5_of (over (many 4096 255) at (take (length image - from) (drop from image))) → length image - from ≤ 4096 - at → x ≡ sector_digest image start base
-  by-rest e l =
+  pub by_rest : x ≡ md5_of (over (many 4096 255) at (take (length image - from) (drop from image))) → length image - from ≤ 4096 - at → x ≡ sector_digest image start base
+  by_rest e l =
       let m = length-drop from image in
       let same : take (length image - from) (drop from image) ≡ take (4096 - at) (drop from image) =
       take_all (length image - from) (drop from image) (omega (arith, m)) ∙ sym (take_all (4096 - at) (drop from image) (omega (arith, m))) in
-      by-room (e ∙ ap (λ (p : List ℕ). md5_of (over (many 4096 255) at p)) same)
+      by_room (e ∙ ap (λ (p : List ℕ). md5_of (over (many 4096 255) at p)) same)
 
 -- ---- byte by byte
 
@@ -97,15 +97,15 @@ module _ (image : List ℕ) (start base : ℕ) where
               let hi : i < 4096 - at = omega arith in
               let p : i < length part = part-size i hi (omega arith) in
               let there : from + i ≡ base + j - start = omega arith in
-              over-inside (many 4096 255) at part fits j (omega arith) (omega arith)
+              over_inside (many 4096 255) at part fits j (omega arith) (omega arith)
               ∙ get_or-take (4096 - at) (drop from image) i 0 hi
               ∙ get_or-drop from image i 0
               ∙ ap (λ (k : ℕ). get_or image k 0) there;
-          before = λ j h s. over-before (many 4096 255) at part fits j (omega arith) ∙ get_d_many 4096 255 j h;
+          before = λ j h s. over_before (many 4096 255) at part fits j (omega arith) ∙ get_d_many 4096 255 j h;
           after = λ j h e.
               split (leb at j)
-              (λ y. let l = leb-true at j y in over-after (many 4096 255) at part fits j (omega (arith, part_none (j - at) (omega arith))) ∙ get_d_many 4096 255 j h)
-              (λ z. let l = leb-false at j z in over-before (many 4096 255) at part fits j (omega arith) ∙ get_d_many 4096 255 j h);
+              (λ y. let l = leb-true at j y in over_after (many 4096 255) at part fits j (omega (arith, part_none (j - at) (omega arith))) ∙ get_d_many 4096 255 j h)
+              (λ z. let l = leb-false at j z in over_before (many 4096 255) at part fits j (omega arith) ∙ get_d_many 4096 255 j h);
         }
 
 -- the conditions leave one content

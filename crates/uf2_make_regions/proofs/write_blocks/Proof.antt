@@ -6,7 +6,7 @@ use lib.ListN.{length}
 use Rattle.laws.specs.Over.{over}
 use Rattle.laws.specs.Rows.{rows}
 use Rattle.uf2_make_regions.specs.File.{block_at}
-use Rattle.uf2_make_regions.proofs.Files.{blocks_none, blocks_more, blocks-long, blocks-whole}
+use Rattle.uf2_make_regions.proofs.Files.{blocks_none, blocks_more, blocks_long, blocks_whole}
 use borrow.Author.Rules.{rules}
 use Rattle.uf2_make_regions.proofs.write_blocks.Statement.{statement}
 use Rattle.uf2_make_regions.proofs.write_blocks.Tie as tie
@@ -56,7 +56,7 @@ loop-again c =
     let one =
     blocks_more a.image.now a.family a.start a.total start.requires.0 a.output.now l.output _ l.k start.requires.1.1 (omega arith)
     l.invariant.2 c.before.before.put-page.ensures in
-    (omega arith, blocks-long a.image.now a.family a.start a.total start.requires.0 a.output.now _ (l.k + 1) start.requires.1.1 (omega arith) one, one)
+    (omega arith, blocks_long a.image.now a.family a.start a.total start.requires.0 a.output.now _ (l.k + 1) start.requires.1.1 (omega arith) one, one)
 
 same_length : tie.Need-same-length invariant-loop decreases-loop
 same_length c = search rules
@@ -66,7 +66,7 @@ returns c =
     let a = c.before.before.before.before.args in
     let p = c.before.before.before.before.requires in
     let l = c.before.loop in
-    blocks-whole a.image.now a.family a.start a.total p.0 a.output.now l.output l.k (omega arith) l.invariant.2
+    blocks_whole a.image.now a.family a.start a.total p.0 a.output.now l.output l.k (omega arith) l.invariant.2
 
 pub write-blocks-spec : {M : Type 1} → statement M
 write-blocks-spec =

@@ -2,7 +2,7 @@
 use mathlib.Core.Path.{ap, ◌∙◌}
 use Rattle.laws.specs.Numbered.{numbered}
 use Rattle.flash_plan.specs.Plan.{accepting_number}
-use Rattle.uf2_receiver.proofs.KnownLaws.{accept-is}
+use Rattle.uf2_receiver.proofs.KnownLaws.{accept_is}
 use borrow.Author.Rules.{rules}
 use Rattle.uf2_receiver.proofs.accept.Statement.{statement}
 use Rattle.uf2_receiver.proofs.accept.Tie as tie
@@ -26,7 +26,7 @@ same-length-4 : tie.Need-same-length-4
 same-length-4 c = search rules
 
 returns : tie.Need-returns
-returns c = ap (numbered accepting_number) (c.before.before.before.before.before.before.before.before.accept-known.ensures ∙ accept-is _ _ _ c.before.before.before.before.before.before.before.before.before.before.before.before.before.Known-of.ensures)
+returns c = ap (numbered accepting_number) (c.before.before.before.before.before.before.before.before.accept-known.ensures ∙ accept_is _ _ _ c.before.before.before.before.before.before.before.before.before.before.before.before.before.Known-of.ensures)
 
 pub accept-spec : {M : Type 1} → statement M
 accept-spec =

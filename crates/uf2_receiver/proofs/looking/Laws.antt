@@ -13,7 +13,7 @@ use Rattle.arrival.specs.Arrive.{Lent, World, Decision, stays, accepts, forecast
 use Rattle.arrival.specs.Lending.{world}
 use Rattle.uf2_known.specs.Verdict.{known_decision}
 use Rattle.uf2_known.specs.declared.Known.{Known}
-use Rattle.uf2_known.proofs.KnownLaws.{Knows, decision-is}
+use Rattle.uf2_known.proofs.KnownLaws.{Knows, decision_is}
 
 module _ (known : Known) (t : Transfer) (a : List ℕ) (h : Lent) where
   module _ {d : Decision} (k : d ≡ known_decision known (world t h) a) where
@@ -27,4 +27,4 @@ module _ (known : Known) (t : Transfer) (a : List ℕ) (h : Lent) where
 -- with what the settings and the lengths truly say handed in, it is as the meaning has it
 pub look_is : (s : Settings) (w : World) (a : List ℕ) {k : Known} → Knows s w a k → forecast_of (known_decision k w a) ≡ look_of s w a
 unfolding look_of
-look_is s w a e = ap forecast_of (decision-is s w a e)
+look_is s w a e = ap forecast_of (decision_is s w a e)

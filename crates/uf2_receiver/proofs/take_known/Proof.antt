@@ -2,7 +2,7 @@
 use mathlib.Core.Path.{ap}
 use Rattle.laws.specs.Numbered.{numbered}
 use Rattle.arrival.specs.Arrive.{outcome_number}
-use Rattle.uf2_receiver.proofs.Laws.{performed-taken}
+use Rattle.uf2_receiver.proofs.Laws.{performed_taken}
 use borrow.Author.Rules.{rules}
 use Rattle.uf2_receiver.proofs.take_known.Statement.{statement}
 use Rattle.uf2_receiver.proofs.take_known.Tie as tie
@@ -29,7 +29,7 @@ same-length-5 : tie.Need-same-length-5
 same-length-5 c = search rules
 
 returns : tie.Need-returns
-returns c = ap (numbered outcome_number) (performed-taken _ _ _ _ c.before.before.before.before.before.before.before.before.before.before.before.before.before.accept-known.ensures c.before.before.before.perform.ensures)
+returns c = ap (numbered outcome_number) (performed_taken _ _ _ _ c.before.before.before.before.before.before.before.before.before.before.before.before.before.accept-known.ensures c.before.before.before.perform.ensures)
 
 pub take-known-spec : {M : Type 1} → statement M
 take-known-spec =

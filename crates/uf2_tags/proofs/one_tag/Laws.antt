@@ -18,13 +18,13 @@ use Rattle.uf2_tags.specs.contracts.one_tag.Answer.{the_type}
 -- ---- a size and a type
 
 module _ (size kind at end : ℕ) where
-  pub sized-end : size ≡ 0 → kind ≡ 0 → End ≡ sized size kind at end
+  pub sized_end : size ≡ 0 → kind ≡ 0 → End ≡ sized size kind at end
   unfolding sized
-  sized-end p q = rw (eq-eqb size 0 p, eq-eqb kind 0 q) refl
+  sized_end p q = rw (eq-eqb size 0 p, eq-eqb kind 0 q) refl
 
-  pub sized-typed : size ≡ 0 → (kind ≡ 0 → ⊥) → TypedEnd ≡ sized size kind at end
+  pub sized_typed : size ≡ 0 → (kind ≡ 0 → ⊥) → TypedEnd ≡ sized size kind at end
   unfolding sized
-  sized-typed p q = rw (eq-eqb size 0 p, ne_eqb kind 0 q, lt-leb 1 size (omega arith)) refl
+  sized_typed p q = rw (eq-eqb size 0 p, ne_eqb kind 0 q, lt-leb 1 size (omega arith)) refl
 
   module _ (p : size ≡ 0 → ⊥) where
     pub sized-small : size < 4 → ShortTag ≡ sized size kind at end

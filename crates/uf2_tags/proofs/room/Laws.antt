@@ -43,16 +43,16 @@ kind_three b at =
 
 -- the four bytes of a tag's head as one field, as the code reads them
 module _ (b : List ℕ) (at : ℕ) (h : at + 4 ≤ length b) (low : get_or b at 0 < 256) where
-  pub head-size : field_at b at % 256 ≡ get_or b at 0
-  head-size = omega (arith, field_in b at h)
+  pub head_size : field_at b at % 256 ≡ get_or b at 0
+  head_size = omega (arith, field_in b at h)
 
-  pub head-kind : field_at b at / 256 ≡ kind_at b at
-  head-kind = omega (arith, field_in b at h, kind_three b at)
+  pub head_kind : field_at b at / 256 ≡ kind_at b at
+  head_kind = omega (arith, field_in b at h, kind_three b at)
 
 module _ (b : List ℕ) where
-  pub room-md5 : field_at b 8 / 0x4000 % 2 ≡ 1 → 484 ≡ room_end b
+  pub room_md5 : field_at b 8 / 0x4000 % 2 ≡ 1 → 484 ≡ room_end b
   unfolding room_end
-  room-md5 h = rw (eq-eqb (field_at b 8 / 0x4000 % 2) 1 h) refl
+  room_md5 h = rw (eq-eqb (field_at b 8 / 0x4000 % 2) 1 h) refl
 
   pub room_whole : (field_at b 8 / 0x4000 % 2 ≡ 1 → ⊥) → 508 ≡ room_end b
   unfolding room_end
@@ -106,8 +106,8 @@ module _ (b : List ℕ) (at : ℕ) where
 
 -- by the check of the place that decides
 module _ (b : List ℕ) (at : ℕ) where
-  pub stands-place : bad_place (first_place b) at ≡ true → BadPlace ≡ stands_at b at
-  stands-place h = rw h refl
+  pub stands_place : bad_place (first_place b) at ≡ true → BadPlace ≡ stands_at b at
+  stands_place h = rw h refl
 
   module _ (s : bad_place (first_place b) at ≡ false) where
     pub stands-none : room_end b < at + 4 → NoRoom ≡ stands_at b at

@@ -1,21 +1,21 @@
 -- `standing::page_stands` meets its contract. Assumes nothing.
 use native.Mathlib.Omega.{arith}
-use Rattle.uf2_verify.proofs.Laws.{stands-short, stands-out, stands-there}
+use Rattle.uf2_verify.proofs.Laws.{stands_short, stands_out, stands_there}
 use borrow.Author.Rules.{rules}
 use Rattle.uf2_verify.proofs.page_stands.Statement.{statement}
 use Rattle.uf2_verify.proofs.page_stands.Tie as tie
 
 returns : tie.Need-returns
-returns c = stands-short _ _ _ c.if1.true
+returns c = stands_short _ _ _ c.if1.true
 
 returns-2 : tie.Need-returns-2
-returns-2 c = stands-out _ _ _ (omega arith)
+returns-2 c = stands_out _ _ _ (omega arith)
 
 add-e : tie.Need-overflow-add-e
 add-e c = search rules
 
 returns-3 : tie.Need-returns-3
-returns-3 c = stands-out _ _ _ (omega arith)
+returns-3 c = stands_out _ _ _ (omega arith)
 
 sub-same-page : tie.Need-overflow-sub-same-page
 sub-same-page c = search rules
@@ -39,7 +39,7 @@ same-page-requires : tie.Need-same-page-requires
 same-page-requires c κs = search rules
 
 returns-4 : tie.Need-returns-4
-returns-4 c = stands-there _ _ _ (omega arith) (omega arith) c.same-page.ensures
+returns-4 c = stands_there _ _ _ (omega arith) (omega arith) c.same-page.ensures
 
 pub page-stands-spec : {M : Type 1} → statement M
 page-stands-spec =

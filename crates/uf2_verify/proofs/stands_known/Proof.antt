@@ -4,13 +4,13 @@ use borrow.Author.Tests.{not-true, not-false}
 use Rattle.laws.specs.Numbered.{numbered}
 use Rattle.laws.proofs.Numbered.{answer_is}
 use Rattle.uf2_verify.specs.Stands.{stand_number}
-use Rattle.uf2_verify.proofs.Laws.{fresh_screen, told-lengths, told-settings, told-refused, told-passed}
+use Rattle.uf2_verify.proofs.Laws.{fresh_screen, told_lengths, told-settings, told-refused, told-passed}
 use borrow.Author.Rules.{rules}
 use Rattle.uf2_verify.proofs.stands_known.Statement.{statement}
 use Rattle.uf2_verify.proofs.stands_known.Tie as tie
 
 returns : tie.Need-returns
-returns c = ap (numbered stand_number) (told-lengths _ _ _ (not-true _ c.if1.true))
+returns c = ap (numbered stand_number) (told_lengths _ _ _ (not-true _ c.if1.true))
 
 returns-2 : tie.Need-returns-2
 returns-2 c = ap (numbered stand_number) (told-settings _ _ _ (not-false _ c.before.before.if1.false) (not-true _ c.if2.true))

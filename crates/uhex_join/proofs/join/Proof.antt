@@ -1,5 +1,5 @@
 -- `joiner::join` meets its contract. Assumes nothing.
-use Rattle.uhex_join.proofs.Files.{body-verdict, body-first, body_length, joins-bad, joins-fine}
+use Rattle.uhex_join.proofs.Files.{body_verdict, body_first, body_length, joins_bad, joins_fine}
 use borrow.Author.Rules.{rules}
 use Rattle.uhex_join.proofs.join.Statement.{statement}
 use Rattle.uhex_join.proofs.join.Tie as tie
@@ -19,12 +19,12 @@ refused-requires c κs = search rules
 returns : tie.Need-returns
 returns c =
     let a = c.before.before.before.before.before.before.before.args in
-    joins-bad a.v1.now a.v2.now a.out.now (body-verdict _ _ c.before.before.before.scan-file.ensures.0) c.before.enum-told2.given.1 c.refused.ensures
+    joins_bad a.v1.now a.v2.now a.out.now (body_verdict _ _ c.before.before.before.scan-file.ensures.0) c.before.enum-told2.given.1 c.refused.ensures
 
 join-fine-requires : tie.Need-join-fine-requires
 join-fine-requires c κs =
     let body = c.before.before.before.scan-file.ensures in
-    (body-first _ _ body.0, body_length _ _ body.0, body.1)
+    (body_first _ _ body.0, body_length _ _ body.0, body.1)
 
 same_length : tie.Need-same-length
 same_length c = search rules
@@ -32,7 +32,7 @@ same_length c = search rules
 returns-2 : tie.Need-returns-2
 returns-2 c =
     let a = c.before.before.before.before.before.before.before.before.before.before.args in
-    joins-fine a.v1.now a.v2.now a.out.now (body-verdict _ _ c.before.before.before.before.before.before.scan-file.ensures.0) c.before.before.before.before.enum_told.given.1 c.before.before.join-fine.ensures
+    joins_fine a.v1.now a.v2.now a.out.now (body_verdict _ _ c.before.before.before.before.before.before.scan-file.ensures.0) c.before.before.before.before.enum_told.given.1 c.before.before.join-fine.ensures
 
 pub join-spec : {M : Type 1} → statement M
 join-spec =

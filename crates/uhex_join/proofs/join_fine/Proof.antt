@@ -1,5 +1,5 @@
 -- `joiner::join_fine` meets its contract. Assumes nothing.
-use Rattle.uhex_join.proofs.Files.{file-length, body-verdict, body-first, body_length, second-bad, second-fine}
+use Rattle.uhex_join.proofs.Files.{file_length, body_verdict, body_first, body_length, second_bad, second_fine}
 use Rattle.ihex_data.specs.Pieces.{pieces_of}
 use borrow.Author.Rules.{rules}
 use Rattle.uhex_join.proofs.join_fine.Statement.{statement}
@@ -20,7 +20,7 @@ refused-requires c κs = search rules
 returns : tie.Need-returns
 returns c =
     let a = c.before.before.before.before.before.before.before.args in
-    second-bad a.v1.now a.v2.now a.out.now (body-verdict _ _ c.before.before.before.scan-file.ensures.0) c.before.enum-told2.given.1 c.refused.ensures
+    second_bad a.v1.now a.v2.now a.out.now (body_verdict _ _ c.before.before.before.scan-file.ensures.0) c.before.enum-told2.given.1 c.refused.ensures
 
 section-len-requires : tie.Need-section-len-requires
 section-len-requires c κs = search rules
@@ -38,7 +38,7 @@ write-file-requires : tie.Need-write-file-requires
 write-file-requires c κs =
     let x = c.before.before.before.before.before.before.before.before.before in
     let body = c.before.before.before.before.before.scan-file.ensures.0 in
-    ((x.requires.0, body-first _ _ body), file-length (pieces_of x.args.v1.now) (pieces_of x.args.v2.now) x.requires.1 (body_length _ _ body) c.before.before.section-len.ensures c.before.section-len2.ensures)
+    ((x.requires.0, body_first _ _ body), file_length (pieces_of x.args.v1.now) (pieces_of x.args.v2.now) x.requires.1 (body_length _ _ body) c.before.before.section-len.ensures c.before.section-len2.ensures)
 
 same_length : tie.Need-same-length
 same_length c = search rules
@@ -46,7 +46,7 @@ same_length c = search rules
 returns-2 : tie.Need-returns-2
 returns-2 c =
     let a = c.before.before.before.before.before.before.before.before.before.before.before.before.args in
-    second-fine a.v1.now a.v2.now a.out.now (body-verdict _ _ c.before.before.before.before.before.before.before.before.scan-file.ensures.0) c.before.before.before.before.before.before.enum_told.given.1 c.before.before.write-file.ensures
+    second_fine a.v1.now a.v2.now a.out.now (body_verdict _ _ c.before.before.before.before.before.before.before.before.scan-file.ensures.0) c.before.before.before.before.before.before.enum_told.given.1 c.before.before.write-file.ensures
 
 pub join-fine-spec : {M : Type 1} → statement M
 join-fine-spec =

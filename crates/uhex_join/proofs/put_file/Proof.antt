@@ -1,5 +1,5 @@
 -- `joiner::put_file` meets its contract. Assumes nothing.
-use Rattle.uhex_join.proofs.Files.{sections-short, file-put}
+use Rattle.uhex_join.proofs.Files.{sections_short, file_put}
 use Rattle.ihex_data.specs.Pieces.{pieces_of}
 use Rattle.ihex_write.proofs.Lines.{put_record_line}
 use native.Mathlib.Omega.{arith}
@@ -17,7 +17,7 @@ put-v2-requires c κs = search rules
 add-end : tie.Need-overflow-add-end
 add-end c =
     let x = c.before.before.before.before.before.before.before.before.before.before.before in
-    let short = sections-short (pieces_of x.args.v1.now) (pieces_of x.args.v2.now) x.args.out.now x.requires.1 c.before.before.before.before.before.before.put-v1.ensures.0 c.before.before.put-v2.ensures.0 in
+    let short = sections_short (pieces_of x.args.v1.now) (pieces_of x.args.v2.now) x.args.out.now x.requires.1 c.before.before.before.before.before.before.put-v1.ensures.0 c.before.before.put-v2.ensures.0 in
     omega (arith, short)
 
 slice-aggregate-put-record : tie.Need-slice-aggregate-put-record
@@ -35,7 +35,7 @@ returns c =
     let a = x.args in
     let one = c.before.before.before.before.before.before.before.before.before.before.before.put-v1.ensures in
     let two = c.before.before.before.before.before.before.before.put-v2.ensures in
-    file-put (pieces_of a.v1.now) (pieces_of a.v2.now) a.out.now x.requires.1 x.requires.0.0 x.requires.0.1 one.1 one.0 two.1 two.0 (c.before.before.put_record.ensures ∙ put_record_line _ _ _ _ _ (omega arith))
+    file_put (pieces_of a.v1.now) (pieces_of a.v2.now) a.out.now x.requires.1 x.requires.0.0 x.requires.0.1 one.1 one.0 two.1 two.0 (c.before.before.put_record.ensures ∙ put_record_line _ _ _ _ _ (omega arith))
 
 pub put-file-spec : {M : Type 1} → statement M
 put-file-spec =

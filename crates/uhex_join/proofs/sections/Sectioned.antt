@@ -24,46 +24,46 @@ unfolding body_of
 body_length r s e = ap (λ (x : Body). x.len) e
 
 module _ (board kind u : ℕ) (ss : List Store) where
-  abbrev nameLine : List ℕ
-  nameLine = record_line block_start 0 (word_bytes board)
+  abbrev name_line : List ℕ
+  name_line = record_line block_start 0 (word_bytes board)
 
-  length-name : length nameLine ≡ 16
-  length-name = length_line block_start 0 (word_bytes board)
+  length_name : length name_line ≡ 16
+  length_name = length_line block_start 0 (word_bytes board)
 
   length_upper : length (upper_line u) ≡ 16
   length_upper = length_line extended_linear 0 (word_bytes u)
 
-  length-start : length (flatten (start_with board kind u ss)) ≡ 32 + data_length ss
+  length_start : length (flatten (start_with board kind u ss)) ≡ 32 + data_length ss
   unfolding start_with flatten
-  length-start =
+  length_start =
       let body = flatten (data_lines kind ss) in
-      omega (arith, length-append (upper_line u) (nameLine ++ body), length-append nameLine body, length_upper, length-name, length_data_lines kind ss)
+      omega (arith, length-append (upper_line u) (name_line ++ body), length-append name_line body, length_upper, length_name, length_data_lines kind ss)
 
-  pub length-section : length (flatten (section_with board kind u ss)) ≡ section_size (data_length ss)
+  pub length_section : length (flatten (section_with board kind u ss)) ≡ section_size (data_length ss)
   unfolding section_with
-  length-section =
+  length_section =
       let n = 32 + data_length ss in
       let even : missing n % 2 ≡ 0 = omega (arith, length_even ss) in
       length_flatten (start_with board kind u ss) (fill_lines (missing (length (flatten (start_with board kind u ss)))))
-      ∙ rw length-start (omega (arith, length_fill (missing n) even))
+      ∙ rw length_start (omega (arith, length_fill (missing n) even))
 
-  put-start : (out : List ℕ) (at : ℕ) {one two three : List ℕ} → one ≡ put_line out at (upper_line u) → two ≡ put_line one (at + 16) nameLine
+  put_start : (out : List ℕ) (at : ℕ) {one two three : List ℕ} → one ≡ put_line out at (upper_line u) → two ≡ put_line one (at + 16) name_line
       → three ≡ put_lines two (at + 32) (data_lines kind ss) → three ≡ put_lines out at (start_with board kind u ss)
   unfolding start_with put_lines
-  put-start out at e f g =
+  put_start out at e f g =
       let a : at + 16 ≡ at + length (upper_line u) = omega (arith, length_upper) in
-      let b : at + 32 ≡ at + length (upper_line u) + length nameLine = omega (arith, length_upper, length-name) in
+      let b : at + 32 ≡ at + length (upper_line u) + length name_line = omega (arith, length_upper, length_name) in
       g ∙ rw (f, e, a, b) refl
 
-  pub section-put : (out : List ℕ) (at : ℕ) {len m : ℕ} {one two three four : List ℕ} → len ≡ data_length ss → one ≡ put_line out at (upper_line u)
-      → two ≡ put_line one (at + 16) nameLine → three ≡ put_lines two (at + 32) (data_lines kind ss)
+  pub section_put : (out : List ℕ) (at : ℕ) {len m : ℕ} {one two three four : List ℕ} → len ≡ data_length ss → one ≡ put_line out at (upper_line u)
+      → two ≡ put_line one (at + 16) name_line → three ≡ put_lines two (at + 32) (data_lines kind ss)
       → four ≡ put_lines three (at + (32 + len)) (fill_lines (missing (32 + len))) → m ≡ missing (32 + len)
       → (32 + len + (12 + m) ≡ section_size (data_length ss)) × (four ≡ put_lines out at (section_with board kind u ss))
   unfolding section_with
-  section-put out at r a b c d e =
-      let start = put-start out at a b c in (
+  section_put out at r a b c d e =
+      let start = put_start out at a b c in (
         rw (e, r) refl,
         d
-            ∙ rw (r, start, ← length-start)
+            ∙ rw (r, start, ← length_start)
             (sym (put_append out at (start_with board kind u ss) (fill_lines (missing (length (flatten (start_with board kind u ss))))))),
       )

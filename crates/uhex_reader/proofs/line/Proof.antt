@@ -13,7 +13,7 @@ is-bad-requires : tie.Need-is-bad-requires
 is-bad-requires c κs = search rules
 
 returns-2 : tie.Need-returns-2
-returns-2 c = numbered _ _ _ _ _ _ (bad_reader_lem _ _ _ _ c.before.before.if1.false c.before.is-bad.ensures c.if2.true)
+returns-2 c = numbered _ _ _ _ _ _ (bad_reader_lem _ _ _ _ c.before.before.if1.false c.before.is_bad_lem.ensures c.if2.true)
 
 halted-requires : tie.Need-halted-requires
 halted-requires c κs = search rules
@@ -32,11 +32,11 @@ same_length c = search rules
 
 returns-3 : tie.Need-returns-3
 unfolding halt_line
-returns-3 c = numbered _ _ _ _ _ _ (line_by _ _ _ _ _ _ _ c.before.before.before.before.before.before.before.before.before.if1.false c.before.before.before.before.before.before.before.before.is-bad.ensures c.before.before.before.before.before.before.before.if2.false c.before.before.before.before.before.before.halted.ensures c.before.before.before.before.enum_told.given.1 c.before.before.live.ensures)
+returns-3 c = numbered _ _ _ _ _ _ (line_by _ _ _ _ _ _ _ c.before.before.before.before.before.before.before.before.before.if1.false c.before.before.before.before.before.before.before.before.is_bad_lem.ensures c.before.before.before.before.before.before.before.if2.false c.before.before.before.before.before.before.halted.ensures c.before.before.before.before.enum_told.given.1 c.before.before.live.ensures)
 
 returns-4 : tie.Need-returns-4
 unfolding halt_line
-returns-4 c = numbered _ _ _ _ _ _ (line_by _ _ _ _ _ _ _ c.before.before.before.before.before.before.if1.false c.before.before.before.before.before.is-bad.ensures c.before.before.before.before.if2.false c.before.before.before.halted.ensures c.before.answer.given.1 refl)
+returns-4 c = numbered _ _ _ _ _ _ (line_by _ _ _ _ _ _ _ c.before.before.before.before.before.before.if1.false c.before.before.before.before.before.is_bad_lem.ensures c.before.before.before.before.if2.false c.before.before.before.halted.ensures c.before.answer.given.1 refl)
 
 pub line-spec : {M : Type 1} → statement M
 line-spec =

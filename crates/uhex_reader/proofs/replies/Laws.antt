@@ -23,11 +23,11 @@ use Rattle.uhex_reader.specs.Outcome.{LineOutcome, line_outcome, reply, failed_b
 
 -- of bytes from an address on, the answer and the image
 module _ (at n : ℕ) (b img : List ℕ) where
-  pub at-outside : length img < at + n → (Outside ≡ cond (ltb (length img) (at + n)) Outside Stored) × (img ≡ stored_at at n b img)
-  at-outside h = (rw (lt-ltb (length img) (at + n) h), rw (lt-ltb (length img) (at + n) h))
+  pub at_outside : length img < at + n → (Outside ≡ cond (ltb (length img) (at + n)) Outside Stored) × (img ≡ stored_at at n b img)
+  at_outside h = (rw (lt-ltb (length img) (at + n) h), rw (lt-ltb (length img) (at + n) h))
 
-  pub at-inside : (new : List ℕ) → at + n ≤ length img → new ≡ over img at (take n b) → (Stored ≡ cond (ltb (length img) (at + n)) Outside Stored) × (new ≡ stored_at at n b img)
-  at-inside new h e = (rw (le-ltb (length img) (at + n) h), rw (le-ltb (length img) (at + n) h) e)
+  pub at_inside : (new : List ℕ) → at + n ≤ length img → new ≡ over img at (take n b) → (Stored ≡ cond (ltb (length img) (at + n)) Outside Stored) × (new ≡ stored_at at n b img)
+  at_inside new h e = (rw (le-ltb (length img) (at + n) h), rw (le-ltb (length img) (at + n) h) e)
 
 -- both, as the code stores a record's data
 pub stored_by : (r : Reader) (rec : Record) (d : List ℕ) (e : ℕ) (img new : List ℕ) (a : Answer) (x : Reply)
@@ -76,8 +76,8 @@ line_fails r img a x h = ap (λ (y : Reply). line_outcome y.reader y.answer img)
 -- ---- a record that is handed in
 
 module _ (r : Reader) (rec : Record) (d : List ℕ) (e : ℕ) (img : List ℕ) where
-  pub bounded-over : 32 < rec.len → bounded_outcome r rec d e img ≡ failing r TooLong img
-  bounded-over l = simp (lt-leb _ _ l)
+  pub bounded_over : 32 < rec.len → bounded_outcome r rec d e img ≡ failing r TooLong img
+  bounded_over l = simp (lt-leb _ _ l)
 
-  pub bounded-fits : rec.len ≤ 32 → bounded_outcome r rec d e img ≡ record_outcome r rec d e img
-  bounded-fits l = simp (le-leb _ _ l)
+  pub bounded_fits : rec.len ≤ 32 → bounded_outcome r rec d e img ≡ record_outcome r rec d e img
+  bounded_fits l = simp (le-leb _ _ l)

@@ -1,5 +1,5 @@
 -- `reason::board_row` meets its contract. Assumes nothing.
-use Rattle.why.proofs.Laws.{board-lengths, board-settings, board-state}
+use Rattle.why.proofs.Laws.{board_lengths, board-settings, board-state}
 use borrow.Author.Rules.{rules}
 use Rattle.why.proofs.board_row.Statement.{statement}
 use Rattle.why.proofs.board_row.Tie as tie
@@ -11,7 +11,7 @@ enum-known-first : tie.Need-enum-known-first
 enum-known-first c = search rules
 
 returns : tie.Need-returns
-returns c = board-lengths _ _ _ _ _ _ c.before.before.before.lengths-row.ensures c.before.first.given.1
+returns c = board_lengths _ _ _ _ _ _ c.before.before.before.lengths-row.ensures c.before.first.given.1
 
 enum_told : tie.Need-enum-told
 enum_told c = search rules

@@ -18,7 +18,7 @@ denial-marks-requires : tie.Need-denial-marks-requires
 denial-marks-requires c κs = search rules
 
 returns-2 : tie.Need-returns-2
-returns-2 c = rw c.before.before.cause.given.1 c.denial-marks.ensures
+returns-2 c = rw c.before.before.cause.given.1 c.denial_marks_lem.ensures
 
 pub entries-of-spec : {M : Type 1} → statement M
 entries-of-spec = tie.close (tie.spec enum-known-cause no-marks-requires returns denial-marks-requires returns-2)

@@ -1,6 +1,6 @@
 -- `reason::fault_row` meets its contract. Assumes nothing.
 use Rattle.laws.proofs.Numbered.{answer_is}
-use Rattle.why.proofs.Laws.{finding-sound, finding-bad}
+use Rattle.why.proofs.Laws.{finding_sound, finding_bad}
 use borrow.Author.Rules.{rules}
 use Rattle.why.proofs.fault_row.Statement.{statement}
 use Rattle.why.proofs.fault_row.Tie as tie
@@ -21,10 +21,10 @@ decides-requires : tie.Need-decides-requires
 decides-requires c κs = search rules
 
 returns : tie.Need-returns
-returns c = finding-sound _ _ (answer_is c.before.before.first.ensures) c.enum_told.given.1
+returns c = finding_sound _ _ (answer_is c.before.before.first.ensures) c.enum_told.given.1
 
 returns-2 : tie.Need-returns-2
-returns-2 c = finding-bad _ _ (answer_is c.before.before.before.before.before.first.ensures) c.before.before.before.x.given.1 c.before.numbers.ensures c.decides.ensures
+returns-2 c = finding_bad _ _ (answer_is c.before.before.before.before.before.first.ensures) c.before.before.before.x.given.1 c.before.numbers.ensures c.decides.ensures
 
 pub fault-row-spec : {M : Type 1} → statement M
 fault-row-spec =

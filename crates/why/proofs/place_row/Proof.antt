@@ -1,5 +1,5 @@
 -- `reason::place_row` meets its contract. Assumes nothing.
-use Rattle.why.proofs.Laws.{place_flash, place-settings}
+use Rattle.why.proofs.Laws.{place_flash, place_settings}
 use borrow.Author.Rules.{rules}
 use Rattle.why.proofs.place_row.Statement.{statement}
 use Rattle.why.proofs.place_row.Tie as tie
@@ -20,7 +20,7 @@ settings-row-requires : tie.Need-settings-row-requires
 settings-row-requires c κs = search rules
 
 returns-2 : tie.Need-returns-2
-returns-2 c = place-settings _ _ c.before.before.before.flash-row.ensures c.before.enum_told.given.1 c.settings-row.ensures
+returns-2 c = place_settings _ _ c.before.before.before.flash-row.ensures c.before.enum_told.given.1 c.settings-row.ensures
 
 pub place-row-spec : {M : Type 1} → statement M
 place-row-spec =

@@ -1,5 +1,5 @@
 -- `causes::header_row` meets its contract. Assumes nothing.
-use Rattle.why_causes.proofs.Laws.{header-decides, header-passes}
+use Rattle.why_causes.proofs.Laws.{header_decides, header_passes}
 use borrow.Author.Rules.{rules}
 use Rattle.why_causes.proofs.header_row.Statement.{statement}
 use Rattle.why_causes.proofs.header_row.Tie as tie
@@ -20,7 +20,7 @@ enum-known-r : tie.Need-enum-known-r
 enum-known-r c = search rules
 
 returns : tie.Need-returns
-returns c = let m = c.before.before.before in header-decides _ m.before.before.before.field.ensures m.before.before.field2.ensures m.before.field3.ensures m.magic-row.ensures c.before.r.given.1
+returns c = let m = c.before.before.before in header_decides _ m.before.before.before.field.ensures m.before.before.field2.ensures m.before.field3.ensures m.magic-row.ensures c.before.r.given.1
 
 enum_told : tie.Need-enum-told
 enum_told c = search rules
@@ -32,7 +32,7 @@ flags-row-requires : tie.Need-flags-row-requires
 flags-row-requires c κs = search rules
 
 returns-2 : tie.Need-returns-2
-returns-2 c = let m = c.before.before.before.before in header-passes _ m.before.before.before.field.ensures m.before.before.field2.ensures m.before.field3.ensures m.magic-row.ensures c.before.field4.ensures c.before.before.enum_told.given.1 c.flags-row.ensures
+returns-2 c = let m = c.before.before.before.before in header_passes _ m.before.before.before.field.ensures m.before.before.field2.ensures m.before.field3.ensures m.magic-row.ensures c.before.field4.ensures c.before.before.enum_told.given.1 c.flags-row.ensures
 
 pub header-row-spec : {M : Type 1} → statement M
 header-row-spec =

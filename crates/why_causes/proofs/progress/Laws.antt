@@ -9,17 +9,17 @@ use Rattle.transfer.specs.declared.State.TheVariants.{Running}
 use Rattle.why_causes.specs.Progress.{raised_of}
 
 module _ (h g : Head) where
-  pub again-running : (m : Bool) {b : Bool} → b ≡ same_head h g → b && m ≡ same_head h g && m
-  again-running m e = ap (λ (x : Bool). x && m) e
+  pub again_running : (m : Bool) {b : Bool} → b ≡ same_head h g → b && m ≡ same_head h g && m
+  again_running m e = ap (λ (x : Bool). x && m) e
 
-  pub other-running : {b : Bool} → b ≡ same_head h g → not b ≡ not (same_head h g)
-  other-running e = ap not e
+  pub other_running : {b : Bool} → b ≡ same_head h g → not b ≡ not (same_head h g)
+  other_running e = ap not e
 
 module _ (r : Run) (g : Head) where
-  pub raised-same : same_head r.head g ≡ true → r.count + 1 ≡ raised_of (Running r) g
+  pub raised_same : same_head r.head g ≡ true → r.count + 1 ≡ raised_of (Running r) g
   unfolding raised_of
-  raised-same h = rw h
+  raised_same h = rw h
 
-  pub raised-other : same_head r.head g ≡ false → 1 ≡ raised_of (Running r) g
+  pub raised_other : same_head r.head g ≡ false → 1 ≡ raised_of (Running r) g
   unfolding raised_of
-  raised-other h = rw h
+  raised_other h = rw h

@@ -1,6 +1,6 @@
 -- `checks::fate_row` meets its contract. Assumes nothing.
 use mathlib.Core.Path.{sym, ◌∙◌}
-use Rattle.why_checks.proofs.Laws.{fate-done, fate-again, fate-complete, fate-noted, fate-passes}
+use Rattle.why_checks.proofs.Laws.{fate_done, fate-again, fate-complete, fate-noted, fate-passes}
 use borrow.Author.Rules.{rules}
 use Rattle.why_checks.proofs.fate_row.Statement.{statement}
 use Rattle.why_checks.proofs.fate_row.Tie as tie
@@ -15,7 +15,7 @@ decides-requires : tie.Need-decides-requires
 decides-requires c κs = search rules
 
 returns : tie.Need-returns
-returns c = c.decides.ensures ∙ fate-done _ _ _ _ _ (sym c.before.before.is_done_case.ensures ∙ c.before.if1.true)
+returns c = c.decides.ensures ∙ fate_done _ _ _ _ _ (sym c.before.before.is_done_case.ensures ∙ c.before.if1.true)
 
 is-again-requires : tie.Need-is-again-requires
 is-again-requires c κs = search rules

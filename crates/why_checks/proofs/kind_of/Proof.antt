@@ -1,5 +1,5 @@
 -- `checks::kind_of` meets its contract. Assumes nothing.
-use Rattle.why_checks.proofs.Laws.{kind-comment, kind_page}
+use Rattle.why_checks.proofs.Laws.{kind_comment, kind_page}
 use borrow.Author.Rules.{rules}
 use Rattle.why_checks.proofs.kind_of.Statement.{statement}
 use Rattle.why_checks.proofs.kind_of.Tie as tie
@@ -8,7 +8,7 @@ note-kind-requires : tie.Need-note-kind-requires
 note-kind-requires c κs = search rules
 
 returns : tie.Need-returns
-returns c = kind-comment _ _ _ c.before.if1.true c.note-kind.ensures
+returns c = kind_comment _ _ _ c.before.if1.true c.note-kind.ensures
 
 cast-window-of : tie.Need-overflow-cast-window-of
 cast-window-of c = search rules

@@ -1,5 +1,5 @@
 -- `checks::late` meets its contract. Assumes nothing.
-use Rattle.why_checks.proofs.Laws.{late-fate, late-written, late-kept}
+use Rattle.why_checks.proofs.Laws.{late_fate, late-written, late-kept}
 use borrow.Author.Rules.{rules}
 use Rattle.why_checks.proofs.late.Statement.{statement}
 use Rattle.why_checks.proofs.late.Tie as tie
@@ -14,7 +14,7 @@ enum-known-fate : tie.Need-enum-known-fate
 enum-known-fate c = search rules
 
 returns : tie.Need-returns
-returns c = late-fate _ _ _ _ _ _ _ _ c.before.before.before.before.marked.ensures c.before.before.before.fate-row.ensures c.before.fate.given.1
+returns c = late_fate _ _ _ _ _ _ _ _ c.before.before.before.before.marked.ensures c.before.before.before.fate-row.ensures c.before.fate.given.1
 
 enum_told : tie.Need-enum-told
 enum_told c = search rules

@@ -1,7 +1,7 @@
 -- `checks::region_row` meets its contract. Assumes nothing.
 use mathlib.Core.Path.{sym, ◌∙◌}
 use borrow.Author.Tests.{not-true, not-false}
-use Rattle.why_checks.proofs.Laws.{region-ragged, region-empty, region-outside, region-apart, region-other, region-passes}
+use Rattle.why_checks.proofs.Laws.{region_ragged, region-empty, region-outside, region-apart, region-other, region-passes}
 use borrow.Author.Rules.{rules}
 use Rattle.why_checks.proofs.region_row.Statement.{statement}
 use Rattle.why_checks.proofs.region_row.Tie as tie
@@ -16,7 +16,7 @@ not-kept-requires : tie.Need-not-kept-requires
 not-kept-requires c κs = search rules
 
 returns : tie.Need-returns
-returns c = c.not-kept.ensures ∙ region-ragged _ _ _ _ _ _ _ c.before.if1.true
+returns c = c.not-kept.ensures ∙ region_ragged _ _ _ _ _ _ _ c.before.if1.true
 
 not-kept-requires-2 : tie.Need-not-kept-requires-2
 not-kept-requires-2 c κs = search rules

@@ -4,7 +4,7 @@ use mathlib.Core.Path.{◌≡◌, sym}
 use mathlib.Core.Bool.{false}
 use native.Mathlib.Omega.{arith}
 use Rattle.laws.specs.Sets.{any}
-use Rattle.laws.proofs.Laws.{any-zero, any-more, any-hit}
+use Rattle.laws.proofs.Laws.{any_zero, any_more, any_hit}
 use Rattle.placement.specs.Place.{used_count}
 use Rattle.placement.proofs.Laws.{used_most}
 use Rattle.why_place.specs.Placing.{takes_at}
@@ -23,7 +23,7 @@ used-count-requires : tie.Need-used-count-requires invariant-loop decreases-loop
 used-count-requires c κs = search rules
 
 loop-holds : tie.Need-loop-init invariant-loop decreases-loop
-loop-holds c = (search rules, any-zero _)
+loop-holds c = (search rules, any_zero _)
 
 mul-e : tie.Need-overflow-mul-e invariant-loop decreases-loop
 mul-e c = omega (arith, c.before.before.used-count.ensures, used_most c.before.before.before.args.t1.count)
@@ -42,7 +42,7 @@ returns c =
     let a = c.before.before.before.before.before.before.before.args in
     let k = c.before.before.before.before.before.loop.k in
     let below : k < used_count a.t1.count = omega (arith, c.before.before.before.before.before.before.used-count.ensures) in
-    sym (any-hit _ _ _ below (takes_by a.t1.table a.family k c.before.before.is-a.ensures c.before.accepts-family.ensures c.if1.true))
+    sym (any_hit _ _ _ below (takes_by a.t1.table a.family k c.before.before.is-a.ensures c.before.accepts-family.ensures c.if1.true))
 
 add-k : tie.Need-overflow-add-k invariant-loop decreases-loop
 add-k c = search rules
@@ -55,7 +55,7 @@ loop-again c =
     let a = c.before.before.before.before.before.before.before.args in
     let k = c.before.before.before.before.before.loop.k in (
       search rules,
-      any-more _ _ c.before.before.before.before.before.loop.invariant.1 (takes_by a.t1.table a.family k c.before.before.is-a.ensures c.before.accepts-family.ensures c.if1.false),
+      any_more _ _ c.before.before.before.before.before.loop.invariant.1 (takes_by a.t1.table a.family k c.before.before.is-a.ensures c.before.accepts-family.ensures c.if1.false),
     )
 
 returns-2 : tie.Need-returns-2 invariant-loop decreases-loop

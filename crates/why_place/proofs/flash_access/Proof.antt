@@ -5,7 +5,7 @@ use Rattle.laws.specs.Numbered.{numbered}
 use Rattle.why_place.specs.declared.Denial.TheVariants.{NoEntry}
 use Rattle.why_place.specs.Parts.{denied_if}
 use Rattle.why_place.specs.Placing.{access_number}
-use Rattle.why_place.proofs.Laws.{flash-absolute, flash-rp2040, flash_whole, flash-table}
+use Rattle.why_place.proofs.Laws.{flash_absolute, flash_rp2040, flash_whole, flash-table}
 use borrow.Author.Rules.{rules}
 use Rattle.why_place.proofs.flash_access.Statement.{statement}
 use Rattle.why_place.proofs.flash_access.Tie as tie
@@ -14,10 +14,10 @@ denied-if-requires : tie.Need-denied-if-requires
 denied-if-requires c κs = search rules
 
 returns : tie.Need-returns
-returns c = ap (numbered access_number) (c.denied-if.ensures ∙ sym (flash-absolute _ _ c.before.before.if1.true))
+returns c = ap (numbered access_number) (c.denied-if.ensures ∙ sym (flash_absolute _ _ c.before.before.if1.true))
 
 returns-2 : tie.Need-returns-2
-returns-2 c = ap (numbered access_number) (sym (flash-rp2040 _ _ c.if2.true))
+returns-2 c = ap (numbered access_number) (sym (flash_rp2040 _ _ c.if2.true))
 
 without-table-requires : tie.Need-without-table-requires
 without-table-requires c κs = search rules

@@ -5,11 +5,11 @@ use mathlib.Core.Bool.{false}
 use native.Mathlib.Omega.{arith}
 use Rattle.laws.specs.Sets.{any}
 use Rattle.laws.proofs.Tests.{clash}
-use Rattle.laws.proofs.Laws.{any-zero, any-more}
+use Rattle.laws.proofs.Laws.{any_zero, any_more}
 use Rattle.placement.specs.Place.{used_count}
 use Rattle.placement.proofs.Laws.{used_most}
 use Rattle.why_place.specs.Placing.{taken_in, pass_has}
-use Rattle.why_place.proofs.Laws.{taken-by, takes-pass, spot-found}
+use Rattle.why_place.proofs.Laws.{taken_by_lem, takes_pass, spot_found}
 use borrow.Author.Rules.{rules}
 use Rattle.why_place.proofs.in_table.Statement.{statement}
 use Rattle.why_place.proofs.in_table.Tie as tie
@@ -33,10 +33,10 @@ query-requires : tie.Need-query-requires invariant-loop decreases-loop invariant
 query-requires c κs = search rules
 
 search-holds : tie.Need-search-init invariant-loop decreases-loop invariant-search decreases-search
-search-holds c = (search rules, any-zero _)
+search-holds c = (search rules, any_zero _)
 
 loop-holds : tie.Need-loop-init invariant-loop decreases-loop invariant-search decreases-search
-loop-holds c = (search rules, any-zero _)
+loop-holds c = (search rules, any_zero _)
 
 mul-e : tie.Need-overflow-mul-e invariant-loop decreases-loop invariant-search decreases-search
 mul-e c = omega (arith, c.before.before.before.before.before.used-count.ensures, used_most c.before.before.before.before.before.before.args.t1.count)
@@ -67,8 +67,8 @@ loop-again c =
     let a = c.before.before.before.before.before.before.before.before.before.args in
     let p = c.before.before.before.before.before.before.search.pass in
     let k = c.before.before.before.before.loop.k in
-    let passed = taken-by a.t1 a.family p k c.before.before.before.before.before.before.before.query.ensures c.before.takes.ensures c.if2.false in
-    (search rules, any-more _ _ c.before.before.before.before.loop.invariant.1 passed)
+    let passed = taken_by_lem a.t1 a.family p k c.before.before.before.before.before.before.before.query.ensures c.before.takes.ensures c.if2.false in
+    (search rules, any_more _ _ c.before.before.before.before.loop.invariant.1 passed)
 
 add-pass : tie.Need-overflow-add-pass invariant-loop decreases-loop invariant-search decreases-search
 add-pass c = search rules
@@ -80,12 +80,12 @@ search-again : tie.Need-search-preserved invariant-loop decreases-loop invariant
 unfolding pass_has
 search-again c =
     let last : c.before.loop.k ≡ used_count c.before.before.before.before.before.before.args.t1.count = omega (arith, c.before.before.before.before.before.used-count.ensures) in
-    (search rules, any-more _ _ c.before.before.before.search.invariant.1 (rw last at c.before.loop.invariant.1))
+    (search rules, any_more _ _ c.before.before.before.search.invariant.1 (rw last at c.before.loop.invariant.1))
 
 returns : tie.Need-returns invariant-loop decreases-loop invariant-search decreases-search
 returns c =
     let last : c.before.search.pass ≡ 4 = omega arith in
-    clash _ (takes-pass _ _ c.before.before.before.before.requires) (rw last at c.before.search.invariant.1)
+    clash _ (takes_pass _ _ c.before.before.before.before.requires) (rw last at c.before.search.invariant.1)
 
 returns-2 : tie.Need-returns-2 invariant-loop decreases-loop invariant-search decreases-search
 returns-2 c =
@@ -93,8 +93,8 @@ returns-2 c =
     let p = c.before.before.before.before.before.before.search.pass in
     let k = c.before.before.before.before.loop.k in
     let below : k < used_count a.t1.count = omega (arith, c.before.before.before.before.before.before.before.before.used-count.ensures) in
-    let taken = taken-by a.t1 a.family p k c.before.before.before.before.before.before.before.query.ensures c.before.takes.ensures c.if2.true in
-    spot-found a.t1 a.family p k c.before.before.before.before.before.if1.false below c.before.before.before.before.before.before.search.invariant.1 c.before.before.before.before.loop.invariant.1 taken
+    let taken = taken_by_lem a.t1 a.family p k c.before.before.before.before.before.before.before.query.ensures c.before.takes.ensures c.if2.true in
+    spot_found a.t1 a.family p k c.before.before.before.before.before.if1.false below c.before.before.before.before.before.before.search.invariant.1 c.before.before.before.before.loop.invariant.1 taken
 
 pub in-table-spec : {M : Type 1} → statement M
 in-table-spec =

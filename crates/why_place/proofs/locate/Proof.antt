@@ -3,7 +3,7 @@ use mathlib.Core.Path.{sym, ap, ◌∙◌}
 use Rattle.laws.specs.Numbered.{numbered}
 use Rattle.laws.proofs.Numbered.{answer_is}
 use Rattle.why_place.specs.Placing.{spot_number}
-use Rattle.why_place.proofs.Laws.{spot-refused, spot-absolute, spot-whole, spot-table, granted-takes}
+use Rattle.why_place.proofs.Laws.{spot_refused, spot-absolute, spot-whole, spot-table, granted-takes}
 use borrow.Author.Rules.{rules}
 use Rattle.why_place.proofs.locate.Statement.{statement}
 use Rattle.why_place.proofs.locate.Tie as tie
@@ -15,7 +15,7 @@ enum-known-x : tie.Need-enum-known-x
 enum-known-x c = search rules
 
 returns : tie.Need-returns
-returns c = ap (numbered spot_number) (sym (spot-refused _ _ (sym (answer_is c.before.before.before.flash-access.ensures) ∙ c.before.x.given.1)))
+returns c = ap (numbered spot_number) (sym (spot_refused _ _ (sym (answer_is c.before.before.before.flash-access.ensures) ∙ c.before.x.given.1)))
 
 enum_told : tie.Need-enum-told
 enum_told c = search rules

@@ -1,5 +1,5 @@
 -- `placing::mark` meets its contract. Assumes nothing.
-use Rattle.why_place.proofs.Laws.{mark-b, mark-takes, mark-other}
+use Rattle.why_place.proofs.Laws.{mark_b, mark-takes, mark-other}
 use borrow.Author.Rules.{rules}
 use Rattle.why_place.proofs.mark.Statement.{statement}
 use Rattle.why_place.proofs.mark.Tie as tie
@@ -10,7 +10,7 @@ is-a-requires c κs = search rules
 returns : tie.Need-returns
 returns c =
     let a = c.before.before.args in
-    mark-b a.e a.family c.before.is-a.ensures c.if1.true
+    mark_b a.e a.family c.before.is-a.ensures c.if1.true
 
 accepts-family-requires : tie.Need-accepts-family-requires
 accepts-family-requires c κs = search rules

@@ -4,7 +4,7 @@ use mathlib.Core.Path.{◌≡◌}
 use native.Mathlib.Omega.{arith}
 use Rattle.placement.specs.Place.{used_count}
 use Rattle.placement.proofs.Laws.{used_most}
-use Rattle.why_place.proofs.Laws.{MarkedTo, marked-none, marked_more, marked_all}
+use Rattle.why_place.proofs.Laws.{MarkedTo, marked_none, marked_more, marked_all}
 use borrow.Author.Rules.{rules}
 use Rattle.why_place.proofs.marks.Statement.{statement}
 use Rattle.why_place.proofs.marks.Tie as tie
@@ -19,7 +19,7 @@ used-count-requires : tie.Need-used-count-requires invariant-loop decreases-loop
 used-count-requires c κs = search rules
 
 loop-holds : tie.Need-loop-init invariant-loop decreases-loop
-loop-holds c = (search rules, marked-none _ _)
+loop-holds c = (search rules, marked_none _ _)
 
 mul-e : tie.Need-overflow-mul-e invariant-loop decreases-loop
 mul-e c = omega (arith, c.before.before.used-count.ensures, used_most c.before.before.before.args.t1.count)

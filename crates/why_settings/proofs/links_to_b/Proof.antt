@@ -3,7 +3,7 @@ use mathlib.Core.Path.{◌≡◌, sym, ◌∙◌}
 use native.Mathlib.Omega.{arith}
 use lib.ListN.{length}
 use Rattle.partitions.specs.declared.Entry.{Entry}
-use Rattle.why_settings.proofs.Laws.{length_mapped, link_none, link-from-past, link-past, link-there}
+use Rattle.why_settings.proofs.Laws.{length_mapped, link_none, link_from_past, link_past, link_there}
 use borrow.Author.Rules.{rules}
 use Rattle.why_settings.proofs.links_to_b.Statement.{statement}
 use Rattle.why_settings.proofs.links_to_b.Tie as tie
@@ -12,7 +12,7 @@ returns : tie.Need-returns
 returns c =
     let a = c.before.args in
     let l : length a.t1.table ≡ 16 = length_mapped {A = Entry} _ a.t1.table 16 c.before.well-formed.0.1.1.0.1.0.1 in
-    link-from-past a.t1.table a.k l c.if1.true
+    link_from_past a.t1.table a.k l c.if1.true
 
 mul-e : tie.Need-overflow-mul-e
 mul-e c = search rules
@@ -37,7 +37,7 @@ returns-3 c =
     let x = c.before.before.before.before.before.before in
     let a = x.args in
     let l : length a.t1.table ≡ 16 = length_mapped {A = Entry} _ a.t1.table 16 x.well-formed.0.1.1.0.1.0.1 in
-    link-past a.t1.table a.k l (omega (arith, c.before.before.before.target.ensures))
+    link_past a.t1.table a.k l (omega (arith, c.before.before.before.target.ensures))
 
 mul-o : tie.Need-overflow-mul-o
 mul-o c = search rules
@@ -51,7 +51,7 @@ is-a-requires c κs = search rules
 returns-4 : tie.Need-returns-4
 returns-4 c =
     let a = c.before.before.before.before.before.before.before.before.args in
-    link-there a.t1.table a.k (sym c.before.before.before.before.unowned.ensures ∙ c.before.before.before.if2.false) c.before.before.before.before.before.target.ensures c.is-a.ensures
+    link_there a.t1.table a.k (sym c.before.before.before.before.unowned.ensures ∙ c.before.before.before.if2.false) c.before.before.before.before.before.target.ensures c.is-a.ensures
 
 pub links-to-b-spec : {M : Type 1} → statement M
 links-to-b-spec =

@@ -9,15 +9,15 @@ use lib.ListN.{length, get_or-eq_default}
 use borrow.Author.Tests.{ltb-true, ltb-false}
 use Rattle.laws.specs.Sets.{any, least}
 use Rattle.laws.proofs.Tests.{split}
-use Rattle.laws.proofs.Laws.{any_none, any-all, least-none}
+use Rattle.laws.proofs.Laws.{any_none, any_all, least_none}
 use Rattle.partitions.specs.declared.Entry.{Entry}
 use Rattle.partitions.specs.Settings.{empty_entry, entry_at, overlap_at, shares_with}
-use Rattle.partitions.proofs.Overlap.{overlap-before, overlap-after}
+use Rattle.partitions.proofs.Overlap.{overlap_before, overlap_after}
 
 module _ (table : List Entry) (k : ℕ) where
   -- another entry, by what the code asks
-  pub other-shares : (j : ℕ) {b v : Bool} → b ≡ overlap_at table k j → not (eqb j k) && b ≡ v → shares_with table k j ≡ v
-  other-shares j h t = ap (λ (b : Bool). not (eqb j k) && b) (sym h) ∙ t
+  pub other_shares : (j : ℕ) {b v : Bool} → b ≡ overlap_at table k j → not (eqb j k) && b ≡ v → shares_with table k j ≡ v
+  other_shares j h t = ap (λ (b : Bool). not (eqb j k) && b) (sym h) ∙ t
 
   module _ (l : length table ≡ 16) where
     empty-past : (i : ℕ) → 16 ≤ i → entry_at table i ≡ empty_entry
@@ -27,23 +27,23 @@ module _ (table : List Entry) (k : ℕ) where
     own-past : 16 ≤ k → (j : ℕ) → shares_with table k j ≡ false
     unfolding overlap_at
     own-past h j =
-        rw (empty-past k h, overlap-after 0 0 (entry_at table j).first (entry_at table j).sectors (omega arith)) (and-false (not (eqb j k)))
+        rw (empty-past k h, overlap_after 0 0 (entry_at table j).first (entry_at table j).sectors (omega arith)) (and-false (not (eqb j k)))
 
     -- with an entry past the table's end none is shared
     other-past : (j : ℕ) → 16 ≤ j → shares_with table k j ≡ false
     unfolding overlap_at
     other-past j h =
-        rw (empty-past j h, overlap-before (entry_at table k).first (entry_at table k).sectors 0 0 (omega arith)) (and-false (not (eqb j k)))
+        rw (empty-past j h, overlap_before (entry_at table k).first (entry_at table k).sectors 0 0 (omega arith)) (and-false (not (eqb j k)))
 
     pub least-own-past : (n : ℕ) → 16 ≤ k → n ≡ least n (shares_with table k)
-    least-own-past n h = sym (least-none (shares_with table k) n (any_none (shares_with table k) n (λ j b. own-past h j)))
+    least-own-past n h = sym (least_none (shares_with table k) n (any_none (shares_with table k) n (λ j b. own-past h j)))
 
     pub least-past : (n j : ℕ) → 16 ≤ j → any j (shares_with table k) ≡ false → n ≡ least n (shares_with table k)
     least-past n j h q =
         sym
-        (least-none (shares_with table k) n
+        (least_none (shares_with table k) n
         (any_none (shares_with table k) n
         (λ i b.
         split (ltb i j)
-        (λ y. any-all (shares_with table k) j q i (ltb-true i j y))
+        (λ y. any_all (shares_with table k) j q i (ltb-true i j y))
         (λ y. other-past i (omega (arith, h, ltb-false i j y))))))

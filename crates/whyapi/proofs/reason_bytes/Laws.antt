@@ -69,14 +69,14 @@ no_other (ReservedUser k) h = refl
 -- ---- 38 bytes
 
 module _ (l : List ℕ) (x : ReasonFields) where
-  pub told-other : length l ≢ 38 → l ≡ told_over l x
+  pub told_other : length l ≢ 38 → l ≡ told_over l x
   unfolding told_over
-  told-other n = rw (ne_eqb (length l) 38 n)
+  told_other n = rw (ne_eqb (length l) 38 n)
 
-  pub told-put : length l ≡ 38 → {m o : List ℕ} → m ≡ numbers_over l x.number x.got x.against → o ≡ marks_over m x.entry x.other x.marks
+  pub told_put : length l ≡ 38 → {m o : List ℕ} → m ≡ numbers_over l x.number x.got x.against → o ≡ marks_over m x.entry x.other x.marks
       → o ≡ told_over l x
   unfolding told_over
-  told-put e {m} p q =
+  told_put e {m} p q =
       q
       ∙ (ap (λ (k : List ℕ). marks_over k x.entry x.other x.marks) p
       ∙ ap (λ (b : Bool). cond b (marks_over (numbers_over l x.number x.got x.against) x.entry x.other x.marks) l) (sym (eq-eqb (length l) 38 e)))
@@ -94,10 +94,10 @@ marks_put l entry other m e n {x} {y} {z} p q r =
 -- ---- an arrival
 
 module _ (sb tb l : List ℕ) where
-  pub why-told : (y : Why) {x v : ReasonFields} {n r : ℕ} {z : Answer} {o : List ℕ} → x ≡ told_of y → z ≡ answer_of y.reason.cause
+  pub why_told : (y : Why) {x v : ReasonFields} {n r : ℕ} {z : Answer} {o : List ℕ} → x ≡ told_of y → z ≡ answer_of y.reason.cause
       → n ≡ number_of z → v ≡ byte_told n sb tb x → o ≡ told_over l v → r ≡ result_of n y.discarded → call_return r o ≡ why_call sb tb y l
   unfolding why_call
-  why-told y {x} {v} {n} {r} {z} {o} a b e c d f =
+  why_told y {x} {v} {n} {r} {z} {o} a b e c d f =
       let same : n ≡ number_of (answer_of y.reason.cause) = e ∙ ap number_of b in
       ap (call_return r) (d ∙ ap (told_over l) (c ∙ ap (byte_told n sb tb) a))
       ∙ (ap (λ (k : ℕ). call_return k (told_over l (byte_told n sb tb (told_of y)))) f
@@ -106,9 +106,9 @@ module _ (sb tb l : List ℕ) where
 -- ---- a place
 
 module _ (sb l : List ℕ) where
-  pub place-told : (y : WhyPlace) {n : ℕ} {x v : ReasonFields} {o : List ℕ} → n ≡ placed_number y.placed → x ≡ place_told y.placed y.entries
+  pub place_told_lem : (y : WhyPlace) {n : ℕ} {x v : ReasonFields} {o : List ℕ} → n ≡ placed_number y.placed → x ≡ place_told y.placed y.entries
       → v ≡ place_shown n sb x → o ≡ told_over l v → call_return n o ≡ place_call sb y l
   unfolding place_call
-  place-told y {n} a b c d =
+  place_told_lem y {n} a b c d =
       ap (call_return n) (d ∙ ap (told_over l) (c ∙ ap (place_shown n sb) b))
       ∙ ap (λ (k : ℕ). call_return k (told_over l (place_shown k sb (place_told y.placed y.entries)))) a

@@ -29,9 +29,9 @@ module _ (b : List ℕ) (x : ReasonFields) where
   abbrev picked : Bool → ReasonFields
   picked q = cond q (told_with 211 (link_byte b x.entry) 2 x.entry 0 (replicate 16 0)) x
 
-  pub link-other : x.number ≢ 206 → x ≡ link_told b x
+  pub link_other : x.number ≢ 206 → x ≡ link_told b x
   unfolding link_told
-  link-other n = rw (ne_eqb x.number 206 n)
+  link_other n = rw (ne_eqb x.number 206 n)
 
   module _ (e : x.number ≡ 206) where
     pub link-far : 16 ≤ x.entry → x ≡ link_told b x
@@ -50,9 +50,9 @@ module _ (b : List ℕ) (x : ReasonFields) where
           ∙ (ap (λ (z : ℕ). told_with 211 z 2 x.entry 0 (replicate 16 0)) r
           ∙ both true (lt-ltb 2 (link_byte b x.entry) (rw r at o)))
 
-      pub link-silent : y ≤ 2 → x ≡ link_told b x
+      pub link_silent : y ≤ 2 → x ≡ link_told b x
       unfolding link_over
-      link-silent o = both false (le-ltb 2 (link_byte b x.entry) (rw r at o))
+      link_silent o = both false (le-ltb 2 (link_byte b x.entry) (rw r at o))
 
 -- of bytes of another length, and of those of the right one
 pub short_told : (b : List ℕ) (x : ReasonFields) → length b ≢ 550 → {t : ReasonFields} → t ≡ bare 210 (length b) 550 → t ≡ settings_told b x

@@ -1,5 +1,5 @@
 -- `whyapi::uf2_why_place` meets its contract. Assumes nothing.
-use Rattle.whyapi.proofs.Laws.{place-call}
+use Rattle.whyapi.proofs.Laws.{place_call_lem}
 use mathlib.Core.Path.{ap}
 use Prim.Native.Nat.{ℕ}
 use Rattle.why.specs.declared.WhyPlace.{WhyPlace}
@@ -20,7 +20,7 @@ same_length : tie.Need-same-length
 same_length c = search rules
 
 returns : tie.Need-returns
-returns c = place-call c.before.before.before.before.before.before.before.before.args.settings.now _ _ _ c.before.before.before.before.before.read-settings.ensures (ap (λ (p : WhyPlace × ℕ). p.0) c.before.before.before.before.explain-place.ensures) c.before.before.tell-place.ensures
+returns c = place_call_lem c.before.before.before.before.before.before.before.before.args.settings.now _ _ _ c.before.before.before.before.before.read-settings.ensures (ap (λ (p : WhyPlace × ℕ). p.0) c.before.before.before.before.explain-place.ensures) c.before.before.tell-place.ensures
 
 pub uf2-why-place-spec : {M : Type 1} → statement M
 uf2-why-place-spec =

@@ -1,5 +1,5 @@
 -- `hexbytes::line` meets its contract. Assumes nothing.
-use Rattle.call_bytes.proofs.hex.Laws.{line-case}
+use Rattle.call_bytes.proofs.hex.Laws.{line_case_lem}
 use native.Mathlib.Omega.{arith}
 use borrow.Author.Rules.{rules}
 use Rattle.call_bytes.proofs.hex.line.Statement.{statement}
@@ -50,7 +50,7 @@ returns c =
     let changed = kept.before in
     let failed = changed.before in
     let read = failed.before.before.before.before.before in
-    line-case _ _ _ read.before.before.read-reader.ensures read.line.ensures.0 failed.has-failed.ensures changed.changes.ensures kept.keep-reader.ensures c.before.number.ensures c.position.ensures (omega arith)
+    line_case_lem _ _ _ read.before.before.read-reader.ensures read.line.ensures.0 failed.has-failed.ensures changed.changes.ensures kept.keep-reader.ensures c.before.number.ensures c.position.ensures (omega arith)
 
 pub line-spec : {M : Type 1} → statement M
 line-spec =

@@ -1,6 +1,6 @@
 -- `knownbytes::known_without` meets its contract. Assumes nothing.
 use Rattle.uf2_known.proofs.Laws.{all_known}
-use Rattle.call_bytes.proofs.known.Laws.{rooms-without}
+use Rattle.call_bytes.proofs.known.Laws.{rooms_without}
 use borrow.Author.Rules.{rules}
 use Rattle.call_bytes.proofs.known.known_without.Statement.{statement}
 use Rattle.call_bytes.proofs.known.known_without.Tie as tie
@@ -24,7 +24,7 @@ returns : tie.Need-returns
 returns c =
     let good = c.before.before.before in
     let none = good.before.before.before.before.requires in (
-      all_known _ _ _ _ _ good.before.lengths-right.ensures good.good2.ensures c.before.before.field.ensures (rooms-without _ none _ _ c.before.place.ensures.0 c.may-go-to-ram.ensures),
+      all_known _ _ _ _ _ good.before.lengths-right.ensures good.good2.ensures c.before.before.field.ensures (rooms_without _ none _ _ c.before.place.ensures.0 c.may-go-to-ram.ensures),
       c.before.place.ensures.1,
     )
 

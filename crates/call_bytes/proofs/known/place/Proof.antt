@@ -1,5 +1,5 @@
 -- `knownbytes::place` meets its contract. Assumes nothing.
-use Rattle.call_bytes.proofs.known.Laws.{place-absolute-without, place-other-without}
+use Rattle.call_bytes.proofs.known.Laws.{place_absolute_without, place_other_without}
 use borrow.Author.Rules.{rules}
 use Rattle.call_bytes.proofs.known.place.Statement.{statement}
 use Rattle.call_bytes.proofs.known.place.Tie as tie
@@ -12,7 +12,7 @@ whole-if-requires c κs = search rules
 
 returns : tie.Need-returns
 returns c = (
-  place-absolute-without _ c.before.before.before.before.requires _ c.before.before.if1.true c.before.on.ensures c.whole-if.ensures.0,
+  place_absolute_without _ c.before.before.before.before.requires _ c.before.before.if1.true c.before.on.ensures c.whole-if.ensures.0,
   c.whole-if.ensures.1,
 )
 
@@ -31,7 +31,7 @@ whole-if-requires-2 c κs = search rules
 returns-2 : tie.Need-returns-2
 returns-2 c =
     let read = c.before.before.before in (
-      place-other-without _ read.before.before.before.requires _ read.before.if1.false read.on2.ensures c.before.before.on3.ensures c.before.gets-whole.ensures c.whole-if2.ensures.0,
+      place_other_without _ read.before.before.before.requires _ read.before.if1.false read.on2.ensures c.before.before.on3.ensures c.before.gets-whole.ensures c.whole-if2.ensures.0,
       c.whole-if2.ensures.1,
     )
 

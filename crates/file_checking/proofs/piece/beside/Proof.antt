@@ -1,12 +1,12 @@
 -- `piece::beside` meets its contract. Assumes nothing.
-use Rattle.file_checking.proofs.piece.Steps.{by-family, by_total, by_kind, by_number, by-overlap, by-none}
+use Rattle.file_checking.proofs.piece.Steps.{by_family, by_total, by_kind, by_number, by-overlap, by-none}
 use native.Mathlib.Omega.{arith}
 use borrow.Author.Rules.{rules}
 use Rattle.file_checking.proofs.piece.beside.Statement.{statement}
 use Rattle.file_checking.proofs.piece.beside.Tie as tie
 
 returns : tie.Need-returns
-returns c = by-family _ _ _ _ _ c.if1.true
+returns c = by_family _ _ _ _ _ c.if1.true
 
 returns-2 : tie.Need-returns-2
 returns-2 c = by_total _ _ _ _ _ (omega arith) c.if2.true

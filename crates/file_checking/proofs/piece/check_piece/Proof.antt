@@ -1,6 +1,6 @@
 -- `piece::check_piece` meets its contract. Assumes nothing.
 use mathlib.Core.Path.{refl}
-use Rattle.file_checking.proofs.piece.Steps.{screen_piece, screened-is, maps-are}
+use Rattle.file_checking.proofs.piece.Steps.{screen_piece, screened_is, maps_are}
 use borrow.Author.Rules.{rules}
 use Rattle.file_checking.proofs.piece.check_piece.Statement.{statement}
 use Rattle.file_checking.proofs.piece.check_piece.Tie as tie
@@ -38,7 +38,7 @@ settle-requires c κs = search rules
 returns : tie.Need-returns
 returns c =
     let e = screen_piece _ _ _ _ c.before.before.before.before.before.new.ensures c.before.before.before.screen.ensures c.before.screening.given.1 in
-    (screened-is _ _ _ _ e refl, maps-are _ _ _ _ e refl)
+    (screened_is _ _ _ _ e refl, maps_are _ _ _ _ e refl)
 
 same_length : tie.Need-same-length
 same_length c = search rules
@@ -53,7 +53,7 @@ returns-2 : tie.Need-returns-2
 returns-2 c =
     let e = screen_piece _ _ _ _ c.before.before.before.before.before.before.before.before.before.before.before.before.before.before.before.new.ensures c.before.before.before.before.before.before.before.before.before.before.before.before.before.screen.ensures c.before.before.before.before.before.before.before.before.before.before.before.screening2.given.1 in
     let t = c.before.before.before.before.before.before.settle.ensures in
-    (screened-is _ _ _ _ e t.0, maps-are _ _ _ _ e t.1)
+    (screened_is _ _ _ _ e t.0, maps_are _ _ _ _ e t.1)
 
 pub check-piece-spec : {M : Type 1} → statement M
 check-piece-spec =

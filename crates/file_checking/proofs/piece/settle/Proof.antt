@@ -1,5 +1,5 @@
 -- `piece::settle` meets its contract. Assumes nothing.
-use Rattle.file_checking.proofs.piece.Steps.{stays_by, enters-by}
+use Rattle.file_checking.proofs.piece.Steps.{stays_by, enters_by}
 use borrow.Author.Rules.{rules}
 use Rattle.file_checking.proofs.piece.settle.Statement.{statement}
 use Rattle.file_checking.proofs.piece.settle.Tie as tie
@@ -43,7 +43,7 @@ same-length-6 c = search rules
 returns-2 : tie.Need-returns-2
 returns-2 c =
     let b = c.before.before.before.before.before.before.before.before.before.before.before.before.before.before.beside.ensures in
-    (b, enters-by _ _ _ _ _ b c.before.before.before.before.before.before.before.before.before.before.before.before.before.is-valid.ensures c.before.before.before.before.before.before.before.before.before.before.before.before.if1.false _ _ _ c.before.before.before.before.before.before.before.before.before.mark.ensures c.before.before.before.before.put-start.ensures)
+    (b, enters_by _ _ _ _ _ b c.before.before.before.before.before.before.before.before.before.before.before.before.before.is-valid.ensures c.before.before.before.before.before.before.before.before.before.before.before.before.if1.false _ _ _ c.before.before.before.before.before.before.before.before.before.mark.ensures c.before.before.before.before.put_start.ensures)
 
 pub settle-spec : {M : Type 1} → statement M
 settle-spec =

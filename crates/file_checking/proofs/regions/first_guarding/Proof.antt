@@ -5,7 +5,7 @@ use mathlib.Core.Bool.{false}
 use native.Mathlib.Omega.{arith}
 use lib.ListN.{length}
 use Rattle.laws.specs.Sets.{any}
-use Rattle.laws.proofs.Laws.{any-zero, any-more, least-is, least-none}
+use Rattle.laws.proofs.Laws.{any_zero, any_more, least_is, least_none}
 use Rattle.file_checking.proofs.earlier.Laws.{part_is}
 use Rattle.file_checking.specs.Regions.Guarding.{guards_alone, guards_at}
 use borrow.Author.Rules.{rules}
@@ -19,7 +19,7 @@ abbrev decreases-loop : tie.decreases-loop
 decreases-loop place file n i₀ i = n - i
 
 loop-holds : tie.Need-loop-init invariant-loop decreases-loop
-loop-holds c = (search rules, any-zero _)
+loop-holds c = (search rules, any_zero _)
 
 mul-from : tie.Need-overflow-mul-from invariant-loop decreases-loop
 mul-from c = search rules
@@ -47,7 +47,7 @@ returns c =
     let a = c.before.before.before.before.before.before.args in
     let at = c.before.before.before.before.loop in
     let e = ap (guards_alone a.place) (sym (part_is a.file.now at.i)) ∙ sym c.before.guards.ensures ∙ c.if1.true in
-    sym (least-is (guards_at a.place a.file.now) _ _ c.before.before.before.loop-test.true at.invariant.1 e)
+    sym (least_is (guards_at a.place a.file.now) _ _ c.before.before.before.loop-test.true at.invariant.1 e)
 
 loop-less : tie.Need-loop-smaller invariant-loop decreases-loop
 loop-less c = search rules
@@ -57,14 +57,14 @@ loop-again c =
     let a = c.before.before.before.before.before.before.args in
     let at = c.before.before.before.before.loop in
     let e = ap (guards_alone a.place) (sym (part_is a.file.now at.i)) ∙ sym c.before.guards.ensures ∙ c.if1.false in
-    (search rules, any-more (guards_at a.place a.file.now) _ at.invariant.1 e)
+    (search rules, any_more (guards_at a.place a.file.now) _ at.invariant.1 e)
 
 returns-2 : tie.Need-returns-2 invariant-loop decreases-loop
 returns-2 c =
     let a = c.before.before.before.args in
     let at = c.before.loop in
     let e : at.i ≡ length a.file.now / 512 = omega arith in
-    sym (least-none (guards_at a.place a.file.now) _ (rw e at at.invariant.1))
+    sym (least_none (guards_at a.place a.file.now) _ (rw e at at.invariant.1))
 
 pub first-guarding-spec : {M : Type 1} → statement M
 first-guarding-spec =

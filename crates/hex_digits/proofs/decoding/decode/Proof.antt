@@ -2,7 +2,7 @@
 use mathlib.Core.Path.{sym}
 use Prim.Native.Nat.{◌*◌}
 use Rattle.hex_digits.specs.Values.{value_in}
-use Rattle.hex_digits.proofs.pairs.Values.{all-parts}
+use Rattle.hex_digits.proofs.pairs.Values.{all_parts}
 use Rattle.hex_digits.proofs.decoding.FirstLaws.{rest}
 use borrow.Author.Rules.{rules}
 use Rattle.hex_digits.proofs.decoding.decode.Statement.{statement}
@@ -39,7 +39,7 @@ returns c =
     let s = n.before.before.before.args in
     let l = s.chars.now in
     let k = n.least.result in
-    (rw (p.pairs.ensures.0, c.all_digits.ensures, rest (2 * k) l, sym n.least.ensures) (all-parts (value_in s.table.now) (2 * k) l), p.pairs.ensures.1)
+    (rw (p.pairs.ensures.0, c.all_digits.ensures, rest (2 * k) l, sym n.least.ensures) (all_parts (value_in s.table.now) (2 * k) l), p.pairs.ensures.1)
 
 pub decode-spec : {M : Type 1} → statement M
 decode-spec =

@@ -5,7 +5,7 @@ use native.Mathlib.Omega.{arith}
 use lib.ListN.{length, drop}
 use Rattle.hex_digits.specs.Values.{value_in}
 use Rattle.hex_digits.specs.First.{first_by}
-use Rattle.hex_digits.proofs.decoding.FirstLaws.{first-here, first_next, first-end}
+use Rattle.hex_digits.proofs.decoding.FirstLaws.{first_here, first_next, first_end}
 use borrow.Author.Rules.{rules}
 use Rattle.hex_digits.proofs.decoding.first_bad.Statement.{statement}
 use Rattle.hex_digits.proofs.decoding.first_bad.Tie as tie
@@ -33,7 +33,7 @@ returns c =
     let n = c.before.before.before.before in
     let s = n.before.args in
     let byte = c.before.before.shared-slice-known.given n.loop.i in
-    omega (arith, n.loop.invariant.1, first-here s.table.now s.chars.now n.loop.i (omega (arith, byte)) c.before.before.before.loop-test.true c.if1.true)
+    omega (arith, n.loop.invariant.1, first_here s.table.now s.chars.now n.loop.i (omega (arith, byte)) c.before.before.before.loop-test.true c.if1.true)
 
 add-i : tie.Need-overflow-add-i invariant-loop decreases-loop
 add-i c = search rules
@@ -51,7 +51,7 @@ loop-again c =
 returns-2 : tie.Need-returns-2 invariant-loop decreases-loop
 returns-2 c =
     let s = c.before.before.args in
-    omega (arith, c.before.loop.invariant.1, first-end (value_in s.table.now) s.chars.now c.before.loop.i c.loop-test.false)
+    omega (arith, c.before.loop.invariant.1, first_end (value_in s.table.now) s.chars.now c.before.loop.i c.loop-test.false)
 
 pub first-bad-spec : {M : Type 1} → statement M
 first-bad-spec =

@@ -1,6 +1,6 @@
 -- `decoding::judge` meets its contract. Assumes nothing.
 use mathlib.Core.Path.{sym, ◌∙◌}
-use Rattle.hex_digits.proofs.decoding.FirstLaws.{first-none}
+use Rattle.hex_digits.proofs.decoding.FirstLaws.{first_none}
 use borrow.Author.Rules.{rules}
 use Rattle.hex_digits.proofs.decoding.judge.Statement.{statement}
 use Rattle.hex_digits.proofs.decoding.judge.Tie as tie
@@ -14,7 +14,7 @@ same_length c = search rules
 returns : tie.Need-returns
 returns c =
     let d = c.before.before.before in
-    (first-none _ _ (sym d.decode.ensures.0 ∙ c.if1.true), d.decode.ensures.1)
+    (first_none _ _ (sym d.decode.ensures.0 ∙ c.if1.true), d.decode.ensures.1)
 
 first-bad-requires : tie.Need-first-bad-requires
 first-bad-requires c κs = search rules

@@ -8,7 +8,7 @@ use lib.Dec.{ltb}
 use lib.ListN.{length, get_or, take, set, length-set}
 use Rattle.hex_digits.specs.Values.{value_in, all_by}
 use Rattle.hex_digits.proofs.pairs.Values.{value_at, all_next}
-use Rattle.hex_digits.proofs.pairs.Stored.{begun, begun-next, begun_all}
+use Rattle.hex_digits.proofs.pairs.Stored.{begun, begun_next, begun_all}
 use borrow.Author.Rules.{rules}
 use Rattle.hex_digits.proofs.pairs.pairs.Statement.{statement}
 use Rattle.hex_digits.proofs.pairs.pairs.Tie as tie
@@ -85,7 +85,7 @@ loop-again c =
       omega arith,
       simp length-set n.loop.invariant.1,
       rw next at low,
-      begun-next (value_in t) l b.out.now n.loop.out i k (value_at t _ h) (value_at t _ w) n.loop.invariant.3,
+      begun_next (value_in t) l b.out.now n.loop.out i k (value_at t _ h) (value_at t _ w) n.loop.invariant.3,
     )
 
 same_length : tie.Need-same-length invariant-loop decreases-loop

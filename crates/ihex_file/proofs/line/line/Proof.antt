@@ -1,5 +1,5 @@
 -- `plainline::line` meets its contract. Assumes nothing.
-use Rattle.ihex_file.proofs.Laws.{line-ended, line-long, line_refused, line-record}
+use Rattle.ihex_file.proofs.Laws.{line_ended, line_long, line_refused, line_record}
 use native.Mathlib.Omega.{arith}
 use mathlib.Core.Path.{ap}
 use Rattle.laws.specs.Numbered.{numbered}
@@ -10,16 +10,16 @@ use Rattle.ihex_file.proofs.line.line.Statement.{statement}
 use Rattle.ihex_file.proofs.line.line.Tie as tie
 
 returns : tie.Need-returns
-returns c = ap (numbered taken_number) (line-ended _ _ _ _ c.if1.true)
+returns c = ap (numbered taken_number) (line_ended _ _ _ _ c.if1.true)
 
 cast-offset : tie.Need-overflow-cast-offset
 cast-offset c = search rules
 
 returns-2 : tie.Need-returns-2
-returns-2 c = ap (numbered taken_number) (line-long _ _ _ _ c.before.before.if1.false (omega arith))
+returns-2 c = ap (numbered taken_number) (line_long _ _ _ _ c.before.before.if1.false (omega arith))
 
 returns-3 : tie.Need-returns-3
-returns-3 c = ap (numbered taken_number) (line-long _ _ _ _ c.before.before.before.if1.false (omega arith))
+returns-3 c = ap (numbered taken_number) (line_long _ _ _ _ c.before.before.before.if1.false (omega arith))
 
 enum-known-parsed : tie.Need-enum-known-parsed
 enum-known-parsed c = search rules
@@ -40,7 +40,7 @@ record-requires : tie.Need-record-requires
 record-requires c κs = search rules
 
 returns-5 : tie.Need-returns-5
-returns-5 c = ap (numbered taken_number) (line-record _ _ _ _ _ _ _ c.before.before.before.before.before.before.before.before.if1.false (omega arith) c.before.before.before.parsed.given.1 c.before.moved_by.ensures (answer_is c.«record».ensures))
+returns-5 c = ap (numbered taken_number) (line_record _ _ _ _ _ _ _ c.before.before.before.before.before.before.before.before.if1.false (omega arith) c.before.before.before.parsed.given.1 c.before.moved_by.ensures (answer_is c.«record».ensures))
 
 pub line-spec : {M : Type 1} → statement M
 line-spec =

@@ -1,6 +1,6 @@
 -- `recordbytes::read_bytes` meets its contract. Assumes nothing.
 use Rattle.std.proofs.Common.{◌+◌, get_or, sym, ◌∙◌, arith, length-take-le, get_or-take, rules}
-use Rattle.ihex_record.proofs.record_bytes.InBytes.{in-too-long, in-bad-length, in-bad-sum, in-good}
+use Rattle.ihex_record.proofs.record_bytes.InBytes.{in_too_long, in-bad-length, in-bad-sum, in-good}
 use Rattle.ihex_record.proofs.record_bytes.read_bytes.Statement.{statement}
 use Rattle.ihex_record.proofs.record_bytes.read_bytes.Tie as tie
 
@@ -14,7 +14,7 @@ refusal-requires : tie.Need-refusal-requires
 refusal-requires c κs = search rules
 
 returns : tie.Need-returns
-returns c = c.refusal.ensures ∙ in-too-long _ _ c.before.if1.true
+returns c = c.refusal.ensures ∙ in_too_long _ _ c.before.if1.true
 
 mul-if2 : tie.Need-overflow-mul-if2
 mul-if2 c = search rules

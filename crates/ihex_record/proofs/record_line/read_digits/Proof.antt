@@ -2,7 +2,7 @@
 use Rattle.std.proofs.Common.{length, ◌∙◌, arith, rules}
 use Rattle.hex_digits.proofs.Digits.{decoding, rest}
 use Rattle.ihex_record.proofs.Checks.{shaped}
-use Rattle.ihex_record.proofs.record_line.Decoded.{is-bad-at, is-all-good, is-decoded}
+use Rattle.ihex_record.proofs.record_line.Decoded.{is-bad-at, is-all-good, is_decoded}
 use Rattle.ihex_record.proofs.record_line.read_digits.Statement.{statement}
 use Rattle.ihex_record.proofs.record_line.read_digits.Tie as tie
 
@@ -50,7 +50,7 @@ returns-2 c =
     let s = d.before.before.before.before in
     let t = s.args.t.now in
     let e = is-all-good t (λ q. omega arith) s.requires.1 s.requires.2 d.judge.ensures.0 c.before.before.if1.false in
-    c.read-bytes.ensures ∙ is-decoded t (λ q. omega arith) s.requires.1 s.requires.2 _ e d.judge.auto.1.0 (rw (rest 1 t) at (decoding _ _ d.judge.ensures.1))
+    c.read-bytes.ensures ∙ is_decoded t (λ q. omega arith) s.requires.1 s.requires.2 _ e d.judge.auto.1.0 (rw (rest 1 t) at (decoding _ _ d.judge.ensures.1))
 
 pub read-digits-spec : {M : Type 1} → statement M
 read-digits-spec =

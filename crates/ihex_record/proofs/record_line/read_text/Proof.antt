@@ -1,6 +1,6 @@
 -- `recordline::read_text` meets its contract. Assumes nothing.
 use Rattle.std.proofs.Common.{◌∙◌, arith, rules}
-use Rattle.ihex_record.proofs.Checks.{is-empty, is-no-colon, is-bad-shape}
+use Rattle.ihex_record.proofs.Checks.{is_empty, is_no_colon, is-bad-shape}
 use Rattle.ihex_record.proofs.record_line.read_text.Statement.{statement}
 use Rattle.ihex_record.proofs.record_line.read_text.Tie as tie
 
@@ -8,7 +8,7 @@ refusal-requires : tie.Need-refusal-requires
 refusal-requires c κs = search rules
 
 returns : tie.Need-returns
-returns c = c.refusal.ensures ∙ is-empty _ c.before.if1.true
+returns c = c.refusal.ensures ∙ is_empty _ c.before.if1.true
 
 shared-slice-read-if2 : tie.Need-shared-slice-read-if2
 shared-slice-read-if2 c = search rules
@@ -17,7 +17,7 @@ refusal-requires-2 : tie.Need-refusal-requires-2
 refusal-requires-2 c κs = search rules
 
 returns-2 : tie.Need-returns-2
-returns-2 c = c.refusal2.ensures ∙ is-no-colon _ c.before.if2.true
+returns-2 c = c.refusal2.ensures ∙ is_no_colon _ c.before.if2.true
 
 refusal-requires-3 : tie.Need-refusal-requires-3
 refusal-requires-3 c κs = search rules

@@ -2,7 +2,7 @@
 use borrow.Author.Rules.{rules}
 use mathlib.Core.Path.{sym, ◌∙◌}
 use native.Mathlib.Omega.{arith}
-use Rattle.memory.proofs.flash.Laws.{filled, erase-in, erase-past}
+use Rattle.memory.proofs.flash.Laws.{filled, erase_in, erase_past}
 use Rattle.memory.proofs.flash.erase.Statement.{statement}
 use Rattle.memory.proofs.flash.erase.Tie as tie
 
@@ -30,10 +30,10 @@ same_length c = search rules
 returns : tie.Need-returns
 returns c =
     let b = c.before.before in
-    filled _ 4096 255 _ _ (omega arith) b.fill.ensures ∙ sym (erase-in _ _ (omega arith))
+    filled _ 4096 255 _ _ (omega arith) b.fill.ensures ∙ sym (erase_in _ _ (omega arith))
 
 returns-2 : tie.Need-returns-2
-returns-2 c = sym (erase-past _ _ c.if1.false)
+returns-2 c = sym (erase_past _ _ c.if1.false)
 
 pub erase-spec : {M : Type 1} → statement M
 erase-spec =

@@ -1,5 +1,5 @@
 -- `parts::write_part` meets its contract. Assumes nothing.
-use Rattle.partapi.proofs.parts.Laws.{write_other, write-all}
+use Rattle.partapi.proofs.parts.Laws.{write_other, write_all}
 use borrow.Author.Rules.{rules}
 use Rattle.partapi.proofs.parts.write_part.Statement.{statement}
 use Rattle.partapi.proofs.parts.write_part.Tie as tie
@@ -39,7 +39,7 @@ returns-2 c =
     let first = second.before.before.before.before in
     let written = first.before.before.before.before in
     let asked = written.before.before.before in
-    rw (third.put3.ensures, second.put2.ensures, first.put.ensures) (write-all _ _ asked.if1.false written.write-report.ensures)
+    rw (third.put3.ensures, second.put2.ensures, first.put.ensures) (write_all _ _ asked.if1.false written.write-report.ensures)
 
 pub write-part-spec : {M : Type 1} → statement M
 write-part-spec =

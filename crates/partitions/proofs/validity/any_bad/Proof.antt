@@ -5,11 +5,11 @@ use mathlib.Core.Bool.{true, false}
 use native.Mathlib.Omega.{arith}
 use borrow.Author.Tests.{not-true, not-false}
 use Rattle.laws.specs.Sets.{any}
-use Rattle.laws.proofs.Laws.{any-zero, any-more}
+use Rattle.laws.proofs.Laws.{any_zero, any_more}
 use Rattle.partitions.specs.Settings.{is_a, entry_at}
 use Rattle.partitions.specs.Parts.{wrong_entry}
-use Rattle.partitions.proofs.validity.Rising.{Apart, apart_none, rising-more, wrong-hit}
-use Rattle.partitions.proofs.Laws.{wrong-alone, wrong-link, right-entry, link_up, link-to-b, link_none, link-right}
+use Rattle.partitions.proofs.validity.Rising.{Apart, apart_none, rising_more, wrong_hit}
+use Rattle.partitions.proofs.Laws.{wrong_alone, wrong_link, right_entry, link_up, link_to_b, link_none, link_right}
 use borrow.Author.Rules.{rules}
 use Rattle.partitions.proofs.validity.any_bad.Statement.{statement}
 use Rattle.partitions.proofs.validity.any_bad.Tie as tie
@@ -22,7 +22,7 @@ abbrev decreases-loop : tie.decreases-loop
 decreases-loop count flash-len table rising₀ past₀ k₀ rising past k = count - k
 
 loop-holds : tie.Need-loop-init invariant-loop decreases-loop
-loop-holds c = (search rules, any-zero _, λ h. apart_none _ _)
+loop-holds c = (search rules, any_zero _, λ h. apart_none _ _)
 
 mul-e : tie.Need-overflow-mul-e invariant-loop decreases-loop
 mul-e c = search rules
@@ -48,8 +48,8 @@ alone-bad-requires c κs = search rules
 returns : tie.Need-returns invariant-loop decreases-loop
 returns c =
     sym
-    (wrong-hit _ _ _ _ c.before.before.before.before.before.loop-test.true
-    (wrong-alone _ _ _ (sym c.before.alone-bad.ensures ∙ c.if1.true)))
+    (wrong_hit _ _ _ _ c.before.before.before.before.before.loop-test.true
+    (wrong_alone _ _ _ (sym c.before.alone-bad.ensures ∙ c.if1.true)))
 
 unowned-requires : tie.Need-unowned-requires invariant-loop decreases-loop
 unowned-requires c κs = search rules
@@ -64,8 +64,8 @@ returns-2 : tie.Need-returns-2 invariant-loop decreases-loop
 returns-2 c =
     let u = not-true _ c.before.before.if2.true in
     sym
-    (wrong-hit _ _ _ _ c.before.before.before.before.before.before.before.before.before.loop-test.true
-    (wrong-link _ _ _ (link_up _ _ (sym c.before.before.before.unowned.ensures ∙ u) (omega (arith, c.before.target.ensures)))))
+    (wrong_hit _ _ _ _ c.before.before.before.before.before.before.before.before.before.loop-test.true
+    (wrong_link _ _ _ (link_up _ _ (sym c.before.before.before.unowned.ensures ∙ u) (omega (arith, c.before.target.ensures)))))
 
 mul-o : tie.Need-overflow-mul-o invariant-loop decreases-loop
 mul-o c = search rules
@@ -83,9 +83,9 @@ returns-3 c =
     let u = not-true _ d.before.before.if2.true in
     let t = ap (λ (j : ℕ). is_a (entry_at x.t1 j)) d.before.target.ensures in
     sym
-    (wrong-hit _ _ _ _ d.before.before.before.before.before.before.before.before.before.loop-test.true
-    (wrong-link _ _ _
-    (link-to-b _ _ (sym d.before.before.before.unowned.ensures ∙ u) (sym t ∙ sym c.before.is-a.ensures ∙ not-true _ c.if4.true))))
+    (wrong_hit _ _ _ _ d.before.before.before.before.before.before.before.before.before.loop-test.true
+    (wrong_link _ _ _
+    (link_to_b _ _ (sym d.before.before.before.unowned.ensures ∙ u) (sym t ∙ sym c.before.is-a.ensures ∙ not-true _ c.if4.true))))
 
 loop-less : tie.Need-loop-smaller invariant-loop decreases-loop
 loop-less c = search rules
@@ -97,10 +97,10 @@ loop-again c =
     let x = d.before.before.before.before.before.before.before.before.before.before.before.args in
     let t = ap (λ (j : ℕ). is_a (entry_at x.t1 j)) d.before.target.ensures in (
       search rules,
-      any-more _ _ l.invariant.1
-          (right-entry _ _ _ (sym d.before.before.before.before.before.alone-bad.ensures ∙ d.before.before.before.before.if1.false)
-          (link-right _ _ (omega (arith, d.before.target.ensures)) (sym t ∙ sym c.before.is-a.ensures ∙ not-false _ c.if4.false))),
-      rising-more _ _ _ _ l.invariant.2,
+      any_more _ _ l.invariant.1
+          (right_entry _ _ _ (sym d.before.before.before.before.before.alone-bad.ensures ∙ d.before.before.before.before.if1.false)
+          (link_right _ _ (omega (arith, d.before.target.ensures)) (sym t ∙ sym c.before.is-a.ensures ∙ not-false _ c.if4.false))),
+      rising_more _ _ _ _ l.invariant.2,
     )
 
 loop-less-2 : tie.Need-loop-smaller-2 invariant-loop decreases-loop
@@ -110,10 +110,10 @@ loop-again-2 : tie.Need-loop-preserved-2 invariant-loop decreases-loop
 loop-again-2 c =
     let l = c.before.before.before.before.before.before.before.before.loop in (
       search rules,
-      any-more _ _ l.invariant.1
-          (right-entry _ _ _ (sym c.before.before.before.alone-bad.ensures ∙ c.before.before.if1.false)
+      any_more _ _ l.invariant.1
+          (right_entry _ _ _ (sym c.before.before.before.alone-bad.ensures ∙ c.before.before.if1.false)
           (link_none _ _ (sym c.before.unowned.ensures ∙ not-false _ c.if2.false))),
-      rising-more _ _ _ _ l.invariant.2,
+      rising_more _ _ _ _ l.invariant.2,
     )
 
 returns-4 : tie.Need-returns-4 invariant-loop decreases-loop

@@ -4,7 +4,7 @@ use mathlib.Core.Path.{◌≡◌, sym, ◌∙◌}
 use mathlib.Core.Bool.{false}
 use native.Mathlib.Omega.{arith}
 use Rattle.laws.specs.Sets.{any}
-use Rattle.laws.proofs.Laws.{any-zero, any-more, any-hit}
+use Rattle.laws.proofs.Laws.{any_zero, any_more, any_hit}
 use Rattle.partitions.specs.Settings.{overlap_at}
 use Rattle.partitions.specs.Parts.{shares_below}
 use borrow.Author.Rules.{rules}
@@ -24,7 +24,7 @@ abbrev decreases-loop : tie.decreases-loop
 decreases-loop count table k₀ k = count - k
 
 loop-holds : tie.Need-loop-init invariant-loop2 decreases-loop2 invariant-loop decreases-loop
-loop-holds c = (search rules, any-zero _)
+loop-holds c = (search rules, any_zero _)
 
 mul-first : tie.Need-overflow-mul-first invariant-loop2 decreases-loop2 invariant-loop decreases-loop
 mul-first c = search rules
@@ -39,7 +39,7 @@ element-copy-out-sectors : tie.Need-element-copy-out-sectors invariant-loop2 dec
 element-copy-out-sectors c = search rules
 
 loop2-holds : tie.Need-loop2-init invariant-loop2 decreases-loop2 invariant-loop decreases-loop
-loop2-holds c = (search rules, any-zero _)
+loop2-holds c = (search rules, any_zero _)
 
 mul-sectors-overlap : tie.Need-overflow-mul-sectors-overlap invariant-loop2 decreases-loop2 invariant-loop decreases-loop
 mul-sectors-overlap c = search rules
@@ -62,8 +62,8 @@ returns : tie.Need-returns invariant-loop2 decreases-loop2 invariant-loop decrea
 unfolding shares_below overlap_at
 returns c =
     sym
-    (any-hit _ _ _ c.before.before.before.before.loop-test.true
-    (any-hit _ _ _ c.before.before.loop2-test.true (sym c.before.sectors-overlap.ensures ∙ c.if1.true)))
+    (any_hit _ _ _ c.before.before.before.before.loop-test.true
+    (any_hit _ _ _ c.before.before.loop2-test.true (sym c.before.sectors-overlap.ensures ∙ c.if1.true)))
 
 add-j : tie.Need-overflow-add-j invariant-loop2 decreases-loop2 invariant-loop decreases-loop
 add-j c = search rules
@@ -73,7 +73,7 @@ loop2-less c = search rules
 
 loop2-again : tie.Need-loop2-preserved invariant-loop2 decreases-loop2 invariant-loop decreases-loop
 unfolding overlap_at
-loop2-again c = (search rules, any-more _ _ c.before.before.before.loop2.invariant.1 (sym c.before.sectors-overlap.ensures ∙ c.if1.false))
+loop2-again c = (search rules, any_more _ _ c.before.before.before.loop2.invariant.1 (sym c.before.sectors-overlap.ensures ∙ c.if1.false))
 
 add-k : tie.Need-overflow-add-k invariant-loop2 decreases-loop2 invariant-loop decreases-loop
 add-k c = search rules
@@ -85,7 +85,7 @@ loop-again : tie.Need-loop-preserved invariant-loop2 decreases-loop2 invariant-l
 unfolding shares_below
 loop-again c =
     let e : c.before.loop2.j ≡ c.before.before.before.loop.k = omega arith in
-    (search rules, any-more _ _ c.before.before.before.loop.invariant.1 (rw e at c.before.loop2.invariant.1))
+    (search rules, any_more _ _ c.before.before.before.loop.invariant.1 (rw e at c.before.loop2.invariant.1))
 
 returns-2 : tie.Need-returns-2 invariant-loop2 decreases-loop2 invariant-loop decreases-loop
 returns-2 c = let e : c.before.loop.k ≡ c.before.before.args.count = omega arith in sym (rw e at c.before.loop.invariant.1)

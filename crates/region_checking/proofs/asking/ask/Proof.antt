@@ -1,6 +1,6 @@
 -- `asking::ask` meets its contract. Assumes nothing.
 use native.Mathlib.Omega.{arith}
-use Rattle.region_checking.proofs.Laws.{asked-none, asked-marked, asked_is, region-few, noted-after}
+use Rattle.region_checking.proofs.Laws.{asked-none, asked-marked, asked_is, region-few, noted_after_lem}
 use borrow.Author.Rules.{rules}
 use Rattle.region_checking.proofs.asking.ask.Statement.{statement}
 use Rattle.region_checking.proofs.asking.ask.Tie as tie
@@ -60,7 +60,7 @@ same-length-4 : tie.Need-same-length-4
 same-length-4 c = search rules
 
 returns-3 : tie.Need-returns-3
-returns-3 c = (asked_is _ _ _ c.before.before.before.before.before.before.before.before.before.before.before.before.before.before.before.before.names.ensures c.before.before.before.before.before.before.before.before.before.before.before.before.before.before.before.if1.false c.before.before.before.before.before.before.before.before.before.before.read-region.ensures c.before.before.before.before.before.before.ask-region.ensures.0, noted-after _ _ _ _ _ c.before.before.before.before.before.before.before.before.before.before.before.before.before.before.before.before.before.before.before.before.before.before.requires.1.1 c.before.before.before.before.before.before.ask-region.ensures.1)
+returns-3 c = (asked_is _ _ _ c.before.before.before.before.before.before.before.before.before.before.before.before.before.before.before.before.names.ensures c.before.before.before.before.before.before.before.before.before.before.before.before.before.before.before.if1.false c.before.before.before.before.before.before.before.before.before.before.read-region.ensures c.before.before.before.before.before.before.ask-region.ensures.0, noted_after_lem _ _ _ _ _ c.before.before.before.before.before.before.before.before.before.before.before.before.before.before.before.before.before.before.before.before.before.before.requires.1.1 c.before.before.before.before.before.before.ask-region.ensures.1)
 
 pub ask-spec : {M : Type 1} → statement M
 ask-spec =

@@ -1,5 +1,5 @@
 -- `asking::ask_region` meets its contract. Assumes nothing.
-use Rattle.region_checking.proofs.Laws.{not-marked, is-marked}
+use Rattle.region_checking.proofs.Laws.{not_marked, is_marked_lem}
 use borrow.Author.Rules.{rules}
 use Rattle.region_checking.proofs.asking.ask_region.Statement.{statement}
 use Rattle.region_checking.proofs.asking.ask_region.Tie as tie
@@ -17,7 +17,7 @@ same-length-2 : tie.Need-same-length-2
 same-length-2 c = search rules
 
 returns : tie.Need-returns
-returns c = (c.before.before.before.before.before.before.fault-in.ensures, not-marked _ _ _ c.before.before.before.before.before.before.fault-in.ensures c.before.is_right.ensures c.if1.true _)
+returns c = (c.before.before.before.before.before.before.fault-in.ensures, not_marked _ _ _ c.before.before.before.before.before.before.fault-in.ensures c.before.is_right.ensures c.if1.true _)
 
 note-pieces-requires : tie.Need-note-pieces-requires
 note-pieces-requires c κs = search rules
@@ -32,7 +32,7 @@ same-length-5 : tie.Need-same-length-5
 same-length-5 c = search rules
 
 returns-2 : tie.Need-returns-2
-returns-2 c = (c.before.before.before.before.before.before.before.before.before.before.fault-in.ensures, is-marked _ _ _ c.before.before.before.before.before.before.before.before.before.before.fault-in.ensures c.before.before.before.before.before.is_right.ensures c.before.before.before.before.if1.false _ c.before.before.note-pieces.ensures)
+returns-2 c = (c.before.before.before.before.before.before.before.before.before.before.fault-in.ensures, is_marked_lem _ _ _ c.before.before.before.before.before.before.before.before.before.before.fault-in.ensures c.before.before.before.before.before.is_right.ensures c.before.before.before.before.if1.false _ c.before.before.note-pieces.ensures)
 
 pub ask-region-spec : {M : Type 1} → statement M
 ask-region-spec =

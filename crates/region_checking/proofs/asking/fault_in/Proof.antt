@@ -1,5 +1,5 @@
 -- `asking::fault_in` meets its contract. Assumes nothing.
-use Rattle.region_checking.proofs.Laws.{stray-told, bare_is, bare-told, digest-told, right-told}
+use Rattle.region_checking.proofs.Laws.{stray_told, bare_is, bare-told, digest_told, right-told}
 use borrow.Author.Rules.{rules}
 use Rattle.region_checking.proofs.asking.fault_in.Statement.{statement}
 use Rattle.region_checking.proofs.asking.fault_in.Tie as tie
@@ -8,7 +8,7 @@ first-stray-requires : tie.Need-first-stray-requires
 first-stray-requires c κs = search rules
 
 returns : tie.Need-returns
-returns c = stray-told _ _ _ c.before.first-stray.ensures c.if1.true
+returns c = stray_told _ _ _ c.before.first-stray.ensures c.if1.true
 
 cast-len : tie.Need-overflow-cast-len
 cast-len c = search rules
@@ -59,7 +59,7 @@ same-length-5 : tie.Need-same-length-5
 same-length-5 c = search rules
 
 returns-4 : tie.Need-returns-4
-returns-4 c = digest-told _ _ _ c.before.before.before.before.before.before.before.before.before.before.before.before.before.before.before.before.before.before.before.first-stray.ensures c.before.before.before.before.before.before.before.before.before.before.before.before.before.before.before.before.before.before.if1.false (bare_is _ _ c.before.before.before.before.before.before.before.before.before.before.before.before.before.before.before.before.before.before.before.before.before.before.before.requires.1.1 c.before.before.before.before.before.before.before.before.before.before.before.before.before.before.before.before.before.before.before.before.before.before.before.requires.0 c.before.before.before.before.before.before.before.before.before.before.before.before.before.before.clear.ensures c.before.before.before.before.before.before.before.before.before.before.mark-sectors.ensures c.before.before.before.before.before.before.first-missing.ensures) c.before.before.before.before.before.if2.false c.before.before.before.digest-right.ensures c.if3.false
+returns-4 c = digest_told _ _ _ c.before.before.before.before.before.before.before.before.before.before.before.before.before.before.before.before.before.before.before.first-stray.ensures c.before.before.before.before.before.before.before.before.before.before.before.before.before.before.before.before.before.before.if1.false (bare_is _ _ c.before.before.before.before.before.before.before.before.before.before.before.before.before.before.before.before.before.before.before.before.before.before.before.requires.1.1 c.before.before.before.before.before.before.before.before.before.before.before.before.before.before.before.before.before.before.before.before.before.before.before.requires.0 c.before.before.before.before.before.before.before.before.before.before.before.before.before.before.clear.ensures c.before.before.before.before.before.before.before.before.before.before.mark-sectors.ensures c.before.before.before.before.before.before.first-missing.ensures) c.before.before.before.before.before.if2.false c.before.before.before.digest-right.ensures c.if3.false
 
 pub fault-in-spec : {M : Type 1} → statement M
 fault-in-spec =

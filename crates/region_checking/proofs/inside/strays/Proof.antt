@@ -1,5 +1,5 @@
 -- `inside::strays` meets its contract. Assumes nothing.
-use Rattle.region_checking.proofs.Laws.{strays-is}
+use Rattle.region_checking.proofs.Laws.{strays_is}
 use borrow.Author.Rules.{rules}
 use Rattle.region_checking.proofs.inside.strays.Statement.{statement}
 use Rattle.region_checking.proofs.inside.strays.Tie as tie
@@ -17,7 +17,7 @@ same-region-requires : tie.Need-same-region-requires
 same-region-requires c κs = search rules
 
 returns : tie.Need-returns
-returns c = strays-is _ _ c.before.before.before.is-inside.ensures c.before.before.has-region.ensures c.before.read-region.ensures c.same-region.ensures
+returns c = strays_is _ _ c.before.before.before.is-inside.ensures c.before.before.has-region.ensures c.before.read-region.ensures c.same-region.ensures
 
 pub strays-spec : {M : Type 1} → statement M
 strays-spec =

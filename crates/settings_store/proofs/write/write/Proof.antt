@@ -1,10 +1,10 @@
 -- `storewrite::write` meets its contract. Assumes nothing.
 use mathlib.Core.Path.{ap}
 use native.Mathlib.Omega.{arith}
-use Rattle.partitions.proofs.Laws.{good-count}
+use Rattle.partitions.proofs.Laws.{good_count}
 use Rattle.laws.specs.Numbered.{numbered}
 use Rattle.settings_store.specs.Written.{write_number}
-use Rattle.settings_store.proofs.write.Cases.{is_off, is_on_lem, write-1, write-2, write-41, write-good}
+use Rattle.settings_store.proofs.write.Cases.{is_off, is_on_lem, write_1, write-2, write-41, write-good}
 use borrow.Author.Rules.{rules}
 use Rattle.settings_store.proofs.write.write.Statement.{statement}
 use Rattle.settings_store.proofs.write.write.Tie as tie
@@ -13,7 +13,7 @@ right-length-requires : tie.Need-right-length-requires
 right-length-requires c κs = search rules
 
 returns : tie.Need-returns
-returns c = ap (numbered write_number) (write-1 _ _ _ (is_off _ c.before.right_length.ensures c.if1.true))
+returns c = ap (numbered write_number) (write_1 _ _ _ (is_off _ c.before.right_length.ensures c.if1.true))
 
 good-requires : tie.Need-good-requires
 good-requires c κs = search rules
@@ -36,7 +36,7 @@ returns-3 c = ap (numbered write_number) (write-41 _ _ _ (is_on_lem _ c.before.b
 put-store-requires : tie.Need-put-store-requires
 put-store-requires c κs =
     let a = c.before.before.before.before.before.before.before.before.args in
-    let few = good-count a.settings a.flash-len (is_on_lem _ c.before.before.before.before.good2.ensures c.before.before.before.if2.false) in
+    let few = good_count a.settings a.flash-len (is_on_lem _ c.before.before.before.before.good2.ensures c.before.before.before.if2.false) in
     (few, omega arith)
 
 same_length : tie.Need-same-length

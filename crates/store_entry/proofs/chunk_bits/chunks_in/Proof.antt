@@ -2,7 +2,7 @@
 use mathlib.Core.Path.{◌≡◌, ap, ◌∙◌}
 use native.Mathlib.Omega.{arith}
 use Rattle.store_entry.specs.Chunks.{chunks_of}
-use Rattle.store_entry.proofs.chunk_bits.ReadBack.{read-chunks, joined_4, joined_5}
+use Rattle.store_entry.proofs.chunk_bits.ReadBack.{read_chunks, joined_4, joined_5}
 use Rattle.store_entry.proofs.chunk_bits.ReadBack.{row, row_all}
 use borrow.Author.Rules.{rules}
 use Rattle.store_entry.proofs.chunk_bits.chunks_in.Statement.{statement}
@@ -99,7 +99,7 @@ returns c =
     let s = start.args.s.now in
     let whole : row 22 0 s ≡ s = row_all 22 s start.requires in
     c.regroup.ensures
-    ∙ read-chunks _ _ _ _ _ _ (joined_5 c.before.before.before.before.before.before.before.before.before.before.before.before.before.before.before.before.before.before.before.before.before.before.join5.ensures) (joined_4 c.before.before.before.before.before.before.before.before.before.before.before.before.before.before.before.before.before.join4.ensures) (joined_4 c.before.before.before.before.before.before.before.before.before.before.before.before.join42.ensures) (joined_4 c.before.before.before.before.before.before.before.join43.ensures) (joined_4 c.before.before.join44.ensures) (omega (arith, c.before.shared-slice-known23.given 21))
+    ∙ read_chunks _ _ _ _ _ _ (joined_5 c.before.before.before.before.before.before.before.before.before.before.before.before.before.before.before.before.before.before.before.before.before.before.join5.ensures) (joined_4 c.before.before.before.before.before.before.before.before.before.before.before.before.before.before.before.before.before.join4.ensures) (joined_4 c.before.before.before.before.before.before.before.before.before.before.before.before.join42.ensures) (joined_4 c.before.before.before.before.before.before.before.join43.ensures) (joined_4 c.before.before.join44.ensures) (omega (arith, c.before.shared-slice-known23.given 21))
     _ _ _ _ _ _ _ _ _ _ _ _ _ _ _ _ _ _ _ _ _ c.before.before.before.before.before.before.before.before.before.before.before.before.before.before.before.before.before.before.before.before.before.before.join5.ensures c.before.before.before.before.before.before.before.before.before.before.before.before.before.before.before.before.before.join4.ensures c.before.before.before.before.before.before.before.before.before.before.before.before.join42.ensures c.before.before.before.before.before.before.before.join43.ensures c.before.before.join44.ensures
     ∙ ap chunks_of whole
 

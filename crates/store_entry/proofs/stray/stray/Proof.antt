@@ -1,12 +1,12 @@
 -- `entrystray::stray` meets its contract. Assumes nothing.
 use native.Mathlib.Omega.{arith}
-use Rattle.store_entry.proofs.Parts.{stray-other, stray-part}
+use Rattle.store_entry.proofs.Parts.{stray_other, stray-part}
 use borrow.Author.Rules.{rules}
 use Rattle.store_entry.proofs.stray.stray.Statement.{statement}
 use Rattle.store_entry.proofs.stray.stray.Tie as tie
 
 returns : tie.Need-returns
-returns c = stray-other _ _ (λ e. omega (arith, e))
+returns c = stray_other _ _ (λ e. omega (arith, e))
 
 read-requires : tie.Need-read-requires
 read-requires c κs = search rules

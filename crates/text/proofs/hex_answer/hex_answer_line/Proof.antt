@@ -20,7 +20,7 @@ position-requires c κs = search rules
 put-position-requires : tie.Need-put-position-requires
 put-position-requires c κs =
     let p = c.before.before in
-    omega (arith, p.put-pair, pair_short p.before.before.before.args.index p.before.number.result)
+    omega (arith, p.put_pair, pair_short p.before.before.before.args.index p.before.number.result)
 
 slice-aggregate-put : tie.Need-slice-aggregate-put
 slice-aggregate-put c = search rules
@@ -34,7 +34,7 @@ returns c =
     let q = c.before.before.before in
     let p = q.before.before.before in
     let x = p.before.before.before in
-    let g = grown_over _ _ _ (λ l. p.put-pair.ensures) q.put-position.ensures in
+    let g = grown_over _ _ _ (λ l. p.put_pair.ensures) q.put-position.ensures in
     rw (← p.before.number.ensures, ← q.before.position.ensures)
     (grown_counts _ _ (grown_more _ _ _ g c.put.ensures) (simp length-append (omega (arith, c, decimal_short x.args.index, decimal_short p.before.number.result, position_short q.before.position.result))))
 

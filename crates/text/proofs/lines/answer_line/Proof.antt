@@ -26,7 +26,7 @@ returns c =
     let f = p.before.before in
     let x = f.before.args in
     rw (← f.flag.ensures)
-    (grown_counts _ _ (grown_more _ _ _ (λ l. p.put-pair.ensures) c.put.ensures) (simp length-append (omega (arith, c, decimal_short x.index, decimal_short x.answer))))
+    (grown_counts _ _ (grown_more _ _ _ (λ l. p.put_pair.ensures) c.put.ensures) (simp length-append (omega (arith, c, decimal_short x.index, decimal_short x.answer))))
 
 pub answer-line-spec : {M : Type 1} → statement M
 answer-line-spec =

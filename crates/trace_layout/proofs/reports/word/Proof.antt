@@ -1,12 +1,12 @@
 -- `reports::word` meets its contract. Assumes nothing.
 use mathlib.Core.Path.{◌∙◌}
-use Rattle.trace_layout.proofs.reports.Words.{word-records, word_count, word-discards, word-marked, word-flag, word_number}
+use Rattle.trace_layout.proofs.reports.Words.{word_records, word_count, word-discards, word-marked, word-flag, word_number}
 use borrow.Author.Rules.{rules}
 use Rattle.trace_layout.proofs.reports.word.Statement.{statement}
 use Rattle.trace_layout.proofs.reports.word.Tie as tie
 
 returns : tie.Need-returns
-returns c = word-records _ _ c.if1.true
+returns c = word_records _ _ c.if1.true
 
 sub_at : tie.Need-overflow-sub-at
 sub_at c = search rules

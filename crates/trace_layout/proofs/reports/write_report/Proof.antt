@@ -6,7 +6,7 @@ use lib.ListN.{length}
 use Rattle.laws.specs.Over.{over}
 use Rattle.laws.specs.Rows.{rows}
 use Rattle.trace_layout.specs.Reports.{word_bytes}
-use Rattle.trace_layout.proofs.reports.Words.{words-none, words_long, words_more, words-all, written-other}
+use Rattle.trace_layout.proofs.reports.Words.{words_none, words_long, words_more, words_all, written_other}
 use borrow.Author.Rules.{rules}
 use Rattle.trace_layout.proofs.reports.write_report.Statement.{statement}
 use Rattle.trace_layout.proofs.reports.write_report.Tie as tie
@@ -18,10 +18,10 @@ abbrev decreases-loop : tie.decreases-loop
 decreases-loop bytes₀ report k₀ bytes k = 21 - k
 
 returns : tie.Need-returns invariant-loop decreases-loop
-returns c = written-other _ _ c.if1.true
+returns c = written_other _ _ c.if1.true
 
 loop-holds : tie.Need-loop-init invariant-loop decreases-loop
-loop-holds c = (search rules, c.if1.false, c.if1.false, words-none _ _)
+loop-holds c = (search rules, c.if1.false, c.if1.false, words_none _ _)
 
 mul_at : tie.Need-overflow-mul-at invariant-loop decreases-loop
 mul_at c = search rules
@@ -51,7 +51,7 @@ same_length : tie.Need-same-length invariant-loop decreases-loop
 same_length c = search rules
 
 returns-2 : tie.Need-returns-2 invariant-loop decreases-loop
-returns-2 c = words-all _ _ _ _ c.before.loop.invariant.1 (omega arith) c.before.loop.invariant.3
+returns-2 c = words_all _ _ _ _ c.before.loop.invariant.1 (omega arith) c.before.loop.invariant.3
 
 pub write-report-spec : {M : Type 1} → statement M
 write-report-spec =

@@ -1,6 +1,6 @@
 -- `region::stands` meets its contract. Assumes nothing.
 use native.Mathlib.Omega.{arith}
-use Rattle.uf2_block.proofs.regions.Laws.{stands-low, stands-past, stands-part}
+use Rattle.uf2_block.proofs.regions.Laws.{stands_low, stands-past, stands-part}
 use borrow.Author.Rules.{rules}
 use Rattle.uf2_block.proofs.regions.stands.Statement.{statement}
 use Rattle.uf2_block.proofs.regions.stands.Tie as tie
@@ -12,7 +12,7 @@ cast-len : tie.Need-overflow-cast-len
 cast-len c = search rules
 
 returns : tie.Need-returns
-returns c = stands-low _ _ _ (omega arith)
+returns c = stands_low _ _ _ (omega arith)
 
 returns-2 : tie.Need-returns-2
 returns-2 c = stands-past _ _ _ (omega arith) (omega arith)

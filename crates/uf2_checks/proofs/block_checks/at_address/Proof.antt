@@ -1,7 +1,7 @@
 -- `screening::at_address` meets its contract. Assumes nothing.
 use mathlib.Core.Path.{sym}
 use native.Mathlib.Omega.{arith}
-use Rattle.uf2_checks.proofs.block_checks.Laws.{some_alignment, address-ragged, address-past, address-passed}
+use Rattle.uf2_checks.proofs.block_checks.Laws.{some_alignment, address_ragged, address-past, address-passed}
 use borrow.Author.Rules.{rules}
 use Rattle.uf2_checks.proofs.block_checks.at_address.Statement.{statement}
 use Rattle.uf2_checks.proofs.block_checks.at_address.Tie as tie
@@ -19,7 +19,7 @@ rem-if1 : tie.Need-nonzero-rem-if1
 rem-if1 c = omega (arith, c.alignment.ensures, some_alignment c.before.before.before.args.kind)
 
 returns : tie.Need-returns
-returns c = sym (address-ragged _ _ _ _ c.before.alignment.ensures c.if1.true)
+returns c = sym (address_ragged _ _ _ _ c.before.alignment.ensures c.if1.true)
 
 add-past : tie.Need-overflow-add-past
 add-past c = search rules

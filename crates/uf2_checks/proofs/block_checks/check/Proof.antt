@@ -1,5 +1,5 @@
 -- `screening::check` meets its contract. Assumes nothing.
-use Rattle.uf2_checks.proofs.Laws.{check-comment, check-window}
+use Rattle.uf2_checks.proofs.Laws.{check_comment, check_window}
 use Rattle.uf2_checks.proofs.block_checks.Laws.{window_above}
 use borrow.Author.Rules.{rules}
 use Rattle.uf2_checks.proofs.block_checks.check.Statement.{statement}
@@ -15,7 +15,7 @@ check-note-requires : tie.Need-check-note-requires
 check-note-requires c κs = search rules
 
 returns : tie.Need-returns
-returns c = check-comment _ _ _ _ c.before.before.before.if1.true c.before.before.note-kind.ensures c.before.room_in.ensures.0 c.check-note.ensures
+returns c = check_comment _ _ _ _ c.before.before.before.if1.true c.before.before.note-kind.ensures c.before.room_in.ensures.0 c.check-note.ensures
 
 cast-window-of : tie.Need-overflow-cast-window-of
 cast-window-of c = search rules
@@ -35,7 +35,7 @@ check-data-requires c κs = (c.room-in2.ensures.1, window_above _ _ c.before.bef
 returns-2 : tie.Need-returns-2
 returns-2 c =
     let d = c.before.before.before in
-    check-window _ _ _ _ d.before.before.if1.false d.window-of.ensures c.before.before.window-kind.ensures c.before.room-in2.ensures.0 c.check-data.ensures
+    check_window _ _ _ _ d.before.before.if1.false d.window-of.ensures c.before.before.window-kind.ensures c.before.room-in2.ensures.0 c.check-data.ensures
 
 pub check-spec : {M : Type 1} → statement M
 check-spec =

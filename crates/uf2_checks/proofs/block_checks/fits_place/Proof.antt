@@ -1,7 +1,7 @@
 -- `screening::fits_place` meets its contract. Assumes nothing.
 use mathlib.Core.Path.{sym, ◌∙◌}
 use native.Mathlib.Omega.{arith}
-use Rattle.uf2_checks.proofs.block_checks.Laws.{placed-payload, placed-numbers, placed-address}
+use Rattle.uf2_checks.proofs.block_checks.Laws.{placed_payload, placed-numbers, placed-address}
 use borrow.Author.Rules.{rules}
 use Rattle.uf2_checks.proofs.block_checks.fits_place.Statement.{statement}
 use Rattle.uf2_checks.proofs.block_checks.fits_place.Tie as tie
@@ -10,7 +10,7 @@ cast-if1 : tie.Need-overflow-cast-if1
 cast-if1 c = search rules
 
 returns : tie.Need-returns
-returns c = sym (placed-payload _ _ _ _ (omega arith))
+returns c = sym (placed_payload _ _ _ _ (omega arith))
 
 bad-numbers-requires : tie.Need-bad-numbers-requires
 bad-numbers-requires c κs = search rules

@@ -1,6 +1,6 @@
 -- `blockkind::window_of` meets its contract. Assumes nothing.
 use mathlib.Core.Path.{sym, ◌∙◌}
-use Rattle.uf2_checks.proofs.Laws.{window-flash, window-main, window-xip, window-none}
+use Rattle.uf2_checks.proofs.Laws.{window_flash, window-main, window-xip, window-none}
 use borrow.Author.Rules.{rules}
 use Rattle.uf2_checks.proofs.block_kind.window_of.Statement.{statement}
 use Rattle.uf2_checks.proofs.block_kind.window_of.Tie as tie
@@ -9,7 +9,7 @@ in-window-requires : tie.Need-in-window-requires
 in-window-requires c κs = search rules
 
 returns : tie.Need-returns
-returns c = sym (window-flash _ _ (sym c.before.in_window.ensures ∙ c.if1.true))
+returns c = sym (window_flash _ _ (sym c.before.in_window.ensures ∙ c.if1.true))
 
 in-window-requires-2 : tie.Need-in-window-requires-2
 in-window-requires-2 c κs = search rules

@@ -1,7 +1,7 @@
 -- `deeds::stands_in` meets its contract. Assumes nothing.
 use mathlib.Core.Path.{sym, ◌∙◌}
 use borrow.Author.Tests.{not-true, not-false}
-use Rattle.uf2_decide.proofs.deeds.Laws.{stands-bare, stands-bad, stands_good}
+use Rattle.uf2_decide.proofs.deeds.Laws.{stands_bare, stands-bad, stands_good}
 use borrow.Author.Rules.{rules}
 use Rattle.uf2_decide.proofs.deeds.stands_in.Statement.{statement}
 use Rattle.uf2_decide.proofs.deeds.stands_in.Tie as tie
@@ -10,7 +10,7 @@ has-region-requires : tie.Need-has-region-requires
 has-region-requires c κs = search rules
 
 returns : tie.Need-returns
-returns c = stands-bare _ _ _ _ (sym c.before.has-region.ensures ∙ not-true _ c.if1.true)
+returns c = stands_bare _ _ _ _ (sym c.before.has-region.ensures ∙ not-true _ c.if1.true)
 
 read-region-requires : tie.Need-read-region-requires
 read-region-requires c κs = search rules

@@ -1,6 +1,6 @@
 -- `settling::settle` meets its contract. Assumes nothing.
 use Rattle.laws.proofs.Numbered.{answer_is}
-use Rattle.uf2_decide.proofs.settling.Laws.{settled-stays, settled-accepts}
+use Rattle.uf2_decide.proofs.settling.Laws.{settled_stays, settled_accepts}
 use borrow.Author.Rules.{rules}
 use Rattle.uf2_decide.proofs.settling.settle.Statement.{statement}
 use Rattle.uf2_decide.proofs.settling.settle.Tie as tie
@@ -24,13 +24,13 @@ accept-requires : tie.Need-accept-requires
 accept-requires c κs = search rules
 
 returns : tie.Need-returns
-returns c = settled-stays _ c.before.before.before.before.before.before.before.before.before.before.args.placed _ _ c.before.before.before.before.marked.ensures (answer_is c.before.before.before.step.ensures) c.before.trial.given.1
+returns c = settled_stays _ c.before.before.before.before.before.before.before.before.before.before.args.placed _ _ c.before.before.before.before.marked.ensures (answer_is c.before.before.before.step.ensures) c.before.trial.given.1
 
 returns-2 : tie.Need-returns-2
 returns-2 c =
     let trial = c.before.before in
     let stepped = trial.before.before in
-    settled-accepts _ _ _ _ stepped.before.marked.ensures (answer_is stepped.step.ensures) trial.trial2.given.1 c.accept.ensures
+    settled_accepts _ _ _ _ stepped.before.marked.ensures (answer_is stepped.step.ensures) trial.trial2.given.1 c.accept.ensures
 
 pub settle-spec : {M : Type 1} → statement M
 settle-spec =

@@ -3,7 +3,7 @@ use mathlib.Core.Path.{refl, sym, ap, ◌∙◌}
 use native.Mathlib.Omega.{arith}
 use Rattle.laws.specs.Numbered.{numbered}
 use Rattle.uf2_make.specs.Uf2check.{make_number}
-use Rattle.uf2_make.proofs.checks.Checks.{start_low, image-bad, start-bad, past, short, passes}
+use Rattle.uf2_make.proofs.checks.Checks.{start_low, image_bad, start-bad, past, short, passes}
 use borrow.Author.Rules.{rules}
 use Rattle.uf2_make.proofs.checks.check.Statement.{statement}
 use Rattle.uf2_make.proofs.checks.check.Tie as tie
@@ -12,7 +12,7 @@ bad-image-requires : tie.Need-bad-image-requires
 bad-image-requires c κs = search rules
 
 returns : tie.Need-returns
-returns c = ap (numbered make_number) (image-bad _ _ _ (sym c.before.bad_image_lem.ensures ∙ c.if1.true))
+returns c = ap (numbered make_number) (image_bad _ _ _ (sym c.before.bad_image_lem.ensures ∙ c.if1.true))
 
 bad-start-requires : tie.Need-bad-start-requires
 bad-start-requires c κs = search rules

@@ -1,15 +1,15 @@
 -- `uf2block::write_block` meets its contract. Assumes nothing.
 use native.Mathlib.Omega.{arith}
-use Rattle.uf2_make.proofs.page_block.Blocks.{other-output, other-page, one_block}
+use Rattle.uf2_make.proofs.page_block.Blocks.{other_output, other_page, one_block}
 use borrow.Author.Rules.{rules}
 use Rattle.uf2_make.proofs.page_block.write_block.Statement.{statement}
 use Rattle.uf2_make.proofs.page_block.write_block.Tie as tie
 
 returns : tie.Need-returns
-returns c = other-output _ _ _ _ _ _ (λ e. omega (arith, e))
+returns c = other_output _ _ _ _ _ _ (λ e. omega (arith, e))
 
 returns-2 : tie.Need-returns-2
-returns-2 c = other-page _ _ _ _ _ _ (λ e. omega (arith, e))
+returns-2 c = other_page _ _ _ _ _ _ (λ e. omega (arith, e))
 
 put-block-requires : tie.Need-put-block-requires
 put-block-requires c κs = search rules

@@ -3,7 +3,7 @@ use mathlib.Core.Path.{◌≡◌, sym, ap, ◌∙◌}
 use mathlib.Core.List.{List}
 use Prim.Native.Nat.{ℕ}
 use Rattle.md5_digest.specs.Md5.{md5_of}
-use Rattle.uf2_make_regions.proofs.sector.Laws.{blank, placed-over, placed-long}
+use Rattle.uf2_make_regions.proofs.sector.Laws.{blank, placed_over, placed_long}
 use borrow.Author.Rules.{rules}
 use Rattle.uf2_make_regions.proofs.sector.placed.Statement.{statement}
 use Rattle.uf2_make_regions.proofs.sector.placed.Tie as tie
@@ -39,7 +39,7 @@ slice-aggregate-hash : tie.Need-slice-aggregate-hash
 slice-aggregate-hash c =
     let a = c.before.before.before.before.before.before.args in
     let p = c.before.before.before.before.before.before.requires in
-    sym (placed-long a.image.now a.at a.from a.count p.0 p.1 blank c.before.before.copy.ensures.1)
+    sym (placed_long a.image.now a.at a.from a.count p.0 p.1 blank c.before.before.copy.ensures.1)
 
 hash-requires : tie.Need-hash-requires
 hash-requires c κs = search rules
@@ -48,7 +48,7 @@ returns : tie.Need-returns
 returns c =
     let a = c.before.before.before.before.before.before.before.args in
     let p = c.before.before.before.before.before.before.before.requires in
-    c.hash.ensures ∙ ap (λ (l : List ℕ). md5_of l) (placed-over a.image.now a.at a.from a.count p.0 p.1 blank c.before.before.before.copy.ensures.1)
+    c.hash.ensures ∙ ap (λ (l : List ℕ). md5_of l) (placed_over a.image.now a.at a.from a.count p.0 p.1 blank c.before.before.before.copy.ensures.1)
 
 pub placed-spec : {M : Type 1} → statement M
 placed-spec =

@@ -4,16 +4,16 @@ use native.Mathlib.Omega.{arith}
 use Rattle.laws.specs.Numbered.{numbered}
 use Rattle.uf2_tags.specs.declared.one_tag.Answer.TheVariants.{Tag as a-tag}
 use Rattle.uf2_tags.specs.Tag.{answer_number}
-use Rattle.uf2_tags.proofs.one_tag.Laws.{sized-end, sized-typed, sized-small, sized_past, sized-tag}
+use Rattle.uf2_tags.proofs.one_tag.Laws.{sized_end, sized_typed, sized-small, sized_past, sized-tag}
 use borrow.Author.Rules.{rules}
 use Rattle.uf2_tags.proofs.one_tag.tag_sized.Statement.{statement}
 use Rattle.uf2_tags.proofs.one_tag.tag_sized.Tie as tie
 
 returns : tie.Need-returns
-returns c = ap (numbered answer_number) (sized-end _ _ _ _ (omega arith) (omega arith))
+returns c = ap (numbered answer_number) (sized_end _ _ _ _ (omega arith) (omega arith))
 
 returns-2 : tie.Need-returns-2
-returns-2 c = ap (numbered answer_number) (sized-typed _ _ _ _ (omega arith) (omega arith))
+returns-2 c = ap (numbered answer_number) (sized_typed _ _ _ _ (omega arith) (omega arith))
 
 returns-3 : tie.Need-returns-3
 returns-3 c = ap (numbered answer_number) (sized-small _ _ _ _ (omega arith) (omega arith))

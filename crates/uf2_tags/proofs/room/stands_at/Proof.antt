@@ -1,7 +1,7 @@
 -- `tagroom::stands_at` meets its contract. Assumes nothing.
 use mathlib.Core.Path.{◌∙◌}
 use native.Mathlib.Omega.{arith}
-use Rattle.uf2_tags.proofs.room.Laws.{place_test_lem, stands-place, stands-none, stands-tag}
+use Rattle.uf2_tags.proofs.room.Laws.{place_test_lem, stands_place, stands-none, stands-tag}
 use borrow.Author.Rules.{rules}
 use Rattle.uf2_tags.proofs.room.stands_at.Statement.{statement}
 use Rattle.uf2_tags.proofs.room.stands_at.Tie as tie
@@ -13,7 +13,7 @@ bad-place-requires : tie.Need-bad-place-requires
 bad-place-requires c κs = search rules
 
 returns : tie.Need-returns
-returns c = stands-place _ _ (place_test_lem _ c.before.before.first-place.ensures c.before.bad-place.ensures c.if1.true)
+returns c = stands_place _ _ (place_test_lem _ c.before.before.first-place.ensures c.before.bad-place.ensures c.if1.true)
 
 room-end-requires : tie.Need-room-end-requires
 room-end-requires c κs = search rules

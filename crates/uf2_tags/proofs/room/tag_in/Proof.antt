@@ -4,7 +4,7 @@ use Prim.Native.Nat.{ℕ, ◌/◌, ◌%◌}
 use native.Mathlib.Omega.{arith}
 use Rattle.laws.proofs.Numbered.{answer_is}
 use Rattle.uf2_tags.proofs.one_tag.Laws.{sized_same}
-use Rattle.uf2_tags.proofs.room.Laws.{head-size, head-kind}
+use Rattle.uf2_tags.proofs.room.Laws.{head_size, head_kind}
 use borrow.Author.Rules.{rules}
 use Rattle.uf2_tags.proofs.room.tag_in.Statement.{statement}
 use Rattle.uf2_tags.proofs.room.tag_in.Tie as tie
@@ -33,8 +33,8 @@ returns c =
     let at = start.args.at in
     let low = known.shared-slice-known.given at in
     answer_is c.tag-sized.ensures
-    ∙ sized_same at _ (ap (λ (n : ℕ). n % 256) head.field.ensures ∙ head-size b at (omega arith) (omega (arith, low)))
-    (ap (λ (n : ℕ). n / 256) head.field.ensures ∙ head-kind b at (omega arith) (omega (arith, low)))
+    ∙ sized_same at _ (ap (λ (n : ℕ). n % 256) head.field.ensures ∙ head_size b at (omega arith) (omega (arith, low)))
+    (ap (λ (n : ℕ). n / 256) head.field.ensures ∙ head_kind b at (omega arith) (omega (arith, low)))
 
 pub tag-in-spec : {M : Type 1} → statement M
 tag-in-spec = tie.close (tie.spec field-requires cast-size cast-tag-sized cast-tag-sized-2 tag-sized-requires returns)

@@ -1,5 +1,5 @@
 -- `sections::put_section` meets its contract. Assumes nothing.
-use Rattle.uhex_join.proofs.sections.Sectioned.{body_length, section-put}
+use Rattle.uhex_join.proofs.sections.Sectioned.{body_length, section_put}
 use Rattle.ihex_data.specs.Pieces.{pieces_of}
 use borrow.Author.Rules.{rules}
 use Rattle.uhex_join.proofs.sections.put_section.Statement.{statement}
@@ -45,7 +45,7 @@ returns : tie.Need-returns
 returns c =
     let a = c.before.before.before.before.before.before.before.before.before.before.before.before.before.before.before.before.before.before.before.before.args in
     let body = c.before.before.before.before.before.before.before.before.put-body.ensures in
-    section-put a.board a.kind a.first (pieces_of a.text.now) a.out.now a.at (body_length _ _ body.0) c.before.before.before.before.before.before.before.before.before.before.before.before.before.before.before.before.put_word.ensures c.before.before.before.before.before.before.before.before.before.before.before.before.put-word2.ensures body.1.1 c.before.before.before.put_fill.ensures c.missing-after.ensures
+    section_put a.board a.kind a.first (pieces_of a.text.now) a.out.now a.at (body_length _ _ body.0) c.before.before.before.before.before.before.before.before.before.before.before.before.before.before.before.before.put_word.ensures c.before.before.before.before.before.before.before.before.before.before.before.before.put-word2.ensures body.1.1 c.before.before.before.put_fill.ensures c.missing-after.ensures
 
 pub put-section-spec : {M : Type 1} → statement M
 put-section-spec =

@@ -2,7 +2,7 @@
 use mathlib.Core.Path.{sym, ◌∙◌}
 use borrow.Author.Tests.{eq-eqb, ne_eqb, lt-leb}
 use Rattle.uhex_layout.specs.Readers.{reader_from}
-use Rattle.uhex_layout.proofs.Read.{read-good}
+use Rattle.uhex_layout.proofs.Read.{read_good}
 use borrow.Author.Rules.{rules}
 use Rattle.uhex_layout.proofs.reading.read_reader.Statement.{statement}
 use Rattle.uhex_layout.proofs.reading.read_reader.Tie as tie
@@ -28,7 +28,7 @@ fields-requires : tie.Need-fields-requires
 fields-requires c κs = c.before.before.if1.false
 
 returns-3 : tie.Need-returns-3
-returns-3 c = c.fields.ensures ∙ sym (read-good _ c.before.before.before.if1.false c.before.if2.false)
+returns-3 c = c.fields.ensures ∙ sym (read_good _ c.before.before.before.if1.false c.before.if2.false)
 
 pub read-reader-spec : {M : Type 1} → statement M
 read-reader-spec =

@@ -2,10 +2,10 @@
 use mathlib.Core.Path.{sym, ap, ◌∙◌}
 use native.Mathlib.Omega.{arith}
 use Rattle.ihex_record.specs.declared.Line.{Line}
-use Rattle.ihex_record.proofs.Good.{good-len}
+use Rattle.ihex_record.proofs.Good.{good_len}
 use Rattle.uhex_reader.specs.Live.{parsed_line}
 use Rattle.uhex_reader.proofs.live.Laws.{live_too_long, live_refused, live_by}
-use Rattle.uhex_reader.proofs.replies.Laws.{line_fails, bounded-fits}
+use Rattle.uhex_reader.proofs.replies.Laws.{line_fails, bounded_fits}
 use borrow.Author.Rules.{rules}
 use Rattle.uhex_reader.proofs.live.live.Statement.{statement}
 use Rattle.uhex_reader.proofs.live.live.Tie as tie
@@ -57,8 +57,8 @@ unfolding parsed_line
 returns-4 c =
     let read = c.before.before.before.before.before.before.before.before.read.ensures.0 in
     let told = c.before.before.before.before.before.before.parsed.given.1 in
-    let len = good-len _ _ (ap (λ (x : Line). x.parsed) (sym read) ∙ told) in
-    live_by _ _ _ _ _ _ (omega arith) read told (c.before.before.apply.ensures ∙ bounded-fits _ _ _ _ _ len)
+    let len = good_len _ _ (ap (λ (x : Line). x.parsed) (sym read) ∙ told) in
+    live_by _ _ _ _ _ _ (omega arith) read told (c.before.before.apply.ensures ∙ bounded_fits _ _ _ _ _ len)
 
 pub live-spec : {M : Type 1} → statement M
 live-spec =

@@ -4,7 +4,7 @@ use mathlib.Core.Bool.{not}
 use borrow.Author.Tests.{eq-eqb, ne_eqb}
 use Rattle.why_causes.specs.Checks.{by_numbers, row_of}
 use Rattle.why_causes.specs.Lengths.{flash_row, lengths_row}
-use Rattle.why_causes.proofs.Rows.{row-later, row-decides, row-passes}
+use Rattle.why_causes.proofs.Rows.{row_later, row-decides, row-passes}
 use borrow.Author.Rules.{rules}
 use Rattle.why_causes.proofs.lengths.lengths_row.Statement.{statement}
 use Rattle.why_causes.proofs.lengths.lengths_row.Tie as tie
@@ -24,7 +24,7 @@ enum-known-r c = search rules
 
 returns-2 : tie.Need-returns-2
 unfolding lengths_row
-returns-2 c = row-later by_numbers _ _ (ap not (eq-eqb _ _ c.before.before.before.before.if1.false)) (row-decides by_numbers (flash_row c.before.before.before.before.before.args.lens.flash) _ c.before.before.before.flash-row.ensures c.before.r.given.1)
+returns-2 c = row_later by_numbers _ _ (ap not (eq-eqb _ _ c.before.before.before.before.if1.false)) (row-decides by_numbers (flash_row c.before.before.before.before.before.args.lens.flash) _ c.before.before.before.flash-row.ensures c.before.r.given.1)
 
 enum_told : tie.Need-enum-told
 enum_told c = search rules
@@ -34,7 +34,7 @@ buffer-row-requires c κs = search rules
 
 returns-3 : tie.Need-returns-3
 unfolding lengths_row
-returns-3 c = row-later by_numbers _ _ (ap not (eq-eqb _ _ c.before.before.before.before.if1.false)) (row-passes by_numbers (flash_row c.before.before.before.before.before.args.lens.flash) _ c.before.before.before.flash-row.ensures c.before.enum_told.given.1 c.buffer-row.ensures)
+returns-3 c = row_later by_numbers _ _ (ap not (eq-eqb _ _ c.before.before.before.before.if1.false)) (row-passes by_numbers (flash_row c.before.before.before.before.before.args.lens.flash) _ c.before.before.before.flash-row.ensures c.before.enum_told.given.1 c.buffer-row.ensures)
 
 pub lengths-row-spec : {M : Type 1} → statement M
 lengths-row-spec =

@@ -1,5 +1,5 @@
 -- `progress::is_again` meets its contract. Assumes nothing.
-use Rattle.why_causes.proofs.progress.Laws.{again-running}
+use Rattle.why_causes.proofs.progress.Laws.{again_running}
 use borrow.Author.Rules.{rules}
 use Rattle.why_causes.proofs.progress.is_again.Statement.{statement}
 use Rattle.why_causes.proofs.progress.is_again.Tie as tie
@@ -20,7 +20,7 @@ returns : tie.Need-returns
 returns c = search rules
 
 returns-2 : tie.Need-returns-2
-returns-2 c = rw c.before.before.before.state.given.1 (again-running _ _ _ c.same_head.ensures)
+returns-2 c = rw c.before.before.before.state.given.1 (again_running _ _ _ c.same_head.ensures)
 
 returns-3 : tie.Need-returns-3
 returns-3 c = search rules

@@ -1,7 +1,7 @@
 -- `progress::raised` meets its contract. Assumes nothing.
 use mathlib.Core.Path.{sym, ◌∙◌}
 use Rattle.why_causes.specs.Progress.{raised_of}
-use Rattle.why_causes.proofs.progress.Laws.{raised-same, raised-other}
+use Rattle.why_causes.proofs.progress.Laws.{raised_same, raised_other}
 use borrow.Author.Rules.{rules}
 use Rattle.why_causes.proofs.progress.raised.Statement.{statement}
 use Rattle.why_causes.proofs.progress.raised.Tie as tie
@@ -22,7 +22,7 @@ add-result : tie.Need-overflow-add-result
 add-result c = search rules
 
 returns : tie.Need-returns
-returns c = rw c.before.before.before.before.before.state.given.1 (raised-same _ _ (sym c.before.before.same_head.ensures ∙ c.before.if1.true))
+returns c = rw c.before.before.before.before.before.state.given.1 (raised_same _ _ (sym c.before.before.same_head.ensures ∙ c.before.if1.true))
 
 enum-told-2 : tie.Need-enum-told-2
 enum-told-2 c = search rules
@@ -32,7 +32,7 @@ unfolding raised_of
 returns-2 c = rw c.enum_told.given.1
 
 returns-3 : tie.Need-returns-3
-returns-3 c = rw c.before.before.before.before.state.given.1 (raised-other _ _ (sym c.before.same_head.ensures ∙ c.if1.false))
+returns-3 c = rw c.before.before.before.before.state.given.1 (raised_other _ _ (sym c.before.same_head.ensures ∙ c.if1.false))
 
 returns-4 : tie.Need-returns-4
 unfolding raised_of

@@ -1,5 +1,5 @@
 -- `progress::runs_other` meets its contract. Assumes nothing.
-use Rattle.why_causes.proofs.progress.Laws.{other-running}
+use Rattle.why_causes.proofs.progress.Laws.{other_running}
 use borrow.Author.Rules.{rules}
 use Rattle.why_causes.proofs.progress.runs_other.Statement.{statement}
 use Rattle.why_causes.proofs.progress.runs_other.Tie as tie
@@ -20,7 +20,7 @@ returns : tie.Need-returns
 returns c = search rules
 
 returns-2 : tie.Need-returns-2
-returns-2 c = rw c.before.before.before.state.given.1 (other-running _ _ c.same_head.ensures)
+returns-2 c = rw c.before.before.before.state.given.1 (other_running _ _ c.same_head.ensures)
 
 returns-3 : tie.Need-returns-3
 returns-3 c = search rules

@@ -5,9 +5,9 @@ use mathlib.Core.Bool.{false}
 use native.Mathlib.Omega.{arith}
 use lib.ListN.{length-map}
 use Rattle.laws.specs.Sets.{any}
-use Rattle.laws.proofs.Laws.{any-zero, any-more, least-is, least-none}
+use Rattle.laws.proofs.Laws.{any_zero, any_more, least_is, least_none}
 use Rattle.partitions.specs.Settings.{overlap_at, shares_with}
-use Rattle.why_settings.proofs.sharing.Laws.{other-shares, least-own-past, least-past}
+use Rattle.why_settings.proofs.sharing.Laws.{other_shares, least-own-past, least-past}
 use borrow.Author.Rules.{rules}
 use Rattle.why_settings.proofs.sharing.first_other.Statement.{statement}
 use Rattle.why_settings.proofs.sharing.first_other.Tie as tie
@@ -40,7 +40,7 @@ element-copy-out-sectors : tie.Need-element-copy-out-sectors invariant-loop decr
 element-copy-out-sectors c = search rules
 
 loop-holds : tie.Need-loop-init invariant-loop decreases-loop
-loop-holds c = (search rules, any-zero _)
+loop-holds c = (search rules, any_zero _)
 
 returns-2 : tie.Need-returns-2 invariant-loop decreases-loop
 returns-2 c =
@@ -64,8 +64,8 @@ returns-3 c =
     let s = c.before.before.before.before.before.before.before.args in
     let j = c.before.before.before.before.before.loop.j in
     sym
-    (least-is _ _ _ c.before.before.before.before.loop-test.true c.before.before.before.before.before.loop.invariant.1
-    (other-shares s.t1.table s.k j c.before.sectors-overlap.ensures c.if3.true))
+    (least_is _ _ _ c.before.before.before.before.loop-test.true c.before.before.before.before.before.loop.invariant.1
+    (other_shares s.t1.table s.k j c.before.sectors-overlap.ensures c.if3.true))
 
 add-j : tie.Need-overflow-add-j invariant-loop decreases-loop
 add-j c = search rules
@@ -79,11 +79,11 @@ loop-again c =
     let s = c.before.before.before.before.before.before.before.args in
     let j = c.before.before.before.before.before.loop.j in (
       search rules,
-      any-more _ _ c.before.before.before.before.before.loop.invariant.1 (other-shares s.t1.table s.k j c.before.sectors-overlap.ensures c.if3.false),
+      any_more _ _ c.before.before.before.before.before.loop.invariant.1 (other_shares s.t1.table s.k j c.before.sectors-overlap.ensures c.if3.false),
     )
 
 returns-4 : tie.Need-returns-4 invariant-loop decreases-loop
-returns-4 c = let e : c.before.loop.j ≡ c.before.before.before.args.t1.count = omega arith in sym (least-none _ _ (rw e at c.before.loop.invariant.1))
+returns-4 c = let e : c.before.loop.j ≡ c.before.before.before.args.t1.count = omega arith in sym (least_none _ _ (rw e at c.before.loop.invariant.1))
 
 pub first-other-spec : {M : Type 1} → statement M
 first-other-spec =

@@ -1,5 +1,5 @@
 -- `whybytes::tell` meets its contract. Assumes nothing.
-use Rattle.whyapi.proofs.reason_bytes.Laws.{why-told}
+use Rattle.whyapi.proofs.reason_bytes.Laws.{why_told}
 use borrow.Author.Rules.{rules}
 use Rattle.whyapi.proofs.reason_bytes.tell.Statement.{statement}
 use Rattle.whyapi.proofs.reason_bytes.tell.Tie as tie
@@ -26,7 +26,7 @@ same_length : tie.Need-same-length
 same_length c = search rules
 
 returns : tie.Need-returns
-returns c = why-told _ _ _ _ c.before.before.before.before.before.before.told_of.ensures c.before.before.before.before.before.before.before.before.answer.ensures c.before.before.before.before.before.before.before.number.ensures c.before.before.before.before.before.byte-told.ensures c.before.before.before.put-told.ensures c.returned.ensures
+returns c = why_told _ _ _ _ c.before.before.before.before.before.before.told_of.ensures c.before.before.before.before.before.before.before.before.answer.ensures c.before.before.before.before.before.before.before.number.ensures c.before.before.before.before.before.byte-told.ensures c.before.before.before.put-told.ensures c.returned.ensures
 
 pub tell-spec : {M : Type 1} → statement M
 tell-spec = tie.close (tie.spec answer-requires number-requires told-of-requires byte-told-requires put-told-requires returned-requires same_length returns)

@@ -1,5 +1,5 @@
 -- `whybytes::tell_place` meets its contract. Assumes nothing.
-use Rattle.whyapi.proofs.reason_bytes.Laws.{place-told}
+use Rattle.whyapi.proofs.reason_bytes.Laws.{place_told_lem}
 use borrow.Author.Rules.{rules}
 use Rattle.whyapi.proofs.reason_bytes.tell_place.Statement.{statement}
 use Rattle.whyapi.proofs.reason_bytes.tell_place.Tie as tie
@@ -23,7 +23,7 @@ same_length : tie.Need-same-length
 same_length c = search rules
 
 returns : tie.Need-returns
-returns c = place-told _ _ _ c.before.before.before.before.before.before.place-number.ensures c.before.before.before.before.before.place-told.ensures c.before.before.before.before.place-shown.ensures c.before.before.put-told.ensures
+returns c = place_told_lem _ _ _ c.before.before.before.before.before.before.place-number.ensures c.before.before.before.before.before.place_told_lem.ensures c.before.before.before.before.place-shown.ensures c.before.before.put-told.ensures
 
 pub tell-place-spec : {M : Type 1} → statement M
 tell-place-spec =

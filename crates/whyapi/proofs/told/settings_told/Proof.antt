@@ -14,7 +14,7 @@ link-told-requires : tie.Need-link-told-requires
 link-told-requires c κs = search rules
 
 returns-2 : tie.Need-returns-2
-returns-2 c = whole_told _ _ c.before.if1.false c.link-told.ensures
+returns-2 c = whole_told _ _ c.before.if1.false c.link_told_lem.ensures
 
 pub settings-told-spec : {M : Type 1} → statement M
 settings-told-spec = tie.close (tie.spec told-with-requires returns link-told-requires returns-2)
