@@ -13,7 +13,7 @@ use uf2_commit::receipts::PlanReceipt;
 pub const PLAN: usize = 12;
 
 // A plan as numbers: the deed's, where its sector begins, and where its page does.
-#[derive(Drop)]
+#[derive(Clone, Copy)]
 struct Words {
     deed: u32,
     sector: u32,

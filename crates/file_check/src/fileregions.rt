@@ -6,7 +6,7 @@ use crate::Checked;
 
 // What a file comes to that may name regions. `As` is the answer of the first check, where that is not `Guarded`. The first number is the piece that
 // names the region; the second is another piece in the region, or a sector of the region counted from 0.
-#[derive(Drop)]
+#[derive(Clone, Copy)]
 pub enum RegionsChecked {
     As(Checked),
     OtherRegion(usize, usize),

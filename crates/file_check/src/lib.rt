@@ -10,7 +10,7 @@ use transfer::Answer;
 
 // What a file comes to. Of the numbers the first is the piece, and of two the second is the earlier piece that it collides with; of `Missing` it is
 // the number of a block.
-#[derive(Drop)]
+#[derive(Clone, Copy)]
 pub enum Checked {
     BadBuffers,
     BadSettings,

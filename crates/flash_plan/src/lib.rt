@@ -8,7 +8,7 @@ ghost use Rattle.flash_plan.specs.Plan.{plan_number, performed, sector_paged, se
 use memory::flash::Flash;
 
 // What is left to do to the flash: nothing; the arrival's payload is programmed at an address; its sector is erased before.
-#[derive(Drop)]
+#[derive(Clone, Copy)]
 pub enum Plan {
     Nothing,
     Program(usize),

@@ -53,7 +53,7 @@ fn add(waiting: &mut [u8], used: usize, index: u64, answer: Answer) -> usize
     let n = text::hex_answer::hex_answer_line(&mut text, index, answer);
     let at = room(waiting, used, n);
     let e = at + n;
-    bytes::copy(&text[..n], &mut waiting[at..e]);
+    waiting[at..e].copy_from_slice(&text[..n]);
     e
 }
 

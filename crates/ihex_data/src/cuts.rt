@@ -7,7 +7,7 @@ const REACH: usize = 65536;
 
 // What is known of the pieces so far: whether there is one, the upper half of the first and of the latest, and how many characters their lines
 // have.
-#[derive(Drop)]
+#[derive(Clone, Copy)]
 pub struct Tally {
     pub some: bool,
     pub first: usize,

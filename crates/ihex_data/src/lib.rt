@@ -19,7 +19,7 @@ use uhex_grammar::Answer;
 
 // What a plain file comes to: whether it is fine, the upper half of its first data's address, and how many characters the lines of its data
 // have.
-#[derive(Drop)]
+#[derive(Clone, Copy)]
 pub struct Body {
     pub verdict: Verdict,
     pub first: usize,
@@ -27,14 +27,14 @@ pub struct Body {
 }
 
 // Where the reading of a plain file stands, and what is known of its pieces.
-#[derive(Drop)]
+#[derive(Clone, Copy)]
 struct Scan {
     plain: Plain,
     tally: Tally,
 }
 
 // What a line comes to: reading goes on, or the line is refused.
-#[derive(Drop)]
+#[derive(Clone, Copy)]
 enum Step {
     On(Scan),
     Stop(Answer),

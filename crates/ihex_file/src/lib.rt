@@ -15,7 +15,7 @@ use uhex_grammar::Answer;
 
 // Where the reading of a plain file stands: the bytes read so far, the address that the latest 02 or 04 gives, and whether the 01 has been
 // read.
-#[derive(Drop)]
+#[derive(Clone, Copy)]
 pub struct Plain {
     pub offset: u32,
     pub base: u32,
@@ -23,7 +23,7 @@ pub struct Plain {
 }
 
 // What a line of a plain file is: refused; a record with no data byte; or data, at a linear address, and how many bytes.
-#[derive(Drop)]
+#[derive(Clone, Copy)]
 pub enum LineReading {
     Refused(Answer),
     Passed(Plain),
@@ -31,7 +31,7 @@ pub enum LineReading {
 }
 
 // Whether a plain file is fine, or at which line, by its index from 0, it is refused, and with which answer.
-#[derive(Drop)]
+#[derive(Clone, Copy)]
 pub enum Verdict {
     Fine,
     Bad(u32, Answer),

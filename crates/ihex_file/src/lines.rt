@@ -11,9 +11,8 @@ pub fn line_end(text: &[u8], at: usize) -> usize
     if text.len() <= at {
         return text.len();
     }
-    let found = bytes::scan::find(text, at, text.len(), b'\n');
-    if found < text.len() {
-        return found + 1;
+    match text[at..].iter().position(|x| *x == b'\n') {
+        Some(found) => at + found + 1,
+        None => text.len(),
     }
-    found
 }

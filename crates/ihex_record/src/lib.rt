@@ -8,7 +8,7 @@ ghost use Rattle.std.specs.Prelude.{◌≡◌, ◌%◌, ◌≤◌, length};
 ghost use Rattle.ihex_record.specs.Record.{text_len, total, word_from, refused, parsed_number};
 
 // A good record: its type, its address field, and how many bytes of data it has.
-#[derive(Drop)]
+#[derive(Clone, Copy)]
 pub struct Record {
     pub kind: u8,
     pub address: u16,
@@ -16,7 +16,7 @@ pub struct Record {
 }
 
 // A record, or the first check that a line fails.
-#[derive(Drop)]
+#[derive(Clone, Copy)]
 pub enum ParseResult {
     Good(Record),
     NoColon,
@@ -29,7 +29,7 @@ pub enum ParseResult {
 }
 
 // What a line says. A record's data is the first `len` bytes; the rest are 0.
-#[derive(Drop)]
+#[derive(Clone, Copy)]
 pub struct Line {
     pub parsed: ParseResult,
     pub data: [u8; Record::MAX],
@@ -106,7 +106,7 @@ pub fn sum(bytes: &[u8]) -> u8
     let mut s: u8 = 0;
     let mut i = 0;
     while i < bytes.len() {
-        s = std::num::wrapping_add_u8(s, bytes[i]);
+        s = s.wrapping_add(bytes[i]);
         i += 1;
     }
     s

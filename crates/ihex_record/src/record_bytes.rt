@@ -15,7 +15,7 @@ fn good_line(bytes: &[u8], used: usize) -> Line
     let address = crate::word(bytes[1], bytes[2]);
     let e = used + 4;
     let mut data = [0u8; Record::MAX];
-    bytes::copy(&bytes[4..e], &mut data);
+    data[..used].copy_from_slice(&bytes[4..e]);
     Line {
         parsed: ParseResult::Good(Record { kind, address, len }),
         data,

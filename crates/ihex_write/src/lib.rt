@@ -49,8 +49,8 @@ fn put_line(out: &mut [u8], at: usize, kind: u8, address: u16, data: &[u8])
         (address % 256) as u8,
         kind,
     ];
-    let sum = std::num::wrapping_add_u8(ihex_record::sum(&head), ihex_record::sum(data));
-    let check = std::num::wrapping_sub_u8(0, sum);
+    let sum = ihex_record::sum(&head).wrapping_add(ihex_record::sum(data));
+    let check = 0u8.wrapping_sub(sum);
     let digits = at + 1;
     let rest = at + 9;
     let tail = rest + 2 * data.len();

@@ -8,7 +8,7 @@ ghost use Rattle.laws.specs.Bytes.{low_first, number_in};
 ghost use Rattle.md5_digest.specs.Md5.{sines, shifts, rotate_left, f_of, g_of, h_of, i_of, operation_of, block_of, blocks_of, pad_with, pad_of, md5_of};
 
 // The four words A, B, C, D: of the digest, and of the buffer on the way to it.
-#[derive(Drop)]
+#[derive(Clone, Copy)]
 pub struct Digest {
     pub a: u32,
     pub b: u32,
@@ -20,7 +20,7 @@ pub struct Digest {
 fn sum(a: u32, b: u32) -> u32
     ensures { result ≡ (a + b) % 2 ^ 32 }
 {
-    std::num::wrapping_add_u32(a, b)
+    a.wrapping_add(b)
 }
 
 fn rotate_left(x: u32, n: u32) -> u32
@@ -180,7 +180,8 @@ fn last(rest: &[u8], n: usize, e: usize, s: Digest) -> Digest
     ensures { result ≡ blocks_of (rest.now ++ pad_with (e - 1 - n % 64) n) s ((e + 8) / 64) }
 {
     let mut tail = [0u8; 128];
-    let r = bytes::copy(rest, &mut tail);
+    let r = rest.len();
+    tail[..r].copy_from_slice(rest);
     tail[r] = 128;
     let f = e + 8;
     put_bits(&mut tail[e..f], n);

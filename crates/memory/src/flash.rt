@@ -3,7 +3,7 @@ ghost use Rattle.std.specs.Prelude.{◌≡◌};
 ghost use Rattle.memory.specs.Flash.{flash_length, erase_at, payload_of, store_at};
 
 // A flash by its length. It names the sizes; the bytes themselves are lent as a slice.
-#[derive(Drop)]
+#[derive(Clone, Copy)]
 pub struct Flash {
     pub len: usize,
 }
@@ -59,5 +59,5 @@ pub fn store(flash: &mut [u8], at: usize, arrival: &[u8])
     if flash.len() < e {
         return;
     }
-    bytes::copy(&arrival[Flash::FROM..Flash::TO], &mut flash[at..e]);
+    flash[at..e].copy_from_slice(&arrival[Flash::FROM..Flash::TO]);
 }

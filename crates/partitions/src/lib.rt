@@ -11,20 +11,20 @@ ghost use Rattle.partitions.specs.Parts.{alone_bad};
 use memory::flash::Flash;
 
 // What an entry is linked to (01's terms: owned by, B of).
-#[derive(Drop)]
+#[derive(Clone, Copy)]
 pub enum Link {
     Unlinked,
     OwnedBy(u8),
     BOf(u8),
 }
 
-#[derive(Drop)]
+#[derive(Clone, Copy)]
 pub enum Arch {
     Arm,
     RiscV,
 }
 
-#[derive(Drop)]
+#[derive(Clone, Copy)]
 pub struct Entry {
     pub first: u32,
     pub sectors: u32,
@@ -42,7 +42,7 @@ pub struct Entry {
 }
 
 // The table stands first, so that nothing unused stands before it and settings are copied as one piece.
-#[derive(Drop)]
+#[derive(Clone, Copy)]
 pub struct Settings {
     pub table: [Entry; Settings::ENTRIES],
     pub arm: bool,
@@ -84,7 +84,7 @@ impl Settings {
 }
 
 // The families that have a meaning of their own.
-#[derive(Drop)]
+#[derive(Clone, Copy)]
 pub struct Family {
     pub id: u32,
 }

@@ -23,21 +23,21 @@ use memory::flash::Flash;
 use partitions::{Entry, Family, Settings};
 
 // The place of a family, in bytes (01's term: place).
-#[derive(Drop)]
+#[derive(Clone, Copy)]
 pub enum Place {
     Nowhere,
     At { start: usize, len: usize },
 }
 
 // The entry that the passes choose.
-#[derive(Drop)]
+#[derive(Clone, Copy)]
 pub enum Choice {
     Nothing,
     Entry(usize),
 }
 
 // The answer to a place asked for alone.
-#[derive(Drop)]
+#[derive(Clone, Copy)]
 pub enum PlaceAnswer {
     BadBuffers,
     BadSettings,

@@ -6,7 +6,7 @@ use partitions::{Arch, Entry, Family, Settings};
 
 // What the passes have to know of the settings: the family, the current architecture, and whether the family is its image
 // or, where switching is on, the other's.
-#[derive(Drop)]
+#[derive(Clone, Copy)]
 pub struct PassQuery {
     pub family: u32,
     pub current: Arch,

@@ -9,7 +9,7 @@ use uf2_block::Block;
 use uf2_commit::receipts::Receipt;
 
 // How far the program is after a piece: the transfer, and whether the input may hold more.
-#[derive(Drop)]
+#[derive(Clone, Copy)]
 struct Progress {
     transfer: Transfer,
     more: bool,

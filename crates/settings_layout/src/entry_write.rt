@@ -71,5 +71,5 @@ pub(crate) fn write_entry(bytes: &mut [u8], e: Entry)
     }
     let users = e.users;
     put_numbers(bytes, e.first, e.sectors, users);
-    bytes::copy(&flags(e), &mut bytes[NUMBERS..ENTRY]);
+    bytes[NUMBERS..ENTRY].copy_from_slice(&flags(e));
 }

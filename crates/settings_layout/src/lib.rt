@@ -129,6 +129,6 @@ pub fn write_settings(bytes: &mut [u8], s: Settings)
         return;
     }
     let table = s.table;
-    bytes::copy(&switches(s), &mut bytes[0..HEAD]);
+    bytes[0..HEAD].copy_from_slice(&switches(s));
     write_table(&mut bytes[HEAD..SETTINGS], table);
 }

@@ -31,7 +31,7 @@ const HEAD: usize = 2;
 const ENTRY: usize = 22;
 
 // What is read: settings, or a refusal beside settings that are bad. An enum that would hold the settings is not covered: they hold an array.
-#[derive(Drop)]
+#[derive(Clone, Copy)]
 pub struct Reading {
     pub settings: Settings,
     pub answer: StoreAnswer,
@@ -46,7 +46,7 @@ fn head_in(s: &[u8]) -> u64
 }
 
 // The entries of a store, and whether one of them is no entry of its version.
-#[derive(Drop)]
+#[derive(Clone, Copy)]
 pub struct EntryScan {
     pub table: [Entry; 16],
     pub stray: bool,

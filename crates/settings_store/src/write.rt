@@ -22,7 +22,7 @@ const HEAD: usize = 2;
 
 const ENTRY: usize = 22;
 
-#[derive(Drop)]
+#[derive(Clone, Copy)]
 pub enum StoreAnswer {
     BadBuffers,
     BadSettings,
@@ -81,7 +81,7 @@ fn write_rows(out: &mut [u8], table: [Entry; 16], n: usize)
         let row = store_entry::write::pack(e);
         let a = HEAD + ENTRY * k;
         let z = a + ENTRY;
-        bytes::copy(&row, &mut out[a..z]);
+        out[a..z].copy_from_slice(&row);
         k += 1;
     }
 }

@@ -54,7 +54,7 @@ pub(crate) fn write(h: u64, s: u32, t: u32, y: u32, z: u32, tail: u64) -> [u8; 2
 }
 
 // Fields of 42, 32, 32, 32, 32 and 6 bits.
-#[derive(Drop)]
+#[derive(Clone, Copy)]
 pub struct Chunks {
     pub h: u64,
     pub u: u32,

@@ -21,7 +21,7 @@ pub(crate) fn put(out: &mut [u8], at: usize, part: &[u8]) -> usize
         return at;
     }
     let e = at + part.len();
-    bytes::copy(part, &mut out[at..e]);
+    out[at..e].copy_from_slice(part);
     e
 }
 

@@ -10,7 +10,7 @@ ghost use Rattle.trace_counts.specs.Counts.{fresh_report, sum_to, good_report, w
 use crate::tallies::TALLY;
 
 // The smallest number that is missing at an end, or none.
-#[derive(Drop)]
+#[derive(Clone, Copy)]
 pub enum Missing {
     None,
     Number(u32),
@@ -18,7 +18,7 @@ pub enum Missing {
 
 // Over all traces: the records replayed, how many had each answer (1 to 5, then 7 to 17), and how many discarded; and of the last trace's
 // end, the different numbers marked and the smallest missing.
-#[derive(Drop)]
+#[derive(Clone, Copy)]
 pub struct Report {
     pub records: u32,
     pub counts: [u32; 16],

@@ -18,7 +18,7 @@ fn raise(tally: &mut [usize], at: usize, by: usize)
     ensures { tally.new ≡ raised tally.old at by }
 {
     if at < tally.len() {
-        tally[at] = std::num::wrapping_add_usize(tally[at], by);
+        tally[at] = tally[at].wrapping_add(by);
     }
 }
 

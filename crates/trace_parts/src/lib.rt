@@ -10,7 +10,7 @@ ghost use Rattle.trace_parts.specs.Summing.{plus, summed_to, last_of, joined_by}
 use trace_counts::{Missing, Report};
 
 // What a list of traces comes to: the report over them, how many there are, and how many of them stopped as "bad" and as "differs".
-#[derive(Drop)]
+#[derive(Clone, Copy)]
 pub struct Part {
     pub report: Report,
     pub traces: u32,
@@ -19,7 +19,7 @@ pub struct Part {
 }
 
 // What comes of two parts, or of a report over one trace.
-#[derive(Drop)]
+#[derive(Clone, Copy)]
 pub enum MergeAnswer {
     BadReport,
     TooMany,
@@ -27,7 +27,7 @@ pub enum MergeAnswer {
 }
 
 // What is handed back: the next part, and what came of it.
-#[derive(Drop)]
+#[derive(Clone, Copy)]
 pub struct Merge {
     pub part: Part,
     pub answer: MergeAnswer,

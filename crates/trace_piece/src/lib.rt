@@ -14,7 +14,7 @@ use transfer::Answer;
 pub const RECORD: usize = 513;
 
 // What comes of one piece: it is replayed, or it is no record, or what it records is not what we answer.
-#[derive(Drop)]
+#[derive(Clone, Copy)]
 pub enum PieceAnswer {
     Replayed,
     Bad,
@@ -22,7 +22,7 @@ pub enum PieceAnswer {
 }
 
 // Where a replay stops, by the index of the piece from 0.
-#[derive(Drop)]
+#[derive(Clone, Copy)]
 pub enum Stop {
     None,
     Bad(usize),

@@ -12,7 +12,7 @@ use trace_piece::Stop;
 use transfer::Transfer;
 
 // What a trace hands back: the transfer at its end, and where it stopped.
-#[derive(Drop)]
+#[derive(Clone, Copy)]
 pub struct TraceReceipt {
     pub transfer: Transfer,
     pub stop: Stop,

@@ -8,7 +8,7 @@ use trace_piece::PieceAnswer;
 use transfer::Transfer;
 
 // What a piece hands back: the next transfer, and what came of the piece.
-#[derive(Drop)]
+#[derive(Clone, Copy)]
 pub struct PieceReceipt {
     pub transfer: Transfer,
     pub answer: PieceAnswer,

@@ -6,7 +6,7 @@ use trace_counts::Report;
 use trace_piece::Stop;
 
 // What comes of a trace that is handed to a report.
-#[derive(Drop)]
+#[derive(Clone, Copy)]
 pub enum FiguresAnswer {
     BadReport,
     TooMany,
@@ -14,7 +14,7 @@ pub enum FiguresAnswer {
 }
 
 // What is handed back: the next report, and what came of the trace.
-#[derive(Drop)]
+#[derive(Clone, Copy)]
 pub struct Addition {
     pub report: Report,
     pub answer: FiguresAnswer,

@@ -8,7 +8,7 @@ ghost use Rattle.laws.specs.Numbered.{numbered};
 ghost use Rattle.transfer.specs.Transfer.{kind_number, same_kind, head_with, number_of, fresh, good_state, same_head, deed_answer, accepted, step_of, step_number};
 
 // Where a transfer's pages go: to the flash, to main RAM or to XIP RAM.
-#[derive(Drop)]
+#[derive(Clone, Copy)]
 pub enum Kind {
     Flash,
     MainRam,
@@ -35,7 +35,7 @@ pub fn same_kind(a: Kind, b: Kind) -> bool
 }
 
 // What makes two blocks one transfer.
-#[derive(Drop)]
+#[derive(Clone, Copy)]
 pub struct Head {
     pub family: u32,
     pub total: u32,
@@ -55,27 +55,27 @@ impl Head {
 }
 
 // A transfer under way: so many different blocks have been counted.
-#[derive(Drop)]
+#[derive(Clone, Copy)]
 pub struct Run {
     pub head: Head,
     pub count: u32,
 }
 
-#[derive(Drop)]
+#[derive(Clone, Copy)]
 pub enum State {
     Idle,
     Running(Run),
     Done(Head),
 }
 
-#[derive(Drop)]
+#[derive(Clone, Copy)]
 pub struct Transfer {
     pub state: State,
 }
 
 // What a block does once it is accepted: it stores a page, or it is a comment, which is noted and stores nothing, or what it would store is kept
 // as it stands.
-#[derive(Drop)]
+#[derive(Clone, Copy)]
 pub enum Deed {
     Stores,
     Notes,
@@ -83,7 +83,7 @@ pub enum Deed {
 }
 
 // The answers to an arrival, in the order of the checks.
-#[derive(Drop)]
+#[derive(Clone, Copy)]
 pub enum Answer {
     BadBuffers,
     BadSettings,
@@ -104,14 +104,14 @@ pub enum Answer {
 }
 
 // A block that changes nothing: the next transfer, which is the one that was, and the answer.
-#[derive(Drop)]
+#[derive(Clone, Copy)]
 pub struct Unchanged {
     pub transfer: Transfer,
     pub answer: Answer,
 }
 
 // A block that is accepted: the next transfer and the answer, whether a running transfer was discarded, whether the maps are cleared first.
-#[derive(Drop)]
+#[derive(Clone, Copy)]
 pub struct Accepted {
     pub transfer: Transfer,
     pub answer: Answer,
@@ -120,7 +120,7 @@ pub struct Accepted {
 }
 
 // What a block does to a transfer, with the next transfer and the answer in both cases.
-#[derive(Drop)]
+#[derive(Clone, Copy)]
 pub enum Step {
     Stays(Unchanged),
     Accepts(Accepted),

@@ -17,7 +17,7 @@ use uf2_known::Known;
 use uf2_known::judged::FamilyRooms;
 
 // What arrivals come to, beside their results: how many were taken, the next transfer, and whether a block was accepted.
-#[derive(Drop)]
+#[derive(Clone, Copy)]
 pub struct Batch {
     pub number: usize,
     pub transfer: Transfer,
@@ -32,7 +32,7 @@ fn at_most(a: usize, b: usize) -> usize
 }
 
 // What one arrival of many comes to: what the settings say of its family, the next transfer, its result, and whether its block was accepted.
-#[derive(Drop)]
+#[derive(Clone, Copy)]
 struct Turn {
     kept: FamilyRooms,
     transfer: Transfer,

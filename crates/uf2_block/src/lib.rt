@@ -14,7 +14,7 @@ ghost use Rattle.uf2_block.specs.Region.{region_of};
 pub use crate::words::{field, put};
 
 // The fields of a block that a header leaves to the checks after it, and whether it is a comment, which takes a number and holds no page.
-#[derive(Drop)]
+#[derive(Clone, Copy)]
 pub struct Block {
     pub address: u32,
     pub size: u32,
@@ -25,7 +25,7 @@ pub struct Block {
 }
 
 // What the header of an arrival says: a refusal, or a block.
-#[derive(Drop)]
+#[derive(Clone, Copy)]
 pub enum Header {
     NotBlock,
     Container,
@@ -34,7 +34,7 @@ pub enum Header {
 }
 
 // The region that a block with flag 0x4000 names: its start, an address of the window, its length, and the words A, B, C, D of its MD5 digest.
-#[derive(Drop)]
+#[derive(Clone, Copy)]
 pub struct Region {
     pub start: u32,
     pub len: u32,

@@ -15,7 +15,7 @@ use placement::Place;
 use transfer::{Answer, Head, Kind};
 
 // The lengths of the lent flash, main RAM and XIP RAM.
-#[derive(Drop)]
+#[derive(Clone, Copy)]
 pub struct Lengths {
     pub flash: usize,
     pub main: usize,
@@ -23,35 +23,35 @@ pub struct Lengths {
 }
 
 // What the settings say of a family: its place in the flash, and whether it may go to RAM.
-#[derive(Drop)]
+#[derive(Clone, Copy)]
 pub struct Rooms {
     pub flash: Place,
     pub ram: bool,
 }
 
 // The window that an address lies in.
-#[derive(Drop)]
+#[derive(Clone, Copy)]
 pub enum Window {
     Outside,
     In(Kind),
 }
 
 // What a block holds: a page, with its storage address, or a comment, which has none.
-#[derive(Drop)]
+#[derive(Clone, Copy)]
 pub enum Body {
     Page(usize),
     Note,
 }
 
 // A block that passes: its head, its number, and what it holds.
-#[derive(Drop)]
+#[derive(Clone, Copy)]
 pub struct PlacedBlock {
     pub head: Head,
     pub number: u32,
     pub body: Body,
 }
 
-#[derive(Drop)]
+#[derive(Clone, Copy)]
 pub enum Screening {
     Refused(Answer),
     Passed(PlacedBlock),

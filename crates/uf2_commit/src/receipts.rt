@@ -9,7 +9,7 @@ use transfer::{Answer, Head, Run, State, Transfer};
 use uf2_known::{Acceptance, Known};
 
 // What an arrival hands back: the next transfer, the answer, and whether a running transfer was discarded.
-#[derive(Drop)]
+#[derive(Clone, Copy)]
 pub struct Receipt {
     pub transfer: Transfer,
     pub answer: Answer,
@@ -24,7 +24,7 @@ impl Receipt {
 }
 
 // What an arrival hands back whose flash is written by a driver: the receipt, and what is left to do to the flash.
-#[derive(Drop)]
+#[derive(Clone, Copy)]
 pub struct PlanReceipt {
     pub receipt: Receipt,
     pub plan: Plan,

@@ -10,14 +10,14 @@ use uf2_block::Block;
 use uf2_checks::{Lengths, Rooms};
 
 // A family, and what the settings say of it.
-#[derive(Drop)]
+#[derive(Clone, Copy)]
 pub struct FamilyRooms {
     pub family: u32,
     pub rooms: Rooms,
 }
 
 // Row 1's word for whole arrivals, row 2's word, and what the settings say of a family.
-#[derive(Drop)]
+#[derive(Clone, Copy)]
 pub struct Judgement {
     pub right: bool,
     pub good: bool,

@@ -14,7 +14,7 @@ use uf2_block::Block;
 use uf2_checks::{Lengths, PlacedBlock, Rooms, Window};
 
 // A block that is accepted: its number and what it holds, what is done with that, and what the block does to the transfer.
-#[derive(Drop)]
+#[derive(Clone, Copy)]
 pub struct Acceptance {
     pub placed: PlacedBlock,
     pub deed: Deed,
@@ -22,14 +22,14 @@ pub struct Acceptance {
 }
 
 // What an arrival comes to, before anything is written.
-#[derive(Drop)]
+#[derive(Clone, Copy)]
 pub enum Verdict {
     Leaves(Answer),
     Accepts(Acceptance),
 }
 
 // What is known of an arrival before it is judged: row 1's word, row 2's word, and what the settings say of its family.
-#[derive(Drop)]
+#[derive(Clone, Copy)]
 pub struct Known {
     pub right: bool,
     pub good: bool,

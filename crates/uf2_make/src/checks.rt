@@ -13,7 +13,7 @@ const WINDOW: usize = 0x10000000;
 const WINDOW_END: usize = 0x12000000;
 
 // What comes of an image: a refusal, or a file of so many blocks.
-#[derive(Drop)]
+#[derive(Clone, Copy)]
 pub enum MakeAnswer {
     BadImage,
     BadStart,

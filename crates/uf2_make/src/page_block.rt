@@ -13,7 +13,7 @@ fn put_block(out: &mut [u8], address: u32, number: u32, total: u32, family: u32,
 {
     crate::lead::put_first_fields(out, address);
     crate::lead::put_last_fields(out, number, total, family);
-    bytes::copy(page, &mut out[32..288]);
+    out[32..288].copy_from_slice(page);
     memory::fill::fill(&mut out[288..508], 0);
     uf2_block::put(out, 508, Block::MAGIC_LAST);
 }

@@ -46,7 +46,7 @@ pub(crate) fn put_block(
     ensures { out.new ≡ block_bytes address number total family page.now base digest }
 {
     put_lead(out, address, number, total, family);
-    bytes::copy(page, &mut out[32..288]);
+    out[32..288].copy_from_slice(page);
     memory::fill::fill(&mut out[288..484], 0);
     put_region(&mut out[484..508], base, digest);
     uf2_block::put(out, 508, Block::MAGIC_LAST);

@@ -28,7 +28,7 @@ fn placed(image: &[u8], at: usize, from: usize, count: usize) -> Digest
     let mut sector = [255u8; SECTOR];
     let to = from + count;
     let end = at + count;
-    bytes::copy(&image[from..to], &mut sector[at..end]);
+    sector[at..end].copy_from_slice(&image[from..to]);
     md5_digest::hash(&sector)
 }
 

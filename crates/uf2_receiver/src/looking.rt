@@ -11,7 +11,7 @@ use uf2_checks::Lengths;
 use uf2_known::Verdict;
 
 // What a look says: the answer, and whether a running transfer would be discarded.
-#[derive(Drop)]
+#[derive(Clone, Copy)]
 pub struct Preview {
     pub answer: Answer,
     pub discarded: bool,

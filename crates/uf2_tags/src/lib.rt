@@ -14,21 +14,21 @@ ghost use Rattle.uf2_tags.specs.Reader.{next_place, step_at, move_number, starte
 use crate::one_tag::{Answer, Tag};
 
 // An answer, and the place after it.
-#[derive(Drop)]
+#[derive(Clone, Copy)]
 pub struct Move {
     pub answer: Answer,
     pub next: usize,
 }
 
 // The reader: the block that it reads, and its place, an offset in the block.
-#[derive(Drop)]
+#[derive(Clone, Copy)]
 pub struct Tags<'a> {
     pub block: &'a [u8],
     pub at: usize,
 }
 
 // The reader after a call, and the answer.
-#[derive(Drop)]
+#[derive(Clone, Copy)]
 pub struct Step<'a> {
     pub reader: Tags<'a>,
     pub answer: Answer,

@@ -4,7 +4,7 @@ ghost use Rattle.laws.specs.Numbered.{numbered};
 ghost use Rattle.uf2_tags.specs.Tag.{tag_of, sized, answer_number};
 
 // A tag: its type, where its contents stand in the block and how many bytes they have, and the place after it.
-#[derive(Drop)]
+#[derive(Clone, Copy)]
 pub struct Tag {
     pub kind: u32,
     pub start: usize,
@@ -13,7 +13,7 @@ pub struct Tag {
 }
 
 // What a call answers: a tag, the end, or a refusal.
-#[derive(Drop)]
+#[derive(Clone, Copy)]
 pub enum Answer {
     Tag(Tag),
     End,

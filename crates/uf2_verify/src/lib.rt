@@ -23,7 +23,7 @@ use uf2_checks::{Body, Lengths, PlacedBlock, Screening};
 use uf2_known::Known;
 
 // What is told of an arrival.
-#[derive(Drop)]
+#[derive(Clone, Copy)]
 pub enum Stand {
     Refused(Answer),
     Stands,

@@ -13,7 +13,7 @@ use uhex_grammar::{Answer, Boards, ReaderState};
 
 // A reader: its own board, the bytes of the file read so far, where it stands, the latest 04's two bytes, which of V1 and V2 had a
 // section, and which gave a data byte.
-#[derive(Drop)]
+#[derive(Clone, Copy)]
 pub struct Reader {
     pub own: u16,
     pub offset: u32,
@@ -24,7 +24,7 @@ pub struct Reader {
 }
 
 // What a good record does: it fails, passes, is own data to store, or ends the file.
-#[derive(Drop)]
+#[derive(Clone, Copy)]
 pub enum Effect {
     Fails(Answer),
     Passes(Reader),

@@ -10,7 +10,7 @@ ghost use Rattle.uhex_grammar.specs.Boards.{no_boards, has_board, with_board, bo
 use ihex_record::ParseResult;
 
 // The answers to a line, by their numbers from 18 to 36. The names are 01's.
-#[derive(Drop)]
+#[derive(Clone, Copy)]
 pub enum Answer {
     BadReader,
     BadImage,
@@ -35,13 +35,13 @@ pub enum Answer {
 }
 
 // What a failed reader remembers.
-#[derive(Drop)]
+#[derive(Clone, Copy)]
 pub struct Failure {
     pub answer: Answer,
 }
 
 // Which of V1 and V2.
-#[derive(Drop)]
+#[derive(Clone, Copy)]
 pub struct Boards {
     pub v1: bool,
     pub v2: bool,
@@ -49,7 +49,7 @@ pub struct Boards {
 
 // Where a reader stands: between sections, after a section's opening 04, in the section of a board, in it after its first 0C, after
 // the 01, or failed.
-#[derive(Drop)]
+#[derive(Clone, Copy)]
 pub enum ReaderState {
     Between,
     Opened,
@@ -60,7 +60,7 @@ pub enum ReaderState {
 }
 
 // What a record is where the reader stands.
-#[derive(Drop)]
+#[derive(Clone, Copy)]
 pub enum Role {
     // the 04 that opens a section
     Opening,

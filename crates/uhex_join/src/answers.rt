@@ -8,7 +8,7 @@ use uhex_grammar::{Answer, Boards};
 
 // Why nothing is written: the board whose file is refused, the line's index from 0 (for a missing 01 and for 30 the number of its lines), and
 // the answer. Where the output is too long, board and line are 0.
-#[derive(Drop)]
+#[derive(Clone, Copy)]
 pub struct Refusal {
     pub board: u16,
     pub line: u32,
@@ -16,7 +16,7 @@ pub struct Refusal {
 }
 
 // What comes of two files: the number of bytes that are written, or a refusal.
-#[derive(Drop)]
+#[derive(Clone, Copy)]
 pub enum JoinAnswer {
     Written(u32),
     Refused(Refusal),

@@ -15,7 +15,7 @@ use uhex_grammar::ReaderState;
 const READER: usize = 16;
 
 // A reader's state as numbers: the kind, the failure's number, and the section's board or the failure's position; 0 where there is none.
-#[derive(Drop)]
+#[derive(Clone, Copy)]
 struct StateCode {
     kind: u8,
     failure: u8,
@@ -108,5 +108,5 @@ pub fn write_reader(bytes: &mut [u8], reader: Reader)
         return;
     }
     let new = reader_bytes(reader);
-    bytes::copy(&new, bytes);
+    bytes.copy_from_slice(&new);
 }

@@ -14,7 +14,7 @@ use uhex_effects::Reader;
 use uhex_grammar::{Answer, Boards, ReaderState};
 
 // Whether a reader reads on, by where it stands: a failed one repeats its answer, and after the end there is one.
-#[derive(Drop)]
+#[derive(Clone, Copy)]
 enum Halt {
     No,
     By(Answer),

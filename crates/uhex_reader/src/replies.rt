@@ -10,7 +10,7 @@ use uhex_effects::{Effect, Reader};
 use uhex_grammar::{Answer, Failure, ReaderState};
 
 // The next reader, and the answer.
-#[derive(Drop)]
+#[derive(Clone, Copy)]
 pub struct Reply {
     pub reader: Reader,
     pub answer: Answer,
@@ -23,7 +23,7 @@ fn put_bytes(bytes: &[u8], n: usize, at: usize, image: &mut [u8])
     ensures { image.new ≡ over image.old at (take n bytes.now) }
 {
     let e = at + n;
-    bytes::copy(&bytes[..n], &mut image[at..e]);
+    image[at..e].copy_from_slice(&bytes[..n]);
 }
 
 // A line that fails with an answer.

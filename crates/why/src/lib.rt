@@ -20,7 +20,7 @@ use why_settings::Finding;
 
 // Why an arrival is answered as it is: the reason, whether a running transfer is discarded and, where no entry of a table takes the family, a mark for
 // each used entry: 1 "B of", else 2 "doesn't accept".
-#[derive(Drop)]
+#[derive(Clone, Copy)]
 pub struct Why {
     pub reason: Reason,
     pub discarded: bool,
@@ -28,7 +28,7 @@ pub struct Why {
 }
 
 // Where a place comes from: the rule that gives the whole flash, or the pass, 1 to 4, and the entry; or why there is none.
-#[derive(Drop)]
+#[derive(Clone, Copy)]
 pub enum PlaceOrigin {
     Refused(Reason),
     Whole(Rule),
@@ -36,7 +36,7 @@ pub enum PlaceOrigin {
 }
 
 // The same with the marks of the entries.
-#[derive(Drop)]
+#[derive(Clone, Copy)]
 pub struct WhyPlace {
     pub placed: PlaceOrigin,
     pub entries: [u8; 16],

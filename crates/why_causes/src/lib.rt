@@ -17,7 +17,7 @@ use why_place::Denial;
 use why_settings::Fault;
 
 // Row 1: whose length is wrong.
-#[derive(Drop)]
+#[derive(Clone, Copy)]
 pub enum Length {
     Arrival,
     FlashRagged,
@@ -30,7 +30,7 @@ pub enum Length {
 }
 
 // Row 3: which bound a running transfer, or one that is done, does not keep.
-#[derive(Drop)]
+#[derive(Clone, Copy)]
 pub enum Bound {
     CountUnder,
     CountOver,
@@ -40,7 +40,7 @@ pub enum Bound {
 }
 
 // Row 4: which magic number differs.
-#[derive(Drop)]
+#[derive(Clone, Copy)]
 pub enum Magic {
     First,
     Second,
@@ -48,7 +48,7 @@ pub enum Magic {
 }
 
 // Row 10.
-#[derive(Drop)]
+#[derive(Clone, Copy)]
 pub enum Numbers {
     TotalZero,
     TotalPast,
@@ -56,7 +56,7 @@ pub enum Numbers {
 }
 
 // Row 11: of an address below the windows, of one of flash, of one in a RAM window, and of one in no window.
-#[derive(Drop)]
+#[derive(Clone, Copy)]
 pub enum Address {
     Below,
     Ragged,
@@ -66,7 +66,7 @@ pub enum Address {
 }
 
 // Why a page is written, and not kept as it stands.
-#[derive(Drop)]
+#[derive(Clone, Copy)]
 pub enum NotKept {
     NoRegion,
     InRam,
@@ -78,7 +78,7 @@ pub enum NotKept {
 }
 
 // An answer, with the condition of its row that decided.
-#[derive(Drop)]
+#[derive(Clone, Copy)]
 pub enum Cause {
     BadBuffers(Length),
     BadSettings(Fault),
@@ -99,7 +99,7 @@ pub enum Cause {
 }
 
 // The condition, the number tested and what it is tested against; from 14 on the raised count and the total.
-#[derive(Drop)]
+#[derive(Clone, Copy)]
 pub struct Reason {
     pub cause: Cause,
     pub got: u64,
@@ -107,7 +107,7 @@ pub struct Reason {
 }
 
 // What a row of checks comes to.
-#[derive(Drop)]
+#[derive(Clone, Copy)]
 pub enum Row {
     Passes,
     Decides(Reason),

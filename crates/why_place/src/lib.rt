@@ -22,7 +22,7 @@ ghost use Rattle.why_place.specs.Parts.{denied_if, without_access};
 use partitions::{Entry, Family, Settings};
 
 // The setting or rule that shuts a family out: five of the flash without asking the table, one of the table, one of RAM.
-#[derive(Drop)]
+#[derive(Clone, Copy)]
 pub enum Denial {
     AbsoluteOff,
     Rp2040,
@@ -33,21 +33,21 @@ pub enum Denial {
     NotForRam,
 }
 
-#[derive(Drop)]
+#[derive(Clone, Copy)]
 pub enum Access {
     Granted,
     Denied(Denial),
 }
 
 // The rules that give the whole flash.
-#[derive(Drop)]
+#[derive(Clone, Copy)]
 pub enum Rule {
     Absolute,
     NoTable,
 }
 
 // Where a place comes from; 01's passes are 1 to 4.
-#[derive(Drop)]
+#[derive(Clone, Copy)]
 pub enum Spot {
     Refused(Denial),
     Whole(Rule),

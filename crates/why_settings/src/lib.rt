@@ -13,7 +13,7 @@ use memory::flash::Flash;
 use partitions::{Entry, Family, Settings};
 
 // What makes settings bad, in 01's order. A number is an entry's; of two the second is the other entry's.
-#[derive(Drop)]
+#[derive(Clone, Copy)]
 pub enum Fault {
     ArchOff,
     CountOver,
@@ -26,14 +26,14 @@ pub enum Fault {
     ReservedUser(u8),
 }
 
-#[derive(Drop)]
+#[derive(Clone, Copy)]
 pub enum Finding {
     Sound,
     Bad(Fault),
 }
 
 // The number that a fault tests, and what it is tested against.
-#[derive(Drop)]
+#[derive(Clone, Copy)]
 pub struct Comparison {
     pub got: u64,
     pub against: u64,

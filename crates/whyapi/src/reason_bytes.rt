@@ -143,8 +143,8 @@ fn put_marks(out: &mut [u8], entry: u8, other: u8, marks: [u8; 16])
     ensures { out.new ≡ marks_over out.old entry other marks }
 {
     let pair = [entry, other];
-    bytes::copy(&pair, &mut out[20..22]);
-    bytes::copy(&marks, &mut out[22..38]);
+    out[20..22].copy_from_slice(&pair);
+    out[22..38].copy_from_slice(&marks);
 }
 
 // A reason, where there are bytes for it.

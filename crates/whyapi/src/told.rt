@@ -3,7 +3,7 @@ ghost use Rattle.std.specs.Prelude.{◌≡◌, ◌<◌, length};
 ghost use Rattle.whyapi.specs.Told.{told_with, link_byte, link_told, settings_told};
 
 // What is written of a reason.
-#[derive(Drop)]
+#[derive(Clone, Copy)]
 pub struct ReasonFields {
     pub number: u32,
     pub got: u64,
