@@ -12,4 +12,4 @@ returns c =
     let n = d in
     let bytes : Bytes n.args.chars.now = λ i. omega (arith, n.type_inv.chars i) in
     let told = tells _ refl in
-    (d.judge.ensures.value ∙ told_first _ told _ bytes, d.judge.ensures.bytes ∙ told_decoded _ told _ _ bytes)
+    record { value = d.judge.ensures.value ∙ told_first _ told _ bytes; bytes = d.judge.ensures.bytes ∙ told_decoded _ told _ _ bytes }

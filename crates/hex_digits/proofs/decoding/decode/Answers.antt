@@ -12,4 +12,4 @@ returns c =
     let s = n.args in
     let l = s.chars.now in
     let k = n.least-e.result in
-    (rw (p.pairs-good.ensures.value, c.all_digits.ensures, rest (2 * k) l, sym n.least-e.ensures) (all_parts (value_in s.table.now) (2 * k) l), p.pairs-good.ensures.bytes)
+    record { value = rw (p.pairs-good.ensures.value, c.all_digits.ensures, rest (2 * k) l, sym n.least-e.ensures) (all_parts (value_in s.table.now) (2 * k) l); bytes = p.pairs-good.ensures.bytes }

@@ -5,7 +5,7 @@ use Rattle.hex_digits.proofs.decoding.judge.Goals as goal
 pub returns-then-good : goal.returns-then-good
 returns-then-good c =
     let d = c in
-    (first_none _ _ (sym d.decode-good.ensures.value ∙ c.if-good.true), d.decode-good.ensures.bytes)
+    record { value = first_none _ _ (sym d.decode-good.ensures.value ∙ c.if-good.true); bytes = d.decode-good.ensures.bytes }
 
 pub returns : goal.returns
-returns c = (c.first_bad.ensures, c.decode-good.ensures.bytes)
+returns c = record { value = c.first_bad.ensures; bytes = c.decode-good.ensures.bytes }

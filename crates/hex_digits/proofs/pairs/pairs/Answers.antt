@@ -51,4 +51,4 @@ returns c =
     let b = n.args in
     let e : n.loop-i.i ≡ n.least-room.result = omega arith in
     let k = e ∙ n.least-room.ensures in
-    (n.loop-i.invariant.2 ∙ ap (λ (j : ℕ). all_by (value_in b.table.now) (take (2 * j) b.chars.now)) k, n.loop-i.invariant.3 ∙ begun_all (value_in b.table.now) b.chars.now b.out.now n.loop-i.i k)
+    record { value = n.loop-i.invariant.2 ∙ ap (λ (j : ℕ). all_by (value_in b.table.now) (take (2 * j) b.chars.now)) k; bytes = n.loop-i.invariant.3 ∙ begun_all (value_in b.table.now) b.chars.now b.out.now n.loop-i.i k }
