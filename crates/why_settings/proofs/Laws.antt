@@ -9,13 +9,13 @@ use native.Mathlib.Numerals.{add-one}
 use native.Mathlib.Omega.{arith}
 use lib.Dec.{ltb, leb}
 use lib.ListN.{length, get_or, length-map, get_or-eq_default}
-use borrow.Author.Tests.{ne_eqb, eq-eqb, lt-ltb, le-ltb}
+use borrow.Author.Tests.{ne_eqb, lt-ltb, le-ltb}
 use Rattle.laws.specs.Sets.{any, least}
-use Rattle.laws.proofs.Tests.{split, is_false, clash, and_right}
-use Rattle.laws.proofs.Laws.{any_none, any_all, any_found, any_hit, least_below, least_none}
+use Rattle.laws.proofs.Tests.{split, and_right}
+use Rattle.laws.proofs.Laws.{any_all, least_below, least_none}
 use Rattle.partitions.specs.declared.Entry.{Entry}
 use Rattle.partitions.specs.declared.Settings.{Settings}
-use Rattle.partitions.specs.Settings.{is_a, is_unowned, link_target, empty_entry, is_reserved, reserved_at, entry_at, shares_with, no_sectors, runs_past, links_up, links_to_b, many_users, reserved_user, count_over, enabled}
+use Rattle.partitions.specs.Settings.{is_a, is_unowned, link_target, empty_entry, is_reserved, reserved_at, entry_at, shares_with, no_sectors, runs_past, links_up, links_to_b, many_users, reserved_user, enabled}
 use Rattle.why_settings.specs.declared.Fault.{Fault}
 use Rattle.why_settings.specs.declared.Fault.TheVariants.{ArchOff, CountOver, NoSectors, PastFlash, Shares, LinksUp, LinksToB, ManyUsers, ReservedUser}
 use Rattle.why_settings.specs.declared.Finding.{Finding}

@@ -1,15 +1,15 @@
 -- No fault is found exactly in good settings, and each fault is a test of the numbers that it names. Assumes nothing.
 use Prim.Native.Nat.{ℕ, zero, suc, ◌≤◌, ◌<◌}
-use mathlib.Core.Path.{◌≡◌, refl, sym, ap, ◌∙◌}
-use mathlib.Core.Bool.{Bool, true, false, not, ◌||◌, ◌&&◌}
+use mathlib.Core.Path.{◌≡◌, refl, sym, ◌∙◌}
+use mathlib.Core.Bool.{Bool, true, false, not, ◌||◌}
 use native.Mathlib.Omega.{arith}
-use lib.Dec.{ltb, leb, eqb}
-use borrow.Author.Tests.{lt-ltb, le-ltb, ltb-true, ltb-false, not-true, not-false}
+use lib.Dec.{ltb, eqb}
+use borrow.Author.Tests.{lt-ltb, le-ltb, ltb-true, ltb-false}
 use Rattle.laws.specs.Sets.{any, one}
 use Rattle.laws.proofs.Tests.{split, clash, or_left, or_right}
 use Rattle.laws.proofs.Laws.{any_none, any_all}
 use Rattle.partitions.specs.declared.Settings.{Settings}
-use Rattle.partitions.specs.Settings.{entry_at, enabled, count_over, no_sectors, runs_past, shares_with, shares_sector, links_up, links_to_b, many_users, reserved_user, bad_entry, good_settings}
+use Rattle.partitions.specs.Settings.{entry_at, enabled, no_sectors, runs_past, shares_with, shares_sector, links_up, links_to_b, many_users, reserved_user, bad_entry, good_settings}
 use Rattle.partitions.proofs.Laws.{good_count, good_entry, good_off}
 use Rattle.why_settings.specs.declared.Fault.{Fault}
 use Rattle.why_settings.specs.declared.Fault.TheVariants.{ArchOff, CountOver, NoSectors, PastFlash, Shares, LinksUp, LinksToB, ManyUsers, ReservedUser}
