@@ -15,7 +15,7 @@ use Rattle.partitions.specs.declared.Settings.{Settings}
 use Rattle.partitions.specs.Settings.{good_settings}
 use Rattle.partitions.specs.Table.{table_of}
 use Rattle.laws.specs.Packing.{total, packed, unpacked, octets, fields_of}
-use Rattle.settings_store.specs.declared.write.StoreAnswer.TheVariants.{BadBuffers, BadSettings, BadVersion, BadLength, BadBits, Good}
+use Rattle.settings_store.specs.declared.write.StoreAnswer.TheVariants.{BadBuffers, BadSettings, BadVersion, BadLength, BadBits}
 use Rattle.settings_store.specs.Written.{no_restart_in}
 use Rattle.settings_store.proofs.write.Cases.{no_restart_few}
 use Rattle.settings_store.specs.declared.Reading.{Reading}
