@@ -1,18 +1,18 @@
 -- The rules of row 8 by cases, and the first match of the passes, one step of a loop each. Assumes nothing.
-use Prim.Native.Nat.{ℕ, suc, ◌+◌, ◌≤◌, ◌<◌}
+use Prim.Native.Nat.{ℕ, ◌+◌, ◌<◌}
 use mathlib.Core.Path.{◌≡◌, refl, sym, ap, ◌∙◌}
 use mathlib.Core.Logic.{◌≢◌}
 use mathlib.Core.Bool.{Bool, true, false, cond, not, ◌&&◌}
 use mathlib.Core.List.{List, [], ◌∷◌}
 use native.Mathlib.Numerals.{add-one}
 use native.Mathlib.Omega.{arith}
-use lib.Dec.{ltb, leb, eqb}
+use lib.Dec.{ltb, eqb}
 use lib.ListN.{length, get_or, set, replicate, length-set, length-replicate, get_or-replicate}
 use lib.Seq.{get_or-set_same, get_or-set_other}
 use borrow.Author.Tests.{eq-eqb, ne_eqb, eqb-true, eqb-false, lt-ltb, le-ltb, ltb-true, ltb-false, not-true, not-false}
 use Rattle.laws.specs.Sets.{any, least}
-use Rattle.laws.proofs.Tests.{split, clash, and_left, and_right}
-use Rattle.laws.proofs.Laws.{any_hit, any_found, any_all, least_is}
+use Rattle.laws.proofs.Tests.{split, and_left}
+use Rattle.laws.proofs.Laws.{any_hit, any_found, least_is}
 use Rattle.laws.proofs.TabLaws.{is_tab}
 use Rattle.partitions.specs.declared.Entry as settings
 use Rattle.partitions.specs.declared.Settings.{Settings}
@@ -20,14 +20,12 @@ use Rattle.partitions.specs.Settings.{family_rp2040, family_absolute, family_dat
 use Rattle.placement.specs.declared.passes.PassQuery.{PassQuery}
 use Rattle.placement.specs.Place.{pass_query_of, pass_allows, pass_takes, used_count, ram_family}
 use Rattle.why_place.specs.declared.Denial.{Denial}
-use Rattle.why_place.specs.declared.Denial.TheVariants.{AbsoluteOff, Rp2040, ArmOff, RiscvOff, NotWithoutTable, NoEntry, NotForRam}
-use Rattle.why_place.specs.declared.Access.{Access}
+use Rattle.why_place.specs.declared.Denial.TheVariants.{AbsoluteOff, Rp2040, NoEntry, NotForRam}
 use Rattle.why_place.specs.declared.Access.TheVariants.{Granted, Denied}
-use Rattle.why_place.specs.declared.Spot.{Spot}
 use Rattle.why_place.specs.declared.Spot.TheVariants as spot
 use Rattle.why_place.specs.declared.Rule.TheVariants.{Absolute, NoTable}
 use Rattle.why_place.specs.Parts.{denied_if, without_access}
-use Rattle.why_place.specs.Placing.{no_table, takes_at, denies, first_denial, flash_access, ram_access, mark_for, mark_of, marks_of, taken_in, pass_has, pass_of, entry_in, table_spot, granted_spot, spot_by, spot_of}
+use Rattle.why_place.specs.Placing.{no_table, takes_at, denies, first_denial, flash_access, ram_access, mark_for, mark_of, marks_of, taken_in, pass_has, pass_of, entry_in, table_spot, granted_spot, spot_of}
 
 -- ---- the rules for the flash, by cases
 

@@ -1,31 +1,28 @@
 -- A family is shut out exactly where it has no place; the spot is the place's, and what it tells is true; the marks are true. Assumes nothing.
-use Prim.Native.Nat.{ℕ, suc, ◌<◌}
+use Prim.Native.Nat.{ℕ}
 use mathlib.Core.Path.{◌≡◌, refl, sym, ap, ◌∙◌}
-use mathlib.Core.Logic.{◌≢◌, ◌⊎◌, inl, inr}
-use mathlib.Core.Bool.{Bool, true, false, cond, not, ◌&&◌, ◌||◌}
+use mathlib.Core.Logic.{◌≢◌, inl, inr}
+use mathlib.Core.Bool.{Bool, true, false, not, ◌&&◌, ◌||◌}
 use native.Mathlib.Omega.{arith}
-use lib.Dec.{ltb, eqb}
+use lib.Dec.{eqb}
 use borrow.Author.Tests.{eqb-true, eqb-false, lt-ltb, not-true}
-use Rattle.laws.specs.Sets.{any, least}
-use Rattle.laws.proofs.Tests.{split, clash, is_false, and_left, and_right}
-use Rattle.laws.proofs.Laws.{any_all, any_hit, least_below}
+use Rattle.laws.specs.Sets.{any}
+use Rattle.laws.proofs.Tests.{split, clash, is_false, and_right}
+use Rattle.laws.proofs.Laws.{any_all, least_below}
 use Rattle.partitions.specs.declared.Settings.{Settings}
 use Rattle.partitions.specs.Settings.{family_rp2040, family_absolute, family_data, family_arm_s, family_risc_v, entry_at, is_a, accepts}
 use Rattle.placement.specs.declared.Choice.TheVariants.{Nothing, Entry}
-use Rattle.placement.specs.declared.Place.{Place}
 use Rattle.placement.specs.declared.Place.TheVariants.{Nowhere, At}
-use Rattle.placement.specs.Place.{pass_query_of, in_pass, chosen, used_count, chosen_entry, gets_whole, whole_if, place_of_choice, place_of, ram_family}
+use Rattle.placement.specs.Place.{pass_query_of, in_pass, chosen, used_count, chosen_entry, gets_whole, place_of, ram_family}
 use Rattle.placement.proofs.First.{first_hit, first_none, if_taken, if_passed}
 use Rattle.placement.proofs.Laws.{place_absolute, place_rp2040, place-whole, place-table}
 use Rattle.why_place.specs.declared.Denial.{Denial}
 use Rattle.why_place.specs.declared.Denial.TheVariants.{AbsoluteOff, ArmOff, RiscvOff, NoEntry, NotForRam}
 use Rattle.why_place.specs.declared.Access.{Access}
 use Rattle.why_place.specs.declared.Access.TheVariants.{Granted, Denied}
-use Rattle.why_place.specs.declared.Spot.{Spot}
-use Rattle.why_place.specs.declared.Spot.TheVariants as spot
 use Rattle.why_place.specs.Parts.{denied_if, without_access}
-use Rattle.why_place.specs.Placing.{no_table, takes_at, flash_denials, flash_access, ram_access, mark_for, mark_of, taken_in, pass_has, pass_of, entry_in, table_spot, granted_spot, spot_of, spot_place, FirstMatch, SpotTrue, Marked, GrantedIsPlaced, GrantedIsForRam, SpotIsPlaced, MarksAreTrue, PlaceIsTrue}
-use Rattle.why_place.proofs.Laws.{flash_absolute, flash_rp2040, flash_whole, flash-table, ram_by, denial_true, taken_takes, takes_pass, not_granted, granted_if, spot_refused, spot-absolute, spot-whole, spot-table, granted-other, granted-takes}
+use Rattle.why_place.specs.Placing.{no_table, takes_at, flash_denials, flash_access, mark_for, mark_of, taken_in, pass_has, pass_of, entry_in, table_spot, spot_of, spot_place, FirstMatch, Marked, GrantedIsPlaced, GrantedIsForRam, SpotIsPlaced, MarksAreTrue, PlaceIsTrue}
+use Rattle.why_place.proofs.Laws.{flash_absolute, flash_rp2040, flash_whole, flash-table, ram_by, denial_true, taken_takes, takes_pass, granted_if, spot_refused, spot-absolute, spot-whole, spot-table, granted-other, granted-takes}
 
 -- ---- the first match
 
