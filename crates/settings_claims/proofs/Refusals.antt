@@ -11,7 +11,7 @@ use Rattle.settings_store.proofs.Cases.{head_two, read_1, read_short, read-on, r
 use Rattle.settings_store.specs.Store.{entry_of, read_of, read_number}
 use Rattle.partitions.specs.Table.{table_of}
 use Rattle.settings_claims.specs.Refusals.{version_in, count_in, Headed, row_1, row_41, row_40, row_42, row_41_length, row_42_stray, row_2, ReadRefuses, StoreNumbers}
-use Rattle.settings_claims.proofs.Compared.{Few, good_neat}
+use Rattle.settings_claims.proofs.Compared.{good_neat}
 use Rattle.settings_claims.proofs.Written.{read_bad}
 use Rattle.settings_claims.proofs.Strays.{stray_tested}
 use Rattle.settings_claims.proofs.LaidOut.{laid_store, laid_fits, laid_narrow}

@@ -1,8 +1,8 @@
 -- The place of a family by fields. Assumes nothing.
 use Prim.Native.Nat.{ℕ, zero, suc, ◌*◌, ◌<◌, ◌≤◌}
-use mathlib.Core.Path.{◌≡◌, refl, sym, ap, ◌∙◌}
-use mathlib.Core.Logic.{◌↔◌, ◌≢◌, ◌⊎◌, inl, inr, ⊎_elim}
-use mathlib.Core.Bool.{Bool, true, false, ◌&&◌, ◌||◌, not, cond, or-true}
+use mathlib.Core.Path.{◌≡◌, refl, sym, ◌∙◌}
+use mathlib.Core.Logic.{◌≢◌, ◌⊎◌, inl, inr, ⊎_elim}
+use mathlib.Core.Bool.{Bool, true, false, ◌&&◌, not, or-true}
 use mathlib.Core.List.{List}
 use native.Mathlib.Omega.{arith}
 use lib.Dec.{ltb, eqb}
@@ -10,14 +10,14 @@ use lib.ListN.{get_or}
 use borrow.Author.Tests.{eqb-true, eqb-false, eq-eqb, lt-ltb, ltb-true, not-true}
 use Rattle.laws.specs.Sets.{any}
 use Rattle.laws.proofs.Tests.{split, clash, is_false, and_left, and_right}
-use Rattle.laws.proofs.Laws.{any_hit, any_found, any_all}
+use Rattle.laws.proofs.Laws.{any_hit, any_found}
 use Rattle.partitions.specs.declared.Settings.{Settings}
 use Rattle.partitions.specs.declared.Entry.{Entry}
 use Rattle.partitions.specs.declared.Arch.{Arch}
 use Rattle.partitions.specs.declared.Arch.TheVariants.{Arm, RiscV}
 use Rattle.partitions.specs.declared.Link.{Link}
 use Rattle.partitions.specs.declared.Link.TheVariants.{Unlinked, OwnedBy, BOf}
-use Rattle.partitions.specs.Settings.{link_is_b, link_is_none, is_a, is_unowned, user_is, has_user, accepts, entry_at, good_settings}
+use Rattle.partitions.specs.Settings.{link_is_b, link_is_none, is_a, user_is, has_user, accepts, entry_at}
 use Rattle.partitions.proofs.Laws.{good_count}
 use Rattle.placement.specs.declared.passes.PassQuery.{PassQuery}
 use Rattle.placement.specs.declared.Choice.{Choice}
@@ -29,8 +29,7 @@ use Rattle.placement.proofs.Laws.{place_absolute, place_rp2040, place-whole, pla
 use Rattle.placement.specs.Place as place
 use Rattle.placement.proofs.Theorems.{no_place}
 use native.Mathlib.Nat.{le_refl, le_step}
-use Rattle.placement.specs.Passes.{is_bootable, for_current, for_other}
-use Rattle.settings_claims.specs.Targeting.{row, IsA, Accepts, data_flag, arm_s_flag, riscv_flag, arm_ns_flag, user_slot, Accepting, NoPlaceByFields, Asks, pass_1_arm, pass_1_riscv, pass_2_riscv, pass_2_arm, pass_3, pass_4, Takes, First, HasPlace, absolute, whole_data, whole_arm_s, whole_riscv, entry, PlaceByFields}
+use Rattle.settings_claims.specs.Targeting.{row, Accepts, data_flag, arm_s_flag, riscv_flag, arm_ns_flag, user_slot, Accepting, NoPlaceByFields, Asks, pass_1_arm, pass_1_riscv, pass_2_riscv, pass_2_arm, pass_3, pass_4, Takes, First, HasPlace, absolute, whole_data, whole_arm_s, whole_riscv, entry, PlaceByFields}
 
 -- ---- one entry: each test of the code, and its words
 
