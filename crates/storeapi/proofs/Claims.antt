@@ -1,7 +1,6 @@
 -- The claims of specs/Claims.antt hold. Assumes nothing.
 use Prim.Native.Nat.{ℕ, zero, suc, ◌+◌, ◌*◌, ◌<◌, ◌≤◌, ◌^◌}
 use mathlib.Core.Path.{◌≡◌, refl, sym, ap, ◌∙◌}
-use mathlib.Core.Bool.{true}
 use mathlib.Core.List.{List, [], ◌∷◌}
 use native.Mathlib.Omega.{arith}
 use lib.ListN.{length, get_or}
@@ -20,7 +19,7 @@ use Rattle.settings_layout.proofs.Written.{settings_back}
 use Rattle.store_entry.specs.EntryBits.{slot, neat_entry}
 use Rattle.store_entry.proofs.OneEntry.{Fits}
 use Rattle.settings_store.specs.declared.write.StoreAnswer.TheVariants.{Good}
-use Rattle.settings_store.specs.Store.{store_of, read_of, found, write_call, write_of}
+use Rattle.settings_store.specs.Store.{store_of, write_call, write_of}
 use Rattle.settings_store.proofs.write.Cases.{write-good}
 use Rattle.settings_claims.specs.Claims.{neat_at, neat}
 use Rattle.settings_claims.proofs.Written.{good_fields, store_length}
