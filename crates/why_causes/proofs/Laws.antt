@@ -1,6 +1,6 @@
 -- Rows 4 to 7 as the code reads them: by fields. Assumes nothing.
-use mathlib.Core.Path.{◌≡◌, sym, ap, ◌∙◌}
-use mathlib.Core.List.{List, ◌++◌}
+use mathlib.Core.Path.{◌≡◌, ap, ◌∙◌}
+use mathlib.Core.List.{List}
 use Prim.Native.Nat.{ℕ}
 use Rattle.uf2_block.specs.Block.{field_at}
 use Rattle.why_causes.specs.declared.Reason.{Reason}

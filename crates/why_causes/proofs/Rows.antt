@@ -1,6 +1,6 @@
 -- Rows one after the other, and that the check that is told is the one that decides, whatever the checks and their test. Assumes nothing.
 use mathlib.Core.Path.{◌≡◌, refl, sym, ap, ◌∙◌}
-use mathlib.Core.Bool.{Bool, true, false, cond, ◌||◌}
+use mathlib.Core.Bool.{Bool, true, false, cond}
 use mathlib.Core.List.{List, [], ◌∷◌, ◌++◌}
 use Rattle.why_causes.specs.declared.Reason.{Reason}
 use Rattle.why_causes.specs.declared.Row.{Row}
