@@ -1,10 +1,9 @@
 -- Rows 12 to 17 by cases, as the code asks them. Assumes nothing.
-use mathlib.Core.Path.{◌≡◌, refl, sym, ap, ◌∙◌}
+use mathlib.Core.Path.{◌≡◌, sym, ap, ◌∙◌}
 use mathlib.Core.Bool.{Bool, true, false, cond}
 use mathlib.Core.Logic.{◌≢◌}
 use mathlib.Core.List.{List}
 use Prim.Native.Nat.{ℕ, ◌<◌, ◌≤◌}
-use lib.Dec.{leb}
 use borrow.Author.Tests.{eq-eqb, ne_eqb, le-leb, lt-leb}
 use Rattle.memory.specs.Bitmap.{marked_in}
 use Rattle.uf2_block.specs.Block.{field_at, has_flag}
@@ -22,7 +21,7 @@ use Rattle.transfer.specs.declared.Kind.TheVariants.{Flash}
 use Rattle.transfer.specs.declared.Head.{Head}
 use Rattle.transfer.specs.declared.State.{State}
 use Rattle.why_causes.specs.Causes.{reason_with}
-use Rattle.why_causes.specs.Checks.{by_numbers, row_of, or_next, or_last}
+use Rattle.why_causes.specs.Checks.{by_numbers, row_of, or_last}
 use Rattle.why_causes.specs.Numbers.{numbers_row}
 use Rattle.why_causes.specs.declared.NotKept.TheVariants.{NoRegion, InRam, Ragged, Empty, OutsidePlace, NotAround, OtherDigest}
 use Rattle.why_causes.specs.declared.Cause.TheVariants.{Finished, Again, Written, Completed, Noted, Kept}
