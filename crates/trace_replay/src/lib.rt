@@ -1,7 +1,7 @@
 // A whole trace of what a site sent, replayed from Idle: its pieces one after the other, and a tally of the records that were replayed.
 #![tactic(auto)]
 
-mod one_piece;
+pub mod one_piece;
 
 ghost use Rattle.std.specs.Prelude.{◌≡◌, ◌+◌, ◌-◌, ◌≤◌, min};
 ghost use Rattle.uf2_receiver.specs.Receiver.{lent_at, left_at, world};

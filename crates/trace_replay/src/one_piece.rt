@@ -15,7 +15,7 @@ pub struct PieceReceipt {
 }
 
 // One piece of a trace: it is looked at, and taken where it is a record that says what we answer. Else nothing changes.
-pub(crate) fn replay_piece(
+pub fn replay_piece(
     settings: Settings,
     transfer: Transfer,
     piece: &[u8],

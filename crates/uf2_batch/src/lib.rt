@@ -2,7 +2,7 @@
 // the settings say of a family is asked once for a run of arrivals of one family (`judged`).
 #![tactic(auto)]
 
-mod opening;
+pub mod opening;
 
 ghost use Rattle.std.specs.Prelude.{◌≡◌, ◌≤◌, length};
 ghost use Rattle.arrival.specs.Arrive.{receive_of};

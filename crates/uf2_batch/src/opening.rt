@@ -10,7 +10,7 @@ use uf2_checks::Lengths;
 use uf2_known::judged::Judgement;
 
 // Settings, a family and the lent buffers, judged.
-pub(crate) fn judge_lent(
+pub fn judge_lent(
     settings: Settings,
     family: u32,
     flash: &[u8],

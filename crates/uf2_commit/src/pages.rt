@@ -31,7 +31,7 @@ fn page(
 }
 
 // Writes a page. A comment stores nothing, nor does what is kept.
-pub(crate) fn write(
+pub fn write(
     deed: Deed,
     kind: Kind,
     at: usize,

@@ -1,8 +1,8 @@
 // What an arrival comes to: the checks in their order, and what an accepted block does. Nothing is written.
 #![tactic(auto)]
 
-mod deeds;
-mod settling;
+pub mod deeds;
+pub mod settling;
 
 ghost use Rattle.std.specs.Prelude.{◌≡◌};
 ghost use Rattle.laws.specs.Numbered.{numbered};

@@ -49,7 +49,7 @@ pub fn accept_known(
 
 // One arrival accepted, for flash that is read where it is mapped and written by a driver: transfer, maps and RAM are left as a take leaves them,
 // and what is to be done to the flash is the plan.
-fn accept(
+pub fn accept(
     settings: Settings,
     transfer: Transfer,
     arrival: &[u8],

@@ -1,7 +1,7 @@
 // Reasons for C: why an arrival is answered as it is, and why a family has a place or none. A library of its own.
 #![tactic(auto)]
 
-mod reason_bytes;
+pub mod reason_bytes;
 pub mod told;
 
 ghost use Rattle.std.specs.Prelude.{◌≡◌};
