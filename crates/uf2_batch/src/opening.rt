@@ -19,7 +19,7 @@ pub fn judge_lent(
     main: &[u8],
     xip: &[u8],
 ) -> Judgement
-    ensures value { result ≡ judged_of settings (lens_of (lent_at flash seen sectors main xip)) (length seen.now) (length sectors.now) family }
+    ensures value { result ≡ judged_of settings (lens_of (lent_at flash.now seen.now sectors.now main.now xip.now)) (length seen.now) (length sectors.now) family }
     ensures low { StartsLow result.kept.rooms.flash }
 {
     let lens = Lengths {

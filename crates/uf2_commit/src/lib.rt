@@ -35,7 +35,7 @@ pub fn enter(
     main: &mut [u8],
     xip: &mut [u8],
 ) -> Plan
-    ensures { entering result seen.new (beside_left sectors main xip) ≡ entering_of placed deed accepted (payload_of arrival.now) seen.old (beside_at sectors main xip) }
+    ensures { entering result seen.new (beside_left sectors.new main.new xip.new) ≡ entering_of placed deed accepted (payload_of arrival.now) seen.old (beside_at sectors.old main.old xip.old) }
 {
     let number = placed.number as usize;
     let body = placed.body;

@@ -47,7 +47,7 @@ pub fn judge(
     main: &[u8],
     xip: &[u8],
 ) -> Verdict
-    ensures { numbered decision_number (decision result) ≡ numbered decision_number (known_decision known (world transfer (lent_at flash seen sectors main xip)) arrival.now) }
+    ensures { numbered decision_number (decision result) ≡ numbered decision_number (known_decision known (world transfer (lent_at flash.now seen.now sectors.now main.now xip.now)) arrival.now) }
 {
     if !known.right {
         return Verdict::Leaves(Answer::BadBuffers);

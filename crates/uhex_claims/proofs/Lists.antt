@@ -2,11 +2,11 @@
 use Prim.Native.Nat.{ℕ, ◌+◌, ◌≤◌, ◌<◌}
 use mathlib.Core.Path.{◌≡◌, refl, sym, ap, subst, ◌∙◌}
 use mathlib.Core.Logic.{◌⊎◌, inl, inr}
-use mathlib.Core.Bool.{Bool, true, false, ◌||◌, cond}
+use mathlib.Core.Bool.{true, cond}
 use mathlib.Core.List.{List, [], ◌∷◌, ◌++◌}
 use native.Mathlib.Omega.{arith}
-use lib.ListN.{length, replicate}
-use lib.Dec.{ltb, leb, eqb}
+use lib.ListN.{length}
+use lib.Dec.{ltb}
 use borrow.Author.Tests.{le-leb, ltb-true, ltb-false}
 use Rattle.laws.proofs.Tests.{split, clash, both}
 use Rattle.laws.specs.Stores.{Store}
@@ -21,9 +21,9 @@ use Rattle.uhex_grammar.specs.declared.Failure.{Failure}
 use Rattle.uhex_grammar.specs.declared.ReaderState.{ReaderState}
 use Rattle.uhex_grammar.specs.declared.ReaderState.TheVariants as state
 use Rattle.uhex_effects.specs.declared.Reader.{Reader}
-use Rattle.uhex_reader.specs.Reader.{bad_failure, bad_reader, with_state, moved_to}
+use Rattle.uhex_reader.specs.Reader.{with_state, moved_to}
 use Rattle.uhex_effects.specs.declared.Effect.{Effect}
-use Rattle.uhex_reader.specs.Line.{LineOutcome, line_outcome, failing, bad_image, effect_outcome, line_of}
+use Rattle.uhex_reader.specs.Line.{LineOutcome, line_outcome, bad_image, effect_outcome, line_of}
 use Rattle.uhex_claims.specs.Facts.{Ready, moves_offset, LengthKept, StaysGood, FailuresFail}
 use Rattle.uhex_claims.specs.Lines.{Session, read_line, next, read_all, line_answers, store_of, is_stored, stores_of}
 use Rattle.uhex_claims.specs.Claims.{FailureStays, EndStays}
@@ -34,7 +34,7 @@ use Rattle.uhex_claims.specs.Items.{Item, item_of, Says, none, line}
 use Rattle.uhex_claims.specs.State.{Place, between, opened, body, padded, gives_for, State, after, state_after, fits_in, answer_for, answers_for, image_with, image_for, stores_with, stores_for, reader_state_of, both_of, reader_of}
 use Rattle.uhex_claims.specs.WholefileClaims as claims
 use Rattle.uhex_claims.specs.WholefileClaims.{Acceptance, Stop}
-use Rattle.uhex_claims.proofs.OneRecord.{Goes, EffectCase, fails, goes, ends, steps, made, word_item, line_made, line-goes, line-ends, answer_most, answer_least}
+use Rattle.uhex_claims.proofs.OneRecord.{Goes, EffectCase, fails, goes, ends, steps, word_item, line_made, line-goes, line-ends, answer_most, answer_least}
 use Rattle.uhex_claims.proofs.Runs.{Runs, stop, step}
 
 -- a reader that knows what records say, and an image

@@ -2,21 +2,21 @@
 use Prim.Native.Nat.{ℕ, ◌+◌, ◌%◌, ◌≤◌}
 use mathlib.Core.Path.{◌≡◌, refl, sym, ap, ◌∙◌}
 use mathlib.Core.Logic.{◌≢◌}
-use mathlib.Core.Bool.{Bool, true, false, not, ◌&&◌, ◌||◌, cond, and-false, or-false}
+use mathlib.Core.Bool.{Bool, true, false, ◌&&◌, ◌||◌, cond, and-false, or-false}
 use mathlib.Core.List.{List}
 use native.Mathlib.Omega.{arith}
 use lib.Dec.{ltb, leb, eqb}
-use lib.ListN.{length, get_or, take}
+use lib.ListN.{length}
 use lib.Seq.{length-take-le, get_or-take}
-use borrow.Author.Tests.{eqb-true, eqb-false, leb-true, leb-false, ltb-false, not-false, eq-eqb, ne_eqb, le-leb, le-ltb, lt-leb, lt-ltb}
+use borrow.Author.Tests.{eqb-true, eqb-false, leb-true, leb-false, ltb-false, eq-eqb, ne_eqb, le-leb, le-ltb, lt-ltb}
 use Rattle.laws.specs.Over.{over}
-use Rattle.laws.proofs.Tests.{split, clash, is_false, eqb_same, or_right, and_left, and_right}
+use Rattle.laws.proofs.Tests.{split, clash, eqb_same, and_left, and_right}
 use Rattle.ihex_record.specs.Record.{read_of, word_of as word_at}
 use Rattle.ihex_record.specs.declared.Record.{Record}
 use Rattle.ihex_record.specs.declared.ParseResult.TheVariants as parsed
 use Rattle.ihex_record.proofs.Good.{good_len, length_data}
 use Rattle.uhex_grammar.specs.Answers.{number_of, is_failure}
-use Rattle.uhex_grammar.specs.Boards.{is_v1, is_v2, has_board, with_board, both_boards}
+use Rattle.uhex_grammar.specs.Boards.{is_v1, is_v2, with_board}
 use Rattle.uhex_grammar.specs.Grammar.{is_extended_linear, is_end_of_file, is_block_start, data_kind, after_padding, role_of}
 use Rattle.uhex_grammar.specs.declared.Answer.{Answer}
 use Rattle.uhex_grammar.specs.declared.Answer.TheVariants as answer

@@ -1,23 +1,22 @@
 -- Rows 20 to 25 in numbers. Assumes nothing.
-use Prim.Native.Nat.{ℕ, zero, suc, ◌+◌, ◌-◌, ◌*◌, ◌/◌, ◌%◌, ◌<◌, ◌≤◌}
+use Prim.Native.Nat.{ℕ, zero, suc, ◌+◌, ◌-◌, ◌*◌, ◌%◌, ◌<◌, ◌≤◌}
 use mathlib.Core.Path.{◌≡◌, refl, sym, ap, subst, ◌∙◌}
 use mathlib.Core.Logic.{◌≢◌, ◌⊎◌, inl, inr, ⊎_elim}
-use mathlib.Core.Bool.{Bool, true, false, cond, not, ◌&&◌, ◌||◌}
-use mathlib.Core.List.{List, [], ◌∷◌, ◌++◌, append-nil, append_assoc}
+use mathlib.Core.Bool.{true, false, ◌&&◌, ◌||◌}
+use mathlib.Core.List.{List, [], ◌∷◌, ◌++◌, append_assoc}
 use native.Mathlib.Omega.{arith}
 use lib.Dec.{ltb, leb, eqb}
-use lib.ListN.{length, get_or, take, drop, replicate, length-append, length-replicate, length-take, get_or-append, get_or-eq_default, get_or-replicate}
+use lib.ListN.{length, get_or, replicate, length-append, length-replicate, get_or-append, get_or-eq_default, get_or-replicate}
 use lib.Seq.{take-append_seam, get_or-append_seam, get_or-append-add, take-length}
-use borrow.Author.Tests.{lt-ltb, le-ltb, le-leb, lt-leb, eq-eqb, ne_eqb, eqb-true, eqb-false, ltb-true, ltb-false, leb-true, leb-false}
+use borrow.Author.Tests.{lt-ltb, le-ltb, le-leb, lt-leb, ne_eqb, eqb-true, eqb-false, ltb-true, ltb-false, leb-true}
 use Rattle.laws.proofs.Tests.{split, both, clash, is_false, or_left, or_right}
 use Rattle.laws.proofs.TabLaws.{is_tab}
 use Rattle.ihex_record.specs.declared.Line.{Line}
 use Rattle.ihex_record.specs.declared.ParseResult.{ParseResult}
-use Rattle.ihex_record.specs.declared.ParseResult.TheVariants.{Good, NoColon, BadShape, BadDigit, TooLong, BadLength, BadSum}
-use Rattle.ihex_record.specs.Record.{text_len, text_of, digit_of, all_digits, first_bad, bytes_of, data32, total, refused, bad_shape, line_of_bytes, line_of_text, read_of, all_by, first_by, bytes_by}
-use Rattle.ihex_record.specs.Record as record'
+use Rattle.ihex_record.specs.declared.ParseResult.TheVariants.{NoColon, BadShape, BadDigit, TooLong, BadLength, BadSum}
+use Rattle.ihex_record.specs.Record.{text_len, text_of, digit_of, all_digits, first_bad, bytes_of, data32, total, bad_shape, line_of_bytes, line_of_text, read_of, all_by, first_by, bytes_by}
 use Rattle.ihex_record.proofs.Endings.{text_whole, text-lf, text-crlf}
-use Rattle.ihex_record.proofs.Checks.{is_empty, is_no_colon, is-bad-shape, is-bad-digit, is-bytes, is_too_long, is-bad-length, is-bad-sum, is_good_lem}
+use Rattle.ihex_record.proofs.Checks.{is_no_colon, is-bad-shape, is-bad-digit, is-bytes, is_too_long, is-bad-length, is-bad-sum, is_good_lem}
 use Rattle.uhex_claims.specs.Rows.{Digit, decimal, upper, lower, Bytes, no_byte, byte, TextOf, unended, ended_lf, ended_crlf, sum_of, Shaped, Says, row_20, row_21, row_22, row_23, row_24, row_25, good, LineIsRead, EveryLineSays}
 
 -- ---- digits

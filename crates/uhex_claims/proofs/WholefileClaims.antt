@@ -2,7 +2,7 @@
 use Prim.Native.Nat.{ℕ, ◌+◌, ◌≤◌}
 use mathlib.Core.Path.{◌≡◌, refl, sym, ap, subst, ◌∙◌}
 use mathlib.Core.Logic.{◌⊎◌, ◌≢◌, inl, inr, ⊎_elim}
-use mathlib.Core.Bool.{Bool, true, false, ◌&&◌, ◌||◌, not, cond}
+use mathlib.Core.Bool.{true, false, ◌&&◌, ◌||◌, not, cond}
 use mathlib.Core.List.{List, [], ◌∷◌, ◌++◌, append_assoc, append-nil}
 use native.Mathlib.Omega.{arith}
 use lib.ListN.{length}
@@ -20,7 +20,7 @@ use Rattle.uhex_grammar.specs.declared.Answer.TheVariants as answer
 use Rattle.uhex_grammar.specs.declared.ReaderState.TheVariants as state
 use Rattle.uhex_effects.specs.declared.Reader.{Reader}
 use Rattle.uhex_reader.specs.Reader.{bad_failure, bad_reader, with_state, moved_to}
-use Rattle.uhex_reader.specs.Line.{LineOutcome, line_outcome, bad_image, line_of}
+use Rattle.uhex_reader.specs.Line.{LineOutcome, line_outcome, line_of}
 use Rattle.uhex_claims.specs.Facts.{Ready, OtherBoardUnchanged}
 use Rattle.uhex_claims.specs.Claims.{ImageLengthKept}
 use Rattle.uhex_claims.proofs.Facts.{other_board_unchanged}
@@ -29,11 +29,11 @@ use Rattle.uhex_claims.specs.Lines.{Session, fresh_session, read_line, next, rea
 use Rattle.uhex_claims.specs.Items.{Item, item_of, Says, none, line, size_of}
 use Rattle.uhex_claims.specs.Whole.{data_type_of, Section, Sections, all_items, how_many, File}
 use Rattle.uhex_claims.specs.State.{Place, between, opened, body, padded, is_in, gives_for, State, begin, state_after, answer_for, answers_for, image_for, stores_for, reader_state_of, reader_of}
-use Rattle.uhex_claims.specs.WholefileClaims.{Setup, FileEnd, FileEnds, EndedIsFile, Acceptance, Agreement, TakenIsKnown, Memory, MemoryIsRecords, OwnStore, StoredIsOwn, OtherBoardUntouched}
+use Rattle.uhex_claims.specs.WholefileClaims.{Setup, FileEnd, FileEnds, EndedIsFile, TakenIsKnown, MemoryIsRecords, OwnStore, StoredIsOwn, OtherBoardUntouched}
 use Rattle.uhex_claims.proofs.OneRecord.{line-goes, line-ends, answer_most, answer_stored}
-use Rattle.uhex_claims.proofs.Runs.{Runs, Once, is_v, size_append, size_after, sections_run, data_all}
+use Rattle.uhex_claims.proofs.Runs.{Runs, Once, size_append, size_after, sections_run, data_all}
 use Rattle.uhex_claims.proofs.Parse.{parsed}
-use Rattle.uhex_claims.proofs.Lists.{session, run_reads, run_stores, AfterRecords, refused, went, last, viewed, RecordsOf, taken_run, last_run, run_accepted, recall}
+use Rattle.uhex_claims.proofs.Lists.{session, run_reads, run_stores, AfterRecords, refused, went, last, viewed, taken_run, last_run, run_accepted, recall}
 
 -- ---- lists
 

@@ -12,7 +12,7 @@ use Rattle.memory.specs.Many.{many}
 use Rattle.memory.proofs.fill.Laws.{length_many, get_d_many}
 use Rattle.laws.specs.Over.{over}
 use Rattle.laws.proofs.Tests.{split}
-use Rattle.laws.proofs.OverLaws.{length_over, over_inside, over_before, over_after, copied_over}
+use Rattle.laws.proofs.OverLaws.{length_over, over_inside, over_before, over_after, part_over}
 use Rattle.md5_digest.specs.Md5.{md5_of}
 use Rattle.md5_digest.specs.declared.Digest.{Digest}
 use Rattle.uf2_make_regions.specs.Sector.{sector_of}
@@ -27,17 +27,17 @@ blank = refl
 
 module _ (image : List ℕ) (at from count : ℕ) (room : at + count ≤ 4096) (inside : from + count ≤ length image) where
   pub placed_over : {d ys : List ℕ} → d ≡ many 4096 255
-      → ys ≡ take (length (take (from + count - from) (drop from image))) (take (from + count - from) (drop from image)) ++ drop (length (take (from + count - from) (drop from image))) (take (at + count - at) (drop at d))
+      → ys ≡ take (from + count - from) (drop from image)
       → put_mid at (at + count - at) d ys ≡ over (many 4096 255) at (take count (drop from image))
   placed_over {d} {ys} hd hy =
       let p = take (from + count - from) (drop from image) in
       let n : from + count - from ≡ count = omega arith in
       let long : length p ≡ count = simp (length-take, length-drop) (omega arith) in
       let size : length d ≡ 4096 = ap length hd ∙ length_many 4096 255 in
-      copied_over at count d p ys long (omega arith) hy ∙ rw (hd, n) refl
+      part_over at count d p ys long (omega arith) hy ∙ rw (hd, n) refl
 
   pub placed_long : {d ys : List ℕ} → d ≡ many 4096 255
-      → ys ≡ take (length (take (from + count - from) (drop from image))) (take (from + count - from) (drop from image)) ++ drop (length (take (from + count - from) (drop from image))) (take (at + count - at) (drop at d))
+      → ys ≡ take (from + count - from) (drop from image)
       → length (put_mid at (at + count - at) d ys) ≡ 4096
   placed_long hd hy =
       let fits : at + length (take count (drop from image)) ≤ length (many 4096 255) =

@@ -1,19 +1,14 @@
 -- Each case of what a size and a type say, and answers that are no tag. Assumes nothing.
 use mathlib.Core.Path.{◌≡◌, refl, ap}
 use mathlib.Core.Bool.{Bool, true, false, cond}
-use mathlib.Core.Logic.{⊎_elim}
-use mathlib.Core.List.{[], ◌∷◌}
 use Prim.Native.Nat.{ℕ, ◌+◌, ◌<◌, ◌≤◌}
 use native.Mathlib.Omega.{arith}
 use borrow.Author.Tests.{lt-ltb, le-ltb, le-leb, lt-leb, eq-eqb, ne_eqb}
-use types.Run.{OneOf}
-use denote.Enum.Declared.{tag_of as case_of}
 use Rattle.laws.proofs.Tests.{clash}
 use Rattle.uf2_tags.specs.declared.one_tag.Tag.{Tag}
 use Rattle.uf2_tags.specs.declared.one_tag.Answer.{Answer}
 use Rattle.uf2_tags.specs.declared.one_tag.Answer.TheVariants.{Tag as a-tag, End, BadLength, BadPlace, NotBlock, BadPayload, ShortTag, TypedEnd, PastRoom, NoRoom}
 use Rattle.uf2_tags.specs.Tag.{tag_of, sized, is_tag, on_tag}
-use Rattle.uf2_tags.specs.contracts.one_tag.Answer.{the_type}
 
 -- ---- a size and a type
 
@@ -55,12 +50,9 @@ tag_same s t e = cc
 
 -- ---- answers that are no tag
 
--- by the case, as a `let .. else` tells it
-pub not_tag : (a : Answer) → OneOf (1 ∷ 2 ∷ 3 ∷ 4 ∷ 5 ∷ 6 ∷ 7 ∷ 8 ∷ 9 ∷ []) (case_of the_type a) → is_tag a ≡ false
-not_tag (a-tag t) h = absurd (none h)
-  where
-    none : OneOf (1 ∷ 2 ∷ 3 ∷ 4 ∷ 5 ∷ 6 ∷ 7 ∷ 8 ∷ 9 ∷ []) 0 → ⊥
-    none x = ⊎_elim (λ y. omega arith) (⊎_elim (λ y. omega arith) (⊎_elim (λ y. omega arith) (⊎_elim (λ y. omega arith) (⊎_elim (λ y. omega arith) (⊎_elim (λ y. omega arith) (⊎_elim (λ y. omega arith) (⊎_elim (λ y. omega arith) (λ y. omega arith)))))))) x
+-- as a `let .. else` tells it
+pub not_tag : (a : Answer) → ((t : Tag) → a ≡ a-tag t → ⊥) → is_tag a ≡ false
+not_tag (a-tag t) h = absurd (h t refl)
 not_tag End h = refl
 not_tag BadLength h = refl
 not_tag BadPlace h = refl
