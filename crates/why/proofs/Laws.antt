@@ -24,11 +24,9 @@ use Rattle.why_settings.specs.declared.Finding.{Finding}
 use Rattle.why_settings.specs.declared.Finding.TheVariants.{Sound, Bad}
 use Rattle.why_settings.specs.declared.Comparison.{Comparison}
 use Rattle.why_place.specs.Placing.{flash_denials, flash_access, granted_spot, spot_by, spot_of}
-use Rattle.why_place.specs.declared.Denial.{Denial}
 use Rattle.why_place.specs.declared.Access.{Access}
 use Rattle.why_place.specs.declared.Access.TheVariants.{Granted, Denied}
 use Rattle.why_place.specs.declared.Spot.{Spot}
-use Rattle.why_place.specs.declared.Spot.TheVariants as spot
 use Rattle.why_causes.specs.Causes.{reason_with}
 use Rattle.why_causes.specs.Checks.{by_numbers, row_of, or_next, or_last, state_row, header_row}
 use Rattle.why_causes.specs.Lengths.{flash_row, lengths_row}
@@ -43,7 +41,7 @@ use Rattle.why.specs.declared.Why.{Why}
 use Rattle.why.specs.declared.PlaceOrigin.{PlaceOrigin}
 use Rattle.why.specs.declared.PlaceOrigin.TheVariants.{Refused}
 use Rattle.why.specs.declared.WhyPlace.{WhyPlace}
-use Rattle.why.specs.Why.{settings_row, denial_reason, denial_row, block_kind, head_in, place_in, last_of, reason_of, discards_of, entries_of, why_of}
+use Rattle.why.specs.Why.{settings_row, block_kind, head_in, place_in, last_of, reason_of, discards_of, entries_of, why_of}
 use Rattle.why.specs.Placed.{place_checks, holds_of, placed_spot, placed_by, placed_of, placed_marks, why_place_of}
 use Rattle.why.specs.Parts.{finding_row, access_row, access_in, board_part, early_part, block_part, place_part}
 use Rattle.why.proofs.Rows.{or_three, settings_rows, denial_rows, reason_parts}
