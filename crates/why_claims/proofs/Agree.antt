@@ -1,40 +1,36 @@
 -- Rows 2, 4 to 8 and all of them beside the receiver's. Assumes nothing.
 use mathlib.Core.Path.{◌≡◌, refl, sym, ap, ◌∙◌}
-use mathlib.Core.Bool.{Bool, true, false, cond, not, ◌&&◌, ◌||◌}
-use mathlib.Core.Logic.{◌≢◌}
+use mathlib.Core.Bool.{Bool, true, false, cond, not, ◌&&◌}
 use mathlib.Core.List.{List, ◌++◌}
-use Prim.Native.Nat.{ℕ, ◌+◌, ◌-◌, ◌%◌, ◌≤◌}
+use Prim.Native.Nat.{ℕ, ◌+◌, ◌-◌, ◌≤◌}
 use native.Mathlib.Omega.{arith}
-use lib.Dec.{leb, eqb}
+use lib.Dec.{eqb}
 use lib.ListN.{length}
-use Rattle.laws.proofs.Tests.{split, clash, is_false, and_left, and_right}
+use Rattle.laws.proofs.Tests.{is_false}
 use Rattle.memory.specs.Bitmap.{marked_in}
 use Rattle.uf2_block.specs.Block.{field_at, has_flag, fields_of, flagged_of, header_of}
 use Rattle.uf2_block.specs.declared.Block.{Block}
-use Rattle.uf2_block.specs.declared.Header.{Header}
 use Rattle.uf2_block.specs.declared.Header.TheVariants as header
 use Rattle.partitions.specs.Settings.{good_settings}
 use Rattle.partitions.specs.declared.Settings.{Settings}
 use Rattle.placement.specs.Place.{whole_if, place_of, ram_family}
 use Rattle.placement.specs.declared.Place.{Place}
 use Rattle.placement.specs.declared.Place.TheVariants.{Nowhere, At}
-use Rattle.transfer.specs.Transfer.{same_kind, head_with, deed_answer, good_state}
+use Rattle.transfer.specs.Transfer.{same_kind, head_with, good_state}
 use Rattle.transfer.specs.declared.Kind.{Kind}
 use Rattle.transfer.specs.declared.Kind.TheVariants.{Flash, MainRam, XipRam}
-use Rattle.transfer.specs.declared.Deed.TheVariants.{Stores, Notes, Keeps}
 use Rattle.transfer.specs.declared.State.{State}
 use Rattle.transfer.specs.declared.Answer.{Answer}
 use Rattle.transfer.specs.declared.Answer.TheVariants as answer
-use Rattle.uf2_checks.specs.Screen.{base_of, extent_of, window_of, window_kind, note_kind, rooms_of, room_in, bad_numbers, bad_address, placed_at, placed, strayed, fitted, noted, data_found, note_found, found, after_header, screen_in, screen_of}
+use Rattle.uf2_checks.specs.Screen.{base_of, extent_of, window_of, window_kind, note_kind, rooms_of, room_in, bad_numbers, bad_address, placed_at, placed, strayed, noted, data_found, note_found, found, after_header, screen_in, screen_of}
 use Rattle.uf2_checks.specs.declared.Lengths.{Lengths}
 use Rattle.uf2_checks.specs.declared.Window.{Window}
 use Rattle.uf2_checks.specs.declared.Window.TheVariants.{Outside, In}
-use Rattle.uf2_checks.specs.declared.Body.{Body}
 use Rattle.uf2_checks.specs.declared.Body.TheVariants.{Page, Note}
 use Rattle.uf2_checks.specs.declared.Screening.{Screening}
 use Rattle.uf2_checks.specs.declared.Screening.TheVariants.{Refused, Passed}
-use Rattle.uf2_checks.proofs.Windows.{InWindow, WindowFacts, window_facts}
-use Rattle.arrival.specs.Arrive.{World, stays, lengths_of, right_lengths, stands_at, standing, deed_of, after_screening, decide, decided, forecast_of, look_of}
+use Rattle.uf2_checks.proofs.Windows.{WindowFacts, window_facts}
+use Rattle.arrival.specs.Arrive.{World, stays, lengths_of, right_lengths, stands_at, standing, after_screening, decide, forecast_of, look_of}
 use Rattle.why_settings.specs.Faults.{first_fault}
 use Rattle.why_settings.specs.declared.Finding.{Finding}
 use Rattle.why_settings.specs.declared.Finding.TheVariants.{Sound, Bad}
