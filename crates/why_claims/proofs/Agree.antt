@@ -167,13 +167,13 @@ module _ (s : Settings) (n : Lengths) (t : State) (seen flash a : List ℕ) (kep
     note-ram k true size h = numbers-told k size h
     note-ram k false size h = sym (settled_refused t seen kept answer.NoPlace)
 
-    pub note-answer : (k : Kind) → y ≡ settled t seen kept (Passed (placed_at k Note b))
+    pub note_answer : (k : Kind) → y ≡ settled t seen kept (Passed (placed_at k Note b))
         → told (access_row b.family (access_in s k b.family))
         (told (row_of by_numbers (numbers_row b.total b.number (room_of (place_of s n.flash b.family) k))) y)
         ≡ settled t seen kept (note_found k (room_in (rooms_of s n.flash b.family) k) b)
-    note-answer Flash h = note_flash (place_of s n.flash b.family) refl h
-    note-answer MainRam h = ram_answer s b.family _ ∙ note-ram MainRam (ram_family s b.family) (extent_of MainRam) h
-    note-answer XipRam h = ram_answer s b.family _ ∙ note-ram XipRam (ram_family s b.family) (extent_of XipRam) h
+    note_answer Flash h = note_flash (place_of s n.flash b.family) refl h
+    note_answer MainRam h = ram_answer s b.family _ ∙ note-ram MainRam (ram_family s b.family) (extent_of MainRam) h
+    note_answer XipRam h = ram_answer s b.family _ ∙ note-ram XipRam (ram_family s b.family) (extent_of XipRam) h
 
   -- a data block
   module _ (y : Answer) where
@@ -285,7 +285,7 @@ module _ (s : Settings) (n : Lengths) (t : State) (seen flash a : List ℕ) (b :
       (cond c (note_found (note_kind n t b) (room_in (rooms_of s n.flash b.family) (note_kind n t b)) b)
       (data_found (window_of n b.address) (room_in (rooms_of s n.flash b.family) (window_kind (window_of n b.address))) b))
   block_answer true =
-      note-answer s n t seen flash a (stands_at flash (place_of s n.flash b.family) a) b _ (note_kind n t b)
+      note_answer s n t seen flash a (stands_at flash (place_of s n.flash b.family) a) b _ (note_kind n t b)
       (note_late t seen flash a b (note_kind n t b) (start_at (place_of s n.flash b.family)) (size_at (place_of s n.flash b.family))
       (stands_at flash (place_of s n.flash b.family) a))
   block_answer false = page_answer (window_of n b.address) refl

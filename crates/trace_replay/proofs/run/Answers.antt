@@ -1,7 +1,7 @@
 use mathlib.Core.Path.{refl, sym, ◌∙◌}
 use native.Mathlib.Omega.{arith}
 use borrow.Author.Tests.{not-true, not-false}
-use Rattle.trace_replay.proofs.Laws.{run-goes-on, run_ends, from_fresh, tally_none, tally_more, stops_counted, tally_ends, whole_next, begins_next, index_next}
+use Rattle.trace_replay.proofs.Laws.{run_goes_on, run_ends, from_fresh, tally_none, tally_more, stops_counted, tally_ends, whole_next, begins_next, index_next}
 use borrow.Author.Rules.{rules}
 use Rattle.trace_replay.proofs.run.Goals as goal
 
@@ -38,7 +38,7 @@ loop-at-preserved c =
     let goes = sym c.is_replayed.ensures ∙ not-false _ c.if-not-is_replayed.false-raw in
     let whole = whole_next _ _ _ _ _ at.invariant.1 to done.replay_piece-done.ensures goes in
     let next = index_next _ _ whole in
-    (omega (arith, to, more), begins_next _ _ whole, c.tally-1.given ∙ at.invariant.2, flash-left.flash-1.given ∙ at.invariant.3, seen-left.seen-1.given ∙ at.invariant.4, sectors-left.sectors-1.given ∙ at.invariant.5, main-left.main-1.given ∙ at.invariant.6, xip-left.xip-1.given ∙ at.invariant.7, tally_more _ _ _ _ next at.invariant.1 at.invariant.8 c.count.ensures, run-goes-on _ _ _ _ _ _ more to done.replay_piece-done.ensures next goes ∙ at.invariant.9)
+    (omega (arith, to, more), begins_next _ _ whole, c.tally-1.given ∙ at.invariant.2, flash-left.flash-1.given ∙ at.invariant.3, seen-left.seen-1.given ∙ at.invariant.4, sectors-left.sectors-1.given ∙ at.invariant.5, main-left.main-1.given ∙ at.invariant.6, xip-left.xip-1.given ∙ at.invariant.7, tally_more _ _ _ _ next at.invariant.1 at.invariant.8 c.count.ensures, run_goes_on _ _ _ _ _ _ more to done.replay_piece-done.ensures next goes ∙ at.invariant.9)
 
 pub returns : goal.returns
 returns c =
