@@ -1,13 +1,10 @@
 // Reads lines of Universal Hex from standard input for one board and prints the answer to each: a board image of 262,144 bytes.
 #![tactic(auto)]
 
-ghost use Rattle.std.specs.Prelude.{◌+◌, ◌<◌, ◌≤◌, length, take, IfOk};
-ghost use Rattle.std.specs.Io.{ReadsAtMost};
-ghost use Rattle.std.specs.Io.KnownBytes.{Consumes, IsAtEnd};
+ghost use Rattle.std.specs.Prelude.{◌+◌, ◌≤◌, length, IfOk};
 
 use std::env::{Env, FillError};
 use std::io;
-use std::io::Read;
 use uhex_effects::Reader;
 use uhex_grammar::{Answer, Boards};
 
@@ -33,23 +30,6 @@ fn own_board(rt: &impl Env) -> u16 {
         b"V2" => Boards::V2,
         _ => 0,
     }
-}
-
-// Reads until the buffer is full or the input ends, and answers how many bytes were put at its start.
-fn read_full<R: Read>(from: &mut R, buf: &mut [u8]) -> io::Result<usize>
-    ensures within { ReadsAtMost result buf.new }
-    ensures bytes { IfOk result (λ n. Consumes (R.remaining from.old) (R.remaining from.new) (take n buf.new)) }
-    ensures short_at_end { IfOk result (λ n. n < length buf.new → IsAtEnd (R.remaining from.new)) }
-{
-    let mut done = 0;
-    while done < buf.len() {
-        let n = from.read(&mut buf[done..])?;
-        if n == 0 {
-            break;
-        }
-        done += n;
-    }
-    Ok(done)
 }
 
 // Where so many bytes more go in the text that waits to be written: behind the used ones, or at the start once these are written.
@@ -126,7 +106,7 @@ fn session(
 ) -> io::Result<Reader>
     requires { 80 ≤ length waiting.old }
 {
-    let n = read_full(&mut rt.reader(), input)?;
+    let n = reading::read_full(&mut rt.reader(), input)?;
     run(rt, &input[..n], own, image, waiting)
 }
 

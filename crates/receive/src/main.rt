@@ -2,9 +2,8 @@
 // alone, absolute allowed.
 #![tactic(auto)]
 
-ghost use Rattle.std.specs.Prelude.{◌<◌, length, take, IfOk};
-ghost use Rattle.std.specs.Io.{ReadsAtMost};
-ghost use Rattle.std.specs.Io.KnownBytes.{Consumes, IsAtEnd};
+ghost use Rattle.std.specs.Prelude.{IfOk, IsFalse};
+ghost use Rattle.std.specs.Io.KnownBytes.{IsAtEnd};
 
 use partitions::Settings;
 use std::io;
@@ -18,23 +17,6 @@ use uf2_commit::receipts::Receipt;
 struct Progress {
     transfer: Transfer,
     more: bool,
-}
-
-// Reads until the buffer is full or the input ends, and answers how many bytes were put at its start.
-fn read_full<R: Read>(from: &mut R, buf: &mut [u8]) -> io::Result<usize>
-    ensures within { ReadsAtMost result buf.new }
-    ensures bytes { IfOk result (λ n. Consumes (R.remaining from.old) (R.remaining from.new) (take n buf.new)) }
-    ensures short_at_end { IfOk result (λ n. n < length buf.new → IsAtEnd (R.remaining from.new)) }
-{
-    let mut done = 0;
-    while done < buf.len() {
-        let n = from.read(&mut buf[done..])?;
-        if n == 0 {
-            break;
-        }
-        done += n;
-    }
-    Ok(done)
 }
 
 fn print_answer(rt: &impl Print, index: u64, answer: u8, discarded: bool) -> io::Result<()> {
@@ -60,11 +42,13 @@ fn answer_piece<R: Read>(
     flash: &mut [u8],
     seen: &mut [u8],
     sectors: &mut [u8],
-) -> io::Result<Progress> {
+) -> io::Result<Progress>
+    ensures { IfOk result (λ progress. IsFalse progress.more → IsAtEnd (R.remaining from.new)) }
+{
     let mut main_ram = [0u8; 0];
     let mut xip_ram = [0u8; 0];
     let mut arrival = [0u8; Block::ARRIVAL];
-    let n = read_full(from, &mut arrival)?;
+    let n = reading::read_full(from, &mut arrival)?;
     if n == 0 {
         return Ok(Progress {
             transfer,
