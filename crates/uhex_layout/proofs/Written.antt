@@ -1,12 +1,11 @@
 -- A reader that is written: its 16 bytes, and that it is read back from them. Assumes nothing.
-use Prim.Native.Nat.{ℕ, ◌<◌, ◌≤◌, ◌^◌}
+use Prim.Native.Nat.{ℕ, ◌<◌, ◌^◌}
 use mathlib.Core.Path.{◌≡◌, refl, ap, ◌∙◌}
 use mathlib.Core.Bool.{Bool, true, false}
-use mathlib.Core.List.{List, [], ◌∷◌, ◌++◌, append-nil}
+use mathlib.Core.List.{List, [], ◌∷◌, ◌++◌}
 use native.Mathlib.Omega.{arith}
 use lib.Dec.{leb}
-use lib.ListN.{length, take, drop, drop_of_length-le}
-use lib.Seq.{take-length}
+use lib.ListN.{length}
 use borrow.Author.Tests.{eq-eqb}
 use Rattle.laws.specs.Bytes.{low_first}
 use Rattle.laws.proofs.BytesLaws.{number_back}
@@ -25,16 +24,9 @@ use Rattle.uhex_layout.proofs.Read.{same_reader}
 
 -- ---- written
 
-bytes_length : (r : Reader) → length (reader_bytes r) ≡ 16
-unfolding reader_bytes state_code_bytes low_first
-bytes_length r = refl
-
-pub written_copied : (b : List ℕ) (r : Reader) {s d : List ℕ} → length b ≡ 16 → s ≡ reader_bytes r → d ≡ take (length s) s ++ drop (length s) b → d ≡ reader_written b r
+pub written_copied : (b : List ℕ) (r : Reader) {s d : List ℕ} → length b ≡ 16 → s ≡ reader_bytes r → d ≡ s → d ≡ reader_written b r
 unfolding reader_written
-written_copied b r {s} l e h =
-    let n : length (reader_bytes r) ≡ 16 = bytes_length r in
-    let past : length b ≤ length (reader_bytes r) = omega arith in
-    rw (eq-eqb (length b) 16 l) (h ∙ rw (e, take-length (reader_bytes r), drop_of_length-le b past) (append-nil (reader_bytes r)))
+written_copied b r l e h = rw (eq-eqb (length b) 16 l) (h ∙ e)
 
 -- ---- read back
 

@@ -1,11 +1,8 @@
 -- Calls by cases. Assumes nothing.
 use Prim.Native.Nat.{ℕ}
 use mathlib.Core.Path.{◌≡◌, refl, ap, ◌∙◌}
-use mathlib.Core.Logic.{◌≢◌, ⊎_elim}
-use mathlib.Core.List.{List, [], ◌∷◌, ◌++◌}
-use types.Run.{OneOf}
-use denote.Enum.Declared.{tag_of}
-use native.Mathlib.Omega.{arith}
+use mathlib.Core.Logic.{◌≢◌}
+use mathlib.Core.List.{List, ◌++◌}
 use lib.ListN.{length}
 use borrow.Author.Tests.{eq-eqb, ne_eqb}
 use Rattle.partitions.specs.declared.Settings.{Settings}
@@ -14,19 +11,18 @@ use Rattle.transfer.specs.Transfer.{number_of}
 use Rattle.placement.specs.declared.PlaceAnswer.{PlaceAnswer}
 use Rattle.placement.specs.declared.PlaceAnswer.TheVariants as asked
 use Rattle.placement.specs.Place.{ask_of, place_answer_number}
-use Rattle.placement.specs.contracts.PlaceAnswer.{the_type}
 use Rattle.uf2_block.specs.Write.{le32}
 use Rattle.settings_layout.specs.Layout.{settings_from}
 use Rattle.call_bytes.specs.PlacesCalls.{PlaceCall, place_call, place_call_of, ask_bytes}
 
 -- ---- a place asked for alone
 
--- the answer is none but a refusal, by its tag
-pub refused_told : (l : List ℕ) (x : PlaceAnswer) {n : ℕ} → OneOf (0 ∷ 1 ∷ 2 ∷ []) (tag_of the_type x) → n ≡ place_answer_number x → place_call n l ≡ place_call_of l x
+-- the answer is none but a refusal: it isn't Found
+pub refused_told : (l : List ℕ) (x : PlaceAnswer) {n : ℕ} → ((a m : ℕ) → x ≡ asked.Found a m → ⊥) → n ≡ place_answer_number x → place_call n l ≡ place_call_of l x
 refused_told l asked.BadBuffers h e = ap (λ (n : ℕ). place_call n l) e
 refused_told l asked.BadSettings h e = ap (λ (n : ℕ). place_call n l) e
 refused_told l asked.NoPlace h e = ap (λ (n : ℕ). place_call n l) e
-refused_told l (asked.Found a n) h e = absurd (⊎_elim (λ x. omega arith) (⊎_elim (λ x. omega arith) (λ x. omega arith)) h)
+refused_told l (asked.Found a n) h e = absurd (h a n refl)
 
 pub found_told : (l b : List ℕ) (x : PlaceAnswer) {n start len : ℕ} → x ≡ asked.Found start len → n ≡ place_answer_number x → b ≡ le32 start ++ le32 len → place_call n b ≡ place_call_of l x
 found_told l b x q e h = rw (e, h, q)
