@@ -198,10 +198,10 @@ module _ (out : List ℕ) (at kind : ℕ) (s : List ℕ) {o : List ℕ} {w : Sca
     off-pieces : (l : List ℕ) → goes_on (taken_of w.plain l) ≡ false → line_pieces w.plain l ≡ []
     off-pieces l h = no_pieces w.plain l (taken_of w.plain l) refl h
 
-    pub going-stop : {a : Answer} {q : List ℕ} {step : Step} {b : Answer} → step ≡ step_of w (line e) → step ≡ Stop a → q ≡ put e → b ≡ stop_of step
+    pub going_stop : {a : Answer} {q : List ℕ} {step : Step} {b : Answer} → step ≡ step_of w (line e) → step ≡ Stop a → q ≡ put e → b ≡ stop_of step
         → Walk out at kind s (body (Bad k b) w.tally) q
     unfolding verdict_of
-    going-stop {a} {q} {step} {b} x y p z =
+    going_stop {a} {q} {step} {b} x y p z =
         let l = line e in
         let h = step_stop w l a (sym x ∙ y) in
         let ls = lines_of (drop e s) in

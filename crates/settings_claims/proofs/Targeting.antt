@@ -25,7 +25,7 @@ use Rattle.placement.specs.declared.Choice.TheVariants as choice
 use Rattle.placement.specs.declared.Place.TheVariants.{Nowhere, At}
 use Rattle.placement.specs.Place.{first_of, entry_if, in_pass, chosen, chosen_entry, pass_query_of, pass_allows, pass_takes, used_count, gets_whole, whole_if, place_of_choice, place_of}
 use Rattle.placement.proofs.First.{first_all, first_none, first_hit, if_taken, if_passed}
-use Rattle.placement.proofs.Laws.{place_absolute, place_rp2040, place-whole, place-table, used_least, used_whole}
+use Rattle.placement.proofs.Laws.{place_absolute, place_rp2040, place_whole, place_table, used_least, used_whole}
 use Rattle.placement.specs.Place as place
 use Rattle.placement.proofs.Theorems.{no_place}
 use native.Mathlib.Nat.{le_refl, le_step}
@@ -312,10 +312,10 @@ module _ (s : Settings) (len f : ℕ) where
       split (eqb s.count 0)
       (λ c.
       let z = eqb-true s.count 0 c in
-      let x = whole_said (gets_whole s.arm s.riscv f) (sym (place-whole s len f na nr z) ∙ h) in
+      let x = whole_said (gets_whole s.arm s.riscv f) (sym (place_whole s len f na nr z) ∙ h) in
       place_at (gets_data z x.0) x.1 x.2)
       (λ c.
-      let x = choice_said _ (sym (place-table s len f na nr (eqb-false s.count 0 c)) ∙ h) in
+      let x = choice_said _ (sym (place_table s len f na nr (eqb-false s.count 0 c)) ∙ h) in
       let y = chosen_first s f most x.0 x.1 in
       place_at (entry y.0 x.0 na nr y.1) x.2 x.3)))
 
@@ -324,11 +324,11 @@ module _ (s : Settings) (len f : ℕ) where
 
   said_place : s.count ≤ 16 → {a n : ℕ} → HasPlace s len f a n → place_of s len f ≡ At a n
   said_place most (absolute q h) = place_absolute s len f q ∙ rw h
-  said_place most (whole_data z q) = let o = others 0xe48bff58 q (omega arith) (omega arith) in place-whole s len f o.0 o.1 z ∙ rw q
-  said_place most (whole_arm_s z q h) = let o = others 0xe48bff59 q (omega arith) (omega arith) in place-whole s len f o.0 o.1 z ∙ rw (q, h)
-  said_place most (whole_riscv z q h) = let o = others 0xe48bff5a q (omega arith) (omega arith) in place-whole s len f o.0 o.1 z ∙ rw (q, h)
+  said_place most (whole_data z q) = let o = others 0xe48bff58 q (omega arith) (omega arith) in place_whole s len f o.0 o.1 z ∙ rw q
+  said_place most (whole_arm_s z q h) = let o = others 0xe48bff59 q (omega arith) (omega arith) in place_whole s len f o.0 o.1 z ∙ rw (q, h)
+  said_place most (whole_riscv z q h) = let o = others 0xe48bff5a q (omega arith) (omega arith) in place_whole s len f o.0 o.1 z ∙ rw (q, h)
   said_place most (entry p k na nr m) =
-      place-table s len f na nr (omega (arith, m.taken.accepting.used)) ∙ rw (first_chosen s f most p k m)
+      place_table s len f na nr (omega (arith, m.taken.accepting.used)) ∙ rw (first_chosen s f most p k m)
 
 pub place_by_fields : PlaceByFields
 unfolding PlaceByFields

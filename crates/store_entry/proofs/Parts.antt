@@ -44,6 +44,6 @@ module _ (b : List ℕ) where
     unfolding entry_in
     entry_part {e} q = q ∙ ap entry_from same ∙ rw (eq-eqb (length b) 22 n)
 
-    pub stray-part : (version : ℕ) {r : Bool} → r ≡ stray_from version (chunk_fields c) → r ≡ stray_in version b
+    pub stray_part : (version : ℕ) {r : Bool} → r ≡ stray_from version (chunk_fields c) → r ≡ stray_in version b
     unfolding stray_in
-    stray-part version {r} q = q ∙ ap (stray_from version) same ∙ rw (eq-eqb (length b) 22 n)
+    stray_part version {r} q = q ∙ ap (stray_from version) same ∙ rw (eq-eqb (length b) 22 n)

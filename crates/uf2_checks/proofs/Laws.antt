@@ -48,18 +48,18 @@ module _ (n : Lengths) (x : ℕ) where
   window_flash f = rw f
 
   module _ (f : in_window n Flash x ≡ false) where
-    pub window-main : in_window n MainRam x ≡ true → window_of n x ≡ In MainRam
+    pub window_main : in_window n MainRam x ≡ true → window_of n x ≡ In MainRam
     unfolding window_of
-    window-main m = rw (f, m)
+    window_main m = rw (f, m)
 
     module _ (m : in_window n MainRam x ≡ false) where
-      pub window-xip : in_window n XipRam x ≡ true → window_of n x ≡ In XipRam
+      pub window_xip : in_window n XipRam x ≡ true → window_of n x ≡ In XipRam
       unfolding window_of
-      window-xip q = rw (f, m, q)
+      window_xip q = rw (f, m, q)
 
-      pub window-none : in_window n XipRam x ≡ false → window_of n x ≡ Outside
+      pub window_none : in_window n XipRam x ≡ false → window_of n x ≡ Outside
       unfolding window_of
-      window-none q = rw (f, m, q)
+      window_none q = rw (f, m, q)
 
 -- ---- what row 10 leaves
 

@@ -1,4 +1,4 @@
-use Rattle.ihex_data.proofs.Walked.{going_first, going_next, going-stop, going_last}
+use Rattle.ihex_data.proofs.Walked.{going_first, going_next, going_stop, going_last}
 use Rattle.laws.proofs.Numbered.{answer_is}
 use borrow.Author.Rules.{rules}
 use Rattle.ihex_data.proofs.walk.Goals as goal
@@ -10,7 +10,7 @@ pub returns-in_default : goal.returns-in_default
 returns-in_default c =
     let a = c.args in
     let w = c.loop-i in
-    going-stop a.out.now a.at a.kind a.text.now w.invariant c.loop-i-test.true c.line_end-e.ensures.value c.put_line-step.ensures.value c.in_default.is c.put_line-step.ensures.lines c.answer_of.ensures
+    going_stop a.out.now a.at a.kind a.text.now w.invariant c.loop-i-test.true c.line_end-e.ensures.value c.put_line-step.ensures.value c.in_default.is c.put_line-step.ensures.lines c.answer_of.ensures
 
 pub loop-i-preserved : goal.loop-i-preserved
 loop-i-preserved c =

@@ -3,7 +3,7 @@ use mathlib.Core.Bool.{Bool}
 use native.Mathlib.Omega.{arith}
 use Rattle.laws.specs.Numbered.{numbered}
 use Rattle.placement.specs.Place.{whole_if, place_of_choice, place_number}
-use Rattle.placement.proofs.Laws.{place_absolute, place_rp2040, place-whole, place-table, used_most, chosen_is, entry_below}
+use Rattle.placement.proofs.Laws.{place_absolute, place_rp2040, place_whole, place_table, used_most, chosen_is, entry_below}
 use Rattle.placement.proofs.find.Goals as goal
 
 pub returns-then-family-eq-ABSOLUTE : goal.returns-then-family-eq-ABSOLUTE
@@ -17,7 +17,7 @@ returns-then-count-eq0 c = record {
   result_value =
       ap (numbered place_number) (c.whole_if-then-count-eq0.ensures.value
       ∙ ap (λ (b : Bool). whole_if b c.args.flash_len) c.gets_whole.ensures
-      ∙ sym (place-whole _ _ _ c.if-family-eq-ABSOLUTE.false c.if-family-eq-RP2040.false c.if-count-eq0.true));
+      ∙ sym (place_whole _ _ _ c.if-family-eq-ABSOLUTE.false c.if-family-eq-RP2040.false c.if-count-eq0.true));
   low = c.whole_if-then-count-eq0.ensures.low;
 }
 
@@ -46,7 +46,7 @@ returns-in-Nothing c =
     let x = d.args in
     let h = chosen_is x.settings x.family _ _ d.choose.ensures d.used_count.ensures d.query-w.ensures in
     let e = ap (place_of_choice x.settings.table) (sym h ∙ c.in-Nothing.is) in
-    record { result_value = ap (numbered place_number) (sym (place-table _ _ _ d.if-family-eq-ABSOLUTE.false d.if-family-eq-RP2040.false d.if-count-eq0.false ∙ e)); low = tt }
+    record { result_value = ap (numbered place_number) (sym (place_table _ _ _ d.if-family-eq-ABSOLUTE.false d.if-family-eq-RP2040.false d.if-count-eq0.false ∙ e)); low = tt }
 
 pub returns-in-Entry : goal.returns-in-Entry
 returns-in-Entry c =
@@ -54,4 +54,4 @@ returns-in-Entry c =
     let x = d.args in
     let h = chosen_is x.settings x.family _ _ d.choose.ensures d.used_count.ensures d.query-w.ensures in
     let e = ap (place_of_choice x.settings.table) (sym h ∙ c.in-Entry.is) in
-    record { result_value = ap (numbered place_number) (c.bytes_of.ensures.value ∙ sym (place-table _ _ _ d.if-family-eq-ABSOLUTE.false d.if-family-eq-RP2040.false d.if-count-eq0.false ∙ e)); low = c.bytes_of.ensures.low }
+    record { result_value = ap (numbered place_number) (c.bytes_of.ensures.value ∙ sym (place_table _ _ _ d.if-family-eq-ABSOLUTE.false d.if-family-eq-RP2040.false d.if-count-eq0.false ∙ e)); low = c.bytes_of.ensures.low }

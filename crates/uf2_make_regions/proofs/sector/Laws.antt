@@ -76,9 +76,9 @@ module _ (image : List ℕ) (start base : ℕ) where
     fits : at + length part ≤ length (many 4096 255)
     fits = rw (length_many 4096 255, length-take (4096 - at) (drop from image)) (omega arith)
 
-    pub length-sector : length (sector_of image start base) ≡ 4096
+    pub length_sector : length (sector_of image start base) ≡ 4096
     unfolding sector_of
-    length-sector = length_over (many 4096 255) at part fits ∙ length_many 4096 255
+    length_sector = length_over (many 4096 255) at part fits ∙ length_many 4096 255
 
     -- where the image's part ends
     part-size : (j : ℕ) → j < 4096 - at → from + j < length image → j < length part
@@ -91,7 +91,7 @@ module _ (image : List ℕ) (start base : ℕ) where
     unfolding sector_of
     final =
         record {
-          long = unfold sector_of in length-sector;
+          long = unfold sector_of in length_sector;
           pages = λ j h s e.
               let i = j - at in
               let hi : i < 4096 - at = omega arith in

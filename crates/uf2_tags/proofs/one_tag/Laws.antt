@@ -22,18 +22,18 @@ module _ (size kind at end : ℕ) where
   sized_typed p q = rw (eq-eqb size 0 p, ne_eqb kind 0 q, lt-leb 1 size (omega arith)) refl
 
   module _ (p : size ≡ 0 → ⊥) where
-    pub sized-small : size < 4 → ShortTag ≡ sized size kind at end
+    pub sized_small : size < 4 → ShortTag ≡ sized size kind at end
     unfolding sized
-    sized-small h = rw (ne_eqb size 0 p, le-leb 1 size (omega arith), le-leb size 3 (omega arith)) refl
+    sized_small h = rw (ne_eqb size 0 p, le-leb 1 size (omega arith), le-leb size 3 (omega arith)) refl
 
     module _ (q : 4 ≤ size) where
       pub sized_past : end < at + size → PastRoom ≡ sized size kind at end
       unfolding sized
       sized_past h = rw (ne_eqb size 0 p, le-leb 1 size (omega arith), lt-leb size 3 (omega arith), lt-ltb end (at + size) h) refl
 
-      pub sized-tag : at + size ≤ end → a-tag (tag_of size kind at) ≡ sized size kind at end
+      pub sized_tag : at + size ≤ end → a-tag (tag_of size kind at) ≡ sized size kind at end
       unfolding sized
-      sized-tag h = rw (ne_eqb size 0 p, le-leb 1 size (omega arith), lt-leb size 3 (omega arith), le-ltb end (at + size) h) refl
+      sized_tag h = rw (ne_eqb size 0 p, le-leb 1 size (omega arith), lt-leb size 3 (omega arith), le-ltb end (at + size) h) refl
 
 pub sized_same : {size s kind k : ℕ} (at end : ℕ) → size ≡ s → kind ≡ k → sized size kind at end ≡ sized s k at end
 sized_same at end e f = rw (e, f)

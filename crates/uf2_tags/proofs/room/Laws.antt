@@ -96,13 +96,13 @@ module _ (b : List ℕ) (at : ℕ) where
       at_clear h = rw (eq-eqb (length b) 512 p, q, ne_eqb (field_at b 8 / 0x8000 % 2) 1 h) refl
 
       module _ (f : field_at b 8 / 0x8000 % 2 ≡ 1) where
-        pub at-payload : bad_payload (field_at b 16) ≡ true → BadPayload ≡ tag_at b at
+        pub at_payload : bad_payload (field_at b 16) ≡ true → BadPayload ≡ tag_at b at
         unfolding tag_at
-        at-payload h = rw (eq-eqb (length b) 512 p, q, eq-eqb (field_at b 8 / 0x8000 % 2) 1 f, h) refl
+        at_payload h = rw (eq-eqb (length b) 512 p, q, eq-eqb (field_at b 8 / 0x8000 % 2) 1 f, h) refl
 
-        pub at-stands : bad_payload (field_at b 16) ≡ false → stands_at b at ≡ tag_at b at
+        pub at_stands : bad_payload (field_at b 16) ≡ false → stands_at b at ≡ tag_at b at
         unfolding tag_at
-        at-stands h = rw (eq-eqb (length b) 512 p, q, eq-eqb (field_at b 8 / 0x8000 % 2) 1 f, h) refl
+        at_stands h = rw (eq-eqb (length b) 512 p, q, eq-eqb (field_at b 8 / 0x8000 % 2) 1 f, h) refl
 
 -- by the check of the place that decides
 module _ (b : List ℕ) (at : ℕ) where
@@ -110,11 +110,11 @@ module _ (b : List ℕ) (at : ℕ) where
   stands_place h = rw h refl
 
   module _ (s : bad_place (first_place b) at ≡ false) where
-    pub stands-none : room_end b < at + 4 → NoRoom ≡ stands_at b at
-    stands-none h = rw (s, lt-ltb (room_end b) (at + 4) h) refl
+    pub stands_none : room_end b < at + 4 → NoRoom ≡ stands_at b at
+    stands_none h = rw (s, lt-ltb (room_end b) (at + 4) h) refl
 
-    pub stands-tag : at + 4 ≤ room_end b → sized (get_or b at 0) (kind_at b at) at (room_end b) ≡ stands_at b at
-    stands-tag h = rw (s, le-ltb (room_end b) (at + 4) h) refl
+    pub stands_tag : at + 4 ≤ room_end b → sized (get_or b at 0) (kind_at b at) at (room_end b) ≡ stands_at b at
+    stands_tag h = rw (s, le-ltb (room_end b) (at + 4) h) refl
 
 -- ---- what a tag says of its block
 

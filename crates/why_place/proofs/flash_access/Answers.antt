@@ -4,7 +4,7 @@ use Rattle.laws.specs.Numbered.{numbered}
 use Rattle.why_place.specs.declared.Denial.TheVariants.{NoEntry}
 use Rattle.why_place.specs.Parts.{denied_if}
 use Rattle.why_place.specs.Placing.{access_number}
-use Rattle.why_place.proofs.Laws.{flash_absolute, flash_rp2040, flash_whole, flash-table}
+use Rattle.why_place.proofs.Laws.{flash_absolute, flash_rp2040, flash_whole, flash_table}
 use Rattle.why_place.proofs.flash_access.Goals as goal
 
 pub returns-then-family-eq-ABSOLUTE : goal.returns-then-family-eq-ABSOLUTE
@@ -19,4 +19,4 @@ returns-then-settings-eq0 c = ap (numbered access_number) (c.without_table.ensur
 pub returns : goal.returns
 returns c =
     ap (numbered access_number) (c.denied_if-2.ensures ∙ ap (λ (b : Bool). denied_if (not b) NoEntry) c.any_takes.ensures
-    ∙ sym (flash-table _ _ c.if-family-eq-ABSOLUTE.false c.if-family-eq-RP2040.false c.if-settings-eq0.false))
+    ∙ sym (flash_table _ _ c.if-family-eq-ABSOLUTE.false c.if-family-eq-RP2040.false c.if-settings-eq0.false))

@@ -1,4 +1,4 @@
-use Rattle.why_place.proofs.Laws.{mark_b, mark-takes, mark-other}
+use Rattle.why_place.proofs.Laws.{mark_b, mark_takes, mark_other}
 use Rattle.why_place.proofs.mark.Goals as goal
 
 pub returns-then-not-is_a : goal.returns-then-not-is_a
@@ -9,9 +9,9 @@ returns-then-not-is_a c =
 pub returns-then-accepts_family : goal.returns-then-accepts_family
 returns-then-accepts_family c =
     let a = c.args in
-    mark-takes a.e a.family c.is_a.ensures c.if-not-is_a.false-raw c.accepts_family.ensures c.if-accepts_family.true
+    mark_takes a.e a.family c.is_a.ensures c.if-not-is_a.false-raw c.accepts_family.ensures c.if-accepts_family.true
 
 pub returns : goal.returns
 returns c =
     let a = c.args in
-    mark-other a.e a.family c.is_a.ensures c.if-not-is_a.false-raw c.accepts_family.ensures c.if-accepts_family.false
+    mark_other a.e a.family c.is_a.ensures c.if-not-is_a.false-raw c.accepts_family.ensures c.if-accepts_family.false

@@ -1,6 +1,6 @@
 use mathlib.Core.Path.{sym}
 use native.Mathlib.Omega.{arith}
-use Rattle.uf2_checks.proofs.block_checks.Laws.{some_alignment, address_ragged, address-past, address-passed}
+use Rattle.uf2_checks.proofs.block_checks.Laws.{some_alignment, address_ragged, address_past, address_passed}
 use Rattle.uf2_checks.proofs.block_checks.at_address.Goals as goal
 
 pub nonzero_rem-address : goal.nonzero_rem-address
@@ -12,10 +12,10 @@ returns-then-address-step-ne0 c = sym (address_ragged _ _ _ _ c.alignment-step.e
 pub returns-then-size-past : goal.returns-then-size-past
 returns-then-size-past c =
     let d = c in
-    sym (address-past _ _ _ _ d.base-from.ensures d.requires.above c.if-size-past.true (omega arith))
+    sym (address_past _ _ _ _ d.base-from.ensures d.requires.above c.if-size-past.true (omega arith))
 
 pub returns : goal.returns
 returns c =
     let e = c in
     let d = e in
-    address-passed _ _ _ _ d.base-from.ensures d.requires.above e.alignment-step.ensures e.if-address-step-ne0.false e.if-size-past.false (omega arith) c.new-head.ensures
+    address_passed _ _ _ _ d.base-from.ensures d.requires.above e.alignment-step.ensures e.if-address-step-ne0.false e.if-size-past.false (omega arith) c.new-head.ensures

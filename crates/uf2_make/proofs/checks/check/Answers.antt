@@ -2,14 +2,14 @@ use mathlib.Core.Path.{refl, sym, ap, ◌∙◌}
 use native.Mathlib.Omega.{arith}
 use Rattle.laws.specs.Numbered.{numbered}
 use Rattle.uf2_make.specs.Uf2check.{make_number}
-use Rattle.uf2_make.proofs.checks.Checks.{start_low, image_bad, start-bad, past, short, passes}
+use Rattle.uf2_make.proofs.checks.Checks.{start_low, image_bad, start_bad, past, short, passes}
 use Rattle.uf2_make.proofs.checks.check.Goals as goal
 
 pub returns-then-bad_image : goal.returns-then-bad_image
 returns-then-bad_image c = ap (numbered make_number) (image_bad _ _ _ (sym c.bad_image.ensures ∙ c.if-bad_image.true))
 
 pub returns-then-bad_start : goal.returns-then-bad_start
-returns-then-bad_start c = ap (numbered make_number) (start-bad _ _ _ (sym c.bad_image.ensures ∙ c.if-bad_image.false) (sym c.bad_start.ensures ∙ c.if-bad_start.true))
+returns-then-bad_start c = ap (numbered make_number) (start_bad _ _ _ (sym c.bad_image.ensures ∙ c.if-bad_image.false) (sym c.bad_start.ensures ∙ c.if-bad_start.true))
 
 pub overflow_sub-first : goal.overflow_sub-first
 overflow_sub-first c = omega (arith, start_low c.args.start (sym c.bad_start.ensures ∙ c.if-bad_start.false))

@@ -1,7 +1,6 @@
 use Rattle.uhex_effects.specs.Reader.{effect_of}
 use mathlib.Core.Path.{ap}
 use Rattle.uhex_effects.specs.declared.Effect.TheVariants.{Passes}
-use borrow.Author.Rules.{rules}
 use Rattle.uhex_effects.proofs.effects.effect.Goals as goal
 
 pub returns-in-Opening : goal.returns-in-Opening

@@ -1,7 +1,6 @@
 use Rattle.uhex_grammar.specs.Grammar.{role_of}
 use mathlib.Core.Path.{◌∙◌, sym}
 use borrow.Author.Tests.{eq-eqb, ne_eqb}
-use borrow.Author.Rules.{rules}
 use Rattle.uhex_grammar.proofs.roles.inside.Goals as goal
 
 pub returns-then-kind-len : goal.returns-then-kind-len

@@ -2,7 +2,7 @@ use mathlib.Core.Path.{◌≡◌, sym}
 use native.Mathlib.Omega.{arith}
 use Rattle.laws.proofs.Laws.{any_zero, any_more, least_is, least_none}
 use Rattle.partitions.specs.Settings.{overlap_at}
-use Rattle.why_settings.proofs.sharing.Laws.{other_shares, least-own-past, least-past}
+use Rattle.why_settings.proofs.sharing.Laws.{other_shares, least_own_past, least_past}
 use borrow.Author.Rules.{rules}
 use Rattle.why_settings.proofs.sharing.first_other.Goals as goal
 
@@ -10,7 +10,7 @@ pub returns-then-k-ge-ENTRIES : goal.returns-then-k-ge-ENTRIES
 returns-then-k-ge-ENTRIES c =
     let x = c in
     let a = x.args in
-    least-own-past a.settings.table a.k x.well_formed.0.1.1.0.1.0.1 a.settings.count c.if-k-ge-ENTRIES.true
+    least_own_past a.settings.table a.k x.well_formed.0.1.1.0.1.0.1 a.settings.count c.if-k-ge-ENTRIES.true
 
 pub loop-j-init : goal.loop-j-init
 loop-j-init c = (search rules, any_zero _)
@@ -20,7 +20,7 @@ returns-then-j-ge-ENTRIES c =
     let p = c in
     let x = p in
     let a = x.args in
-    least-past a.settings.table a.k x.well_formed.0.1.1.0.1.0.1 a.settings.count p.loop-j.j c.if-j-ge-ENTRIES.true p.loop-j.invariant.1
+    least_past a.settings.table a.k x.well_formed.0.1.1.0.1.0.1 a.settings.count p.loop-j.j c.if-j-ge-ENTRIES.true p.loop-j.invariant.1
 
 pub returns-then-j-k : goal.returns-then-j-k
 unfolding overlap_at
