@@ -1,9 +1,10 @@
 // Reads lines of Universal Hex from standard input for one board and prints the answer to each: a board image of 262,144 bytes.
 #![tactic(auto)]
 
-ghost use Rattle.std.specs.Prelude.{◌+◌, ◌≤◌, length};
+ghost use Rattle.std.specs.Prelude.{◌+◌, ◌≤◌, length, IfOk};
 
-use libc::{STDIN_FILENO, STDOUT_FILENO};
+use std::env::{Env, FillError};
+use std::io;
 use uhex_effects::Reader;
 use uhex_grammar::{Answer, Boards};
 
@@ -17,48 +18,59 @@ const IMAGE: usize = 262144;
 const WAITING: usize = 65536;
 
 // The board that the first argument names, or V1 where there is none. 0 is no board.
-fn own_board() -> u16 {
-    if os::arg_count() < 2 {
-        return Boards::V1;
-    }
+fn own_board(rt: &impl Env) -> u16 {
     let mut name = [0u8; 2];
-    let n = os::arg(1, &mut name);
-    if (n == 2) & (name[0] == b'V') & (name[1] == b'1') {
-        return Boards::V1;
+    let n = match rt.arg(1, &mut name) {
+        Ok(n) => n,
+        Err(FillError::NotPresent) => return Boards::V1,
+        Err(FillError::TooLong) => return 0,
+    };
+    match &name[..n] {
+        b"V1" => Boards::V1,
+        b"V2" => Boards::V2,
+        _ => 0,
     }
-    if (n == 2) & (name[0] == b'V') & (name[1] == b'2') {
-        return Boards::V2;
-    }
-    0
 }
 
 // Where so many bytes more go in the text that waits to be written: behind the used ones, or at the start once these are written.
-fn room(waiting: &[u8], used: usize, n: usize) -> usize
+fn room(rt: &impl Print, waiting: &[u8], used: usize, n: usize) -> io::Result<usize>
     requires { (used ≤ length waiting.now) × (n ≤ length waiting.now) }
-    ensures { result + n ≤ length waiting.now }
+    ensures { IfOk result (λ at. at + n ≤ length waiting.now) }
 {
     if waiting.len() - used < n {
-        io::write_all(STDOUT_FILENO, &waiting[..used]);
-        return 0;
+        rt.write_all(&waiting[..used])?;
+        return Ok(0);
     }
-    used
+    Ok(used)
 }
 
 // Adds the line of an answer to the text that waits, and answers how many of its bytes are used.
-fn add(waiting: &mut [u8], used: usize, index: u64, answer: Answer) -> usize
+fn add(
+    rt: &impl Print,
+    waiting: &mut [u8],
+    used: usize,
+    index: u64,
+    answer: Answer,
+) -> io::Result<usize>
     requires { (used ≤ length waiting.old) × (80 ≤ length waiting.old) }
-    ensures { result ≤ length waiting.old }
+    ensures { IfOk result (λ n. n ≤ length waiting.old) }
 {
     let mut text = [0u8; 80];
     let n = text::hex_answer::hex_answer_line(&mut text, index, answer);
-    let at = room(waiting, used, n);
+    let at = room(rt, waiting, used, n)?;
     let e = at + n;
     waiting[at..e].copy_from_slice(&text[..n]);
-    e
+    Ok(e)
 }
 
 // Answers every line of the input. A line is handed with its ending.
-fn run(input: &[u8], own: u16, image: &mut [u8], waiting: &mut [u8]) -> Reader
+fn run(
+    rt: &impl Print,
+    input: &[u8],
+    own: u16,
+    image: &mut [u8],
+    waiting: &mut [u8],
+) -> io::Result<Reader>
     requires { 80 ≤ length waiting.old }
 {
     let mut used: usize = 0;
@@ -70,48 +82,55 @@ fn run(input: &[u8], own: u16, image: &mut [u8], waiting: &mut [u8]) -> Reader
         let read = uhex_reader::line(reader, &input[at..e], image);
         let answer = read.answer;
         reader = read.reader;
-        used = add(waiting, used, index, answer);
+        used = add(rt, waiting, used, index, answer)?;
         at = e;
         index += 1;
     }
-    io::write_all(STDOUT_FILENO, &waiting[..used]);
-    reader
+    rt.write_all(&waiting[..used])?;
+    Ok(reader)
 }
 
-fn print_state(reader: Reader) {
+fn print_state(rt: &impl Print, reader: Reader) -> io::Result<()> {
     let mut text = [0u8; 128];
     let n = text::hex_state::hex_state_line(&mut text, reader);
-    io::write_all(STDOUT_FILENO, &text[..n]);
+    rt.write_all(&text[..n])
 }
 
 // Reads the input, and answers every line of it.
-fn session(own: u16, input: &mut [u8], image: &mut [u8], waiting: &mut [u8]) -> Reader
+fn session(
+    rt: &(impl Input + Print),
+    own: u16,
+    input: &mut [u8],
+    image: &mut [u8],
+    waiting: &mut [u8],
+) -> io::Result<Reader>
     requires { 80 ≤ length waiting.old }
 {
-    let n = io::read_full(STDIN_FILENO, input);
-    run(&input[..n], own, image, waiting)
+    let n = reading::read_full(&mut rt.reader(), input)?;
+    run(rt, &input[..n], own, image, waiting)
 }
 
 // The same with arrays, whose lengths their types say.
 fn with_arrays(
+    rt: &(impl Input + Print),
     own: u16,
     input: &mut [u8; INPUT],
     image: &mut [u8; IMAGE],
     waiting: &mut [u8; WAITING],
-) {
-    print_state(session(own, input, image, waiting));
+) -> io::Result<()> {
+    let reader = session(rt, own, input, image, waiting)?;
+    print_state(rt, reader)
 }
 
-fn main() {
-    let own = own_board();
+fn main(rt: HostRuntime) -> io::Result<()> {
+    let own = own_board(&rt);
     if own == 0 {
-        io::write_all(STDOUT_FILENO, b"board is V1 or V2\n");
-        return;
+        return rt.write_all(b"board is V1 or V2\n");
     }
     // the whole input at once, so that every line is handed as it is, however long
     let mut input = [0u8; INPUT];
     let mut image = [0xFFu8; IMAGE];
     let mut waiting = [0u8; WAITING];
-    io::write_all(STDOUT_FILENO, b"line answer\n");
-    with_arrays(own, &mut input, &mut image, &mut waiting);
+    rt.write_all(b"line answer\n")?;
+    with_arrays(&rt, own, &mut input, &mut image, &mut waiting)
 }

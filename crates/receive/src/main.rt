@@ -2,8 +2,12 @@
 // alone, absolute allowed.
 #![tactic(auto)]
 
-use libc::{STDIN_FILENO, STDOUT_FILENO};
+ghost use Rattle.std.specs.Prelude.{IfOk, IsFalse};
+ghost use Rattle.std.specs.Io.KnownBytes.{IsAtEnd};
+
 use partitions::Settings;
+use std::io;
+use std::io::Read;
 use transfer::Transfer;
 use uf2_block::Block;
 use uf2_commit::receipts::Receipt;
@@ -15,37 +19,41 @@ struct Progress {
     more: bool,
 }
 
-fn print_answer(index: u64, answer: u8, discarded: bool) {
+fn print_answer(rt: &impl Print, index: u64, answer: u8, discarded: bool) -> io::Result<()> {
     let mut text = [0u8; 80];
     let n = text::lines::answer_line(&mut text, index, answer, discarded);
-    io::write_all(STDOUT_FILENO, &text[..n]);
+    rt.write_all(&text[..n])
 }
 
-fn print_state(transfer: Transfer) {
+fn print_state(rt: &impl Print, transfer: Transfer) -> io::Result<()> {
     let mut text = [0u8; 80];
     let n = text::lines::state_line(&mut text, transfer);
-    io::write_all(STDOUT_FILENO, &text[..n]);
+    rt.write_all(&text[..n])
 }
 
 // Reads one piece and answers it. A short piece is answered as an arrival of a wrong length, and is the last: `read_full` stops short only
-// where the input ends or a read fails.
-fn answer_piece(
+// where the input ends.
+fn answer_piece<R: Read>(
+    rt: &impl Print,
+    from: &mut R,
     settings: Settings,
     transfer: Transfer,
     index: u64,
     flash: &mut [u8],
     seen: &mut [u8],
     sectors: &mut [u8],
-) -> Progress {
+) -> io::Result<Progress>
+    ensures { IfOk result (λ progress. IsFalse progress.more → IsAtEnd (R.remaining from.new)) }
+{
     let mut main_ram = [0u8; 0];
     let mut xip_ram = [0u8; 0];
     let mut arrival = [0u8; Block::ARRIVAL];
-    let n = io::read_full(STDIN_FILENO, &mut arrival);
+    let n = reading::read_full(from, &mut arrival)?;
     if n == 0 {
-        return Progress {
+        return Ok(Progress {
             transfer,
             more: false,
-        };
+        });
     }
     let received = uf2_receiver::take(
         settings,
@@ -59,35 +67,41 @@ fn answer_piece(
     );
     let answer = received.answer;
     let next = received.transfer;
-    print_answer(index, answer.number(), received.discarded);
-    Progress {
+    print_answer(rt, index, answer.number(), received.discarded)?;
+    Ok(Progress {
         transfer: next,
         more: n == Block::ARRIVAL,
-    }
+    })
 }
 
 // Answers every piece of the input. The loop has a bound so that its end can be proved: after 2 ^ 64 - 1 pieces, more than any input has,
 // the rest would be left unread.
-fn run(flash: &mut [u8], seen: &mut [u8], sectors: &mut [u8]) -> Transfer {
+fn run<R: Read>(
+    rt: &impl Print,
+    from: &mut R,
+    flash: &mut [u8],
+    seen: &mut [u8],
+    sectors: &mut [u8],
+) -> io::Result<Transfer> {
     let settings = Settings::arm_only(true);
     let mut transfer = Transfer::new();
-    let mut index: u64 = 0;
-    while index < u64::MAX {
-        let progress = answer_piece(settings, transfer, index, flash, seen, sectors);
+    for index in 0..u64::MAX {
+        let progress = answer_piece(rt, from, settings, transfer, index, flash, seen, sectors)?;
         transfer = progress.transfer;
         if !progress.more {
             break;
         }
-        index += 1;
     }
-    transfer
+    Ok(transfer)
 }
 
-fn main() {
+fn main(rt: HostRuntime) -> io::Result<()> {
     // it starts erased
     let mut flash = [0xFFu8; 32768];
     let mut seen = [0u8; Receipt::SEEN];
     let mut sectors = [0u8; Receipt::SECTORS];
-    io::write_all(STDOUT_FILENO, b"arrival answer discarded\n");
-    print_state(run(&mut flash, &mut seen, &mut sectors));
+    let mut from = rt.reader();
+    rt.write_all(b"arrival answer discarded\n")?;
+    let transfer = run(&rt, &mut from, &mut flash, &mut seen, &mut sectors)?;
+    print_state(&rt, transfer)
 }

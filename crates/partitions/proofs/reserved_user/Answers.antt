@@ -4,4 +4,4 @@ use Rattle.partitions.proofs.reserved_user.Goals as goal
 
 pub returns : goal.returns
 unfolding any reserved_user
-returns c = rw (c.reserved-4.ensures, c.reserved_3.ensures, c.reserved_2.ensures, c.reserved.ensures)
+returns c = rw (c.reserved-4.ensures, c.reserved-3.ensures, c.reserved-2.ensures, c.reserved.ensures)
