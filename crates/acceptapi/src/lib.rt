@@ -1,13 +1,16 @@
 // An arrival accepted for C, with a plan for the flash's driver: a library of its own, so that the call is compiled as one piece.
-ghost use mathlib.Core.Path.{_≡_};
-ghost use Rattle·uf2_receiver.specs.Receiver.{lentAt, leftBeside};
-ghost use Rattle·call_bytes.specs.Calls.{acceptCallOf, acceptReturn};
+#![tactic(auto)]
+
+ghost use Rattle.std.specs.Prelude.{◌≡◌};
+ghost use Rattle.uf2_receiver.specs.Receiver.{lent_at, left_beside};
+ghost use Rattle.call_bytes.specs.Calls.{accept_call_of, accept_return};
+
 use call_bytes::plans::PLAN;
 use uf2_checks::Lengths;
 
 // One arrival is accepted: what `uf2_take` would return, and what is left to do to the flash. Where the plan has fewer
 // than 12 bytes, or more, nothing is done.
-#[no_mangle]
+#[unsafe(no_mangle)]
 pub extern "C" fn uf2_accept(
     settings: &[u8],
     transfer: &mut [u8],
@@ -19,7 +22,7 @@ pub extern "C" fn uf2_accept(
     xip: &mut [u8],
     plan: &mut [u8],
 ) -> u32
-    ensures { λ r. ⌜ acceptReturn r transfer (leftBeside flash seen sectors main xip) plan ≡ acceptCallOf settings transfer arrival (lentAt flash seen sectors main xip) plan ⌝ }
+    ensures { accept_return result transfer.new (left_beside flash.now seen.new sectors.new main.new xip.new) plan.new ≡ accept_call_of settings.now transfer.old arrival.now (lent_at flash.now seen.old sectors.old main.old xip.old) plan.old }
 {
     let lens = Lengths {
         flash: flash.len(),

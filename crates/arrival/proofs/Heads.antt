@@ -1,42 +1,42 @@
 -- Kinds and heads: two that are the same. Assumes nothing.
-use mathlib.Core.Path.{_≡_, refl}
-use mathlib.Core.Logic.{_≢_}
-use mathlib.Core.Bool.{true, false, _&&_}
+use mathlib.Core.Path.{◌≡◌, refl}
+use mathlib.Core.Logic.{◌≢◌}
+use mathlib.Core.Bool.{true, false, ◌&&◌}
 use lib.Dec.{eqb}
 use borrow.Author.Tests.{eqb-true}
-use Rattle·laws.proofs.Tests.{clash, is-false, eqb-same, and-left, and-right}
-use Rattle·transfer.specs.Transfer.{kindNumber, sameKind, sameHead}
-use Rattle·transfer.specs.declared.Kind.{Kind}
-use Rattle·transfer.specs.declared.Kind.the-variants.{Flash, MainRam, XipRam}
-use Rattle·transfer.specs.declared.Head.{Head}
+use Rattle.laws.proofs.Tests.{clash, is_false, eqb_same, and_left, and_right}
+use Rattle.transfer.specs.Transfer.{kind_number, same_kind, same_head}
+use Rattle.transfer.specs.declared.Kind.{Kind}
+use Rattle.transfer.specs.declared.Kind.TheVariants.{Flash, MainRam, XipRam}
+use Rattle.transfer.specs.declared.Head.{Head}
 
-pub same-kind : (k : Kind) → sameKind k k ≡ true
-same-kind k = eqb-same (kindNumber k)
+pub same_kind_lem : (k : Kind) → same_kind k k ≡ true
+same_kind_lem k = eqb_same (kind_number k)
 
-pub kind-same : (k u : Kind) → sameKind k u ≡ true → k ≡ u
-kind-same Flash Flash e = refl
-kind-same Flash MainRam e = clash false e refl
-kind-same Flash XipRam e = clash false e refl
-kind-same MainRam Flash e = clash false e refl
-kind-same MainRam MainRam e = refl
-kind-same MainRam XipRam e = clash false e refl
-kind-same XipRam Flash e = clash false e refl
-kind-same XipRam MainRam e = clash false e refl
-kind-same XipRam XipRam e = refl
+pub kind_same : (k u : Kind) → same_kind k u ≡ true → k ≡ u
+kind_same Flash Flash e = refl
+kind_same Flash MainRam e = clash false e refl
+kind_same Flash XipRam e = clash false e refl
+kind_same MainRam Flash e = clash false e refl
+kind_same MainRam MainRam e = refl
+kind_same MainRam XipRam e = clash false e refl
+kind_same XipRam Flash e = clash false e refl
+kind_same XipRam MainRam e = clash false e refl
+kind_same XipRam XipRam e = refl
 
-pub kind-other : (k u : Kind) → k ≢ u → sameKind k u ≡ false
-kind-other k u n = is-false (sameKind k u) (λ e. n (kind-same k u e))
+pub kind_other : (k u : Kind) → k ≢ u → same_kind k u ≡ false
+kind_other k u n = is_false (same_kind k u) (λ e. n (kind_same k u e))
 
-pub same-head : (h : Head) → sameHead h h ≡ true
-unfolding sameHead
-same-head h = rw (eqb-same (h .family), eqb-same (h .total), same-kind (h .kind))
+pub same_head_lem : (h : Head) → same_head h h ≡ true
+unfolding same_head
+same_head_lem h = rw (eqb_same h.family, eqb_same h.total, same_kind_lem h.kind)
 
-pub head-same : (g h : Head) → sameHead g h ≡ true → g ≡ h
-unfolding sameHead
-head-same g h e =
-    let p = and-left (eqb (g .family) (h .family) && eqb (g .total) (h .total)) (sameKind (g .kind) (h .kind)) e in
-    let f : g .family ≡ h .family = eqb-true _ _ (and-left (eqb (g .family) (h .family)) (eqb (g .total) (h .total)) p) in
-    let t : g .total ≡ h .total = eqb-true _ _ (and-right (eqb (g .family) (h .family)) (eqb (g .total) (h .total)) p) in
-    let k : g .kind ≡ h .kind =
-    kind-same (g .kind) (h .kind) (and-right (eqb (g .family) (h .family) && eqb (g .total) (h .total)) (sameKind (g .kind) (h .kind)) e) in
+pub head_same : (g h : Head) → same_head g h ≡ true → g ≡ h
+unfolding same_head
+head_same g h e =
+    let p = and_left (eqb g.family h.family && eqb g.total h.total) (same_kind g.kind h.kind) e in
+    let f : g.family ≡ h.family = eqb-true _ _ (and_left (eqb g.family h.family) (eqb g.total h.total) p) in
+    let t : g.total ≡ h.total = eqb-true _ _ (and_right (eqb g.family h.family) (eqb g.total h.total) p) in
+    let k : g.kind ≡ h.kind =
+    kind_same g.kind h.kind (and_right (eqb g.family h.family && eqb g.total h.total) (same_kind g.kind h.kind) e) in
     λ i. record { family = f i; total = t i; kind = k i }

@@ -1,61 +1,61 @@
 -- What counts as standing there has all that specs/Standing.antt lists. Assumes nothing.
-use Prim.Native.Nat.{ℕ, _-_}
-use mathlib.Core.Path.{_≡_, refl}
-use mathlib.Core.Bool.{Bool, true, false, _&&_}
+use Prim.Native.Nat.{ℕ, ◌-◌}
+use mathlib.Core.Path.{◌≡◌, refl}
+use mathlib.Core.Bool.{Bool, true, false, ◌&&◌}
 use mathlib.Core.List.{List}
 use lib.ListN.{length}
-use Rattle·laws.proofs.Tests.{clash, and-left, and-right}
-use Rattle·uf2_block.specs.Block.{fieldAt, hasFlag}
-use Rattle·uf2_block.specs.Region.{regionOf}
-use Rattle·md5.specs.Md5.{md5Of}
-use Rattle·uf2_block.specs.Regions.{goodRegion, partOf, standsIn}
-use Rattle·uf2_block.proofs.regions.Laws.{good-true, stands-true, digest-true}
-use Rattle·partitions.specs.declared.Settings.{Settings}
-use Rattle·placement.specs.Place.{placeOf}
-use Rattle·placement.specs.declared.Place.{Place}
-use Rattle·placement.specs.declared.Place.the-variants.{Nowhere, At}
-use Rattle·transfer.specs.Transfer.{sameKind}
-use Rattle·transfer.specs.declared.Kind.the-variants.{Flash}
-use Rattle·arrival·specs.specs.Arrive.{World, standsAt, standing}
-use Rattle·arrival·specs.specs.Windows.{kindOf}
-use Rattle·arrival·specs.specs.Standing.{Standing}
-use Rattle·arrival·proofs.proofs.Heads.{kind-same}
+use Rattle.laws.proofs.Tests.{clash, and_left, and_right}
+use Rattle.uf2_block.specs.Block.{field_at, has_flag}
+use Rattle.uf2_block.specs.Region.{region_of}
+use Rattle.md5_digest.specs.Md5.{md5_of}
+use Rattle.uf2_block.specs.Regions.{good_region, part_of, stands_in}
+use Rattle.uf2_block.proofs.regions.Laws.{good_true, stands_true, digest_true}
+use Rattle.partitions.specs.declared.Settings.{Settings}
+use Rattle.placement.specs.Place.{place_of}
+use Rattle.placement.specs.declared.Place.{Place}
+use Rattle.placement.specs.declared.Place.TheVariants.{Nowhere, At}
+use Rattle.transfer.specs.Transfer.{same_kind}
+use Rattle.transfer.specs.declared.Kind.TheVariants.{Flash}
+use Rattle.arrival.specs.Arrive.{World, stands_at, standing}
+use Rattle.arrival.specs.Windows.{kind_of}
+use Rattle.arrival.specs.Standing.{Standing}
+use Rattle.arrival.proofs.Heads.{kind_same}
 
 -- what the arrival would store in the flash stands there
-abbrev pub keepsAt : Settings → World → List ℕ → Bool
-keepsAt s w a = sameKind (kindOf w a) Flash && standing s (w .held .flash) a
+abbrev pub keeps_at : Settings → World → List ℕ → Bool
+keeps_at s w a = same_kind (kind_of w a) Flash && standing s w.held.flash a
 
 module _ (s : Settings) (w : World) (a : List ℕ) where
-  facts-at : (p : Place) → placeOf s (length (w .held .flash)) (fieldAt a 28) ≡ p → hasFlag a 0x1 ≡ false → kindOf w a ≡ Flash
-      → standsAt (w .held .flash) p a ≡ true → Standing s w a
-  unfolding standsAt regionOf
-  facts-at Nowhere e z k h = clash false h refl
-  facts-at (At start size) e z k h =
-      let f = hasFlag a 0x4000 in
-      let b = goodRegion size (fieldAt a 12) (regionOf a) in
-      let t = standsIn (w .held .flash) start (regionOf a) in
-      let g = and-left (f && b) t h in
-      let c = good-true size (fieldAt a 12) (regionOf a) (and-right f b g) in
+  facts_at : (p : Place) → place_of s (length w.held.flash) (field_at a 28) ≡ p → has_flag a 0x1 ≡ false → kind_of w a ≡ Flash
+      → stands_at w.held.flash p a ≡ true → Standing s w a
+  unfolding stands_at region_of
+  facts_at Nowhere e z k h = clash false h refl
+  facts_at (At start size) e z k h =
+      let f = has_flag a 0x4000 in
+      let b = good_region size (field_at a 12) (region_of a) in
+      let t = stands_in w.held.flash start (region_of a) in
+      let g = and_left (f && b) t h in
+      let c = good_true size (field_at a 12) (region_of a) (and_right f b g) in
       record {
-        data-block = z;
+        data_block = z;
         flash = k;
-        flag = and-left f b g;
+        flag = and_left f b g;
         start = start;
         size = size;
         place = e;
-        first = c .starts;
-        whole = c .ends;
-        some = c .some;
-        window = c .window;
-        within = c .within;
-        before = c .before;
-        behind = c .behind;
-        digest = digest-true (md5Of (partOf (w .held .flash) start (regionOf a))) (regionOf a) (stands-true (w .held .flash) start (regionOf a) (and-right (f && b) t h));
+        first = c.starts;
+        whole = c.ends;
+        some = c.some;
+        window = c.window;
+        within = c.within;
+        before = c.before;
+        behind = c.behind;
+        digest = digest_true (md5_of (part_of w.held.flash start (region_of a))) (region_of a) (stands_true w.held.flash start (region_of a) (and_right (f && b) t h));
       }
 
-  pub standing-of : hasFlag a 0x1 ≡ false → keepsAt s w a ≡ true → Standing s w a
-  standing-of z e =
-      let k = sameKind (kindOf w a) Flash in
-      let p = placeOf s (length (w .held .flash)) (fieldAt a 28) in
-      let t = standsAt (w .held .flash) p a in
-      facts-at p refl z (kind-same (kindOf w a) Flash (and-left k t e)) (and-right k t e)
+  pub standing_of : has_flag a 0x1 ≡ false → keeps_at s w a ≡ true → Standing s w a
+  standing_of z e =
+      let k = same_kind (kind_of w a) Flash in
+      let p = place_of s (length w.held.flash) (field_at a 28) in
+      let t = stands_at w.held.flash p a in
+      facts_at p refl z (kind_same (kind_of w a) Flash (and_left k t e)) (and_right k t e)

@@ -1,21 +1,18 @@
 -- A file of blocks, and where a kind's window starts in its buffer: the words in which one arrival and lists of them are spoken of.
 -- Assumes nothing.
-use Prim.Native.Nat.{ℕ}
-use mathlib.Core.Bool.{Bool, true, false, not}
-use mathlib.Core.List.{List}
-use lib.ListN.{length}
-use Rattle·uf2_block.specs.Block.{hasFlag}
-use Rattle·uf2_block.specs.declared.Header.{Header}
-use Rattle·uf2_block.specs.declared.Header.the-variants as header
-use Rattle·partitions.specs.declared.Settings.{Settings}
-use Rattle·placement.specs.Place.{placeOf}
-use Rattle·placement.specs.declared.Place.{Place}
-use Rattle·placement.specs.declared.Place.the-variants.{Nowhere, At}
-use Rattle·transfer.specs.Transfer.{headWith}
-use Rattle·transfer.specs.declared.Kind.{Kind}
-use Rattle·transfer.specs.declared.Kind.the-variants.{Flash, MainRam, XipRam}
-use Rattle·transfer.specs.declared.Head.{Head}
-use Rattle·arrival·specs.specs.Arrive.{World}
+use Rattle.std.specs.Prelude.{ℕ, Bool, true, false, not, List, length}
+use Rattle.uf2_block.specs.Block.{has_flag}
+use Rattle.uf2_block.specs.declared.Header.{Header}
+use Rattle.uf2_block.specs.declared.Header.TheVariants as header
+use Rattle.partitions.specs.declared.Settings.{Settings}
+use Rattle.placement.specs.Place.{place_of}
+use Rattle.placement.specs.declared.Place.{Place}
+use Rattle.placement.specs.declared.Place.TheVariants.{Nowhere, At}
+use Rattle.transfer.specs.Transfer.{head_with}
+use Rattle.transfer.specs.declared.Kind.{Kind}
+use Rattle.transfer.specs.declared.Kind.TheVariants.{Flash, MainRam, XipRam}
+use Rattle.transfer.specs.declared.Head.{Head}
+use Rattle.arrival.specs.Arrive.{World}
 
 -- a file of `total` blocks of one family and one kind (02, L8): the arrival that is block k
 pub record File : Type 0 where
@@ -25,27 +22,27 @@ pub record File : Type 0 where
   pub block : ℕ → List ℕ
 
 -- "blocks are data or comments" (02, L3): block k is data, its flag 0x1 being clear
-abbrev pub isData : File → ℕ → Bool
-isData F k = not (hasFlag (F .block k) 0x1)
+abbrev pub is_data : File → ℕ → Bool
+is_data F k = not (has_flag (F.block k) 0x1)
 
 -- "Running (family, n, m)", "Done (family, n)": the family and the n, and the kind, "which the transfer carries once it isn't Idle"
-abbrev pub headIn : File → Head
-headIn F = headWith (F .kind) (F .family) (F .total)
+abbrev pub head_in : File → Head
+head_in F = head_with F.kind F.family F.total
 
 -- the header yields a block
-abbrev pub isFound : Header → Bool
-isFound header.NotBlock = false
-isFound header.Container = false
-isFound header.NoFamily = false
-isFound (header.Found b) = true
+abbrev pub is_found : Header → Bool
+is_found header.NotBlock = false
+is_found header.Container = false
+is_found header.NoFamily = false
+is_found (header.Found b) = true
 
 -- where a place starts
-abbrev pub startOf : Place → ℕ
-startOf Nowhere = 0
-startOf (At start size) = start
+abbrev pub start_of : Place → ℕ
+start_of Nowhere = 0
+start_of (At start size) = start
 
 -- what a kind's window starts at in its buffer: flash's at the start of the family's place, RAM's at 0
-abbrev pub originOf : Settings → World → Kind → ℕ → ℕ
-originOf s w Flash f = startOf (placeOf s (length (w .held .flash)) f)
-originOf s w MainRam f = 0
-originOf s w XipRam f = 0
+abbrev pub origin_of : Settings → World → Kind → ℕ → ℕ
+origin_of s w Flash f = start_of (place_of s (length w.held.flash) f)
+origin_of s w MainRam f = 0
+origin_of s w XipRam f = 0

@@ -1,10 +1,7 @@
 -- What a call is lent, as the meaning has it. Assumes nothing.
-use Prim.Native.Nat.{ℕ}
-use mathlib.Core.List.{List}
-use denote.Ref.{RefT, now}
-use denote.Triple.Both.{Both}
-use Rattle·transfer.specs.declared.Transfer.{Transfer}
-use Rattle·arrival·specs.specs.Arrive.{Held, Lent, World}
+use Rattle.std.specs.Prelude.{ℕ, List}
+use Rattle.transfer.specs.declared.Transfer.{Transfer}
+use Rattle.arrival.specs.Arrive.{Held, Lent, World}
 
 -- ---- the lent buffers as one value
 
@@ -16,20 +13,20 @@ held f k u x = record { flash = f; sectors = k; main = u; xip = x }
 abbrev pub lent : List ℕ → List ℕ → List ℕ → List ℕ → List ℕ → Lent
 lent f m k u x = record { flash = f; seen = m; sectors = k; main = u; xip = x }
 
--- a lent slice of bytes, as a contract names it: at a call's entry and at its exit
+-- the bytes of a lent slice: a contract names them at a call's entry or at its exit
 abbrev pub Slice : Type 0
-Slice = Both (RefT (List ℕ)) (RefT (List ℕ))
+Slice = List ℕ
 
 -- the buffers as they are lent
-abbrev pub lentAt : Slice → Slice → Slice → Slice → Slice → Lent
-lentAt f m k u x = lent (now (f .entry)) (now (m .entry)) (now (k .entry)) (now (u .entry)) (now (x .entry))
+abbrev pub lent_at : Slice → Slice → Slice → Slice → Slice → Lent
+lent_at f m k u x = lent f m k u x
 
 -- the buffers as they are left
-abbrev pub leftAt : Slice → Slice → Slice → Slice → Slice → Lent
-leftAt f m k u x = lent (now (f .exit)) (now (m .exit)) (now (k .exit)) (now (u .exit)) (now (x .exit))
+abbrev pub left_at : Slice → Slice → Slice → Slice → Slice → Lent
+left_at f m k u x = lent f m k u x
 
 -- ---- what goes in and comes out
 
 -- a transfer and the lent buffers
 abbrev pub world : Transfer → Lent → World
-world t h = record { transfer = t .state; seen = h .seen; held = held (h .flash) (h .sectors) (h .main) (h .xip) }
+world t h = record { transfer = t.state; seen = h.seen; held = held h.flash h.sectors h.main h.xip }

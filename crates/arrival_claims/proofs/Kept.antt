@@ -1,56 +1,56 @@
 -- The claims of specs/Kept.antt hold. Assumes nothing.
-use Prim.Native.Nat.{ℕ, _+_, _-_, _≤_}
-use mathlib.Core.Path.{_≡_, refl, sym, ap, _∙_}
-use mathlib.Core.Bool.{Bool, true, false, not, cond, _&&_}
+use Prim.Native.Nat.{ℕ, ◌+◌, ◌-◌, ◌≤◌}
+use mathlib.Core.Path.{◌≡◌, refl, sym, ap, ◌∙◌}
+use mathlib.Core.Bool.{Bool, true, false, not, cond, ◌&&◌}
 use mathlib.Core.List.{List}
 use native.Mathlib.Omega.{arith}
 use lib.Dec.{ltb}
-use lib.ListN.{length, getD}
-use Rattle·laws.proofs.Tests.{split, is-false, both}
-use Rattle·memory.specs.Bitmap.{markedIn, withMark}
-use Rattle·uf2_block.specs.Block.{fieldAt, hasFlag}
-use Rattle·uf2_block.specs.Region.{regionOf}
-use Rattle·uf2_block.proofs.Laws.{flag-comment}
-use Rattle·memory.specs.Flash.{payloadOf}
-use Rattle·memory.proofs.flash.Laws.{payload-set}
-use Rattle·md5.specs.Md5.{md5Of}
-use Rattle·md5.specs.declared.Digest.{Digest}
-use Rattle·uf2_block.specs.Regions.{sameDigest, partOf, standsIn}
-use Rattle·uf2_block.proofs.regions.Laws.{Counting, good-yes, stands-there, digest-yes}
-use Rattle·partitions.specs.Settings.{goodSettings}
-use Rattle·partitions.specs.declared.Settings.{Settings}
-use Rattle·placement.proofs.Theorems.{place-inside}
-use Rattle·transfer.specs.Transfer.{numberOf, sameKind, goodState, sameHead, deedAnswer, raised, accepted, stepOf}
-use Rattle·transfer.specs.declared.Kind.{Kind}
-use Rattle·transfer.specs.declared.Kind.the-variants.{Flash}
-use Rattle·transfer.specs.declared.Head.{Head}
-use Rattle·transfer.specs.declared.State.{State}
-use Rattle·transfer.specs.declared.State.the-variants.{Idle, Running, Done}
-use Rattle·transfer.specs.declared.Deed.{Deed}
-use Rattle·transfer.specs.declared.Deed.the-variants.{Stores, Notes, Keeps}
-use Rattle·transfer.specs.declared.Answer.{Answer}
-use Rattle·transfer.specs.declared.Answer.the-variants.{BadBuffers, BadSettings, BadState}
-use Rattle·transfer.specs.declared.Step.{Step}
-use Rattle·transfer.specs.declared.Step.the-variants.{Stays, Accepts}
-use Rattle·uf2_checks.specs.Screen.{screenOf}
-use Rattle·uf2_checks.specs.declared.Lengths.{Lengths}
-use Rattle·uf2_checks.specs.declared.Body.{Body}
-use Rattle·uf2_checks.specs.declared.Body.the-variants.{Page, Note}
-use Rattle·uf2_checks.specs.declared.PlacedBlock.{PlacedBlock}
-use Rattle·uf2_checks.specs.declared.Screening.{Screening}
-use Rattle·uf2_checks.specs.declared.Screening.the-variants.{Refused, Passed}
-use Rattle·arrival.specs.Arrive.{World, Decision, stays, rightLengths, standsAt, standing, bodyDeed, deedOf, stepped, afterScreening, decide, decided, clearedIf, acceptOf, done, receiveOf}
-use Rattle·arrival.specs.Windows.{kindOf}
-use Rattle·arrival.specs.Facts.{flagged}
-use Rattle·arrival_claims·specs.specs.Comments.{Unstored}
-use Rattle·arrival_claims·specs.specs.Kept.{soft, Agree, Flash-decides-14-or-17, Flag-0x4000-decides-14-or-17, Standing-kept, Kept-stands, Else-as-before}
-use Rattle·arrival.specs.Standing.{Standing}
-use Rattle·arrival.proofs.Standing.{keepsAt, standing-of}
-use Rattle·arrival_claims·proofs.proofs.Screening.{flashOf, lens, Board, Passing, passing-deed}
-use Rattle·arrival_claims·proofs.proofs.DecisionFacts.{raisedCount, took-answer, deedAt, DecisionFacts, refused, took, decision-facts, decide-same}
-use Rattle·arrival_claims·proofs.proofs.Bounds.{deed-is}
-use Rattle·arrival.proofs.Facts.{decide-flags, kind-flags}
-use Rattle·arrival_claims·proofs.proofs.Comments.{unstored}
+use lib.ListN.{length, get_or}
+use Rattle.laws.proofs.Tests.{split, is_false, both}
+use Rattle.memory.specs.Bitmap.{marked_in, with_mark}
+use Rattle.uf2_block.specs.Block.{field_at, has_flag}
+use Rattle.uf2_block.specs.Region.{region_of}
+use Rattle.uf2_block.proofs.Laws.{flag_comment}
+use Rattle.memory.specs.Flash.{payload_of}
+use Rattle.memory.proofs.flash.Laws.{payload_set}
+use Rattle.md5_digest.specs.Md5.{md5_of}
+use Rattle.md5_digest.specs.declared.Digest.{Digest}
+use Rattle.uf2_block.specs.Regions.{same_digest, part_of, stands_in}
+use Rattle.uf2_block.proofs.regions.Laws.{Counting, good_yes, stands_there, digest_yes}
+use Rattle.partitions.specs.Settings.{good_settings}
+use Rattle.partitions.specs.declared.Settings.{Settings}
+use Rattle.placement.proofs.Theorems.{place_inside}
+use Rattle.transfer.specs.Transfer.{number_of, same_kind, good_state, same_head, deed_answer, raised, accepted, step_of}
+use Rattle.transfer.specs.declared.Kind.{Kind}
+use Rattle.transfer.specs.declared.Kind.TheVariants.{Flash}
+use Rattle.transfer.specs.declared.Head.{Head}
+use Rattle.transfer.specs.declared.State.{State}
+use Rattle.transfer.specs.declared.State.TheVariants.{Idle, Running, Done}
+use Rattle.transfer.specs.declared.Deed.{Deed}
+use Rattle.transfer.specs.declared.Deed.TheVariants.{Stores, Notes, Keeps}
+use Rattle.transfer.specs.declared.Answer.{Answer}
+use Rattle.transfer.specs.declared.Answer.TheVariants.{BadBuffers, BadSettings, BadState}
+use Rattle.transfer.specs.declared.Step.{Step}
+use Rattle.transfer.specs.declared.Step.TheVariants.{Stays, Accepts}
+use Rattle.uf2_checks.specs.Screen.{screen_of}
+use Rattle.uf2_checks.specs.declared.Lengths.{Lengths}
+use Rattle.uf2_checks.specs.declared.Body.{Body}
+use Rattle.uf2_checks.specs.declared.Body.TheVariants.{Page, Note}
+use Rattle.uf2_checks.specs.declared.PlacedBlock.{PlacedBlock}
+use Rattle.uf2_checks.specs.declared.Screening.{Screening}
+use Rattle.uf2_checks.specs.declared.Screening.TheVariants.{Refused, Passed}
+use Rattle.arrival.specs.Arrive.{World, Decision, stays, right_lengths, stands_at, standing, body_deed, deed_of, stepped, after_screening, decide, decided, cleared_if, accept_of, done, receive_of}
+use Rattle.arrival.specs.Windows.{kind_of}
+use Rattle.arrival.specs.Facts.{flagged}
+use Rattle.arrival_claims.specs.Comments.{Unstored}
+use Rattle.arrival_claims.specs.Kept.{soft, Agree, FlashDecides14Or17, Flag0x4000Decides14Or17, StandingKept, KeptStands, ElseAsBefore}
+use Rattle.arrival.specs.Standing.{Standing}
+use Rattle.arrival.proofs.Standing.{keeps_at, standing_of}
+use Rattle.arrival_claims.proofs.Screening.{flash_of, lens, Board, Passing, passing_deed}
+use Rattle.arrival_claims.proofs.DecisionFacts.{raised_count, took_answer, deed_at, DecisionFacts, refused, took, decision_facts, decide_same}
+use Rattle.arrival_claims.proofs.Bounds.{deed_is}
+use Rattle.arrival.proofs.Facts.{decide_flags, kind_flags}
+use Rattle.arrival_claims.proofs.Comments.{unstored}
 
 -- ---- what stands tells 14 from 17, and nothing else
 
@@ -60,188 +60,188 @@ Like (Stays x) (Stays y) = x ≡ y
 Like (Stays x) (Accepts l) = ⊥
 Like (Accepts k) (Stays y) = ⊥
 Like (Accepts k) (Accepts l) =
-    (soft (k .answer) ≡ soft (l .answer)) × (k .discarded ≡ l .discarded) × (k .transfer ≡ l .transfer) × (k .clears ≡ l .clears)
+    (soft k.answer ≡ soft l.answer) × (k.discarded ≡ l.discarded) × (k.transfer ≡ l.transfer) × (k.clears ≡ l.clears)
 
-soft-raised : (d e : Deed) (g : Head) (c : ℕ) → soft (deedAnswer d) ≡ soft (deedAnswer e) → soft (raised d g c) ≡ soft (raised e g c)
+soft_raised : (d e : Deed) (g : Head) (c : ℕ) → soft (deed_answer d) ≡ soft (deed_answer e) → soft (raised d g c) ≡ soft (raised e g c)
 unfolding raised
-soft-raised d e g c h = split (ltb c (g .total)) (λ y. rw y h) (λ z. rw z)
+soft_raised d e g c h = split (ltb c g.total) (λ y. rw y h) (λ z. rw z)
 
-like-accepted : (d e : Deed) (clears discards : Bool) (g : Head) (c : ℕ) → soft (deedAnswer d) ≡ soft (deedAnswer e)
+like_accepted : (d e : Deed) (clears discards : Bool) (g : Head) (c : ℕ) → soft (deed_answer d) ≡ soft (deed_answer e)
     → Like (Accepts (accepted d clears discards g c)) (Accepts (accepted e clears discards g c))
 unfolding accepted
-like-accepted d e clears discards g c h = (soft-raised d e g c h, refl, refl, refl)
+like_accepted d e clears discards g c h = (soft_raised d e g c h, refl, refl, refl)
 
-like-steps : (t : State) (g : Head) (m : Bool) (d e : Deed) → soft (deedAnswer d) ≡ soft (deedAnswer e) → Like (stepOf t g m d) (stepOf t g m e)
-unfolding stepOf
-like-steps Idle g m d e h = like-accepted d e true false g 1 h
-like-steps (Running r) g m d e h =
-    split (sameHead (r .head) g)
-    (λ q. split m (λ y. rw (q, y) refl) (λ z. rw (q, z) (like-accepted d e false false g (r .count + 1) h)))
-    (λ q. rw q (like-accepted d e true true g 1 h))
-like-steps (Done x) g m d e h = refl
+like_steps : (t : State) (g : Head) (m : Bool) (d e : Deed) → soft (deed_answer d) ≡ soft (deed_answer e) → Like (step_of t g m d) (step_of t g m e)
+unfolding step_of
+like_steps Idle g m d e h = like_accepted d e true false g 1 h
+like_steps (Running r) g m d e h =
+    split (same_head r.head g)
+    (λ q. split m (λ y. rw (q, y) refl) (λ z. rw (q, z) (like_accepted d e false false g (r.count + 1) h)))
+    (λ q. rw q (like_accepted d e true true g 1 h))
+like_steps (Done x) g m d e h = refl
 
 -- a page is kept or stored, a comment noted
-soft-deeds : (b c : Bool) (x : Body) → soft (deedAnswer (bodyDeed b x)) ≡ soft (deedAnswer (bodyDeed c x))
-soft-deeds true true (Page at) = refl
-soft-deeds true false (Page at) = refl
-soft-deeds false true (Page at) = refl
-soft-deeds false false (Page at) = refl
-soft-deeds b c Note = refl
+soft_deeds : (b c : Bool) (x : Body) → soft (deed_answer (body_deed b x)) ≡ soft (deed_answer (body_deed c x))
+soft_deeds true true (Page at) = refl
+soft_deeds true false (Page at) = refl
+soft_deeds false true (Page at) = refl
+soft_deeds false false (Page at) = refl
+soft_deeds b c Note = refl
 
 -- two worlds with the same transfer and seen map
-module _ (v w : World) (p : List ℕ) (transfers : v .transfer ≡ w .transfer) (maps : v .seen ≡ w .seen) where
-  agree-stays : (x : Answer) → Agree (done v p (stays x)) (done w p (stays x))
+module _ (v w : World) (p : List ℕ) (transfers : v.transfer ≡ w.transfer) (maps : v.seen ≡ w.seen) where
+  agree_stays : (x : Answer) → Agree (done v p (stays x)) (done w p (stays x))
   unfolding done
-  agree-stays x = record { answer = refl; discarded = refl; transfer = transfers; seen = maps }
+  agree_stays x = record { answer = refl; discarded = refl; transfer = transfers; seen = maps }
 
-  agree-steps : (g : PlacedBlock) (d e : Deed) (x y : Step) → Like x y → Agree (done v p (stepped g d x)) (done w p (stepped g e y))
-  unfolding done acceptOf
-  agree-steps g d e (Stays x) (Stays y) h =
-      record { answer = ap (λ u. soft (u .answer)) h; discarded = refl; transfer = transfers; seen = maps }
-  agree-steps g d e (Stays x) (Accepts l) h = absurd h
-  agree-steps g d e (Accepts k) (Stays y) h = absurd h
-  agree-steps g d e (Accepts k) (Accepts l) h =
+  agree_steps : (g : PlacedBlock) (d e : Deed) (x y : Step) → Like x y → Agree (done v p (stepped g d x)) (done w p (stepped g e y))
+  unfolding done accept_of
+  agree_steps g d e (Stays x) (Stays y) h =
+      record { answer = ap (λ u. soft u.answer) h; discarded = refl; transfer = transfers; seen = maps }
+  agree_steps g d e (Stays x) (Accepts l) h = absurd h
+  agree_steps g d e (Accepts k) (Stays y) h = absurd h
+  agree_steps g d e (Accepts k) (Accepts l) h =
       record {
-        answer = h .0;
-        discarded = h .1;
-        transfer = ap (λ u. u .state) (h .2);
-        seen = λ i. withMark (clearedIf (h .3 i) (maps i)) (g .number);
+        answer = h.0;
+        discarded = h.1;
+        transfer = ap (λ u. u.state) h.2;
+        seen = λ i. with_mark (cleared_if (h.3 i) (maps i)) g.number;
       }
 
-  agree-screened : (t : State) (seen : List ℕ) (b c : Bool) (x : Screening) → Agree (done v p (afterScreening t seen b x)) (done w p (afterScreening t seen c x))
-  unfolding afterScreening
-  agree-screened t seen b c (Refused x) = agree-stays x
-  agree-screened t seen b c (Passed g) =
-      let k = sameKind (g .head .kind) Flash in
-      agree-steps g (deedOf b g) (deedOf c g)
-      (stepOf t (g .head) (markedIn seen (g .number)) (deedOf b g))
-      (stepOf t (g .head) (markedIn seen (g .number)) (deedOf c g))
-      (like-steps t (g .head) (markedIn seen (g .number)) (deedOf b g) (deedOf c g) (soft-deeds (k && b) (k && c) (g .body)))
+  agree_screened : (t : State) (seen : List ℕ) (b c : Bool) (x : Screening) → Agree (done v p (after_screening t seen b x)) (done w p (after_screening t seen c x))
+  unfolding after_screening
+  agree_screened t seen b c (Refused x) = agree_stays x
+  agree_screened t seen b c (Passed g) =
+      let k = same_kind g.head.kind Flash in
+      agree_steps g (deed_of b g) (deed_of c g)
+      (step_of t g.head (marked_in seen g.number) (deed_of b g))
+      (step_of t g.head (marked_in seen g.number) (deed_of c g))
+      (like_steps t g.head (marked_in seen g.number) (deed_of b g) (deed_of c g) (soft_deeds (k && b) (k && c) g.body))
 
-  agree-cond : (b : Bool) (x : Answer) (y z : Decision) → Agree (done v p y) (done w p z) → Agree (done v p (cond b (stays x) y)) (done w p (cond b (stays x) z))
-  agree-cond true x y z h = agree-stays x
-  agree-cond false x y z h = h
+  agree_cond : (b : Bool) (x : Answer) (y z : Decision) → Agree (done v p y) (done w p z) → Agree (done v p (cond b (stays x) y)) (done w p (cond b (stays x) z))
+  agree_cond true x y z h = agree_stays x
+  agree_cond false x y z h = h
 
-  agree-decide : (s : Settings) (n : Lengths) (k : ℕ) (t : State) (seen : List ℕ) (b c : Bool) (a : List ℕ)
+  agree_decide : (s : Settings) (n : Lengths) (k : ℕ) (t : State) (seen : List ℕ) (b c : Bool) (a : List ℕ)
       → Agree (done v p (decide s n k t seen b a)) (done w p (decide s n k t seen c a))
   unfolding decide
-  agree-decide s n k t seen b c a =
-      agree-cond (not (rightLengths (length a) n (length seen) k)) BadBuffers _ _
-      (agree-cond (not (goodSettings s (n .flash))) BadSettings _ _
-      (agree-cond (not (goodState t)) BadState _ _
-      (agree-screened t seen b c (screenOf s n t a))))
+  agree_decide s n k t seen b c a =
+      agree_cond (not (right_lengths (length a) n (length seen) k)) BadBuffers _ _
+      (agree_cond (not (good_settings s n.flash)) BadSettings _ _
+      (agree_cond (not (good_state t)) BadState _ _
+      (agree_screened t seen b c (screen_of s n t a))))
 
-pub flash-decides-14-or-17 : Flash-decides-14-or-17
-unfolding Flash-decides-14-or-17 receiveOf
-flash-decides-14-or-17 s v w a e =
-    let b = standing s (v .held .flash) a in
-    let same : decided s v a ≡ decide s (lens w) (length (w .held .sectors)) (w .transfer) (w .seen) b a =
-    λ i. decide s (e .lengths i) (e .sectors-length i) (e .transfer i) (e .seen i) b a in
+pub flash_decides_14_or_17 : FlashDecides14Or17
+unfolding FlashDecides14Or17 receive_of
+flash_decides_14_or_17 s v w a e =
+    let b = standing s v.held.flash a in
+    let same : decided s v a ≡ decide s (lens w) (length w.held.sectors) w.transfer w.seen b a =
+    λ i. decide s (e.lengths i) (e.sectors_length i) (e.transfer i) (e.seen i) b a in
     rw same
-    (agree-decide v w (payloadOf a) (e .transfer) (e .seen) s (lens w) (length (w .held .sectors)) (w .transfer) (w .seen) b (standing s (w .held .flash) a) a)
+    (agree_decide v w (payload_of a) e.transfer e.seen s (lens w) (length w.held.sectors) w.transfer w.seen b (standing s w.held.flash a) a)
 
-pub flag-0x4000-decides-14-or-17 : Flag-0x4000-decides-14-or-17
-unfolding Flag-0x4000-decides-14-or-17 receiveOf
-flag-0x4000-decides-14-or-17 s w a =
-    let b = standing s (w .held .flash) (flagged 0x40 a) in
+pub flag_0x4000_decides_14_or_17 : Flag0x4000Decides14Or17
+unfolding Flag0x4000Decides14Or17 receive_of
+flag_0x4000_decides_14_or_17 s w a =
+    let b = standing s w.held.flash (flagged 0x40 a) in
     rw (
-      payload-set a 9 (getD a 9 0 + 0x40) (omega arith),
-      decide-flags s (lens w) (length (w .held .sectors)) (w .transfer) (w .seen) b a 0x40 (omega arith),
+      payload_set a 9 (get_or a 9 0 + 0x40) (omega arith),
+      decide_flags s (lens w) (length w.held.sectors) w.transfer w.seen b a 0x40 (omega arith),
     )
-    (agree-decide w w (payloadOf a) refl refl s (lens w) (length (w .held .sectors)) (w .transfer) (w .seen) b (standing s (w .held .flash) a) a)
+    (agree_decide w w (payload_of a) refl refl s (lens w) (length w.held.sectors) w.transfer w.seen b (standing s w.held.flash a) a)
 
 -- ---- when it is kept
 
 module _ (s : Settings) (w : World) (a : List ℕ) where
-  pub standing-keeps : Board s w → Standing s w a → keepsAt s w a ≡ true
-  unfolding standsAt regionOf
-  standing-keeps B q =
-      let start = q .start in
-      let size = q .size in
-      let i = place-inside s (flashOf w) (fieldAt a 28) (B .flash) (B .good) start size (q .place) in
-      let c : Counting size (fieldAt a 12) (regionOf a) =
+  pub standing_keeps : Board s w → Standing s w a → keeps_at s w a ≡ true
+  unfolding stands_at region_of
+  standing_keeps B q =
+      let start = q.start in
+      let size = q.size in
+      let i = place_inside s (flash_of w) (field_at a 28) B.flash B.good start size q.place in
+      let c : Counting size (field_at a 12) (region_of a) =
       record {
-        starts = q .first;
-        ends = q .whole;
-        some = q .some;
-        window = q .window;
-        within = q .within;
-        before = q .before;
-        behind = q .behind;
+        starts = q.first;
+        ends = q.whole;
+        some = q.some;
+        window = q.window;
+        within = q.within;
+        before = q.before;
+        behind = q.behind;
       } in
-      let d : sameDigest (md5Of (partOf (w .held .flash) start (regionOf a))) (regionOf a) ≡ true =
-      ap (λ (x : Digest). sameDigest x (regionOf a)) (q .digest) ∙ digest-yes (regionOf a) in
-      let t : standsIn (w .held .flash) start (regionOf a) ≡ true =
-      sym (stands-there (w .held .flash) start (regionOf a) (q .window) (omega (arith, q .within, i .2))) ∙ d in
-      rw (q .flash, q .place) (both (both (q .flag) (good-yes size (fieldAt a 12) (regionOf a) c)) t)
+      let d : same_digest (md5_of (part_of w.held.flash start (region_of a))) (region_of a) ≡ true =
+      ap (λ (x : Digest). same_digest x (region_of a)) q.digest ∙ digest_yes (region_of a) in
+      let t : stands_in w.held.flash start (region_of a) ≡ true =
+      sym (stands_there w.held.flash start (region_of a) q.window (omega (arith, q.within, i.2))) ∙ d in
+      rw (q.flash, q.place) (both (both q.flag (good_yes size (field_at a 12) (region_of a) c)) t)
 
 keeping : (s : Settings) (w : World) (a : List ℕ) {d : Decision} → DecisionFacts s w a d → Standing s w a
-    → 14 ≤ numberOf (done w (payloadOf a) d .answer) → Unstored 17 w a (done w (payloadOf a) d)
-keeping s w a (refused x h) q n = let m : 14 ≤ numberOf x = unfold done in n in absurd (omega arith)
+    → 14 ≤ number_of (done w (payload_of a) d).answer → Unstored 17 w a (done w (payload_of a) d)
+keeping s w a (refused x h) q n = let m : 14 ≤ number_of x = unfold done in n in absurd (omega arith)
 keeping s w a (took g k B l p t) q n =
-    unstored s w a Keeps g k p B t (deed-is s w a g k p B ∙ rw (q .data-block, standing-keeps s w a B q)) (λ e. let z : _≡_ {A = ℕ} 0 1 = cc in omega arith)
+    unstored s w a Keeps g k p B t (deed_is s w a g k p B ∙ rw (q.data_block, standing_keeps s w a B q)) (λ e. let z : ◌≡◌ {A = ℕ} 0 1 = cc in omega arith)
 
-pub standing-kept : Standing-kept
-unfolding Standing-kept receiveOf
-standing-kept s w a q n = keeping s w a (decision-facts s w a) q n
+pub standing_kept : StandingKept
+unfolding StandingKept receive_of
+standing_kept s w a q n = keeping s w a (decision_facts s w a) q n
 
 -- only what is kept is answered 17
-raised-kept : (d : Deed) (g : Head) (c : ℕ) → numberOf (raised d g c) ≡ 17 → d ≡ Keeps
+raised_kept : (d : Deed) (g : Head) (c : ℕ) → number_of (raised d g c) ≡ 17 → d ≡ Keeps
 unfolding raised
-raised-kept d g c e = split (ltb c (g .total)) (λ y. of d (rw y at e)) (λ z. let f = rw z at e in absurd (omega arith))
+raised_kept d g c e = split (ltb c g.total) (λ y. of d (rw y at e)) (λ z. let f = rw z at e in absurd (omega arith))
   where
-    of : (d : Deed) → numberOf (deedAnswer d) ≡ 17 → d ≡ Keeps
+    of : (d : Deed) → number_of (deed_answer d) ≡ 17 → d ≡ Keeps
     of Stores e = absurd (omega arith)
     of Notes e = absurd (omega arith)
     of Keeps e = refl
 
-kept-only : (b c : Bool) → cond b Notes (cond c Keeps Stores) ≡ Keeps → (b ≡ false) × (c ≡ true)
-kept-only true c e = let z : _≡_ {A = ℕ} 0 1 = cc in absurd (omega arith)
-kept-only false true e = (refl, refl)
-kept-only false false e = let z : _≡_ {A = ℕ} 0 1 = cc in absurd (omega arith)
+kept_only : (b c : Bool) → cond b Notes (cond c Keeps Stores) ≡ Keeps → (b ≡ false) × (c ≡ true)
+kept_only true c e = let z : ◌≡◌ {A = ℕ} 0 1 = cc in absurd (omega arith)
+kept_only false true e = (refl, refl)
+kept_only false false e = let z : ◌≡◌ {A = ℕ} 0 1 = cc in absurd (omega arith)
 
-stands : (s : Settings) (w : World) (a : List ℕ) {d : Decision} → DecisionFacts s w a d → numberOf (done w (payloadOf a) d .answer) ≡ 17 → Standing s w a
-stands s w a (refused x h) n = let m : numberOf x ≡ 17 = unfold done in n in absurd (omega arith)
+stands : (s : Settings) (w : World) (a : List ℕ) {d : Decision} → DecisionFacts s w a d → number_of (done w (payload_of a) d).answer ≡ 17 → Standing s w a
+stands s w a (refused x h) n = let m : number_of x ≡ 17 = unfold done in n in absurd (omega arith)
 stands s w a (took g k B l p t) n =
-    let m : numberOf (k .answer) ≡ 17 = unfold done in n in
-    let e : deedAt s w a g ≡ Keeps = raised-kept (deedAt s w a g) (g .head) (raisedCount t) (sym (ap numberOf (took-answer t)) ∙ m) in
-    let f = kept-only (hasFlag a 0x1) (keepsAt s w a) (sym (deed-is s w a g k p B) ∙ e) in
-    standing-of s w a (f .0) (f .1)
+    let m : number_of k.answer ≡ 17 = unfold done in n in
+    let e : deed_at s w a g ≡ Keeps = raised_kept (deed_at s w a g) g.head (raised_count t) (sym (ap number_of (took_answer t)) ∙ m) in
+    let f = kept_only (has_flag a 0x1) (keeps_at s w a) (sym (deed_is s w a g k p B) ∙ e) in
+    standing_of s w a f.0 f.1
 
-pub kept-stands : Kept-stands
-unfolding Kept-stands receiveOf
-kept-stands s w a n = stands s w a (decision-facts s w a) n
+pub kept_stands : KeptStands
+unfolding KeptStands receive_of
+kept_stands s w a n = stands s w a (decision_facts s w a) n
 
 -- ---- else as before
 
-pub else-as-before : Else-as-before
-unfolding Else-as-before receiveOf
-else-as-before s w a n m =
+pub else_as_before : ElseAsBefore
+unfolding ElseAsBefore receive_of
+else_as_before s w a n m =
     rw (
-      payload-set a 9 (getD a 9 0 + 0x40) (omega arith),
-      decide-flags s (lens w) (length (w .held .sectors)) (w .transfer) (w .seen) (standing s (w .held .flash) (flagged 0x40 a)) a 0x40 (omega arith),
+      payload_set a 9 (get_or a 9 0 + 0x40) (omega arith),
+      decide_flags s (lens w) (length w.held.sectors) w.transfer w.seen (standing s w.held.flash (flagged 0x40 a)) a 0x40 (omega arith),
     )
-    (ap (done w (payloadOf a)) (decide-same s w a (standing s (w .held .flash) (flagged 0x40 a)) (standing s (w .held .flash) a) same))
+    (ap (done w (payload_of a)) (decide_same s w a (standing s w.held.flash (flagged 0x40 a)) (standing s w.held.flash a) same))
   where
     b : Bool
-    b = standing s (w .held .flash) (flagged 0x40 a)
+    b = standing s w.held.flash (flagged 0x40 a)
 
     c : Bool
-    c = standing s (w .held .flash) a
+    c = standing s w.held.flash a
 
     k : Bool
-    k = sameKind (kindOf w a) Flash
+    k = same_kind (kind_of w a) Flash
 
-    same : (g : PlacedBlock) → Passing s w a g → deedOf b g ≡ deedOf c g
-    same g p = passing-deed s w a g p b ∙ alike ∙ sym (passing-deed s w a g p c)
+    same : (g : PlacedBlock) → Passing s w a g → deed_of b g ≡ deed_of c g
+    same g p = passing_deed s w a g p b ∙ alike ∙ sym (passing_deed s w a g p c)
       where
-        alike : cond (hasFlag a 0x1) Notes (cond (k && b) Keeps Stores) ≡ cond (hasFlag a 0x1) Notes (cond (k && c) Keeps Stores)
+        alike : cond (has_flag a 0x1) Notes (cond (k && b) Keeps Stores) ≡ cond (has_flag a 0x1) Notes (cond (k && c) Keeps Stores)
         alike =
-            split (hasFlag a 0x1)
+            split (has_flag a 0x1)
             (λ y. rw y)
             (λ z.
-            let q : k && c ≡ false = is-false (k && c) (λ y. n (standing-of s w a z y)) in
+            let q : k && c ≡ false = is_false (k && c) (λ y. n (standing_of s w a z y)) in
             let r : k && b ≡ false =
-            is-false (k && b)
-            (λ y. m (standing-of s w (flagged 0x40 a) (flag-comment a 0x40 (omega arith) ∙ z) (ap (λ (u : Kind). sameKind u Flash && b) (kind-flags w a 0x40 (omega arith)) ∙ y))) in
+            is_false (k && b)
+            (λ y. m (standing_of s w (flagged 0x40 a) (flag_comment a 0x40 (omega arith) ∙ z) (ap (λ (u : Kind). same_kind u Flash && b) (kind_flags w a 0x40 (omega arith)) ∙ y))) in
             rw (z, q, r))

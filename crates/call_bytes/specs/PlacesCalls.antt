@@ -1,14 +1,10 @@
 -- What the call for a place answers and leaves. Assumes nothing.
-use Prim.Native.Nat.{ℕ, _<_, _^_}
-use mathlib.Core.Bool.{cond}
-use mathlib.Core.List.{List, _++_}
-use lib.Dec.{eqb}
-use lib.ListN.{length}
-use Rattle·placement.specs.Place.{askOf, placeAnswerNumber}
-use Rattle·placement.specs.declared.PlaceAnswer.{PlaceAnswer}
-use Rattle·placement.specs.declared.PlaceAnswer.the-variants.{BadBuffers, BadSettings, NoPlace, Found}
-use Rattle·uf2_block.specs.Write.{le32}
-use Rattle·settings_layout.specs.Layout.{settingsFrom}
+use Rattle.std.specs.Prelude.{ℕ, ◌<◌, ◌^◌, cond, List, ◌++◌, eqb, length}
+use Rattle.placement.specs.Place.{ask_of, place_answer_number}
+use Rattle.placement.specs.declared.PlaceAnswer.{PlaceAnswer}
+use Rattle.placement.specs.declared.PlaceAnswer.TheVariants.{BadBuffers, BadSettings, NoPlace, Found}
+use Rattle.uf2_block.specs.Write.{le32}
+use Rattle.settings_layout.specs.Layout.{settings_from}
 
 -- ---- a place asked for alone
 
@@ -18,19 +14,19 @@ pub record PlaceCall : Type 0 where
   pub place : List ℕ
 
 -- both as one value, which the contract names
-abbrev pub placeCall : ℕ → List ℕ → PlaceCall
-placeCall n l = record { result = n; place = l }
+abbrev pub place_call : ℕ → List ℕ → PlaceCall
+place_call n l = record { result = n; place = l }
 
 -- start and length of a place, written over `place`; a refusal leaves it (proofs/Places.antt: the two are read back from it)
-abbrev pub placeBytes : List ℕ → PlaceAnswer → List ℕ
-placeBytes l BadBuffers = l
-placeBytes l BadSettings = l
-placeBytes l NoPlace = l
-placeBytes l (Found a n) = le32 a ++ le32 n
+abbrev pub place_bytes : List ℕ → PlaceAnswer → List ℕ
+place_bytes l BadBuffers = l
+place_bytes l BadSettings = l
+place_bytes l NoPlace = l
+place_bytes l (Found a n) = le32 a ++ le32 n
 
 -- the refusal's number, and 0 for a place that is found
-abbrev pub placeCallOf : List ℕ → PlaceAnswer → PlaceCall
-placeCallOf l x = placeCall (placeAnswerNumber x) (placeBytes l x)
+abbrev pub place_call_of : List ℕ → PlaceAnswer → PlaceCall
+place_call_of l x = place_call (place_answer_number x) (place_bytes l x)
 
 -- start and length fit 32 bits, as those of every place that is found do (proofs/Places.antt)
 abbrev pub Low : PlaceAnswer → Type 0
@@ -40,5 +36,5 @@ Low NoPlace = Unit
 Low (Found a n) = (a < 2 ^ 32) × (n < 2 ^ 32)
 
 -- 1 too where `place` has not 8 bytes
-unfoldable pub askBytes : List ℕ → ℕ → ℕ → List ℕ → PlaceCall
-askBytes s len f l = cond (eqb (length l) 8) (placeCallOf l (askOf (settingsFrom s) len f)) (placeCall 1 l)
+unfoldable pub ask_bytes : List ℕ → ℕ → ℕ → List ℕ → PlaceCall
+ask_bytes s len f l = cond (eqb (length l) 8) (place_call_of l (ask_of (settings_from s) len f)) (place_call 1 l)

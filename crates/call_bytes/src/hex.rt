@@ -1,10 +1,10 @@
 // What the call for a line of Universal Hex does. A reader is bytes in the layout of `readers`.
-ghost use mathlib.Core.Path.{_≡_};
-ghost use Rattle·call_bytes·specs.specs.HexCalls.{lineReturn, lineCallOf};
+ghost use Rattle.std.specs.Prelude.{◌≡◌};
+ghost use Rattle.call_bytes.specs.HexCalls.{line_return, line_call_of};
 
 // One line as it is handed, its ending included: the answer's number, and 256 times the position of a bad digit.
 pub fn line(reader: &mut [u8], line: &[u8], image: &mut [u8]) -> u32
-    ensures { λ r. ⌜ lineReturn r (now (reader .exit)) (now (image .exit)) ≡ lineCallOf (now (reader .entry)) (now (line .entry)) (now (image .entry)) ⌝ }
+    ensures { line_return result reader.new image.new ≡ line_call_of reader.old line.now image.old }
 {
     let was = uhex_layout::reading::read_reader(reader);
     let state = was.state;

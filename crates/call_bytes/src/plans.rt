@@ -1,10 +1,10 @@
 // What the call for an acceptance hands back, as bytes: the plan, the next transfer and the result.
-ghost use mathlib.Core.Path.{_≡_};
-ghost use Prim.Native.Nat.{_%_};
-ghost use Rattle·transfer.specs.Transfer.{numberOf};
-ghost use Rattle·transfer_layout.specs.Results.{resultOf, isAcceptance};
-ghost use Rattle·call_bytes·specs.specs.Calls.{planWords, planBytes, keptTransfer};
-ghost use Rattle·call_bytes·specs.specs.Parts.{withPlan};
+ghost use Rattle.std.specs.Prelude.{◌≡◌, ◌%◌};
+ghost use Rattle.transfer.specs.Transfer.{number_of};
+ghost use Rattle.transfer_layout.specs.Results.{result_of, is_acceptance};
+ghost use Rattle.call_bytes.specs.Calls.{plan_words, plan_bytes, kept_transfer};
+ghost use Rattle.call_bytes.specs.Parts.{with_plan};
+
 use flash_plan::Plan;
 use memory::flash::Flash;
 use uf2_commit::receipts::PlanReceipt;
@@ -13,22 +13,23 @@ use uf2_commit::receipts::PlanReceipt;
 pub const PLAN: usize = 12;
 
 // A plan as numbers: the deed's, where its sector begins, and where its page does.
+#[derive(Clone, Copy)]
 struct Words {
     deed: u32,
     sector: u32,
     page: u32,
 }
 
-// The low 32 bits. Of a plan's numbers they are the whole (proofs/Laws.antt, `plan-low`).
+// The low 32 bits. Of a plan's numbers they are the whole (proofs/Laws.antt, `plan_low`).
 fn low(x: usize) -> u32
-    ensures { λ r. ⌜ r ≡ x % 4294967296 ⌝ }
+    ensures { result ≡ x % 4294967296 }
 {
     (x % 4294967296) as u32
 }
 
 // The deed's number is asked for where the plan's case is known, so that it is no further branch.
 fn numbers(plan: Plan) -> Words
-    ensures { λ r. ⌜ planWords (r .deed) (r .sector) (r .page) ≡ planBytes plan ⌝ }
+    ensures { plan_words result.deed result.sector result.page ≡ plan_bytes plan }
 {
     match plan {
         Plan::Nothing => Words {
@@ -51,7 +52,7 @@ fn numbers(plan: Plan) -> Words
 
 // Writes a plan, where it has its 12 bytes.
 fn tell(plan: Plan, bytes: &mut [u8])
-    ensures { λ _. ⌜ now (bytes .exit) ≡ withPlan (now (bytes .entry)) plan ⌝ }
+    ensures { bytes.new ≡ with_plan bytes.old plan }
 {
     if bytes.len() != PLAN {
         return;
@@ -64,9 +65,9 @@ fn tell(plan: Plan, bytes: &mut [u8])
 
 // What an acceptance returns; the plan is written where it has its 12 bytes, and the next transfer where a block was accepted.
 pub fn hand_back(planned: PlanReceipt, transfer: &mut [u8], plan: &mut [u8]) -> u32
-    ensures { λ r. ⌜ r ≡ resultOf (numberOf (planned .receipt .answer)) (planned .receipt .discarded) ⌝ }
-    ensures kept { λ _. ⌜ now (transfer .exit) ≡ keptTransfer (now (transfer .entry)) (isAcceptance (numberOf (planned .receipt .answer))) (planned .receipt .transfer .state) ⌝ }
-    ensures told { λ _. ⌜ now (plan .exit) ≡ withPlan (now (plan .entry)) (planned .plan) ⌝ }
+    ensures value { result ≡ result_of (number_of planned.receipt.answer) planned.receipt.discarded }
+    ensures kept { transfer.new ≡ kept_transfer transfer.old (is_acceptance (number_of planned.receipt.answer)) planned.receipt.transfer.state }
+    ensures told { plan.new ≡ with_plan plan.old planned.plan }
 {
     let receipt = planned.receipt;
     let answer = receipt.answer;

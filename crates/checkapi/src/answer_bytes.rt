@@ -1,6 +1,7 @@
 // What the call for a file returns and writes, as bytes.
-ghost use mathlib.Core.Path.{_≡_};
-ghost use Rattle·checkapi·specs.specs.CheckBytes.{pieceTold, otherTold, numbersOver, callReturn, checkCall};
+ghost use Rattle.std.specs.Prelude.{◌≡◌};
+ghost use Rattle.checkapi.specs.CheckBytes.{piece_told, other_told, numbers_over, call_return, check_call};
+
 use file_check::Checked;
 
 // The bytes of what is told.
@@ -10,7 +11,7 @@ const WORD: usize = 4294967296;
 
 // The piece with which something is wrong; of a missing block its number.
 fn piece_told(x: Checked) -> usize
-    ensures { λ r. ⌜ r ≡ pieceTold x ⌝ }
+    ensures { result ≡ piece_told x }
 {
     match x {
         Checked::BadBuffers => 0,
@@ -31,7 +32,7 @@ fn piece_told(x: Checked) -> usize
 
 // The earlier piece that it collides with.
 fn other_told(x: Checked) -> usize
-    ensures { λ r. ⌜ r ≡ otherTold x ⌝ }
+    ensures { result ≡ other_told x }
 {
     match x {
         Checked::BadBuffers => 0,
@@ -52,7 +53,7 @@ fn other_told(x: Checked) -> usize
 
 // Two numbers of 64 bits, the lowest byte first.
 fn put_numbers(told: &mut [u8], piece: usize, other: usize)
-    ensures { λ _. ⌜ now (told .exit) ≡ numbersOver (now (told .entry)) piece other ⌝ }
+    ensures { told.new ≡ numbers_over told.old piece other }
 {
     let low = piece % WORD;
     let high = piece / WORD;
@@ -65,8 +66,8 @@ fn put_numbers(told: &mut [u8], piece: usize, other: usize)
 }
 
 // What a call returns of what a file comes to, which it writes. Without bytes for that nothing is written.
-pub(crate) fn tell(found: Checked, told: &mut [u8]) -> u32
-    ensures { λ r. ⌜ callReturn r (now (told .exit)) ≡ checkCall found (now (told .entry)) ⌝ }
+pub fn tell(found: Checked, told: &mut [u8]) -> u32
+    ensures { call_return result told.new ≡ check_call found told.old }
 {
     if told.len() != TOLD {
         return 1;

@@ -1,14 +1,16 @@
 // A file checked before it is sent, for C: a library of its own.
-mod answer_bytes;
+#![tactic(auto)]
 
-ghost use mathlib.Core.Path.{_≡_};
-ghost use lib.ListN.{length};
-ghost use Rattle·memory.specs.Bitmap.{unmarked};
-ghost use Rattle·checkapi·specs.specs.CheckCall.{callReturn, lengthsWith, checkCallOf};
+pub mod answer_bytes;
+
+ghost use Rattle.std.specs.Prelude.{◌≡◌, length};
+ghost use Rattle.memory.specs.Bitmap.{unmarked};
+ghost use Rattle.checkapi.specs.CheckCall.{call_return, lengths_with, check_call_of};
+
 use uf2_checks::Lengths;
 
 // What is wrong with a file: its number, and in `told` the piece and the other one. The three maps are left all zero.
-#[no_mangle]
+#[unsafe(no_mangle)]
 pub extern "C" fn uf2_check(
     settings: &[u8],
     file: &[u8],
@@ -20,8 +22,8 @@ pub extern "C" fn uf2_check(
     offsets: &mut [u8],
     told: &mut [u8],
 ) -> u32
-    ensures { λ r. ⌜ callReturn r (now (told .exit)) ≡ checkCallOf (now (settings .entry)) (lengthsWith «flash_len» «main_len» «xip_len») (length (now (numbers .entry))) (length (now (cells .entry))) (length (now (offsets .entry))) (now (file .entry)) (now (told .entry)) ⌝ }
-    ensures left { λ _. ⌜ (now (numbers .exit) ≡ unmarked (length (now (numbers .entry)))) × (now (cells .exit) ≡ unmarked (length (now (cells .entry)))) × (now (offsets .exit) ≡ unmarked (length (now (offsets .entry)))) ⌝ }
+    ensures told_after { call_return result told.new ≡ check_call_of settings.now (lengths_with flash_len main_len xip_len) (length numbers.old) (length cells.old) (length offsets.old) file.now told.old }
+    ensures left { (numbers.new ≡ unmarked (length numbers.old)) × (cells.new ≡ unmarked (length cells.old)) × (offsets.new ≡ unmarked (length offsets.old)) }
 {
     let s = settings_layout::read_settings(settings);
     let lens = Lengths {

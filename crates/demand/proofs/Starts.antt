@@ -1,106 +1,106 @@
 -- Two starts with one transfer and buffers of the same lengths, whatever they hold: a file that is valid at the one is valid at the other, and the
 -- same arrivals are foreign to it. Assumes nothing.
-use Prim.Native.Nat.{ℕ, _≤_, _<_}
-use mathlib.Core.Path.{_≡_, refl, sym, ap, _∙_}
-use mathlib.Core.Bool.{false, _&&_}
+use Prim.Native.Nat.{ℕ, ◌≤◌, ◌<◌}
+use mathlib.Core.Path.{◌≡◌, refl, sym, ap, ◌∙◌}
+use mathlib.Core.Bool.{false, ◌&&◌}
 use mathlib.Core.List.{List}
 use native.Mathlib.Omega.{arith}
 use lib.ListN.{length}
-use Rattle·memory.specs.Flash.{payloadOf}
-use Rattle·uf2_block.specs.Block.{hasFlag}
-use Rattle·uf2_block.specs.Region.{regionOf}
-use Rattle·uf2_block.specs.Regions.{goodRegion}
-use Rattle·partitions.specs.declared.Settings.{Settings}
-use Rattle·placement.specs.Place.{placeOf}
-use Rattle·transfer.specs.Transfer.{sameKind, numberOf, goodState}
-use Rattle·transfer.specs.declared.Kind.{Kind}
-use Rattle·transfer.specs.declared.Kind.the-variants.{Flash, MainRam, XipRam}
-use Rattle·transfer.specs.declared.State.{State}
-use Rattle·uf2_checks.specs.Screen.{screenOf}
-use Rattle·uf2_checks.specs.declared.Lengths.{Lengths}
-use Rattle·uf2_checks.specs.declared.PlacedBlock.{PlacedBlock}
-use Rattle·uf2_checks.specs.declared.Screening.{Screening}
-use Rattle·uf2_checks.specs.declared.Screening.the-variants.{Refused, Passed}
-use Rattle·arrival.specs.Arrive.{World, Outcome, receiveOf}
-use Rattle·arrival.specs.Facts.{Lengths-kept}
-use Rattle·arrival.specs.File.{startOf, originOf}
-use Rattle·arrival.proofs.Pages.{arrive}
-use Rattle·arrival_claims.proofs.Screening.{lens, Board}
-use Rattle·arrival_claims.proofs.DecisionFacts.{step-late}
-use Rattle·demand·specs.specs.Demand.{File, answerNumber, addressOf, isData, ValidFile, Foreign, Sent, sizeOf, Plain}
-use Rattle·demand·proofs.proofs.Lists.{board-same, receive-refused, receive-passed}
-use Rattle·demand·proofs.proofs.Runs.{mixed-map}
-use Rattle·demand·proofs.proofs.Files.{earned}
+use Rattle.memory.specs.Flash.{payload_of}
+use Rattle.uf2_block.specs.Block.{has_flag}
+use Rattle.uf2_block.specs.Region.{region_of}
+use Rattle.uf2_block.specs.Regions.{good_region}
+use Rattle.partitions.specs.declared.Settings.{Settings}
+use Rattle.placement.specs.Place.{place_of}
+use Rattle.transfer.specs.Transfer.{same_kind, number_of, good_state}
+use Rattle.transfer.specs.declared.Kind.{Kind}
+use Rattle.transfer.specs.declared.Kind.TheVariants.{Flash, MainRam, XipRam}
+use Rattle.transfer.specs.declared.State.{State}
+use Rattle.uf2_checks.specs.Screen.{screen_of}
+use Rattle.uf2_checks.specs.declared.Lengths.{Lengths}
+use Rattle.uf2_checks.specs.declared.PlacedBlock.{PlacedBlock}
+use Rattle.uf2_checks.specs.declared.Screening.{Screening}
+use Rattle.uf2_checks.specs.declared.Screening.TheVariants.{Refused, Passed}
+use Rattle.arrival.specs.Arrive.{World, Outcome, receive_of}
+use Rattle.arrival.specs.Facts.{LengthsKept}
+use Rattle.arrival.specs.File.{start_of, origin_of}
+use Rattle.arrival.proofs.Pages.{arrive}
+use Rattle.arrival_claims.proofs.Screening.{lens, Board}
+use Rattle.arrival_claims.proofs.DecisionFacts.{step_late}
+use Rattle.demand.specs.Demand.{File, answer_number, address_of, is_data, ValidFile, Foreign, Sent, size_of, Plain}
+use Rattle.demand.proofs.Lists.{board_same, receive_refused, receive_passed}
+use Rattle.demand.proofs.Runs.{mixed_map}
+use Rattle.demand.proofs.Files.{earned}
 
-module _ (s : Settings) (v w : World) (L : Lengths-kept v w) (t : v .transfer ≡ w .transfer) where
+module _ (s : Settings) (v w : World) (L : LengthsKept v w) (t : v.transfer ≡ w.transfer) where
   -- an answer of 4 to 11 is the same at both, and 12 or more is 12 or more
   pub record Answered (a : List ℕ) : Type 0 where
-    pub refusal : answerNumber s w a ≤ 11 → answerNumber s v a ≡ answerNumber s w a
-    pub passing : 12 ≤ answerNumber s w a → 12 ≤ answerNumber s v a
+    pub refusal : answer_number s w a ≤ 11 → answer_number s v a ≡ answer_number s w a
+    pub passing : 12 ≤ answer_number s w a → 12 ≤ answer_number s v a
 
-  late : (u : World) (a : List ℕ) (B : Board s u) → length a ≡ 512 → (g : PlacedBlock) → screenOf s (lens u) (u .transfer) a ≡ Passed g → 12 ≤ answerNumber s u a
+  late : (u : World) (a : List ℕ) (B : Board s u) → length a ≡ 512 → (g : PlacedBlock) → screen_of s (lens u) u.transfer a ≡ Passed g → 12 ≤ answer_number s u a
   late u a B l g e =
-      rw (receive-passed s u a B l g e) (unfold arrive in step-late u (payloadOf a) g _ (u .transfer) _)
+      rw (receive_passed s u a B l g e) (unfold arrive in step_late u (payload_of a) g _ u.transfer _)
 
-  pub answered : (a : List ℕ) → 4 ≤ answerNumber s w a → Answered a
-  answered a h = go (screenOf s (lens w) (w .transfer) a) refl
+  pub answered : (a : List ℕ) → 4 ≤ answer_number s w a → Answered a
+  answered a h = go (screen_of s (lens w) w.transfer a) refl
     where
       there : Board s w
-      there = earned s w a h .0
+      there = (earned s w a h).0
 
       here : Board s v
-      here = board-same s v w L (ap goodState t ∙ there .state) there
+      here = board_same s v w L (ap good_state t ∙ there.state) there
 
-      same : screenOf s (lens v) (v .transfer) a ≡ screenOf s (lens w) (w .transfer) a
-      same = ap (λ (n : Lengths). screenOf s n (v .transfer) a) (L .buffers) ∙ ap (λ (u : State). screenOf s (lens w) u a) t
+      same : screen_of s (lens v) v.transfer a ≡ screen_of s (lens w) w.transfer a
+      same = ap (λ (n : Lengths). screen_of s n v.transfer a) L.buffers ∙ ap (λ (u : State). screen_of s (lens w) u a) t
 
-      go : (x : Screening) → screenOf s (lens w) (w .transfer) a ≡ x → Answered a
+      go : (x : Screening) → screen_of s (lens w) w.transfer a ≡ x → Answered a
       go (Refused x) e =
-          let l = earned s w a h .1 in
-          let p : answerNumber s v a ≡ answerNumber s w a =
-          ap (λ (o : Outcome). numberOf (o .answer)) (receive-refused s v a here l x (same ∙ e))
-          ∙ sym (ap (λ (o : Outcome). numberOf (o .answer)) (receive-refused s w a there l x e)) in
+          let l = (earned s w a h).1 in
+          let p : answer_number s v a ≡ answer_number s w a =
+          ap (λ (o : Outcome). number_of o.answer) (receive_refused s v a here l x (same ∙ e))
+          ∙ sym (ap (λ (o : Outcome). number_of o.answer) (receive_refused s w a there l x e)) in
           record { refusal = λ n. p; passing = λ n. omega (arith, p) }
       go (Passed g) e =
-          let l = earned s w a h .1 in
+          let l = (earned s w a h).1 in
           record {
             refusal = λ n. absurd (omega (arith, n, late w a there l g e));
             passing = λ n. late v a here l g (same ∙ e);
           }
 
   -- a kind's window starts at the same byte of its buffer
-  pub origin-there : (u : Kind) (f : ℕ) → originOf s v u f ≡ originOf s w u f
-  origin-there Flash f = ap (λ (n : Lengths). startOf (placeOf s (n .flash) f)) (L .buffers)
-  origin-there MainRam f = refl
-  origin-there XipRam f = refl
+  pub origin_there : (u : Kind) (f : ℕ) → origin_of s v u f ≡ origin_of s w u f
+  origin_there Flash f = ap (λ (n : Lengths). start_of (place_of s n.flash f)) L.buffers
+  origin_there MainRam f = refl
+  origin_there XipRam f = refl
 
   module _ (F : File) where
     pub valid-there : ValidFile s w F → ValidFile s v F
     valid-there ok =
         record {
-          some = ok .some;
-          numbers = ok .numbers;
-          families = ok .families;
-          totals = ok .totals;
-          disjoint = ok .disjoint;
-          kinds = ok .kinds;
-          quiet = ok .quiet;
-          passes = λ k h. answered (F .block k) (omega (arith, ok .passes k h)) .passing (ok .passes k h);
+          some = ok.some;
+          numbers = ok.numbers;
+          families = ok.families;
+          totals = ok.totals;
+          disjoint = ok.disjoint;
+          kinds = ok.kinds;
+          quiet = ok.quiet;
+          passes = λ k h. (answered (F.block k) (omega (arith, ok.passes k h))).passing (ok.passes k h);
         }
 
     foreign-there : (a : List ℕ) → Foreign s w F a → Foreign s v F a
     foreign-there a f =
-        let e = answered a (f .least) .refusal (f .most) in
-        record { least = omega (arith, e, f .least); most = omega (arith, e, f .most); quiet = f .quiet }
+        let e = (answered a f.least).refusal f.most in
+        record { least = omega (arith, e, f.least); most = omega (arith, e, f.most); quiet = f.quiet }
 
     pub sent-there : {l : List (List ℕ)} → Sent s w F l → Sent s v F l
-    sent-there m = mixed-map foreign-there m
+    sent-there m = mixed_map foreign-there m
 
     pub plain-there : Plain s w F → Plain s v F
     plain-there p k h =
         ap
         (λ (n : Lengths).
-        sameKind (F .kind) Flash && isData F k && hasFlag (F .block k) 0x4000
-        && goodRegion (sizeOf (placeOf s (n .flash) (F .family))) (addressOf F k) (regionOf (F .block k)))
-        (L .buffers)
+        same_kind F.kind Flash && is_data F k && has_flag (F.block k) 0x4000
+        && good_region (size_of (place_of s n.flash F.family)) (address_of F k) (region_of (F.block k)))
+        L.buffers
         ∙ p k h

@@ -1,20 +1,17 @@
 -- Files of one to three pieces and what the check answers, in a table, and the one statement over it: each answer is met. Proved in
 -- proofs/CheckFiles.antt. Assumes nothing.
-use Prim.Native.Nat.{ℕ}
-use mathlib.Core.Path.{_≡_}
-use mathlib.Core.List.{List, [], _∷_, _++_, map}
-use lib.ListN.{take, replicate}
-use Rattle·laws.specs.Bytes.{lowFirst}
-use Rattle·laws.specs.Over.{over}
-use Rattle·partitions.specs.Settings.{familyAbsolute}
-use Rattle·partitions.specs.declared.Settings.{Settings}
-use Rattle·transfer.specs.declared.Answer.the-variants.{NotBlock, BadAddress}
-use Rattle·uf2_checks.specs.declared.Lengths.{Lengths}
-use Rattle·examples·specs.specs.Boards.{blockOf, blockWith, arrivalOf, commentOf, plain, twoEntries}
-use Rattle·file_check.specs.declared.Checked.{Checked}
-use Rattle·file_check.specs.declared.Checked.the-variants.{BadBuffers, BadSettings, Ragged, Empty, Refused, OtherFamily, OtherTotal, OtherKind, SameNumber, Overlap, Missing, Guarded, Valid}
-use Rattle·file_check.specs.Check.{checkOf}
-use Rattle·file_check.specs.Valid.{answerTo}
+use Rattle.std.specs.Prelude.{ℕ, ◌≡◌, List, [], ◌∷◌, ◌++◌, map, take, replicate}
+use Rattle.laws.specs.Bytes.{low_first}
+use Rattle.laws.specs.Over.{over}
+use Rattle.partitions.specs.Settings.{family_absolute}
+use Rattle.partitions.specs.declared.Settings.{Settings}
+use Rattle.transfer.specs.declared.Answer.TheVariants.{NotBlock, BadAddress}
+use Rattle.uf2_checks.specs.declared.Lengths.{Lengths}
+use Rattle.examples.specs.Boards.{block_of, block_with, arrival_of, comment_of, plain, two_entries}
+use Rattle.file_check.specs.declared.Checked.{Checked}
+use Rattle.file_check.specs.declared.Checked.TheVariants.{BadBuffers, BadSettings, Ragged, Empty, Refused, OtherFamily, OtherTotal, OtherKind, SameNumber, Overlap, Missing, Guarded, Valid}
+use Rattle.file_check.specs.Check.{check_of}
+use Rattle.file_check.specs.Valid.{answer_to}
 
 -- a flash of 65,536 bytes and both RAM buffers
 abbrev buffers : Lengths
@@ -27,45 +24,45 @@ pub record Example : Type 0 where
 
 -- by a board with these buffers, Arm alone and no table
 abbrev file : List ℕ → Checked → Example
-file f x = record { answer = answerTo plain buffers f; expected = x }
+file f x = record { answer = answer_to plain buffers f; expected = x }
 
 -- a data block of two at an address
 abbrev first : ℕ → List ℕ
-first address = arrivalOf address 0 2 1
+first address = arrival_of address 0 2 1
 
 abbrev second : ℕ → List ℕ
-second address = arrivalOf address 1 2 2
+second address = arrival_of address 1 2 2
 
 -- a block alone that names a region from the flash's start on, of so many bytes
 abbrev naming : ℕ → List ℕ
-naming len = over (blockWith 0x6000 0x10000000 256 0 1 1) 484 (lowFirst 4 0x10000000 ++ lowFirst 4 len)
+naming len = over (block_with 0x6000 0x10000000 256 0 1 1) 484 (low_first 4 0x10000000 ++ low_first 4 len)
 
-unfoldable pub fileExamples : List Example
-fileExamples =
+unfoldable pub file_examples : List Example
+file_examples =
     -- in order, and the other way round; with a comment; in main RAM at an odd address, and where two ranges meet; in XIP RAM
     file (first 0x10000000 ++ second 0x10000100) Valid
     ∷ file (second 0x10000100 ++ first 0x10000000) Valid
-    ∷ file (first 0x10000000 ++ commentOf 1 2) Valid
+    ∷ file (first 0x10000000 ++ comment_of 1 2) Valid
     ∷ file (first 0x20000001 ++ second 0x20000101) Valid
     ∷ file (second 0x200000ff ++ first 0x200001ff) Valid
     ∷ file (first 0x13ffc000 ++ second 0x13ffff00) Valid
     -- 1 and 2
-    ∷ record { answer = checkOf plain buffers 16384 16384 2079 (first 0x10000000); expected = BadBuffers }
-    ∷ record { answer = answerTo (twoEntries 17) buffers (first 0x10000000); expected = BadSettings }
+    ∷ record { answer = check_of plain buffers 16384 16384 2079 (first 0x10000000); expected = BadBuffers }
+    ∷ record { answer = answer_to (two_entries 17) buffers (first 0x10000000); expected = BadSettings }
     -- 80 and 81
     ∷ file (take 511 (first 0x10000000)) Ragged
     ∷ file [] Empty
     -- 4 to 11, before what the first piece says
     ∷ file (first 0x10000000 ++ replicate 512 0) (Refused 1 NotBlock)
-    ∷ file (first 0x10000000 ++ arrivalOf 0x10000101 1 3 2) (Refused 1 BadAddress)
+    ∷ file (first 0x10000000 ++ arrival_of 0x10000101 1 3 2) (Refused 1 BadAddress)
     -- 82 to 84, in their order
-    ∷ file (first 0x10000000 ++ blockOf familyAbsolute 0x2000 0x10000100 256 1 3 2) (OtherFamily 1)
-    ∷ file (first 0x10000000 ++ arrivalOf 0x20000000 1 3 2) (OtherTotal 1)
+    ∷ file (first 0x10000000 ++ block_of family_absolute 0x2000 0x10000100 256 1 3 2) (OtherFamily 1)
+    ∷ file (first 0x10000000 ++ arrival_of 0x20000000 1 3 2) (OtherTotal 1)
     ∷ file (first 0x10000000 ++ second 0x20000000) (OtherKind 1)
-    ∷ file (first 0x20000000 ++ commentOf 1 2) (OtherKind 1)
+    ∷ file (first 0x20000000 ++ comment_of 1 2) (OtherKind 1)
     -- 85: data and a comment; 86: of the same address, and of ranges with one byte in common
-    ∷ file (first 0x10000000 ++ arrivalOf 0x10000100 0 2 2) (SameNumber 1 0)
-    ∷ file (first 0x10000000 ++ commentOf 0 2) (SameNumber 1 0)
+    ∷ file (first 0x10000000 ++ arrival_of 0x10000100 0 2 2) (SameNumber 1 0)
+    ∷ file (first 0x10000000 ++ comment_of 0 2) (SameNumber 1 0)
     ∷ file (first 0x10000000 ++ second 0x10000000) (Overlap 1 0)
     ∷ file (first 0x200000ff ++ second 0x200001fe) (Overlap 1 0)
     ∷ file (first 0x200001fe ++ second 0x200000ff) (Overlap 1 0)
@@ -76,5 +73,5 @@ fileExamples =
     ∷ file (naming 4095) Valid
     ∷ []
 
-unfoldable pub File-examples-hold : Type 0
-File-examples-hold = map (λ (e : Example). e .answer) fileExamples ≡ map (λ (e : Example). e .expected) fileExamples
+unfoldable pub FileExamplesHold : Type 0
+FileExamplesHold = map (λ (e : Example). e.answer) file_examples ≡ map (λ (e : Example). e.expected) file_examples

@@ -1,87 +1,87 @@
 -- The theorems of specs/Valid.antt. Assumes nothing.
-use Prim.Native.Nat.{ℕ, zero, suc, _+_, _-_, _*_, _/_, _%_, _<_, _≤_}
-use mathlib.Core.Path.{_≡_, refl, sym, ap, subst, _∙_, fun-ext}
-use mathlib.Core.Logic.{_≢_}
-use mathlib.Core.Bool.{Bool, true, false, not, cond, _&&_, _||_}
-use mathlib.Core.List.{List, [], _∷_, map}
+use Prim.Native.Nat.{ℕ, zero, suc, ◌+◌, ◌-◌, ◌*◌, ◌/◌, ◌%◌, ◌<◌, ◌≤◌}
+use mathlib.Core.Path.{◌≡◌, refl, sym, ap, subst, ◌∙◌, fun_ext}
+use mathlib.Core.Logic.{◌≢◌}
+use mathlib.Core.Bool.{Bool, true, false, not, cond, ◌&&◌, ◌||◌}
+use mathlib.Core.List.{List, [], ◌∷◌, map}
 use native.Mathlib.Omega.{arith}
 use lib.Dec.{eqb, ltb, leb}
 use lib.ListN.{length}
-use borrow.Author.Tests.{eqb-true, eqb-false, eq-eqb, ne-eqb, ltb-true, ltb-false, leb-true, leb-false, lt-ltb, le-leb, not-true, not-false}
-use Rattle·laws.specs.Sets.{Set, any, least, size}
-use Rattle·laws.proofs.Tests.{split, clash, is-false, eqb-same, and-left, and-right, both}
-use Rattle·laws.proofs.Laws.{any-none, any-all, any-hit, size-cong}
-use Rattle·memory.specs.Many.{many}
-use Rattle·memory.proofs.fill.Laws.{length-many}
-use Rattle·memory.specs.Flash.{spans}
-use Rattle·uf2_block.specs.Block.{fieldAt, hasFlag}
-use Rattle·uf2_block.specs.Region.{regionOf}
-use Rattle·uf2_block.specs.declared.Region.{Region}
-use Rattle·uf2_block.specs.Regions.{goodRegion}
-use Rattle·partitions.specs.Settings.{goodSettings}
-use Rattle·partitions.specs.declared.Settings.{Settings}
-use Rattle·placement.specs.Place.{placeOf}
-use Rattle·placement.specs.declared.Place.{Place}
-use Rattle·placement.specs.declared.Place.the-variants.{Nowhere, At}
-use Rattle·transfer.specs.Transfer.{sameKind}
-use Rattle·transfer.specs.declared.Kind.{Kind}
-use Rattle·transfer.specs.declared.Kind.the-variants.{Flash}
-use Rattle·transfer.specs.declared.Head.{Head}
-use Rattle·transfer.specs.declared.State.{State}
-use Rattle·transfer.specs.declared.State.the-variants.{Idle}
-use Rattle·uf2_checks.specs.Screen.{screenOf}
-use Rattle·uf2_checks.specs.declared.Lengths.{Lengths}
-use Rattle·uf2_checks.specs.declared.PlacedBlock.{PlacedBlock}
-use Rattle·uf2_checks.specs.declared.Screening.{Screening}
-use Rattle·uf2_checks.specs.declared.Screening.the-variants as screening
-use Rattle·arrival.specs.Arrive.{World, lengthsOf, rightLengths}
-use Rattle·arrival.specs.Windows.{kindOf}
-use Rattle·arrival.specs.Lists.{receiveAll}
-use Rattle·arrival.proofs.Heads.{same-kind}
-use Rattle·arrival.proofs.Count.{placedOf}
-use Rattle·arrival_claims.proofs.Screening.{lens, Board, Good, screen-good}
-use Rattle·demand.specs.Demand.{File, isData, addressOf, ValidFile, Foreign, Mixed, nothing, own, Sent, sameBytes, among, seenOf, howMany, sizeOf, isGuarded, Plain, Contents, Ends, List-ends, Plain-answers}
-use Rattle·demand.proofs.Files.{board, blocksOf, screen-block}
-use Rattle·demand.proofs.Demand.{list-ends, plain-answers}
-use Rattle·file_check·specs.specs.declared.Checked.{Checked}
-use Rattle·file_check·specs.specs.declared.Checked.the-variants.{BadBuffers, BadSettings, Ragged, Empty, Refused, OtherFamily, OtherTotal, OtherKind, SameNumber, Overlap, Missing, Guarded, Valid}
-use Rattle·file_check·specs.specs.Check.{pieceAt, piecesIn, fieldIn, isPage, kindAlone, totalIn, familyIn, kindIn, sameNumber, near, overlaps, besideOf, screenedTo, faultAt, isValid, isSound, isFaulty, guardsIn, isGuarding, wholeOf, piecesOf, rightMaps, checkOf}
-use Rattle·file_check·specs.specs.Valid.{Start, fileOf, Pieces, Good as GoodFile, answerTo, PlainAt, Valid-is-valid, Guarded-is-valid, Nothing-else-is-valid, Plain-is-valid, Delivered, Valid-arrives}
-use Rattle·file_check·proofs.proofs.Sound.{Sound, sound, valid, pieces, at, kind-alone, found-at, at-of, number-below, spans-near, Fine, Beside, answer-is}
+use borrow.Author.Tests.{eqb-true, eqb-false, eq-eqb, ne_eqb, ltb-true, ltb-false, leb-true, leb-false, lt-ltb, le-leb, not-true, not-false}
+use Rattle.laws.specs.Sets.{Set, any, least, size}
+use Rattle.laws.proofs.Tests.{split, clash, is_false, eqb_same, and_left, and_right, both}
+use Rattle.laws.proofs.Laws.{any_none, any_all, any_hit, size_cong}
+use Rattle.memory.specs.Many.{many}
+use Rattle.memory.proofs.fill.Laws.{length_many}
+use Rattle.memory.specs.Flash.{spans}
+use Rattle.uf2_block.specs.Block.{field_at, has_flag}
+use Rattle.uf2_block.specs.Region.{region_of}
+use Rattle.uf2_block.specs.declared.Region.{Region}
+use Rattle.uf2_block.specs.Regions.{good_region}
+use Rattle.partitions.specs.Settings.{good_settings}
+use Rattle.partitions.specs.declared.Settings.{Settings}
+use Rattle.placement.specs.Place.{place_of}
+use Rattle.placement.specs.declared.Place.{Place}
+use Rattle.placement.specs.declared.Place.TheVariants.{Nowhere, At}
+use Rattle.transfer.specs.Transfer.{same_kind}
+use Rattle.transfer.specs.declared.Kind.{Kind}
+use Rattle.transfer.specs.declared.Kind.TheVariants.{Flash}
+use Rattle.transfer.specs.declared.Head.{Head}
+use Rattle.transfer.specs.declared.State.{State}
+use Rattle.transfer.specs.declared.State.TheVariants.{Idle}
+use Rattle.uf2_checks.specs.Screen.{screen_of}
+use Rattle.uf2_checks.specs.declared.Lengths.{Lengths}
+use Rattle.uf2_checks.specs.declared.PlacedBlock.{PlacedBlock}
+use Rattle.uf2_checks.specs.declared.Screening.{Screening}
+use Rattle.uf2_checks.specs.declared.Screening.TheVariants as screening
+use Rattle.arrival.specs.Arrive.{World, lengths_of, right_lengths}
+use Rattle.arrival.specs.Windows.{kind_of}
+use Rattle.arrival.specs.Lists.{receive_all}
+use Rattle.arrival.proofs.Heads.{same_kind_lem}
+use Rattle.arrival.proofs.Count.{placed_of}
+use Rattle.arrival_claims.proofs.Screening.{lens, Board, Good, screen_good}
+use Rattle.demand.specs.Demand.{File, is_data, address_of, ValidFile, Foreign, Mixed, nothing, own, Sent, same_bytes, among, seen_of, how_many, size_of, is_guarded, Plain, Contents, Ends, ListEnds, PlainAnswers}
+use Rattle.demand.proofs.Files.{board, blocks_of, screen_block}
+use Rattle.demand.proofs.Demand.{list_ends, plain_answers}
+use Rattle.file_check.specs.declared.Checked.{Checked}
+use Rattle.file_check.specs.declared.Checked.TheVariants.{BadBuffers, BadSettings, Ragged, Empty, Refused, OtherFamily, OtherTotal, OtherKind, SameNumber, Overlap, Missing, Guarded, Valid}
+use Rattle.file_check.specs.Check.{piece_at, pieces_in, field_in, is_page, kind_alone, total_in, family_in, kind_in, same_number, near, overlaps, beside_of, screened_to, fault_at, is_valid, is_sound, is_faulty, guards_in, is_guarding, whole_of, pieces_of, right_maps, check_of}
+use Rattle.file_check.specs.Valid.{Start, file_of, Pieces, Good as GoodFile, answer_to, PlainAt, ValidIsValid, GuardedIsValid, NothingElseIsValid, PlainIsValid, Delivered, ValidArrives}
+use Rattle.file_check.proofs.Sound.{Sound, sound, valid, pieces, at, kind_alone_lem, found_at, at_of, number-below, spans_near, Fine, Beside, answer_is}
 
 -- ---- regions
 
 -- in no place no region counts
-no-room : (x : ℕ) (g : Region) → goodRegion 0 x g ≡ false
-unfolding goodRegion
-no-room x g =
-    is-false _
+no_room : (x : ℕ) (g : Region) → good_region 0 x g ≡ false
+unfolding good_region
+no_room x g =
+    is_false _
     (λ e.
-    let a = eqb (g .start % 4096) 0 && eqb (g .len % 4096) 0 in
-    let b = not (eqb (g .len) 0) in
-    let c = leb 0x10000000 (g .start) in
-    let d = leb (g .start - 0x10000000 + g .len) 0 in
-    let u = leb (g .start) x in
-    let v = leb (x + 256) (g .start + g .len) in
-    let e6 = and-left (a && b && c && d && u) v e in
-    let e5 = and-left (a && b && c && d) u e6 in
-    let z : g .start - 0x10000000 + g .len ≤ 0 = leb-true _ _ (and-right (a && b && c) d e5) in
-    let e4 = and-left (a && b && c) d e5 in
-    let k : g .len ≢ 0 = eqb-false _ _ (not-true _ (and-right a b (and-left (a && b) c e4))) in
+    let a = eqb (g.start % 4096) 0 && eqb (g.len % 4096) 0 in
+    let b = not (eqb g.len 0) in
+    let c = leb 0x10000000 g.start in
+    let d = leb (g.start - 0x10000000 + g.len) 0 in
+    let u = leb g.start x in
+    let v = leb (x + 256) (g.start + g.len) in
+    let e6 = and_left (a && b && c && d && u) v e in
+    let e5 = and_left (a && b && c && d) u e6 in
+    let z : g.start - 0x10000000 + g.len ≤ 0 = leb-true _ _ (and_right (a && b && c) d e5) in
+    let e4 = and_left (a && b && c) d e5 in
+    let k : g.len ≢ 0 = eqb-false _ _ (not-true _ (and_right a b (and_left (a && b) c e4))) in
     absurd (k (omega arith)))
 
-guards-is : (p : Place) (a : List ℕ) → goodRegion (sizeOf p) (fieldAt a 12) (regionOf a) ≡ guardsIn p a
-guards-is Nowhere a = no-room (fieldAt a 12) (regionOf a)
-guards-is (At start size) a = refl
+guards_is : (p : Place) (a : List ℕ) → good_region (size_of p) (field_at a 12) (region_of a) ≡ guards_in p a
+guards_is Nowhere a = no_room (field_at a 12) (region_of a)
+guards_is (At start size) a = refl
 
-pub plain : (s : Settings) (n : Lengths) (f : List ℕ) (ok : Sound s n f) → any (piecesIn f) (isGuarding s n f) ≡ false → PlainAt s n (fileOf n f)
+pub plain : (s : Settings) (n : Lengths) (f : List ℕ) (ok : Sound s n f) → any (pieces_in f) (is_guarding s n f) ≡ false → PlainAt s n (file_of n f)
 plain s n f ok e w st k h =
-    let i = least (piecesIn f) (λ i. eqb (fieldIn f i 20) k) in
-    let z : isGuarding s n f i ≡ false = any-all (isGuarding s n f) (piecesIn f) e i (found-at s n f ok w st k h .0) in
-    let a = pieceAt f i in
-    ap (λ (b : Bool). sameKind (kindIn n f) Flash && isPage f i && hasFlag a 0x4000 && b)
-    (ap (λ (x : Lengths). goodRegion (sizeOf (placeOf s (x .flash) (familyIn f))) (fieldAt a 12) (regionOf a)) (st .lengths)
-    ∙ guards-is (placeOf s (n .flash) (familyIn f)) a)
+    let i = least (pieces_in f) (λ i. eqb (field_in f i 20) k) in
+    let z : is_guarding s n f i ≡ false = any_all (is_guarding s n f) (pieces_in f) e i (found_at s n f ok w st k h).0 in
+    let a = piece_at f i in
+    ap (λ (b : Bool). same_kind (kind_in n f) Flash && is_page f i && has_flag a 0x4000 && b)
+    (ap (λ (x : Lengths). good_region (size_of (place_of s x.flash (family_in f))) (field_at a 12) (region_of a)) st.lengths
+    ∙ guards_is (place_of s n.flash (family_in f)) a)
     ∙ z
 
 -- ---- a sound answer
@@ -92,192 +92,192 @@ empty n =
     record {
       transfer = Idle;
       seen = many 16384 0;
-      held = record { flash = many (n .flash) 0; sectors = many 1024 0; main = many (n .main) 0; xip = many (n .xip) 0 };
+      held = record { flash = many n.flash 0; sectors = many 1024 0; main = many n.main 0; xip = many n.xip 0 };
     }
 
-pub empty-start : (n : Lengths) → Start n (empty n)
-empty-start n =
+pub empty_start : (n : Lengths) → Start n (empty n)
+empty_start n =
     record {
       idle = refl;
-      lengths = λ i. record { flash = length-many (n .flash) 0 i; main = length-many (n .main) 0 i; xip = length-many (n .xip) 0 i };
-      seen = length-many 16384 0;
-      sectors = length-many 1024 0;
+      lengths = λ i. record { flash = length_many n.flash 0 i; main = length_many n.main 0 i; xip = length_many n.xip 0 i };
+      seen = length_many 16384 0;
+      sectors = length_many 1024 0;
     }
 
-good-file : (s : Settings) (n : Lengths) (f : List ℕ) → Sound s n f → GoodFile s n f (fileOf n f)
-good-file s n f ok = record { pieces = pieces s n f ok (empty n) (empty-start n); valid = λ w st. valid s n f ok w st }
+good_file : (s : Settings) (n : Lengths) (f : List ℕ) → Sound s n f → GoodFile s n f (file_of n f)
+good_file s n f ok = record { pieces = pieces s n f ok (empty n) (empty_start n); valid = λ w st. valid s n f ok w st }
 
-guarded-not : (b : Bool) (i : ℕ) → cond b (Guarded i) Valid ≡ Valid → b ≡ false
-guarded-not true i e = let z : _≡_ {A = ℕ} 0 1 = cc in absurd (omega arith)
-guarded-not false i e = refl
+guarded_not : (b : Bool) (i : ℕ) → cond b (Guarded i) Valid ≡ Valid → b ≡ false
+guarded_not true i e = let z : ◌≡◌ {A = ℕ} 0 1 = cc in absurd (omega arith)
+guarded_not false i e = refl
 
-no-region : (s : Settings) (n : Lengths) (f : List ℕ) → Sound s n f → answerTo s n f ≡ Valid → any (piecesIn f) (isGuarding s n f) ≡ false
-no-region s n f ok e = guarded-not _ (least (piecesIn f) (isGuarding s n f)) (sym (answer-is s n f ok) ∙ e)
+no_region : (s : Settings) (n : Lengths) (f : List ℕ) → Sound s n f → answer_to s n f ≡ Valid → any (pieces_in f) (is_guarding s n f) ≡ false
+no_region s n f ok e = guarded_not _ (least (pieces_in f) (is_guarding s n f)) (sym (answer_is s n f ok) ∙ e)
 
-pub valid-is-valid : Valid-is-valid
-unfolding Valid-is-valid
-valid-is-valid s n f e =
-    let ok = sound s n f (ap isSound e) in
-    (good-file s n f ok, plain s n f ok (no-region s n f ok e))
+pub valid_is_valid : ValidIsValid
+unfolding ValidIsValid
+valid_is_valid s n f e =
+    let ok = sound s n f (ap is_sound e) in
+    (good_file s n f ok, plain s n f ok (no_region s n f ok e))
 
-pub guarded-is-valid : Guarded-is-valid
-unfolding Guarded-is-valid
-guarded-is-valid s n f i e = good-file s n f (sound s n f (ap isSound e))
+pub guarded_is_valid : GuardedIsValid
+unfolding GuardedIsValid
+guarded_is_valid s n f i e = good_file s n f (sound s n f (ap is_sound e))
 
 -- ---- delivered
 
-pub size-all : (n : ℕ) (S : Set) → ((k : ℕ) → k < n → S k ≡ true) → size n S ≡ n
+pub size_all : (n : ℕ) (S : Set) → ((k : ℕ) → k < n → S k ≡ true) → size n S ≡ n
 unfolding size
-size-all zero S h = refl
-size-all (suc n) S h = rw (h n (omega arith)) (omega (arith, size-all n S (λ k l. h k (omega arith))))
+size_all zero S h = refl
+size_all (suc n) S h = rw (h n (omega arith)) (omega (arith, size_all n S (λ k l. h k (omega arith))))
 
 -- demand 3 of a valid file without regions, every block of which came
-ends-of : (s : Settings) (w : World) (F : File) → w .transfer ≡ Idle → ValidFile s w F → Plain s w F → (l : List (List ℕ)) → Sent s w F l
-    → Ends s w F (seenOf F l) (receiveAll s w l)
-ends-of s w F idle ok p l sent = unfold List-ends in list-ends s w F idle ok l sent p
+ends_of : (s : Settings) (w : World) (F : File) → w.transfer ≡ Idle → ValidFile s w F → Plain s w F → (l : List (List ℕ)) → Sent s w F l
+    → Ends s w F (seen_of F l) (receive_all s w l)
+ends_of s w F idle ok p l sent = unfold ListEnds in list_ends s w F idle ok l sent p
 
-delivered : (s : Settings) (w : World) (F : File) → w .transfer ≡ Idle → ValidFile s w F → Plain s w F → (l : List (List ℕ)) → Sent s w F l
-    → ((k : ℕ) → k < F .total → seenOf F l k ≡ true) → Delivered s w F l
+delivered : (s : Settings) (w : World) (F : File) → w.transfer ≡ Idle → ValidFile s w F → Plain s w F → (l : List (List ℕ)) → Sent s w F l
+    → ((k : ℕ) → k < F.total → seen_of F l k ≡ true) → Delivered s w F l
 delivered s w F idle ok p l sent each =
-    let ends = ends-of s w F idle ok p l sent in
+    let ends = ends_of s w F idle ok p l sent in
     record {
-      done = ends .counts .whole (size-all (F .total) (seenOf F l) each);
-      contents = subst (λ (S : Set). Contents s w F S (receiveAll s w l)) whole (ends .contents);
-      answers = unfold Plain-answers in plain-answers s w F idle ok l sent p;
+      done = ends.counts.whole (size_all F.total (seen_of F l) each);
+      contents = subst (λ (S : Set). Contents s w F S (receive_all s w l)) whole ends.contents;
+      answers = unfold PlainAnswers in plain_answers s w F idle ok l sent p;
     }
   where
-    whole : seenOf F l ≡ (λ k. ltb k (F .total))
-    whole = fun-ext (λ k. split (ltb k (F .total)) (λ y. each k (ltb-true _ _ y) ∙ sym y) (λ z. rw z))
+    whole : seen_of F l ≡ (λ k. ltb k F.total)
+    whole = fun_ext (λ k. split (ltb k F.total) (λ y. each k (ltb-true _ _ y) ∙ sym y) (λ z. rw z))
 
-pub valid-arrives : Valid-arrives
-unfolding Valid-arrives
-valid-arrives s w f l idle seen sectors e sent each =
-    let n = lengthsOf (w .held) in
+pub valid_arrives : ValidArrives
+unfolding ValidArrives
+valid_arrives s w f l idle seen sectors e sent each =
+    let n = lengths_of w.held in
     let st : Start n w = record { idle = idle; lengths = refl; seen = seen; sectors = sectors } in
-    let ok = sound s n f (ap isSound e) in
-    delivered s w (fileOf n f) idle (valid s n f ok w st) (plain s n f ok (no-region s n f ok e) w st) l sent
-    (λ k h. both (lt-ltb k (totalIn f) h) (each (at s n f ok k) (found-at s n f ok w st k h .0)))
+    let ok = sound s n f (ap is_sound e) in
+    delivered s w (file_of n f) idle (valid s n f ok w st) (plain s n f ok (no_region s n f ok e) w st) l sent
+    (λ k h. both (lt-ltb k (total_in f) h) (each (at s n f ok k) (found_at s n f ok w st k h).0))
 
 -- ---- and no other file
 
-either-sound : (b : Bool) (i : ℕ) → isSound (cond b (Guarded i) Valid) ≡ true
-either-sound true i = refl
-either-sound false i = refl
+either_sound : (b : Bool) (i : ℕ) → is_sound (cond b (Guarded i) Valid) ≡ true
+either_sound true i = refl
+either_sound false i = refl
 
-module _ (s : Settings) (w : World) (f : List ℕ) (F : File) (idle : w .transfer ≡ Idle) (ok : ValidFile s w F) (p : Pieces f F) where
+module _ (s : Settings) (w : World) (f : List ℕ) (F : File) (idle : w.transfer ≡ Idle) (ok : ValidFile s w F) (p : Pieces f F) where
   abbrev n : Lengths
-  n = lengthsOf (w .held)
+  n = lengths_of w.held
 
   B : Board s w
   B = board s w F idle ok
 
   st : Start n w
-  st = record { idle = idle; lengths = refl; seen = B .seen; sectors = B .sectors }
+  st = record { idle = idle; lengths = refl; seen = B.seen; sectors = B.sectors }
 
-  many-pieces : piecesIn f ≡ F .total
-  many-pieces = omega (arith, p .count)
+  many_pieces : pieces_in f ≡ F.total
+  many_pieces = omega (arith, p.count)
 
   abbrev number : ℕ → ℕ
-  number i = fieldIn f i 20
+  number i = field_in f i 20
 
   -- what a block has, its piece has
-  of-block : (A : Type 0) (g : List ℕ → A) (i : ℕ) → i < F .total → g (pieceAt f i) ≡ g (F .block (number i))
-  of-block A g i h = sym (ap g (p .each i h))
+  of_block : (A : Type 0) (g : List ℕ → A) (i : ℕ) → i < F.total → g (piece_at f i) ≡ g (F.block (number i))
+  of_block A g i h = sym (ap g (p.each i h))
 
-  screened : (i : ℕ) → i < F .total → screenOf s n Idle (pieceAt f i) ≡ screening.Passed (placedOf (blocksOf s w F) (number i))
+  screened : (i : ℕ) → i < F.total → screen_of s n Idle (piece_at f i) ≡ screening.Passed (placed_of (blocks_of s w F) (number i))
   screened i h =
-      of-block Screening (screenOf s n Idle) i h
-      ∙ (λ j. screenOf s n (sym idle j) (F .block (number i)))
-      ∙ screen-block s w F idle ok (number i) (p .below i h)
+      of_block Screening (screen_of s n Idle) i h
+      ∙ (λ j. screen_of s n (sym idle j) (F.block (number i)))
+      ∙ screen_block s w F idle ok (number i) (p.below i h)
 
-  kind-at : (i : ℕ) → i < F .total → kindAlone n (pieceAt f i) ≡ F .kind
-  kind-at i h =
-      let e : screenOf s (lens w) (w .transfer) (pieceAt f i) ≡ screening.Passed (placedOf (blocksOf s w F) (number i)) =
-      of-block Screening (screenOf s (lens w) (w .transfer)) i h ∙ screen-block s w F idle ok (number i) (p .below i h) in
-      let g : Good s w (pieceAt f i) (screening.Passed (placedOf (blocksOf s w F) (number i))) = subst (Good s w (pieceAt f i)) e (screen-good s w (pieceAt f i)) in
-      sym (kind-alone s n w st (pieceAt f i)) ∙ sym (ap (λ (x : Head). x .kind) (g .head))
+  kind_at : (i : ℕ) → i < F.total → kind_alone n (piece_at f i) ≡ F.kind
+  kind_at i h =
+      let e : screen_of s (lens w) w.transfer (piece_at f i) ≡ screening.Passed (placed_of (blocks_of s w F) (number i)) =
+      of_block Screening (screen_of s (lens w) w.transfer) i h ∙ screen_block s w F idle ok (number i) (p.below i h) in
+      let g : Good s w (piece_at f i) (screening.Passed (placed_of (blocks_of s w F) (number i))) = subst (Good s w (piece_at f i)) e (screen_good s w (piece_at f i)) in
+      sym (kind_alone_lem s n w st (piece_at f i)) ∙ sym (ap (λ (x : Head). x.kind) g.head)
 
-  page-data : (i : ℕ) → i < F .total → isPage f i ≡ isData F (number i)
-  page-data i h = of-block Bool (λ a. not (hasFlag a 0x1)) i h
+  page_data : (i : ℕ) → i < F.total → is_page f i ≡ is_data F (number i)
+  page_data i h = of_block Bool (λ a. not (has_flag a 0x1)) i h
 
   -- two pieces with a byte in common are one
-  overlap-not : (i j : ℕ) → i < F .total → j < i → overlaps f i j ≡ true → ⊥
-  overlap-not i j h l e =
-      let hj : j < F .total = omega arith in
-      let yy = and-left (isPage f i && isPage f j) (near (fieldIn f j 12) (fieldIn f i 12)) e in
-      let nn = and-right (isPage f i && isPage f j) (near (fieldIn f j 12) (fieldIn f i 12)) e in
-      let yi = sym (page-data i h) ∙ and-left (isPage f i) (isPage f j) yy in
-      let yj = sym (page-data j hj) ∙ and-right (isPage f i) (isPage f j) yy in
-      let a = fieldIn f j 12 in
-      let b = fieldIn f i 12 in
-      let ea : a ≡ addressOf F (number j) = of-block ℕ (λ x. fieldAt x 12) j hj in
-      let eb : b ≡ addressOf F (number i) = of-block ℕ (λ x. fieldAt x 12) i h in
-      let la : a < b + 256 = ltb-true _ _ (and-left (ltb a (b + 256)) (ltb b (a + 256)) nn) in
-      let lb : b < a + 256 = ltb-true _ _ (and-right (ltb a (b + 256)) (ltb b (a + 256)) nn) in
+  overlap_not : (i j : ℕ) → i < F.total → j < i → overlaps f i j ≡ true → ⊥
+  overlap_not i j h l e =
+      let hj : j < F.total = omega arith in
+      let yy = and_left (is_page f i && is_page f j) (near (field_in f j 12) (field_in f i 12)) e in
+      let nn = and_right (is_page f i && is_page f j) (near (field_in f j 12) (field_in f i 12)) e in
+      let yi = sym (page_data i h) ∙ and_left (is_page f i) (is_page f j) yy in
+      let yj = sym (page_data j hj) ∙ and_right (is_page f i) (is_page f j) yy in
+      let a = field_in f j 12 in
+      let b = field_in f i 12 in
+      let ea : a ≡ address_of F (number j) = of_block ℕ (λ x. field_at x 12) j hj in
+      let eb : b ≡ address_of F (number i) = of_block ℕ (λ x. field_at x 12) i h in
+      let la : a < b + 256 = ltb-true _ _ (and_left (ltb a (b + 256)) (ltb b (a + 256)) nn) in
+      let lb : b < a + 256 = ltb-true _ _ (and_right (ltb a (b + 256)) (ltb b (a + 256)) nn) in
       split (leb a b)
       (λ q. let le : a ≤ b = leb-true _ _ q in
-      let same = ok .disjoint (number j) (number i) b (p .below j hj) (p .below i h) yj yi (spans-at _ b (omega arith) (omega arith)) (spans-at _ b (omega arith) (omega arith)) in
-      let d = p .once j i hj h same in omega arith)
+      let same = ok.disjoint (number j) (number i) b (p.below j hj) (p.below i h) yj yi (spans-at _ b (omega arith) (omega arith)) (spans-at _ b (omega arith) (omega arith)) in
+      let d = p.once j i hj h same in omega arith)
       (λ q. let le : b < a = leb-false _ _ q in
-      let same = ok .disjoint (number j) (number i) a (p .below j hj) (p .below i h) yj yi (spans-at _ a (omega arith) (omega arith)) (spans-at _ a (omega arith) (omega arith)) in
-      let d = p .once j i hj h same in omega arith)
+      let same = ok.disjoint (number j) (number i) a (p.below j hj) (p.below i h) yj yi (spans-at _ a (omega arith) (omega arith)) (spans-at _ a (omega arith) (omega arith)) in
+      let d = p.once j i hj h same in omega arith)
     where
       spans-at : (x j : ℕ) → x ≤ j → j < x + 256 → spans x j ≡ true
       spans-at x j u v = both (le-leb x j u) (lt-ltb j (x + 256) v)
 
-  fine : (i : ℕ) → i < F .total → Fine s n f i
+  fine : (i : ℕ) → i < F.total → Fine s n f i
   fine i h =
-      let z : 0 < F .total = ok .some in
+      let z : 0 < F.total = ok.some in
       record {
-        placed = placedOf (blocksOf s w F) (number i);
+        placed = placed_of (blocks_of s w F) (number i);
         passes = screened i h;
         beside = record {
-          family = of-block ℕ (λ a. fieldAt a 28) i h ∙ ok .families (number i) (p .below i h) ∙ sym (of-block ℕ (λ a. fieldAt a 28) 0 z ∙ ok .families (number 0) (p .below 0 z));
-          total = of-block ℕ (λ a. fieldAt a 24) i h ∙ ok .totals (number i) (p .below i h) ∙ sym (of-block ℕ (λ a. fieldAt a 24) 0 z ∙ ok .totals (number 0) (p .below 0 z));
-          kind = kind-at i h ∙ sym (kind-at 0 z);
-          new = any-none (sameNumber f i) i (λ j l. ne-eqb (number j) (number i) (λ e. let d = p .once j i (omega arith) h e in omega arith));
-          apart = any-none (overlaps f i) i (λ j l. is-false (overlaps f i j) (λ e. overlap-not i j h l e));
+          family = of_block ℕ (λ a. field_at a 28) i h ∙ ok.families (number i) (p.below i h) ∙ sym (of_block ℕ (λ a. field_at a 28) 0 z ∙ ok.families (number 0) (p.below 0 z));
+          total = of_block ℕ (λ a. field_at a 24) i h ∙ ok.totals (number i) (p.below i h) ∙ sym (of_block ℕ (λ a. field_at a 24) 0 z ∙ ok.totals (number 0) (p.below 0 z));
+          kind = kind_at i h ∙ sym (kind_at 0 z);
+          new = any_none (same_number f i) i (λ j l. ne_eqb (number j) (number i) (λ e. let d = p.once j i (omega arith) h e in omega arith));
+          apart = any_none (overlaps f i) i (λ j l. is_false (overlaps f i j) (λ e. overlap_not i j h l e));
         };
       }
 
   whole : Sound s n f
   whole =
       record {
-        right = unfold rightLengths in rw (B .flash, B .main, B .xip);
-        good = B .good;
-        whole = omega (arith, p .count);
-        some = λ e. omega (arith, p .count, ok .some);
-        fines = λ i h. fine i (omega (arith, many-pieces));
-        count = many-pieces ∙ sym (of-block ℕ (λ a. fieldAt a 24) 0 (ok .some) ∙ ok .totals (number 0) (p .below 0 (ok .some)));
+        right = unfold right_lengths in rw (B.flash, B.main, B.xip);
+        good = B.good;
+        whole = omega (arith, p.count);
+        some = λ e. omega (arith, p.count, ok.some);
+        fines = λ i h. fine i (omega (arith, many_pieces));
+        count = many_pieces ∙ sym (of_block ℕ (λ a. field_at a 24) 0 ok.some ∙ ok.totals (number 0) (p.below 0 ok.some));
       }
 
   -- a piece names a region that counts exactly if its block does
-  guarding-is : (i : ℕ) → i < F .total → isGuarding s n f i ≡ isGuarded s w F (number i)
-  guarding-is i h =
-      let z : 0 < F .total = ok .some in
-      let k : kindIn n f ≡ F .kind = kind-at 0 z in
-      let m : familyIn f ≡ F .family = of-block ℕ (λ a. fieldAt a 28) 0 z ∙ ok .families (number 0) (p .below 0 z) in
-      let a : pieceAt f i ≡ F .block (number i) = sym (p .each i h) in
-      (λ t. sameKind (k t) Flash && not (hasFlag (a t) 0x1) && hasFlag (a t) 0x4000 && guardsIn (placeOf s (n .flash) (m t)) (a t))
-      ∙ ap (λ (b : Bool). sameKind (F .kind) Flash && isData F (number i) && hasFlag (F .block (number i)) 0x4000 && b)
-      (sym (guards-is (placeOf s (n .flash) (F .family)) (F .block (number i))))
+  guarding_is : (i : ℕ) → i < F.total → is_guarding s n f i ≡ is_guarded s w F (number i)
+  guarding_is i h =
+      let z : 0 < F.total = ok.some in
+      let k : kind_in n f ≡ F.kind = kind_at 0 z in
+      let m : family_in f ≡ F.family = of_block ℕ (λ a. field_at a 28) 0 z ∙ ok.families (number 0) (p.below 0 z) in
+      let a : piece_at f i ≡ F.block (number i) = sym (p.each i h) in
+      (λ t. same_kind (k t) Flash && not (has_flag (a t) 0x1) && has_flag (a t) 0x4000 && guards_in (place_of s n.flash (m t)) (a t))
+      ∙ ap (λ (b : Bool). same_kind F.kind Flash && is_data F (number i) && has_flag (F.block (number i)) 0x4000 && b)
+      (sym (guards_is (place_of s n.flash F.family) (F.block (number i))))
 
-pub nothing-else-is-valid : Nothing-else-is-valid
-unfolding Nothing-else-is-valid
-nothing-else-is-valid s w f F idle ok p =
-    let n = lengthsOf (w .held) in
-    ap isSound (answer-is s n f (whole s w f F idle ok p))
-    ∙ either-sound (any (piecesIn f) (isGuarding s n f)) (least (piecesIn f) (isGuarding s n f))
+pub nothing_else_is_valid : NothingElseIsValid
+unfolding NothingElseIsValid
+nothing_else_is_valid s w f F idle ok p =
+    let n = lengths_of w.held in
+    ap is_sound (answer_is s n f (whole s w f F idle ok p))
+    ∙ either_sound (any (pieces_in f) (is_guarding s n f)) (least (pieces_in f) (is_guarding s n f))
 
-pub plain-is-valid : Plain-is-valid
-unfolding Plain-is-valid
-plain-is-valid s w f F idle ok p none =
-    let n = lengthsOf (w .held) in
+pub plain_is_valid : PlainIsValid
+unfolding PlainIsValid
+plain_is_valid s w f F idle ok p none =
+    let n = lengths_of w.held in
     let ok-here = whole s w f F idle ok p in
-    let count = many-pieces s w f F idle ok p in
-    let unguarded : any (piecesIn f) (isGuarding s n f) ≡ false =
-    any-none (isGuarding s n f) (piecesIn f)
+    let count = many_pieces s w f F idle ok p in
+    let unguarded : any (pieces_in f) (is_guarding s n f) ≡ false =
+    any_none (is_guarding s n f) (pieces_in f)
     (λ i h.
-    let hi : i < F .total = omega arith in
-    guarding-is s w f F idle ok p i hi ∙ none (fieldIn f i 20) (p .below i hi)) in
-    answer-is s n f ok-here ∙ rw unguarded
+    let hi : i < F.total = omega arith in
+    guarding_is s w f F idle ok p i hi ∙ none (field_in f i 20) (p.below i hi)) in
+    answer_is s n f ok-here ∙ rw unguarded

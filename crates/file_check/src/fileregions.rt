@@ -1,10 +1,12 @@
 // The regions that a file names (02, L9): what the second check of a file answers.
-ghost use mathlib.Core.Path.{_≡_};
-ghost use Rattle·file_check·specs.specs.Regions.{isRight, regionsNumber};
+ghost use Rattle.std.specs.Prelude.{◌≡◌};
+ghost use Rattle.file_check.specs.Regions.{is_right, regions_number};
+
 use crate::Checked;
 
 // What a file comes to that may name regions. `As` is the answer of the first check, where that is not `Guarded`. The first number is the piece that
 // names the region; the second is another piece in the region, or a sector of the region counted from 0.
+#[derive(Clone, Copy)]
 pub enum RegionsChecked {
     As(Checked),
     OtherRegion(usize, usize),
@@ -16,7 +18,7 @@ pub enum RegionsChecked {
 impl RegionsChecked {
     // The number of what is wrong; 89 where every region is right.
     pub fn number(self) -> u8
-        ensures { λ r. ⌜ r ≡ regionsNumber self ⌝ }
+        ensures { result ≡ regions_number self }
     {
         match self {
             RegionsChecked::As(checked) => checked.number(),
@@ -29,7 +31,7 @@ impl RegionsChecked {
 
     // Every region is right.
     pub fn is_right(self) -> bool
-        ensures { λ r. ⌜ r ≡ isRight self ⌝ }
+        ensures { result ≡ is_right self }
     {
         match self {
             RegionsChecked::As(_) => false,

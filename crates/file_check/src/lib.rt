@@ -1,12 +1,16 @@
 // A file checked before it is sent: what the check answers.
+#![tactic(auto)]
+
 pub mod fileregions;
 
-ghost use mathlib.Core.Path.{_≡_};
-ghost use Rattle·file_check·specs.specs.Check.{checkedNumber, isValid};
+ghost use Rattle.std.specs.Prelude.{◌≡◌};
+ghost use Rattle.file_check.specs.Check.{checked_number, is_valid};
+
 use transfer::Answer;
 
 // What a file comes to. Of the numbers the first is the piece, and of two the second is the earlier piece that it collides with; of `Missing` it is
 // the number of a block.
+#[derive(Clone, Copy)]
 pub enum Checked {
     BadBuffers,
     BadSettings,
@@ -26,7 +30,7 @@ pub enum Checked {
 impl Checked {
     // The number of what is wrong: a refused piece has that of its answer; 0 for a valid file.
     pub fn number(self) -> u8
-        ensures { λ r. ⌜ r ≡ checkedNumber self ⌝ }
+        ensures { result ≡ checked_number self }
     {
         match self {
             Checked::BadBuffers => 1,
@@ -47,7 +51,7 @@ impl Checked {
 
     // Nothing is wrong.
     pub fn is_valid(self) -> bool
-        ensures { λ r. ⌜ r ≡ isValid self ⌝ }
+        ensures { result ≡ is_valid self }
     {
         match self {
             Checked::BadBuffers => false,

@@ -1,21 +1,20 @@
 // A file checked before it is sent: every piece in turn, then whether every number came, then whether a region is named.
+#![tactic(auto)]
+
 mod earlier;
 mod piece;
 mod regions;
 
-ghost use mathlib.Core.Path.{_≡_};
-ghost use mathlib.Core.Bool.{true};
-ghost use Prim.Native.Nat.{_<_, _/_};
-ghost use lib.ListN.{length};
-ghost use Rattle·memory.specs.Bitmap.{unmarked};
-ghost use Rattle·file_check.specs.Check.{isValid, wholeOf, piecesOf, rightMaps, checkOf};
-ghost use Rattle·file_checking·specs.specs.Pieces.Parts.{maps, fileHead, Holds};
-ghost use Rattle·file_checking·specs.specs.Parts.{firstOf, Opened, kindIf, guardedBy, Counted, Cleared};
+ghost use Rattle.std.specs.Prelude.{◌≡◌, true, ◌<◌, ◌/◌, length};
+ghost use Rattle.memory.specs.Bitmap.{unmarked};
+ghost use Rattle.file_check.specs.Check.{is_valid, whole_of, pieces_of, right_maps, check_of};
+ghost use Rattle.file_checking.specs.Pieces.Parts.{maps, file_head, Holds};
+ghost use Rattle.file_checking.specs.Parts.{first_of, Opened, kind_if, guarded_by, Counted, Cleared};
+
 use file_check::Checked;
 use partitions::Settings;
 use placement::Place;
-use transfer::Head;
-use transfer::Kind;
+use transfer::{Head, Kind};
 use uf2_block::Block;
 use uf2_checks::Lengths;
 use uf2_known::Known;
@@ -26,7 +25,7 @@ const OFFSETS: usize = 2080;
 
 // The kind of the first piece: of data that of its window, and of a comment flash.
 fn kind_of(page: bool, lens: Lengths, address: u32) -> Kind
-    ensures { λ r. ⌜ r ≡ kindIf page lens address ⌝ }
+    ensures { result ≡ kind_if page lens address }
 {
     if page {
         return uf2_checks::block_kind::window_kind(uf2_checks::block_kind::window_of(
@@ -39,8 +38,8 @@ fn kind_of(page: bool, lens: Lengths, address: u32) -> Kind
 
 // What the first piece says the file is.
 fn head_of(lens: Lengths, file: &[u8]) -> Head
-    requires { ⌜ 0 < length (now file) / 512 ⌝ }
-    ensures { λ r. ⌜ r ≡ fileHead lens (now (file .entry)) ⌝ }
+    requires { 0 < length file.now / 512 }
+    ensures { result ≡ file_head lens file.now }
 {
     let page = crate::earlier::is_page(file, 0);
     let address = crate::earlier::field_in(file, 0, 12);
@@ -60,10 +59,10 @@ fn each_piece(
     cells: &mut [u8],
     offsets: &mut [u8],
 ) -> Checked
-    requires { ⌜ Opened settings lens (now file) (maps (now numbers) (now cells) (now offsets)) ⌝ }
-    requires first { ⌜ head ≡ fileHead lens (now file) ⌝ }
-    ensures { λ r. ⌜ r ≡ firstOf settings lens (now (file .entry)) ⌝ }
-    ensures held { λ r. ⌜ (isValid r ≡ true → Holds settings lens (now (file .entry)) (length (now (file .entry)) / 512) (maps (now (numbers .exit)) (now (cells .exit)) (now (offsets .exit)))) ⌝ }
+    requires opened { Opened settings lens file.now (maps numbers.old cells.old offsets.old) }
+    requires first { head ≡ file_head lens file.now }
+    ensures value { result ≡ first_of settings lens file.now }
+    ensures held { is_valid result ≡ true → Holds settings lens file.now (length file.now / 512) (maps numbers.new cells.new offsets.new) }
 {
     let n = file.len() / Block::ARRIVAL;
     let rooms = uf2_checks::family::rooms_for(settings, lens.flash, head.family);
@@ -77,14 +76,7 @@ fn each_piece(
         let family = crate::earlier::field_in(file, i, 28);
         kept = uf2_known::judged::next(kept, settings, lens.flash, family);
         let found = crate::piece::check_piece(
-            kept.rooms,
-            lens,
-            head,
-            file,
-            i,
-            numbers,
-            cells,
-            offsets,
+            kept.rooms, lens, head, file, i, numbers, cells, offsets,
         );
         if !found.is_valid() {
             return found;
@@ -96,7 +88,7 @@ fn each_piece(
 
 // Of a file for the flash the first piece that names a region that counts.
 fn guarded(place: Place, kind: Kind, file: &[u8]) -> Checked
-    ensures { λ r. ⌜ r ≡ guardedBy place kind (now (file .entry)) ⌝ }
+    ensures { result ≡ guarded_by place kind file.now }
 {
     if !transfer::same_kind(kind, Kind::Flash) {
         return Checked::Valid;
@@ -110,9 +102,9 @@ fn guarded(place: Place, kind: Kind, file: &[u8]) -> Checked
 
 // Every piece is sound: whether every number came, and whether a region is named.
 fn whole(settings: Settings, lens: Lengths, head: Head, file: &[u8], numbers: &[u8]) -> Checked
-    requires { ⌜ Counted (now file) (now numbers) ⌝ }
-    requires first { ⌜ head ≡ fileHead lens (now file) ⌝ }
-    ensures { λ r. ⌜ r ≡ wholeOf settings lens (now (file .entry)) ⌝ }
+    requires counted { Counted file.now numbers.now }
+    requires first { head ≡ file_head lens file.now }
+    ensures { result ≡ whole_of settings lens file.now }
 {
     let total = head.total;
     if file.len() / Block::ARRIVAL != total as usize {
@@ -133,9 +125,9 @@ fn every_piece(
     cells: &mut [u8],
     offsets: &mut [u8],
 ) -> Checked
-    requires { ⌜ Opened settings lens (now file) (maps (now numbers) (now cells) (now offsets)) ⌝ }
-    requires some { ⌜ 0 < length (now file) / 512 ⌝ }
-    ensures { λ r. ⌜ r ≡ piecesOf settings lens (now (file .entry)) ⌝ }
+    requires opened { Opened settings lens file.now (maps numbers.old cells.old offsets.old) }
+    requires some { 0 < length file.now / 512 }
+    ensures { result ≡ pieces_of settings lens file.now }
 {
     let head = head_of(lens, file);
     let found = each_piece(settings, lens, head, file, numbers, cells, offsets);
@@ -147,7 +139,7 @@ fn every_piece(
 
 // Are the lengths of a board's buffers and of the three maps right?
 fn right_maps(lens: Lengths, a: usize, b: usize, c: usize) -> bool
-    ensures { λ r. ⌜ r ≡ rightMaps lens a b c ⌝ }
+    ensures { result ≡ right_maps lens a b c }
 {
     uf2_known::lengths_right(Block::ARRIVAL, lens, a, Known::SECTORS)
         & (b == Known::SEEN)
@@ -163,8 +155,8 @@ fn judge(
     cells: &mut [u8],
     offsets: &mut [u8],
 ) -> Checked
-    requires { ⌜ Cleared (maps (now numbers) (now cells) (now offsets)) ⌝ }
-    ensures { λ r. ⌜ r ≡ checkOf settings lens (length (now (numbers .entry))) (length (now (cells .entry))) (length (now (offsets .entry))) (now (file .entry)) ⌝ }
+    requires { Cleared (maps numbers.old cells.old offsets.old) }
+    ensures { result ≡ check_of settings lens (length numbers.old) (length cells.old) (length offsets.old) file.now }
 {
     if !right_maps(lens, numbers.len(), cells.len(), offsets.len()) {
         return Checked::BadBuffers;
@@ -182,7 +174,7 @@ fn judge(
 }
 
 fn clear_maps(numbers: &mut [u8], cells: &mut [u8], offsets: &mut [u8])
-    ensures { λ _. ⌜ (now (numbers .exit) ≡ unmarked (length (now (numbers .entry)))) × (now (cells .exit) ≡ unmarked (length (now (cells .entry)))) × (now (offsets .exit) ≡ unmarked (length (now (offsets .entry)))) ⌝ }
+    ensures { (numbers.new ≡ unmarked (length numbers.old)) × (cells.new ≡ unmarked (length cells.old)) × (offsets.new ≡ unmarked (length offsets.old)) }
 {
     memory::bitmap::clear(numbers);
     memory::bitmap::clear(cells);
@@ -199,8 +191,8 @@ pub fn check(
     cells: &mut [u8],
     offsets: &mut [u8],
 ) -> Checked
-    ensures { λ r. ⌜ r ≡ checkOf settings lens (length (now (numbers .entry))) (length (now (cells .entry))) (length (now (offsets .entry))) (now (file .entry)) ⌝ }
-    ensures left { λ _. ⌜ (now (numbers .exit) ≡ unmarked (length (now (numbers .entry)))) × (now (cells .exit) ≡ unmarked (length (now (cells .entry)))) × (now (offsets .exit) ≡ unmarked (length (now (offsets .entry)))) ⌝ }
+    ensures value { result ≡ check_of settings lens (length numbers.old) (length cells.old) (length offsets.old) file.now }
+    ensures left { (numbers.new ≡ unmarked (length numbers.old)) × (cells.new ≡ unmarked (length cells.old)) × (offsets.new ≡ unmarked (length offsets.old)) }
 {
     clear_maps(numbers, cells, offsets);
     let found = judge(settings, lens, file, numbers, cells, offsets);

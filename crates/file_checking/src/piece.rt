@@ -1,24 +1,17 @@
 // One piece of a file: what is wrong with it, by the maps of the pieces before it. Where nothing is, it is entered in them.
-ghost use mathlib.Core.Path.{_≡_};
-ghost use Prim.Native.Nat.{_<_, _/_};
-ghost use lib.ListN.{length};
-ghost use Rattle·uf2_checks.specs.Screen.{screenAt};
-ghost use Rattle·file_check.specs.Check.{pieceAt};
-ghost use Rattle·file_checking·specs.specs.Pieces.Parts.{maps, touchingIn, cellsWith, offsetsWith, entered, besideBy, mapsBy, screenedBy, mapsThen};
+ghost use Rattle.std.specs.Prelude.{◌≡◌, ◌<◌, ◌/◌, length};
+ghost use Rattle.uf2_checks.specs.Screen.{screen_at};
+ghost use Rattle.file_check.specs.Check.{piece_at};
+ghost use Rattle.file_checking.specs.Pieces.Parts.{maps, touching_in, cells_with, offsets_with, entered, beside_by, maps_by, screened_by, maps_then};
+
 use file_check::Checked;
-use transfer::Head;
-use transfer::State;
-use transfer::Transfer;
+use transfer::{Head, State, Transfer};
 use uf2_block::Block;
-use uf2_checks::Body;
-use uf2_checks::Lengths;
-use uf2_checks::PlacedBlock;
-use uf2_checks::Rooms;
-use uf2_checks::Screening;
+use uf2_checks::{Body, Lengths, PlacedBlock, Rooms, Screening};
 
 // Has a payload a byte in common with one that the maps hold?
 fn touching(body: Body, cells: &[u8], offsets: &[u8]) -> bool
-    ensures { λ r. ⌜ r ≡ touchingIn body (now (cells .entry)) (now (offsets .entry)) ⌝ }
+    ensures { result ≡ touching_in body cells.now offsets.now }
 {
     match body {
         Body::Page(at) => memory::cells::touches(cells, offsets, at),
@@ -28,7 +21,7 @@ fn touching(body: Body, cells: &[u8], offsets: &[u8]) -> bool
 
 // Where a payload starts is entered.
 fn put_start(body: Body, cells: &mut [u8], offsets: &mut [u8])
-    ensures { λ _. ⌜ (now (cells .exit) ≡ cellsWith body (now (cells .entry))) × (now (offsets .exit) ≡ offsetsWith body (now (offsets .entry))) ⌝ }
+    ensures { (cells.new ≡ cells_with body cells.old) × (offsets.new ≡ offsets_with body offsets.old) }
 {
     if let Body::Page(at) = body {
         memory::cells::enter(cells, offsets, at);
@@ -45,8 +38,8 @@ fn beside(
     cells: &[u8],
     offsets: &[u8],
 ) -> Checked
-    requires { ⌜ i < length (now file) / 512 ⌝ }
-    ensures { λ r. ⌜ r ≡ besideBy head placed (now (file .entry)) i (maps (now (numbers .entry)) (now (cells .entry)) (now (offsets .entry))) ⌝ }
+    requires { i < length file.now / 512 }
+    ensures { result ≡ beside_by head placed file.now i (maps numbers.now cells.now offsets.now) }
 {
     let own = placed.head;
     if own.family != head.family {
@@ -80,9 +73,9 @@ fn settle(
     cells: &mut [u8],
     offsets: &mut [u8],
 ) -> Checked
-    requires { ⌜ i < length (now file) / 512 ⌝ }
-    ensures { λ r. ⌜ r ≡ besideBy head placed (now (file .entry)) i (maps (now (numbers .entry)) (now (cells .entry)) (now (offsets .entry))) ⌝ }
-    ensures left { λ r. ⌜ maps (now (numbers .exit)) (now (cells .exit)) (now (offsets .exit)) ≡ mapsBy head placed (now (file .entry)) i (maps (now (numbers .entry)) (now (cells .entry)) (now (offsets .entry))) ⌝ }
+    requires { i < length file.now / 512 }
+    ensures value { result ≡ beside_by head placed file.now i (maps numbers.old cells.old offsets.old) }
+    ensures left { maps numbers.new cells.new offsets.new ≡ maps_by head placed file.now i (maps numbers.old cells.old offsets.old) }
 {
     let found = beside(head, placed, file, i, numbers, cells, offsets);
     if !found.is_valid() {
@@ -105,9 +98,9 @@ pub(crate) fn check_piece(
     cells: &mut [u8],
     offsets: &mut [u8],
 ) -> Checked
-    requires { ⌜ i < length (now file) / 512 ⌝ }
-    ensures { λ r. ⌜ r ≡ screenedBy head (now (file .entry)) i (maps (now (numbers .entry)) (now (cells .entry)) (now (offsets .entry))) (screenAt rooms lens State.Idle (pieceAt (now (file .entry)) i)) ⌝ }
-    ensures left { λ r. ⌜ maps (now (numbers .exit)) (now (cells .exit)) (now (offsets .exit)) ≡ mapsThen head (now (file .entry)) i (maps (now (numbers .entry)) (now (cells .entry)) (now (offsets .entry))) (screenAt rooms lens State.Idle (pieceAt (now (file .entry)) i)) ⌝ }
+    requires { i < length file.now / 512 }
+    ensures value { result ≡ screened_by head file.now i (maps numbers.old cells.old offsets.old) (screen_at rooms lens State.Idle (piece_at file.now i)) }
+    ensures left { maps numbers.new cells.new offsets.new ≡ maps_then head file.now i (maps numbers.old cells.old offsets.old) (screen_at rooms lens State.Idle (piece_at file.now i)) }
 {
     let from = i * Block::ARRIVAL;
     let to = from + Block::ARRIVAL;

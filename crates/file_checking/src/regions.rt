@@ -1,16 +1,15 @@
 // The first piece of a file that names a region that counts (02, L9).
-ghost use mathlib.Core.Path.{_≡_};
-ghost use Prim.Native.Nat.{_<_, _/_};
-ghost use lib.ListN.{length};
-ghost use Rattle·laws.specs.Sets.{least};
-ghost use Rattle·file_check.specs.Check.{guardsIn};
-ghost use Rattle·file_checking·specs.specs.Regions.Guarding.{guardsAlone, guardsAt};
+ghost use Rattle.std.specs.Prelude.{◌≡◌, ◌<◌, ◌/◌, length};
+ghost use Rattle.laws.specs.Sets.{least};
+ghost use Rattle.file_check.specs.Check.{guards_in};
+ghost use Rattle.file_checking.specs.Regions.Guarding.{guards_alone, guards_at};
+
 use placement::Place;
 use uf2_block::Block;
 
 // Does the region that an arrival names count in a place?
 fn counts_in(place: Place, arrival: &[u8]) -> bool
-    ensures { λ r. ⌜ r ≡ guardsIn place (now (arrival .entry)) ⌝ }
+    ensures { result ≡ guards_in place arrival.now }
 {
     match place {
         Place::Nowhere => false,
@@ -24,7 +23,7 @@ fn counts_in(place: Place, arrival: &[u8]) -> bool
 
 // Is an arrival data, and does it name a region that counts? Most files name none: the flag is asked first.
 fn guards(place: Place, arrival: &[u8]) -> bool
-    ensures { λ r. ⌜ r ≡ guardsAlone place (now (arrival .entry)) ⌝ }
+    ensures { result ≡ guards_alone place arrival.now }
 {
     if !uf2_block::has_region(arrival) {
         return false;
@@ -37,7 +36,7 @@ fn guards(place: Place, arrival: &[u8]) -> bool
 
 // The first piece that is data and names a region that counts in a place, and the number of pieces where none does.
 pub(crate) fn first_guarding(place: Place, file: &[u8]) -> usize
-    ensures { λ r. ⌜ r ≡ least (length (now (file .entry)) / 512) (guardsAt place (now (file .entry))) ⌝ }
+    ensures { result ≡ least (length file.now / 512) (guards_at place file.now) }
 {
     let n = file.len() / Block::ARRIVAL;
     let mut i: usize = 0;

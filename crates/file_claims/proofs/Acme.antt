@@ -1,25 +1,25 @@
 -- 000's example is read as specs/Acme.antt says, computed. Assumes nothing.
-use Prim.Native.Nat.{_+_}
-use mathlib.Core.Path.{_≡_, refl}
+use Prim.Native.Nat.{◌+◌}
+use mathlib.Core.Path.{◌≡◌, refl}
 use native.Mathlib.Omega.{arith}
 use lib.ListN.{length, take, drop}
-use Rattle·laws.specs.Bytes.{lowFirst, numberIn}
-use Rattle·uf2_block.specs.Block.{fieldAt, isBlock}
-use Rattle·uf2_tags.specs.Tag.{tagOf, contentsOf, sized}
-use Rattle·uf2_tags.specs.Room.{firstPlace, kindAt, roomEnd, badPayload, badPlace, tagAt}
-use Rattle·uf2_tags.specs.Search.{seek, findOf}
-use Rattle·file_claims·specs.specs.Laid.{AllProper, itemBytes, laid}
-use Rattle·file_claims·specs.specs.Acme.{acme, Acme-reads, items, Acme-holds}
+use Rattle.laws.specs.Bytes.{low_first, number_in}
+use Rattle.uf2_block.specs.Block.{field_at, is_block}
+use Rattle.uf2_tags.specs.Tag.{tag_of, contents_of, sized}
+use Rattle.uf2_tags.specs.Room.{first_place, kind_at, room_end, bad_payload, bad_place, tag_at}
+use Rattle.uf2_tags.specs.Search.{seek, find_of}
+use Rattle.file_claims.specs.Laid.{AllProper, item_bytes, laid}
+use Rattle.file_claims.specs.Acme.{acme, AcmeReads, items, AcmeHolds}
 
-pub acme-reads : Acme-reads
-unfolding Acme-reads acme numberIn fieldAt isBlock firstPlace kindAt tagOf contentsOf roomEnd badPayload badPlace sized tagAt seek findOf
-acme-reads = (refl, refl, refl)
+pub acme_reads : AcmeReads
+unfolding AcmeReads acme number_in field_at is_block first_place kind_at tag_of contents_of room_end bad_payload bad_place sized tag_at seek find_of
+acme_reads = (refl, refl, refl)
 
-pub acme-holds : Acme-holds
-unfolding Acme-holds items acme AllProper itemBytes laid lowFirst numberIn fieldAt isBlock
-acme-holds =
+pub acme_holds : AcmeHolds
+unfolding AcmeHolds items acme AllProper item_bytes laid low_first number_in field_at is_block
+acme_holds =
     let n : length (take 288 acme) + length (laid items) ≡ 324 = refl in (
-      (record { kind-fits = omega arith; step = refl; least = omega arith }, (record { kind-fits = omega arith; step = refl; least = omega arith }, tt)),
+      (record { kind_fits = omega arith; step = refl; least = omega arith }, (record { kind_fits = omega arith; step = refl; least = omega arith }, tt)),
       record {
         whole = refl;
         magic = refl;

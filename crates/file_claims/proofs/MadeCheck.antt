@@ -1,36 +1,36 @@
 -- The bytes of a file that is made are the blocks of one that is valid. Assumes nothing.
-use Prim.Native.Nat.{ℕ, _+_, _-_, _*_, _/_, _<_, _≤_}
-use mathlib.Core.Path.{_≡_, sym, ap, _∙_}
+use Prim.Native.Nat.{ℕ, ◌+◌, ◌-◌, ◌*◌, ◌/◌, ◌<◌, ◌≤◌}
+use mathlib.Core.Path.{◌≡◌, sym, ap, ◌∙◌}
 use mathlib.Core.List.{List}
-use native.Mathlib.Nat.{min-le-right}
+use native.Mathlib.Nat.{min-le_right}
 use native.Mathlib.Omega.{arith}
-use lib.ListN.{length, take, drop, getD, length-take, length-drop}
-use lib.Seq.{length-take-le, getD-take, getD-drop, ext-getD}
-use Rattle·partitions.specs.declared.Settings.{Settings}
-use Rattle·uf2_block.specs.Block.{fieldAt}
-use Rattle·arrival.specs.Arrive.{World, lengthsOf}
-use Rattle·demand.specs.Demand.{File, ValidFile, Plain}
-use Rattle·uf2_make.specs.Uf2file.{pageOf, makeOf}
-use Rattle·uf2_make.specs.Claims.{Reads}
-use Rattle·uf2_make.proofs.ReadBack.{blocks-read-back}
-use Rattle·file_claims·specs.specs.Delivery.{madeFile, IsMade, Deliverable, Made-file-is-valid}
-use Rattle·file_claims·proofs.proofs.Delivery.{made-file-is-valid}
-use Rattle·file_check.specs.Check.{pieceAt, fieldIn}
-use Rattle·file_check.specs.Valid.{Pieces, Plain-is-valid}
-use Rattle·file_check.proofs.Theorems.{plain-is-valid}
-use Rattle·file_claims·specs.specs.MadeCheck.{madeBytes, Made-is-found-valid}
+use lib.ListN.{length, take, drop, get_or, length-take, length-drop}
+use lib.Seq.{length-take-le, get_or-take, get_or-drop, ext_get_or}
+use Rattle.partitions.specs.declared.Settings.{Settings}
+use Rattle.uf2_block.specs.Block.{field_at}
+use Rattle.arrival.specs.Arrive.{World, lengths_of}
+use Rattle.demand.specs.Demand.{File, ValidFile, Plain}
+use Rattle.uf2_make.specs.Uf2file.{page_of, make_of}
+use Rattle.uf2_make.specs.Claims.{Reads}
+use Rattle.uf2_make.proofs.ReadBack.{blocks_read_back}
+use Rattle.file_claims.specs.Delivery.{made_file, IsMade, Deliverable, MadeFileIsValid}
+use Rattle.file_claims.proofs.Delivery.{made_file_is_valid}
+use Rattle.file_check.specs.Check.{piece_at, field_in}
+use Rattle.file_check.specs.Valid.{Pieces, PlainIsValid}
+use Rattle.file_check.proofs.Theorems.{plain_is_valid}
+use Rattle.file_claims.specs.MadeCheck.{made_bytes, MadeIsFoundValid}
 
 -- a part of the first so many elements is that part of all
 part : (l : List ℕ) (n i : ℕ) → i < n → n * 512 ≤ length l → take 512 (drop (i * 512) (take (n * 512) l)) ≡ take 512 (drop (512 * i) l)
 part l n i h r =
-    ext-getD 0 (take 512 (drop (i * 512) (take (n * 512) l))) (take 512 (drop (512 * i) l)) (a ∙ sym b)
+    ext_get_or 0 (take 512 (drop (i * 512) (take (n * 512) l))) (take 512 (drop (512 * i) l)) (a ∙ sym b)
     (λ j g.
     let hj : j < 512 = omega (arith, a) in
-    getD-take 512 (drop (i * 512) (take (n * 512) l)) j 0 hj
-    ∙ getD-drop (i * 512) (take (n * 512) l) j 0
-    ∙ getD-take (n * 512) l (i * 512 + j) 0 (omega arith)
-    ∙ ap (λ (k : ℕ). getD l k 0) (omega arith)
-    ∙ sym (getD-take 512 (drop (512 * i) l) j 0 hj ∙ getD-drop (512 * i) l j 0))
+    get_or-take 512 (drop (i * 512) (take (n * 512) l)) j 0 hj
+    ∙ get_or-drop (i * 512) (take (n * 512) l) j 0
+    ∙ get_or-take (n * 512) l (i * 512 + j) 0 (omega arith)
+    ∙ ap (λ (k : ℕ). get_or l k 0) (omega arith)
+    ∙ sym (get_or-take 512 (drop (512 * i) l) j 0 hj ∙ get_or-drop (512 * i) l j 0))
   where
     a : length (take 512 (drop (i * 512) (take (n * 512) l))) ≡ 512
     a = length-take-le 512 (drop (i * 512) (take (n * 512) l)) (omega (arith, length-drop (i * 512) (take (n * 512) l), length-take-le (n * 512) l r))
@@ -44,49 +44,49 @@ module _ (s : Settings) (w : World) (image out : List ℕ) (family start at size
   n = length image / 256
 
   abbrev F : File
-  F = madeFile image family start out
+  F = made_file image family start out
 
   abbrev f : List ℕ
-  f = madeBytes image family start out
+  f = made_bytes image family start out
 
   abbrev output : List ℕ
-  output = makeOf image family start out .output
+  output = (make_of image family start out).output
 
-  reads : (k : ℕ) → k < n → Reads (F .block k) (start + 256 * k) k n family (pageOf image k)
-  reads k h = blocks-read-back image out family start n (D .narrow) made k h
+  reads : (k : ℕ) → k < n → Reads (F.block k) (start + 256 * k) k n family (page_of image k)
+  reads k h = blocks_read_back image out family start n D.narrow made k h
 
   valid : ValidFile s w F
-  valid = unfold Made-file-is-valid in made-file-is-valid s w image out family start at size made D
+  valid = unfold MadeFileIsValid in made_file_is_valid s w image out family start at size made D
 
   -- no block names a region: flag 0x2000 alone is set
   plain : Plain s w F
-  plain k h = rw (reads k h .flags)
+  plain k h = rw (reads k h).flags
 
   -- the last block is there whole
   room : n * 512 ≤ length output
   room =
-      let some = valid .some in
-      let long = reads (n - 1) (omega arith) .long in
-      omega (arith, long, length-take 512 (drop (512 * (n - 1)) output), min-le-right 512 (length (drop (512 * (n - 1)) output)), length-drop (512 * (n - 1)) output)
+      let some = valid.some in
+      let long = (reads (n - 1) (omega arith)).long in
+      omega (arith, long, length-take 512 (drop (512 * (n - 1)) output), min-le_right 512 (length (drop (512 * (n - 1)) output)), length-drop (512 * (n - 1)) output)
 
-  piece-is : (i : ℕ) → i < n → pieceAt f i ≡ F .block i
-  unfolding pieceAt
-  piece-is i h = part output n i h room
+  piece_is : (i : ℕ) → i < n → piece_at f i ≡ F.block i
+  unfolding piece_at
+  piece_is i h = part output n i h room
 
-  number-is : (i : ℕ) → i < n → fieldIn f i 20 ≡ i
-  number-is i h = ap (λ (a : List ℕ). fieldAt a 20) (piece-is i h) ∙ reads i h .number-back
+  number_is : (i : ℕ) → i < n → field_in f i 20 ≡ i
+  number_is i h = ap (λ (a : List ℕ). field_at a 20) (piece_is i h) ∙ (reads i h).number_back
 
   pieces : Pieces f F
   pieces =
       record {
         count = length-take-le (n * 512) output room;
-        below = λ i h. omega (arith, number-is i h);
-        each = λ i h. ap (F .block) (number-is i h) ∙ sym (piece-is i h);
-        once = λ i j hi hj e. sym (number-is i hi) ∙ e ∙ number-is j hj;
+        below = λ i h. omega (arith, number_is i h);
+        each = λ i h. ap F.block (number_is i h) ∙ sym (piece_is i h);
+        once = λ i j hi hj e. sym (number_is i hi) ∙ e ∙ number_is j hj;
       }
 
-pub made-is-found-valid : Made-is-found-valid
-unfolding Made-is-found-valid
-made-is-found-valid s w image out family start at size made D =
-    (unfold Plain-is-valid in plain-is-valid s w (madeBytes image family start out) (madeFile image family start out) (D .idle)
+pub made_is_found_valid : MadeIsFoundValid
+unfolding MadeIsFoundValid
+made_is_found_valid s w image out family start at size made D =
+    (unfold PlainIsValid in plain_is_valid s w (made_bytes image family start out) (made_file image family start out) D.idle
     (valid s w image out family start at size made D) (pieces s w image out family start at size made D) (plain s w image out family start at size made D))

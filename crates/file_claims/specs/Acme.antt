@@ -1,14 +1,11 @@
 -- 000's example: "firmware version 0.1.2 for device named ACME Toaster mk3", after a payload of 256 bytes. Computed in proofs/Acme.antt. Assumes nothing.
-use Prim.Native.Nat.{ℕ}
-use mathlib.Core.Path.{_≡_}
-use mathlib.Core.List.{List, [], _∷_, _++_}
-use lib.ListN.{replicate}
-use Rattle·uf2_tags.specs.declared.one_tag.Tag.{Tag}
-use Rattle·uf2_tags.specs.declared.one_tag.Answer.the-variants.{Tag as a-tag, End}
-use Rattle·uf2_tags.specs.Tag.{contentsOf}
-use Rattle·uf2_tags.specs.Room.{firstPlace, tagAt}
-use Rattle·uf2_tags.specs.Search.{findOf}
-use Rattle·file_claims·specs.specs.Laid.{Item, AllProper, Holds}
+use Rattle.std.specs.Prelude.{ℕ, ◌≡◌, List, [], ◌∷◌, ◌++◌, replicate}
+use Rattle.uf2_tags.specs.declared.one_tag.Tag.{Tag}
+use Rattle.uf2_tags.specs.declared.one_tag.Answer.TheVariants.{Tag as a-tag, End}
+use Rattle.uf2_tags.specs.Tag.{contents_of}
+use Rattle.uf2_tags.specs.Room.{first_place, tag_at}
+use Rattle.uf2_tags.specs.Search.{find_of}
+use Rattle.file_claims.specs.Laid.{Item, AllProper, Holds}
 
 -- the magic numbers, flags 0x8000 and 0x2000, the payload's size; the payload; 000's three lines; the room's rest and the last magic number
 unfoldable pub acme : List ℕ
@@ -25,12 +22,12 @@ version = record { kind = 0x9fc7bc; start = 292; len = 5; next = 300 }
 abbrev pub device : Tag
 device = record { kind = 0x659d9d; start = 304; len = 16; next = 320 }
 
-unfoldable pub Acme-reads : Type 0
-Acme-reads =
-    (tagAt acme (firstPlace acme) ∷ tagAt acme 300 ∷ tagAt acme 320 ∷ [] ≡ a-tag version ∷ a-tag device ∷ End ∷ [])
-    × (findOf acme 0x9fc7bc ∷ findOf acme 0x659d9d ∷ findOf acme 0x650d9d ∷ [] ≡ a-tag version ∷ a-tag device ∷ End ∷ [])
+unfoldable pub AcmeReads : Type 0
+AcmeReads =
+    (tag_at acme (first_place acme) ∷ tag_at acme 300 ∷ tag_at acme 320 ∷ [] ≡ a-tag version ∷ a-tag device ∷ End ∷ [])
+    × (find_of acme 0x9fc7bc ∷ find_of acme 0x659d9d ∷ find_of acme 0x650d9d ∷ [] ≡ a-tag version ∷ a-tag device ∷ End ∷ [])
     -- "0.1.2"
-    × (contentsOf acme version ≡ 0x30 ∷ 0x2e ∷ 0x31 ∷ 0x2e ∷ 0x32 ∷ [])
+    × (contents_of acme version ≡ 0x30 ∷ 0x2e ∷ 0x31 ∷ 0x2e ∷ 0x32 ∷ [])
 
 -- the two as tags to be laid out, "0.1.2" filled up by three bytes
 unfoldable pub items : List Item
@@ -43,6 +40,6 @@ items =
     }
     ∷ []
 
--- so that `Tags-read-back` is not empty: the example meets what it asks
-unfoldable pub Acme-holds : Type 0
-Acme-holds = AllProper items × Holds acme items
+-- so that `TagsReadBack` is not empty: the example meets what it asks
+unfoldable pub AcmeHolds : Type 0
+AcmeHolds = AllProper items × Holds acme items

@@ -1,21 +1,18 @@
 -- A file that is made (02, L1) is found valid, for every board that it can be delivered to. Proved in proofs/MadeCheck.antt. Assumes nothing.
-use Prim.Native.Nat.{ℕ, _*_, _/_}
-use mathlib.Core.Path.{_≡_}
-use mathlib.Core.List.{List}
-use lib.ListN.{length, take}
-use Rattle·partitions.specs.declared.Settings.{Settings}
-use Rattle·arrival.specs.Arrive.{World, lengthsOf}
-use Rattle·uf2_make.specs.Uf2file.{makeOf}
-use Rattle·file_claims·specs.specs.Delivery.{IsMade, Deliverable}
-use Rattle·file_check.specs.declared.Checked.the-variants.{Valid}
-use Rattle·file_check.specs.Valid.{answerTo}
+use Rattle.std.specs.Prelude.{ℕ, ◌*◌, ◌/◌, ◌≡◌, List, length, take}
+use Rattle.partitions.specs.declared.Settings.{Settings}
+use Rattle.arrival.specs.Arrive.{World, lengths_of}
+use Rattle.uf2_make.specs.Uf2file.{make_of}
+use Rattle.file_claims.specs.Delivery.{IsMade, Deliverable}
+use Rattle.file_check.specs.declared.Checked.TheVariants.{Valid}
+use Rattle.file_check.specs.Valid.{answer_to}
 
 -- the bytes of the file: 512 for each page, from the start of the output on
-abbrev pub madeBytes : List ℕ → ℕ → ℕ → List ℕ → List ℕ
-madeBytes image family start out = take (length image / 256 * 512) (makeOf image family start out .output)
+abbrev pub made_bytes : List ℕ → ℕ → ℕ → List ℕ → List ℕ
+made_bytes image family start out = take (length image / 256 * 512) (make_of image family start out).output
 
-unfoldable pub Made-is-found-valid : Type 0
-Made-is-found-valid =
+unfoldable pub MadeIsFoundValid : Type 0
+MadeIsFoundValid =
     (s : Settings) (w : World) (image out : List ℕ) (family start at size : ℕ) → IsMade image family start out
     → Deliverable s w image family start at size
-    → answerTo s (lengthsOf (w .held)) (madeBytes image family start out) ≡ Valid
+    → answer_to s (lengths_of w.held) (made_bytes image family start out) ≡ Valid

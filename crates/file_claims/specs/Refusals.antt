@@ -1,13 +1,9 @@
 -- "Refusals, in order: 50 image empty or ragged, 51 start outside the window or no multiple of 256, 52 image runs past the window, 53 output under 512 bytes a
 -- page." (02, L1), in numbers. Proved in proofs/Refusals.antt. Assumes nothing.
-use Prim.Native.Nat.{ℕ, _+_, _*_, _/_, _%_, _<_, _≤_}
-use mathlib.Core.Path.{_≡_}
-use mathlib.Core.Logic.{_≢_, _⊎_}
-use mathlib.Core.List.{List}
-use lib.ListN.{length}
-use Rattle·uf2_make.specs.declared.checks.MakeAnswer.the-variants.{Made}
-use Rattle·uf2_make.specs.Uf2check.{makeNumber}
-use Rattle·uf2_make.specs.Uf2file.{makeOf}
+use Rattle.std.specs.Prelude.{ℕ, ◌+◌, ◌*◌, ◌/◌, ◌%◌, ◌<◌, ◌≤◌, ◌≡◌, ◌≢◌, ◌⊎◌, List, length}
+use Rattle.uf2_make.specs.declared.checks.MakeAnswer.TheVariants.{Made}
+use Rattle.uf2_make.specs.Uf2check.{make_number}
+use Rattle.uf2_make.specs.Uf2file.{make_of}
 
 -- rows 50, 51 and 52 are passed
 abbrev pub Whole : ℕ → Type 0
@@ -18,17 +14,17 @@ Started start = (0x10000000 ≤ start) × (start < 0x12000000) × (start % 256 �
 
 -- the first row that holds, of an image's length, a start and an output's length
 pub data Refusal (n start room : ℕ) : ℕ → Type 0 where
-  row-50 : (n ≡ 0) ⊎ (n % 256 ≢ 0) → Refusal n start room 50
-  row-51 : Whole n → (start < 0x10000000) ⊎ ((0x12000000 ≤ start) ⊎ (start % 256 ≢ 0)) → Refusal n start room 51
-  row-52 : Whole n → Started start → 0x12000000 < start + n → Refusal n start room 52
-  row-53 : Whole n → Started start → start + n ≤ 0x12000000 → room < 512 * (n / 256) → Refusal n start room 53
+  row_50 : (n ≡ 0) ⊎ (n % 256 ≢ 0) → Refusal n start room 50
+  row_51 : Whole n → (start < 0x10000000) ⊎ ((0x12000000 ≤ start) ⊎ (start % 256 ≢ 0)) → Refusal n start room 51
+  row_52 : Whole n → Started start → 0x12000000 < start + n → Refusal n start room 52
+  row_53 : Whole n → Started start → start + n ≤ 0x12000000 → room < 512 * (n / 256) → Refusal n start room 53
 
-unfoldable pub Make-refuses : Type 0
-Make-refuses =
-    (image out : List ℕ) (family start k : ℕ) → Refusal (length image) start (length out) k → makeNumber (makeOf image family start out .answer) ≡ k
+unfoldable pub MakeRefuses : Type 0
+MakeRefuses =
+    (image out : List ℕ) (family start k : ℕ) → Refusal (length image) start (length out) k → make_number (make_of image family start out).answer ≡ k
 
 -- and where none holds, as many blocks as there are pages are made
-unfoldable pub Else-made : Type 0
-Else-made =
+unfoldable pub ElseMade : Type 0
+ElseMade =
     (image out : List ℕ) (family start : ℕ) → Whole (length image) → Started start → start + length image ≤ 0x12000000
-    → 512 * (length image / 256) ≤ length out → makeOf image family start out .answer ≡ Made (length image / 256)
+    → 512 * (length image / 256) ≤ length out → (make_of image family start out).answer ≡ Made (length image / 256)

@@ -1,10 +1,14 @@
 // A plan for the flash, which a driver carries out, or `perform` on flash that is memory: made for a page, and performed.
-ghost use mathlib.Core.Path.{_≡_};
-ghost use Rattle·memory.specs.Flash.{payloadOf};
-ghost use Rattle·flash_plan·specs.specs.Plan.{planNumber, performed, sectorPaged, sectorPagedOf};
+#![tactic(auto)]
+
+ghost use Rattle.std.specs.Prelude.{◌≡◌};
+ghost use Rattle.memory.specs.Flash.{payload_of};
+ghost use Rattle.flash_plan.specs.Plan.{plan_number, performed, sector_paged, sector_paged_of};
+
 use memory::flash::Flash;
 
 // What is left to do to the flash: nothing; the arrival's payload is programmed at an address; its sector is erased before.
+#[derive(Clone, Copy)]
 pub enum Plan {
     Nothing,
     Program(usize),
@@ -14,7 +18,7 @@ pub enum Plan {
 impl Plan {
     // The number of the deed, for C.
     pub fn number(self) -> u32
-        ensures { λ r. ⌜ r ≡ planNumber self ⌝ }
+        ensures { result ≡ plan_number self }
     {
         match self {
             Plan::Nothing => 0,
@@ -26,7 +30,7 @@ impl Plan {
 
 // A page of flash: its sector is marked, and is to be erased first where it was not.
 pub fn flash_page(at: usize, sectors: &mut [u8]) -> Plan
-    ensures { λ r. ⌜ sectorPaged r (now (sectors .exit)) ≡ sectorPagedOf at (now (sectors .entry)) ⌝ }
+    ensures { sector_paged result sectors.new ≡ sector_paged_of at sectors.old }
 {
     let sector = at / Flash::SECTOR;
     let erased = memory::bitmap::marked(sectors, sector);
@@ -39,7 +43,7 @@ pub fn flash_page(at: usize, sectors: &mut [u8]) -> Plan
 
 // Carries a plan out on flash that is memory.
 pub fn perform(plan: Plan, arrival: &[u8], flash: &mut [u8])
-    ensures { λ _. ⌜ now (flash .exit) ≡ performed plan (payloadOf (now (arrival .entry))) (now (flash .entry)) ⌝ }
+    ensures { flash.new ≡ performed plan (payload_of arrival.now) flash.old }
 {
     match plan {
         Plan::Nothing => {}

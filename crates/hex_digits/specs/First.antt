@@ -1,10 +1,8 @@
 -- The first character that is no digit (01, row 22, and its position, 02), by the values of characters. Assumes nothing.
-use Prim.Native.Nat.{ℕ, suc}
-use mathlib.Core.Bool.{cond}
-use mathlib.Core.List.{List, [], _∷_}
-use Rattle·hex_digits·specs.specs.Values.{isDigitBy}
+use Rattle.std.specs.Prelude.{ℕ, suc, cond, List, [], ◌∷◌}
+use Rattle.hex_digits.specs.Values.{is_digit_by}
 
 -- its index, or how many characters there are
-unfoldable pub firstBy : (ℕ → ℕ) → List ℕ → ℕ
-firstBy v [] = 0
-firstBy v (c ∷ l) = cond (isDigitBy v c) (suc (firstBy v l)) 0
+unfoldable pub first_by : (ℕ → ℕ) → List ℕ → ℕ
+first_by v [] = 0
+first_by v (c ∷ l) = cond (is_digit_by v c) (suc (first_by v l)) 0

@@ -1,12 +1,12 @@
 // Characters decoded by a lent table of their values as digits: the bytes that they say, and the first that is no digit.
-ghost use mathlib.Core.Path.{_≡_};
-ghost use Rattle·hex_digits·specs.specs.Values.{allBy, valueIn};
-ghost use Rattle·hex_digits·specs.specs.Pairs.{decodedBy};
-ghost use Rattle·hex_digits·specs.specs.First.{firstBy};
+ghost use Rattle.std.specs.Prelude.{◌≡◌};
+ghost use Rattle.hex_digits.specs.Values.{all_by, value_in};
+ghost use Rattle.hex_digits.specs.Pairs.{decoded_by};
+ghost use Rattle.hex_digits.specs.First.{first_by};
 
 // Are the characters digits? No loop leaves at a character that is none: the values met are or-ed, and judged once, at the end.
 fn all_digits(table: &[u8; 256], chars: &[u8]) -> bool
-    ensures { λ r. ⌜ r ≡ allBy (valueIn (now (table .entry))) (now (chars .entry)) ⌝ }
+    ensures { result ≡ all_by (value_in table.now) chars.now }
 {
     let mut met: u8 = 0;
     let mut i = 0;
@@ -20,8 +20,8 @@ fn all_digits(table: &[u8; 256], chars: &[u8]) -> bool
 
 // Are the characters digits? Their bytes go to `out` as far as it has room.
 fn decode(table: &[u8; 256], chars: &[u8], out: &mut [u8]) -> bool
-    ensures { λ r. ⌜ r ≡ allBy (valueIn (now (table .entry))) (now (chars .entry)) ⌝ }
-    ensures bytes { λ _. ⌜ now (out .exit) ≡ decodedBy (valueIn (now (table .entry))) (now (chars .entry)) (now (out .entry)) ⌝ }
+    ensures value { result ≡ all_by (value_in table.now) chars.now }
+    ensures bytes { out.new ≡ decoded_by (value_in table.now) chars.now out.old }
 {
     let e = 2 * crate::pairs::least(chars.len() / 2, out.len());
     let good = crate::pairs::pairs(table, chars, out);
@@ -30,7 +30,7 @@ fn decode(table: &[u8; 256], chars: &[u8], out: &mut [u8]) -> bool
 
 // The index of the first character that is no digit, or how many there are. Only a line with such a character gets here.
 fn first_bad(table: &[u8; 256], chars: &[u8]) -> usize
-    ensures { λ r. ⌜ r ≡ firstBy (valueIn (now (table .entry))) (now (chars .entry)) ⌝ }
+    ensures { result ≡ first_by (value_in table.now) chars.now }
 {
     let mut i = 0;
     while i < chars.len() {
@@ -45,9 +45,9 @@ fn first_bad(table: &[u8; 256], chars: &[u8]) -> usize
 
 // The index of the first character that is no digit, or how many there are; the bytes that the characters say go to `out` as far as it
 // has room.
-pub(crate) fn judge(table: &[u8; 256], chars: &[u8], out: &mut [u8]) -> usize
-    ensures { λ r. ⌜ r ≡ firstBy (valueIn (now (table .entry))) (now (chars .entry)) ⌝ }
-    ensures bytes { λ _. ⌜ now (out .exit) ≡ decodedBy (valueIn (now (table .entry))) (now (chars .entry)) (now (out .entry)) ⌝ }
+pub fn judge(table: &[u8; 256], chars: &[u8], out: &mut [u8]) -> usize
+    ensures value { result ≡ first_by (value_in table.now) chars.now }
+    ensures bytes { out.new ≡ decoded_by (value_in table.now) chars.now out.old }
 {
     let good = decode(table, chars, out);
     if good {

@@ -1,9 +1,11 @@
 // Hex digits: the value of each by one table, the bytes that they say, and the first character that is none.
-mod decoding;
-mod pairs;
+#![tactic(auto)]
 
-ghost use mathlib.Core.Path.{_≡_};
-ghost use Rattle·hex_digits·specs.specs.Digits.{firstBad, decoded};
+pub mod decoding;
+pub mod pairs;
+
+ghost use Rattle.std.specs.Prelude.{◌≡◌};
+ghost use Rattle.hex_digits.specs.Digits.{first_bad, decoded};
 
 // The value of each byte as a hex digit, 16 where it is none: sixteen bytes a row.
 const DIGITS: [u8; 256] = *b"\
@@ -29,8 +31,8 @@ const DIGITS: [u8; 256] = *b"\
 // has room. The table is lent, and this function alone makes a copy of it, once a line: a constant that is indexed in a loop is built anew
 // at each turn.
 pub fn judge(chars: &[u8], out: &mut [u8]) -> usize
-    ensures { λ r. ⌜ r ≡ firstBad (now (chars .entry)) ⌝ }
-    ensures bytes { λ _. ⌜ now (out .exit) ≡ decoded (now (chars .entry)) (now (out .entry)) ⌝ }
+    ensures value { result ≡ first_bad chars.now }
+    ensures bytes { out.new ≡ decoded chars.now out.old }
 {
     let table = DIGITS;
     crate::decoding::judge(&table, chars, out)

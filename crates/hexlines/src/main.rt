@@ -1,11 +1,11 @@
 // Reads lines of Universal Hex from standard input for one board and prints the answer to each: a board image of 262,144 bytes.
-ghost use Prim.Native.Nat.{_+_, _≤_};
-ghost use lib.ListN.{length};
-use libc::STDIN_FILENO;
-use libc::STDOUT_FILENO;
+#![tactic(auto)]
+
+ghost use Rattle.std.specs.Prelude.{◌+◌, ◌≤◌, length};
+
+use libc::{STDIN_FILENO, STDOUT_FILENO};
 use uhex_effects::Reader;
-use uhex_grammar::Answer;
-use uhex_grammar::Boards;
+use uhex_grammar::{Answer, Boards};
 
 // The bytes of the input that count, one more than a file may have: what comes after them lies behind a line that is answered 36, behind
 // an earlier failure, or behind the 01.
@@ -34,8 +34,8 @@ fn own_board() -> u16 {
 
 // Where so many bytes more go in the text that waits to be written: behind the used ones, or at the start once these are written.
 fn room(waiting: &[u8], used: usize, n: usize) -> usize
-    requires { ⌜ (used ≤ length (now waiting)) × (n ≤ length (now waiting)) ⌝ }
-    ensures { λ r. ⌜ r + n ≤ length (now (waiting .entry)) ⌝ }
+    requires { (used ≤ length waiting.now) × (n ≤ length waiting.now) }
+    ensures { result + n ≤ length waiting.now }
 {
     if waiting.len() - used < n {
         io::write_all(STDOUT_FILENO, &waiting[..used]);
@@ -46,20 +46,20 @@ fn room(waiting: &[u8], used: usize, n: usize) -> usize
 
 // Adds the line of an answer to the text that waits, and answers how many of its bytes are used.
 fn add(waiting: &mut [u8], used: usize, index: u64, answer: Answer) -> usize
-    requires { ⌜ (used ≤ length (now waiting)) × (80 ≤ length (now waiting)) ⌝ }
-    ensures { λ r. ⌜ r ≤ length (now (waiting .entry)) ⌝ }
+    requires { (used ≤ length waiting.old) × (80 ≤ length waiting.old) }
+    ensures { result ≤ length waiting.old }
 {
     let mut text = [0u8; 80];
     let n = text::hex_answer::hex_answer_line(&mut text, index, answer);
     let at = room(waiting, used, n);
     let e = at + n;
-    bytes::copy(&text[..n], &mut waiting[at..e]);
+    waiting[at..e].copy_from_slice(&text[..n]);
     e
 }
 
 // Answers every line of the input. A line is handed with its ending.
 fn run(input: &[u8], own: u16, image: &mut [u8], waiting: &mut [u8]) -> Reader
-    requires { ⌜ 80 ≤ length (now waiting) ⌝ }
+    requires { 80 ≤ length waiting.old }
 {
     let mut used: usize = 0;
     let mut reader = Reader::fresh(own);
@@ -86,7 +86,7 @@ fn print_state(reader: Reader) {
 
 // Reads the input, and answers every line of it.
 fn session(own: u16, input: &mut [u8], image: &mut [u8], waiting: &mut [u8]) -> Reader
-    requires { ⌜ 80 ≤ length (now waiting) ⌝ }
+    requires { 80 ≤ length waiting.old }
 {
     let n = io::read_full(STDIN_FILENO, input);
     run(&input[..n], own, image, waiting)

@@ -1,37 +1,37 @@
 -- How many characters the lines of the data have: as many as are counted, for every type, and an even number. Assumes nothing.
-use mathlib.Core.Path.{_≡_, refl, sym, _∙_}
+use mathlib.Core.Path.{◌≡◌, refl, sym, ◌∙◌}
 use mathlib.Core.Bool.{Bool, true, false, cond}
-use mathlib.Core.List.{List, [], _∷_, flatten}
-use Prim.Native.Nat.{ℕ, _+_, _%_}
+use mathlib.Core.List.{List, [], ◌∷◌, flatten}
+use Prim.Native.Nat.{ℕ, ◌%◌}
 use native.Mathlib.Omega.{arith}
 use lib.ListN.{length}
-use Rattle·laws.specs.Stores.{Store}
-use Rattle·ihex_record.specs.Types.{dataType}
-use Rattle·ihex_data·specs.specs.declared.cuts.Tally.{Tally}
-use Rattle·ihex_data·specs.specs.Lines.{upperOf, dataLines, dataLength}
-use Rattle·ihex_data·specs.specs.Tally.{freshTally, changes, tallyPiece, tallyAll}
-use Rattle·ihex_data·proofs.proofs.Tallied.{length-pieces, fresh-lines}
+use Rattle.laws.specs.Stores.{Store}
+use Rattle.ihex_record.specs.Types.{data_type}
+use Rattle.ihex_data.specs.declared.cuts.Tally.{Tally}
+use Rattle.ihex_data.specs.Lines.{upper_of, data_lines, data_length}
+use Rattle.ihex_data.specs.Tally.{fresh_tally, changes, tally_piece, tally_all}
+use Rattle.ihex_data.proofs.Tallied.{length_pieces, fresh_lines}
 
-length-kept : (kind : ℕ) (ss : List Store) → length (flatten (dataLines kind ss)) ≡ tallyAll freshTally ss .len
-length-kept kind ss = rw (← fresh-lines kind ss) (omega (arith, length-pieces kind freshTally ss))
+length_kept : (kind : ℕ) (ss : List Store) → length (flatten (data_lines kind ss)) ≡ (tally_all fresh_tally ss).len
+length_kept kind ss = rw (← fresh_lines kind ss) (omega (arith, length_pieces kind fresh_tally ss))
 
-pub kept-length : (ss : List Store) → tallyAll freshTally ss .len ≡ dataLength ss
-unfolding dataLength
-kept-length ss = sym (length-kept dataType ss)
+pub kept_length : (ss : List Store) → (tally_all fresh_tally ss).len ≡ data_length ss
+unfolding data_length
+kept_length ss = sym (length_kept data_type ss)
 
-pub length-data-lines : (kind : ℕ) (ss : List Store) → length (flatten (dataLines kind ss)) ≡ dataLength ss
-length-data-lines kind ss = length-kept kind ss ∙ kept-length ss
+pub length_data_lines : (kind : ℕ) (ss : List Store) → length (flatten (data_lines kind ss)) ≡ data_length ss
+length_data_lines kind ss = length_kept kind ss ∙ kept_length ss
 
 -- every line has an even number of characters
-either-even : (b : Bool) → cond b 16 0 % 2 ≡ 0
-either-even true = refl
-either-even false = refl
+either_even : (b : Bool) → cond b 16 0 % 2 ≡ 0
+either_even true = refl
+either_even false = refl
 
-tally-even : (t : Tally) (ss : List Store) → t .len % 2 ≡ 0 → tallyAll t ss .len % 2 ≡ 0
-unfolding tallyAll tallyPiece
-tally-even t [] e = e
-tally-even t (s ∷ ss) e =
-    tally-even (tallyPiece t (upperOf s) (length (s .bytes))) ss (omega (arith, either-even (changes t (upperOf s))))
+tally_even : (t : Tally) (ss : List Store) → t.len % 2 ≡ 0 → (tally_all t ss).len % 2 ≡ 0
+unfolding tally_all tally_piece
+tally_even t [] e = e
+tally_even t (s ∷ ss) e =
+    tally_even (tally_piece t (upper_of s) (length s.bytes)) ss (omega (arith, either_even (changes t (upper_of s))))
 
-pub length-even : (ss : List Store) → dataLength ss % 2 ≡ 0
-length-even ss = rw (← kept-length ss) (tally-even freshTally ss refl)
+pub length_even : (ss : List Store) → data_length ss % 2 ≡ 0
+length_even ss = rw (← kept_length ss) (tally_even fresh_tally ss refl)

@@ -1,94 +1,94 @@
 -- A line of a plain file, one law for each way that the code leaves. Assumes nothing.
-use mathlib.Core.Path.{_≡_, refl, sym, ap, _∙_}
-use mathlib.Core.List.{List, [], _∷_, _++_, append-nil}
-use Prim.Native.Nat.{ℕ, _+_, _/_, _≤_}
+use mathlib.Core.Path.{◌≡◌, refl, sym, ap, ◌∙◌}
+use mathlib.Core.List.{List, [], ◌++◌, append-nil}
+use Prim.Native.Nat.{ℕ, ◌+◌, ◌/◌, ◌≤◌}
 use native.Mathlib.Omega.{arith}
 use lib.Dec.{ltb}
-use lib.ListN.{length, take, drop, getD, length-take, length-drop}
-use Rattle·laws.proofs.Tests.{split}
-use Rattle·laws.specs.Stores.{Store}
-use Rattle·ihex_record.specs.Record.{wordFrom, readOf}
-use Rattle·ihex_record.specs.declared.Line.{Line}
-use Rattle·ihex_record.proofs.Good.{length-data}
-use Rattle·uhex_grammar.specs.declared.Answer.{Answer}
-use Rattle·ihex_write.specs.Put.{putLines}
-use Rattle·ihex_write.proofs.Lines.{put-none}
-use Rattle·ihex_file.specs.declared.Plain.{Plain}
-use Rattle·ihex_file.specs.declared.LineReading.{LineReading}
-use Rattle·ihex_file.specs.declared.LineReading.the-variants.{Refused, Passed, Data}
-use Rattle·ihex_file.specs.Line.{lineTaken, takenOf}
-use Rattle·ihex_file.specs.File.{goesOn, nextOf, badOf, givesOf}
-use Rattle·ihex_file.proofs.Moves.{data-near}
-use Rattle·ihex_data·specs.specs.declared.cuts.Tally.{Tally}
-use Rattle·ihex_data·specs.specs.declared.Scan.{Scan}
-use Rattle·ihex_data·specs.specs.declared.Step.{Step}
-use Rattle·ihex_data·specs.specs.declared.Step.the-variants.{On, Stop}
-use Rattle·ihex_data·specs.specs.Pieces.{piece, roomOf, splitOf, splitAll}
-use Rattle·ihex_data·specs.specs.Tally.{tallyPiece, tallyAll, piecesLines}
-use Rattle·ihex_data·specs.specs.Lines.{upperOf}
-use Rattle·ihex_data·proofs.proofs.Tallied.{piece-most}
-use Rattle·ihex_data·specs.specs.Scan.{scan, linePieces, stepOf}
+use lib.ListN.{length, take, drop, get_or, length-take, length-drop}
+use Rattle.laws.proofs.Tests.{split}
+use Rattle.laws.specs.Stores.{Store}
+use Rattle.ihex_record.specs.Record.{word_from, read_of}
+use Rattle.ihex_record.specs.declared.Line.{Line}
+use Rattle.ihex_record.proofs.Good.{length_data}
+use Rattle.uhex_grammar.specs.declared.Answer.{Answer}
+use Rattle.ihex_write.specs.Put.{put_lines}
+use Rattle.ihex_write.proofs.Lines.{put_none}
+use Rattle.ihex_file.specs.declared.Plain.{Plain}
+use Rattle.ihex_file.specs.declared.LineReading.{LineReading}
+use Rattle.ihex_file.specs.declared.LineReading.TheVariants.{Refused, Passed, Data}
+use Rattle.ihex_file.specs.Line.{line_taken, taken_of}
+use Rattle.ihex_file.specs.File.{gives_of}
+use Rattle.ihex_file.proofs.Moves.{data_near}
+use Rattle.ihex_data.specs.declared.cuts.Tally.{Tally}
+use Rattle.ihex_data.specs.declared.Scan.{Scan}
+use Rattle.ihex_data.specs.declared.Step.{Step}
+use Rattle.ihex_data.specs.declared.Step.TheVariants.{On, Stop}
+use Rattle.ihex_data.specs.Pieces.{piece, room_of, split_of, split_all}
+use Rattle.ihex_data.specs.Tally.{tally_piece, tally_all, pieces_lines}
+use Rattle.ihex_data.specs.Lines.{upper_of}
+use Rattle.ihex_data.proofs.Tallied.{piece_most}
+use Rattle.ihex_data.specs.Scan.{scan, line_pieces, step_of}
 
-pub is-taken : (p : Plain) (l : List ℕ) {x : Line} {w : ℕ} {t u : LineReading} → x ≡ readOf l → w ≡ wordFrom (getD (x .«data») 0 0) (getD (x .«data») 1 0)
-    → t ≡ lineTaken p (length l) (x .parsed) w → t ≡ u → takenOf p l ≡ u
-unfolding takenOf
-is-taken p l {x} {w} {t} {u} e f g h =
-    ap (λ (y : Line). lineTaken p (length l) (y .parsed) (wordFrom (getD (y .«data») 0 0) (getD (y .«data») 1 0))) (sym e)
-    ∙ ap (lineTaken p (length l) (x .parsed)) (sym f)
+pub is_taken : (p : Plain) (l : List ℕ) {x : Line} {w : ℕ} {t u : LineReading} → x ≡ read_of l → w ≡ word_from (get_or x.«data» 0 0) (get_or x.«data» 1 0)
+    → t ≡ line_taken p (length l) x.parsed w → t ≡ u → taken_of p l ≡ u
+unfolding taken_of
+is_taken p l {x} {w} {t} {u} e f g h =
+    ap (λ (y : Line). line_taken p (length l) y.parsed (word_from (get_or y.«data» 0 0) (get_or y.«data» 1 0))) (sym e)
+    ∙ ap (line_taken p (length l) x.parsed) (sym f)
     ∙ sym g
     ∙ h
 
 -- a data record has at most 32 bytes
-pub taken-few : (p : Plain) (l : List ℕ) {q : Plain} {a n : ℕ} → takenOf p l ≡ Data q a n → n ≤ 32
-taken-few p l {q} {a} {n} e = data-near p l q a n e .few
+pub taken_few : (p : Plain) (l : List ℕ) {q : Plain} {a n : ℕ} → taken_of p l ≡ Data q a n → n ≤ 32
+taken_few p l {q} {a} {n} e = (data_near p l q a n e).few
 
 -- which what was read has
-pub taken-within : (p : Plain) (l : List ℕ) {x : Line} {q : Plain} {a n : ℕ} → x ≡ readOf l → takenOf p l ≡ Data q a n → n ≤ length (x .«data»)
-taken-within p l e t = rw e (omega (arith, length-data l, taken-few p l t))
+pub taken_within : (p : Plain) (l : List ℕ) {x : Line} {q : Plain} {a n : ℕ} → x ≡ read_of l → taken_of p l ≡ Data q a n → n ≤ length x.«data»
+taken_within p l e t = rw e (omega (arith, length_data l, taken_few p l t))
 
 module _ (out : List ℕ) (kind at : ℕ) (s : Scan) (l : List ℕ) where
   abbrev Steps : Step → List ℕ → Type 0
-  Steps r o = (r ≡ stepOf s l) × (o ≡ putLines out (at + s .tally .len) (piecesLines kind (s .tally) (linePieces (s .plain) l)))
+  Steps r o = (r ≡ step_of s l) × (o ≡ put_lines out (at + s.tally.len) (pieces_lines kind s.tally (line_pieces s.plain l)))
 
-  pub step-refused : (a : Answer) → takenOf (s .plain) l ≡ Refused a → Steps (Stop a) out
-  unfolding stepOf linePieces splitAll piecesLines
-  step-refused a e = (rw e refl, rw e (sym (put-none out (at + s .tally .len))))
+  pub step_refused : (a : Answer) → taken_of s.plain l ≡ Refused a → Steps (Stop a) out
+  unfolding step_of line_pieces split_all pieces_lines
+  step_refused a e = (rw e refl, rw e (sym (put_none out (at + s.tally.len))))
 
-  pub step-passed : (q : Plain) → takenOf (s .plain) l ≡ Passed q → Steps (On (scan q (s .tally))) out
-  unfolding stepOf linePieces splitAll piecesLines tallyAll
-  step-passed q e = (rw e refl, rw e (sym (put-none out (at + s .tally .len))))
+  pub step_passed : (q : Plain) → taken_of s.plain l ≡ Passed q → Steps (On (scan q s.tally)) out
+  unfolding step_of line_pieces split_all pieces_lines tally_all
+  step_passed q e = (rw e refl, rw e (sym (put_none out (at + s.tally.len))))
 
-  pub step-data : (q : Plain) (a n : ℕ) {r : Step} {o : List ℕ} → takenOf (s .plain) l ≡ Data q a n → let ss = splitOf (piece a (take n (readOf l .«data»))) in
-      r ≡ On (scan q (tallyAll (s .tally) ss)) → o ≡ putLines out (at + s .tally .len) (piecesLines kind (s .tally) ss) → Steps r o
-  unfolding stepOf linePieces splitAll
-  step-data q a n e f g =
-      let ss = splitOf (piece a (take n (readOf l .«data»))) in
+  pub step_data : (q : Plain) (a n : ℕ) {r : Step} {o : List ℕ} → taken_of s.plain l ≡ Data q a n → let ss = split_of (piece a (take n (read_of l).«data»)) in
+      r ≡ On (scan q (tally_all s.tally ss)) → o ≡ put_lines out (at + s.tally.len) (pieces_lines kind s.tally ss) → Steps r o
+  unfolding step_of line_pieces split_all
+  step_data q a n e f g =
+      let ss = split_of (piece a (take n (read_of l).«data»)) in
       let same : ss ++ [] ≡ ss = append-nil ss in (
         f ∙ rw (e, same) refl,
         g ∙ rw (e, same) refl,
       )
 
 -- how much the lines of a line's pieces have
-split-most : (t : Tally) (s : Store) → length (s .bytes) ≤ 32 → tallyAll t (splitOf s) .len ≤ t .len + 184
-unfolding splitOf tallyAll
-split-most t s h =
-    let r = roomOf (s .address) in
-    let d = s .bytes in
-    let v = tallyPiece t (upperOf s) (length (take r d)) in
-    let one = piece-most t (upperOf s) (length (take r d)) (omega (arith, length-take r d)) in
-    let two = piece-most v ((s .address + r) / 65536) (length (drop r d)) (omega (arith, length-drop r d)) in
+split_most : (t : Tally) (s : Store) → length s.bytes ≤ 32 → (tally_all t (split_of s)).len ≤ t.len + 184
+unfolding split_of tally_all
+split_most t s h =
+    let r = room_of s.address in
+    let d = s.bytes in
+    let v = tally_piece t (upper_of s) (length (take r d)) in
+    let one = piece_most t (upper_of s) (length (take r d)) (omega (arith, length-take r d)) in
+    let two = piece_most v ((s.address + r) / 65536) (length (drop r d)) (omega (arith, length-drop r d)) in
     split (ltb r (length d))
     (λ y. rw y (omega arith))
-    (λ n. rw n (omega (arith, piece-most t (upperOf s) (length d) h)))
+    (λ n. rw n (omega (arith, piece_most t (upper_of s) (length d) h)))
 
-pieces-most : (p : Plain) (l : List ℕ) (t : Tally) (x : LineReading) → takenOf p l ≡ x → tallyAll t (splitAll (givesOf l x)) .len ≤ t .len + 184
-unfolding splitAll tallyAll
-pieces-most p l t (Refused a) e = omega arith
-pieces-most p l t (Passed q) e = omega arith
-pieces-most p l t (Data q a n) e =
-    let s = piece a (take n (readOf l .«data»)) in
-    rw (append-nil (splitOf s)) (split-most t s (omega (arith, length-take n (readOf l .«data»), taken-few p l e)))
+pieces_most : (p : Plain) (l : List ℕ) (t : Tally) (x : LineReading) → taken_of p l ≡ x → (tally_all t (split_all (gives_of l x))).len ≤ t.len + 184
+unfolding split_all tally_all
+pieces_most p l t (Refused a) e = omega arith
+pieces_most p l t (Passed q) e = omega arith
+pieces_most p l t (Data q a n) e =
+    let s = piece a (take n (read_of l).«data») in
+    rw (append-nil (split_of s)) (split_most t s (omega (arith, length-take n (read_of l).«data», taken_few p l e)))
 
-pub line-most : (p : Plain) (l : List ℕ) (t : Tally) → tallyAll t (linePieces p l) .len ≤ t .len + 184
-unfolding linePieces
-line-most p l t = pieces-most p l t (takenOf p l) refl
+pub line_most : (p : Plain) (l : List ℕ) (t : Tally) → (tally_all t (line_pieces p l)).len ≤ t.len + 184
+unfolding line_pieces
+line_most p l t = pieces_most p l t (taken_of p l) refl

@@ -1,237 +1,237 @@
 -- Pieces one after the other: what is kept of them, their lines, and how long these are. Assumes nothing.
-use mathlib.Core.Path.{_≡_, refl, sym, ap, _∙_}
-use mathlib.Core.Bool.{Bool, true, false, cond, not, _&&_}
-use mathlib.Core.List.{List, [], _∷_, _++_, flatten, append-nil, append-assoc}
-use Prim.Native.Nat.{ℕ, _+_, _-_, _*_, _/_, _%_, _≤_, _<_}
+use mathlib.Core.Path.{◌≡◌, refl, sym, ap, ◌∙◌}
+use mathlib.Core.Bool.{Bool, true, false, cond}
+use mathlib.Core.List.{List, [], ◌∷◌, ◌++◌, flatten, append-nil, append_assoc}
+use Prim.Native.Nat.{ℕ, ◌+◌, ◌-◌, ◌*◌, ◌/◌, ◌%◌, ◌≤◌, ◌<◌}
 use native.Mathlib.Omega.{arith}
 use lib.Dec.{eqb, ltb}
 use lib.ListN.{length, take, drop, length-append, length-take, length-drop}
-use lib.Seq.{take-all}
+use lib.Seq.{take_all}
 use borrow.Author.Tests.{lt-ltb, le-ltb, ltb-true, ltb-false}
-use Rattle·laws.proofs.Tests.{split, eqb-same}
-use Rattle·laws.specs.Stores.{Store}
-use Rattle·ihex_record.specs.Write.{recordLine}
-use Rattle·ihex_write.specs.Put.{putLine, putLines}
-use Rattle·ihex_write.proofs.Line.{length-line}
-use Rattle·ihex_write.proofs.Lines.{put-one, put-two, put-append, length-flatten}
-use Rattle·ihex_file.specs.File.{isSome}
-use Rattle·ihex_data·specs.specs.declared.cuts.Tally.{Tally}
-use Rattle·ihex_data·specs.specs.Pieces.{piece, roomOf, crosses, splitOf, splitAll}
-use Rattle·ihex_data·specs.specs.Lines.{upperOf, upperLine, upperIf, bodyLines, firstUpper}
-use Rattle·ihex_data·specs.specs.Tally.{tally, freshTally, changes, tallyPiece, tallyAll, pieceLines, piecesLines}
+use Rattle.laws.proofs.Tests.{split, eqb_same}
+use Rattle.laws.specs.Stores.{Store}
+use Rattle.ihex_record.specs.Write.{record_line}
+use Rattle.ihex_write.specs.Put.{put_line, put_lines}
+use Rattle.ihex_write.proofs.Line.{length_line}
+use Rattle.ihex_write.proofs.Lines.{put_one, put_two, put_append, length_flatten}
+use Rattle.ihex_file.specs.File.{is_some}
+use Rattle.ihex_data.specs.declared.cuts.Tally.{Tally}
+use Rattle.ihex_data.specs.Pieces.{piece, room_of, crosses, split_of, split_all}
+use Rattle.ihex_data.specs.Lines.{upper_of, upper_line, upper_if, body_lines, first_upper}
+use Rattle.ihex_data.specs.Tally.{tally, fresh_tally, changes, tally_piece, tally_all, piece_lines, pieces_lines}
 
 -- ---- one piece
 
-pub at-most : (b : Bool) {k : ℕ} → k ≡ cond b 16 0 → k ≤ 16
-at-most true e = omega arith
-at-most false e = omega arith
+pub at_most : (b : Bool) {k : ℕ} → k ≡ cond b 16 0 → k ≤ 16
+at_most true e = omega arith
+at_most false e = omega arith
 
-pub piece-kept : (t : Tally) (u n : ℕ) {first more : ℕ} {b : Bool} → first ≡ cond (t .some) (t .first) u → b ≡ changes t u → more ≡ cond b 16 0
-    → tally true first u (t .len + (more + (12 + 2 * n))) ≡ tallyPiece t u n
-unfolding tallyPiece
-piece-kept t u n e f g = rw (e, g, f)
+pub piece_kept : (t : Tally) (u n : ℕ) {first more : ℕ} {b : Bool} → first ≡ cond t.some t.first u → b ≡ changes t u → more ≡ cond b 16 0
+    → tally true first u (t.len + (more + (12 + 2 * n))) ≡ tally_piece t u n
+unfolding tally_piece
+piece_kept t u n e f g = rw (e, g, f)
 
-pub length-upper : (u : ℕ) → length (upperLine u) ≡ 16
-length-upper u = length-line _ _ _
+pub length_upper : (u : ℕ) → length (upper_line u) ≡ 16
+length_upper u = length_line _ _ _
 
-pub length-piece : (kind : ℕ) (t : Tally) (u a : ℕ) (d : List ℕ) → t .len + length (flatten (pieceLines kind t u a d)) ≡ tallyPiece t u (length d) .len
-unfolding pieceLines tallyPiece flatten
-length-piece kind t u a d =
-    let l = recordLine kind a d in
-    let v = upperLine u in
-    let n = length-line kind a d in
+pub length_piece : (kind : ℕ) (t : Tally) (u a : ℕ) (d : List ℕ) → t.len + length (flatten (piece_lines kind t u a d)) ≡ (tally_piece t u (length d)).len
+unfolding piece_lines tally_piece flatten
+length_piece kind t u a d =
+    let l = record_line kind a d in
+    let v = upper_line u in
+    let n = length_line kind a d in
     let one = length-append l [] in
     split (changes t u)
-    (λ y. rw y (omega (arith, length-append v (l ++ []), length-upper u)))
+    (λ y. rw y (omega (arith, length-append v (l ++ []), length_upper u)))
     (λ z. rw z (omega arith))
 
 -- written after an 04, and without one
 module _ (out : List ℕ) (kind from : ℕ) (t : Tally) (u a : ℕ) (d : List ℕ) where
-  pub put-changed : {b : Bool} {one two : List ℕ} → b ≡ changes t u → b ≡ true → one ≡ putLine out from (upperLine u)
-      → two ≡ putLine one (from + 16) (recordLine kind a d) → two ≡ putLines out from (pieceLines kind t u a d)
-  unfolding pieceLines
-  put-changed e y f g = rw (← e, y) (g ∙ rw (f, ← length-upper u) (sym (put-two out from (upperLine u) (recordLine kind a d))))
+  pub put_changed : {b : Bool} {one two : List ℕ} → b ≡ changes t u → b ≡ true → one ≡ put_line out from (upper_line u)
+      → two ≡ put_line one (from + 16) (record_line kind a d) → two ≡ put_lines out from (piece_lines kind t u a d)
+  unfolding piece_lines
+  put_changed e y f g = rw (← e, y) (g ∙ rw (f, ← length_upper u) (sym (put_two out from (upper_line u) (record_line kind a d))))
 
-  pub put-unchanged : {b : Bool} {one : List ℕ} → b ≡ changes t u → b ≡ false → one ≡ putLine out from (recordLine kind a d)
-      → one ≡ putLines out from (pieceLines kind t u a d)
-  unfolding pieceLines
-  put-unchanged e n f = rw (← e, n) (f ∙ sym (put-one out from (recordLine kind a d)))
+  pub put_unchanged : {b : Bool} {one : List ℕ} → b ≡ changes t u → b ≡ false → one ≡ put_line out from (record_line kind a d)
+      → one ≡ put_lines out from (piece_lines kind t u a d)
+  unfolding piece_lines
+  put_unchanged e n f = rw (← e, n) (f ∙ sym (put_one out from (record_line kind a d)))
 
-pub piece-most : (t : Tally) (u n : ℕ) → n ≤ 32 → tallyPiece t u n .len ≤ t .len + 92
-unfolding tallyPiece
-piece-most t u n h = omega (arith, at-most (changes t u) refl)
+pub piece_most : (t : Tally) (u n : ℕ) → n ≤ 32 → (tally_piece t u n).len ≤ t.len + 92
+unfolding tally_piece
+piece_most t u n h = omega (arith, at_most (changes t u) refl)
 
 -- ---- pieces one after the other
 
 abbrev after : Tally → Store → Tally
-after t s = tallyPiece t (upperOf s) (length (s .bytes))
+after t s = tally_piece t (upper_of s) (length s.bytes)
 
-abbrev linesOne : ℕ → Tally → Store → List (List ℕ)
-linesOne kind t s = pieceLines kind t (upperOf s) (s .address % 65536) (s .bytes)
+abbrev lines_one : ℕ → Tally → Store → List (List ℕ)
+lines_one kind t s = piece_lines kind t (upper_of s) (s.address % 65536) s.bytes
 
 -- the rest, after the first
-pub put-rest : (out : List ℕ) (kind at : ℕ) (t : Tally) (s : Store) (ss : List Store)
-    → putLines (putLines out (at + t .len) (linesOne kind t s)) (at + after t s .len) (piecesLines kind (after t s) ss) ≡ putLines out (at + t .len) (piecesLines kind t (s ∷ ss))
-unfolding piecesLines
-put-rest out kind at t s ss =
-    let e : at + t .len + length (flatten (linesOne kind t s)) ≡ at + after t s .len = omega (arith, length-piece kind t (upperOf s) (s .address % 65536) (s .bytes)) in
-    rw (← e) (sym (put-append out (at + t .len) (linesOne kind t s) (piecesLines kind (after t s) ss)))
+pub put_rest : (out : List ℕ) (kind at : ℕ) (t : Tally) (s : Store) (ss : List Store)
+    → put_lines (put_lines out (at + t.len) (lines_one kind t s)) (at + (after t s).len) (pieces_lines kind (after t s) ss) ≡ put_lines out (at + t.len) (pieces_lines kind t (s ∷ ss))
+unfolding pieces_lines
+put_rest out kind at t s ss =
+    let e : at + t.len + length (flatten (lines_one kind t s)) ≡ at + (after t s).len = omega (arith, length_piece kind t (upper_of s) (s.address % 65536) s.bytes) in
+    rw (← e) (sym (put_append out (at + t.len) (lines_one kind t s) (pieces_lines kind (after t s) ss)))
 
 module _ (out : List ℕ) (kind at : ℕ) (t : Tally) where
   abbrev Puts : List Store → Tally → List ℕ → Type 0
-  Puts ss r o = (r ≡ tallyAll t ss) × (o ≡ putLines out (at + t .len) (piecesLines kind t ss))
+  Puts ss r o = (r ≡ tally_all t ss) × (o ≡ put_lines out (at + t.len) (pieces_lines kind t ss))
 
-  pub put-single : (s : Store) {r : Tally} {o : List ℕ} → r ≡ after t s → o ≡ putLines out (at + t .len) (linesOne kind t s) → Puts (s ∷ []) r o
-  unfolding tallyAll piecesLines
-  put-single s e f = (e, f ∙ ap (putLines out (at + t .len)) (sym (append-nil (linesOne kind t s))))
+  pub put_single : (s : Store) {r : Tally} {o : List ℕ} → r ≡ after t s → o ≡ put_lines out (at + t.len) (lines_one kind t s) → Puts (s ∷ []) r o
+  unfolding tally_all pieces_lines
+  put_single s e f = (e, f ∙ ap (put_lines out (at + t.len)) (sym (append-nil (lines_one kind t s))))
 
-  pub put-pair : (s v : Store) {q r : Tally} {m o : List ℕ} → q ≡ after t s → m ≡ putLines out (at + t .len) (linesOne kind t s)
-      → r ≡ after q v → o ≡ putLines m (at + q .len) (linesOne kind q v) → Puts (s ∷ v ∷ []) r o
-  unfolding tallyAll piecesLines
-  put-pair s v e f g h = (
+  pub put_pair : (s v : Store) {q r : Tally} {m o : List ℕ} → q ≡ after t s → m ≡ put_lines out (at + t.len) (lines_one kind t s)
+      → r ≡ after q v → o ≡ put_lines m (at + q.len) (lines_one kind q v) → Puts (s ∷ v ∷ []) r o
+  unfolding tally_all pieces_lines
+  put_pair s v e f g h = (
     g ∙ rw e refl,
     h
         ∙ rw (f, e)
-        (ap (putLines (putLines out (at + t .len) (linesOne kind t s)) (at + after t s .len)) (sym (append-nil (linesOne kind (after t s) v)))
-        ∙ put-rest out kind at t s (v ∷ [])),
+        (ap (put_lines (put_lines out (at + t.len) (lines_one kind t s)) (at + (after t s).len)) (sym (append-nil (lines_one kind (after t s) v)))
+        ∙ put_rest out kind at t s (v ∷ [])),
   )
 
   -- a record's data, whole or cut in two
-  pub put-whole : (a : ℕ) (d : List ℕ) {r : Tally} {o : List ℕ} → length d ≤ roomOf a → r ≡ after t (piece a d)
-      → o ≡ putLines out (at + t .len) (linesOne kind t (piece a d)) → Puts (splitOf (piece a d)) r o
-  unfolding splitOf
-  put-whole a d h e f = rw (le-ltb (roomOf a) (length d) h) (put-single (piece a d) e f)
+  pub put_whole : (a : ℕ) (d : List ℕ) {r : Tally} {o : List ℕ} → length d ≤ room_of a → r ≡ after t (piece a d)
+      → o ≡ put_lines out (at + t.len) (lines_one kind t (piece a d)) → Puts (split_of (piece a d)) r o
+  unfolding split_of
+  put_whole a d h e f = rw (le-ltb (room_of a) (length d) h) (put_single (piece a d) e f)
 
-  pub put-cut : (a : ℕ) (d : List ℕ) {q r : Tally} {m o : List ℕ} → roomOf a < length d → q ≡ after t (piece a (take (roomOf a) d))
-      → m ≡ putLines out (at + t .len) (linesOne kind t (piece a (take (roomOf a) d))) → r ≡ after q (piece (a + roomOf a) (drop (roomOf a) d))
-      → o ≡ putLines m (at + q .len) (linesOne kind q (piece (a + roomOf a) (drop (roomOf a) d))) → Puts (splitOf (piece a d)) r o
-  unfolding splitOf
-  put-cut a d h e f g k =
-      rw (lt-ltb (roomOf a) (length d) h) (put-pair (piece a (take (roomOf a) d)) (piece (a + roomOf a) (drop (roomOf a) d)) e f g k)
+  pub put_cut : (a : ℕ) (d : List ℕ) {q r : Tally} {m o : List ℕ} → room_of a < length d → q ≡ after t (piece a (take (room_of a) d))
+      → m ≡ put_lines out (at + t.len) (lines_one kind t (piece a (take (room_of a) d))) → r ≡ after q (piece (a + room_of a) (drop (room_of a) d))
+      → o ≡ put_lines m (at + q.len) (lines_one kind q (piece (a + room_of a) (drop (room_of a) d))) → Puts (split_of (piece a d)) r o
+  unfolding split_of
+  put_cut a d h e f g k =
+      rw (lt-ltb (room_of a) (length d) h) (put_pair (piece a (take (room_of a) d)) (piece (a + room_of a) (drop (room_of a) d)) e f g k)
 
   -- where the code lends the last part of the data by its length, at the beginning of the next 64 KiB
-  pub put-cut-by : (a : ℕ) (d : List ℕ) (e : List ℕ) {q r : Tally} {m o : List ℕ} → roomOf a < length d → e ≡ take (length d - roomOf a) (drop (roomOf a) d)
-      → q ≡ after t (piece a (take (roomOf a) d)) → m ≡ putLines out (at + t .len) (linesOne kind t (piece a (take (roomOf a) d)))
-      → r ≡ tallyPiece q (a / 65536 + 1) (length e) → o ≡ putLines m (at + q .len) (pieceLines kind q (a / 65536 + 1) 0 e) → Puts (splitOf (piece a d)) r o
-  put-cut-by a d e {q} {r} {m} {o} h w f g k p =
-      let same : e ≡ drop (roomOf a) d = w ∙ take-all (length d - roomOf a) (drop (roomOf a) d) (omega (arith, length-drop (roomOf a) d)) in
-      let upper : a / 65536 + 1 ≡ (a + roomOf a) / 65536 = omega arith in
-      let lower : 0 ≡ (a + roomOf a) % 65536 = omega arith in
-      put-cut a d h f g (k ∙ rw (same, upper) refl) (p ∙ rw (same, upper, lower) refl)
+  pub put_cut_by : (a : ℕ) (d : List ℕ) (e : List ℕ) {q r : Tally} {m o : List ℕ} → room_of a < length d → e ≡ take (length d - room_of a) (drop (room_of a) d)
+      → q ≡ after t (piece a (take (room_of a) d)) → m ≡ put_lines out (at + t.len) (lines_one kind t (piece a (take (room_of a) d)))
+      → r ≡ tally_piece q (a / 65536 + 1) (length e) → o ≡ put_lines m (at + q.len) (piece_lines kind q (a / 65536 + 1) 0 e) → Puts (split_of (piece a d)) r o
+  put_cut_by a d e {q} {r} {m} {o} h w f g k p =
+      let same : e ≡ drop (room_of a) d = w ∙ take_all (length d - room_of a) (drop (room_of a) d) (omega (arith, length-drop (room_of a) d)) in
+      let upper : a / 65536 + 1 ≡ (a + room_of a) / 65536 = omega arith in
+      let lower : 0 ≡ (a + room_of a) % 65536 = omega arith in
+      put_cut a d h f g (k ∙ rw (same, upper) refl) (p ∙ rw (same, upper, lower) refl)
 
 -- which of the two it is, by the code's test
-pub is-cut : (a : ℕ) {n : ℕ} {b : Bool} → b ≡ crosses a n → b ≡ true → roomOf a < n
-is-cut a {n} e y = ltb-true (roomOf a) n (sym e ∙ y)
+pub is_cut : (a : ℕ) {n : ℕ} {b : Bool} → b ≡ crosses a n → b ≡ true → room_of a < n
+is_cut a {n} e y = ltb-true (room_of a) n (sym e ∙ y)
 
-pub is-whole : (a : ℕ) {n : ℕ} {b : Bool} → b ≡ crosses a n → b ≡ false → n ≤ roomOf a
-is-whole a {n} e z = ltb-false (roomOf a) n (sym e ∙ z)
+pub is_whole : (a : ℕ) {n : ℕ} {b : Bool} → b ≡ crosses a n → b ≡ false → n ≤ room_of a
+is_whole a {n} e z = ltb-false (room_of a) n (sym e ∙ z)
 
 -- what put_data asks of put_piece at the second part
-pub second-fits : (t : Tally) (u : ℕ) (d : List ℕ) (r : ℕ) {q : Tally} → t .len ≤ 1000000000 → length d ≤ 32 → q ≡ tallyPiece t u (length (take r d))
-    → (q .len ≤ 1073741824) × (length (take (length d - r) (drop r d)) ≤ 32)
-second-fits t u d r h l e =
+pub second_fits : (t : Tally) (u : ℕ) (d : List ℕ) (r : ℕ) {q : Tally} → t.len ≤ 1000000000 → length d ≤ 32 → q ≡ tally_piece t u (length (take r d))
+    → (q.len ≤ 1073741824) × (length (take (length d - r) (drop r d)) ≤ 32)
+second_fits t u d r h l e =
     let n = length-take r d in (
-      rw e (omega (arith, piece-most t u (length (take r d)) (omega arith))),
+      rw e (omega (arith, piece_most t u (length (take r d)) (omega arith))),
       omega (arith, length-take (length d - r) (drop r d)),
     )
 
 -- ---- lists of pieces
 
-pub tally-append : (t : Tally) (xs ys : List Store) → tallyAll t (xs ++ ys) ≡ tallyAll (tallyAll t xs) ys
-unfolding tallyAll
-tally-append t [] ys = refl
-tally-append t (x ∷ xs) ys = tally-append (after t x) xs ys
+pub tally_append : (t : Tally) (xs ys : List Store) → tally_all t (xs ++ ys) ≡ tally_all (tally_all t xs) ys
+unfolding tally_all
+tally_append t [] ys = refl
+tally_append t (x ∷ xs) ys = tally_append (after t x) xs ys
 
-pub lines-append : (kind : ℕ) (t : Tally) (xs ys : List Store)
-    → piecesLines kind t (xs ++ ys) ≡ piecesLines kind t xs ++ piecesLines kind (tallyAll t xs) ys
-unfolding tallyAll piecesLines
-lines-append kind t [] ys = refl
-lines-append kind t (x ∷ xs) ys =
-    ap (λ (l : List (List ℕ)). linesOne kind t x ++ l) (lines-append kind (after t x) xs ys)
-    ∙ sym (append-assoc (linesOne kind t x) (piecesLines kind (after t x) xs) (piecesLines kind (tallyAll (after t x) xs) ys))
+pub lines_append : (kind : ℕ) (t : Tally) (xs ys : List Store)
+    → pieces_lines kind t (xs ++ ys) ≡ pieces_lines kind t xs ++ pieces_lines kind (tally_all t xs) ys
+unfolding tally_all pieces_lines
+lines_append kind t [] ys = refl
+lines_append kind t (x ∷ xs) ys =
+    ap (λ (l : List (List ℕ)). lines_one kind t x ++ l) (lines_append kind (after t x) xs ys)
+    ∙ sym (append_assoc (lines_one kind t x) (pieces_lines kind (after t x) xs) (pieces_lines kind (tally_all (after t x) xs) ys))
 
-pub length-pieces : (kind : ℕ) (t : Tally) (ss : List Store) → t .len + length (flatten (piecesLines kind t ss)) ≡ tallyAll t ss .len
-unfolding tallyAll piecesLines flatten
-length-pieces kind t [] = omega arith
-length-pieces kind t (s ∷ ss) =
+pub length_pieces : (kind : ℕ) (t : Tally) (ss : List Store) → t.len + length (flatten (pieces_lines kind t ss)) ≡ (tally_all t ss).len
+unfolding tally_all pieces_lines flatten
+length_pieces kind t [] = omega arith
+length_pieces kind t (s ∷ ss) =
     omega (
       arith,
-      length-flatten (linesOne kind t s) (piecesLines kind (after t s) ss),
-      length-piece kind t (upperOf s) (s .address % 65536) (s .bytes),
-      length-pieces kind (after t s) ss,
+      length_flatten (lines_one kind t s) (pieces_lines kind (after t s) ss),
+      length_piece kind t (upper_of s) (s.address % 65536) s.bytes,
+      length_pieces kind (after t s) ss,
     )
 
-pub put-more : (out : List ℕ) (kind at : ℕ) (t : Tally) (xs ys : List Store)
-    → putLines (putLines out (at + t .len) (piecesLines kind t xs)) (at + tallyAll t xs .len) (piecesLines kind (tallyAll t xs) ys)
-    ≡ putLines out (at + t .len) (piecesLines kind t (xs ++ ys))
-put-more out kind at t xs ys =
-    let e : at + t .len + length (flatten (piecesLines kind t xs)) ≡ at + tallyAll t xs .len = omega (arith, length-pieces kind t xs) in
-    rw (← e, lines-append kind t xs ys) (sym (put-append out (at + t .len) (piecesLines kind t xs) (piecesLines kind (tallyAll t xs) ys)))
+pub put_more : (out : List ℕ) (kind at : ℕ) (t : Tally) (xs ys : List Store)
+    → put_lines (put_lines out (at + t.len) (pieces_lines kind t xs)) (at + (tally_all t xs).len) (pieces_lines kind (tally_all t xs) ys)
+    ≡ put_lines out (at + t.len) (pieces_lines kind t (xs ++ ys))
+put_more out kind at t xs ys =
+    let e : at + t.len + length (flatten (pieces_lines kind t xs)) ≡ at + (tally_all t xs).len = omega (arith, length_pieces kind t xs) in
+    rw (← e, lines_append kind t xs ys) (sym (put_append out (at + t.len) (pieces_lines kind t xs) (pieces_lines kind (tally_all t xs) ys)))
 
-pub split-append : (xs ys : List Store) → splitAll (xs ++ ys) ≡ splitAll xs ++ splitAll ys
-unfolding splitAll
-split-append [] ys = refl
-split-append (x ∷ xs) ys =
-    ap (λ (l : List Store). splitOf x ++ l) (split-append xs ys) ∙ sym (append-assoc (splitOf x) (splitAll xs) (splitAll ys))
+pub split_append : (xs ys : List Store) → split_all (xs ++ ys) ≡ split_all xs ++ split_all ys
+unfolding split_all
+split_append [] ys = refl
+split_append (x ∷ xs) ys =
+    ap (λ (l : List Store). split_of x ++ l) (split_append xs ys) ∙ sym (append_assoc (split_of x) (split_all xs) (split_all ys))
 
 -- ---- what is kept of them all
 
-tally-some : (t : Tally) (ss : List Store) → t .some ≡ true → tallyAll t ss .some ≡ true
-unfolding tallyAll tallyPiece
-tally-some t [] e = e
-tally-some t (s ∷ ss) e = tally-some (after t s) ss refl
+tally_some : (t : Tally) (ss : List Store) → t.some ≡ true → (tally_all t ss).some ≡ true
+unfolding tally_all tally_piece
+tally_some t [] e = e
+tally_some t (s ∷ ss) e = tally_some (after t s) ss refl
 
-pub fresh-some : (ss : List Store) → tallyAll freshTally ss .some ≡ isSome ss
-unfolding tallyAll tallyPiece
-fresh-some [] = refl
-fresh-some (s ∷ ss) = tally-some (after freshTally s) ss refl
+pub fresh_some : (ss : List Store) → (tally_all fresh_tally ss).some ≡ is_some ss
+unfolding tally_all tally_piece
+fresh_some [] = refl
+fresh_some (s ∷ ss) = tally_some (after fresh_tally s) ss refl
 
-tally-first : (t : Tally) (ss : List Store) → t .some ≡ true → tallyAll t ss .first ≡ t .first
-unfolding tallyAll tallyPiece
-tally-first t [] e = refl
-tally-first t (s ∷ ss) e = tally-first (after t s) ss refl ∙ rw e refl
+tally_first : (t : Tally) (ss : List Store) → t.some ≡ true → (tally_all t ss).first ≡ t.first
+unfolding tally_all tally_piece
+tally_first t [] e = refl
+tally_first t (s ∷ ss) e = tally_first (after t s) ss refl ∙ rw e refl
 
-pub fresh-first : (ss : List Store) → tallyAll freshTally ss .first ≡ firstUpper ss
-unfolding tallyAll tallyPiece
-fresh-first [] = refl
-fresh-first (s ∷ ss) = tally-first (after freshTally s) ss refl
+pub fresh_first : (ss : List Store) → (tally_all fresh_tally ss).first ≡ first_upper ss
+unfolding tally_all tally_piece
+fresh_first [] = refl
+fresh_first (s ∷ ss) = tally_first (after fresh_tally s) ss refl
 
 -- a record with data is at least one piece
-pub split-some : (ss : List Store) → isSome (splitAll ss) ≡ isSome ss
-unfolding splitAll splitOf
-split-some [] = refl
-split-some (s ∷ ss) =
-    split (ltb (roomOf (s .address)) (length (s .bytes))) (λ y. rw y refl) (λ n. rw n refl)
+pub split_some : (ss : List Store) → is_some (split_all ss) ≡ is_some ss
+unfolding split_all split_of
+split_some [] = refl
+split_some (s ∷ ss) =
+    split (ltb (room_of s.address) (length s.bytes)) (λ y. rw y refl) (λ n. rw n refl)
 
 -- the lines after an 04 that holds u
-after-some : (t : Tally) (s : Store) → after t s .some ≡ true
-unfolding tallyPiece
-after-some t s = refl
+after_some : (t : Tally) (s : Store) → (after t s).some ≡ true
+unfolding tally_piece
+after_some t s = refl
 
-after-upper : (t : Tally) (s : Store) → after t s .upper ≡ upperOf s
-unfolding tallyPiece
-after-upper t s = refl
+after_upper : (t : Tally) (s : Store) → (after t s).upper ≡ upper_of s
+unfolding tally_piece
+after_upper t s = refl
 
-first-lines : (kind u : ℕ) (t : Tally) (s : Store) (ls : List (List ℕ)) → t .some ≡ true → t .upper ≡ u
-    → linesOne kind t s ++ ls ≡ upperIf u (upperOf s) (recordLine kind (s .address % 65536) (s .bytes) ∷ ls)
-unfolding pieceLines
-first-lines kind u t s ls e f = split (eqb u (upperOf s)) (λ y. rw (e, f, y)) (λ n. rw (e, f, n))
+first_lines : (kind u : ℕ) (t : Tally) (s : Store) (ls : List (List ℕ)) → t.some ≡ true → t.upper ≡ u
+    → lines_one kind t s ++ ls ≡ upper_if u (upper_of s) (record_line kind (s.address % 65536) s.bytes ∷ ls)
+unfolding piece_lines
+first_lines kind u t s ls e f = split (eqb u (upper_of s)) (λ y. rw (e, f, y)) (λ n. rw (e, f, n))
 
-body-lines : (kind u : ℕ) (t : Tally) (ss : List Store) → t .some ≡ true → t .upper ≡ u → piecesLines kind t ss ≡ bodyLines kind u ss
-unfolding piecesLines bodyLines
-body-lines kind u t [] e f = refl
-body-lines kind u t (s ∷ ss) e f =
-    ap (λ (l : List (List ℕ)). linesOne kind t s ++ l) (body-lines kind (upperOf s) (after t s) ss (after-some t s) (after-upper t s))
-    ∙ first-lines kind u t s (bodyLines kind (upperOf s) ss) e f
+body_lines_lem : (kind u : ℕ) (t : Tally) (ss : List Store) → t.some ≡ true → t.upper ≡ u → pieces_lines kind t ss ≡ body_lines kind u ss
+unfolding pieces_lines body_lines
+body_lines_lem kind u t [] e f = refl
+body_lines_lem kind u t (s ∷ ss) e f =
+    ap (λ (l : List (List ℕ)). lines_one kind t s ++ l) (body_lines_lem kind (upper_of s) (after t s) ss (after_some t s) (after_upper t s))
+    ∙ first_lines kind u t s (body_lines kind (upper_of s) ss) e f
 
-fresh-line : (kind : ℕ) (s : Store) (ls : List (List ℕ))
-    → linesOne kind freshTally s ++ ls ≡ upperIf (upperOf s) (upperOf s) (recordLine kind (s .address % 65536) (s .bytes) ∷ ls)
-unfolding pieceLines
-fresh-line kind s ls = rw (eqb-same (upperOf s))
+fresh_line : (kind : ℕ) (s : Store) (ls : List (List ℕ))
+    → lines_one kind fresh_tally s ++ ls ≡ upper_if (upper_of s) (upper_of s) (record_line kind (s.address % 65536) s.bytes ∷ ls)
+unfolding piece_lines
+fresh_line kind s ls = rw (eqb_same (upper_of s))
 
-pub fresh-lines : (kind : ℕ) (ss : List Store) → piecesLines kind freshTally ss ≡ bodyLines kind (firstUpper ss) ss
-unfolding piecesLines bodyLines
-fresh-lines kind [] = refl
-fresh-lines kind (s ∷ ss) =
-    ap (λ (l : List (List ℕ)). linesOne kind freshTally s ++ l) (body-lines kind (upperOf s) (after freshTally s) ss (after-some freshTally s) (after-upper freshTally s))
-    ∙ fresh-line kind s (bodyLines kind (upperOf s) ss)
+pub fresh_lines : (kind : ℕ) (ss : List Store) → pieces_lines kind fresh_tally ss ≡ body_lines kind (first_upper ss) ss
+unfolding pieces_lines body_lines
+fresh_lines kind [] = refl
+fresh_lines kind (s ∷ ss) =
+    ap (λ (l : List (List ℕ)). lines_one kind fresh_tally s ++ l) (body_lines_lem kind (upper_of s) (after fresh_tally s) ss (after_some fresh_tally s) (after_upper fresh_tally s))
+    ∙ fresh_line kind s (body_lines kind (upper_of s) ss)

@@ -1,26 +1,25 @@
 // The data of a plain Intel Hex file: read, split where the upper half of its address changes, counted, and written as lines.
-mod cuts;
+#![tactic(auto)]
 
-ghost use mathlib.Core.Path.{_≡_};
-ghost use mathlib.Core.Bool.{cond};
-ghost use Prim.Native.Nat.{_+_, _≤_};
-ghost use lib.ListN.{length};
-ghost use Rattle·ihex_write.specs.Put.{putLine, putLines};
-ghost use Rattle·ihex_record.specs.Write.{recordLine};
-ghost use Rattle·ihex_data·specs.specs.Pieces.{piece, splitOf, piecesOf};
-ghost use Rattle·ihex_data·specs.specs.Lines.{wordBytes, dataLines};
-ghost use Rattle·ihex_data·specs.specs.Tally.{tallyPiece, tallyAll, pieceLines, piecesLines};
-ghost use Rattle·ihex_data·specs.specs.Scan.{bodyOf, scan, linePieces, stepOf, stopOf, Walk};
-ghost use Rattle·ihex_data·specs.specs.declared.Step.the-variants.{On};
+pub mod cuts;
+
+ghost use Rattle.std.specs.Prelude.{◌≡◌, cond, ◌+◌, ◌≤◌, length};
+ghost use Rattle.ihex_write.specs.Put.{put_line, put_lines};
+ghost use Rattle.ihex_record.specs.Write.{record_line};
+ghost use Rattle.ihex_data.specs.Pieces.{piece, split_of, pieces_of};
+ghost use Rattle.ihex_data.specs.Lines.{word_bytes, data_lines};
+ghost use Rattle.ihex_data.specs.Tally.{tally_piece, tally_all, piece_lines, pieces_lines};
+ghost use Rattle.ihex_data.specs.Scan.{body_of, scan, line_pieces, step_of, stop_of, Walk};
+ghost use Rattle.ihex_data.specs.declared.Step.TheVariants.{On};
+
 use crate::cuts::Tally;
-use ihex_file::LineReading;
-use ihex_file::Plain;
-use ihex_file::Verdict;
+use ihex_file::{LineReading, Plain, Verdict};
 use ihex_record::Record;
 use uhex_grammar::Answer;
 
 // What a plain file comes to: whether it is fine, the upper half of its first data's address, and how many characters the lines of its data
 // have.
+#[derive(Clone, Copy)]
 pub struct Body {
     pub verdict: Verdict,
     pub first: usize,
@@ -28,12 +27,14 @@ pub struct Body {
 }
 
 // Where the reading of a plain file stands, and what is known of its pieces.
+#[derive(Clone, Copy)]
 struct Scan {
     plain: Plain,
     tally: Tally,
 }
 
 // What a line comes to: reading goes on, or the line is refused.
+#[derive(Clone, Copy)]
 enum Step {
     On(Scan),
     Stop(Answer),
@@ -41,15 +42,15 @@ enum Step {
 
 // A number by a test.
 fn pick(test: bool, a: usize, b: usize) -> usize
-    ensures { λ r. ⌜ r ≡ cond test a b ⌝ }
+    ensures { result ≡ cond test a b }
 {
     if test { a } else { b }
 }
 
 // One more piece, of n bytes: a record's line has 12 characters, and two for each byte of its data.
 fn with_piece(tally: Tally, upper: usize, n: usize) -> Tally
-    requires { ⌜ (tally .len ≤ 1073741824) × (n ≤ 32) ⌝ }
-    ensures { λ r. ⌜ r ≡ tallyPiece tally upper n ⌝ }
+    requires { (tally.len ≤ 1073741824) × (n ≤ 32) }
+    ensures { result ≡ tally_piece tally upper n }
 {
     let some = tally.some;
     let first = pick(some, tally.first, upper);
@@ -65,7 +66,7 @@ fn with_piece(tally: Tally, upper: usize, n: usize) -> Tally
 
 // A record of two bytes of data, with the address field 0.
 pub fn put_word(out: &mut [u8], at: usize, kind: u8, word: usize)
-    ensures { λ _. ⌜ now (out .exit) ≡ putLine (now (out .entry)) at (recordLine kind 0 (wordBytes word)) ⌝ }
+    ensures { out.new ≡ put_line out.old at (record_line kind 0 (word_bytes word)) }
 {
     let two = [(word / 256 % 256) as u8, (word % 256) as u8];
     ihex_write::put_record(out, at, kind, 0, &two);
@@ -81,9 +82,9 @@ fn put_piece(
     lower: u16,
     bytes: &[u8],
 ) -> Tally
-    requires { ⌜ (at ≤ 9223372036854775807) × (tally .len ≤ 1073741824) × (length (now bytes) ≤ 32) ⌝ }
-    ensures { λ r. ⌜ r ≡ tallyPiece tally upper (length (now (bytes .entry))) ⌝ }
-    ensures lines { λ _. ⌜ now (out .exit) ≡ putLines (now (out .entry)) (at + tally .len) (pieceLines kind tally upper lower (now (bytes .entry))) ⌝ }
+    requires { (at ≤ 9223372036854775807) × (tally.len ≤ 1073741824) × (length bytes.now ≤ 32) }
+    ensures value { result ≡ tally_piece tally upper (length bytes.now) }
+    ensures lines { out.new ≡ put_lines out.old (at + tally.len) (piece_lines kind tally upper lower bytes.now) }
 {
     let from = at + tally.len;
     let next = with_piece(tally, upper, bytes.len());
@@ -105,9 +106,9 @@ fn put_data(
     address: usize,
     bytes: &[u8],
 ) -> Tally
-    requires { ⌜ (at ≤ 9223372036854775807) × (tally .len ≤ 1000000000) × (length (now bytes) ≤ 32) ⌝ }
-    ensures { λ r. ⌜ r ≡ tallyAll tally (splitOf (piece address (now (bytes .entry)))) ⌝ }
-    ensures lines { λ _. ⌜ now (out .exit) ≡ putLines (now (out .entry)) (at + tally .len) (piecesLines kind tally (splitOf (piece address (now (bytes .entry))))) ⌝ }
+    requires { (at ≤ 9223372036854775807) × (tally.len ≤ 1000000000) × (length bytes.now ≤ 32) }
+    ensures value { result ≡ tally_all tally (split_of (piece address bytes.now)) }
+    ensures lines { out.new ≡ put_lines out.old (at + tally.len) (pieces_lines kind tally (split_of (piece address bytes.now))) }
 {
     let upper = address / Plain::REACH;
     let lower = (address % Plain::REACH) as u16;
@@ -129,9 +130,9 @@ fn put_taken(
     address: usize,
     bytes: &[u8],
 ) -> Step
-    requires { ⌜ (at ≤ 9223372036854775807) × (tally .len ≤ 1000000000) × (length (now bytes) ≤ 32) ⌝ }
-    ensures { λ r. ⌜ r ≡ On (scan next (tallyAll tally (splitOf (piece address (now (bytes .entry)))))) ⌝ }
-    ensures lines { λ _. ⌜ now (out .exit) ≡ putLines (now (out .entry)) (at + tally .len) (piecesLines kind tally (splitOf (piece address (now (bytes .entry))))) ⌝ }
+    requires { (at ≤ 9223372036854775807) × (tally.len ≤ 1000000000) × (length bytes.now ≤ 32) }
+    ensures value { result ≡ On (scan next (tally_all tally (split_of (piece address bytes.now)))) }
+    ensures lines { out.new ≡ put_lines out.old (at + tally.len) (pieces_lines kind tally (split_of (piece address bytes.now))) }
 {
     let kept = put_data(out, at, tally, kind, address, bytes);
     Step::On(Scan {
@@ -142,9 +143,9 @@ fn put_taken(
 
 // A line of a plain file.
 fn put_line(out: &mut [u8], at: usize, state: Scan, kind: u8, line: &[u8]) -> Step
-    requires { ⌜ (at ≤ 9223372036854775807) × (state .tally .len ≤ 1000000000) ⌝ }
-    ensures { λ r. ⌜ r ≡ stepOf state (now (line .entry)) ⌝ }
-    ensures lines { λ _. ⌜ now (out .exit) ≡ putLines (now (out .entry)) (at + state .tally .len) (piecesLines kind (state .tally) (linePieces (state .plain) (now (line .entry)))) ⌝ }
+    requires { (at ≤ 9223372036854775807) × (state.tally.len ≤ 1000000000) }
+    ensures value { result ≡ step_of state line.now }
+    ensures lines { out.new ≡ put_lines out.old (at + state.tally.len) (pieces_lines kind state.tally (line_pieces state.plain line.now)) }
 {
     let read = ihex_record::record_line::read(line);
     let data = read.data;
@@ -165,7 +166,7 @@ fn put_line(out: &mut [u8], at: usize, state: Scan, kind: u8, line: &[u8]) -> St
 
 // The answer of a line that is refused; nothing asks for it of another.
 fn answer_of(step: Step) -> Answer
-    ensures { λ r. ⌜ r ≡ stopOf step ⌝ }
+    ensures { result ≡ stop_of step }
 {
     match step {
         Step::On(_) => Answer::OutOfPlace,
@@ -175,8 +176,8 @@ fn answer_of(step: Step) -> Answer
 
 // A plain file, the lines of its data written from `at` on, for which the room may be too short.
 fn walk(out: &mut [u8], at: usize, kind: u8, text: &[u8]) -> Body
-    requires { ⌜ at ≤ 9223372036854775807 ⌝ }
-    ensures { λ r. ⌜ Walk (now (out .entry)) at kind (now (text .entry)) r (now (out .exit)) ⌝ }
+    requires { at ≤ 9223372036854775807 }
+    ensures { Walk out.old at kind text.now result out.new }
 {
     let mut state = Scan {
         plain: Plain::fresh(),
@@ -211,9 +212,9 @@ fn walk(out: &mut [u8], at: usize, kind: u8, text: &[u8]) -> Body
 // Reads a plain file and writes the lines of its data from `at` on. Where these do not fit they are counted and not written: reading a file
 // first and then writing its lines is this function twice.
 pub fn put_body(out: &mut [u8], at: usize, kind: u8, text: &[u8]) -> Body
-    ensures { λ r. ⌜ r ≡ bodyOf (now (text .entry)) ⌝ }
-    ensures most { λ r. ⌜ r .len ≤ 1000000000 ⌝ }
-    ensures lines { λ _. ⌜ now (out .exit) ≡ putLines (now (out .entry)) at (dataLines kind (piecesOf (now (text .entry)))) ⌝ }
+    ensures value { result ≡ body_of text.now }
+    ensures most { result.len ≤ 1000000000 }
+    ensures lines { out.new ≡ put_lines out.old at (data_lines kind (pieces_of text.now)) }
 {
     // past the end of the room one place is as good as another, and sums from this one do not wrap
     let from = pick(out.len() < at, out.len(), at);
@@ -222,8 +223,8 @@ pub fn put_body(out: &mut [u8], at: usize, kind: u8, text: &[u8]) -> Body
 
 // What a plain file comes to, with nothing written.
 pub fn scan_file(text: &[u8]) -> Body
-    ensures { λ r. ⌜ r ≡ bodyOf (now (text .entry)) ⌝ }
-    ensures most { λ r. ⌜ r .len ≤ 1000000000 ⌝ }
+    ensures value { result ≡ body_of text.now }
+    ensures most { result.len ≤ 1000000000 }
 {
     let mut none = [0u8; 1];
     put_body(&mut none, 0, Record::DATA, text)

@@ -1,36 +1,36 @@
 -- What a line that is taken leaves: the offset, by its length, and data of at most 32 bytes near the base. Assumes nothing.
-use Prim.Native.Nat.{ℕ, _+_, _≤_}
-use mathlib.Core.Path.{_≡_, refl}
+use Prim.Native.Nat.{ℕ, ◌+◌, ◌≤◌}
+use mathlib.Core.Path.{◌≡◌, refl}
 use mathlib.Core.Bool.{Bool, true, false, cond}
 use mathlib.Core.List.{List}
 use native.Mathlib.Omega.{arith}
 use lib.Dec.{eqb, ltb}
 use lib.ListN.{length}
 use borrow.Author.Tests.{ltb-false}
-use Rattle·laws.proofs.Tests.{clash}
-use Rattle·ihex_record.specs.Types.{dataType}
-use Rattle·ihex_record.specs.Record.{wordOf, onRecord, readOf}
-use Rattle·ihex_record.specs.declared.Record.{Record}
-use Rattle·ihex_record.specs.declared.ParseResult.{ParseResult}
-use Rattle·ihex_record.specs.declared.ParseResult.the-variants as parsed
-use Rattle·ihex_record.proofs.Good.{good-len}
-use Rattle·uhex_grammar.specs.Answers.{refusalOf}
-use Rattle·uhex_grammar.specs.declared.Answer.{Answer}
-use Rattle·ihex_file·specs.specs.declared.Plain.{Plain}
-use Rattle·ihex_file·specs.specs.declared.LineReading.{LineReading}
-use Rattle·ihex_file·specs.specs.declared.LineReading.the-variants.{Refused, Passed, Data}
-use Rattle·ihex_file·specs.specs.Line.{isEnd, isSegment, isLinear, isStart, plain, movedBy, dataTaken, recordTaken, fieldsTaken, lineTaken, takenOf}
-use Rattle·ihex_file·specs.specs.File.{goesOn, nextOf}
+use Rattle.laws.proofs.Tests.{clash}
+use Rattle.ihex_record.specs.Types.{data_type}
+use Rattle.ihex_record.specs.Record.{word_of, on_record, read_of}
+use Rattle.ihex_record.specs.declared.Record.{Record}
+use Rattle.ihex_record.specs.declared.ParseResult.{ParseResult}
+use Rattle.ihex_record.specs.declared.ParseResult.TheVariants as parsed
+use Rattle.ihex_record.proofs.Good.{good_len}
+use Rattle.uhex_grammar.specs.Answers.{refusal_of}
+use Rattle.uhex_grammar.specs.declared.Answer.{Answer}
+use Rattle.ihex_file.specs.declared.Plain.{Plain}
+use Rattle.ihex_file.specs.declared.LineReading.{LineReading}
+use Rattle.ihex_file.specs.declared.LineReading.TheVariants.{Refused, Passed, Data}
+use Rattle.ihex_file.specs.Line.{is_end, is_segment, is_linear, is_start, plain, moved_by, data_taken, record_taken, fields_taken, line_taken, taken_of}
+use Rattle.ihex_file.specs.File.{goes_on, next_of}
 
 -- the reading after a line of n bytes
 pub record Moved (p : Plain) (n : ℕ) (q : Plain) : Type 0 where
-  pub offset : q .offset ≡ p .offset + n
-  pub within : p .offset + n ≤ 4194304
+  pub offset : q.offset ≡ p.offset + n
+  pub within : p.offset + n ≤ 4194304
 
 -- data of n bytes at a
 pub record Near (p : Plain) (a n : ℕ) : Type 0 where
   pub few : n ≤ 32
-  pub near : a + n ≤ p .base + 65536
+  pub near : a + n ≤ p.base + 65536
 
 -- of a line that is taken
 data Sound (p : Plain) (n : ℕ) : LineReading → Type 0 where
@@ -42,60 +42,60 @@ either : {p : Plain} {n : ℕ} (b : Bool) {x y : LineReading} → (b ≡ true �
 either true f g = f refl
 either false f g = g refl
 
-module _ (p : Plain) (n : ℕ) (fits : p .offset + n ≤ 4194304) where
-  moved : (base : ℕ) (b : Bool) → Moved p n (plain (p .offset + n) base b)
+module _ (p : Plain) (n : ℕ) (fits : p.offset + n ≤ 4194304) where
+  moved : (base : ℕ) (b : Bool) → Moved p n (plain (p.offset + n) base b)
   moved base b = record { offset = refl; within = fits }
 
-  sound-data : (address len : ℕ) → len ≤ 32 → Sound p n (dataTaken (movedBy p n) address len)
-  unfolding dataTaken
-  sound-data address len few =
+  sound_data : (address len : ℕ) → len ≤ 32 → Sound p n (data_taken (moved_by p n) address len)
+  unfolding data_taken
+  sound_data address len few =
       either (ltb 65536 (address + len)) (λ y. refused)
       (λ z.
       either (eqb len 0) (λ y. passed (moved _ _))
       (λ w. given (moved _ _) (record { few = few; near = omega (arith, ltb-false 65536 (address + len) z) })))
 
-  sound-record : (word kind address len : ℕ) → len ≤ 32 → Sound p n (recordTaken (movedBy p n) kind address len word)
-  unfolding recordTaken
-  sound-record word kind address len few =
-      either (eqb kind dataType) (λ y. sound-data address len few)
+  sound_record : (word kind address len : ℕ) → len ≤ 32 → Sound p n (record_taken (moved_by p n) kind address len word)
+  unfolding record_taken
+  sound_record word kind address len few =
+      either (eqb kind data_type) (λ y. sound_data address len few)
       (λ a.
-      either (isEnd kind len) (λ y. passed (moved _ _))
+      either (is_end kind len) (λ y. passed (moved _ _))
       (λ b.
-      either (isSegment kind len) (λ y. passed (moved _ _))
+      either (is_segment kind len) (λ y. passed (moved _ _))
       (λ c.
-      either (isLinear kind len) (λ y. passed (moved _ _))
-      (λ d. either (isStart kind len) (λ y. passed (moved _ _)) (λ e. refused)))))
+      either (is_linear kind len) (λ y. passed (moved _ _))
+      (λ d. either (is_start kind len) (λ y. passed (moved _ _)) (λ e. refused)))))
 
-sound-parsed : (p : Plain) (n w : ℕ) (x : ParseResult) → p .offset + n ≤ 4194304 → ((rec : Record) → x ≡ parsed.Good rec → rec .len ≤ 32)
-    → Sound p n (onRecord (Refused (refusalOf x)) (fieldsTaken (movedBy p n) w) x)
-sound-parsed p n w (parsed.Good rec) h f = sound-record p n h w (rec .kind) (rec .address) (rec .len) (f rec refl)
-sound-parsed p n w parsed.NoColon h f = refused
-sound-parsed p n w parsed.BadShape h f = refused
-sound-parsed p n w (parsed.BadDigit k) h f = refused
-sound-parsed p n w parsed.TooLong h f = refused
-sound-parsed p n w parsed.BadLength h f = refused
-sound-parsed p n w parsed.BadSum h f = refused
+sound_parsed : (p : Plain) (n w : ℕ) (x : ParseResult) → p.offset + n ≤ 4194304 → ((rec : Record) → x ≡ parsed.Good rec → rec.len ≤ 32)
+    → Sound p n (on_record (Refused (refusal_of x)) (fields_taken (moved_by p n) w) x)
+sound_parsed p n w (parsed.Good rec) h f = sound_record p n h w rec.kind rec.address rec.len (f rec refl)
+sound_parsed p n w parsed.NoColon h f = refused
+sound_parsed p n w parsed.BadShape h f = refused
+sound_parsed p n w (parsed.BadDigit k) h f = refused
+sound_parsed p n w parsed.TooLong h f = refused
+sound_parsed p n w parsed.BadLength h f = refused
+sound_parsed p n w parsed.BadSum h f = refused
 
-sound : (p : Plain) (l : List ℕ) → Sound p (length l) (takenOf p l)
-unfolding takenOf lineTaken
+sound : (p : Plain) (l : List ℕ) → Sound p (length l) (taken_of p l)
+unfolding taken_of line_taken
 sound p l =
-    let x = readOf l .parsed in
-    let w = wordOf (readOf l .«data») in
-    either (p .ended) (λ y. refused)
+    let x = (read_of l).parsed in
+    let w = word_of (read_of l).«data» in
+    either p.ended (λ y. refused)
     (λ z.
-    either (ltb 4194304 (p .offset + length l)) (λ y. refused)
-    (λ k. sound-parsed p (length l) w x (ltb-false 4194304 (p .offset + length l) k) (λ rec e. good-len l rec e)))
+    either (ltb 4194304 (p.offset + length l)) (λ y. refused)
+    (λ k. sound_parsed p (length l) w x (ltb-false 4194304 (p.offset + length l) k) (λ rec e. good_len l rec e)))
 
-moved-by : {p : Plain} {n : ℕ} {t : LineReading} → Sound p n t → goesOn t ≡ true → Moved p n (nextOf p t)
-moved-by refused e = clash false e refl
-moved-by (passed m) e = m
-moved-by (given m k) e = m
+moved_by_lem : {p : Plain} {n : ℕ} {t : LineReading} → Sound p n t → goes_on t ≡ true → Moved p n (next_of p t)
+moved_by_lem refused e = clash false e refl
+moved_by_lem (passed m) e = m
+moved_by_lem (given m k) e = m
 
-near-by : {p : Plain} {n : ℕ} {q : Plain} {a k : ℕ} → Sound p n (Data q a k) → Near p a k
-near-by (given m k) = k
+near_by : {p : Plain} {n : ℕ} {q : Plain} {a k : ℕ} → Sound p n (Data q a k) → Near p a k
+near_by (given m k) = k
 
-pub taken-moves : (p : Plain) (l : List ℕ) → goesOn (takenOf p l) ≡ true → Moved p (length l) (nextOf p (takenOf p l))
-taken-moves p l e = moved-by (sound p l) e
+pub taken_moves : (p : Plain) (l : List ℕ) → goes_on (taken_of p l) ≡ true → Moved p (length l) (next_of p (taken_of p l))
+taken_moves p l e = moved_by_lem (sound p l) e
 
-pub data-near : (p : Plain) (l : List ℕ) (q : Plain) (a n : ℕ) → takenOf p l ≡ Data q a n → Near p a n
-data-near p l q a n e = near-by (rw e at (sound p l))
+pub data_near : (p : Plain) (l : List ℕ) (q : Plain) (a n : ℕ) → taken_of p l ≡ Data q a n → Near p a n
+data_near p l q a n e = near_by (rw e at (sound p l))

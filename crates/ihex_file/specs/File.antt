@@ -1,89 +1,86 @@
 -- A plain Intel Hex file: its data, and the refusal of its first bad line (02, L11). Assumes nothing.
-use Prim.Native.Nat.{ℕ, suc}
-use mathlib.Core.Bool.{Bool, true, false, cond}
-use mathlib.Core.List.{List, [], _∷_, _++_}
-use lib.ListN.{length, take}
-use Rattle·laws.specs.Stores.{Store}
-use Rattle·ihex_file·specs.specs.Lines.{linesOf}
-use Rattle·ihex_record.specs.Record.{readOf}
-use Rattle·uhex_grammar.specs.Answers.{numberOf}
-use Rattle·uhex_grammar.specs.declared.Answer.{Answer}
-use Rattle·uhex_grammar.specs.declared.Answer.the-variants.{OutOfPlace, MissingBoard}
-use Rattle·ihex_file·specs.specs.declared.Plain.{Plain}
-use Rattle·ihex_file·specs.specs.declared.LineReading.{LineReading}
-use Rattle·ihex_file·specs.specs.declared.LineReading.the-variants.{Refused, Passed, Data}
-use Rattle·ihex_file·specs.specs.declared.Verdict.{Verdict}
-use Rattle·ihex_file·specs.specs.declared.Verdict.the-variants.{Fine, Bad}
-use Rattle·ihex_file·specs.specs.Line.{freshPlain, takenOf}
+use Rattle.std.specs.Prelude.{ℕ, suc, Bool, true, false, cond, List, [], ◌∷◌, ◌++◌, length, take}
+use Rattle.laws.specs.Stores.{Store}
+use Rattle.ihex_file.specs.Lines.{lines_of}
+use Rattle.ihex_record.specs.Record.{read_of}
+use Rattle.uhex_grammar.specs.Answers.{number_of}
+use Rattle.uhex_grammar.specs.declared.Answer.{Answer}
+use Rattle.uhex_grammar.specs.declared.Answer.TheVariants.{OutOfPlace, MissingBoard}
+use Rattle.ihex_file.specs.declared.Plain.{Plain}
+use Rattle.ihex_file.specs.declared.LineReading.{LineReading}
+use Rattle.ihex_file.specs.declared.LineReading.TheVariants.{Refused, Passed, Data}
+use Rattle.ihex_file.specs.declared.Verdict.{Verdict}
+use Rattle.ihex_file.specs.declared.Verdict.TheVariants.{Fine, Bad}
+use Rattle.ihex_file.specs.Line.{fresh_plain, taken_of}
 
 -- ---- a line that is taken, or refused
 
-abbrev pub goesOn : LineReading → Bool
-goesOn (Refused a) = false
-goesOn (Passed q) = true
-goesOn (Data q a n) = true
+abbrev pub goes_on : LineReading → Bool
+goes_on (Refused a) = false
+goes_on (Passed q) = true
+goes_on (Data q a n) = true
 
 -- the reading after it; a refused line leaves p
-abbrev pub nextOf : Plain → LineReading → Plain
-nextOf p (Refused a) = p
-nextOf p (Passed q) = q
-nextOf p (Data q a n) = q
+abbrev pub next_of : Plain → LineReading → Plain
+next_of p (Refused a) = p
+next_of p (Passed q) = q
+next_of p (Data q a n) = q
 
 -- a refused line's answer; of another line nothing asks for it
-abbrev pub badOf : LineReading → Answer
-badOf (Refused a) = a
-badOf (Passed q) = OutOfPlace
-badOf (Data q a n) = OutOfPlace
+abbrev pub bad_of : LineReading → Answer
+bad_of (Refused a) = a
+bad_of (Passed q) = OutOfPlace
+bad_of (Data q a n) = OutOfPlace
 
 -- the data record that a line says
-abbrev pub givesOf : List ℕ → LineReading → List Store
-givesOf l (Refused a) = []
-givesOf l (Passed q) = []
-givesOf l (Data q a n) = record { address = a; bytes = take n (readOf l .«data») } ∷ []
+abbrev pub gives_of : List ℕ → LineReading → List Store
+gives_of l (Refused a) = []
+gives_of l (Passed q) = []
+gives_of l (Data q a n) = record { address = a; bytes = take n (read_of l).«data» } ∷ []
 
 -- ---- the data: "Non-empty data records keep their order and bytes"
 
 -- of the lines before the first bad one
-unfoldable pub recordsFrom : Plain → List (List ℕ) → List Store
-recordsFrom p [] = []
-recordsFrom p (l ∷ ls) =
-    cond (goesOn (takenOf p l)) (givesOf l (takenOf p l) ++ recordsFrom (nextOf p (takenOf p l)) ls) []
+unfoldable pub records_from : Plain → List (List ℕ) → List Store
+records_from p [] = []
+records_from p (l ∷ ls) =
+    cond (goes_on (taken_of p l)) (gives_of l (taken_of p l) ++ records_from (next_of p (taken_of p l)) ls) []
 
 -- of a text
-unfoldable pub recordsOf : List ℕ → List Store
-recordsOf s = recordsFrom freshPlain (linesOf s)
+unfoldable pub records_of : List ℕ → List Store
+records_of s = records_from fresh_plain (lines_of s)
 
 -- ---- the refusal
 
 -- 01's number of a refusal; a file that is fine has none, and 0 stands for it
-abbrev pub verdictNumber : Verdict → ℕ
-verdictNumber Fine = 0
-verdictNumber (Bad k a) = numberOf a
+abbrev pub verdict_number : Verdict → ℕ
+verdict_number Fine = 0
+verdict_number (Bad k a) = number_of a
 
 -- "at the first bad line", of lines of which the first has the index k; past the last one "no 01 at the end" is 26, at the number of lines
-unfoldable pub linesVerdict : Plain → ℕ → List (List ℕ) → Verdict
-linesVerdict p k [] = cond (p .ended) Fine (Bad k OutOfPlace)
-linesVerdict p k (l ∷ ls) =
-    cond (goesOn (takenOf p l)) (linesVerdict (nextOf p (takenOf p l)) (suc k) ls) (Bad k (badOf (takenOf p l)))
+unfoldable pub lines_verdict : Plain → ℕ → List (List ℕ) → Verdict
+lines_verdict p k [] = cond p.ended Fine (Bad k OutOfPlace)
+lines_verdict p k (l ∷ ls) =
+    cond (goes_on (taken_of p l)) (lines_verdict (next_of p (taken_of p l)) (suc k) ls) (Bad k (bad_of (taken_of p l)))
 
 -- there is data
-abbrev pub isSome : List Store → Bool
-isSome [] = false
-isSome (s ∷ ss) = true
+abbrev pub is_some : List Store → Bool
+is_some [] = false
+is_some (s ∷ ss) = true
 
 -- "then 30 for no data byte", at the number of lines
-abbrev pub dataVerdict : ℕ → Bool → Verdict
-dataVerdict n some = cond some Fine (Bad n MissingBoard)
+abbrev pub data_verdict : ℕ → Bool → Verdict
+data_verdict n some = cond some Fine (Bad n MissingBoard)
 
 -- the one, then the other
-abbrev pub thenVerdict : Verdict → Verdict → Verdict
-thenVerdict Fine v = v
-thenVerdict (Bad k a) v = Bad k a
+abbrev pub then_verdict : Verdict → Verdict → Verdict
+then_verdict Fine v = v
+then_verdict (Bad k a) v = Bad k a
 
 -- of a text
-unfoldable pub verdictOf : List ℕ → Verdict
-verdictOf s = thenVerdict (linesVerdict freshPlain 0 (linesOf s)) (dataVerdict (length (linesOf s)) (isSome (recordsOf s)))
+unfoldable pub verdict_of : List ℕ → Verdict
+verdict_of s = then_verdict (lines_verdict fresh_plain 0 (lines_of s)) (data_verdict (length (lines_of s)) (is_some (records_of s)))
 
 -- the same where the lines are read, n of them: they gave some data byte or none
-unfoldable pub closeOf : Plain → ℕ → Bool → Verdict
-closeOf p n some = thenVerdict (linesVerdict p n []) (dataVerdict n some)
+unfoldable pub close_of : Plain → ℕ → Bool → Verdict
+close_of p n some = then_verdict (lines_verdict p n []) (data_verdict n some)

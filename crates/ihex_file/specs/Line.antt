@@ -1,37 +1,33 @@
 -- One line of a plain Intel Hex file (02, L11): "Read plain Intel Hex (types 00 to 05)". Assumes nothing.
-use Prim.Native.Nat.{ℕ, _+_, _*_}
-use mathlib.Core.Bool.{Bool, true, false, cond, _&&_, _||_}
-use mathlib.Core.List.{List}
-use lib.Dec.{eqb, ltb}
-use lib.ListN.{length}
-use Rattle·ihex_record.specs.Types.{dataType, endOfFile, extendedLinear}
-use Rattle·ihex_record.specs.Record.{wordOf, onRecord, readOf}
-use Rattle·ihex_record.specs.declared.Record.{Record}
-use Rattle·ihex_record.specs.declared.ParseResult.{ParseResult}
-use Rattle·uhex_grammar.specs.Answers.{numberOf, refusalOf}
-use Rattle·uhex_grammar.specs.declared.Answer.the-variants.{OutOfPlace, Crosses, AfterEnd, FileTooLong}
-use Rattle·ihex_file·specs.specs.declared.Plain.{Plain}
-use Rattle·ihex_file·specs.specs.declared.LineReading.{LineReading}
-use Rattle·ihex_file·specs.specs.declared.LineReading.the-variants.{Refused, Passed, Data}
+use Rattle.std.specs.Prelude.{ℕ, ◌+◌, ◌*◌, Bool, true, false, cond, ◌&&◌, ◌||◌, List, eqb, ltb, length}
+use Rattle.ihex_record.specs.Types.{data_type, end_of_file, extended_linear}
+use Rattle.ihex_record.specs.Record.{word_of, on_record, read_of}
+use Rattle.ihex_record.specs.declared.Record.{Record}
+use Rattle.ihex_record.specs.declared.ParseResult.{ParseResult}
+use Rattle.uhex_grammar.specs.Answers.{number_of, refusal_of}
+use Rattle.uhex_grammar.specs.declared.Answer.TheVariants.{OutOfPlace, Crosses, AfterEnd, FileTooLong}
+use Rattle.ihex_file.specs.declared.Plain.{Plain}
+use Rattle.ihex_file.specs.declared.LineReading.{LineReading}
+use Rattle.ihex_file.specs.declared.LineReading.TheVariants.{Refused, Passed, Data}
 
 -- ---- the types that only plain Intel Hex has, and how many data bytes each record has: "02 carries 2 bytes, 03 and 05 four"; 01: "04
 -- carries 2 bytes, 01 none"
 
 -- 01, end of file
-abbrev pub isEnd : ℕ → ℕ → Bool
-isEnd kind len = eqb kind endOfFile && eqb len 0
+abbrev pub is_end : ℕ → ℕ → Bool
+is_end kind len = eqb kind end_of_file && eqb len 0
 
 -- 02, extended segment address
-abbrev pub isSegment : ℕ → ℕ → Bool
-isSegment kind len = eqb kind 2 && eqb len 2
+abbrev pub is_segment : ℕ → ℕ → Bool
+is_segment kind len = eqb kind 2 && eqb len 2
 
 -- 04, extended linear address
-abbrev pub isLinear : ℕ → ℕ → Bool
-isLinear kind len = eqb kind extendedLinear && eqb len 2
+abbrev pub is_linear : ℕ → ℕ → Bool
+is_linear kind len = eqb kind extended_linear && eqb len 2
 
 -- 03 and 05, start segment address and start linear address
-abbrev pub isStart : ℕ → ℕ → Bool
-isStart kind len = (eqb kind 3 || eqb kind 5) && eqb len 4
+abbrev pub is_start : ℕ → ℕ → Bool
+is_start kind len = (eqb kind 3 || eqb kind 5) && eqb len 4
 
 -- ---- where the reading stands
 
@@ -40,58 +36,58 @@ abbrev pub plain : ℕ → ℕ → Bool → Plain
 plain offset base ended = record { offset = offset; base = base; ended = ended }
 
 -- before the first line
-abbrev pub freshPlain : Plain
-freshPlain = plain 0 0 false
+abbrev pub fresh_plain : Plain
+fresh_plain = plain 0 0 false
 
 -- past a line of n bytes
-abbrev pub movedBy : Plain → ℕ → Plain
-movedBy p n = plain (p .offset + n) (p .base) (p .ended)
+abbrev pub moved_by : Plain → ℕ → Plain
+moved_by p n = plain (p.offset + n) p.base p.ended
 
 -- "the latest 02 or 04 ruling"
-abbrev pub withBase : Plain → ℕ → Plain
-withBase p base = plain (p .offset) base (p .ended)
+abbrev pub with_base : Plain → ℕ → Plain
+with_base p base = plain p.offset base p.ended
 
 -- past the 01
-abbrev pub withEnd : Plain → Plain
-withEnd p = plain (p .offset) (p .base) true
+abbrev pub with_end : Plain → Plain
+with_end p = plain p.offset p.base true
 
 -- ---- a record
 
 -- a 00, by its address field and its length: row 29, "address field + length over 65,536"; an empty one gives nothing; other data is at the
 -- latest 02's or 04's address, plus the address field
-unfoldable pub dataTaken : Plain → ℕ → ℕ → LineReading
-dataTaken p address len =
-    cond (ltb 65536 (address + len)) (Refused Crosses) (cond (eqb len 0) (Passed p) (Data p (p .base + address) len))
+unfoldable pub data_taken : Plain → ℕ → ℕ → LineReading
+data_taken p address len =
+    cond (ltb 65536 (address + len)) (Refused Crosses) (cond (eqb len 0) (Passed p) (Data p (p.base + address) len))
 
 -- a record, by its type, address field and length, and its first two data bytes as a number, high first: an 02's times 16, an 04's times
 -- 65,536; "start records dropped"; row 26 for "type, length"
-unfoldable pub recordTaken : Plain → ℕ → ℕ → ℕ → ℕ → LineReading
-recordTaken p kind address len word =
-    cond (eqb kind dataType) (dataTaken p address len)
-    (cond (isEnd kind len) (Passed (withEnd p))
-    (cond (isSegment kind len) (Passed (withBase p (16 * word)))
-    (cond (isLinear kind len) (Passed (withBase p (65536 * word)))
-    (cond (isStart kind len) (Passed p) (Refused OutOfPlace)))))
+unfoldable pub record_taken : Plain → ℕ → ℕ → ℕ → ℕ → LineReading
+record_taken p kind address len word =
+    cond (eqb kind data_type) (data_taken p address len)
+    (cond (is_end kind len) (Passed (with_end p))
+    (cond (is_segment kind len) (Passed (with_base p (16 * word)))
+    (cond (is_linear kind len) (Passed (with_base p (65536 * word)))
+    (cond (is_start kind len) (Passed p) (Refused OutOfPlace)))))
 
 -- the same, of a record that a line says
-abbrev pub fieldsTaken : Plain → ℕ → Record → LineReading
-fieldsTaken p word rec = recordTaken p (rec .kind) (rec .address) (rec .len) word
+abbrev pub fields_taken : Plain → ℕ → Record → LineReading
+fields_taken p word rec = record_taken p rec.kind rec.address rec.len word
 
 -- ---- a line: "at the first bad line 31, 36, 20 to 26 .. or 29"
 
 -- 01's number of a refusal; a line that is taken has none, and 0 stands for it
-abbrev pub takenNumber : LineReading → ℕ
-takenNumber (Refused a) = numberOf a
-takenNumber (Passed p) = 0
-takenNumber (Data p a n) = 0
+abbrev pub taken_number : LineReading → ℕ
+taken_number (Refused a) = number_of a
+taken_number (Passed p) = 0
+taken_number (Data p a n) = 0
 
 -- of n bytes, by what its text says
-unfoldable pub lineTaken : Plain → ℕ → ParseResult → ℕ → LineReading
-lineTaken p n parsed word =
-    cond (p .ended) (Refused AfterEnd)
-    (cond (ltb 4194304 (p .offset + n)) (Refused FileTooLong)
-    (onRecord (Refused (refusalOf parsed)) (fieldsTaken (movedBy p n) word) parsed))
+unfoldable pub line_taken : Plain → ℕ → ParseResult → ℕ → LineReading
+line_taken p n parsed word =
+    cond p.ended (Refused AfterEnd)
+    (cond (ltb 4194304 (p.offset + n)) (Refused FileTooLong)
+    (on_record (Refused (refusal_of parsed)) (fields_taken (moved_by p n) word) parsed))
 
 -- as it is handed, its ending included
-unfoldable pub takenOf : Plain → List ℕ → LineReading
-takenOf p l = lineTaken p (length l) (readOf l .parsed) (wordOf (readOf l .«data»))
+unfoldable pub taken_of : Plain → List ℕ → LineReading
+taken_of p l = line_taken p (length l) (read_of l).parsed (word_of (read_of l).«data»)

@@ -1,17 +1,21 @@
 // A plain Intel Hex file, a line at a time: where its reading stands, and its end. What a line is, of types 00 to 05 or refused, is a definition
 // here.
+#![tactic(auto)]
+
 pub mod line;
 pub mod lines;
-mod records;
+pub mod records;
 
-ghost use mathlib.Core.Path.{_≡_};
-ghost use Rattle·laws.specs.Numbered.{numbered};
-ghost use Rattle·ihex_file·specs.specs.File.{verdictNumber, closeOf};
-ghost use Rattle·ihex_file·specs.specs.Line.{freshPlain, withBase, withEnd};
+ghost use Rattle.std.specs.Prelude.{◌≡◌};
+ghost use Rattle.laws.specs.Numbered.{numbered};
+ghost use Rattle.ihex_file.specs.File.{verdict_number, close_of};
+ghost use Rattle.ihex_file.specs.Line.{fresh_plain, with_base, with_end};
+
 use uhex_grammar::Answer;
 
 // Where the reading of a plain file stands: the bytes read so far, the address that the latest 02 or 04 gives, and whether the 01 has been
 // read.
+#[derive(Clone, Copy)]
 pub struct Plain {
     pub offset: u32,
     pub base: u32,
@@ -19,6 +23,7 @@ pub struct Plain {
 }
 
 // What a line of a plain file is: refused; a record with no data byte; or data, at a linear address, and how many bytes.
+#[derive(Clone, Copy)]
 pub enum LineReading {
     Refused(Answer),
     Passed(Plain),
@@ -26,6 +31,7 @@ pub enum LineReading {
 }
 
 // Whether a plain file is fine, or at which line, by its index from 0, it is refused, and with which answer.
+#[derive(Clone, Copy)]
 pub enum Verdict {
     Fine,
     Bad(u32, Answer),
@@ -39,7 +45,7 @@ impl Plain {
     pub const REACH: usize = 65536;
 
     pub fn fresh() -> Plain
-        ensures { λ r. ⌜ r ≡ freshPlain ⌝ }
+        ensures { result ≡ fresh_plain }
     {
         Plain {
             offset: 0,
@@ -49,14 +55,14 @@ impl Plain {
     }
 
     pub fn with_base(mut self, base: u32) -> Plain
-        ensures { λ r. ⌜ r ≡ withBase self base ⌝ }
+        ensures { result ≡ with_base self base }
     {
         self.base = base;
         self
     }
 
     pub fn with_end(mut self) -> Plain
-        ensures { λ r. ⌜ r ≡ withEnd self ⌝ }
+        ensures { result ≡ with_end self }
     {
         self.ended = true;
         self
@@ -64,7 +70,7 @@ impl Plain {
 
     // At the end of a file of so many lines, which gave some data byte or none.
     pub fn close(self, lines: u32, some: bool) -> Verdict
-        ensures { λ r. ⌜ numbered verdictNumber r ≡ numbered verdictNumber (closeOf self lines some) ⌝ }
+        ensures { numbered verdict_number result ≡ numbered verdict_number (close_of self lines some) }
     {
         if self.ended {
             if some {

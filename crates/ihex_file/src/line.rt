@@ -1,16 +1,15 @@
 // A line of a plain Intel Hex file: refused, or its record.
-ghost use mathlib.Core.Path.{_≡_};
-ghost use Prim.Native.Nat.{_+_, _≤_};
-ghost use Rattle·laws.specs.Numbered.{numbered};
-ghost use Rattle·ihex_file·specs.specs.Line.{movedBy, takenNumber, lineTaken};
-use crate::LineReading;
-use crate::Plain;
+ghost use Rattle.std.specs.Prelude.{◌≡◌, ◌+◌, ◌≤◌};
+ghost use Rattle.laws.specs.Numbered.{numbered};
+ghost use Rattle.ihex_file.specs.Line.{moved_by, taken_number, line_taken};
+
+use crate::{LineReading, Plain};
 use ihex_record::ParseResult;
 use uhex_grammar::Answer;
 
 fn moved_by(plain: Plain, n: u32) -> Plain
-    requires { ⌜ plain .offset + n ≤ 4194304 ⌝ }
-    ensures { λ r. ⌜ r ≡ movedBy plain n ⌝ }
+    requires { plain.offset + n ≤ 4194304 }
+    ensures { result ≡ moved_by plain n }
 {
     Plain {
         offset: plain.offset + n,
@@ -21,7 +20,7 @@ fn moved_by(plain: Plain, n: u32) -> Plain
 
 // A line of n bytes, by what its text says, and a record's first two data bytes as a number.
 pub fn line(plain: Plain, n: usize, parsed: ParseResult, word: u16) -> LineReading
-    ensures { λ r. ⌜ numbered takenNumber r ≡ numbered takenNumber (lineTaken plain n parsed word) ⌝ }
+    ensures { numbered taken_number result ≡ numbered taken_number (line_taken plain n parsed word) }
 {
     if plain.ended {
         return LineReading::Refused(Answer::AfterEnd);

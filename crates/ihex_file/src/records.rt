@@ -1,9 +1,9 @@
 // A record of a plain Intel Hex file, of types 00 to 05: data, an address, a start, the end, or out of place.
-ghost use mathlib.Core.Path.{_≡_};
-ghost use Rattle·laws.specs.Numbered.{numbered};
-ghost use Rattle·ihex_file·specs.specs.Line.{takenNumber, dataTaken, recordTaken};
-use crate::LineReading;
-use crate::Plain;
+ghost use Rattle.std.specs.Prelude.{◌≡◌};
+ghost use Rattle.laws.specs.Numbered.{numbered};
+ghost use Rattle.ihex_file.specs.Line.{taken_number, data_taken, record_taken};
+
+use crate::{LineReading, Plain};
 use ihex_record::Record;
 use uhex_grammar::Answer;
 
@@ -16,7 +16,7 @@ const START_LINEAR: u8 = 5;
 
 // A 00.
 fn data(plain: Plain, address: u16, len: u8) -> LineReading
-    ensures { λ r. ⌜ r ≡ dataTaken plain address len ⌝ }
+    ensures { result ≡ data_taken plain address len }
 {
     if Plain::REACH < address as usize + len as usize {
         return LineReading::Refused(Answer::Crosses);
@@ -28,8 +28,8 @@ fn data(plain: Plain, address: u16, len: u8) -> LineReading
 }
 
 // A record, its first two data bytes as a number.
-pub(crate) fn record(plain: Plain, kind: u8, address: u16, len: u8, word: u16) -> LineReading
-    ensures { λ r. ⌜ numbered takenNumber r ≡ numbered takenNumber (recordTaken plain kind address len word) ⌝ }
+pub fn record(plain: Plain, kind: u8, address: u16, len: u8, word: u16) -> LineReading
+    ensures { numbered taken_number result ≡ numbered taken_number (record_taken plain kind address len word) }
 {
     if kind == Record::DATA {
         return data(plain, address, len);

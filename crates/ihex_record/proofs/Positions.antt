@@ -1,88 +1,80 @@
 -- The position of a bad digit: within 1 to 520, the first that is none. Assumes nothing.
-use Prim.Native.Nat.{ℕ, _+_, _-_, _≤_, _<_}
-use mathlib.Core.Path.{_≡_, refl, sym, ap, _∙_}
-use mathlib.Core.Bool.{Bool, true, false, not, cond}
-use mathlib.Core.List.{List}
-use native.Mathlib.Omega.{arith}
-use lib.Dec.{ltb}
-use lib.ListN.{length, getD, drop, length-drop}
-use lib.Seq.{getD-drop}
-use borrow.Author.Tests.{ltb-true, ltb-false}
-use Rattle·laws.proofs.Tests.{split, clash}
-use Rattle·ihex_record·specs.specs.declared.Line.{Line}
-use Rattle·ihex_record·specs.specs.declared.ParseResult.{ParseResult}
-use Rattle·ihex_record·specs.specs.declared.ParseResult.the-variants.{NoColon, BadShape, BadDigit, TooLong, BadLength, BadSum}
-use Rattle·ihex_record·specs.specs.Record.{textOf, isDigit, allDigits, firstBad, bytesOf, lenOf, noColon, badShape, badLength, badSum, refused, lineOfBytes, lineOfText, readOf, parsedNumber}
-use Rattle·ihex_record·proofs.proofs.Checks.{shaped}
-use Rattle·hex_digits.proofs.FirstBad.{bad-all, bad-is, bad-first}
+use Rattle.std.proofs.Common.{◌≡◌, ℕ, ◌+◌, ◌-◌, ◌<◌, ◌≤◌, Bool, true, false, cond, ltb, List, length, get_or, drop, sym, refl, ap, ◌∙◌, arith, length-drop, get_or-drop, ltb-false, ltb-true}
+use Rattle.laws.proofs.Tests.{split, clash}
+use Rattle.ihex_record.specs.declared.Line.{Line}
+use Rattle.ihex_record.specs.declared.ParseResult.{ParseResult}
+use Rattle.ihex_record.specs.declared.ParseResult.TheVariants.{NoColon, BadShape, BadDigit}
+use Rattle.ihex_record.specs.Record.{text_of, is_digit, all_digits, first_bad, bytes_of, len_of, no_colon, bad_shape, bad_length, bad_sum, refused, line_of_bytes, line_of_text, read_of, parsed_number}
+use Rattle.ihex_record.proofs.Checks.{shaped}
+use Rattle.hex_digits.proofs.FirstBad.{bad_all, bad_is, bad_first}
 
 -- a row that a line with this number has passed
-other-row : (b : Bool) (q : ParseResult) (x : Line) (p : ℕ) → (parsedNumber q ≡ 22 → ⊥) → cond b (refused q) x .parsed ≡ BadDigit p
-    → (b ≡ false) × (x .parsed ≡ BadDigit p)
-other-row true q x p h e = absurd (h (ap parsedNumber e))
-other-row false q x p h e = (refl, e)
+other_row : (b : Bool) (q : ParseResult) (x : Line) (p : ℕ) → (parsed_number q ≡ 22 → ⊥) → (cond b (refused q) x).parsed ≡ BadDigit p
+    → (b ≡ false) × (x.parsed ≡ BadDigit p)
+other_row true q x p h e = absurd (h (ap parsed_number e))
+other_row false q x p h e = (refl, e)
 
-no-digits : (n : ℕ) (b : List ℕ) → parsedNumber (lineOfBytes n b .parsed) ≡ 22 → ⊥
-unfolding lineOfBytes
-no-digits n b e =
-    split (ltb 32 (lenOf b))
-    (λ y. let k : _≡_ {A = ℕ} 23 22 = rw y at e in omega arith)
+no_digits : (n : ℕ) (b : List ℕ) → parsed_number (line_of_bytes n b).parsed ≡ 22 → ⊥
+unfolding line_of_bytes
+no_digits n b e =
+    split (ltb 32 (len_of b))
+    (λ y. let k : ◌≡◌ {A = ℕ} 23 22 = rw y at e in omega arith)
     (λ a.
-    split (badLength n b)
-    (λ y. let k : _≡_ {A = ℕ} 24 22 = rw (a, y) at e in omega arith)
+    split (bad_length n b)
+    (λ y. let k : ◌≡◌ {A = ℕ} 24 22 = rw (a, y) at e in omega arith)
     (λ c.
-    split (badSum b)
-    (λ y. let k : _≡_ {A = ℕ} 25 22 = rw (a, c, y) at e in omega arith)
-    (λ z. let k : _≡_ {A = ℕ} 0 22 = rw (a, c, z) at e in omega arith)))
+    split (bad_sum b)
+    (λ y. let k : ◌≡◌ {A = ℕ} 25 22 = rw (a, c, y) at e in omega arith)
+    (λ z. let k : ◌≡◌ {A = ℕ} 0 22 = rw (a, c, z) at e in omega arith)))
 
 -- what is known of a text that is refused for its digits
 pub record BadAt (t : List ℕ) (p : ℕ) : Type 0 where
-  pub shape : badShape (length t) ≡ false
-  pub some : allDigits (drop 1 t) ≡ false
-  pub place : p ≡ 1 + firstBad (drop 1 t)
+  pub shape : bad_shape (length t) ≡ false
+  pub some : all_digits (drop 1 t) ≡ false
+  pub place : p ≡ 1 + first_bad (drop 1 t)
 
-pub bad-at : (t : List ℕ) (p : ℕ) → lineOfText t .parsed ≡ BadDigit p → BadAt t p
-unfolding lineOfText
-bad-at t p e =
-    let k = other-row (noColon t) NoColon _ p (λ q. omega arith) e in
-    let s = other-row (badShape (length t)) BadShape _ p (λ q. omega arith) (k .1) in
-    split (allDigits (drop 1 t))
+pub bad_at : (t : List ℕ) (p : ℕ) → (line_of_text t).parsed ≡ BadDigit p → BadAt t p
+unfolding line_of_text
+bad_at t p e =
+    let k = other_row (no_colon t) NoColon _ p (λ q. omega arith) e in
+    let s = other_row (bad_shape (length t)) BadShape _ p (λ q. omega arith) k.1 in
+    split (all_digits (drop 1 t))
     (λ y.
-    let f : lineOfBytes (length t) (bytesOf (drop 1 t)) .parsed ≡ BadDigit p = rw y at (s .1) in
-    absurd (no-digits (length t) (bytesOf (drop 1 t)) (ap parsedNumber f)))
+    let f : (line_of_bytes (length t) (bytes_of (drop 1 t))).parsed ≡ BadDigit p = rw y at s.1 in
+    absurd (no_digits (length t) (bytes_of (drop 1 t)) (ap parsed_number f)))
     (λ z.
-    let f : BadDigit (1 + firstBad (drop 1 t)) ≡ BadDigit p = rw z at (s .1) in
-    record { shape = s .0; some = z; place = cc })
+    let f : BadDigit (1 + first_bad (drop 1 t)) ≡ BadDigit p = rw z at s.1 in
+    record { shape = s.0; some = z; place = cc })
 
-module _ (l : List ℕ) (p : ℕ) (e : readOf l .parsed ≡ BadDigit p) where
+module _ (l : List ℕ) (p : ℕ) (e : (read_of l).parsed ≡ BadDigit p) where
   abbrev text : List ℕ
-  text = textOf l
+  text = text_of l
 
   at : BadAt text p
-  unfolding readOf
-  at = bad-at text p e
+  unfolding read_of
+  at = bad_at text p e
 
-  below : firstBad (drop 1 text) < length (drop 1 text)
+  below : first_bad (drop 1 text) < length (drop 1 text)
   below =
-      split (ltb (firstBad (drop 1 text)) (length (drop 1 text)))
-      (λ y. ltb-true (firstBad (drop 1 text)) (length (drop 1 text)) y)
+      split (ltb (first_bad (drop 1 text)) (length (drop 1 text)))
+      (λ y. ltb-true (first_bad (drop 1 text)) (length (drop 1 text)) y)
       (λ z.
-      let full : length (drop 1 text) ≤ firstBad (drop 1 text) = ltb-false (firstBad (drop 1 text)) (length (drop 1 text)) z in
-      clash (allDigits (drop 1 text)) (bad-all (drop 1 text) full) (at .some))
+      let full : length (drop 1 text) ≤ first_bad (drop 1 text) = ltb-false (first_bad (drop 1 text)) (length (drop 1 text)) z in
+      clash (all_digits (drop 1 text)) (bad_all (drop 1 text) full) at.some)
 
-  pub bad-position : (1 ≤ p) × (p ≤ 520)
-  bad-position =
-      let most = shaped (length text) (at .shape) .most in
-      (omega (arith, at .place), omega (arith, at .place, below, length-drop 1 text))
+  pub bad_position_lem : (1 ≤ p) × (p ≤ 520)
+  bad_position_lem =
+      let most = (shaped (length text) at.shape).most in
+      (omega (arith, at.place), omega (arith, at.place, below, length-drop 1 text))
 
-  pub bad-inside : p < length text
-  bad-inside = omega (arith, at .place, below, length-drop 1 text, shaped (length text) (at .shape) .least)
+  pub bad_inside : p < length text
+  bad_inside = omega (arith, at.place, below, length-drop 1 text, (shaped (length text) at.shape).least)
 
-  pub bad-there : isDigit (getD text p 0) ≡ false
-  bad-there =
-      rw (at .place) (ap (λ (c : ℕ). isDigit c) (sym (getD-drop 1 text (firstBad (drop 1 text)) 0)) ∙ bad-is (drop 1 text) below)
+  pub bad_there : is_digit (get_or text p 0) ≡ false
+  bad_there =
+      rw at.place (ap (λ (c : ℕ). is_digit c) (sym (get_or-drop 1 text (first_bad (drop 1 text)) 0)) ∙ bad_is (drop 1 text) below)
 
-  pub good-before : (i : ℕ) → 1 ≤ i → i < p → isDigit (getD text i 0) ≡ true
-  good-before i h k =
+  pub good_before : (i : ℕ) → 1 ≤ i → i < p → is_digit (get_or text i 0) ≡ true
+  good_before i h k =
       let n : i ≡ 1 + (i - 1) = omega arith in
-      rw n (ap (λ (c : ℕ). isDigit c) (sym (getD-drop 1 text (i - 1) 0)) ∙ bad-first (drop 1 text) (i - 1) (omega (arith, at .place)))
+      rw n (ap (λ (c : ℕ). is_digit c) (sym (get_or-drop 1 text (i - 1) 0)) ∙ bad_first (drop 1 text) (i - 1) (omega (arith, at.place)))

@@ -1,78 +1,73 @@
 -- One line of Intel Hex, by the bytes of its text (01, "Universal Hex, a line at a time", rows 20 to 25). Assumes nothing.
-use Prim.Native.Nat.{ℕ, _+_, _-_, _*_, _%_}
-use mathlib.Core.Path.{_≡_}
-use mathlib.Core.Bool.{Bool, _&&_, _||_, not, cond}
-use mathlib.Core.List.{List, [], _∷_}
-use lib.Dec.{ltb, leb, eqb}
-use lib.ListN.{length, getD, take, drop}
-use Rattle·laws.specs.Tab.{tab}
-pub use Rattle·hex_digits.specs.Digits.{isDigit, allDigits, firstBad, bytesOf}
-unfoldable pub use Rattle·hex_digits.specs.Digits.{digitOf, allBy, firstBy, bytesBy}
-use Rattle·ihex_record·specs.specs.declared.Record.{Record}
-use Rattle·ihex_record·specs.specs.declared.ParseResult.{ParseResult}
-use Rattle·ihex_record·specs.specs.declared.Line.{Line}
-use Rattle·ihex_record·specs.specs.declared.ParseResult.the-variants.{Good, NoColon, BadShape, BadDigit, TooLong, BadLength, BadSum}
+use Rattle.std.specs.Prelude.{ℕ, ◌+◌, ◌-◌, ◌*◌, ◌%◌, Bool, cond, not, ◌&&◌, ◌||◌, List, [], ◌∷◌, length, take, drop, ◌==◌, nat_lt, slice_index}
+use Rattle.laws.specs.Tab.{tab}
+pub use Rattle.hex_digits.specs.Digits.{is_digit, all_digits, first_bad, bytes_of}
+unfoldable pub use Rattle.hex_digits.specs.Digits.{digit_of, all_by, first_by, bytes_by}
+use Rattle.ihex_record.specs.declared.Record.{Record}
+use Rattle.ihex_record.specs.declared.ParseResult.{ParseResult}
+use Rattle.ihex_record.specs.declared.Line.{Line}
+use Rattle.ihex_record.specs.declared.ParseResult.TheVariants.{Good, NoColon, BadShape, BadDigit, TooLong, BadLength, BadSum}
 
 -- ---- "one LF, then one CR before it, is dropped"
 
 -- the first n characters of a line end in c
-abbrev pub endsIn : ℕ → List ℕ → ℕ → Bool
-endsIn c l n = ltb 0 n && eqb (getD l (n - 1) 0) c
+abbrev pub ends_in : ℕ → List ℕ → ℕ → Bool
+ends_in c l n = nat_lt 0 n && slice_index l (n - 1) == c
 
 -- how many characters are left
-unfoldable pub textLen : List ℕ → ℕ
-textLen l =
-    cond (endsIn 10 l (length l))
-    (cond (endsIn 13 l (length l - 1)) (length l - 2) (length l - 1))
+unfoldable pub text_len : List ℕ → ℕ
+text_len l =
+    cond (ends_in 10 l (length l))
+    (cond (ends_in 13 l (length l - 1)) (length l - 2) (length l - 1))
     (length l)
 
 -- and those characters
-unfoldable pub textOf : List ℕ → List ℕ
-textOf l = take (textLen l) l
+unfoldable pub text_of : List ℕ → List ℕ
+text_of l = take (text_len l) l
 
 -- ---- the fields of a record, by its bytes: length, address (two, high first), type, data, checksum
 
 -- "the length field"
-abbrev pub lenOf : List ℕ → ℕ
-lenOf b = getD b 0 0
+abbrev pub len_of : List ℕ → ℕ
+len_of b = slice_index b 0
 
 -- as many data bytes as the length field says
-abbrev pub dataOf : List ℕ → List ℕ
-dataOf b = take (lenOf b) (drop 4 b)
+abbrev pub data_of : List ℕ → List ℕ
+data_of b = take (len_of b) (drop 4 b)
 
 -- 32 bytes: those of d, and 0 past its end
 unfoldable pub data32 : List ℕ → List ℕ
-data32 d = tab 32 (λ i. getD d i 0)
+data32 d = tab 32 (λ i. slice_index d i)
 
 -- two bytes as a number, high first
-abbrev pub wordFrom : ℕ → ℕ → ℕ
-wordFrom high low = 256 * high + low
+abbrev pub word_from : ℕ → ℕ → ℕ
+word_from high low = 256 * high + low
 
 -- the first two of a record's data bytes, high first
-abbrev pub wordOf : List ℕ → ℕ
-wordOf d = wordFrom (getD d 0 0) (getD d 1 0)
+abbrev pub word_of : List ℕ → ℕ
+word_of d = word_from (slice_index d 0) (slice_index d 1)
 
 -- type, address field and length field
-abbrev pub recordOf : List ℕ → Record
-recordOf b = record { kind = getD b 3 0; address = wordFrom (getD b 1 0) (getD b 2 0); len = lenOf b }
+abbrev pub record_of : List ℕ → Record
+record_of b = record { kind = slice_index b 3; address = word_from (slice_index b 1) (slice_index b 2); len = len_of b }
 
 -- a good record with its data, and a refusal, which has none
 abbrev pub good : List ℕ → Line
-good b = record { parsed = Good (recordOf b); «data» = data32 (dataOf b) }
+good b = record { parsed = Good (record_of b); «data» = data32 (data_of b) }
 
 -- of a line that says no record
 abbrev pub refused : ParseResult → Line
 refused p = record { parsed = p; «data» = data32 [] }
 
 -- what f makes of the record that a line says, and d where it says none
-abbrev pub onRecord : {A : Type 0} → A → (Record → A) → ParseResult → A
-onRecord d f (Good rec) = f rec
-onRecord d f NoColon = d
-onRecord d f BadShape = d
-onRecord d f (BadDigit p) = d
-onRecord d f TooLong = d
-onRecord d f BadLength = d
-onRecord d f BadSum = d
+abbrev pub on_record : {A : Type 0} → A → (Record → A) → ParseResult → A
+on_record d f (Good rec) = f rec
+on_record d f NoColon = d
+on_record d f BadShape = d
+on_record d f (BadDigit p) = d
+on_record d f TooLong = d
+on_record d f BadLength = d
+on_record d f BadSum = d
 
 -- the sum of bytes; row 25 keeps it to eight bits, which is its remainder by 256
 unfoldable pub total : List ℕ → ℕ
@@ -82,73 +77,73 @@ total (b ∷ l) = b + total l
 -- ---- the rows, of a line's text
 
 -- row 20: "empty or not beginning with ':'"
-abbrev pub noColon : List ℕ → Bool
-noColon t = eqb (length t) 0 || not (eqb (getD t 0 0) 58)
+abbrev pub no_colon : List ℕ → Bool
+no_colon t = length t == 0 || not (slice_index t 0 == 58)
 
 -- row 21: "under 11, over 521 or an even number of characters"
-abbrev pub badShape : ℕ → Bool
-badShape n = ltb n 11 || ltb 521 n || eqb (n % 2) 0
+abbrev pub bad_shape : ℕ → Bool
+bad_shape n = nat_lt n 11 || nat_lt 521 n || n % 2 == 0
 
 -- row 24: "characters aren't 11 + 2 x the length field"
-abbrev pub badLength : ℕ → List ℕ → Bool
-badLength n b = not (eqb n (11 + 2 * lenOf b))
+abbrev pub bad_length : ℕ → List ℕ → Bool
+bad_length n b = not (n == 11 + 2 * len_of b)
 
 -- row 25: "the sum of all its bytes, kept to eight bits, is not zero"
-abbrev pub badSum : List ℕ → Bool
-badSum b = not (eqb (total b % 256) 0)
+abbrev pub bad_sum : List ℕ → Bool
+bad_sum b = not (total b % 256 == 0)
 
 -- rows 23 to 25, of n characters that say the bytes b; row 23: "the length field is over 32"
-unfoldable pub lineOfBytes : ℕ → List ℕ → Line
-lineOfBytes n b =
-    cond (ltb 32 (lenOf b)) (refused TooLong)
-    (cond (badLength n b) (refused BadLength)
-    (cond (badSum b) (refused BadSum) (good b)))
+unfoldable pub line_of_bytes : ℕ → List ℕ → Line
+line_of_bytes n b =
+    cond (nat_lt 32 (len_of b)) (refused TooLong)
+    (cond (bad_length n b) (refused BadLength)
+    (cond (bad_sum b) (refused BadSum) (good b)))
 
 -- rows 20 to 25, of a text; row 22: a character after the colon is no digit, with "the position of the first bad character, counted from 0 at
 -- the colon" (02)
-unfoldable pub lineOfText : List ℕ → Line
-lineOfText t =
-    cond (noColon t) (refused NoColon)
-    (cond (badShape (length t)) (refused BadShape)
-    (cond (not (allDigits (drop 1 t))) (refused (BadDigit (1 + firstBad (drop 1 t)))) (lineOfBytes (length t) (bytesOf (drop 1 t)))))
+unfoldable pub line_of_text : List ℕ → Line
+line_of_text t =
+    cond (no_colon t) (refused NoColon)
+    (cond (bad_shape (length t)) (refused BadShape)
+    (cond (not (all_digits (drop 1 t))) (refused (BadDigit (1 + first_bad (drop 1 t)))) (line_of_bytes (length t) (bytes_of (drop 1 t)))))
 
 -- a line as it is handed, its ending included
-unfoldable pub readOf : List ℕ → Line
-readOf l = lineOfText (textOf l)
+unfoldable pub read_of : List ℕ → Line
+read_of l = line_of_text (text_of l)
 
 -- ---- 01's numbers of the refusals; a good record has none, and 0 stands for it
-abbrev pub parsedNumber : ParseResult → ℕ
-parsedNumber NoColon = 20
-parsedNumber BadShape = 21
-parsedNumber (BadDigit p) = 22
-parsedNumber TooLong = 23
-parsedNumber BadLength = 24
-parsedNumber BadSum = 25
-parsedNumber (Good r) = 0
+abbrev pub parsed_number : ParseResult → ℕ
+parsed_number NoColon = 20
+parsed_number BadShape = 21
+parsed_number (BadDigit p) = 22
+parsed_number TooLong = 23
+parsed_number BadLength = 24
+parsed_number BadSum = 25
+parsed_number (Good r) = 0
 
 -- and the value of the one that has one: the position of the first bad character; 0 stands for none
-abbrev pub parsedPosition : ParseResult → ℕ
-parsedPosition NoColon = 0
-parsedPosition BadShape = 0
-parsedPosition (BadDigit p) = p
-parsedPosition TooLong = 0
-parsedPosition BadLength = 0
-parsedPosition BadSum = 0
-parsedPosition (Good r) = 0
+abbrev pub parsed_position : ParseResult → ℕ
+parsed_position NoColon = 0
+parsed_position BadShape = 0
+parsed_position (BadDigit p) = p
+parsed_position TooLong = 0
+parsed_position BadLength = 0
+parsed_position BadSum = 0
+parsed_position (Good r) = 0
 
 -- ---- and the rows by these numbers: the first that a line fails, or 0 for a good record
 
 -- rows 23 to 25, of n characters that say the bytes b
-unfoldable pub bytesRow : ℕ → List ℕ → ℕ
-bytesRow n b = cond (ltb 32 (lenOf b)) 23 (cond (badLength n b) 24 (cond (badSum b) 25 0))
+unfoldable pub bytes_row : ℕ → List ℕ → ℕ
+bytes_row n b = cond (nat_lt 32 (len_of b)) 23 (cond (bad_length n b) 24 (cond (bad_sum b) 25 0))
 
 -- rows 20 to 25, of a text
-unfoldable pub textRow : List ℕ → ℕ
-textRow t =
-    cond (noColon t) 20
-    (cond (badShape (length t)) 21
-    (cond (not (allDigits (drop 1 t))) 22 (bytesRow (length t) (bytesOf (drop 1 t)))))
+unfoldable pub text_row : List ℕ → ℕ
+text_row t =
+    cond (no_colon t) 20
+    (cond (bad_shape (length t)) 21
+    (cond (not (all_digits (drop 1 t))) 22 (bytes_row (length t) (bytes_of (drop 1 t)))))
 
 -- of a line as it is handed
-unfoldable pub rowOf : List ℕ → ℕ
-rowOf l = textRow (textOf l)
+unfoldable pub row_of : List ℕ → ℕ
+row_of l = text_row (text_of l)

@@ -1,35 +1,35 @@
 -- The types of a record: those of Intel Hex that a file has, and those that 002 adds ("Universal Hex New Record Types"). 01 writes them as
 -- two hex digits. Assumes nothing.
-use Prim.Native.Nat.{ℕ}
+use Rattle.std.specs.Prelude.{ℕ}
 
 -- 00, a data record
-abbrev pub dataType : ℕ
-dataType = 0
+abbrev pub data_type : ℕ
+data_type = 0
 
 -- 01, end of file
-abbrev pub endOfFile : ℕ
-endOfFile = 1
+abbrev pub end_of_file : ℕ
+end_of_file = 1
 
 -- 04, extended linear address
-abbrev pub extendedLinear : ℕ
-extendedLinear = 4
+abbrev pub extended_linear : ℕ
+extended_linear = 4
 
 -- 0A, block start: names the board of a section
-abbrev pub blockStart : ℕ
-blockStart = 10
+abbrev pub block_start : ℕ
+block_start = 10
 
 -- 0B, block end: ends a section
-abbrev pub blockEnd : ℕ
-blockEnd = 11
+abbrev pub block_end : ℕ
+block_end = 11
 
 -- 0C, padded data: fills a section up
-abbrev pub paddedData : ℕ
-paddedData = 12
+abbrev pub padded_data : ℕ
+padded_data = 12
 
 -- 0D, custom data: data of a board other than V1
-abbrev pub customData : ℕ
-customData = 13
+abbrev pub custom_data : ℕ
+custom_data = 13
 
 -- 0E, other data: for other tools
-abbrev pub otherData : ℕ
-otherData = 14
+abbrev pub other_data : ℕ
+other_data = 14

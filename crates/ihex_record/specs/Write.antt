@@ -1,38 +1,33 @@
 -- The text of a record, and the claim that it reads back as that record. Assumes nothing.
-use Prim.Native.Nat.{ℕ, _+_, _-_, _/_, _%_, _≤_, _<_}
-use mathlib.Core.Path.{_≡_}
-use mathlib.Core.Bool.{cond}
-use mathlib.Core.List.{List, [], _∷_, _++_}
-use lib.Dec.{ltb}
-use lib.ListN.{length, getD}
-use Rattle·ihex_record·specs.specs.Record.{data32, total, readOf}
-use Rattle·ihex_record·specs.specs.declared.ParseResult.the-variants.{Good}
+use Rattle.std.specs.Prelude.{◌≡◌, ℕ, ◌+◌, ◌-◌, ◌/◌, ◌%◌, ◌<◌, ◌≤◌, cond, List, [], ◌∷◌, ◌++◌, length, nat_lt, slice_index}
+use Rattle.ihex_record.specs.Record.{data32, total, read_of}
+use Rattle.ihex_record.specs.declared.ParseResult.TheVariants.{Good}
 
 -- the upper-case digit of a number below 16
-abbrev pub digitText : ℕ → ℕ
-digitText n = cond (ltb n 10) (48 + n) (55 + n)
+abbrev pub digit_text : ℕ → ℕ
+digit_text n = cond (nat_lt n 10) (48 + n) (55 + n)
 
 -- two digits a byte, high first
-unfoldable pub bytesText : List ℕ → List ℕ
-bytesText [] = []
-bytesText (b ∷ l) = digitText (b / 16) ∷ digitText (b % 16) ∷ bytesText l
+unfoldable pub bytes_text : List ℕ → List ℕ
+bytes_text [] = []
+bytes_text (b ∷ l) = digit_text (b / 16) ∷ digit_text (b % 16) ∷ bytes_text l
 
 -- the bytes of a record before its checksum: length, address, type, data
-abbrev pub fieldBytes : ℕ → ℕ → List ℕ → List ℕ
-fieldBytes kind address d = length d ∷ address / 256 ∷ address % 256 ∷ kind ∷ d
+abbrev pub field_bytes : ℕ → ℕ → List ℕ → List ℕ
+field_bytes kind address d = length d ∷ address / 256 ∷ address % 256 ∷ kind ∷ d
 
 -- the byte that makes the sum of all a multiple of 256
 abbrev pub checksum : List ℕ → ℕ
 checksum b = (256 - total b % 256) % 256
 
 -- the text of a record, without an ending
-unfoldable pub recordText : ℕ → ℕ → List ℕ → List ℕ
-recordText kind address d =
-    58 ∷ bytesText (fieldBytes kind address d ++ (checksum (fieldBytes kind address d) ∷ []))
+unfoldable pub record_text : ℕ → ℕ → List ℕ → List ℕ
+record_text kind address d =
+    58 ∷ bytes_text (field_bytes kind address d ++ (checksum (field_bytes kind address d) ∷ []))
 
 -- and the line of a record, ended by LF
-unfoldable pub recordLine : ℕ → ℕ → List ℕ → List ℕ
-recordLine kind address d = recordText kind address d ++ (10 ∷ [])
+unfoldable pub record_line : ℕ → ℕ → List ℕ → List ℕ
+record_line kind address d = record_text kind address d ++ (10 ∷ [])
 
 -- a line's endings
 pub data Ending : List ℕ → Type 0 where
@@ -42,11 +37,11 @@ pub data Ending : List ℕ → Type 0 where
 
 -- every element is a byte
 abbrev pub Bytes : List ℕ → Type 0
-Bytes d = (i : ℕ) → i < length d → getD d i 0 < 256
+Bytes d = (i : ℕ) → i < length d → slice_index d i < 256
 
 -- a record of at most 32 bytes, written and ended in any of the three ways, is read as that record
-abbrev pub Reads-back : Type 0
-Reads-back =
+abbrev pub ReadsBack : Type 0
+ReadsBack =
     (kind address : ℕ) (d e : List ℕ) → kind < 256 → address < 65536 → length d ≤ 32 → Bytes d → Ending e →
-    readOf (recordText kind address d ++ e)
+    read_of (record_text kind address d ++ e)
     ≡ record { parsed = Good (record { kind = kind; address = address; len = length d }); «data» = data32 d }

@@ -1,13 +1,14 @@
 // One line of Intel Hex: a record, or the check that it fails; the length of its text, a sum, a word, and the line of a refusal.
-mod record_bytes;
+#![tactic(auto)]
+
+pub mod record_bytes;
 pub mod record_line;
 
-ghost use mathlib.Core.Path.{_≡_};
-ghost use Prim.Native.Nat.{_%_, _≤_};
-ghost use lib.ListN.{length};
-ghost use Rattle·ihex_record·specs.specs.Record.{textLen, total, wordFrom, refused, parsedNumber};
+ghost use Rattle.std.specs.Prelude.{◌≡◌, ◌%◌, ◌≤◌, length};
+ghost use Rattle.ihex_record.specs.Record.{text_len, total, word_from, refused, parsed_number};
 
 // A good record: its type, its address field, and how many bytes of data it has.
+#[derive(Clone, Copy)]
 pub struct Record {
     pub kind: u8,
     pub address: u16,
@@ -15,6 +16,7 @@ pub struct Record {
 }
 
 // A record, or the first check that a line fails.
+#[derive(Clone, Copy)]
 pub enum ParseResult {
     Good(Record),
     NoColon,
@@ -27,6 +29,7 @@ pub enum ParseResult {
 }
 
 // What a line says. A record's data is the first `len` bytes; the rest are 0.
+#[derive(Clone, Copy)]
 pub struct Line {
     pub parsed: ParseResult,
     pub data: [u8; Record::MAX],
@@ -61,7 +64,7 @@ impl Record {
 impl ParseResult {
     // 01's number of a refusal, or 0 for a good record.
     pub fn number(self) -> u8
-        ensures { λ r. ⌜ r ≡ parsedNumber self ⌝ }
+        ensures { result ≡ parsed_number self }
     {
         match self {
             ParseResult::Good(_) => 0,
@@ -76,9 +79,9 @@ impl ParseResult {
 }
 
 // How many characters are left when the ending is dropped.
-pub(crate) fn text_len(line: &[u8]) -> usize
-    ensures { λ r. ⌜ r ≡ textLen (now (line .entry)) ⌝ }
-    ensures within { λ r. ⌜ r ≤ length (now (line .entry)) ⌝ }
+pub fn text_len(line: &[u8]) -> usize
+    ensures value { result ≡ text_len line.now }
+    ensures within { result ≤ length line.now }
 {
     let n = line.len();
     if n == 0 {
@@ -98,12 +101,12 @@ pub(crate) fn text_len(line: &[u8]) -> usize
 
 // The sum of bytes, kept to eight bits.
 pub fn sum(bytes: &[u8]) -> u8
-    ensures { λ r. ⌜ r ≡ total (now (bytes .entry)) % 256 ⌝ }
+    ensures { result ≡ total bytes.now % 256 }
 {
     let mut s: u8 = 0;
     let mut i = 0;
     while i < bytes.len() {
-        s = std::num::wrapping_add_u8(s, bytes[i]);
+        s = s.wrapping_add(bytes[i]);
         i += 1;
     }
     s
@@ -111,14 +114,14 @@ pub fn sum(bytes: &[u8]) -> u8
 
 // Two bytes as a number, high first.
 pub fn word(high: u8, low: u8) -> u16
-    ensures { λ r. ⌜ r ≡ wordFrom high low ⌝ }
+    ensures { result ≡ word_from high low }
 {
     256 * (high as u16) + (low as u16)
 }
 
 // The line of a refusal.
-pub(crate) fn refusal(parsed: ParseResult) -> Line
-    ensures { λ r. ⌜ r ≡ refused parsed ⌝ }
+pub fn refusal(parsed: ParseResult) -> Line
+    ensures { result ≡ refused parsed }
 {
     Line {
         parsed,

@@ -1,24 +1,21 @@
 // Rows 23 to 25 of a line of Intel Hex, and the record that its bytes say.
-ghost use mathlib.Core.Path.{_≡_};
-ghost use Prim.Native.Nat.{_+_, _≤_};
-ghost use lib.ListN.{length};
-ghost use Rattle·ihex_record·specs.specs.Record.{lenOf, good};
-ghost use Rattle·ihex_record·specs.specs.Bytes.{lineIn};
-use crate::Line;
-use crate::ParseResult;
-use crate::Record;
+ghost use Rattle.std.specs.Prelude.{◌≡◌, ◌+◌, ◌≤◌, length};
+ghost use Rattle.ihex_record.specs.Record.{len_of, good};
+ghost use Rattle.ihex_record.specs.Bytes.{line_in};
+
+use crate::{Line, ParseResult, Record};
 
 // The line of a good record, of which `used` bytes are data.
 fn good_line(bytes: &[u8], used: usize) -> Line
-    requires { ⌜ (used ≡ lenOf (now bytes)) × (used ≤ 32) × (used + 5 ≤ length (now bytes)) ⌝ }
-    ensures { λ r. ⌜ r ≡ good (now (bytes .entry)) ⌝ }
+    requires { (used ≡ len_of bytes.now) × (used ≤ 32) × (used + 5 ≤ length bytes.now) }
+    ensures { result ≡ good bytes.now }
 {
     let len = bytes[0];
     let kind = bytes[3];
     let address = crate::word(bytes[1], bytes[2]);
     let e = used + 4;
     let mut data = [0u8; Record::MAX];
-    bytes::copy(&bytes[4..e], &mut data);
+    data[..used].copy_from_slice(&bytes[4..e]);
     Line {
         parsed: ParseResult::Good(Record { kind, address, len }),
         data,
@@ -26,8 +23,8 @@ fn good_line(bytes: &[u8], used: usize) -> Line
 }
 
 // Rows 23 to 25 of n characters, whose bytes are the first of these.
-pub(crate) fn read_bytes(n: usize, bytes: &[u8; Record::BYTES]) -> Line
-    ensures { λ r. ⌜ r ≡ lineIn n (now (bytes .entry)) ⌝ }
+pub fn read_bytes(n: usize, bytes: &[u8; Record::BYTES]) -> Line
+    ensures { result ≡ line_in n bytes.now }
 {
     let room: &[u8] = bytes;
     let used = room[0] as usize;

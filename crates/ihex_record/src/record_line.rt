@@ -1,17 +1,13 @@
 // A line of Intel Hex, read: its ending dropped, rows 20 to 22, and those of its bytes.
-ghost use mathlib.Core.Path.{_≡_};
-ghost use mathlib.Core.Bool.{false};
-ghost use Prim.Native.Nat.{_<_};
-ghost use lib.ListN.{length, getD};
-ghost use Rattle·ihex_record·specs.specs.Record.{badShape, lineOfText, readOf, parsedNumber, rowOf};
-use crate::Line;
-use crate::ParseResult;
-use crate::Record;
+ghost use Rattle.std.specs.Prelude.{◌≡◌, ◌<◌, false, length, slice_index};
+ghost use Rattle.ihex_record.specs.Record.{bad_shape, line_of_text, read_of, parsed_number, row_of};
+
+use crate::{Line, ParseResult, Record};
 
 // Rows 22 to 25 of a text that has passed rows 20 and 21.
 fn read_digits(t: &[u8]) -> Line
-    requires { ⌜ (0 < length (now t)) × (getD (now t) 0 0 ≡ 58) × (badShape (length (now t)) ≡ false) ⌝ }
-    ensures { λ r. ⌜ r ≡ lineOfText (now (t .entry)) ⌝ }
+    requires { (0 < length t.now) × (slice_index t.now 0 ≡ 58) × (bad_shape (length t.now) ≡ false) }
+    ensures { result ≡ line_of_text t.now }
 {
     let n = t.len();
     let mut bytes = [0u8; Record::BYTES];
@@ -24,7 +20,7 @@ fn read_digits(t: &[u8]) -> Line
 
 // Rows 20 to 25 of a text, which has no ending.
 fn read_text(t: &[u8]) -> Line
-    ensures { λ r. ⌜ r ≡ lineOfText (now (t .entry)) ⌝ }
+    ensures { result ≡ line_of_text t.now }
 {
     let n = t.len();
     if n == 0 {
@@ -41,8 +37,8 @@ fn read_text(t: &[u8]) -> Line
 
 // A line as it is handed, its ending included.
 pub fn read(line: &[u8]) -> Line
-    ensures { λ r. ⌜ r ≡ readOf (now (line .entry)) ⌝ }
-    ensures number { λ r. ⌜ parsedNumber (r .parsed) ≡ rowOf (now (line .entry)) ⌝ }
+    ensures value { result ≡ read_of line.now }
+    ensures number { parsed_number result.parsed ≡ row_of line.now }
 {
     let n = crate::text_len(line);
     read_text(&line[..n])

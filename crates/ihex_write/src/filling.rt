@@ -1,23 +1,22 @@
 // The filling of a section of Universal Hex to a multiple of 512 characters.
-ghost use mathlib.Core.Path.{_≡_};
-ghost use Prim.Native.Nat.{_≤_};
-ghost use lib.ListN.{replicate};
-ghost use Rattle·ihex_write·specs.specs.Put.{putLine, putLines};
-ghost use Rattle·ihex_record.specs.Write.{recordLine};
-ghost use Rattle·ihex_write·specs.specs.Fill.{missing, fillLines};
+ghost use Rattle.std.specs.Prelude.{◌≡◌, ◌≤◌, replicate};
+ghost use Rattle.ihex_write.specs.Put.{put_line, put_lines};
+ghost use Rattle.ihex_record.specs.Write.{record_line};
+ghost use Rattle.ihex_write.specs.Fill.{missing, fill_lines};
+
 use ihex_record::Record;
 
 // What is missing to a multiple of 512, after n characters and an empty 0B.
 pub fn missing_after(n: usize) -> usize
-    ensures { λ r. ⌜ r ≡ missing n ⌝ }
+    ensures { result ≡ missing n }
 {
     (512 - (n % 512 + 12) % 512) % 512
 }
 
 // A record of n bytes of 0xFF, with the address field 0.
 fn put_filling(out: &mut [u8], at: usize, kind: u8, n: usize)
-    requires { ⌜ n ≤ 32 ⌝ }
-    ensures { λ _. ⌜ now (out .exit) ≡ putLine (now (out .entry)) at (recordLine kind 0 (replicate n 255)) ⌝ }
+    requires { n ≤ 32 }
+    ensures { out.new ≡ put_line out.old at (record_line kind 0 (replicate n 255)) }
 {
     let filling = [255u8; Record::MAX];
     crate::put_record(out, at, kind, 0, &filling[..n]);
@@ -25,7 +24,7 @@ fn put_filling(out: &mut [u8], at: usize, kind: u8, n: usize)
 
 // The filling of a section after its first n characters, from `at` on.
 pub fn put_fill(out: &mut [u8], at: usize, n: usize)
-    ensures { λ _. ⌜ now (out .exit) ≡ putLines (now (out .entry)) at (fillLines (missing n)) ⌝ }
+    ensures { out.new ≡ put_lines out.old at (fill_lines (missing n)) }
 {
     if out.len() < at {
         return;

@@ -1,26 +1,25 @@
 // Records written as lines of Intel Hex: upper case, checksum, LF.
-mod digit_text;
+#![tactic(auto)]
+
+pub mod digit_text;
 pub mod filling;
 
-ghost use mathlib.Core.Path.{_≡_};
-ghost use mathlib.Core.List.{_∷_, []};
-ghost use Prim.Native.Nat.{_+_, _*_, _<_, _≤_};
-ghost use lib.ListN.{length};
-ghost use Rattle·laws.specs.Over.{over};
-ghost use Rattle·ihex_record.specs.Write.{bytesText, recordLine};
-ghost use Rattle·ihex_write·specs.specs.Put.{putRecord};
+ghost use Rattle.std.specs.Prelude.{◌≡◌, ◌+◌, ◌*◌, ◌<◌, ◌≤◌, [], ◌∷◌, length};
+ghost use Rattle.laws.specs.Over.{over};
+ghost use Rattle.ihex_record.specs.Write.{bytes_text, record_line};
+ghost use Rattle.ihex_write.specs.Put.{put_record};
 
 fn put_char(out: &mut [u8], at: usize, c: u8)
-    requires { ⌜ at < length (now out) ⌝ }
-    ensures { λ _. ⌜ now (out .exit) ≡ over (now (out .entry)) at (c ∷ []) ⌝ }
+    requires { at < length out.old }
+    ensures { out.new ≡ over out.old at (c ∷ []) }
 {
     out[at] = c;
 }
 
 // A byte's two digits, high first.
 fn put_byte(out: &mut [u8], at: usize, b: u8)
-    requires { ⌜ at + 2 ≤ length (now out) ⌝ }
-    ensures { λ _. ⌜ now (out .exit) ≡ over (now (out .entry)) at (bytesText (b ∷ [])) ⌝ }
+    requires { at + 2 ≤ length out.old }
+    ensures { out.new ≡ over out.old at (bytes_text (b ∷ [])) }
 {
     put_char(out, at, crate::digit_text::high_digit(b));
     put_char(out, at + 1, crate::digit_text::low_digit(b));
@@ -28,8 +27,8 @@ fn put_byte(out: &mut [u8], at: usize, b: u8)
 
 // The digits of bytes.
 fn put_bytes(out: &mut [u8], at: usize, bytes: &[u8])
-    requires { ⌜ at + 2 * length (now bytes) ≤ length (now out) ⌝ }
-    ensures { λ _. ⌜ now (out .exit) ≡ over (now (out .entry)) at (bytesText (now (bytes .entry))) ⌝ }
+    requires { at + 2 * length bytes.now ≤ length out.old }
+    ensures { out.new ≡ over out.old at (bytes_text bytes.now) }
 {
     let mut i = 0;
     while i < bytes.len() {
@@ -40,9 +39,9 @@ fn put_bytes(out: &mut [u8], at: usize, bytes: &[u8])
 
 // A record's line, for which there is room.
 fn put_line(out: &mut [u8], at: usize, kind: u8, address: u16, data: &[u8])
-    requires { ⌜ length (now «data») ≤ 32 ⌝ }
-    requires room { ⌜ at + (12 + 2 * length (now «data»)) ≤ length (now out) ⌝ }
-    ensures { λ _. ⌜ now (out .exit) ≡ over (now (out .entry)) at (recordLine kind address (now («data» .entry))) ⌝ }
+    requires data_len_bound { length «data».now ≤ 32 }
+    requires room { at + (12 + 2 * length «data».now) ≤ length out.old }
+    ensures { out.new ≡ over out.old at (record_line kind address «data».now) }
 {
     let head = [
         data.len() as u8,
@@ -50,8 +49,8 @@ fn put_line(out: &mut [u8], at: usize, kind: u8, address: u16, data: &[u8])
         (address % 256) as u8,
         kind,
     ];
-    let sum = std::num::wrapping_add_u8(ihex_record::sum(&head), ihex_record::sum(data));
-    let check = std::num::wrapping_sub_u8(0, sum);
+    let sum = ihex_record::sum(&head).wrapping_add(ihex_record::sum(data));
+    let check = 0u8.wrapping_sub(sum);
     let digits = at + 1;
     let rest = at + 9;
     let tail = rest + 2 * data.len();
@@ -65,7 +64,7 @@ fn put_line(out: &mut [u8], at: usize, kind: u8, address: u16, data: &[u8])
 
 // Writes a record's line from an index on. Where it does not fit, or the record has more data than a record may, nothing is written.
 pub fn put_record(out: &mut [u8], at: usize, kind: u8, address: u16, data: &[u8])
-    ensures { λ _. ⌜ now (out .exit) ≡ putRecord (now (out .entry)) at kind address (now («data» .entry)) ⌝ }
+    ensures { out.new ≡ put_record out.old at kind address «data».now }
 {
     if !crate::digit_text::has_room(out.len(), at, data.len()) {
         return;

@@ -1,38 +1,38 @@
 -- The hypotheses of demand 3 are met by the files of specs/Instance.antt, and the theorem speaks of them. Assumes nothing.
-use Prim.Native.Nat.{ℕ, zero, suc, _+_, _*_, _≤_, _<_}
-use mathlib.Core.Path.{_≡_, refl, sym, ap, _∙_}
-use mathlib.Core.Logic.{_≢_}
+use Prim.Native.Nat.{ℕ, zero, suc, ◌+◌, ◌*◌, ◌≤◌, ◌<◌}
+use mathlib.Core.Path.{◌≡◌, refl, sym, ap, ◌∙◌}
+use mathlib.Core.Logic.{◌≢◌}
 use mathlib.Core.Bool.{Bool, true, false, not, cond}
-use mathlib.Core.List.{List, [], _∷_}
+use mathlib.Core.List.{List, [], ◌∷◌}
 use native.Mathlib.Omega.{arith}
 use lib.Dec.{eqb, ltb, leb}
-use lib.ListN.{length, getD, length-replicate, getD-replicate}
+use lib.ListN.{length, get_or, length-replicate, get_or-replicate}
 use borrow.Author.Tests.{leb-true, ltb-true}
-use Rattle·laws.proofs.Tests.{clash, and-left, and-right}
-use Rattle·laws.proofs.Laws.{size-full}
-use Rattle·memory.specs.Many.{many}
-use Rattle·laws.specs.Bytes.{lowFirst, numberIn}
-use Rattle·laws.specs.Sets.{none, any, size}
-use Rattle·memory.specs.Bitmap.{mapOf}
-use Rattle·memory.specs.Flash.{flashLength, payloadOf, spans}
-use Rattle·uf2_block.specs.Block.{fieldAt, fieldsOf, flaggedOf, headerOf}
-use Rattle·partitions.specs.Settings.{familyArmS, goodSettings}
-use Rattle·placement.specs.Place.{placeOf, ramFamily}
-use Rattle·transfer.specs.Transfer.{goodState, counted, raised, accepted, stepOf}
-use Rattle·transfer.specs.declared.Kind.the-variants.{Flash, MainRam, XipRam}
-use Rattle·transfer.specs.declared.Head.{Head}
-use Rattle·transfer.specs.declared.State.the-variants.{Done}
-use Rattle·uf2_checks.specs.Screen.{windowOf, noteKind, placed, strayed, noted, dataFound, noteFound, found, screenIn, screenOf}
-use Rattle·arrival.specs.Arrive.{World, rightLengths, standsAt, afterScreening, decide, done, receiveOf}
-use Rattle·arrival.specs.Lists.{receiveAll}
-use Rattle·arrival.specs.Windows.{lies}
-use Rattle·demand.specs.Demand.{File, ValidFile, Foreign, isCommentOf, addressOf, nothing, own, other, answerNumber, isData, sameBytes, among, seenOf, howMany, storageOf, heldBy, touchedBy, changedBy, SameSet, Plain, isGuarded, Ends, List-ends}
-use Rattle·demand.specs.Stopped.{ForeignToBoth, EndsAlike, Stopped-then-good}
-use Rattle·demand.proofs.Demand.{list-ends}
-use Rattle·demand.proofs.Stopped.{stopped-then-good}
-use Rattle·examples.specs.Boards.{arrivalOf, commentOf, plain, headTo, armHead}
-use Rattle·examples.specs.Tables.{blockOfThree}
-use Rattle·instances·specs.specs.Instance.{Met, file, start, arrivals, inOrder, Hypotheses-are-met, annotated, annotatedArrivals, annotatedInOrder, Met-with-a-comment, remarks, Met-by-comments-alone, ramBlock, ramFile, ramStart, ramArrivals, ramInOrder, Met-in-RAM, mainFile, mainStart, Met-in-main-RAM, stopped, Met-by-a-stopped-transfer}
+use Rattle.laws.proofs.Tests.{clash, and_left, and_right}
+use Rattle.laws.proofs.Laws.{size_full}
+use Rattle.memory.specs.Many.{many}
+use Rattle.laws.specs.Bytes.{low_first, number_in}
+use Rattle.laws.specs.Sets.{none, any, size}
+use Rattle.memory.specs.Bitmap.{map_of}
+use Rattle.memory.specs.Flash.{flash_length, payload_of, spans}
+use Rattle.uf2_block.specs.Block.{field_at, fields_of, flagged_of, header_of}
+use Rattle.partitions.specs.Settings.{family_arm_s, good_settings}
+use Rattle.placement.specs.Place.{place_of, ram_family}
+use Rattle.transfer.specs.Transfer.{good_state, counted, raised, accepted, step_of}
+use Rattle.transfer.specs.declared.Kind.TheVariants.{Flash, MainRam, XipRam}
+use Rattle.transfer.specs.declared.Head.{Head}
+use Rattle.transfer.specs.declared.State.TheVariants.{Done}
+use Rattle.uf2_checks.specs.Screen.{window_of, note_kind, placed, strayed, noted, data_found, note_found, found, screen_in, screen_of}
+use Rattle.arrival.specs.Arrive.{World, right_lengths, stands_at, after_screening, decide, done, receive_of}
+use Rattle.arrival.specs.Lists.{receive_all}
+use Rattle.arrival.specs.Windows.{lies}
+use Rattle.demand.specs.Demand.{File, ValidFile, Foreign, is_comment_of, address_of, nothing, own, other, answer_number, is_data, same_bytes, among, seen_of, how_many, storage_of, held_by, touched_by, changed_by, SameSet, Plain, is_guarded, Ends, ListEnds}
+use Rattle.demand.specs.Stopped.{ForeignToBoth, EndsAlike, StoppedThenGood}
+use Rattle.demand.proofs.Demand.{list_ends}
+use Rattle.demand.proofs.Stopped.{stopped_then_good}
+use Rattle.examples.specs.Boards.{arrival_of, comment_of, plain, head_to, arm_head}
+use Rattle.examples.specs.Tables.{block_of_three}
+use Rattle.instances.specs.Instance.{Met, file, start, arrivals, in_order, HypothesesAreMet, annotated, annotated_arrivals, annotated_in_order, MetWithAComment, remarks, MetByCommentsAlone, ram_block, ram_file, ram_start, ram_arrivals, ram_in_order, MetInRam, main_file, main_start, MetInMainRam, stopped, MetByAStoppedTransfer}
 
 -- what holds of 0, 1 and 2 holds below 3
 three : (P : ℕ → Type 0) → P 0 → P 1 → P 2 → (k : ℕ) → k < 3 → P k
@@ -41,187 +41,187 @@ three P a b c (suc zero) h = b
 three P a b c (suc (suc zero)) h = c
 three P a b c (suc (suc (suc k))) h = absurd (omega arith)
 
-spans-true : (at j : ℕ) → spans at j ≡ true → (at ≤ j) × (j < at + 256)
-spans-true at j e = (leb-true at j (and-left (leb at j) (ltb j (at + 256)) e), ltb-true j (at + 256) (and-right (leb at j) (ltb j (at + 256)) e))
+spans_true : (at j : ℕ) → spans at j ≡ true → (at ≤ j) × (j < at + 256)
+spans_true at j e = (leb-true at j (and_left (leb at j) (ltb j (at + 256)) e), ltb-true j (at + 256) (and_right (leb at j) (ltb j (at + 256)) e))
 
 -- a foreign arrival of a file in flash, and of one in RAM, by its answer
-foreign-by : (w : World) (F : File) (a : List ℕ) (x : ℕ) → answerNumber plain w a ≡ x → 4 ≤ x → x ≤ 11 → (F .kind ≢ Flash → isCommentOf F a ≡ false) → Foreign plain w F a
-foreign-by w F a x e l m q = record { least = omega (arith, e); most = omega (arith, e); quiet = q }
+foreign_by : (w : World) (F : File) (a : List ℕ) (x : ℕ) → answer_number plain w a ≡ x → 4 ≤ x → x ≤ 11 → (F.kind ≢ Flash → is_comment_of F a ≡ false) → Foreign plain w F a
+foreign_by w F a x e l m q = record { least = omega (arith, e); most = omega (arith, e); quiet = q }
 
-address : (k : ℕ) → k < 3 → fieldAt (blockOfThree k) 12 ≡ 0x10000000 + k * 256
-unfolding lowFirst numberIn fieldAt
-address = three (λ k. fieldAt (blockOfThree k) 12 ≡ 0x10000000 + k * 256) refl refl refl
+address : (k : ℕ) → k < 3 → field_at (block_of_three k) 12 ≡ 0x10000000 + k * 256
+unfolding low_first number_in field_at
+address = three (λ k. field_at (block_of_three k) 12 ≡ 0x10000000 + k * 256) refl refl refl
 
 -- the answers at the start
-earned : (k : ℕ) → k < 3 → answerNumber plain start (blockOfThree k) ≡ 14
-unfolding many any flashLength payloadOf lowFirst numberIn fieldAt fieldsOf flaggedOf headerOf goodSettings placeOf goodState counted raised accepted stepOf windowOf noteKind placed strayed noted dataFound noteFound found screenIn screenOf rightLengths standsAt afterScreening decide done receiveOf
-earned = three (λ k. answerNumber plain start (blockOfThree k) ≡ 14) refl refl refl
+earned : (k : ℕ) → k < 3 → answer_number plain start (block_of_three k) ≡ 14
+unfolding many any flash_length payload_of low_first number_in field_at fields_of flagged_of header_of good_settings place_of good_state counted raised accepted step_of window_of note_kind placed strayed noted data_found note_found found screen_in screen_of right_lengths stands_at after_screening decide done receive_of
+earned = three (λ k. answer_number plain start (block_of_three k) ≡ 14) refl refl refl
 
-beyond : answerNumber plain start (arrivalOf 0x10010000 0 3 1) ≡ 11
-unfolding many any flashLength payloadOf lowFirst numberIn fieldAt fieldsOf flaggedOf headerOf goodSettings placeOf goodState counted raised accepted stepOf windowOf noteKind placed strayed noted dataFound noteFound found screenIn screenOf rightLengths standsAt afterScreening decide done receiveOf
+beyond : answer_number plain start (arrival_of 0x10010000 0 3 1) ≡ 11
+unfolding many any flash_length payload_of low_first number_in field_at fields_of flagged_of header_of good_settings place_of good_state counted raised accepted step_of window_of note_kind placed strayed noted data_found note_found found screen_in screen_of right_lengths stands_at after_screening decide done receive_of
 beyond = refl
 
 valid : ValidFile plain start file
 valid =
     record {
       some = omega arith;
-      numbers = unfold lowFirst numberIn fieldAt in three (λ k. fieldAt (blockOfThree k) 20 ≡ k) refl refl refl;
-      families = unfold lowFirst numberIn fieldAt in three (λ k. fieldAt (blockOfThree k) 28 ≡ familyArmS) refl refl refl;
-      totals = unfold lowFirst numberIn fieldAt in three (λ k. fieldAt (blockOfThree k) 24 ≡ 3) refl refl refl;
+      numbers = unfold low_first number_in field_at in three (λ k. field_at (block_of_three k) 20 ≡ k) refl refl refl;
+      families = unfold low_first number_in field_at in three (λ k. field_at (block_of_three k) 28 ≡ family_arm_s) refl refl refl;
+      totals = unfold low_first number_in field_at in three (λ k. field_at (block_of_three k) 24 ≡ 3) refl refl refl;
       disjoint = λ i k j hi hk yi yk p q.
-          let u = spans-true (addressOf file i) j p in
-          let v = spans-true (addressOf file k) j q in
+          let u = spans_true (address_of file i) j p in
+          let v = spans_true (address_of file k) j q in
           omega (arith, u, v, address i hi, address k hk);
-      kinds = unfold lowFirst numberIn fieldAt in three (λ k. isData file k ≡ true → lies Flash (addressOf file k) ≡ true) (λ y. refl) (λ y. refl) (λ y. refl);
+      kinds = unfold low_first number_in field_at in three (λ k. is_data file k ≡ true → lies Flash (address_of file k) ≡ true) (λ y. refl) (λ y. refl) (λ y. refl);
       quiet = λ n. absurd (n refl);
       passes = λ k h. omega (arith, earned k h);
     }
 
 -- a block with flag 0x2000 alone names no region
 unguarded : Plain plain start file
-unfolding lowFirst numberIn fieldAt
-unguarded = three (λ k. isGuarded plain start file k ≡ false) refl refl refl
+unfolding low_first number_in field_at
+unguarded = three (λ k. is_guarded plain start file k ≡ false) refl refl refl
 
 -- two lists in which a file is whole have the same set
-both-whole : (F : File) (l m : List (List ℕ)) → howMany F (seenOf F l) ≡ F .total → howMany F (seenOf F m) ≡ F .total → SameSet F l m
-both-whole F l m e f k h =
-    size-full (F .total) (seenOf F l) k (omega (arith, e)) h ∙ sym (size-full (F .total) (seenOf F m) k (omega (arith, f)) h)
+both_whole : (F : File) (l m : List (List ℕ)) → how_many F (seen_of F l) ≡ F.total → how_many F (seen_of F m) ≡ F.total → SameSet F l m
+both_whole F l m e f k h =
+    size_full F.total (seen_of F l) k (omega (arith, e)) h ∙ sym (size_full F.total (seen_of F m) k (omega (arith, f)) h)
 
-whole : howMany file (seenOf file arrivals) ≡ 3
-whole = unfold lowFirst size among sameBytes in refl
+whole : how_many file (seen_of file arrivals) ≡ 3
+whole = unfold low_first size among same_bytes in refl
 
-pub hypotheses-are-met : Hypotheses-are-met
-unfolding Hypotheses-are-met
-hypotheses-are-met =
+pub hypotheses_are_met : HypothesesAreMet
+unfolding HypothesesAreMet
+hypotheses_are_met =
     record {
       idle = refl;
       valid = valid;
       unguarded = unguarded;
-      sent = own 2 (omega arith) (own 0 (omega arith) (own 2 (omega arith) (other (arrivalOf 0x10010000 0 3 1) (foreign-by start file (arrivalOf 0x10010000 0 3 1) 11 beyond (omega arith) (omega arith) (λ n. absurd (n refl))) (own 1 (omega arith) (own 0 (omega arith) nothing)))));
-      sent-too = own 0 (omega arith) (own 1 (omega arith) (own 2 (omega arith) nothing));
-      same = both-whole file arrivals inOrder whole (unfold lowFirst size among sameBytes in refl);
+      sent = own 2 (omega arith) (own 0 (omega arith) (own 2 (omega arith) (other (arrival_of 0x10010000 0 3 1) (foreign_by start file (arrival_of 0x10010000 0 3 1) 11 beyond (omega arith) (omega arith) (λ n. absurd (n refl))) (own 1 (omega arith) (own 0 (omega arith) nothing)))));
+      sent_too = own 0 (omega arith) (own 1 (omega arith) (own 2 (omega arith) nothing));
+      same = both_whole file arrivals in_order whole (unfold low_first size among same_bytes in refl);
     }
 
 -- a byte of the flash
-within : (j : ℕ) → j < 65536 → j < length (start .held .flash)
+within : (j : ℕ) → j < 65536 → j < length start.held.flash
 within j h = rw (length-replicate {A = ℕ} 65536 7) h
 
 -- so the theorem gives its end: a byte of block 1's payload, one of 0xFF beside the payloads, one of another sector as lent
-pub ends-done : (receiveAll plain start arrivals .transfer ≡ Done (armHead 3))
-    × (getD (receiveAll plain start arrivals .held .flash) 300 0 ≡ 1)
-    × (getD (receiveAll plain start arrivals .held .flash) 1000 0 ≡ 255)
-    × (getD (receiveAll plain start arrivals .held .flash) 5000 0 ≡ 7)
-ends-done =
-    let m : Met start file arrivals inOrder = unfold Hypotheses-are-met in hypotheses-are-met in
-    let e : Ends plain start file (seenOf file arrivals) (receiveAll plain start arrivals) =
-    unfold List-ends in list-ends plain start file (m .idle) (m .valid) arrivals (m .sent) (m .unguarded) in (
-      e .counts .whole whole,
-      sym (ap (λ (j : ℕ). getD (receiveAll plain start arrivals .held .flash) j 0) stored) ∙ e .contents .payloads 1 (omega arith) seen page 44 (omega arith) ∙ payload,
-      e .contents .erased 1000 (within 1000 (omega arith)) touched unheld,
-      e .contents .others Flash 5000 unchanged ∙ lent,
+pub ends_done : ((receive_all plain start arrivals).transfer ≡ Done (arm_head 3))
+    × (get_or (receive_all plain start arrivals).held.flash 300 0 ≡ 1)
+    × (get_or (receive_all plain start arrivals).held.flash 1000 0 ≡ 255)
+    × (get_or (receive_all plain start arrivals).held.flash 5000 0 ≡ 7)
+ends_done =
+    let m : Met start file arrivals in_order = unfold HypothesesAreMet in hypotheses_are_met in
+    let e : Ends plain start file (seen_of file arrivals) (receive_all plain start arrivals) =
+    unfold ListEnds in list_ends plain start file m.idle m.valid arrivals m.sent m.unguarded in (
+      e.counts.whole whole,
+      sym (ap (λ (j : ℕ). get_or (receive_all plain start arrivals).held.flash j 0) stored) ∙ e.contents.payloads 1 (omega arith) seen page 44 (omega arith) ∙ payload,
+      e.contents.erased 1000 (within 1000 (omega arith)) touched unheld,
+      e.contents.others Flash 5000 unchanged ∙ lent,
     )
   where
-    stored : storageOf plain start file 1 + 44 ≡ 300
-    stored = unfold lowFirst numberIn fieldAt placeOf in refl
+    stored : storage_of plain start file 1 + 44 ≡ 300
+    stored = unfold low_first number_in field_at place_of in refl
 
-    seen : seenOf file arrivals 1 ≡ true
-    seen = size-full 3 (seenOf file arrivals) 1 (omega (arith, whole)) (omega arith)
+    seen : seen_of file arrivals 1 ≡ true
+    seen = size_full 3 (seen_of file arrivals) 1 (omega (arith, whole)) (omega arith)
 
-    page : isData file 1 ≡ true
-    page = unfold lowFirst numberIn fieldAt in refl
+    page : is_data file 1 ≡ true
+    page = unfold low_first number_in field_at in refl
 
-    payload : getD (payloadOf (blockOfThree 1)) 44 0 ≡ 1
-    payload = unfold lowFirst payloadOf in refl
+    payload : get_or (payload_of (block_of_three 1)) 44 0 ≡ 1
+    payload = unfold low_first payload_of in refl
 
-    touched : touchedBy plain start file (seenOf file arrivals) 0 ≡ true
-    touched = unfold lowFirst numberIn fieldAt placeOf any among sameBytes in refl
+    touched : touched_by plain start file (seen_of file arrivals) 0 ≡ true
+    touched = unfold low_first number_in field_at place_of any among same_bytes in refl
 
-    unheld : heldBy plain start file (seenOf file arrivals) Flash 1000 ≡ false
-    unheld = unfold lowFirst numberIn fieldAt placeOf any among sameBytes in refl
+    unheld : held_by plain start file (seen_of file arrivals) Flash 1000 ≡ false
+    unheld = unfold low_first number_in field_at place_of any among same_bytes in refl
 
-    unchanged : changedBy plain start file (seenOf file arrivals) Flash 5000 ≡ false
-    unchanged = unfold lowFirst numberIn fieldAt placeOf any among sameBytes in refl
+    unchanged : changed_by plain start file (seen_of file arrivals) Flash 5000 ≡ false
+    unchanged = unfold low_first number_in field_at place_of any among same_bytes in refl
 
-    lent : getD (start .held .flash) 5000 0 ≡ 7
-    lent = getD-replicate 65536 5000 7 0 (omega arith)
+    lent : get_or start.held.flash 5000 0 ≡ 7
+    lent = get_or-replicate 65536 5000 7 0 (omega arith)
 
 -- ---- with a comment
 
-annotated-number : (k : ℕ) → k < 3 → answerNumber plain start (annotated .block k) ≡ cond (eqb k 1) 16 14
-unfolding many any flashLength payloadOf lowFirst numberIn fieldAt fieldsOf flaggedOf headerOf goodSettings placeOf goodState counted raised accepted stepOf windowOf noteKind placed strayed noted dataFound noteFound found screenIn screenOf rightLengths standsAt afterScreening decide done receiveOf
-annotated-number = three (λ k. answerNumber plain start (annotated .block k) ≡ cond (eqb k 1) 16 14) refl refl refl
+annotated_number : (k : ℕ) → k < 3 → answer_number plain start (annotated.block k) ≡ cond (eqb k 1) 16 14
+unfolding many any flash_length payload_of low_first number_in field_at fields_of flagged_of header_of good_settings place_of good_state counted raised accepted step_of window_of note_kind placed strayed noted data_found note_found found screen_in screen_of right_lengths stands_at after_screening decide done receive_of
+annotated_number = three (λ k. answer_number plain start (annotated.block k) ≡ cond (eqb k 1) 16 14) refl refl refl
 
 -- a comment has no address that counts
-annotated-data : (k : ℕ) → k < 3 → isData annotated k ≡ not (eqb k 1)
-unfolding lowFirst numberIn fieldAt
-annotated-data = three (λ k. isData annotated k ≡ not (eqb k 1)) refl refl refl
+annotated_data : (k : ℕ) → k < 3 → is_data annotated k ≡ not (eqb k 1)
+unfolding low_first number_in field_at
+annotated_data = three (λ k. is_data annotated k ≡ not (eqb k 1)) refl refl refl
 
-annotated-address : (k : ℕ) → k < 3 → isData annotated k ≡ true → fieldAt (annotated .block k) 12 ≡ 0x10000000 + k * 256
-unfolding lowFirst numberIn fieldAt
-annotated-address =
-    three (λ k. isData annotated k ≡ true → fieldAt (annotated .block k) 12 ≡ 0x10000000 + k * 256)
+annotated_address : (k : ℕ) → k < 3 → is_data annotated k ≡ true → field_at (annotated.block k) 12 ≡ 0x10000000 + k * 256
+unfolding low_first number_in field_at
+annotated_address =
+    three (λ k. is_data annotated k ≡ true → field_at (annotated.block k) 12 ≡ 0x10000000 + k * 256)
     (λ y. refl) (λ y. clash false y refl) (λ y. refl)
 
-beyond-total : answerNumber plain start (commentOf 3 3) ≡ 10
-unfolding many any flashLength payloadOf lowFirst numberIn fieldAt fieldsOf flaggedOf headerOf goodSettings placeOf goodState counted raised accepted stepOf windowOf noteKind placed strayed noted dataFound noteFound found screenIn screenOf rightLengths standsAt afterScreening decide done receiveOf
-beyond-total = refl
+beyond_total : answer_number plain start (comment_of 3 3) ≡ 10
+unfolding many any flash_length payload_of low_first number_in field_at fields_of flagged_of header_of good_settings place_of good_state counted raised accepted step_of window_of note_kind placed strayed noted data_found note_found found screen_in screen_of right_lengths stands_at after_screening decide done receive_of
+beyond_total = refl
 
-annotated-valid : ValidFile plain start annotated
-annotated-valid =
+annotated_valid : ValidFile plain start annotated
+annotated_valid =
     record {
       some = omega arith;
-      numbers = unfold lowFirst numberIn fieldAt in three (λ k. fieldAt (annotated .block k) 20 ≡ k) refl refl refl;
-      families = unfold lowFirst numberIn fieldAt in three (λ k. fieldAt (annotated .block k) 28 ≡ familyArmS) refl refl refl;
-      totals = unfold lowFirst numberIn fieldAt in three (λ k. fieldAt (annotated .block k) 24 ≡ 3) refl refl refl;
+      numbers = unfold low_first number_in field_at in three (λ k. field_at (annotated.block k) 20 ≡ k) refl refl refl;
+      families = unfold low_first number_in field_at in three (λ k. field_at (annotated.block k) 28 ≡ family_arm_s) refl refl refl;
+      totals = unfold low_first number_in field_at in three (λ k. field_at (annotated.block k) 24 ≡ 3) refl refl refl;
       disjoint = λ i k j hi hk yi yk p q.
-          let u = spans-true (addressOf annotated i) j p in
-          let v = spans-true (addressOf annotated k) j q in
-          omega (arith, u, v, annotated-address i hi yi, annotated-address k hk yk);
+          let u = spans_true (address_of annotated i) j p in
+          let v = spans_true (address_of annotated k) j q in
+          omega (arith, u, v, annotated_address i hi yi, annotated_address k hk yk);
       kinds =
-          unfold lowFirst numberIn fieldAt in three (λ k. isData annotated k ≡ true → lies Flash (addressOf annotated k) ≡ true)
+          unfold low_first number_in field_at in three (λ k. is_data annotated k ≡ true → lies Flash (address_of annotated k) ≡ true)
           (λ y. refl) (λ y. clash false y refl) (λ y. refl);
       quiet = λ n. absurd (n refl);
-      passes = λ k h. rw (annotated-number k h) (least (eqb k 1));
+      passes = λ k h. rw (annotated_number k h) (least (eqb k 1));
     }
   where
     least : (b : Bool) → 12 ≤ cond b 16 14
     least true = omega arith
     least false = omega arith
 
-annotated-unguarded : Plain plain start annotated
-unfolding lowFirst numberIn fieldAt
-annotated-unguarded = three (λ k. isGuarded plain start annotated k ≡ false) refl refl refl
+annotated_unguarded : Plain plain start annotated
+unfolding low_first number_in field_at
+annotated_unguarded = three (λ k. is_guarded plain start annotated k ≡ false) refl refl refl
 
-annotated-whole : howMany annotated (seenOf annotated annotatedArrivals) ≡ 3
-annotated-whole = unfold lowFirst size among sameBytes in refl
+annotated_whole : how_many annotated (seen_of annotated annotated_arrivals) ≡ 3
+annotated_whole = unfold low_first size among same_bytes in refl
 
-pub met-with-a-comment : Met-with-a-comment
-unfolding Met-with-a-comment
-met-with-a-comment =
+pub met_with_a_comment : MetWithAComment
+unfolding MetWithAComment
+met_with_a_comment =
     record {
       idle = refl;
-      valid = annotated-valid;
-      unguarded = annotated-unguarded;
-      sent = own 2 (omega arith) (own 1 (omega arith) (other (arrivalOf 0x10010000 0 3 1) (foreign-by start annotated (arrivalOf 0x10010000 0 3 1) 11 beyond (omega arith) (omega arith) (λ n. absurd (n refl)))
-          (other (commentOf 3 3) (foreign-by start annotated (commentOf 3 3) 10 beyond-total (omega arith) (omega arith) (λ n. absurd (n refl))) (own 1 (omega arith) (own 0 (omega arith) nothing)))));
-      sent-too = own 0 (omega arith) (own 1 (omega arith) (own 2 (omega arith) nothing));
-      same = both-whole annotated annotatedArrivals annotatedInOrder annotated-whole (unfold lowFirst size among sameBytes in refl);
+      valid = annotated_valid;
+      unguarded = annotated_unguarded;
+      sent = own 2 (omega arith) (own 1 (omega arith) (other (arrival_of 0x10010000 0 3 1) (foreign_by start annotated (arrival_of 0x10010000 0 3 1) 11 beyond (omega arith) (omega arith) (λ n. absurd (n refl)))
+          (other (comment_of 3 3) (foreign_by start annotated (comment_of 3 3) 10 beyond_total (omega arith) (omega arith) (λ n. absurd (n refl))) (own 1 (omega arith) (own 0 (omega arith) nothing)))));
+      sent_too = own 0 (omega arith) (own 1 (omega arith) (own 2 (omega arith) nothing));
+      same = both_whole annotated annotated_arrivals annotated_in_order annotated_whole (unfold low_first size among same_bytes in refl);
     }
 
 -- so its file finishes, and a byte where block 1's page would be is 0xFF
-pub annotated-done : (receiveAll plain start annotatedArrivals .transfer ≡ Done (armHead 3))
-    × (getD (receiveAll plain start annotatedArrivals .held .flash) 300 0 ≡ 255)
-annotated-done =
-    let m : Met start annotated annotatedArrivals annotatedInOrder = unfold Met-with-a-comment in met-with-a-comment in
-    let e : Ends plain start annotated (seenOf annotated annotatedArrivals) (receiveAll plain start annotatedArrivals) =
-    unfold List-ends in list-ends plain start annotated (m .idle) (m .valid) annotatedArrivals (m .sent) (m .unguarded) in
-    (e .counts .whole annotated-whole, e .contents .erased 300 (within 300 (omega arith)) touched unheld)
+pub annotated_done : ((receive_all plain start annotated_arrivals).transfer ≡ Done (arm_head 3))
+    × (get_or (receive_all plain start annotated_arrivals).held.flash 300 0 ≡ 255)
+annotated_done =
+    let m : Met start annotated annotated_arrivals annotated_in_order = unfold MetWithAComment in met_with_a_comment in
+    let e : Ends plain start annotated (seen_of annotated annotated_arrivals) (receive_all plain start annotated_arrivals) =
+    unfold ListEnds in list_ends plain start annotated m.idle m.valid annotated_arrivals m.sent m.unguarded in
+    (e.counts.whole annotated_whole, e.contents.erased 300 (within 300 (omega arith)) touched unheld)
   where
-    touched : touchedBy plain start annotated (seenOf annotated annotatedArrivals) 0 ≡ true
-    touched = unfold lowFirst numberIn fieldAt placeOf any among sameBytes in refl
+    touched : touched_by plain start annotated (seen_of annotated annotated_arrivals) 0 ≡ true
+    touched = unfold low_first number_in field_at place_of any among same_bytes in refl
 
-    unheld : heldBy plain start annotated (seenOf annotated annotatedArrivals) Flash 300 ≡ false
-    unheld = unfold lowFirst numberIn fieldAt placeOf any among sameBytes in refl
+    unheld : held_by plain start annotated (seen_of annotated annotated_arrivals) Flash 300 ≡ false
+    unheld = unfold low_first number_in field_at place_of any among same_bytes in refl
 
 -- ---- comments alone
 
@@ -230,176 +230,176 @@ two P a b zero h = a
 two P a b (suc zero) h = b
 two P a b (suc (suc k)) h = absurd (omega arith)
 
-remarks-number : (k : ℕ) → k < 2 → answerNumber plain start (commentOf k 2) ≡ 16
-unfolding many any flashLength payloadOf lowFirst numberIn fieldAt fieldsOf flaggedOf headerOf goodSettings placeOf goodState counted raised accepted stepOf windowOf noteKind placed strayed noted dataFound noteFound found screenIn screenOf rightLengths standsAt afterScreening decide done receiveOf
-remarks-number = two (λ k. answerNumber plain start (commentOf k 2) ≡ 16) refl refl
+remarks_number : (k : ℕ) → k < 2 → answer_number plain start (comment_of k 2) ≡ 16
+unfolding many any flash_length payload_of low_first number_in field_at fields_of flagged_of header_of good_settings place_of good_state counted raised accepted step_of window_of note_kind placed strayed noted data_found note_found found screen_in screen_of right_lengths stands_at after_screening decide done receive_of
+remarks_number = two (λ k. answer_number plain start (comment_of k 2) ≡ 16) refl refl
 
-remarks-valid : ValidFile plain start remarks
-remarks-valid =
+remarks_valid : ValidFile plain start remarks
+remarks_valid =
     record {
       some = omega arith;
-      numbers = unfold lowFirst numberIn fieldAt in two (λ k. fieldAt (commentOf k 2) 20 ≡ k) refl refl;
-      families = unfold lowFirst numberIn fieldAt in two (λ k. fieldAt (commentOf k 2) 28 ≡ familyArmS) refl refl;
-      totals = unfold lowFirst numberIn fieldAt in two (λ k. fieldAt (commentOf k 2) 24 ≡ 2) refl refl;
-      disjoint = λ i k j hi hk yi. clash (isData remarks i) yi (notes i hi);
-      kinds = λ k h y. clash (isData remarks k) y (notes k h);
+      numbers = unfold low_first number_in field_at in two (λ k. field_at (comment_of k 2) 20 ≡ k) refl refl;
+      families = unfold low_first number_in field_at in two (λ k. field_at (comment_of k 2) 28 ≡ family_arm_s) refl refl;
+      totals = unfold low_first number_in field_at in two (λ k. field_at (comment_of k 2) 24 ≡ 2) refl refl;
+      disjoint = λ i k j hi hk yi. clash (is_data remarks i) yi (notes i hi);
+      kinds = λ k h y. clash (is_data remarks k) y (notes k h);
       quiet = λ n. absurd (n refl);
-      passes = λ k h. omega (arith, remarks-number k h);
+      passes = λ k h. omega (arith, remarks_number k h);
     }
   where
-    notes : (k : ℕ) → k < 2 → isData remarks k ≡ false
-    notes = unfold lowFirst numberIn fieldAt in two (λ k. isData remarks k ≡ false) refl refl
+    notes : (k : ℕ) → k < 2 → is_data remarks k ≡ false
+    notes = unfold low_first number_in field_at in two (λ k. is_data remarks k ≡ false) refl refl
 
-pub met-by-comments-alone : Met-by-comments-alone
-unfolding Met-by-comments-alone
-met-by-comments-alone =
+pub met_by_comments_alone : MetByCommentsAlone
+unfolding MetByCommentsAlone
+met_by_comments_alone =
     record {
       idle = refl;
-      valid = remarks-valid;
-      unguarded = unfold lowFirst numberIn fieldAt in two (λ k. isGuarded plain start remarks k ≡ false) refl refl;
+      valid = remarks_valid;
+      unguarded = unfold low_first number_in field_at in two (λ k. is_guarded plain start remarks k ≡ false) refl refl;
       sent = own 1 (omega arith) (own 0 (omega arith) nothing);
-      sent-too = own 0 (omega arith) (own 1 (omega arith) nothing);
-      same = both-whole remarks (commentOf 1 2 ∷ commentOf 0 2 ∷ []) (commentOf 0 2 ∷ commentOf 1 2 ∷ []) (unfold lowFirst size among sameBytes in refl) (unfold lowFirst size among sameBytes in refl);
+      sent_too = own 0 (omega arith) (own 1 (omega arith) nothing);
+      same = both_whole remarks (comment_of 1 2 ∷ comment_of 0 2 ∷ []) (comment_of 0 2 ∷ comment_of 1 2 ∷ []) (unfold low_first size among same_bytes in refl) (unfold low_first size among same_bytes in refl);
     }
 
 -- ---- a file in RAM
 
-ram-number : (k : ℕ) → k < 3 → answerNumber plain ramStart (ramBlock k) ≡ 14
-unfolding ramFamily many any flashLength payloadOf lowFirst numberIn fieldAt fieldsOf flaggedOf headerOf goodSettings placeOf goodState counted raised accepted stepOf windowOf noteKind placed strayed noted dataFound noteFound found screenIn screenOf rightLengths standsAt afterScreening decide done receiveOf
-ram-number = three (λ k. answerNumber plain ramStart (ramBlock k) ≡ 14) refl refl refl
+ram_number : (k : ℕ) → k < 3 → answer_number plain ram_start (ram_block k) ≡ 14
+unfolding ram_family many any flash_length payload_of low_first number_in field_at fields_of flagged_of header_of good_settings place_of good_state counted raised accepted step_of window_of note_kind placed strayed noted data_found note_found found screen_in screen_of right_lengths stands_at after_screening decide done receive_of
+ram_number = three (λ k. answer_number plain ram_start (ram_block k) ≡ 14) refl refl refl
 
-ram-address : (k : ℕ) → k < 3 → addressOf ramFile k ≡ 0x13ffc001 + k * 300
-unfolding lowFirst numberIn fieldAt
-ram-address = three (λ k. addressOf ramFile k ≡ 0x13ffc001 + k * 300) refl refl refl
+ram_address : (k : ℕ) → k < 3 → address_of ram_file k ≡ 0x13ffc001 + k * 300
+unfolding low_first number_in field_at
+ram_address = three (λ k. address_of ram_file k ≡ 0x13ffc001 + k * 300) refl refl refl
 
-ram-valid : ValidFile plain ramStart ramFile
-ram-valid =
+ram_valid : ValidFile plain ram_start ram_file
+ram_valid =
     record {
       some = omega arith;
-      numbers = unfold lowFirst numberIn fieldAt in three (λ k. fieldAt (ramBlock k) 20 ≡ k) refl refl refl;
-      families = unfold lowFirst numberIn fieldAt in three (λ k. fieldAt (ramBlock k) 28 ≡ familyArmS) refl refl refl;
-      totals = unfold lowFirst numberIn fieldAt in three (λ k. fieldAt (ramBlock k) 24 ≡ 3) refl refl refl;
+      numbers = unfold low_first number_in field_at in three (λ k. field_at (ram_block k) 20 ≡ k) refl refl refl;
+      families = unfold low_first number_in field_at in three (λ k. field_at (ram_block k) 28 ≡ family_arm_s) refl refl refl;
+      totals = unfold low_first number_in field_at in three (λ k. field_at (ram_block k) 24 ≡ 3) refl refl refl;
       disjoint = λ i k j hi hk yi yk p q.
-          let u = spans-true (addressOf ramFile i) j p in
-          let v = spans-true (addressOf ramFile k) j q in
-          omega (arith, u, v, ram-address i hi, ram-address k hk);
-      kinds = unfold lowFirst numberIn fieldAt in three (λ k. isData ramFile k ≡ true → lies XipRam (addressOf ramFile k) ≡ true) (λ y. refl) (λ y. refl) (λ y. refl);
-      quiet = unfold lowFirst numberIn fieldAt in λ n. three (λ k. isData ramFile k ≡ true) refl refl refl;
-      passes = λ k h. omega (arith, ram-number k h);
+          let u = spans_true (address_of ram_file i) j p in
+          let v = spans_true (address_of ram_file k) j q in
+          omega (arith, u, v, ram_address i hi, ram_address k hk);
+      kinds = unfold low_first number_in field_at in three (λ k. is_data ram_file k ≡ true → lies XipRam (address_of ram_file k) ≡ true) (λ y. refl) (λ y. refl) (λ y. refl);
+      quiet = unfold low_first number_in field_at in λ n. three (λ k. is_data ram_file k ≡ true) refl refl refl;
+      passes = λ k h. omega (arith, ram_number k h);
     }
 
 -- the answers to the foreign arrivals, of which none is a comment of the file's total
-ram-beyond : (answerNumber plain ramStart (arrivalOf 0x13ffff01 0 3 1) ≡ 11) × (answerNumber plain ramStart (arrivalOf 0x10010000 0 3 1) ≡ 11) × (answerNumber plain ramStart (commentOf 0 257) ≡ 10)
-unfolding ramFamily many any flashLength payloadOf lowFirst numberIn fieldAt fieldsOf flaggedOf headerOf goodSettings placeOf goodState counted raised accepted stepOf windowOf noteKind placed strayed noted dataFound noteFound found screenIn screenOf rightLengths standsAt afterScreening decide done receiveOf
-ram-beyond = (refl, refl, refl)
+ram_beyond : (answer_number plain ram_start (arrival_of 0x13ffff01 0 3 1) ≡ 11) × (answer_number plain ram_start (arrival_of 0x10010000 0 3 1) ≡ 11) × (answer_number plain ram_start (comment_of 0 257) ≡ 10)
+unfolding ram_family many any flash_length payload_of low_first number_in field_at fields_of flagged_of header_of good_settings place_of good_state counted raised accepted step_of window_of note_kind placed strayed noted data_found note_found found screen_in screen_of right_lengths stands_at after_screening decide done receive_of
+ram_beyond = (refl, refl, refl)
 
-no-comment : (isCommentOf ramFile (arrivalOf 0x13ffff01 0 3 1) ≡ false) × (isCommentOf ramFile (arrivalOf 0x10010000 0 3 1) ≡ false) × (isCommentOf ramFile (commentOf 0 257) ≡ false)
-unfolding lowFirst numberIn fieldAt fieldsOf flaggedOf headerOf
-no-comment = (refl, refl, refl)
+no_comment : (is_comment_of ram_file (arrival_of 0x13ffff01 0 3 1) ≡ false) × (is_comment_of ram_file (arrival_of 0x10010000 0 3 1) ≡ false) × (is_comment_of ram_file (comment_of 0 257) ≡ false)
+unfolding low_first number_in field_at fields_of flagged_of header_of
+no_comment = (refl, refl, refl)
 
-ram-whole : howMany ramFile (seenOf ramFile ramArrivals) ≡ 3
-ram-whole = unfold lowFirst size among sameBytes in refl
+ram_whole : how_many ram_file (seen_of ram_file ram_arrivals) ≡ 3
+ram_whole = unfold low_first size among same_bytes in refl
 
-pub met-in-ram : Met-in-RAM
-unfolding Met-in-RAM
-met-in-ram =
+pub met_in_ram : MetInRam
+unfolding MetInRam
+met_in_ram =
     record {
       idle = refl;
-      valid = ram-valid;
+      valid = ram_valid;
       unguarded = λ k h. refl;
       sent = own 2 (omega arith) (own 0 (omega arith)
-          (other (arrivalOf 0x13ffff01 0 3 1) (foreign-by ramStart ramFile (arrivalOf 0x13ffff01 0 3 1) 11 (ram-beyond .0) (omega arith) (omega arith) (λ n. no-comment .0))
-          (other (arrivalOf 0x10010000 0 3 1) (foreign-by ramStart ramFile (arrivalOf 0x10010000 0 3 1) 11 (ram-beyond .1) (omega arith) (omega arith) (λ n. no-comment .1))
-          (other (commentOf 0 257) (foreign-by ramStart ramFile (commentOf 0 257) 10 (ram-beyond .2) (omega arith) (omega arith) (λ n. no-comment .2))
+          (other (arrival_of 0x13ffff01 0 3 1) (foreign_by ram_start ram_file (arrival_of 0x13ffff01 0 3 1) 11 ram_beyond.0 (omega arith) (omega arith) (λ n. no_comment.0))
+          (other (arrival_of 0x10010000 0 3 1) (foreign_by ram_start ram_file (arrival_of 0x10010000 0 3 1) 11 ram_beyond.1 (omega arith) (omega arith) (λ n. no_comment.1))
+          (other (comment_of 0 257) (foreign_by ram_start ram_file (comment_of 0 257) 10 ram_beyond.2 (omega arith) (omega arith) (λ n. no_comment.2))
           (own 2 (omega arith) (own 1 (omega arith) nothing))))));
-      sent-too = own 0 (omega arith) (own 1 (omega arith) (own 2 (omega arith) nothing));
-      same = both-whole ramFile ramArrivals ramInOrder ram-whole (unfold lowFirst size among sameBytes in refl);
+      sent_too = own 0 (omega arith) (own 1 (omega arith) (own 2 (omega arith) nothing));
+      same = both_whole ram_file ram_arrivals ram_in_order ram_whole (unfold low_first size among same_bytes in refl);
     }
 
 -- so the theorem gives its end: the transfer carries the kind, and no sector is marked
-pub ram-done : (receiveAll plain ramStart ramArrivals .transfer ≡ Done (headTo XipRam 3)) × (receiveAll plain ramStart ramArrivals .held .sectors ≡ mapOf 1024 none)
-ram-done =
-    let m : Met ramStart ramFile ramArrivals ramInOrder = unfold Met-in-RAM in met-in-ram in
-    let e : Ends plain ramStart ramFile (seenOf ramFile ramArrivals) (receiveAll plain ramStart ramArrivals) =
-    unfold List-ends in list-ends plain ramStart ramFile (m .idle) (m .valid) ramArrivals (m .sent) (m .unguarded) in
-    (e .counts .whole ram-whole, e .sector-map (omega (arith, ram-whole)))
+pub ram_done : ((receive_all plain ram_start ram_arrivals).transfer ≡ Done (head_to XipRam 3)) × ((receive_all plain ram_start ram_arrivals).held.sectors ≡ map_of 1024 none)
+ram_done =
+    let m : Met ram_start ram_file ram_arrivals ram_in_order = unfold MetInRam in met_in_ram in
+    let e : Ends plain ram_start ram_file (seen_of ram_file ram_arrivals) (receive_all plain ram_start ram_arrivals) =
+    unfold ListEnds in list_ends plain ram_start ram_file m.idle m.valid ram_arrivals m.sent m.unguarded in
+    (e.counts.whole ram_whole, e.sector_map (omega (arith, ram_whole)))
 
 -- what holds of 0 holds below 1
 one : (P : ℕ → Type 0) → P 0 → (k : ℕ) → k < 1 → P k
 one P a zero h = a
 one P a (suc k) h = absurd (omega arith)
 
-main-number : (k : ℕ) → k < 1 → answerNumber plain mainStart (mainFile .block k) ≡ 15
-unfolding ramFamily many any flashLength payloadOf lowFirst numberIn fieldAt fieldsOf flaggedOf headerOf goodSettings placeOf goodState counted raised accepted stepOf windowOf noteKind placed strayed noted dataFound noteFound found screenIn screenOf rightLengths standsAt afterScreening decide done receiveOf
-main-number = one (λ k. answerNumber plain mainStart (mainFile .block k) ≡ 15) refl
+main_number : (k : ℕ) → k < 1 → answer_number plain main_start (main_file.block k) ≡ 15
+unfolding ram_family many any flash_length payload_of low_first number_in field_at fields_of flagged_of header_of good_settings place_of good_state counted raised accepted step_of window_of note_kind placed strayed noted data_found note_found found screen_in screen_of right_lengths stands_at after_screening decide done receive_of
+main_number = one (λ k. answer_number plain main_start (main_file.block k) ≡ 15) refl
 
-main-valid : ValidFile plain mainStart mainFile
-main-valid =
+main_valid : ValidFile plain main_start main_file
+main_valid =
     record {
       some = omega arith;
-      numbers = unfold lowFirst numberIn fieldAt in one (λ k. fieldAt (mainFile .block k) 20 ≡ k) refl;
-      families = unfold lowFirst numberIn fieldAt in one (λ k. fieldAt (mainFile .block k) 28 ≡ familyArmS) refl;
-      totals = unfold lowFirst numberIn fieldAt in one (λ k. fieldAt (mainFile .block k) 24 ≡ 1) refl;
+      numbers = unfold low_first number_in field_at in one (λ k. field_at (main_file.block k) 20 ≡ k) refl;
+      families = unfold low_first number_in field_at in one (λ k. field_at (main_file.block k) 28 ≡ family_arm_s) refl;
+      totals = unfold low_first number_in field_at in one (λ k. field_at (main_file.block k) 24 ≡ 1) refl;
       disjoint = λ i k j hi hk yi yk p q. omega arith;
-      kinds = unfold lowFirst numberIn fieldAt in one (λ k. isData mainFile k ≡ true → lies MainRam (addressOf mainFile k) ≡ true) (λ y. refl);
-      quiet = unfold lowFirst numberIn fieldAt in λ n. one (λ k. isData mainFile k ≡ true) refl;
-      passes = λ k h. omega (arith, main-number k h);
+      kinds = unfold low_first number_in field_at in one (λ k. is_data main_file k ≡ true → lies MainRam (address_of main_file k) ≡ true) (λ y. refl);
+      quiet = unfold low_first number_in field_at in λ n. one (λ k. is_data main_file k ≡ true) refl;
+      passes = λ k h. omega (arith, main_number k h);
     }
 
-main-whole : (howMany mainFile (seenOf mainFile (mainFile .block 0 ∷ mainFile .block 0 ∷ [])) ≡ 1) × (howMany mainFile (seenOf mainFile (mainFile .block 0 ∷ [])) ≡ 1)
-main-whole = unfold lowFirst size among sameBytes in (refl, refl)
+main_whole : (how_many main_file (seen_of main_file (main_file.block 0 ∷ main_file.block 0 ∷ [])) ≡ 1) × (how_many main_file (seen_of main_file (main_file.block 0 ∷ [])) ≡ 1)
+main_whole = unfold low_first size among same_bytes in (refl, refl)
 
-pub met-in-main-ram : Met-in-main-RAM
-unfolding Met-in-main-RAM
-met-in-main-ram =
+pub met_in_main_ram : MetInMainRam
+unfolding MetInMainRam
+met_in_main_ram =
     record {
       idle = refl;
-      valid = main-valid;
+      valid = main_valid;
       unguarded = λ k h. refl;
       sent = own 0 (omega arith) (own 0 (omega arith) nothing);
-      sent-too = own 0 (omega arith) nothing;
-      same = both-whole mainFile (mainFile .block 0 ∷ mainFile .block 0 ∷ []) (mainFile .block 0 ∷ []) (main-whole .0) (main-whole .1);
+      sent_too = own 0 (omega arith) nothing;
+      same = both_whole main_file (main_file.block 0 ∷ main_file.block 0 ∷ []) (main_file.block 0 ∷ []) main_whole.0 main_whole.1;
     }
 
 -- ---- a stopped update
 
-stopped-beyond : answerNumber plain stopped (arrivalOf 0x10010000 0 3 1) ≡ 11
-unfolding many any flashLength payloadOf lowFirst numberIn fieldAt fieldsOf flaggedOf headerOf goodSettings placeOf goodState counted raised accepted stepOf windowOf noteKind placed strayed noted dataFound noteFound found screenIn screenOf rightLengths standsAt afterScreening decide done receiveOf
-stopped-beyond = refl
+stopped_beyond : answer_number plain stopped (arrival_of 0x10010000 0 3 1) ≡ 11
+unfolding many any flash_length payload_of low_first number_in field_at fields_of flagged_of header_of good_settings place_of good_state counted raised accepted step_of window_of note_kind placed strayed noted data_found note_found found screen_in screen_of right_lengths stands_at after_screening decide done receive_of
+stopped_beyond = refl
 
-pub met-by-a-stopped-transfer : Met-by-a-stopped-transfer
-unfolding Met-by-a-stopped-transfer
-met-by-a-stopped-transfer =
+pub met_by_a_stopped_transfer : MetByAStoppedTransfer
+unfolding MetByAStoppedTransfer
+met_by_a_stopped_transfer =
     record {
       before =
           record {
-            run = record { head = armHead 5; count = 2 };
+            run = record { head = arm_head 5; count = 2 };
             running = refl;
-            sound = unfold goodState in refl;
-            differs = λ e. absurd (omega (arith, ap (λ (h : Head). h .total) e));
+            sound = unfold good_state in refl;
+            differs = λ e. absurd (omega (arith, ap (λ (h : Head). h.total) e));
             quiet = λ f t. absurd (omega (arith, t));
             idle = refl;
             lengths = refl;
-            seen-length = length-replicate {A = ℕ} 16384 255 ∙ sym (length-replicate {A = ℕ} 16384 9);
-            sectors-length = length-replicate {A = ℕ} 1024 255 ∙ sym (length-replicate {A = ℕ} 1024 9);
+            seen_length = length-replicate {A = ℕ} 16384 255 ∙ sym (length-replicate {A = ℕ} 16384 9);
+            sectors_length = length-replicate {A = ℕ} 1024 255 ∙ sym (length-replicate {A = ℕ} 1024 9);
           };
       valid = valid;
       unguarded = unguarded;
-      sent = own 2 (omega arith) (own 0 (omega arith) (own 2 (omega arith) (other (arrivalOf 0x10010000 0 3 1) both-starts (own 1 (omega arith) (own 0 (omega arith) nothing)))));
+      sent = own 2 (omega arith) (own 0 (omega arith) (own 2 (omega arith) (other (arrival_of 0x10010000 0 3 1) both-starts (own 1 (omega arith) (own 0 (omega arith) nothing)))));
       some = omega (arith, whole);
     }
   where
-    both-starts : ForeignToBoth plain stopped start file (arrivalOf 0x10010000 0 3 1)
+    both-starts : ForeignToBoth plain stopped start file (arrival_of 0x10010000 0 3 1)
     both-starts =
         record {
-          foreign = foreign-by start file (arrivalOf 0x10010000 0 3 1) 11 beyond (omega arith) (omega arith) (λ n. absurd (n refl));
-          least = omega (arith, stopped-beyond);
-          most = omega (arith, stopped-beyond);
+          foreign = foreign_by start file (arrival_of 0x10010000 0 3 1) 11 beyond (omega arith) (omega arith) (λ n. absurd (n refl));
+          least = omega (arith, stopped_beyond);
+          most = omega (arith, stopped_beyond);
         }
 
 -- so the theorem gives its end: as from Idle
-pub stopped-done : EndsAlike plain start file arrivals (receiveAll plain stopped arrivals) (receiveAll plain start arrivals)
-unfolding Met-by-a-stopped-transfer Stopped-then-good
-stopped-done =
-    let m = met-by-a-stopped-transfer in
-    stopped-then-good plain stopped start file (m .before) (m .valid) (m .unguarded) arrivals (m .sent) (m .some)
+pub stopped_done : EndsAlike plain start file arrivals (receive_all plain stopped arrivals) (receive_all plain start arrivals)
+unfolding MetByAStoppedTransfer StoppedThenGood
+stopped_done =
+    let m = met_by_a_stopped_transfer in
+    stopped_then_good plain stopped start file m.before m.valid m.unguarded arrivals m.sent m.some

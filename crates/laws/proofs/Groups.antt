@@ -1,41 +1,41 @@
 -- Fields of small widths, taken together as fields of larger widths, have the same number. Assumes nothing.
-use mathlib.Core.Path.{_≡_, refl, _∙_}
-use mathlib.Core.List.{List, [], _∷_, _++_}
-use Prim.Native.Nat.{ℕ, _+_, _*_, _^_, _<_}
-use native.Mathlib.Nat.{mul-assoc, add-mul}
+use mathlib.Core.Path.{◌≡◌, refl, ◌∙◌}
+use mathlib.Core.List.{List, [], ◌∷◌, ◌++◌}
+use Prim.Native.Nat.{ℕ, ◌+◌, ◌*◌, ◌^◌, ◌<◌}
+use native.Mathlib.Nat.{mul_assoc, add-mul}
 use native.Mathlib.Omega.{arith}
 use lib.Pow.{pow-add}
-use Rattle·laws·specs.specs.Packing.{total, packed, unpacked, octets, Fit, none, one}
-use Rattle·laws·proofs.proofs.Widths.{total-append, unpacked-fit, packed-unpacked}
+use Rattle.laws.specs.Packing.{total, packed, unpacked, octets, Fit, none, one}
+use Rattle.laws.proofs.Widths.{total_append, unpacked_fit, packed_unpacked}
 
-pub packed-append : {ws vs : List ℕ} (us xs : List ℕ) → Fit ws vs → packed (ws ++ us) (vs ++ xs) ≡ packed ws vs * 2 ^ total us + packed us xs
+pub packed_append : {ws vs : List ℕ} (us xs : List ℕ) → Fit ws vs → packed (ws ++ us) (vs ++ xs) ≡ packed ws vs * 2 ^ total us + packed us xs
 unfolding packed total
-packed-append us xs none = omega arith
-packed-append us xs (one {w} {v} {ws} {vs} h f) =
-    rw (packed-append us xs f, total-append ws us, pow-add 2 (total ws) (total us), add-mul (v * 2 ^ total ws) (packed ws vs) (2 ^ total us), mul-assoc v (2 ^ total ws) (2 ^ total us))
+packed_append us xs none = omega arith
+packed_append us xs (one {w} {v} {ws} {vs} h f) =
+    rw (packed_append us xs f, total_append ws us, pow-add 2 (total ws) (total us), add-mul (v * 2 ^ total ws) (packed ws vs) (2 ^ total us), mul_assoc v (2 ^ total ws) (2 ^ total us))
     (omega arith)
 
 pub data Coarse : List ℕ → List ℕ → List ℕ → List ℕ → Type 0 where
   done : Coarse [] [] [] []
   group : {ws vs us xs us' xs' : List ℕ} {t n : ℕ} → Fit ws vs → total ws ≡ t → packed ws vs ≡ n → Coarse us xs us' xs' → Coarse (ws ++ us) (vs ++ xs) (t ∷ us') (n ∷ xs')
 
-pub coarse-total : {ws vs us xs : List ℕ} → Coarse ws vs us xs → total ws ≡ total us
+pub coarse_total : {ws vs us xs : List ℕ} → Coarse ws vs us xs → total ws ≡ total us
 unfolding total
-coarse-total done = refl
-coarse-total (group {ws} {vs} {us} f e p g) = total-append ws us ∙ (rw (e, coarse-total g) refl)
+coarse_total done = refl
+coarse_total (group {ws} {vs} {us} f e p g) = total_append ws us ∙ (rw (e, coarse_total g) refl)
 
-pub coarse-packed : {ws vs us xs : List ℕ} → Coarse ws vs us xs → packed ws vs ≡ packed us xs
+pub coarse_packed : {ws vs us xs : List ℕ} → Coarse ws vs us xs → packed ws vs ≡ packed us xs
 unfolding packed
-coarse-packed done = refl
-coarse-packed (group {ws} {vs} {us} {xs} f e p g) = packed-append us xs f ∙ (rw (p, coarse-total g, coarse-packed g) refl)
+coarse_packed done = refl
+coarse_packed (group {ws} {vs} {us} {xs} f e p g) = packed_append us xs f ∙ (rw (p, coarse_total g, coarse_packed g) refl)
 
-pub fit-append : {ws vs us xs : List ℕ} → Fit ws vs → Fit us xs → Fit (ws ++ us) (vs ++ xs)
-fit-append none g = g
-fit-append (one h f) g = one h (fit-append f g)
+pub fit_append : {ws vs us xs : List ℕ} → Fit ws vs → Fit us xs → Fit (ws ++ us) (vs ++ xs)
+fit_append none g = g
+fit_append (one h f) g = one h (fit_append f g)
 
-pub coarse-fit : {ws vs us xs : List ℕ} → Coarse ws vs us xs → Fit ws vs
-coarse-fit done = none
-coarse-fit (group f e p g) = fit-append f (coarse-fit g)
+pub coarse_fit : {ws vs us xs : List ℕ} → Coarse ws vs us xs → Fit ws vs
+coarse_fit done = none
+coarse_fit (group f e p g) = fit_append f (coarse_fit g)
 
 -- groups of one field, of two, and of n bytes
 module _ {us xs us' xs' : List ℕ} where
@@ -46,13 +46,13 @@ module _ {us xs us' xs' : List ℕ} where
   pub pair : (k j p q n : ℕ) → p < 2 ^ k → q < 2 ^ j → p * 2 ^ j + q ≡ n → Coarse us xs us' xs' → Coarse (k ∷ j ∷ us) (p ∷ q ∷ xs) ((k + j) ∷ us') (n ∷ xs')
   unfolding total packed
   pair k j p q n hp hq e g =
-      group {ws = k ∷ j ∷ []} {vs = p ∷ q ∷ []} {t = k + j} {n = n} (one hp (one hq none)) (omega arith) (rw zero-right (omega arith)) g
+      group {ws = k ∷ j ∷ []} {vs = p ∷ q ∷ []} {t = k + j} {n = n} (one hp (one hq none)) (omega arith) (rw zero_right (omega arith)) g
     where
-      zero-right : j + 0 ≡ j
-      zero-right = omega arith
+      zero_right : j + 0 ≡ j
+      zero_right = omega arith
 
   pub many : (ws : List ℕ) (a : ℕ) → a < 2 ^ total ws → Coarse us xs us' xs' → Coarse (ws ++ us) (unpacked ws a ++ xs) (total ws ∷ us') (a ∷ xs')
-  many ws a h g = group (unpacked-fit ws a) refl (packed-unpacked ws a h) g
+  many ws a h g = group (unpacked_fit ws a) refl (packed_unpacked ws a h) g
 
   pub octs : (n a : ℕ) → a < 2 ^ total (octets n) → Coarse us xs us' xs' → Coarse (octets n ++ us) (unpacked (octets n) a ++ xs) (total (octets n) ∷ us') (a ∷ xs')
-  octs n a h g = group (unpacked-fit (octets n) a) refl (packed-unpacked (octets n) a h) g
+  octs n a h g = group (unpacked_fit (octets n) a) refl (packed_unpacked (octets n) a h) g

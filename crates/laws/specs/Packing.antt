@@ -1,9 +1,6 @@
 -- Fields of given widths, packed "most significant bit first" (02, L5): the first field holds the highest bits of one number, and n bytes are
 -- that number as n fields of 8 bits. Assumes nothing.
-use Prim.Native.Nat.{ℕ, zero, suc, _+_, _*_, _/_, _%_, _^_, _<_}
-use mathlib.Core.Bool.{Bool, true, false}
-use mathlib.Core.List.{List, [], _∷_}
-use lib.Dec.{eqb}
+use Rattle.std.specs.Prelude.{ℕ, zero, suc, ◌+◌, ◌*◌, ◌/◌, ◌%◌, ◌^◌, ◌<◌, Bool, true, false, List, [], ◌∷◌, eqb}
 
 -- the bits of fields of the widths ws
 unfoldable pub total : List ℕ → ℕ
@@ -27,12 +24,12 @@ octets zero = []
 octets (suc n) = 8 ∷ octets n
 
 -- fields of the widths ws as n bytes
-unfoldable pub bytesOf : List ℕ → ℕ → List ℕ → List ℕ
-bytesOf ws n vs = unpacked (octets n) (packed ws vs)
+unfoldable pub bytes_of : List ℕ → ℕ → List ℕ → List ℕ
+bytes_of ws n vs = unpacked (octets n) (packed ws vs)
 
 -- and back
-unfoldable pub fieldsOf : List ℕ → ℕ → List ℕ → List ℕ
-fieldsOf ws n bs = unpacked ws (packed (octets n) bs)
+unfoldable pub fields_of : List ℕ → ℕ → List ℕ → List ℕ
+fields_of ws n bs = unpacked ws (packed (octets n) bs)
 
 -- each field fits its width
 pub data Fit : List ℕ → List ℕ → Type 0 where

@@ -1,6 +1,5 @@
 -- Rows one after the other. Assumes nothing.
-use Prim.Native.Nat.{ℕ, zero, suc}
-use mathlib.Core.List.{List, [], _++_}
+use Rattle.std.specs.Prelude.{ℕ, zero, suc, List, [], ◌++◌}
 
 -- f 0, f 1, .. , n of them, as one list
 unfoldable pub rows : (ℕ → List ℕ) → ℕ → List ℕ

@@ -1,7 +1,5 @@
 -- Sets of numbers as tests: how many below n a set holds, whether one below n passes a test, and which is the least. Assumes nothing.
-use mathlib.Core.Bool.{Bool, true, false, cond, _||_}
-use Prim.Native.Nat.{ℕ, zero, suc, _+_}
-use lib.Dec.{eqb}
+use Rattle.std.specs.Prelude.{Bool, true, false, cond, ◌||◌, ℕ, zero, suc, ◌+◌, eqb}
 
 -- the numbers that pass a test
 abbrev pub Set : Type 0

@@ -1,6 +1,5 @@
 -- A list by the value at each index. Assumes nothing.
-use mathlib.Core.List.{List, [], _∷_}
-use Prim.Native.Nat.{ℕ, zero, suc}
+use Rattle.std.specs.Prelude.{List, [], ◌∷◌, ℕ, zero, suc}
 
 -- f i, f (i + 1), .. , n of them
 unfoldable pub from : ℕ → (ℕ → ℕ) → ℕ → List ℕ

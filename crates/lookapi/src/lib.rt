@@ -1,10 +1,12 @@
 // A look at an arrival for C: a library of its own, so that the call is compiled as one piece.
-ghost use mathlib.Core.Path.{_≡_};
-ghost use Rattle·arrival.specs.Lending.{lentAt};
-ghost use Rattle·call_bytes.specs.Calls.{lookCallOf};
+#![tactic(auto)]
+
+ghost use Rattle.std.specs.Prelude.{◌≡◌};
+ghost use Rattle.arrival.specs.Lending.{lent_at};
+ghost use Rattle.call_bytes.specs.Calls.{look_call_of};
 
 // A look at one arrival: what `uf2_take` would return. Nothing is written.
-#[no_mangle]
+#[unsafe(no_mangle)]
 pub extern "C" fn uf2_look(
     settings: &[u8],
     transfer: &[u8],
@@ -15,7 +17,7 @@ pub extern "C" fn uf2_look(
     main: &[u8],
     xip: &[u8],
 ) -> u32
-    ensures { λ r. ⌜ r ≡ lookCallOf settings transfer arrival (lentAt flash seen sectors main xip) ⌝ }
+    ensures { result ≡ look_call_of settings.now transfer.now arrival.now (lent_at flash.now seen.now sectors.now main.now xip.now) }
 {
     let s = settings_layout::read_settings(settings);
     let t = transfer_layout::read_transfer(transfer);

@@ -1,4 +1,6 @@
 // Prints the MD5 digests of the strings of RFC 1321's test suite (A.5), in the lines that the RFC has.
+#![tactic(auto)]
+
 use libc::STDOUT_FILENO;
 
 // A word's four bytes in hexadecimal, the lowest first.
@@ -11,7 +13,7 @@ fn print_word(word: u32) {
 }
 
 fn print_line(text: &[u8]) {
-    let digest = md5::hash(text);
+    let digest = md5_digest::hash(text);
     io::write_all(STDOUT_FILENO, b"MD5 (\"");
     io::write_all(STDOUT_FILENO, text);
     io::write_all(STDOUT_FILENO, b"\") = ");

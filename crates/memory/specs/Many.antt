@@ -1,7 +1,5 @@
 -- One value many times. Assumes nothing.
-use Prim.Native.Nat.{ℕ}
-use mathlib.Core.List.{List}
-use lib.ListN.{replicate}
+use Rattle.std.specs.Prelude.{ℕ, List, replicate}
 
 -- n bytes of value v
 unfoldable pub many : ℕ → ℕ → List ℕ

@@ -1,11 +1,10 @@
 // A map of marks in lent bytes: item k is byte k / 8, bit k % 8 counted from the most significant.
-ghost use mathlib.Core.Path.{_≡_};
-ghost use lib.ListN.{length};
-ghost use Rattle·memory·specs.specs.Bitmap.{markedIn, withMark, unmarked};
+ghost use Rattle.std.specs.Prelude.{◌≡◌, length};
+ghost use Rattle.memory.specs.Bitmap.{marked_in, with_mark, unmarked};
 
 // Is item k marked? Past the map's end nothing is.
 pub fn marked(map: &[u8], k: usize) -> bool
-    ensures { λ r. ⌜ r ≡ markedIn (now (map .entry)) k ⌝ }
+    ensures { result ≡ marked_in map.now k }
 {
     let at = k / 8;
     if at < map.len() {
@@ -17,7 +16,7 @@ pub fn marked(map: &[u8], k: usize) -> bool
 
 // Marks item k. Past the map's end nothing changes.
 pub fn mark(map: &mut [u8], k: usize)
-    ensures { λ _. ⌜ now (map .exit) ≡ withMark (now (map .entry)) k ⌝ }
+    ensures { map.new ≡ with_mark map.old k }
 {
     let at = k / 8;
     if at < map.len() {
@@ -27,7 +26,7 @@ pub fn mark(map: &mut [u8], k: usize)
 
 // Takes every mark away.
 pub fn clear(map: &mut [u8])
-    ensures { λ _. ⌜ now (map .exit) ≡ unmarked (length (now (map .entry))) ⌝ }
+    ensures { map.new ≡ unmarked (length map.old) }
 {
     crate::fill::fill(map, 0);
 }

@@ -1,19 +1,17 @@
 // Where ranges of 256 bytes start, in two lent maps: of each cell of 256 bytes whether one starts in it, and how far from the cell's start.
-ghost use mathlib.Core.Path.{_≡_};
-ghost use Prim.Native.Nat.{_/_, _%_, _<_};
-ghost use lib.ListN.{getD, set};
-ghost use Rattle·memory·specs.specs.Bitmap.{withMark};
-ghost use Rattle·memory·specs.specs.Cells.{touchesIn, leftIn};
+ghost use Rattle.std.specs.Prelude.{◌≡◌, ◌/◌, ◌%◌, ◌<◌, get_or, set};
+ghost use Rattle.memory.specs.Bitmap.{with_mark};
+ghost use Rattle.memory.specs.Cells.{touches_in, left_in};
 
 fn wide(x: u8) -> usize
-    ensures { λ r. ⌜ r ≡ x ⌝ }
+    ensures { result ≡ x }
 {
     x as usize
 }
 
 // How far from its cell's start a range starts; past the map's end at it.
 fn offset_of(offsets: &[u8], cell: usize) -> usize
-    ensures { λ r. ⌜ r ≡ getD (now (offsets .entry)) cell 0 ⌝ }
+    ensures { result ≡ get_or offsets.now cell 0 }
 {
     if cell < offsets.len() {
         wide(offsets[cell])
@@ -24,8 +22,8 @@ fn offset_of(offsets: &[u8], cell: usize) -> usize
 
 // Does a range that starts in the cell, `offset` bytes from its start, have a byte in common with one that starts in the cell before or after?
 fn touches_beside(cells: &[u8], offsets: &[u8], cell: usize, offset: usize) -> bool
-    requires { ⌜ cell < 0x1000000000000000 ⌝ }
-    ensures { λ r. ⌜ r ≡ leftIn (now (cells .entry)) (now (offsets .entry)) cell offset ⌝ }
+    requires { cell < 0x1000000000000000 }
+    ensures { result ≡ left_in cells.now offsets.now cell offset }
 {
     let next = cell + 1;
     let after = crate::bitmap::marked(cells, next);
@@ -44,7 +42,7 @@ fn touches_beside(cells: &[u8], offsets: &[u8], cell: usize, offset: usize) -> b
 
 // Does the range from `at` on have a byte in common with one that the maps hold?
 pub fn touches(cells: &[u8], offsets: &[u8], at: usize) -> bool
-    ensures { λ r. ⌜ r ≡ touchesIn (now (cells .entry)) (now (offsets .entry)) at ⌝ }
+    ensures { result ≡ touches_in cells.now offsets.now at }
 {
     let cell = at / 256;
     if crate::bitmap::marked(cells, cell) {
@@ -55,7 +53,7 @@ pub fn touches(cells: &[u8], offsets: &[u8], at: usize) -> bool
 
 // The range from `at` on is entered.
 pub fn enter(cells: &mut [u8], offsets: &mut [u8], at: usize)
-    ensures { λ _. ⌜ (now (cells .exit) ≡ withMark (now (cells .entry)) (at / 256)) × (now (offsets .exit) ≡ set (now (offsets .entry)) (at / 256) (at % 256)) ⌝ }
+    ensures { (cells.new ≡ with_mark cells.old (at / 256)) × (offsets.new ≡ set offsets.old (at / 256) (at % 256)) }
 {
     let cell = at / 256;
     crate::bitmap::mark(cells, cell);

@@ -1,8 +1,9 @@
 // The lent flash: whether its length is right, a sector erased, a payload stored.
-ghost use mathlib.Core.Path.{_≡_};
-ghost use Rattle·memory·specs.specs.Flash.{flashLength, eraseAt, payloadOf, storeAt};
+ghost use Rattle.std.specs.Prelude.{◌≡◌};
+ghost use Rattle.memory.specs.Flash.{flash_length, erase_at, payload_of, store_at};
 
 // A flash by its length. It names the sizes; the bytes themselves are lent as a slice.
+#[derive(Clone, Copy)]
 pub struct Flash {
     pub len: usize,
 }
@@ -27,14 +28,14 @@ impl Flash {
 
 // May a flash have this length?
 pub fn right_length(len: usize) -> bool
-    ensures { λ r. ⌜ r ≡ flashLength len ⌝ }
+    ensures { result ≡ flash_length len }
 {
     (len % Flash::SECTOR == 0) & (Flash::MIN <= len) & (len <= Flash::MAX)
 }
 
 // Sets the bytes of a sector to 0xFF. A sector past the end changes nothing.
 pub fn erase(flash: &mut [u8], sector: usize)
-    ensures { λ _. ⌜ now (flash .exit) ≡ eraseAt (now (flash .entry)) sector ⌝ }
+    ensures { flash.new ≡ erase_at flash.old sector }
 {
     if sector < flash.len() / Flash::SECTOR {
         let a = sector * Flash::SECTOR;
@@ -45,7 +46,7 @@ pub fn erase(flash: &mut [u8], sector: usize)
 
 // Stores the payload of an arrival at an address of the flash, or of another lent buffer. Where either does not fit nothing changes.
 pub fn store(flash: &mut [u8], at: usize, arrival: &[u8])
-    ensures { λ _. ⌜ now (flash .exit) ≡ storeAt (now (flash .entry)) at (payloadOf (now (arrival .entry))) ⌝ }
+    ensures { flash.new ≡ store_at flash.old at (payload_of arrival.now) }
 {
     if arrival.len() < Flash::TO {
         return;
@@ -58,5 +59,5 @@ pub fn store(flash: &mut [u8], at: usize, arrival: &[u8])
     if flash.len() < e {
         return;
     }
-    bytes::copy(&arrival[Flash::FROM..Flash::TO], &mut flash[at..e]);
+    flash[at..e].copy_from_slice(&arrival[Flash::FROM..Flash::TO]);
 }

@@ -1,13 +1,9 @@
 -- What the calls for parts answer and leave. Assumes nothing.
-use Prim.Native.Nat.{ℕ}
-use mathlib.Core.Bool.{cond}
-use mathlib.Core.List.{List}
-use lib.Dec.{eqb}
-use lib.ListN.{length}
-use Rattle·trace_layout.specs.Reports.{reportFrom}
-use Rattle·trace_parts.specs.declared.Part.{Part}
-use Rattle·trace_parts.specs.Merging.{MergeOutcome, outcomeNumber, oneOf, mergeOf}
-use Rattle·partapi·specs.specs.Parts.{partFrom, partWritten}
+use Rattle.std.specs.Prelude.{ℕ, cond, List, eqb, length}
+use Rattle.trace_layout.specs.Reports.{report_from}
+use Rattle.trace_parts.specs.declared.Part.{Part}
+use Rattle.trace_parts.specs.Merging.{MergeOutcome, outcome_number, one_of, merge_of}
+use Rattle.partapi.specs.Parts.{part_from, part_written}
 
 -- what is returned, and what the part's bytes hold
 pub record PartCall : Type 0 where
@@ -15,21 +11,21 @@ pub record PartCall : Type 0 where
   pub part : List ℕ
 
 -- both as one value, which the contracts name
-abbrev pub partCall : ℕ → List ℕ → PartCall
-partCall n b = record { result = n; part = b }
+abbrev pub part_call : ℕ → List ℕ → PartCall
+part_call n b = record { result = n; part = b }
 
 -- a refusal leaves the bytes
-unfoldable pub keptPart : List ℕ → ℕ → Part → List ℕ
-keptPart b n p = cond (eqb n 0) (partWritten b p) b
+unfoldable pub kept_part : List ℕ → ℕ → Part → List ℕ
+kept_part b n p = cond (eqb n 0) (part_written b p) b
 
 -- what is told of an outcome
-unfoldable pub toldOf : List ℕ → MergeOutcome → PartCall
-toldOf b o = partCall (outcomeNumber o) (keptPart b (outcomeNumber o) (o .part))
+unfoldable pub told_of : List ℕ → MergeOutcome → PartCall
+told_of b o = part_call (outcome_number o) (kept_part b (outcome_number o) o.part)
 
 -- the part of one trace: 71 too where the part has not 96 bytes
-unfoldable pub oneCall : List ℕ → ℕ → List ℕ → PartCall
-oneCall r stop b = cond (eqb (length b) 96) (toldOf b (oneOf (reportFrom r) stop)) (partCall 71 b)
+unfoldable pub one_call : List ℕ → ℕ → List ℕ → PartCall
+one_call r stop b = cond (eqb (length b) 96) (told_of b (one_of (report_from r) stop)) (part_call 71 b)
 
 -- two parts as one, in the bytes of the first
-unfoldable pub mergeCall : List ℕ → List ℕ → PartCall
-mergeCall b l = toldOf b (mergeOf (partFrom b) (partFrom l))
+unfoldable pub merge_call : List ℕ → List ℕ → PartCall
+merge_call b l = told_of b (merge_of (part_from b) (part_from l))

@@ -1,33 +1,29 @@
 -- Parts as bytes: a report's 21 words, then the traces and how many stopped as "bad" and as "differs". Assumes nothing.
-use Prim.Native.Nat.{ℕ}
-use mathlib.Core.Bool.{cond}
-use mathlib.Core.List.{List, [], _++_}
-use lib.Dec.{eqb}
-use lib.ListN.{length, take}
-use Rattle·uf2_block.specs.Block.{fieldAt}
-use Rattle·uf2_block.specs.Write.{le32}
-use Rattle·trace_counts.specs.declared.Report.{Report}
-use Rattle·trace_layout.specs.Reports.{reportFrom, reportBytes}
-use Rattle·trace_parts.specs.declared.Part.{Part}
+use Rattle.std.specs.Prelude.{ℕ, cond, List, [], ◌++◌, eqb, length, take}
+use Rattle.uf2_block.specs.Block.{field_at}
+use Rattle.uf2_block.specs.Write.{le32}
+use Rattle.trace_counts.specs.declared.Report.{Report}
+use Rattle.trace_layout.specs.Reports.{report_from, report_bytes}
+use Rattle.trace_parts.specs.declared.Part.{Part}
 
 -- ---- read
 
-abbrev pub partWith : Report → ℕ → ℕ → ℕ → Part
-partWith r n b d = record { report = r; traces = n; bad = b; differs = d }
+abbrev pub part_with : Report → ℕ → ℕ → ℕ → Part
+part_with r n b d = record { report = r; traces = n; bad = b; differs = d }
 
 -- no bytes are no report, which 71 refuses
-abbrev pub noPart : Part
-noPart = partWith (reportFrom []) 0 0 0
+abbrev pub no_part : Part
+no_part = part_with (report_from []) 0 0 0
 
 -- 0 the report, 84 traces, 88 "bad", 92 "differs"; bytes of any other length are no part
-unfoldable pub partFrom : List ℕ → Part
-partFrom b = cond (eqb (length b) 96) (partWith (reportFrom (take 84 b)) (fieldAt b 84) (fieldAt b 88) (fieldAt b 92)) noPart
+unfoldable pub part_from : List ℕ → Part
+part_from b = cond (eqb (length b) 96) (part_with (report_from (take 84 b)) (field_at b 84) (field_at b 88) (field_at b 92)) no_part
 
 -- ---- written
 
-unfoldable pub partBytes : Part → List ℕ
-partBytes p = reportBytes (p .report) ++ (le32 (p .traces) ++ (le32 (p .bad) ++ le32 (p .differs)))
+unfoldable pub part_bytes : Part → List ℕ
+part_bytes p = report_bytes p.report ++ (le32 p.traces ++ (le32 p.bad ++ le32 p.differs))
 
 -- a part written over bytes, where there are 96
-unfoldable pub partWritten : List ℕ → Part → List ℕ
-partWritten b p = cond (eqb (length b) 96) (partBytes p) b
+unfoldable pub part_written : List ℕ → Part → List ℕ
+part_written b p = cond (eqb (length b) 96) (part_bytes p) b

@@ -1,19 +1,20 @@
 // The C interface for parts of a fleet's figures: the part of one trace, and two parts as one. It is a library of its own, with no replay in it.
 // Reports are bytes in the layout of `reports`, parts in that of `parts`.
-mod parts;
+#![tactic(auto)]
 
-ghost use mathlib.Core.Path.{_≡_};
-ghost use Rattle·trace_parts.specs.Merging.{mergeNumber, mergeReturn};
-ghost use Rattle·partapi·specs.specs.PartCalls.{partCall, keptPart, toldOf, oneCall, mergeCall};
-use trace_parts::Merge;
-use trace_parts::MergeAnswer;
-use trace_parts::Part;
+pub mod parts;
+
+ghost use Rattle.std.specs.Prelude.{◌≡◌};
+ghost use Rattle.trace_parts.specs.Merging.{merge_number, merge_return};
+ghost use Rattle.partapi.specs.PartCalls.{part_call, kept_part, told_of, one_call, merge_call};
+
+use trace_parts::{Merge, MergeAnswer, Part};
 
 // The bytes of a part.
 const PART: usize = 96;
 
 fn number(answer: MergeAnswer) -> u32
-    ensures { λ r. ⌜ r ≡ mergeNumber answer ⌝ }
+    ensures { result ≡ merge_number answer }
 {
     match answer {
         MergeAnswer::BadReport => 71,
@@ -24,7 +25,7 @@ fn number(answer: MergeAnswer) -> u32
 
 // The next part, where the answer's number is none of a refusal.
 fn keep(part: &mut [u8], number: u32, next: Part)
-    ensures { λ _. ⌜ now (part .exit) ≡ keptPart (now (part .entry)) number next ⌝ }
+    ensures { part.new ≡ kept_part part.old number next }
 {
     if number == 0 {
         crate::parts::write_part(part, next);
@@ -32,7 +33,7 @@ fn keep(part: &mut [u8], number: u32, next: Part)
 }
 
 fn tell(made: Merge, part: &mut [u8]) -> u32
-    ensures { λ r. ⌜ partCall r (now (part .exit)) ≡ toldOf (now (part .entry)) (mergeReturn made) ⌝ }
+    ensures { part_call result part.new ≡ told_of part.old (merge_return made) }
 {
     let answer = made.answer;
     let n = number(answer);
@@ -43,9 +44,9 @@ fn tell(made: Merge, part: &mut [u8]) -> u32
 
 // The part of one trace, in `part`: `report` as one call for figures left it that was handed a fresh one, and `stop` as it returned. 0, or 71, and
 // `part` stays.
-#[no_mangle]
+#[unsafe(no_mangle)]
 pub extern "C" fn uf2_part_one(report: &[u8], stop: u32, part: &mut [u8]) -> u32
-    ensures { λ r. ⌜ partCall r (now (part .exit)) ≡ oneCall (now (report .entry)) stop (now (part .entry)) ⌝ }
+    ensures { part_call result part.new ≡ one_call report.now stop part.old }
 {
     if part.len() != PART {
         return 71;
@@ -55,9 +56,9 @@ pub extern "C" fn uf2_part_one(report: &[u8], stop: u32, part: &mut [u8]) -> u32
 }
 
 // A part and a later one as one, in `part`: 0; or 71, and then 70, and `part` stays.
-#[no_mangle]
+#[unsafe(no_mangle)]
 pub extern "C" fn uf2_part_merge(part: &mut [u8], later: &[u8]) -> u32
-    ensures { λ r. ⌜ partCall r (now (part .exit)) ≡ mergeCall (now (part .entry)) (now (later .entry)) ⌝ }
+    ensures { part_call result part.new ≡ merge_call part.old later.now }
 {
     let a = crate::parts::read_part(part);
     let b = crate::parts::read_part(later);

@@ -1,6 +1,7 @@
 // Parts of a fleet's figures as bytes: how a part goes in, and how it comes back. Every byte slice is read; include/uf2_parts.h has the layout for C.
-ghost use mathlib.Core.Path.{_≡_};
-ghost use Rattle·partapi·specs.specs.Parts.{noPart, partFrom, partWritten};
+ghost use Rattle.std.specs.Prelude.{◌≡◌};
+ghost use Rattle.partapi.specs.Parts.{no_part, part_from, part_written};
+
 use trace_parts::Part;
 
 // The bytes of a part: those of a report, and three words.
@@ -10,7 +11,7 @@ const REPORT: usize = 84;
 
 // Bytes of another length, which are refused: they are no report.
 fn no_part() -> Part
-    ensures { λ r. ⌜ r ≡ noPart ⌝ }
+    ensures { result ≡ no_part }
 {
     let none: [u8; 0] = [];
     let report = trace_layout::reports::read_report(&none);
@@ -23,8 +24,8 @@ fn no_part() -> Part
 }
 
 // The part that bytes are.
-pub(crate) fn read_part(bytes: &[u8]) -> Part
-    ensures { λ r. ⌜ r ≡ partFrom (now (bytes .entry)) ⌝ }
+pub fn read_part(bytes: &[u8]) -> Part
+    ensures { result ≡ part_from bytes.now }
 {
     if bytes.len() != PART {
         return no_part();
@@ -39,8 +40,8 @@ pub(crate) fn read_part(bytes: &[u8]) -> Part
 }
 
 // Writes a part, where there are bytes for it.
-pub(crate) fn write_part(bytes: &mut [u8], part: Part)
-    ensures { λ _. ⌜ now (bytes .exit) ≡ partWritten (now (bytes .entry)) part ⌝ }
+pub fn write_part(bytes: &mut [u8], part: Part)
+    ensures { bytes.new ≡ part_written bytes.old part }
 {
     if bytes.len() != PART {
         return;

@@ -1,181 +1,181 @@
 -- The parts that the code checks make up the definition; and what good settings tell. Assumes nothing.
-use Prim.Native.Nat.{ℕ, _+_, _*_, _≤_, _<_}
-use mathlib.Core.Path.{_≡_, refl, ap, _∙_}
-use mathlib.Core.Logic.{_≢_}
-use mathlib.Core.Bool.{Bool, true, false, _||_, not, or-true, or-assoc, or-comm}
+use Prim.Native.Nat.{ℕ, ◌+◌, ◌*◌, ◌≤◌, ◌<◌}
+use mathlib.Core.Path.{◌≡◌, refl, ap, ◌∙◌}
+use mathlib.Core.Logic.{◌≢◌}
+use mathlib.Core.Bool.{Bool, true, false, ◌||◌, not, or-true, or_assoc, or_comm}
 use mathlib.Core.List.{List}
 use native.Mathlib.Omega.{arith}
 use lib.Dec.{ltb, leb, eqb}
-use borrow.Author.Tests.{le-leb, lt-leb, le-ltb, lt-ltb, ltb-true, ltb-false, eqb-false, ne-eqb, not-true}
-use Rattle·laws.proofs.Tests.{split, clash, is-false, or-left, or-right}
-use Rattle·laws.specs.Sets.{any}
-use Rattle·laws.proofs.Laws.{any-zero, any-hit, any-none, any-all, any-found}
-use Rattle·partitions·specs.specs.declared.Entry.{Entry}
-use Rattle·partitions·specs.specs.declared.Settings.{Settings}
-use Rattle·partitions·specs.specs.Settings.{isA, isUnowned, linkTarget, entryAt, enabled, countOver, noSectors, runsPast, overlapAt, sharesWith, sharesSector, linksUp, linksToB, manyUsers, reservedUser, badEntry, goodSettings}
-use Rattle·partitions·specs.specs.Parts.{aloneBad, linkBad, wrongEntry, sharesBelow}
-use Rattle·partitions·proofs.proofs.Overlap.{overlap-swaps}
+use borrow.Author.Tests.{le-leb, lt-leb, le-ltb, lt-ltb, ltb-true, ltb-false, eqb-false, ne_eqb, not-true}
+use Rattle.laws.proofs.Tests.{split, clash, is_false, or_left, or_right}
+use Rattle.laws.specs.Sets.{any}
+use Rattle.laws.proofs.Laws.{any_zero, any_hit, any_none, any_all, any_found}
+use Rattle.partitions.specs.declared.Entry.{Entry}
+use Rattle.partitions.specs.declared.Settings.{Settings}
+use Rattle.partitions.specs.Settings.{is_a, is_unowned, link_target, entry_at, enabled, count_over, no_sectors, runs_past, overlap_at, shares_with, shares_sector, links_up, links_to_b, many_users, reserved_user, bad_entry, good_settings}
+use Rattle.partitions.specs.Parts.{alone_bad, link_bad, wrong_entry, shares_below}
+use Rattle.partitions.proofs.Overlap.{overlap_swaps}
 
 -- ---- one entry, as the loop over them takes it
 
 module _ (table : List Entry) (len k : ℕ) where
-  pub wrong-alone : aloneBad len (entryAt table k) ≡ true → wrongEntry table len k ≡ true
-  unfolding wrongEntry
-  wrong-alone h = rw h
+  pub wrong_alone : alone_bad len (entry_at table k) ≡ true → wrong_entry table len k ≡ true
+  unfolding wrong_entry
+  wrong_alone h = rw h
 
-  pub wrong-link : linkBad table k ≡ true → wrongEntry table len k ≡ true
-  unfolding wrongEntry
-  wrong-link h = rw (h, or-true (aloneBad len (entryAt table k)))
+  pub wrong_link : link_bad table k ≡ true → wrong_entry table len k ≡ true
+  unfolding wrong_entry
+  wrong_link h = rw (h, or-true (alone_bad len (entry_at table k)))
 
-  pub right-entry : aloneBad len (entryAt table k) ≡ false → linkBad table k ≡ false → wrongEntry table len k ≡ false
-  unfolding wrongEntry
-  right-entry h l = rw (h, l)
+  pub right_entry : alone_bad len (entry_at table k) ≡ false → link_bad table k ≡ false → wrong_entry table len k ≡ false
+  unfolding wrong_entry
+  right_entry h l = rw (h, l)
 
 module _ (table : List Entry) (k : ℕ) where
-  pub link-up : isUnowned (entryAt table k) ≡ false → k ≤ linkTarget (entryAt table k .link) → linkBad table k ≡ true
-  unfolding linkBad
-  link-up u l = simp (u, le-leb k (linkTarget (entryAt table k .link)) l)
+  pub link_up : is_unowned (entry_at table k) ≡ false → k ≤ link_target (entry_at table k).link → link_bad table k ≡ true
+  unfolding link_bad
+  link_up u l = simp (u, le-leb k (link_target (entry_at table k).link) l)
 
-  pub link-to-b : isUnowned (entryAt table k) ≡ false → isA (entryAt table (linkTarget (entryAt table k .link))) ≡ false → linkBad table k ≡ true
-  unfolding linkBad
-  link-to-b u a = simp (u, a, or-true (leb k (linkTarget (entryAt table k .link))))
+  pub link_to_b : is_unowned (entry_at table k) ≡ false → is_a (entry_at table (link_target (entry_at table k).link)) ≡ false → link_bad table k ≡ true
+  unfolding link_bad
+  link_to_b u a = simp (u, a, or-true (leb k (link_target (entry_at table k).link)))
 
-  pub link-none : isUnowned (entryAt table k) ≡ true → linkBad table k ≡ false
-  unfolding linkBad
-  link-none u = simp u
+  pub link_none : is_unowned (entry_at table k) ≡ true → link_bad table k ≡ false
+  unfolding link_bad
+  link_none u = simp u
 
-  pub link-right : linkTarget (entryAt table k .link) < k → isA (entryAt table (linkTarget (entryAt table k .link))) ≡ true → linkBad table k ≡ false
-  unfolding linkBad
-  link-right l a = split (isUnowned (entryAt table k)) (λ u. simp u) (λ u. simp (u, a, lt-leb k (linkTarget (entryAt table k .link)) l))
+  pub link_right : link_target (entry_at table k).link < k → is_a (entry_at table (link_target (entry_at table k).link)) ≡ true → link_bad table k ≡ false
+  unfolding link_bad
+  link_right l a = split (is_unowned (entry_at table k)) (λ u. simp u) (λ u. simp (u, a, lt-leb k (link_target (entry_at table k).link) l))
 
 -- ---- all entries
 
-or-swap : (a b c : Bool) → a || (b || c) ≡ b || (a || c)
-or-swap true true c = refl
-or-swap true false c = refl
-or-swap false true c = refl
-or-swap false false c = refl
+or_swap : (a b c : Bool) → a || (b || c) ≡ b || (a || c)
+or_swap true true c = refl
+or_swap true false c = refl
+or_swap false true c = refl
+or_swap false false c = refl
 
 -- the tests of the definition, in the order of the code
 regroup : (a b s u t m r : Bool) → a || b || s || u || t || m || r ≡ a || b || m || r || (u || t) || s
-regroup a b s u t m r = simp (or-assoc, or-comm, or-swap)
+regroup a b s u t m r = simp (or_assoc, or_comm, or_swap)
 
 module _ (table : List Entry) (n len : ℕ) where
-  splits : (k : ℕ) → badEntry table n len k ≡ wrongEntry table len k || sharesSector table n k
-  unfolding badEntry wrongEntry aloneBad linkBad
+  splits : (k : ℕ) → bad_entry table n len k ≡ wrong_entry table len k || shares_sector table n k
+  unfolding bad_entry wrong_entry alone_bad link_bad
   splits k =
-      let e = entryAt table k in
-      regroup (noSectors e) (runsPast len e) (sharesSector table n k) (linksUp table k) (linksToB table k) (manyUsers e) (reservedUser e)
+      let e = entry_at table k in
+      regroup (no_sectors e) (runs_past len e) (shares_sector table n k) (links_up table k) (links_to_b table k) (many_users e) (reserved_user e)
 
-  wrong-bad : any n (wrongEntry table len) ≡ true → any n (badEntry table n len) ≡ true
-  wrong-bad h =
-      let w = any-found (wrongEntry table len) n h in
-      let z = w .2 in
-      any-hit (badEntry table n len) n (w .0) (w .1) (splits (w .0) ∙ rw z)
+  wrong_bad : any n (wrong_entry table len) ≡ true → any n (bad_entry table n len) ≡ true
+  wrong_bad h =
+      let w = any_found (wrong_entry table len) n h in
+      let z = w.2 in
+      any_hit (bad_entry table n len) n w.0 w.1 (splits w.0 ∙ rw z)
 
-  at-swaps : (k j : ℕ) → overlapAt table k j ≡ true → overlapAt table j k ≡ true
-  unfolding overlapAt
-  at-swaps k j h =
-      overlap-swaps (entryAt table k .first) (entryAt table k .sectors) (entryAt table j .first) (entryAt table j .sectors) h
+  at_swaps : (k j : ℕ) → overlap_at table k j ≡ true → overlap_at table j k ≡ true
+  unfolding overlap_at
+  at_swaps k j h =
+      overlap_swaps (entry_at table k).first (entry_at table k).sectors (entry_at table j).first (entry_at table j).sectors h
 
-  shares-one : (k j : ℕ) → j < n → j ≢ k → overlapAt table k j ≡ true → sharesSector table n k ≡ true
-  unfolding sharesSector
-  shares-one k j l d h = any-hit (sharesWith table k) n j l (rw (ne-eqb j k d, h))
+  shares_one : (k j : ℕ) → j < n → j ≢ k → overlap_at table k j ≡ true → shares_sector table n k ≡ true
+  unfolding shares_sector
+  shares_one k j l d h = any_hit (shares_with table k) n j l (rw (ne_eqb j k d, h))
 
-  below-bad : any n (sharesBelow table) ≡ true → any n (badEntry table n len) ≡ true
-  unfolding sharesBelow
-  below-bad h =
-      let w = any-found (sharesBelow table) n h in
-      let v = any-found (overlapAt table (w .0)) (w .0) (w .2) in
-      let z = shares-one (w .0) (v .0) (omega (arith, w .1, v .1)) (omega (arith, v .1)) (v .2) in
-      any-hit (badEntry table n len) n (w .0) (w .1) (splits (w .0) ∙ rw z (or-true (wrongEntry table len (w .0))))
+  below_bad : any n (shares_below table) ≡ true → any n (bad_entry table n len) ≡ true
+  unfolding shares_below
+  below_bad h =
+      let w = any_found (shares_below table) n h in
+      let v = any_found (overlap_at table w.0) w.0 w.2 in
+      let z = shares_one w.0 v.0 (omega (arith, w.1, v.1)) (omega (arith, v.1)) v.2 in
+      any_hit (bad_entry table n len) n w.0 w.1 (splits w.0 ∙ rw z (or-true (wrong_entry table len w.0)))
 
-  module _ (q : any n (sharesBelow table) ≡ false) where
-    apart : (k j : ℕ) → k < n → j < k → overlapAt table k j ≡ false
-    unfolding sharesBelow
-    apart k j l m = any-all (overlapAt table k) k (any-all (sharesBelow table) n q k l) j m
+  module _ (q : any n (shares_below table) ≡ false) where
+    apart : (k j : ℕ) → k < n → j < k → overlap_at table k j ≡ false
+    unfolding shares_below
+    apart k j l m = any_all (overlap_at table k) k (any_all (shares_below table) n q k l) j m
 
     -- which of two entries comes first does not matter
-    apart-both : (k j : ℕ) → k < n → j < n → j ≢ k → overlapAt table k j ≡ false
+    apart-both : (k j : ℕ) → k < n → j < n → j ≢ k → overlap_at table k j ≡ false
     apart-both k j l m d =
         split (ltb j k)
         (λ b. apart k j l (ltb-true j k b))
         (λ b.
-        is-false (overlapAt table k j)
-        (λ t. clash (overlapAt table j k) (at-swaps k j t) (apart j k m (omega (arith, ltb-false j k b)))))
+        is_false (overlap_at table k j)
+        (λ t. clash (overlap_at table j k) (at_swaps k j t) (apart j k m (omega (arith, ltb-false j k b)))))
 
-    alone : (k : ℕ) → k < n → sharesSector table n k ≡ false
-    unfolding sharesSector
+    alone : (k : ℕ) → k < n → shares_sector table n k ≡ false
+    unfolding shares_sector
     alone k l =
-        any-none (sharesWith table k) n
+        any_none (shares_with table k) n
         (λ j m. split (eqb j k) (λ e. rw e) (λ e. let z = apart-both k j l m (eqb-false j k e) in rw (e, z)))
 
-    right-all : any n (wrongEntry table len) ≡ false → any n (badEntry table n len) ≡ false
+    right-all : any n (wrong_entry table len) ≡ false → any n (bad_entry table n len) ≡ false
     right-all p =
-        any-none (badEntry table n len) n
-        (λ k l. let z = any-all (wrongEntry table len) n p k l in splits k ∙ rw z (alone k l))
+        any_none (bad_entry table n len) n
+        (λ k l. let z = any_all (wrong_entry table len) n p k l in splits k ∙ rw z (alone k l))
 
 -- ---- the settings
 
 module _ (s : Settings) (len : ℕ) where
-  pub good-off : enabled s (s .current) ≡ false → goodSettings s len ≡ false
-  unfolding goodSettings
-  good-off h = simp h
+  pub good_off : enabled s s.current ≡ false → good_settings s len ≡ false
+  unfolding good_settings
+  good_off h = simp h
 
-  pub good-over : 16 < s .count → goodSettings s len ≡ false
-  unfolding goodSettings
-  good-over h = let z = lt-ltb 16 (s .count) h in simp (z, or-true (not (enabled s (s .current))))
+  pub good_over : 16 < s.count → good_settings s len ≡ false
+  unfolding good_settings
+  good_over h = let z = lt-ltb 16 s.count h in simp (z, or-true (not (enabled s s.current)))
 
-  bad-any : any (s .count) (badEntry (s .table) (s .count) len) ≡ true → goodSettings s len ≡ false
-  unfolding goodSettings
-  bad-any h = simp (h, or-true (not (enabled s (s .current)) || countOver s))
+  bad_any : any s.count (bad_entry s.table s.count len) ≡ true → good_settings s len ≡ false
+  unfolding good_settings
+  bad_any h = simp (h, or-true (not (enabled s s.current) || count_over s))
 
-  pub good-wrong : any (s .count) (wrongEntry (s .table) len) ≡ true → goodSettings s len ≡ false
-  good-wrong h = bad-any (wrong-bad (s .table) (s .count) len h)
+  pub good_wrong : any s.count (wrong_entry s.table len) ≡ true → good_settings s len ≡ false
+  good_wrong h = bad_any (wrong_bad s.table s.count len h)
 
-  right-any : enabled s (s .current) ≡ true → s .count ≤ 16 → any (s .count) (badEntry (s .table) (s .count) len) ≡ false → goodSettings s len ≡ true
-  unfolding goodSettings
-  right-any e l h = let z = le-ltb 16 (s .count) l in simp (e, z, h)
+  right_any : enabled s s.current ≡ true → s.count ≤ 16 → any s.count (bad_entry s.table s.count len) ≡ false → good_settings s len ≡ true
+  unfolding good_settings
+  right_any e l h = let z = le-ltb 16 s.count l in simp (e, z, h)
 
-  pub good-none : enabled s (s .current) ≡ true → s .count ≡ 0 → goodSettings s len ≡ true
-  good-none e z =
-      right-any e (omega arith)
-      (ap (λ (n : ℕ). any n (badEntry (s .table) (s .count) len)) z ∙ any-zero (badEntry (s .table) (s .count) len))
+  pub good_none : enabled s s.current ≡ true → s.count ≡ 0 → good_settings s len ≡ true
+  good_none e z =
+      right_any e (omega arith)
+      (ap (λ (n : ℕ). any n (bad_entry s.table s.count len)) z ∙ any_zero (bad_entry s.table s.count len))
 
   -- what is left to ask of the entries
-  pub good-rest : enabled s (s .current) ≡ true → s .count ≤ 16 → goodSettings s len ≡ not (any (s .count) (wrongEntry (s .table) len) || any (s .count) (sharesBelow (s .table)))
-  good-rest e l =
-      split (any (s .count) (wrongEntry (s .table) len))
-      (λ h. rw h (good-wrong h))
+  pub good_rest : enabled s s.current ≡ true → s.count ≤ 16 → good_settings s len ≡ not (any s.count (wrong_entry s.table len) || any s.count (shares_below s.table))
+  good_rest e l =
+      split (any s.count (wrong_entry s.table len))
+      (λ h. rw h (good_wrong h))
       (λ h.
-      split (any (s .count) (sharesBelow (s .table)))
-      (λ q. rw (h, q) (bad-any (below-bad (s .table) (s .count) len q)))
-      (λ q. rw (h, q) (right-any e l (right-all (s .table) (s .count) len q h))))
+      split (any s.count (shares_below s.table))
+      (λ q. rw (h, q) (bad_any (below_bad s.table s.count len q)))
+      (λ q. rw (h, q) (right_any e l (right-all s.table s.count len q h))))
 
 -- ---- what good settings tell
 
-module _ (s : Settings) (len : ℕ) (good : goodSettings s len ≡ true) where
-  parts : not (enabled s (s .current)) || countOver s || any (s .count) (badEntry (s .table) (s .count) len) ≡ false
-  unfolding goodSettings
+module _ (s : Settings) (len : ℕ) (good : good_settings s len ≡ true) where
+  parts : not (enabled s s.current) || count_over s || any s.count (bad_entry s.table s.count len) ≡ false
+  unfolding good_settings
   parts = not-true _ good
 
-  pub good-count : s .count ≤ 16
-  good-count =
+  pub good_count : s.count ≤ 16
+  good_count =
       ltb-false _ _
-      (or-right (not (enabled s (s .current))) (countOver s)
-      (or-left _ (any (s .count) (badEntry (s .table) (s .count) len)) parts))
+      (or_right (not (enabled s s.current)) (count_over s)
+      (or_left _ (any s.count (bad_entry s.table s.count len)) parts))
 
-  pub good-entry : (k : ℕ) → k < s .count → badEntry (s .table) (s .count) len k ≡ false
-  good-entry = any-all _ _ (or-right (not (enabled s (s .current)) || countOver s) _ parts)
+  pub good_entry : (k : ℕ) → k < s.count → bad_entry s.table s.count len k ≡ false
+  good_entry = any_all _ _ (or_right (not (enabled s s.current) || count_over s) _ parts)
 
   -- a used entry lies within the flash
-  pub good-fits : (k : ℕ) → k < s .count → (entryAt (s .table) k .first + entryAt (s .table) k .sectors) * 4096 ≤ len
-  unfolding badEntry
-  good-fits k l =
-      let e = entryAt (s .table) k in
-      let h6 = or-left _ (reservedUser e) (good-entry k l) in
-      let h5 = or-left _ (manyUsers e) h6 in
-      let h4 = or-left _ (linksToB (s .table) k) h5 in
-      let h3 = or-left _ (linksUp (s .table) k) h4 in
-      let h2 = or-left _ (sharesSector (s .table) (s .count) k) h3 in
-      ltb-false _ _ (or-right (noSectors e) (runsPast len e) h2)
+  pub good_fits : (k : ℕ) → k < s.count → ((entry_at s.table k).first + (entry_at s.table k).sectors) * 4096 ≤ len
+  unfolding bad_entry
+  good_fits k l =
+      let e = entry_at s.table k in
+      let h6 = or_left _ (reserved_user e) (good_entry k l) in
+      let h5 = or_left _ (many_users e) h6 in
+      let h4 = or_left _ (links_to_b s.table k) h5 in
+      let h3 = or_left _ (links_up s.table k) h4 in
+      let h2 = or_left _ (shares_sector s.table s.count k) h3 in
+      ltb-false _ _ (or_right (no_sectors e) (runs_past len e) h2)

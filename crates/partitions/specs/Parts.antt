@@ -1,23 +1,21 @@
 -- The definition of bad settings, cut as the code checks it. Assumes nothing.
-use Prim.Native.Nat.{ℕ}
-use mathlib.Core.Bool.{Bool, _||_}
-use mathlib.Core.List.{List}
-use Rattle·laws.specs.Sets.{any}
-use Rattle·partitions·specs.specs.declared.Entry.{Entry}
-use Rattle·partitions·specs.specs.Settings.{entryAt, noSectors, runsPast, overlapAt, linksUp, linksToB, manyUsers, reservedUser}
+use Rattle.std.specs.Prelude.{ℕ, Bool, ◌||◌, List}
+use Rattle.laws.specs.Sets.{any}
+use Rattle.partitions.specs.declared.Entry.{Entry}
+use Rattle.partitions.specs.Settings.{entry_at, no_sectors, runs_past, overlap_at, links_up, links_to_b, many_users, reserved_user}
 
 -- what is wrong with an entry by itself
-unfoldable pub aloneBad : ℕ → Entry → Bool
-aloneBad len e = noSectors e || runsPast len e || manyUsers e || reservedUser e
+unfoldable pub alone_bad : ℕ → Entry → Bool
+alone_bad len e = no_sectors e || runs_past len e || many_users e || reserved_user e
 
 -- what is wrong with its link: "links to an index not below its own or to an entry that is "B of""
-unfoldable pub linkBad : List Entry → ℕ → Bool
-linkBad table k = linksUp table k || linksToB table k
+unfoldable pub link_bad : List Entry → ℕ → Bool
+link_bad table k = links_up table k || links_to_b table k
 
 -- what is wrong with entry k but for shared sectors
-unfoldable pub wrongEntry : List Entry → ℕ → ℕ → Bool
-wrongEntry table len k = aloneBad len (entryAt table k) || linkBad table k
+unfoldable pub wrong_entry : List Entry → ℕ → ℕ → Bool
+wrong_entry table len k = alone_bad len (entry_at table k) || link_bad table k
 
 -- entry k shares a sector with one before it
-unfoldable pub sharesBelow : List Entry → ℕ → Bool
-sharesBelow table k = any k (overlapAt table k)
+unfoldable pub shares_below : List Entry → ℕ → Bool
+shares_below table k = any k (overlap_at table k)

@@ -1,20 +1,17 @@
 -- A table of 16 entries, by a rule for its used ones. Assumes nothing.
-use Prim.Native.Nat.{ℕ, zero, suc, _+_}
-use mathlib.Core.Bool.{cond}
-use mathlib.Core.List.{List, [], _∷_}
-use lib.Dec.{ltb}
-use Rattle·partitions·specs.specs.declared.Entry.{Entry}
-use Rattle·partitions·specs.specs.Settings.{blankEntry}
+use Rattle.std.specs.Prelude.{ℕ, zero, suc, ◌+◌, cond, List, [], ◌∷◌, ltb}
+use Rattle.partitions.specs.declared.Entry.{Entry}
+use Rattle.partitions.specs.Settings.{blank_entry}
 
 -- entry k where the first n are those of f, and the others blank
-unfoldable pub rowIn : (ℕ → Entry) → ℕ → ℕ → Entry
-rowIn f n k = cond (ltb k n) (f k) blankEntry
+unfoldable pub row_in : (ℕ → Entry) → ℕ → ℕ → Entry
+row_in f n k = cond (ltb k n) (f k) blank_entry
 
 -- m such entries, from entry k on
-unfoldable pub rowsIn : (ℕ → Entry) → ℕ → ℕ → ℕ → List Entry
-rowsIn f n k zero = []
-rowsIn f n k (suc m) = rowIn f n k ∷ rowsIn f n (k + 1) m
+unfoldable pub rows_in : (ℕ → Entry) → ℕ → ℕ → ℕ → List Entry
+rows_in f n k zero = []
+rows_in f n k (suc m) = row_in f n k ∷ rows_in f n (k + 1) m
 
 -- the table
-abbrev pub tableOf : (ℕ → Entry) → ℕ → List Entry
-tableOf f n = rowsIn f n 0 16
+abbrev pub table_of : (ℕ → Entry) → ℕ → List Entry
+table_of f n = rows_in f n 0 16

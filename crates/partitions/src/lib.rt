@@ -1,24 +1,30 @@
 // The settings: what the device may run, and its partition table; what one entry of it says by itself.
+#![tactic(auto)]
+
 pub mod sectors;
 pub mod validity;
 
-ghost use mathlib.Core.Path.{_≡_};
-ghost use Rattle·partitions·specs.specs.Settings.{isA, isUnowned, linkTarget, hasUser, accepts, isReserved, reservedUser, enabled, blankEntry, armOnly};
-ghost use Rattle·partitions·specs.specs.Parts.{aloneBad};
+ghost use Rattle.std.specs.Prelude.{◌≡◌};
+ghost use Rattle.partitions.specs.Settings.{is_a, is_unowned, link_target, has_user, accepts, is_reserved, reserved_user, enabled, blank_entry, arm_only};
+ghost use Rattle.partitions.specs.Parts.{alone_bad};
+
 use memory::flash::Flash;
 
 // What an entry is linked to (01's terms: owned by, B of).
+#[derive(Clone, Copy)]
 pub enum Link {
     Unlinked,
     OwnedBy(u8),
     BOf(u8),
 }
 
+#[derive(Clone, Copy)]
 pub enum Arch {
     Arm,
     RiscV,
 }
 
+#[derive(Clone, Copy)]
 pub struct Entry {
     pub first: u32,
     pub sectors: u32,
@@ -36,6 +42,7 @@ pub struct Entry {
 }
 
 // The table stands first, so that nothing unused stands before it and settings are copied as one piece.
+#[derive(Clone, Copy)]
 pub struct Settings {
     pub table: [Entry; Settings::ENTRIES],
     pub arm: bool,
@@ -52,7 +59,7 @@ impl Entry {
 
     // No sectors, and nothing that it accepts.
     pub fn blank() -> Self
-        ensures { λ r. ⌜ r ≡ blankEntry ⌝ }
+        ensures { result ≡ blank_entry }
     {
         Self {
             first: 0,
@@ -77,6 +84,7 @@ impl Settings {
 }
 
 // The families that have a meaning of their own.
+#[derive(Clone, Copy)]
 pub struct Family {
     pub id: u32,
 }
@@ -84,7 +92,7 @@ pub struct Family {
 impl Settings {
     // No partition table, Arm alone, absolute allowed or not.
     pub fn arm_only(absolute: bool) -> Self
-        ensures { λ r. ⌜ r ≡ armOnly absolute ⌝ }
+        ensures { result ≡ arm_only absolute }
     {
         let e = Entry::blank();
         let table = [e; Settings::ENTRIES];
@@ -116,7 +124,7 @@ impl Family {
 
 // An A partition?
 pub fn is_a(e: Entry) -> bool
-    ensures { λ r. ⌜ r ≡ isA e ⌝ }
+    ensures { result ≡ is_a e }
 {
     let link = e.link;
     match link {
@@ -128,7 +136,7 @@ pub fn is_a(e: Entry) -> bool
 
 // Linked to no other?
 pub fn unowned(e: Entry) -> bool
-    ensures { λ r. ⌜ r ≡ isUnowned e ⌝ }
+    ensures { result ≡ is_unowned e }
 {
     let link = e.link;
     match link {
@@ -140,7 +148,7 @@ pub fn unowned(e: Entry) -> bool
 
 // Is the family one of the entry's user families?
 pub fn has_user(e: Entry, family: u32) -> bool
-    ensures { λ r. ⌜ r ≡ hasUser e family ⌝ }
+    ensures { result ≡ has_user e family }
 {
     let n = e.user_count;
     let users = e.users;
@@ -152,7 +160,7 @@ pub fn has_user(e: Entry, family: u32) -> bool
 
 // By the flag for the family, or as a user family.
 pub fn accepts_family(e: Entry, family: u32) -> bool
-    ensures { λ r. ⌜ r ≡ accepts e family ⌝ }
+    ensures { result ≡ accepts e family }
 {
     ((family == Family::DATA) & e.data)
         | ((family == Family::ARM_S) & e.arm_s)
@@ -162,13 +170,13 @@ pub fn accepts_family(e: Entry, family: u32) -> bool
 }
 
 pub fn reserved(family: u32) -> bool
-    ensures { λ r. ⌜ r ≡ isReserved family ⌝ }
+    ensures { result ≡ is_reserved family }
 {
     (Family::RP2040 <= family) & (family <= Family::ARM_NS)
 }
 
 fn reserved_user(e: Entry) -> bool
-    ensures { λ r. ⌜ r ≡ reservedUser e ⌝ }
+    ensures { result ≡ reserved_user e }
 {
     let n = e.user_count;
     let users = e.users;
@@ -179,8 +187,8 @@ fn reserved_user(e: Entry) -> bool
 }
 
 // Is an entry wrong by itself?
-pub(crate) fn alone_bad(e: Entry, flash_len: usize) -> bool
-    ensures { λ r. ⌜ r ≡ aloneBad «flash_len» e ⌝ }
+pub fn alone_bad(e: Entry, flash_len: usize) -> bool
+    ensures { result ≡ alone_bad flash_len e }
 {
     let past = (e.first as usize + e.sectors as usize) * Flash::SECTOR;
     (e.sectors == 0) | (flash_len < past) | (Entry::USERS < e.user_count) | reserved_user(e)
@@ -188,7 +196,7 @@ pub(crate) fn alone_bad(e: Entry, flash_len: usize) -> bool
 
 // The index that an entry's link names, 0 where it names none.
 pub fn target(e: Entry) -> u8
-    ensures { λ r. ⌜ r ≡ linkTarget (e .link) ⌝ }
+    ensures { result ≡ link_target e.link }
 {
     let link = e.link;
     match link {
@@ -199,7 +207,7 @@ pub fn target(e: Entry) -> u8
 }
 
 pub fn is_enabled(settings: Settings, arch: Arch) -> bool
-    ensures { λ r. ⌜ r ≡ enabled settings arch ⌝ }
+    ensures { result ≡ enabled settings arch }
 {
     match arch {
         Arch::Arm => settings.arm,

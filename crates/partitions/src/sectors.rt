@@ -1,10 +1,10 @@
 // Two runs of sectors: whether they have one in common.
-ghost use mathlib.Core.Path.{_≡_};
-ghost use Rattle·partitions·specs.specs.Settings.{overlap};
+ghost use Rattle.std.specs.Prelude.{◌≡◌};
+ghost use Rattle.partitions.specs.Settings.{overlap};
 
 // Have n sectors from f and m sectors from g one in common? In usize no sum wraps.
 pub fn sectors_overlap(f: u32, n: u32, g: u32, m: u32) -> bool
-    ensures { λ r. ⌜ r ≡ overlap f n g m ⌝ }
+    ensures { result ≡ overlap f n g m }
 {
     let from = f as usize;
     let to = from + n as usize;

@@ -1,17 +1,15 @@
 // Whether settings are good for a flash length.
-ghost use mathlib.Core.Path.{_≡_};
-ghost use mathlib.Core.Bool.{_||_};
-ghost use Prim.Native.Nat.{_≤_};
-ghost use Rattle·laws.specs.Sets.{any};
-ghost use Rattle·partitions·specs.specs.Settings.{goodSettings};
-ghost use Rattle·partitions·specs.specs.Parts.{wrongEntry, sharesBelow};
-use crate::Entry;
-use crate::Settings;
+ghost use Rattle.std.specs.Prelude.{◌≡◌, ◌||◌, ◌≤◌};
+ghost use Rattle.laws.specs.Sets.{any};
+ghost use Rattle.partitions.specs.Settings.{good_settings};
+ghost use Rattle.partitions.specs.Parts.{wrong_entry, shares_below};
+
+use crate::{Entry, Settings};
 
 // Do two used entries share a sector? Each is held against those before it.
 fn any_shares(table: [Entry; Settings::ENTRIES], count: usize) -> bool
-    requires { ⌜ count ≤ 16 ⌝ }
-    ensures { λ r. ⌜ r ≡ any count (sharesBelow table) ⌝ }
+    requires { count ≤ 16 }
+    ensures { result ≡ any count (shares_below table) }
 {
     let mut k: usize = 0;
     while k < count {
@@ -31,8 +29,8 @@ fn any_shares(table: [Entry; Settings::ENTRIES], count: usize) -> bool
 
 // Is a used entry wrong by itself or by its link, or do two of them share a sector? Where each begins past the one before, none do.
 fn any_bad(table: [Entry; Settings::ENTRIES], count: usize, flash_len: usize) -> bool
-    requires { ⌜ count ≤ 16 ⌝ }
-    ensures { λ r. ⌜ r ≡ (any count (wrongEntry table «flash_len») || any count (sharesBelow table)) ⌝ }
+    requires { count ≤ 16 }
+    ensures { result ≡ (any count (wrong_entry table flash_len) || any count (shares_below table)) }
 {
     let mut rising = true;
     let mut past: usize = 0;
@@ -66,7 +64,7 @@ fn any_bad(table: [Entry; Settings::ENTRIES], count: usize, flash_len: usize) ->
 
 // Are the settings good for a flash of this many bytes?
 pub fn good(settings: Settings, flash_len: usize) -> bool
-    ensures { λ r. ⌜ r ≡ goodSettings settings «flash_len» ⌝ }
+    ensures { result ≡ good_settings settings flash_len }
 {
     let current = settings.current;
     let count = settings.count as usize;

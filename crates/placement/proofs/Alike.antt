@@ -1,94 +1,93 @@
 -- Settings that are alike have the same places: no pass looks at what is not used, or at "don't restart". Assumes nothing.
-use Prim.Native.Nat.{ℕ, zero, suc, _<_}
-use mathlib.Core.Path.{_≡_, refl, ap, _∙_}
+use Prim.Native.Nat.{ℕ, zero, suc, ◌<◌}
+use mathlib.Core.Path.{◌≡◌, refl, ap, ◌∙◌}
 use mathlib.Core.List.{List}
-use native.Mathlib.Nat.{le-refl, le-step}
+use native.Mathlib.Nat.{le_refl, le_step}
 use native.Mathlib.Omega.{arith}
-use Rattle·laws.specs.Sets.{any}
-use Rattle·laws.proofs.Laws.{any-cong}
-use Rattle·partitions.specs.declared.Arch.{Arch}
-use Rattle·partitions.specs.declared.Arch.the-variants.{Arm, RiscV}
-use Rattle·partitions.specs.declared.Entry as settings
-use Rattle·partitions.specs.declared.Settings.{Settings}
-use Rattle·partitions.specs.Settings.{entryAt}
-use Rattle·partitions.specs.Alike.{AlikeEntry, Alike}
-use Rattle·partitions.proofs.Alike.{user-alike, accepts-alike, enabled-alike, alike-good}
-use Rattle·placement·specs.specs.Place.{passQueryOf, passAllows, passTakes, firstOf, entryIf, inPass, chosen, usedCount, chosenEntry, placeOfChoice, placeOf, userOf, ramFamily, askOf, Alike-places}
-use Rattle·placement·specs.specs.Passes.{otherArch, isMarked}
-use Rattle·placement·specs.specs.declared.passes.PassQuery.{PassQuery}
-use Rattle·placement·specs.specs.declared.Choice.{Choice}
-use Rattle·placement·specs.specs.declared.Choice.the-variants.{Nothing, Entry}
-use Rattle·placement·proofs.proofs.Laws.{used-least}
-use Rattle·placement·proofs.proofs.Theorems.{chosen-accepts}
+use Rattle.laws.proofs.Laws.{any_cong}
+use Rattle.partitions.specs.declared.Arch.{Arch}
+use Rattle.partitions.specs.declared.Arch.TheVariants.{Arm, RiscV}
+use Rattle.partitions.specs.declared.Entry as settings
+use Rattle.partitions.specs.declared.Settings.{Settings}
+use Rattle.partitions.specs.Settings.{entry_at}
+use Rattle.partitions.specs.Alike.{AlikeEntry, Alike}
+use Rattle.partitions.proofs.Alike.{user_alike, accepts_alike, enabled_alike, alike_good}
+use Rattle.placement.specs.Place.{pass_query_of, pass_allows, pass_takes, first_of, entry_if, in_pass, chosen, used_count, chosen_entry, place_of_choice, place_of, user_of, ram_family, ask_of, AlikePlaces}
+use Rattle.placement.specs.Passes.{other_arch, is_marked}
+use Rattle.placement.specs.declared.passes.PassQuery.{PassQuery}
+use Rattle.placement.specs.declared.Choice.{Choice}
+use Rattle.placement.specs.declared.Choice.TheVariants.{Nothing, Entry}
+use Rattle.placement.proofs.Laws.{used_least}
+use Rattle.placement.proofs.Theorems.{chosen_accepts}
 
 -- ---- one entry
 
 module _ {d e : settings.Entry} (h : AlikeEntry d e) where
-  marked-alike : (a : Arch) → isMarked d a ≡ isMarked e a
-  marked-alike Arm = h .not-bootable-arm
-  marked-alike RiscV = h .not-bootable-riscv
+  marked_alike : (a : Arch) → is_marked d a ≡ is_marked e a
+  marked_alike Arm = h.not_bootable_arm
+  marked_alike RiscV = h.not_bootable_riscv
 
-  pub takes-alike : (w : PassQuery) (pass : ℕ) → passTakes w pass d ≡ passTakes w pass e
-  unfolding passTakes passAllows
-  takes-alike w pass =
-      rw (accepts-alike h (w .family), marked-alike (w .current), marked-alike (otherArch (w .current)), h .link)
+  pub takes_alike : (w : PassQuery) (pass : ℕ) → pass_takes w pass d ≡ pass_takes w pass e
+  unfolding pass_takes pass_allows
+  takes_alike w pass =
+      rw (accepts_alike h w.family, marked_alike w.current, marked_alike (other_arch w.current), h.link)
 
 -- ---- the passes
 
-first-cong : (g r : ℕ → Choice) (n : ℕ) → ((i : ℕ) → i < n → g i ≡ r i) → firstOf g n ≡ firstOf r n
-unfolding firstOf
-first-cong g r zero h = refl
-first-cong g r (suc n) h = rw (first-cong g r n (λ i l. h i (le-step l)), h n (le-refl (suc n)))
+first_cong : (g r : ℕ → Choice) (n : ℕ) → ((i : ℕ) → i < n → g i ≡ r i) → first_of g n ≡ first_of r n
+unfolding first_of
+first_cong g r zero h = refl
+first_cong g r (suc n) h = rw (first_cong g r n (λ i l. h i (le_step l)), h n (le_refl (suc n)))
 
-module _ (t u : List settings.Entry) (n : ℕ) (at : (k : ℕ) → k < n → AlikeEntry (entryAt t k) (entryAt u k)) (w : PassQuery) where
-  if-alike : (pass k : ℕ) → k < n → entryIf t w pass k ≡ entryIf u w pass k
-  unfolding entryIf
-  if-alike pass k l = rw (takes-alike (at k l) w pass)
+module _ (t u : List settings.Entry) (n : ℕ) (at : (k : ℕ) → k < n → AlikeEntry (entry_at t k) (entry_at u k)) (w : PassQuery) where
+  if_alike : (pass k : ℕ) → k < n → entry_if t w pass k ≡ entry_if u w pass k
+  unfolding entry_if
+  if_alike pass k l = rw (takes_alike (at k l) w pass)
 
-  chosen-alike : chosen t n w ≡ chosen u n w
-  unfolding chosen inPass
-  chosen-alike =
-      first-cong (inPass t n w) (inPass u n w) 4
-      (λ pass l. first-cong (entryIf t w pass) (entryIf u w pass) n (λ k m. if-alike pass k m))
+  chosen_alike : chosen t n w ≡ chosen u n w
+  unfolding chosen in_pass
+  chosen_alike =
+      first_cong (in_pass t n w) (in_pass u n w) 4
+      (λ pass l. first_cong (entry_if t w pass) (entry_if u w pass) n (λ k m. if_alike pass k m))
 
 -- ---- the settings
 
 module _ (s t : Settings) (h : Alike s t) where
-  pub query-alike : (f : ℕ) → passQueryOf s f ≡ passQueryOf t f
-  unfolding passQueryOf
-  query-alike f = rw (enabled-alike s t h (otherArch (s .current)), h .current, h .auto-switch)
+  pub query_alike : (f : ℕ) → pass_query_of s f ≡ pass_query_of t f
+  unfolding pass_query_of
+  query_alike f = rw (enabled_alike s t h (other_arch s.current), h.current, h.auto_switch)
 
-  pub looked : (k : ℕ) → k < usedCount (s .count) → AlikeEntry (entryAt (s .table) k) (entryAt (t .table) k)
-  looked k l = h .entries k (omega (arith, used-least (s .count)))
+  pub looked : (k : ℕ) → k < used_count s.count → AlikeEntry (entry_at s.table k) (entry_at t.table k)
+  looked k l = h.entries k (omega (arith, used_least s.count))
 
-  entry-alike : (f : ℕ) → chosenEntry s f ≡ chosenEntry t f
-  unfolding chosenEntry
-  entry-alike f =
-      chosen-alike (s .table) (t .table) (usedCount (s .count)) looked (passQueryOf s f) ∙ rw (query-alike f, h .count)
+  entry_alike : (f : ℕ) → chosen_entry s f ≡ chosen_entry t f
+  unfolding chosen_entry
+  entry_alike f =
+      chosen_alike s.table t.table (used_count s.count) looked (pass_query_of s f) ∙ rw (query_alike f, h.count)
 
-  choice-alike : (f : ℕ) (c : Choice) → chosenEntry s f ≡ c → placeOfChoice (s .table) c ≡ placeOfChoice (t .table) c
-  choice-alike f Nothing e = refl
-  choice-alike f (Entry k) e =
-      let at = h .entries k (chosen-accepts s f e .0) in
-      rw (at .first, at .sectors)
+  choice_alike : (f : ℕ) (c : Choice) → chosen_entry s f ≡ c → place_of_choice s.table c ≡ place_of_choice t.table c
+  choice_alike f Nothing e = refl
+  choice_alike f (Entry k) e =
+      let at = h.entries k (chosen_accepts s f e).0 in
+      rw (at.first, at.sectors)
 
-  place-alike : (len f : ℕ) → placeOf s len f ≡ placeOf t len f
-  unfolding placeOf
-  place-alike len f =
-      let chosen = choice-alike f (chosenEntry s f) refl ∙ ap (placeOfChoice (t .table)) (entry-alike f) in
-      rw (chosen, h .absolute, h .arm, h .riscv, h .count)
+  place_alike : (len f : ℕ) → place_of s len f ≡ place_of t len f
+  unfolding place_of
+  place_alike len f =
+      let chosen = choice_alike f (chosen_entry s f) refl ∙ ap (place_of_choice t.table) (entry_alike f) in
+      rw (chosen, h.absolute, h.arm, h.riscv, h.count)
 
-  ram-alike : (f : ℕ) → ramFamily s f ≡ ramFamily t f
-  unfolding ramFamily
-  ram-alike f =
+  ram_alike : (f : ℕ) → ram_family s f ≡ ram_family t f
+  unfolding ram_family
+  ram_alike f =
       rw (
-        any-cong (usedCount (s .count)) (userOf (s .table) f) (userOf (t .table) f) (λ k l. user-alike (looked k l) f),
-        h .count,
+        any_cong (used_count s.count) (user_of s.table f) (user_of t.table f) (λ k l. user_alike (looked k l) f),
+        h.count,
       )
 
-  ask-alike : (len f : ℕ) → askOf s len f ≡ askOf t len f
-  unfolding askOf
-  ask-alike len f = rw (alike-good s t len h, place-alike len f)
+  ask_alike : (len f : ℕ) → ask_of s len f ≡ ask_of t len f
+  unfolding ask_of
+  ask_alike len f = rw (alike_good s t len h, place_alike len f)
 
-pub alike-places : Alike-places
-alike-places s t len f h = (place-alike s t h len f, ram-alike s t h f, ask-alike s t h len f)
+pub alike_places : AlikePlaces
+alike_places s t len f h = (place_alike s t h len f, ram_alike s t h f, ask_alike s t h len f)

@@ -1,110 +1,110 @@
 -- The place of a family by cases, and what a chosen entry tells. Assumes nothing.
-use Prim.Native.Nat.{ℕ, _≤_, _<_}
-use mathlib.Core.Path.{_≡_, _∙_}
-use mathlib.Core.Logic.{_≢_}
-use mathlib.Core.Bool.{true, false, _&&_}
+use Prim.Native.Nat.{ℕ, ◌≤◌, ◌<◌}
+use mathlib.Core.Path.{◌≡◌, ◌∙◌}
+use mathlib.Core.Logic.{◌≢◌}
+use mathlib.Core.Bool.{true, false, ◌&&◌}
 use mathlib.Core.List.{List}
 use native.Mathlib.Omega.{arith}
 use lib.Dec.{leb}
-use borrow.Author.Tests.{eq-eqb, ne-eqb, leb-true, leb-false}
-use Rattle·laws.specs.Sets.{any}
-use Rattle·laws.proofs.Tests.{split}
-use Rattle·memory.specs.Flash.{flashLength}
-use Rattle·partitions.specs.declared.Entry as settings
-use Rattle·partitions.specs.declared.Settings.{Settings}
-use Rattle·partitions.specs.Settings.{familyRp2040, familyAbsolute, familyData, familyArmNs, entryAt, goodSettings}
-use Rattle·placement·specs.specs.Place.{passTakes, entryIf, inPass, chosen, usedCount, passQueryOf, chosenEntry, getsWhole, wholeIf, placeOfChoice, placeOf, userOf, ramFamily, foundAt, askOf}
-use Rattle·placement·specs.specs.declared.passes.PassQuery.{PassQuery}
-use Rattle·placement·specs.specs.declared.Choice.{Choice}
-use Rattle·placement·specs.specs.declared.Choice.the-variants.{Nothing, Entry}
-use Rattle·placement·specs.specs.declared.Place.the-variants.{Nowhere}
-use Rattle·placement·specs.specs.declared.PlaceAnswer.the-variants.{BadBuffers, BadSettings}
-use Rattle·placement·proofs.proofs.First.{first-found}
+use borrow.Author.Tests.{eq-eqb, ne_eqb, leb-true, leb-false}
+use Rattle.laws.specs.Sets.{any}
+use Rattle.laws.proofs.Tests.{split}
+use Rattle.memory.specs.Flash.{flash_length}
+use Rattle.partitions.specs.declared.Entry as settings
+use Rattle.partitions.specs.declared.Settings.{Settings}
+use Rattle.partitions.specs.Settings.{family_rp2040, family_absolute, family_data, family_arm_ns, entry_at, good_settings}
+use Rattle.placement.specs.Place.{pass_takes, entry_if, in_pass, chosen, used_count, pass_query_of, chosen_entry, gets_whole, whole_if, place_of_choice, place_of, user_of, ram_family, found_at, ask_of}
+use Rattle.placement.specs.declared.passes.PassQuery.{PassQuery}
+use Rattle.placement.specs.declared.Choice.{Choice}
+use Rattle.placement.specs.declared.Choice.TheVariants.{Nothing, Entry}
+use Rattle.placement.specs.declared.Place.TheVariants.{Nowhere}
+use Rattle.placement.specs.declared.PlaceAnswer.TheVariants.{BadBuffers, BadSettings}
+use Rattle.placement.proofs.First.{first_found}
 
 -- ---- the place by cases
 
 module _ (s : Settings) (len f : ℕ) where
-  pub place-absolute : f ≡ familyAbsolute → placeOf s len f ≡ wholeIf (s .absolute) len
-  unfolding placeOf
-  place-absolute h = let z = eq-eqb f familyAbsolute h in simp z
+  pub place_absolute : f ≡ family_absolute → place_of s len f ≡ whole_if s.absolute len
+  unfolding place_of
+  place_absolute h = let z = eq-eqb f family_absolute h in simp z
 
-  pub place-rp2040 : f ≡ familyRp2040 → placeOf s len f ≡ Nowhere
-  unfolding placeOf
-  place-rp2040 h =
-      let y = ne-eqb f familyAbsolute (λ e. absurd (omega arith)) in
-      let z = eq-eqb f familyRp2040 h in
+  pub place_rp2040 : f ≡ family_rp2040 → place_of s len f ≡ Nowhere
+  unfolding place_of
+  place_rp2040 h =
+      let y = ne_eqb f family_absolute (λ e. absurd (omega arith)) in
+      let z = eq-eqb f family_rp2040 h in
       simp (y, z)
 
-  module _ (na : f ≢ familyAbsolute) (nr : f ≢ familyRp2040) where
-    pub place-whole : s .count ≡ 0 → placeOf s len f ≡ wholeIf (getsWhole (s .arm) (s .riscv) f) len
-    unfolding placeOf
-    place-whole h = let z = eq-eqb (s .count) 0 h in simp (ne-eqb f familyAbsolute na, ne-eqb f familyRp2040 nr, z)
+  module _ (na : f ≢ family_absolute) (nr : f ≢ family_rp2040) where
+    pub place_whole : s.count ≡ 0 → place_of s len f ≡ whole_if (gets_whole s.arm s.riscv f) len
+    unfolding place_of
+    place_whole h = let z = eq-eqb s.count 0 h in simp (ne_eqb f family_absolute na, ne_eqb f family_rp2040 nr, z)
 
-    pub place-table : s .count ≢ 0 → placeOf s len f ≡ placeOfChoice (s .table) (chosenEntry s f)
-    unfolding placeOf
-    place-table h = let z = ne-eqb (s .count) 0 h in simp (ne-eqb f familyAbsolute na, ne-eqb f familyRp2040 nr, z)
+    pub place_table : s.count ≢ 0 → place_of s len f ≡ place_of_choice s.table (chosen_entry s f)
+    unfolding place_of
+    place_table h = let z = ne_eqb s.count 0 h in simp (ne_eqb f family_absolute na, ne_eqb f family_rp2040 nr, z)
 
 -- ---- how many entries are looked at
 
-pub used-most : (n : ℕ) → usedCount n ≤ 16
-used-most n = split (leb n 16) (λ h. rw h (leb-true n 16 h)) (λ h. rw h (omega arith))
+pub used_most : (n : ℕ) → used_count n ≤ 16
+used_most n = split (leb n 16) (λ h. rw h (leb-true n 16 h)) (λ h. rw h (omega arith))
 
-pub used-least : (n : ℕ) → usedCount n ≤ n
-used-least n = split (leb n 16) (λ h. rw h (omega arith)) (λ h. rw h (omega (arith, leb-false n 16 h)))
+pub used_least : (n : ℕ) → used_count n ≤ n
+used_least n = split (leb n 16) (λ h. rw h (omega arith)) (λ h. rw h (omega (arith, leb-false n 16 h)))
 
-pub used-whole : (n : ℕ) → n ≤ 16 → n ≤ usedCount n
-used-whole n l = split (leb n 16) (λ h. rw h (omega arith)) (λ h. absurd (omega (arith, leb-false n 16 h)))
+pub used_whole : (n : ℕ) → n ≤ 16 → n ≤ used_count n
+used_whole n l = split (leb n 16) (λ h. rw h (omega arith)) (λ h. absurd (omega (arith, leb-false n 16 h)))
 
 -- ---- families in RAM
 
 module _ (s : Settings) (f : ℕ) where
-  pub ram-named : leb familyData f && leb f familyArmNs ≡ true → true ≡ ramFamily s f
-  unfolding ramFamily
-  ram-named h = rw h
+  pub ram_named : leb family_data f && leb f family_arm_ns ≡ true → true ≡ ram_family s f
+  unfolding ram_family
+  ram_named h = rw h
 
-  pub ram-other : leb familyData f && leb f familyArmNs ≡ false → any (usedCount (s .count)) (userOf (s .table) f) ≡ ramFamily s f
-  unfolding ramFamily
-  ram-other h = rw h
+  pub ram_other : leb family_data f && leb f family_arm_ns ≡ false → any (used_count s.count) (user_of s.table f) ≡ ram_family s f
+  unfolding ram_family
+  ram_other h = rw h
 
 -- ---- the chosen entry
 
-pub chosen-is : (s : Settings) (f n : ℕ) (w : PassQuery) {r : Choice} → r ≡ chosen (s .table) n w → n ≡ usedCount (s .count) → w ≡ passQueryOf s f → r ≡ chosenEntry s f
-unfolding chosenEntry
-chosen-is s f n w h p q = h ∙ rw (p, q)
+pub chosen_is : (s : Settings) (f n : ℕ) (w : PassQuery) {r : Choice} → r ≡ chosen s.table n w → n ≡ used_count s.count → w ≡ pass_query_of s f → r ≡ chosen_entry s f
+unfolding chosen_entry
+chosen_is s f n w h p q = h ∙ rw (p, q)
 
-if-found : (table : List settings.Entry) (w : PassQuery) (pass i k : ℕ) → entryIf table w pass i ≡ Entry k → (i ≡ k) × (passTakes w pass (entryAt table i) ≡ true)
-unfolding entryIf
-if-found table w pass i k h =
-    split (passTakes w pass (entryAt table i))
+if_found : (table : List settings.Entry) (w : PassQuery) (pass i k : ℕ) → entry_if table w pass i ≡ Entry k → (i ≡ k) × (pass_takes w pass (entry_at table i) ≡ true)
+unfolding entry_if
+if_found table w pass i k h =
+    split (pass_takes w pass (entry_at table i))
     (λ t. let e : Entry i ≡ Entry k = rw t at h in (cc, t))
-    (λ t. let e : Nothing ≡ Entry k = rw t at h in let z : _≡_ {A = ℕ} 0 1 = cc in absurd (omega arith))
+    (λ t. let e : Nothing ≡ Entry k = rw t at h in let z : ◌≡◌ {A = ℕ} 0 1 = cc in absurd (omega arith))
 
 -- it is one of those looked at, and some pass takes it
-pub chosen-taken : (table : List settings.Entry) (n : ℕ) (w : PassQuery) {k : ℕ} → chosen table n w ≡ Entry k → (pass : ℕ) × (k < n) × (passTakes w pass (entryAt table k) ≡ true)
-unfolding chosen inPass
-chosen-taken table n w {k} h =
-    let q = first-found _ 4 h in
-    let r = first-found _ n (q .2) in
-    let t = if-found table w (q .0) (r .0) k (r .2) in
-    let e = t .0 in
-    (q .0, rw e at (r .1), rw e at (t .1))
+pub chosen_taken : (table : List settings.Entry) (n : ℕ) (w : PassQuery) {k : ℕ} → chosen table n w ≡ Entry k → (pass : ℕ) × (k < n) × (pass_takes w pass (entry_at table k) ≡ true)
+unfolding chosen in_pass
+chosen_taken table n w {k} h =
+    let q = first_found _ 4 h in
+    let r = first_found _ n q.2 in
+    let t = if_found table w q.0 r.0 k r.2 in
+    let e = t.0 in
+    (q.0, rw e at r.1, rw e at t.1)
 
-pub entry-below : (s : Settings) (f : ℕ) {k : ℕ} → chosenEntry s f ≡ Entry k → k < 16
-unfolding chosenEntry
-entry-below s f h =
-    omega (arith, chosen-taken (s .table) (usedCount (s .count)) (passQueryOf s f) h .1, used-most (s .count))
+pub entry_below : (s : Settings) (f : ℕ) {k : ℕ} → chosen_entry s f ≡ Entry k → k < 16
+unfolding chosen_entry
+entry_below s f h =
+    omega (arith, (chosen_taken s.table (used_count s.count) (pass_query_of s f) h).1, used_most s.count)
 
 -- ---- a place asked for alone, by cases
 
 module _ (s : Settings) (len f : ℕ) where
-  pub ask-length : flashLength len ≡ false → askOf s len f ≡ BadBuffers
-  unfolding askOf
-  ask-length h = simp h
+  pub ask_length : flash_length len ≡ false → ask_of s len f ≡ BadBuffers
+  unfolding ask_of
+  ask_length h = simp h
 
-  pub ask-settings : flashLength len ≡ true → goodSettings s len ≡ false → askOf s len f ≡ BadSettings
-  unfolding askOf
-  ask-settings h g = simp (h, g)
+  pub ask_settings : flash_length len ≡ true → good_settings s len ≡ false → ask_of s len f ≡ BadSettings
+  unfolding ask_of
+  ask_settings h g = simp (h, g)
 
-  pub ask-place : flashLength len ≡ true → goodSettings s len ≡ true → askOf s len f ≡ foundAt (placeOf s len f)
-  unfolding askOf
-  ask-place h g = simp (h, g)
+  pub ask_place : flash_length len ≡ true → good_settings s len ≡ true → ask_of s len f ≡ found_at (place_of s len f)
+  unfolding ask_of
+  ask_place h g = simp (h, g)

@@ -1,120 +1,120 @@
 -- When a family has no place, and where a place lies. Assumes nothing.
-use Prim.Native.Nat.{ℕ, _*_, _%_, _≤_, _<_}
-use mathlib.Core.Path.{_≡_, refl, sym, ap, _∙_}
-use mathlib.Core.Bool.{Bool, true, false, _&&_}
+use Prim.Native.Nat.{ℕ, ◌*◌, ◌%◌, ◌≤◌, ◌<◌}
+use mathlib.Core.Path.{◌≡◌, refl, sym, ap, ◌∙◌}
+use mathlib.Core.Bool.{Bool, true, false, ◌&&◌}
 use mathlib.Core.List.{List}
 use native.Mathlib.Omega.{arith}
 use lib.Dec.{leb, eqb}
 use borrow.Author.Tests.{eqb-true, eqb-false}
-use Rattle·laws.proofs.Tests.{split, is-false, and-left, and-right}
-use Rattle·memory.specs.Flash.{flashLength}
-use Rattle·partitions.specs.declared.Entry as settings
-use Rattle·partitions.specs.declared.Settings.{Settings}
-use Rattle·partitions.specs.Settings.{familyRp2040, familyAbsolute, entryAt, isA, accepts, goodSettings}
-use Rattle·partitions.proofs.Laws.{good-count, good-fits}
-use Rattle·placement·specs.specs.Place.{passAllows, passTakes, inPass, chosen, usedCount, passQueryOf, chosenEntry, getsWhole, wholeIf, placeOfChoice, placeOf, Accepting, Inside, No-place, Place-inside}
-use Rattle·placement·specs.specs.declared.passes.PassQuery.{PassQuery}
-use Rattle·placement·specs.specs.declared.Choice.{Choice}
-use Rattle·placement·specs.specs.declared.Choice.the-variants.{Nothing, Entry}
-use Rattle·placement·specs.specs.declared.Place.the-variants.{Nowhere, At}
-use Rattle·placement·proofs.proofs.First.{first-all, first-none, if-taken, if-passed}
-use Rattle·placement·proofs.proofs.Laws.{place-absolute, place-rp2040, place-whole, place-table, used-least, used-whole, chosen-taken}
+use Rattle.laws.proofs.Tests.{split, is_false, and_left, and_right}
+use Rattle.memory.specs.Flash.{flash_length}
+use Rattle.partitions.specs.declared.Entry as settings
+use Rattle.partitions.specs.declared.Settings.{Settings}
+use Rattle.partitions.specs.Settings.{family_rp2040, family_absolute, entry_at, is_a, accepts, good_settings}
+use Rattle.partitions.proofs.Laws.{good_count, good_fits}
+use Rattle.placement.specs.Place.{pass_allows, pass_takes, in_pass, chosen, used_count, pass_query_of, chosen_entry, gets_whole, whole_if, place_of_choice, place_of, Accepting, Inside, NoPlaceStated, PlaceInside}
+use Rattle.placement.specs.declared.passes.PassQuery.{PassQuery}
+use Rattle.placement.specs.declared.Choice.{Choice}
+use Rattle.placement.specs.declared.Choice.TheVariants.{Nothing, Entry}
+use Rattle.placement.specs.declared.Place.TheVariants.{Nowhere, At}
+use Rattle.placement.proofs.First.{first_all, first_none, if_taken, if_passed}
+use Rattle.placement.proofs.Laws.{place_absolute, place_rp2040, place_whole, place_table, used_least, used_whole, chosen_taken}
 
 -- ---- what the passes take
 
 -- the last pass takes every A entry that accepts the family, and no pass takes another
-last-takes : (w : PassQuery) (e : settings.Entry) → isA e ≡ true → accepts e (w .family) ≡ true → passTakes w 3 e ≡ true
-unfolding passTakes passAllows
-last-takes w e a h = rw (a, h)
+last_takes : (w : PassQuery) (e : settings.Entry) → is_a e ≡ true → accepts e w.family ≡ true → pass_takes w 3 e ≡ true
+unfolding pass_takes pass_allows
+last_takes w e a h = rw (a, h)
 
-takes-tells : (w : PassQuery) (pass : ℕ) (e : settings.Entry) → passTakes w pass e ≡ true → (isA e ≡ true) × (accepts e (w .family) ≡ true)
-unfolding passTakes
-takes-tells w pass e h =
-    let l = and-left (isA e && accepts e (w .family)) (passAllows w pass e) h in
-    (and-left (isA e) (accepts e (w .family)) l, and-right (isA e) (accepts e (w .family)) l)
+takes_tells : (w : PassQuery) (pass : ℕ) (e : settings.Entry) → pass_takes w pass e ≡ true → (is_a e ≡ true) × (accepts e w.family ≡ true)
+unfolding pass_takes
+takes_tells w pass e h =
+    let l = and_left (is_a e && accepts e w.family) (pass_allows w pass e) h in
+    (and_left (is_a e) (accepts e w.family) l, and_right (is_a e) (accepts e w.family) l)
 
 module _ (s : Settings) (f : ℕ) where
   -- the chosen entry is used, is an A entry and accepts the family
-  pub chosen-accepts : {k : ℕ} → chosenEntry s f ≡ Entry k → Accepting s f k
-  unfolding chosenEntry passQueryOf
-  chosen-accepts {k} h =
-      let q = chosen-taken (s .table) (usedCount (s .count)) (passQueryOf s f) h in
-      let t = takes-tells (passQueryOf s f) (q .0) (entryAt (s .table) k) (q .2) in
-      (omega (arith, q .1, used-least (s .count)), t .0, t .1)
+  pub chosen_accepts : {k : ℕ} → chosen_entry s f ≡ Entry k → Accepting s f k
+  unfolding chosen_entry pass_query_of
+  chosen_accepts {k} h =
+      let q = chosen_taken s.table (used_count s.count) (pass_query_of s f) h in
+      let t = takes_tells (pass_query_of s f) q.0 (entry_at s.table k) q.2 in
+      (omega (arith, q.1, used_least s.count), t.0, t.1)
 
-  none-chosen : ((k : ℕ) → Accepting s f k → ⊥) → chosenEntry s f ≡ Nothing
-  unfolding chosenEntry chosen inPass passQueryOf
-  none-chosen h =
-      first-none _ 4
+  none_chosen : ((k : ℕ) → Accepting s f k → ⊥) → chosen_entry s f ≡ Nothing
+  unfolding chosen_entry chosen in_pass pass_query_of
+  none_chosen h =
+      first_none _ 4
       (λ pass l.
-      first-none _ (usedCount (s .count))
+      first_none _ (used_count s.count)
       (λ k b.
-      if-passed (s .table) (passQueryOf s f) pass k
-      (is-false _
+      if_passed s.table (pass_query_of s f) pass k
+      (is_false _
       (λ t.
-      let a = takes-tells (passQueryOf s f) pass (entryAt (s .table) k) t in
-      h k (omega (arith, used-least (s .count)), a .0, a .1)))))
+      let a = takes_tells (pass_query_of s f) pass (entry_at s.table k) t in
+      h k (omega (arith, used_least s.count), a.0, a.1)))))
 
-  chosen-none : s .count ≤ 16 → chosenEntry s f ≡ Nothing → (k : ℕ) → Accepting s f k → ⊥
-  unfolding chosenEntry chosen inPass passQueryOf
-  chosen-none n e k h =
-      let w = passQueryOf s f in
-      let l : k < usedCount (s .count) = omega (arith, h .0, used-whole (s .count) n) in
-      let p = first-all _ (usedCount (s .count)) (first-all _ 4 e 3 (omega arith)) k l in
-      let q = if-taken (s .table) w 3 k (last-takes w (entryAt (s .table) k) (h .1) (h .2)) in
+  chosen_none : s.count ≤ 16 → chosen_entry s f ≡ Nothing → (k : ℕ) → Accepting s f k → ⊥
+  unfolding chosen_entry chosen in_pass pass_query_of
+  chosen_none n e k h =
+      let w = pass_query_of s f in
+      let l : k < used_count s.count = omega (arith, h.0, used_whole s.count n) in
+      let p = first_all _ (used_count s.count) (first_all _ 4 e 3 (omega arith)) k l in
+      let q = if_taken s.table w 3 k (last_takes w (entry_at s.table k) h.1 h.2) in
       let x : Entry k ≡ Nothing = sym q ∙ p in
-      let z : _≡_ {A = ℕ} 0 1 = cc in
+      let z : ◌≡◌ {A = ℕ} 0 1 = cc in
       omega arith
 
 -- ---- no place
 
-choice-none : (table : List settings.Entry) (c : Choice) → placeOfChoice table c ≡ Nowhere → c ≡ Nothing
-choice-none table Nothing e = refl
-choice-none table (Entry k) e = let z : _≡_ {A = ℕ} 0 1 = cc in absurd (omega arith)
+choice_none : (table : List settings.Entry) (c : Choice) → place_of_choice table c ≡ Nowhere → c ≡ Nothing
+choice_none table Nothing e = refl
+choice_none table (Entry k) e = let z : ◌≡◌ {A = ℕ} 0 1 = cc in absurd (omega arith)
 
-pub no-place : No-place
-no-place s len f good table na nr =
-    let placed = place-table s len f na nr table in (
-      λ e. chosen-none s f (good-count s len good) (choice-none (s .table) (chosenEntry s f) (sym placed ∙ e)),
-      λ h. placed ∙ ap (placeOfChoice (s .table)) (none-chosen s f h),
+pub no_place : NoPlaceStated
+no_place s len f good table na nr =
+    let placed = place_table s len f na nr table in (
+      λ e. chosen_none s f (good_count s len good) (choice_none s.table (chosen_entry s f) (sym placed ∙ e)),
+      λ h. placed ∙ ap (place_of_choice s.table) (none_chosen s f h),
     )
 
 -- ---- where a place lies
 
-module _ (s : Settings) (len f : ℕ) (right : flashLength len ≡ true) (good : goodSettings s len ≡ true) where
+module _ (s : Settings) (len f : ℕ) (right : flash_length len ≡ true) (good : good_settings s len ≡ true) where
   sectors : len % 4096 ≡ 0
-  unfolding flashLength
+  unfolding flash_length
   sectors =
       eqb-true (len % 4096) 0
-      (and-left (eqb (len % 4096) 0) (leb 4096 len) (and-left (eqb (len % 4096) 0 && leb 4096 len) (leb len 33554432) right))
+      (and_left (eqb (len % 4096) 0) (leb 4096 len) (and_left (eqb (len % 4096) 0 && leb 4096 len) (leb len 33554432) right))
 
-  whole : {a n : ℕ} (b : Bool) → wholeIf b len ≡ At a n → Inside len a n
+  whole : {a n : ℕ} (b : Bool) → whole_if b len ≡ At a n → Inside len a n
   whole {a} {n} true h = let x : 0 ≡ a = cc in let y : len ≡ n = cc in let z = sectors in (omega arith, omega arith, omega arith)
-  whole {a} {n} false h = let z : _≡_ {A = ℕ} 0 1 = cc in absurd (omega arith)
+  whole {a} {n} false h = let z : ◌≡◌ {A = ℕ} 0 1 = cc in absurd (omega arith)
 
-  entry : {a n : ℕ} (c : Choice) → chosenEntry s f ≡ c → placeOfChoice (s .table) c ≡ At a n → Inside len a n
-  entry {a} {n} Nothing q h = let z : _≡_ {A = ℕ} 0 1 = cc in absurd (omega arith)
+  entry : {a n : ℕ} (c : Choice) → chosen_entry s f ≡ c → place_of_choice s.table c ≡ At a n → Inside len a n
+  entry {a} {n} Nothing q h = let z : ◌≡◌ {A = ℕ} 0 1 = cc in absurd (omega arith)
   entry {a} {n} (Entry k) q h =
-      let x : entryAt (s .table) k .first * 4096 ≡ a = cc in
-      let y : entryAt (s .table) k .sectors * 4096 ≡ n = cc in
-      (omega arith, omega arith, omega (arith, good-fits s len good k (chosen-accepts s f q .0)))
+      let x : (entry_at s.table k).first * 4096 ≡ a = cc in
+      let y : (entry_at s.table k).sectors * 4096 ≡ n = cc in
+      (omega arith, omega arith, omega (arith, good_fits s len good k (chosen_accepts s f q).0))
 
-  inside : {a n : ℕ} → placeOf s len f ≡ At a n → Inside len a n
+  inside : {a n : ℕ} → place_of s len f ≡ At a n → Inside len a n
   inside {a} {n} e =
-      split (eqb f familyAbsolute)
-      (λ p. whole (s .absolute) (sym (place-absolute s len f (eqb-true f familyAbsolute p)) ∙ e))
+      split (eqb f family_absolute)
+      (λ p. whole s.absolute (sym (place_absolute s len f (eqb-true f family_absolute p)) ∙ e))
       (λ p.
-      let na = eqb-false f familyAbsolute p in
-      split (eqb f familyRp2040)
+      let na = eqb-false f family_absolute p in
+      split (eqb f family_rp2040)
       (λ q.
-      let x : Nowhere ≡ At a n = sym (place-rp2040 s len f (eqb-true f familyRp2040 q)) ∙ e in
-      let z : _≡_ {A = ℕ} 0 1 = cc in
+      let x : Nowhere ≡ At a n = sym (place_rp2040 s len f (eqb-true f family_rp2040 q)) ∙ e in
+      let z : ◌≡◌ {A = ℕ} 0 1 = cc in
       absurd (omega arith))
       (λ q.
-      let nr = eqb-false f familyRp2040 q in
-      split (eqb (s .count) 0)
-      (λ r. whole (getsWhole (s .arm) (s .riscv) f) (sym (place-whole s len f na nr (eqb-true (s .count) 0 r)) ∙ e))
-      (λ r. entry (chosenEntry s f) refl (sym (place-table s len f na nr (eqb-false (s .count) 0 r)) ∙ e))))
+      let nr = eqb-false f family_rp2040 q in
+      split (eqb s.count 0)
+      (λ r. whole (gets_whole s.arm s.riscv f) (sym (place_whole s len f na nr (eqb-true s.count 0 r)) ∙ e))
+      (λ r. entry (chosen_entry s f) refl (sym (place_table s len f na nr (eqb-false s.count 0 r)) ∙ e))))
 
-pub place-inside : Place-inside
-place-inside s len f right good a n e = inside s len f right good e
+pub place_inside : PlaceInside
+place_inside s len f right good a n e = inside s len f right good e

@@ -1,40 +1,43 @@
 // The place of a family: the whole flash, the bytes of a partition entry, or none.
+#![tactic(auto)]
+
 pub mod passes;
 pub mod ram;
 
-ghost use mathlib.Core.Path.{_≡_};
-ghost use Prim.Native.Nat.{_≤_};
-ghost use Rattle·laws.specs.Numbered.{numbered};
-ghost use Rattle·placement·specs.specs.Place.{
+ghost use Rattle.std.specs.Prelude.{◌≡◌, ◌≤◌};
+ghost use Rattle.laws.specs.Numbered.{numbered};
+ghost use Rattle.placement.specs.Place.{
   chosen,
-  getsWhole,
-  wholeIf,
-  bytesOf,
+  gets_whole,
+  whole_if,
+  bytes_of,
   StartsLow,
-  placeOf,
-  placeNumber,
-  askOf,
-  placeAnswerNumber,
+  place_of,
+  place_number,
+  ask_of,
+  place_answer_number,
 };
+
 use crate::passes::PassQuery;
 use memory::flash::Flash;
-use partitions::Entry;
-use partitions::Family;
-use partitions::Settings;
+use partitions::{Entry, Family, Settings};
 
 // The place of a family, in bytes (01's term: place).
+#[derive(Clone, Copy)]
 pub enum Place {
     Nowhere,
     At { start: usize, len: usize },
 }
 
 // The entry that the passes choose.
+#[derive(Clone, Copy)]
 pub enum Choice {
     Nothing,
     Entry(usize),
 }
 
 // The answer to a place asked for alone.
+#[derive(Clone, Copy)]
 pub enum PlaceAnswer {
     BadBuffers,
     BadSettings,
@@ -44,8 +47,8 @@ pub enum PlaceAnswer {
 
 // Four passes over n entries, first to last, ending at the first match.
 fn choose(table: [Entry; Settings::ENTRIES], n: usize, w: PassQuery) -> Choice
-    requires { ⌜ n ≤ 16 ⌝ }
-    ensures { λ r. ⌜ r ≡ chosen table n w ⌝ }
+    requires { n ≤ 16 }
+    ensures { result ≡ chosen table n w }
 {
     let mut pass: usize = 0;
     let found = 'search: loop {
@@ -67,7 +70,7 @@ fn choose(table: [Entry; Settings::ENTRIES], n: usize, w: PassQuery) -> Choice
 
 // The families that get the whole flash where there is no table.
 pub fn gets_whole(arm: bool, riscv: bool, family: u32) -> bool
-    ensures { λ r. ⌜ r ≡ getsWhole arm riscv family ⌝ }
+    ensures { result ≡ gets_whole arm riscv family }
 {
     (family == Family::DATA)
         | ((family == Family::ARM_S) & arm)
@@ -76,8 +79,8 @@ pub fn gets_whole(arm: bool, riscv: bool, family: u32) -> bool
 
 // The whole of so many bytes, of the flash or of a window, or no place.
 pub fn whole_if(yes: bool, len: usize) -> Place
-    ensures { λ r. ⌜ r ≡ wholeIf yes len ⌝ }
-    ensures low { λ r. ⌜ StartsLow r ⌝ }
+    ensures value { result ≡ whole_if yes len }
+    ensures low { StartsLow result }
 {
     if yes {
         Place::At { start: 0, len }
@@ -87,8 +90,8 @@ pub fn whole_if(yes: bool, len: usize) -> Place
 }
 
 fn bytes_of(e: Entry) -> Place
-    ensures { λ r. ⌜ r ≡ bytesOf e ⌝ }
-    ensures low { λ r. ⌜ StartsLow r ⌝ }
+    ensures value { result ≡ bytes_of e }
+    ensures low { StartsLow result }
 {
     let start = e.first as usize * Flash::SECTOR;
     let len = e.sectors as usize * Flash::SECTOR;
@@ -97,8 +100,8 @@ fn bytes_of(e: Entry) -> Place
 
 // The place of a family. The settings are taken to be good; of others it looks at no more than 16 entries.
 pub fn find(settings: Settings, flash_len: usize, family: u32) -> Place
-    ensures { λ r. ⌜ numbered placeNumber r ≡ numbered placeNumber (placeOf settings «flash_len» family) ⌝ }
-    ensures low { λ r. ⌜ StartsLow r ⌝ }
+    ensures result_value { numbered place_number result ≡ numbered place_number (place_of settings flash_len family) }
+    ensures low { StartsLow result }
 {
     let count = settings.count;
     if family == Family::ABSOLUTE {
@@ -123,7 +126,7 @@ pub fn find(settings: Settings, flash_len: usize, family: u32) -> Place
 
 // A place asked for alone.
 pub fn ask(settings: Settings, flash_len: usize, family: u32) -> PlaceAnswer
-    ensures { λ r. ⌜ numbered placeAnswerNumber r ≡ numbered placeAnswerNumber (askOf settings «flash_len» family) ⌝ }
+    ensures { numbered place_answer_number result ≡ numbered place_answer_number (ask_of settings flash_len family) }
 {
     if !memory::flash::right_length(flash_len) {
         return PlaceAnswer::BadBuffers;
@@ -139,7 +142,7 @@ pub fn ask(settings: Settings, flash_len: usize, family: u32) -> PlaceAnswer
 
 // The number of a refusal, and 0 for a place that is found.
 pub fn number(a: PlaceAnswer) -> u8
-    ensures { λ r. ⌜ r ≡ placeAnswerNumber a ⌝ }
+    ensures { result ≡ place_answer_number a }
 {
     match a {
         PlaceAnswer::BadBuffers => 1,

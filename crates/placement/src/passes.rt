@@ -1,13 +1,12 @@
 // The passes over the table: what one asks of an entry. Which entry they choose is `place`'s.
-ghost use mathlib.Core.Path.{_≡_};
-ghost use Rattle·placement·specs.specs.Passes.{otherArch, imageOf, isMarked, isBootable, passAllows, passTakes, usedCount, passQueryOf};
-use partitions::Arch;
-use partitions::Entry;
-use partitions::Family;
-use partitions::Settings;
+ghost use Rattle.std.specs.Prelude.{◌≡◌};
+ghost use Rattle.placement.specs.Passes.{other_arch, image_of, is_marked, is_bootable, pass_allows, pass_takes, used_count, pass_query_of};
+
+use partitions::{Arch, Entry, Family, Settings};
 
 // What the passes have to know of the settings: the family, the current architecture, and whether the family is its image
 // or, where switching is on, the other's.
+#[derive(Clone, Copy)]
 pub struct PassQuery {
     pub family: u32,
     pub current: Arch,
@@ -16,7 +15,7 @@ pub struct PassQuery {
 }
 
 fn other(a: Arch) -> Arch
-    ensures { λ r. ⌜ r ≡ otherArch a ⌝ }
+    ensures { result ≡ other_arch a }
 {
     match a {
         Arch::Arm => Arch::RiscV,
@@ -25,7 +24,7 @@ fn other(a: Arch) -> Arch
 }
 
 fn image(a: Arch) -> u32
-    ensures { λ r. ⌜ r ≡ imageOf a ⌝ }
+    ensures { result ≡ image_of a }
 {
     match a {
         Arch::Arm => Family::ARM_S,
@@ -35,7 +34,7 @@ fn image(a: Arch) -> u32
 
 // Marked not bootable for the architecture?
 fn marked(e: Entry, a: Arch) -> bool
-    ensures { λ r. ⌜ r ≡ isMarked e a ⌝ }
+    ensures { result ≡ is_marked e a }
 {
     match a {
         Arch::Arm => e.not_bootable_arm,
@@ -44,14 +43,14 @@ fn marked(e: Entry, a: Arch) -> bool
 }
 
 fn bootable(e: Entry, a: Arch) -> bool
-    ensures { λ r. ⌜ r ≡ isBootable e a ⌝ }
+    ensures { result ≡ is_bootable e a }
 {
     partitions::unowned(e) & !marked(e, a)
 }
 
 // What a pass asks besides; 01's passes 1 to 4 are counted from 0.
 fn allows(w: PassQuery, pass: usize, e: Entry) -> bool
-    ensures { λ r. ⌜ r ≡ passAllows w pass e ⌝ }
+    ensures { result ≡ pass_allows w pass e }
 {
     let current = w.current;
     match pass {
@@ -64,7 +63,7 @@ fn allows(w: PassQuery, pass: usize, e: Entry) -> bool
 
 // Does a pass take the entry?
 pub fn takes(w: PassQuery, pass: usize, e: Entry) -> bool
-    ensures { λ r. ⌜ r ≡ passTakes w pass e ⌝ }
+    ensures { result ≡ pass_takes w pass e }
 {
     // shuts most entries out, before their families are compared
     if !allows(w, pass, e) {
@@ -75,7 +74,7 @@ pub fn takes(w: PassQuery, pass: usize, e: Entry) -> bool
 
 // How many entries are looked at, of the 16 that there are.
 pub fn used_count(count: u8) -> usize
-    ensures { λ r. ⌜ r ≡ usedCount count ⌝ }
+    ensures { result ≡ used_count count }
 {
     let n = count as usize;
     if n <= Settings::ENTRIES {
@@ -87,7 +86,7 @@ pub fn used_count(count: u8) -> usize
 
 // What the passes have to know, of a family.
 pub fn query(settings: Settings, family: u32) -> PassQuery
-    ensures { λ r. ⌜ r ≡ passQueryOf settings family ⌝ }
+    ensures { result ≡ pass_query_of settings family }
 {
     let current = settings.current;
     let o = other(current);

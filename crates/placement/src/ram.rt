@@ -1,12 +1,12 @@
 // The families whose blocks may go to RAM; `place` has the definition.
-ghost use mathlib.Core.Path.{_≡_};
-ghost use Rattle·placement·specs.specs.Place.{ramFamily};
-use partitions::Family;
-use partitions::Settings;
+ghost use Rattle.std.specs.Prelude.{◌≡◌};
+ghost use Rattle.placement.specs.Place.{ram_family};
+
+use partitions::{Family, Settings};
 
 // May blocks of the family go to RAM? Links and switches are not asked.
 pub fn ram_family(settings: Settings, family: u32) -> bool
-    ensures { λ r. ⌜ r ≡ ramFamily settings family ⌝ }
+    ensures { result ≡ ram_family settings family }
 {
     if (Family::DATA <= family) & (family <= Family::ARM_NS) {
         return true;

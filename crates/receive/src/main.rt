@@ -1,13 +1,15 @@
 // Reads arrivals of 512 bytes from standard input and prints the answer to each: a flash of 32,768 bytes, no RAM, no partition table, Arm
 // alone, absolute allowed.
-use libc::STDIN_FILENO;
-use libc::STDOUT_FILENO;
+#![tactic(auto)]
+
+use libc::{STDIN_FILENO, STDOUT_FILENO};
 use partitions::Settings;
 use transfer::Transfer;
 use uf2_block::Block;
 use uf2_commit::receipts::Receipt;
 
 // How far the program is after a piece: the transfer, and whether the input may hold more.
+#[derive(Clone, Copy)]
 struct Progress {
     transfer: Transfer,
     more: bool,

@@ -1,16 +1,14 @@
 // The region that one piece names.
-ghost use mathlib.Core.Path.{_≡_};
-ghost use Prim.Native.Nat.{_<_, _≤_, _/_};
-ghost use lib.ListN.{length};
-ghost use Rattle·file_check.specs.Regions.{faultIn};
-ghost use Rattle·region_checking·specs.specs.Parts.{namesIn, notedAfter, askedOf, regionsBy, Noted, Roomy};
+ghost use Rattle.std.specs.Prelude.{◌≡◌, ◌<◌, ◌≤◌, ◌/◌, length};
+ghost use Rattle.file_check.specs.Regions.{fault_in};
+ghost use Rattle.region_checking.specs.Parts.{names_in, noted_after, asked_of, regions_by, Noted, Roomy};
+
 use file_check::fileregions::RegionsChecked;
-use uf2_block::Block;
-use uf2_block::Region;
+use uf2_block::{Block, Region};
 
 // Is an arrival data, and does it name a region that counts in a place of so many bytes?
 fn names(size: usize, arrival: &[u8]) -> bool
-    ensures { λ r. ⌜ r ≡ namesIn size (now (arrival .entry)) ⌝ }
+    ensures { result ≡ names_in size arrival.now }
 {
     let flags = uf2_block::field(arrival, 8);
     let flag = uf2_block::has_region(arrival);
@@ -28,10 +26,10 @@ fn fault_in(
     cells: &mut [u8],
     image: &mut [u8],
 ) -> RegionsChecked
-    requires { ⌜ region .len ≤ 33554432 ⌝ }
-    requires held { ⌜ region .len ≤ length (now image) ⌝ }
-    requires room { ⌜ length (now cells) ≡ 16384 ⌝ }
-    ensures { λ r. ⌜ r ≡ faultIn (now (file .entry)) i region ⌝ }
+    requires len_bound { region.len ≤ 33554432 }
+    requires held { region.len ≤ length image.old }
+    requires room { length cells.old ≡ 16384 }
+    ensures { result ≡ fault_in file.now i region }
 {
     let stray = crate::inside::first_stray(region, file);
     if stray < file.len() / Block::ARRIVAL {
@@ -60,11 +58,11 @@ fn ask_region(
     cells: &mut [u8],
     image: &mut [u8],
 ) -> RegionsChecked
-    requires { ⌜ region .len ≤ 33554432 ⌝ }
-    requires held { ⌜ region .len ≤ length (now image) ⌝ }
-    requires room { ⌜ length (now cells) ≡ 16384 ⌝ }
-    ensures { λ r. ⌜ r ≡ faultIn (now (file .entry)) i region ⌝ }
-    ensures left { λ _. ⌜ now (numbers .exit) ≡ notedAfter (now (file .entry)) i region (now (numbers .entry)) ⌝ }
+    requires len_bound { region.len ≤ 33554432 }
+    requires held { region.len ≤ length image.old }
+    requires room { length cells.old ≡ 16384 }
+    ensures value { result ≡ fault_in file.now i region }
+    ensures left { numbers.new ≡ noted_after file.now i region numbers.old }
 {
     let found = fault_in(region, file, i, cells, image);
     if !found.is_right() {
@@ -76,7 +74,7 @@ fn ask_region(
 
 // What is wrong with the region of piece i, where it names one that counts in a place of so many bytes. A marked piece is in a region that was found
 // right.
-pub(crate) fn ask(
+pub fn ask(
     size: usize,
     file: &[u8],
     i: usize,
@@ -84,11 +82,11 @@ pub(crate) fn ask(
     cells: &mut [u8],
     image: &mut [u8],
 ) -> RegionsChecked
-    requires { ⌜ i < length (now file) / 512 ⌝ }
-    requires room { ⌜ Roomy size (now cells) (now image) ⌝ }
-    requires noted { ⌜ Noted size (now file) (now numbers) ⌝ }
-    ensures { λ r. ⌜ r ≡ askedOf size (now (file .entry)) i ⌝ }
-    ensures left { λ _. ⌜ Noted size (now (file .entry)) (now (numbers .exit)) ⌝ }
+    requires i_in_bounds { i < length file.now / 512 }
+    requires room { Roomy size cells.old image.old }
+    requires noted { Noted size file.now numbers.old }
+    ensures value { result ≡ asked_of size file.now i }
+    ensures left { Noted size file.now numbers.new }
 {
     let from = i * Block::ARRIVAL;
     let to = from + Block::ARRIVAL;
@@ -110,9 +108,9 @@ pub(crate) fn each_region(
     cells: &mut [u8],
     image: &mut [u8],
 ) -> RegionsChecked
-    requires { ⌜ Roomy size (now cells) (now image) ⌝ }
-    requires noted { ⌜ Noted size (now file) (now numbers) ⌝ }
-    ensures { λ r. ⌜ r ≡ regionsBy size (now (file .entry)) ⌝ }
+    requires roomy { Roomy size cells.old image.old }
+    requires noted { Noted size file.now numbers.old }
+    ensures { result ≡ regions_by size file.now }
 {
     let n = file.len() / Block::ARRIVAL;
     let mut i: usize = 0;

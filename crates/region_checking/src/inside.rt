@@ -1,15 +1,13 @@
 // An arrival beside a region: whether it is data in it, and whether it names the same one.
-ghost use mathlib.Core.Path.{_≡_};
-ghost use Prim.Native.Nat.{_/_};
-ghost use lib.ListN.{length};
-ghost use Rattle·laws.specs.Sets.{least};
-ghost use Rattle·file_check.specs.Regions.{insideOf, sameRegion, straysFrom, isStray};
-use uf2_block::Block;
-use uf2_block::Region;
+ghost use Rattle.std.specs.Prelude.{◌≡◌, ◌/◌, length};
+ghost use Rattle.laws.specs.Sets.{least};
+ghost use Rattle.file_check.specs.Regions.{inside_of, same_region, strays_from, is_stray};
+
+use uf2_block::{Block, Region};
 
 // Is an arrival data, with an address in a region? The region's end may pass 32 bits.
 pub(crate) fn is_inside(region: Region, arrival: &[u8]) -> bool
-    ensures { λ r. ⌜ r ≡ insideOf region (now (arrival .entry)) ⌝ }
+    ensures { result ≡ inside_of region arrival.now }
 {
     let flags = uf2_block::field(arrival, 8);
     let address = uf2_block::field(arrival, 12) as usize;
@@ -20,7 +18,7 @@ pub(crate) fn is_inside(region: Region, arrival: &[u8]) -> bool
 
 // Are two regions the same, digests too?
 fn same_region(x: Region, g: Region) -> bool
-    ensures { λ r. ⌜ r ≡ sameRegion x g ⌝ }
+    ensures { result ≡ same_region x g }
 {
     (x.start == g.start)
         & (x.len == g.len)
@@ -32,7 +30,7 @@ fn same_region(x: Region, g: Region) -> bool
 
 // Is an arrival data in a region, and does it name none or another?
 fn strays(region: Region, arrival: &[u8]) -> bool
-    ensures { λ r. ⌜ r ≡ straysFrom region (now (arrival .entry)) ⌝ }
+    ensures { result ≡ strays_from region arrival.now }
 {
     let own = is_inside(region, arrival);
     let flag = uf2_block::has_region(arrival);
@@ -43,7 +41,7 @@ fn strays(region: Region, arrival: &[u8]) -> bool
 
 // The first piece that is data in a region and names none or another, and the number of pieces where none does.
 pub(crate) fn first_stray(region: Region, file: &[u8]) -> usize
-    ensures { λ r. ⌜ r ≡ least (length (now (file .entry)) / 512) (isStray (now (file .entry)) region) ⌝ }
+    ensures { result ≡ least (length file.now / 512) (is_stray file.now region) }
 {
     let n = file.len() / Block::ARRIVAL;
     let mut i: usize = 0;

@@ -1,17 +1,19 @@
 // The regions of a file checked (02, L9), after the check of the file: every region that a piece names, once.
-mod asking;
+#![tactic(auto)]
+
+pub mod asking;
 mod inside;
 mod laying;
 mod marking;
 
-ghost use mathlib.Core.Path.{_≡_};
-ghost use lib.ListN.{length};
-ghost use Rattle·memory.specs.Many.{many};
-ghost use Rattle·memory.specs.Bitmap.{unmarked};
-ghost use Rattle·demand.specs.Demand.{sizeOf};
-ghost use Rattle·file_check.specs.Check.{checkOf};
-ghost use Rattle·file_check.specs.Regions.{namesRegions, regionsOf, afterCheck, checkRegionsOf};
-ghost use Rattle·region_checking·specs.specs.Parts.{Opened};
+ghost use Rattle.std.specs.Prelude.{◌≡◌, length};
+ghost use Rattle.memory.specs.Many.{many};
+ghost use Rattle.memory.specs.Bitmap.{unmarked};
+ghost use Rattle.demand.specs.Demand.{size_of};
+ghost use Rattle.file_check.specs.Check.{check_of};
+ghost use Rattle.file_check.specs.Regions.{names_regions, regions_of, after_check, check_regions_of};
+ghost use Rattle.region_checking.specs.Parts.{Opened};
+
 use file_check::Checked;
 use file_check::fileregions::RegionsChecked;
 use partitions::Settings;
@@ -21,7 +23,7 @@ use uf2_checks::Lengths;
 
 // The bytes of a place.
 fn size_of(place: Place) -> usize
-    ensures { λ r. ⌜ r ≡ sizeOf place ⌝ }
+    ensures { result ≡ size_of place }
 {
     match place {
         Place::Nowhere => 0,
@@ -31,7 +33,7 @@ fn size_of(place: Place) -> usize
 
 // Did the first check find a valid file that names regions?
 fn names_regions(found: Checked) -> bool
-    ensures { λ r. ⌜ r ≡ namesRegions found ⌝ }
+    ensures { result ≡ names_regions found }
 {
     match found {
         Checked::BadBuffers => false,
@@ -59,8 +61,8 @@ fn regions(
     cells: &mut [u8],
     image: &mut [u8],
 ) -> RegionsChecked
-    requires { ⌜ Opened settings lens (now file) (now numbers) (now cells) (now image) ⌝ }
-    ensures { λ r. ⌜ r ≡ regionsOf settings lens (now (file .entry)) ⌝ }
+    requires { Opened settings lens file.now numbers.old cells.old image.old }
+    ensures { result ≡ regions_of settings lens file.now }
 {
     let family = uf2_block::field(&file[0..Block::ARRIVAL], 28);
     let rooms = uf2_checks::family::rooms_for(settings, lens.flash, family);
@@ -80,9 +82,9 @@ fn after_check(
     offsets: &[u8],
     image: &mut [u8],
 ) -> RegionsChecked
-    requires { ⌜ found ≡ checkOf settings lens (length (now numbers)) (length (now cells)) (length (now offsets)) (now file) ⌝ }
-    requires cleared { ⌜ now numbers ≡ unmarked (length (now numbers)) ⌝ }
-    ensures { λ r. ⌜ r ≡ afterCheck settings lens (length (now (image .entry))) (now (file .entry)) found ⌝ }
+    requires found_value { found ≡ check_of settings lens (length numbers.old) (length cells.old) (length offsets.now) file.now }
+    requires cleared { numbers.old ≡ unmarked (length numbers.old) }
+    ensures { result ≡ after_check settings lens (length image.old) file.now found }
 {
     if !names_regions(found) {
         return RegionsChecked::As(found);
@@ -104,8 +106,8 @@ pub fn check_regions(
     offsets: &mut [u8],
     image: &mut [u8],
 ) -> RegionsChecked
-    ensures { λ r. ⌜ r ≡ checkRegionsOf settings lens (length (now (numbers .entry))) (length (now (cells .entry))) (length (now (offsets .entry))) (length (now (image .entry))) (now (file .entry)) ⌝ }
-    ensures left { λ _. ⌜ (now (numbers .exit) ≡ unmarked (length (now (numbers .entry)))) × (now (cells .exit) ≡ unmarked (length (now (cells .entry)))) × (now (offsets .exit) ≡ unmarked (length (now (offsets .entry)))) × (now (image .exit) ≡ many (length (now (image .entry))) 255) ⌝ }
+    ensures value { result ≡ check_regions_of settings lens (length numbers.old) (length cells.old) (length offsets.old) (length image.old) file.now }
+    ensures left { (numbers.new ≡ unmarked (length numbers.old)) × (cells.new ≡ unmarked (length cells.old)) × (offsets.new ≡ unmarked (length offsets.old)) × (image.new ≡ many (length image.old) 255) }
 {
     let found = file_checking::check(settings, lens, file, numbers, cells, offsets);
     let said = after_check(settings, lens, found, file, numbers, cells, offsets, image);

@@ -1,15 +1,13 @@
 // Maps of a region: its sectors that hold a piece, and its pieces.
-ghost use mathlib.Core.Path.{_≡_};
-ghost use Prim.Native.Nat.{_/_};
-ghost use lib.ListN.{length};
-ghost use Rattle·file_check.specs.Regions.{inTurn};
-ghost use Rattle·region_checking·specs.specs.Parts.{sectorWith, sectoring, noteWith, noting};
+ghost use Rattle.std.specs.Prelude.{◌≡◌, ◌/◌, length};
+ghost use Rattle.file_check.specs.Regions.{in_turn};
+ghost use Rattle.region_checking.specs.Parts.{sector_with, sectoring, note_with, noting};
+
 use memory::flash::Flash;
-use uf2_block::Block;
-use uf2_block::Region;
+use uf2_block::{Block, Region};
 
 fn mark_sector(region: Region, arrival: &[u8], map: &mut [u8])
-    ensures { λ _. ⌜ now (map .exit) ≡ sectorWith region (now (arrival .entry)) (now (map .entry)) ⌝ }
+    ensures { map.new ≡ sector_with region arrival.now map.old }
 {
     if !crate::inside::is_inside(region, arrival) {
         return;
@@ -22,7 +20,7 @@ fn mark_sector(region: Region, arrival: &[u8], map: &mut [u8])
 
 // Marks every sector of a region, counted from 0, that a piece lies in.
 pub(crate) fn mark_sectors(region: Region, file: &[u8], map: &mut [u8])
-    ensures { λ _. ⌜ now (map .exit) ≡ inTurn (sectoring (now (file .entry)) region) (now (map .entry)) (length (now (file .entry)) / 512) ⌝ }
+    ensures { map.new ≡ in_turn (sectoring file.now region) map.old (length file.now / 512) }
 {
     let n = file.len() / Block::ARRIVAL;
     let mut i: usize = 0;
@@ -36,7 +34,7 @@ pub(crate) fn mark_sectors(region: Region, file: &[u8], map: &mut [u8])
 }
 
 fn note(region: Region, arrival: &[u8], k: usize, map: &mut [u8])
-    ensures { λ _. ⌜ now (map .exit) ≡ noteWith region (now (arrival .entry)) k (now (map .entry)) ⌝ }
+    ensures { map.new ≡ note_with region arrival.now k map.old }
 {
     if !crate::inside::is_inside(region, arrival) {
         return;
@@ -46,7 +44,7 @@ fn note(region: Region, arrival: &[u8], k: usize, map: &mut [u8])
 
 // Marks every piece that is data in a region.
 pub(crate) fn note_pieces(region: Region, file: &[u8], map: &mut [u8])
-    ensures { λ _. ⌜ now (map .exit) ≡ inTurn (noting (now (file .entry)) region) (now (map .entry)) (length (now (file .entry)) / 512) ⌝ }
+    ensures { map.new ≡ in_turn (noting file.now region) map.old (length file.now / 512) }
 {
     let n = file.len() / Block::ARRIVAL;
     let mut i: usize = 0;

@@ -1,33 +1,30 @@
 -- The packed store by absolute bits. Assumes nothing.
-use mathlib.Core.Path.{_≡_, refl, sym, ap, _∙_}
+use mathlib.Core.Path.{◌≡◌, refl, sym, ap, ◌∙◌}
 use mathlib.Core.Bool.{Bool, true, false}
-use mathlib.Core.List.{List, [], _∷_}
-use Prim.Native.Nat.{ℕ, zero, suc, _+_, _-_, _*_, _/_, _%_, _^_, _<_, _≤_}
-use native.Mathlib.Nat.{mod-eq-of-lt, mul-assoc}
+use mathlib.Core.List.{List, [], ◌∷◌}
+use Prim.Native.Nat.{ℕ, zero, suc, ◌+◌, ◌*◌, ◌^◌, ◌<◌, ◌≤◌}
+use native.Mathlib.Nat.{mod-eq_of_lt}
 use native.Mathlib.Omega.{arith}
-use lib.ListN.{length, getD, take, drop}
+use lib.ListN.{length, get_or, take, drop}
 use lib.Pow.{pow-add}
 use lib.Seq.{length-take-le}
-use Rattle·laws.specs.Sets.{any}
-use Rattle·laws.proofs.Tests.{split}
-use Rattle·laws.proofs.Laws.{any-hit, any-none}
-use Rattle·memory.specs.Flash.{flashLength}
-use Rattle·partitions.specs.declared.Arch.{Arch}
-use Rattle·partitions.specs.declared.Arch.the-variants.{Arm, RiscV}
-use Rattle·partitions.specs.declared.Link.{Link}
-use Rattle·partitions.specs.declared.Link.the-variants.{Unlinked, OwnedBy, BOf}
-use Rattle·partitions.specs.declared.Entry.{Entry}
-use Rattle·partitions.specs.declared.Settings.{Settings}
-use Rattle·partitions.specs.Settings.{entryAt, goodSettings}
-use Rattle·partitions.proofs.Laws.{good-count}
-use Rattle·laws.specs.Packing.{total, packed, unpacked, octets, bytesOf, fieldsOf, bit}
-use Rattle·store_entry.specs.EntryBits.{kindOf, indexOf, slot, entryWidths, entryFields, packedEntry}
-use Rattle·store_entry.proofs.OneEntry.{Fits}
-use Rattle·settings_store.specs.Store.{archBit, headFields, headIn, headWidths, noRestartAt, partIn, rowAt, storeOf, versionOf}
-use Rattle·settings_store.proofs.write.Rows.{length-row}
-use Rattle·settings_claims·specs.specs.Claims.{Narrow}
-use Rattle·settings_claims·specs.specs.Bits.{valueOf, headBits, entryBits, flag, archNumber, linkKind, linkIndex, slotOf, EntryLaid, Laid, Store-is-laid}
-use Rattle·settings_claims·proofs.proofs.Written.{good-fields, store-length, head-length, head-back, part-back, row-fields}
+use Rattle.laws.proofs.Laws.{any_hit, any_none}
+use Rattle.partitions.specs.declared.Arch.{Arch}
+use Rattle.partitions.specs.declared.Arch.TheVariants.{Arm, RiscV}
+use Rattle.partitions.specs.declared.Link.{Link}
+use Rattle.partitions.specs.declared.Link.TheVariants.{Unlinked, OwnedBy, BOf}
+use Rattle.partitions.specs.declared.Entry.{Entry}
+use Rattle.partitions.specs.declared.Settings.{Settings}
+use Rattle.partitions.specs.Settings.{entry_at}
+use Rattle.partitions.proofs.Laws.{good_count}
+use Rattle.laws.specs.Packing.{total, packed, unpacked, octets, fields_of, bit}
+use Rattle.store_entry.specs.EntryBits.{kind_of, index_of, slot, entry_widths, entry_fields}
+use Rattle.store_entry.proofs.OneEntry.{Fits}
+use Rattle.settings_store.specs.Store.{arch_bit, head_fields, head_in, head_widths, no_restart_at, row_at, store_of, version_of}
+use Rattle.settings_store.proofs.write.Rows.{length_row}
+use Rattle.settings_claims.specs.Claims.{Narrow}
+use Rattle.settings_claims.specs.Bits.{value_of, flag, arch_number, link_kind, link_index, EntryLaid, Laid, StoreIsLaid}
+use Rattle.settings_claims.proofs.Written.{good_fields, store_length, head_back, part_back, row_fields}
 
 -- ---- bytes as one number
 
@@ -36,96 +33,96 @@ unfolding total octets
 power zero = refl
 power (suc n) = rw (pow-add 2 8 (total (octets n)), ← power n) (omega arith)
 
-value-packed : (l : List ℕ) → valueOf l ≡ packed (octets (length l)) l
-unfolding valueOf packed octets
-value-packed [] = refl
-value-packed (c ∷ l) = rw (power (length l), value-packed l)
+value_packed : (l : List ℕ) → value_of l ≡ packed (octets (length l)) l
+unfolding value_of packed octets
+value_packed [] = refl
+value_packed (c ∷ l) = rw (power (length l), value_packed l)
 
 -- the fields of n bytes are those of their number
-pub value-fields : (ws : List ℕ) (n : ℕ) (l : List ℕ) → length l ≡ n → fieldsOf ws n l ≡ unpacked ws (valueOf l)
-unfolding fieldsOf
-value-fields ws n l e = ap (unpacked ws) (ap (λ (m : ℕ). packed (octets m) l) (sym e) ∙ sym (value-packed l))
+pub value_fields : (ws : List ℕ) (n : ℕ) (l : List ℕ) → length l ≡ n → fields_of ws n l ≡ unpacked ws (value_of l)
+unfolding fields_of
+value_fields ws n l e = ap (unpacked ws) (ap (λ (m : ℕ). packed (octets m) l) (sym e) ∙ sym (value_packed l))
 
 -- ---- words
 
-pub flag-is : (b : Bool) → bit b ≡ flag b
-flag-is true = refl
-flag-is false = refl
+pub flag_is : (b : Bool) → bit b ≡ flag b
+flag_is true = refl
+flag_is false = refl
 
-pub arch-is : (a : Arch) → archBit a ≡ archNumber a
-arch-is Arm = refl
-arch-is RiscV = refl
+pub arch_is : (a : Arch) → arch_bit a ≡ arch_number a
+arch_is Arm = refl
+arch_is RiscV = refl
 
-pub kind-is : (l : Link) → kindOf l ≡ linkKind l
-kind-is Unlinked = refl
-kind-is (OwnedBy k) = refl
-kind-is (BOf k) = refl
+pub kind_is : (l : Link) → kind_of l ≡ link_kind l
+kind_is Unlinked = refl
+kind_is (OwnedBy k) = refl
+kind_is (BOf k) = refl
 
-pub index-is : (l : Link) → indexOf l ≡ linkIndex l
-index-is Unlinked = refl
-index-is (OwnedBy k) = refl
-index-is (BOf k) = refl
+pub index_is : (l : Link) → index_of l ≡ link_index l
+index_is Unlinked = refl
+index_is (OwnedBy k) = refl
+index_is (BOf k) = refl
 
-module _ (s : Settings) (few : s .count ≤ 16) (fits : (k : ℕ) → k < s .count → Fits (entryAt (s .table) k)) (narrow : Narrow s) where
-  module _ (k : ℕ) (l : k < s .count) where
+module _ (s : Settings) (few : s.count ≤ 16) (fits : (k : ℕ) → k < s.count → Fits (entry_at s.table k)) (narrow : Narrow s) where
+  module _ (k : ℕ) (l : k < s.count) where
     abbrev e : Entry
-    e = entryAt (s .table) k
+    e = entry_at s.table k
 
-    fields : unpacked entryWidths (valueOf (take 22 (drop (2 + 22 * k) (storeOf s)))) ≡ entryFields e
+    fields : unpacked entry_widths (value_of (take 22 (drop (2 + 22 * k) (store_of s)))) ≡ entry_fields e
     fields =
-        let p = part-back s few fits narrow k l in
-        ap (λ (x : List ℕ). unpacked entryWidths (valueOf x)) p
-        ∙ sym (value-fields entryWidths 22 (rowAt (s .table) k) (length-row (s .table) k)) ∙ row-fields s few fits narrow k l
+        let p = part_back s few fits narrow k l in
+        ap (λ (x : List ℕ). unpacked entry_widths (value_of x)) p
+        ∙ sym (value_fields entry_widths 22 (row_at s.table k) (length_row s.table k)) ∙ row_fields s few fits narrow k l
 
-    at : (i : ℕ) → getD (unpacked entryWidths (valueOf (take 22 (drop (2 + 22 * k) (storeOf s))))) i 0 ≡ getD (entryFields e) i 0
-    at i = ap (λ (x : List ℕ). getD x i 0) fields
+    at : (i : ℕ) → get_or (unpacked entry_widths (value_of (take 22 (drop (2 + 22 * k) (store_of s))))) i 0 ≡ get_or (entry_fields e) i 0
+    at i = ap (λ (x : List ℕ). get_or x i 0) fields
 
-    entry-laid : EntryLaid e (storeOf s) k
-    unfolding unpacked total entryFields slot
+    entry-laid : EntryLaid e (store_of s) k
+    unfolding unpacked total entry_fields slot
     entry-laid =
         let f = fits k l in
         record {
-          first = at 0 ∙ mod-eq-of-lt (f .first);
-          sectors = at 1 ∙ mod-eq-of-lt (f .sectors);
-          kind = at 2 ∙ kind-is (e .link);
-          index = at 3 ∙ mod-eq-of-lt (f .index) ∙ index-is (e .link);
-          accepts-data = at 4 ∙ flag-is (e .«data»);
-          accepts-arm-s = at 5 ∙ flag-is (e .«arm_s»);
-          accepts-riscv = at 6 ∙ flag-is (e .riscv);
-          accepts-arm-ns = at 7 ∙ flag-is (e .«arm_ns»);
-          shut-arm = at 8 ∙ flag-is (e .«not_bootable_arm»);
-          shut-riscv = at 9 ∙ flag-is (e .«not_bootable_riscv»);
-          users = at 10 ∙ mod-eq-of-lt (omega (arith, f .users));
+          first = at 0 ∙ mod-eq_of_lt f.first;
+          sectors = at 1 ∙ mod-eq_of_lt f.sectors;
+          kind = at 2 ∙ kind_is e.link;
+          index = at 3 ∙ mod-eq_of_lt f.index ∙ index_is e.link;
+          accepts_data = at 4 ∙ flag_is e.«data»;
+          accepts_arm_s = at 5 ∙ flag_is e.arm_s;
+          accepts_riscv = at 6 ∙ flag_is e.riscv;
+          accepts_arm_ns = at 7 ∙ flag_is e.arm_ns;
+          shut_arm = at 8 ∙ flag_is e.not_bootable_arm;
+          shut_riscv = at 9 ∙ flag_is e.not_bootable_riscv;
+          users = at 10 ∙ mod-eq_of_lt (omega (arith, f.users));
           families = λ i. at 11 i ∷ at 12 i ∷ at 13 i ∷ at 14 i ∷ [];
-          no-restart = at 15 ∙ flag-is (e .«no_restart»);
+          no_restart = at 15 ∙ flag_is e.no_restart;
           zeros = at 16;
         }
 
-  head-fields : unpacked headWidths (valueOf (take 2 (storeOf s))) ≡ headFields s
-  unfolding headIn
-  head-fields =
-      sym (value-fields headWidths 2 (take 2 (storeOf s)) (length-take-le 2 (storeOf s) (omega (arith, store-length s few fits narrow)))) ∙ head-back s few fits narrow
+  head_fields_lem : unpacked head_widths (value_of (take 2 (store_of s))) ≡ head_fields s
+  unfolding head_in
+  head_fields_lem =
+      sym (value_fields head_widths 2 (take 2 (store_of s)) (length-take-le 2 (store_of s) (omega (arith, store_length s few fits narrow)))) ∙ head_back s few fits narrow
 
-  head-at : (i : ℕ) → getD (unpacked headWidths (valueOf (take 2 (storeOf s)))) i 0 ≡ getD (headFields s) i 0
-  head-at i = ap (λ (x : List ℕ). getD x i 0) head-fields
+  head_at : (i : ℕ) → get_or (unpacked head_widths (value_of (take 2 (store_of s)))) i 0 ≡ get_or (head_fields s) i 0
+  head_at i = ap (λ (x : List ℕ). get_or x i 0) head_fields_lem
 
-  laid : Laid s (storeOf s)
-  unfolding unpacked total headFields versionOf noRestartAt
+  laid : Laid s (store_of s)
+  unfolding unpacked total head_fields version_of no_restart_at
   laid =
       record {
-        long = store-length s few fits narrow;
-        version-2 = λ k l h. head-at 0 ∙ rw (any-hit (noRestartAt (s .table)) (s .count) k l h);
-        version-1 = λ h. head-at 0 ∙ rw (any-none (noRestartAt (s .table)) (s .count) h);
-        count = head-at 1;
-        auto-switch = head-at 2 ∙ flag-is (s .«auto_switch»);
-        absolute = head-at 3 ∙ flag-is (s .absolute);
-        arm = head-at 4 ∙ flag-is (s .arm);
-        riscv = head-at 5 ∙ flag-is (s .riscv);
-        current = head-at 6 ∙ arch-is (s .current);
-        zeros = head-at 7;
+        long = store_length s few fits narrow;
+        version_2 = λ k l h. head_at 0 ∙ rw (any_hit (no_restart_at s.table) s.count k l h);
+        version_1 = λ h. head_at 0 ∙ rw (any_none (no_restart_at s.table) s.count h);
+        count = head_at 1;
+        auto_switch = head_at 2 ∙ flag_is s.auto_switch;
+        absolute = head_at 3 ∙ flag_is s.absolute;
+        arm = head_at 4 ∙ flag_is s.arm;
+        riscv = head_at 5 ∙ flag_is s.riscv;
+        current = head_at 6 ∙ arch_is s.current;
+        zeros = head_at 7;
         entries = λ k l. entry-laid k l;
       }
 
-pub store-is-laid : Store-is-laid
-unfolding Store-is-laid
-store-is-laid s len right good narrow = laid s (good-count s len good) (good-fields s len right good) narrow
+pub store_is_laid : StoreIsLaid
+unfolding StoreIsLaid
+store_is_laid s len right good narrow = laid s (good_count s len good) (good_fields s len right good) narrow

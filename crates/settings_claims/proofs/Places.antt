@@ -1,11 +1,11 @@
 -- Every row of the table of places holds: one equation, computed. Assumes nothing.
 use mathlib.Core.Path.{refl}
-use Rattle·laws.specs.Sets.{any}
-use Rattle·memory.specs.Flash.{flashLength}
-use Rattle·partitions.specs.Settings.{hasUser, accepts, overlap, overlapAt, sharesSector, reservedUser, badEntry, goodSettings}
-use Rattle·placement.specs.Place.{passQueryOf, passAllows, passTakes, firstOf, entryIf, inPass, chosen, chosenEntry, placeOf, askOf}
-use Rattle·settings_claims·specs.specs.Places.{numbered, asked, cases, Places-hold}
+use Rattle.laws.specs.Sets.{any}
+use Rattle.memory.specs.Flash.{flash_length}
+use Rattle.partitions.specs.Settings.{has_user, accepts, overlap, overlap_at, shares_sector, reserved_user, bad_entry, good_settings}
+use Rattle.placement.specs.Place.{pass_query_of, pass_allows, pass_takes, first_of, entry_if, in_pass, chosen, chosen_entry, place_of, ask_of}
+use Rattle.settings_claims.specs.Places.{numbered, asked, cases, PlacesHold}
 
-pub places-hold : Places-hold
-unfolding Places-hold cases numbered asked any flashLength hasUser accepts overlap overlapAt sharesSector reservedUser badEntry goodSettings passQueryOf passAllows passTakes firstOf entryIf inPass chosen chosenEntry placeOf askOf
-places-hold = refl
+pub places_hold : PlacesHold
+unfolding PlacesHold cases numbered asked any flash_length has_user accepts overlap overlap_at shares_sector reserved_user bad_entry good_settings pass_query_of pass_allows pass_takes first_of entry_if in_pass chosen chosen_entry place_of ask_of
+places_hold = refl

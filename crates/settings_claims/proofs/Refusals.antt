@@ -1,50 +1,50 @@
 -- A store that is refused, by its bytes and bits. Assumes nothing.
-use Prim.Native.Nat.{ℕ, _+_, _*_}
-use mathlib.Core.Path.{_≡_, refl, sym, ap, _∙_}
-use mathlib.Core.Logic.{⊎-elim}
-use mathlib.Core.Bool.{false, not, _||_, or-true}
+use Prim.Native.Nat.{ℕ, ◌+◌, ◌*◌}
+use mathlib.Core.Path.{◌≡◌, refl, sym, ap, ◌∙◌}
+use mathlib.Core.Logic.{⊎_elim}
+use mathlib.Core.Bool.{false, not, ◌||◌, or-true}
 use mathlib.Core.List.{List}
 use lib.Dec.{eqb}
-use lib.ListN.{getD}
-use borrow.Author.Tests.{eq-eqb, ne-eqb}
-use Rattle·settings_store.proofs.Cases.{head-two, read-1, read-short, read-on, read-40, read-many, read-41, read-42}
-use Rattle·settings_store.specs.Store.{entryOf, readOf, readNumber}
-use Rattle·partitions.specs.Table.{tableOf}
-use Rattle·settings_claims·specs.specs.Refusals.{versionIn, countIn, Headed, row-1, row-41, row-40, row-42, row-41-length, row-42-stray, row-2, Read-refuses, Store-numbers}
-use Rattle·settings_claims·proofs.proofs.Compared.{Few, good-neat}
-use Rattle·settings_claims·proofs.proofs.Written.{read-bad}
-use Rattle·settings_claims·proofs.proofs.Strays.{stray-tested}
-use Rattle·settings_claims·proofs.proofs.LaidOut.{laid-store, laid-fits, laid-narrow}
+use lib.ListN.{get_or}
+use borrow.Author.Tests.{eq-eqb, ne_eqb}
+use Rattle.settings_store.proofs.Cases.{head_two, read_1, read_short, read_on, read_40, read_many, read_41, read_42}
+use Rattle.settings_store.specs.Store.{entry_of, read_of, read_number}
+use Rattle.partitions.specs.Table.{table_of}
+use Rattle.settings_claims.specs.Refusals.{version_in, count_in, Headed, row_1, row_41, row_40, row_42, row_41_length, row_42_stray, row_2, ReadRefuses, StoreNumbers}
+use Rattle.settings_claims.proofs.Compared.{good_neat}
+use Rattle.settings_claims.proofs.Written.{read_bad}
+use Rattle.settings_claims.proofs.Strays.{stray_tested}
+use Rattle.settings_claims.proofs.LaidOut.{laid_store, laid_fits, laid_narrow}
 
 -- the head's two bytes as one number
 abbrev head : List ℕ → ℕ
-head b = getD b 0 0 * 256 + getD b 1 0
+head b = get_or b 0 0 * 256 + get_or b 1 0
 
-known-is : (b : List ℕ) (len : ℕ) → Headed b len → not (eqb (versionIn b) 1 || eqb (versionIn b) 2) ≡ false
-known-is b len h =
-    ⊎-elim (λ e. rw (eq-eqb (versionIn b) 1 e)) (λ e. rw (eq-eqb (versionIn b) 2 e, or-true (eqb (versionIn b) 1))) (h .known)
+known_is : (b : List ℕ) (len : ℕ) → Headed b len → not (eqb (version_in b) 1 || eqb (version_in b) 2) ≡ false
+known_is b len h =
+    ⊎_elim (λ e. rw (eq-eqb (version_in b) 1 e)) (λ e. rw (eq-eqb (version_in b) 2 e, or-true (eqb (version_in b) 1))) h.known
 
-pub read-refuses : Read-refuses
-unfolding Read-refuses
-read-refuses b len n (row-1 h) = ap readNumber (sym (read-1 b len h))
-read-refuses b len n (row-41 p h) = ap readNumber (sym (read-short b len p h))
-read-refuses b len n (row-40 p q h k) =
-    ap readNumber (sym (read-on b len p q (head b) (head-two b q) (read-40 b len (head b) (rw (ne-eqb (versionIn b) 1 h, ne-eqb (versionIn b) 2 k)))))
-read-refuses b len n (row-42 h m) =
-    ap readNumber (sym (read-on b len (h .right) (h .some) (head b) (head-two b (h .some)) (read-many b len (head b) (known-is b len h) m)))
-read-refuses b len n (row-41-length h f w) =
-    ap readNumber (sym (read-on b len (h .right) (h .some) (head b) (head-two b (h .some)) (read-41 b len (head b) (known-is b len h) f w)))
-read-refuses b len n (row-42-stray w x) =
-    let h = w .headed in
-    ap readNumber
+pub read_refuses : ReadRefuses
+unfolding ReadRefuses
+read_refuses b len n (row_1 h) = ap read_number (sym (read_1 b len h))
+read_refuses b len n (row_41 p h) = ap read_number (sym (read_short b len p h))
+read_refuses b len n (row_40 p q h k) =
+    ap read_number (sym (read_on b len p q (head b) (head_two b q) (read_40 b len (head b) (rw (ne_eqb (version_in b) 1 h, ne_eqb (version_in b) 2 k)))))
+read_refuses b len n (row_42 h m) =
+    ap read_number (sym (read_on b len h.right h.some (head b) (head_two b h.some) (read_many b len (head b) (known_is b len h) m)))
+read_refuses b len n (row_41_length h f w) =
+    ap read_number (sym (read_on b len h.right h.some (head b) (head_two b h.some) (read_41 b len (head b) (known_is b len h) f w)))
+read_refuses b len n (row_42_stray w x) =
+    let h = w.headed in
+    ap read_number
     (sym
-    (read-on b len (h .right) (h .some) (head b) (head-two b (h .some))
-    (read-42 b len (head b) (known-is b len h) (w .few) (w .long) {table = tableOf (entryOf b) (countIn b)} refl refl refl (stray-tested b len w x))))
-read-refuses b len n (row-2 s right low few users laid bad) =
-    let bad-neat = good-neat s len (record { entries = few; users = users }) ∙ bad in
-    ap (λ (x : List ℕ). readNumber (readOf x len)) (sym (laid-store s b low few users laid))
-    ∙ ap readNumber (read-bad s few (laid-fits s b low few users laid) (laid-narrow s b low few users laid) len right bad-neat)
+    (read_on b len h.right h.some (head b) (head_two b h.some)
+    (read_42 b len (head b) (known_is b len h) w.few w.long {table = table_of (entry_of b) (count_in b)} refl refl refl (stray_tested b len w x))))
+read_refuses b len n (row_2 s right low few users laid bad) =
+    let bad-neat = good_neat s len (record { entries = few; users = users }) ∙ bad in
+    ap (λ (x : List ℕ). read_number (read_of x len)) (sym (laid_store s b low few users laid))
+    ∙ ap read_number (read_bad s few (laid_fits s b low few users laid) (laid_narrow s b low few users laid) len right bad-neat)
 
-pub store-numbers : Store-numbers
-unfolding Store-numbers
-store-numbers = refl
+pub store_numbers : StoreNumbers
+unfolding StoreNumbers
+store_numbers = refl

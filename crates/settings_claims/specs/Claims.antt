@@ -1,69 +1,64 @@
 -- What is written is read back, and good settings have one encoding (02, L5). Assumes nothing.
-use Prim.Native.Nat.{ℕ, _<_, _^_}
-use mathlib.Core.Bool.{true, false}
-use mathlib.Core.Path.{_≡_}
-use mathlib.Core.Logic.{_↔_}
-use mathlib.Core.List.{List}
-use lib.ListN.{getD}
-use Rattle·memory.specs.Flash.{flashLength}
-use Rattle·partitions.specs.declared.Entry.{Entry}
-use Rattle·partitions.specs.declared.Settings.{Settings}
-use Rattle·partitions.specs.Settings.{entryAt, goodSettings}
-use Rattle·partitions.specs.Table.{tableOf}
-use Rattle·partitions.specs.Alike.{Compared}
-use Rattle·store_entry.specs.EntryBits.{slot, neatEntry}
-use Rattle·settings_store.specs.Store.{storeOf, noSettings, readOf, found}
+use Rattle.std.specs.Prelude.{ℕ, ◌<◌, ◌^◌, true, false, ◌≡◌, ◌↔◌, List, get_or}
+use Rattle.memory.specs.Flash.{flash_length}
+use Rattle.partitions.specs.declared.Entry.{Entry}
+use Rattle.partitions.specs.declared.Settings.{Settings}
+use Rattle.partitions.specs.Settings.{entry_at, good_settings}
+use Rattle.partitions.specs.Table.{table_of}
+use Rattle.partitions.specs.Alike.{Compared}
+use Rattle.store_entry.specs.EntryBits.{slot, neat_entry}
+use Rattle.settings_store.specs.Store.{store_of, no_settings, read_of, found}
 
 -- ---- what is said of numbers, which code always has
 
 -- every used slot of a used entry is a number of 32 bits
 abbrev pub Narrow : Settings → Type 0
-Narrow s = (k i : ℕ) → k < s .count → slot (entryAt (s .table) k) i < 2 ^ 32
+Narrow s = (k i : ℕ) → k < s.count → slot (entry_at s.table k) i < 2 ^ 32
 
 -- every element is a byte
 abbrev pub Bytes : List ℕ → Type 0
-Bytes b = (i : ℕ) → getD b i 0 < 256
+Bytes b = (i : ℕ) → get_or b i 0 < 256
 
 -- ---- settings in their canonical form
 
-unfoldable pub neatAt : List Entry → ℕ → Entry
-neatAt table k = neatEntry (entryAt table k)
+unfoldable pub neat_at : List Entry → ℕ → Entry
+neat_at table k = neat_entry (entry_at table k)
 
 -- "Unused slots, entries and unlinked indexes are zero"; a link that is none has no index
 unfoldable pub neat : Settings → Settings
 neat s =
     record {
-      table = tableOf (neatAt (s .table)) (s .count);
-      arm = s .arm;
-      riscv = s .riscv;
-      current = s .current;
-      «auto_switch» = s .«auto_switch»;
-      absolute = s .absolute;
-      count = s .count;
+      table = table_of (neat_at s.table) s.count;
+      arm = s.arm;
+      riscv = s.riscv;
+      current = s.current;
+      auto_switch = s.auto_switch;
+      absolute = s.absolute;
+      count = s.count;
     }
 
 -- ---- the claims
 
 -- a store that is written is read as the settings in their canonical form
-abbrev pub Written-reads-back : Type 0
-Written-reads-back =
-    (s : Settings) (len : ℕ) → flashLength len ≡ true → goodSettings s len ≡ true → Narrow s → readOf (storeOf s) len ≡ found (neat s)
+abbrev pub WrittenReadsBack : Type 0
+WrittenReadsBack =
+    (s : Settings) (len : ℕ) → flash_length len ≡ true → good_settings s len ≡ true → Narrow s → read_of (store_of s) len ≡ found (neat s)
 
 -- bytes that are read as settings are the encoding of these settings, which are canonical and good
-abbrev pub Read-is-the-encoding : Type 0
-Read-is-the-encoding =
-    (b : List ℕ) (len : ℕ) (s : Settings) → Bytes b → readOf b len ≡ found s → (storeOf s ≡ b) × (neat s ≡ s) × (goodSettings s len ≡ true)
+abbrev pub ReadIsTheEncoding : Type 0
+ReadIsTheEncoding =
+    (b : List ℕ) (len : ℕ) (s : Settings) → Bytes b → read_of b len ≡ found s → (store_of s ≡ b) × (neat s ≡ s) × (good_settings s len ≡ true)
 
 -- "so compared, good settings have one encoding": it is the same exactly if they compare equal
-abbrev pub One-encoding : Type 0
-One-encoding =
-    (s t : Settings) (len : ℕ) → flashLength len ≡ true → goodSettings s len ≡ true → goodSettings t len ≡ true → Narrow s → Narrow t
-    → (storeOf s ≡ storeOf t) ↔ Compared s t
+abbrev pub OneEncoding : Type 0
+OneEncoding =
+    (s t : Settings) (len : ℕ) → flash_length len ≡ true → good_settings s len ≡ true → good_settings t len ≡ true → Narrow s → Narrow t
+    → (store_of s ≡ store_of t) ↔ Compared s t
 
 -- no other bytes are read as settings that compare equal
-abbrev pub No-other-bytes : Type 0
-No-other-bytes = (b : List ℕ) (len : ℕ) (s t : Settings) → Bytes b → readOf b len ≡ found t → Compared t s → b ≡ storeOf s
+abbrev pub NoOtherBytes : Type 0
+NoOtherBytes = (b : List ℕ) (len : ℕ) (s t : Settings) → Bytes b → read_of b len ≡ found t → Compared t s → b ≡ store_of s
 
 -- "Refusals return no settings": what stands in their place is bad for every flash
-abbrev pub No-settings-are-bad : Type 0
-No-settings-are-bad = (len : ℕ) → goodSettings noSettings len ≡ false
+abbrev pub NoSettingsAreBad : Type 0
+NoSettingsAreBad = (len : ℕ) → good_settings no_settings len ≡ false

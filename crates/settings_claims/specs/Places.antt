@@ -1,55 +1,51 @@
 -- A table of places (01, "Settings and the place of a family"; 001, 004): which entry a family gets, in a flash of 65,536 bytes. Entry k has the sectors 2 k
 -- and 2 k + 1, so that its place is 8,192 bytes from 8,192 x k on. Computed in proofs/Places.antt. Assumes nothing.
-use Prim.Native.Nat.{ℕ, zero, suc, _+_, _-_, _*_}
-use mathlib.Core.Path.{_≡_}
-use mathlib.Core.Bool.{Bool, true, false}
-use mathlib.Core.List.{List, [], _∷_, _++_, map}
-use lib.ListN.{length, replicate}
-use Rattle·partitions.specs.declared.Settings.{Settings}
-use Rattle·partitions.specs.declared.Entry.{Entry}
-use Rattle·partitions.specs.declared.Arch.{Arch}
-use Rattle·partitions.specs.declared.Arch.the-variants.{Arm, RiscV}
-use Rattle·partitions.specs.declared.Link.{Link}
-use Rattle·partitions.specs.declared.Link.the-variants.{Unlinked, OwnedBy, BOf}
-use Rattle·partitions.specs.Settings.{blankEntry}
-use Rattle·placement.specs.declared.PlaceAnswer.{PlaceAnswer}
-use Rattle·placement.specs.declared.PlaceAnswer.the-variants.{BadSettings, NoPlace, Found}
-use Rattle·placement.specs.Place.{askOf}
+use Rattle.std.specs.Prelude.{ℕ, suc, ◌-◌, ◌*◌, ◌≡◌, Bool, true, false, List, [], ◌∷◌, ◌++◌, map, length, replicate}
+use Rattle.partitions.specs.declared.Settings.{Settings}
+use Rattle.partitions.specs.declared.Entry.{Entry}
+use Rattle.partitions.specs.declared.Arch.{Arch}
+use Rattle.partitions.specs.declared.Arch.TheVariants.{Arm, RiscV}
+use Rattle.partitions.specs.declared.Link.{Link}
+use Rattle.partitions.specs.declared.Link.TheVariants.{Unlinked, OwnedBy, BOf}
+use Rattle.partitions.specs.Settings.{blank_entry}
+use Rattle.placement.specs.declared.PlaceAnswer.{PlaceAnswer}
+use Rattle.placement.specs.declared.PlaceAnswer.TheVariants.{BadSettings, NoPlace, Found}
+use Rattle.placement.specs.Place.{ask_of}
 
 -- entry k: link; accepts data, arm-s, riscv, arm-ns; user families and how many are used; not bootable for Arm, for RISC-V
-abbrev pub entryAs : Link → Bool → Bool → Bool → Bool → List ℕ → ℕ → Bool → Bool → ℕ → Entry
-entryAs l d a r n us c x y k =
+abbrev pub entry_as : Link → Bool → Bool → Bool → Bool → List ℕ → ℕ → Bool → Bool → ℕ → Entry
+entry_as l d a r n us c x y k =
     record {
       first = 2 * k;
       sectors = 2;
       users = us;
       «data» = d;
-      «arm_s» = a;
+      arm_s = a;
       riscv = r;
-      «arm_ns» = n;
-      «user_count» = c;
-      «not_bootable_arm» = x;
-      «not_bootable_riscv» = y;
+      arm_ns = n;
+      user_count = c;
+      not_bootable_arm = x;
+      not_bootable_riscv = y;
       link = l;
-      «no_restart» = false;
+      no_restart = false;
     }
 
-abbrev pub noUsers : List ℕ
-noUsers = replicate 4 0
+abbrev pub no_users : List ℕ
+no_users = replicate 4 0
 
 -- accepts nothing; arm-s and riscv, with the two marks; one user family, 0x11
 abbrev pub mute : ℕ → Entry
-mute k = entryAs Unlinked false false false false noUsers 0 false false k
+mute k = entry_as Unlinked false false false false no_users 0 false false k
 
 abbrev pub images : Link → Bool → Bool → ℕ → Entry
-images l x y k = entryAs l false true true false noUsers 0 x y k
+images l x y k = entry_as l false true true false no_users 0 x y k
 
 abbrev pub user : Link → ℕ → Entry
-user l k = entryAs l false false false false (0x11 ∷ 0 ∷ 0 ∷ 0 ∷ []) 1 false false k
+user l k = entry_as l false false false false (0x11 ∷ 0 ∷ 0 ∷ 0 ∷ []) 1 false false k
 
 -- four slots, of which so many are used
 abbrev pub four : ℕ → ℕ → Entry
-four c k = entryAs Unlinked false false false false (0x11 ∷ 0x22 ∷ 0x33 ∷ 0x44 ∷ []) c false false k
+four c k = entry_as Unlinked false false false false (0x11 ∷ 0x22 ∷ 0x33 ∷ 0x44 ∷ []) c false false k
 
 -- the entries by their place in the table
 unfoldable pub numbered : ℕ → List (ℕ → Entry) → List Entry
@@ -63,10 +59,10 @@ board a r c x y l =
       arm = a;
       riscv = r;
       current = c;
-      «auto_switch» = x;
+      auto_switch = x;
       absolute = y;
       count = length l;
-      table = numbered 0 l ++ replicate (16 - length l) blankEntry;
+      table = numbered 0 l ++ replicate (16 - length l) blank_entry;
     }
 
 -- a family, and what is answered to it
@@ -90,14 +86,14 @@ absolute = 0xe48bff57
 abbrev pub data' : ℕ
 data' = 0xe48bff58
 
-abbrev pub arm-s : ℕ
-arm-s = 0xe48bff59
+abbrev pub arm_s : ℕ
+arm_s = 0xe48bff59
 
 abbrev pub riscv : ℕ
 riscv = 0xe48bff5a
 
-abbrev pub arm-ns : ℕ
-arm-ns = 0xe48bff5b
+abbrev pub arm_ns : ℕ
+arm_ns = 0xe48bff5b
 
 -- entry k's place, and the whole flash
 abbrev pub place : ℕ → PlaceAnswer
@@ -107,15 +103,15 @@ abbrev pub whole : PlaceAnswer
 whole = Found 0 65536
 
 -- two entries that accept arm-s and riscv: the first is shut for both architectures, the second for none
-abbrev pub shutThenOpen : List (ℕ → Entry)
-shutThenOpen = images Unlinked true true ∷ images Unlinked false false ∷ []
+abbrev pub shut_then_open : List (ℕ → Entry)
+shut_then_open = images Unlinked true true ∷ images Unlinked false false ∷ []
 
 unfoldable pub cases : List Case
 cases =
     -- no table: "data, arm-s (Arm enabled) and riscv (RISC-V enabled) get the whole flash. Others no place."
-    asked (board true false Arm false true []) (rp2040 ∷ absolute ∷ data' ∷ arm-s ∷ riscv ∷ arm-ns ∷ 0x11 ∷ [])
+    asked (board true false Arm false true []) (rp2040 ∷ absolute ∷ data' ∷ arm_s ∷ riscv ∷ arm_ns ∷ 0x11 ∷ [])
     (NoPlace ∷ whole ∷ whole ∷ whole ∷ NoPlace ∷ NoPlace ∷ NoPlace ∷ [])
-    ++ asked (board false true RiscV false false []) (rp2040 ∷ absolute ∷ data' ∷ arm-s ∷ riscv ∷ arm-ns ∷ 0x11 ∷ [])
+    ++ asked (board false true RiscV false false []) (rp2040 ∷ absolute ∷ data' ∷ arm_s ∷ riscv ∷ arm_ns ∷ 0x11 ∷ [])
     (NoPlace ∷ NoPlace ∷ whole ∷ NoPlace ∷ whole ∷ NoPlace ∷ NoPlace ∷ [])
     -- "the current architecture isn't enabled", of both
     ++ asked (board false true Arm false true []) (data' ∷ []) (BadSettings ∷ [])
@@ -123,9 +119,9 @@ cases =
     -- each accepts-flag alone, and each slot; with a table absolute has the whole flash and rp2040 none
     ++ asked
     (board true true Arm true true
-    (entryAs Unlinked true false false false noUsers 0 false false ∷ entryAs Unlinked false true false false noUsers 0 false false
-    ∷ entryAs Unlinked false false true false noUsers 0 false false ∷ entryAs Unlinked false false false true noUsers 0 false false ∷ four 4 ∷ []))
-    (data' ∷ arm-s ∷ riscv ∷ arm-ns ∷ 0x11 ∷ 0x22 ∷ 0x33 ∷ 0x44 ∷ 0x55 ∷ 0 ∷ absolute ∷ rp2040 ∷ [])
+    (entry_as Unlinked true false false false no_users 0 false false ∷ entry_as Unlinked false true false false no_users 0 false false
+    ∷ entry_as Unlinked false false true false no_users 0 false false ∷ entry_as Unlinked false false false true no_users 0 false false ∷ four 4 ∷ []))
+    (data' ∷ arm_s ∷ riscv ∷ arm_ns ∷ 0x11 ∷ 0x22 ∷ 0x33 ∷ 0x44 ∷ 0x55 ∷ 0 ∷ absolute ∷ rp2040 ∷ [])
     (place 0 ∷ place 1 ∷ place 2 ∷ place 3 ∷ place 4 ∷ place 4 ∷ place 4 ∷ place 4 ∷ NoPlace ∷ NoPlace ∷ whole ∷ NoPlace ∷ [])
     -- a slot that is not used
     ++ asked (board true true Arm true false (four 3 ∷ [])) (0x33 ∷ 0x44 ∷ absolute ∷ []) (place 0 ∷ NoPlace ∷ NoPlace ∷ [])
@@ -134,18 +130,18 @@ cases =
     ++ asked (board true true Arm true true (mute ∷ user (OwnedBy 0) ∷ [])) (0x11 ∷ []) (place 1 ∷ [])
     ++ asked (board true true Arm true true (mute ∷ user (BOf 0) ∷ user (OwnedBy 0) ∷ user Unlinked ∷ [])) (0x11 ∷ []) (place 3 ∷ [])
     -- pass 1: the current architecture's image; the other's, without auto switch, goes to the first
-    ++ asked (board true true Arm false true shutThenOpen) (arm-s ∷ riscv ∷ []) (place 1 ∷ place 0 ∷ [])
-    ++ asked (board true true RiscV false true shutThenOpen) (arm-s ∷ riscv ∷ []) (place 0 ∷ place 1 ∷ [])
+    ++ asked (board true true Arm false true shut_then_open) (arm_s ∷ riscv ∷ []) (place 1 ∷ place 0 ∷ [])
+    ++ asked (board true true RiscV false true shut_then_open) (arm_s ∷ riscv ∷ []) (place 0 ∷ place 1 ∷ [])
     -- pass 2: auto switch on, and the other architecture enabled or not
-    ++ asked (board true true Arm true true shutThenOpen) (arm-s ∷ riscv ∷ []) (place 1 ∷ place 1 ∷ [])
-    ++ asked (board true true RiscV true true shutThenOpen) (arm-s ∷ riscv ∷ []) (place 1 ∷ place 1 ∷ [])
-    ++ asked (board true false Arm true true shutThenOpen) (arm-s ∷ riscv ∷ []) (place 1 ∷ place 0 ∷ [])
-    ++ asked (board false true RiscV true true shutThenOpen) (arm-s ∷ riscv ∷ []) (place 0 ∷ place 1 ∷ [])
+    ++ asked (board true true Arm true true shut_then_open) (arm_s ∷ riscv ∷ []) (place 1 ∷ place 1 ∷ [])
+    ++ asked (board true true RiscV true true shut_then_open) (arm_s ∷ riscv ∷ []) (place 1 ∷ place 1 ∷ [])
+    ++ asked (board true false Arm true true shut_then_open) (arm_s ∷ riscv ∷ []) (place 1 ∷ place 0 ∷ [])
+    ++ asked (board false true RiscV true true shut_then_open) (arm_s ∷ riscv ∷ []) (place 0 ∷ place 1 ∷ [])
     -- "not marked for it": each mark is of one architecture
-    ++ asked (board true true Arm true true (images Unlinked true false ∷ images Unlinked false true ∷ [])) (arm-s ∷ riscv ∷ []) (place 1 ∷ place 0 ∷ [])
+    ++ asked (board true true Arm true true (images Unlinked true false ∷ images Unlinked false true ∷ [])) (arm_s ∷ riscv ∷ []) (place 1 ∷ place 0 ∷ [])
     -- an owned entry is none for passes 1 to 3
-    ++ asked (board true true Arm true true (mute ∷ images (OwnedBy 0) false false ∷ images Unlinked true true ∷ [])) (arm-s ∷ riscv ∷ []) (place 2 ∷ place 2 ∷ [])
+    ++ asked (board true true Arm true true (mute ∷ images (OwnedBy 0) false false ∷ images Unlinked true true ∷ [])) (arm_s ∷ riscv ∷ []) (place 2 ∷ place 2 ∷ [])
 
 -- every family gets what is expected
-unfoldable pub Places-hold : Type 0
-Places-hold = map (λ (c : Case). askOf (c .settings) 65536 (c .family)) cases ≡ map (λ (c : Case). c .expected) cases
+unfoldable pub PlacesHold : Type 0
+PlacesHold = map (λ (c : Case). ask_of c.settings 65536 c.family) cases ≡ map (λ (c : Case). c.expected) cases

@@ -1,83 +1,79 @@
--- One entry of the settings' table as bytes, 34 of them. Every number below is a byte, or a field of four (`fieldAt`). Assumes nothing.
-use Prim.Native.Nat.{ℕ}
-use mathlib.Core.Bool.{Bool, true, false, not, cond}
-use mathlib.Core.List.{List, [], _∷_, _++_}
-use lib.Dec.{eqb}
-use lib.ListN.{length, getD}
-use Rattle·uf2_block.specs.Block.{fieldAt}
-use Rattle·uf2_block.specs.Write.{le32}
-use Rattle·partitions.specs.declared.Link.{Link}
-use Rattle·partitions.specs.declared.Link.the-variants.{Unlinked, OwnedBy, BOf}
-use Rattle·partitions.specs.declared.Entry.{Entry}
-use Rattle·partitions.specs.Settings.{linkTarget}
+-- One entry of the settings' table as bytes, 34 of them. Every number below is a byte, or a field of four (`field_at`). Assumes nothing.
+use Rattle.std.specs.Prelude.{ℕ, Bool, true, false, not, cond, List, [], ◌∷◌, ◌++◌, eqb, length, get_or}
+use Rattle.uf2_block.specs.Block.{field_at}
+use Rattle.uf2_block.specs.Write.{le32}
+use Rattle.partitions.specs.declared.Link.{Link}
+use Rattle.partitions.specs.declared.Link.TheVariants.{Unlinked, OwnedBy, BOf}
+use Rattle.partitions.specs.declared.Entry.{Entry}
+use Rattle.partitions.specs.Settings.{link_target}
 
 -- the byte at an index, and 0 past the end
-abbrev pub byteAt : List ℕ → ℕ → ℕ
-byteAt b i = getD b i 0
+abbrev pub byte_at : List ℕ → ℕ → ℕ
+byte_at b i = get_or b i 0
 
 -- a flag is on if its byte is not 0
-abbrev pub isOn : ℕ → Bool
-isOn x = not (eqb x 0)
+abbrev pub is_on : ℕ → Bool
+is_on x = not (eqb x 0)
 
 -- ---- read
 
--- a tag and an index: 0 none, 1 owned by, 2 B of; any other tag is owned by 255, which makes a used entry bad (`link-tag` of layout)
-unfoldable pub linkFrom : ℕ → ℕ → Link
-linkFrom tag index =
+-- a tag and an index: 0 none, 1 owned by, 2 B of; any other tag is owned by 255, which makes a used entry bad (`link_tag` of layout)
+unfoldable pub link_from : ℕ → ℕ → Link
+link_from tag index =
     cond (eqb tag 0) Unlinked
     (cond (eqb tag 1) (OwnedBy index)
     (cond (eqb tag 2) (BOf index) (OwnedBy 255)))
 
 -- "0 to 4 user families": four fields from 8 on
-abbrev pub usersFrom : List ℕ → List ℕ
-usersFrom e = fieldAt e 8 ∷ fieldAt e 12 ∷ fieldAt e 16 ∷ fieldAt e 20 ∷ []
+abbrev pub users_from : List ℕ → List ℕ
+users_from e = field_at e 8 ∷ field_at e 12 ∷ field_at e 16 ∷ field_at e 20 ∷ []
 
 -- 0 first sector, 4 sectors, 8 four user families, 24 data, 25 arm-s, 26 riscv, 27 arm-ns, 28 number of user families, 29 not bootable
 -- for Arm, 30 for RISC-V, 31 link tag, 32 link index, 33 don't restart
-unfoldable pub entryFrom : List ℕ → Entry
-entryFrom e =
+unfoldable pub entry_from : List ℕ → Entry
+entry_from e =
     record {
-      first = fieldAt e 0;
-      sectors = fieldAt e 4;
-      users = usersFrom e;
-      «data» = isOn (byteAt e 24);
-      «arm_s» = isOn (byteAt e 25);
-      riscv = isOn (byteAt e 26);
-      «arm_ns» = isOn (byteAt e 27);
-      «user_count» = byteAt e 28;
-      «not_bootable_arm» = isOn (byteAt e 29);
-      «not_bootable_riscv» = isOn (byteAt e 30);
-      link = linkFrom (byteAt e 31) (byteAt e 32);
-      «no_restart» = isOn (byteAt e 33);
+      first = field_at e 0;
+      sectors = field_at e 4;
+      users = users_from e;
+      «data» = is_on (byte_at e 24);
+      arm_s = is_on (byte_at e 25);
+      riscv = is_on (byte_at e 26);
+      arm_ns = is_on (byte_at e 27);
+      user_count = byte_at e 28;
+      not_bootable_arm = is_on (byte_at e 29);
+      not_bootable_riscv = is_on (byte_at e 30);
+      link = link_from (byte_at e 31) (byte_at e 32);
+      no_restart = is_on (byte_at e 33);
     }
 
 -- ---- written
 
 -- a flag that is on is 1
-abbrev pub flagByte : Bool → ℕ
-flagByte true = 1
-flagByte false = 0
+abbrev pub flag_byte : Bool → ℕ
+flag_byte true = 1
+flag_byte false = 0
 
-abbrev pub linkTag : Link → ℕ
-linkTag Unlinked = 0
-linkTag (OwnedBy k) = 1
-linkTag (BOf k) = 2
+abbrev pub link_tag : Link → ℕ
+link_tag Unlinked = 0
+link_tag (OwnedBy k) = 1
+link_tag (BOf k) = 2
 
 -- an entry's numbers: first sector, sectors and user families
-abbrev pub numbersOf : ℕ → ℕ → List ℕ → List ℕ
-numbersOf f s us =
-    le32 f ++ le32 s ++ le32 (getD us 0 0) ++ le32 (getD us 1 0) ++ le32 (getD us 2 0) ++ le32 (getD us 3 0)
+abbrev pub numbers_of : ℕ → ℕ → List ℕ → List ℕ
+numbers_of f s us =
+    le32 f ++ le32 s ++ le32 (get_or us 0 0) ++ le32 (get_or us 1 0) ++ le32 (get_or us 2 0) ++ le32 (get_or us 3 0)
 
-unfoldable pub numberBytes : Entry → List ℕ
-numberBytes e = numbersOf (e .first) (e .sectors) (e .users)
+unfoldable pub number_bytes : Entry → List ℕ
+number_bytes e = numbers_of e.first e.sectors e.users
 
--- and the bytes after them, by the offsets of `entryFrom`; the index of an entry that is not linked is 0
-unfoldable pub flagBytes : Entry → List ℕ
-flagBytes e =
-    flagByte (e .«data») ∷ flagByte (e .«arm_s») ∷ flagByte (e .riscv) ∷ flagByte (e .«arm_ns») ∷ e .«user_count»
-    ∷ flagByte (e .«not_bootable_arm») ∷ flagByte (e .«not_bootable_riscv») ∷ linkTag (e .link) ∷ linkTarget (e .link)
-    ∷ flagByte (e .«no_restart») ∷ []
+-- and the bytes after them, by the offsets of `entry_from`; the index of an entry that is not linked is 0
+unfoldable pub flag_bytes : Entry → List ℕ
+flag_bytes e =
+    flag_byte e.«data» ∷ flag_byte e.arm_s ∷ flag_byte e.riscv ∷ flag_byte e.arm_ns ∷ e.user_count
+    ∷ flag_byte e.not_bootable_arm ∷ flag_byte e.not_bootable_riscv ∷ link_tag e.link ∷ link_target e.link
+    ∷ flag_byte e.no_restart ∷ []
 
 -- an entry written over bytes, where there are 34
-unfoldable pub withEntry : List ℕ → Entry → List ℕ
-withEntry b e = cond (eqb (length b) 34) (numberBytes e ++ flagBytes e) b
+unfoldable pub with_entry : List ℕ → Entry → List ℕ
+with_entry b e = cond (eqb (length b) 34) (number_bytes e ++ flag_bytes e) b

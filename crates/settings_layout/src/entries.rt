@@ -1,26 +1,26 @@
 // One entry of the settings' table, read from bytes. include/uf2_receiver.h has the layout for C.
-ghost use mathlib.Core.Path.{_≡_};
-ghost use Rattle·settings_layout·specs.specs.EntryBytes.{byteAt, isOn, linkFrom, usersFrom, entryFrom, flagByte};
-use partitions::Entry;
-use partitions::Link;
+ghost use Rattle.std.specs.Prelude.{◌≡◌};
+ghost use Rattle.settings_layout.specs.EntryBytes.{byte_at, is_on, link_from, users_from, entry_from, flag_byte};
+
+use partitions::{Entry, Link};
 
 // The byte at i, and 0 past the end.
 pub fn byte(bytes: &[u8], i: usize) -> u8
-    ensures { λ r. ⌜ r ≡ byteAt (now (bytes .entry)) i ⌝ }
+    ensures { result ≡ byte_at bytes.now i }
 {
     if i < bytes.len() { bytes[i] } else { 0 }
 }
 
 // Is the flag at i on?
 pub fn on(bytes: &[u8], i: usize) -> bool
-    ensures { λ r. ⌜ r ≡ isOn (byteAt (now (bytes .entry)) i) ⌝ }
+    ensures { result ≡ is_on (byte_at bytes.now i) }
 {
     byte(bytes, i) != 0
 }
 
 // Of another tag than 0, 1 and 2: a link that is bad at every index.
 fn link(tag: u8, index: u8) -> Link
-    ensures { λ r. ⌜ r ≡ linkFrom tag index ⌝ }
+    ensures { result ≡ link_from tag index }
 {
     if tag == 0 {
         return Link::Unlinked;
@@ -35,7 +35,7 @@ fn link(tag: u8, index: u8) -> Link
 }
 
 fn users(e: &[u8]) -> [u32; 4]
-    ensures { λ r. ⌜ r ≡ usersFrom (now (e .entry)) ⌝ }
+    ensures { result ≡ users_from e.now }
 {
     let a = uf2_block::field(e, 8);
     let b = uf2_block::field(e, 12);
@@ -45,8 +45,8 @@ fn users(e: &[u8]) -> [u32; 4]
 }
 
 // The entry that 34 bytes are; what they lack is read as 0.
-pub(crate) fn entry(e: &[u8]) -> Entry
-    ensures { λ r. ⌜ r ≡ entryFrom (now (e .entry)) ⌝ }
+pub fn entry(e: &[u8]) -> Entry
+    ensures { result ≡ entry_from e.now }
 {
     let users = users(e);
     let link = link(byte(e, 31), byte(e, 32));
@@ -67,8 +67,8 @@ pub(crate) fn entry(e: &[u8]) -> Entry
 }
 
 // A flag as a byte.
-pub(crate) fn flag(on: bool) -> u8
-    ensures { λ r. ⌜ r ≡ flagByte on ⌝ }
+pub fn flag(on: bool) -> u8
+    ensures { result ≡ flag_byte on }
 {
     if on { 1 } else { 0 }
 }

@@ -1,12 +1,11 @@
 // One entry of the settings' table, written as bytes. include/uf2_receiver.h has the layout for C.
-ghost use mathlib.Core.Path.{_≡_};
-ghost use lib.ListN.{length};
-ghost use Rattle·laws.specs.Over.{over};
-ghost use Rattle·partitions.specs.Settings.{linkTarget};
-ghost use Rattle·settings_layout·specs.specs.EntryBytes.{linkTag, numbersOf, flagBytes, withEntry};
+ghost use Rattle.std.specs.Prelude.{◌≡◌, length};
+ghost use Rattle.laws.specs.Over.{over};
+ghost use Rattle.partitions.specs.Settings.{link_target};
+ghost use Rattle.settings_layout.specs.EntryBytes.{link_tag, numbers_of, flag_bytes, with_entry};
+
 use crate::entries::flag;
-use partitions::Entry;
-use partitions::Link;
+use partitions::{Entry, Link};
 
 // The bytes of an entry, and those of its numbers.
 const ENTRY: usize = 34;
@@ -14,7 +13,7 @@ const ENTRY: usize = 34;
 const NUMBERS: usize = 24;
 
 fn link_tag(link: Link) -> u8
-    ensures { λ r. ⌜ r ≡ linkTag link ⌝ }
+    ensures { result ≡ link_tag link }
 {
     match link {
         Link::Unlinked => 0,
@@ -24,7 +23,7 @@ fn link_tag(link: Link) -> u8
 }
 
 fn link_index(link: Link) -> u8
-    ensures { λ r. ⌜ r ≡ linkTarget link ⌝ }
+    ensures { result ≡ link_target link }
 {
     match link {
         Link::Unlinked => 0,
@@ -34,7 +33,7 @@ fn link_index(link: Link) -> u8
 }
 
 fn flags(e: Entry) -> [u8; 10]
-    ensures { λ r. ⌜ r ≡ flagBytes e ⌝ }
+    ensures { result ≡ flag_bytes e }
 {
     let link = e.link;
     [
@@ -52,8 +51,8 @@ fn flags(e: Entry) -> [u8; 10]
 }
 
 fn put_numbers(bytes: &mut [u8], first: u32, sectors: u32, users: [u32; 4])
-    requires { ⌜ length (now bytes) ≡ 34 ⌝ }
-    ensures { λ _. ⌜ now (bytes .exit) ≡ over (now (bytes .entry)) 0 (numbersOf first sectors users) ⌝ }
+    requires { length bytes.old ≡ 34 }
+    ensures { bytes.new ≡ over bytes.old 0 (numbers_of first sectors users) }
 {
     uf2_block::put(bytes, 0, first);
     uf2_block::put(bytes, 4, sectors);
@@ -64,13 +63,13 @@ fn put_numbers(bytes: &mut [u8], first: u32, sectors: u32, users: [u32; 4])
 }
 
 // Writes an entry, where there are bytes for it.
-pub(crate) fn write_entry(bytes: &mut [u8], e: Entry)
-    ensures { λ _. ⌜ now (bytes .exit) ≡ withEntry (now (bytes .entry)) e ⌝ }
+pub fn write_entry(bytes: &mut [u8], e: Entry)
+    ensures { bytes.new ≡ with_entry bytes.old e }
 {
     if bytes.len() != ENTRY {
         return;
     }
     let users = e.users;
     put_numbers(bytes, e.first, e.sectors, users);
-    bytes::copy(&flags(e), &mut bytes[NUMBERS..ENTRY]);
+    bytes[NUMBERS..ENTRY].copy_from_slice(&flags(e));
 }

@@ -1,27 +1,24 @@
 // Settings as bytes: how they go in, and how they come back. Every byte slice is read; include/uf2_receiver.h has the layout for C.
-pub mod entries;
-mod entry_write;
+#![tactic(auto)]
 
-ghost use mathlib.Core.Path.{_≡_};
-ghost use Prim.Native.Nat.{_≤_};
-ghost use lib.ListN.{length};
-ghost use Rattle·laws.specs.Rows.{rows};
-ghost use Rattle·settings_layout·specs.specs.Layout.{
-  archFrom,
-  countFrom,
-  usedOf,
-  settingsFrom,
-  archByte,
-  rowBytes,
-  switchBytes,
-  withSettings,
+pub mod entries;
+pub mod entry_write;
+
+ghost use Rattle.std.specs.Prelude.{◌≡◌, ◌≤◌, length};
+ghost use Rattle.laws.specs.Rows.{rows};
+ghost use Rattle.settings_layout.specs.Layout.{
+  arch_from,
+  count_from,
+  used_of,
+  settings_from,
+  arch_byte,
+  row_bytes,
+  switch_bytes,
+  with_settings,
 };
-use crate::entries::byte;
-use crate::entries::flag;
-use crate::entries::on;
-use partitions::Arch;
-use partitions::Entry;
-use partitions::Settings;
+
+use crate::entries::{byte, flag, on};
+use partitions::{Arch, Entry, Settings};
 
 // The bytes of settings, those before their table, and those of an entry.
 const SETTINGS: usize = 550;
@@ -31,14 +28,14 @@ const HEAD: usize = 6;
 const ENTRY: usize = 34;
 
 fn arch(x: u8) -> Arch
-    ensures { λ r. ⌜ r ≡ archFrom x ⌝ }
+    ensures { result ≡ arch_from x }
 {
     if x == 0 { Arch::Arm } else { Arch::RiscV }
 }
 
 // Of bytes that are no settings: over 16, which is bad.
 pub fn count(bytes: &[u8]) -> u8
-    ensures { λ r. ⌜ r ≡ countFrom (now (bytes .entry)) ⌝ }
+    ensures { result ≡ count_from bytes.now }
 {
     if bytes.len() == SETTINGS {
         bytes[5]
@@ -48,8 +45,8 @@ pub fn count(bytes: &[u8]) -> u8
 }
 
 fn used(count: u8) -> usize
-    ensures { λ r. ⌜ r ≡ usedOf count ⌝ }
-    ensures low { λ r. ⌜ r ≤ 16 ⌝ }
+    ensures value { result ≡ used_of count }
+    ensures low { result ≤ 16 }
 {
     let n = count as usize;
     if n <= Settings::ENTRIES { n } else { 0 }
@@ -57,7 +54,7 @@ fn used(count: u8) -> usize
 
 // The settings that bytes are. Only the entries that are used are read: a board with few waits for no more.
 pub fn read_settings(bytes: &[u8]) -> Settings
-    ensures { λ r. ⌜ r ≡ settingsFrom (now (bytes .entry)) ⌝ }
+    ensures { result ≡ settings_from bytes.now }
 {
     let arm = on(bytes, 0);
     let riscv = on(bytes, 1);
@@ -88,7 +85,7 @@ pub fn read_settings(bytes: &[u8]) -> Settings
 }
 
 fn arch_byte(a: Arch) -> u8
-    ensures { λ r. ⌜ r ≡ archByte a ⌝ }
+    ensures { result ≡ arch_byte a }
 {
     match a {
         Arch::Arm => 0,
@@ -97,8 +94,8 @@ fn arch_byte(a: Arch) -> u8
 }
 
 fn write_table(bytes: &mut [u8], table: [Entry; Settings::ENTRIES])
-    requires { ⌜ length (now bytes) ≡ 544 ⌝ }
-    ensures { λ _. ⌜ now (bytes .exit) ≡ rows (rowBytes table) 16 ⌝ }
+    requires { length bytes.old ≡ 544 }
+    ensures { bytes.new ≡ rows (row_bytes table) 16 }
 {
     let mut k: usize = 0;
     while k < Settings::ENTRIES {
@@ -111,7 +108,7 @@ fn write_table(bytes: &mut [u8], table: [Entry; Settings::ENTRIES])
 }
 
 fn switches(s: Settings) -> [u8; 6]
-    ensures { λ r. ⌜ r ≡ switchBytes s ⌝ }
+    ensures { result ≡ switch_bytes s }
 {
     let current = s.current;
     [
@@ -126,12 +123,12 @@ fn switches(s: Settings) -> [u8; 6]
 
 // Writes settings, where there are bytes for them.
 pub fn write_settings(bytes: &mut [u8], s: Settings)
-    ensures { λ _. ⌜ now (bytes .exit) ≡ withSettings (now (bytes .entry)) s ⌝ }
+    ensures { bytes.new ≡ with_settings bytes.old s }
 {
     if bytes.len() != SETTINGS {
         return;
     }
     let table = s.table;
-    bytes::copy(&switches(s), &mut bytes[0..HEAD]);
+    bytes[0..HEAD].copy_from_slice(&switches(s));
     write_table(&mut bytes[HEAD..SETTINGS], table);
 }

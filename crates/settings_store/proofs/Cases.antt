@@ -1,87 +1,87 @@
--- Each case of `readOf`, from the facts that lead to it. Assumes nothing.
-use mathlib.Core.Path.{_≡_, sym, ap, _∙_}
-use mathlib.Core.Logic.{_≢_}
-use mathlib.Core.Bool.{Bool, true, false, cond, not, _&&_, _||_}
-use mathlib.Core.List.{List, [], _∷_}
-use Prim.Native.Nat.{ℕ, _+_, _*_, _/_, _%_, _<_, _≤_}
+-- Each case of `read_of`, from the facts that lead to it. Assumes nothing.
+use mathlib.Core.Path.{◌≡◌, sym, ap, ◌∙◌}
+use mathlib.Core.Logic.{◌≢◌}
+use mathlib.Core.Bool.{Bool, true, false, cond, not, ◌&&◌, ◌||◌}
+use mathlib.Core.List.{List, [], ◌∷◌}
+use Prim.Native.Nat.{ℕ, ◌+◌, ◌*◌, ◌/◌, ◌%◌, ◌<◌, ◌≤◌}
 use native.Mathlib.Omega.{arith}
 use lib.Dec.{eqb}
-use lib.ListN.{length, getD}
-use borrow.Author.Tests.{lt-ltb, le-ltb, eq-eqb, ne-eqb}
-use Rattle·laws.specs.Sets.{any}
-use Rattle·memory.specs.Flash.{flashLength}
-use Rattle·partitions.specs.declared.Entry.{Entry}
-use Rattle·partitions.specs.declared.Settings.{Settings}
-use Rattle·partitions.specs.Settings.{goodSettings}
-use Rattle·partitions.specs.Table.{tableOf}
-use Rattle·laws.specs.Packing.{total, packed, unpacked, octets, fieldsOf}
-use Rattle·settings_store·specs.specs.declared.write.StoreAnswer.the-variants.{BadBuffers, BadSettings, BadVersion, BadLength, BadBits, Good}
-use Rattle·settings_store·specs.specs.Written.{noRestartIn}
-use Rattle·settings_store·proofs.proofs.write.Cases.{no-restart-few}
-use Rattle·settings_store·specs.specs.declared.Reading.{Reading}
-use Rattle·settings_store·specs.specs.Store.{noRestartAt, headWidths, headIn, entryOf, settingsOf, settingsIn, strayAt, straysIn, refusal, found, readHead, readOf}
+use lib.ListN.{length, get_or}
+use borrow.Author.Tests.{lt-ltb, le-ltb, eq-eqb, ne_eqb}
+use Rattle.laws.specs.Sets.{any}
+use Rattle.memory.specs.Flash.{flash_length}
+use Rattle.partitions.specs.declared.Entry.{Entry}
+use Rattle.partitions.specs.declared.Settings.{Settings}
+use Rattle.partitions.specs.Settings.{good_settings}
+use Rattle.partitions.specs.Table.{table_of}
+use Rattle.laws.specs.Packing.{total, packed, unpacked, octets, fields_of}
+use Rattle.settings_store.specs.declared.write.StoreAnswer.TheVariants.{BadBuffers, BadSettings, BadVersion, BadLength, BadBits}
+use Rattle.settings_store.specs.Written.{no_restart_in}
+use Rattle.settings_store.proofs.write.Cases.{no_restart_few}
+use Rattle.settings_store.specs.declared.Reading.{Reading}
+use Rattle.settings_store.specs.Store.{no_restart_at, head_widths, head_in, entry_of, settings_of, settings_in, stray_at, strays_in, refusal, found, read_head, read_of}
 
 -- the head's two bytes
-pub head-two : (b : List ℕ) → 2 ≤ length b → headIn b ≡ unpacked headWidths (getD b 0 0 * 256 + getD b 1 0)
-unfolding headIn fieldsOf packed octets total
-head-two [] h = absurd (omega arith)
-head-two (x ∷ []) h = absurd (omega arith)
-head-two (x ∷ y ∷ b) h = ap (unpacked headWidths) (omega arith)
+pub head_two : (b : List ℕ) → 2 ≤ length b → head_in b ≡ unpacked head_widths (get_or b 0 0 * 256 + get_or b 1 0)
+unfolding head_in fields_of packed octets total
+head_two [] h = absurd (omega arith)
+head_two (x ∷ []) h = absurd (omega arith)
+head_two (x ∷ y ∷ b) h = ap (unpacked head_widths) (omega arith)
 
 module _ (b : List ℕ) (len : ℕ) where
-  pub read-1 : flashLength len ≡ false → refusal BadBuffers ≡ readOf b len
-  unfolding readOf
-  read-1 h = rw h
+  pub read_1 : flash_length len ≡ false → refusal BadBuffers ≡ read_of b len
+  unfolding read_of
+  read_1 h = rw h
 
-  module _ (p : flashLength len ≡ true) where
-    pub read-short : length b < 2 → refusal BadLength ≡ readOf b len
-    unfolding readOf
-    read-short h = rw (p, lt-ltb (length b) 2 h)
+  module _ (p : flash_length len ≡ true) where
+    pub read_short : length b < 2 → refusal BadLength ≡ read_of b len
+    unfolding read_of
+    read_short h = rw (p, lt-ltb (length b) 2 h)
 
-    pub read-on : 2 ≤ length b → (x : ℕ) {r : Reading} → headIn b ≡ unpacked headWidths x → r ≡ readHead (unpacked headWidths x) b len → r ≡ readOf b len
-    unfolding readOf
-    read-on q x {r} e h = h ∙ rw (p, le-ltb (length b) 2 q, e)
+    pub read_on : 2 ≤ length b → (x : ℕ) {r : Reading} → head_in b ≡ unpacked head_widths x → r ≡ read_head (unpacked head_widths x) b len → r ≡ read_of b len
+    unfolding read_of
+    read_on q x {r} e h = h ∙ rw (p, le-ltb (length b) 2 q, e)
 
 -- the head's number x
 module _ (b : List ℕ) (len x : ℕ) where
-  pub read-40 : not (eqb (x / 4096 % 16) 1 || eqb (x / 4096 % 16) 2) ≡ true → refusal BadVersion ≡ readHead (unpacked headWidths x) b len
-  unfolding readHead unpacked total
-  read-40 h = rw h
+  pub read_40 : not (eqb (x / 4096 % 16) 1 || eqb (x / 4096 % 16) 2) ≡ true → refusal BadVersion ≡ read_head (unpacked head_widths x) b len
+  unfolding read_head unpacked total
+  read_40 h = rw h
 
   module _ (r : not (eqb (x / 4096 % 16) 1 || eqb (x / 4096 % 16) 2) ≡ false) where
-    pub read-many : 16 < x / 128 % 32 → refusal BadBits ≡ readHead (unpacked headWidths x) b len
-    unfolding readHead unpacked total
-    read-many h = rw (r, lt-ltb 16 (x / 128 % 32) h)
+    pub read_many : 16 < x / 128 % 32 → refusal BadBits ≡ read_head (unpacked head_widths x) b len
+    unfolding read_head unpacked total
+    read_many h = rw (r, lt-ltb 16 (x / 128 % 32) h)
 
     module _ (s : x / 128 % 32 ≤ 16) where
-      pub read-41 : (length b ≢ 2 + 22 * (x / 128 % 32)) → refusal BadLength ≡ readHead (unpacked headWidths x) b len
-      unfolding readHead unpacked total
-      read-41 h = rw (r, le-ltb 16 (x / 128 % 32) s, ne-eqb (length b) (2 + 22 * (x / 128 % 32)) h)
+      pub read_41 : (length b ≢ 2 + 22 * (x / 128 % 32)) → refusal BadLength ≡ read_head (unpacked head_widths x) b len
+      unfolding read_head unpacked total
+      read_41 h = rw (r, le-ltb 16 (x / 128 % 32) s, ne_eqb (length b) (2 + 22 * (x / 128 % 32)) h)
 
-      module _ (w : length b ≡ 2 + 22 * (x / 128 % 32)) {table : List Entry} (ht : table ≡ tableOf (entryOf b) (x / 128 % 32)) {y v : Bool}
-          (k : y ≡ any (x / 128 % 32) (strayAt b (x / 4096 % 16))) (m : v ≡ noRestartIn table (x / 128 % 32)) where
-        strays : straysIn (unpacked headWidths x) b ≡ not (eqb (x / 1 % 4) 0) || y || eqb (x / 4096 % 16) 2 && not v
-        unfolding straysIn unpacked total
+      module _ (w : length b ≡ 2 + 22 * (x / 128 % 32)) {table : List Entry} (ht : table ≡ table_of (entry_of b) (x / 128 % 32)) {y v : Bool}
+          (k : y ≡ any (x / 128 % 32) (stray_at b (x / 4096 % 16))) (m : v ≡ no_restart_in table (x / 128 % 32)) where
+        strays : strays_in (unpacked head_widths x) b ≡ not (eqb (x / 1 % 4) 0) || y || eqb (x / 4096 % 16) 2 && not v
+        unfolding strays_in unpacked total
         strays =
-            let few : v ≡ any (x / 128 % 32) (noRestartAt table) = m ∙ no-restart-few table (x / 128 % 32) s in
+            let few : v ≡ any (x / 128 % 32) (no_restart_at table) = m ∙ no_restart_few table (x / 128 % 32) s in
             rw (k, few, ht)
 
-        reach : readHead (unpacked headWidths x) b len
-            ≡ cond (straysIn (unpacked headWidths x) b) (refusal BadBits)
-            (cond (not (goodSettings (settingsIn (unpacked headWidths x) b) len)) (refusal BadSettings) (found (settingsIn (unpacked headWidths x) b)))
-        unfolding readHead unpacked total
+        reach : read_head (unpacked head_widths x) b len
+            ≡ cond (strays_in (unpacked head_widths x) b) (refusal BadBits)
+            (cond (not (good_settings (settings_in (unpacked head_widths x) b) len)) (refusal BadSettings) (found (settings_in (unpacked head_widths x) b)))
+        unfolding read_head unpacked total
         reach = rw (r, le-ltb 16 (x / 128 % 32) s, eq-eqb (length b) (2 + 22 * (x / 128 % 32)) w)
 
-        pub read-42 : not (eqb (x / 1 % 4) 0) || y || eqb (x / 4096 % 16) 2 && not v ≡ true → refusal BadBits ≡ readHead (unpacked headWidths x) b len
-        read-42 h = sym (reach ∙ rw (strays, h))
+        pub read_42 : not (eqb (x / 1 % 4) 0) || y || eqb (x / 4096 % 16) 2 && not v ≡ true → refusal BadBits ≡ read_head (unpacked head_widths x) b len
+        read_42 h = sym (reach ∙ rw (strays, h))
 
-        module _ (u : not (eqb (x / 1 % 4) 0) || y || eqb (x / 4096 % 16) 2 && not v ≡ false) {z : Settings} (hz : z ≡ settingsOf (unpacked headWidths x) table) where
-          whole : settingsIn (unpacked headWidths x) b ≡ z
-          unfolding settingsIn unpacked total
+        module _ (u : not (eqb (x / 1 % 4) 0) || y || eqb (x / 4096 % 16) 2 && not v ≡ false) {z : Settings} (hz : z ≡ settings_of (unpacked head_widths x) table) where
+          whole : settings_in (unpacked head_widths x) b ≡ z
+          unfolding settings_in unpacked total
           whole = sym (hz ∙ rw ht)
 
-          pub read-2 : goodSettings z len ≡ false → refusal BadSettings ≡ readHead (unpacked headWidths x) b len
-          read-2 h = sym (reach ∙ rw (strays, u, whole, h))
+          pub read_2 : good_settings z len ≡ false → refusal BadSettings ≡ read_head (unpacked head_widths x) b len
+          read_2 h = sym (reach ∙ rw (strays, u, whole, h))
 
-          pub read-good : goodSettings z len ≡ true → found z ≡ readHead (unpacked headWidths x) b len
-          read-good h = sym (reach ∙ rw (strays, u, whole, h))
+          pub read_good : good_settings z len ≡ true → found z ≡ read_head (unpacked head_widths x) b len
+          read_good h = sym (reach ∙ rw (strays, u, whole, h))

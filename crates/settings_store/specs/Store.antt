@@ -1,105 +1,101 @@
 -- The packed store of settings (02, L5), read. Assumes nothing.
-use Prim.Native.Nat.{ℕ, _+_, _*_}
-use mathlib.Core.Bool.{Bool, true, false, _&&_, _||_, cond, not}
-use mathlib.Core.List.{List}
-use lib.ListN.{length, getD, take, drop, replicate}
-use lib.Dec.{ltb, eqb}
-use Rattle·laws.specs.Sets.{any}
-use Rattle·memory.specs.Flash.{flashLength}
-use Rattle·partitions.specs.declared.Arch.{Arch}
-use Rattle·partitions.specs.declared.Arch.the-variants.{Arm, RiscV}
-use Rattle·partitions.specs.declared.Entry.{Entry}
-use Rattle·partitions.specs.declared.Settings.{Settings}
-use Rattle·partitions.specs.Settings.{blankEntry, goodSettings}
-use Rattle·partitions.specs.Table.{tableOf}
-use Rattle·laws.specs.Packing.{fieldsOf, on}
-use Rattle·store_entry.specs.EntryBits.{entryIn, strayIn}
-use Rattle·settings_store·specs.specs.declared.write.StoreAnswer.{StoreAnswer}
-use Rattle·settings_store·specs.specs.declared.write.StoreAnswer.the-variants.{BadBuffers, BadSettings, BadVersion, BadLength, BadBits, Good}
-use Rattle·settings_store·specs.specs.declared.Reading.{Reading}
+use Rattle.std.specs.Prelude.{ℕ, ◌+◌, ◌*◌, Bool, true, false, ◌&&◌, ◌||◌, cond, not, List, length, get_or, take, drop, replicate, ltb, eqb}
+use Rattle.laws.specs.Sets.{any}
+use Rattle.memory.specs.Flash.{flash_length}
+use Rattle.partitions.specs.declared.Arch.{Arch}
+use Rattle.partitions.specs.declared.Arch.TheVariants.{Arm, RiscV}
+use Rattle.partitions.specs.declared.Entry.{Entry}
+use Rattle.partitions.specs.declared.Settings.{Settings}
+use Rattle.partitions.specs.Settings.{blank_entry, good_settings}
+use Rattle.partitions.specs.Table.{table_of}
+use Rattle.laws.specs.Packing.{fields_of, on}
+use Rattle.store_entry.specs.EntryBits.{entry_in, stray_in}
+use Rattle.settings_store.specs.declared.write.StoreAnswer.{StoreAnswer}
+use Rattle.settings_store.specs.declared.write.StoreAnswer.TheVariants.{BadBuffers, BadSettings, BadVersion, BadLength, BadBits, Good}
+use Rattle.settings_store.specs.declared.Reading.{Reading}
 -- the store as it is written
-pub use Rattle·settings_store·specs.specs.Written.{headWidths, archBit, storeNumber, WriteCall, writeCall, writeNumber}
-unfoldable pub use Rattle·settings_store·specs.specs.Written.{noRestartAt, versionOf, headFields, rowAt, storeOf, writeOf}
+pub use Rattle.settings_store.specs.Written.{head_widths, arch_bit, store_number, WriteCall, write_call, write_number}
+unfoldable pub use Rattle.settings_store.specs.Written.{no_restart_at, version_of, head_fields, row_at, store_of, write_of}
 
 -- the head's fields, and the bytes of entry k
-unfoldable pub headIn : List ℕ → List ℕ
-headIn b = fieldsOf headWidths 2 (take 2 b)
+unfoldable pub head_in : List ℕ → List ℕ
+head_in b = fields_of head_widths 2 (take 2 b)
 
-abbrev pub partIn : List ℕ → ℕ → List ℕ
-partIn b k = take 22 (drop (2 + 22 * k) b)
+abbrev pub part_in : List ℕ → ℕ → List ℕ
+part_in b k = take 22 (drop (2 + 22 * k) b)
 
 -- entry k
-unfoldable pub entryOf : List ℕ → ℕ → Entry
-entryOf b k = entryIn (partIn b k)
+unfoldable pub entry_of : List ℕ → ℕ → Entry
+entry_of b k = entry_in (part_in b k)
 
-abbrev pub archFrom : Bool → Arch
-archFrom true = RiscV
-archFrom false = Arm
+abbrev pub arch_from : Bool → Arch
+arch_from true = RiscV
+arch_from false = Arm
 
 -- the settings of a head's fields and a table
-abbrev pub settingsOf : List ℕ → List Entry → Settings
-settingsOf h table =
+abbrev pub settings_of : List ℕ → List Entry → Settings
+settings_of h table =
     record {
       table = table;
-      arm = on (getD h 4 0);
-      riscv = on (getD h 5 0);
-      current = archFrom (on (getD h 6 0));
-      «auto_switch» = on (getD h 2 0);
-      absolute = on (getD h 3 0);
-      count = getD h 1 0;
+      arm = on (get_or h 4 0);
+      riscv = on (get_or h 5 0);
+      current = arch_from (on (get_or h 6 0));
+      auto_switch = on (get_or h 2 0);
+      absolute = on (get_or h 3 0);
+      count = get_or h 1 0;
     }
 
--- "Unused .. entries .. are zero, also in settings read": `tableOf` has them blank
-unfoldable pub settingsIn : List ℕ → List ℕ → Settings
-settingsIn h b = settingsOf h (tableOf (entryOf b) (getD h 1 0))
+-- "Unused .. entries .. are zero, also in settings read": `table_of` has them blank
+unfoldable pub settings_in : List ℕ → List ℕ → Settings
+settings_in h b = settings_of h (table_of (entry_of b) (get_or h 1 0))
 
-unfoldable pub strayAt : List ℕ → ℕ → ℕ → Bool
-strayAt b version k = strayIn version (partIn b k)
+unfoldable pub stray_at : List ℕ → ℕ → ℕ → Bool
+stray_at b version k = stray_in version (part_in b k)
 
 -- "42 stray bits, kind 3, user count over 4 or a needless version 2", of the head h
-unfoldable pub straysIn : List ℕ → List ℕ → Bool
-straysIn h b =
-    not (eqb (getD h 7 0) 0)
-    || any (getD h 1 0) (strayAt b (getD h 0 0))
-    || eqb (getD h 0 0) 2 && not (any (getD h 1 0) (noRestartAt (tableOf (entryOf b) (getD h 1 0))))
+unfoldable pub strays_in : List ℕ → List ℕ → Bool
+strays_in h b =
+    not (eqb (get_or h 7 0) 0)
+    || any (get_or h 1 0) (stray_at b (get_or h 0 0))
+    || eqb (get_or h 0 0) 2 && not (any (get_or h 1 0) (no_restart_at (table_of (entry_of b) (get_or h 1 0))))
 
 -- "Refusals return no settings": settings in which nothing is enabled, which are bad for every flash
-abbrev pub noSettings : Settings
-noSettings =
+abbrev pub no_settings : Settings
+no_settings =
     record {
-      table = replicate 16 blankEntry;
+      table = replicate 16 blank_entry;
       arm = false;
       riscv = false;
       current = Arm;
-      «auto_switch» = false;
+      auto_switch = false;
       absolute = false;
       count = 0;
     }
 
 abbrev pub refusal : StoreAnswer → Reading
-refusal x = record { answer = x; settings = noSettings }
+refusal x = record { answer = x; settings = no_settings }
 
 abbrev pub found : Settings → Reading
 found s = record { answer = Good; settings = s }
 
 -- the checks that the head h comes to
-unfoldable pub readHead : List ℕ → List ℕ → ℕ → Reading
-readHead h b len =
-    cond (not (eqb (getD h 0 0) 1 || eqb (getD h 0 0) 2)) (refusal BadVersion)
-    (cond (ltb 16 (getD h 1 0)) (refusal BadBits)
-    (cond (not (eqb (length b) (2 + 22 * getD h 1 0))) (refusal BadLength)
-    (cond (straysIn h b) (refusal BadBits)
-    (cond (not (goodSettings (settingsIn h b) len)) (refusal BadSettings)
-    (found (settingsIn h b))))))
+unfoldable pub read_head : List ℕ → List ℕ → ℕ → Reading
+read_head h b len =
+    cond (not (eqb (get_or h 0 0) 1 || eqb (get_or h 0 0) 2)) (refusal BadVersion)
+    (cond (ltb 16 (get_or h 1 0)) (refusal BadBits)
+    (cond (not (eqb (length b) (2 + 22 * get_or h 1 0))) (refusal BadLength)
+    (cond (strays_in h b) (refusal BadBits)
+    (cond (not (good_settings (settings_in h b) len)) (refusal BadSettings)
+    (found (settings_in h b))))))
 
 -- "a wrong [flash length] is answer 1, first. Reading, in order: 41 under 2 bytes, 40 version not 1 or 2, 42 count over 16, 41 length not 2 +
 -- 22 x count, 42 stray bits .. , then answer 2"
-unfoldable pub readOf : List ℕ → ℕ → Reading
-readOf b len =
-    cond (not (flashLength len)) (refusal BadBuffers)
+unfoldable pub read_of : List ℕ → ℕ → Reading
+read_of b len =
+    cond (not (flash_length len)) (refusal BadBuffers)
     (cond (ltb (length b) 2) (refusal BadLength)
-    (readHead (headIn b) b len))
+    (read_head (head_in b) b len))
 
 -- the number of what is read
-abbrev pub readNumber : Reading → ℕ
-readNumber r = storeNumber (r .answer)
+abbrev pub read_number : Reading → ℕ
+read_number r = store_number r.answer

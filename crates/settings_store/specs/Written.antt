@@ -1,46 +1,42 @@
 -- The packed store of settings (02, L5), written. Assumes nothing.
-use Prim.Native.Nat.{ℕ, _+_, _*_}
-use mathlib.Core.Bool.{Bool, _&&_, cond, not}
-use mathlib.Core.List.{List, _++_}
-use lib.ListN.{length}
-use lib.Dec.{ltb, leb}
-use Rattle·laws.specs.Sets.{any}
-use Rattle·laws.specs.Over.{over}
-use Rattle·laws.specs.Rows.{rows}
-use Rattle·memory.specs.Flash.{flashLength}
-use Rattle·partitions.specs.declared.Entry.{Entry}
-use Rattle·partitions.specs.declared.Settings.{Settings}
-use Rattle·partitions.specs.Settings.{entryAt, goodSettings}
-use Rattle·laws.specs.Packing.{bytesOf}
-use Rattle·store_entry.specs.EntryBits.{packedEntry}
-use Rattle·settings_store·specs.specs.declared.write.StoreAnswer.{StoreAnswer}
-use Rattle·settings_store·specs.specs.declared.write.StoreAnswer.the-variants.{BadBuffers, BadSettings, BadVersion, BadLength, BadBits, Good}
+use Rattle.std.specs.Prelude.{ℕ, ◌+◌, ◌*◌, Bool, ◌&&◌, cond, not, List, ◌++◌, length, ltb, leb}
+use Rattle.laws.specs.Sets.{any}
+use Rattle.laws.specs.Over.{over}
+use Rattle.laws.specs.Rows.{rows}
+use Rattle.memory.specs.Flash.{flash_length}
+use Rattle.partitions.specs.declared.Entry.{Entry}
+use Rattle.partitions.specs.declared.Settings.{Settings}
+use Rattle.partitions.specs.Settings.{entry_at, good_settings}
+use Rattle.laws.specs.Packing.{bytes_of}
+use Rattle.store_entry.specs.EntryBits.{packed_entry}
+use Rattle.settings_store.specs.declared.write.StoreAnswer.{StoreAnswer}
+use Rattle.settings_store.specs.declared.write.StoreAnswer.TheVariants.{BadBuffers, BadSettings, BadVersion, BadLength, BadBits, Good}
 -- the head
-pub use Rattle·settings_store·specs.specs.Head.{headWidths, archBit}
-unfoldable pub use Rattle·settings_store·specs.specs.Head.{noRestartAt, versionOf, headFields}
+pub use Rattle.settings_store.specs.Head.{head_widths, arch_bit}
+unfoldable pub use Rattle.settings_store.specs.Head.{no_restart_at, version_of, head_fields}
 
 -- ---- the store
 
 -- one of the first n entries of a table of 16 has "don't restart"
-abbrev pub noRestartIn : List Entry → ℕ → Bool
-noRestartIn table n = leb n 16 && any n (noRestartAt table)
+abbrev pub no_restart_in : List Entry → ℕ → Bool
+no_restart_in table n = leb n 16 && any n (no_restart_at table)
 
 -- the bytes of entry k
-unfoldable pub rowAt : List Entry → ℕ → List ℕ
-rowAt table k = packedEntry (entryAt table k)
+unfoldable pub row_at : List Entry → ℕ → List ℕ
+row_at table k = packed_entry (entry_at table k)
 
 -- the head, and then the used entries
-unfoldable pub storeOf : Settings → List ℕ
-storeOf s = bytesOf headWidths 2 (headFields s) ++ rows (rowAt (s .table)) (s .count)
+unfoldable pub store_of : Settings → List ℕ
+store_of s = bytes_of head_widths 2 (head_fields s) ++ rows (row_at s.table) s.count
 
 -- the numbers of the answers; settings that are read or written have 0
-abbrev pub storeNumber : StoreAnswer → ℕ
-storeNumber BadBuffers = 1
-storeNumber BadSettings = 2
-storeNumber BadVersion = 40
-storeNumber BadLength = 41
-storeNumber BadBits = 42
-storeNumber Good = 0
+abbrev pub store_number : StoreAnswer → ℕ
+store_number BadBuffers = 1
+store_number BadSettings = 2
+store_number BadVersion = 40
+store_number BadLength = 41
+store_number BadBits = 42
+store_number Good = 0
 
 -- ---- a call that writes
 
@@ -49,16 +45,16 @@ pub record WriteCall : Type 0 where
   pub answer : StoreAnswer
   pub output : List ℕ
 
-abbrev pub writeCall : StoreAnswer → List ℕ → WriteCall
-writeCall x l = record { answer = x; output = l }
+abbrev pub write_call : StoreAnswer → List ℕ → WriteCall
+write_call x l = record { answer = x; output = l }
 
-abbrev pub writeNumber : WriteCall → ℕ
-writeNumber w = storeNumber (w .answer)
+abbrev pub write_number : WriteCall → ℕ
+write_number w = store_number w.answer
 
 -- "Writing: 2, then 41 for too short a buffer, nothing written; bytes past the store stay."
-unfoldable pub writeOf : Settings → ℕ → List ℕ → WriteCall
-writeOf s len out =
-    cond (not (flashLength len)) (writeCall BadBuffers out)
-    (cond (not (goodSettings s len)) (writeCall BadSettings out)
-    (cond (ltb (length out) (2 + 22 * s .count)) (writeCall BadLength out)
-    (writeCall Good (over out 0 (storeOf s)))))
+unfoldable pub write_of : Settings → ℕ → List ℕ → WriteCall
+write_of s len out =
+    cond (not (flash_length len)) (write_call BadBuffers out)
+    (cond (not (good_settings s len)) (write_call BadSettings out)
+    (cond (ltb (length out) (2 + 22 * s.count)) (write_call BadLength out)
+    (write_call Good (over out 0 (store_of s)))))

@@ -1,19 +1,18 @@
 // The head of the packed store of settings: its 16 bits as one number.
-ghost use mathlib.Core.Path.{_≡_};
-ghost use Prim.Native.Nat.{_<_};
-ghost use Rattle·laws.specs.Packing.{packed, bit};
-ghost use Rattle·settings_store·specs.specs.Head.{headWidths, archBit, headFieldsBy};
-use partitions::Arch;
-use partitions::Settings;
+ghost use Rattle.std.specs.Prelude.{◌≡◌, ◌<◌};
+ghost use Rattle.laws.specs.Packing.{packed, bit};
+ghost use Rattle.settings_store.specs.Head.{head_widths, arch_bit, head_fields_by};
+
+use partitions::{Arch, Settings};
 
 fn bit_of(b: bool) -> u64
-    ensures { λ r. ⌜ (r ≡ bit b) × (r < 2) ⌝ }
+    ensures { (result ≡ bit b) × (result < 2) }
 {
     if b { 1 } else { 0 }
 }
 
 fn arch_bit(a: Arch) -> u64
-    ensures { λ r. ⌜ (r ≡ archBit a) × (r < 2) ⌝ }
+    ensures { (result ≡ arch_bit a) × (result < 2) }
 {
     match a {
         Arch::Arm => 0,
@@ -22,9 +21,9 @@ fn arch_bit(a: Arch) -> u64
 }
 
 // The head as one number, where `no_restart` says whether a used entry has "don't restart".
-pub(crate) fn head_of(s: Settings, no_restart: bool) -> u64
-    ensures { λ r. ⌜ r ≡ packed headWidths (headFieldsBy «no_restart» s) ⌝ }
-    ensures low { λ r. ⌜ r < 65536 ⌝ }
+pub fn head_of(s: Settings, no_restart: bool) -> u64
+    ensures value { result ≡ packed head_widths (head_fields_by no_restart s) }
+    ensures low { result < 65536 }
 {
     let current = s.current;
     let a = bit_of(s.auto_switch);

@@ -1,30 +1,29 @@
 // The packed store of settings, read from bytes.
-mod head_bits;
+#![tactic(auto)]
+
+pub mod head_bits;
 pub mod write;
 
-ghost use mathlib.Core.Path.{_≡_};
-ghost use Prim.Native.Nat.{_+_, _*_, _≤_};
-ghost use lib.ListN.{length};
-ghost use Rattle·laws.specs.Sets.{any};
-ghost use Rattle·laws.specs.Numbered.{numbered};
-ghost use Rattle·laws.specs.Packing.{unpacked};
-ghost use Rattle·partitions.specs.Table.{tableOf};
-ghost use Rattle·settings_store·specs.specs.Store.{
-  headWidths,
-  headIn,
-  entryOf,
-  archFrom,
-  settingsOf,
-  strayAt,
+ghost use Rattle.std.specs.Prelude.{◌≡◌, ◌+◌, ◌*◌, ◌≤◌, length};
+ghost use Rattle.laws.specs.Sets.{any};
+ghost use Rattle.laws.specs.Numbered.{numbered};
+ghost use Rattle.laws.specs.Packing.{unpacked};
+ghost use Rattle.partitions.specs.Table.{table_of};
+ghost use Rattle.settings_store.specs.Store.{
+  head_widths,
+  head_in,
+  entry_of,
+  arch_from,
+  settings_of,
+  stray_at,
   refusal,
-  readHead,
-  readOf,
-  readNumber,
+  read_head,
+  read_of,
+  read_number,
 };
+
 use crate::write::StoreAnswer;
-use partitions::Arch;
-use partitions::Entry;
-use partitions::Settings;
+use partitions::{Arch, Entry, Settings};
 
 // The bytes of the head, and of an entry.
 const HEAD: usize = 2;
@@ -32,6 +31,7 @@ const HEAD: usize = 2;
 const ENTRY: usize = 22;
 
 // What is read: settings, or a refusal beside settings that are bad. An enum that would hold the settings is not covered: they hold an array.
+#[derive(Clone, Copy)]
 pub struct Reading {
     pub settings: Settings,
     pub answer: StoreAnswer,
@@ -39,13 +39,14 @@ pub struct Reading {
 
 // The head's two bytes as one number.
 fn head_in(s: &[u8]) -> u64
-    requires { ⌜ 2 ≤ length (now s) ⌝ }
-    ensures { λ r. ⌜ headIn (now (s .entry)) ≡ unpacked headWidths r ⌝ }
+    requires { 2 ≤ length s.now }
+    ensures { head_in s.now ≡ unpacked head_widths result }
 {
     (s[0] as u64) * 256 + (s[1] as u64)
 }
 
 // The entries of a store, and whether one of them is no entry of its version.
+#[derive(Clone, Copy)]
 pub struct EntryScan {
     pub table: [Entry; 16],
     pub stray: bool,
@@ -53,8 +54,8 @@ pub struct EntryScan {
 
 // The first n entries of a store of that version.
 fn scan(s: &[u8], version: u8, n: usize) -> EntryScan
-    requires { ⌜ (n ≤ 16) × (2 + 22 * n ≤ length (now s)) ⌝ }
-    ensures { λ r. ⌜ (r .table ≡ tableOf (entryOf (now (s .entry))) n) × (r .stray ≡ any n (strayAt (now (s .entry)) version)) ⌝ }
+    requires { (n ≤ 16) × (2 + 22 * n ≤ length s.now) }
+    ensures { (result.table ≡ table_of (entry_of s.now) n) × (result.stray ≡ any n (stray_at s.now version)) }
 {
     let e = Entry::blank();
     let mut table = [e; Settings::ENTRIES];
@@ -72,13 +73,13 @@ fn scan(s: &[u8], version: u8, n: usize) -> EntryScan
 }
 
 fn arch_of(b: bool) -> Arch
-    ensures { λ r. ⌜ r ≡ archFrom b ⌝ }
+    ensures { result ≡ arch_from b }
 {
     if b { Arch::RiscV } else { Arch::Arm }
 }
 
 fn settings_of(x: u64, table: [Entry; 16]) -> Settings
-    ensures { λ r. ⌜ r ≡ settingsOf (unpacked headWidths x) table ⌝ }
+    ensures { result ≡ settings_of (unpacked head_widths x) table }
 {
     let current = arch_of(x / 4 % 2 == 1);
     Settings {
@@ -93,7 +94,7 @@ fn settings_of(x: u64, table: [Entry; 16]) -> Settings
 }
 
 fn refuse(answer: StoreAnswer) -> Reading
-    ensures { λ r. ⌜ r ≡ refusal answer ⌝ }
+    ensures { result ≡ refusal answer }
 {
     let e = Entry::blank();
     let table = [e; Settings::ENTRIES];
@@ -111,7 +112,7 @@ fn refuse(answer: StoreAnswer) -> Reading
 
 // The checks of the head, and then of the entries.
 fn read_head(b: &[u8], x: u64, flash_len: usize) -> Reading
-    ensures { λ r. ⌜ r ≡ readHead (unpacked headWidths x) (now (b .entry)) «flash_len» ⌝ }
+    ensures { result ≡ read_head (unpacked head_widths x) b.now flash_len }
 {
     let version = (x / 4096 % 16) as u8;
     if !((version == 1) | (version == 2)) {
@@ -142,7 +143,7 @@ fn read_head(b: &[u8], x: u64, flash_len: usize) -> Reading
 
 // The settings that a store holds, for a flash of that length.
 pub fn read(bytes: &[u8], flash_len: usize) -> Reading
-    ensures { λ r. ⌜ numbered readNumber r ≡ numbered readNumber (readOf (now (bytes .entry)) «flash_len») ⌝ }
+    ensures { numbered read_number result ≡ numbered read_number (read_of bytes.now flash_len) }
 {
     if !memory::flash::right_length(flash_len) {
         return refuse(StoreAnswer::BadBuffers);

@@ -1,29 +1,28 @@
 // The packed store of settings, written to bytes.
-ghost use mathlib.Core.Path.{_≡_};
-ghost use Prim.Native.Nat.{_+_, _*_, _≤_};
-ghost use lib.ListN.{length};
-ghost use Rattle·laws.specs.Sets.{any};
-ghost use Rattle·laws.specs.Numbered.{numbered};
-ghost use Rattle·laws.specs.Over.{over};
-ghost use Rattle·laws.specs.Rows.{rows};
-ghost use Rattle·settings_store·specs.specs.Written.{
-  noRestartAt,
-  noRestartIn,
-  rowAt,
-  storeOf,
-  storeNumber,
-  writeNumber,
-  writeCall,
-  writeOf,
+ghost use Rattle.std.specs.Prelude.{◌≡◌, ◌+◌, ◌*◌, ◌≤◌, length};
+ghost use Rattle.laws.specs.Sets.{any};
+ghost use Rattle.laws.specs.Numbered.{numbered};
+ghost use Rattle.laws.specs.Over.{over};
+ghost use Rattle.laws.specs.Rows.{rows};
+ghost use Rattle.settings_store.specs.Written.{
+  no_restart_at,
+  no_restart_in,
+  row_at,
+  store_of,
+  store_number,
+  write_number,
+  write_call,
+  write_of,
 };
-use partitions::Entry;
-use partitions::Settings;
+
+use partitions::{Entry, Settings};
 
 // The bytes of the head, and of an entry.
 const HEAD: usize = 2;
 
 const ENTRY: usize = 22;
 
+#[derive(Clone, Copy)]
 pub enum StoreAnswer {
     BadBuffers,
     BadSettings,
@@ -35,7 +34,7 @@ pub enum StoreAnswer {
 
 impl StoreAnswer {
     pub fn number(self) -> u8
-        ensures { λ r. ⌜ r ≡ storeNumber self ⌝ }
+        ensures { result ≡ store_number self }
     {
         match self {
             StoreAnswer::BadBuffers => 1,
@@ -49,8 +48,8 @@ impl StoreAnswer {
 }
 
 fn any_no_restart(table: [Entry; 16], n: usize) -> bool
-    requires { ⌜ n ≤ 16 ⌝ }
-    ensures { λ r. ⌜ r ≡ any n (noRestartAt table) ⌝ }
+    requires { n ≤ 16 }
+    ensures { result ≡ any n (no_restart_at table) }
 {
     let mut found = false;
     let mut k: usize = 0;
@@ -62,8 +61,8 @@ fn any_no_restart(table: [Entry; 16], n: usize) -> bool
 }
 
 // Has one of the first n entries of a table of 16 "don't restart"?
-pub(crate) fn no_restart_in(table: [Entry; 16], n: usize) -> bool
-    ensures { λ r. ⌜ r ≡ noRestartIn table n ⌝ }
+pub fn no_restart_in(table: [Entry; 16], n: usize) -> bool
+    ensures { result ≡ no_restart_in table n }
 {
     if 16 < n {
         return false;
@@ -73,8 +72,8 @@ pub(crate) fn no_restart_in(table: [Entry; 16], n: usize) -> bool
 
 // Writes the used entries, from byte 2 on.
 fn write_rows(out: &mut [u8], table: [Entry; 16], n: usize)
-    requires { ⌜ (n ≤ 16) × (2 + 22 * n ≤ length (now out)) ⌝ }
-    ensures { λ _. ⌜ now (out .exit) ≡ over (now (out .entry)) 2 (rows (rowAt table) n) ⌝ }
+    requires { (n ≤ 16) × (2 + 22 * n ≤ length out.old) }
+    ensures { out.new ≡ over out.old 2 (rows (row_at table) n) }
 {
     let mut k: usize = 0;
     while k < n {
@@ -82,14 +81,14 @@ fn write_rows(out: &mut [u8], table: [Entry; 16], n: usize)
         let row = store_entry::write::pack(e);
         let a = HEAD + ENTRY * k;
         let z = a + ENTRY;
-        bytes::copy(&row, &mut out[a..z]);
+        out[a..z].copy_from_slice(&row);
         k += 1;
     }
 }
 
 fn put_store(out: &mut [u8], s: Settings)
-    requires { ⌜ (s .count ≤ 16) × (2 + 22 * s .count ≤ length (now out)) ⌝ }
-    ensures { λ _. ⌜ now (out .exit) ≡ over (now (out .entry)) 0 (storeOf s) ⌝ }
+    requires { (s.count ≤ 16) × (2 + 22 * s.count ≤ length out.old) }
+    ensures { out.new ≡ over out.old 0 (store_of s) }
 {
     let table = s.table;
     let n = s.count as usize;
@@ -101,7 +100,7 @@ fn put_store(out: &mut [u8], s: Settings)
 
 // Writes the store of settings that are good for a flash of that length.
 pub fn write(settings: Settings, flash_len: usize, out: &mut [u8]) -> StoreAnswer
-    ensures { λ r. ⌜ numbered writeNumber (writeCall r (now (out .exit))) ≡ numbered writeNumber (writeOf settings «flash_len» (now (out .entry))) ⌝ }
+    ensures { numbered write_number (write_call result out.new) ≡ numbered write_number (write_of settings flash_len out.old) }
 {
     if !memory::flash::right_length(flash_len) {
         return StoreAnswer::BadBuffers;

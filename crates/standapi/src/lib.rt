@@ -1,12 +1,15 @@
 // Does what an arrival holds stand in the memory? For C: a library of its own, so that the call is compiled as one piece.
-ghost use mathlib.Core.Path.{_≡_};
-ghost use Rattle·uf2_verify.specs.Stands.{memoryAt};
-ghost use Rattle·standapi·specs.specs.Stands.{standsCallOf};
+#![tactic(auto)]
+
+ghost use Rattle.std.specs.Prelude.{◌≡◌};
+ghost use Rattle.uf2_verify.specs.Stands.{memory_at};
+ghost use Rattle.standapi.specs.Stands.{stands_call_of};
+
 use uf2_checks::Lengths;
 use uf2_known::Known;
 
 // The number of a refusal, 95 where it stands, 96 where it differs. Nothing is written.
-#[no_mangle]
+#[unsafe(no_mangle)]
 pub extern "C" fn uf2_stands(
     settings: &[u8],
     arrival: &[u8],
@@ -14,7 +17,7 @@ pub extern "C" fn uf2_stands(
     main: &[u8],
     xip: &[u8],
 ) -> u32
-    ensures { λ r. ⌜ r ≡ standsCallOf settings arrival (memoryAt flash main xip) ⌝ }
+    ensures { result ≡ stands_call_of settings.now arrival.now (memory_at flash.now main.now xip.now) }
 {
     let lens = Lengths {
         flash: flash.len(),

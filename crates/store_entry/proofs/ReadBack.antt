@@ -1,32 +1,32 @@
 -- An entry's fields from six large ones. Assumes nothing.
-use mathlib.Core.Path.{_≡_, refl, _∙_}
-use mathlib.Core.List.{List, [], _∷_, _++_}
-use Prim.Native.Nat.{ℕ, _/_, _%_, _^_, _<_}
+use mathlib.Core.Path.{◌≡◌, refl, ◌∙◌}
+use mathlib.Core.List.{List, [], ◌∷◌, ◌++◌}
+use Prim.Native.Nat.{ℕ, ◌/◌, ◌%◌, ◌^◌, ◌<◌}
 use native.Mathlib.Nat.{mod-lt}
-use lib.Pow.{pow-pos}
-use Rattle·laws.specs.Packing.{total, packed, unpacked, octets, fieldsOf, Fit}
-use Rattle·laws.proofs.Widths.{fields-are, packed-unpacked, packed-lt}
-use Rattle·laws.proofs.Groups.{Coarse, done, solo, many, coarse-fit, coarse-packed}
-use Rattle·store_entry·specs.specs.Chunks.{chunkWidths, chunksOf}
-use Rattle·store_entry·proofs.proofs.chunk_bits.Groups.{computes}
-use Rattle·store_entry·specs.specs.EntryBits.{entryWidths}
-use Rattle·store_entry·specs.specs.Fields.{chunkFields, leadWidths}
+use lib.Pow.{pow_pos}
+use Rattle.laws.specs.Packing.{total, packed, unpacked, octets, fields_of, Fit}
+use Rattle.laws.proofs.Widths.{fields_are, packed_unpacked, packed_lt}
+use Rattle.laws.proofs.Groups.{Coarse, done, solo, many, coarse_fit, coarse_packed}
+use Rattle.store_entry.specs.Chunks.{chunk_widths, chunks_of}
+use Rattle.store_entry.proofs.chunk_bits.Groups.{computes}
+use Rattle.store_entry.specs.EntryBits.{entry_widths}
+use Rattle.store_entry.specs.Fields.{chunk_fields, lead_widths}
 
-pub even : total entryWidths ≡ total (octets 22)
+pub even : total entry_widths ≡ total (octets 22)
 unfolding total octets
 even = refl
 
-pub short : (bs : List ℕ) → Fit (octets 22) bs → packed (octets 22) bs < 2 ^ total chunkWidths
-short bs f = rw computes (packed-lt f)
+pub short : (bs : List ℕ) → Fit (octets 22) bs → packed (octets 22) bs < 2 ^ total chunk_widths
+short bs f = rw computes (packed_lt f)
 
-as-entry : (h u v w x tail : ℕ) → h < 2 ^ 42 → u < 2 ^ 32 → v < 2 ^ 32 → w < 2 ^ 32 → x < 2 ^ 32 → tail < 64
-    → Coarse entryWidths (unpacked leadWidths h ++ (u ∷ v ∷ w ∷ x ∷ (unpacked (1 ∷ 5 ∷ []) tail ++ []))) chunkWidths (h ∷ u ∷ v ∷ w ∷ x ∷ tail ∷ [])
+as_entry : (h u v w x tail : ℕ) → h < 2 ^ 42 → u < 2 ^ 32 → v < 2 ^ 32 → w < 2 ^ 32 → x < 2 ^ 32 → tail < 64
+    → Coarse entry_widths (unpacked lead_widths h ++ (u ∷ v ∷ w ∷ x ∷ (unpacked (1 ∷ 5 ∷ []) tail ++ []))) chunk_widths (h ∷ u ∷ v ∷ w ∷ x ∷ tail ∷ [])
 unfolding total
-as-entry h u v w x tail ph pu pv pw px pt = many leadWidths h ph (solo 32 u pu (solo 32 v pv (solo 32 w pw (solo 32 x px (many (1 ∷ 5 ∷ []) tail pt done)))))
+as_entry h u v w x tail ph pu pv pw px pt = many lead_widths h ph (solo 32 u pu (solo 32 v pv (solo 32 w pw (solo 32 x px (many (1 ∷ 5 ∷ []) tail pt done)))))
 
-pub entry-fields : (bs : List ℕ) → Fit (octets 22) bs → chunkFields (chunksOf bs) ≡ fieldsOf entryWidths 22 bs
-unfolding chunkFields chunksOf fieldsOf unpacked total
-entry-fields bs f =
+pub entry_fields_lem : (bs : List ℕ) → Fit (octets 22) bs → chunk_fields (chunks_of bs) ≡ fields_of entry_widths 22 bs
+unfolding chunk_fields chunks_of fields_of unpacked total
+entry_fields_lem bs f =
     let n = packed (octets 22) bs in
-    let c = as-entry (n / 2 ^ 134 % 2 ^ 42) (n / 2 ^ 102 % 2 ^ 32) (n / 2 ^ 70 % 2 ^ 32) (n / 2 ^ 38 % 2 ^ 32) (n / 2 ^ 6 % 2 ^ 32) (n / 2 ^ 0 % 2 ^ 6) (mod-lt _ (pow-pos 42)) (mod-lt _ (pow-pos 32)) (mod-lt _ (pow-pos 32)) (mod-lt _ (pow-pos 32)) (mod-lt _ (pow-pos 32)) (mod-lt _ (pow-pos 6)) in
-    fields-are entryWidths 22 even bs (coarse-fit c) (coarse-packed c ∙ packed-unpacked chunkWidths n (short bs f))
+    let c = as_entry (n / 2 ^ 134 % 2 ^ 42) (n / 2 ^ 102 % 2 ^ 32) (n / 2 ^ 70 % 2 ^ 32) (n / 2 ^ 38 % 2 ^ 32) (n / 2 ^ 6 % 2 ^ 32) (n / 2 ^ 0 % 2 ^ 6) (mod-lt _ (pow_pos 42)) (mod-lt _ (pow_pos 32)) (mod-lt _ (pow_pos 32)) (mod-lt _ (pow_pos 32)) (mod-lt _ (pow_pos 32)) (mod-lt _ (pow_pos 6)) in
+    fields_are entry_widths 22 even bs (coarse_fit c) (coarse_packed c ∙ packed_unpacked chunk_widths n (short bs f))

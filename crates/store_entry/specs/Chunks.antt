@@ -1,34 +1,29 @@
 -- An entry's 22 bytes as six larger fields, as the code has them: what stands before the families, the families, and the last six bits.
 -- Assumes nothing.
-use Prim.Native.Nat.{ℕ, _+_, _*_, _/_, _%_}
-use mathlib.Core.Path.{_≡_}
-use mathlib.Core.Bool.{cond}
-use mathlib.Core.List.{List, [], _∷_}
-use lib.Dec.{eqb}
-use lib.ListN.{length, getD}
-use Rattle·laws.specs.Packing.{packed, octets, bytesOf, fieldsOf, Fit}
-use Rattle·store_entry·specs.specs.declared.chunk_bits.Chunks.{Chunks}
+use Rattle.std.specs.Prelude.{ℕ, ◌+◌, ◌*◌, ◌/◌, ◌%◌, ◌≡◌, cond, List, [], ◌∷◌, eqb, length, get_or}
+use Rattle.laws.specs.Packing.{packed, octets, bytes_of, fields_of, Fit}
+use Rattle.store_entry.specs.declared.chunk_bits.Chunks.{Chunks}
 
-abbrev pub chunkWidths : List ℕ
-chunkWidths = 42 ∷ 32 ∷ 32 ∷ 32 ∷ 32 ∷ 6 ∷ []
+abbrev pub chunk_widths : List ℕ
+chunk_widths = 42 ∷ 32 ∷ 32 ∷ 32 ∷ 32 ∷ 6 ∷ []
 
-unfoldable pub chunkBytes : ℕ → ℕ → ℕ → ℕ → ℕ → ℕ → List ℕ
-chunkBytes h u v w x tail = bytesOf chunkWidths 22 (h ∷ u ∷ v ∷ w ∷ x ∷ tail ∷ [])
+unfoldable pub chunk_bytes : ℕ → ℕ → ℕ → ℕ → ℕ → ℕ → List ℕ
+chunk_bytes h u v w x tail = bytes_of chunk_widths 22 (h ∷ u ∷ v ∷ w ∷ x ∷ tail ∷ [])
 
-unfoldable pub chunksOf : List ℕ → Chunks
-chunksOf bs =
+unfoldable pub chunks_of : List ℕ → Chunks
+chunks_of bs =
     record {
-      h = getD (fieldsOf chunkWidths 22 bs) 0 0;
-      u = getD (fieldsOf chunkWidths 22 bs) 1 0;
-      v = getD (fieldsOf chunkWidths 22 bs) 2 0;
-      w = getD (fieldsOf chunkWidths 22 bs) 3 0;
-      x = getD (fieldsOf chunkWidths 22 bs) 4 0;
-      tail = getD (fieldsOf chunkWidths 22 bs) 5 0;
+      h = get_or (fields_of chunk_widths 22 bs) 0 0;
+      u = get_or (fields_of chunk_widths 22 bs) 1 0;
+      v = get_or (fields_of chunk_widths 22 bs) 2 0;
+      w = get_or (fields_of chunk_widths 22 bs) 3 0;
+      x = get_or (fields_of chunk_widths 22 bs) 4 0;
+      tail = get_or (fields_of chunk_widths 22 bs) 5 0;
     }
 
 -- of 22 bytes; of another length, zeros
-unfoldable pub chunksIn : List ℕ → Chunks
-chunksIn b = cond (eqb (length b) 22) (chunksOf b) (record { h = 0; u = 0; v = 0; w = 0; x = 0; tail = 0 })
+unfoldable pub chunks_in : List ℕ → Chunks
+chunks_in b = cond (eqb (length b) 22) (chunks_of b) (record { h = 0; u = 0; v = 0; w = 0; x = 0; tail = 0 })
 
 -- n bytes, joined to a number
 pub record Joined (n : ℕ) (bs : List ℕ) (x : ℕ) : Type 0 where

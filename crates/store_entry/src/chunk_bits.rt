@@ -1,17 +1,14 @@
 // The 22 bytes of an entry of the packed store as six larger fields: what stands before the user families, the families, and the last six bits.
-ghost use mathlib.Core.Path.{_≡_};
-ghost use mathlib.Core.List.{[], _∷_};
-ghost use Prim.Native.Nat.{_<_, _^_, _%_};
-ghost use lib.ListN.{length};
-ghost use Rattle·store_entry·specs.specs.Chunks.{Joined, chunkBytes, chunksOf, chunksIn, regrouped};
+ghost use Rattle.std.specs.Prelude.{◌≡◌, [], ◌∷◌, ◌<◌, ◌^◌, ◌%◌, length};
+ghost use Rattle.store_entry.specs.Chunks.{Joined, chunk_bytes, chunks_of, chunks_in, regrouped};
 
 // The bytes of an entry.
 const ENTRY: usize = 22;
 
 // Fields of 42, 32, 32, 32, 32 and 6 bits as bytes.
 fn bytes_of(h: u64, s: u32, t: u32, y: u32, z: u32, tail: u64) -> [u8; 22]
-    requires { ⌜ (h < 2 ^ 42) × (tail < 64) ⌝ }
-    ensures { λ r. ⌜ r ≡ chunkBytes h s t y z tail ⌝ }
+    requires { (h < 2 ^ 42) × (tail < 64) }
+    ensures { result ≡ chunk_bytes h s t y z tail }
 {
     let u = s as u64;
     let v = t as u64;
@@ -50,13 +47,14 @@ fn bytes_of(h: u64, s: u32, t: u32, y: u32, z: u32, tail: u64) -> [u8; 22]
 }
 
 // The bytes of six fields. A number that is too large for its field is kept to the field's width.
-pub(crate) fn write(h: u64, s: u32, t: u32, y: u32, z: u32, tail: u64) -> [u8; 22]
-    ensures { λ r. ⌜ r ≡ chunkBytes (h % 4398046511104) s t y z (tail % 64) ⌝ }
+pub fn write(h: u64, s: u32, t: u32, y: u32, z: u32, tail: u64) -> [u8; 22]
+    ensures { result ≡ chunk_bytes (h % 4398046511104) s t y z (tail % 64) }
 {
     bytes_of(h % 4398046511104, s, t, y, z, tail % 64)
 }
 
 // Fields of 42, 32, 32, 32, 32 and 6 bits.
+#[derive(Clone, Copy)]
 pub struct Chunks {
     pub h: u64,
     pub u: u32,
@@ -67,13 +65,13 @@ pub struct Chunks {
 }
 
 fn join4(a: u8, b: u8, c: u8, d: u8) -> u64
-    ensures { λ r. ⌜ Joined 4 (a ∷ b ∷ c ∷ d ∷ []) r ⌝ }
+    ensures { Joined 4 (a ∷ b ∷ c ∷ d ∷ []) result }
 {
     (a as u64) * 16777216 + (b as u64) * 65536 + (c as u64) * 256 + (d as u64)
 }
 
 fn join5(a: u8, b: u8, c: u8, d: u8, e: u8) -> u64
-    ensures { λ r. ⌜ Joined 5 (a ∷ b ∷ c ∷ d ∷ e ∷ []) r ⌝ }
+    ensures { Joined 5 (a ∷ b ∷ c ∷ d ∷ e ∷ []) result }
 {
     (a as u64) * 4294967296
         + (b as u64) * 16777216
@@ -83,8 +81,8 @@ fn join5(a: u8, b: u8, c: u8, d: u8, e: u8) -> u64
 }
 
 fn regroup(a: u64, b: u64, c: u64, d: u64, e: u64, f: u8) -> Chunks
-    requires { ⌜ (a < 2 ^ 40) × (b < 2 ^ 32) × (c < 2 ^ 32) × (d < 2 ^ 32) × (e < 2 ^ 32) ⌝ }
-    ensures { λ r. ⌜ r ≡ regrouped a b c d e f ⌝ }
+    requires { (a < 2 ^ 40) × (b < 2 ^ 32) × (c < 2 ^ 32) × (d < 2 ^ 32) × (e < 2 ^ 32) }
+    ensures { result ≡ regrouped a b c d e f }
 {
     Chunks {
         h: a * 4 + b / 1073741824,
@@ -97,8 +95,8 @@ fn regroup(a: u64, b: u64, c: u64, d: u64, e: u64, f: u8) -> Chunks
 }
 
 fn chunks_in(s: &[u8]) -> Chunks
-    requires { ⌜ length (now s) ≡ 22 ⌝ }
-    ensures { λ r. ⌜ r ≡ chunksOf (now (s .entry)) ⌝ }
+    requires { length s.now ≡ 22 }
+    ensures { result ≡ chunks_of s.now }
 {
     let a = join5(s[0], s[1], s[2], s[3], s[4]);
     let b = join4(s[5], s[6], s[7], s[8]);
@@ -110,8 +108,8 @@ fn chunks_in(s: &[u8]) -> Chunks
 }
 
 // The fields of 22 bytes; of another length, zeros.
-pub(crate) fn read(bytes: &[u8]) -> Chunks
-    ensures { λ r. ⌜ r ≡ chunksIn (now (bytes .entry)) ⌝ }
+pub fn read(bytes: &[u8]) -> Chunks
+    ensures { result ≡ chunks_in bytes.now }
 {
     if bytes.len() != ENTRY {
         return Chunks {

@@ -1,21 +1,23 @@
 // One entry of the packed store of settings, read from 22 bytes; its fields stand most significant bit first.
-mod chunk_bits;
-mod small_fields;
+#![tactic(auto)]
+
+pub mod chunk_bits;
+pub mod small_fields;
 pub mod stray;
 pub mod write;
 
-ghost use mathlib.Core.Path.{_≡_};
-ghost use Rattle·store_entry·specs.specs.EntryBits.{linkOf, entryFrom, entryIn};
-ghost use Rattle·store_entry·specs.specs.Fields.{chunkFields};
+ghost use Rattle.std.specs.Prelude.{◌≡◌};
+ghost use Rattle.store_entry.specs.EntryBits.{link_of, entry_from, entry_in};
+ghost use Rattle.store_entry.specs.Fields.{chunk_fields};
+
 use crate::chunk_bits::Chunks;
-use partitions::Entry;
-use partitions::Link;
+use partitions::{Entry, Link};
 
 // The bytes of an entry.
 const ENTRY: usize = 22;
 
 fn link_of(kind: u64, k: u8) -> Link
-    ensures { λ r. ⌜ r ≡ linkOf kind k ⌝ }
+    ensures { result ≡ link_of kind k }
 {
     if kind == 1 {
         return Link::OwnedBy(k);
@@ -27,7 +29,7 @@ fn link_of(kind: u64, k: u8) -> Link
 }
 
 fn entry_of(c: Chunks) -> Entry
-    ensures { λ r. ⌜ r ≡ entryFrom (chunkFields c) ⌝ }
+    ensures { result ≡ entry_from (chunk_fields c) }
 {
     let h = c.h;
     let link = link_of(h / 8192 % 4, (h / 512 % 16) as u8);
@@ -49,7 +51,7 @@ fn entry_of(c: Chunks) -> Entry
 
 // The entry of 22 bytes; of another length, a blank one.
 pub fn unpack(bytes: &[u8]) -> Entry
-    ensures { λ r. ⌜ r ≡ entryIn (now (bytes .entry)) ⌝ }
+    ensures { result ≡ entry_in bytes.now }
 {
     if bytes.len() != ENTRY {
         return Entry::blank();

@@ -1,20 +1,20 @@
 // The small fields of an entry of the packed store as numbers: a bit, a link's kind and index, the last six bits.
-ghost use mathlib.Core.Path.{_≡_};
-ghost use Prim.Native.Nat.{_*_, _<_};
-ghost use Rattle·laws.specs.Packing.{bit};
-ghost use Rattle·store_entry·specs.specs.EntryBits.{kindOf, indexOf};
+ghost use Rattle.std.specs.Prelude.{◌≡◌, ◌*◌, ◌<◌};
+ghost use Rattle.laws.specs.Packing.{bit};
+ghost use Rattle.store_entry.specs.EntryBits.{kind_of, index_of};
+
 use partitions::Link;
 
 // 1 for yes, 0 for no.
-pub(crate) fn bit_of(b: bool) -> u64
-    ensures { λ r. ⌜ (r ≡ bit b) × (r < 2) ⌝ }
+pub fn bit_of(b: bool) -> u64
+    ensures { (result ≡ bit b) × (result < 2) }
 {
     if b { 1 } else { 0 }
 }
 
 // The kind of a link.
-pub(crate) fn kind_of(l: Link) -> u64
-    ensures { λ r. ⌜ (r ≡ kindOf l) × (r < 3) ⌝ }
+pub fn kind_of(l: Link) -> u64
+    ensures { (result ≡ kind_of l) × (result < 3) }
 {
     match l {
         Link::Unlinked => 0,
@@ -24,8 +24,8 @@ pub(crate) fn kind_of(l: Link) -> u64
 }
 
 // The entry that it names.
-pub(crate) fn index_of(l: Link) -> u64
-    ensures { λ r. ⌜ r ≡ indexOf l ⌝ }
+pub fn index_of(l: Link) -> u64
+    ensures { result ≡ index_of l }
 {
     match l {
         Link::Unlinked => 0,
@@ -35,8 +35,8 @@ pub(crate) fn index_of(l: Link) -> u64
 }
 
 // The last 6: "don't restart", and five zeros.
-pub(crate) fn last_six(no_restart: bool) -> u64
-    ensures { λ r. ⌜ (r ≡ bit «no_restart» * 32) × (r < 64) ⌝ }
+pub fn last_six(no_restart: bool) -> u64
+    ensures { (result ≡ bit no_restart * 32) × (result < 64) }
 {
     bit_of(no_restart) * 32
 }

@@ -1,14 +1,15 @@
 // The bytes of the packed store that are no entry: stray bits, a link of kind 3, or a user count over 4.
-ghost use mathlib.Core.Path.{_≡_};
-ghost use Rattle·store_entry·specs.specs.EntryBits.{strayFrom, strayIn};
-ghost use Rattle·store_entry·specs.specs.Fields.{chunkFields};
+ghost use Rattle.std.specs.Prelude.{◌≡◌};
+ghost use Rattle.store_entry.specs.EntryBits.{stray_from, stray_in};
+ghost use Rattle.store_entry.specs.Fields.{chunk_fields};
+
 use crate::chunk_bits::Chunks;
 
 // The bytes of an entry.
 const ENTRY: usize = 22;
 
 fn stray_of(version: u8, c: Chunks) -> bool
-    ensures { λ r. ⌜ r ≡ strayFrom version (chunkFields c) ⌝ }
+    ensures { result ≡ stray_from version (chunk_fields c) }
 {
     let h = c.h;
     let kind = h / 8192 % 4;
@@ -26,7 +27,7 @@ fn stray_of(version: u8, c: Chunks) -> bool
 
 // Are 22 bytes no entry of a version: stray bits, kind 3, or a user count over 4?
 pub fn stray(bytes: &[u8], version: u8) -> bool
-    ensures { λ r. ⌜ r ≡ strayIn version (now (bytes .entry)) ⌝ }
+    ensures { result ≡ stray_in version bytes.now }
 {
     if bytes.len() != ENTRY {
         return true;

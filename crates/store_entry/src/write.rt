@@ -1,13 +1,13 @@
 // One entry of the packed store of settings, written to 22 bytes.
-ghost use mathlib.Core.Path.{_≡_};
-ghost use Prim.Native.Nat.{_+_, _*_, _<_};
-ghost use Rattle·store_entry·specs.specs.EntryBits.{slot, packedEntry};
+ghost use Rattle.std.specs.Prelude.{◌≡◌, ◌+◌, ◌*◌, ◌<◌};
+ghost use Rattle.store_entry.specs.EntryBits.{slot, packed_entry};
+
 use partitions::Entry;
 
 // User family k, or 0 in a slot that is not used.
 fn slot_of(e: Entry, k: usize) -> u32
-    requires { ⌜ k < 4 ⌝ }
-    ensures { λ r. ⌜ r ≡ slot e k ⌝ }
+    requires { k < 4 }
+    ensures { result ≡ slot e k }
 {
     let n = e.user_count;
     let users = e.users;
@@ -16,23 +16,23 @@ fn slot_of(e: Entry, k: usize) -> u32
 
 // The first 33 bits: sectors and link.
 fn lead(first: u64, sectors: u64, kind: u64, index: u64) -> u64
-    requires { ⌜ (first < 8192) × (sectors < 16384) × (kind < 4) × (index < 16) ⌝ }
-    ensures { λ r. ⌜ (r ≡ first * 1048576 + sectors * 64 + kind * 16 + index) × (r < 8589934592) ⌝ }
+    requires { (first < 8192) × (sectors < 16384) × (kind < 4) × (index < 16) }
+    ensures { (result ≡ first * 1048576 + sectors * 64 + kind * 16 + index) × (result < 8589934592) }
 {
     first * 1048576 + sectors * 64 + kind * 16 + index
 }
 
 // The next 9: what is accepted, what is not bootable, and the user count.
 fn marks(a: u64, b: u64, c: u64, d: u64, e: u64, f: u64, n: u64) -> u64
-    requires { ⌜ (a < 2) × (b < 2) × (c < 2) × (d < 2) × (e < 2) × (f < 2) × (n < 8) ⌝ }
-    ensures { λ r. ⌜ (r ≡ a * 256 + b * 128 + c * 64 + d * 32 + e * 16 + f * 8 + n) × (r < 512) ⌝ }
+    requires { (a < 2) × (b < 2) × (c < 2) × (d < 2) × (e < 2) × (f < 2) × (n < 8) }
+    ensures { (result ≡ a * 256 + b * 128 + c * 64 + d * 32 + e * 16 + f * 8 + n) × (result < 512) }
 {
     a * 256 + b * 128 + c * 64 + d * 32 + e * 16 + f * 8 + n
 }
 
 // The bytes of an entry. A number that is too large for its field is kept to the field's width; those of good settings are not.
 pub fn pack(e: Entry) -> [u8; 22]
-    ensures { λ r. ⌜ r ≡ packedEntry e ⌝ }
+    ensures { result ≡ packed_entry e }
 {
     let link = e.link;
     let first = e.first as u64;

@@ -1,13 +1,9 @@
 -- What the calls about stores answer and leave. Assumes nothing.
-use Prim.Native.Nat.{ℕ}
-use mathlib.Core.Bool.{cond}
-use mathlib.Core.List.{List}
-use lib.Dec.{eqb}
-use lib.ListN.{length}
-use Rattle·partitions.specs.declared.Settings.{Settings}
-use Rattle·settings_layout.specs.Layout.{settingsFrom, withSettings}
-use Rattle·settings_store.specs.declared.Reading.{Reading}
-use Rattle·settings_store.specs.Store.{readOf, readNumber, WriteCall, writeOf, writeNumber}
+use Rattle.std.specs.Prelude.{ℕ, cond, List, eqb, length}
+use Rattle.partitions.specs.declared.Settings.{Settings}
+use Rattle.settings_layout.specs.Layout.{settings_from, with_settings}
+use Rattle.settings_store.specs.declared.Reading.{Reading}
+use Rattle.settings_store.specs.Store.{read_of, read_number, WriteCall, write_of, write_number}
 
 -- what is returned, and what the slice that may be written holds
 pub record StoreCall : Type 0 where
@@ -15,27 +11,27 @@ pub record StoreCall : Type 0 where
   pub written : List ℕ
 
 -- both as one value, which the contracts name
-abbrev pub storeCall : ℕ → List ℕ → StoreCall
-storeCall n l = record { result = n; written = l }
+abbrev pub store_call : ℕ → List ℕ → StoreCall
+store_call n l = record { result = n; written = l }
 
 -- ---- reading
 
 -- settings where the number is 0; a refusal leaves the bytes: it "returns no settings"
-unfoldable pub keptSettings : List ℕ → ℕ → Settings → List ℕ
-keptSettings l n s = cond (eqb n 0) (withSettings l s) l
+unfoldable pub kept_settings : List ℕ → ℕ → Settings → List ℕ
+kept_settings l n s = cond (eqb n 0) (with_settings l s) l
 
 -- what is told of a reading
-unfoldable pub toldOf : List ℕ → Reading → StoreCall
-toldOf l r = storeCall (readNumber r) (keptSettings l (readNumber r) (r .settings))
+unfoldable pub told_of : List ℕ → Reading → StoreCall
+told_of l r = store_call (read_number r) (kept_settings l (read_number r) r.settings)
 
 -- 1 too where the settings have not 550 bytes
-unfoldable pub storeReadCall : List ℕ → ℕ → List ℕ → StoreCall
-storeReadCall b len l = cond (eqb (length l) 550) (toldOf l (readOf b len)) (storeCall 1 l)
+unfoldable pub store_read_call : List ℕ → ℕ → List ℕ → StoreCall
+store_read_call b len l = cond (eqb (length l) 550) (told_of l (read_of b len)) (store_call 1 l)
 
 -- ---- writing
 
-abbrev pub writtenCall : WriteCall → StoreCall
-writtenCall w = storeCall (writeNumber w) (w .output)
+abbrev pub written_call : WriteCall → StoreCall
+written_call w = store_call (write_number w) w.output
 
-unfoldable pub storeWriteCall : List ℕ → ℕ → List ℕ → StoreCall
-storeWriteCall b len out = writtenCall (writeOf (settingsFrom b) len out)
+unfoldable pub store_write_call : List ℕ → ℕ → List ℕ → StoreCall
+store_write_call b len out = written_call (write_of (settings_from b) len out)

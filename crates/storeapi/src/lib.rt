@@ -1,6 +1,9 @@
 // The packed store of settings for C: a library beside that of `capi`. Settings are bytes in the layout of `layout`.
-ghost use mathlib.Core.Path.{_≡_};
-ghost use Rattle·storeapi·specs.specs.Calls.{storeCall, keptSettings, toldOf, storeReadCall, storeWriteCall};
+#![tactic(auto)]
+
+ghost use Rattle.std.specs.Prelude.{◌≡◌};
+ghost use Rattle.storeapi.specs.Calls.{store_call, kept_settings, told_of, store_read_call, store_write_call};
+
 use partitions::Settings;
 use settings_store::Reading;
 
@@ -9,7 +12,7 @@ const SETTINGS: usize = 550;
 
 // The settings that were read, where the answer's number is none of a refusal.
 fn keep(settings: &mut [u8], number: u32, s: Settings)
-    ensures { λ _. ⌜ now (settings .exit) ≡ keptSettings (now (settings .entry)) number s ⌝ }
+    ensures { settings.new ≡ kept_settings settings.old number s }
 {
     if number == 0 {
         settings_layout::write_settings(settings, s);
@@ -18,7 +21,7 @@ fn keep(settings: &mut [u8], number: u32, s: Settings)
 
 // Writes the settings that were read.
 fn tell(reading: Reading, settings: &mut [u8]) -> u32
-    ensures { λ r. ⌜ storeCall r (now (settings .exit)) ≡ toldOf (now (settings .entry)) reading ⌝ }
+    ensures { store_call result settings.new ≡ told_of settings.old reading }
 {
     let answer = reading.answer;
     let n = answer.number() as u32;
@@ -28,9 +31,9 @@ fn tell(reading: Reading, settings: &mut [u8]) -> u32
 }
 
 // The settings of a store: 0 and the settings in `settings`, or the number of a refusal.
-#[no_mangle]
+#[unsafe(no_mangle)]
 pub extern "C" fn uf2_store_read(store: &[u8], flash_len: usize, settings: &mut [u8]) -> u32
-    ensures { λ r. ⌜ storeCall r (now (settings .exit)) ≡ storeReadCall (now (store .entry)) «flash_len» (now (settings .entry)) ⌝ }
+    ensures { store_call result settings.new ≡ store_read_call store.now flash_len settings.old }
 {
     if settings.len() != SETTINGS {
         return 1;
@@ -39,9 +42,9 @@ pub extern "C" fn uf2_store_read(store: &[u8], flash_len: usize, settings: &mut 
 }
 
 // The store of settings: 0 and the store at the start of `store`, or the number of a refusal.
-#[no_mangle]
+#[unsafe(no_mangle)]
 pub extern "C" fn uf2_store_write(settings: &[u8], flash_len: usize, store: &mut [u8]) -> u32
-    ensures { λ r. ⌜ storeCall r (now (store .exit)) ≡ storeWriteCall (now (settings .entry)) «flash_len» (now (store .entry)) ⌝ }
+    ensures { store_call result store.new ≡ store_write_call settings.now flash_len store.old }
 {
     let s = settings_layout::read_settings(settings);
     let answer = settings_store::write::write(s, flash_len, store);

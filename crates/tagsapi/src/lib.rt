@@ -1,16 +1,18 @@
 // The extension tags of a block for C: a library beside that of `capi`.
-ghost use mathlib.Core.Path.{_≡_};
-ghost use lib.ListN.{length};
-ghost use Rattle·uf2_tags.specs.Room.{firstPlace};
-ghost use Rattle·tagsapi·specs.specs.Calls.{Low, tagBytes, tagCall, tagCallOf, tagAtCall, tagFindCall};
+#![tactic(auto)]
+
+ghost use Rattle.std.specs.Prelude.{◌≡◌, length};
+ghost use Rattle.uf2_tags.specs.Room.{first_place};
+ghost use Rattle.tagsapi.specs.Calls.{Low, tag_bytes, tag_call, tag_call_of, tag_at_call, tag_find_call};
+
 use uf2_tags::one_tag::Answer;
 
 // The bytes of a tag: type, start, length and next place.
 const TAG: usize = 16;
 
 fn write(bytes: &mut [u8], kind: u32, start: u32, len: u32, next: u32)
-    requires { ⌜ length (now bytes) ≡ 16 ⌝ }
-    ensures { λ _. ⌜ now (bytes .exit) ≡ tagBytes kind start len next ⌝ }
+    requires { length bytes.old ≡ 16 }
+    ensures { bytes.new ≡ tag_bytes kind start len next }
 {
     uf2_block::put(bytes, 0, kind);
     uf2_block::put(bytes, 4, start);
@@ -20,9 +22,9 @@ fn write(bytes: &mut [u8], kind: u32, start: u32, len: u32, next: u32)
 
 // Writes the tag that was found.
 fn tell(answer: Answer, tag: &mut [u8]) -> u32
-    requires { ⌜ length (now tag) ≡ 16 ⌝ }
-    requires low { ⌜ Low answer ⌝ }
-    ensures { λ r. ⌜ tagCall r (now (tag .exit)) ≡ tagCallOf (now (tag .entry)) answer ⌝ }
+    requires tag_len { length tag.old ≡ 16 }
+    requires low { Low answer }
+    ensures { tag_call result tag.new ≡ tag_call_of tag.old answer }
 {
     let n = answer.number() as u32;
     let Answer::Tag(t) = answer else {
@@ -33,17 +35,17 @@ fn tell(answer: Answer, tag: &mut [u8]) -> u32
 }
 
 // The place of the first tag: after the payload.
-#[no_mangle]
+#[unsafe(no_mangle)]
 pub extern "C" fn uf2_tag_first(block: &[u8]) -> usize
-    ensures { λ r. ⌜ r ≡ firstPlace (now (block .entry)) ⌝ }
+    ensures { result ≡ first_place block.now }
 {
     uf2_tags::room::first_place(block)
 }
 
 // What stands at a place: 0 and the tag in `tag`, or the number of the end or of a refusal.
-#[no_mangle]
+#[unsafe(no_mangle)]
 pub extern "C" fn uf2_tag(block: &[u8], place: usize, tag: &mut [u8]) -> u32
-    ensures { λ r. ⌜ tagCall r (now (tag .exit)) ≡ tagAtCall (now (block .entry)) place (now (tag .entry)) ⌝ }
+    ensures { tag_call result tag.new ≡ tag_at_call block.now place tag.old }
 {
     if tag.len() != TAG {
         return 1;
@@ -52,9 +54,9 @@ pub extern "C" fn uf2_tag(block: &[u8], place: usize, tag: &mut [u8]) -> u32
 }
 
 // The first tag of a type: 0 and the tag in `tag`, or the number of the end or of the refusal before any.
-#[no_mangle]
+#[unsafe(no_mangle)]
 pub extern "C" fn uf2_tag_find(block: &[u8], kind: u32, tag: &mut [u8]) -> u32
-    ensures { λ r. ⌜ tagCall r (now (tag .exit)) ≡ tagFindCall (now (block .entry)) kind (now (tag .entry)) ⌝ }
+    ensures { tag_call result tag.new ≡ tag_find_call block.now kind tag.old }
 {
     if tag.len() != TAG {
         return 1;

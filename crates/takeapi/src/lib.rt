@@ -1,11 +1,14 @@
 // An arrival taken for C: a library of its own, so that the call is compiled as one piece.
-ghost use mathlib.Core.Path.{_≡_};
-ghost use Rattle·uf2_receiver.specs.Receiver.{lentAt, leftAt};
-ghost use Rattle·call_bytes.specs.Calls.{takeCallOf, takeReturn};
+#![tactic(auto)]
+
+ghost use Rattle.std.specs.Prelude.{◌≡◌};
+ghost use Rattle.uf2_receiver.specs.Receiver.{lent_at, left_at};
+ghost use Rattle.call_bytes.specs.Calls.{take_call_of, take_return};
+
 use uf2_checks::Lengths;
 
 // One arrival is taken: the answer's number, and 128 more where a running transfer was discarded.
-#[no_mangle]
+#[unsafe(no_mangle)]
 pub extern "C" fn uf2_take(
     settings: &[u8],
     transfer: &mut [u8],
@@ -16,7 +19,7 @@ pub extern "C" fn uf2_take(
     main: &mut [u8],
     xip: &mut [u8],
 ) -> u32
-    ensures { λ r. ⌜ takeReturn r transfer (leftAt flash seen sectors main xip) ≡ takeCallOf settings transfer arrival (lentAt flash seen sectors main xip) ⌝ }
+    ensures { take_return result transfer.new (left_at flash.new seen.new sectors.new main.new xip.new) ≡ take_call_of settings.now transfer.old arrival.now (lent_at flash.old seen.old sectors.old main.old xip.old) }
 {
     let lens = Lengths {
         flash: flash.len(),

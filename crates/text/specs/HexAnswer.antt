@@ -1,21 +1,18 @@
 -- The lines of text of the program for lines of Universal Hex, in ASCII: that of an answer. Assumes nothing.
-use Prim.Native.Nat.{ℕ}
-use mathlib.Core.Bool.{cond}
-use mathlib.Core.List.{List, [], _++_}
-use lib.Dec.{eqb}
-use Rattle·uhex_grammar.specs.Answers.{numberOf, positionOf}
-use Rattle·uhex_grammar.specs.declared.Answer.{Answer}
-use Rattle·text·specs.specs.Ascii.{ascii}
-use Rattle·text·specs.specs.Parts.{decimalOf, pairText}
+use Rattle.std.specs.Prelude.{ℕ, cond, List, [], ◌++◌, eqb}
+use Rattle.uhex_grammar.specs.Answers.{number_of, position_of}
+use Rattle.uhex_grammar.specs.declared.Answer.{Answer}
+use Rattle.text.specs.Ascii.{ascii}
+use Rattle.text.specs.Parts.{decimal_of, pair_text}
 
 -- " position " and the position of a bad digit, or nothing
-unfoldable pub positionText : ℕ → List ℕ
-positionText p = cond (eqb p 0) [] (ascii " position " ++ decimalOf p)
+unfoldable pub position_text : ℕ → List ℕ
+position_text p = cond (eqb p 0) [] (ascii " position " ++ decimal_of p)
 
 -- the line of an answer: "0 34", "3 22 position 9"
-unfoldable pub hexAnswerLine : ℕ → Answer → List ℕ
-hexAnswerLine index a = pairText index (numberOf a) ++ positionText (positionOf a) ++ ascii "\n"
+unfoldable pub hex_answer_line : ℕ → Answer → List ℕ
+hex_answer_line index a = pair_text index (number_of a) ++ position_text (position_of a) ++ ascii "\n"
 
 -- "state failed ", the number of the remembered answer, and its position
-unfoldable pub failedText : Answer → List ℕ
-failedText a = ascii "state failed " ++ decimalOf (numberOf a) ++ positionText (positionOf a)
+unfoldable pub failed_text : Answer → List ℕ
+failed_text a = ascii "state failed " ++ decimal_of (number_of a) ++ position_text (position_of a)

@@ -1,21 +1,17 @@
 -- The parts of the programs' lines of text, in ASCII, and a part put into a room. Assumes nothing.
-use Prim.Native.Nat.{ℕ, zero, suc, _+_, _/_, _%_}
-use mathlib.Core.Bool.{Bool, cond}
-use mathlib.Core.List.{List, [], _∷_, _++_}
-use lib.Dec.{ltb, leb}
-use lib.ListN.{length}
-use Rattle·laws.specs.Over.{over}
-use Rattle·text·specs.specs.Ascii.{ascii}
+use Rattle.std.specs.Prelude.{ℕ, zero, suc, ◌+◌, ◌/◌, ◌%◌, Bool, cond, List, [], ◌∷◌, ◌++◌, ltb, leb, length}
+use Rattle.laws.specs.Over.{over}
+use Rattle.text.specs.Ascii.{ascii}
 
 -- ---- a part put at an index of a list
 
 -- the index after it; where it does not fit, the index
-unfoldable pub endOf : List ℕ → ℕ → List ℕ → ℕ
-endOf out at part = cond (leb (at + length part) (length out)) (at + length part) at
+unfoldable pub end_of : List ℕ → ℕ → List ℕ → ℕ
+end_of out at part = cond (leb (at + length part) (length out)) (at + length part) at
 
 -- the list with it; where it does not fit, nothing is put
-unfoldable pub putPart : List ℕ → ℕ → List ℕ → List ℕ
-putPart out at part = cond (leb (at + length part) (length out)) (over out at part) out
+unfoldable pub put_part : List ℕ → ℕ → List ℕ → List ℕ
+put_part out at part = cond (leb (at + length part) (length out)) (over out at part) out
 
 -- ---- numbers
 
@@ -24,18 +20,18 @@ abbrev pub digit : ℕ → ℕ
 digit n = 48 + n % 10
 
 -- a number in decimal, of at most so many digits
-unfoldable pub decimalBy : ℕ → ℕ → List ℕ
-decimalBy zero n = []
-decimalBy (suc most) n = cond (ltb n 10) (digit n ∷ []) (decimalBy most (n / 10) ++ (digit n ∷ []))
+unfoldable pub decimal_by : ℕ → ℕ → List ℕ
+decimal_by zero n = []
+decimal_by (suc most) n = cond (ltb n 10) (digit n ∷ []) (decimal_by most (n / 10) ++ (digit n ∷ []))
 
 -- a number of 64 bits in decimal, which has at most 20 digits
-unfoldable pub decimalOf : ℕ → List ℕ
-decimalOf n = decimalBy 20 n
+unfoldable pub decimal_of : ℕ → List ℕ
+decimal_of n = decimal_by 20 n
 
 -- two numbers, with a space between: "0 14"
-abbrev pub pairText : ℕ → ℕ → List ℕ
-pairText index answer = decimalOf index ++ ascii " " ++ decimalOf answer
+abbrev pub pair_text : ℕ → ℕ → List ℕ
+pair_text index answer = decimal_of index ++ ascii " " ++ decimal_of answer
 
 -- 1 or 0, as a character
-abbrev pub flagDigit : Bool → ℕ
-flagDigit b = cond b 49 48
+abbrev pub flag_digit : Bool → ℕ
+flag_digit b = cond b 49 48

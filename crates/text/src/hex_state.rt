@@ -1,16 +1,16 @@
 // The last line for a reader of Universal Hex.
-ghost use mathlib.Core.Path.{_≡_};
-ghost use lib.ListN.{length};
-ghost use Rattle·io.specs.Counts.{Counts};
-ghost use Rattle·text·specs.specs.HexState.{readerStateText, hexStateLine};
-ghost use Rattle·laws.specs.Over.{over};
+ghost use Rattle.std.specs.Prelude.{◌≡◌, length};
+ghost use Rattle.io.specs.Counts.{IsPrefixLen};
+ghost use Rattle.text.specs.HexState.{reader_state_text, hex_state_line};
+ghost use Rattle.laws.specs.Over.{over};
+
 use uhex_effects::Reader;
 use uhex_grammar::ReaderState;
 
 // Where a reader stands.
 fn put_reader_state(out: &mut [u8; 128], state: ReaderState) -> usize
-    ensures { λ r. ⌜ r ≡ length (readerStateText state) ⌝ }
-    ensures { λ _. ⌜ now (out .exit) ≡ over (now (out .entry)) 0 (readerStateText state) ⌝ }
+    ensures value { result ≡ length (reader_state_text state) }
+    ensures out_after { out.new ≡ over out.old 0 (reader_state_text state) }
 {
     match state {
         ReaderState::Between => crate::put(out, 0, b"state between"),
@@ -27,25 +27,15 @@ fn put_reader_state(out: &mut [u8; 128], state: ReaderState) -> usize
 
 // The last line for a reader of Universal Hex.
 pub fn hex_state_line(out: &mut [u8; 128], reader: Reader) -> usize
-    ensures { λ r. ⌜ r ≡ length (hexStateLine reader) ⌝ }
-    ensures { λ _. ⌜ now (out .exit) ≡ over (now (out .entry)) 0 (hexStateLine reader) ⌝ }
-    ensures { λ r. ⌜ Counts r (now (out .exit)) ⌝ }
+    ensures value { result ≡ length (hex_state_line reader) }
+    ensures out_after { out.new ≡ over out.old 0 (hex_state_line reader) }
+    ensures prefix_len { IsPrefixLen result out.new }
 {
     let state = reader.state;
     let v1 = crate::flag(reader.data_seen.v1);
     let v2 = crate::flag(reader.data_seen.v2);
     let text = [
-        b' ',
-        b'v',
-        b'1',
-        b' ',
-        v1,
-        b' ',
-        b'v',
-        b'2',
-        b' ',
-        v2,
-        b'\n',
+        b' ', b'v', b'1', b' ', v1, b' ', b'v', b'2', b' ', v2, b'\n',
     ];
     let a = put_reader_state(out, state);
     let b = crate::put(out, a, b" offset ");

@@ -1,18 +1,18 @@
 // The parts of a line of text, put one after the other: bytes, a number in decimal, a flag, two numbers.
+#![tactic(auto)]
+
 pub mod hex_answer;
 pub mod hex_state;
 pub mod lines;
 
-ghost use mathlib.Core.Path.{_≡_};
-ghost use mathlib.Core.Bool.{cond};
-ghost use lib.ListN.{length};
-ghost use Rattle·laws.specs.Over.{over};
-ghost use Rattle·text·specs.specs.Parts.{endOf, putPart, decimalOf, pairText};
+ghost use Rattle.std.specs.Prelude.{◌≡◌, cond, length};
+ghost use Rattle.laws.specs.Over.{over};
+ghost use Rattle.text.specs.Parts.{end_of, put_part, decimal_of, pair_text};
 
 // Puts a part at an index, and answers the index after it. Where it does not fit, nothing is put, and the answer is the index.
-pub(crate) fn put(out: &mut [u8], at: usize, part: &[u8]) -> usize
-    ensures { λ r. ⌜ r ≡ endOf (now (out .entry)) at (now (part .entry)) ⌝ }
-    ensures { λ _. ⌜ now (out .exit) ≡ putPart (now (out .entry)) at (now (part .entry)) ⌝ }
+pub fn put(out: &mut [u8], at: usize, part: &[u8]) -> usize
+    ensures value { result ≡ end_of out.old at part.now }
+    ensures out_after { out.new ≡ put_part out.old at part.now }
 {
     if out.len() < at {
         return at;
@@ -21,14 +21,14 @@ pub(crate) fn put(out: &mut [u8], at: usize, part: &[u8]) -> usize
         return at;
     }
     let e = at + part.len();
-    bytes::copy(part, &mut out[at..e]);
+    out[at..e].copy_from_slice(part);
     e
 }
 
 // The same of a number in decimal.
-pub(crate) fn put_decimal(out: &mut [u8], at: usize, n: u64) -> usize
-    ensures { λ r. ⌜ r ≡ endOf (now (out .entry)) at (decimalOf n) ⌝ }
-    ensures { λ _. ⌜ now (out .exit) ≡ putPart (now (out .entry)) at (decimalOf n) ⌝ }
+pub fn put_decimal(out: &mut [u8], at: usize, n: u64) -> usize
+    ensures value { result ≡ end_of out.old at (decimal_of n) }
+    ensures out_after { out.new ≡ put_part out.old at (decimal_of n) }
 {
     let mut text = [0u8; 20];
     let k = io::decimal(n, &mut text);
@@ -36,16 +36,16 @@ pub(crate) fn put_decimal(out: &mut [u8], at: usize, n: u64) -> usize
 }
 
 // 1 or 0, as a character.
-pub(crate) fn flag(b: bool) -> u8
-    ensures { λ r. ⌜ r ≡ cond b 49 48 ⌝ }
+pub fn flag(b: bool) -> u8
+    ensures { result ≡ cond b 49 48 }
 {
     if b { 49 } else { 48 }
 }
 
 // An index and an answer, with a space between.
-pub(crate) fn put_pair(out: &mut [u8; 80], index: u64, answer: u8) -> usize
-    ensures { λ r. ⌜ r ≡ length (pairText index answer) ⌝ }
-    ensures { λ _. ⌜ now (out .exit) ≡ over (now (out .entry)) 0 (pairText index answer) ⌝ }
+pub fn put_pair(out: &mut [u8; 80], index: u64, answer: u8) -> usize
+    ensures value { result ≡ length (pair_text index answer) }
+    ensures out_after { out.new ≡ over out.old 0 (pair_text index answer) }
 {
     let a = put_decimal(out, 0, index);
     let b = put(out, a, b" ");

@@ -1,18 +1,16 @@
 // The lines of text of the program for UF2 arrivals, put at the start of a lent array.
-ghost use mathlib.Core.Path.{_≡_};
-ghost use Prim.Native.Nat.{_≤_};
-ghost use lib.ListN.{length};
-ghost use Rattle·io.specs.Counts.{Counts};
-ghost use Rattle·text·specs.specs.Lines.{answerLine, countsLine, stateLine};
-ghost use Rattle·laws.specs.Over.{over};
-use transfer::State;
-use transfer::Transfer;
+ghost use Rattle.std.specs.Prelude.{◌≡◌, ◌≤◌, length};
+ghost use Rattle.io.specs.Counts.{IsPrefixLen};
+ghost use Rattle.text.specs.Lines.{answer_line, counts_line, state_line};
+ghost use Rattle.laws.specs.Over.{over};
+
+use transfer::{State, Transfer};
 
 // The line of an answer.
 pub fn answer_line(out: &mut [u8; 80], index: u64, answer: u8, discarded: bool) -> usize
-    ensures { λ r. ⌜ r ≡ length (answerLine index answer discarded) ⌝ }
-    ensures { λ _. ⌜ now (out .exit) ≡ over (now (out .entry)) 0 (answerLine index answer discarded) ⌝ }
-    ensures { λ r. ⌜ Counts r (now (out .exit)) ⌝ }
+    ensures value { result ≡ length (answer_line index answer discarded) }
+    ensures out_after { out.new ≡ over out.old 0 (answer_line index answer discarded) }
+    ensures prefix_len { IsPrefixLen result out.new }
 {
     let text = [b' ', crate::flag(discarded), b'\n'];
     let a = crate::put_pair(out, index, answer);
@@ -21,10 +19,10 @@ pub fn answer_line(out: &mut [u8; 80], index: u64, answer: u8, discarded: bool) 
 
 // The last line, by the state's name and its two numbers.
 fn counts_line(out: &mut [u8; 80], name: &[u8], total: u32, seen: u32) -> usize
-    requires { ⌜ length (now name) ≤ 20 ⌝ }
-    ensures { λ r. ⌜ r ≡ length (countsLine (now (name .entry)) total seen) ⌝ }
-    ensures { λ _. ⌜ now (out .exit) ≡ over (now (out .entry)) 0 (countsLine (now (name .entry)) total seen) ⌝ }
-    ensures { λ r. ⌜ Counts r (now (out .exit)) ⌝ }
+    requires { length name.now ≤ 20 }
+    ensures value { result ≡ length (counts_line name.now total seen) }
+    ensures out_after { out.new ≡ over out.old 0 (counts_line name.now total seen) }
+    ensures prefix_len { IsPrefixLen result out.new }
 {
     let a = crate::put(out, 0, name);
     let b = crate::put(out, a, b" total ");
@@ -36,9 +34,9 @@ fn counts_line(out: &mut [u8; 80], name: &[u8], total: u32, seen: u32) -> usize
 
 // The last line.
 pub fn state_line(out: &mut [u8; 80], transfer: Transfer) -> usize
-    ensures { λ r. ⌜ r ≡ length (stateLine (transfer .state)) ⌝ }
-    ensures { λ _. ⌜ now (out .exit) ≡ over (now (out .entry)) 0 (stateLine (transfer .state)) ⌝ }
-    ensures { λ r. ⌜ Counts r (now (out .exit)) ⌝ }
+    ensures value { result ≡ length (state_line transfer.state) }
+    ensures out_after { out.new ≡ over out.old 0 (state_line transfer.state) }
+    ensures prefix_len { IsPrefixLen result out.new }
 {
     let state = transfer.state;
     match state {

@@ -1,10 +1,9 @@
 -- What the call for one file from two answers and leaves. Assumes nothing.
-use Prim.Native.Nat.{ℕ}
-use mathlib.Core.List.{List}
-use Rattle·uhex_join.specs.Join.{JoinCall, joinOf}
+use Rattle.std.specs.Prelude.{ℕ, List}
+use Rattle.uhex_join.specs.Join.{JoinCall, join_of}
 -- what is returned, of 64 bits
-pub use Rattle·uhex_join.specs.Result.{boardCode, joinedResult}
-unfoldable pub use Rattle·uhex_join.specs.Result.{refusalResult}
+pub use Rattle.uhex_join.specs.Result.{board_code, joined_result}
+unfoldable pub use Rattle.uhex_join.specs.Result.{refusal_result}
 
 -- ---- a call
 
@@ -14,12 +13,12 @@ pub record JoinReturn : Type 0 where
   pub output : List ℕ
 
 -- both as one value, which the contract names
-abbrev pub joinReturn : ℕ → List ℕ → JoinReturn
-joinReturn n l = record { result = n; output = l }
+abbrev pub join_return : ℕ → List ℕ → JoinReturn
+join_return n l = record { result = n; output = l }
 
-abbrev pub joinReturnOf : JoinCall → JoinReturn
-joinReturnOf c = joinReturn (joinedResult (c .answer)) (c .room)
+abbrev pub join_return_of : JoinCall → JoinReturn
+join_return_of c = join_return (joined_result c.answer) c.room
 
 -- of two files and an output
-unfoldable pub joinBytes : List ℕ → List ℕ → List ℕ → JoinReturn
-joinBytes a b out = joinReturnOf (joinOf a b out)
+unfoldable pub join_bytes : List ℕ → List ℕ → List ℕ → JoinReturn
+join_bytes a b out = join_return_of (join_of a b out)

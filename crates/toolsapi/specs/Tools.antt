@@ -1,13 +1,9 @@
 -- What each call for tools answers and leaves. Assumes nothing.
-use Prim.Native.Nat.{ℕ}
-use mathlib.Core.Bool.{cond}
-use mathlib.Core.List.{List}
-use lib.Dec.{eqb}
-use lib.ListN.{length}
-use Rattle·md5.specs.Md5.{md5Of, digestBytes}
-use Rattle·uf2_make.specs.Uf2check.{makeNumber}
-use Rattle·uf2_make.specs.Uf2file.{MakeCall, makeOf}
-use Rattle·uf2_make_regions.specs.File as regions
+use Rattle.std.specs.Prelude.{ℕ, cond, List, eqb, length}
+use Rattle.md5_digest.specs.Md5.{md5_of, digest_bytes}
+use Rattle.uf2_make.specs.Uf2check.{make_number}
+use Rattle.uf2_make.specs.Uf2file.{MakeCall, make_of}
+use Rattle.uf2_make_regions.specs.File as regions
 
 -- ---- a file made
 
@@ -17,22 +13,22 @@ pub record MakeResult : Type 0 where
   pub output : List ℕ
 
 -- both as one value, which the contract names
-abbrev pub makeResult : ℕ → List ℕ → MakeResult
-makeResult n l = record { result = n; output = l }
+abbrev pub make_result : ℕ → List ℕ → MakeResult
+make_result n l = record { result = n; output = l }
 
-abbrev pub resultOf : MakeCall → MakeResult
-resultOf c = makeResult (makeNumber (c .answer)) (c .output)
+abbrev pub result_of : MakeCall → MakeResult
+result_of c = make_result (make_number c.answer) c.output
 
 -- the refusal's number, and 0 for a file that is made
-unfoldable pub makeBytes : List ℕ → ℕ → ℕ → List ℕ → MakeResult
-makeBytes image family start out = resultOf (makeOf image family start out)
+unfoldable pub make_bytes : List ℕ → ℕ → ℕ → List ℕ → MakeResult
+make_bytes image family start out = result_of (make_of image family start out)
 
 -- the same of a file with a region for each sector
-unfoldable pub makeRegionsBytes : List ℕ → ℕ → ℕ → List ℕ → MakeResult
-makeRegionsBytes image family start out = resultOf (regions.makeOf image family start out)
+unfoldable pub make_regions_bytes : List ℕ → ℕ → ℕ → List ℕ → MakeResult
+make_regions_bytes image family start out = result_of (regions.make_of image family start out)
 
 -- ---- a digest
 
 -- the digest of l in 16 bytes; of another length they stay
-unfoldable pub digestOver : List ℕ → List ℕ → List ℕ
-digestOver out l = cond (eqb (length out) 16) (digestBytes (md5Of l)) out
+unfoldable pub digest_over : List ℕ → List ℕ → List ℕ
+digest_over out l = cond (eqb (length out) 16) (digest_bytes (md5_of l)) out

@@ -1,23 +1,25 @@
 // The C interface for tools on a host: files made of images, digests, and one Universal Hex file from two. What a board links is `capi`, the
 // calls for traces are in `traceapi`.
-ghost use mathlib.Core.Path.{_≡_};
-ghost use Rattle·uf2_make.specs.Uf2block.{blockOver};
-ghost use Rattle·uf2_make.specs.Uf2check.{checkOf, makeNumber};
-ghost use Rattle·toolsapi·specs.specs.Tools.{makeResult, makeBytes, makeRegionsBytes, digestOver};
-ghost use Rattle·toolsapi·specs.specs.Join.{joinReturn, joinBytes};
+#![tactic(auto)]
+
+ghost use Rattle.std.specs.Prelude.{◌≡◌};
+ghost use Rattle.uf2_make.specs.Uf2block.{block_over};
+ghost use Rattle.uf2_make.specs.Uf2check.{check_of, make_number};
+ghost use Rattle.toolsapi.specs.Tools.{make_result, make_bytes, make_regions_bytes, digest_over};
+ghost use Rattle.toolsapi.specs.Join.{join_return, join_bytes};
 
 const DIGEST: usize = 16;
 
 // What would come of an image of so many bytes: 0, or 50 to 53.
-#[no_mangle]
+#[unsafe(no_mangle)]
 pub extern "C" fn uf2_make_check(image_len: usize, start: u32, output_len: usize) -> u32
-    ensures { λ r. ⌜ r ≡ makeNumber (checkOf «image_len» start «output_len») ⌝ }
+    ensures { result ≡ make_number (check_of image_len start output_len) }
 {
     uf2_make::checks::check(image_len, start, output_len).number() as u32
 }
 
 // One block of a file, for a tool that makes it page by page.
-#[no_mangle]
+#[unsafe(no_mangle)]
 pub extern "C" fn uf2_make_block(
     address: u32,
     number: u32,
@@ -26,42 +28,42 @@ pub extern "C" fn uf2_make_block(
     page: &[u8],
     block: &mut [u8],
 )
-    ensures { λ _. ⌜ now (block .exit) ≡ blockOver (now (block .entry)) address number total family (now (page .entry)) ⌝ }
+    ensures { block.new ≡ block_over block.old address number total family page.now }
 {
     uf2_make::page_block::write_block(block, address, number, total, family, page);
 }
 
 // The whole file of an image: 0, or 50 to 53 and nothing is written.
-#[no_mangle]
+#[unsafe(no_mangle)]
 pub extern "C" fn uf2_make(image: &[u8], family: u32, start: u32, output: &mut [u8]) -> u32
-    ensures { λ r. ⌜ makeResult r (now (output .exit)) ≡ makeBytes (now (image .entry)) family start (now (output .entry)) ⌝ }
+    ensures { make_result result output.new ≡ make_bytes image.now family start output.old }
 {
     uf2_make::make(image, family, start, output).number() as u32
 }
 
 // The same, and each block names its sector as its region.
-#[no_mangle]
+#[unsafe(no_mangle)]
 pub extern "C" fn uf2_make_regions(image: &[u8], family: u32, start: u32, output: &mut [u8]) -> u32
-    ensures { λ r. ⌜ makeResult r (now (output .exit)) ≡ makeRegionsBytes (now (image .entry)) family start (now (output .entry)) ⌝ }
+    ensures { make_result result output.new ≡ make_regions_bytes image.now family start output.old }
 {
     uf2_make_regions::make(image, family, start, output).number() as u32
 }
 
 // The MD5 digest of bytes, where there are 16 bytes for it.
-#[no_mangle]
+#[unsafe(no_mangle)]
 pub extern "C" fn uf2_md5(bytes: &[u8], digest: &mut [u8])
-    ensures { λ _. ⌜ now (digest .exit) ≡ digestOver (now (digest .entry)) (now (bytes .entry)) ⌝ }
+    ensures { digest.new ≡ digest_over digest.old bytes.now }
 {
     if digest.len() != DIGEST {
         return;
     }
-    uf2_block::digest_bytes::put_digest(digest, md5::hash(bytes));
+    uf2_block::digest_bytes::put_digest(digest, md5_digest::hash(bytes));
 }
 
 // One Universal Hex file from a plain Intel Hex file for V1 and one for V2.
-#[no_mangle]
+#[unsafe(no_mangle)]
 pub extern "C" fn uhex_join(v1: &[u8], v2: &[u8], output: &mut [u8]) -> u64
-    ensures { λ r. ⌜ joinReturn r (now (output .exit)) ≡ joinBytes (now (v1 .entry)) (now (v2 .entry)) (now (output .entry)) ⌝ }
+    ensures { join_return result output.new ≡ join_bytes v1.now v2.now output.old }
 {
     uhex_join::answers::joined_result(uhex_join::join(v1, v2, output))
 }

@@ -1,40 +1,40 @@
 -- The claims of specs/Alike.antt hold. Assumes nothing.
-use mathlib.Core.Path.{_≡_, refl, ap}
-use mathlib.Core.List.{List, [], _∷_}
-use Prim.Native.Nat.{ℕ, _+_}
-use Rattle·partitions.specs.declared.Settings.{Settings}
-use Rattle·partitions.specs.Alike.{Alike}
-use Rattle·arrival.specs.Arrive.{Lent, World}
-use Rattle·arrival_claims.specs.Alike.{Alike-settings-answer-alike}
-use Rattle·arrival_claims.proofs.Alike.{alike-settings-answer-alike, alike-answers, alike-discards}
-use Rattle·trace_piece.specs.Piece.{arrivalIn}
-use Rattle·trace_replay.specs.Trace.{pieceOf}
-use Rattle·trace_counts.specs.declared.Report.{Report}
-use Rattle·trace_replay.specs.Replay.{begun, wentOn, piecesOf, replayFrom, replayOf}
-use Rattle·trace_report.specs.Report.{replayedIn, addedTo, addOf}
-use Rattle·trace_claims·specs.specs.Alike.{Alike-settings-replay-alike, Alike-settings-report-alike}
+use mathlib.Core.Path.{◌≡◌, refl, ap}
+use mathlib.Core.List.{List, [], ◌∷◌}
+use Prim.Native.Nat.{ℕ, ◌+◌}
+use Rattle.partitions.specs.declared.Settings.{Settings}
+use Rattle.partitions.specs.Alike.{Alike}
+use Rattle.arrival.specs.Arrive.{Lent, World}
+use Rattle.arrival_claims.specs.Alike.{AlikeSettingsAnswerAlike}
+use Rattle.arrival_claims.proofs.Alike.{alike_settings_answer_alike, alike_answers, alike_discards}
+use Rattle.trace_piece.specs.Piece.{arrival_in}
+use Rattle.trace_replay.specs.Trace.{piece_of}
+use Rattle.trace_counts.specs.declared.Report.{Report}
+use Rattle.trace_replay.specs.Replay.{begun, went_on, pieces_of, replay_from, replay_of}
+use Rattle.trace_report.specs.Report.{replayed_in, added_to, add_of}
+use Rattle.trace_claims.specs.Alike.{AlikeSettingsReplayAlike, AlikeSettingsReportAlike}
 
 module _ (s t : Settings) (h : Alike s t) where
-  piece-alike : (w : World) (p : List ℕ) → pieceOf s w p ≡ pieceOf t w p
-  unfolding pieceOf Alike-settings-answer-alike
-  piece-alike w p = rw (alike-settings-answer-alike s t h .take w (arrivalIn p))
+  piece_alike : (w : World) (p : List ℕ) → piece_of s w p ≡ piece_of t w p
+  unfolding piece_of AlikeSettingsAnswerAlike
+  piece_alike w p = rw ((alike_settings_answer_alike s t h).take w (arrival_in p))
 
-  from-alike : (l : List (List ℕ)) (i : ℕ) (w : World) → replayFrom s i w l ≡ replayFrom t i w l
-  unfolding replayFrom
-  from-alike [] i w = refl
-  from-alike (p ∷ l) i w =
-      rw (piece-alike w p) (ap (wentOn i (pieceOf t w p)) (from-alike l (i + 1) (pieceOf t w p .world)))
+  from_alike : (l : List (List ℕ)) (i : ℕ) (w : World) → replay_from s i w l ≡ replay_from t i w l
+  unfolding replay_from
+  from_alike [] i w = refl
+  from_alike (p ∷ l) i w =
+      rw (piece_alike w p) (ap (went_on i (piece_of t w p)) (from_alike l (i + 1) (piece_of t w p).world))
 
-pub alike-settings-replay-alike : Alike-settings-replay-alike
-unfolding Alike-settings-replay-alike replayOf
-alike-settings-replay-alike s t h lent trace = from-alike s t h (piecesOf trace) 0 (begun lent)
+pub alike_settings_replay_alike : AlikeSettingsReplayAlike
+unfolding AlikeSettingsReplayAlike replay_of
+alike_settings_replay_alike s t h lent trace = from_alike s t h (pieces_of trace) 0 (begun lent)
 
-added-alike : (s t : Settings) → Alike s t → (r : Report) (h : Lent) (trace : List ℕ) → addedTo r s h trace ≡ addedTo r t h trace
-unfolding addedTo Alike-settings-replay-alike
-added-alike s t e r h trace =
-    let l = replayedIn t h trace in
-    rw (alike-settings-replay-alike s t e h trace, alike-answers s t e l (begun h), alike-discards s t e l (begun h))
+added_alike : (s t : Settings) → Alike s t → (r : Report) (h : Lent) (trace : List ℕ) → added_to r s h trace ≡ added_to r t h trace
+unfolding added_to AlikeSettingsReplayAlike
+added_alike s t e r h trace =
+    let l = replayed_in t h trace in
+    rw (alike_settings_replay_alike s t e h trace, alike_answers s t e l (begun h), alike_discards s t e l (begun h))
 
-pub alike-settings-report-alike : Alike-settings-report-alike
-unfolding Alike-settings-report-alike Alike-settings-replay-alike addOf
-alike-settings-report-alike s t e r h trace = rw (alike-settings-replay-alike s t e h trace, added-alike s t e r h trace)
+pub alike_settings_report_alike : AlikeSettingsReportAlike
+unfolding AlikeSettingsReportAlike AlikeSettingsReplayAlike add_of
+alike_settings_report_alike s t e r h trace = rw (alike_settings_replay_alike s t e h trace, added_alike s t e r h trace)

@@ -1,32 +1,32 @@
 -- Counts of answers by their slots. Assumes nothing.
-use Prim.Native.Nat.{ℕ, zero, suc, _+_, _-_, _≤_, _<_}
-use mathlib.Core.Path.{_≡_, refl, sym, ap, subst, _∙_}
-use mathlib.Core.Logic.{_≢_}
+use Prim.Native.Nat.{ℕ, zero, suc, ◌+◌, ◌-◌, ◌≤◌, ◌<◌}
+use mathlib.Core.Path.{◌≡◌, refl, sym, ap, subst, ◌∙◌}
+use mathlib.Core.Logic.{◌≢◌}
 use mathlib.Core.Bool.{Bool}
-use mathlib.Core.List.{List, [], _∷_, _++_, map}
+use mathlib.Core.List.{List, [], ◌∷◌, ◌++◌, map}
 use native.Mathlib.Omega.{arith}
 use lib.Dec.{leb, eqb}
-use lib.ListN.{length, getD}
-use lib.Seq.{getD-set-same, getD-set-other}
+use lib.ListN.{length, get_or}
+use lib.Seq.{get_or-set_same, get_or-set_other}
 use borrow.Author.Tests.{leb-true, leb-false, eqb-true, eqb-false}
-use Rattle·laws.specs.Sets.{one}
-use Rattle·laws.proofs.Tests.{split}
-use Rattle·laws.proofs.Laws.{one-le}
-use Rattle·partitions.specs.declared.Settings.{Settings}
-use Rattle·transfer.specs.Transfer.{numberOf}
-use Rattle·transfer.specs.declared.Answer.{Answer}
-use Rattle·transfer.specs.declared.Answer.the-variants.{BadBuffers, BadSettings, BadState, NotBlock, Container, NoFamily, NoPlace, BadPayload, BadNumbers, BadAddress, Finished, Again, Written, Completed, Noted, Kept}
-use Rattle·arrival.specs.Arrive.{World, receiveOf}
-use Rattle·arrival.specs.Lists.{answersOf, discardsOf}
-use Rattle·trace_counts.specs.Counts.{sumTo, slotOf, countOne, countAll, howManyYes}
-use Rattle·trace_counts.proofs.Sums.{sum-raised, slot-low, length-one}
-use Rattle·trace_report.proofs.adding.Adds.{number-range}
-use Rattle·trace_claims·specs.specs.Claims.{sumOf, timesOf, timesYes, placeOf}
+use Rattle.laws.specs.Sets.{one}
+use Rattle.laws.proofs.Tests.{split}
+use Rattle.laws.proofs.Laws.{one_le}
+use Rattle.partitions.specs.declared.Settings.{Settings}
+use Rattle.transfer.specs.Transfer.{number_of}
+use Rattle.transfer.specs.declared.Answer.{Answer}
+use Rattle.transfer.specs.declared.Answer.TheVariants.{BadBuffers, BadSettings, BadState, NotBlock, Container, NoFamily, NoPlace, BadPayload, BadNumbers, BadAddress, Finished, Again, Written, Completed, Noted, Kept}
+use Rattle.arrival.specs.Arrive.{World, receive_of}
+use Rattle.arrival.specs.Lists.{answers_of, discards_of}
+use Rattle.trace_counts.specs.Counts.{sum_to, slot_of, count_one, count_all, how_many_yes}
+use Rattle.trace_counts.proofs.Sums.{sum_raised, slot_low, length_one}
+use Rattle.trace_report.proofs.adding.Adds.{number_range}
+use Rattle.trace_claims.specs.Claims.{sum_of, times_of, times_yes, place_of}
 
 -- ---- no two answers have one slot
 
-slot-other : (n m : ℕ) → 1 ≤ n → n ≢ 6 → 1 ≤ m → m ≢ 6 → slotOf n ≡ slotOf m → n ≡ m
-slot-other n m a b c d e =
+slot_other : (n m : ℕ) → 1 ≤ n → n ≢ 6 → 1 ≤ m → m ≢ 6 → slot_of n ≡ slot_of m → n ≡ m
+slot_other n m a b c d e =
     split (leb n 5)
     (λ p.
     let i : n ≤ 5 = leb-true n 5 p in
@@ -39,123 +39,123 @@ slot-other n m a b c d e =
     (λ q. let j : m ≤ 5 = leb-true m 5 q in let f : n - 2 ≡ m - 1 = rw (p, q) at e in omega arith)
     (λ q. let j : 5 < m = leb-false m 5 q in let f : n - 2 ≡ m - 2 = rw (p, q) at e in omega arith))
 
-slot-same : (x y : Answer) → slotOf (numberOf x) ≡ slotOf (numberOf y) → numberOf x ≡ numberOf y
-slot-same x y e =
-    let a = number-range x in
-    let b = number-range y in
-    slot-other (numberOf x) (numberOf y) (a .0) (a .2) (b .0) (b .2) e
+slot_same : (x y : Answer) → slot_of (number_of x) ≡ slot_of (number_of y) → number_of x ≡ number_of y
+slot_same x y e =
+    let a = number_range x in
+    let b = number_range y in
+    slot_other (number_of x) (number_of y) a.0 a.2 b.0 b.2 e
 
-slot-in : (c : List ℕ) → length c ≡ 16 → (y : Answer) → slotOf (numberOf y) < length c
-slot-in c l y = let a = number-range y in rw l (slot-low (numberOf y) (a .0) (a .1))
+slot_in : (c : List ℕ) → length c ≡ 16 → (y : Answer) → slot_of (number_of y) < length c
+slot_in c l y = let a = number_range y in rw l (slot_low (number_of y) a.0 a.1)
 
 -- the slot of an answer is its place
-pub place-is : (x : Answer) → slotOf (numberOf x) ≡ placeOf x
-place-is BadBuffers = refl
-place-is BadSettings = refl
-place-is BadState = refl
-place-is NotBlock = refl
-place-is Container = refl
-place-is NoFamily = refl
-place-is NoPlace = refl
-place-is BadPayload = refl
-place-is BadNumbers = refl
-place-is BadAddress = refl
-place-is Finished = refl
-place-is Again = refl
-place-is Written = refl
-place-is Completed = refl
-place-is Noted = refl
-place-is Kept = refl
+pub place_is : (x : Answer) → slot_of (number_of x) ≡ place_of x
+place_is BadBuffers = refl
+place_is BadSettings = refl
+place_is BadState = refl
+place_is NotBlock = refl
+place_is Container = refl
+place_is NoFamily = refl
+place_is NoPlace = refl
+place_is BadPayload = refl
+place_is BadNumbers = refl
+place_is BadAddress = refl
+place_is Finished = refl
+place_is Again = refl
+place_is Written = refl
+place_is Completed = refl
+place_is Noted = refl
+place_is Kept = refl
 
-pub place-low : (x : Answer) → placeOf x < 16
-place-low x = let n = number-range x in subst (λ (k : ℕ). k < 16) (place-is x) (slot-low (numberOf x) (n .0) (n .1))
+pub place_low : (x : Answer) → place_of x < 16
+place_low x = let n = number_range x in subst (λ (k : ℕ). k < 16) (place_is x) (slot_low (number_of x) n.0 n.1)
 
 -- ---- sums
 
-sum-first : (n x : ℕ) (l : List ℕ) → sumTo (suc n) (x ∷ l) ≡ x + sumTo n l
-unfolding sumTo
-sum-first zero x l = omega arith
-sum-first (suc n) x l = rw (sum-first n x l) (omega arith)
+sum_first : (n x : ℕ) (l : List ℕ) → sum_to (suc n) (x ∷ l) ≡ x + sum_to n l
+unfolding sum_to
+sum_first zero x l = omega arith
+sum_first (suc n) x l = rw (sum_first n x l) (omega arith)
 
-sum-all : (l : List ℕ) → sumTo (length l) l ≡ sumOf l
-unfolding sumTo sumOf
-sum-all [] = refl
-sum-all (x ∷ l) = sum-first (length l) x l ∙ rw (sum-all l)
+sum_all : (l : List ℕ) → sum_to (length l) l ≡ sum_of l
+unfolding sum_to sum_of
+sum_all [] = refl
+sum_all (x ∷ l) = sum_first (length l) x l ∙ rw (sum_all l)
 
 -- the sum of 16 counts is that of their list
-pub sum-is : (l : List ℕ) → length l ≡ 16 → sumTo 16 l ≡ sumOf l
-sum-is l e = ap (λ (n : ℕ). sumTo n l) (sym e) ∙ sum-all l
+pub sum_is : (l : List ℕ) → length l ≡ 16 → sum_to 16 l ≡ sum_of l
+sum_is l e = ap (λ (n : ℕ). sum_to n l) (sym e) ∙ sum_all l
 
 -- ---- one record more
 
-one-at : (c : List ℕ) → length c ≡ 16 → (x y : Answer)
-    → getD (countOne c (numberOf y)) (slotOf (numberOf x)) 0 ≡ getD c (slotOf (numberOf x)) 0 + one (eqb (numberOf x) (numberOf y))
-unfolding countOne
-one-at c l x y =
-    let v = getD c (slotOf (numberOf y)) 0 + 1 in
-    split (eqb (numberOf x) (numberOf y))
+one_at : (c : List ℕ) → length c ≡ 16 → (x y : Answer)
+    → get_or (count_one c (number_of y)) (slot_of (number_of x)) 0 ≡ get_or c (slot_of (number_of x)) 0 + one (eqb (number_of x) (number_of y))
+unfolding count_one
+one_at c l x y =
+    let v = get_or c (slot_of (number_of y)) 0 + 1 in
+    split (eqb (number_of x) (number_of y))
     (λ p.
-    let e : numberOf x ≡ numberOf y = eqb-true (numberOf x) (numberOf y) p in
-    rw (p, e) (getD-set-same c (slotOf (numberOf y)) v 0 (slot-in c l y)))
+    let e : number_of x ≡ number_of y = eqb-true (number_of x) (number_of y) p in
+    rw (p, e) (get_or-set_same c (slot_of (number_of y)) v 0 (slot_in c l y)))
     (λ p.
-    let d : numberOf x ≢ numberOf y = eqb-false (numberOf x) (numberOf y) p in
-    rw (p, getD-set-other c (slotOf (numberOf y)) (slotOf (numberOf x)) v 0 (λ e. d (slot-same x y e))) (omega arith))
+    let d : number_of x ≢ number_of y = eqb-false (number_of x) (number_of y) p in
+    rw (p, get_or-set_other c (slot_of (number_of y)) (slot_of (number_of x)) v 0 (λ e. d (slot_same x y e))) (omega arith))
 
-sum-one : (c : List ℕ) → length c ≡ 16 → (y : Answer) → sumTo 16 (countOne c (numberOf y)) ≡ sumTo 16 c + 1
-unfolding countOne
-sum-one c l y = let a = number-range y in sum-raised 16 c (slotOf (numberOf y)) (slot-low (numberOf y) (a .0) (a .1)) (slot-in c l y)
+sum_one : (c : List ℕ) → length c ≡ 16 → (y : Answer) → sum_to 16 (count_one c (number_of y)) ≡ sum_to 16 c + 1
+unfolding count_one
+sum_one c l y = let a = number_range y in sum_raised 16 c (slot_of (number_of y)) (slot_low (number_of y) a.0 a.1) (slot_in c l y)
 
 -- ---- all of them
 
-pub length-all : (c l : List ℕ) → length (countAll c l) ≡ length c
-unfolding countAll
-length-all c [] = refl
-length-all c (n ∷ l) = length-all (countOne c n) l ∙ length-one c n
+pub length_all : (c l : List ℕ) → length (count_all c l) ≡ length c
+unfolding count_all
+length_all c [] = refl
+length_all c (n ∷ l) = length_all (count_one c n) l ∙ length_one c n
 
-pub counts-at : (l : List Answer) (c : List ℕ) → length c ≡ 16 → (x : Answer)
-    → getD (countAll c (map numberOf l)) (slotOf (numberOf x)) 0 ≡ getD c (slotOf (numberOf x)) 0 + timesOf x l
-unfolding countAll timesOf
-counts-at [] c h x = omega arith
-counts-at (y ∷ l) c h x =
-    counts-at l (countOne c (numberOf y)) (length-one c (numberOf y) ∙ h) x
-    ∙ rw (one-at c h x y) (omega arith)
+pub counts_at : (l : List Answer) (c : List ℕ) → length c ≡ 16 → (x : Answer)
+    → get_or (count_all c (map number_of l)) (slot_of (number_of x)) 0 ≡ get_or c (slot_of (number_of x)) 0 + times_of x l
+unfolding count_all times_of
+counts_at [] c h x = omega arith
+counts_at (y ∷ l) c h x =
+    counts_at l (count_one c (number_of y)) (length_one c (number_of y) ∙ h) x
+    ∙ rw (one_at c h x y) (omega arith)
 
-pub sum-at : (l : List Answer) (c : List ℕ) → length c ≡ 16 → sumTo 16 (countAll c (map numberOf l)) ≡ sumTo 16 c + length l
-unfolding countAll
-sum-at [] c h = omega arith
-sum-at (y ∷ l) c h =
-    sum-at l (countOne c (numberOf y)) (length-one c (numberOf y) ∙ h)
-    ∙ rw (sum-one c h y) (omega arith)
+pub sum_at : (l : List Answer) (c : List ℕ) → length c ≡ 16 → sum_to 16 (count_all c (map number_of l)) ≡ sum_to 16 c + length l
+unfolding count_all
+sum_at [] c h = omega arith
+sum_at (y ∷ l) c h =
+    sum_at l (count_one c (number_of y)) (length_one c (number_of y) ∙ h)
+    ∙ rw (sum_one c h y) (omega arith)
 
 -- ---- lists one after the other
 
 -- the meaning's "how many" is the claims'
-pub yes-is : (l : List Bool) → howManyYes l ≡ timesYes l
-unfolding howManyYes timesYes
-yes-is [] = refl
-yes-is (d ∷ l) = rw (yes-is l)
+pub yes_is : (l : List Bool) → how_many_yes l ≡ times_yes l
+unfolding how_many_yes times_yes
+yes_is [] = refl
+yes_is (d ∷ l) = rw (yes_is l)
 
-pub times-append : (x : Answer) (l m : List Answer) → timesOf x (l ++ m) ≡ timesOf x l + timesOf x m
-unfolding timesOf
-times-append x [] m = omega arith
-times-append x (y ∷ l) m = rw (times-append x l m) (omega arith)
+pub times_append : (x : Answer) (l m : List Answer) → times_of x (l ++ m) ≡ times_of x l + times_of x m
+unfolding times_of
+times_append x [] m = omega arith
+times_append x (y ∷ l) m = rw (times_append x l m) (omega arith)
 
-pub yes-append : (l m : List Bool) → timesYes (l ++ m) ≡ timesYes l + timesYes m
-unfolding timesYes
-yes-append [] m = omega arith
-yes-append (d ∷ l) m = rw (yes-append l m) (omega arith)
+pub yes_append : (l m : List Bool) → times_yes (l ++ m) ≡ times_yes l + times_yes m
+unfolding times_yes
+yes_append [] m = omega arith
+yes_append (d ∷ l) m = rw (yes_append l m) (omega arith)
 
-pub yes-most : (l : List Bool) → timesYes l ≤ length l
-unfolding timesYes
-yes-most [] = omega arith
-yes-most (d ∷ l) = omega (arith, yes-most l, one-le d)
+pub yes_most : (l : List Bool) → times_yes l ≤ length l
+unfolding times_yes
+yes_most [] = omega arith
+yes_most (d ∷ l) = omega (arith, yes_most l, one_le d)
 
-pub length-answers : (s : Settings) (l : List (List ℕ)) (w : World) → length (answersOf s w l) ≡ length l
-unfolding answersOf
-length-answers s [] w = refl
-length-answers s (a ∷ l) w = rw (length-answers s l (receiveOf s w a .world))
+pub length_answers : (s : Settings) (l : List (List ℕ)) (w : World) → length (answers_of s w l) ≡ length l
+unfolding answers_of
+length_answers s [] w = refl
+length_answers s (a ∷ l) w = rw (length_answers s l (receive_of s w a).world)
 
-pub length-discards : (s : Settings) (l : List (List ℕ)) (w : World) → length (discardsOf s w l) ≡ length l
-unfolding discardsOf
-length-discards s [] w = refl
-length-discards s (a ∷ l) w = rw (length-discards s l (receiveOf s w a .world))
+pub length_discards : (s : Settings) (l : List (List ℕ)) (w : World) → length (discards_of s w l) ≡ length l
+unfolding discards_of
+length_discards s [] w = refl
+length_discards s (a ∷ l) w = rw (length_discards s l (receive_of s w a).world)

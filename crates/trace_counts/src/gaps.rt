@@ -1,16 +1,15 @@
 // The end of a trace in a report: how many numbers are marked, and the smallest that is missing.
-ghost use mathlib.Core.Path.{_≡_};
-ghost use Rattle·laws.specs.Sets.{least};
-ghost use Rattle·transfer.specs.Transfer.{countOf};
-ghost use Rattle·trace_counts·specs.specs.Counts.{isMissing, missingAt, endedOf};
-use crate::Missing;
-use crate::Report;
-use transfer::State;
-use transfer::Transfer;
+ghost use Rattle.std.specs.Prelude.{◌≡◌};
+ghost use Rattle.laws.specs.Sets.{least};
+ghost use Rattle.transfer.specs.Transfer.{count_of};
+ghost use Rattle.trace_counts.specs.Counts.{is_missing, missing_at, ended_of};
+
+use crate::{Missing, Report};
+use transfer::{State, Transfer};
 
 // The least number below a total that is not marked, and the total where each is.
 pub fn first_missing(map: &[u8], total: u32) -> u32
-    ensures { λ r. ⌜ r ≡ least total (isMissing (now (map .entry))) ⌝ }
+    ensures { result ≡ least total (is_missing map.now) }
 {
     let mut k: u32 = 0;
     while k < total {
@@ -24,7 +23,7 @@ pub fn first_missing(map: &[u8], total: u32) -> u32
 
 // What is missing at an end.
 fn missing_at(transfer: Transfer, seen: &[u8]) -> Missing
-    ensures { λ r. ⌜ r ≡ missingAt (transfer .state) (now (seen .entry)) ⌝ }
+    ensures { result ≡ missing_at transfer.state seen.now }
 {
     let state = transfer.state;
     match state {
@@ -39,7 +38,7 @@ fn missing_at(transfer: Transfer, seen: &[u8]) -> Missing
 
 // The count of a transfer, which is the total when it is done: as many different numbers are marked at the end of a replay.
 fn marked_at(transfer: Transfer) -> u32
-    ensures { λ r. ⌜ r ≡ countOf (transfer .state) ⌝ }
+    ensures { result ≡ count_of transfer.state }
 {
     let state = transfer.state;
     match state {
@@ -51,7 +50,7 @@ fn marked_at(transfer: Transfer) -> u32
 
 // The report with the end that a transfer and the seen map show.
 pub fn with_end(report: Report, transfer: Transfer, seen: &[u8]) -> Report
-    ensures { λ r. ⌜ r ≡ endedOf report (transfer .state) (now (seen .entry)) ⌝ }
+    ensures { result ≡ ended_of report transfer.state seen.now }
 {
     let counts = report.counts;
     let marked = marked_at(transfer);

@@ -1,13 +1,16 @@
 // A report over many traces: records counted by their answers, whether it is good and has room, and a tally added to it.
+#![tactic(auto)]
+
 pub mod gaps;
 pub mod tallies;
 
-ghost use mathlib.Core.Path.{_≡_};
-ghost use Prim.Native.Nat.{_≤_};
-ghost use Rattle·trace_counts·specs.specs.Counts.{freshReport, sumTo, goodReport, withRoom, withTally};
+ghost use Rattle.std.specs.Prelude.{◌≡◌, ◌≤◌};
+ghost use Rattle.trace_counts.specs.Counts.{fresh_report, sum_to, good_report, with_room, with_tally};
+
 use crate::tallies::TALLY;
 
 // The smallest number that is missing at an end, or none.
+#[derive(Clone, Copy)]
 pub enum Missing {
     None,
     Number(u32),
@@ -15,6 +18,7 @@ pub enum Missing {
 
 // Over all traces: the records replayed, how many had each answer (1 to 5, then 7 to 17), and how many discarded; and of the last trace's
 // end, the different numbers marked and the smallest missing.
+#[derive(Clone, Copy)]
 pub struct Report {
     pub records: u32,
     pub counts: [u32; 16],
@@ -30,7 +34,7 @@ const MAX: usize = 4294967295;
 
 impl Report {
     pub fn new() -> Self
-        ensures { λ r. ⌜ r ≡ freshReport ⌝ }
+        ensures { result ≡ fresh_report }
     {
         let missing = Missing::None;
         Self {
@@ -45,14 +49,14 @@ impl Report {
 
 // A count in 64 bits.
 fn wide(x: u32) -> u64
-    ensures { λ r. ⌜ (r ≡ x) × (r ≤ 4294967295) ⌝ }
+    ensures { (result ≡ x) × (result ≤ 4294967295) }
 {
     x as u64
 }
 
 // The sum of the counts, which may not fit 32 bits.
 fn sum(counts: [u32; 16]) -> u64
-    ensures { λ r. ⌜ r ≡ sumTo 16 counts ⌝ }
+    ensures { result ≡ sum_to 16 counts }
 {
     let mut total: u64 = 0;
     let mut i: usize = 0;
@@ -65,7 +69,7 @@ fn sum(counts: [u32; 16]) -> u64
 
 // Do the counts sum to the records, and are there no more discards than records?
 pub fn is_good(report: Report) -> bool
-    ensures { λ r. ⌜ r ≡ goodReport report ⌝ }
+    ensures { result ≡ good_report report }
 {
     let counts = report.counts;
     let total = sum(counts);
@@ -74,7 +78,7 @@ pub fn is_good(report: Report) -> bool
 
 // Is there room for so many records more?
 pub fn has_room(report: Report, pieces: usize) -> bool
-    ensures { λ r. ⌜ r ≡ withRoom report pieces ⌝ }
+    ensures { result ≡ with_room report pieces }
 {
     pieces <= MAX - report.records as usize
 }
@@ -83,7 +87,7 @@ pub fn has_room(report: Report, pieces: usize) -> bool
 
 // A report with the tally of so many records more.
 pub fn with_tally(report: Report, tally: [usize; TALLY], records: usize) -> Report
-    ensures { λ r. ⌜ r ≡ withTally report tally records ⌝ }
+    ensures { result ≡ with_tally report tally records }
 {
     let was = report.counts;
     let counts = crate::tallies::added_counts(was, tally);

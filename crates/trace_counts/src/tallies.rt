@@ -1,7 +1,6 @@
 // Records counted by the byte that they begin with: a tally, and the counts of a report with a tally added.
-ghost use mathlib.Core.Path.{_≡_};
-ghost use Prim.Native.Nat.{_≤_};
-ghost use Rattle·trace_counts·specs.specs.Tally.{numberAt, raised, tallied, plus, addedCounts};
+ghost use Rattle.std.specs.Prelude.{◌≡◌, ◌≤◌};
+ghost use Rattle.trace_counts.specs.Tally.{number_at, raised, tallied, plus, added_counts};
 
 // A tally: how many records said each number of five bits, and last how many discarded.
 pub const TALLY: usize = 33;
@@ -16,16 +15,16 @@ const WORD: usize = 4294967296;
 
 // Raises one count of a tally, which wraps after 2^64 records: no trace has so many.
 fn raise(tally: &mut [usize], at: usize, by: usize)
-    ensures { λ _. ⌜ now (tally .exit) ≡ raised (now (tally .entry)) at by ⌝ }
+    ensures { tally.new ≡ raised tally.old at by }
 {
     if at < tally.len() {
-        tally[at] = std::num::wrapping_add_usize(tally[at], by);
+        tally[at] = tally[at].wrapping_add(by);
     }
 }
 
 // One record more, by the byte that it begins with.
 pub fn count(tally: &mut [usize], byte: u8)
-    ensures { λ _. ⌜ now (tally .exit) ≡ tallied (now (tally .entry)) byte ⌝ }
+    ensures { tally.new ≡ tallied tally.old byte }
 {
     raise(tally, (byte / 8) as usize, 1);
     raise(tally, DISCARDS, (byte / 4 % 2) as usize);
@@ -35,22 +34,22 @@ pub fn count(tally: &mut [usize], byte: u8)
 
 // The number of the answer whose count stands at a place: 1 to 5, then 7 to 17.
 fn number_at(place: usize) -> usize
-    requires { ⌜ place ≤ 15 ⌝ }
-    ensures { λ r. ⌜ (r ≡ numberAt place) × (r ≤ 17) ⌝ }
+    requires { place ≤ 15 }
+    ensures { (result ≡ number_at place) × (result ≤ 17) }
 {
     if place < 5 { place + 1 } else { place + 2 }
 }
 
 // A count with so many more, in 32 bits. Nothing wraps where there is room.
-pub(crate) fn plus(count: u32, more: usize) -> u32
-    ensures { λ r. ⌜ r ≡ plus count more ⌝ }
+pub fn plus(count: u32, more: usize) -> u32
+    ensures { result ≡ plus count more }
 {
     ((count as usize + more % WORD) % WORD) as u32
 }
 
 // The counts with those of a tally.
-pub(crate) fn added_counts(was: [u32; 16], tally: [usize; TALLY]) -> [u32; 16]
-    ensures { λ r. ⌜ r ≡ addedCounts was tally 16 ⌝ }
+pub fn added_counts(was: [u32; 16], tally: [usize; TALLY]) -> [u32; 16]
+    ensures { result ≡ added_counts was tally 16 }
 {
     let mut counts = was;
     let mut k: usize = 0;

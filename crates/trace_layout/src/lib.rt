@@ -1,8 +1,11 @@
 // What the calls for traces share: where a replay stopped and what came of a trace as numbers, and the bytes of index and report.
+#![tactic(auto)]
+
 pub mod reports;
 
-ghost use mathlib.Core.Path.{_≡_};
-ghost use Rattle·trace_layout·specs.specs.Kept.{stopNumber, indexOver, withStop, figuresResult, keptReport, keptIndex};
+ghost use Rattle.std.specs.Prelude.{◌≡◌};
+ghost use Rattle.trace_layout.specs.Kept.{stop_number, index_over, with_stop, figures_result, kept_report, kept_index};
+
 use trace_counts::Report;
 use trace_piece::Stop;
 use trace_report::adding::FiguresAnswer;
@@ -14,7 +17,7 @@ const WORD: usize = 4294967296;
 
 // An index, where there are bytes for it.
 fn put_index(index: &mut [u8], i: usize)
-    ensures { λ _. ⌜ now (index .exit) ≡ indexOver (now (index .entry)) i ⌝ }
+    ensures { index.new ≡ index_over index.old i }
 {
     if index.len() != INDEX {
         return;
@@ -27,7 +30,7 @@ fn put_index(index: &mut [u8], i: usize)
 
 // The index of the piece that stopped a replay.
 pub fn put_stop(index: &mut [u8], stop: Stop)
-    ensures { λ _. ⌜ now (index .exit) ≡ withStop (now (index .entry)) stop ⌝ }
+    ensures { index.new ≡ with_stop index.old stop }
 {
     match stop {
         Stop::None => {}
@@ -37,7 +40,7 @@ pub fn put_stop(index: &mut [u8], stop: Stop)
 }
 
 pub fn number(stop: Stop) -> u32
-    ensures { λ r. ⌜ r ≡ stopNumber stop ⌝ }
+    ensures { result ≡ stop_number stop }
 {
     match stop {
         Stop::None => 0,
@@ -48,7 +51,7 @@ pub fn number(stop: Stop) -> u32
 
 // What came of a trace that a report was handed: its stop, or 70 or 71.
 pub fn result(answer: FiguresAnswer) -> u32
-    ensures { λ r. ⌜ r ≡ figuresResult answer ⌝ }
+    ensures { result ≡ figures_result answer }
 {
     match answer {
         FiguresAnswer::BadReport => 71,
@@ -59,7 +62,7 @@ pub fn result(answer: FiguresAnswer) -> u32
 
 // The next report, where the trace was replayed.
 pub fn keep_report(report: &mut [u8], answer: FiguresAnswer, next: Report)
-    ensures { λ _. ⌜ now (report .exit) ≡ keptReport (now (report .entry)) answer next ⌝ }
+    ensures { report.new ≡ kept_report report.old answer next }
 {
     match answer {
         FiguresAnswer::BadReport => {}
@@ -70,7 +73,7 @@ pub fn keep_report(report: &mut [u8], answer: FiguresAnswer, next: Report)
 
 // The index of its stop.
 pub fn keep_index(index: &mut [u8], answer: FiguresAnswer)
-    ensures { λ _. ⌜ now (index .exit) ≡ keptIndex (now (index .entry)) answer ⌝ }
+    ensures { index.new ≡ kept_index index.old answer }
 {
     match answer {
         FiguresAnswer::BadReport => {}

@@ -1,17 +1,17 @@
 // Reports as bytes: how a report goes in, and how it comes back. Every byte slice is read; include/uf2_tools.h has the layout for C.
-ghost use mathlib.Core.Path.{_≡_};
-ghost use Rattle·trace_layout·specs.specs.Reports.{
-  noReport,
-  missingFrom,
-  countsFrom,
-  reportFrom,
-  flagOf,
-  missingNumber,
-  wordOf,
-  reportWritten,
+ghost use Rattle.std.specs.Prelude.{◌≡◌};
+ghost use Rattle.trace_layout.specs.Reports.{
+  no_report,
+  missing_from,
+  counts_from,
+  report_from,
+  flag_of,
+  missing_number,
+  word_of,
+  report_written,
 };
-use trace_counts::Missing;
-use trace_counts::Report;
+
+use trace_counts::{Missing, Report};
 
 // The bytes of a report: 21 words of four bytes.
 const REPORT: usize = 84;
@@ -20,7 +20,7 @@ const WORDS: usize = 21;
 
 // One record that has no count, which is refused.
 fn no_report() -> Report
-    ensures { λ r. ⌜ r ≡ noReport ⌝ }
+    ensures { result ≡ no_report }
 {
     let missing = Missing::None;
     Report {
@@ -33,7 +33,7 @@ fn no_report() -> Report
 }
 
 fn missing_from(flag: u32, number: u32) -> Missing
-    ensures { λ r. ⌜ r ≡ missingFrom flag number ⌝ }
+    ensures { result ≡ missing_from flag number }
 {
     if flag == 0 {
         return Missing::None;
@@ -42,7 +42,7 @@ fn missing_from(flag: u32, number: u32) -> Missing
 }
 
 fn counts_from(bytes: &[u8]) -> [u32; 16]
-    ensures { λ r. ⌜ r ≡ countsFrom (now (bytes .entry)) ⌝ }
+    ensures { result ≡ counts_from bytes.now }
 {
     let mut counts: [u32; 16] = [0; 16];
     let mut k: usize = 0;
@@ -56,7 +56,7 @@ fn counts_from(bytes: &[u8]) -> [u32; 16]
 
 // The report that bytes are.
 pub fn read_report(bytes: &[u8]) -> Report
-    ensures { λ r. ⌜ r ≡ reportFrom (now (bytes .entry)) ⌝ }
+    ensures { result ≡ report_from bytes.now }
 {
     if bytes.len() != REPORT {
         return no_report();
@@ -73,7 +73,7 @@ pub fn read_report(bytes: &[u8]) -> Report
 }
 
 fn flag(missing: Missing) -> u32
-    ensures { λ r. ⌜ r ≡ flagOf missing ⌝ }
+    ensures { result ≡ flag_of missing }
 {
     match missing {
         Missing::None => 0,
@@ -82,7 +82,7 @@ fn flag(missing: Missing) -> u32
 }
 
 fn number(missing: Missing) -> u32
-    ensures { λ r. ⌜ r ≡ missingNumber missing ⌝ }
+    ensures { result ≡ missing_number missing }
 {
     match missing {
         Missing::None => 0,
@@ -92,7 +92,7 @@ fn number(missing: Missing) -> u32
 
 // Word k of a report.
 fn word(report: Report, k: usize) -> u32
-    ensures { λ r. ⌜ r ≡ wordOf report k ⌝ }
+    ensures { result ≡ word_of report k }
 {
     if k == 0 {
         return report.records;
@@ -117,7 +117,7 @@ fn word(report: Report, k: usize) -> u32
 
 // Writes a report, where there are bytes for it.
 pub fn write_report(bytes: &mut [u8], report: Report)
-    ensures { λ _. ⌜ now (bytes .exit) ≡ reportWritten (now (bytes .entry)) report ⌝ }
+    ensures { bytes.new ≡ report_written bytes.old report }
 {
     if bytes.len() != REPORT {
         return;

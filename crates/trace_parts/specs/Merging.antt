@@ -1,70 +1,66 @@
 -- Parts of a fleet's figures: of one trace, and two as one. Assumes nothing.
-use Prim.Native.Nat.{ℕ, _+_}
-use mathlib.Core.Bool.{Bool, true, false, _&&_, _||_, not, cond}
-use mathlib.Core.List.{List}
-use lib.Dec.{leb, eqb}
-use lib.ListN.{getD}
-use Rattle·laws.specs.Sets.{one}
-use Rattle·laws.specs.Tab.{tab}
-use Rattle·trace_counts.specs.declared.Missing.{Missing}
-use Rattle·trace_counts.specs.declared.Missing.the-variants as missing
-use Rattle·trace_counts.specs.declared.Report.{Report}
-use Rattle·trace_counts.specs.Counts.{freshReport, goodReport}
-use Rattle·trace_parts·specs.specs.declared.Part.{Part}
-use Rattle·trace_parts·specs.specs.declared.Merge.{Merge}
-use Rattle·trace_parts·specs.specs.declared.MergeAnswer.{MergeAnswer}
-use Rattle·trace_parts·specs.specs.declared.MergeAnswer.the-variants.{BadReport, TooMany, Merged}
+use Rattle.std.specs.Prelude.{ℕ, ◌+◌, Bool, true, false, ◌&&◌, ◌||◌, not, cond, List, leb, eqb, get_or}
+use Rattle.laws.specs.Sets.{one}
+use Rattle.laws.specs.Tab.{tab}
+use Rattle.trace_counts.specs.declared.Missing.{Missing}
+use Rattle.trace_counts.specs.declared.Missing.TheVariants as missing
+use Rattle.trace_counts.specs.declared.Report.{Report}
+use Rattle.trace_counts.specs.Counts.{fresh_report, good_report}
+use Rattle.trace_parts.specs.declared.Part.{Part}
+use Rattle.trace_parts.specs.declared.Merge.{Merge}
+use Rattle.trace_parts.specs.declared.MergeAnswer.{MergeAnswer}
+use Rattle.trace_parts.specs.declared.MergeAnswer.TheVariants.{BadReport, TooMany, Merged}
 
 -- the part of no trace
-abbrev pub freshPart : Part
-freshPart = record { report = freshReport; traces = 0; bad = 0; differs = 0 }
+abbrev pub fresh_part : Part
+fresh_part = record { report = fresh_report; traces = 0; bad = 0; differs = 0 }
 
-abbrev pub isNone : Missing → Bool
-isNone missing.None = true
-isNone (missing.Number k) = false
+abbrev pub is_none : Missing → Bool
+is_none missing.None = true
+is_none (missing.Number k) = false
 
 -- no record, and no end
-unfoldable pub emptyReport : Report → Bool
-emptyReport r = eqb (r .records) 0 && (eqb (r .marked) 0 && isNone (r .missing))
+unfoldable pub empty_report : Report → Bool
+empty_report r = eqb r.records 0 && (eqb r.marked 0 && is_none r.missing)
 
 -- a trace stops once at most: as "bad", or as "differs"
-abbrev pub stopsFit : ℕ → ℕ → ℕ → Bool
-stopsFit bad differs traces = leb (bad + differs) traces
+abbrev pub stops_fit : ℕ → ℕ → ℕ → Bool
+stops_fit bad differs traces = leb (bad + differs) traces
 
 -- 71: a report that L14 calls bad, one over no trace that is not the fresh one, or more stops than traces
-unfoldable pub goodPart : Part → Bool
-goodPart p =
-    goodReport (p .report) && ((not (eqb (p .traces) 0) || emptyReport (p .report)) && stopsFit (p .bad) (p .differs) (p .traces))
+unfoldable pub good_part : Part → Bool
+good_part p =
+    good_report p.report && ((not (eqb p.traces 0) || empty_report p.report) && stops_fit p.bad p.differs p.traces)
 
 -- the part of one trace whose replay stopped as L10's call says: 0 nowhere, 1 "bad", 2 "differs"
-abbrev pub onePart : Report → ℕ → Part
-onePart r stop = record { report = r; traces = 1; bad = one (eqb stop 1); differs = one (eqb stop 2) }
+abbrev pub one_part : Report → ℕ → Part
+one_part r stop = record { report = r; traces = 1; bad = one (eqb stop 1); differs = one (eqb stop 2) }
 
 -- 70: the records, or the traces, of both pass 4,294,967,295
 abbrev pub fits : ℕ → ℕ → ℕ → ℕ → Bool
 fits records more traces others = leb (records + more) 4294967295 && leb (traces + others) 4294967295
 
-unfoldable pub roomFor : Part → Part → Bool
-roomFor a b = fits (a .report .records) (b .report .records) (a .traces) (b .traces)
+unfoldable pub room_for : Part → Part → Bool
+room_for a b = fits a.report.records b.report.records a.traces b.traces
 
 -- count k of both
-abbrev pub bothAt : List ℕ → List ℕ → ℕ → ℕ
-bothAt a b k = getD a k 0 + getD b k 0
+abbrev pub both_at : List ℕ → List ℕ → ℕ → ℕ
+both_at a b k = get_or a k 0 + get_or b k 0
 
 -- the figures of both, and the last trace's end: the later part's, if it has a trace
 unfoldable pub joined : Part → Part → Part
 joined a b =
     record {
       report = record {
-        records = a .report .records + b .report .records;
-        counts = tab 16 (bothAt (a .report .counts) (b .report .counts));
-        discards = a .report .discards + b .report .discards;
-        marked = cond (eqb (b .traces) 0) (a .report .marked) (b .report .marked);
-        missing = cond (eqb (b .traces) 0) (a .report .missing) (b .report .missing);
+        records = a.report.records + b.report.records;
+        counts = tab 16 (both_at a.report.counts b.report.counts);
+        discards = a.report.discards + b.report.discards;
+        marked = cond (eqb b.traces 0) a.report.marked b.report.marked;
+        missing = cond (eqb b.traces 0) a.report.missing b.report.missing;
       };
-      traces = a .traces + b .traces;
-      bad = a .bad + b .bad;
-      differs = a .differs + b .differs;
+      traces = a.traces + b.traces;
+      bad = a.bad + b.bad;
+      differs = a.differs + b.differs;
     }
 
 -- what is handed back
@@ -72,27 +68,27 @@ pub record MergeOutcome : Type 0 where
   pub answer : MergeAnswer
   pub part : Part
 
-abbrev pub mergeOutcome : MergeAnswer → Part → MergeOutcome
-mergeOutcome x p = record { answer = x; part = p }
+abbrev pub merge_outcome : MergeAnswer → Part → MergeOutcome
+merge_outcome x p = record { answer = x; part = p }
 
-abbrev pub mergeNumber : MergeAnswer → ℕ
-mergeNumber BadReport = 71
-mergeNumber TooMany = 70
-mergeNumber Merged = 0
+abbrev pub merge_number : MergeAnswer → ℕ
+merge_number BadReport = 71
+merge_number TooMany = 70
+merge_number Merged = 0
 
 -- what is returned as one value, which the contract names, and its number
-abbrev pub mergeReturn : Merge → MergeOutcome
-mergeReturn m = mergeOutcome (m .answer) (m .part)
+abbrev pub merge_return : Merge → MergeOutcome
+merge_return m = merge_outcome m.answer m.part
 
-abbrev pub outcomeNumber : MergeOutcome → ℕ
-outcomeNumber o = mergeNumber (o .answer)
+abbrev pub outcome_number : MergeOutcome → ℕ
+outcome_number o = merge_number o.answer
 
 -- one trace: 71 of a bad report, and of any other number
-unfoldable pub oneOf : Report → ℕ → MergeOutcome
-oneOf r stop = cond (not (goodReport r && leb stop 2)) (mergeOutcome BadReport freshPart) (mergeOutcome Merged (onePart r stop))
+unfoldable pub one_of : Report → ℕ → MergeOutcome
+one_of r stop = cond (not (good_report r && leb stop 2)) (merge_outcome BadReport fresh_part) (merge_outcome Merged (one_part r stop))
 
 -- two parts: 71 of either, then 70; both leave the part as it was
-unfoldable pub mergeOf : Part → Part → MergeOutcome
-mergeOf a b =
-    cond (not (goodPart a && goodPart b)) (mergeOutcome BadReport a)
-    (cond (not (roomFor a b)) (mergeOutcome TooMany a) (mergeOutcome Merged (joined a b)))
+unfoldable pub merge_of : Part → Part → MergeOutcome
+merge_of a b =
+    cond (not (good_part a && good_part b)) (merge_outcome BadReport a)
+    (cond (not (room_for a b)) (merge_outcome TooMany a) (merge_outcome Merged (joined a b)))

@@ -1,13 +1,16 @@
 // Parts of a fleet's figures: the part of one trace, and two parts as one, which are over two lists of traces, one list after the other.
-ghost use mathlib.Core.Path.{_≡_};
-ghost use Rattle·laws.specs.Numbered.{numbered};
-ghost use Rattle·laws.specs.Sets.{one};
-ghost use Rattle·trace_parts·specs.specs.Merging.{freshPart, isNone, emptyReport, stopsFit, goodPart, onePart, fits, mergeReturn, outcomeNumber, oneOf, mergeOf};
-ghost use Rattle·trace_parts·specs.specs.Summing.{plus, summedTo, lastOf, joinedBy};
-use trace_counts::Missing;
-use trace_counts::Report;
+#![tactic(auto)]
+
+ghost use Rattle.std.specs.Prelude.{◌≡◌};
+ghost use Rattle.laws.specs.Numbered.{numbered};
+ghost use Rattle.laws.specs.Sets.{one};
+ghost use Rattle.trace_parts.specs.Merging.{fresh_part, is_none, empty_report, stops_fit, good_part, one_part, fits, merge_return, outcome_number, one_of, merge_of};
+ghost use Rattle.trace_parts.specs.Summing.{plus, summed_to, last_of, joined_by};
+
+use trace_counts::{Missing, Report};
 
 // What a list of traces comes to: the report over them, how many there are, and how many of them stopped as "bad" and as "differs".
+#[derive(Clone, Copy)]
 pub struct Part {
     pub report: Report,
     pub traces: u32,
@@ -16,6 +19,7 @@ pub struct Part {
 }
 
 // What comes of two parts, or of a report over one trace.
+#[derive(Clone, Copy)]
 pub enum MergeAnswer {
     BadReport,
     TooMany,
@@ -23,6 +27,7 @@ pub enum MergeAnswer {
 }
 
 // What is handed back: the next part, and what came of it.
+#[derive(Clone, Copy)]
 pub struct Merge {
     pub part: Part,
     pub answer: MergeAnswer,
@@ -41,7 +46,7 @@ const DIFFERS: u32 = 2;
 
 impl Part {
     pub fn new() -> Self
-        ensures { λ r. ⌜ r ≡ freshPart ⌝ }
+        ensures { result ≡ fresh_part }
     {
         let report = Report::new();
         Self {
@@ -56,7 +61,7 @@ impl Part {
 // ---- whether parts are good
 
 fn is_none(missing: Missing) -> bool
-    ensures { λ r. ⌜ r ≡ isNone missing ⌝ }
+    ensures { result ≡ is_none missing }
 {
     match missing {
         Missing::None => true,
@@ -66,7 +71,7 @@ fn is_none(missing: Missing) -> bool
 
 // No record, and no end.
 fn is_empty(report: Report) -> bool
-    ensures { λ r. ⌜ r ≡ emptyReport report ⌝ }
+    ensures { result ≡ empty_report report }
 {
     let missing = report.missing;
     (report.records == 0) & ((report.marked == 0) & is_none(missing))
@@ -74,14 +79,14 @@ fn is_empty(report: Report) -> bool
 
 // Does no trace stop twice?
 fn stops_fit(bad: u32, differs: u32, traces: u32) -> bool
-    ensures { λ r. ⌜ r ≡ stopsFit bad differs traces ⌝ }
+    ensures { result ≡ stops_fit bad differs traces }
 {
     bad as u64 + differs as u64 <= traces as u64
 }
 
 // 71 asks this of each.
 fn is_good(part: Part) -> bool
-    ensures { λ r. ⌜ r ≡ goodPart part ⌝ }
+    ensures { result ≡ good_part part }
 {
     let report = part.report;
     trace_counts::is_good(report)
@@ -91,7 +96,7 @@ fn is_good(part: Part) -> bool
 
 // 70 asks this of both.
 fn has_room(records: u32, more: u32, traces: u32, others: u32) -> bool
-    ensures { λ r. ⌜ r ≡ fits records more traces others ⌝ }
+    ensures { result ≡ fits records more traces others }
 {
     (records as u64 + more as u64 <= MAX) & (traces as u64 + others as u64 <= MAX)
 }
@@ -99,13 +104,13 @@ fn has_room(records: u32, more: u32, traces: u32, others: u32) -> bool
 // ---- one trace
 
 fn bit(b: bool) -> u32
-    ensures { λ r. ⌜ r ≡ one b ⌝ }
+    ensures { result ≡ one b }
 {
     if b { 1 } else { 0 }
 }
 
 fn one(report: Report, stop: u32) -> Part
-    ensures { λ r. ⌜ r ≡ onePart report stop ⌝ }
+    ensures { result ≡ one_part report stop }
 {
     Part {
         report,
@@ -117,7 +122,7 @@ fn one(report: Report, stop: u32) -> Part
 
 // The part of one trace: the report over it alone, and where its replay stopped. A report that is not good, or another number, is refused.
 pub fn part_of_one(report: Report, stop: u32) -> Merge
-    ensures { λ r. ⌜ numbered outcomeNumber (mergeReturn r) ≡ numbered outcomeNumber (oneOf report stop) ⌝ }
+    ensures { numbered outcome_number (merge_return result) ≡ numbered outcome_number (one_of report stop) }
 {
     if !(trace_counts::is_good(report) & (stop <= DIFFERS)) {
         return Merge {
@@ -135,13 +140,13 @@ pub fn part_of_one(report: Report, stop: u32) -> Merge
 
 // A sum in 32 bits. Nothing wraps where there is room.
 fn plus(a: u32, b: u32) -> u32
-    ensures { λ r. ⌜ r ≡ plus a b ⌝ }
+    ensures { result ≡ plus a b }
 {
     ((a as u64 + b as u64) % WORD) as u32
 }
 
 fn summed(a: [u32; 16], b: [u32; 16]) -> [u32; 16]
-    ensures { λ r. ⌜ r ≡ summedTo a b 16 ⌝ }
+    ensures { result ≡ summed_to a b 16 }
 {
     let mut counts = a;
     let mut k: usize = 0;
@@ -153,7 +158,7 @@ fn summed(a: [u32; 16], b: [u32; 16]) -> [u32; 16]
 }
 
 fn last_missing(traces: u32, earlier: Missing, later: Missing) -> Missing
-    ensures { λ r. ⌜ r ≡ lastOf traces earlier later ⌝ }
+    ensures { result ≡ last_of traces earlier later }
 {
     if traces == 0 {
         return earlier;
@@ -162,7 +167,7 @@ fn last_missing(traces: u32, earlier: Missing, later: Missing) -> Missing
 }
 
 fn last_marked(traces: u32, earlier: u32, later: u32) -> u32
-    ensures { λ r. ⌜ r ≡ lastOf traces earlier later ⌝ }
+    ensures { result ≡ last_of traces earlier later }
 {
     if traces == 0 {
         return earlier;
@@ -171,7 +176,7 @@ fn last_marked(traces: u32, earlier: u32, later: u32) -> u32
 }
 
 fn join(a: Part, b: Part) -> Part
-    ensures { λ r. ⌜ r ≡ joinedBy a b ⌝ }
+    ensures { result ≡ joined_by a b }
 {
     let earlier = a.report;
     let later = b.report;
@@ -198,7 +203,7 @@ fn join(a: Part, b: Part) -> Part
 
 // Two parts as one, the earlier first. A part that is not good, and then two that would pass the most records or traces, is refused.
 pub fn merge_parts(a: Part, b: Part) -> Merge
-    ensures { λ r. ⌜ numbered outcomeNumber (mergeReturn r) ≡ numbered outcomeNumber (mergeOf a b) ⌝ }
+    ensures { numbered outcome_number (merge_return result) ≡ numbered outcome_number (merge_of a b) }
 {
     if !(is_good(a) & is_good(b)) {
         return Merge {

@@ -1,12 +1,10 @@
 -- One piece of a trace (02, L10): what it comes to. Assumes nothing.
-use Prim.Native.Nat.{ℕ}
-use mathlib.Core.Bool.{cond}
-use mathlib.Core.List.{List}
-use Rattle·partitions.specs.declared.Settings.{Settings}
-use Rattle·arrival.specs.Arrive.{World, receiveOf}
-use Rattle·trace_piece·specs.specs.declared.PieceAnswer.{PieceAnswer}
-use Rattle·trace_piece·specs.specs.declared.PieceAnswer.the-variants as piece
-use Rattle·trace_piece·specs.specs.Piece.{recorded, arrivalIn, isBad, agrees}
+use Rattle.std.specs.Prelude.{ℕ, cond, List}
+use Rattle.partitions.specs.declared.Settings.{Settings}
+use Rattle.arrival.specs.Arrive.{World, receive_of}
+use Rattle.trace_piece.specs.declared.PieceAnswer.{PieceAnswer}
+use Rattle.trace_piece.specs.declared.PieceAnswer.TheVariants as piece
+use Rattle.trace_piece.specs.Piece.{recorded, arrival_in, is_bad, agrees}
 
 -- what came of a piece, with the transfer and the buffers that it leaves
 pub record PieceOutcome : Type 0 where
@@ -14,13 +12,13 @@ pub record PieceOutcome : Type 0 where
   pub world : World
 
 -- both as one value, which the contract names
-abbrev pub pieceOutcome : PieceAnswer → World → PieceOutcome
-pieceOutcome x w = record { answer = x; world = w }
+abbrev pub piece_outcome : PieceAnswer → World → PieceOutcome
+piece_outcome x w = record { answer = x; world = w }
 
 -- a piece that is bad, and "else" one that differs, leaves all as it was; any other is received
-unfoldable pub pieceOf : Settings → World → List ℕ → PieceOutcome
-pieceOf s w p =
-    let ours = receiveOf s w (arrivalIn p) in
-    cond (isBad p) (pieceOutcome piece.Bad w)
-    (cond (agrees (recorded p) (ours .answer) (ours .discarded)) (pieceOutcome piece.Replayed (ours .world))
-    (pieceOutcome piece.Differs w))
+unfoldable pub piece_of : Settings → World → List ℕ → PieceOutcome
+piece_of s w p =
+    let ours = receive_of s w (arrival_in p) in
+    cond (is_bad p) (piece_outcome piece.Bad w)
+    (cond (agrees (recorded p) ours.answer ours.discarded) (piece_outcome piece.Replayed ours.world)
+    (piece_outcome piece.Differs w))

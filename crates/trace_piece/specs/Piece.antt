@@ -1,43 +1,39 @@
 -- One piece of a trace by itself (02, L10). Assumes nothing.
-use Prim.Native.Nat.{ℕ, _/_, _%_}
-use mathlib.Core.Bool.{Bool, true, false, _&&_, _||_, not, cond}
-use mathlib.Core.List.{List}
-use lib.Dec.{eqb}
-use lib.ListN.{length, getD, drop}
-use Rattle·laws.specs.Sets.{one}
-use Rattle·transfer.specs.Transfer.{numberOf}
-use Rattle·transfer.specs.declared.Answer.{Answer}
-use Rattle·trace_piece·specs.specs.declared.PieceAnswer.{PieceAnswer}
-use Rattle·trace_piece·specs.specs.declared.PieceAnswer.the-variants as piece
-use Rattle·trace_piece·specs.specs.declared.Stop.{Stop}
-use Rattle·trace_piece·specs.specs.declared.Stop.the-variants as stop
+use Rattle.std.specs.Prelude.{ℕ, ◌/◌, ◌%◌, Bool, true, false, ◌&&◌, ◌||◌, not, cond, List, eqb, length, get_or, drop}
+use Rattle.laws.specs.Sets.{one}
+use Rattle.transfer.specs.Transfer.{number_of}
+use Rattle.transfer.specs.declared.Answer.{Answer}
+use Rattle.trace_piece.specs.declared.PieceAnswer.{PieceAnswer}
+use Rattle.trace_piece.specs.declared.PieceAnswer.TheVariants as piece
+use Rattle.trace_piece.specs.declared.Stop.{Stop}
+use Rattle.trace_piece.specs.declared.Stop.TheVariants as stop
 
 -- "one byte, top bits first, with answer (5 bits), discarded (1), two zeros, then the arrival"
 abbrev pub recorded : List ℕ → ℕ
-recorded p = getD p 0 0
+recorded p = get_or p 0 0
 
-abbrev pub arrivalIn : List ℕ → List ℕ
-arrivalIn p = drop 1 p
+abbrev pub arrival_in : List ℕ → List ℕ
+arrival_in p = drop 1 p
 
 -- "short or has stray bits"; a piece of a trace never has more than 513 bytes
-unfoldable pub isBad : List ℕ → Bool
-isBad p = not (eqb (length p) 513) || not (eqb (recorded p % 4) 0)
+unfoldable pub is_bad : List ℕ → Bool
+is_bad p = not (eqb (length p) 513) || not (eqb (recorded p % 4) 0)
 
 -- what the byte of a record says is our answer and our "discarded"
 unfoldable pub agrees : ℕ → Answer → Bool → Bool
-agrees b x d = eqb (b / 8) (numberOf x) && eqb (b / 4 % 2) (one d)
+agrees b x d = eqb (b / 8) (number_of x) && eqb (b / 4 % 2) (one d)
 
 -- what comes of a record
-abbrev pub comparedOf : ℕ → Answer → Bool → PieceAnswer
-comparedOf b x d = cond (agrees b x d) piece.Replayed piece.Differs
+abbrev pub compared_of : ℕ → Answer → Bool → PieceAnswer
+compared_of b x d = cond (agrees b x d) piece.Replayed piece.Differs
 
-abbrev pub isReplayed : PieceAnswer → Bool
-isReplayed piece.Replayed = true
-isReplayed piece.Bad = false
-isReplayed piece.Differs = false
+abbrev pub is_replayed : PieceAnswer → Bool
+is_replayed piece.Replayed = true
+is_replayed piece.Bad = false
+is_replayed piece.Differs = false
 
 -- ""bad" and its index from 0", ""differs" and its index"
-abbrev pub stopOf : PieceAnswer → ℕ → Stop
-stopOf piece.Replayed i = stop.None
-stopOf piece.Bad i = stop.Bad i
-stopOf piece.Differs i = stop.Differs i
+abbrev pub stop_of : PieceAnswer → ℕ → Stop
+stop_of piece.Replayed i = stop.None
+stop_of piece.Bad i = stop.Bad i
+stop_of piece.Differs i = stop.Differs i

@@ -1,7 +1,8 @@
 // What comes of one piece of a trace: its arrival is looked at, and what is recorded compared with what we answer. Nothing is written.
-ghost use mathlib.Core.Path.{_≡_};
-ghost use Rattle·uf2_receiver.specs.Receiver.{lentAt, world};
-ghost use Rattle·trace_piece·specs.specs.Compared.{pieceOf};
+ghost use Rattle.std.specs.Prelude.{◌≡◌};
+ghost use Rattle.uf2_receiver.specs.Receiver.{lent_at, world};
+ghost use Rattle.trace_piece.specs.Compared.{piece_of};
+
 use crate::PieceAnswer;
 use partitions::Settings;
 use transfer::Transfer;
@@ -17,7 +18,7 @@ pub fn judge(
     main: &[u8],
     xip: &[u8],
 ) -> PieceAnswer
-    ensures { λ r. ⌜ r ≡ pieceOf settings (world transfer (lentAt flash seen sectors main xip)) (now (piece .entry)) .answer ⌝ }
+    ensures { result ≡ (piece_of settings (world transfer (lent_at flash.now seen.now sectors.now main.now xip.now)) piece.now).answer }
 {
     if crate::is_bad(piece) {
         return PieceAnswer::Bad;

@@ -1,16 +1,20 @@
 // One piece of a trace by itself: whether it is a record, whether it says what we answer, what comes of it, and where a replay stops then.
+#![tactic(auto)]
+
 pub mod comparing;
 pub mod ends;
 
-ghost use mathlib.Core.Path.{_≡_};
-ghost use Rattle·laws.specs.Sets.{one};
-ghost use Rattle·trace_piece·specs.specs.Piece.{isBad, agrees, comparedOf, isReplayed, stopOf};
+ghost use Rattle.std.specs.Prelude.{◌≡◌};
+ghost use Rattle.laws.specs.Sets.{one};
+ghost use Rattle.trace_piece.specs.Piece.{is_bad, agrees, compared_of, is_replayed, stop_of};
+
 use transfer::Answer;
 
 // The bytes of a record: one with answer and "discarded", and the arrival.
 pub const RECORD: usize = 513;
 
 // What comes of one piece: it is replayed, or it is no record, or what it records is not what we answer.
+#[derive(Clone, Copy)]
 pub enum PieceAnswer {
     Replayed,
     Bad,
@@ -18,6 +22,7 @@ pub enum PieceAnswer {
 }
 
 // Where a replay stops, by the index of the piece from 0.
+#[derive(Clone, Copy)]
 pub enum Stop {
     None,
     Bad(usize),
@@ -25,14 +30,14 @@ pub enum Stop {
 }
 
 fn bit(b: bool) -> u8
-    ensures { λ r. ⌜ r ≡ one b ⌝ }
+    ensures { result ≡ one b }
 {
     if b { 1 } else { 0 }
 }
 
 // Is a piece of another length than a record's, or are there stray bits?
-pub(crate) fn is_bad(piece: &[u8]) -> bool
-    ensures { λ r. ⌜ r ≡ isBad (now (piece .entry)) ⌝ }
+pub fn is_bad(piece: &[u8]) -> bool
+    ensures { result ≡ is_bad piece.now }
 {
     if piece.len() != RECORD {
         return true;
@@ -42,7 +47,7 @@ pub(crate) fn is_bad(piece: &[u8]) -> bool
 
 // Is what a record's first byte says our answer and our "discarded"?
 fn agrees(recorded: u8, answer: Answer, discarded: bool) -> bool
-    ensures { λ r. ⌜ r ≡ agrees recorded answer discarded ⌝ }
+    ensures { result ≡ agrees recorded answer discarded }
 {
     let number = answer.number();
     let bit = bit(discarded);
@@ -50,8 +55,8 @@ fn agrees(recorded: u8, answer: Answer, discarded: bool) -> bool
 }
 
 // What comes of a record, by its first byte and what we answer.
-pub(crate) fn compared(recorded: u8, answer: Answer, discarded: bool) -> PieceAnswer
-    ensures { λ r. ⌜ r ≡ comparedOf recorded answer discarded ⌝ }
+pub fn compared(recorded: u8, answer: Answer, discarded: bool) -> PieceAnswer
+    ensures { result ≡ compared_of recorded answer discarded }
 {
     if agrees(recorded, answer, discarded) {
         PieceAnswer::Replayed
@@ -62,7 +67,7 @@ pub(crate) fn compared(recorded: u8, answer: Answer, discarded: bool) -> PieceAn
 
 impl PieceAnswer {
     pub fn is_replayed(self) -> bool
-        ensures { λ r. ⌜ r ≡ isReplayed self ⌝ }
+        ensures { result ≡ is_replayed self }
     {
         match self {
             PieceAnswer::Replayed => true,
@@ -73,8 +78,8 @@ impl PieceAnswer {
 }
 
 // Where a replay stops, by what came of the piece at an index.
-pub(crate) fn stop_of(answer: PieceAnswer, index: usize) -> Stop
-    ensures { λ r. ⌜ r ≡ stopOf answer index ⌝ }
+pub fn stop_of(answer: PieceAnswer, index: usize) -> Stop
+    ensures { result ≡ stop_of answer index }
 {
     match answer {
         PieceAnswer::Replayed => Stop::None,

@@ -1,20 +1,17 @@
 -- A whole trace (02, L10): its pieces one after the other, from Idle. Assumes nothing.
-use Prim.Native.Nat.{ℕ, zero, suc, _+_, _/_}
-use mathlib.Core.Bool.{cond}
-use mathlib.Core.List.{List, [], _∷_}
-use lib.ListN.{length, take, drop}
-use Rattle·memory.specs.Bitmap.{unmarked}
-use Rattle·partitions.specs.declared.Settings.{Settings}
-use Rattle·transfer.specs.Transfer.{fresh}
-use Rattle·transfer.specs.declared.Transfer.{Transfer}
-use Rattle·arrival.specs.Arrive.{Lent, World}
-use Rattle·uf2_receiver.specs.Receiver.{lent, world}
-use Rattle·trace_piece.specs.declared.Stop.{Stop}
-use Rattle·trace_piece.specs.declared.Stop.the-variants.{None}
-use Rattle·trace_piece.specs.Piece.{isReplayed, stopOf}
-pub use Rattle·trace_piece.specs.Ends.{beforeStop}
-use Rattle·trace_replay·specs.specs.Trace.{PieceOutcome, pieceOf}
-use Rattle·trace_counts.specs.Tally.{tallyTo}
+use Rattle.std.specs.Prelude.{ℕ, zero, suc, ◌+◌, ◌/◌, cond, List, [], ◌∷◌, length, take, drop}
+use Rattle.memory.specs.Bitmap.{unmarked}
+use Rattle.partitions.specs.declared.Settings.{Settings}
+use Rattle.transfer.specs.Transfer.{fresh}
+use Rattle.transfer.specs.declared.Transfer.{Transfer}
+use Rattle.arrival.specs.Arrive.{Lent, World}
+use Rattle.uf2_receiver.specs.Receiver.{lent, world}
+use Rattle.trace_piece.specs.declared.Stop.{Stop}
+use Rattle.trace_piece.specs.declared.Stop.TheVariants.{None}
+use Rattle.trace_piece.specs.Piece.{is_replayed, stop_of}
+pub use Rattle.trace_piece.specs.Ends.{before_stop}
+use Rattle.trace_replay.specs.Trace.{PieceOutcome, piece_of}
+use Rattle.trace_counts.specs.Tally.{tally_to}
 
 -- ---- the pieces of a trace
 
@@ -24,8 +21,8 @@ cut zero l = []
 cut (suc n) l = take 513 l ∷ cut n (drop 513 l)
 
 -- "A trace is records of 513 bytes"
-unfoldable pub piecesOf : List ℕ → List (List ℕ)
-piecesOf l = cut ((length l + 512) / 513) l
+unfoldable pub pieces_of : List ℕ → List (List ℕ)
+pieces_of l = cut ((length l + 512) / 513) l
 
 -- ---- the whole
 
@@ -35,24 +32,24 @@ pub record TraceOutcome : Type 0 where
   pub world : World
 
 -- both as one value, which the contract names
-abbrev pub traceOutcome : Stop → World → TraceOutcome
-traceOutcome x w = record { stop = x; world = w }
+abbrev pub trace_outcome : Stop → World → TraceOutcome
+trace_outcome x w = record { stop = x; world = w }
 
 -- a piece that is not replayed, with index i, stops the replay; else what the pieces after it come to is what comes
-abbrev pub wentOn : ℕ → PieceOutcome → TraceOutcome → TraceOutcome
-wentOn i o rest = cond (isReplayed (o .answer)) rest (traceOutcome (stopOf (o .answer) i) (o .world))
+abbrev pub went_on : ℕ → PieceOutcome → TraceOutcome → TraceOutcome
+went_on i o rest = cond (is_replayed o.answer) rest (trace_outcome (stop_of o.answer i) o.world)
 
 -- pieces one after the other, the first with index i; "else it says "none""
-unfoldable pub replayFrom : Settings → ℕ → World → List (List ℕ) → TraceOutcome
-replayFrom s i w [] = traceOutcome None w
-replayFrom s i w (p ∷ l) = wentOn i (pieceOf s w p) (replayFrom s (i + 1) (pieceOf s w p .world) l)
+unfoldable pub replay_from : Settings → ℕ → World → List (List ℕ) → TraceOutcome
+replay_from s i w [] = trace_outcome None w
+replay_from s i w (p ∷ l) = went_on i (piece_of s w p) (replay_from s (i + 1) (piece_of s w p).world l)
 
 -- "From Idle with given settings and buffers, both maps zeroed first"
 unfoldable pub begun : Lent → World
-begun h = world fresh (lent (h .flash) (unmarked (length (h .seen))) (unmarked (length (h .sectors))) (h .main) (h .xip))
+begun h = world fresh (lent h.flash (unmarked (length h.seen)) (unmarked (length h.sectors)) h.main h.xip)
 
-unfoldable pub replayOf : Settings → Lent → List ℕ → TraceOutcome
-replayOf s h t = replayFrom s 0 (begun h) (piecesOf t)
+unfoldable pub replay_of : Settings → Lent → List ℕ → TraceOutcome
+replay_of s h t = replay_from s 0 (begun h) (pieces_of t)
 
 -- ---- with a tally
 
@@ -61,20 +58,20 @@ pub record TallyOutcome : Type 0 where
   pub outcome : TraceOutcome
   pub tally : List ℕ
 
-abbrev pub tallyOutcome : TraceOutcome → List ℕ → TallyOutcome
-tallyOutcome o l = record { outcome = o; tally = l }
+abbrev pub tally_outcome : TraceOutcome → List ℕ → TallyOutcome
+tally_outcome o l = record { outcome = o; tally = l }
 
 -- all of it as one value, which the contract names
-abbrev pub tallyReturn : Stop → Transfer → List ℕ → Lent → TallyOutcome
-tallyReturn x u l h = tallyOutcome (traceOutcome x (world u h)) l
+abbrev pub tally_return : Stop → Transfer → List ℕ → Lent → TallyOutcome
+tally_return x u l h = tally_outcome (trace_outcome x (world u h)) l
 
 -- the records before the stop counted in a tally that was l
-unfoldable pub withCounts : List ℕ → List ℕ → TraceOutcome → TallyOutcome
-withCounts l t o = tallyOutcome o (tallyTo l t (beforeStop (length t / 513) (o .stop)))
+unfoldable pub with_counts : List ℕ → List ℕ → TraceOutcome → TallyOutcome
+with_counts l t o = tally_outcome o (tally_to l t (before_stop (length t / 513) o.stop))
 
 -- the pieces from Idle, and the whole: of settings, the tally and the trace, and what is lent
-abbrev pub countedRun : Settings → List ℕ → List ℕ → Lent → TallyOutcome
-countedRun s l t h = withCounts l t (replayFrom s 0 (world fresh h) (piecesOf t))
+abbrev pub counted_run : Settings → List ℕ → List ℕ → Lent → TallyOutcome
+counted_run s l t h = with_counts l t (replay_from s 0 (world fresh h) (pieces_of t))
 
-abbrev pub countedReplay : Settings → List ℕ → List ℕ → Lent → TallyOutcome
-countedReplay s l t h = withCounts l t (replayOf s h t)
+abbrev pub counted_replay : Settings → List ℕ → List ℕ → Lent → TallyOutcome
+counted_replay s l t h = with_counts l t (replay_of s h t)

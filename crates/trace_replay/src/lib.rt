@@ -1,15 +1,18 @@
 // A whole trace of what a site sent, replayed from Idle: its pieces one after the other, and a tally of the records that were replayed.
-mod one_piece;
+#![tactic(auto)]
 
-ghost use mathlib.Core.Path.{_≡_};
-ghost use Prim.Native.Nat.{_+_, _-_, _≤_, min};
-ghost use Rattle·uf2_receiver.specs.Receiver.{lentAt, leftAt, world};
-ghost use Rattle·trace_replay·specs.specs.Replay.{traceOutcome, replayOf, tallyReturn, countedRun, countedReplay};
+pub mod one_piece;
+
+ghost use Rattle.std.specs.Prelude.{◌≡◌, ◌+◌, ◌-◌, ◌≤◌, min};
+ghost use Rattle.uf2_receiver.specs.Receiver.{lent_at, left_at, world};
+ghost use Rattle.trace_replay.specs.Replay.{trace_outcome, replay_of, tally_return, counted_run, counted_replay};
+
 use partitions::Settings;
 use trace_piece::Stop;
 use transfer::Transfer;
 
 // What a trace hands back: the transfer at its end, and where it stopped.
+#[derive(Clone, Copy)]
 pub struct TraceReceipt {
     pub transfer: Transfer,
     pub stop: Stop,
@@ -17,8 +20,8 @@ pub struct TraceReceipt {
 
 // The end of the piece that begins at `at`: the last may be shorter.
 fn piece_end(at: usize, len: usize) -> usize
-    requires { ⌜ at ≤ len ⌝ }
-    ensures { λ r. ⌜ r ≡ at + min 513 (len - at) ⌝ }
+    requires { at ≤ len }
+    ensures { result ≡ at + min 513 (len - at) }
 {
     let left = len - at;
     if trace_piece::RECORD <= left {
@@ -39,7 +42,7 @@ fn run(
     main: &mut [u8],
     xip: &mut [u8],
 ) -> TraceReceipt
-    ensures { λ r. ⌜ tallyReturn (r .stop) (r .transfer) (now (tally .exit)) (leftAt flash seen sectors main xip) ≡ countedRun settings (now (tally .entry)) (now (trace .entry)) (lentAt flash seen sectors main xip) ⌝ }
+    ensures { tally_return result.stop result.transfer tally.new (left_at flash.new seen.new sectors.new main.new xip.new) ≡ counted_run settings tally.old trace.now (lent_at flash.old seen.old sectors.old main.old xip.old) }
 {
     let len = trace.len();
     let mut t = Transfer::new();
@@ -85,7 +88,7 @@ pub fn replay_counted(
     main: &mut [u8],
     xip: &mut [u8],
 ) -> TraceReceipt
-    ensures { λ r. ⌜ tallyReturn (r .stop) (r .transfer) (now (tally .exit)) (leftAt flash seen sectors main xip) ≡ countedReplay settings (now (tally .entry)) (now (trace .entry)) (lentAt flash seen sectors main xip) ⌝ }
+    ensures { tally_return result.stop result.transfer tally.new (left_at flash.new seen.new sectors.new main.new xip.new) ≡ counted_replay settings tally.old trace.now (lent_at flash.old seen.old sectors.old main.old xip.old) }
 {
     trace_piece::ends::clear_maps(seen, sectors);
     run(settings, trace, tally, flash, seen, sectors, main, xip)
@@ -101,7 +104,7 @@ pub fn replay(
     main: &mut [u8],
     xip: &mut [u8],
 ) -> TraceReceipt
-    ensures { λ r. ⌜ traceOutcome (r .stop) (world (r .transfer) (leftAt flash seen sectors main xip)) ≡ replayOf settings (lentAt flash seen sectors main xip) (now (trace .entry)) ⌝ }
+    ensures { trace_outcome result.stop (world result.transfer (left_at flash.new seen.new sectors.new main.new xip.new)) ≡ replay_of settings (lent_at flash.old seen.old sectors.old main.old xip.old) trace.now }
 {
     let mut tally = [0usize; 0];
     replay_counted(settings, trace, &mut tally, flash, seen, sectors, main, xip)

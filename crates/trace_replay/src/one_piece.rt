@@ -1,19 +1,21 @@
 // A trace of what a site sent: records of the answer and "discarded" that the site got, each with its arrival. One piece of it is replayed.
-ghost use mathlib.Core.Path.{_≡_};
-ghost use Rattle·uf2_receiver.specs.Receiver.{lentAt, leftAt, world};
-ghost use Rattle·trace_replay·specs.specs.Trace.{pieceOutcome, pieceOf};
+ghost use Rattle.std.specs.Prelude.{◌≡◌};
+ghost use Rattle.uf2_receiver.specs.Receiver.{lent_at, left_at, world};
+ghost use Rattle.trace_replay.specs.Trace.{piece_outcome, piece_of};
+
 use partitions::Settings;
 use trace_piece::PieceAnswer;
 use transfer::Transfer;
 
 // What a piece hands back: the next transfer, and what came of the piece.
+#[derive(Clone, Copy)]
 pub struct PieceReceipt {
     pub transfer: Transfer,
     pub answer: PieceAnswer,
 }
 
 // One piece of a trace: it is looked at, and taken where it is a record that says what we answer. Else nothing changes.
-pub(crate) fn replay_piece(
+pub fn replay_piece(
     settings: Settings,
     transfer: Transfer,
     piece: &[u8],
@@ -23,17 +25,10 @@ pub(crate) fn replay_piece(
     main: &mut [u8],
     xip: &mut [u8],
 ) -> PieceReceipt
-    ensures { λ r. ⌜ pieceOutcome (r .answer) (world (r .transfer) (leftAt flash seen sectors main xip)) ≡ pieceOf settings (world transfer (lentAt flash seen sectors main xip)) (now (piece .entry)) ⌝ }
+    ensures { piece_outcome result.answer (world result.transfer (left_at flash.new seen.new sectors.new main.new xip.new)) ≡ piece_of settings (world transfer (lent_at flash.old seen.old sectors.old main.old xip.old)) piece.now }
 {
     let answer = trace_piece::comparing::judge(
-        settings,
-        transfer,
-        piece,
-        flash,
-        seen,
-        sectors,
-        main,
-        xip,
+        settings, transfer, piece, flash, seen, sectors, main, xip,
     );
     if !answer.is_replayed() {
         return PieceReceipt { transfer, answer };

@@ -1,23 +1,21 @@
 -- What a replayed trace adds, as the code counts it: from the bytes that the records begin with. Assumes nothing.
-use Prim.Native.Nat.{ℕ, _/_}
-use mathlib.Core.List.{List}
-use lib.ListN.{length, replicate}
-use Rattle·partitions.specs.declared.Settings.{Settings}
-use Rattle·arrival.specs.Arrive.{Lent, lentOf}
-use Rattle·trace_counts.specs.declared.Report.{Report}
-use Rattle·trace_counts.specs.Counts.{tallyTo, withTally, endedOf}
-use Rattle·trace_replay.specs.Replay.{TraceOutcome, replayOf, beforeStop}
-use Rattle·trace_report·specs.specs.declared.adding.FiguresAnswer.the-variants.{Replayed}
-use Rattle·trace_report·specs.specs.Report.{FiguresOutcome, figuresOutcome}
+use Rattle.std.specs.Prelude.{ℕ, ◌/◌, List, length, replicate}
+use Rattle.partitions.specs.declared.Settings.{Settings}
+use Rattle.arrival.specs.Arrive.{Lent, lent_of}
+use Rattle.trace_counts.specs.declared.Report.{Report}
+use Rattle.trace_counts.specs.Counts.{tally_to, with_tally, ended_of}
+use Rattle.trace_replay.specs.Replay.{TraceOutcome, replay_of, before_stop}
+use Rattle.trace_report.specs.declared.adding.FiguresAnswer.TheVariants.{Replayed}
+use Rattle.trace_report.specs.Report.{FiguresOutcome, figures_outcome}
 
 -- the records before the stop, in a tally from zero
-unfoldable pub talliedBy : Report → List ℕ → TraceOutcome → Report
-talliedBy r t o =
-    let n = beforeStop (length t / 513) (o .stop) in
-    endedOf (withTally r (tallyTo (replicate 33 0) t n) n) (o .world .transfer) (o .world .seen)
+unfoldable pub tallied_by : Report → List ℕ → TraceOutcome → Report
+tallied_by r t o =
+    let n = before_stop (length t / 513) o.stop in
+    ended_of (with_tally r (tally_to (replicate 33 0) t n) n) o.world.transfer o.world.seen
 
 -- what comes of a trace that is replayed, whatever the report
-unfoldable pub replayedBy : Report → Settings → Lent → List ℕ → FiguresOutcome
-replayedBy r s h t =
-    let o = replayOf s h t in
-    figuresOutcome (Replayed (o .stop)) (talliedBy r t o) (lentOf (o .world))
+unfoldable pub replayed_by : Report → Settings → Lent → List ℕ → FiguresOutcome
+replayed_by r s h t =
+    let o = replay_of s h t in
+    figures_outcome (Replayed o.stop) (tallied_by r t o) (lent_of o.world)

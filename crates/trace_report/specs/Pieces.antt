@@ -1,10 +1,7 @@
 -- A trace by how its records are written and where its pieces stand (02, L10). Assumes nothing.
-use Prim.Native.Nat.{ℕ, zero, suc, _+_, _*_, _/_, _≤_}
-use mathlib.Core.Path.{_≡_}
-use mathlib.Core.List.{List, [], _∷_, _++_}
-use lib.ListN.{length, take, drop}
-use Rattle·trace_piece.specs.declared.Stop.{Stop}
-use Rattle·trace_piece.specs.declared.Stop.the-variants.{None, Bad, Differs}
+use Rattle.std.specs.Prelude.{ℕ, zero, suc, ◌+◌, ◌*◌, ◌/◌, ◌≤◌, ◌≡◌, List, [], ◌∷◌, ◌++◌, length, take, drop}
+use Rattle.trace_piece.specs.declared.Stop.{Stop}
+use Rattle.trace_piece.specs.declared.Stop.TheVariants.{None, Bad, Differs}
 
 -- ---- a record as it is written
 
@@ -24,20 +21,20 @@ pub record IsRecord (p : List ℕ) : Type 0 where
 -- ---- the pieces of a trace
 
 -- piece k, which begins in the trace where 513 * k is below its length; the last may be shorter
-abbrev pub pieceAt : List ℕ → ℕ → List ℕ
-pieceAt t k = take 513 (drop (513 * k) t)
+abbrev pub piece_at : List ℕ → ℕ → List ℕ
+piece_at t k = take 513 (drop (513 * k) t)
 
 -- its arrival
-abbrev pub arrivalAt : List ℕ → ℕ → List ℕ
-arrivalAt t k = drop 1 (pieceAt t k)
+abbrev pub arrival_at : List ℕ → ℕ → List ℕ
+arrival_at t k = drop 1 (piece_at t k)
 
 -- the arrivals of the first n pieces
-unfoldable pub arrivalsTo : List ℕ → ℕ → List (List ℕ)
-arrivalsTo t zero = []
-arrivalsTo t (suc n) = arrivalsTo t n ++ (arrivalAt t n ∷ [])
+unfoldable pub arrivals_to : List ℕ → ℕ → List (List ℕ)
+arrivals_to t zero = []
+arrivals_to t (suc n) = arrivals_to t n ++ (arrival_at t n ∷ [])
 
 -- how many records stand before the stop
-abbrev pub recordsBefore : List ℕ → Stop → ℕ
-recordsBefore t None = length t / 513
-recordsBefore t (Bad i) = i
-recordsBefore t (Differs i) = i
+abbrev pub records_before : List ℕ → Stop → ℕ
+records_before t None = length t / 513
+records_before t (Bad i) = i
+records_before t (Differs i) = i

@@ -1,10 +1,12 @@
 // What one trace adds to an exact report, and what comes of it: the answers, and by their meaning what is added.
-ghost use mathlib.Core.Path.{_≡_};
-ghost use Rattle·trace_report·specs.specs.Report.{figuresNumber};
+ghost use Rattle.std.specs.Prelude.{◌≡◌};
+ghost use Rattle.trace_report.specs.Report.{figures_number};
+
 use trace_counts::Report;
 use trace_piece::Stop;
 
 // What comes of a trace that is handed to a report.
+#[derive(Clone, Copy)]
 pub enum FiguresAnswer {
     BadReport,
     TooMany,
@@ -12,6 +14,7 @@ pub enum FiguresAnswer {
 }
 
 // What is handed back: the next report, and what came of the trace.
+#[derive(Clone, Copy)]
 pub struct Addition {
     pub report: Report,
     pub answer: FiguresAnswer,
@@ -19,7 +22,7 @@ pub struct Addition {
 
 impl FiguresAnswer {
     pub fn number(self) -> u8
-        ensures { λ r. ⌜ r ≡ figuresNumber self ⌝ }
+        ensures { result ≡ figures_number self }
     {
         match self {
             FiguresAnswer::BadReport => 71,

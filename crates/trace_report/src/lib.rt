@@ -1,13 +1,15 @@
 // An exact report over traces: each call adds one trace, replayed from Idle.
+#![tactic(auto)]
+
 pub mod adding;
 
-ghost use mathlib.Core.Path.{_≡_};
-ghost use Rattle·laws.specs.Numbered.{numbered};
-ghost use Rattle·uf2_receiver.specs.Receiver.{lentAt, leftAt};
-ghost use Rattle·trace_report·specs.specs.Report.{addReturn, outcomeNumber, addOf};
-ghost use Rattle·trace_report·specs.specs.Counting.{replayedBy};
-use crate::adding::Addition;
-use crate::adding::FiguresAnswer;
+ghost use Rattle.std.specs.Prelude.{◌≡◌};
+ghost use Rattle.laws.specs.Numbered.{numbered};
+ghost use Rattle.uf2_receiver.specs.Receiver.{lent_at, left_at};
+ghost use Rattle.trace_report.specs.Report.{add_return, outcome_number, add_of};
+ghost use Rattle.trace_report.specs.Counting.{replayed_by};
+
+use crate::adding::{Addition, FiguresAnswer};
 use partitions::Settings;
 use trace_counts::Report;
 
@@ -22,19 +24,12 @@ fn add_replayed(
     main: &mut [u8],
     xip: &mut [u8],
 ) -> Addition
-    ensures { λ r. ⌜ addReturn r (leftAt flash seen sectors main xip) ≡ replayedBy report settings (lentAt flash seen sectors main xip) (now (trace .entry)) ⌝ }
+    ensures { add_return result (left_at flash.new seen.new sectors.new main.new xip.new) ≡ replayed_by report settings (lent_at flash.old seen.old sectors.old main.old xip.old) trace.now }
 {
     let pieces = trace.len() / trace_piece::RECORD;
     let mut tally = [0usize; trace_counts::tallies::TALLY];
     let replayed = trace_replay::replay_counted(
-        settings,
-        trace,
-        &mut tally,
-        flash,
-        seen,
-        sectors,
-        main,
-        xip,
+        settings, trace, &mut tally, flash, seen, sectors, main, xip,
     );
     let stop = replayed.stop;
     let transfer = replayed.transfer;
@@ -60,7 +55,7 @@ pub fn add(
     main: &mut [u8],
     xip: &mut [u8],
 ) -> Addition
-    ensures { λ r. ⌜ numbered outcomeNumber (addReturn r (leftAt flash seen sectors main xip)) ≡ numbered outcomeNumber (addOf report settings (lentAt flash seen sectors main xip) (now (trace .entry))) ⌝ }
+    ensures { numbered outcome_number (add_return result (left_at flash.new seen.new sectors.new main.new xip.new)) ≡ numbered outcome_number (add_of report settings (lent_at flash.old seen.old sectors.old main.old xip.old) trace.now) }
 {
     if !trace_counts::is_good(report) {
         return Addition {

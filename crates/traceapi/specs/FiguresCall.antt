@@ -1,13 +1,11 @@
 -- What the call that adds a trace to a report (02, L14) answers and leaves. Assumes nothing.
-use Prim.Native.Nat.{ℕ}
-use mathlib.Core.List.{List}
-use denote.Ref.{now}
-use Rattle·arrival.specs.Arrive.{Lent}
-use Rattle·uf2_receiver.specs.Receiver.{Slice}
-use Rattle·settings_layout.specs.Layout.{settingsFrom}
-use Rattle·trace_report.specs.Report.{FiguresOutcome, addOf}
-use Rattle·trace_layout.specs.Reports.{reportFrom}
-use Rattle·trace_layout.specs.Kept.{figuresResult, keptReport, keptIndex}
+use Rattle.std.specs.Prelude.{ℕ, List}
+use Rattle.arrival.specs.Arrive.{Lent}
+use Rattle.uf2_receiver.specs.Receiver.{Slice}
+use Rattle.settings_layout.specs.Layout.{settings_from}
+use Rattle.trace_report.specs.Report.{FiguresOutcome, add_of}
+use Rattle.trace_layout.specs.Reports.{report_from}
+use Rattle.trace_layout.specs.Kept.{figures_result, kept_report, kept_index}
 
 -- what is returned, and what the lent buffers hold
 pub record FiguresCall : Type 0 where
@@ -17,20 +15,20 @@ pub record FiguresCall : Type 0 where
   pub lent : Lent
 
 -- all of them as one value, which the contract names
-abbrev pub figuresCall : ℕ → List ℕ → List ℕ → Lent → FiguresCall
-figuresCall n r i h = record { result = n; report = r; index = i; lent = h }
+abbrev pub figures_call : ℕ → List ℕ → List ℕ → Lent → FiguresCall
+figures_call n r i h = record { result = n; report = r; index = i; lent = h }
 
 -- what a call returns and leaves of a trace that comes to o; r and i are the bytes of report and index as they were lent
-abbrev pub figuresCallEnd : List ℕ → List ℕ → FiguresOutcome → FiguresCall
-figuresCallEnd r i o = figuresCall (figuresResult (o .answer)) (keptReport r (o .answer) (o .report)) (keptIndex i (o .answer)) (o .lent)
+abbrev pub figures_call_end : List ℕ → List ℕ → FiguresOutcome → FiguresCall
+figures_call_end r i o = figures_call (figures_result o.answer) (kept_report r o.answer o.report) (kept_index i o.answer) o.lent
 
 -- bytes of report and settings, trace, bytes of the index, and what is lent
-unfoldable pub figuresBytes : List ℕ → List ℕ → List ℕ → List ℕ → Lent → FiguresCall
-figuresBytes r s trace i h = figuresCallEnd r i (addOf (reportFrom r) (settingsFrom s) h trace)
+unfoldable pub figures_bytes : List ℕ → List ℕ → List ℕ → List ℕ → Lent → FiguresCall
+figures_bytes r s trace i h = figures_call_end r i (add_of (report_from r) (settings_from s) h trace)
 
 -- the same of the slices that the call is lent, and what it returns and leaves, which the contract names
-abbrev pub figuresCallOf : Slice → Slice → Slice → Slice → Lent → FiguresCall
-figuresCallOf r s trace i h = figuresBytes (now (r .entry)) (now (s .entry)) (now (trace .entry)) (now (i .entry)) h
+abbrev pub figures_call_of : Slice → Slice → Slice → Slice → Lent → FiguresCall
+figures_call_of r s trace i h = figures_bytes r s trace i h
 
-abbrev pub figuresReturn : ℕ → Slice → Slice → Lent → FiguresCall
-figuresReturn n r i h = figuresCall n (now (r .exit)) (now (i .exit)) h
+abbrev pub figures_return : ℕ → Slice → Slice → Lent → FiguresCall
+figures_return n r i h = figures_call n r i h

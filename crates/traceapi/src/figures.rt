@@ -1,10 +1,10 @@
 // The call that adds a trace to a report. The report is bytes in the layout of `reports`, settings in that of `layout`.
-ghost use mathlib.Core.Path.{_≡_};
-ghost use Rattle·uf2_receiver.specs.Receiver.{lentAt, leftAt};
-ghost use Rattle·traceapi·specs.specs.FiguresCall.{figuresReturn, figuresCallOf};
+ghost use Rattle.std.specs.Prelude.{◌≡◌};
+ghost use Rattle.uf2_receiver.specs.Receiver.{lent_at, left_at};
+ghost use Rattle.traceapi.specs.FiguresCall.{figures_return, figures_call_of};
 
 // One trace more: where its replay stopped, as `uf2_replay` has it, or 70 or 71, which leave report and buffers.
-#[no_mangle]
+#[unsafe(no_mangle)]
 pub extern "C" fn uf2_figures(
     report: &mut [u8],
     settings: &[u8],
@@ -16,7 +16,7 @@ pub extern "C" fn uf2_figures(
     xip: &mut [u8],
     index: &mut [u8],
 ) -> u32
-    ensures { λ r. ⌜ figuresReturn r report index (leftAt flash seen sectors main xip) ≡ figuresCallOf report settings trace index (lentAt flash seen sectors main xip) ⌝ }
+    ensures { figures_return result report.new index.new (left_at flash.new seen.new sectors.new main.new xip.new) ≡ figures_call_of report.old settings.now trace.now index.old (lent_at flash.old seen.old sectors.old main.old xip.old) }
 {
     let was = trace_layout::reports::read_report(report);
     let s = settings_layout::read_settings(settings);

@@ -1,10 +1,10 @@
 // The call that replays a trace. Settings and the transfer are bytes in the layout of `layout`.
-ghost use mathlib.Core.Path.{_≡_};
-ghost use Rattle·uf2_receiver.specs.Receiver.{lentAt, leftAt};
-ghost use Rattle·traceapi·specs.specs.ReplayCall.{replayReturn, replayCallOf};
+ghost use Rattle.std.specs.Prelude.{◌≡◌};
+ghost use Rattle.uf2_receiver.specs.Receiver.{lent_at, left_at};
+ghost use Rattle.traceapi.specs.ReplayCall.{replay_return, replay_call_of};
 
 // A whole trace from Idle: 0, or 1 for a bad piece and 2 for one that differs, and its index. The end's transfer is written.
-#[no_mangle]
+#[unsafe(no_mangle)]
 pub extern "C" fn uf2_replay(
     settings: &[u8],
     trace: &[u8],
@@ -16,7 +16,7 @@ pub extern "C" fn uf2_replay(
     transfer: &mut [u8],
     index: &mut [u8],
 ) -> u32
-    ensures { λ r. ⌜ replayReturn r transfer index (leftAt flash seen sectors main xip) ≡ replayCallOf settings trace transfer index (lentAt flash seen sectors main xip) ⌝ }
+    ensures { replay_return result transfer.new index.new (left_at flash.new seen.new sectors.new main.new xip.new) ≡ replay_call_of settings.now trace.now transfer.old index.old (lent_at flash.old seen.old sectors.old main.old xip.old) }
 {
     let s = settings_layout::read_settings(settings);
     let r = trace_replay::replay(s, trace, flash, seen, sectors, main, xip);

@@ -1,12 +1,14 @@
 // The transfer: its state, the answers to an arrival, and one step of it.
+#![tactic(auto)]
+
 pub mod retold;
 
-ghost use mathlib.Core.Path.{_≡_};
-ghost use Prim.Native.Nat.{_+_};
-ghost use Rattle·laws.specs.Numbered.{numbered};
-ghost use Rattle·transfer·specs.specs.Transfer.{kindNumber, sameKind, headWith, numberOf, fresh, goodState, sameHead, deedAnswer, accepted, stepOf, stepNumber};
+ghost use Rattle.std.specs.Prelude.{◌≡◌, ◌+◌};
+ghost use Rattle.laws.specs.Numbered.{numbered};
+ghost use Rattle.transfer.specs.Transfer.{kind_number, same_kind, head_with, number_of, fresh, good_state, same_head, deed_answer, accepted, step_of, step_number};
 
 // Where a transfer's pages go: to the flash, to main RAM or to XIP RAM.
+#[derive(Clone, Copy)]
 pub enum Kind {
     Flash,
     MainRam,
@@ -15,7 +17,7 @@ pub enum Kind {
 
 impl Kind {
     pub fn number(self) -> u8
-        ensures { λ r. ⌜ r ≡ kindNumber self ⌝ }
+        ensures { result ≡ kind_number self }
     {
         match self {
             Kind::Flash => 0,
@@ -27,12 +29,13 @@ impl Kind {
 
 // Kinds are compared by their numbers.
 pub fn same_kind(a: Kind, b: Kind) -> bool
-    ensures { λ r. ⌜ r ≡ sameKind a b ⌝ }
+    ensures { result ≡ same_kind a b }
 {
     a.number() == b.number()
 }
 
 // What makes two blocks one transfer.
+#[derive(Clone, Copy)]
 pub struct Head {
     pub family: u32,
     pub total: u32,
@@ -41,7 +44,7 @@ pub struct Head {
 
 impl Head {
     pub fn new(kind: Kind, family: u32, total: u32) -> Self
-        ensures { λ r. ⌜ r ≡ headWith kind family total ⌝ }
+        ensures { result ≡ head_with kind family total }
     {
         Self {
             family,
@@ -52,23 +55,27 @@ impl Head {
 }
 
 // A transfer under way: so many different blocks have been counted.
+#[derive(Clone, Copy)]
 pub struct Run {
     pub head: Head,
     pub count: u32,
 }
 
+#[derive(Clone, Copy)]
 pub enum State {
     Idle,
     Running(Run),
     Done(Head),
 }
 
+#[derive(Clone, Copy)]
 pub struct Transfer {
     pub state: State,
 }
 
 // What a block does once it is accepted: it stores a page, or it is a comment, which is noted and stores nothing, or what it would store is kept
 // as it stands.
+#[derive(Clone, Copy)]
 pub enum Deed {
     Stores,
     Notes,
@@ -76,6 +83,7 @@ pub enum Deed {
 }
 
 // The answers to an arrival, in the order of the checks.
+#[derive(Clone, Copy)]
 pub enum Answer {
     BadBuffers,
     BadSettings,
@@ -96,12 +104,14 @@ pub enum Answer {
 }
 
 // A block that changes nothing: the next transfer, which is the one that was, and the answer.
+#[derive(Clone, Copy)]
 pub struct Unchanged {
     pub transfer: Transfer,
     pub answer: Answer,
 }
 
 // A block that is accepted: the next transfer and the answer, whether a running transfer was discarded, whether the maps are cleared first.
+#[derive(Clone, Copy)]
 pub struct Accepted {
     pub transfer: Transfer,
     pub answer: Answer,
@@ -110,6 +120,7 @@ pub struct Accepted {
 }
 
 // What a block does to a transfer, with the next transfer and the answer in both cases.
+#[derive(Clone, Copy)]
 pub enum Step {
     Stays(Unchanged),
     Accepts(Accepted),
@@ -117,7 +128,7 @@ pub enum Step {
 
 impl Answer {
     pub fn number(self) -> u8
-        ensures { λ r. ⌜ r ≡ numberOf self ⌝ }
+        ensures { result ≡ number_of self }
     {
         match self {
             Answer::BadBuffers => 1,
@@ -142,7 +153,7 @@ impl Answer {
 
 // Are the heads one? Then two blocks belong to one transfer.
 pub fn same_head(g: Head, h: Head) -> bool
-    ensures { λ r. ⌜ r ≡ sameHead g h ⌝ }
+    ensures { result ≡ same_head g h }
 {
     let current = g.kind;
     let other = h.kind;
@@ -151,8 +162,8 @@ pub fn same_head(g: Head, h: Head) -> bool
 }
 
 // The answer to a block that does not complete its transfer.
-pub(crate) fn deed_answer(deed: Deed) -> Answer
-    ensures { λ r. ⌜ r ≡ deedAnswer deed ⌝ }
+pub fn deed_answer(deed: Deed) -> Answer
+    ensures { result ≡ deed_answer deed }
 {
     match deed {
         Deed::Stores => Answer::Written,
@@ -163,7 +174,7 @@ pub(crate) fn deed_answer(deed: Deed) -> Answer
 
 // A block is accepted after `before` others. The raised count may not fit 32 bits, so it is compared in 64.
 fn accept(deed: Deed, head: Head, before: u32, clears: bool, discarded: bool) -> Accepted
-    ensures { λ r. ⌜ r ≡ accepted deed clears discarded head (before + 1) ⌝ }
+    ensures { result ≡ accepted deed clears discarded head (before + 1) }
 {
     let raised = before as u64 + 1;
     // the two cases meet again before anything is handed back: the compiler then keeps the state in registers
@@ -189,14 +200,14 @@ impl Transfer {
     pub const LIMIT: u32 = 131072;
 
     pub fn new() -> Self
-        ensures { λ r. ⌜ r ≡ fresh ⌝ }
+        ensures { result ≡ fresh }
     {
         Self { state: State::Idle }
     }
 
     // May this state be handed in? Nothing but these bounds is asked of it.
     pub fn sound(self) -> bool
-        ensures { λ r. ⌜ r ≡ goodState (self .state) ⌝ }
+        ensures { result ≡ good_state self.state }
     {
         let state = self.state;
         match state {
@@ -211,7 +222,7 @@ impl Transfer {
 
     // What a block of this head does, whose number is marked or not, and which does `deed` once it is accepted.
     pub fn step(self, head: Head, marked: bool, deed: Deed) -> Step
-        ensures { λ r. ⌜ numbered stepNumber r ≡ numbered stepNumber (stepOf (self .state) head marked deed) ⌝ }
+        ensures { numbered step_number result ≡ numbered step_number (step_of self.state head marked deed) }
     {
         let state = self.state;
         match state {
@@ -227,7 +238,7 @@ impl Transfer {
 
 // What a block of this head does to a running transfer.
 fn go_on(run: Run, head: Head, marked: bool, deed: Deed) -> Step
-    ensures { λ r. ⌜ r ≡ stepOf (State.Running run) head marked deed ⌝ }
+    ensures { result ≡ step_of (State.Running run) head marked deed }
 {
     let current = run.head;
     if !same_head(current, head) {

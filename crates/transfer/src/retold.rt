@@ -1,15 +1,12 @@
 // The answer to a block that was accepted as one that stores, by what it does instead.
-ghost use mathlib.Core.Path.{_≡_};
-ghost use Rattle·transfer·specs.specs.Transfer.{toldAnswer, withDeed};
-use crate::Accepted;
-use crate::Answer;
-use crate::Deed;
-use crate::State;
-use crate::Transfer;
+ghost use Rattle.std.specs.Prelude.{◌≡◌};
+ghost use Rattle.transfer.specs.Transfer.{told_answer, with_deed};
+
+use crate::{Accepted, Answer, Deed, State, Transfer};
 
 // The answer to a block that does `deed`, where `given` is that to one that stores, and the transfer goes on to `next`.
 fn told(next: Transfer, deed: Deed, given: Answer) -> Answer
-    ensures { λ r. ⌜ r ≡ toldAnswer deed (next .state) given ⌝ }
+    ensures { result ≡ told_answer deed next.state given }
 {
     let state = next.state;
     match state {
@@ -21,7 +18,7 @@ fn told(next: Transfer, deed: Deed, given: Answer) -> Answer
 
 // A block that was accepted as one that stores does `deed` instead: the step is not made again.
 pub fn doing(stored: Accepted, deed: Deed) -> Accepted
-    ensures { λ r. ⌜ r ≡ withDeed deed stored ⌝ }
+    ensures { result ≡ with_deed deed stored }
 {
     let next = stored.transfer;
     let given = stored.answer;

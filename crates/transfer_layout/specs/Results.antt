@@ -1,12 +1,10 @@
 -- The result of an arrival. Assumes nothing.
-use Prim.Native.Nat.{ℕ, _+_}
-use mathlib.Core.Bool.{Bool, cond}
-use lib.Dec.{leb}
+use Rattle.std.specs.Prelude.{ℕ, ◌+◌, Bool, cond, leb}
 
 -- the answer's number, and 128 more where a running transfer was discarded
-abbrev pub resultOf : ℕ → Bool → ℕ
-resultOf n discarded = cond discarded (n + 128) n
+abbrev pub result_of : ℕ → Bool → ℕ
+result_of n discarded = cond discarded (n + 128) n
 
 -- answers 14 and more accept the block
-abbrev pub isAcceptance : ℕ → Bool
-isAcceptance n = leb 14 n
+abbrev pub is_acceptance : ℕ → Bool
+is_acceptance n = leb 14 n

@@ -1,25 +1,25 @@
 // A transfer as bytes: how it goes in, and how it comes back. Every byte slice is read; include/uf2_receiver.h has the layout for C.
-pub mod results;
-mod states;
+#![tactic(auto)]
 
-ghost use mathlib.Core.Path.{_≡_};
-ghost use lib.ListN.{length};
-ghost use Rattle·transfer_layout·specs.specs.Transfers.{
-  transferFrom,
-  transferBytes,
-  headBytes,
-  withTransfer,
+pub mod results;
+pub mod states;
+
+ghost use Rattle.std.specs.Prelude.{◌≡◌, length};
+ghost use Rattle.transfer_layout.specs.Transfers.{
+  transfer_from,
+  transfer_bytes,
+  head_bytes,
+  with_transfer,
 };
-use transfer::Head;
-use transfer::State;
-use transfer::Transfer;
+
+use transfer::{Head, State, Transfer};
 
 // The bytes of a transfer.
 const TRANSFER: usize = 14;
 
 // The transfer that bytes are.
 pub fn read_transfer(bytes: &[u8]) -> Transfer
-    ensures { λ r. ⌜ r ≡ transferFrom (now (bytes .entry)) ⌝ }
+    ensures { result ≡ transfer_from bytes.now }
 {
     if bytes.len() != TRANSFER {
         let state = crate::states::none();
@@ -36,8 +36,8 @@ pub fn read_transfer(bytes: &[u8]) -> Transfer
 }
 
 fn write(bytes: &mut [u8], tag: u8, family: u32, total: u32, count: u32, kind: u8)
-    requires { ⌜ length (now bytes) ≡ 14 ⌝ }
-    ensures { λ _. ⌜ now (bytes .exit) ≡ transferBytes tag family total count kind ⌝ }
+    requires { length bytes.old ≡ 14 }
+    ensures { bytes.new ≡ transfer_bytes tag family total count kind }
 {
     bytes[0] = tag;
     uf2_block::put(bytes, 1, family);
@@ -48,8 +48,8 @@ fn write(bytes: &mut [u8], tag: u8, family: u32, total: u32, count: u32, kind: u
 
 // A transfer that is not Idle.
 fn write_head(bytes: &mut [u8], tag: u8, head: Head, count: u32)
-    requires { ⌜ length (now bytes) ≡ 14 ⌝ }
-    ensures { λ _. ⌜ now (bytes .exit) ≡ headBytes tag head count ⌝ }
+    requires { length bytes.old ≡ 14 }
+    ensures { bytes.new ≡ head_bytes tag head count }
 {
     let kind = head.kind;
     write(bytes, tag, head.family, head.total, count, kind.number());
@@ -57,7 +57,7 @@ fn write_head(bytes: &mut [u8], tag: u8, head: Head, count: u32)
 
 // Writes a transfer, where there are bytes for it.
 pub fn write_transfer(bytes: &mut [u8], next: Transfer)
-    ensures { λ _. ⌜ now (bytes .exit) ≡ withTransfer (now (bytes .entry)) (next .state) ⌝ }
+    ensures { bytes.new ≡ with_transfer bytes.old next.state }
 {
     if bytes.len() != TRANSFER {
         return;

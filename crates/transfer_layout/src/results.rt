@@ -1,12 +1,13 @@
 // The result of an arrival, as many takes and the calls for C tell it.
-ghost use mathlib.Core.Path.{_≡_};
-ghost use Rattle·transfer.specs.Transfer.{numberOf};
-ghost use Rattle·transfer_layout·specs.specs.Results.{resultOf, isAcceptance};
+ghost use Rattle.std.specs.Prelude.{◌≡◌};
+ghost use Rattle.transfer.specs.Transfer.{number_of};
+ghost use Rattle.transfer_layout.specs.Results.{result_of, is_acceptance};
+
 use transfer::Answer;
 
 // The result of an arrival: its answer's number, and 128 more where a running transfer was discarded.
 pub fn result(answer: Answer, discarded: bool) -> u8
-    ensures { λ r. ⌜ r ≡ resultOf (numberOf answer) discarded ⌝ }
+    ensures { result ≡ result_of (number_of answer) discarded }
 {
     let n = answer.number();
     if discarded { n + 128 } else { n }
@@ -14,7 +15,7 @@ pub fn result(answer: Answer, discarded: bool) -> u8
 
 // The same of an answer's number, as a call returns it.
 pub fn returned(number: u8, discarded: bool) -> u32
-    ensures { λ r. ⌜ r ≡ resultOf number discarded ⌝ }
+    ensures { result ≡ result_of number discarded }
 {
     if discarded {
         return number as u32 + 128;
@@ -24,7 +25,7 @@ pub fn returned(number: u8, discarded: bool) -> u32
 
 // Is the block accepted?
 pub fn is_acceptance(answer: Answer) -> bool
-    ensures { λ r. ⌜ r ≡ isAcceptance (numberOf answer) ⌝ }
+    ensures { result ≡ is_acceptance (number_of answer) }
 {
     14 <= answer.number()
 }

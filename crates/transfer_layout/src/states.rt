@@ -1,14 +1,12 @@
 // What the numbers of a transfer's bytes say: its kind, and its state. Every number is read; `transferbytes` has the layout.
-ghost use mathlib.Core.Path.{_≡_};
-ghost use Rattle·transfer_layout·specs.specs.States.{kindFrom, noState, stateOf};
-use transfer::Head;
-use transfer::Kind;
-use transfer::Run;
-use transfer::State;
+ghost use Rattle.std.specs.Prelude.{◌≡◌};
+ghost use Rattle.transfer_layout.specs.States.{kind_from, no_state, state_of};
+
+use transfer::{Head, Kind, Run, State};
 
 // The kind of a number. Any but 1 and 2 gives Flash; `state` refuses one over 2 afterwards, unless the transfer is Idle.
-pub(crate) fn kind(number: u8) -> Kind
-    ensures { λ r. ⌜ r ≡ kindFrom number ⌝ }
+pub fn kind(number: u8) -> Kind
+    ensures { result ≡ kind_from number }
 {
     if number == 1 {
         return Kind::MainRam;
@@ -20,8 +18,8 @@ pub(crate) fn kind(number: u8) -> Kind
 }
 
 // Of another tag than 0, 1 and 2, and of another kind where it is not Idle: a running transfer that is bad.
-pub(crate) fn state(tag: u8, kind: u8, head: Head, count: u32) -> State
-    ensures { λ r. ⌜ r ≡ stateOf tag kind head count ⌝ }
+pub fn state(tag: u8, kind: u8, head: Head, count: u32) -> State
+    ensures { result ≡ state_of tag kind head count }
 {
     if tag == 0 {
         return State::Idle;
@@ -40,8 +38,8 @@ pub(crate) fn state(tag: u8, kind: u8, head: Head, count: u32) -> State
 }
 
 // No state: a running transfer that has counted none.
-pub(crate) fn none() -> State
-    ensures { λ r. ⌜ r ≡ noState ⌝ }
+pub fn none() -> State
+    ensures { result ≡ no_state }
 {
     let head = Head::new(Kind::Flash, 0, 0);
     let run = Run { head, count: 0 };

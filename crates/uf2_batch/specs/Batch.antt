@@ -1,38 +1,34 @@
 -- Arrivals taken one after the other: the result of each, and what they leave. Assumes nothing.
-use Prim.Native.Nat.{ℕ, zero, suc, _+_, _/_}
-use mathlib.Core.Bool.{Bool, false, _||_, cond}
-use mathlib.Core.List.{List, [], _∷_}
-use lib.Dec.{leb}
-use lib.ListN.{length, take, drop, set}
-use Rattle·partitions.specs.declared.Settings.{Settings}
-use Rattle·transfer.specs.Transfer.{numberOf}
-use Rattle·transfer.specs.declared.Answer.{Answer}
-use Rattle·arrival.specs.Arrive.{Lent, World}
-use Rattle·arrival.specs.Lists.{receiveAll, answersOf, discardsOf}
-use Rattle·uf2_receiver.specs.Receiver.{world}
-pub use Rattle·transfer_layout.specs.Results.{resultOf, isAcceptance}
-use Rattle·uf2_batch·specs.specs.declared.Batch.{Batch}
+use Rattle.std.specs.Prelude.{ℕ, zero, suc, ◌+◌, ◌/◌, Bool, false, ◌||◌, cond, List, [], ◌∷◌, leb, length, take, drop, set}
+use Rattle.partitions.specs.declared.Settings.{Settings}
+use Rattle.transfer.specs.Transfer.{number_of}
+use Rattle.transfer.specs.declared.Answer.{Answer}
+use Rattle.arrival.specs.Arrive.{Lent, World}
+use Rattle.arrival.specs.Lists.{receive_all, answers_of, discards_of}
+use Rattle.uf2_receiver.specs.Receiver.{world}
+pub use Rattle.transfer_layout.specs.Results.{result_of, is_acceptance}
+use Rattle.uf2_batch.specs.declared.Batch.{Batch}
 
 -- the first n arrivals of 512 bytes
-unfoldable pub arrivalsOf : ℕ → List ℕ → List (List ℕ)
-arrivalsOf zero a = []
-arrivalsOf (suc n) a = take 512 a ∷ arrivalsOf n (drop 512 a)
+unfoldable pub arrivals_of : ℕ → List ℕ → List (List ℕ)
+arrivals_of zero a = []
+arrivals_of (suc n) a = take 512 a ∷ arrivals_of n (drop 512 a)
 
 -- the result of each arrival
-unfoldable pub resultsOf : List Answer → List Bool → List ℕ
-resultsOf (x ∷ l) (d ∷ m) = resultOf (numberOf x) d ∷ resultsOf l m
-resultsOf [] m = []
-resultsOf (x ∷ l) [] = []
+unfoldable pub results_of : List Answer → List Bool → List ℕ
+results_of (x ∷ l) (d ∷ m) = result_of (number_of x) d ∷ results_of l m
+results_of [] m = []
+results_of (x ∷ l) [] = []
 
 -- a block was accepted
-unfoldable pub anyAcceptance : List Answer → Bool
-anyAcceptance [] = false
-anyAcceptance (x ∷ l) = isAcceptance (numberOf x) || anyAcceptance l
+unfoldable pub any_acceptance : List Answer → Bool
+any_acceptance [] = false
+any_acceptance (x ∷ l) = is_acceptance (number_of x) || any_acceptance l
 
 -- numbers written over a list from index i on
-unfoldable pub storedFrom : List ℕ → ℕ → List ℕ → List ℕ
-storedFrom l i [] = l
-storedFrom l i (x ∷ xs) = storedFrom (set l i x) (i + 1) xs
+unfoldable pub stored_from : List ℕ → ℕ → List ℕ → List ℕ
+stored_from l i [] = l
+stored_from l i (x ∷ xs) = stored_from (set l i x) (i + 1) xs
 
 -- how many were taken, what they left, whether a block was accepted, and the results
 pub record BatchEnd : Type 0 where
@@ -42,21 +38,21 @@ pub record BatchEnd : Type 0 where
   pub results : List ℕ
 
 -- what is returned, with results and buffers as they are left
-abbrev pub batchLeft : Batch → List ℕ → Lent → BatchEnd
-batchLeft b r h = record { number = b .number; world = world (b .transfer) h; accepted = b .accepted; results = r }
+abbrev pub batch_left : Batch → List ℕ → Lent → BatchEnd
+batch_left b r h = record { number = b.number; world = world b.transfer h; accepted = b.accepted; results = r }
 
 -- as many as there are whole arrivals and elements for results
 abbrev pub fewer : ℕ → ℕ → ℕ
 fewer a b = cond (leb a b) a b
 
 -- arrivals a with room r for results
-unfoldable pub batchOf : Settings → World → List ℕ → List ℕ → BatchEnd
-batchOf s w a r =
+unfoldable pub batch_of : Settings → World → List ℕ → List ℕ → BatchEnd
+batch_of s w a r =
     let n = fewer (length a / 512) (length r) in
-    let l = arrivalsOf n a in
+    let l = arrivals_of n a in
     record {
       number = n;
-      world = receiveAll s w l;
-      accepted = anyAcceptance (answersOf s w l);
-      results = storedFrom r 0 (resultsOf (answersOf s w l) (discardsOf s w l));
+      world = receive_all s w l;
+      accepted = any_acceptance (answers_of s w l);
+      results = stored_from r 0 (results_of (answers_of s w l) (discards_of s w l));
     }

@@ -1,22 +1,23 @@
 // Arrivals taken one after the other. Settings and the lengths of what is lent are the same for all of them: they are judged once, and what
 // the settings say of a family is asked once for a run of arrivals of one family (`judged`).
-mod opening;
+#![tactic(auto)]
 
-ghost use mathlib.Core.Path.{_≡_};
-ghost use Prim.Native.Nat.{_≤_};
-ghost use lib.ListN.{length};
-ghost use Rattle·arrival.specs.Arrive.{receiveOf};
-ghost use Rattle·uf2_receiver.specs.Receiver.{lent, lentAt, leftAt, world};
-ghost use Rattle·uf2_batch·specs.specs.Batch.{fewer, batchLeft, batchOf};
-ghost use Rattle·uf2_batch·specs.specs.Parts.{Knows, Judges, turnLeft, turnOf};
-use partitions::Family;
-use partitions::Settings;
+pub mod opening;
+
+ghost use Rattle.std.specs.Prelude.{◌≡◌, ◌≤◌, length};
+ghost use Rattle.arrival.specs.Arrive.{receive_of};
+ghost use Rattle.uf2_receiver.specs.Receiver.{lent, lent_at, left_at, world};
+ghost use Rattle.uf2_batch.specs.Batch.{fewer, batch_left, batch_of};
+ghost use Rattle.uf2_batch.specs.Parts.{Knows, Judges, turn_left, turn_of};
+
+use partitions::{Family, Settings};
 use transfer::Transfer;
 use uf2_block::Block;
 use uf2_known::Known;
 use uf2_known::judged::FamilyRooms;
 
 // What arrivals come to, beside their results: how many were taken, the next transfer, and whether a block was accepted.
+#[derive(Clone, Copy)]
 pub struct Batch {
     pub number: usize,
     pub transfer: Transfer,
@@ -24,13 +25,14 @@ pub struct Batch {
 }
 
 fn at_most(a: usize, b: usize) -> usize
-    ensures { λ r. ⌜ r ≡ fewer a b ⌝ }
-    ensures low { λ r. ⌜ (r ≤ a) × (r ≤ b) ⌝ }
+    ensures value { result ≡ fewer a b }
+    ensures low { (result ≤ a) × (result ≤ b) }
 {
     if a <= b { a } else { b }
 }
 
 // What one arrival of many comes to: what the settings say of its family, the next transfer, its result, and whether its block was accepted.
+#[derive(Clone, Copy)]
 struct Turn {
     kept: FamilyRooms,
     transfer: Transfer,
@@ -52,11 +54,11 @@ fn take_next(
     main: &mut [u8],
     xip: &mut [u8],
 ) -> Turn
-    requires { ⌜ Judges settings (lent (now flash) (now seen) (now sectors) (now main) (now xip)) right good ⌝ }
-    requires knows { ⌜ Knows settings (length (now flash)) before ⌝ }
-    requires whole { ⌜ length (now arrival) ≡ 512 ⌝ }
-    ensures { λ r. ⌜ turnLeft r (leftAt flash seen sectors main xip) ≡ turnOf (receiveOf settings (world transfer (lentAt flash seen sectors main xip)) (now (arrival .entry))) ⌝ }
-    ensures knows { λ r. ⌜ Knows settings (length (now (flash .entry))) (r .kept) ⌝ }
+    requires judges { Judges settings (lent flash.old seen.old sectors.old main.old xip.old) right good }
+    requires knows { Knows settings (length flash.old) before }
+    requires whole { length arrival.now ≡ 512 }
+    ensures xip_value { turn_left result (left_at flash.new seen.new sectors.new main.new xip.new) ≡ turn_of (receive_of settings (world transfer (lent_at flash.old seen.old sectors.old main.old xip.old)) arrival.now) }
+    ensures knows { Knows settings (length flash.old) result.kept }
 {
     let family = uf2_block::field(arrival, 28);
     let kept = uf2_known::judged::next(before, settings, flash.len(), family);
@@ -85,7 +87,7 @@ pub fn take_all(
     main: &mut [u8],
     xip: &mut [u8],
 ) -> Batch
-    ensures { λ r. ⌜ batchLeft r (now (results .exit)) (leftAt flash seen sectors main xip) ≡ batchOf settings (world transfer (lentAt flash seen sectors main xip)) (now (arrivals .entry)) (now (results .entry)) ⌝ }
+    ensures { batch_left result results.new (left_at flash.new seen.new sectors.new main.new xip.new) ≡ batch_of settings (world transfer (lent_at flash.old seen.old sectors.old main.old xip.old)) arrivals.now results.old }
 {
     let n = at_most(arrivals.len() / Block::ARRIVAL, results.len());
     let first = crate::opening::judge_lent(settings, Family::DATA, flash, seen, sectors, main, xip);

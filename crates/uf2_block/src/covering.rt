@@ -1,6 +1,7 @@
 // Whether the region that a block names with flag 0x4000 (02, L9) counts for the block: whole sectors, within the place and around the block.
-ghost use mathlib.Core.Path.{_≡_};
-ghost use Rattle·uf2_block·specs.specs.Regions.{goodRegion};
+ghost use Rattle.std.specs.Prelude.{◌≡◌};
+ghost use Rattle.uf2_block.specs.Regions.{good_region};
+
 use crate::Region;
 use memory::flash::Flash;
 
@@ -9,7 +10,7 @@ const WINDOW: usize = 0x10000000;
 
 // Does a region count for a block at an address, in a place of so many bytes? Its end may pass 32 bits.
 pub fn good(region: Region, size: usize, address: u32) -> bool
-    ensures { λ r. ⌜ r ≡ goodRegion size address region ⌝ }
+    ensures { result ≡ good_region size address region }
 {
     let start = region.start as usize;
     let len = region.len as usize;

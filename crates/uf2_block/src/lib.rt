@@ -1,17 +1,20 @@
 // A UF2 block: its fields and the answer of its header. What reads and writes a field is passed on from `words`.
+#![tactic(auto)]
+
 pub mod covering;
 pub mod digest_bytes;
 pub mod regions;
-mod words;
+pub mod words;
 
-ghost use mathlib.Core.Path.{_≡_};
-ghost use Rattle·laws.specs.Numbered.{numbered};
-ghost use Rattle·uf2_block·specs.specs.Block.{hasFlag, fieldsOf, flaggedOf, isBlock, headerOf, headerNumber};
-ghost use Rattle·uf2_block·specs.specs.Region.{regionOf};
-pub use crate::words::field;
-pub use crate::words::put;
+ghost use Rattle.std.specs.Prelude.{◌≡◌};
+ghost use Rattle.laws.specs.Numbered.{numbered};
+ghost use Rattle.uf2_block.specs.Block.{has_flag, fields_of, flagged_of, is_block, header_of, header_number};
+ghost use Rattle.uf2_block.specs.Region.{region_of};
+
+pub use crate::words::{field, put};
 
 // The fields of a block that a header leaves to the checks after it, and whether it is a comment, which takes a number and holds no page.
+#[derive(Clone, Copy)]
 pub struct Block {
     pub address: u32,
     pub size: u32,
@@ -22,6 +25,7 @@ pub struct Block {
 }
 
 // What the header of an arrival says: a refusal, or a block.
+#[derive(Clone, Copy)]
 pub enum Header {
     NotBlock,
     Container,
@@ -30,6 +34,7 @@ pub enum Header {
 }
 
 // The region that a block with flag 0x4000 names: its start, an address of the window, its length, and the words A, B, C, D of its MD5 digest.
+#[derive(Clone, Copy)]
 pub struct Region {
     pub start: u32,
     pub len: u32,
@@ -61,7 +66,7 @@ impl Block {
 
 // Are all three magic numbers right?
 pub fn is_block(arrival: &[u8]) -> bool
-    ensures { λ r. ⌜ r ≡ isBlock (now (arrival .entry)) ⌝ }
+    ensures { result ≡ is_block arrival.now }
 {
     (field(arrival, 0) == Block::MAGIC_FIRST)
         & (field(arrival, 4) == Block::MAGIC_SECOND)
@@ -70,7 +75,7 @@ pub fn is_block(arrival: &[u8]) -> bool
 
 // The fields of a block, whatever its header says.
 pub fn fields(arrival: &[u8]) -> Block
-    ensures { λ r. ⌜ r ≡ fieldsOf (now (arrival .entry)) ⌝ }
+    ensures { result ≡ fields_of arrival.now }
 {
     Block {
         address: field(arrival, 12),
@@ -84,7 +89,7 @@ pub fn fields(arrival: &[u8]) -> Block
 
 // The header of an arrival whose magic numbers are right.
 fn flagged(arrival: &[u8]) -> Header
-    ensures { λ r. ⌜ r ≡ flaggedOf (now (arrival .entry)) ⌝ }
+    ensures { result ≡ flagged_of arrival.now }
 {
     let flags = field(arrival, 8);
     if flags / Block::FLAG_CONTAINER % 2 == 1 {
@@ -98,7 +103,7 @@ fn flagged(arrival: &[u8]) -> Header
 
 // The header of an arrival.
 pub fn read(arrival: &[u8]) -> Header
-    ensures { λ r. ⌜ numbered headerNumber r ≡ numbered headerNumber (headerOf (now (arrival .entry))) ⌝ }
+    ensures { numbered header_number result ≡ numbered header_number (header_of arrival.now) }
 {
     if field(arrival, 0) != Block::MAGIC_FIRST {
         return Header::NotBlock;
@@ -114,14 +119,14 @@ pub fn read(arrival: &[u8]) -> Header
 
 // Does a block name a region?
 pub fn has_region(arrival: &[u8]) -> bool
-    ensures { λ r. ⌜ r ≡ hasFlag (now (arrival .entry)) 0x4000 ⌝ }
+    ensures { result ≡ has_flag arrival.now 0x4000 }
 {
     field(arrival, 8) / Block::FLAG_MD5 % 2 == 1
 }
 
 // The region that a block names.
 pub fn read_region(arrival: &[u8]) -> Region
-    ensures { λ r. ⌜ r ≡ regionOf (now (arrival .entry)) ⌝ }
+    ensures { result ≡ region_of arrival.now }
 {
     Region {
         start: field(arrival, 484),

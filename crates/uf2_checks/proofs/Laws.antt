@@ -1,195 +1,195 @@
 -- The screening by cases: the header, the place, and a block beside its place. Assumes nothing.
-use mathlib.Core.Path.{_≡_, refl, sym, ap, _∙_}
-use mathlib.Core.Bool.{Bool, true, false, _&&_, _||_, cond}
-use mathlib.Core.List.{List, [], _∷_}
-use mathlib.Core.Logic.{_≢_, ⊎-elim}
+use mathlib.Core.Path.{◌≡◌, refl, sym, ap, ◌∙◌}
+use mathlib.Core.Bool.{Bool, true, false, ◌&&◌, ◌||◌, cond}
+use mathlib.Core.List.{List, [], ◌∷◌}
+use mathlib.Core.Logic.{◌≢◌, ⊎_elim}
 use types.Run.{OneOf}
-use denote.Enum.Declared.{tagOf}
-use Prim.Native.Nat.{ℕ, _+_, _*_, _<_, _≤_}
+use denote.Enum.Declared.{tag_of}
+use Prim.Native.Nat.{ℕ, ◌+◌, ◌*◌, ◌<◌, ◌≤◌}
 use native.Mathlib.Omega.{arith}
 use lib.Dec.{ltb, leb, eqb}
-use borrow.Author.Tests.{le-leb, le-ltb, lt-leb, eq-eqb, ne-eqb, ltb-false, leb-false, eqb-false}
-use Rattle·laws.proofs.Tests.{split, or-left, or-right}
-use Rattle·uf2_block.proofs.Header.{the-type}
-use Rattle·uf2_block.specs.Block.{headerOf, headerNumber}
-use Rattle·uf2_block.specs.declared.Block.{Block}
-use Rattle·uf2_block.specs.declared.Header.{Header}
-use Rattle·uf2_block.specs.declared.Header.the-variants as header
-use Rattle·placement.specs.Place.{StartsLow}
-use Rattle·placement.specs.declared.Place.{Place}
-use Rattle·placement.specs.declared.Place.the-variants.{Nowhere, At}
-use Rattle·transfer.specs.Transfer.{headWith}
-use Rattle·transfer.specs.declared.Head.{Head}
-use Rattle·transfer.specs.declared.Kind.{Kind}
-use Rattle·transfer.specs.declared.Kind.the-variants.{Flash, MainRam, XipRam}
-use Rattle·transfer.specs.declared.State.{State}
-use Rattle·transfer.specs.declared.State.the-variants.{Idle, Done}
-use Rattle·transfer.specs.declared.Answer.the-variants.{NoPlace, BadPayload, BadNumbers, BadAddress}
-use Rattle·uf2_checks·specs.specs.Screen.{baseOf, extentOf, isLent, inWindow, windowOf, ownKind, noteKind, roomIn, badNumbers, strayed, noted, windowKind, dataFound, noteFound, found, afterHeader, lowPlace, lowRooms, screenIn, screenAt, screeningNumber}
-use Rattle·uf2_checks·specs.specs.declared.Lengths.{Lengths}
-use Rattle·uf2_checks·specs.specs.declared.Rooms.{Rooms}
-use Rattle·uf2_checks·specs.specs.declared.Window.{Window}
-use Rattle·uf2_checks·specs.specs.declared.Window.the-variants.{Outside, In}
-use Rattle·uf2_checks·specs.specs.declared.Body.the-variants.{Note}
-use Rattle·uf2_checks·specs.specs.declared.Screening.{Screening}
-use Rattle·uf2_checks·specs.specs.declared.Screening.the-variants.{Refused, Passed}
+use borrow.Author.Tests.{le-leb, le-ltb, lt-leb, eq-eqb, ne_eqb, ltb-false, leb-false, eqb-false}
+use Rattle.laws.proofs.Tests.{split, or_left, or_right}
+use Rattle.uf2_block.specs.contracts.Header.{the_type}
+use Rattle.uf2_block.specs.Block.{header_of, header_number}
+use Rattle.uf2_block.specs.declared.Block.{Block}
+use Rattle.uf2_block.specs.declared.Header.{Header}
+use Rattle.uf2_block.specs.declared.Header.TheVariants as header
+use Rattle.placement.specs.Place.{StartsLow}
+use Rattle.placement.specs.declared.Place.{Place}
+use Rattle.placement.specs.declared.Place.TheVariants.{Nowhere, At}
+use Rattle.transfer.specs.Transfer.{head_with}
+use Rattle.transfer.specs.declared.Head.{Head}
+use Rattle.transfer.specs.declared.Kind.{Kind}
+use Rattle.transfer.specs.declared.Kind.TheVariants.{Flash, MainRam, XipRam}
+use Rattle.transfer.specs.declared.State.{State}
+use Rattle.transfer.specs.declared.State.TheVariants.{Idle, Done}
+use Rattle.transfer.specs.declared.Answer.TheVariants.{NoPlace, BadPayload, BadNumbers, BadAddress}
+use Rattle.uf2_checks.specs.Screen.{base_of, extent_of, is_lent, in_window, window_of, own_kind, note_kind, room_in, bad_numbers, strayed, noted, window_kind, data_found, note_found, found, after_header, low_place, low_rooms, screen_in, screen_at, screening_number}
+use Rattle.uf2_checks.specs.declared.Lengths.{Lengths}
+use Rattle.uf2_checks.specs.declared.Rooms.{Rooms}
+use Rattle.uf2_checks.specs.declared.Window.{Window}
+use Rattle.uf2_checks.specs.declared.Window.TheVariants.{Outside, In}
+use Rattle.uf2_checks.specs.declared.Body.TheVariants.{Note}
+use Rattle.uf2_checks.specs.declared.Screening.{Screening}
+use Rattle.uf2_checks.specs.declared.Screening.TheVariants.{Refused, Passed}
 
 -- ---- the window of an address, as the code asks it
 
 -- no sum of the code passes 64 bits
-pub window-low : (k : Kind) → baseOf k + extentOf k ≤ 0x100000000
-window-low Flash = omega arith
-window-low MainRam = omega arith
-window-low XipRam = omega arith
+pub window_low : (k : Kind) → base_of k + extent_of k ≤ 0x100000000
+window_low Flash = omega arith
+window_low MainRam = omega arith
+window_low XipRam = omega arith
 
 module _ (n : Lengths) (x : ℕ) where
-  pub window-flash : inWindow n Flash x ≡ true → windowOf n x ≡ In Flash
-  unfolding windowOf
-  window-flash f = rw f
+  pub window_flash : in_window n Flash x ≡ true → window_of n x ≡ In Flash
+  unfolding window_of
+  window_flash f = rw f
 
-  module _ (f : inWindow n Flash x ≡ false) where
-    pub window-main : inWindow n MainRam x ≡ true → windowOf n x ≡ In MainRam
-    unfolding windowOf
-    window-main m = rw (f, m)
+  module _ (f : in_window n Flash x ≡ false) where
+    pub window_main : in_window n MainRam x ≡ true → window_of n x ≡ In MainRam
+    unfolding window_of
+    window_main m = rw (f, m)
 
-    module _ (m : inWindow n MainRam x ≡ false) where
-      pub window-xip : inWindow n XipRam x ≡ true → windowOf n x ≡ In XipRam
-      unfolding windowOf
-      window-xip q = rw (f, m, q)
+    module _ (m : in_window n MainRam x ≡ false) where
+      pub window_xip : in_window n XipRam x ≡ true → window_of n x ≡ In XipRam
+      unfolding window_of
+      window_xip q = rw (f, m, q)
 
-      pub window-none : inWindow n XipRam x ≡ false → windowOf n x ≡ Outside
-      unfolding windowOf
-      window-none q = rw (f, m, q)
+      pub window_none : in_window n XipRam x ≡ false → window_of n x ≡ Outside
+      unfolding window_of
+      window_none q = rw (f, m, q)
 
 -- ---- what row 10 leaves
 
 pub record Numbers (size : ℕ) (b : Block) : Type 0 where
-  pub some : b .total ≢ 0
-  pub room : b .total * 256 ≤ size
-  pub below : b .number < b .total
+  pub some : b.total ≢ 0
+  pub room : b.total * 256 ≤ size
+  pub below : b.number < b.total
 
 module _ (size : ℕ) (b : Block) where
-  pub numbers-right : Numbers size b → badNumbers size b ≡ false
-  numbers-right n =
-      rw (ne-eqb (b .total) 0 (n .some), le-ltb size (b .total * 256) (n .room), lt-leb (b .total) (b .number) (n .below))
+  pub numbers_right : Numbers size b → bad_numbers size b ≡ false
+  numbers_right n =
+      rw (ne_eqb b.total 0 n.some, le-ltb size (b.total * 256) n.room, lt-leb b.total b.number n.below)
 
-  pub numbers-false : badNumbers size b ≡ false → Numbers size b
-  numbers-false h =
-      let l = or-left (eqb (b .total) 0 || ltb size (b .total * 256)) (leb (b .total) (b .number)) h in
+  pub numbers_false : bad_numbers size b ≡ false → Numbers size b
+  numbers_false h =
+      let l = or_left (eqb b.total 0 || ltb size (b.total * 256)) (leb b.total b.number) h in
       record {
-        some = eqb-false _ _ (or-left (eqb (b .total) 0) (ltb size (b .total * 256)) l);
-        room = ltb-false _ _ (or-right (eqb (b .total) 0) (ltb size (b .total * 256)) l);
-        below = leb-false _ _ (or-right (eqb (b .total) 0 || ltb size (b .total * 256)) (leb (b .total) (b .number)) h);
+        some = eqb-false _ _ (or_left (eqb b.total 0) (ltb size (b.total * 256)) l);
+        room = ltb-false _ _ (or_right (eqb b.total 0) (ltb size (b.total * 256)) l);
+        below = leb-false _ _ (or_right (eqb b.total 0 || ltb size (b.total * 256)) (leb b.total b.number) h);
       }
 
   -- row 10 by cases, as the code asks it
-  pub numbers-wrong : (Numbers size b → ⊥) → true ≡ badNumbers size b
-  numbers-wrong n = split (badNumbers size b) sym (λ h. absurd (n (numbers-false h)))
+  pub numbers_wrong : (Numbers size b → ⊥) → true ≡ bad_numbers size b
+  numbers_wrong n = split (bad_numbers size b) sym (λ h. absurd (n (numbers_false h)))
 
-  pub numbers-last : b .total ≢ 0 → b .total * 256 ≤ size → leb (b .total) (b .number) ≡ badNumbers size b
-  numbers-last n m = rw (ne-eqb (b .total) 0 n, le-ltb size (b .total * 256) m)
+  pub numbers_last : b.total ≢ 0 → b.total * 256 ≤ size → leb b.total b.number ≡ bad_numbers size b
+  numbers_last n m = rw (ne_eqb b.total 0 n, le-ltb size (b.total * 256) m)
 
 -- ---- a data block in no window
 
 module _ (b : Block) where
-  pub strayed-payload : b .size ≢ 256 → strayed b ≡ Refused BadPayload
+  pub strayed_payload : b.size ≢ 256 → strayed b ≡ Refused BadPayload
   unfolding strayed
-  strayed-payload n = rw (ne-eqb (b .size) 256 n)
+  strayed_payload n = rw (ne_eqb b.size 256 n)
 
-  pub strayed-address : b .size ≡ 256 → strayed b ≡ Refused BadAddress
+  pub strayed_address : b.size ≡ 256 → strayed b ≡ Refused BadAddress
   unfolding strayed
-  strayed-address p = rw (eq-eqb (b .size) 256 p)
+  strayed_address p = rw (eq-eqb b.size 256 p)
 
 -- ---- a comment beside its place
 
 module _ (k : Kind) (size : ℕ) (b : Block) where
-  pub noted-numbers : badNumbers size b ≡ true → noted k size b ≡ Refused BadNumbers
+  pub noted_numbers : bad_numbers size b ≡ true → noted k size b ≡ Refused BadNumbers
   unfolding noted
-  noted-numbers h = rw h
+  noted_numbers h = rw h
 
-  pub noted-passed : badNumbers size b ≡ false → {g : Head} → g ≡ headWith k (b .family) (b .total)
-      → Passed (record { head = g; number = b .number; body = Note }) ≡ noted k size b
+  pub noted_passed : bad_numbers size b ≡ false → {g : Head} → g ≡ head_with k b.family b.total
+      → Passed (record { head = g; number = b.number; body = Note }) ≡ noted k size b
   unfolding noted
-  noted-passed h e = rw (h, e)
+  noted_passed h e = rw (h, e)
 
 -- ---- the kind of a comment while a transfer runs
 
-module _ (n : Lengths) (h : Head) (f total : ℕ) {lent : Bool} (e : lent ≡ isLent n (h .kind)) where
+module _ (n : Lengths) (h : Head) (f total : ℕ) {lent : Bool} (e : lent ≡ is_lent n h.kind) where
   abbrev Own : Bool
-  Own = eqb (h .family) f && eqb (h .total) total
+  Own = eqb h.family f && eqb h.total total
 
-  pub own-taken : Own && lent ≡ true → ownKind n h f total ≡ h .kind
-  own-taken q = ap (λ (c : Bool). cond c (h .kind) Flash) (ap (λ (x : Bool). Own && x) (sym e) ∙ q)
+  pub own_taken : Own && lent ≡ true → own_kind n h f total ≡ h.kind
+  own_taken q = ap (λ (c : Bool). cond c h.kind Flash) (ap (λ (x : Bool). Own && x) (sym e) ∙ q)
 
-  pub own-other : Own && lent ≡ false → ownKind n h f total ≡ Flash
-  own-other q = ap (λ (c : Bool). cond c (h .kind) Flash) (ap (λ (x : Bool). Own && x) (sym e) ∙ q)
+  pub own_other : Own && lent ≡ false → own_kind n h f total ≡ Flash
+  own_other q = ap (λ (c : Bool). cond c h.kind Flash) (ap (λ (x : Bool). Own && x) (sym e) ∙ q)
 
 -- "any other is flash": one to a transfer that is Idle or Done
-pub note-idle : (n : Lengths) (b : Block) → noteKind n Idle b ≡ Flash
-unfolding noteKind
-note-idle n b = refl
+pub note_idle : (n : Lengths) (b : Block) → note_kind n Idle b ≡ Flash
+unfolding note_kind
+note_idle n b = refl
 
-pub note-done : (n : Lengths) (g : Head) (b : Block) → noteKind n (Done g) b ≡ Flash
-unfolding noteKind
-note-done n g b = refl
+pub note_done : (n : Lengths) (g : Head) (b : Block) → note_kind n (Done g) b ≡ Flash
+unfolding note_kind
+note_done n g b = refl
 
 -- ---- a block
 
 module _ (r : Rooms) (n : Lengths) (t : State) (b : Block) where
-  abbrev noteAt : Kind → Screening
-  noteAt k = noteFound k (roomIn r k) b
+  abbrev note_at : Kind → Screening
+  note_at k = note_found k (room_in r k) b
 
-  abbrev dataAt : Window → Screening
-  dataAt u = dataFound u (roomIn r (windowKind u)) b
+  abbrev data_at : Window → Screening
+  data_at u = data_found u (room_in r (window_kind u)) b
 
-  pub found-comment : b .comment ≡ true → found r n t b ≡ noteAt (noteKind n t b)
+  pub found_comment : b.comment ≡ true → found r n t b ≡ note_at (note_kind n t b)
   unfolding found
-  found-comment h = ap (λ (c : Bool). cond c (noteAt (noteKind n t b)) (dataAt (windowOf n (b .address)))) h
+  found_comment h = ap (λ (c : Bool). cond c (note_at (note_kind n t b)) (data_at (window_of n b.address))) h
 
-  pub found-data : b .comment ≡ false → found r n t b ≡ dataAt (windowOf n (b .address))
+  pub found_data : b.comment ≡ false → found r n t b ≡ data_at (window_of n b.address)
   unfolding found
-  found-data h = ap (λ (c : Bool). cond c (noteAt (noteKind n t b)) (dataAt (windowOf n (b .address)))) h
+  found_data h = ap (λ (c : Bool). cond c (note_at (note_kind n t b)) (data_at (window_of n b.address))) h
 
   -- as the code goes, call by call
-  pub check-comment : b .comment ≡ true → {k : Kind} → k ≡ noteKind n t b → {p : Place} → p ≡ roomIn r k → {x : Screening} → x ≡ noteFound k p b → x ≡ found r n t b
-  check-comment h {k} e q y = y ∙ ap (λ (p : Place). noteFound k p b) q ∙ ap noteAt e ∙ sym (found-comment h)
+  pub check_comment : b.comment ≡ true → {k : Kind} → k ≡ note_kind n t b → {p : Place} → p ≡ room_in r k → {x : Screening} → x ≡ note_found k p b → x ≡ found r n t b
+  check_comment h {k} e q y = y ∙ ap (λ (p : Place). note_found k p b) q ∙ ap note_at e ∙ sym (found_comment h)
 
-  pub check-window : b .comment ≡ false → {u : Window} → u ≡ windowOf n (b .address) → {k : Kind} → k ≡ windowKind u → {p : Place} → p ≡ roomIn r k
-      → {x : Screening} → x ≡ dataFound u p b → x ≡ found r n t b
-  check-window h {u} e q i y =
-      y ∙ ap (λ (p : Place). dataFound u p b) (i ∙ ap (roomIn r) q) ∙ ap dataAt e ∙ sym (found-data h)
+  pub check_window : b.comment ≡ false → {u : Window} → u ≡ window_of n b.address → {k : Kind} → k ≡ window_kind u → {p : Place} → p ≡ room_in r k
+      → {x : Screening} → x ≡ data_found u p b → x ≡ found r n t b
+  check_window h {u} e q i y =
+      y ∙ ap (λ (p : Place). data_found u p b) (i ∙ ap (room_in r) q) ∙ ap data_at e ∙ sym (found_data h)
 
 -- ---- a place that is handed in
 
-pub low-past : (start size : ℕ) → 0x100000000000 ≤ start → lowPlace (At start size) ≡ Nowhere
-low-past start size h = rw (le-leb 0x100000000000 start h)
+pub low_past : (start size : ℕ) → 0x100000000000 ≤ start → low_place (At start size) ≡ Nowhere
+low_past start size h = rw (le-leb 0x100000000000 start h)
 
-pub low-kept : (p : Place) → StartsLow p → lowPlace p ≡ p
-low-kept Nowhere h = refl
-low-kept (At start size) h = rw (lt-leb 0x100000000000 start h)
+pub low_kept : (p : Place) → StartsLow p → low_place p ≡ p
+low_kept Nowhere h = refl
+low_kept (At start size) h = rw (lt-leb 0x100000000000 start h)
 
 -- ---- an arrival
 
 -- a header that is none but a refusal, by its tag
-pub refusal-header : (h : Header) → OneOf (0 ∷ 1 ∷ 2 ∷ []) (tagOf the-type h) → headerNumber h ≢ 0
-refusal-header header.NotBlock n = λ e. omega arith
-refusal-header header.Container n = λ e. omega arith
-refusal-header header.NoFamily n = λ e. omega arith
-refusal-header (header.Found b) n = absurd (⊎-elim (λ x. omega arith) (⊎-elim (λ x. omega arith) (λ x. omega arith)) n)
+pub refusal_header : (h : Header) → ((b : Block) → h ≢ header.Found b) → header_number h ≢ 0
+refusal_header header.NotBlock n = λ e. omega arith
+refusal_header header.Container n = λ e. omega arith
+refusal_header header.NoFamily n = λ e. omega arith
+refusal_header (header.Found b) n = absurd (n b refl)
 
 module _ (r : Rooms) (n : Lengths) (t : State) (a : List ℕ) where
-  pub screen-header : {h : Header} → h ≡ headerOf a → {x : Screening} → x ≡ afterHeader h (found (lowRooms r) n t) → x ≡ screenAt r n t a
-  unfolding screenAt screenIn
-  screen-header e q = rw (sym e) q
+  pub screen_header : {h : Header} → h ≡ header_of a → {x : Screening} → x ≡ after_header h (found (low_rooms r) n t) → x ≡ screen_at r n t a
+  unfolding screen_at screen_in
+  screen_header e q = rw (sym e) q
 
-  pub screen-found : (b : Block) → headerOf a ≡ header.Found b → screenAt r n t a ≡ found (lowRooms r) n t b
-  unfolding screenAt screenIn
-  screen-found b e = rw e
+  pub screen_found : (b : Block) → header_of a ≡ header.Found b → screen_at r n t a ≡ found (low_rooms r) n t b
+  unfolding screen_at screen_in
+  screen_found b e = rw e
 
 -- ---- the numbers of the header's refusals are the answers'
 
-pub refusal-number : (h : Header) (next : Block → Screening) → headerNumber h ≢ 0 → screeningNumber (afterHeader h next) ≡ headerNumber h
-refusal-number header.NotBlock next n = refl
-refusal-number header.Container next n = refl
-refusal-number header.NoFamily next n = refl
-refusal-number (header.Found b) next n = absurd (n refl)
+pub refusal_number : (h : Header) (next : Block → Screening) → header_number h ≢ 0 → screening_number (after_header h next) ≡ header_number h
+refusal_number header.NotBlock next n = refl
+refusal_number header.Container next n = refl
+refusal_number header.NoFamily next n = refl
+refusal_number (header.Found b) next n = absurd (n refl)

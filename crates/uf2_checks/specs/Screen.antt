@@ -1,123 +1,119 @@
 -- Rows 4 to 11 of 01's checks, in their order, with comments as 02 (L3) has them, and flash and the two windows of RAM (02, L8).
 -- Assumes nothing.
-use Prim.Native.Nat.{ℕ, _+_, _-_, _*_, _%_}
-use mathlib.Core.Path.{_≡_}
-use mathlib.Core.Bool.{Bool, true, _&&_, _||_, not, cond}
-use mathlib.Core.List.{List}
-use lib.Dec.{ltb, leb, eqb}
-use Rattle·uf2_block.specs.Block.{fieldAt, headerOf}
-use Rattle·uf2_block.specs.declared.Block.{Block}
-use Rattle·uf2_block.specs.declared.Header.{Header}
-use Rattle·uf2_block.specs.declared.Header.the-variants as header
-use Rattle·partitions.specs.declared.Settings.{Settings}
-use Rattle·placement.specs.Place.{wholeIf, placeOf, ramFamily}
-use Rattle·placement.specs.declared.Place.{Place}
-use Rattle·placement.specs.declared.Place.the-variants.{Nowhere, At}
-use Rattle·transfer.specs.Transfer.{headWith, numberOf}
-use Rattle·transfer.specs.declared.Head.{Head}
-use Rattle·transfer.specs.declared.Kind.{Kind}
-use Rattle·transfer.specs.declared.Kind.the-variants.{Flash, MainRam, XipRam}
-use Rattle·transfer.specs.declared.State.{State}
-use Rattle·transfer.specs.declared.State.the-variants.{Idle, Running, Done}
-use Rattle·transfer.specs.declared.Answer.{Answer}
-use Rattle·transfer.specs.declared.Answer.the-variants.{NotBlock, Container, NoFamily, NoPlace, BadPayload, BadNumbers, BadAddress}
-use Rattle·uf2_checks·specs.specs.declared.Lengths.{Lengths}
-use Rattle·uf2_checks·specs.specs.declared.Rooms.{Rooms}
-use Rattle·uf2_checks·specs.specs.declared.Window.{Window}
-use Rattle·uf2_checks·specs.specs.declared.Window.the-variants.{Outside, In}
-use Rattle·uf2_checks·specs.specs.declared.Body.{Body}
-use Rattle·uf2_checks·specs.specs.declared.Body.the-variants.{Page, Note}
-use Rattle·uf2_checks·specs.specs.declared.PlacedBlock.{PlacedBlock}
-use Rattle·uf2_checks·specs.specs.declared.Screening.{Screening}
-use Rattle·uf2_checks·specs.specs.declared.Screening.the-variants.{Refused, Passed}
+use Rattle.std.specs.Prelude.{ℕ, ◌+◌, ◌-◌, ◌*◌, ◌%◌, ◌≡◌, Bool, true, ◌&&◌, ◌||◌, not, cond, List, ltb, leb, eqb}
+use Rattle.uf2_block.specs.Block.{field_at, header_of}
+use Rattle.uf2_block.specs.declared.Block.{Block}
+use Rattle.uf2_block.specs.declared.Header.{Header}
+use Rattle.uf2_block.specs.declared.Header.TheVariants as header
+use Rattle.partitions.specs.declared.Settings.{Settings}
+use Rattle.placement.specs.Place.{whole_if, place_of, ram_family}
+use Rattle.placement.specs.declared.Place.{Place}
+use Rattle.placement.specs.declared.Place.TheVariants.{Nowhere, At}
+use Rattle.transfer.specs.Transfer.{head_with, number_of}
+use Rattle.transfer.specs.declared.Head.{Head}
+use Rattle.transfer.specs.declared.Kind.{Kind}
+use Rattle.transfer.specs.declared.Kind.TheVariants.{Flash, MainRam, XipRam}
+use Rattle.transfer.specs.declared.State.{State}
+use Rattle.transfer.specs.declared.State.TheVariants.{Idle, Running, Done}
+use Rattle.transfer.specs.declared.Answer.{Answer}
+use Rattle.transfer.specs.declared.Answer.TheVariants.{NotBlock, Container, NoFamily, NoPlace, BadPayload, BadNumbers, BadAddress}
+use Rattle.uf2_checks.specs.declared.Lengths.{Lengths}
+use Rattle.uf2_checks.specs.declared.Rooms.{Rooms}
+use Rattle.uf2_checks.specs.declared.Window.{Window}
+use Rattle.uf2_checks.specs.declared.Window.TheVariants.{Outside, In}
+use Rattle.uf2_checks.specs.declared.Body.{Body}
+use Rattle.uf2_checks.specs.declared.Body.TheVariants.{Page, Note}
+use Rattle.uf2_checks.specs.declared.PlacedBlock.{PlacedBlock}
+use Rattle.uf2_checks.specs.declared.Screening.{Screening}
+use Rattle.uf2_checks.specs.declared.Screening.TheVariants.{Refused, Passed}
 
 -- ---- the windows
 
 -- where each begins: 01's address window, "0x20000000 to 0x20082000" and "0x13ffc000 to 0x14000000"
-abbrev pub baseOf : Kind → ℕ
-baseOf Flash = 0x10000000
-baseOf MainRam = 0x20000000
-baseOf XipRam = 0x13ffc000
+abbrev pub base_of : Kind → ℕ
+base_of Flash = 0x10000000
+base_of MainRam = 0x20000000
+base_of XipRam = 0x13ffc000
 
 -- its bytes: 01's up to 0x12000000, "(532,480 bytes)" and "(16,384)"
-abbrev pub extentOf : Kind → ℕ
-extentOf Flash = 0x2000000
-extentOf MainRam = 532480
-extentOf XipRam = 16384
+abbrev pub extent_of : Kind → ℕ
+extent_of Flash = 0x2000000
+extent_of MainRam = 532480
+extent_of XipRam = 16384
 
 -- a RAM window has "its own lent buffer .. or empty where the board lacks it and the window isn't one"; flash's is always one
-abbrev pub isLent : Lengths → Kind → Bool
-isLent n Flash = true
-isLent n MainRam = not (eqb (n .main) 0)
-isLent n XipRam = not (eqb (n .xip) 0)
+abbrev pub is_lent : Lengths → Kind → Bool
+is_lent n Flash = true
+is_lent n MainRam = not (eqb n.main 0)
+is_lent n XipRam = not (eqb n.xip 0)
 
 -- the address lies in the window of the kind
-abbrev pub inWindow : Lengths → Kind → ℕ → Bool
-inWindow n k address = isLent n k && leb (baseOf k) address && ltb address (baseOf k + extentOf k)
+abbrev pub in_window : Lengths → Kind → ℕ → Bool
+in_window n k address = is_lent n k && leb (base_of k) address && ltb address (base_of k + extent_of k)
 
 -- the window that holds the address
-unfoldable pub windowOf : Lengths → ℕ → Window
-windowOf n address =
-    cond (inWindow n Flash address) (In Flash)
-    (cond (inWindow n MainRam address) (In MainRam)
-    (cond (inWindow n XipRam address) (In XipRam) Outside))
+unfoldable pub window_of : Lengths → ℕ → Window
+window_of n address =
+    cond (in_window n Flash address) (In Flash)
+    (cond (in_window n MainRam address) (In MainRam)
+    (cond (in_window n XipRam address) (In XipRam) Outside))
 
 -- ---- the kind of a block
 
 -- "A comment with the running transfer's family and total takes its kind, unless that kind's buffer is empty"
-abbrev pub ownKind : Lengths → Head → ℕ → ℕ → Kind
-ownKind n h f total = cond (eqb (h .family) f && eqb (h .total) total && isLent n (h .kind)) (h .kind) Flash
+abbrev pub own_kind : Lengths → Head → ℕ → ℕ → Kind
+own_kind n h f total = cond (eqb h.family f && eqb h.total total && is_lent n h.kind) h.kind Flash
 
 -- "any other is flash."
-unfoldable pub noteKind : Lengths → State → Block → Kind
-noteKind n Idle b = Flash
-noteKind n (Running r) b = ownKind n (r .head) (b .family) (b .total)
-noteKind n (Done g) b = Flash
+unfoldable pub note_kind : Lengths → State → Block → Kind
+note_kind n Idle b = Flash
+note_kind n (Running r) b = own_kind n r.head b.family b.total
+note_kind n (Done g) b = Flash
 
 -- ---- row 8
 
 -- what the settings say of a family: its place in a flash of len bytes, and whether it may go to RAM
-abbrev pub roomsOf : Settings → ℕ → ℕ → Rooms
-roomsOf s len f = record { flash = placeOf s len f; ram = ramFamily s f }
+abbrev pub rooms_of : Settings → ℕ → ℕ → Rooms
+rooms_of s len f = record { flash = place_of s len f; ram = ram_family s f }
 
 -- the place of a block of each kind; in RAM the whole window, counted from its start
-abbrev pub roomIn : Rooms → Kind → Place
-roomIn r Flash = r .flash
-roomIn r MainRam = wholeIf (r .ram) (extentOf MainRam)
-roomIn r XipRam = wholeIf (r .ram) (extentOf XipRam)
+abbrev pub room_in : Rooms → Kind → Place
+room_in r Flash = r.flash
+room_in r MainRam = whole_if r.ram (extent_of MainRam)
+room_in r XipRam = whole_if r.ram (extent_of XipRam)
 
 -- ---- rows 10 and 11
 
 -- row 10: "total 0, total x 256 over the place, or number >= total"; "in RAM check 10 uses the window"
-abbrev pub badNumbers : ℕ → Block → Bool
-badNumbers size b = eqb (b .total) 0 || ltb size (b .total * 256) || leb (b .total) (b .number)
+abbrev pub bad_numbers : ℕ → Block → Bool
+bad_numbers size b = eqb b.total 0 || ltb size (b.total * 256) || leb b.total b.number
 
 -- row 11: "below the window, no multiple of 256, or address - 0x10000000 + 256 over the place"; in RAM it "is only address + 256 past the
 -- window's end"
-abbrev pub badAddress : Kind → ℕ → Block → Bool
-badAddress Flash size b =
-    ltb (b .address) (baseOf Flash) || not (eqb (b .address % 256) 0) || ltb size (b .address - baseOf Flash + 256)
-badAddress MainRam size b = ltb size (b .address - baseOf MainRam + 256)
-badAddress XipRam size b = ltb size (b .address - baseOf XipRam + 256)
+abbrev pub bad_address : Kind → ℕ → Block → Bool
+bad_address Flash size b =
+    ltb b.address (base_of Flash) || not (eqb (b.address % 256) 0) || ltb size (b.address - base_of Flash + 256)
+bad_address MainRam size b = ltb size (b.address - base_of MainRam + 256)
+bad_address XipRam size b = ltb size (b.address - base_of XipRam + 256)
 
 -- ---- a block beside its place
 
 -- a block that passes, with its kind and what it holds
-abbrev pub placedAt : Kind → Body → Block → PlacedBlock
-placedAt k body b = record { head = headWith k (b .family) (b .total); number = b .number; body = body }
+abbrev pub placed_at : Kind → Body → Block → PlacedBlock
+placed_at k body b = record { head = head_with k b.family b.total; number = b.number; body = body }
 
 -- rows 9 to 11, of a data block in the window of its kind; "Storage address = place start + block address - 0x10000000", and in RAM
 -- "counted from the window's start"
 unfoldable pub placed : Kind → ℕ → ℕ → Block → Screening
 placed k start size b =
-    cond (not (eqb (b .size) 256)) (Refused BadPayload)
-    (cond (badNumbers size b) (Refused BadNumbers)
-    (cond (badAddress k size b) (Refused BadAddress)
-    (Passed (placedAt k (Page (start + (b .address - baseOf k))) b))))
+    cond (not (eqb b.size 256)) (Refused BadPayload)
+    (cond (bad_numbers size b) (Refused BadNumbers)
+    (cond (bad_address k size b) (Refused BadAddress)
+    (Passed (placed_at k (Page (start + (b.address - base_of k))) b))))
 
 -- rows 9 to 11, of a data block in no window: "11 comes before 10", and its address is bad
 unfoldable pub strayed : Block → Screening
-strayed b = cond (not (eqb (b .size) 256)) (Refused BadPayload) (Refused BadAddress)
+strayed b = cond (not (eqb b.size 256)) (Refused BadPayload) (Refused BadAddress)
 
 -- rows 9 to 11, of a data block by its window
 abbrev pub fitted : Window → ℕ → ℕ → Block → Screening
@@ -126,67 +122,67 @@ fitted (In k) start size b = placed k start size b
 
 -- row 10, of a comment: it "skips 9 and 11" (02, L3), so that its payload size and its address are not read
 unfoldable pub noted : Kind → ℕ → Block → Screening
-noted k size b = cond (badNumbers size b) (Refused BadNumbers) (Passed (placedAt k Note b))
+noted k size b = cond (bad_numbers size b) (Refused BadNumbers) (Passed (placed_at k Note b))
 
 -- "For an address in no window check 8 is flash's"
-abbrev pub windowKind : Window → Kind
-windowKind Outside = Flash
-windowKind (In k) = k
+abbrev pub window_kind : Window → Kind
+window_kind Outside = Flash
+window_kind (In k) = k
 
 -- rows 8 to 11, of a data block by its window and the place of its kind
-unfoldable pub dataFound : Window → Place → Block → Screening
-dataFound u Nowhere b = Refused NoPlace
-dataFound u (At start size) b = fitted u start size b
+unfoldable pub data_found : Window → Place → Block → Screening
+data_found u Nowhere b = Refused NoPlace
+data_found u (At start size) b = fitted u start size b
 
 -- rows 8 to 11, of a comment by its kind and the place of that
-unfoldable pub noteFound : Kind → Place → Block → Screening
-noteFound k Nowhere b = Refused NoPlace
-noteFound k (At start size) b = noted k size b
+unfoldable pub note_found : Kind → Place → Block → Screening
+note_found k Nowhere b = Refused NoPlace
+note_found k (At start size) b = noted k size b
 
 -- rows 8 to 11, of a block, with what the settings say of its family: "A comment block now meets checks 7, 8, 10, 12 and 13" (02, L3)
 unfoldable pub found : Rooms → Lengths → State → Block → Screening
 found r n t b =
-    cond (b .comment)
-    (noteFound (noteKind n t b) (roomIn r (noteKind n t b)) b)
-    (dataFound (windowOf n (b .address)) (roomIn r (windowKind (windowOf n (b .address)))) b)
+    cond b.comment
+    (note_found (note_kind n t b) (room_in r (note_kind n t b)) b)
+    (data_found (window_of n b.address) (room_in r (window_kind (window_of n b.address))) b)
 
 -- ---- an arrival
 
 -- rows 4 to 7: "Read the header first; if that yields no block, no other field counts"; `next` is what rows 8 to 11 make of a block
-abbrev pub afterHeader : Header → (Block → Screening) → Screening
-afterHeader header.NotBlock next = Refused NotBlock
-afterHeader header.Container next = Refused Container
-afterHeader header.NoFamily next = Refused NoFamily
-afterHeader (header.Found b) next = next b
+abbrev pub after_header : Header → (Block → Screening) → Screening
+after_header header.NotBlock next = Refused NotBlock
+after_header header.Container next = Refused Container
+after_header header.NoFamily next = Refused NoFamily
+after_header (header.Found b) next = next b
 
 -- x is the answer to a header, whatever comes after it
 abbrev pub HeaderAnswer : Header → Answer → Type 0
-HeaderAnswer h x = (next : Block → Screening) → Refused x ≡ afterHeader h next
+HeaderAnswer h x = (next : Block → Screening) → Refused x ≡ after_header h next
 
 -- rows 4 to 11, for lent buffers of lengths n, a transfer t, and what the settings say of the arrival's family
-unfoldable pub screenIn : Rooms → Lengths → State → List ℕ → Screening
-screenIn r n t a = afterHeader (headerOf a) (found r n t)
+unfoldable pub screen_in : Rooms → Lengths → State → List ℕ → Screening
+screen_in r n t a = after_header (header_of a) (found r n t)
 
 -- rows 4 to 11
-unfoldable pub screenOf : Settings → Lengths → State → List ℕ → Screening
-screenOf s n t a = screenIn (roomsOf s (n .flash) (fieldAt a 28)) n t a
+unfoldable pub screen_of : Settings → Lengths → State → List ℕ → Screening
+screen_of s n t a = screen_in (rooms_of s n.flash (field_at a 28)) n t a
 
 -- ---- where the rooms are handed in, and may be any
 
 -- a place that begins at 2 ^ 44 or above is none: no entry can name it, and below it every storage address fits 64 bits
-abbrev pub lowPlace : Place → Place
-lowPlace Nowhere = Nowhere
-lowPlace (At start size) = cond (leb 0x100000000000 start) Nowhere (At start size)
+abbrev pub low_place : Place → Place
+low_place Nowhere = Nowhere
+low_place (At start size) = cond (leb 0x100000000000 start) Nowhere (At start size)
 
 -- of rooms
-abbrev pub lowRooms : Rooms → Rooms
-lowRooms r = record { flash = lowPlace (r .flash); ram = r .ram }
+abbrev pub low_rooms : Rooms → Rooms
+low_rooms r = record { flash = low_place r.flash; ram = r.ram }
 
 -- rows 4 to 11, where r is handed in as what the settings say of the arrival's family
-unfoldable pub screenAt : Rooms → Lengths → State → List ℕ → Screening
-screenAt r n t a = screenIn (lowRooms r) n t a
+unfoldable pub screen_at : Rooms → Lengths → State → List ℕ → Screening
+screen_at r n t a = screen_in (low_rooms r) n t a
 
 -- the number of a refusal; a block that passes is none, and has 0
-abbrev pub screeningNumber : Screening → ℕ
-screeningNumber (Refused x) = numberOf x
-screeningNumber (Passed p) = 0
+abbrev pub screening_number : Screening → ℕ
+screening_number (Refused x) = number_of x
+screening_number (Passed p) = 0

@@ -1,42 +1,32 @@
 // The screening of an arrival, rows 4 to 11: by what the settings say of its family, the lengths of the lent buffers, the transfer and
 // the arrival alone.
-ghost use mathlib.Core.Path.{_≡_};
-ghost use mathlib.Core.Logic.{_≢_};
-ghost use Prim.Native.Nat.{_<_, _≤_};
-ghost use Rattle·laws.specs.Numbered.{numbered};
-ghost use Rattle·uf2_block.specs.Block.{headerNumber};
-ghost use Rattle·placement.specs.Place.{StartsLow};
-ghost use Rattle·uf2_checks·specs.specs.Screen.{
-  baseOf,
+ghost use Rattle.std.specs.Prelude.{◌≡◌, ◌≢◌, ◌<◌, ◌≤◌};
+ghost use Rattle.laws.specs.Numbered.{numbered};
+ghost use Rattle.uf2_block.specs.Block.{header_number};
+ghost use Rattle.placement.specs.Place.{StartsLow};
+ghost use Rattle.uf2_checks.specs.Screen.{
+  base_of,
   placed,
   strayed,
   fitted,
-  dataFound,
+  data_found,
   found,
   HeaderAnswer,
-  lowRooms,
-  screenAt,
-  screeningNumber,
+  low_rooms,
+  screen_at,
+  screening_number,
 };
-ghost use Rattle·uf2_checks·specs.specs.Parts.{alignmentOf, addressed, Above};
-use crate::Body;
-use crate::Lengths;
-use crate::PlacedBlock;
-use crate::Rooms;
-use crate::Screening;
-use crate::Window;
+ghost use Rattle.uf2_checks.specs.Parts.{alignment_of, addressed, Above};
+
+use crate::{Body, Lengths, PlacedBlock, Rooms, Screening, Window};
 use memory::flash::Flash;
 use placement::Place;
-use transfer::Answer;
-use transfer::Head;
-use transfer::Kind;
-use transfer::Transfer;
-use uf2_block::Block;
-use uf2_block::Header;
+use transfer::{Answer, Head, Kind, Transfer};
+use uf2_block::{Block, Header};
 
 // Of what an address is a multiple: whole payloads in flash, any byte in RAM.
 fn alignment(kind: Kind) -> usize
-    ensures { λ r. ⌜ r ≡ alignmentOf kind ⌝ }
+    ensures { result ≡ alignment_of kind }
 {
     match kind {
         Kind::Flash => Flash::PAYLOAD,
@@ -47,9 +37,9 @@ fn alignment(kind: Kind) -> usize
 
 // Row 11, of a data block in the window of its kind. The sum is of 64 bits, since it may pass 32.
 fn at_address(kind: Kind, b: Block, start: usize, size: usize) -> Screening
-    requires { ⌜ start < 0x100000000000 ⌝ }
-    requires above { ⌜ baseOf kind ≤ b .address ⌝ }
-    ensures { λ r. ⌜ r ≡ addressed kind start size b ⌝ }
+    requires start_bound { start < 0x100000000000 }
+    requires above { base_of kind ≤ b.address }
+    ensures { result ≡ addressed kind start size b }
 {
     let address = b.address as usize;
     let from = crate::block_kind::base(kind);
@@ -73,9 +63,9 @@ fn at_address(kind: Kind, b: Block, start: usize, size: usize) -> Screening
 
 // A data block in the window of its kind, beside its place.
 fn fits_place(kind: Kind, b: Block, start: usize, size: usize) -> Screening
-    requires { ⌜ start < 0x100000000000 ⌝ }
-    requires above { ⌜ baseOf kind ≤ b .address ⌝ }
-    ensures { λ r. ⌜ r ≡ placed kind start size b ⌝ }
+    requires start_bound { start < 0x100000000000 }
+    requires above { base_of kind ≤ b.address }
+    ensures { result ≡ placed kind start size b }
 {
     if b.size as usize != Flash::PAYLOAD {
         return Screening::Refused(Answer::BadPayload);
@@ -88,7 +78,7 @@ fn fits_place(kind: Kind, b: Block, start: usize, size: usize) -> Screening
 
 // A data block in no window: its numbers are not asked.
 fn stray(b: Block) -> Screening
-    ensures { λ r. ⌜ r ≡ strayed b ⌝ }
+    ensures { result ≡ strayed b }
 {
     if b.size as usize != Flash::PAYLOAD {
         return Screening::Refused(Answer::BadPayload);
@@ -97,9 +87,9 @@ fn stray(b: Block) -> Screening
 }
 
 fn fit(window: Window, b: Block, start: usize, size: usize) -> Screening
-    requires { ⌜ start < 0x100000000000 ⌝ }
-    requires above { ⌜ Above window (b .address) ⌝ }
-    ensures { λ r. ⌜ r ≡ fitted window start size b ⌝ }
+    requires start_bound { start < 0x100000000000 }
+    requires above { Above window b.address }
+    ensures { result ≡ fitted window start size b }
 {
     match window {
         Window::Outside => stray(b),
@@ -109,9 +99,9 @@ fn fit(window: Window, b: Block, start: usize, size: usize) -> Screening
 
 // A data block, by the place of its window's kind.
 fn check_data(window: Window, place: Place, b: Block) -> Screening
-    requires { ⌜ StartsLow place ⌝ }
-    requires above { ⌜ Above window (b .address) ⌝ }
-    ensures { λ r. ⌜ r ≡ dataFound window place b ⌝ }
+    requires starts_low { StartsLow place }
+    requires above { Above window b.address }
+    ensures { result ≡ data_found window place b }
 {
     match place {
         Place::Nowhere => Screening::Refused(Answer::NoPlace),
@@ -121,7 +111,7 @@ fn check_data(window: Window, place: Place, b: Block) -> Screening
 
 // Rows 8 to 11.
 fn check(rooms: Rooms, lens: Lengths, transfer: Transfer, b: Block) -> Screening
-    ensures { λ r. ⌜ r ≡ found (lowRooms rooms) lens (transfer .state) b ⌝ }
+    ensures { result ≡ found (low_rooms rooms) lens transfer.state b }
 {
     if b.comment {
         let noted = crate::block_kind::note_kind(lens, transfer, b);
@@ -136,8 +126,8 @@ fn check(rooms: Rooms, lens: Lengths, transfer: Transfer, b: Block) -> Screening
 
 // The answer to a header that yields no block, whatever the rows after it would say. A match has to name `Found` too; nothing calls it so.
 fn header_answer(h: Header) -> Answer
-    requires { ⌜ headerNumber h ≢ 0 ⌝ }
-    ensures { λ r. ⌜ HeaderAnswer h r ⌝ }
+    requires { header_number h ≢ 0 }
+    ensures { HeaderAnswer h result }
 {
     match h {
         Header::NotBlock => Answer::NotBlock,
@@ -149,7 +139,7 @@ fn header_answer(h: Header) -> Answer
 
 // Rows 4 to 11: the first that refuses the arrival, or what it holds. `rooms` is what the settings say of the arrival's family.
 pub fn screen(rooms: Rooms, lens: Lengths, transfer: Transfer, arrival: &[u8]) -> Screening
-    ensures { λ r. ⌜ numbered screeningNumber r ≡ numbered screeningNumber (screenAt rooms lens (transfer .state) (now (arrival .entry))) ⌝ }
+    ensures { numbered screening_number result ≡ numbered screening_number (screen_at rooms lens transfer.state arrival.now) }
 {
     let h = uf2_block::read(arrival);
     let Header::Found(b) = h else {

@@ -1,17 +1,14 @@
 // The window that an address lies in, and the kind of a block; `screen` has the definitions.
-ghost use mathlib.Core.Path.{_≡_};
-ghost use Rattle·uf2_checks·specs.specs.Screen.{baseOf, isLent, inWindow, windowOf, windowKind, ownKind, noteKind};
-use crate::Lengths;
-use crate::Window;
-use transfer::Head;
-use transfer::Kind;
-use transfer::State;
-use transfer::Transfer;
+ghost use Rattle.std.specs.Prelude.{◌≡◌};
+ghost use Rattle.uf2_checks.specs.Screen.{base_of, is_lent, in_window, window_of, window_kind, own_kind, note_kind};
+
+use crate::{Lengths, Window};
+use transfer::{Head, Kind, State, Transfer};
 use uf2_block::Block;
 
 // Where a window begins, which is where its place's first byte is seen.
-pub(crate) fn base(kind: Kind) -> usize
-    ensures { λ r. ⌜ r ≡ baseOf kind ⌝ }
+pub fn base(kind: Kind) -> usize
+    ensures { result ≡ base_of kind }
 {
     match kind {
         Kind::Flash => 0x10000000,
@@ -22,7 +19,7 @@ pub(crate) fn base(kind: Kind) -> usize
 
 // Is there a buffer for the kind? An empty one is none.
 fn is_lent(lens: Lengths, kind: Kind) -> bool
-    ensures { λ r. ⌜ r ≡ isLent lens kind ⌝ }
+    ensures { result ≡ is_lent lens kind }
 {
     match kind {
         Kind::Flash => true,
@@ -32,7 +29,7 @@ fn is_lent(lens: Lengths, kind: Kind) -> bool
 }
 
 fn in_window(lens: Lengths, kind: Kind, address: usize) -> bool
-    ensures { λ r. ⌜ r ≡ inWindow lens kind address ⌝ }
+    ensures { result ≡ in_window lens kind address }
 {
     let from = base(kind);
     let len = crate::extent(kind);
@@ -42,7 +39,7 @@ fn in_window(lens: Lengths, kind: Kind, address: usize) -> bool
 
 // The window that an address lies in.
 pub fn window_of(lens: Lengths, address: usize) -> Window
-    ensures { λ r. ⌜ r ≡ windowOf lens address ⌝ }
+    ensures { result ≡ window_of lens address }
 {
     if in_window(lens, Kind::Flash, address) {
         return Window::In(Kind::Flash);
@@ -58,7 +55,7 @@ pub fn window_of(lens: Lengths, address: usize) -> Window
 
 // The kind of a data block, and of one in no window.
 pub fn window_kind(window: Window) -> Kind
-    ensures { λ r. ⌜ r ≡ windowKind window ⌝ }
+    ensures { result ≡ window_kind window }
 {
     match window {
         Window::Outside => Kind::Flash,
@@ -68,7 +65,7 @@ pub fn window_kind(window: Window) -> Kind
 
 // The kind of a comment while a transfer runs: the transfer's, where the comment is its own and the kind has a buffer.
 fn own_kind(lens: Lengths, head: Head, family: u32, total: u32) -> Kind
-    ensures { λ r. ⌜ r ≡ ownKind lens head family total ⌝ }
+    ensures { result ≡ own_kind lens head family total }
 {
     let kind = head.kind;
     let lent = is_lent(lens, kind);
@@ -80,7 +77,7 @@ fn own_kind(lens: Lengths, head: Head, family: u32, total: u32) -> Kind
 
 // The kind of a comment.
 pub fn note_kind(lens: Lengths, transfer: Transfer, b: Block) -> Kind
-    ensures { λ r. ⌜ r ≡ noteKind lens (transfer .state) b ⌝ }
+    ensures { result ≡ note_kind lens transfer.state b }
 {
     let state = transfer.state;
     match state {

@@ -1,18 +1,15 @@
 // A comment beside the place of its kind: rows 8 and 10.
-ghost use mathlib.Core.Path.{_≡_};
-ghost use Rattle·uf2_checks·specs.specs.Screen.{noted, noteFound};
-use crate::Body;
-use crate::PlacedBlock;
-use crate::Screening;
+ghost use Rattle.std.specs.Prelude.{◌≡◌};
+ghost use Rattle.uf2_checks.specs.Screen.{noted, note_found};
+
+use crate::{Body, PlacedBlock, Screening};
 use placement::Place;
-use transfer::Answer;
-use transfer::Head;
-use transfer::Kind;
+use transfer::{Answer, Head, Kind};
 use uf2_block::Block;
 
 // A comment beside its place: of its fields, its numbers alone are asked.
 fn note(kind: Kind, b: Block, size: usize) -> Screening
-    ensures { λ r. ⌜ r ≡ noted kind size b ⌝ }
+    ensures { result ≡ noted kind size b }
 {
     let bad = crate::numbers::bad_numbers(b, size);
     if bad {
@@ -27,8 +24,8 @@ fn note(kind: Kind, b: Block, size: usize) -> Screening
 }
 
 // A comment, by the place of its kind.
-pub(crate) fn check_note(kind: Kind, place: Place, b: Block) -> Screening
-    ensures { λ r. ⌜ r ≡ noteFound kind place b ⌝ }
+pub fn check_note(kind: Kind, place: Place, b: Block) -> Screening
+    ensures { result ≡ note_found kind place b }
 {
     match place {
         Place::Nowhere => Screening::Refused(Answer::NoPlace),

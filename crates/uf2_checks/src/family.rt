@@ -1,9 +1,9 @@
 // Row 8: what the settings say of a family, and the place of a block by its kind.
-ghost use mathlib.Core.Path.{_≡_};
-ghost use Rattle·placement.specs.Place.{StartsLow};
-ghost use Rattle·uf2_checks·specs.specs.Screen.{roomsOf, lowPlace, lowRooms, roomIn};
-use crate::Rooms;
-use crate::Window;
+ghost use Rattle.std.specs.Prelude.{◌≡◌};
+ghost use Rattle.placement.specs.Place.{StartsLow};
+ghost use Rattle.uf2_checks.specs.Screen.{rooms_of, low_place, low_rooms, room_in};
+
+use crate::{Rooms, Window};
 use partitions::Settings;
 use placement::Place;
 use transfer::Kind;
@@ -13,8 +13,8 @@ const STARTS: usize = 0x100000000000;
 
 // What the settings say of a family, with a flash of so many bytes.
 pub fn rooms_for(settings: Settings, flash_len: usize, family: u32) -> Rooms
-    ensures { λ r. ⌜ r ≡ roomsOf settings «flash_len» family ⌝ }
-    ensures low { λ r. ⌜ StartsLow (r .flash) ⌝ }
+    ensures value { result ≡ rooms_of settings flash_len family }
+    ensures low { StartsLow result.flash }
 {
     let flash = placement::find(settings, flash_len, family);
     let ram = placement::ram::ram_family(settings, family);
@@ -23,8 +23,8 @@ pub fn rooms_for(settings: Settings, flash_len: usize, family: u32) -> Rooms
 
 // A place that is handed in may begin anywhere.
 fn low_place(place: Place) -> Place
-    ensures { λ r. ⌜ r ≡ lowPlace place ⌝ }
-    ensures low { λ r. ⌜ StartsLow r ⌝ }
+    ensures value { result ≡ low_place place }
+    ensures low { StartsLow result }
 {
     match place {
         Place::Nowhere => Place::Nowhere,
@@ -38,9 +38,9 @@ fn low_place(place: Place) -> Place
 }
 
 // The place of a block of each kind.
-pub(crate) fn room_in(rooms: Rooms, kind: Kind) -> Place
-    ensures { λ r. ⌜ r ≡ roomIn (lowRooms rooms) kind ⌝ }
-    ensures low { λ r. ⌜ StartsLow r ⌝ }
+pub fn room_in(rooms: Rooms, kind: Kind) -> Place
+    ensures value { result ≡ room_in (low_rooms rooms) kind }
+    ensures low { StartsLow result }
 {
     let flash = rooms.flash;
     match kind {

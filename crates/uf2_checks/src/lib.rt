@@ -1,19 +1,21 @@
 // What the screening of an arrival speaks of: windows and their bytes, what the settings say of a family, and a block that passes.
+#![tactic(auto)]
+
 pub mod block_checks;
 pub mod block_kind;
-mod comments;
+pub mod comments;
 pub mod family;
-mod numbers;
+pub mod numbers;
 
-ghost use mathlib.Core.Path.{_≡_};
-ghost use Rattle·uf2_checks·specs.specs.Screen.{extentOf};
+ghost use Rattle.std.specs.Prelude.{◌≡◌};
+ghost use Rattle.uf2_checks.specs.Screen.{extent_of};
+
 use memory::flash::Flash;
 use placement::Place;
-use transfer::Answer;
-use transfer::Head;
-use transfer::Kind;
+use transfer::{Answer, Head, Kind};
 
 // The lengths of the lent flash, main RAM and XIP RAM.
+#[derive(Clone, Copy)]
 pub struct Lengths {
     pub flash: usize,
     pub main: usize,
@@ -21,30 +23,35 @@ pub struct Lengths {
 }
 
 // What the settings say of a family: its place in the flash, and whether it may go to RAM.
+#[derive(Clone, Copy)]
 pub struct Rooms {
     pub flash: Place,
     pub ram: bool,
 }
 
 // The window that an address lies in.
+#[derive(Clone, Copy)]
 pub enum Window {
     Outside,
     In(Kind),
 }
 
 // What a block holds: a page, with its storage address, or a comment, which has none.
+#[derive(Clone, Copy)]
 pub enum Body {
     Page(usize),
     Note,
 }
 
 // A block that passes: its head, its number, and what it holds.
+#[derive(Clone, Copy)]
 pub struct PlacedBlock {
     pub head: Head,
     pub number: u32,
     pub body: Body,
 }
 
+#[derive(Clone, Copy)]
 pub enum Screening {
     Refused(Answer),
     Passed(PlacedBlock),
@@ -58,8 +65,8 @@ impl Window {
 }
 
 // The bytes of a window.
-pub(crate) fn extent(kind: Kind) -> usize
-    ensures { λ r. ⌜ r ≡ extentOf kind ⌝ }
+pub fn extent(kind: Kind) -> usize
+    ensures { result ≡ extent_of kind }
 {
     match kind {
         Kind::Flash => Flash::MAX,

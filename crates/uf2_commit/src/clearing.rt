@@ -1,10 +1,10 @@
 // Both maps cleared where a transfer begins.
-ghost use mathlib.Core.Path.{_≡_};
-ghost use Rattle·arrival.specs.Arrive.{clearedIf};
+ghost use Rattle.std.specs.Prelude.{◌≡◌};
+ghost use Rattle.arrival.specs.Arrive.{cleared_if};
 
 // Takes every mark away where a transfer begins.
 fn clear_if(clears: bool, map: &mut [u8])
-    ensures { λ _. ⌜ now (map .exit) ≡ clearedIf clears (now (map .entry)) ⌝ }
+    ensures { map.new ≡ cleared_if clears map.old }
 {
     if clears {
         memory::bitmap::clear(map);
@@ -12,8 +12,8 @@ fn clear_if(clears: bool, map: &mut [u8])
 }
 
 // The same of the seen map and of the sector map.
-pub(crate) fn clear_maps(clears: bool, seen: &mut [u8], sectors: &mut [u8])
-    ensures { λ _. ⌜ (now (seen .exit) ≡ clearedIf clears (now (seen .entry))) × (now (sectors .exit) ≡ clearedIf clears (now (sectors .entry))) ⌝ }
+pub fn clear_maps(clears: bool, seen: &mut [u8], sectors: &mut [u8])
+    ensures { (seen.new ≡ cleared_if clears seen.old) × (sectors.new ≡ cleared_if clears sectors.old) }
 {
     clear_if(clears, sectors);
     clear_if(clears, seen);

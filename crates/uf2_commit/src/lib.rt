@@ -1,21 +1,22 @@
 // What an accepted block writes beside the flash: the maps and, of a RAM block, its bytes. What it would write to flash is a plan.
-mod clearing;
-mod pages;
+#![tactic(auto)]
+
+pub mod clearing;
+pub mod pages;
 pub mod receipts;
 
-ghost use mathlib.Core.Path.{_≡_};
-ghost use Rattle·memory.specs.Flash.{payloadOf};
-ghost use Rattle·arrival.specs.Arrive.{atOf};
-ghost use Rattle·uf2_commit·specs.specs.Entering.{besideAt, besideLeft, entering, enteringOf};
+ghost use Rattle.std.specs.Prelude.{◌≡◌};
+ghost use Rattle.memory.specs.Flash.{payload_of};
+ghost use Rattle.arrival.specs.Arrive.{at_of};
+ghost use Rattle.uf2_commit.specs.Entering.{beside_at, beside_left, entering, entering_of};
+
 use flash_plan::Plan;
-use transfer::Accepted;
-use transfer::Deed;
-use uf2_checks::Body;
-use uf2_checks::PlacedBlock;
+use transfer::{Accepted, Deed};
+use uf2_checks::{Body, PlacedBlock};
 
 // The storage address of a page. A comment has none, and nothing asks for its.
 fn page_at(body: Body) -> usize
-    ensures { λ r. ⌜ r ≡ atOf body ⌝ }
+    ensures { result ≡ at_of body }
 {
     match body {
         Body::Page(at) => at,
@@ -24,7 +25,7 @@ fn page_at(body: Body) -> usize
 }
 
 // Enters a block that is accepted into the maps, and a RAM block into RAM.
-pub(crate) fn enter(
+pub fn enter(
     placed: PlacedBlock,
     deed: Deed,
     accepted: Accepted,
@@ -34,7 +35,7 @@ pub(crate) fn enter(
     main: &mut [u8],
     xip: &mut [u8],
 ) -> Plan
-    ensures { λ r. ⌜ entering r (now (seen .exit)) (besideLeft sectors main xip) ≡ enteringOf placed deed accepted (payloadOf (now (arrival .entry))) (now (seen .entry)) (besideAt sectors main xip) ⌝ }
+    ensures { entering result seen.new (beside_left sectors.new main.new xip.new) ≡ entering_of placed deed accepted (payload_of arrival.now) seen.old (beside_at sectors.old main.old xip.old) }
 {
     let number = placed.number as usize;
     let body = placed.body;

@@ -1,10 +1,10 @@
 // The page of an accepted block: stored where it is one of RAM, planned where it is one of flash. What it would write to flash is a plan.
-ghost use mathlib.Core.Path.{_≡_};
-ghost use Rattle·memory.specs.Flash.{payloadOf};
-ghost use Rattle·uf2_commit·specs.specs.Pages.{besideAt, besideLeft, writing, pageWriting, deedWriting};
+ghost use Rattle.std.specs.Prelude.{◌≡◌};
+ghost use Rattle.memory.specs.Flash.{payload_of};
+ghost use Rattle.uf2_commit.specs.Pages.{beside_at, beside_left, writing, page_writing, deed_writing};
+
 use flash_plan::Plan;
-use transfer::Deed;
-use transfer::Kind;
+use transfer::{Deed, Kind};
 
 // A page of the kind. In RAM nothing but its bytes changes.
 fn page(
@@ -15,7 +15,7 @@ fn page(
     main: &mut [u8],
     xip: &mut [u8],
 ) -> Plan
-    ensures { λ r. ⌜ writing r (besideLeft sectors main xip) ≡ pageWriting kind at (payloadOf (now (arrival .entry))) (besideAt sectors main xip) ⌝ }
+    ensures { writing result (beside_left sectors.new main.new xip.new) ≡ page_writing kind at (payload_of arrival.now) (beside_at sectors.old main.old xip.old) }
 {
     match kind {
         Kind::Flash => flash_plan::flash_page(at, sectors),
@@ -31,7 +31,7 @@ fn page(
 }
 
 // Writes a page. A comment stores nothing, nor does what is kept.
-pub(crate) fn write(
+pub fn write(
     deed: Deed,
     kind: Kind,
     at: usize,
@@ -40,7 +40,7 @@ pub(crate) fn write(
     main: &mut [u8],
     xip: &mut [u8],
 ) -> Plan
-    ensures { λ r. ⌜ writing r (besideLeft sectors main xip) ≡ deedWriting deed kind at (payloadOf (now (arrival .entry))) (besideAt sectors main xip) ⌝ }
+    ensures { writing result (beside_left sectors.new main.new xip.new) ≡ deed_writing deed kind at (payload_of arrival.now) (beside_at sectors.old main.old xip.old) }
 {
     match deed {
         Deed::Stores => page(kind, at, arrival, sectors, main, xip),

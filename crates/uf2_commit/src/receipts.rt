@@ -1,18 +1,15 @@
 // What an arrival hands back: of a refusal, which changes nothing, and of an accepted block, which is entered.
-ghost use mathlib.Core.Path.{_≡_};
-ghost use Rattle·memory.specs.Flash.{payloadOf};
-ghost use Rattle·uf2_commit·specs.specs.Entering.{besideAt, besideLeft};
-ghost use Rattle·uf2_commit·specs.specs.Receipts.{unplanned, enterReturn, enterOf};
+ghost use Rattle.std.specs.Prelude.{◌≡◌};
+ghost use Rattle.memory.specs.Flash.{payload_of};
+ghost use Rattle.uf2_commit.specs.Entering.{beside_at, beside_left};
+ghost use Rattle.uf2_commit.specs.Receipts.{unplanned, enter_return, enter_of};
+
 use flash_plan::Plan;
-use transfer::Answer;
-use transfer::Head;
-use transfer::Run;
-use transfer::State;
-use transfer::Transfer;
-use uf2_known::Acceptance;
-use uf2_known::Known;
+use transfer::{Answer, Head, Run, State, Transfer};
+use uf2_known::{Acceptance, Known};
 
 // What an arrival hands back: the next transfer, the answer, and whether a running transfer was discarded.
+#[derive(Clone, Copy)]
 pub struct Receipt {
     pub transfer: Transfer,
     pub answer: Answer,
@@ -27,13 +24,14 @@ impl Receipt {
 }
 
 // What an arrival hands back whose flash is written by a driver: the receipt, and what is left to do to the flash.
+#[derive(Clone, Copy)]
 pub struct PlanReceipt {
     pub receipt: Receipt,
     pub plan: Plan,
 }
 
 fn same_head(head: Head) -> Head
-    ensures { λ r. ⌜ r ≡ head ⌝ }
+    ensures { result ≡ head }
 {
     let kind = head.kind;
     Head::new(kind, head.family, head.total)
@@ -41,7 +39,7 @@ fn same_head(head: Head) -> Head
 
 // The same transfer, made anew from its fields: the unused bytes between them are then not copied from arrival to arrival.
 fn same_transfer(transfer: Transfer) -> Transfer
-    ensures { λ r. ⌜ r ≡ transfer ⌝ }
+    ensures { result ≡ transfer }
 {
     let old = transfer.state;
     let state = match old {
@@ -58,7 +56,7 @@ fn same_transfer(transfer: Transfer) -> Transfer
 
 // Nothing changes, and this is the answer.
 pub fn refuse(transfer: Transfer, answer: Answer) -> PlanReceipt
-    ensures { λ r. ⌜ r ≡ unplanned transfer answer ⌝ }
+    ensures { result ≡ unplanned transfer answer }
 {
     let same = same_transfer(transfer);
     PlanReceipt {
@@ -80,7 +78,7 @@ pub fn enter(
     main: &mut [u8],
     xip: &mut [u8],
 ) -> PlanReceipt
-    ensures { λ r. ⌜ enterReturn r (now (seen .exit)) (besideLeft sectors main xip) ≡ enterOf acceptance (payloadOf (now (arrival .entry))) (now (seen .entry)) (besideAt sectors main xip) ⌝ }
+    ensures { enter_return result seen.new (beside_left sectors.new main.new xip.new) ≡ enter_of acceptance (payload_of arrival.now) seen.old (beside_at sectors.old main.old xip.old) }
 {
     let placed = acceptance.placed;
     let deed = acceptance.deed;

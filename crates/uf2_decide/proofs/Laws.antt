@@ -1,53 +1,53 @@
 -- An arrival by cases, in the shape of the code's returns. Assumes nothing.
-use mathlib.Core.Path.{_≡_}
+use mathlib.Core.Path.{◌≡◌}
 use mathlib.Core.Bool.{Bool, true, false}
 use mathlib.Core.List.{List}
 use Prim.Native.Nat.{ℕ}
-use Rattle·transfer.specs.Transfer.{goodState}
-use Rattle·transfer.specs.declared.State.{State}
-use Rattle·transfer.specs.declared.Transfer.{Transfer}
-use Rattle·transfer.specs.declared.Answer.{Answer}
-use Rattle·transfer.specs.declared.Answer.the-variants.{BadBuffers, BadSettings, BadState}
-use Rattle·uf2_checks.specs.Screen.{screenAt}
-use Rattle·uf2_checks.specs.declared.Lengths.{Lengths}
-use Rattle·uf2_checks.specs.declared.PlacedBlock.{PlacedBlock}
-use Rattle·uf2_checks.specs.declared.Screening.{Screening}
-use Rattle·uf2_checks.specs.declared.Screening.the-variants.{Refused, Passed}
-use Rattle·arrival.specs.Arrive.{Lent, Decision, lengthsOf, standsAt, afterScreening, stays}
-use Rattle·arrival.specs.Lending.{world}
-use Rattle·uf2_known.specs.Verdict.{knownDecision}
-use Rattle·uf2_known.specs.declared.Known.{Known}
+use Rattle.transfer.specs.Transfer.{good_state}
+use Rattle.transfer.specs.declared.State.{State}
+use Rattle.transfer.specs.declared.Transfer.{Transfer}
+use Rattle.transfer.specs.declared.Answer.{Answer}
+use Rattle.transfer.specs.declared.Answer.TheVariants.{BadBuffers, BadSettings, BadState}
+use Rattle.uf2_checks.specs.Screen.{screen_at}
+use Rattle.uf2_checks.specs.declared.Lengths.{Lengths}
+use Rattle.uf2_checks.specs.declared.PlacedBlock.{PlacedBlock}
+use Rattle.uf2_checks.specs.declared.Screening.{Screening}
+use Rattle.uf2_checks.specs.declared.Screening.TheVariants.{Refused, Passed}
+use Rattle.arrival.specs.Arrive.{Lent, Decision, lengths_of, stands_at, after_screening, stays}
+use Rattle.arrival.specs.Lending.{world}
+use Rattle.uf2_known.specs.Verdict.{known_decision}
+use Rattle.uf2_known.specs.declared.Known.{Known}
 
 -- ---- rows 4 to 17
 
 module _ (t : State) (seen : List ℕ) (kept : Bool) {c : Screening} where
-  pub screened-refused : {x : Answer} → c ≡ Refused x → stays x ≡ afterScreening t seen kept c
-  unfolding afterScreening
-  screened-refused q = rw q
+  pub screened_refused : {x : Answer} → c ≡ Refused x → stays x ≡ after_screening t seen kept c
+  unfolding after_screening
+  screened_refused q = rw q
 
-  pub screened-passed : {p : PlacedBlock} → c ≡ Passed p → {d : Decision} → d ≡ afterScreening t seen kept (Passed p) → d ≡ afterScreening t seen kept c
-  screened-passed q y = rw q y
+  pub screened_passed : {p : PlacedBlock} → c ≡ Passed p → {d : Decision} → d ≡ after_screening t seen kept (Passed p) → d ≡ after_screening t seen kept c
+  screened_passed q y = rw q y
 
 -- ---- every row
 
 module _ (known : Known) (t : Transfer) (a : List ℕ) (h : Lent) where
   abbrev sizes : Lengths
-  sizes = lengthsOf (world t h .held)
+  sizes = lengths_of (world t h).held
 
-  pub judge-lengths : known .right ≡ false → stays BadBuffers ≡ knownDecision known (world t h) a
-  unfolding knownDecision
-  judge-lengths l = rw l
+  pub judge_lengths : known.right ≡ false → stays BadBuffers ≡ known_decision known (world t h) a
+  unfolding known_decision
+  judge_lengths l = rw l
 
-  module _ (l : known .right ≡ true) where
-    pub judge-settings : known .good ≡ false → stays BadSettings ≡ knownDecision known (world t h) a
-    unfolding knownDecision
-    judge-settings g = rw (l, g)
+  module _ (l : known.right ≡ true) where
+    pub judge_settings : known.good ≡ false → stays BadSettings ≡ known_decision known (world t h) a
+    unfolding known_decision
+    judge_settings g = rw (l, g)
 
-    module _ (g : known .good ≡ true) where
-      pub judge-state : goodState (t .state) ≡ false → stays BadState ≡ knownDecision known (world t h) a
-      unfolding knownDecision
-      judge-state n = rw (l, g, n)
+    module _ (g : known.good ≡ true) where
+      pub judge_state : good_state t.state ≡ false → stays BadState ≡ known_decision known (world t h) a
+      unfolding known_decision
+      judge_state n = rw (l, g, n)
 
-      pub judge-screened : goodState (t .state) ≡ true → {d : Decision} → d ≡ afterScreening (t .state) (h .seen) (standsAt (h .flash) (known .rooms .flash) a) (screenAt (known .rooms) sizes (t .state) a) → d ≡ knownDecision known (world t h) a
-      unfolding knownDecision
-      judge-screened n y = rw (l, g, n) y
+      pub judge_screened : good_state t.state ≡ true → {d : Decision} → d ≡ after_screening t.state h.seen (stands_at h.flash known.rooms.flash a) (screen_at known.rooms sizes t.state a) → d ≡ known_decision known (world t h) a
+      unfolding known_decision
+      judge_screened n y = rw (l, g, n) y

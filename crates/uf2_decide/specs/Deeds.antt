@@ -1,8 +1,8 @@
 -- What a page does once its block is accepted. Assumes nothing.
-use mathlib.Core.Bool.{Bool, cond}
-use Rattle·transfer.specs.declared.Deed.{Deed}
-use Rattle·transfer.specs.declared.Deed.the-variants.{Stores, Keeps}
+use Rattle.std.specs.Prelude.{Bool, cond}
+use Rattle.transfer.specs.declared.Deed.{Deed}
+use Rattle.transfer.specs.declared.Deed.TheVariants.{Stores, Keeps}
 
 -- what a page does, where it is kept or not
-abbrev pub pageDeed : Bool → Deed
-pageDeed kept = cond kept Keeps Stores
+abbrev pub page_deed : Bool → Deed
+page_deed kept = cond kept Keeps Stores

@@ -1,18 +1,16 @@
 // What a block does once it is accepted: a page is stored or kept, a comment is noted. Nothing is written.
-ghost use mathlib.Core.Path.{_≡_};
-ghost use mathlib.Core.Bool.{_&&_};
-ghost use Rattle·transfer.specs.Transfer.{sameKind};
-ghost use Rattle·arrival.specs.Arrive.{standsAt, deedOf};
-ghost use Rattle·uf2_decide·specs.specs.Deeds.{pageDeed};
+ghost use Rattle.std.specs.Prelude.{◌≡◌, ◌&&◌};
+ghost use Rattle.transfer.specs.Transfer.{same_kind};
+ghost use Rattle.arrival.specs.Arrive.{stands_at, deed_of};
+ghost use Rattle.uf2_decide.specs.Deeds.{page_deed};
+
 use placement::Place;
-use transfer::Deed;
-use transfer::Kind;
-use uf2_checks::Body;
-use uf2_checks::PlacedBlock;
+use transfer::{Deed, Kind};
+use uf2_checks::{Body, PlacedBlock};
 
 // Does the region of an arrival, if it names one, count in a place of the flash, and have its digest there?
 fn stands_in(start: usize, size: usize, flash: &[u8], arrival: &[u8]) -> bool
-    ensures { λ r. ⌜ r ≡ standsAt (now (flash .entry)) (Place.At start size) (now (arrival .entry)) ⌝ }
+    ensures { result ≡ stands_at flash.now (Place.At start size) arrival.now }
 {
     if !uf2_block::has_region(arrival) {
         return false;
@@ -26,7 +24,7 @@ fn stands_in(start: usize, size: usize, flash: &[u8], arrival: &[u8]) -> bool
 }
 
 fn stands_at(place: Place, flash: &[u8], arrival: &[u8]) -> bool
-    ensures { λ r. ⌜ r ≡ standsAt (now (flash .entry)) place (now (arrival .entry)) ⌝ }
+    ensures { result ≡ stands_at flash.now place arrival.now }
 {
     match place {
         Place::Nowhere => false,
@@ -36,7 +34,7 @@ fn stands_at(place: Place, flash: &[u8], arrival: &[u8]) -> bool
 
 // A page is stored; in flash it is kept where it stands. The flash is read only there.
 fn page_deed(kind: Kind, place: Place, flash: &[u8], arrival: &[u8]) -> Deed
-    ensures { λ r. ⌜ r ≡ pageDeed (sameKind kind Kind.Flash && standsAt (now (flash .entry)) place (now (arrival .entry))) ⌝ }
+    ensures { result ≡ page_deed (same_kind kind Kind.Flash && stands_at flash.now place arrival.now) }
 {
     if !transfer::same_kind(kind, Kind::Flash) {
         return Deed::Stores;
@@ -48,8 +46,8 @@ fn page_deed(kind: Kind, place: Place, flash: &[u8], arrival: &[u8]) -> Deed
 }
 
 // What a block does once it is accepted, where `place` is its family's.
-pub(crate) fn deed_of(placed: PlacedBlock, place: Place, flash: &[u8], arrival: &[u8]) -> Deed
-    ensures { λ r. ⌜ r ≡ deedOf (standsAt (now (flash .entry)) place (now (arrival .entry))) placed ⌝ }
+pub fn deed_of(placed: PlacedBlock, place: Place, flash: &[u8], arrival: &[u8]) -> Deed
+    ensures { result ≡ deed_of (stands_at flash.now place arrival.now) placed }
 {
     let named = placed.head;
     let kind = named.kind;

@@ -1,20 +1,19 @@
 // What an arrival comes to: the checks in their order, and what an accepted block does. Nothing is written.
-mod deeds;
-mod settling;
+#![tactic(auto)]
 
-ghost use mathlib.Core.Path.{_≡_};
-ghost use Rattle·laws.specs.Numbered.{numbered};
-ghost use Rattle·uf2_checks.specs.Screen.{screenAt};
-ghost use Rattle·arrival.specs.Arrive.{standsAt, afterScreening};
-ghost use Rattle·arrival.specs.Lending.{lentAt, world};
-ghost use Rattle·uf2_known.specs.Verdict.{decision, decisionNumber, knownDecision};
-use transfer::Answer;
-use transfer::Transfer;
-use uf2_checks::Lengths;
-use uf2_checks::Rooms;
-use uf2_checks::Screening;
-use uf2_known::Known;
-use uf2_known::Verdict;
+pub mod deeds;
+pub mod settling;
+
+ghost use Rattle.std.specs.Prelude.{◌≡◌};
+ghost use Rattle.laws.specs.Numbered.{numbered};
+ghost use Rattle.uf2_checks.specs.Screen.{screen_at};
+ghost use Rattle.arrival.specs.Arrive.{stands_at, after_screening};
+ghost use Rattle.arrival.specs.Lending.{lent_at, world};
+ghost use Rattle.uf2_known.specs.Verdict.{decision, decision_number, known_decision};
+
+use transfer::{Answer, Transfer};
+use uf2_checks::{Lengths, Rooms, Screening};
+use uf2_known::{Known, Verdict};
 
 // Rows 4 to 17.
 fn screened(
@@ -25,19 +24,14 @@ fn screened(
     flash: &[u8],
     seen: &[u8],
 ) -> Verdict
-    ensures { λ r. ⌜ decision r ≡ afterScreening (transfer .state) (now (seen .entry)) (standsAt (now (flash .entry)) (rooms .flash) (now (arrival .entry))) (screenAt rooms lens (transfer .state) (now (arrival .entry))) ⌝ }
+    ensures { decision result ≡ after_screening transfer.state seen.now (stands_at flash.now rooms.flash arrival.now) (screen_at rooms lens transfer.state arrival.now) }
 {
     let place = rooms.flash;
     let screening = uf2_checks::block_checks::screen(rooms, lens, transfer, arrival);
     match screening {
         Screening::Refused(answer) => Verdict::Leaves(answer),
         Screening::Passed(placed) => crate::settling::settle(
-            transfer,
-            placed,
-            place,
-            arrival,
-            flash,
-            seen,
+            transfer, placed, place, arrival, flash, seen,
         ),
     }
 }
@@ -53,7 +47,7 @@ pub fn judge(
     main: &[u8],
     xip: &[u8],
 ) -> Verdict
-    ensures { λ r. ⌜ numbered decisionNumber (decision r) ≡ numbered decisionNumber (knownDecision known (world transfer (lentAt flash seen sectors main xip)) (now (arrival .entry))) ⌝ }
+    ensures { numbered decision_number (decision result) ≡ numbered decision_number (known_decision known (world transfer (lent_at flash.now seen.now sectors.now main.now xip.now)) arrival.now) }
 {
     if !known.right {
         return Verdict::Leaves(Answer::BadBuffers);

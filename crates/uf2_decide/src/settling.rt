@@ -1,17 +1,12 @@
 // Rows 12 to 17: what a block that has passed the screening comes to. Nothing is written.
-ghost use mathlib.Core.Path.{_≡_};
-ghost use Rattle·arrival.specs.Arrive.{standsAt, afterScreening};
-ghost use Rattle·uf2_known.specs.Verdict.{decision, acceptedAs};
+ghost use Rattle.std.specs.Prelude.{◌≡◌};
+ghost use Rattle.arrival.specs.Arrive.{stands_at, after_screening};
+ghost use Rattle.uf2_known.specs.Verdict.{decision, accepted_as};
+
 use placement::Place;
-use transfer::Accepted;
-use transfer::Answer;
-use transfer::Deed;
-use transfer::Step;
-use transfer::Transfer;
-use uf2_checks::PlacedBlock;
-use uf2_checks::Screening;
-use uf2_known::Acceptance;
-use uf2_known::Verdict;
+use transfer::{Accepted, Answer, Deed, Step, Transfer};
+use uf2_checks::{PlacedBlock, Screening};
+use uf2_known::{Acceptance, Verdict};
 
 // A block that rows 12 and 13 let through, with what it would do to the transfer if it were stored.
 fn accept(
@@ -21,7 +16,7 @@ fn accept(
     arrival: &[u8],
     flash: &[u8],
 ) -> Verdict
-    ensures { λ r. ⌜ decision r ≡ acceptedAs (standsAt (now (flash .entry)) place (now (arrival .entry))) placed stored ⌝ }
+    ensures { decision result ≡ accepted_as (stands_at flash.now place arrival.now) placed stored }
 {
     let deed = crate::deeds::deed_of(placed, place, flash, arrival);
     let accepted = transfer::retold::doing(stored, deed);
@@ -33,7 +28,7 @@ fn accept(
 }
 
 // Rows 12 to 17, of a block that has passed the screening. The flash is read where it is accepted, and not for 12 and 13.
-pub(crate) fn settle(
+pub fn settle(
     transfer: Transfer,
     placed: PlacedBlock,
     place: Place,
@@ -41,7 +36,7 @@ pub(crate) fn settle(
     flash: &[u8],
     seen: &[u8],
 ) -> Verdict
-    ensures { λ r. ⌜ decision r ≡ afterScreening (transfer .state) (now (seen .entry)) (standsAt (now (flash .entry)) place (now (arrival .entry))) (Screening.Passed placed) ⌝ }
+    ensures { decision result ≡ after_screening transfer.state seen.now (stands_at flash.now place arrival.now) (Screening.Passed placed) }
 {
     let head = placed.head;
     let number = placed.number as usize;

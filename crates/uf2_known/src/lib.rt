@@ -1,21 +1,20 @@
 // What an arrival can come to, and what the settings and the lengths say of it before it is judged.
+#![tactic(auto)]
+
 pub mod judged;
 
-ghost use mathlib.Core.Path.{_≡_};
-ghost use Rattle·placement.specs.Place.{StartsLow};
-ghost use Rattle·arrival.specs.Arrive.{rightLengths};
-ghost use Rattle·uf2_known·specs.specs.Verdict.{knownOf};
+ghost use Rattle.std.specs.Prelude.{◌≡◌};
+ghost use Rattle.placement.specs.Place.{StartsLow};
+ghost use Rattle.arrival.specs.Arrive.{right_lengths};
+ghost use Rattle.uf2_known.specs.Verdict.{known_of};
+
 use partitions::Settings;
-use transfer::Accepted;
-use transfer::Answer;
-use transfer::Deed;
+use transfer::{Accepted, Answer, Deed};
 use uf2_block::Block;
-use uf2_checks::Lengths;
-use uf2_checks::PlacedBlock;
-use uf2_checks::Rooms;
-use uf2_checks::Window;
+use uf2_checks::{Lengths, PlacedBlock, Rooms, Window};
 
 // A block that is accepted: its number and what it holds, what is done with that, and what the block does to the transfer.
+#[derive(Clone, Copy)]
 pub struct Acceptance {
     pub placed: PlacedBlock,
     pub deed: Deed,
@@ -23,12 +22,14 @@ pub struct Acceptance {
 }
 
 // What an arrival comes to, before anything is written.
+#[derive(Clone, Copy)]
 pub enum Verdict {
     Leaves(Answer),
     Accepts(Acceptance),
 }
 
 // What is known of an arrival before it is judged: row 1's word, row 2's word, and what the settings say of its family.
+#[derive(Clone, Copy)]
 pub struct Known {
     pub right: bool,
     pub good: bool,
@@ -44,7 +45,7 @@ impl Known {
 
 // Are the lengths of arrival, flash, seen map, sector map, main RAM and XIP RAM right? A buffer of RAM is whole or empty.
 pub fn lengths_right(a: usize, lens: Lengths, m: usize, k: usize) -> bool
-    ensures { λ r. ⌜ r ≡ rightLengths a lens m k ⌝ }
+    ensures { result ≡ right_lengths a lens m k }
 {
     (a == Block::ARRIVAL)
         & memory::flash::right_length(lens.flash)
@@ -56,8 +57,8 @@ pub fn lengths_right(a: usize, lens: Lengths, m: usize, k: usize) -> bool
 
 // What the settings and the lengths say of an arrival.
 pub fn known_of(settings: Settings, lens: Lengths, m: usize, k: usize, arrival: &[u8]) -> Known
-    ensures { λ r. ⌜ r ≡ knownOf settings lens m k (now (arrival .entry)) ⌝ }
-    ensures low { λ r. ⌜ StartsLow (r .rooms .flash) ⌝ }
+    ensures value { result ≡ known_of settings lens m k arrival.now }
+    ensures low { StartsLow result.rooms.flash }
 {
     let right = lengths_right(arrival.len(), lens, m, k);
     let good = partitions::validity::good(settings, lens.flash);

@@ -1,34 +1,30 @@
 -- "Reading each block gives back its fields" (02, L1). Assumes nothing.
-use Prim.Native.Nat.{ℕ, _+_, _*_, _<_, _^_}
-use mathlib.Core.Bool.{true}
-use mathlib.Core.Path.{_≡_}
-use mathlib.Core.List.{List, _++_}
-use lib.ListN.{length, take, drop}
-use Rattle·memory.specs.Many.{many}
-use Rattle·uf2_block.specs.Block.{fieldAt, isBlock}
-use Rattle·uf2_make·specs.specs.declared.checks.MakeAnswer.the-variants.{Made}
-use Rattle·uf2_make·specs.specs.Uf2file.{pageOf, makeOf}
+use Rattle.std.specs.Prelude.{ℕ, ◌+◌, ◌*◌, ◌<◌, ◌^◌, true, ◌≡◌, List, ◌++◌, length, take, drop}
+use Rattle.memory.specs.Many.{many}
+use Rattle.uf2_block.specs.Block.{field_at, is_block}
+use Rattle.uf2_make.specs.declared.checks.MakeAnswer.TheVariants.{Made}
+use Rattle.uf2_make.specs.Uf2file.{page_of, make_of}
 
 -- 512 bytes that are read as a block with these fields, "flag 0x2000 only", and with the page and then zeros as data
 pub record Reads (b : List ℕ) (address number total family : ℕ) (page : List ℕ) : Type 0 where
   pub long : length b ≡ 512
-  pub magic : isBlock b ≡ true
-  pub flags : fieldAt b 8 ≡ 0x2000
-  pub address-back : fieldAt b 12 ≡ address
-  pub size-back : fieldAt b 16 ≡ 256
-  pub number-back : fieldAt b 20 ≡ number
-  pub total-back : fieldAt b 24 ≡ total
-  pub family-back : fieldAt b 28 ≡ family
-  pub page-back : take 476 (drop 32 b) ≡ page ++ many 220 0
+  pub magic : is_block b ≡ true
+  pub flags : field_at b 8 ≡ 0x2000
+  pub address_back : field_at b 12 ≡ address
+  pub size_back : field_at b 16 ≡ 256
+  pub number_back : field_at b 20 ≡ number
+  pub total_back : field_at b 24 ≡ total
+  pub family_back : field_at b 28 ≡ family
+  pub page_back : take 476 (drop 32 b) ≡ page ++ many 220 0
 
 -- of every file that is made, each block, in number order
-abbrev pub Blocks-read-back : Type 0
-Blocks-read-back =
-    (image out : List ℕ) (family start n : ℕ) → family < 2 ^ 32 → makeOf image family start out .answer ≡ Made n
-    → (k : ℕ) → k < n → Reads (take 512 (drop (512 * k) (makeOf image family start out .output))) (start + 256 * k) k n family (pageOf image k)
+abbrev pub BlocksReadBack : Type 0
+BlocksReadBack =
+    (image out : List ℕ) (family start n : ℕ) → family < 2 ^ 32 → (make_of image family start out).answer ≡ Made n
+    → (k : ℕ) → k < n → Reads (take 512 (drop (512 * k) (make_of image family start out).output)) (start + 256 * k) k n family (page_of image k)
 
 -- "output past the last block stays"
-abbrev pub Rest-stays : Type 0
-Rest-stays =
-    (image out : List ℕ) (family start n : ℕ) → makeOf image family start out .answer ≡ Made n
-    → drop (512 * n) (makeOf image family start out .output) ≡ drop (512 * n) out
+abbrev pub RestStays : Type 0
+RestStays =
+    (image out : List ℕ) (family start n : ℕ) → (make_of image family start out).answer ≡ Made n
+    → drop (512 * n) (make_of image family start out).output ≡ drop (512 * n) out

@@ -1,30 +1,28 @@
 -- An image that a UF2 file is to be made of (02, L1): "Refusals, in order". Assumes nothing.
-use Prim.Native.Nat.{ℕ, _+_, _*_, _/_, _%_}
-use mathlib.Core.Bool.{Bool, not, cond, _||_}
-use lib.Dec.{eqb, ltb, leb}
-use Rattle·uf2_make·specs.specs.declared.checks.MakeAnswer.{MakeAnswer}
-use Rattle·uf2_make·specs.specs.declared.checks.MakeAnswer.the-variants.{BadImage, BadStart, PastWindow, ShortOutput, Made}
+use Rattle.std.specs.Prelude.{ℕ, ◌+◌, ◌*◌, ◌/◌, ◌%◌, Bool, not, cond, ◌||◌, eqb, ltb, leb}
+use Rattle.uf2_make.specs.declared.checks.MakeAnswer.{MakeAnswer}
+use Rattle.uf2_make.specs.declared.checks.MakeAnswer.TheVariants.{BadImage, BadStart, PastWindow, ShortOutput, Made}
 
 -- "50 image empty or ragged", of its length
-abbrev pub badImage : ℕ → Bool
-badImage n = eqb n 0 || not (eqb (n % 256) 0)
+abbrev pub bad_image : ℕ → Bool
+bad_image n = eqb n 0 || not (eqb (n % 256) 0)
 
 -- "51 start outside the window or no multiple of 256". The window is 01's, 0x10000000 up to, not including, 0x12000000.
-abbrev pub badStart : ℕ → Bool
-badStart start = ltb start 0x10000000 || (leb 0x12000000 start || not (eqb (start % 256) 0))
+abbrev pub bad_start : ℕ → Bool
+bad_start start = ltb start 0x10000000 || (leb 0x12000000 start || not (eqb (start % 256) 0))
 
 -- then "52 image runs past the window, 53 output under 512 bytes a page": of an image's length, a start and an output's length
-unfoldable pub checkOf : ℕ → ℕ → ℕ → MakeAnswer
-checkOf n start room =
-    cond (badImage n) BadImage (cond (badStart start) BadStart
+unfoldable pub check_of : ℕ → ℕ → ℕ → MakeAnswer
+check_of n start room =
+    cond (bad_image n) BadImage (cond (bad_start start) BadStart
     (cond (ltb 0x12000000 (start + n)) PastWindow
     (cond (ltb room (512 * (n / 256))) ShortOutput
     (Made (n / 256)))))
 
 -- the numbers of the refusals; a file that is made is none, and has 0
-abbrev pub makeNumber : MakeAnswer → ℕ
-makeNumber BadImage = 50
-makeNumber BadStart = 51
-makeNumber PastWindow = 52
-makeNumber ShortOutput = 53
-makeNumber (Made n) = 0
+abbrev pub make_number : MakeAnswer → ℕ
+make_number BadImage = 50
+make_number BadStart = 51
+make_number PastWindow = 52
+make_number ShortOutput = 53
+make_number (Made n) = 0

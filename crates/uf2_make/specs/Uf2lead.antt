@@ -1,12 +1,11 @@
--- The fields of a block before its data, written over bytes (02, L1). In a block of 512 bytes they are `leadBytes` of uf2block. Assumes nothing.
-use Prim.Native.Nat.{ℕ}
-use mathlib.Core.List.{List}
-use Rattle·uf2_block.specs.Write.{putAt}
+-- The fields of a block before its data, written over bytes (02, L1). In a block of 512 bytes they are `lead_bytes` of uf2block. Assumes nothing.
+use Rattle.std.specs.Prelude.{ℕ, List}
+use Rattle.uf2_block.specs.Write.{put_at}
 
 -- two magic numbers, flags ("flag 0x2000 only"), address
-unfoldable pub firstOver : List ℕ → ℕ → List ℕ
-firstOver b address = putAt (putAt (putAt (putAt b 0 0x0A324655) 4 0x9E5D5157) 8 0x2000) 12 address
+unfoldable pub first_over : List ℕ → ℕ → List ℕ
+first_over b address = put_at (put_at (put_at (put_at b 0 0x0A324655) 4 0x9E5D5157) 8 0x2000) 12 address
 
 -- payload size, number, total, family
-unfoldable pub lastOver : List ℕ → ℕ → ℕ → ℕ → List ℕ
-lastOver b number total family = putAt (putAt (putAt (putAt b 16 256) 20 number) 24 total) 28 family
+unfoldable pub last_over : List ℕ → ℕ → ℕ → ℕ → List ℕ
+last_over b number total family = put_at (put_at (put_at (put_at b 16 256) 20 number) 24 total) 28 family

@@ -1,7 +1,8 @@
 // An image of whole pages that a UF2 file is to be made of: the checks, and the answer.
-ghost use mathlib.Core.Path.{_≡_};
-ghost use Rattle·laws.specs.Numbered.{numbered};
-ghost use Rattle·uf2_make·specs.specs.Uf2check.{badImage, badStart, checkOf, makeNumber};
+ghost use Rattle.std.specs.Prelude.{◌≡◌};
+ghost use Rattle.laws.specs.Numbered.{numbered};
+ghost use Rattle.uf2_make.specs.Uf2check.{bad_image, bad_start, check_of, make_number};
+
 use uf2_block::Block;
 
 const PAGE: usize = 256;
@@ -12,6 +13,7 @@ const WINDOW: usize = 0x10000000;
 const WINDOW_END: usize = 0x12000000;
 
 // What comes of an image: a refusal, or a file of so many blocks.
+#[derive(Clone, Copy)]
 pub enum MakeAnswer {
     BadImage,
     BadStart,
@@ -23,7 +25,7 @@ pub enum MakeAnswer {
 impl MakeAnswer {
     // The number of a refusal, and 0 for a file that is made.
     pub fn number(self) -> u8
-        ensures { λ r. ⌜ r ≡ makeNumber self ⌝ }
+        ensures { result ≡ make_number self }
     {
         match self {
             MakeAnswer::BadImage => 50,
@@ -36,13 +38,13 @@ impl MakeAnswer {
 }
 
 fn bad_image(len: usize) -> bool
-    ensures { λ r. ⌜ r ≡ badImage len ⌝ }
+    ensures { result ≡ bad_image len }
 {
     (len == 0) | (len % PAGE != 0)
 }
 
 fn bad_start(start: usize) -> bool
-    ensures { λ r. ⌜ r ≡ badStart start ⌝ }
+    ensures { result ≡ bad_start start }
 {
     (start < WINDOW) | ((WINDOW_END <= start) | (start % PAGE != 0))
 }
@@ -50,7 +52,7 @@ fn bad_start(start: usize) -> bool
 // What would come of an image of so many bytes. The start's distance from the window's end is compared, since the sum of start and length
 // need not fit.
 pub fn check(image_len: usize, start: u32, output_len: usize) -> MakeAnswer
-    ensures { λ r. ⌜ numbered makeNumber r ≡ numbered makeNumber (checkOf «image_len» start «output_len») ⌝ }
+    ensures { numbered make_number result ≡ numbered make_number (check_of image_len start output_len) }
 {
     let first = start as usize;
     if bad_image(image_len) {

@@ -1,11 +1,12 @@
 // The fields of a UF2 block before its data, written.
-ghost use mathlib.Core.Path.{_≡_};
-ghost use Rattle·uf2_make·specs.specs.Uf2lead.{firstOver, lastOver};
+ghost use Rattle.std.specs.Prelude.{◌≡◌};
+ghost use Rattle.uf2_make.specs.Uf2lead.{first_over, last_over};
+
 use uf2_block::Block;
 
 // Magic numbers, flags and address.
-pub(crate) fn put_first_fields(out: &mut [u8], address: u32)
-    ensures { λ _. ⌜ now (out .exit) ≡ firstOver (now (out .entry)) address ⌝ }
+pub fn put_first_fields(out: &mut [u8], address: u32)
+    ensures { out.new ≡ first_over out.old address }
 {
     uf2_block::put(out, 0, Block::MAGIC_FIRST);
     uf2_block::put(out, 4, Block::MAGIC_SECOND);
@@ -15,7 +16,7 @@ pub(crate) fn put_first_fields(out: &mut [u8], address: u32)
 
 // The payload's size, number, total and family.
 pub fn put_last_fields(out: &mut [u8], number: u32, total: u32, family: u32)
-    ensures { λ _. ⌜ now (out .exit) ≡ lastOver (now (out .entry)) number total family ⌝ }
+    ensures { out.new ≡ last_over out.old number total family }
 {
     uf2_block::put(out, 16, 256);
     uf2_block::put(out, 20, number);

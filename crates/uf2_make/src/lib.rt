@@ -1,19 +1,20 @@
 // A UF2 file made of an image of whole pages.
+#![tactic(auto)]
+
 pub mod checks;
 pub mod lead;
 pub mod page_block;
 
-ghost use mathlib.Core.Path.{_≡_};
-ghost use Prim.Native.Nat.{_+_, _*_, _≤_};
-ghost use lib.ListN.{length};
-ghost use Rattle·laws.specs.Over.{over};
-ghost use Rattle·laws.specs.Numbered.{numbered};
-ghost use Rattle·uf2_make·specs.specs.Uf2file.{
-  fileBytes,
-  makeCall,
-  callNumber,
-  makeOf,
+ghost use Rattle.std.specs.Prelude.{◌≡◌, ◌+◌, ◌*◌, ◌≤◌, length};
+ghost use Rattle.laws.specs.Over.{over};
+ghost use Rattle.laws.specs.Numbered.{numbered};
+ghost use Rattle.uf2_make.specs.Uf2file.{
+  file_bytes,
+  make_call,
+  call_number,
+  make_of,
 };
+
 use crate::checks::MakeAnswer;
 use uf2_block::Block;
 
@@ -21,10 +22,10 @@ const PAGE: usize = 256;
 
 // Writes a block for each page.
 fn write_blocks(image: &[u8], family: u32, start: u32, total: u32, output: &mut [u8])
-    requires { ⌜ length (now image) ≡ 256 * total ⌝ }
-    requires window { ⌜ start + 256 * total ≤ 0x12000000 ⌝ }
-    requires room { ⌜ 512 * total ≤ length (now output) ⌝ }
-    ensures { λ _. ⌜ now (output .exit) ≡ over (now (output .entry)) 0 (fileBytes (now (image .entry)) family start) ⌝ }
+    requires image_len { length image.now ≡ 256 * total }
+    requires window { start + 256 * total ≤ 0x12000000 }
+    requires room { 512 * total ≤ length output.old }
+    ensures { output.new ≡ over output.old 0 (file_bytes image.now family start) }
 {
     let mut k: u32 = 0;
     while k < total {
@@ -48,7 +49,7 @@ fn write_blocks(image: &[u8], family: u32, start: u32, total: u32, output: &mut 
 
 // Makes the file at the start of the output.
 pub fn make(image: &[u8], family: u32, start: u32, output: &mut [u8]) -> MakeAnswer
-    ensures { λ r. ⌜ numbered callNumber (makeCall r (now (output .exit))) ≡ numbered callNumber (makeOf (now (image .entry)) family start (now (output .entry))) ⌝ }
+    ensures { numbered call_number (make_call result output.new) ≡ numbered call_number (make_of image.now family start output.old) }
 {
     let answer = crate::checks::check(image.len(), start, output.len());
     let MakeAnswer::Made(total) = answer else {

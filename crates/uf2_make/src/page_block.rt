@@ -1,26 +1,26 @@
 // One block of a UF2 file that is made: its fields, its page and the padding.
-ghost use mathlib.Core.Path.{_≡_};
-ghost use lib.ListN.{length};
-ghost use Rattle·uf2_make·specs.specs.Uf2block.{blockBytes, blockOver};
+ghost use Rattle.std.specs.Prelude.{◌≡◌, length};
+ghost use Rattle.uf2_make.specs.Uf2block.{block_bytes, block_over};
+
 use uf2_block::Block;
 
 const PAGE: usize = 256;
 
 fn put_block(out: &mut [u8], address: u32, number: u32, total: u32, family: u32, page: &[u8])
-    requires { ⌜ length (now out) ≡ 512 ⌝ }
-    requires size { ⌜ length (now page) ≡ 256 ⌝ }
-    ensures { λ _. ⌜ now (out .exit) ≡ blockBytes address number total family (now (page .entry)) ⌝ }
+    requires out_len { length out.old ≡ 512 }
+    requires size { length page.now ≡ 256 }
+    ensures { out.new ≡ block_bytes address number total family page.now }
 {
     crate::lead::put_first_fields(out, address);
     crate::lead::put_last_fields(out, number, total, family);
-    bytes::copy(page, &mut out[32..288]);
+    out[32..288].copy_from_slice(page);
     memory::fill::fill(&mut out[288..508], 0);
     uf2_block::put(out, 508, Block::MAGIC_LAST);
 }
 
 // Writes one block, for a tool that makes a file page by page. Where the output has not 512 bytes or the page not 256, nothing is written.
 pub fn write_block(out: &mut [u8], address: u32, number: u32, total: u32, family: u32, page: &[u8])
-    ensures { λ _. ⌜ now (out .exit) ≡ blockOver (now (out .entry)) address number total family (now (page .entry)) ⌝ }
+    ensures { out.new ≡ block_over out.old address number total family page.now }
 {
     if out.len() != Block::ARRIVAL {
         return;

@@ -1,95 +1,91 @@
 -- The blocks of a file with regions, one after the other. Assumes nothing.
-use Prim.Native.Nat.{ℕ, _+_, _-_, _*_, _/_, _<_, _≤_}
-use mathlib.Core.Path.{_≡_, refl, sym, ap, _∙_}
-use mathlib.Core.Logic.{⊎-elim}
-use mathlib.Core.List.{List, [], _∷_}
+use Prim.Native.Nat.{ℕ, ◌+◌, ◌-◌, ◌*◌, ◌/◌, ◌<◌, ◌≤◌}
+use mathlib.Core.Path.{◌≡◌, refl, sym, ap, ◌∙◌}
+use mathlib.Core.List.{List}
 use native.Mathlib.Omega.{arith}
 use lib.ListN.{length, take, drop}
-use borrow.Rule.Slice.PartMut.{putMid}
-use types.Run.{OneOf}
-use denote.Enum.Declared.{tagOf}
-use Rattle·laws.specs.Over.{over}
-use Rattle·laws.specs.Rows.{rows}
-use Rattle·laws.proofs.OverLaws.{length-over, put-over}
-use Rattle·laws.proofs.RowsLaws.{rows-none, length-rows, part-rows, rows-over}
-use Rattle·md5.specs.declared.Digest.{Digest}
-use Rattle·uf2_make.specs.declared.checks.MakeAnswer.{MakeAnswer}
-use Rattle·uf2_make.specs.declared.checks.MakeAnswer.the-variants.{BadImage, BadStart, PastWindow, ShortOutput, Made}
-use Rattle·uf2_make.specs.Uf2check.{checkOf}
-use Rattle·uf2_make.proofs.checks.MakeAnswer.{the-type}
-use Rattle·uf2_make.specs.Uf2file.{pageOf, makeCall}
-use Rattle·uf2_make.proofs.Files.{length-page}
-use Rattle·uf2_make_regions·specs.specs.Sector.{sectorStart}
-use Rattle·uf2_make_regions·specs.specs.Block.{blockBytes}
-use Rattle·uf2_make_regions·specs.specs.File.{sectorDigest, blockAt, fileBytes, makeOf}
-use Rattle·uf2_make_regions·proofs.proofs.named.Laws.{length-block}
+use borrow.Rule.Slice.PartMut.{put_mid}
+use Rattle.laws.specs.Over.{over}
+use Rattle.laws.specs.Rows.{rows}
+use Rattle.laws.proofs.OverLaws.{length_over, put_over}
+use Rattle.laws.proofs.RowsLaws.{rows_none, length_rows, part_rows, rows_over}
+use Rattle.md5_digest.specs.declared.Digest.{Digest}
+use Rattle.uf2_make.specs.declared.checks.MakeAnswer.{MakeAnswer}
+use Rattle.uf2_make.specs.declared.checks.MakeAnswer.TheVariants.{BadImage, BadStart, PastWindow, ShortOutput, Made}
+use Rattle.uf2_make.specs.Uf2check.{check_of}
+use Rattle.uf2_make.specs.Uf2file.{page_of, make_call}
+use Rattle.uf2_make.proofs.Files.{length_page}
+use Rattle.uf2_make_regions.specs.Sector.{sector_start}
+use Rattle.uf2_make_regions.specs.Block.{block_bytes}
+use Rattle.uf2_make_regions.specs.File.{sector_digest, block_at, file_bytes, make_of}
+use Rattle.uf2_make_regions.proofs.named.Laws.{length_block}
 
 -- an image of n pages
 module _ (image : List ℕ) (family start n : ℕ) (whole : length image ≡ 256 * n) where
   -- block k, as the code has its fields
-  pub block-is : (k a base : ℕ) {x : Digest} {b : List ℕ} → a ≡ start + 256 * k → base ≡ sectorStart a → x ≡ sectorDigest image start base
-      → b ≡ blockBytes a k n family (take (256 * k + 256 - 256 * k) (drop (256 * k) image)) base x → b ≡ blockAt image family start k
-  unfolding blockAt
-  block-is k a base ha hb hx e =
+  pub block_is : (k a base : ℕ) {x : Digest} {b : List ℕ} → a ≡ start + 256 * k → base ≡ sector_start a → x ≡ sector_digest image start base
+      → b ≡ block_bytes a k n family (take (256 * k + 256 - 256 * k) (drop (256 * k) image)) base x → b ≡ block_at image family start k
+  unfolding block_at
+  block_is k a base ha hb hx e =
       let m : length image / 256 ≡ n = omega arith in
       let p : 256 * k + 256 - 256 * k ≡ 256 = omega arith in
       e ∙ rw (hx, hb, ha, m, p) refl
 
-  pub block-at : (k : ℕ) → blockAt image family start k
-      ≡ blockBytes (start + 256 * k) k n family (pageOf image k) (sectorStart (start + 256 * k)) (sectorDigest image start (sectorStart (start + 256 * k)))
-  unfolding blockAt
-  block-at k = let e : length image / 256 ≡ n = omega arith in rw e
+  pub block_at_lem : (k : ℕ) → block_at image family start k
+      ≡ block_bytes (start + 256 * k) k n family (page_of image k) (sector_start (start + 256 * k)) (sector_digest image start (sector_start (start + 256 * k)))
+  unfolding block_at
+  block_at_lem k = let e : length image / 256 ≡ n = omega arith in rw e
 
-  wide : (k : ℕ) → k < n → length (blockAt image family start k) ≡ 512
+  wide : (k : ℕ) → k < n → length (block_at image family start k) ≡ 512
   wide k l =
-      let base = sectorStart (start + 256 * k) in
-      ap length (block-at k) ∙ length-block (start + 256 * k) k n family (pageOf image k) base (sectorDigest image start base) (length-page image family start n whole k l)
+      let base = sector_start (start + 256 * k) in
+      ap length (block_at_lem k) ∙ length_block (start + 256 * k) k n family (page_of image k) base (sector_digest image start base) (length_page image family start n whole k l)
 
-  pub file-rows : fileBytes image family start ≡ rows (blockAt image family start) n
-  unfolding fileBytes
-  file-rows = let e : length image / 256 ≡ n = omega arith in rw e
+  pub file_rows : file_bytes image family start ≡ rows (block_at image family start) n
+  unfolding file_bytes
+  file_rows = let e : length image / 256 ≡ n = omega arith in rw e
 
-  pub length-file : length (fileBytes image family start) ≡ 512 * n
-  length-file = rw file-rows (length-rows 512 n (blockAt image family start) wide n (omega arith))
+  pub length_file : length (file_bytes image family start) ≡ 512 * n
+  length_file = rw file_rows (length_rows 512 n (block_at image family start) wide n (omega arith))
 
-  pub part-file : (k : ℕ) → k < n → take 512 (drop (512 * k) (fileBytes image family start)) ≡ blockAt image family start k
-  part-file k l = rw file-rows (part-rows 512 n (blockAt image family start) wide n k (omega arith) l)
+  pub part_file : (k : ℕ) → k < n → take 512 (drop (512 * k) (file_bytes image family start)) ≡ block_at image family start k
+  part_file k l = rw file_rows (part_rows 512 n (block_at image family start) wide n k (omega arith) l)
 
-  pub blocks-long : (out₀ out : List ℕ) (k : ℕ) → 512 * n ≤ length out₀ → k ≤ n → out ≡ over out₀ 0 (rows (blockAt image family start) k) → length out ≡ length out₀
-  blocks-long out₀ out k room l s =
-      let f = blockAt image family start in
-      let fits : 0 + length (rows f k) ≤ length out₀ = omega (arith, length-rows 512 n f wide k l) in
-      ap length s ∙ length-over out₀ 0 (rows f k) fits
+  pub blocks_long : (out₀ out : List ℕ) (k : ℕ) → 512 * n ≤ length out₀ → k ≤ n → out ≡ over out₀ 0 (rows (block_at image family start) k) → length out ≡ length out₀
+  blocks_long out₀ out k room l s =
+      let f = block_at image family start in
+      let fits : 0 + length (rows f k) ≤ length out₀ = omega (arith, length_rows 512 n f wide k l) in
+      ap length s ∙ length_over out₀ 0 (rows f k) fits
 
   -- one block more, which a callee left in the part that it was lent
-  pub blocks-more : (out₀ out ys : List ℕ) (k : ℕ) → 512 * n ≤ length out₀ → k < n
-      → out ≡ over out₀ 0 (rows (blockAt image family start) k) → ys ≡ blockAt image family start k
-      → putMid (512 * k) (512 * k + 512 - 512 * k) out ys ≡ over out₀ 0 (rows (blockAt image family start) (k + 1))
-  blocks-more out₀ out ys k room l s y =
-      let f = blockAt image family start in
-      put-over (512 * k) 512 out ys (ap length y ∙ wide k l) ∙ rw (y, s) (rows-over 512 n f wide out₀ k l (omega arith))
+  pub blocks_more : (out₀ out ys : List ℕ) (k : ℕ) → 512 * n ≤ length out₀ → k < n
+      → out ≡ over out₀ 0 (rows (block_at image family start) k) → ys ≡ block_at image family start k
+      → put_mid (512 * k) (512 * k + 512 - 512 * k) out ys ≡ over out₀ 0 (rows (block_at image family start) (k + 1))
+  blocks_more out₀ out ys k room l s y =
+      let f = block_at image family start in
+      put_over (512 * k) 512 out ys (ap length y ∙ wide k l) ∙ rw (y, s) (rows_over 512 n f wide out₀ k l (omega arith))
 
-  pub blocks-whole : (out₀ out : List ℕ) (k : ℕ) → k ≡ n → out ≡ over out₀ 0 (rows (blockAt image family start) k) → out ≡ over out₀ 0 (fileBytes image family start)
-  blocks-whole out₀ out k e s = s ∙ rw (e, ← file-rows)
+  pub blocks_whole : (out₀ out : List ℕ) (k : ℕ) → k ≡ n → out ≡ over out₀ 0 (rows (block_at image family start) k) → out ≡ over out₀ 0 (file_bytes image family start)
+  blocks_whole out₀ out k e s = s ∙ rw (e, ← file_rows)
 
-pub blocks-none : (image : List ℕ) (family start : ℕ) (out : List ℕ) → out ≡ over out 0 (rows (blockAt image family start) 0)
+pub blocks_none : (image : List ℕ) (family start : ℕ) (out : List ℕ) → out ≡ over out 0 (rows (block_at image family start) 0)
 unfolding over
-blocks-none image family start out = rw (rows-none (blockAt image family start))
+blocks_none image family start out = rw (rows_none (block_at image family start))
 
 -- ---- the call
 
 module _ (image : List ℕ) (family start : ℕ) (out : List ℕ) where
-  -- none but a refusal, by its tag
-  pub make-refused : (x : MakeAnswer) → OneOf (0 ∷ 1 ∷ 2 ∷ 3 ∷ []) (tagOf the-type x) → x ≡ checkOf (length image) start (length out)
-      → makeCall x out ≡ makeOf image family start out
-  unfolding makeOf
-  make-refused BadImage h e = rw (← e)
-  make-refused BadStart h e = rw (← e)
-  make-refused PastWindow h e = rw (← e)
-  make-refused ShortOutput h e = rw (← e)
-  make-refused (Made n) h e = absurd (⊎-elim (λ q. omega arith) (⊎-elim (λ q. omega arith) (⊎-elim (λ q. omega arith) (λ q. omega arith))) h)
+  -- none but a refusal
+  pub make_refused : (x : MakeAnswer) → ((m : ℕ) → x ≡ Made m → ⊥) → x ≡ check_of (length image) start (length out)
+      → make_call x out ≡ make_of image family start out
+  unfolding make_of
+  make_refused BadImage h e = rw (← e)
+  make_refused BadStart h e = rw (← e)
+  make_refused PastWindow h e = rw (← e)
+  make_refused ShortOutput h e = rw (← e)
+  make_refused (Made n) h e = absurd (h n refl)
 
-  pub make-made : (x : MakeAnswer) (n : ℕ) {b : List ℕ} → x ≡ checkOf (length image) start (length out) → x ≡ Made n → b ≡ over out 0 (fileBytes image family start)
-      → makeCall (Made n) b ≡ makeOf image family start out
-  unfolding makeOf
-  make-made x n {b} e h k = rw (← e, h, k)
+  pub make_made : (x : MakeAnswer) (n : ℕ) {b : List ℕ} → x ≡ check_of (length image) start (length out) → x ≡ Made n → b ≡ over out 0 (file_bytes image family start)
+      → make_call (Made n) b ≡ make_of image family start out
+  unfolding make_of
+  make_made x n {b} e h k = rw (← e, h, k)

@@ -1,14 +1,15 @@
 // A UF2 file made of an image of whole pages, with a region for each sector.
+#![tactic(auto)]
+
 mod named;
 mod sector;
 
-ghost use mathlib.Core.Path.{_≡_};
-ghost use Prim.Native.Nat.{_+_, _*_, _<_, _≤_};
-ghost use lib.ListN.{length};
-ghost use Rattle·laws.specs.Over.{over};
-ghost use Rattle·laws.specs.Numbered.{numbered};
-ghost use Rattle·uf2_make.specs.Uf2file.{makeCall, callNumber};
-ghost use Rattle·uf2_make_regions·specs.specs.File.{blockAt, fileBytes, makeOf};
+ghost use Rattle.std.specs.Prelude.{◌≡◌, ◌+◌, ◌*◌, ◌<◌, ◌≤◌, length};
+ghost use Rattle.laws.specs.Over.{over};
+ghost use Rattle.laws.specs.Numbered.{numbered};
+ghost use Rattle.uf2_make.specs.Uf2file.{make_call, call_number};
+ghost use Rattle.uf2_make_regions.specs.File.{block_at, file_bytes, make_of};
+
 use uf2_block::Block;
 use uf2_make::checks::MakeAnswer;
 
@@ -16,11 +17,11 @@ const PAGE: usize = 256;
 
 // The block of page k, with the sector that it lies in as its region.
 fn put_page(image: &[u8], family: u32, start: u32, total: u32, k: u32, out: &mut [u8])
-    requires { ⌜ length (now image) ≡ 256 * total ⌝ }
-    requires window { ⌜ start + 256 * total ≤ 0x12000000 ⌝ }
-    requires low { ⌜ k < total ⌝ }
-    requires room { ⌜ length (now out) ≡ 512 ⌝ }
-    ensures { λ _. ⌜ now (out .exit) ≡ blockAt (now (image .entry)) family start k ⌝ }
+    requires image_len { length image.now ≡ 256 * total }
+    requires window { start + 256 * total ≤ 0x12000000 }
+    requires low { k < total }
+    requires room { length out.old ≡ 512 }
+    ensures { out.new ≡ block_at image.now family start k }
 {
     let address = start + 256 * k;
     let base = address / 4096 * 4096;
@@ -35,10 +36,10 @@ fn put_page(image: &[u8], family: u32, start: u32, total: u32, k: u32, out: &mut
 
 // Writes a block for each page.
 fn write_blocks(image: &[u8], family: u32, start: u32, total: u32, output: &mut [u8])
-    requires { ⌜ length (now image) ≡ 256 * total ⌝ }
-    requires window { ⌜ start + 256 * total ≤ 0x12000000 ⌝ }
-    requires room { ⌜ 512 * total ≤ length (now output) ⌝ }
-    ensures { λ _. ⌜ now (output .exit) ≡ over (now (output .entry)) 0 (fileBytes (now (image .entry)) family start) ⌝ }
+    requires image_len { length image.now ≡ 256 * total }
+    requires window { start + 256 * total ≤ 0x12000000 }
+    requires room { 512 * total ≤ length output.old }
+    ensures { output.new ≡ over output.old 0 (file_bytes image.now family start) }
 {
     let mut k: u32 = 0;
     while k < total {
@@ -52,7 +53,7 @@ fn write_blocks(image: &[u8], family: u32, start: u32, total: u32, output: &mut 
 
 // Makes the file at the start of the output.
 pub fn make(image: &[u8], family: u32, start: u32, output: &mut [u8]) -> MakeAnswer
-    ensures { λ r. ⌜ numbered callNumber (makeCall r (now (output .exit))) ≡ numbered callNumber (makeOf (now (image .entry)) family start (now (output .entry))) ⌝ }
+    ensures { numbered call_number (make_call result output.new) ≡ numbered call_number (make_of image.now family start output.old) }
 {
     let answer = uf2_make::checks::check(image.len(), start, output.len());
     let MakeAnswer::Made(total) = answer else {

@@ -1,18 +1,17 @@
 // The digest of a sector's final bytes: what the image has there, and 0xFF in the rest.
-ghost use mathlib.Core.Path.{_≡_};
-ghost use Prim.Native.Nat.{_+_, _-_, _≤_};
-ghost use lib.ListN.{length, take, drop};
-ghost use Rattle·memory.specs.Many.{many};
-ghost use Rattle·laws.specs.Over.{over};
-ghost use Rattle·md5.specs.Md5.{md5Of};
-ghost use Rattle·uf2_make_regions·specs.specs.File.{sectorDigest};
-use md5::Digest;
+ghost use Rattle.std.specs.Prelude.{◌≡◌, ◌+◌, ◌-◌, ◌≤◌, length, take, drop};
+ghost use Rattle.memory.specs.Many.{many};
+ghost use Rattle.laws.specs.Over.{over};
+ghost use Rattle.md5_digest.specs.Md5.{md5_of};
+ghost use Rattle.uf2_make_regions.specs.File.{sector_digest};
+
+use md5_digest::Digest;
 
 const SECTOR: usize = 4096;
 
 // How far b lies past a; 0 where it does not.
 fn past(a: usize, b: usize) -> usize
-    ensures { λ r. ⌜ r ≡ b - a ⌝ }
+    ensures { result ≡ b - a }
 {
     if a < b {
         return b - a;
@@ -22,22 +21,22 @@ fn past(a: usize, b: usize) -> usize
 
 // The image's bytes copied into a sector of 0xFF.
 fn placed(image: &[u8], at: usize, from: usize, count: usize) -> Digest
-    requires { ⌜ at + count ≤ 4096 ⌝ }
-    requires inside { ⌜ from + count ≤ length (now image) ⌝ }
-    ensures { λ r. ⌜ r ≡ md5Of (over (many 4096 255) at (take count (drop from (now (image .entry))))) ⌝ }
+    requires count_bound { at + count ≤ 4096 }
+    requires inside { from + count ≤ length image.now }
+    ensures { result ≡ md5_of (over (many 4096 255) at (take count (drop from image.now))) }
 {
     let mut sector = [255u8; SECTOR];
     let to = from + count;
     let end = at + count;
-    bytes::copy(&image[from..to], &mut sector[at..end]);
-    md5::hash(&sector)
+    sector[at..end].copy_from_slice(&image[from..to]);
+    md5_digest::hash(&sector)
 }
 
 // The sector at `base`, of an image that begins at `start` and reaches into it.
 pub(crate) fn digest(image: &[u8], start: usize, base: usize) -> Digest
-    requires { ⌜ start ≤ base + 4096 ⌝ }
-    requires reaches { ⌜ base ≤ start + length (now image) ⌝ }
-    ensures { λ r. ⌜ r ≡ sectorDigest (now (image .entry)) start base ⌝ }
+    requires start_bound { start ≤ base + 4096 }
+    requires reaches { base ≤ start + length image.now }
+    ensures { result ≡ sector_digest image.now start base }
 {
     let at = past(base, start);
     let from = past(start, base);

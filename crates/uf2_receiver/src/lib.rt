@@ -1,28 +1,29 @@
 // One arrival: taken, or accepted with a plan for the flash.
+#![tactic(auto)]
+
 pub mod looking;
 
-ghost use mathlib.Core.Path.{_≡_};
-ghost use Rattle·laws.specs.Numbered.{numbered};
-ghost use Rattle·arrival.specs.Arrive.{outcomeNumber, receiveOf};
-ghost use Rattle·flash_plan.specs.Plan.{acceptingNumber, acceptingOf};
-ghost use Rattle·uf2_receiver·specs.specs.Receiver.{
-  lentAt,
-  leftAt,
+ghost use Rattle.std.specs.Prelude.{◌≡◌};
+ghost use Rattle.laws.specs.Numbered.{numbered};
+ghost use Rattle.arrival.specs.Arrive.{outcome_number, receive_of};
+ghost use Rattle.flash_plan.specs.Plan.{accepting_number, accepting_of};
+ghost use Rattle.uf2_receiver.specs.Receiver.{
+  lent_at,
+  left_at,
   world,
   accepting,
-  takeReturn,
-  plannedReturn,
-  leftBeside,
-  receiveKnown,
-  acceptKnown,
+  take_return,
+  planned_return,
+  left_beside,
+  receive_known,
+  accept_known,
 };
+
 use partitions::Settings;
 use transfer::Transfer;
 use uf2_checks::Lengths;
-use uf2_commit::receipts::PlanReceipt;
-use uf2_commit::receipts::Receipt;
-use uf2_known::Known;
-use uf2_known::Verdict;
+use uf2_commit::receipts::{PlanReceipt, Receipt};
+use uf2_known::{Known, Verdict};
 
 // One arrival accepted, where what the settings and the lengths say of it is handed in.
 pub fn accept_known(
@@ -35,25 +36,20 @@ pub fn accept_known(
     main: &mut [u8],
     xip: &mut [u8],
 ) -> PlanReceipt
-    ensures { λ r. ⌜ accepting r (leftBeside flash seen sectors main xip) ≡ acceptKnown known (world transfer (lentAt flash seen sectors main xip)) (now (arrival .entry)) ⌝ }
+    ensures { accepting result (left_beside flash.now seen.new sectors.new main.new xip.new) ≡ accept_known known (world transfer (lent_at flash.now seen.old sectors.old main.old xip.old)) arrival.now }
 {
     let verdict = uf2_decide::judge(known, transfer, arrival, flash, seen, sectors, main, xip);
     match verdict {
         Verdict::Leaves(answer) => uf2_commit::receipts::refuse(transfer, answer),
         Verdict::Accepts(acceptance) => uf2_commit::receipts::enter(
-            acceptance,
-            arrival,
-            seen,
-            sectors,
-            main,
-            xip,
+            acceptance, arrival, seen, sectors, main, xip,
         ),
     }
 }
 
 // One arrival accepted, for flash that is read where it is mapped and written by a driver: transfer, maps and RAM are left as a take leaves them,
 // and what is to be done to the flash is the plan.
-fn accept(
+pub fn accept(
     settings: Settings,
     transfer: Transfer,
     arrival: &[u8],
@@ -63,7 +59,7 @@ fn accept(
     main: &mut [u8],
     xip: &mut [u8],
 ) -> PlanReceipt
-    ensures { λ r. ⌜ plannedReturn r (leftBeside flash seen sectors main xip) ≡ numbered acceptingNumber (acceptingOf settings (world transfer (lentAt flash seen sectors main xip)) (now (arrival .entry))) ⌝ }
+    ensures { planned_return result (left_beside flash.now seen.new sectors.new main.new xip.new) ≡ numbered accepting_number (accepting_of settings (world transfer (lent_at flash.now seen.old sectors.old main.old xip.old)) arrival.now) }
 {
     let lens = Lengths {
         flash: flash.len(),
@@ -85,7 +81,7 @@ pub fn take_known(
     main: &mut [u8],
     xip: &mut [u8],
 ) -> Receipt
-    ensures { λ r. ⌜ takeReturn r (leftAt flash seen sectors main xip) ≡ numbered outcomeNumber (receiveKnown known (world transfer (lentAt flash seen sectors main xip)) (now (arrival .entry))) ⌝ }
+    ensures { take_return result (left_at flash.new seen.new sectors.new main.new xip.new) ≡ numbered outcome_number (receive_known known (world transfer (lent_at flash.old seen.old sectors.old main.old xip.old)) arrival.now) }
 {
     let planned = accept_known(known, transfer, arrival, flash, seen, sectors, main, xip);
     let plan = planned.plan;
@@ -104,7 +100,7 @@ pub fn take(
     main: &mut [u8],
     xip: &mut [u8],
 ) -> Receipt
-    ensures { λ r. ⌜ takeReturn r (leftAt flash seen sectors main xip) ≡ numbered outcomeNumber (receiveOf settings (world transfer (lentAt flash seen sectors main xip)) (now (arrival .entry))) ⌝ }
+    ensures { take_return result (left_at flash.new seen.new sectors.new main.new xip.new) ≡ numbered outcome_number (receive_of settings (world transfer (lent_at flash.old seen.old sectors.old main.old xip.old)) arrival.now) }
 {
     let lens = Lengths {
         flash: flash.len(),

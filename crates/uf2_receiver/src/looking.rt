@@ -1,16 +1,17 @@
 // A look at an arrival: what would happen, and nothing changes.
-ghost use mathlib.Core.Path.{_≡_};
-ghost use Rattle·laws.specs.Numbered.{numbered};
-ghost use Rattle·arrival.specs.Arrive.{forecastNumber, lookOf};
-ghost use Rattle·arrival.specs.Lending.{lentAt, world};
-ghost use Rattle·uf2_receiver·specs.specs.Looking.{previewed};
+ghost use Rattle.std.specs.Prelude.{◌≡◌};
+ghost use Rattle.laws.specs.Numbered.{numbered};
+ghost use Rattle.arrival.specs.Arrive.{forecast_number, look_of};
+ghost use Rattle.arrival.specs.Lending.{lent_at, world};
+ghost use Rattle.uf2_receiver.specs.Looking.{previewed};
+
 use partitions::Settings;
-use transfer::Answer;
-use transfer::Transfer;
+use transfer::{Answer, Transfer};
 use uf2_checks::Lengths;
 use uf2_known::Verdict;
 
 // What a look says: the answer, and whether a running transfer would be discarded.
+#[derive(Clone, Copy)]
 pub struct Preview {
     pub answer: Answer,
     pub discarded: bool,
@@ -27,7 +28,7 @@ pub fn look(
     main: &[u8],
     xip: &[u8],
 ) -> Preview
-    ensures { λ r. ⌜ numbered forecastNumber (previewed r) ≡ numbered forecastNumber (lookOf settings (world transfer (lentAt flash seen sectors main xip)) (now (arrival .entry))) ⌝ }
+    ensures { numbered forecast_number (previewed result) ≡ numbered forecast_number (look_of settings (world transfer (lent_at flash.now seen.now sectors.now main.now xip.now)) arrival.now) }
 {
     let lens = Lengths {
         flash: flash.len(),

@@ -1,37 +1,36 @@
 -- The reader of a block's extension tags (02, L4): it "keeps hold of the block it reads and its place, giving tag after tag". Assumes nothing.
-use Prim.Native.Nat.{ℕ, _+_}
-use mathlib.Core.List.{List}
-use denote.Ref.{RefT, now}
-use Rattle·uf2_tags·specs.specs.declared.one_tag.Tag.{Tag}
-use Rattle·uf2_tags·specs.specs.declared.one_tag.Answer.{Answer}
-use Rattle·uf2_tags·specs.specs.Tag.{answerNumber, onTag}
-use Rattle·uf2_tags·specs.specs.Room.{firstPlace, tagAt}
-use Rattle·uf2_tags·specs.specs.declared.Move.{Move}
-use Rattle·uf2_tags·specs.specs.declared.Tags.{Tags}
-use Rattle·uf2_tags·specs.specs.declared.Step.{Step}
+use Rattle.std.specs.Prelude.{ℕ, ◌+◌, List}
+use Rattle.std.specs.Borrow.{Bor}
+use Rattle.uf2_tags.specs.declared.one_tag.Tag.{Tag}
+use Rattle.uf2_tags.specs.declared.one_tag.Answer.{Answer}
+use Rattle.uf2_tags.specs.Tag.{answer_number, on_tag}
+use Rattle.uf2_tags.specs.Room.{first_place, tag_at}
+use Rattle.uf2_tags.specs.declared.Move.{Move}
+use Rattle.uf2_tags.specs.declared.Tags.{Tags}
+use Rattle.uf2_tags.specs.declared.Step.{Step}
 
 -- the place after an answer: "repeated by every later call, as the end is", so that only a tag moves it
-abbrev pub nextPlace : ℕ → Answer → ℕ
-nextPlace at a = onTag at (λ (t : Tag). t .next) a
+abbrev pub next_place : ℕ → Answer → ℕ
+next_place at a = on_tag at (λ (t : Tag). t.next) a
 
 -- an answer, and the place after it
-abbrev pub stepAt : List ℕ → ℕ → Move
-stepAt b at = record { answer = tagAt b at; next = nextPlace at (tagAt b at) }
+abbrev pub step_at : List ℕ → ℕ → Move
+step_at b at = record { answer = tag_at b at; next = next_place at (tag_at b at) }
 
-abbrev pub moveNumber : Move → ℕ
-moveNumber m = answerNumber (m .answer)
+abbrev pub move_number : Move → ℕ
+move_number m = answer_number m.answer
 
 -- a fresh reader of a block stands at the first place
-abbrev pub started : RefT (List ℕ) → Tags
-started b = record { block = b; at = firstPlace (now b) }
+abbrev pub started : Bor (List ℕ) → Tags
+started b = record { block = b; at = first_place b.now }
 
 -- the reader after a call, and the answer
 abbrev pub stepped : Tags → Step
 stepped r =
     record {
-      reader = record { block = r .block; at = stepAt (now (r .block)) (r .at) .next };
-      answer = stepAt (now (r .block)) (r .at) .answer;
+      reader = record { block = r.block; at = (step_at r.block.now r.at).next };
+      answer = (step_at r.block.now r.at).answer;
     }
 
-abbrev pub stepNumber : Step → ℕ
-stepNumber s = answerNumber (s .answer)
+abbrev pub step_number : Step → ℕ
+step_number s = answer_number s.answer

@@ -1,20 +1,16 @@
 -- One extension tag of a UF2 block (02, L4; 000), and what a call answers. Assumes nothing.
-use Prim.Native.Nat.{ℕ, _+_, _-_, _*_, _/_}
-use mathlib.Core.Bool.{Bool, true, false, _&&_, cond}
-use mathlib.Core.List.{List}
-use lib.ListN.{take, drop}
-use lib.Dec.{ltb, leb, eqb}
-use Rattle·uf2_tags·specs.specs.declared.one_tag.Tag.{Tag}
-use Rattle·uf2_tags·specs.specs.declared.one_tag.Answer.{Answer}
-use Rattle·uf2_tags·specs.specs.declared.one_tag.Answer.the-variants.{Tag as a-tag, End, BadLength, BadPlace, NotBlock, BadPayload, ShortTag, TypedEnd, PastRoom, NoRoom}
+use Rattle.std.specs.Prelude.{ℕ, ◌+◌, ◌-◌, ◌*◌, ◌/◌, Bool, true, false, ◌&&◌, cond, List, take, drop, ltb, leb, eqb}
+use Rattle.uf2_tags.specs.declared.one_tag.Tag.{Tag}
+use Rattle.uf2_tags.specs.declared.one_tag.Answer.{Answer}
+use Rattle.uf2_tags.specs.declared.one_tag.Answer.TheVariants.{Tag as a-tag, End, BadLength, BadPlace, NotBlock, BadPayload, ShortTag, TypedEnd, PastRoom, NoRoom}
 
 -- "at 4-byte steps": a tag of a size (000: "total size in bytes (including the size byte and type designation)") and a type at a place, and the next place
-unfoldable pub tagOf : ℕ → ℕ → ℕ → Tag
-tagOf size kind at = record { kind = kind; start = at + 4; len = size - 4; next = at + (size + 3) / 4 * 4 }
+unfoldable pub tag_of : ℕ → ℕ → ℕ → Tag
+tag_of size kind at = record { kind = kind; start = at + 4; len = size - 4; next = at + (size + 3) / 4 * 4 }
 
 -- the contents of a tag
-unfoldable pub contentsOf : List ℕ → Tag → List ℕ
-contentsOf b t = take (t .len) (drop (t .start) b)
+unfoldable pub contents_of : List ℕ → Tag → List ℕ
+contents_of b t = take t.len (drop t.start b)
 
 -- "The end is size 0 and type 0", "62 size 1 to 3, 63 size 0 with a type, 64 a tag past the room"
 unfoldable pub sized : ℕ → ℕ → ℕ → ℕ → Answer
@@ -23,33 +19,33 @@ sized size kind at end =
     (cond (leb 1 size && leb size 3) ShortTag
     (cond (eqb size 0) TypedEnd
     (cond (ltb end (at + size)) PastRoom
-    (a-tag (tagOf size kind at)))))
+    (a-tag (tag_of size kind at)))))
 
 -- the numbers of 02; a tag has 0, and the end, for which 02 has none, 60
-abbrev pub answerNumber : Answer → ℕ
-answerNumber (a-tag t) = 0
-answerNumber End = 60
-answerNumber BadLength = 1
-answerNumber BadPlace = 3
-answerNumber NotBlock = 4
-answerNumber BadPayload = 61
-answerNumber ShortTag = 62
-answerNumber TypedEnd = 63
-answerNumber PastRoom = 64
-answerNumber NoRoom = 65
+abbrev pub answer_number : Answer → ℕ
+answer_number (a-tag t) = 0
+answer_number End = 60
+answer_number BadLength = 1
+answer_number BadPlace = 3
+answer_number NotBlock = 4
+answer_number BadPayload = 61
+answer_number ShortTag = 62
+answer_number TypedEnd = 63
+answer_number PastRoom = 64
+answer_number NoRoom = 65
 
 -- what a tag gives, and d for every other answer
-abbrev pub onTag : {A : Type 0} → A → (Tag → A) → Answer → A
-onTag d f (a-tag t) = f t
-onTag d f End = d
-onTag d f BadLength = d
-onTag d f BadPlace = d
-onTag d f NotBlock = d
-onTag d f BadPayload = d
-onTag d f ShortTag = d
-onTag d f TypedEnd = d
-onTag d f PastRoom = d
-onTag d f NoRoom = d
+abbrev pub on_tag : {A : Type 0} → A → (Tag → A) → Answer → A
+on_tag d f (a-tag t) = f t
+on_tag d f End = d
+on_tag d f BadLength = d
+on_tag d f BadPlace = d
+on_tag d f NotBlock = d
+on_tag d f BadPayload = d
+on_tag d f ShortTag = d
+on_tag d f TypedEnd = d
+on_tag d f PastRoom = d
+on_tag d f NoRoom = d
 
-abbrev pub isTag : Answer → Bool
-isTag a = onTag false (λ (t : Tag). true) a
+abbrev pub is_tag : Answer → Bool
+is_tag a = on_tag false (λ (t : Tag). true) a

@@ -1,30 +1,34 @@
 // The extension tags of a UF2 block (02, L4): a reader that keeps hold of the block it reads and its place, giving tag after tag.
+#![tactic(auto)]
+
 pub mod one_tag;
 pub mod room;
 
-ghost use mathlib.Core.Path.{_≡_};
-ghost use Prim.Native.Nat.{min};
-ghost use Rattle·laws.specs.Numbered.{numbered};
-ghost use Rattle·uf2_tags·specs.specs.Tag.{contentsOf, answerNumber};
-ghost use Rattle·uf2_tags·specs.specs.Room.{tagAt, firstPlace};
-ghost use Rattle·uf2_tags·specs.specs.Search.{stops, findOf};
-ghost use Rattle·uf2_tags·specs.specs.Reader.{nextPlace, stepAt, moveNumber, started, stepped, stepNumber};
-use crate::one_tag::Answer;
-use crate::one_tag::Tag;
+ghost use Rattle.std.specs.Prelude.{◌≡◌, min};
+ghost use Rattle.laws.specs.Numbered.{numbered};
+ghost use Rattle.uf2_tags.specs.Tag.{contents_of, answer_number};
+ghost use Rattle.uf2_tags.specs.Room.{tag_at, first_place};
+ghost use Rattle.uf2_tags.specs.Search.{stops, find_of};
+ghost use Rattle.uf2_tags.specs.Reader.{next_place, step_at, move_number, started, stepped, step_number};
+
+use crate::one_tag::{Answer, Tag};
 
 // An answer, and the place after it.
+#[derive(Clone, Copy)]
 pub struct Move {
     pub answer: Answer,
     pub next: usize,
 }
 
 // The reader: the block that it reads, and its place, an offset in the block.
+#[derive(Clone, Copy)]
 pub struct Tags<'a> {
     pub block: &'a [u8],
     pub at: usize,
 }
 
 // The reader after a call, and the answer.
+#[derive(Clone, Copy)]
 pub struct Step<'a> {
     pub reader: Tags<'a>,
     pub answer: Answer,
@@ -32,7 +36,7 @@ pub struct Step<'a> {
 
 // The place after an answer: after a tag the next, else the same.
 fn place_after(at: usize, answer: Answer) -> usize
-    ensures { λ r. ⌜ r ≡ nextPlace at answer ⌝ }
+    ensures { result ≡ next_place at answer }
 {
     let Answer::Tag(tag) = answer else {
         return at;
@@ -41,8 +45,8 @@ fn place_after(at: usize, answer: Answer) -> usize
 }
 
 // What a call answers at a place, and the place after it.
-fn step_at(block: &[u8], at: usize) -> Move
-    ensures { λ r. ⌜ numbered moveNumber r ≡ numbered moveNumber (stepAt (now (block .entry)) at) ⌝ }
+pub fn step_at(block: &[u8], at: usize) -> Move
+    ensures { numbered move_number result ≡ numbered move_number (step_at block.now at) }
 {
     let answer = crate::room::tag_at(block, at);
     let next = place_after(at, answer);
@@ -51,7 +55,7 @@ fn step_at(block: &[u8], at: usize) -> Move
 
 impl<'a> Tags<'a> {
     pub fn new(block: &'a [u8]) -> Tags<'a>
-        ensures { λ r. ⌜ r ≡ started (block .entry) ⌝ }
+        ensures { result ≡ started block.entry }
     {
         Tags {
             block,
@@ -60,7 +64,7 @@ impl<'a> Tags<'a> {
     }
 
     pub fn next(self) -> Step<'a>
-        ensures { λ s. ⌜ numbered stepNumber s ≡ numbered stepNumber (stepped (self .entry)) ⌝ }
+        ensures { numbered step_number result ≡ numbered step_number (stepped self.entry) }
     {
         let m = step_at(self.block, self.at);
         let answer = m.answer;
@@ -75,8 +79,8 @@ impl<'a> Tags<'a> {
 }
 
 // What the first call of a fresh reader answers. Who calls this holds no reader.
-fn first(block: &[u8]) -> Answer
-    ensures { λ r. ⌜ numbered answerNumber r ≡ numbered answerNumber (tagAt (now (block .entry)) (firstPlace (now (block .entry)))) ⌝ }
+pub fn first(block: &[u8]) -> Answer
+    ensures { numbered answer_number result ≡ numbered answer_number (tag_at block.now (first_place block.now)) }
 {
     let s = Tags::new(block).next();
     s.answer
@@ -84,7 +88,7 @@ fn first(block: &[u8]) -> Answer
 
 // Does a search for a type end at this answer?
 fn stops_at(kind: u32, answer: Answer) -> bool
-    ensures { λ r. ⌜ r ≡ stops kind answer ⌝ }
+    ensures { result ≡ stops kind answer }
 {
     let Answer::Tag(tag) = answer else {
         return true;
@@ -94,7 +98,7 @@ fn stops_at(kind: u32, answer: Answer) -> bool
 
 // The first tag of a type, or the end or the refusal before any.
 pub fn find(block: &[u8], kind: u32) -> Answer
-    ensures { λ r. ⌜ numbered answerNumber r ≡ numbered answerNumber (findOf (now (block .entry)) kind) ⌝ }
+    ensures { numbered answer_number result ≡ numbered answer_number (find_of block.now kind) }
 {
     let mut at = crate::room::first_place(block);
     loop {
@@ -108,14 +112,14 @@ pub fn find(block: &[u8], kind: u32) -> Answer
 }
 
 fn least(a: usize, b: usize) -> usize
-    ensures { λ r. ⌜ r ≡ min a b ⌝ }
+    ensures { result ≡ min a b }
 {
     if a < b { a } else { b }
 }
 
 // The contents of a tag, as far as they stand in the block.
-fn contents(block: &[u8], tag: Tag) -> &[u8]
-    ensures { λ r. ⌜ now r ≡ contentsOf (now (block .entry)) tag ⌝ }
+pub fn contents(block: &[u8], tag: Tag) -> &[u8]
+    ensures { result.now ≡ contents_of block.now tag }
 {
     let from = least(tag.start, block.len());
     let len = least(tag.len as usize, block.len() - from);

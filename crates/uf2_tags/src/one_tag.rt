@@ -1,10 +1,10 @@
 // One extension tag of a UF2 block (02, L4): what a call answers, and what a size and a type at a place say.
-ghost use mathlib.Core.Path.{_≡_};
-ghost use Prim.Native.Nat.{_≤_};
-ghost use Rattle·laws.specs.Numbered.{numbered};
-ghost use Rattle·uf2_tags·specs.specs.Tag.{tagOf, sized, answerNumber};
+ghost use Rattle.std.specs.Prelude.{◌≡◌, ◌≤◌};
+ghost use Rattle.laws.specs.Numbered.{numbered};
+ghost use Rattle.uf2_tags.specs.Tag.{tag_of, sized, answer_number};
 
 // A tag: its type, where its contents stand in the block and how many bytes they have, and the place after it.
+#[derive(Clone, Copy)]
 pub struct Tag {
     pub kind: u32,
     pub start: usize,
@@ -13,6 +13,7 @@ pub struct Tag {
 }
 
 // What a call answers: a tag, the end, or a refusal.
+#[derive(Clone, Copy)]
 pub enum Answer {
     Tag(Tag),
     End,
@@ -42,7 +43,7 @@ impl Tag {
 impl Answer {
     // The number of a refusal; 0 for a tag, 60 for the end.
     pub fn number(self) -> u8
-        ensures { λ r. ⌜ r ≡ answerNumber self ⌝ }
+        ensures { result ≡ answer_number self }
     {
         match self {
             Answer::Tag(_) => 0,
@@ -61,8 +62,8 @@ impl Answer {
 
 // The tag of a size and a type at a place.
 fn made(size: u8, kind: u32, at: u16) -> Tag
-    requires { ⌜ 4 ≤ size ⌝ }
-    ensures { λ r. ⌜ r ≡ tagOf size kind at ⌝ }
+    requires { 4 ≤ size }
+    ensures { result ≡ tag_of size kind at }
 {
     let start = at as usize + 4;
     let len = size - 4;
@@ -76,8 +77,8 @@ fn made(size: u8, kind: u32, at: u16) -> Tag
 }
 
 // What a size and a type at a place say, in a room that ends at `end`.
-pub(crate) fn tag_sized(size: u8, kind: u32, at: u16, end: u16) -> Answer
-    ensures { λ r. ⌜ numbered answerNumber r ≡ numbered answerNumber (sized size kind at end) ⌝ }
+pub fn tag_sized(size: u8, kind: u32, at: u16, end: u16) -> Answer
+    ensures { numbered answer_number result ≡ numbered answer_number (sized size kind at end) }
 {
     if size == 0 {
         if kind == 0 {

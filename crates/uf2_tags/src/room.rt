@@ -1,10 +1,9 @@
 // The room of a block's extension tags (02, L4): where it starts and ends, and what a call answers at a place.
-ghost use mathlib.Core.Path.{_≡_};
-ghost use Prim.Native.Nat.{_+_, _≤_};
-ghost use lib.ListN.{length, getD};
-ghost use Rattle·laws.specs.Numbered.{numbered};
-ghost use Rattle·uf2_tags·specs.specs.Tag.{sized, answerNumber};
-ghost use Rattle·uf2_tags·specs.specs.Room.{badPayload, badPlace, roomEnd, kindAt, standsAt, tagAt, firstPlace};
+ghost use Rattle.std.specs.Prelude.{◌≡◌, ◌+◌, ◌≤◌, length, get_or};
+ghost use Rattle.laws.specs.Numbered.{numbered};
+ghost use Rattle.uf2_tags.specs.Tag.{sized, answer_number};
+ghost use Rattle.uf2_tags.specs.Room.{bad_payload, bad_place, room_end, kind_at, stands_at, tag_at, first_place};
+
 use crate::one_tag::Answer;
 use uf2_block::Block;
 
@@ -19,28 +18,28 @@ const ROOM: usize = 508;
 const ROOM_MD5: usize = 484;
 
 fn bad_payload(size: u32) -> bool
-    ensures { λ r. ⌜ r ≡ badPayload size ⌝ }
+    ensures { result ≡ bad_payload size }
 {
     (PAYLOAD < size) | (size % 4 != 0)
 }
 
 fn bad_place(from: usize, at: usize) -> bool
-    ensures { λ r. ⌜ r ≡ badPlace from at ⌝ }
+    ensures { result ≡ bad_place from at }
 {
     (at < from) | (at % 4 != 0)
 }
 
 // The place of the first tag: after the payload.
 pub fn first_place(block: &[u8]) -> usize
-    ensures { λ r. ⌜ r ≡ firstPlace (now (block .entry)) ⌝ }
+    ensures { result ≡ first_place block.now }
 {
     DATA + uf2_block::field(block, 16) as usize
 }
 
 // Where the room of the tags ends.
 fn room_end(block: &[u8]) -> usize
-    ensures { λ r. ⌜ r ≡ roomEnd (now (block .entry)) ⌝ }
-    ensures within { λ r. ⌜ (484 ≤ r) × (r ≤ 508) ⌝ }
+    ensures value { result ≡ room_end block.now }
+    ensures within { (484 ≤ result) × (result ≤ 508) }
 {
     if uf2_block::field(block, 8) / Block::FLAG_MD5 % 2 == 1 {
         return ROOM_MD5;
@@ -50,8 +49,8 @@ fn room_end(block: &[u8]) -> usize
 
 // What stands at a place of the room.
 fn tag_in(block: &[u8], at: usize, end: usize) -> Answer
-    requires { ⌜ (length (now block) ≡ 512) × (at + 4 ≤ end) × (end ≤ 508) ⌝ }
-    ensures { λ r. ⌜ r ≡ sized (getD (now (block .entry)) at 0) (kindAt (now (block .entry)) at) at end ⌝ }
+    requires { (length block.now ≡ 512) × (at + 4 ≤ end) × (end ≤ 508) }
+    ensures { result ≡ sized (get_or block.now at 0) (kind_at block.now at) at end }
 {
     // the size byte, and above it the three bytes of the type
     let head = uf2_block::field(block, at);
@@ -62,8 +61,8 @@ fn tag_in(block: &[u8], at: usize, end: usize) -> Answer
 
 // What a call answers at a place of a block that may have tags.
 fn stands_at(block: &[u8], at: usize) -> Answer
-    requires { ⌜ length (now block) ≡ 512 ⌝ }
-    ensures { λ r. ⌜ r ≡ standsAt (now (block .entry)) at ⌝ }
+    requires { length block.now ≡ 512 }
+    ensures { result ≡ stands_at block.now at }
 {
     if bad_place(first_place(block), at) {
         return Answer::BadPlace;
@@ -78,7 +77,7 @@ fn stands_at(block: &[u8], at: usize) -> Answer
 
 // What a call answers at a place of a block.
 pub fn tag_at(block: &[u8], at: usize) -> Answer
-    ensures { λ r. ⌜ numbered answerNumber r ≡ numbered answerNumber (tagAt (now (block .entry)) at) ⌝ }
+    ensures { numbered answer_number result ≡ numbered answer_number (tag_at block.now at) }
 {
     if block.len() != Block::ARRIVAL {
         return Answer::BadLength;

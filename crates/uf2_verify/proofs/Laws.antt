@@ -1,117 +1,117 @@
 -- What stands, in the shape of the code's returns. Assumes nothing.
-use Prim.Native.Nat.{ℕ, _+_, _-_, _<_, _≤_}
-use mathlib.Core.Path.{_≡_, refl, sym, ap, _∙_}
-use mathlib.Core.Bool.{Bool, true, false, not, _&&_, _||_, and-false}
+use Prim.Native.Nat.{ℕ, ◌+◌, ◌-◌, ◌<◌, ◌≤◌}
+use mathlib.Core.Path.{◌≡◌, refl, sym, ap, ◌∙◌}
+use mathlib.Core.Bool.{Bool, true, false, not, ◌&&◌, ◌||◌, and-false}
 use mathlib.Core.List.{List}
 use native.Mathlib.Numerals.{add-one}
 use native.Mathlib.Omega.{arith}
 use lib.Dec.{eqb, leb}
-use lib.ListN.{length, getD, take, drop, length-take, length-drop}
-use borrow.Author.Tests.{le-leb, lt-leb, eq-eqb, ne-eqb}
-use Rattle·laws.specs.Sets.{any}
-use Rattle·laws.proofs.Laws.{any-zero}
-use Rattle·memory.specs.Flash.{payloadOf}
-use Rattle·memory.proofs.flash.Laws.{length-payload}
-use Rattle·uf2_block.specs.Block.{fieldAt}
-use Rattle·partitions.specs.declared.Settings.{Settings}
-use Rattle·placement.specs.Place.{StartsLow}
-use Rattle·placement.specs.declared.Place.{Place}
-use Rattle·transfer.specs.Transfer.{fresh}
-use Rattle·transfer.specs.declared.Transfer.{Transfer}
-use Rattle·transfer.specs.declared.Answer.{Answer}
-use Rattle·transfer.specs.declared.Answer.the-variants.{BadBuffers, BadSettings}
-use Rattle·transfer.specs.declared.State.the-variants.{Idle}
-use Rattle·uf2_checks.specs.Screen.{screenIn, screenOf, screenAt}
-use Rattle·uf2_checks.specs.declared.Lengths.{Lengths}
-use Rattle·uf2_checks.specs.declared.Rooms.{Rooms}
-use Rattle·uf2_checks.specs.declared.PlacedBlock.{PlacedBlock}
-use Rattle·uf2_checks.specs.declared.Screening.{Screening}
-use Rattle·uf2_checks.specs.declared.Screening.the-variants as screening
-use Rattle·uf2_checks.proofs.Laws.{low-kept}
-use Rattle·arrival.specs.Arrive.{Held, lengthsOf}
-use Rattle·uf2_known.specs.Verdict.{knownOf}
-use Rattle·uf2_known.specs.declared.Known.{Known}
-use Rattle·uf2_verify·specs.specs.declared.Stand.{Stand}
-use Rattle·uf2_verify·specs.specs.declared.Stand.the-variants.{Refused}
-use Rattle·uf2_verify·specs.specs.Stands.{differAt, samePage, pageStands, bodyStands, toldBy, afterRows, standOf, knownStand}
+use lib.ListN.{length, get_or, take, drop, length-take, length-drop}
+use borrow.Author.Tests.{le-leb, lt-leb, eq-eqb, ne_eqb}
+use Rattle.laws.specs.Sets.{any}
+use Rattle.laws.proofs.Laws.{any_zero}
+use Rattle.memory.specs.Flash.{payload_of}
+use Rattle.memory.proofs.flash.Laws.{length_payload}
+use Rattle.uf2_block.specs.Block.{field_at}
+use Rattle.partitions.specs.declared.Settings.{Settings}
+use Rattle.placement.specs.Place.{StartsLow}
+use Rattle.placement.specs.declared.Place.{Place}
+use Rattle.transfer.specs.Transfer.{fresh}
+use Rattle.transfer.specs.declared.Transfer.{Transfer}
+use Rattle.transfer.specs.declared.Answer.{Answer}
+use Rattle.transfer.specs.declared.Answer.TheVariants.{BadBuffers, BadSettings}
+use Rattle.transfer.specs.declared.State.TheVariants.{Idle}
+use Rattle.uf2_checks.specs.Screen.{screen_in, screen_of, screen_at}
+use Rattle.uf2_checks.specs.declared.Lengths.{Lengths}
+use Rattle.uf2_checks.specs.declared.Rooms.{Rooms}
+use Rattle.uf2_checks.specs.declared.PlacedBlock.{PlacedBlock}
+use Rattle.uf2_checks.specs.declared.Screening.{Screening}
+use Rattle.uf2_checks.specs.declared.Screening.TheVariants as screening
+use Rattle.uf2_checks.proofs.Laws.{low_kept}
+use Rattle.arrival.specs.Arrive.{Held, lengths_of}
+use Rattle.uf2_known.specs.Verdict.{known_of}
+use Rattle.uf2_known.specs.declared.Known.{Known}
+use Rattle.uf2_verify.specs.declared.Stand.{Stand}
+use Rattle.uf2_verify.specs.declared.Stand.TheVariants.{Refused}
+use Rattle.uf2_verify.specs.Stands.{differ_at, same_page, page_stands, body_stands, told_by, after_rows, stand_of, known_stand}
 
 -- ---- two pages, byte for byte
 
 module _ (a b : List ℕ) where
-  pub none-yet : true ≡ not (any 0 (differAt a b))
-  none-yet = ap not (sym (any-zero (differAt a b)))
+  pub none_yet : true ≡ not (any 0 (differ_at a b))
+  none_yet = ap not (sym (any_zero (differ_at a b)))
 
-  both-not : (x y : Bool) → not x && y ≡ not (x || not y)
-  both-not true y = refl
-  both-not false true = refl
-  both-not false false = refl
+  both_not : (x y : Bool) → not x && y ≡ not (x || not y)
+  both_not true y = refl
+  both_not false true = refl
+  both_not false false = refl
 
-  pub one-more : (i : ℕ) {s : Bool} → s ≡ not (any i (differAt a b)) → s && eqb (getD a i 0) (getD b i 0) ≡ not (any (i + 1) (differAt a b))
+  pub one_more : (i : ℕ) {s : Bool} → s ≡ not (any i (differ_at a b)) → s && eqb (get_or a i 0) (get_or b i 0) ≡ not (any (i + 1) (differ_at a b))
   unfolding any
-  one-more i e =
+  one_more i e =
       rw add-one
-      (ap (λ (s : Bool). s && eqb (getD a i 0) (getD b i 0)) e ∙ both-not (any i (differAt a b)) (eqb (getD a i 0) (getD b i 0)))
+      (ap (λ (s : Bool). s && eqb (get_or a i 0) (get_or b i 0)) e ∙ both_not (any i (differ_at a b)) (eqb (get_or a i 0) (get_or b i 0)))
 
-  pub all-read : (i : ℕ) → i ≡ 256 → {s : Bool} → s ≡ not (any i (differAt a b)) → s ≡ samePage a b
-  unfolding samePage
-  all-read i n e = e ∙ ap (λ (m : ℕ). not (any m (differAt a b))) n
+  pub all_read : (i : ℕ) → i ≡ 256 → {s : Bool} → s ≡ not (any i (differ_at a b)) → s ≡ same_page a b
+  unfolding same_page
+  all_read i n e = e ∙ ap (λ (m : ℕ). not (any m (differ_at a b))) n
 
 -- ---- a page at an address
 
 module _ (b : List ℕ) (at : ℕ) (a : List ℕ) where
-  pub stands-short : length a < 288 → false ≡ pageStands b at (payloadOf a)
-  unfolding pageStands payloadOf
-  stands-short h = rw (ne-eqb (length (take 256 (drop 32 a))) 256 (λ e. omega (arith, short, e)))
+  pub stands_short : length a < 288 → false ≡ page_stands b at (payload_of a)
+  unfolding page_stands payload_of
+  stands_short h = rw (ne_eqb (length (take 256 (drop 32 a))) 256 (λ e. omega (arith, short, e)))
     where
       short : length (take 256 (drop 32 a)) < 256
       short = simp (length-take, length-drop) (omega arith)
 
-  pub stands-out : length b < at + 256 → false ≡ pageStands b at (payloadOf a)
-  unfolding pageStands
-  stands-out h = rw (lt-leb (at + 256) (length b) h, and-false (eqb (length (payloadOf a)) 256))
+  pub stands_out : length b < at + 256 → false ≡ page_stands b at (payload_of a)
+  unfolding page_stands
+  stands_out h = rw (lt-leb (at + 256) (length b) h, and-false (eqb (length (payload_of a)) 256))
 
   -- the parts as the code lends them
-  pub stands-there : 288 ≤ length a → at + 256 ≤ length b → {r : Bool} → r ≡ samePage (take (at + 256 - at) (drop at b)) (take 256 (drop 32 a)) → r ≡ pageStands b at (payloadOf a)
-  unfolding pageStands payloadOf
-  stands-there l h e =
+  pub stands_there : 288 ≤ length a → at + 256 ≤ length b → {r : Bool} → r ≡ same_page (take (at + 256 - at) (drop at b)) (take 256 (drop 32 a)) → r ≡ page_stands b at (payload_of a)
+  unfolding page_stands payload_of
+  stands_there l h e =
       let n : at + 256 - at ≡ 256 = omega arith in
-      rw (eq-eqb (length (take 256 (drop 32 a))) 256 (unfold payloadOf in length-payload a l), le-leb (at + 256) (length b) h)
-      (e ∙ ap (λ (m : ℕ). samePage (take m (drop at b)) (take 256 (drop 32 a))) n)
+      rw (eq-eqb (length (take 256 (drop 32 a))) 256 (unfold payload_of in length_payload a l), le-leb (at + 256) (length b) h)
+      (e ∙ ap (λ (m : ℕ). same_page (take m (drop at b)) (take 256 (drop 32 a))) n)
 
 -- ---- every row
 
 -- the screening beside a fresh transfer
-pub fresh-screen : (r : Rooms) (n : Lengths) (a : List ℕ) {t : Transfer} {c : Screening} → c ≡ screenAt r n (t .state) a → t ≡ fresh → c ≡ screenAt r n Idle a
-fresh-screen r n a e q = e ∙ ap (λ (t : Transfer). screenAt r n (t .state) a) q
+pub fresh_screen : (r : Rooms) (n : Lengths) (a : List ℕ) {t : Transfer} {c : Screening} → c ≡ screen_at r n t.state a → t ≡ fresh → c ≡ screen_at r n Idle a
+fresh_screen r n a e q = e ∙ ap (λ (t : Transfer). screen_at r n t.state a) q
 
 module _ (known : Known) (h : Held) (a : List ℕ) where
-  pub told-lengths : known .right ≡ false → Refused BadBuffers ≡ knownStand known h a
-  unfolding knownStand
-  told-lengths l = rw l
+  pub told_lengths : known.right ≡ false → Refused BadBuffers ≡ known_stand known h a
+  unfolding known_stand
+  told_lengths l = rw l
 
-  module _ (l : known .right ≡ true) where
-    pub told-settings : known .good ≡ false → Refused BadSettings ≡ knownStand known h a
-    unfolding knownStand
-    told-settings g = rw (l, g)
+  module _ (l : known.right ≡ true) where
+    pub told_settings : known.good ≡ false → Refused BadSettings ≡ known_stand known h a
+    unfolding known_stand
+    told_settings g = rw (l, g)
 
-    module _ (g : known .good ≡ true) {c : Screening} (e : c ≡ screenAt (known .rooms) (lengthsOf h) Idle a) where
-      after : {x : Stand} → x ≡ afterRows h (payloadOf a) c → x ≡ knownStand known h a
-      unfolding knownStand
-      after y = rw (l, g) (y ∙ ap (afterRows h (payloadOf a)) e)
+    module _ (g : known.good ≡ true) {c : Screening} (e : c ≡ screen_at known.rooms (lengths_of h) Idle a) where
+      after : {x : Stand} → x ≡ after_rows h (payload_of a) c → x ≡ known_stand known h a
+      unfolding known_stand
+      after y = rw (l, g) (y ∙ ap (after_rows h (payload_of a)) e)
 
-      pub told-refused : {x : Answer} → c ≡ screening.Refused x → Refused x ≡ knownStand known h a
-      told-refused q = after (unfold afterRows in rw q)
+      pub told_refused : {x : Answer} → c ≡ screening.Refused x → Refused x ≡ known_stand known h a
+      told_refused q = after (unfold after_rows in rw q)
 
-      pub told-passed : {p : PlacedBlock} → c ≡ screening.Passed p → {x : Stand}
-          → x ≡ toldBy (bodyStands h (p .head .kind) (p .body) (payloadOf a)) → x ≡ knownStand known h a
-      told-passed q y = after (unfold afterRows in rw q y)
+      pub told_passed : {p : PlacedBlock} → c ≡ screening.Passed p → {x : Stand}
+          → x ≡ told_by (body_stands h p.head.kind p.body (payload_of a)) → x ≡ known_stand known h a
+      told_passed q y = after (unfold after_rows in rw q y)
 
 -- with what the settings and the lengths truly say handed in, it is as the meaning has it
-pub stand-is : (s : Settings) (h : Held) (a : List ℕ) {k : Known} → k ≡ knownOf s (lengthsOf h) 16384 1024 a → StartsLow (k .rooms .flash) → knownStand k h a ≡ standOf s h a
-unfolding knownStand standOf screenAt screenOf
-stand-is s h a {k} e low =
-    let r = ap (λ (k : Known). k .right) e in
-    let g = ap (λ (k : Known). k .good) e in
-    let p = low-kept (k .rooms .flash) low in
-    let q = ap (λ (k : Known). k .rooms) e in
+pub stand_is : (s : Settings) (h : Held) (a : List ℕ) {k : Known} → k ≡ known_of s (lengths_of h) 16384 1024 a → StartsLow k.rooms.flash → known_stand k h a ≡ stand_of s h a
+unfolding known_stand stand_of screen_at screen_of
+stand_is s h a {k} e low =
+    let r = ap (λ (k : Known). k.right) e in
+    let g = ap (λ (k : Known). k.good) e in
+    let p = low_kept k.rooms.flash low in
+    let q = ap (λ (k : Known). k.rooms) e in
     rw (r, g, p, q)

@@ -1,31 +1,29 @@
 // Does what an arrival holds stand in the memory? It reads, and writes nothing.
-ghost use mathlib.Core.Path.{_≡_};
-ghost use lib.ListN.{length};
-ghost use Rattle·laws.specs.Numbered.{numbered};
-ghost use Rattle·memory.specs.Flash.{payloadOf};
-ghost use Rattle·arrival.specs.Arrive.{bufferOf};
-ghost use Rattle·uf2_verify·specs.specs.Stands.{
-  standNumber,
-  memoryAt,
-  samePage,
-  pageStands,
-  bodyStands,
-  toldBy,
-  standOf,
-  knownStand,
+#![tactic(auto)]
+
+ghost use Rattle.std.specs.Prelude.{◌≡◌, length};
+ghost use Rattle.laws.specs.Numbered.{numbered};
+ghost use Rattle.memory.specs.Flash.{payload_of};
+ghost use Rattle.arrival.specs.Arrive.{buffer_of};
+ghost use Rattle.uf2_verify.specs.Stands.{
+  stand_number,
+  memory_at,
+  same_page,
+  page_stands,
+  body_stands,
+  told_by,
+  stand_of,
+  known_stand,
 };
+
 use memory::flash::Flash;
 use partitions::Settings;
-use transfer::Answer;
-use transfer::Kind;
-use transfer::Transfer;
-use uf2_checks::Body;
-use uf2_checks::Lengths;
-use uf2_checks::PlacedBlock;
-use uf2_checks::Screening;
+use transfer::{Answer, Kind, Transfer};
+use uf2_checks::{Body, Lengths, PlacedBlock, Screening};
 use uf2_known::Known;
 
 // What is told of an arrival.
+#[derive(Clone, Copy)]
 pub enum Stand {
     Refused(Answer),
     Stands,
@@ -34,7 +32,7 @@ pub enum Stand {
 
 impl Stand {
     pub fn number(self) -> u8
-        ensures { λ r. ⌜ r ≡ standNumber self ⌝ }
+        ensures { result ≡ stand_number self }
     {
         match self {
             Stand::Refused(answer) => answer.number(),
@@ -46,9 +44,9 @@ impl Stand {
 
 // Are two pages the same? Every byte is read, so that the loop has no branch.
 fn same_page(a: &[u8], b: &[u8]) -> bool
-    requires { ⌜ length (now a) ≡ 256 ⌝ }
-    requires other { ⌜ length (now b) ≡ 256 ⌝ }
-    ensures { λ r. ⌜ r ≡ samePage (now (a .entry)) (now (b .entry)) ⌝ }
+    requires a_len { length a.now ≡ 256 }
+    requires other { length b.now ≡ 256 }
+    ensures { result ≡ same_page a.now b.now }
 {
     let mut same = true;
     let mut i: usize = 0;
@@ -61,7 +59,7 @@ fn same_page(a: &[u8], b: &[u8]) -> bool
 
 // Does the payload of an arrival stand in a buffer at this address?
 fn page_stands(buffer: &[u8], at: usize, arrival: &[u8]) -> bool
-    ensures { λ r. ⌜ r ≡ pageStands (now (buffer .entry)) at (payloadOf (now (arrival .entry))) ⌝ }
+    ensures { result ≡ page_stands buffer.now at (payload_of arrival.now) }
 {
     if arrival.len() < Flash::TO {
         return false;
@@ -78,7 +76,7 @@ fn page_stands(buffer: &[u8], at: usize, arrival: &[u8]) -> bool
 
 // In the buffer of its kind.
 fn page_in(kind: Kind, at: usize, arrival: &[u8], flash: &[u8], main: &[u8], xip: &[u8]) -> bool
-    ensures { λ r. ⌜ r ≡ pageStands (bufferOf kind (memoryAt flash main xip)) at (payloadOf (now (arrival .entry))) ⌝ }
+    ensures { result ≡ page_stands (buffer_of kind (memory_at flash.now main.now xip.now)) at (payload_of arrival.now) }
 {
     match kind {
         Kind::Flash => page_stands(flash, at, arrival),
@@ -96,7 +94,7 @@ fn body_stands(
     main: &[u8],
     xip: &[u8],
 ) -> bool
-    ensures { λ r. ⌜ r ≡ bodyStands (memoryAt flash main xip) kind body (payloadOf (now (arrival .entry))) ⌝ }
+    ensures { result ≡ body_stands (memory_at flash.now main.now xip.now) kind body (payload_of arrival.now) }
 {
     match body {
         Body::Page(at) => page_in(kind, at, arrival, flash, main, xip),
@@ -106,7 +104,7 @@ fn body_stands(
 
 // A block that has passed the rows.
 fn compared(placed: PlacedBlock, arrival: &[u8], flash: &[u8], main: &[u8], xip: &[u8]) -> Stand
-    ensures { λ r. ⌜ r ≡ toldBy (bodyStands (memoryAt flash main xip) (placed .head .kind) (placed .body) (payloadOf (now (arrival .entry)))) ⌝ }
+    ensures { result ≡ told_by (body_stands (memory_at flash.now main.now xip.now) placed.head.kind placed.body (payload_of arrival.now)) }
 {
     let head = placed.head;
     let kind = head.kind;
@@ -119,7 +117,7 @@ fn compared(placed: PlacedBlock, arrival: &[u8], flash: &[u8], main: &[u8], xip:
 
 // The rows in their order, and the comparison. What the settings and the lengths say is handed in.
 pub fn stands_known(known: Known, arrival: &[u8], flash: &[u8], main: &[u8], xip: &[u8]) -> Stand
-    ensures { λ r. ⌜ numbered standNumber r ≡ numbered standNumber (knownStand known (memoryAt flash main xip) (now (arrival .entry))) ⌝ }
+    ensures { numbered stand_number result ≡ numbered stand_number (known_stand known (memory_at flash.now main.now xip.now) arrival.now) }
 {
     if !known.right {
         return Stand::Refused(Answer::BadBuffers);
@@ -143,7 +141,7 @@ pub fn stands_known(known: Known, arrival: &[u8], flash: &[u8], main: &[u8], xip
 
 // Does what the arrival holds stand in the memory?
 pub fn stands(settings: Settings, arrival: &[u8], flash: &[u8], main: &[u8], xip: &[u8]) -> Stand
-    ensures { λ r. ⌜ numbered standNumber r ≡ numbered standNumber (standOf settings (memoryAt flash main xip) (now (arrival .entry))) ⌝ }
+    ensures { numbered stand_number result ≡ numbered stand_number (stand_of settings (memory_at flash.now main.now xip.now) arrival.now) }
 {
     let lens = Lengths {
         flash: flash.len(),

@@ -1,80 +1,80 @@
 -- A section of another board stores nothing, and each of its records passes. Assumes nothing.
 use Prim.Native.Nat.{ℕ}
-use mathlib.Core.Path.{_≡_, refl, sym, ap, _∙_}
-use mathlib.Core.Logic.{_≢_}
+use mathlib.Core.Path.{◌≡◌, refl, ap}
+use mathlib.Core.Logic.{◌≢◌}
 use mathlib.Core.Bool.{false}
-use mathlib.Core.List.{List, [], _∷_, _++_}
+use mathlib.Core.List.{List, [], ◌∷◌, ◌++◌}
 use native.Mathlib.Omega.{arith}
 use lib.ListN.{length, replicate}
-use borrow.Author.Tests.{ne-eqb}
-use Rattle·uhex_grammar.specs.declared.Answer.{Answer}
-use Rattle·uhex_grammar.specs.declared.Answer.the-variants.{Passed}
-use Rattle·uhex_claims·specs.specs.Items.{Item}
-use Rattle·uhex_claims·specs.specs.Whole.{Tail, tail-ends, tail-0C, tail-0E, Body, body-ends, body-04, body-data, body-0E, body-0C, Section, sectionItems, boardOf, IsSection}
-use Rattle·uhex_claims·specs.specs.State.{between, opened, body, padded, placeAfter, givesFor, State, after, stateAfter, answerFor, answersFor, imageWith, imageFor}
-use Rattle·uhex_claims·specs.specs.WholefileClaims.{Other-sections-pass}
-use Rattle·uhex_claims·proofs.proofs.OneRecord.{data-not, no-gift, no-gift-at}
-use Rattle·uhex_claims·proofs.proofs.Runs.{stays-body, at-opened, at-body}
+use borrow.Author.Tests.{ne_eqb}
+use Rattle.uhex_grammar.specs.declared.Answer.{Answer}
+use Rattle.uhex_grammar.specs.declared.Answer.TheVariants.{Passed}
+use Rattle.uhex_claims.specs.Items.{Item}
+use Rattle.uhex_claims.specs.Whole.{Tail, tail_ends, tail_0_c, tail_0_e, Body, body_ends, body_04, body_data, body_0_e, body_0_c, Section, section_items, board_of, IsSection}
+use Rattle.uhex_claims.specs.State.{between, body, padded, place_after, gives_for, State, after, state_after, answer_for, answers_for, image_with, image_for}
+use Rattle.uhex_claims.specs.WholefileClaims.{OtherSectionsPass}
+use Rattle.uhex_claims.proofs.OneRecord.{data_not, no_gift, no_gift_at}
+use Rattle.uhex_claims.proofs.Runs.{stays_body, at_body}
 
 -- none of the records is own data
 data Quiet (own : ℕ) : State → List Item → Type 0 where
   rest : {s : State} → Quiet own s []
-  more : (s : State) (x : Item) {xs : List Item} → givesFor (s .place) x own ≡ false → Quiet own (after s x) xs → Quiet own s (x ∷ xs)
+  more : (s : State) (x : Item) {xs : List Item} → gives_for s.place x own ≡ false → Quiet own (after s x) xs → Quiet own s (x ∷ xs)
 
 module _ (own : ℕ) where
-  quiet-image : {s : State} {xs : List Item} → Quiet own s xs → (img : List ℕ) → imageFor own s xs img ≡ img
-  unfolding imageFor imageWith
-  quiet-image rest img = refl
-  quiet-image (more s x g q) img = rw g (quiet-image q img)
+  quiet_image : {s : State} {xs : List Item} → Quiet own s xs → (img : List ℕ) → image_for own s xs img ≡ img
+  unfolding image_for image_with
+  quiet_image rest img = refl
+  quiet_image (more s x g q) img = rw g (quiet_image q img)
 
-  quiet-answers : {s : State} {xs : List Item} → Quiet own s xs → (n : ℕ) → answersFor own n s xs ≡ replicate (length xs) Passed
-  unfolding answersFor answerFor
-  quiet-answers rest n = refl
-  quiet-answers (more s x g q) n = rw g (ap (λ (z : List Answer). Passed ∷ z) (quiet-answers q n))
+  quiet_answers : {s : State} {xs : List Item} → Quiet own s xs → (n : ℕ) → answers_for own n s xs ≡ replicate (length xs) Passed
+  unfolding answers_for answer_for
+  quiet_answers rest n = refl
+  quiet_answers (more s x g q) n = rw g (ap (λ (z : List Answer). Passed ∷ z) (quiet_answers q n))
 
-  quiet-append : {s : State} {xs : List Item} (ys : List Item) → Quiet own s xs → Quiet own (stateAfter s xs) ys → Quiet own s (xs ++ ys)
-  unfolding stateAfter
-  quiet-append ys rest h = h
-  quiet-append ys (more s x g q) h = more s x g (quiet-append ys q h)
+  quiet_append : {s : State} {xs : List Item} (ys : List Item) → Quiet own s xs → Quiet own (state_after s xs) ys → Quiet own s (xs ++ ys)
+  unfolding state_after
+  quiet_append ys rest h = h
+  quiet_append ys (more s x g q) h = more s x g (quiet_append ys q h)
 
-  quiet-tail : (b : ℕ) {xs : List Item} → Tail xs → (s : State) → s .place ≡ padded b → Quiet own s xs
-  unfolding placeAfter
-  quiet-tail b tail-ends s e = rest
-  quiet-tail b (tail-0C {x} k t) s e = more s x (rw e (no-gift-at x (padded b) (λ c. refl) own)) (quiet-tail b t (after s x) (rw (e, k)))
-  quiet-tail b (tail-0E {x} k t) s e = more s x (rw e (no-gift-at x (padded b) (λ c. refl) own)) (quiet-tail b t (after s x) (rw (e, k)))
+  quiet_tail : (b : ℕ) {xs : List Item} → Tail xs → (s : State) → s.place ≡ padded b → Quiet own s xs
+  unfolding place_after
+  quiet_tail b tail_ends s e = rest
+  quiet_tail b (tail_0_c {x} k t) s e = more s x (rw e (no_gift_at x (padded b) (λ c. refl) own)) (quiet_tail b t (after s x) (rw (e, k)))
+  quiet_tail b (tail_0_e {x} k t) s e = more s x (rw e (no_gift_at x (padded b) (λ c. refl) own)) (quiet_tail b t (after s x) (rw (e, k)))
 
   module _ (b : ℕ) (other : b ≢ own) where
-    no-own : (s : State) (x : Item) → s .place ≡ body b → givesFor (s .place) x own ≡ false
-    unfolding givesFor
-    no-own s x e = rw (e, ne-eqb b own other)
+    no_own : (s : State) (x : Item) → s.place ≡ body b → gives_for s.place x own ≡ false
+    unfolding gives_for
+    no_own s x e = rw (e, ne_eqb b own other)
 
-    quiet-body : {xs : List Item} → Body b xs → (s : State) → s .place ≡ body b → Quiet own s xs
-    unfolding placeAfter
-    quiet-body body-ends s e = rest
-    quiet-body (body-04 {x} k n t) s e =
-        more s x (no-own s x e) (quiet-body t (after s x) (stays-body s b x e (λ f. omega arith) (λ f. omega arith)))
-    quiet-body (body-data {x} k m t) s e =
-        let n : (v : ℕ) → v ≢ 0 → v ≢ 13 → x .kind ≢ v = λ v z w. data-not (x .kind) b v z w k in
-        more s x (no-own s x e)
-        (quiet-body t (after s x) (stays-body s b x e (n 11 (λ f. omega arith) (λ f. omega arith)) (n 12 (λ f. omega arith) (λ f. omega arith))))
-    quiet-body (body-0E {x} k t) s e =
-        more s x (no-own s x e) (quiet-body t (after s x) (stays-body s b x e (λ f. omega arith) (λ f. omega arith)))
-    quiet-body (body-0C {x} k t) s e = more s x (no-own s x e) (quiet-tail b t (after s x) (rw (e, k)))
+    quiet-body : {xs : List Item} → Body b xs → (s : State) → s.place ≡ body b → Quiet own s xs
+    unfolding place_after
+    quiet-body body_ends s e = rest
+    quiet-body (body_04 {x} k n t) s e =
+        more s x (no_own s x e) (quiet-body t (after s x) (stays_body s b x e (λ f. omega arith) (λ f. omega arith)))
+    quiet-body (body_data {x} k m t) s e =
+        let n : (v : ℕ) → v ≢ 0 → v ≢ 13 → x.kind ≢ v = λ v z w. data_not x.kind b v z w k in
+        more s x (no_own s x e)
+        (quiet-body t (after s x) (stays_body s b x e (n 11 (λ f. omega arith) (λ f. omega arith)) (n 12 (λ f. omega arith) (λ f. omega arith))))
+    quiet-body (body_0_e {x} k t) s e =
+        more s x (no_own s x e) (quiet-body t (after s x) (stays_body s b x e (λ f. omega arith) (λ f. omega arith)))
+    quiet-body (body_0_c {x} k t) s e = more s x (no_own s x e) (quiet_tail b t (after s x) (rw (e, k)))
 
-  quiet-section : (s : State) (sec : Section) → s .place ≡ between → IsSection sec → boardOf sec ≢ own → Quiet own s (sectionItems sec)
-  quiet-section s sec e i n =
-      let o : sec .opening .kind ≡ 4 = i .opens in
-      let a : sec .naming .kind ≡ 10 = i .names in
-      let c : sec .closing .kind ≡ 11 = i .closes in
-      let s1 = after s (sec .opening) in
-      let s2 = after s1 (sec .naming) in
-      let s3 = stateAfter s2 (sec .body) in
-      more s (sec .opening) (no-gift (sec .opening) (λ f. omega arith) (λ f. omega arith) (s .place) own)
-      (more s1 (sec .naming) (no-gift (sec .naming) (λ f. omega arith) (λ f. omega arith) (s1 .place) own)
-      (quiet-append (sec .closing ∷ []) (quiet-body (boardOf sec) n (i .body) s2 (at-body s sec e i))
-      (more s3 (sec .closing) (no-gift (sec .closing) (λ f. omega arith) (λ f. omega arith) (s3 .place) own) rest)))
+  quiet_section : (s : State) (sec : Section) → s.place ≡ between → IsSection sec → board_of sec ≢ own → Quiet own s (section_items sec)
+  quiet_section s sec e i n =
+      let o : sec.opening.kind ≡ 4 = i.opens in
+      let a : sec.naming.kind ≡ 10 = i.names in
+      let c : sec.closing.kind ≡ 11 = i.closes in
+      let s1 = after s sec.opening in
+      let s2 = after s1 sec.naming in
+      let s3 = state_after s2 sec.body in
+      more s sec.opening (no_gift sec.opening (λ f. omega arith) (λ f. omega arith) s.place own)
+      (more s1 sec.naming (no_gift sec.naming (λ f. omega arith) (λ f. omega arith) s1.place own)
+      (quiet_append (sec.closing ∷ []) (quiet-body (board_of sec) n i.body s2 (at_body s sec e i))
+      (more s3 sec.closing (no_gift sec.closing (λ f. omega arith) (λ f. omega arith) s3.place own) rest)))
 
-pub other-sections-pass : Other-sections-pass
-unfolding Other-sections-pass
-other-sections-pass own s sec e i n =
-    let q = quiet-section own s sec e i n in (λ img. quiet-image own q img, λ k. quiet-answers own q k)
+pub other_sections_pass : OtherSectionsPass
+unfolding OtherSectionsPass
+other_sections_pass own s sec e i n =
+    let q = quiet_section own s sec e i n in (λ img. quiet_image own q img, λ k. quiet_answers own q k)

@@ -1,115 +1,111 @@
 -- Row 18 in numbers. Assumes nothing.
-use Prim.Native.Nat.{ℕ, _<_, _≤_}
-use mathlib.Core.Path.{_≡_, refl, sym, ap, _∙_}
-use mathlib.Core.Logic.{_≢_, _↔_}
-use mathlib.Core.Bool.{Bool, true, false, _&&_, _||_, not, or-true}
-use mathlib.Core.List.{List}
+use mathlib.Core.Path.{◌≡◌, refl, ap, ◌∙◌}
+use mathlib.Core.Bool.{true, false, ◌&&◌, ◌||◌, or-true}
 use native.Mathlib.Omega.{arith}
-use lib.Dec.{ltb, leb, eqb}
+use lib.Dec.{ltb, leb}
 use lib.ListN.{length}
-use borrow.Author.Tests.{eqb-true, eqb-false, eq-eqb, ne-eqb, lt-ltb, le-ltb, ltb-true, le-leb, leb-true, not-true, not-false}
-use Rattle·laws.proofs.Tests.{split, clash, is-false, and-left, and-right, or-left, or-right}
-use Rattle·uhex_grammar.specs.Answers.{numberOf, isKept}
-use Rattle·uhex_grammar.specs.Boards.{isV1, isV2}
-use Rattle·uhex_grammar.specs.declared.Answer.{Answer}
-use Rattle·uhex_grammar.specs.declared.Answer.the-variants as answer
-use Rattle·uhex_grammar.specs.declared.Failure.{Failure}
-use Rattle·uhex_grammar.specs.declared.ReaderState.{ReaderState}
-use Rattle·uhex_grammar.specs.declared.ReaderState.the-variants.{Between, Opened, Inside, Padded, Ended, Failed}
-use Rattle·uhex_effects.specs.declared.Reader.{Reader}
-use Rattle·uhex_reader.specs.Reader.{badFailure, badReader}
-use Rattle·uhex_reader.specs.Line.{LineOutcome, lineOf}
-use Rattle·uhex_claims·specs.specs.Facts.{Ready, Bad-exactly}
-use Rattle·uhex_claims·proofs.proofs.Facts.{bad-exactly}
-use Rattle·uhex_claims·specs.specs.Exact.{Image-before-reader}
-use Rattle·uhex_claims·proofs.proofs.Exact.{image-before-reader}
-use Rattle·uhex_claims·specs.specs.Reader.{Remembered, no-colon, bad-shape, bad-digit, too-long, bad-length, bad-sum, out-of-place, unaligned, repeated, crosses, missing-board, file-too-long, Bad, board, offset, failure, Bad-reader-exactly, Numbers-are-01s}
+use borrow.Author.Tests.{eqb-false, ne_eqb, lt-ltb, le-ltb, ltb-true, le-leb, leb-true, not-true, not-false}
+use Rattle.laws.proofs.Tests.{split, clash, is_false, and_left, and_right, or_left, or_right}
+use Rattle.uhex_grammar.specs.Answers.{number_of, is_kept}
+use Rattle.uhex_grammar.specs.Boards.{is_v1, is_v2}
+use Rattle.uhex_grammar.specs.declared.Answer.{Answer}
+use Rattle.uhex_grammar.specs.declared.Answer.TheVariants as answer
+use Rattle.uhex_grammar.specs.declared.ReaderState.{ReaderState}
+use Rattle.uhex_grammar.specs.declared.ReaderState.TheVariants.{Between, Opened, Inside, Padded, Ended, Failed}
+use Rattle.uhex_effects.specs.declared.Reader.{Reader}
+use Rattle.uhex_reader.specs.Reader.{bad_failure, bad_reader}
+use Rattle.uhex_reader.specs.Line.{LineOutcome}
+use Rattle.uhex_claims.specs.Facts.{Ready, BadExactly}
+use Rattle.uhex_claims.proofs.Facts.{bad_exactly}
+use Rattle.uhex_claims.specs.Exact.{ImageBeforeReader}
+use Rattle.uhex_claims.proofs.Exact.{image_before_reader}
+use Rattle.uhex_claims.specs.Reader.{Remembered, no_colon_case, bad_shape_case, bad_digit, too_long, bad_length_case, bad_sum_case, out_of_place, unaligned, repeated, crosses, missing_board, file_too_long, Bad, board, offset, failure, BadReaderExactly, NumbersAre01s}
 
 -- ---- failures
 
-kept-said : (x : Answer) → Remembered x → isKept x ≡ true
-unfolding isKept
-kept-said x no-colon = refl
-kept-said x bad-shape = refl
-kept-said x (bad-digit {p} l m) = rw (le-leb 1 p l, le-leb p 520 m)
-kept-said x too-long = refl
-kept-said x bad-length = refl
-kept-said x bad-sum = refl
-kept-said x out-of-place = refl
-kept-said x unaligned = refl
-kept-said x repeated = refl
-kept-said x crosses = refl
-kept-said x missing-board = refl
-kept-said x file-too-long = refl
+kept_said : (x : Answer) → Remembered x → is_kept x ≡ true
+unfolding is_kept
+kept_said x no_colon_case = refl
+kept_said x bad_shape_case = refl
+kept_said x (bad_digit {p} l m) = rw (le-leb 1 p l, le-leb p 520 m)
+kept_said x too_long = refl
+kept_said x bad_length_case = refl
+kept_said x bad_sum_case = refl
+kept_said x out_of_place = refl
+kept_said x unaligned = refl
+kept_said x repeated = refl
+kept_said x crosses = refl
+kept_said x missing_board = refl
+kept_said x file_too_long = refl
 
-said-kept : (x : Answer) → isKept x ≡ true → Remembered x
-unfolding isKept
-said-kept answer.BadReader h = clash false h refl
-said-kept answer.BadImage h = clash false h refl
-said-kept answer.NoColon h = no-colon
-said-kept answer.BadShape h = bad-shape
-said-kept (answer.BadDigit p) h =
+said_kept : (x : Answer) → is_kept x ≡ true → Remembered x
+unfolding is_kept
+said_kept answer.BadReader h = clash false h refl
+said_kept answer.BadImage h = clash false h refl
+said_kept answer.NoColon h = no_colon_case
+said_kept answer.BadShape h = bad_shape_case
+said_kept (answer.BadDigit p) h =
     let g : leb 1 p && leb p 520 ≡ true = not-false _ (not-true _ h) in
-    bad-digit (leb-true 1 p (and-left (leb 1 p) (leb p 520) g)) (leb-true p 520 (and-right (leb 1 p) (leb p 520) g))
-said-kept answer.TooLong h = too-long
-said-kept answer.BadLength h = bad-length
-said-kept answer.BadSum h = bad-sum
-said-kept answer.OutOfPlace h = out-of-place
-said-kept answer.Unaligned h = unaligned
-said-kept answer.Repeated h = repeated
-said-kept answer.Crosses h = crosses
-said-kept answer.MissingBoard h = missing-board
-said-kept answer.AfterEnd h = clash false h refl
-said-kept answer.Outside h = clash false h refl
-said-kept answer.Stored h = clash false h refl
-said-kept answer.Passed h = clash false h refl
-said-kept answer.Ended h = clash false h refl
-said-kept answer.FileTooLong h = file-too-long
+    bad_digit (leb-true 1 p (and_left (leb 1 p) (leb p 520) g)) (leb-true p 520 (and_right (leb 1 p) (leb p 520) g))
+said_kept answer.TooLong h = too_long
+said_kept answer.BadLength h = bad_length_case
+said_kept answer.BadSum h = bad_sum_case
+said_kept answer.OutOfPlace h = out_of_place
+said_kept answer.Unaligned h = unaligned
+said_kept answer.Repeated h = repeated
+said_kept answer.Crosses h = crosses
+said_kept answer.MissingBoard h = missing_board
+said_kept answer.AfterEnd h = clash false h refl
+said_kept answer.Outside h = clash false h refl
+said_kept answer.Stored h = clash false h refl
+said_kept answer.Passed h = clash false h refl
+said_kept answer.Ended h = clash false h refl
+said_kept answer.FileTooLong h = file_too_long
 
 -- ---- the reader
 
 module _ (r : Reader) where
-  bad-said : Bad r → badReader r ≡ true
-  unfolding badReader badFailure
-  bad-said (board a b) = rw (ne-eqb (r .own) 0x9900 a, ne-eqb (r .own) 0x9903 b)
-  bad-said (offset h) = simp (lt-ltb 4194304 (r .offset) h, or-true)
-  bad-said (failure f e h) =
-      let z : isKept (f .answer) ≡ false = is-false _ (λ y. h (said-kept (f .answer) y)) in
-      let b : badFailure (r .state) ≡ true = ap badFailure e ∙ rw z in
+  bad_said : Bad r → bad_reader r ≡ true
+  unfolding bad_reader bad_failure
+  bad_said (board a b) = rw (ne_eqb r.own 0x9900 a, ne_eqb r.own 0x9903 b)
+  bad_said (offset h) = simp (lt-ltb 4194304 r.offset h, or-true)
+  bad_said (failure f e h) =
+      let z : is_kept f.answer ≡ false = is_false _ (λ y. h (said_kept f.answer y)) in
+      let b : bad_failure r.state ≡ true = ap bad_failure e ∙ rw z in
       simp (b, or-true)
 
-  failed : (x : ReaderState) → r .state ≡ x → badFailure x ≡ true → Bad r
-  unfolding badFailure
+  failed : (x : ReaderState) → r.state ≡ x → bad_failure x ≡ true → Bad r
+  unfolding bad_failure
   failed Between e h = clash false h refl
   failed Opened e h = clash false h refl
   failed (Inside b) e h = clash false h refl
   failed (Padded b) e h = clash false h refl
   failed Ended e h = clash false h refl
-  failed (Failed f) e h = failure f e (λ k. clash (isKept (f .answer)) (kept-said (f .answer) k) (not-true _ h))
+  failed (Failed f) e h = failure f e (λ k. clash (is_kept f.answer) (kept_said f.answer k) (not-true _ h))
 
-  said-bad : badReader r ≡ true → Bad r
-  unfolding badReader
-  said-bad h =
-      split (isV1 (r .own) || isV2 (r .own))
+  said_bad : bad_reader r ≡ true → Bad r
+  unfolding bad_reader
+  said_bad h =
+      split (is_v1 r.own || is_v2 r.own)
       (λ y.
-      split (ltb 4194304 (r .offset)) (λ o. offset (ltb-true 4194304 (r .offset) o))
-      (λ z. failed (r .state) refl (rw (y, z) at h)))
-      (λ z. board (eqb-false (r .own) 0x9900 (or-left (isV1 (r .own)) (isV2 (r .own)) z)) (eqb-false (r .own) 0x9903 (or-right (isV1 (r .own)) (isV2 (r .own)) z)))
+      split (ltb 4194304 r.offset) (λ o. offset (ltb-true 4194304 r.offset o))
+      (λ z. failed r.state refl (rw (y, z) at h)))
+      (λ z. board (eqb-false r.own 0x9900 (or_left (is_v1 r.own) (is_v2 r.own) z)) (eqb-false r.own 0x9903 (or_right (is_v1 r.own) (is_v2 r.own) z)))
 
-pub bad-reader-exactly : Bad-reader-exactly
-unfolding Bad-reader-exactly Bad-exactly Image-before-reader
-bad-reader-exactly r l img some most =
-    let b = image-before-reader r l img .1 some most in (
+pub bad_reader_exactly : BadReaderExactly
+unfolding BadReaderExactly BadExactly ImageBeforeReader
+bad_reader_exactly r l img some most =
+    let b = (image_before_reader r l img).1 some most in (
       λ e.
-          split (badReader r) (λ y. said-bad r y)
+          split (bad_reader r) (λ y. said_bad r y)
           (λ z.
           let ready : Ready r img = record { image = rw (le-ltb (length img) 1 some, le-ltb 1048576 (length img) most); reader = z } in
-          let k = bad-exactly r l img .1 ready in
-          let n = ap numberOf e in
+          let k = (bad_exactly r l img).1 ready in
+          let n = ap number_of e in
           absurd (omega (arith, k, n))),
-      λ h. ap (λ (o : LineOutcome). o .answer) (b (bad-said r h)),
+      λ h. ap (λ (o : LineOutcome). o.answer) (b (bad_said r h)),
     )
 
-pub numbers-are-01s : Numbers-are-01s
-unfolding Numbers-are-01s
-numbers-are-01s p = refl
+pub numbers_are_01s : NumbersAre01s
+unfolding NumbersAre01s
+numbers_are_01s p = refl

@@ -1,39 +1,38 @@
 -- Rows 20 to 25 in numbers. Assumes nothing.
-use Prim.Native.Nat.{ℕ, zero, suc, _+_, _-_, _*_, _/_, _%_, _<_, _≤_}
-use mathlib.Core.Path.{_≡_, refl, sym, ap, subst, _∙_}
-use mathlib.Core.Logic.{_≢_, _⊎_, inl, inr, ⊎-elim}
-use mathlib.Core.Bool.{Bool, true, false, cond, not, _&&_, _||_}
-use mathlib.Core.List.{List, [], _∷_, _++_, append-nil, append-assoc}
+use Prim.Native.Nat.{ℕ, zero, suc, ◌+◌, ◌-◌, ◌*◌, ◌%◌, ◌<◌, ◌≤◌}
+use mathlib.Core.Path.{◌≡◌, refl, sym, ap, subst, ◌∙◌}
+use mathlib.Core.Logic.{◌≢◌, ◌⊎◌, inl, inr, ⊎_elim}
+use mathlib.Core.Bool.{true, false, ◌&&◌, ◌||◌}
+use mathlib.Core.List.{List, [], ◌∷◌, ◌++◌, append_assoc}
 use native.Mathlib.Omega.{arith}
 use lib.Dec.{ltb, leb, eqb}
-use lib.ListN.{length, getD, take, drop, replicate, length-append, length-replicate, length-take, List·getD-append, List·getD-eq-default, getD-replicate}
-use lib.Seq.{take-append-seam, getD-append-seam, getD-append-add, take-length}
-use borrow.Author.Tests.{lt-ltb, le-ltb, le-leb, lt-leb, eq-eqb, ne-eqb, eqb-true, eqb-false, ltb-true, ltb-false, leb-true, leb-false}
-use Rattle·laws.proofs.Tests.{split, both, clash, is-false, or-left, or-right}
-use Rattle·laws.proofs.TabLaws.{is-tab}
-use Rattle·ihex_record.specs.declared.Line.{Line}
-use Rattle·ihex_record.specs.declared.ParseResult.{ParseResult}
-use Rattle·ihex_record.specs.declared.ParseResult.the-variants.{Good, NoColon, BadShape, BadDigit, TooLong, BadLength, BadSum}
-use Rattle·ihex_record.specs.Record.{textLen, textOf, digitOf, allDigits, firstBad, bytesOf, data32, total, refused, badShape, lineOfBytes, lineOfText, readOf, allBy, firstBy, bytesBy}
-use Rattle·ihex_record.specs.Record as record'
-use Rattle·ihex_record.proofs.Endings.{text-whole, text-lf, text-crlf}
-use Rattle·ihex_record.proofs.Checks.{is-empty, is-no-colon, is-bad-shape, is-bad-digit, is-bytes, is-too-long, is-bad-length, is-bad-sum, is-good}
-use Rattle·uhex_claims·specs.specs.Rows.{Digit, decimal, upper, lower, Bytes, no-byte, byte, TextOf, unended, ended-lf, ended-crlf, sumOf, Shaped, Says, row-20, row-21, row-22, row-23, row-24, row-25, good, Line-is-read, Every-line-says}
+use lib.ListN.{length, get_or, replicate, length-append, length-replicate, get_or-append, get_or-eq_default, get_or-replicate}
+use lib.Seq.{take-append_seam, get_or-append_seam, get_or-append-add, take-length}
+use borrow.Author.Tests.{lt-ltb, le-ltb, le-leb, lt-leb, ne_eqb, eqb-true, eqb-false, ltb-true, ltb-false, leb-true}
+use Rattle.laws.proofs.Tests.{split, both, clash, is_false, or_left, or_right}
+use Rattle.laws.proofs.TabLaws.{is_tab}
+use Rattle.ihex_record.specs.declared.Line.{Line}
+use Rattle.ihex_record.specs.declared.ParseResult.{ParseResult}
+use Rattle.ihex_record.specs.declared.ParseResult.TheVariants.{NoColon, BadShape, BadDigit, TooLong, BadLength, BadSum}
+use Rattle.ihex_record.specs.Record.{text_len, text_of, digit_of, all_digits, first_bad, bytes_of, data32, total, bad_shape, line_of_bytes, line_of_text, read_of, all_by, first_by, bytes_by}
+use Rattle.ihex_record.proofs.Endings.{text_whole, text_lf, text_crlf}
+use Rattle.ihex_record.proofs.Checks.{is_no_colon, is_bad_shape, is_bad_digit, is_bytes, is_too_long, is_bad_length, is_bad_sum, is_good_lem}
+use Rattle.uhex_claims.specs.Rows.{Digit, decimal, upper, lower, Bytes, no_byte, byte, TextOf, unended, ended_lf, ended_crlf, sum_of, Shaped, Says, row_20, row_21, row_22, row_23, row_24, row_25, good, LineIsRead, EveryLineSays}
 
 -- ---- digits
 
-digit-is : (c v : ℕ) → Digit c v → (digitOf c ≡ v) × (v < 16)
-unfolding digitOf
-digit-is c v (decimal h e) = (rw (e, le-leb 48 (48 + v) (omega arith), le-leb (48 + v) 57 (omega arith)) (omega arith), omega arith)
-digit-is c v (upper h l e) =
+digit_is : (c v : ℕ) → Digit c v → (digit_of c ≡ v) × (v < 16)
+unfolding digit_of
+digit_is c v (decimal h e) = (rw (e, le-leb 48 (48 + v) (omega arith), le-leb (48 + v) 57 (omega arith)) (omega arith), omega arith)
+digit_is c v (upper h l e) =
     (rw (e, le-leb 48 (55 + v) (omega arith), lt-leb (55 + v) 57 (omega arith), le-leb 65 (55 + v) (omega arith), le-leb (55 + v) 70 (omega arith)) (omega arith), l)
-digit-is c v (lower h l e) =
+digit_is c v (lower h l e) =
     (rw (e, le-leb 48 (87 + v) (omega arith), lt-leb (87 + v) 57 (omega arith), le-leb 65 (87 + v) (omega arith), lt-leb (87 + v) 70 (omega arith), le-leb 97 (87 + v) (omega arith), le-leb (87 + v) 102 (omega arith)) (omega arith), l)
 
 -- what says no digit is one for no value
-is-digit : (c : ℕ) → digitOf c < 16 → Digit c (digitOf c)
-unfolding digitOf
-is-digit c h =
+is_digit_lem : (c : ℕ) → digit_of c < 16 → Digit c (digit_of c)
+unfolding digit_of
+is_digit_lem c h =
     split (leb 48 c && leb c 57)
     (λ y. rw y (decimal (omega (arith, low48 y, high57 y)) (omega (arith, low48 y))))
     (λ n.
@@ -42,135 +41,135 @@ is-digit c h =
     (λ m.
     split (leb 97 c && leb c 102)
     (λ y. rw (n, m, y) (lower (omega (arith, l97 y)) (omega (arith, h102 y)) (omega (arith, l97 y))))
-    (λ o. let z : _<_ 16 16 = rw (n, m, o) at h in absurd (omega arith))))
+    (λ o. let z : ◌<◌ 16 16 = rw (n, m, o) at h in absurd (omega arith))))
   where
     low48 : leb 48 c && leb c 57 ≡ true → 48 ≤ c
-    low48 y = leb-true 48 c (Rattle·laws.proofs.Tests.and-left (leb 48 c) (leb c 57) y)
+    low48 y = leb-true 48 c (Rattle.laws.proofs.Tests.and_left (leb 48 c) (leb c 57) y)
 
     high57 : leb 48 c && leb c 57 ≡ true → c ≤ 57
-    high57 y = leb-true c 57 (Rattle·laws.proofs.Tests.and-right (leb 48 c) (leb c 57) y)
+    high57 y = leb-true c 57 (Rattle.laws.proofs.Tests.and_right (leb 48 c) (leb c 57) y)
 
     l65 : leb 65 c && leb c 70 ≡ true → 65 ≤ c
-    l65 y = leb-true 65 c (Rattle·laws.proofs.Tests.and-left (leb 65 c) (leb c 70) y)
+    l65 y = leb-true 65 c (Rattle.laws.proofs.Tests.and_left (leb 65 c) (leb c 70) y)
 
     h70 : leb 65 c && leb c 70 ≡ true → c ≤ 70
-    h70 y = leb-true c 70 (Rattle·laws.proofs.Tests.and-right (leb 65 c) (leb c 70) y)
+    h70 y = leb-true c 70 (Rattle.laws.proofs.Tests.and_right (leb 65 c) (leb c 70) y)
 
     l97 : leb 97 c && leb c 102 ≡ true → 97 ≤ c
-    l97 y = leb-true 97 c (Rattle·laws.proofs.Tests.and-left (leb 97 c) (leb c 102) y)
+    l97 y = leb-true 97 c (Rattle.laws.proofs.Tests.and_left (leb 97 c) (leb c 102) y)
 
     h102 : leb 97 c && leb c 102 ≡ true → c ≤ 102
-    h102 y = leb-true c 102 (Rattle·laws.proofs.Tests.and-right (leb 97 c) (leb c 102) y)
+    h102 y = leb-true c 102 (Rattle.laws.proofs.Tests.and_right (leb 97 c) (leb c 102) y)
 
 -- ---- bytes
 
-bytes-are : {cs bs : List ℕ} → Bytes cs bs → (allDigits cs ≡ true) × (bytesOf cs ≡ bs)
-unfolding allBy bytesBy
-bytes-are no-byte = (refl, refl)
-bytes-are (byte {c} {d} {h} {l} {cs} {bs} p q w) =
-    let x = digit-is c h p in
-    let y = digit-is d l q in
-    let r = bytes-are w in
-    (rw (x .0, y .0, lt-ltb h 16 (x .1), lt-ltb l 16 (y .1)) (r .0), rw (x .0, y .0, r .1) (ap (λ (n : ℕ). n ∷ bs) (omega (arith, x .1, y .1))))
+bytes_are : {cs bs : List ℕ} → Bytes cs bs → (all_digits cs ≡ true) × (bytes_of cs ≡ bs)
+unfolding all_by bytes_by
+bytes_are no_byte = (refl, refl)
+bytes_are (byte {c} {d} {h} {l} {cs} {bs} p q w) =
+    let x = digit_is c h p in
+    let y = digit_is d l q in
+    let r = bytes_are w in
+    (rw (x.0, y.0, lt-ltb h 16 x.1, lt-ltb l 16 y.1) r.0, rw (x.0, y.0, r.1) (ap (λ (n : ℕ). n ∷ bs) (omega (arith, x.1, y.1))))
 
-sum-is : (l : List ℕ) → total l ≡ sumOf l
-unfolding total sumOf
-sum-is [] = refl
-sum-is (b ∷ l) = rw (sum-is l)
+sum_is : (l : List ℕ) → total l ≡ sum_of l
+unfolding total sum_of
+sum_is [] = refl
+sum_is (b ∷ l) = rw (sum_is l)
 
 -- ---- shape
 
-shape-good : (n : ℕ) → Shaped n → badShape n ≡ false
-shape-good n s =
-    let l = s .least in
-    let m = s .most in
-    let o = s .odd in
-    rw (le-ltb n 11 l, le-ltb 521 n m, ne-eqb (n % 2) 0 (omega arith))
+shape_good : (n : ℕ) → Shaped n → bad_shape n ≡ false
+shape_good n s =
+    let l = s.least in
+    let m = s.most in
+    let o = s.odd in
+    rw (le-ltb n 11 l, le-ltb 521 n m, ne_eqb (n % 2) 0 (omega arith))
 
-shape-bad : (n : ℕ) → (Shaped n → ⊥) → badShape n ≡ true
-shape-bad n h =
-    split (badShape n) (λ y. y)
+shape_bad : (n : ℕ) → (Shaped n → ⊥) → bad_shape n ≡ true
+shape_bad n h =
+    split (bad_shape n) (λ y. y)
     (λ z.
-    let a = or-left (ltb n 11 || ltb 521 n) (eqb (n % 2) 0) z in
-    let o = eqb-false (n % 2) 0 (or-right (ltb n 11 || ltb 521 n) (eqb (n % 2) 0) z) in
-    absurd (h (record { least = ltb-false n 11 (or-left (ltb n 11) (ltb 521 n) a); most = ltb-false 521 n (or-right (ltb n 11) (ltb 521 n) a); odd = omega (arith, o) })))
+    let a = or_left (ltb n 11 || ltb 521 n) (eqb (n % 2) 0) z in
+    let o = eqb-false (n % 2) 0 (or_right (ltb n 11 || ltb 521 n) (eqb (n % 2) 0) z) in
+    absurd (h (record { least = ltb-false n 11 (or_left (ltb n 11) (ltb 521 n) a); most = ltb-false 521 n (or_right (ltb n 11) (ltb 521 n) a); odd = omega (arith, o) })))
 
 -- ---- the first bad character
 
-bad-digit : (c : ℕ) → ((v : ℕ) → Digit c v → ⊥) → ltb (digitOf c) 16 ≡ false
-bad-digit c h = is-false _ (λ y. h (digitOf c) (is-digit c (ltb-true (digitOf c) 16 y)))
+bad_digit : (c : ℕ) → ((v : ℕ) → Digit c v → ⊥) → ltb (digit_of c) 16 ≡ false
+bad_digit c h = is_false _ (λ y. h (digit_of c) (is_digit_lem c (ltb-true (digit_of c) 16 y)))
 
-good-digit : (c v : ℕ) → Digit c v → ltb (digitOf c) 16 ≡ true
-good-digit c v w = let x = digit-is c v w in rw (x .0) (lt-ltb v 16 (x .1))
+good_digit : (c v : ℕ) → Digit c v → ltb (digit_of c) 16 ≡ true
+good_digit c v w = let x = digit_is c v w in rw x.0 (lt-ltb v 16 x.1)
 
-first-is : (cs : List ℕ) (p : ℕ) → p < length cs → ((v : ℕ) → Digit (getD cs p 0) v → ⊥) → ((i : ℕ) → i < p → (v : ℕ) × Digit (getD cs i 0) v)
-    → (firstBad cs ≡ p) × (allDigits cs ≡ false)
-unfolding firstBy allBy
-first-is [] p l b g = absurd (omega arith)
-first-is (c ∷ cs) zero l b g = let z = bad-digit c b in (rw z, rw z)
-first-is (c ∷ cs) (suc p) l b g =
-    let y = good-digit c (g 0 (omega arith) .0) (g 0 (omega arith) .1) in
-    let r = first-is cs p (omega arith) b (λ i m. g (suc i) (omega arith)) in
-    (rw (y, r .0), rw (y, r .1))
+first_is : (cs : List ℕ) (p : ℕ) → p < length cs → ((v : ℕ) → Digit (get_or cs p 0) v → ⊥) → ((i : ℕ) → i < p → (v : ℕ) × Digit (get_or cs i 0) v)
+    → (first_bad cs ≡ p) × (all_digits cs ≡ false)
+unfolding first_by all_by
+first_is [] p l b g = absurd (omega arith)
+first_is (c ∷ cs) zero l b g = let z = bad_digit c b in (rw z, rw z)
+first_is (c ∷ cs) (suc p) l b g =
+    let y = good_digit c (g 0 (omega arith)).0 (g 0 (omega arith)).1 in
+    let r = first_is cs p (omega arith) b (λ i m. g (suc i) (omega arith)) in
+    (rw (y, r.0), rw (y, r.1))
 
 -- ---- a text
 
-bytes-length : {cs bs : List ℕ} → Bytes cs bs → length cs ≡ 2 * length bs
-bytes-length no-byte = refl
-bytes-length (byte p q w) = let h = bytes-length w in omega arith
+bytes_length : {cs bs : List ℕ} → Bytes cs bs → length cs ≡ 2 * length bs
+bytes_length no_byte = refl
+bytes_length (byte p q w) = let h = bytes_length w in omega arith
 
-says-line : {t : List ℕ} {x : ParseResult} {d : List ℕ} → Says t x d → lineOfText t ≡ record { parsed = x; «data» = data32 d }
-says-line {t} (row-20 h) = sym (is-no-colon t h)
-says-line (row-21 {cs} h) = sym (is-bad-shape (58 ∷ cs) (λ q. omega arith) refl (shape-bad (length (58 ∷ cs)) h))
-says-line (row-22 {cs} p s l b g) =
-    let f = first-is cs p l b g in
-    sym (is-bad-digit (58 ∷ cs) (λ q. omega arith) refl (shape-good (length (58 ∷ cs)) s) (ap (λ (n : ℕ). 1 + n) (sym (f .0))) (f .1))
-says-line (row-23 {cs} {bs} {n} s w h) =
-    let r = bytes-are w in
-    sym (is-bytes (58 ∷ cs) (λ q. omega arith) refl (shape-good (length (58 ∷ cs)) s) (r .0))
-    ∙ ap (lineOfBytes (length (58 ∷ cs))) (r .1) ∙ sym (is-too-long (length (58 ∷ cs)) (n ∷ bs) h)
-says-line (row-24 {cs} {bs} {n} s w m h) =
-    let r = bytes-are w in
-    sym (is-bytes (58 ∷ cs) (λ q. omega arith) refl (shape-good (length (58 ∷ cs)) s) (r .0))
-    ∙ ap (lineOfBytes (length (58 ∷ cs))) (r .1) ∙ sym (is-bad-length (length (58 ∷ cs)) (n ∷ bs) m h)
-says-line (row-25 {cs} {bs} {n} s w m e h) =
-    let r = bytes-are w in
-    sym (is-bytes (58 ∷ cs) (λ q. omega arith) refl (shape-good (length (58 ∷ cs)) s) (r .0))
-    ∙ ap (lineOfBytes (length (58 ∷ cs))) (r .1) ∙ sym (is-bad-sum (length (58 ∷ cs)) (n ∷ bs) m e (rw (sum-is (n ∷ bs)) h))
-says-line (good {cs} {d} {high} {low} {kind} check w m z) =
+says_line : {t : List ℕ} {x : ParseResult} {d : List ℕ} → Says t x d → line_of_text t ≡ record { parsed = x; «data» = data32 d }
+says_line {t} (row_20 h) = sym (is_no_colon t h)
+says_line (row_21 {cs} h) = sym (is_bad_shape (58 ∷ cs) (λ q. omega arith) refl (shape_bad (length (58 ∷ cs)) h))
+says_line (row_22 {cs} p s l b g) =
+    let f = first_is cs p l b g in
+    sym (is_bad_digit (58 ∷ cs) (λ q. omega arith) refl (shape_good (length (58 ∷ cs)) s) (ap (λ (n : ℕ). 1 + n) (sym f.0)) f.1)
+says_line (row_23 {cs} {bs} {n} s w h) =
+    let r = bytes_are w in
+    sym (is_bytes (58 ∷ cs) (λ q. omega arith) refl (shape_good (length (58 ∷ cs)) s) r.0)
+    ∙ ap (line_of_bytes (length (58 ∷ cs))) r.1 ∙ sym (is_too_long (length (58 ∷ cs)) (n ∷ bs) h)
+says_line (row_24 {cs} {bs} {n} s w m h) =
+    let r = bytes_are w in
+    sym (is_bytes (58 ∷ cs) (λ q. omega arith) refl (shape_good (length (58 ∷ cs)) s) r.0)
+    ∙ ap (line_of_bytes (length (58 ∷ cs))) r.1 ∙ sym (is_bad_length (length (58 ∷ cs)) (n ∷ bs) m h)
+says_line (row_25 {cs} {bs} {n} s w m e h) =
+    let r = bytes_are w in
+    sym (is_bytes (58 ∷ cs) (λ q. omega arith) refl (shape_good (length (58 ∷ cs)) s) r.0)
+    ∙ ap (line_of_bytes (length (58 ∷ cs))) r.1 ∙ sym (is_bad_sum (length (58 ∷ cs)) (n ∷ bs) m e (rw (sum_is (n ∷ bs)) h))
+says_line (good {cs} {d} {high} {low} {kind} check w m z) =
     let b : List ℕ = length d ∷ high ∷ low ∷ kind ∷ d ++ (check ∷ []) in
-    let r = bytes-are w in
-    let k : length cs ≡ 10 + 2 * length d = omega (arith, bytes-length w, length-append d (check ∷ [])) in
+    let r = bytes_are w in
+    let k : length cs ≡ 10 + 2 * length d = omega (arith, bytes_length w, length-append d (check ∷ [])) in
     let s : Shaped (length (58 ∷ cs)) = record { least = omega arith; most = omega arith; odd = omega arith } in
-    sym (is-bytes (58 ∷ cs) (λ q. omega arith) refl (shape-good (length (58 ∷ cs)) s) (r .0))
-    ∙ ap (lineOfBytes (length (58 ∷ cs))) (r .1)
-    ∙ sym (is-good (length (58 ∷ cs)) b m (omega arith) (rw (sum-is b) z))
-    ∙ rw (take-append-seam d (check ∷ []))
+    sym (is_bytes (58 ∷ cs) (λ q. omega arith) refl (shape_good (length (58 ∷ cs)) s) r.0)
+    ∙ ap (line_of_bytes (length (58 ∷ cs))) r.1
+    ∙ sym (is_good_lem (length (58 ∷ cs)) b m (omega arith) (rw (sum_is b) z))
+    ∙ rw (take-append_seam d (check ∷ []))
 
 -- ---- its ending
 
-text-is : {l t : List ℕ} → TextOf l t → textOf l ≡ t
-unfolding textOf
-text-is {l} (unended h) = rw (← (text-whole l h)) (take-length l)
-text-is (ended-lf {t} h) =
+text_is : {l t : List ℕ} → TextOf l t → text_of l ≡ t
+unfolding text_of
+text_is {l} (unended h) = rw (← (text_whole l h)) (take-length l)
+text_is (ended_lf {t} h) =
     let l = t ++ (10 ∷ []) in
     let a : length l - 1 ≡ length t = omega (arith, length-append t (10 ∷ [])) in
-    let last : getD l (length l - 1) 0 ≡ 10 = rw a (getD-append-seam t 10 [] 0) in
-    let e : length t ≡ textLen l = sym a ∙ text-lf l last (omega (arith, length-append t (10 ∷ []))) (before t h) in
-    rw (← e) (take-append-seam t (10 ∷ []))
+    let last : get_or l (length l - 1) 0 ≡ 10 = rw a (get_or-append_seam t 10 [] 0) in
+    let e : length t ≡ text_len l = sym a ∙ text_lf l last (omega (arith, length-append t (10 ∷ []))) (before t h) in
+    rw (← e) (take-append_seam t (10 ∷ []))
   where
-    before : (t : List ℕ) → getD t (length t - 1) 0 ≢ 13 → getD (t ++ (10 ∷ [])) (length (t ++ (10 ∷ [])) - 2) 0 ≢ 13
+    before : (t : List ℕ) → get_or t (length t - 1) 0 ≢ 13 → get_or (t ++ (10 ∷ [])) (length (t ++ (10 ∷ [])) - 2) 0 ≢ 13
     before [] h q = omega arith
     before (c ∷ t) h q =
         let b : length ((c ∷ t) ++ (10 ∷ [])) - 2 ≡ length (c ∷ t) - 1 = omega (arith, length-append (c ∷ t) (10 ∷ [])) in
-        h (sym (rw b (List·getD-append (c ∷ t) (10 ∷ []) 0 (length (c ∷ t) - 1) (omega arith))) ∙ q)
-text-is (ended-crlf {t}) =
+        h (sym (rw b (get_or-append (c ∷ t) (10 ∷ []) 0 (length (c ∷ t) - 1) (omega arith))) ∙ q)
+text_is (ended_crlf {t}) =
     let l = t ++ (13 ∷ 10 ∷ []) in
     let a : length l - 2 ≡ length t = omega (arith, length-append t (13 ∷ 10 ∷ [])) in
     let b : length l - 1 ≡ length t + 1 = omega (arith, length-append t (13 ∷ 10 ∷ [])) in
-    let last : getD l (length l - 1) 0 ≡ 10 = rw b (getD-append-add t (13 ∷ 10 ∷ []) 1 0) in
-    let e : length t ≡ textLen l = sym a ∙ text-crlf l last (omega (arith, length-append t (13 ∷ 10 ∷ []))) (rw a (getD-append-seam t 13 (10 ∷ []) 0)) in
-    rw (← e) (take-append-seam t (13 ∷ 10 ∷ []))
+    let last : get_or l (length l - 1) 0 ≡ 10 = rw b (get_or-append-add t (13 ∷ 10 ∷ []) 1 0) in
+    let e : length t ≡ text_len l = sym a ∙ text_crlf l last (omega (arith, length-append t (13 ∷ 10 ∷ []))) (rw a (get_or-append_seam t 13 (10 ∷ []) 0)) in
+    rw (← e) (take-append_seam t (13 ∷ 10 ∷ []))
 
 -- ---- its data
 
@@ -178,167 +177,167 @@ filled : (d : List ℕ) → length d ≤ 32 → d ++ replicate (32 - length d) 0
 unfolding data32
 filled d h =
     let n = length-replicate {A = ℕ} (32 - length d) 0 in
-    is-tab (d ++ replicate (32 - length d) 0) 32 (λ i. getD d i 0) (simp length-append (omega arith))
+    is_tab (d ++ replicate (32 - length d) 0) 32 (λ i. get_or d i 0) (simp length-append (omega arith))
     (λ j l.
     split (ltb j (length d))
-    (λ y. List·getD-append d (replicate (32 - length d) 0) 0 j (ltb-true j (length d) y))
+    (λ y. get_or-append d (replicate (32 - length d) 0) 0 j (ltb-true j (length d) y))
     (λ y.
     let m : length d ≤ j = ltb-false j (length d) y in
     let f : length d + (j - length d) ≡ j = omega arith in
-    let g : getD (d ++ replicate (32 - length d) 0) j 0 ≡ getD (replicate (32 - length d) 0) (j - length d) 0 = rw f at (getD-append-add d (replicate (32 - length d) 0) (j - length d) 0) in
-    g ∙ getD-replicate (32 - length d) (j - length d) 0 0 (omega arith) ∙ sym (List·getD-eq-default d 0 m)))
+    let g : get_or (d ++ replicate (32 - length d) 0) j 0 ≡ get_or (replicate (32 - length d) 0) (j - length d) 0 = rw f at (get_or-append-add d (replicate (32 - length d) 0) (j - length d) 0) in
+    g ∙ get_or-replicate (32 - length d) (j - length d) 0 0 (omega arith) ∙ sym (get_or-eq_default d 0 m)))
 
 short : {t : List ℕ} {x : ParseResult} {d : List ℕ} → Says t x d → length d ≤ 32
-short (row-20 h) = omega arith
-short (row-21 h) = omega arith
-short (row-22 p s l b g) = omega arith
-short (row-23 s w h) = omega arith
-short (row-24 s w m h) = omega arith
-short (row-25 s w m e h) = omega arith
+short (row_20 h) = omega arith
+short (row_21 h) = omega arith
+short (row_22 p s l b g) = omega arith
+short (row_23 s w h) = omega arith
+short (row_24 s w m h) = omega arith
+short (row_25 s w m e h) = omega arith
 short (good check w m z) = m
 
-pub line-is-read : Line-is-read
-unfolding Line-is-read readOf
-line-is-read l t x d e s =
-    let q : lineOfText (textOf l) ≡ record { parsed = x; «data» = data32 d } = ap lineOfText (text-is e) ∙ says-line s in
-    (ap (λ (y : Line). y .parsed) q, ap (λ (y : Line). y .«data») q ∙ sym (filled d (short s)))
+pub line_is_read : LineIsRead
+unfolding LineIsRead read_of
+line_is_read l t x d e s =
+    let q : line_of_text (text_of l) ≡ record { parsed = x; «data» = data32 d } = ap line_of_text (text_is e) ∙ says_line s in
+    (ap (λ (y : Line). y.parsed) q, ap (λ (y : Line). y.«data») q ∙ sym (filled d (short s)))
 
 -- ---- every line says something
 
 abbrev IsDigit : ℕ → Type 0
 IsDigit c = (v : ℕ) × Digit c v
 
-digit-or : (c : ℕ) → IsDigit c ⊎ ((v : ℕ) → Digit c v → ⊥)
-digit-or c =
-    split (ltb (digitOf c) 16)
-    (λ y. inl (digitOf c, is-digit c (ltb-true (digitOf c) 16 y)))
-    (λ z. inr (λ v w. clash (ltb (digitOf c) 16) (good-digit c v w) z))
+digit_or : (c : ℕ) → IsDigit c ⊎ ((v : ℕ) → Digit c v → ⊥)
+digit_or c =
+    split (ltb (digit_of c) 16)
+    (λ y. inl (digit_of c, is_digit_lem c (ltb-true (digit_of c) 16 y)))
+    (λ z. inr (λ v w. clash (ltb (digit_of c) 16) (good_digit c v w) z))
 
 -- the first bad character of some
 record FirstBad (cs : List ℕ) : Type 0 where
   place : ℕ
   within : place < length cs
-  bad : (v : ℕ) → Digit (getD cs place 0) v → ⊥
-  first : (i : ℕ) → i < place → IsDigit (getD cs i 0)
+  bad : (v : ℕ) → Digit (get_or cs place 0) v → ⊥
+  first : (i : ℕ) → i < place → IsDigit (get_or cs i 0)
 
-digits-or : (cs : List ℕ) → ((i : ℕ) → i < length cs → IsDigit (getD cs i 0)) ⊎ FirstBad cs
-digits-or [] = inl (λ i l. absurd (omega arith))
-digits-or (c ∷ cs) =
-    ⊎-elim
+digits_or : (cs : List ℕ) → ((i : ℕ) → i < length cs → IsDigit (get_or cs i 0)) ⊎ FirstBad cs
+digits_or [] = inl (λ i l. absurd (omega arith))
+digits_or (c ∷ cs) =
+    ⊎_elim
     (λ (h : IsDigit c).
-    ⊎-elim
-    (λ (all : (i : ℕ) → i < length cs → IsDigit (getD cs i 0)). inl (next h all))
-    (λ (b : FirstBad cs). inr (record { place = suc (b .place); within = omega (arith, b .within); bad = b .bad; first = later h b }))
-    (digits-or cs))
+    ⊎_elim
+    (λ (all : (i : ℕ) → i < length cs → IsDigit (get_or cs i 0)). inl (next h all))
+    (λ (b : FirstBad cs). inr (record { place = suc b.place; within = omega (arith, b.within); bad = b.bad; first = later h b }))
+    (digits_or cs))
     (λ (n : (v : ℕ) → Digit c v → ⊥). inr (record { place = 0; within = omega arith; bad = n; first = λ i l. absurd (omega arith) }))
-    (digit-or c)
+    (digit_or c)
   where
-    next : IsDigit c → ((i : ℕ) → i < length cs → IsDigit (getD cs i 0)) → (i : ℕ) → i < length (c ∷ cs) → IsDigit (getD (c ∷ cs) i 0)
+    next : IsDigit c → ((i : ℕ) → i < length cs → IsDigit (get_or cs i 0)) → (i : ℕ) → i < length (c ∷ cs) → IsDigit (get_or (c ∷ cs) i 0)
     next h all zero l = h
     next h all (suc i) l = all i (omega arith)
 
-    later : IsDigit c → (b : FirstBad cs) → (i : ℕ) → i < suc (b .place) → IsDigit (getD (c ∷ cs) i 0)
+    later : IsDigit c → (b : FirstBad cs) → (i : ℕ) → i < suc b.place → IsDigit (get_or (c ∷ cs) i 0)
     later h b zero l = h
-    later h b (suc i) l = b .first i (omega arith)
+    later h b (suc i) l = b.first i (omega arith)
 
-pairs : (cs : List ℕ) → length cs % 2 ≡ 0 → ((i : ℕ) → i < length cs → IsDigit (getD cs i 0)) → (bs : List ℕ) × Bytes cs bs
-pairs [] e h = ([], no-byte)
-pairs (c ∷ []) e h = let z : _≡_ {A = ℕ} 1 0 = e in absurd (omega arith)
+pairs : (cs : List ℕ) → length cs % 2 ≡ 0 → ((i : ℕ) → i < length cs → IsDigit (get_or cs i 0)) → (bs : List ℕ) × Bytes cs bs
+pairs [] e h = ([], no_byte)
+pairs (c ∷ []) e h = let z : ◌≡◌ {A = ℕ} 1 0 = e in absurd (omega arith)
 pairs (c ∷ d ∷ cs) e h =
     let x = h 0 (omega arith) in
     let y = h 1 (omega arith) in
     let r = pairs cs (omega arith) (λ i l. h (suc (suc i)) (omega arith)) in
-    ((16 * x .0 + y .0) ∷ r .0, byte (x .1) (y .1) (r .1))
+    ((16 * x.0 + y.0) ∷ r.0, byte x.1 y.1 r.1)
 
 -- a list and its last element
-last-of : (l : List ℕ) → 1 ≤ length l → (t : List ℕ) × (c : ℕ) × (l ≡ t ++ (c ∷ [])) × (length l ≡ suc (length t)) × (getD l (length l - 1) 0 ≡ c)
-last-of [] h = absurd (omega arith)
-last-of (c ∷ []) h = ([], c, refl, refl, refl)
-last-of (c ∷ d ∷ l) h =
-    let r = last-of (d ∷ l) (omega arith) in
+last_of : (l : List ℕ) → 1 ≤ length l → (t : List ℕ) × (c : ℕ) × (l ≡ t ++ (c ∷ [])) × (length l ≡ suc (length t)) × (get_or l (length l - 1) 0 ≡ c)
+last_of [] h = absurd (omega arith)
+last_of (c ∷ []) h = ([], c, refl, refl, refl)
+last_of (c ∷ d ∷ l) h =
+    let r = last_of (d ∷ l) (omega arith) in
     let n : length (c ∷ d ∷ l) - 1 ≡ suc (length (d ∷ l) - 1) = omega arith in
-    (c ∷ r .0, r .1, ap (λ (z : List ℕ). c ∷ z) (r .2), omega (arith, r .3), rw n (r .4))
+    (c ∷ r.0, r.1, ap (λ (z : List ℕ). c ∷ z) r.2, omega (arith, r.3), rw n r.4)
 
-text-of : (l : List ℕ) → (t : List ℕ) × TextOf l t
-text-of l =
-    split (eqb (getD l (length l - 1) 0) 10)
-    (λ y. ended l (eqb-true (getD l (length l - 1) 0) 10 y))
-    (λ z. (l, unended (eqb-false (getD l (length l - 1) 0) 10 z)))
+text_of_lem : (l : List ℕ) → (t : List ℕ) × TextOf l t
+text_of_lem l =
+    split (eqb (get_or l (length l - 1) 0) 10)
+    (λ y. ended l (eqb-true (get_or l (length l - 1) 0) 10 y))
+    (λ z. (l, unended (eqb-false (get_or l (length l - 1) 0) 10 z)))
   where
     before : (l t : List ℕ) → l ≡ t ++ (10 ∷ []) → (t : List ℕ) × TextOf l t
     before l t e =
-        split (eqb (getD t (length t - 1) 0) 13)
+        split (eqb (get_or t (length t - 1) 0) 13)
         (λ y.
-        let q = eqb-true (getD t (length t - 1) 0) 13 y in
-        let r = last-of t (some t q) in
-        let f : l ≡ r .0 ++ (13 ∷ 10 ∷ []) =
-        e ∙ ap (λ (z : List ℕ). z ++ (10 ∷ [])) (r .2 ∙ ap (λ (c : ℕ). r .0 ++ (c ∷ [])) (sym (r .4) ∙ q)) ∙ append-assoc (r .0) (13 ∷ []) (10 ∷ []) in
-        (r .0, subst (λ (z : List ℕ). TextOf z (r .0)) (sym f) ended-crlf))
-        (λ z. (t, subst (λ (u : List ℕ). TextOf u t) (sym e) (ended-lf (eqb-false (getD t (length t - 1) 0) 13 z))))
+        let q = eqb-true (get_or t (length t - 1) 0) 13 y in
+        let r = last_of t (some t q) in
+        let f : l ≡ r.0 ++ (13 ∷ 10 ∷ []) =
+        e ∙ ap (λ (z : List ℕ). z ++ (10 ∷ [])) (r.2 ∙ ap (λ (c : ℕ). r.0 ++ (c ∷ [])) (sym r.4 ∙ q)) ∙ append_assoc r.0 (13 ∷ []) (10 ∷ []) in
+        (r.0, subst (λ (z : List ℕ). TextOf z r.0) (sym f) ended_crlf))
+        (λ z. (t, subst (λ (u : List ℕ). TextOf u t) (sym e) (ended_lf (eqb-false (get_or t (length t - 1) 0) 13 z))))
       where
-        some : (t : List ℕ) → getD t (length t - 1) 0 ≡ 13 → 1 ≤ length t
+        some : (t : List ℕ) → get_or t (length t - 1) 0 ≡ 13 → 1 ≤ length t
         some [] q = absurd (omega arith)
         some (c ∷ t) q = omega arith
 
-    ended : (l : List ℕ) → getD l (length l - 1) 0 ≡ 10 → (t : List ℕ) × TextOf l t
+    ended : (l : List ℕ) → get_or l (length l - 1) 0 ≡ 10 → (t : List ℕ) × TextOf l t
     ended [] q = absurd (omega arith)
-    ended (c ∷ l) q = let r = last-of (c ∷ l) (omega arith) in before (c ∷ l) (r .0) (r .2 ∙ ap (λ (d : ℕ). r .0 ++ (d ∷ [])) (sym (r .4) ∙ q))
+    ended (c ∷ l) q = let r = last_of (c ∷ l) (omega arith) in before (c ∷ l) r.0 (r.2 ∙ ap (λ (d : ℕ). r.0 ++ (d ∷ [])) (sym r.4 ∙ q))
 
 abbrev SaysSome : List ℕ → Type 0
 SaysSome t = (x : ParseResult) × (d : List ℕ) × Says t x d
 
 -- the bytes of a record, taken apart
-says-bytes : (cs bs : List ℕ) → Shaped (length (58 ∷ cs)) → Bytes cs bs → SaysSome (58 ∷ cs)
-says-bytes cs [] s w = let k = bytes-length w in let l = s .least in absurd (omega arith)
-says-bytes cs (n ∷ bs) s w =
+says_bytes : (cs bs : List ℕ) → Shaped (length (58 ∷ cs)) → Bytes cs bs → SaysSome (58 ∷ cs)
+says_bytes cs [] s w = let k = bytes_length w in let l = s.least in absurd (omega arith)
+says_bytes cs (n ∷ bs) s w =
     split (ltb 32 n)
-    (λ y. (TooLong, [], row-23 s w (ltb-true 32 n y)))
+    (λ y. (TooLong, [], row_23 s w (ltb-true 32 n y)))
     (λ z.
     let m = ltb-false 32 n z in
     split (eqb (length (58 ∷ cs)) (11 + 2 * n))
     (λ y.
     let e = eqb-true (length (58 ∷ cs)) (11 + 2 * n) y in
-    split (eqb (sumOf (n ∷ bs) % 256) 0)
-    (λ u. whole bs w (omega (arith, bytes-length w, e)) m (eqb-true _ 0 u))
-    (λ u. (BadSum, [], row-25 s w m e (eqb-false _ 0 u))))
-    (λ u. (BadLength, [], row-24 s w m (eqb-false (length (58 ∷ cs)) (11 + 2 * n) u))))
+    split (eqb (sum_of (n ∷ bs) % 256) 0)
+    (λ u. whole bs w (omega (arith, bytes_length w, e)) m (eqb-true _ 0 u))
+    (λ u. (BadSum, [], row_25 s w m e (eqb-false _ 0 u))))
+    (λ u. (BadLength, [], row_24 s w m (eqb-false (length (58 ∷ cs)) (11 + 2 * n) u))))
   where
-    whole : (bs : List ℕ) → Bytes cs (n ∷ bs) → length bs ≡ n + 4 → n ≤ 32 → sumOf (n ∷ bs) % 256 ≡ 0 → SaysSome (58 ∷ cs)
+    whole : (bs : List ℕ) → Bytes cs (n ∷ bs) → length bs ≡ n + 4 → n ≤ 32 → sum_of (n ∷ bs) % 256 ≡ 0 → SaysSome (58 ∷ cs)
     whole [] w e m z = absurd (omega arith)
     whole (high ∷ []) w e m z = absurd (omega arith)
     whole (high ∷ low ∷ []) w e m z = absurd (omega arith)
     whole (high ∷ low ∷ kind ∷ rest) w e m z =
-        let r = last-of rest (omega arith) in
-        let d = r .0 in
-        let k : n ≡ length d = omega (arith, r .3) in
-        let f : _≡_ {A = List ℕ} (n ∷ high ∷ low ∷ kind ∷ rest) (length d ∷ high ∷ low ∷ kind ∷ d ++ (r .1 ∷ [])) =
-        ap (λ (q : List ℕ). n ∷ high ∷ low ∷ kind ∷ q) (r .2) ∙ ap (λ (q : ℕ). q ∷ high ∷ low ∷ kind ∷ d ++ (r .1 ∷ [])) k in
-        (_, d, good {d = d} (r .1) (subst (λ (q : List ℕ). Bytes cs q) f w) (omega (arith, k)) (subst (λ (q : List ℕ). sumOf q % 256 ≡ 0) f z))
+        let r = last_of rest (omega arith) in
+        let d = r.0 in
+        let k : n ≡ length d = omega (arith, r.3) in
+        let f : ◌≡◌ {A = List ℕ} (n ∷ high ∷ low ∷ kind ∷ rest) (length d ∷ high ∷ low ∷ kind ∷ d ++ (r.1 ∷ [])) =
+        ap (λ (q : List ℕ). n ∷ high ∷ low ∷ kind ∷ q) r.2 ∙ ap (λ (q : ℕ). q ∷ high ∷ low ∷ kind ∷ d ++ (r.1 ∷ [])) k in
+        (_, d, good {d = d} r.1 (subst (λ (q : List ℕ). Bytes cs q) f w) (omega (arith, k)) (subst (λ (q : List ℕ). sum_of q % 256 ≡ 0) f z))
 
-says-some : (t : List ℕ) → SaysSome t
-says-some [] = (NoColon, [], row-20 {t = []} (λ e. omega arith))
-says-some (c ∷ cs) =
+says_some : (t : List ℕ) → SaysSome t
+says_some [] = (NoColon, [], row_20 {t = []} (λ e. omega arith))
+says_some (c ∷ cs) =
     split (eqb c 58)
     (λ y. subst (λ (q : ℕ). SaysSome (q ∷ cs)) (sym (eqb-true c 58 y)) after)
-    (λ z. (NoColon, [], row-20 {t = c ∷ cs} (eqb-false c 58 z)))
+    (λ z. (NoColon, [], row_20 {t = c ∷ cs} (eqb-false c 58 z)))
   where
-    shaped : (n : ℕ) → badShape n ≡ false → Shaped n
+    shaped : (n : ℕ) → bad_shape n ≡ false → Shaped n
     shaped n z =
-        let a = or-left (ltb n 11 || ltb 521 n) (eqb (n % 2) 0) z in
-        let o = eqb-false (n % 2) 0 (or-right (ltb n 11 || ltb 521 n) (eqb (n % 2) 0) z) in
-        record { least = ltb-false n 11 (or-left (ltb n 11) (ltb 521 n) a); most = ltb-false 521 n (or-right (ltb n 11) (ltb 521 n) a); odd = omega (arith, o) }
+        let a = or_left (ltb n 11 || ltb 521 n) (eqb (n % 2) 0) z in
+        let o = eqb-false (n % 2) 0 (or_right (ltb n 11 || ltb 521 n) (eqb (n % 2) 0) z) in
+        record { least = ltb-false n 11 (or_left (ltb n 11) (ltb 521 n) a); most = ltb-false 521 n (or_right (ltb n 11) (ltb 521 n) a); odd = omega (arith, o) }
 
     after : SaysSome (58 ∷ cs)
     after =
-        split (badShape (length (58 ∷ cs)))
-        (λ y. (BadShape, [], row-21 (λ s. clash (badShape (length (58 ∷ cs))) y (shape-good (length (58 ∷ cs)) s))))
+        split (bad_shape (length (58 ∷ cs)))
+        (λ y. (BadShape, [], row_21 (λ s. clash (bad_shape (length (58 ∷ cs))) y (shape_good (length (58 ∷ cs)) s))))
         (λ z.
         let s = shaped (length (58 ∷ cs)) z in
-        ⊎-elim
-        (λ (all : (i : ℕ) → i < length cs → IsDigit (getD cs i 0)). let r = pairs cs (omega (arith, s .odd)) all in says-bytes cs (r .0) s (r .1))
-        (λ (b : FirstBad cs). (BadDigit (1 + b .place), [], row-22 (b .place) s (b .within) (b .bad) (b .first)))
-        (digits-or cs))
+        ⊎_elim
+        (λ (all : (i : ℕ) → i < length cs → IsDigit (get_or cs i 0)). let r = pairs cs (omega (arith, s.odd)) all in says_bytes cs r.0 s r.1)
+        (λ (b : FirstBad cs). (BadDigit (1 + b.place), [], row_22 b.place s b.within b.bad b.first))
+        (digits_or cs))
 
-pub every-line-says : Every-line-says
-unfolding Every-line-says
-every-line-says l = let e = text-of l in let s = says-some (e .0) in (e .0, s .0, s .1, e .1, s .2)
+pub every_line_says : EveryLineSays
+unfolding EveryLineSays
+every_line_says l = let e = text_of_lem l in let s = says_some e.0 in (e.0, s.0, s.1, e.1, s.2)

@@ -1,37 +1,37 @@
 -- The file of specs/Instance.antt is one. Assumes nothing.
-use Prim.Native.Nat.{ℕ, _+_, _*_, _≤_}
-use mathlib.Core.Path.{_≡_, refl, subst}
+use Prim.Native.Nat.{ℕ, ◌+◌, ◌*◌, ◌≤◌}
+use mathlib.Core.Path.{◌≡◌, refl, subst}
 use mathlib.Core.Bool.{Bool, true, false}
-use mathlib.Core.List.{List, [], _∷_, map}
+use mathlib.Core.List.{List, [], ◌∷◌, map}
 use native.Mathlib.Omega.{arith}
-use Rattle·laws.proofs.Tests.{clash}
-use Rattle·laws.specs.Over.{over}
-use Rattle·laws.specs.Tab.{from, tab}
-use Rattle·ihex_record.specs.Record.{textLen, textOf, digitOf, data32, total, lineOfBytes, lineOfText, readOf, onRecord, allBy, bytesBy}
-use Rattle·ihex_record.specs.Write.{bytesText, recordText}
-use Rattle·ihex_record.specs.declared.ParseResult.{ParseResult}
-use Rattle·ihex_record.specs.declared.ParseResult.the-variants as parsed
-use Rattle·uhex_claims·specs.specs.Items.{Item, itemOf, Says, none, line, sizeOf, item, lineFor}
-use Rattle·uhex_claims·specs.specs.Whole.{dataTypeOf, tail-ends, tail-0C, body-ends, body-data, body-0E, body-0C, Body, IsSection, Sections, no-section, section, allItems, howMany, anyData, anyGives, File}
-use Rattle·uhex_claims·specs.specs.State.{placeAfter, givesFor, namesFor, answerFor, answersFor, imageWith, imageFor}
-use Rattle·uhex_claims·specs.specs.WholefilesInstance.{padding, sectionOf, bodyV1, bodyOther, bodyV2, sections, items, Items-are-file, Items-read}
+use Rattle.laws.proofs.Tests.{clash}
+use Rattle.laws.specs.Over.{over}
+use Rattle.laws.specs.Tab.{from, tab}
+use Rattle.ihex_record.specs.Record.{text_len, text_of, digit_of, data32, total, line_of_bytes, line_of_text, read_of, on_record, all_by, bytes_by}
+use Rattle.ihex_record.specs.Write.{bytes_text, record_text}
+use Rattle.ihex_record.specs.declared.ParseResult.{ParseResult}
+use Rattle.ihex_record.specs.declared.ParseResult.TheVariants as parsed
+use Rattle.uhex_claims.specs.Items.{Item, item_of, Says, none, line, size_of, item, line_for}
+use Rattle.uhex_claims.specs.Whole.{data_type_of, tail_ends, tail_0_c, body_ends, body_data, body_0_e, body_0_c, Body, IsSection, Sections, no_section, section, all_items, how_many, any_data, any_gives, File}
+use Rattle.uhex_claims.specs.State.{place_after, gives_for, names_for, answer_for, answers_for, image_with, image_for}
+use Rattle.uhex_claims.specs.WholefilesInstance.{padding, section_of, body_v1, body_other, body_v2, sections, items, ItemsAreFile, ItemsRead}
 
 -- what lines say, where each says a record
-unfoldable itemsOf : List (List ℕ) → List Item
-itemsOf [] = []
-itemsOf (l ∷ ls) = onRecord [] (λ rec. itemOf l rec ∷ itemsOf ls) (readOf l .parsed)
+unfoldable items_of : List (List ℕ) → List Item
+items_of [] = []
+items_of (l ∷ ls) = on_record [] (λ rec. item_of l rec ∷ items_of ls) (read_of l).parsed
 
-unfoldable allGood : List (List ℕ) → Bool
-allGood [] = true
-allGood (l ∷ ls) = onRecord false (λ rec. allGood ls) (readOf l .parsed)
+unfoldable all_good : List (List ℕ) → Bool
+all_good [] = true
+all_good (l ∷ ls) = on_record false (λ rec. all_good ls) (read_of l).parsed
 
-said : (ls : List (List ℕ)) → allGood ls ≡ true → Says ls (itemsOf ls)
-unfolding allGood itemsOf
+said : (ls : List (List ℕ)) → all_good ls ≡ true → Says ls (items_of ls)
+unfolding all_good items_of
 said [] g = none
-said (l ∷ ls) g = first (readOf l .parsed) refl g (said ls)
+said (l ∷ ls) g = first (read_of l).parsed refl g (said ls)
   where
-    first : (p : ParseResult) → readOf l .parsed ≡ p → onRecord false (λ rec. allGood ls) p ≡ true → (allGood ls ≡ true → Says ls (itemsOf ls))
-        → Says (l ∷ ls) (onRecord [] (λ rec. itemOf l rec ∷ itemsOf ls) p)
+    first : (p : ParseResult) → (read_of l).parsed ≡ p → on_record false (λ rec. all_good ls) p ≡ true → (all_good ls ≡ true → Says ls (items_of ls))
+        → Says (l ∷ ls) (on_record [] (λ rec. item_of l rec ∷ items_of ls) p)
     first (parsed.Good rec) e g s = line rec e (s g)
     first parsed.NoColon e g s = clash false g refl
     first parsed.BadShape e g s = clash false g refl
@@ -40,64 +40,64 @@ said (l ∷ ls) g = first (readOf l .parsed) refl g (said ls)
     first parsed.BadLength e g s = clash false g refl
     first parsed.BadSum e g s = clash false g refl
 
-says-items : Says (map lineFor items) items
-unfolding items allItems allGood itemsOf from tab textLen textOf allBy bytesBy data32 total lineOfBytes lineOfText readOf digitOf bytesText recordText
-says-items = subst (λ (xs : List Item). Says (map lineFor items) xs) same (said (map lineFor items) refl)
+says_items : Says (map line_for items) items
+unfolding items all_items all_good items_of from tab text_len text_of all_by bytes_by data32 total line_of_bytes line_of_text read_of digit_of bytes_text record_text
+says_items = subst (λ (xs : List Item). Says (map line_for items) xs) same (said (map line_for items) refl)
   where
-    same : itemsOf (map lineFor items) ≡ items
+    same : items_of (map line_for items) ≡ items
     same = refl
 
-padded-body : (b n : ℕ) → Body b (padding n)
-padded-body b n = body-0C refl (tail-0C refl (tail-0C refl (tail-0C refl (tail-0C refl (tail-0C refl tail-ends)))))
+padded_body : (b n : ℕ) → Body b (padding n)
+padded_body b n = body_0_c refl (tail_0_c refl (tail_0_c refl (tail_0_c refl (tail_0_c refl (tail_0_c refl tail_ends)))))
 
-a-section : (nn : ℕ) (xs : List Item) → Body (256 * 0x99 + nn) xs → IsSection (sectionOf nn xs)
-a-section nn xs b = record { opens = refl; upper = refl; names = refl; board = omega arith; body = b; closes = refl }
+a_section : (nn : ℕ) (xs : List Item) → Body (256 * 0x99 + nn) xs → IsSection (section_of nn xs)
+a_section nn xs b = record { opens = refl; upper = refl; names = refl; board = omega arith; body = b; closes = refl }
 
 -- two data bytes before some records
-two-bytes : (b kind address v w : ℕ) (xs : List Item) → kind ≡ dataTypeOf b → address + 2 ≤ 65536 → Body b xs
+two_bytes : (b kind address v w : ℕ) (xs : List Item) → kind ≡ data_type_of b → address + 2 ≤ 65536 → Body b xs
     → Body b (item kind address (v ∷ w ∷ []) ∷ xs)
-two-bytes b kind address v w xs k m t = body-data k m t
+two_bytes b kind address v w xs k m t = body_data k m t
 
-body-v1 : Body 0x9900 bodyV1
-unfolding dataTypeOf
-body-v1 = two-bytes 0x9900 0x00 2 0xAA 0xBB _ refl (omega arith) (body-0E refl (padded-body 0x9900 21))
+body_v1_lem : Body 0x9900 body_v1
+unfolding data_type_of
+body_v1_lem = two_bytes 0x9900 0x00 2 0xAA 0xBB _ refl (omega arith) (body_0_e refl (padded_body 0x9900 21))
 
-body-other : Body 0x9904 bodyOther
-unfolding dataTypeOf
-body-other = two-bytes 0x9904 0x0D 4 0xCC 0xDD _ refl (omega arith) (padded-body 0x9904 28)
+body_other_lem : Body 0x9904 body_other
+unfolding data_type_of
+body_other_lem = two_bytes 0x9904 0x0D 4 0xCC 0xDD _ refl (omega arith) (padded_body 0x9904 28)
 
-body-v2 : Body 0x9903 bodyV2
-unfolding dataTypeOf
-body-v2 = two-bytes 0x9903 0x0D 1 0x11 0x22 _ refl (omega arith) (padded-body 0x9903 28)
+body_v2_lem : Body 0x9903 body_v2
+unfolding data_type_of
+body_v2_lem = two_bytes 0x9903 0x0D 1 0x11 0x22 _ refl (omega arith) (padded_body 0x9903 28)
 
-in-order : Sections 0 sections
-unfolding sizeOf
-in-order =
-    section refl (a-section 0x00 bodyV1 body-v1)
-    (section refl (a-section 0x04 bodyOther body-other)
-    (section refl (a-section 0x03 bodyV2 body-v2) (section refl (a-section _ [] body-ends) no-section)))
+in_order_lem : Sections 0 sections
+unfolding size_of
+in_order_lem =
+    section refl (a_section 0x00 body_v1 body_v1_lem)
+    (section refl (a_section 0x04 body_other body_other_lem)
+    (section refl (a_section 0x03 body_v2 body_v2_lem) (section refl (a_section _ [] body_ends) no_section)))
 
-is-file : File items
-unfolding items allItems sizeOf howMany anyData anyGives dataTypeOf
-is-file =
+is_file : File items
+unfolding items all_items size_of how_many any_data any_gives data_type_of
+is_file =
     record {
       sections = sections;
       ending = item 0x01 0 [];
       whole = refl;
-      ordered = in-order;
+      ordered = in_order_lem;
       ends = refl;
       empty = refl;
-      once-v1 = omega arith;
-      once-v2 = omega arith;
-      data-v1 = refl;
-      data-v2 = refl;
+      once_v1 = omega arith;
+      once_v2 = omega arith;
+      data_v1 = refl;
+      data_v2 = refl;
       short = omega arith;
     }
 
-pub items-are-file : Items-are-file
-unfolding Items-are-file
-items-are-file = (says-items, is-file)
+pub items_are_file : ItemsAreFile
+unfolding ItemsAreFile
+items_are_file = (says_items, is_file)
 
-pub items-read : Items-read
-unfolding Items-read allItems dataTypeOf placeAfter givesFor namesFor answerFor answersFor imageWith imageFor over
-items-read = (record { answers = refl; left = refl }, record { answers = refl; left = refl })
+pub items_read : ItemsRead
+unfolding ItemsRead all_items data_type_of place_after gives_for names_for answer_for answers_for image_with image_for over
+items_read = (record { answers = refl; left = refl }, record { answers = refl; left = refl })

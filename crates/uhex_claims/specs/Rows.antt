@@ -1,13 +1,9 @@
 -- Rows 20 to 25 in numbers (01, "Universal Hex, a line at a time"; 02, L12): what a line's characters say, each row by its own condition. None of the
 -- definitions that the code meets stands on the side of the words. Proved in proofs/Rows.antt. Assumes nothing.
-use Prim.Native.Nat.{ℕ, _+_, _-_, _*_, _%_, _<_, _≤_}
-use mathlib.Core.Path.{_≡_}
-use mathlib.Core.Logic.{_≢_, _⊎_}
-use mathlib.Core.List.{List, [], _∷_, _++_}
-use lib.ListN.{length, getD, replicate}
-use Rattle·ihex_record.specs.declared.ParseResult.{ParseResult}
-use Rattle·ihex_record.specs.declared.ParseResult.the-variants.{Good, NoColon, BadShape, BadDigit, TooLong, BadLength, BadSum}
-use Rattle·ihex_record.specs.Record.{readOf}
+use Rattle.std.specs.Prelude.{ℕ, ◌+◌, ◌-◌, ◌*◌, ◌%◌, ◌<◌, ◌≤◌, ◌≡◌, ◌≢◌, List, [], ◌∷◌, ◌++◌, length, get_or, replicate}
+use Rattle.ihex_record.specs.declared.ParseResult.{ParseResult}
+use Rattle.ihex_record.specs.declared.ParseResult.TheVariants.{Good, NoColon, BadShape, BadDigit, TooLong, BadLength, BadSum}
+use Rattle.ihex_record.specs.Record.{read_of}
 
 -- ---- characters
 
@@ -19,20 +15,20 @@ pub data Digit (c v : ℕ) : Type 0 where
 
 -- two a byte, high first
 pub data Bytes : List ℕ → List ℕ → Type 0 where
-  no-byte : Bytes [] []
+  no_byte : Bytes [] []
   byte : {c d h l : ℕ} {cs bs : List ℕ} → Digit c h → Digit d l → Bytes cs bs → Bytes (c ∷ d ∷ cs) ((16 * h + l) ∷ bs)
 
 -- "one LF, then one CR before it, is dropped": a line and its text
 pub data TextOf : List ℕ → List ℕ → Type 0 where
-  unended : {t : List ℕ} → getD t (length t - 1) 0 ≢ 10 → TextOf t t
-  ended-lf : {t : List ℕ} → getD t (length t - 1) 0 ≢ 13 → TextOf (t ++ (10 ∷ [])) t
-  ended-crlf : {t : List ℕ} → TextOf (t ++ (13 ∷ 10 ∷ [])) t
+  unended : {t : List ℕ} → get_or t (length t - 1) 0 ≢ 10 → TextOf t t
+  ended_lf : {t : List ℕ} → get_or t (length t - 1) 0 ≢ 13 → TextOf (t ++ (10 ∷ [])) t
+  ended_crlf : {t : List ℕ} → TextOf (t ++ (13 ∷ 10 ∷ [])) t
 
 -- ---- rows
 
-unfoldable pub sumOf : List ℕ → ℕ
-sumOf [] = 0
-sumOf (b ∷ l) = b + sumOf l
+unfoldable pub sum_of : List ℕ → ℕ
+sum_of [] = 0
+sum_of (b ∷ l) = b + sum_of l
 
 -- row 21 is passed: not "under 11, over 521 or an even number of characters"
 pub record Shaped (n : ℕ) : Type 0 where
@@ -43,31 +39,31 @@ pub record Shaped (n : ℕ) : Type 0 where
 -- what a text says: a refusal, or a record with its data; b are its bytes, of which the first is "the length field"
 pub data Says : List ℕ → ParseResult → List ℕ → Type 0 where
   -- "empty or not beginning with ':'"
-  row-20 : {t : List ℕ} → getD t 0 0 ≢ 58 → Says t NoColon []
-  row-21 : {cs : List ℕ} → (Shaped (length (58 ∷ cs)) → ⊥) → Says (58 ∷ cs) BadShape []
+  row_20 : {t : List ℕ} → get_or t 0 0 ≢ 58 → Says t NoColon []
+  row_21 : {cs : List ℕ} → (Shaped (length (58 ∷ cs)) → ⊥) → Says (58 ∷ cs) BadShape []
   -- "the position of the first bad character, counted from 0 at the colon" (L12)
-  row-22 : {cs : List ℕ} (p : ℕ) → Shaped (length (58 ∷ cs)) → p < length cs → ((v : ℕ) → Digit (getD cs p 0) v → ⊥)
-      → ((i : ℕ) → i < p → (v : ℕ) × Digit (getD cs i 0) v) → Says (58 ∷ cs) (BadDigit (1 + p)) []
+  row_22 : {cs : List ℕ} (p : ℕ) → Shaped (length (58 ∷ cs)) → p < length cs → ((v : ℕ) → Digit (get_or cs p 0) v → ⊥)
+      → ((i : ℕ) → i < p → (v : ℕ) × Digit (get_or cs i 0) v) → Says (58 ∷ cs) (BadDigit (1 + p)) []
   -- "the length field is over 32"
-  row-23 : {cs bs : List ℕ} {n : ℕ} → Shaped (length (58 ∷ cs)) → Bytes cs (n ∷ bs) → 32 < n → Says (58 ∷ cs) TooLong []
+  row_23 : {cs bs : List ℕ} {n : ℕ} → Shaped (length (58 ∷ cs)) → Bytes cs (n ∷ bs) → 32 < n → Says (58 ∷ cs) TooLong []
   -- "characters aren't 11 + 2 x the length field"
-  row-24 : {cs bs : List ℕ} {n : ℕ} → Shaped (length (58 ∷ cs)) → Bytes cs (n ∷ bs) → n ≤ 32 → length (58 ∷ cs) ≢ 11 + 2 * n → Says (58 ∷ cs) BadLength []
+  row_24 : {cs bs : List ℕ} {n : ℕ} → Shaped (length (58 ∷ cs)) → Bytes cs (n ∷ bs) → n ≤ 32 → length (58 ∷ cs) ≢ 11 + 2 * n → Says (58 ∷ cs) BadLength []
   -- "the sum of all its bytes, kept to eight bits, is not zero"
-  row-25 : {cs bs : List ℕ} {n : ℕ} → Shaped (length (58 ∷ cs)) → Bytes cs (n ∷ bs) → n ≤ 32 → length (58 ∷ cs) ≡ 11 + 2 * n → sumOf (n ∷ bs) % 256 ≢ 0
+  row_25 : {cs bs : List ℕ} {n : ℕ} → Shaped (length (58 ∷ cs)) → Bytes cs (n ∷ bs) → n ≤ 32 → length (58 ∷ cs) ≡ 11 + 2 * n → sum_of (n ∷ bs) % 256 ≢ 0
       → Says (58 ∷ cs) BadSum []
   -- a record: length, address (high first), type, data, checksum
   good : {cs d : List ℕ} {high low kind : ℕ} (check : ℕ) → Bytes cs (length d ∷ high ∷ low ∷ kind ∷ d ++ (check ∷ [])) → length d ≤ 32
-      → sumOf (length d ∷ high ∷ low ∷ kind ∷ d ++ (check ∷ [])) % 256 ≡ 0
+      → sum_of (length d ∷ high ∷ low ∷ kind ∷ d ++ (check ∷ [])) % 256 ≡ 0
       → Says (58 ∷ cs) (Good (record { kind = kind; address = 256 * high + low; len = length d })) d
 
 -- ---- the claims
 
 -- a line is read as its text says, with its data and zeros up to 32 bytes
-unfoldable pub Line-is-read : Type 0
-Line-is-read =
+unfoldable pub LineIsRead : Type 0
+LineIsRead =
     (l t : List ℕ) (x : ParseResult) (d : List ℕ) → TextOf l t → Says t x d
-    → (readOf l .parsed ≡ x) × (readOf l .«data» ≡ d ++ replicate (32 - length d) 0)
+    → ((read_of l).parsed ≡ x) × ((read_of l).«data» ≡ d ++ replicate (32 - length d) 0)
 
 -- and there is no other line
-unfoldable pub Every-line-says : Type 0
-Every-line-says = (l : List ℕ) → (t : List ℕ) × (x : ParseResult) × (d : List ℕ) × TextOf l t × Says t x d
+unfoldable pub EveryLineSays : Type 0
+EveryLineSays = (l : List ℕ) → (t : List ℕ) × (x : ParseResult) × (d : List ℕ) × TextOf l t × Says t x d

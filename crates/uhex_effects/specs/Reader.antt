@@ -1,83 +1,81 @@
 -- The reader, and what a good record does to it (01, "Universal Hex, a line at a time", rows 18 and 26 to 30). Assumes nothing.
-use Prim.Native.Nat.{ℕ, _+_, _%_}
-use mathlib.Core.Bool.{Bool, false, _||_, not, cond}
-use lib.Dec.{ltb, eqb}
-use Rattle·uhex_grammar.specs.Answers.{isKept}
-use Rattle·uhex_grammar.specs.Boards.{isV1, isV2, noBoards, hasBoard, withBoard, bothBoards}
-use Rattle·uhex_grammar.specs.declared.Answer.the-variants.{OutOfPlace, Unaligned, Repeated, Crosses, MissingBoard}
-use Rattle·uhex_grammar.specs.declared.ReaderState.{ReaderState}
-use Rattle·uhex_grammar.specs.declared.ReaderState.the-variants.{Between, Opened, Inside, Padded, Ended, Failed}
-use Rattle·uhex_grammar.specs.declared.Role.{Role}
-use Rattle·uhex_grammar.specs.declared.Role.the-variants.{Opening, Naming, Address, Data, Padding, Other, Closing, Ending, Refused}
-use Rattle·uhex_effects·specs.specs.declared.Reader.{Reader}
-use Rattle·uhex_effects·specs.specs.declared.Effect.{Effect}
-use Rattle·uhex_effects·specs.specs.declared.Effect.the-variants.{Fails, Passes, Stores, Ends}
+use Rattle.std.specs.Prelude.{ℕ, ◌+◌, ◌%◌, Bool, false, ◌||◌, not, cond, ltb, eqb}
+use Rattle.uhex_grammar.specs.Answers.{is_kept}
+use Rattle.uhex_grammar.specs.Boards.{is_v1, is_v2, no_boards, has_board, with_board, both_boards}
+use Rattle.uhex_grammar.specs.declared.Answer.TheVariants.{OutOfPlace, Unaligned, Repeated, Crosses, MissingBoard}
+use Rattle.uhex_grammar.specs.declared.ReaderState.{ReaderState}
+use Rattle.uhex_grammar.specs.declared.ReaderState.TheVariants.{Between, Opened, Inside, Padded, Ended, Failed}
+use Rattle.uhex_grammar.specs.declared.Role.{Role}
+use Rattle.uhex_grammar.specs.declared.Role.TheVariants.{Opening, Naming, Address, Data, Padding, Other, Closing, Ending, Refused}
+use Rattle.uhex_effects.specs.declared.Reader.{Reader}
+use Rattle.uhex_effects.specs.declared.Effect.{Effect}
+use Rattle.uhex_effects.specs.declared.Effect.TheVariants.{Fails, Passes, Stores, Ends}
 
 -- "a fresh hex reader stands before the first section"
-abbrev pub freshOf : ℕ → Reader
-freshOf own =
-    record { own = own; offset = 0; state = Between; upper = 0; «sections_seen» = noBoards; «data_seen» = noBoards }
+abbrev pub fresh_of : ℕ → Reader
+fresh_of own =
+    record { own = own; offset = 0; state = Between; upper = 0; sections_seen = no_boards; data_seen = no_boards }
 
 -- ---- row 18: "own board neither of these, offset over the limit, or a remembered failure that isn't 20 to 30 or 36"
 
 -- "a remembered failure that isn't 20 to 30 or 36", and "one handed in with 22 and a position outside 1 to 520" (02)
-unfoldable pub badFailure : ReaderState → Bool
-badFailure Between = false
-badFailure Opened = false
-badFailure (Inside b) = false
-badFailure (Padded b) = false
-badFailure Ended = false
-badFailure (Failed f) = not (isKept (f .answer))
+unfoldable pub bad_failure : ReaderState → Bool
+bad_failure Between = false
+bad_failure Opened = false
+bad_failure (Inside b) = false
+bad_failure (Padded b) = false
+bad_failure Ended = false
+bad_failure (Failed f) = not (is_kept f.answer)
 
 -- the three of them; the own board is "V1 0x9900 or V2 0x9903", the limit 4,194,304
-unfoldable pub badReader : Reader → Bool
-badReader r = not (isV1 (r .own) || isV2 (r .own)) || ltb 4194304 (r .offset) || badFailure (r .state)
+unfoldable pub bad_reader : Reader → Bool
+bad_reader r = not (is_v1 r.own || is_v2 r.own) || ltb 4194304 r.offset || bad_failure r.state
 
 -- ---- a reader with one thing changed
 
 -- where it stands in the grammar
-unfoldable pub withState : Reader → ReaderState → Reader
-withState r s =
-    record { own = r .own; offset = r .offset; state = s; upper = r .upper; «sections_seen» = r .«sections_seen»; «data_seen» = r .«data_seen» }
+unfoldable pub with_state : Reader → ReaderState → Reader
+with_state r s =
+    record { own = r.own; offset = r.offset; state = s; upper = r.upper; sections_seen = r.sections_seen; data_seen = r.data_seen }
 
 -- the latest 04's two bytes
-unfoldable pub withUpper : Reader → ℕ → Reader
-withUpper r u =
-    record { own = r .own; offset = r .offset; state = r .state; upper = u; «sections_seen» = r .«sections_seen»; «data_seen» = r .«data_seen» }
+unfoldable pub with_upper : Reader → ℕ → Reader
+with_upper r u =
+    record { own = r.own; offset = r.offset; state = r.state; upper = u; sections_seen = r.sections_seen; data_seen = r.data_seen }
 
 -- a board's section has come
-unfoldable pub withSection : Reader → ℕ → Reader
-withSection r b =
-    record { own = r .own; offset = r .offset; state = r .state; upper = r .upper; «sections_seen» = withBoard (r .«sections_seen») b; «data_seen» = r .«data_seen» }
+unfoldable pub with_section : Reader → ℕ → Reader
+with_section r b =
+    record { own = r.own; offset = r.offset; state = r.state; upper = r.upper; sections_seen = with_board r.sections_seen b; data_seen = r.data_seen }
 
 -- a board's section gave a data byte
-unfoldable pub withData : Reader → ℕ → Reader
-withData r b =
-    record { own = r .own; offset = r .offset; state = r .state; upper = r .upper; «sections_seen» = r .«sections_seen»; «data_seen» = withBoard (r .«data_seen») b }
+unfoldable pub with_data : Reader → ℕ → Reader
+with_data r b =
+    record { own = r.own; offset = r.offset; state = r.state; upper = r.upper; sections_seen = r.sections_seen; data_seen = with_board r.data_seen b }
 
 -- its offset: the bytes of the lines that were taken
-unfoldable pub movedTo : Reader → ℕ → Reader
-movedTo r e =
-    record { own = r .own; offset = e; state = r .state; upper = r .upper; «sections_seen» = r .«sections_seen»; «data_seen» = r .«data_seen» }
+unfoldable pub moved_to : Reader → ℕ → Reader
+moved_to r e =
+    record { own = r.own; offset = e; state = r.state; upper = r.upper; sections_seen = r.sections_seen; data_seen = r.data_seen }
 
 -- ---- a good record: its address field, the number of its data bytes, and the first two of them as a number, high first
 
 -- data of a board: own data of at least one byte is to be stored
-unfoldable pub givenOf : Reader → ℕ → ℕ → Effect
-givenOf r board len =
-    cond (eqb len 0) (Passes r) (cond (eqb board (r .own)) (Stores (withData r board)) (Passes (withData r board)))
+unfoldable pub given_of : Reader → ℕ → ℕ → Effect
+given_of r board len =
+    cond (eqb len 0) (Passes r) (cond (eqb board r.own) (Stores (with_data r board)) (Passes (with_data r board)))
 
 -- row 26 refuses what the grammar does not allow; row 27 an opening 04 "at an offset that is no multiple of 512"; row 28 "a second V1 or
 -- V2 section"; row 29 data "with address field + length over 65,536"; row 30 "01 before V1 and V2 each gave a data byte"
-unfoldable pub effectOf : Reader → Role → ℕ → ℕ → ℕ → Effect
-effectOf r Opening address len word =
-    cond (not (eqb (r .offset % 512) 0)) (Fails Unaligned) (Passes (withState (withUpper r word) Opened))
-effectOf r Naming address len word =
-    cond (hasBoard (r .«sections_seen») word) (Fails Repeated) (Passes (withState (withSection r word) (Inside word)))
-effectOf r Address address len word = Passes (withUpper r word)
-effectOf r (Data board) address len word = cond (ltb 65536 (address + len)) (Fails Crosses) (givenOf r board len)
-effectOf r (Padding board) address len word = Passes (withState r (Padded board))
-effectOf r Other address len word = Passes r
-effectOf r Closing address len word = Passes (withState r Between)
-effectOf r Ending address len word = cond (bothBoards (r .«data_seen»)) (Ends (withState r Ended)) (Fails MissingBoard)
-effectOf r Refused address len word = Fails OutOfPlace
+unfoldable pub effect_of : Reader → Role → ℕ → ℕ → ℕ → Effect
+effect_of r Opening address len word =
+    cond (not (eqb (r.offset % 512) 0)) (Fails Unaligned) (Passes (with_state (with_upper r word) Opened))
+effect_of r Naming address len word =
+    cond (has_board r.sections_seen word) (Fails Repeated) (Passes (with_state (with_section r word) (Inside word)))
+effect_of r Address address len word = Passes (with_upper r word)
+effect_of r (Data board) address len word = cond (ltb 65536 (address + len)) (Fails Crosses) (given_of r board len)
+effect_of r (Padding board) address len word = Passes (with_state r (Padded board))
+effect_of r Other address len word = Passes r
+effect_of r Closing address len word = Passes (with_state r Between)
+effect_of r Ending address len word = cond (both_boards r.data_seen) (Ends (with_state r Ended)) (Fails MissingBoard)
+effect_of r Refused address len word = Fails OutOfPlace

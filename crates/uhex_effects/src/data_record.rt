@@ -1,14 +1,14 @@
 // What a data record does to a reader of Universal Hex.
-ghost use mathlib.Core.Path.{_≡_};
-ghost use Rattle·uhex_grammar.specs.declared.Role.the-variants.{Data};
-ghost use Rattle·uhex_effects·specs.specs.Reader.{givenOf, effectOf};
-use crate::Effect;
-use crate::Reader;
+ghost use Rattle.std.specs.Prelude.{◌≡◌};
+ghost use Rattle.uhex_grammar.specs.declared.Role.TheVariants.{Data};
+ghost use Rattle.uhex_effects.specs.Reader.{given_of, effect_of};
+
+use crate::{Effect, Reader};
 use uhex_grammar::Answer;
 
 // Data of a board.
 fn given(reader: Reader, board: u16, len: u8) -> Effect
-    ensures { λ r. ⌜ r ≡ givenOf reader board len ⌝ }
+    ensures { result ≡ given_of reader board len }
 {
     if len == 0 {
         return Effect::Passes(reader);
@@ -20,8 +20,8 @@ fn given(reader: Reader, board: u16, len: u8) -> Effect
 }
 
 // A data record of a board.
-pub(crate) fn data(reader: Reader, board: u16, address: u16, len: u8) -> Effect
-    ensures { λ r. ⌜ r ≡ effectOf reader (Data board) address len 0 ⌝ }
+pub fn data(reader: Reader, board: u16, address: u16, len: u8) -> Effect
+    ensures { result ≡ effect_of reader (Data board) address len 0 }
 {
     if Reader::REACH < address as usize + len as usize {
         return Effect::Fails(Answer::Crosses);

@@ -1,15 +1,13 @@
 // What a good record does to a reader of Universal Hex, by its role.
-ghost use mathlib.Core.Path.{_≡_};
-ghost use Rattle·uhex_effects·specs.specs.Reader.{effectOf};
-use crate::Effect;
-use crate::Reader;
-use uhex_grammar::Answer;
-use uhex_grammar::ReaderState;
-use uhex_grammar::Role;
+ghost use Rattle.std.specs.Prelude.{◌≡◌};
+ghost use Rattle.uhex_effects.specs.Reader.{effect_of};
+
+use crate::{Effect, Reader};
+use uhex_grammar::{Answer, ReaderState, Role};
 
 // What a good record does: its role, its address field, the number of its data bytes, and the first two of them as a number.
-pub(crate) fn effect(reader: Reader, role: Role, address: u16, len: u8, word: u16) -> Effect
-    ensures { λ r. ⌜ r ≡ effectOf reader role address len word ⌝ }
+pub fn effect(reader: Reader, role: Role, address: u16, len: u8, word: u16) -> Effect
+    ensures { result ≡ effect_of reader role address len word }
 {
     match role {
         Role::Opening => crate::marks::opening(reader, word),

@@ -1,17 +1,19 @@
 // A reader of Universal Hex, and a reader with one thing changed. What a good record does to it is a definition here.
-mod data_record;
-mod effects;
-mod marks;
+#![tactic(auto)]
+
+pub mod data_record;
+pub mod effects;
+pub mod marks;
 pub mod record_effect;
 
-ghost use mathlib.Core.Path.{_≡_};
-ghost use Rattle·uhex_effects·specs.specs.Reader.{freshOf, withState, withUpper, withSection, withData, movedTo};
-use uhex_grammar::Answer;
-use uhex_grammar::Boards;
-use uhex_grammar::ReaderState;
+ghost use Rattle.std.specs.Prelude.{◌≡◌};
+ghost use Rattle.uhex_effects.specs.Reader.{fresh_of, with_state, with_upper, with_section, with_data, moved_to};
+
+use uhex_grammar::{Answer, Boards, ReaderState};
 
 // A reader: its own board, the bytes of the file read so far, where it stands, the latest 04's two bytes, which of V1 and V2 had a
 // section, and which gave a data byte.
+#[derive(Clone, Copy)]
 pub struct Reader {
     pub own: u16,
     pub offset: u32,
@@ -22,6 +24,7 @@ pub struct Reader {
 }
 
 // What a good record does: it fails, passes, is own data to store, or ends the file.
+#[derive(Clone, Copy)]
 pub enum Effect {
     Fails(Answer),
     Passes(Reader),
@@ -39,7 +42,7 @@ impl Reader {
     pub const REACH: usize = 65536;
 
     pub fn fresh(own: u16) -> Reader
-        ensures { λ r. ⌜ r ≡ freshOf own ⌝ }
+        ensures { result ≡ fresh_of own }
     {
         Reader {
             own,
@@ -52,7 +55,7 @@ impl Reader {
     }
 
     pub fn with_state(self, state: ReaderState) -> Reader
-        ensures { λ r. ⌜ r ≡ withState self state ⌝ }
+        ensures { result ≡ with_state self state }
     {
         let sections_seen = self.sections_seen;
         let data_seen = self.data_seen;
@@ -67,14 +70,14 @@ impl Reader {
     }
 
     pub fn with_upper(mut self, upper: u16) -> Reader
-        ensures { λ r. ⌜ r ≡ withUpper self upper ⌝ }
+        ensures { result ≡ with_upper self upper }
     {
         self.upper = upper;
         self
     }
 
     pub fn with_section(mut self, board: u16) -> Reader
-        ensures { λ r. ⌜ r ≡ withSection self board ⌝ }
+        ensures { result ≡ with_section self board }
     {
         let sections_seen = self.sections_seen;
         self.sections_seen = sections_seen.with(board);
@@ -82,7 +85,7 @@ impl Reader {
     }
 
     pub fn with_data(mut self, board: u16) -> Reader
-        ensures { λ r. ⌜ r ≡ withData self board ⌝ }
+        ensures { result ≡ with_data self board }
     {
         let data_seen = self.data_seen;
         self.data_seen = data_seen.with(board);
@@ -90,7 +93,7 @@ impl Reader {
     }
 
     pub fn moved_to(mut self, offset: u32) -> Reader
-        ensures { λ r. ⌜ r ≡ movedTo self offset ⌝ }
+        ensures { result ≡ moved_to self offset }
     {
         self.offset = offset;
         self

@@ -1,18 +1,17 @@
 // What a section's 04 and 0A and the file's 01 do to a reader of Universal Hex.
-ghost use mathlib.Core.Path.{_≡_};
-ghost use Rattle·uhex_grammar.specs.declared.Role.the-variants.{Opening, Naming, Ending};
-ghost use Rattle·uhex_effects·specs.specs.Reader.{effectOf};
-use crate::Effect;
-use crate::Reader;
-use uhex_grammar::Answer;
-use uhex_grammar::ReaderState;
+ghost use Rattle.std.specs.Prelude.{◌≡◌};
+ghost use Rattle.uhex_grammar.specs.declared.Role.TheVariants.{Opening, Naming, Ending};
+ghost use Rattle.uhex_effects.specs.Reader.{effect_of};
+
+use crate::{Effect, Reader};
+use uhex_grammar::{Answer, ReaderState};
 
 // what a section's offset is a multiple of
 const SECTION: u32 = 512;
 
 // The 04 that opens a section.
-pub(crate) fn opening(reader: Reader, word: u16) -> Effect
-    ensures { λ r. ⌜ r ≡ effectOf reader Opening 0 0 word ⌝ }
+pub fn opening(reader: Reader, word: u16) -> Effect
+    ensures { result ≡ effect_of reader Opening 0 0 word }
 {
     if reader.offset % SECTION != 0 {
         return Effect::Fails(Answer::Unaligned);
@@ -21,8 +20,8 @@ pub(crate) fn opening(reader: Reader, word: u16) -> Effect
 }
 
 // The 0A that names the board of a section.
-pub(crate) fn naming(reader: Reader, word: u16) -> Effect
-    ensures { λ r. ⌜ r ≡ effectOf reader Naming 0 0 word ⌝ }
+pub fn naming(reader: Reader, word: u16) -> Effect
+    ensures { result ≡ effect_of reader Naming 0 0 word }
 {
     let sections_seen = reader.sections_seen;
     if sections_seen.has(word) {
@@ -36,8 +35,8 @@ pub(crate) fn naming(reader: Reader, word: u16) -> Effect
 }
 
 // The 01.
-pub(crate) fn ending(reader: Reader) -> Effect
-    ensures { λ r. ⌜ r ≡ effectOf reader Ending 0 0 0 ⌝ }
+pub fn ending(reader: Reader) -> Effect
+    ensures { result ≡ effect_of reader Ending 0 0 0 }
 {
     let data_seen = reader.data_seen;
     if data_seen.both() {

@@ -1,13 +1,13 @@
 // What a good record does to a reader of Universal Hex, by its fields and its data.
-ghost use mathlib.Core.Path.{_≡_};
-ghost use Rattle·uhex_effects·specs.specs.Effect.{recordEffect};
-use crate::Effect;
-use crate::Reader;
+ghost use Rattle.std.specs.Prelude.{◌≡◌};
+ghost use Rattle.uhex_effects.specs.Effect.{record_effect};
+
+use crate::{Effect, Reader};
 use ihex_record::Record;
 
 // What a good record does, by its fields and its data.
 pub fn effect_of(reader: Reader, rec: Record, data: [u8; Record::MAX]) -> Effect
-    ensures { λ r. ⌜ r ≡ recordEffect reader rec «data» ⌝ }
+    ensures { result ≡ record_effect reader rec «data» }
 {
     let word = ihex_record::word(data[0], data[1]);
     let state = reader.state;

@@ -1,12 +1,16 @@
 // Universal Hex: the answers to a line, the boards, where a reader stands, and what a record can be there.
+#![tactic(auto)]
+
 pub mod roles;
 
-ghost use mathlib.Core.Path.{_≡_};
-ghost use Rattle·uhex_grammar·specs.specs.Answers.{numberOf, positionOf, isFailure, isKept, refusalOf};
-ghost use Rattle·uhex_grammar·specs.specs.Boards.{noBoards, hasBoard, withBoard, bothBoards};
+ghost use Rattle.std.specs.Prelude.{◌≡◌};
+ghost use Rattle.uhex_grammar.specs.Answers.{number_of, position_of, is_failure, is_kept, refusal_of};
+ghost use Rattle.uhex_grammar.specs.Boards.{no_boards, has_board, with_board, both_boards};
+
 use ihex_record::ParseResult;
 
 // The answers to a line, by their numbers from 18 to 36. The names are 01's.
+#[derive(Clone, Copy)]
 pub enum Answer {
     BadReader,
     BadImage,
@@ -31,11 +35,13 @@ pub enum Answer {
 }
 
 // What a failed reader remembers.
+#[derive(Clone, Copy)]
 pub struct Failure {
     pub answer: Answer,
 }
 
 // Which of V1 and V2.
+#[derive(Clone, Copy)]
 pub struct Boards {
     pub v1: bool,
     pub v2: bool,
@@ -43,6 +49,7 @@ pub struct Boards {
 
 // Where a reader stands: between sections, after a section's opening 04, in the section of a board, in it after its first 0C, after
 // the 01, or failed.
+#[derive(Clone, Copy)]
 pub enum ReaderState {
     Between,
     Opened,
@@ -53,6 +60,7 @@ pub enum ReaderState {
 }
 
 // What a record is where the reader stands.
+#[derive(Clone, Copy)]
 pub enum Role {
     // the 04 that opens a section
     Opening,
@@ -80,7 +88,7 @@ impl Boards {
     pub const V2: u16 = 0x9903;
 
     pub fn none() -> Boards
-        ensures { λ r. ⌜ r ≡ noBoards ⌝ }
+        ensures { result ≡ no_boards }
     {
         Boards {
             v1: false,
@@ -89,14 +97,14 @@ impl Boards {
     }
 
     pub fn has(self, board: u16) -> bool
-        ensures { λ r. ⌜ r ≡ hasBoard self board ⌝ }
+        ensures { result ≡ has_board self board }
     {
         ((board == Boards::V1) & self.v1) | ((board == Boards::V2) & self.v2)
     }
 
     // These and a further one; a board that is neither adds nothing.
     pub fn with(self, board: u16) -> Boards
-        ensures { λ r. ⌜ r ≡ withBoard self board ⌝ }
+        ensures { result ≡ with_board self board }
     {
         Boards {
             v1: self.v1 | (board == Boards::V1),
@@ -105,7 +113,7 @@ impl Boards {
     }
 
     pub fn both(self) -> bool
-        ensures { λ r. ⌜ r ≡ bothBoards self ⌝ }
+        ensures { result ≡ both_boards self }
     {
         self.v1 & self.v2
     }
@@ -113,7 +121,7 @@ impl Boards {
 
 impl Answer {
     pub fn number(self) -> u8
-        ensures { λ r. ⌜ r ≡ numberOf self ⌝ }
+        ensures { result ≡ number_of self }
     {
         match self {
             Answer::BadReader => 18,
@@ -140,7 +148,7 @@ impl Answer {
 
     // The value of the answer that has one: a bad digit's position; 0 stands for none.
     pub fn position(self) -> u16
-        ensures { λ r. ⌜ r ≡ positionOf self ⌝ }
+        ensures { result ≡ position_of self }
     {
         match self {
             Answer::BadReader => 0,
@@ -167,7 +175,7 @@ impl Answer {
 
     // One of the answers that make a reader failed.
     pub fn is_failure(self) -> bool
-        ensures { λ r. ⌜ r ≡ isFailure self ⌝ }
+        ensures { result ≡ is_failure self }
     {
         let n = self.number();
         ((20 <= n) & (n <= 30)) | (n == 36)
@@ -175,7 +183,7 @@ impl Answer {
 
     // A failure that a reader may remember: a bad digit's position is 1 to 520.
     pub fn is_kept(self) -> bool
-        ensures { λ r. ⌜ r ≡ isKept self ⌝ }
+        ensures { result ≡ is_kept self }
     {
         let n = self.number();
         let p = self.position();
@@ -185,8 +193,8 @@ impl Answer {
 
 // The answer to a line whose text is refused.
 pub fn refusal(parsed: ParseResult) -> Answer
-    ensures { λ r. ⌜ r ≡ refusalOf parsed ⌝ }
-    ensures number { λ r. ⌜ numberOf r ≡ numberOf (refusalOf parsed) ⌝ }
+    ensures value { result ≡ refusal_of parsed }
+    ensures number { number_of result ≡ number_of (refusal_of parsed) }
 {
     match parsed {
         ParseResult::Good(_) => Answer::NoColon,

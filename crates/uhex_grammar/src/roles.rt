@@ -1,15 +1,14 @@
 // The grammar of Universal Hex: what a record is where a reader stands.
-ghost use mathlib.Core.Path.{_≡_};
-ghost use Rattle·uhex_grammar·specs.specs.declared.ReaderState.the-variants.{Between, Opened, Inside};
-ghost use Rattle·uhex_grammar·specs.specs.Grammar.{dataKind, afterPadding, roleOf};
-use crate::Boards;
-use crate::ReaderState;
-use crate::Role;
+ghost use Rattle.std.specs.Prelude.{◌≡◌};
+ghost use Rattle.uhex_grammar.specs.declared.ReaderState.TheVariants.{Between, Opened, Inside};
+ghost use Rattle.uhex_grammar.specs.Grammar.{data_kind, after_padding, role_of};
+
+use crate::{Boards, ReaderState, Role};
 use ihex_record::Record;
 
 // The type of a data record in the section of a board.
 fn data_kind(board: u16) -> u8
-    ensures { λ r. ⌜ r ≡ dataKind board ⌝ }
+    ensures { result ≡ data_kind board }
 {
     if board == Boards::V1 {
         Record::DATA
@@ -20,7 +19,7 @@ fn data_kind(board: u16) -> u8
 
 // The records that may follow the first 0C of a section.
 fn after_padding(board: u16, kind: u8) -> Role
-    ensures { λ r. ⌜ r ≡ afterPadding board kind ⌝ }
+    ensures { result ≡ after_padding board kind }
 {
     if kind == Record::PADDED_DATA {
         return Role::Padding(board);
@@ -36,7 +35,7 @@ fn after_padding(board: u16, kind: u8) -> Role
 
 // Between sections.
 fn between(kind: u8, len: u8) -> Role
-    ensures { λ r. ⌜ r ≡ roleOf Between kind len ⌝ }
+    ensures { result ≡ role_of Between kind len }
 {
     if (kind == Record::EXTENDED_LINEAR) & (len == 2) {
         return Role::Opening;
@@ -49,7 +48,7 @@ fn between(kind: u8, len: u8) -> Role
 
 // After a section's opening 04.
 fn opened(kind: u8, len: u8) -> Role
-    ensures { λ r. ⌜ r ≡ roleOf Opened kind len ⌝ }
+    ensures { result ≡ role_of Opened kind len }
 {
     if (kind == Record::BLOCK_START) & (2 <= len) {
         return Role::Naming;
@@ -59,7 +58,7 @@ fn opened(kind: u8, len: u8) -> Role
 
 // In the section of a board, before its first 0C.
 fn inside(board: u16, kind: u8, len: u8) -> Role
-    ensures { λ r. ⌜ r ≡ roleOf (Inside board) kind len ⌝ }
+    ensures { result ≡ role_of (Inside board) kind len }
 {
     if (kind == Record::EXTENDED_LINEAR) & (len == 2) {
         return Role::Address;
@@ -72,7 +71,7 @@ fn inside(board: u16, kind: u8, len: u8) -> Role
 
 // What a record of a type and a number of data bytes is where a reader stands.
 pub fn role_at(state: ReaderState, kind: u8, len: u8) -> Role
-    ensures { λ r. ⌜ r ≡ roleOf state kind len ⌝ }
+    ensures { result ≡ role_of state kind len }
 {
     match state {
         ReaderState::Between => between(kind, len),

@@ -1,22 +1,21 @@
 -- What the call for one file from two returns, of 64 bits. Assumes nothing.
-use Prim.Native.Nat.{ℕ, _+_, _*_}
-use mathlib.Core.Bool.{cond}
-use Rattle·uhex_grammar.specs.Answers.{numberOf, positionOf}
-use Rattle·uhex_grammar.specs.Boards.{isV1, isV2}
-use Rattle·uhex_join·specs.specs.declared.answers.Refusal.{Refusal}
-use Rattle·uhex_join·specs.specs.declared.answers.JoinAnswer.{JoinAnswer}
-use Rattle·uhex_join·specs.specs.declared.answers.JoinAnswer.the-variants.{Written, Refused}
+use Rattle.std.specs.Prelude.{ℕ, ◌+◌, ◌*◌, cond}
+use Rattle.uhex_grammar.specs.Answers.{number_of, position_of}
+use Rattle.uhex_grammar.specs.Boards.{is_v1, is_v2}
+use Rattle.uhex_join.specs.declared.answers.Refusal.{Refusal}
+use Rattle.uhex_join.specs.declared.answers.JoinAnswer.{JoinAnswer}
+use Rattle.uhex_join.specs.declared.answers.JoinAnswer.TheVariants.{Written, Refused}
 
 -- 1 for V1, 2 for V2; 0 for neither, where the output is too long
-abbrev pub boardCode : ℕ → ℕ
-boardCode b = cond (isV1 b) 1 (cond (isV2 b) 2 0)
+abbrev pub board_code : ℕ → ℕ
+board_code b = cond (is_v1 b) 1 (cond (is_v2 b) 2 0)
 
 -- a refusal: its number in bits 0 to 7, the position of a 22 in bits 8 to 23, the board from bit 24 on, and the line from bit 32 on
-unfoldable pub refusalResult : Refusal → ℕ
-refusalResult r =
-    numberOf (r .answer) + (256 * positionOf (r .answer) + (16777216 * boardCode (r .board) + 4294967296 * r .line))
+unfoldable pub refusal_result : Refusal → ℕ
+refusal_result r =
+    number_of r.answer + (256 * position_of r.answer + (16777216 * board_code r.board + 4294967296 * r.line))
 
 -- a file that is written: 0 in bits 0 to 31, and how many bytes from bit 32 on
-abbrev pub joinedResult : JoinAnswer → ℕ
-joinedResult (Written n) = 4294967296 * n
-joinedResult (Refused r) = refusalResult r
+abbrev pub joined_result : JoinAnswer → ℕ
+joined_result (Written n) = 4294967296 * n
+joined_result (Refused r) = refusal_result r

@@ -1,32 +1,31 @@
 -- What is written: the lines of a section, and of a file (02, L11; 002, "512 Byte Aligned Sections"). The lines of the data are datalines', the
 -- filling is filling's. Assumes nothing.
-use Prim.Native.Nat.{ℕ}
-use mathlib.Core.List.{List, [], _∷_, _++_, flatten}
-use lib.ListN.{length}
-use Rattle·laws.specs.Stores.{Store}
-use Rattle·ihex_record.specs.Types.{endOfFile, blockStart}
-use Rattle·ihex_record.specs.Write.{recordLine}
-use Rattle·uhex_grammar.specs.Grammar.{dataKind}
-use Rattle·ihex_data.specs.Lines.{wordBytes, upperLine, firstUpper, dataLines}
-use Rattle·ihex_write.specs.Fill.{missing, fillLines}
+use Rattle.std.specs.Prelude.{ℕ, length}
+use mathlib.Core.List.{List, [], ◌∷◌, ◌++◌, flatten}
+use Rattle.laws.specs.Stores.{Store}
+use Rattle.ihex_record.specs.Types.{end_of_file, block_start}
+use Rattle.ihex_record.specs.Write.{record_line}
+use Rattle.uhex_grammar.specs.Grammar.{data_kind}
+use Rattle.ihex_data.specs.Lines.{word_bytes, upper_line, first_upper, data_lines}
+use Rattle.ihex_write.specs.Fill.{missing, fill_lines}
 -- how long a section is
-pub use Rattle·uhex_join·specs.specs.Section.{sectionSize}
+pub use Rattle.uhex_join.specs.Section.{section_size}
 
 -- "the opening 04 holds the first data's upper half"; "0A holds the board's two bytes"; then the data
-unfoldable pub startLines : ℕ → List Store → List (List ℕ)
-startLines board ss =
-    upperLine (firstUpper ss)
-    ∷ recordLine blockStart 0 (wordBytes board)
-    ∷ dataLines (dataKind board) ss
+unfoldable pub start_lines : ℕ → List Store → List (List ℕ)
+start_lines board ss =
+    upper_line (first_upper ss)
+    ∷ record_line block_start 0 (word_bytes board)
+    ∷ data_lines (data_kind board) ss
 
 -- "512-aligned"
-unfoldable pub sectionLines : ℕ → List Store → List (List ℕ)
-sectionLines board ss = startLines board ss ++ fillLines (missing (length (flatten (startLines board ss))))
+unfoldable pub section_lines : ℕ → List Store → List (List ℕ)
+section_lines board ss = start_lines board ss ++ fill_lines (missing (length (flatten (start_lines board ss))))
 
 -- "V1 first", "one 01 last"
-unfoldable pub fileLines : List Store → List Store → List (List ℕ)
-fileLines a b = sectionLines 0x9900 a ++ (sectionLines 0x9903 b ++ (recordLine endOfFile 0 [] ∷ []))
+unfoldable pub file_lines : List Store → List Store → List (List ℕ)
+file_lines a b = section_lines 0x9900 a ++ (section_lines 0x9903 b ++ (record_line end_of_file 0 [] ∷ []))
 
 -- the text of it
-unfoldable pub fileText : List Store → List Store → List ℕ
-fileText a b = flatten (fileLines a b)
+unfoldable pub file_text : List Store → List Store → List ℕ
+file_text a b = flatten (file_lines a b)

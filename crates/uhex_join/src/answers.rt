@@ -1,14 +1,14 @@
 // What comes of two Intel Hex files that are made one: the answer, and it as one number.
-ghost use mathlib.Core.Path.{_≡_};
-ghost use Prim.Native.Nat.{_≤_};
-ghost use Rattle·uhex_join·specs.specs.Answer.{joinedNumber, refusedBy};
-ghost use Rattle·uhex_join·specs.specs.Result.{boardCode, refusalResult, joinedResult};
+ghost use Rattle.std.specs.Prelude.{◌≡◌, ◌≤◌};
+ghost use Rattle.uhex_join.specs.Answer.{joined_number, refused_by};
+ghost use Rattle.uhex_join.specs.Result.{board_code, refusal_result, joined_result};
+
 use ihex_file::Verdict;
-use uhex_grammar::Answer;
-use uhex_grammar::Boards;
+use uhex_grammar::{Answer, Boards};
 
 // Why nothing is written: the board whose file is refused, the line's index from 0 (for a missing 01 and for 30 the number of its lines), and
 // the answer. Where the output is too long, board and line are 0.
+#[derive(Clone, Copy)]
 pub struct Refusal {
     pub board: u16,
     pub line: u32,
@@ -16,6 +16,7 @@ pub struct Refusal {
 }
 
 // What comes of two files: the number of bytes that are written, or a refusal.
+#[derive(Clone, Copy)]
 pub enum JoinAnswer {
     Written(u32),
     Refused(Refusal),
@@ -24,7 +25,7 @@ pub enum JoinAnswer {
 impl JoinAnswer {
     // The number of a refusal, and 0 for a file that is written.
     pub fn number(self) -> u8
-        ensures { λ r. ⌜ r ≡ joinedNumber self ⌝ }
+        ensures { result ≡ joined_number self }
     {
         match self {
             JoinAnswer::Written(_) => 0,
@@ -37,8 +38,8 @@ impl JoinAnswer {
 }
 
 // The refusal of a board's file; nothing asks for it of one that is fine.
-pub(crate) fn refused(board: u16, verdict: Verdict) -> JoinAnswer
-    ensures { λ r. ⌜ r ≡ refusedBy board verdict ⌝ }
+pub fn refused(board: u16, verdict: Verdict) -> JoinAnswer
+    ensures { result ≡ refused_by board verdict }
 {
     match verdict {
         Verdict::Fine => JoinAnswer::Written(0),
@@ -52,8 +53,8 @@ pub(crate) fn refused(board: u16, verdict: Verdict) -> JoinAnswer
 
 // 1 for V1, 2 for V2, 0 for any other.
 fn board_code(board: u16) -> u64
-    ensures { λ r. ⌜ r ≡ boardCode board ⌝ }
-    ensures small { λ r. ⌜ r ≤ 2 ⌝ }
+    ensures value { result ≡ board_code board }
+    ensures small { result ≤ 2 }
 {
     if board == Boards::V1 {
         return 1;
@@ -66,7 +67,7 @@ fn board_code(board: u16) -> u64
 
 // A refusal as one number.
 fn refusal_result(refusal: Refusal) -> u64
-    ensures { λ r. ⌜ r ≡ refusalResult refusal ⌝ }
+    ensures { result ≡ refusal_result refusal }
 {
     let answer = refusal.answer;
     let number = answer.number() as u64;
@@ -78,7 +79,7 @@ fn refusal_result(refusal: Refusal) -> u64
 
 // What comes of two files as one number.
 pub fn joined_result(joined: JoinAnswer) -> u64
-    ensures { λ r. ⌜ r ≡ joinedResult joined ⌝ }
+    ensures { result ≡ joined_result joined }
 {
     match joined {
         JoinAnswer::Written(n) => 4294967296 * (n as u64),

@@ -1,28 +1,26 @@
 // One Universal Hex file from two plain Intel Hex files, one for V1 and one for V2.
-pub mod answers;
-mod sections;
+#![tactic(auto)]
 
-ghost use mathlib.Core.Path.{_≡_};
-ghost use Prim.Native.Nat.{_≤_};
-ghost use lib.ListN.{length};
-ghost use Rattle·ihex_data.specs.Pieces.{piecesOf};
-ghost use Rattle·ihex_data.specs.Lines.{firstUpper, dataLength};
-ghost use Rattle·uhex_join·specs.specs.Text.{sectionSize, fileText};
-ghost use Rattle·uhex_join·specs.specs.Join.{joinCall, joinNumber, secondOf, Fits, writtenOf, joinOf};
-ghost use Rattle·laws.specs.Numbered.{numbered};
-ghost use Rattle·laws.specs.Over.{over};
-use crate::answers::JoinAnswer;
-use crate::answers::Refusal;
-use ihex_file::Plain;
-use ihex_file::Verdict;
+pub mod answers;
+pub mod sections;
+
+ghost use Rattle.std.specs.Prelude.{◌≡◌, ◌≤◌, length};
+ghost use Rattle.ihex_data.specs.Pieces.{pieces_of};
+ghost use Rattle.ihex_data.specs.Lines.{first_upper, data_length};
+ghost use Rattle.uhex_join.specs.Text.{section_size, file_text};
+ghost use Rattle.uhex_join.specs.Join.{join_call, join_number, second_of, Fits, written_of, join_of};
+ghost use Rattle.laws.specs.Numbered.{numbered};
+ghost use Rattle.laws.specs.Over.{over};
+
+use crate::answers::{JoinAnswer, Refusal};
+use ihex_file::{Plain, Verdict};
 use ihex_record::Record;
-use uhex_grammar::Answer;
-use uhex_grammar::Boards;
+use uhex_grammar::{Answer, Boards};
 
 // How many characters a section has whose data has so many.
 fn section_len(body: usize) -> usize
-    requires { ⌜ body ≤ 1000000000 ⌝ }
-    ensures { λ r. ⌜ r ≡ sectionSize body ⌝ }
+    requires { body ≤ 1000000000 }
+    ensures { result ≡ section_size body }
 {
     let n = 32 + body;
     n + (12 + ihex_write::filling::missing_after(n))
@@ -30,9 +28,9 @@ fn section_len(body: usize) -> usize
 
 // Both sections and the 01, for which there is room.
 fn put_file(out: &mut [u8], v1: &[u8], v2: &[u8], first: usize, second: usize)
-    requires { ⌜ (first ≡ firstUpper (piecesOf (now v1))) × (second ≡ firstUpper (piecesOf (now v2))) ⌝ }
-    requires room { ⌜ Fits (fileText (piecesOf (now v1)) (piecesOf (now v2))) (now out) ⌝ }
-    ensures { λ _. ⌜ now (out .exit) ≡ over (now (out .entry)) 0 (fileText (piecesOf (now (v1 .entry))) (piecesOf (now (v2 .entry)))) ⌝ }
+    requires first_value { (first ≡ first_upper (pieces_of v1.now)) × (second ≡ first_upper (pieces_of v2.now)) }
+    requires room { Fits (file_text (pieces_of v1.now) (pieces_of v2.now)) out.old }
+    ensures { out.new ≡ over out.old 0 (file_text (pieces_of v1.now) (pieces_of v2.now)) }
 {
     let middle = crate::sections::put_v1(out, first, v1);
     let end = middle + crate::sections::put_v2(out, middle, second, v2);
@@ -48,9 +46,9 @@ fn write_file(
     second: usize,
     total: usize,
 ) -> JoinAnswer
-    requires { ⌜ (first ≡ firstUpper (piecesOf (now v1))) × (second ≡ firstUpper (piecesOf (now v2))) ⌝ }
-    requires total { ⌜ total ≡ length (fileText (piecesOf (now v1)) (piecesOf (now v2))) ⌝ }
-    ensures { λ r. ⌜ joinCall r (now (out .exit)) ≡ writtenOf (fileText (piecesOf (now (v1 .entry))) (piecesOf (now (v2 .entry)))) (now (out .entry)) ⌝ }
+    requires first_value { (first ≡ first_upper (pieces_of v1.now)) × (second ≡ first_upper (pieces_of v2.now)) }
+    requires total { total ≡ length (file_text (pieces_of v1.now) (pieces_of v2.now)) }
+    ensures { join_call result out.new ≡ written_of (file_text (pieces_of v1.now) (pieces_of v2.now)) out.old }
 {
     if (Plain::FILE < total) | (out.len() < total) {
         return JoinAnswer::Refused(Refusal {
@@ -65,8 +63,8 @@ fn write_file(
 
 // V1's file is fine: V2's is read, and where it is fine too the output is written.
 fn join_fine(v1: &[u8], v2: &[u8], out: &mut [u8], first: usize, len: usize) -> JoinAnswer
-    requires { ⌜ (first ≡ firstUpper (piecesOf (now v1))) × (len ≡ dataLength (piecesOf (now v1))) × (len ≤ 1000000000) ⌝ }
-    ensures { λ r. ⌜ joinCall r (now (out .exit)) ≡ secondOf (now (v1 .entry)) (now (v2 .entry)) (now (out .entry)) ⌝ }
+    requires { (first ≡ first_upper (pieces_of v1.now)) × (len ≡ data_length (pieces_of v1.now)) × (len ≤ 1000000000) }
+    ensures { join_call result out.new ≡ second_of v1.now v2.now out.old }
 {
     let b = ihex_data::scan_file(v2);
     let second = b.verdict;
@@ -79,7 +77,7 @@ fn join_fine(v1: &[u8], v2: &[u8], out: &mut [u8], first: usize, len: usize) -> 
 
 // Writes one Universal Hex file from a plain Intel Hex file for V1 and one for V2.
 pub fn join(v1: &[u8], v2: &[u8], out: &mut [u8]) -> JoinAnswer
-    ensures { λ r. ⌜ numbered joinNumber (joinCall r (now (out .exit))) ≡ numbered joinNumber (joinOf (now (v1 .entry)) (now (v2 .entry)) (now (out .entry))) ⌝ }
+    ensures { numbered join_number (join_call result out.new) ≡ numbered join_number (join_of v1.now v2.now out.old) }
 {
     let a = ihex_data::scan_file(v1);
     let first = a.verdict;

@@ -1,21 +1,19 @@
 // A section of Universal Hex, written: its opening 04, its 0A, its data, its filling.
-ghost use mathlib.Core.Path.{_≡_};
-ghost use mathlib.Core.Bool.{cond};
-ghost use Prim.Native.Nat.{_≤_};
-ghost use lib.Dec.{ltb};
-ghost use Rattle·ihex_record.specs.Types.{dataType, customData};
-ghost use Rattle·ihex_write.specs.Put.{putLines};
-ghost use Rattle·ihex_data.specs.Pieces.{piecesOf};
-ghost use Rattle·ihex_data.specs.Lines.{dataLength};
-ghost use Rattle·uhex_join·specs.specs.Section.{sectionWith, sectionSize};
+ghost use Rattle.std.specs.Prelude.{◌≡◌, cond, ◌≤◌, ltb};
+ghost use Rattle.ihex_record.specs.Types.{data_type, custom_data};
+ghost use Rattle.ihex_write.specs.Put.{put_lines};
+ghost use Rattle.ihex_data.specs.Pieces.{pieces_of};
+ghost use Rattle.ihex_data.specs.Lines.{data_length};
+ghost use Rattle.uhex_join.specs.Section.{section_with, section_size};
+
 use ihex_record::Record;
 use uhex_grammar::Boards;
 
 // A section with a board's number, its data of one type, after an 04 with an upper half. Returns how many characters it has.
 fn put_section(out: &mut [u8], at: usize, board: u16, kind: u8, first: usize, text: &[u8]) -> usize
-    requires { ⌜ at ≤ 9223372036854775807 ⌝ }
-    ensures { λ r. ⌜ r ≡ sectionSize (dataLength (piecesOf (now (text .entry)))) ⌝ }
-    ensures lines { λ _. ⌜ now (out .exit) ≡ putLines (now (out .entry)) at (sectionWith board kind first (piecesOf (now (text .entry)))) ⌝ }
+    requires { at ≤ 9223372036854775807 }
+    ensures value { result ≡ section_size (data_length (pieces_of text.now)) }
+    ensures lines { out.new ≡ put_lines out.old at (section_with board kind first (pieces_of text.now)) }
 {
     ihex_data::put_word(out, at, Record::EXTENDED_LINEAR, first);
     ihex_data::put_word(out, at + 16, Record::BLOCK_START, board as usize);
@@ -26,24 +24,24 @@ fn put_section(out: &mut [u8], at: usize, board: u16, kind: u8, first: usize, te
 }
 
 // V1's section, from the start of the room.
-pub(crate) fn put_v1(out: &mut [u8], first: usize, text: &[u8]) -> usize
-    ensures { λ r. ⌜ r ≡ sectionSize (dataLength (piecesOf (now (text .entry)))) ⌝ }
-    ensures lines { λ _. ⌜ now (out .exit) ≡ putLines (now (out .entry)) 0 (sectionWith 0x9900 dataType first (piecesOf (now (text .entry)))) ⌝ }
+pub fn put_v1(out: &mut [u8], first: usize, text: &[u8]) -> usize
+    ensures value { result ≡ section_size (data_length (pieces_of text.now)) }
+    ensures lines { out.new ≡ put_lines out.old 0 (section_with 0x9900 data_type first (pieces_of text.now)) }
 {
     put_section(out, 0, Boards::V1, Record::DATA, first, text)
 }
 
 // A place in the room, or its end.
 fn within(at: usize, len: usize) -> usize
-    ensures { λ r. ⌜ r ≡ cond (ltb len at) len at ⌝ }
+    ensures { result ≡ cond (ltb len at) len at }
 {
     if len < at { len } else { at }
 }
 
 // V2's section, from an index on.
-pub(crate) fn put_v2(out: &mut [u8], at: usize, first: usize, text: &[u8]) -> usize
-    ensures { λ r. ⌜ r ≡ sectionSize (dataLength (piecesOf (now (text .entry)))) ⌝ }
-    ensures lines { λ _. ⌜ now (out .exit) ≡ putLines (now (out .entry)) at (sectionWith 0x9903 customData first (piecesOf (now (text .entry)))) ⌝ }
+pub fn put_v2(out: &mut [u8], at: usize, first: usize, text: &[u8]) -> usize
+    ensures value { result ≡ section_size (data_length (pieces_of text.now)) }
+    ensures lines { out.new ≡ put_lines out.old at (section_with 0x9903 custom_data first (pieces_of text.now)) }
 {
     // past the end of the room one place is as good as another, and sums from this one do not wrap
     let from = within(at, out.len());

@@ -1,88 +1,86 @@
 -- The characters of every output. Assumes nothing.
-use Prim.Native.Nat.{ℕ, zero, suc, _+_, _*_, _-_, _/_, _%_, _<_, _≤_}
-use mathlib.Core.Path.{_≡_, refl, sym, ap, subst, _∙_}
-use mathlib.Core.Bool.{true, not, cond}
-use mathlib.Core.List.{List, [], _∷_, _++_}
+use Prim.Native.Nat.{ℕ, zero, suc, ◌/◌, ◌%◌, ◌<◌}
+use mathlib.Core.Path.{◌≡◌, refl, sym, ap, ◌∙◌}
+use mathlib.Core.Bool.{not}
+use mathlib.Core.List.{List, [], ◌∷◌, ◌++◌}
 use native.Mathlib.Omega.{arith}
 use lib.Dec.{eqb}
-use lib.ListN.{length, getD}
+use lib.ListN.{length, get_or}
 use borrow.Author.Tests.{eqb-true, not-false}
-use Rattle·laws.specs.Sets.{Set, any}
-use Rattle·laws.proofs.Laws.{any-all}
-use Rattle·ihex_record.specs.Record.{total, readOf}
-use Rattle·ihex_record.specs.Write.{digitText, bytesText, fieldBytes, checksum, recordText, recordLine, Bytes}
-use Rattle·ihex_record.specs.declared.Record.{Record}
-use Rattle·ihex_record.specs.declared.ParseResult.the-variants.{Good}
-use Rattle·uhex_claims.specs.Items.{Item, itemOf, item, Says, none, line}
-use Rattle·uhex_join_claims·specs.specs.Claims.{TwoSections}
-use Rattle·uhex_join_claims·proofs.proofs.Written.{Fits, Written, nothing, more, written-says}
-use Rattle·ihex_data.specs.Pieces.{piecesOf}
-use Rattle·uhex_join_claims·proofs.proofs.Claims.{output, part-a, part-b, lines-there, says-there}
-use Rattle·uhex_join_claims·proofs.proofs.Whole.{file-written}
-use Rattle·uhex_join_claims·specs.specs.Characters.{digits, pairs, sumOf, bytesIn, LineOf, Lines, no-line, next-line, Joined-characters}
+use Rattle.laws.specs.Sets.{Set, any}
+use Rattle.laws.proofs.Laws.{any_all}
+use Rattle.ihex_record.specs.Record.{total}
+use Rattle.ihex_record.specs.Write.{digit_text, bytes_text, field_bytes, checksum, record_text, record_line, Bytes}
+use Rattle.ihex_record.specs.declared.Record.{Record}
+use Rattle.ihex_record.specs.declared.ParseResult.TheVariants.{Good}
+use Rattle.uhex_claims.specs.Items.{Item, item_of, item, Says, none, line}
+use Rattle.uhex_join_claims.proofs.Written.{Fits, Written, nothing, more}
+use Rattle.uhex_join_claims.proofs.Claims.{output, part_a, part_b, lines_there, says_there}
+use Rattle.uhex_join_claims.proofs.Whole.{file_written}
+use Rattle.uhex_join_claims.specs.Characters.{digits, pairs, sum_of, LineOf, Lines, no_line, next_line, JoinedCharacters}
 
 -- ---- the digits are those of the text
 
 wrong : Set
-wrong n = not (eqb (digitText n) (getD digits n 0))
+wrong n = not (eqb (digit_text n) (get_or digits n 0))
 
-digit-is : (n : ℕ) → n < 16 → digitText n ≡ getD digits n 0
+digit_is : (n : ℕ) → n < 16 → digit_text n ≡ get_or digits n 0
 unfolding wrong any
-digit-is n h = eqb-true (digitText n) (getD digits n 0) (not-false _ (any-all wrong 16 refl n h))
+digit_is n h = eqb-true (digit_text n) (get_or digits n 0) (not-false _ (any_all wrong 16 refl n h))
 
-text-is : (l : List ℕ) → Bytes l → bytesText l ≡ pairs l
-unfolding bytesText pairs
-text-is [] h = refl
-text-is (b ∷ l) h =
+text_is : (l : List ℕ) → Bytes l → bytes_text l ≡ pairs l
+unfolding bytes_text pairs
+text_is [] h = refl
+text_is (b ∷ l) h =
     let small : b < 256 = h 0 (omega arith) in
-    rw (digit-is (b / 16) (omega arith), digit-is (b % 16) (omega arith), text-is l (λ i n. h (suc i) (omega arith)))
+    rw (digit_is (b / 16) (omega arith), digit_is (b % 16) (omega arith), text_is l (λ i n. h (suc i) (omega arith)))
 
-sum-is : (l : List ℕ) → total l ≡ sumOf l
-unfolding total sumOf
-sum-is [] = refl
-sum-is (b ∷ l) = rw (sum-is l)
+sum_is : (l : List ℕ) → total l ≡ sum_of l
+unfolding total sum_of
+sum_is [] = refl
+sum_is (b ∷ l) = rw (sum_is l)
 
 -- ---- a record that is written
 
-bytes-cons : (b : ℕ) (l : List ℕ) → b < 256 → Bytes l → Bytes (b ∷ l)
-bytes-cons b l h hs zero n = h
-bytes-cons b l h hs (suc i) n = hs i (omega arith)
+bytes_cons : (b : ℕ) (l : List ℕ) → b < 256 → Bytes l → Bytes (b ∷ l)
+bytes_cons b l h hs zero n = h
+bytes_cons b l h hs (suc i) n = hs i (omega arith)
 
-bytes-append : (l r : List ℕ) → Bytes l → Bytes r → Bytes (l ++ r)
-bytes-append [] r h g = g
-bytes-append (b ∷ l) r h g = bytes-cons b (l ++ r) (h 0 (omega arith)) (bytes-append l r (λ i n. h (suc i) (omega arith)) g)
+bytes_append : (l r : List ℕ) → Bytes l → Bytes r → Bytes (l ++ r)
+bytes_append [] r h g = g
+bytes_append (b ∷ l) r h g = bytes_cons b (l ++ r) (h 0 (omega arith)) (bytes_append l r (λ i n. h (suc i) (omega arith)) g)
 
-line-of : (k a : ℕ) (d : List ℕ) → Fits k a d → LineOf (item k a d) (recordLine k a d)
-unfolding recordLine recordText
-line-of k a d f =
-    let b : List ℕ = fieldBytes k a d in
+line_of : (k a : ℕ) (d : List ℕ) → Fits k a d → LineOf (item k a d) (record_line k a d)
+unfolding record_line record_text
+line_of k a d f =
+    let b : List ℕ = field_bytes k a d in
     let small : Bytes b =
-    bytes-cons (length d) (a / 256 ∷ a % 256 ∷ k ∷ d) (omega (arith, f .short))
-    (bytes-cons (a / 256) (a % 256 ∷ k ∷ d) (omega (arith, f .address)) (bytes-cons (a % 256) (k ∷ d) (omega arith) (bytes-cons k d (f .kind) (f .bytes)))) in
+    bytes_cons (length d) (a / 256 ∷ a % 256 ∷ k ∷ d) (omega (arith, f.short))
+    (bytes_cons (a / 256) (a % 256 ∷ k ∷ d) (omega (arith, f.address)) (bytes_cons (a % 256) (k ∷ d) (omega arith) (bytes_cons k d f.kind f.bytes))) in
     record {
       check = checksum b;
       byte = omega arith;
-      sums = rw (← sum-is b) (omega arith);
-      text = ap (λ (t : List ℕ). (58 ∷ t) ++ (10 ∷ [])) (text-is (b ++ (checksum b ∷ [])) (bytes-append b (checksum b ∷ []) small (bytes-cons (checksum b) [] (omega arith) (λ i n. absurd (omega arith)))));
+      sums = rw (← sum_is b) (omega arith);
+      text = ap (λ (t : List ℕ). (58 ∷ t) ++ (10 ∷ [])) (text_is (b ++ (checksum b ∷ [])) (bytes_append b (checksum b ∷ []) small (bytes_cons (checksum b) [] (omega arith) (λ i n. absurd (omega arith)))));
     }
 
-written-lines : {ls : List (List ℕ)} {xs : List Item} → Written ls xs → Lines xs ls
-written-lines nothing = no-line
-written-lines (more {k} {a} {d} f w) = next-line (line-of k a d f) (written-lines w)
+written_lines : {ls : List (List ℕ)} {xs : List Item} → Written ls xs → Lines xs ls
+written_lines nothing = no_line
+written_lines (more {k} {a} {d} f w) = next_line (line_of k a d f) (written_lines w)
 
 -- ---- what lines say is one list of records
 
-says-one : {ls : List (List ℕ)} {xs ys : List Item} → Says ls xs → Says ls ys → xs ≡ ys
-says-one none none = refl
-says-one (line {l} {ls} {xs} rec e p) (line rec2 f q) =
+says_one : {ls : List (List ℕ)} {xs ys : List Item} → Says ls xs → Says ls ys → xs ≡ ys
+says_one none none = refl
+says_one (line {l} {ls} {xs} rec e p) (line rec2 f q) =
     let g : Good rec ≡ Good rec2 = sym e ∙ f in
     let h : rec ≡ rec2 = cc in
-    ap (λ (r : Record). itemOf l r ∷ xs) h ∙ ap (λ (z : List Item). itemOf l rec2 ∷ z) (says-one p q)
+    ap (λ (r : Record). item_of l r ∷ xs) h ∙ ap (λ (z : List Item). item_of l rec2 ∷ z) (says_one p q)
 
-pub joined-characters : Joined-characters
-unfolding Joined-characters
-joined-characters a b out n e t =
+pub joined_characters : JoinedCharacters
+unfolding JoinedCharacters
+joined_characters a b out n e t =
     let o = output a b out n e in
-    let w = file-written (part-a a b out n o .pieces) (part-b a b out n o .pieces) in
-    let same = says-one (says-there a b out n o) (t .says) in
-    rw (← same, lines-there a b out n o) (written-lines w)
+    let w = file_written (part_a a b out n o).pieces (part_b a b out n o).pieces in
+    let same = says_one (says_there a b out n o) t.says in
+    rw (← same, lines_there a b out n o) (written_lines w)

@@ -1,17 +1,17 @@
 -- The claims of specs/Claims.antt hold. Assumes nothing.
-use mathlib.Core.Path.{sym, _∙_}
-use Rattle·uhex_join_claims·specs.specs.PlainfileClaims.{Text-refused-once, Refusal-is-told, Told-is-refusal}
-use Rattle·uhex_join_claims·proofs.proofs.BadLines.{bad-is}
-use Rattle·uhex_join_claims·proofs.proofs.PlainFiles.{bad-text, text-told}
+use mathlib.Core.Path.{sym, ◌∙◌}
+use Rattle.uhex_join_claims.specs.PlainfileClaims.{TextRefusedOnce, RefusalIsTold, ToldIsRefusal}
+use Rattle.uhex_join_claims.proofs.BadLines.{bad_is}
+use Rattle.uhex_join_claims.proofs.PlainFiles.{bad_text, text_told}
 
-pub refusal-is-told : Refusal-is-told
-unfolding Refusal-is-told
-refusal-is-told text k x b = text-told text k x b
+pub refusal_is_told : RefusalIsTold
+unfolding RefusalIsTold
+refusal_is_told text k x b = text_told text k x b
 
-pub told-is-refusal : Told-is-refusal
-unfolding Told-is-refusal
-told-is-refusal text k x e = bad-text text k x e
+pub told_is_refusal : ToldIsRefusal
+unfolding ToldIsRefusal
+told_is_refusal text k x e = bad_text text k x e
 
-pub text-refused-once : Text-refused-once
-unfolding Text-refused-once
-text-refused-once text j k x y b c = bad-is j k x y (sym (text-told text j x b) ∙ text-told text k y c)
+pub text_refused_once : TextRefusedOnce
+unfolding TextRefusedOnce
+text_refused_once text j k x y b c = bad_is j k x y (sym (text_told text j x b) ∙ text_told text k y c)

@@ -1,211 +1,211 @@
 -- The sections that are written: their records, that they are sections, how long they are, and what a reader stores of them. Assumes nothing.
-use Prim.Native.Nat.{ℕ, zero, suc, _+_, _*_, _-_, _/_, _%_, _≤_, _<_}
-use mathlib.Core.Path.{_≡_, refl, sym, ap, subst, _∙_}
-use mathlib.Core.Logic.{_≢_}
-use mathlib.Core.Bool.{true, cond, _&&_, _||_}
-use mathlib.Core.List.{List, [], _∷_, _++_, append-assoc, append-nil, flatten}
+use Prim.Native.Nat.{ℕ, zero, suc, ◌+◌, ◌*◌, ◌-◌, ◌/◌, ◌%◌, ◌≤◌, ◌<◌}
+use mathlib.Core.Path.{◌≡◌, refl, sym, ap, subst, ◌∙◌}
+use mathlib.Core.Logic.{◌≢◌}
+use mathlib.Core.Bool.{true, cond, ◌&&◌, ◌||◌}
+use mathlib.Core.List.{List, [], ◌∷◌, ◌++◌, append_assoc, append-nil, flatten}
 use native.Mathlib.Omega.{arith}
 use lib.Dec.{eqb, leb}
-use lib.ListN.{length, replicate, length-replicate, getD-replicate}
-use borrow.Author.Tests.{eqb-true, eqb-false, eq-eqb, ne-eqb, le-leb}
-use Rattle·laws.proofs.Tests.{split, eqb-same}
-use Rattle·laws.specs.Stores.{Store}
-use Rattle·ihex_record.specs.Write.{Bytes, recordLine}
-use Rattle·uhex_grammar.specs.Grammar.{dataKind}
-use Rattle·uhex_claims.specs.Items.{Item, sizeOf, wordOf, item}
-use Rattle·uhex_claims.specs.Whole.{dataTypeOf, Tail, tail-ends, tail-0C, Body, body-ends, body-04, body-data, body-0C, Section, sectionItems, boardOf, IsSection, anyData}
-use Rattle·uhex_claims.specs.State.{between, body, placeAfter, State, after, stateAfter, addressOf, storesWith, storesFor}
-use Rattle·uhex_claims.proofs.OneRecord.{not-data, data-not, data-kind, no-gift, a-gift}
-use Rattle·uhex_claims.proofs.Runs.{size-append, stays-body}
-use Rattle·ihex_data.specs.Lines.{wordBytes, upperOf, bodyLines, firstUpper}
-use Rattle·ihex_write.specs.Fill.{missing, pads, padLine, fillLines}
-use Rattle·uhex_join.specs.Text.{startLines, sectionLines}
-use Rattle·uhex_join_claims·specs.specs.Form.{word, UppersAsNeeded, no-more, same, changed, Form}
-use Rattle·uhex_join_claims·specs.specs.PlainFile.{at, within}
-use Rattle·uhex_join_claims·specs.specs.Claims.{linearData}
-use Rattle·uhex_join_claims·proofs.proofs.Pieces.{Piece, Pieces, no-piece, next-piece}
-use Rattle·uhex_join_claims·proofs.proofs.Written.{Fits, Written, nothing, more, written-append, written-size, written-even}
+use lib.ListN.{length, replicate, length-replicate, get_or-replicate}
+use borrow.Author.Tests.{eqb-true, eqb-false, eq-eqb, ne_eqb, le-leb}
+use Rattle.laws.proofs.Tests.{split, eqb_same}
+use Rattle.laws.specs.Stores.{Store}
+use Rattle.ihex_record.specs.Write.{Bytes, record_line}
+use Rattle.uhex_grammar.specs.Grammar.{data_kind}
+use Rattle.uhex_claims.specs.Items.{Item, size_of, word_of, item}
+use Rattle.uhex_claims.specs.Whole.{data_type_of, Tail, tail_ends, tail_0_c, Body, body_ends, body_04, body_data, body_0_c, Section, section_items, board_of, IsSection, any_data}
+use Rattle.uhex_claims.specs.State.{between, body, place_after, State, after, state_after, address_of, stores_with, stores_for}
+use Rattle.uhex_claims.proofs.OneRecord.{not_data, data_not, data_kind_lem, no_gift, a_gift}
+use Rattle.uhex_claims.proofs.Runs.{size_append, stays_body}
+use Rattle.ihex_data.specs.Lines.{word_bytes, upper_of, body_lines, first_upper}
+use Rattle.ihex_write.specs.Fill.{missing, pads, pad_line, fill_lines}
+use Rattle.uhex_join.specs.Text.{start_lines, section_lines}
+use Rattle.uhex_join_claims.specs.Form.{word, UppersAsNeeded, no_more, same, changed, Form}
+use Rattle.uhex_join_claims.specs.PlainFile.{at, within}
+use Rattle.uhex_join_claims.specs.Claims.{linear_data}
+use Rattle.uhex_join_claims.proofs.Pieces.{Piece, Pieces, no_piece, next_piece}
+use Rattle.uhex_join_claims.proofs.Written.{Fits, Written, nothing, more, written_append, written_size, written_even}
 
 -- ---- records of two bytes
 
-word-written : (kind w : ℕ) → kind < 256 → w < 65536 → {ls : List (List ℕ)} {xs : List Item} → Written ls xs
-    → Written (recordLine kind 0 (wordBytes w) ∷ ls) (word kind w ∷ xs)
-word-written kind w k h {ls} {xs} r =
+word_written : (kind w : ℕ) → kind < 256 → w < 65536 → {ls : List (List ℕ)} {xs : List Item} → Written ls xs
+    → Written (record_line kind 0 (word_bytes w) ∷ ls) (word kind w ∷ xs)
+word_written kind w k h {ls} {xs} r =
     let high : w / 256 % 256 ≡ w / 256 = omega arith in
-    let f : Fits kind 0 (wordBytes w) = record { kind = k; address = omega arith; short = omega arith; bytes = two } in
-    subst (λ (v : ℕ). Written (recordLine kind 0 (wordBytes w) ∷ ls) (item kind 0 (v ∷ w % 256 ∷ []) ∷ xs)) high (more f r)
+    let f : Fits kind 0 (word_bytes w) = record { kind = k; address = omega arith; short = omega arith; bytes = two } in
+    subst (λ (v : ℕ). Written (record_line kind 0 (word_bytes w) ∷ ls) (item kind 0 (v ∷ w % 256 ∷ []) ∷ xs)) high (more f r)
   where
-    two : Bytes (wordBytes w)
+    two : Bytes (word_bytes w)
     two zero n = omega arith
     two (suc zero) n = omega arith
     two (suc (suc i)) n = absurd (omega arith)
 
-pub word-back : (kind w : ℕ) → wordOf (word kind w) ≡ w
-word-back kind w = omega arith
+pub word_back : (kind w : ℕ) → word_of (word kind w) ≡ w
+word_back kind w = omega arith
 
 -- ---- data
 
 -- an 04 where the upper half changes
-abbrev itemsIf : ℕ → ℕ → List Item → List Item
-itemsIf u v xs = cond (eqb u v) xs (word 0x04 v ∷ xs)
+abbrev items_if : ℕ → ℕ → List Item → List Item
+items_if u v xs = cond (eqb u v) xs (word 0x04 v ∷ xs)
 
-abbrev dataItem : ℕ → Store → Item
-dataItem kind s = item kind (s .address % 65536) (s .bytes)
+abbrev data_item : ℕ → Store → Item
+data_item kind s = item kind (s.address % 65536) s.bytes
 
-unfoldable pub bodyItems : ℕ → ℕ → List Store → List Item
-bodyItems kind u [] = []
-bodyItems kind u (s ∷ ss) = itemsIf u (upperOf s) (dataItem kind s ∷ bodyItems kind (upperOf s) ss)
+unfoldable pub body_items : ℕ → ℕ → List Store → List Item
+body_items kind u [] = []
+body_items kind u (s ∷ ss) = items_if u (upper_of s) (data_item kind s ∷ body_items kind (upper_of s) ss)
 
-body-written : (kind : ℕ) → kind < 256 → (u : ℕ) {ss : List Store} → Pieces ss → Written (bodyLines kind u ss) (bodyItems kind u ss)
-unfolding bodyLines bodyItems
-body-written kind k u no-piece = nothing
-body-written kind k u (next-piece {s} p ps) =
-    let v = upperOf s in
-    let f : Fits kind (s .address % 65536) (s .bytes) = record { kind = k; address = omega arith; short = p .few; bytes = p .bytes } in
-    let rest = more f (body-written kind k v ps) in
-    split (eqb u v) (λ y. rw y rest) (λ n. rw n (word-written 0x04 v (omega arith) (p .wide) rest))
+body_written : (kind : ℕ) → kind < 256 → (u : ℕ) {ss : List Store} → Pieces ss → Written (body_lines kind u ss) (body_items kind u ss)
+unfolding body_lines body_items
+body_written kind k u no_piece = nothing
+body_written kind k u (next_piece {s} p ps) =
+    let v = upper_of s in
+    let f : Fits kind (s.address % 65536) s.bytes = record { kind = k; address = omega arith; short = p.few; bytes = p.bytes } in
+    let rest = more f (body_written kind k v ps) in
+    split (eqb u v) (λ y. rw y rest) (λ n. rw n (word_written 0x04 v (omega arith) p.wide rest))
 
-body-is : (b u : ℕ) (ys : List Item) → Body b ys → {ss : List Store} → Pieces ss → Body b (bodyItems (dataKind b) u ss ++ ys)
-unfolding bodyItems
-body-is b u ys t no-piece = t
-body-is b u ys t (next-piece {s} {ss} p ps) =
-    let v = upperOf s in
-    let rest : Body b (dataItem (dataKind b) s ∷ bodyItems (dataKind b) v ss ++ ys) = body-data (data-kind b) (p .inside) (body-is b v ys t ps) in
-    split (eqb u v) (λ y. rw y rest) (λ n. rw n (body-04 refl refl rest))
+body_is : (b u : ℕ) (ys : List Item) → Body b ys → {ss : List Store} → Pieces ss → Body b (body_items (data_kind b) u ss ++ ys)
+unfolding body_items
+body_is b u ys t no_piece = t
+body_is b u ys t (next_piece {s} {ss} p ps) =
+    let v = upper_of s in
+    let rest : Body b (data_item (data_kind b) s ∷ body_items (data_kind b) v ss ++ ys) = body_data (data_kind_lem b) p.inside (body_is b v ys t ps) in
+    split (eqb u v) (λ y. rw y rest) (λ n. rw n (body_04 refl refl rest))
 
-body-gives : (b u : ℕ) (ys : List Item) (s : Store) (ss : List Store) → Piece s → anyData b (bodyItems (dataKind b) u (s ∷ ss) ++ ys) ≡ true
-unfolding bodyItems anyData
-body-gives b u ys s ss p =
-    let v = upperOf s in
-    let rest : eqb (dataKind b) (dataTypeOf b) && leb 1 (length (s .bytes)) || anyData b (bodyItems (dataKind b) v ss ++ ys) ≡ true =
-    rw (data-kind b, eqb-same (dataTypeOf b), le-leb 1 (length (s .bytes)) (p .some)) in
-    split (eqb u v) (λ y. rw y rest) (λ n. rw (n, not-data 4 b (λ f. omega arith) (λ f. omega arith)) rest)
+body_gives : (b u : ℕ) (ys : List Item) (s : Store) (ss : List Store) → Piece s → any_data b (body_items (data_kind b) u (s ∷ ss) ++ ys) ≡ true
+unfolding body_items any_data
+body_gives b u ys s ss p =
+    let v = upper_of s in
+    let rest : eqb (data_kind b) (data_type_of b) && leb 1 (length s.bytes) || any_data b (body_items (data_kind b) v ss ++ ys) ≡ true =
+    rw (data_kind_lem b, eqb_same (data_type_of b), le-leb 1 (length s.bytes) p.some) in
+    split (eqb u v) (λ y. rw y rest) (λ n. rw (n, not_data 4 b (λ f. omega arith) (λ f. omega arith)) rest)
 
 -- ---- what a reader of the own board stores, in an image of n bytes
 
 module _ (own n : ℕ) where
-  pub stores-append : (s : State) (xs ys : List Item) → storesFor own n s (xs ++ ys) ≡ storesFor own n s xs ++ storesFor own n (stateAfter s xs) ys
-  unfolding storesFor stateAfter
-  stores-append s [] ys = refl
-  stores-append s (x ∷ xs) ys =
-      ap (λ (z : List Store). storesWith own n s x ++ z) (stores-append (after s x) xs ys)
-      ∙ sym (append-assoc (storesWith own n s x) (storesFor own n (after s x) xs) (storesFor own n (stateAfter (after s x) xs) ys))
+  pub stores_append : (s : State) (xs ys : List Item) → stores_for own n s (xs ++ ys) ≡ stores_for own n s xs ++ stores_for own n (state_after s xs) ys
+  unfolding stores_for state_after
+  stores_append s [] ys = refl
+  stores_append s (x ∷ xs) ys =
+      ap (λ (z : List Store). stores_with own n s x ++ z) (stores_append (after s x) xs ys)
+      ∙ sym (append_assoc (stores_with own n s x) (stores_for own n (after s x) xs) (stores_for own n (state_after (after s x) xs) ys))
 
   -- of a record that is no data: nothing
-  no-store : (s : State) (x : Item) → x .kind ≢ 0 → x .kind ≢ 13 → storesWith own n s x ≡ []
-  unfolding storesWith
-  no-store s x z t = rw (no-gift x z t (s .place) own)
+  no_store : (s : State) (x : Item) → x.kind ≢ 0 → x.kind ≢ 13 → stores_with own n s x ≡ []
+  unfolding stores_with
+  no_store s x z t = rw (no_gift x z t s.place own)
 
   module _ (b : ℕ) where
     abbrev ownOnly : List Store → List Store
     ownOnly ss = cond (eqb b own) (within n ss) []
 
     -- a data record in the board's section, after an 04 that holds its upper half
-    one-store : (s : State) (t : Store) → Piece t → s .place ≡ body b → s .upper ≡ upperOf t
-        → storesWith own n s (dataItem (dataKind b) t) ≡ cond (eqb b own) (cond (leb (t .address + length (t .bytes)) n) (t ∷ []) []) []
-    unfolding storesWith
-    one-store s t p e f =
-        let x = dataItem (dataKind b) t in
-        let a : addressOf s x ≡ t .address = omega arith in
-        rw (e, a-gift x b (data-kind b) (p .some) own, a)
+    one_store : (s : State) (t : Store) → Piece t → s.place ≡ body b → s.upper ≡ upper_of t
+        → stores_with own n s (data_item (data_kind b) t) ≡ cond (eqb b own) (cond (leb (t.address + length t.bytes) n) (t ∷ []) []) []
+    unfolding stores_with
+    one_store s t p e f =
+        let x = data_item (data_kind b) t in
+        let a : address_of s x ≡ t.address = omega arith in
+        rw (e, a_gift x b (data_kind_lem b) p.some own, a)
         (split (eqb b own) (λ y. rw y) (λ z. rw z))
 
-    own-more : (t : Store) (ts : List Store) → cond (eqb b own) (cond (leb (t .address + length (t .bytes)) n) (t ∷ []) []) [] ++ ownOnly ts ≡ ownOnly (t ∷ ts)
+    own-more : (t : Store) (ts : List Store) → cond (eqb b own) (cond (leb (t.address + length t.bytes) n) (t ∷ []) []) [] ++ ownOnly ts ≡ ownOnly (t ∷ ts)
     unfolding within
     own-more t ts = split (eqb b own) (λ y. rw y) (λ z. rw z)
 
-    body-stores : (u : ℕ) {ss : List Store} → Pieces ss → (s : State) → s .place ≡ body b → s .upper ≡ u
-        → storesFor own n s (bodyItems (dataKind b) u ss) ≡ ownOnly ss
-    unfolding bodyItems storesFor
-    body-stores u no-piece s e f = unfold within in split (eqb b own) (λ y. rw y) (λ z. rw z)
-    body-stores u (next-piece {s = t} {ss = ts} p ps) s e f =
-        let v = upperOf t in
-        let x = dataItem (dataKind b) t in
-        let not : (k : ℕ) → k ≢ 0 → k ≢ 13 → x .kind ≢ k = λ k z w. data-not (x .kind) b k z w (data-kind b) in
-        let rest : (q : State) → q .place ≡ body b → q .upper ≡ v → storesWith own n q x ++ storesFor own n (after q x) (bodyItems (dataKind b) v ts) ≡ ownOnly (t ∷ ts) =
+    body-stores : (u : ℕ) {ss : List Store} → Pieces ss → (s : State) → s.place ≡ body b → s.upper ≡ u
+        → stores_for own n s (body_items (data_kind b) u ss) ≡ ownOnly ss
+    unfolding body_items stores_for
+    body-stores u no_piece s e f = unfold within in split (eqb b own) (λ y. rw y) (λ z. rw z)
+    body-stores u (next_piece {s = t} {ss = ts} p ps) s e f =
+        let v = upper_of t in
+        let x = data_item (data_kind b) t in
+        let not : (k : ℕ) → k ≢ 0 → k ≢ 13 → x.kind ≢ k = λ k z w. data_not x.kind b k z w (data_kind_lem b) in
+        let rest : (q : State) → q.place ≡ body b → q.upper ≡ v → stores_with own n q x ++ stores_for own n (after q x) (body_items (data_kind b) v ts) ≡ ownOnly (t ∷ ts) =
         λ q g h.
-        ap (λ (z : List Store). z ++ storesFor own n (after q x) (bodyItems (dataKind b) v ts)) (one-store q t p g h)
-        ∙ ap (λ (z : List Store). cond (eqb b own) (cond (leb (t .address + length (t .bytes)) n) (t ∷ []) []) [] ++ z)
-        (body-stores v ps (after q x) (stays-body q b x g (not 11 (λ f. omega arith) (λ f. omega arith)) (not 12 (λ f. omega arith) (λ f. omega arith)))
-        (rw (ne-eqb (x .kind) 4 (not 4 (λ f. omega arith) (λ f. omega arith))) h))
+        ap (λ (z : List Store). z ++ stores_for own n (after q x) (body_items (data_kind b) v ts)) (one_store q t p g h)
+        ∙ ap (λ (z : List Store). cond (eqb b own) (cond (leb (t.address + length t.bytes) n) (t ∷ []) []) [] ++ z)
+        (body-stores v ps (after q x) (stays_body q b x g (not 11 (λ f. omega arith) (λ f. omega arith)) (not 12 (λ f. omega arith) (λ f. omega arith)))
+        (rw (ne_eqb x.kind 4 (not 4 (λ f. omega arith) (λ f. omega arith))) h))
         ∙ own-more t ts in
         let w = word 0x04 v in
         split (eqb u v)
         (λ y. rw y (rest s e (f ∙ eqb-true u v y)))
         (λ m.
-        rw (m, no-store s w (λ f. omega arith) (λ f. omega arith))
-        (rest (after s w) (stays-body s b w e (λ f. omega arith) (λ f. omega arith)) (word-back 0x04 v)))
+        rw (m, no_store s w (λ f. omega arith) (λ f. omega arith))
+        (rest (after s w) (stays_body s b w e (λ f. omega arith) (λ f. omega arith)) (word_back 0x04 v)))
 
 -- ---- the data at linear addresses, stored or not
 
-linear-data : (b u : ℕ) (ys : List Item) → ((v : ℕ) → linearData (dataTypeOf b) v ys ≡ []) → (ss : List Store) → linearData (dataTypeOf b) u (bodyItems (dataKind b) u ss ++ ys) ≡ ss
-unfolding bodyItems linearData
-linear-data b u ys h [] = h u
-linear-data b u ys h (t ∷ ts) =
-    let v = upperOf t in
-    let k = dataTypeOf b in
-    let x = dataItem (dataKind b) t in
-    let a : 65536 * v + x .address ≡ t .address = omega arith in
-    let not : x .kind ≢ 4 = data-not (x .kind) b 4 (λ f. omega arith) (λ f. omega arith) (data-kind b) in
-    let rest : cond (eqb (x .kind) k) (at (65536 * v + x .address) (t .bytes) ∷ []) []
-    ++ linearData k (cond (eqb (x .kind) 4) (wordOf x) v) (bodyItems (dataKind b) v ts ++ ys) ≡ t ∷ ts =
-    rw (ne-eqb (x .kind) 4 not, eq-eqb (x .kind) k (data-kind b), a) (ap (λ (z : List Store). t ∷ z) (linear-data b v ys h ts)) in
+linear_data_lem : (b u : ℕ) (ys : List Item) → ((v : ℕ) → linear_data (data_type_of b) v ys ≡ []) → (ss : List Store) → linear_data (data_type_of b) u (body_items (data_kind b) u ss ++ ys) ≡ ss
+unfolding body_items linear_data
+linear_data_lem b u ys h [] = h u
+linear_data_lem b u ys h (t ∷ ts) =
+    let v = upper_of t in
+    let k = data_type_of b in
+    let x = data_item (data_kind b) t in
+    let a : 65536 * v + x.address ≡ t.address = omega arith in
+    let not : x.kind ≢ 4 = data_not x.kind b 4 (λ f. omega arith) (λ f. omega arith) (data_kind_lem b) in
+    let rest : cond (eqb x.kind k) (at (65536 * v + x.address) t.bytes ∷ []) []
+    ++ linear_data k (cond (eqb x.kind 4) (word_of x) v) (body_items (data_kind b) v ts ++ ys) ≡ t ∷ ts =
+    rw (ne_eqb x.kind 4 not, eq-eqb x.kind k (data_kind_lem b), a) (ap (λ (z : List Store). t ∷ z) (linear_data_lem b v ys h ts)) in
     split (eqb u v)
     (λ y. rw (y, eqb-true u v y) rest)
-    (λ n. rw (n, not-data 4 b (λ f. omega arith) (λ f. omega arith), word-back 0x04 v) rest)
+    (λ n. rw (n, not_data 4 b (λ f. omega arith) (λ f. omega arith), word_back 0x04 v) rest)
 
 -- ---- the filling
 
-abbrev pub padItem : Item
-padItem = item 0x0C 0 (replicate 26 255)
+abbrev pub pad_item : Item
+pad_item = item 0x0C 0 (replicate 26 255)
 
-abbrev pub closeItem : ℕ → Item
-closeItem m = item 0x0B 0 (replicate (m / 2) 255)
+abbrev pub close_item : ℕ → Item
+close_item m = item 0x0B 0 (replicate (m / 2) 255)
 
-filled-fits : (kind k : ℕ) → kind < 256 → k ≤ 32 → Fits kind 0 (replicate k 255)
-filled-fits kind k h m =
+filled_fits : (kind k : ℕ) → kind < 256 → k ≤ 32 → Fits kind 0 (replicate k 255)
+filled_fits kind k h m =
     record {
       kind = h;
       address = omega arith;
       short = omega (arith, length-replicate {A = ℕ} k 255);
-      bytes = λ i l. omega (arith, getD-replicate {A = ℕ} k i 255 0 (omega (arith, length-replicate {A = ℕ} k 255)));
+      bytes = λ i l. omega (arith, get_or-replicate {A = ℕ} k i 255 0 (omega (arith, length-replicate {A = ℕ} k 255)));
     }
 
-pads-written : (k : ℕ) {ls : List (List ℕ)} {xs : List Item} → Written ls xs
-    → Written (replicate k padLine ++ ls) (replicate k padItem ++ xs)
-pads-written zero w = w
-pads-written (suc k) w = more (filled-fits 0x0C 26 (omega arith) (omega arith)) (pads-written k w)
+pads_written : (k : ℕ) {ls : List (List ℕ)} {xs : List Item} → Written ls xs
+    → Written (replicate k pad_line ++ ls) (replicate k pad_item ++ xs)
+pads_written zero w = w
+pads_written (suc k) w = more (filled_fits 0x0C 26 (omega arith) (omega arith)) (pads_written k w)
 
-fill-written : (m : ℕ) → m < 512 → Written (fillLines m) (replicate (pads m) padItem ++ (closeItem (m - 64 * pads m) ∷ []))
-unfolding fillLines
-fill-written m h = pads-written (pads m) (more (filled-fits 0x0B ((m - 64 * pads m) / 2) (omega arith) (omega arith)) nothing)
+fill_written : (m : ℕ) → m < 512 → Written (fill_lines m) (replicate (pads m) pad_item ++ (close_item (m - 64 * pads m) ∷ []))
+unfolding fill_lines
+fill_written m h = pads_written (pads m) (more (filled_fits 0x0B ((m - 64 * pads m) / 2) (omega arith) (omega arith)) nothing)
 
-pads-tail : (k : ℕ) → Tail (replicate k padItem)
-pads-tail zero = tail-ends
-pads-tail (suc k) = tail-0C refl (pads-tail k)
+pads_tail : (k : ℕ) → Tail (replicate k pad_item)
+pads_tail zero = tail_ends
+pads_tail (suc k) = tail_0_c refl (pads_tail k)
 
-pads-body : (b k : ℕ) → Body b (replicate k padItem)
-pads-body b zero = body-ends
-pads-body b (suc k) = body-0C refl (pads-tail k)
+pads_body : (b k : ℕ) → Body b (replicate k pad_item)
+pads_body b zero = body_ends
+pads_body b (suc k) = body_0_c refl (pads_tail k)
 
-pub pads-size : (k : ℕ) → sizeOf (replicate k padItem) ≡ 64 * k
-unfolding sizeOf
-pads-size zero = refl
-pads-size (suc k) = omega (arith, pads-size k)
+pub pads_size : (k : ℕ) → size_of (replicate k pad_item) ≡ 64 * k
+unfolding size_of
+pads_size zero = refl
+pads_size (suc k) = omega (arith, pads_size k)
 
-pads-stores : (own n k : ℕ) (s : State) → storesFor own n s (replicate k padItem) ≡ []
-unfolding storesFor
-pads-stores own n zero s = refl
-pads-stores own n (suc k) s = rw (no-store own n s padItem (λ f. omega arith) (λ f. omega arith)) (pads-stores own n k (after s padItem))
+pads_stores : (own n k : ℕ) (s : State) → stores_for own n s (replicate k pad_item) ≡ []
+unfolding stores_for
+pads_stores own n zero s = refl
+pads_stores own n (suc k) s = rw (no_store own n s pad_item (λ f. omega arith) (λ f. omega arith)) (pads_stores own n k (after s pad_item))
 
-pub pads-linear : (b k v : ℕ) → linearData (dataTypeOf b) v (replicate k padItem) ≡ []
-unfolding linearData
-pads-linear b zero v = refl
-pads-linear b (suc k) v = rw (not-data 12 b (λ f. omega arith) (λ f. omega arith)) (pads-linear b k v)
+pub pads_linear : (b k v : ℕ) → linear_data (data_type_of b) v (replicate k pad_item) ≡ []
+unfolding linear_data
+pads_linear b zero v = refl
+pads_linear b (suc k) v = rw (not_data 12 b (λ f. omega arith) (λ f. omega arith)) (pads_linear b k v)
 
 -- n characters, the 0C and the 0B are a multiple of 512
-filled-up : (n : ℕ) → n % 2 ≡ 0 → let m = missing n in (n + (64 * pads m + (12 + 2 * ((m - 64 * pads m) / 2)))) % 512 ≡ 0
-filled-up n e =
+filled_up : (n : ℕ) → n % 2 ≡ 0 → let m = missing n in (n + (64 * pads m + (12 + 2 * ((m - 64 * pads m) / 2)))) % 512 ≡ 0
+filled_up n e =
     let m = missing n in
     let f : m < 512 = omega arith in
     let g : m % 2 ≡ 0 = omega arith in
@@ -217,143 +217,143 @@ filled-up n e =
 
 module _ (b : ℕ) (ss : List Store) where
   abbrev u : ℕ
-  u = firstUpper ss
+  u = first_upper ss
 
   abbrev m : ℕ
-  m = missing (length (flatten (startLines b ss)))
+  m = missing (length (flatten (start_lines b ss)))
 
-  abbrev startItems : List Item
-  startItems = word 0x04 u ∷ word 0x0A b ∷ bodyItems (dataKind b) u ss
+  abbrev start_items : List Item
+  start_items = word 0x04 u ∷ word 0x0A b ∷ body_items (data_kind b) u ss
 
-  abbrev padItems : List Item
-  padItems = replicate (pads m) padItem
+  abbrev pad_items : List Item
+  pad_items = replicate (pads m) pad_item
 
-  abbrev lastItem : Item
-  lastItem = closeItem (m - 64 * pads m)
+  abbrev last_item : Item
+  last_item = close_item (m - 64 * pads m)
 
   abbrev pub section : Section
   section =
-      record { opening = word 0x04 u; naming = word 0x0A b; body = bodyItems (dataKind b) u ss ++ padItems; closing = lastItem }
+      record { opening = word 0x04 u; naming = word 0x0A b; body = body_items (data_kind b) u ss ++ pad_items; closing = last_item }
 
-  pub board-is : boardOf section ≡ b
-  board-is = word-back 0x0A b
+  pub board_is : board_of section ≡ b
+  board_is = word_back 0x0A b
 
   -- the records, in order
-  items-are : sectionItems section ≡ startItems ++ (padItems ++ (lastItem ∷ []))
-  items-are =
-      ap (λ (z : List Item). word 0x04 u ∷ word 0x0A b ∷ z) (append-assoc (bodyItems (dataKind b) u ss) padItems (lastItem ∷ []))
+  items_are : section_items section ≡ start_items ++ (pad_items ++ (last_item ∷ []))
+  items_are =
+      ap (λ (z : List Item). word 0x04 u ∷ word 0x0A b ∷ z) (append_assoc (body_items (data_kind b) u ss) pad_items (last_item ∷ []))
 
-  pub section-linear : linearData (dataTypeOf b) (wordOf (section .opening)) (section .body) ≡ ss
-  section-linear = rw (word-back 0x04 u) (linear-data b u padItems (pads-linear b (pads m)) ss)
+  pub section_linear : linear_data (data_type_of b) (word_of section.opening) section.body ≡ ss
+  section_linear = rw (word_back 0x04 u) (linear_data_lem b u pad_items (pads_linear b (pads m)) ss)
 
-  data-small : dataKind b < 256
-  unfolding dataKind
-  data-small = split (eqb b 0x9900) (λ y. rw y (omega arith)) (λ z. rw z (omega arith))
+  data_small : data_kind b < 256
+  unfolding data_kind
+  data_small = split (eqb b 0x9900) (λ y. rw y (omega arith)) (λ z. rw z (omega arith))
 
-first-upper : {ss : List Store} → Pieces ss → firstUpper ss < 65536
-first-upper no-piece = omega arith
-first-upper (next-piece p ps) = p .wide
+first_upper_lem : {ss : List Store} → Pieces ss → first_upper ss < 65536
+first_upper_lem no_piece = omega arith
+first_upper_lem (next_piece p ps) = p.wide
 
 module _ (b : ℕ) (hb : b < 65536) {ss : List Store} (ps : Pieces ss) where
-  start-written : Written (startLines b ss) (startItems b ss)
-  unfolding startLines
-  start-written =
-      word-written 0x04 (u b ss) (omega arith) (first-upper ps)
-      (word-written 0x0A b (omega arith) hb (body-written (dataKind b) (data-small b ss) (u b ss) ps))
+  start_written : Written (start_lines b ss) (start_items b ss)
+  unfolding start_lines
+  start_written =
+      word_written 0x04 (u b ss) (omega arith) (first_upper_lem ps)
+      (word_written 0x0A b (omega arith) hb (body_written (data_kind b) (data_small b ss) (u b ss) ps))
 
-  pub section-written : Written (sectionLines b ss) (sectionItems (section b ss))
-  unfolding sectionLines
-  section-written = rw (items-are b ss) (written-append start-written (fill-written (m b ss) (omega arith)))
+  pub section_written : Written (section_lines b ss) (section_items (section b ss))
+  unfolding section_lines
+  section_written = rw (items_are b ss) (written_append start_written (fill_written (m b ss) (omega arith)))
 
-  pub section-size : sizeOf (sectionItems (section b ss)) % 512 ≡ 0
-  unfolding sizeOf
-  section-size =
-      let n = length (flatten (startLines b ss)) in
-      let s = startItems b ss in
-      let k = padItems b ss in
-      let c = lastItem b ss in
-      let e : sizeOf s ≡ n = sym (written-size start-written) in
-      let l : length (c .bytes) ≡ (m b ss - 64 * pads (m b ss)) / 2 = length-replicate ((m b ss - 64 * pads (m b ss)) / 2) 255 in
-      let f : sizeOf (sectionItems (section b ss)) ≡ sizeOf s + (sizeOf k + (c .size + 0)) =
-      ap sizeOf (items-are b ss) ∙ size-append s (k ++ (c ∷ [])) ∙ ap (λ (z : ℕ). sizeOf s + z) (size-append k (c ∷ [])) in
-      let g : n % 2 ≡ 0 = sym (ap (λ (z : ℕ). z % 2) e) ∙ written-even start-written in
-      omega (arith, filled-up n g, pads-size (pads (m b ss)))
+  pub section_size_lem : size_of (section_items (section b ss)) % 512 ≡ 0
+  unfolding size_of
+  section_size_lem =
+      let n = length (flatten (start_lines b ss)) in
+      let s = start_items b ss in
+      let k = pad_items b ss in
+      let c = last_item b ss in
+      let e : size_of s ≡ n = sym (written_size start_written) in
+      let l : length c.bytes ≡ (m b ss - 64 * pads (m b ss)) / 2 = length-replicate ((m b ss - 64 * pads (m b ss)) / 2) 255 in
+      let f : size_of (section_items (section b ss)) ≡ size_of s + (size_of k + (c.size + 0)) =
+      ap size_of (items_are b ss) ∙ size_append s (k ++ (c ∷ [])) ∙ ap (λ (z : ℕ). size_of s + z) (size_append k (c ∷ [])) in
+      let g : n % 2 ≡ 0 = sym (ap (λ (z : ℕ). z % 2) e) ∙ written_even start_written in
+      omega (arith, filled_up n g, pads_size (pads (m b ss)))
 
-  pub is-section : IsSection (section b ss)
-  is-section =
+  pub is_section : IsSection (section b ss)
+  is_section =
       record {
         opens = refl;
         upper = refl;
         names = refl;
         board = omega arith;
-        body = rw (board-is b ss) (body-is b (u b ss) (padItems b ss) (pads-body b (pads (m b ss))) ps);
+        body = rw (board_is b ss) (body_is b (u b ss) (pad_items b ss) (pads_body b (pads (m b ss))) ps);
         closes = refl;
       }
 
-  pub section-stores : (own n : ℕ) (s : State) → s .place ≡ between → storesFor own n s (sectionItems (section b ss)) ≡ cond (eqb b own) (within n ss) []
-  unfolding storesFor
-  section-stores own n s e =
+  pub section_stores : (own n : ℕ) (s : State) → s.place ≡ between → stores_for own n s (section_items (section b ss)) ≡ cond (eqb b own) (within n ss) []
+  unfolding stores_for
+  section_stores own n s e =
       let x = word 0x04 (u b ss) in
       let y = word 0x0A b in
       let s1 = after s x in
       let s2 = after s1 y in
-      let bs = bodyItems (dataKind b) (u b ss) ss in
-      let s3 = stateAfter s2 bs in
-      let k = padItems b ss in
-      let c = lastItem b ss in
-      let in-body : s2 .place ≡ body b = unfold placeAfter in rw e (ap body (board-is b ss)) in
-      ap (storesFor own n s) (items-are b ss)
-      ∙ rw (no-store own n s x (λ f. omega arith) (λ f. omega arith), no-store own n s1 y (λ f. omega arith) (λ f. omega arith))
-      (stores-append own n s2 bs (k ++ (c ∷ []))
-      ∙ ap (λ (z : List Store). z ++ storesFor own n s3 (k ++ (c ∷ []))) (body-stores own n b (u b ss) ps s2 in-body (word-back 0x04 (u b ss)))
+      let bs = body_items (data_kind b) (u b ss) ss in
+      let s3 = state_after s2 bs in
+      let k = pad_items b ss in
+      let c = last_item b ss in
+      let in_body : s2.place ≡ body b = unfold place_after in rw e (ap body (board_is b ss)) in
+      ap (stores_for own n s) (items_are b ss)
+      ∙ rw (no_store own n s x (λ f. omega arith) (λ f. omega arith), no_store own n s1 y (λ f. omega arith) (λ f. omega arith))
+      (stores_append own n s2 bs (k ++ (c ∷ []))
+      ∙ ap (λ (z : List Store). z ++ stores_for own n s3 (k ++ (c ∷ []))) (body-stores own n b (u b ss) ps s2 in_body (word_back 0x04 (u b ss)))
       ∙ ap (λ (z : List Store). cond (eqb b own) (within n ss) [] ++ z)
-      (stores-append own n s3 k (c ∷ [])
-      ∙ rw (pads-stores own n (pads (m b ss)) s3, no-store own n (stateAfter s3 k) c (λ f. omega arith) (λ f. omega arith)))
+      (stores_append own n s3 k (c ∷ [])
+      ∙ rw (pads_stores own n (pads (m b ss)) s3, no_store own n (state_after s3 k) c (λ f. omega arith) (λ f. omega arith)))
       ∙ append-nil (cond (eqb b own) (within n ss) []))
 
-pub section-gives : (b : ℕ) (s : Store) (ss : List Store) → Piece s → anyData b (section b (s ∷ ss) .body) ≡ true
-section-gives b s ss p = body-gives b (upperOf s) (padItems b (s ∷ ss)) s ss p
+pub section_gives : (b : ℕ) (s : Store) (ss : List Store) → Piece s → any_data b (section b (s ∷ ss)).body ≡ true
+section_gives b s ss p = body_gives b (upper_of s) (pad_items b (s ∷ ss)) s ss p
 
 -- ---- the form of a section
 
-body-uppers : (b u : ℕ) (ss : List Store) → UppersAsNeeded (dataTypeOf b) u (bodyItems (dataKind b) u ss)
-unfolding bodyItems
-body-uppers b u [] = no-more
-body-uppers b u (s ∷ ss) =
-    let v = upperOf s in
-    let xs = bodyItems (dataKind b) v ss in
-    let x = dataItem (dataTypeOf b) s in
-    let rest = body-uppers b v ss in
+body_uppers : (b u : ℕ) (ss : List Store) → UppersAsNeeded (data_type_of b) u (body_items (data_kind b) u ss)
+unfolding body_items
+body_uppers b u [] = no_more
+body_uppers b u (s ∷ ss) =
+    let v = upper_of s in
+    let xs = body_items (data_kind b) v ss in
+    let x = data_item (data_type_of b) s in
+    let rest = body_uppers b v ss in
     split (eqb u v)
-    (λ y. rw y (subst (λ (k : ℕ). UppersAsNeeded (dataTypeOf b) u (dataItem k s ∷ xs)) (sym (data-kind b)) (same (omega arith) (subst (λ (w : ℕ). UppersAsNeeded (dataTypeOf b) w xs) (sym (eqb-true u v y)) rest))))
-    (λ n. rw n (subst (λ (k : ℕ). UppersAsNeeded (dataTypeOf b) u (word 0x04 v ∷ dataItem k s ∷ xs)) (sym (data-kind b)) (changed (λ e. eqb-false u v n (sym e)) (omega arith) rest)))
+    (λ y. rw y (subst (λ (k : ℕ). UppersAsNeeded (data_type_of b) u (data_item k s ∷ xs)) (sym (data_kind_lem b)) (same (omega arith) (subst (λ (w : ℕ). UppersAsNeeded (data_type_of b) w xs) (sym (eqb-true u v y)) rest))))
+    (λ n. rw n (subst (λ (k : ℕ). UppersAsNeeded (data_type_of b) u (word 0x04 v ∷ data_item k s ∷ xs)) (sym (data_kind_lem b)) (changed (λ e. eqb-false u v n (sym e)) (omega arith) rest)))
 
-some-form : (b : ℕ) → b < 65536 → (s : Store) (ss : List Store) → Piece s → Pieces ss → Form b (section b (s ∷ ss))
-unfolding bodyItems
-some-form b hb s ss p ps =
-    let v = upperOf s in
+some_form : (b : ℕ) → b < 65536 → (s : Store) (ss : List Store) → Piece s → Pieces ss → Form b (section b (s ∷ ss))
+unfolding body_items
+some_form b hb s ss p ps =
+    let v = upper_of s in
     let k = m b (s ∷ ss) in
-    let w = start-written b hb (next-piece p ps) in
-    let n = length (flatten (startLines b (s ∷ ss))) in
-    let e : n % 2 ≡ 0 = ap (λ (z : ℕ). z % 2) (written-size w) ∙ written-even w in
+    let w = start_written b hb (next_piece p ps) in
+    let n = length (flatten (start_lines b (s ∷ ss))) in
+    let e : n % 2 ≡ 0 = ap (λ (z : ℕ). z % 2) (written_size w) ∙ written_even w in
     record {
       upper = v;
-      address = s .address % 65536;
-      bytes = s .bytes;
-      records = bodyItems (dataKind b) v ss;
+      address = s.address % 65536;
+      bytes = s.bytes;
+      records = body_items (data_kind b) v ss;
       opening = refl;
       low = omega arith;
-      uppers = body-uppers b v ss;
+      uppers = body_uppers b v ss;
       naming = refl;
       fillers = pads k;
       rest = (k - 64 * pads k) / 2;
-      body = rw (eqb-same v, data-kind b);
+      body = rw (eqb_same v, data_kind_lem b);
       closing = refl;
       least = omega arith;
-      after-last = omega arith;
-      before-last = λ h. omega arith;
+      after_last = omega arith;
+      before_last = λ h. omega arith;
     }
 
-pub section-form : (b : ℕ) → b < 65536 → {ss : List Store} → Pieces ss → 1 ≤ length ss → Form b (section b ss)
-section-form b hb no-piece h = absurd (omega arith)
-section-form b hb (next-piece {s} {ss} p ps) h = some-form b hb s ss p ps
+pub section_form : (b : ℕ) → b < 65536 → {ss : List Store} → Pieces ss → 1 ≤ length ss → Form b (section b ss)
+section_form b hb no_piece h = absurd (omega arith)
+section_form b hb (next_piece {s} {ss} p ps) h = some_form b hb s ss p ps

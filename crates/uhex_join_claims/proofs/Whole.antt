@@ -1,71 +1,71 @@
 -- The lines that are written are a file, and what a reader of each board makes of it. Assumes nothing.
-use Prim.Native.Nat.{ℕ, _+_, _≤_}
-use mathlib.Core.Path.{_≡_, refl, sym, ap, _∙_}
-use mathlib.Core.Logic.{_⊎_, ⊎-elim}
+use Prim.Native.Nat.{ℕ, ◌+◌, ◌≤◌}
+use mathlib.Core.Path.{◌≡◌, refl, sym, ap, ◌∙◌}
+use mathlib.Core.Logic.{◌⊎◌, ⊎_elim}
 use mathlib.Core.Bool.{cond}
-use mathlib.Core.List.{List, [], _∷_, _++_, append-assoc, append-nil}
+use mathlib.Core.List.{List, [], ◌∷◌, ◌++◌, append_assoc, append-nil}
 use native.Mathlib.Omega.{arith}
 use lib.Dec.{eqb}
 use lib.ListN.{length}
-use Rattle·laws.specs.Stores.{Store}
-use Rattle·uhex_claims.specs.Items.{Item, sizeOf, item}
-use Rattle·uhex_claims.specs.Whole.{Section, sectionItems, Sections, no-section, allItems, howMany, anyGives, File}
-use Rattle·uhex_claims.specs.Whole as whole
-use Rattle·uhex_claims.specs.State.{between, begin, stateAfter, storesFor}
-use Rattle·uhex_claims.proofs.Runs.{data-all}
-use Rattle·uhex_join.specs.Text.{fileLines, fileText}
-use Rattle·uhex_join_claims·specs.specs.PlainFile.{within}
-use Rattle·uhex_join_claims·proofs.proofs.Written.{Written, nothing, more, written-append, written-size}
-use Rattle·uhex_join_claims·proofs.proofs.Pieces.{Piece, Pieces, next-piece}
-use Rattle·uhex_join_claims·proofs.proofs.Sections.{stores-append, section, section-written, section-size, is-section, section-stores, section-gives}
+use Rattle.laws.specs.Stores.{Store}
+use Rattle.uhex_claims.specs.Items.{Item, size_of, item}
+use Rattle.uhex_claims.specs.Whole.{Section, section_items, Sections, no_section, all_items, how_many, any_gives, File}
+use Rattle.uhex_claims.specs.Whole as whole
+use Rattle.uhex_claims.specs.State.{between, begin, state_after, stores_for}
+use Rattle.uhex_claims.proofs.Runs.{data_all}
+use Rattle.uhex_join.specs.Text.{file_lines, file_text}
+use Rattle.uhex_join_claims.specs.PlainFile.{within}
+use Rattle.uhex_join_claims.proofs.Written.{Written, nothing, more, written_append, written_size}
+use Rattle.uhex_join_claims.proofs.Pieces.{Piece, Pieces, next_piece}
+use Rattle.uhex_join_claims.proofs.Sections.{stores_append, section, section_written, section_size_lem, is_section, section_stores, section_gives}
 
 module _ (a b : List Store) where
   abbrev pub sections : List Section
   sections = section 0x9900 a ∷ section 0x9903 b ∷ []
 
-  abbrev pub fileItems : List Item
-  fileItems = allItems sections ++ (item 0x01 0 [] ∷ [])
+  abbrev pub file_items : List Item
+  file_items = all_items sections ++ (item 0x01 0 [] ∷ [])
 
 module _ {a b : List Store} (ps : Pieces a) (qs : Pieces b) where
   abbrev s1 : List Item
-  s1 = sectionItems (section 0x9900 a)
+  s1 = section_items (section 0x9900 a)
 
   abbrev s2 : List Item
-  s2 = sectionItems (section 0x9903 b)
+  s2 = section_items (section 0x9903 b)
 
-  all-are : allItems (sections a b) ≡ s1 ++ s2
-  unfolding allItems
-  all-are = ap (λ (z : List Item). s1 ++ z) (append-nil s2)
+  all_are : all_items (sections a b) ≡ s1 ++ s2
+  unfolding all_items
+  all_are = ap (λ (z : List Item). s1 ++ z) (append-nil s2)
 
-  pub file-written : Written (fileLines a b) (fileItems a b)
-  unfolding fileLines
-  file-written =
-      rw (all-are, append-assoc s1 s2 (item 0x01 0 [] ∷ []))
-      (written-append (section-written 0x9900 (omega arith) ps)
-      (written-append (section-written 0x9903 (omega arith) qs)
+  pub file_written : Written (file_lines a b) (file_items a b)
+  unfolding file_lines
+  file_written =
+      rw (all_are, append_assoc s1 s2 (item 0x01 0 [] ∷ []))
+      (written_append (section_written 0x9900 (omega arith) ps)
+      (written_append (section_written 0x9903 (omega arith) qs)
       (more (record { kind = omega arith; address = omega arith; short = omega arith; bytes = λ i n. absurd (omega arith) }) nothing)))
 
-  in-order : Sections 0 (sections a b)
-  in-order =
-      whole.section {at = 0} refl (is-section 0x9900 (omega arith) ps)
-      (whole.section {at = 0 + sizeOf s1} (omega (arith, section-size 0x9900 (omega arith) ps)) (is-section 0x9903 (omega arith) qs) no-section)
+  in_order : Sections 0 (sections a b)
+  in_order =
+      whole.section {at = 0} refl (is_section 0x9900 (omega arith) ps)
+      (whole.section {at = 0 + size_of s1} (omega (arith, section_size_lem 0x9900 (omega arith) ps)) (is_section 0x9903 (omega arith) qs) no_section)
 
-  after-first : stateAfter begin s1 .place ≡ between
-  unfolding allItems
-  after-first =
-      let first : Sections 0 (section 0x9900 a ∷ []) = whole.section {at = 0} refl (is-section 0x9900 (omega arith) ps) no-section in
-      ap (λ (z : List Item). stateAfter begin z .place) (sym (append-nil s1)) ∙ data-all 0x9900 first begin refl .0
+  after_first : (state_after begin s1).place ≡ between
+  unfolding all_items
+  after_first =
+      let first : Sections 0 (section 0x9900 a ∷ []) = whole.section {at = 0} refl (is_section 0x9900 (omega arith) ps) no_section in
+      ap (λ (z : List Item). (state_after begin z).place) (sym (append-nil s1)) ∙ (data_all 0x9900 first begin refl).0
 
   -- the own board's pieces, those of V1 or those of V2
-  pub file-stores : (own n : ℕ) → (own ≡ 0x9900) ⊎ (own ≡ 0x9903)
-      → storesFor own n begin (allItems (sections a b)) ≡ within n (cond (eqb own 0x9900) a b)
-  file-stores own n board =
-      let t = stateAfter begin s1 in
-      ap (storesFor own n begin) all-are
-      ∙ stores-append own n begin s1 s2
-      ∙ ap (λ (z : List Store). z ++ storesFor own n t s2) (section-stores 0x9900 (omega arith) ps own n begin refl)
-      ∙ ap (λ (z : List Store). cond (eqb 0x9900 own) (within n a) [] ++ z) (section-stores 0x9903 (omega arith) qs own n t after-first)
-      ∙ ⊎-elim (λ (f : own ≡ 0x9900). rw f (append-nil (within n a))) (λ (f : own ≡ 0x9903). rw f) board
+  pub file_stores : (own n : ℕ) → (own ≡ 0x9900) ⊎ (own ≡ 0x9903)
+      → stores_for own n begin (all_items (sections a b)) ≡ within n (cond (eqb own 0x9900) a b)
+  file_stores own n board =
+      let t = state_after begin s1 in
+      ap (stores_for own n begin) all_are
+      ∙ stores_append own n begin s1 s2
+      ∙ ap (λ (z : List Store). z ++ stores_for own n t s2) (section_stores 0x9900 (omega arith) ps own n begin refl)
+      ∙ ap (λ (z : List Store). cond (eqb 0x9900 own) (within n a) [] ++ z) (section_stores 0x9903 (omega arith) qs own n t after_first)
+      ∙ ⊎_elim (λ (f : own ≡ 0x9900). rw f (append-nil (within n a))) (λ (f : own ≡ 0x9903). rw f) board
 
 -- of two boards with a piece each
 module _ {s t : Store} {ss ts : List Store} (p : Piece s) (ps : Pieces ss) (q : Piece t) (qs : Pieces ts) where
@@ -75,21 +75,21 @@ module _ {s t : Store} {ss ts : List Store} (p : Piece s) (ps : Pieces ss) (q : 
   abbrev b : List Store
   b = t ∷ ts
 
-  pub is-file : length (fileText a b) ≤ 4194304 → (f : File (fileItems a b)) × (f .sections ≡ sections a b) × (f .ending ≡ item 0x01 0 [])
-  unfolding howMany anyGives fileText
-  is-file h = (
+  pub is_file : length (file_text a b) ≤ 4194304 → (f : File (file_items a b)) × (f.sections ≡ sections a b) × (f.ending ≡ item 0x01 0 [])
+  unfolding how_many any_gives file_text
+  is_file h = (
     record {
       sections = sections a b;
       ending = item 0x01 0 [];
       whole = refl;
-      ordered = in-order (next-piece p ps) (next-piece q qs);
+      ordered = in_order (next_piece p ps) (next_piece q qs);
       ends = refl;
       empty = refl;
-      once-v1 = omega arith;
-      once-v2 = omega arith;
-      data-v1 = rw (section-gives 0x9900 s ss p);
-      data-v2 = rw (section-gives 0x9903 t ts q);
-      short = omega (arith, written-size (file-written (next-piece p ps) (next-piece q qs)));
+      once_v1 = omega arith;
+      once_v2 = omega arith;
+      data_v1 = rw (section_gives 0x9900 s ss p);
+      data_v2 = rw (section_gives 0x9903 t ts q);
+      short = omega (arith, written_size (file_written (next_piece p ps) (next_piece q qs)));
     },
     refl,
     refl,

@@ -1,40 +1,40 @@
 -- A reader that is written: its 16 bytes, and that it is read back from them. Assumes nothing.
-use Prim.Native.Nat.{ℕ, _<_, _≤_, _^_}
-use mathlib.Core.Path.{_≡_, refl, ap, _∙_}
+use Prim.Native.Nat.{ℕ, ◌<◌, ◌≤◌, ◌^◌}
+use mathlib.Core.Path.{◌≡◌, refl, ap, ◌∙◌}
 use mathlib.Core.Bool.{Bool, true, false}
-use mathlib.Core.List.{List, [], _∷_, _++_, append-nil}
+use mathlib.Core.List.{List, [], ◌∷◌, ◌++◌, append-nil}
 use native.Mathlib.Omega.{arith}
 use lib.Dec.{leb}
-use lib.ListN.{length, take, drop, drop-of-length-le}
+use lib.ListN.{length, take, drop, drop_of_length-le}
 use lib.Seq.{take-length}
 use borrow.Author.Tests.{eq-eqb}
-use Rattle·laws.specs.Bytes.{lowFirst}
-use Rattle·laws.proofs.BytesLaws.{number-back}
-use Rattle·uf2_block.specs.Block.{fieldAt}
-use Rattle·uf2_block.specs.Write.{le32}
-use Rattle·settings_layout.specs.Layout.{isOn}
-use Rattle·uf2_block.proofs.WriteLaws.{field-le32}
-use Rattle·uhex_grammar.specs.Answers.{positionOf}
-use Rattle·uhex_grammar.specs.declared.Boards.{Boards}
-use Rattle·uhex_grammar.specs.declared.ReaderState.{ReaderState}
-use Rattle·uhex_grammar.specs.declared.ReaderState.the-variants.{Between, Opened, Inside, Padded, Ended, Failed}
-use Rattle·uhex_effects.specs.declared.Reader.{Reader}
-use Rattle·uhex_layout·specs.specs.Readers.{halfAt, readerStateFrom, boardsFrom, fieldsFrom, readerFrom, le16, stateCodeOf, flagOf, stateCodeBytes, boardsBytes, readerBytes, readerWritten}
-use Rattle·uhex_layout·proofs.proofs.Answers.{answer-back}
-use Rattle·uhex_layout·proofs.proofs.Read.{same-reader}
+use Rattle.laws.specs.Bytes.{low_first}
+use Rattle.laws.proofs.BytesLaws.{number_back}
+use Rattle.uf2_block.specs.Block.{field_at}
+use Rattle.uf2_block.specs.Write.{le32}
+use Rattle.settings_layout.specs.Layout.{is_on}
+use Rattle.uf2_block.proofs.WriteLaws.{field_le32}
+use Rattle.uhex_grammar.specs.Answers.{position_of}
+use Rattle.uhex_grammar.specs.declared.Boards.{Boards}
+use Rattle.uhex_grammar.specs.declared.ReaderState.{ReaderState}
+use Rattle.uhex_grammar.specs.declared.ReaderState.TheVariants.{Between, Opened, Inside, Padded, Ended, Failed}
+use Rattle.uhex_effects.specs.declared.Reader.{Reader}
+use Rattle.uhex_layout.specs.Readers.{half_at, reader_state_from, boards_from, fields_from, reader_from, le16, state_code_of, flag_of, state_code_bytes, boards_bytes, reader_bytes, reader_written}
+use Rattle.uhex_layout.proofs.Answers.{answer_back}
+use Rattle.uhex_layout.proofs.Read.{same_reader}
 
 -- ---- written
 
-bytes-length : (r : Reader) → length (readerBytes r) ≡ 16
-unfolding readerBytes stateCodeBytes lowFirst
-bytes-length r = refl
+bytes_length : (r : Reader) → length (reader_bytes r) ≡ 16
+unfolding reader_bytes state_code_bytes low_first
+bytes_length r = refl
 
-pub written-copied : (b : List ℕ) (r : Reader) {s d : List ℕ} → length b ≡ 16 → s ≡ readerBytes r → d ≡ take (length s) s ++ drop (length s) b → d ≡ readerWritten b r
-unfolding readerWritten
-written-copied b r {s} l e h =
-    let n : length (readerBytes r) ≡ 16 = bytes-length r in
-    let past : length b ≤ length (readerBytes r) = omega arith in
-    rw (eq-eqb (length b) 16 l) (h ∙ rw (e, take-length (readerBytes r), drop-of-length-le b past) (append-nil (readerBytes r)))
+pub written_copied : (b : List ℕ) (r : Reader) {s d : List ℕ} → length b ≡ 16 → s ≡ reader_bytes r → d ≡ take (length s) s ++ drop (length s) b → d ≡ reader_written b r
+unfolding reader_written
+written_copied b r {s} l e h =
+    let n : length (reader_bytes r) ≡ 16 = bytes_length r in
+    let past : length b ≤ length (reader_bytes r) = omega arith in
+    rw (eq-eqb (length b) 16 l) (h ∙ rw (e, take-length (reader_bytes r), drop_of_length-le b past) (append-nil (reader_bytes r)))
 
 -- ---- read back
 
@@ -45,95 +45,95 @@ SmallState Opened = Unit
 SmallState (Inside b) = b < 2 ^ 16
 SmallState (Padded b) = b < 2 ^ 16
 SmallState Ended = Unit
-SmallState (Failed f) = positionOf (f .answer) < 2 ^ 16
+SmallState (Failed f) = position_of f.answer < 2 ^ 16
 
 -- the fields are in range
 pub record Small (r : Reader) : Type 0 where
-  pub own : r .own < 2 ^ 16
-  pub upper : r .upper < 2 ^ 16
-  pub offset : r .offset < 2 ^ 32
-  pub state : SmallState (r .state)
+  pub own : r.own < 2 ^ 16
+  pub upper : r.upper < 2 ^ 16
+  pub offset : r.offset < 2 ^ 32
+  pub state : SmallState r.state
 
 -- two bytes of a number, wherever they stand, are read as it
-half-back : (p : List ℕ) (x : ℕ) (s : List ℕ) → x < 2 ^ 16 → halfAt (p ++ (le16 x ++ s)) (length p) ≡ x
-half-back p x s h = number-back 2 x p s h
+half_back : (p : List ℕ) (x : ℕ) (s : List ℕ) → x < 2 ^ 16 → half_at (p ++ (le16 x ++ s)) (length p) ≡ x
+half_back p x s h = number_back 2 x p s h
 
-flag-back : (b : Bool) → isOn (flagOf b) ≡ b
-flag-back true = refl
-flag-back false = refl
+flag_back : (b : Bool) → is_on (flag_of b) ≡ b
+flag_back true = refl
+flag_back false = refl
 
-kind-most : (s : ReaderState) → leb (stateCodeOf s .kind) 5 ≡ true
-kind-most Between = refl
-kind-most Opened = refl
-kind-most (Inside b) = refl
-kind-most (Padded b) = refl
-kind-most Ended = refl
-kind-most (Failed f) = refl
+kind_most : (s : ReaderState) → leb (state_code_of s).kind 5 ≡ true
+kind_most Between = refl
+kind_most Opened = refl
+kind_most (Inside b) = refl
+kind_most (Padded b) = refl
+kind_most Ended = refl
+kind_most (Failed f) = refl
 
-half-most : (s : ReaderState) → SmallState s → stateCodeOf s .half < 2 ^ 16
-half-most Between h = omega arith
-half-most Opened h = omega arith
-half-most (Inside b) h = h
-half-most (Padded b) h = h
-half-most Ended h = omega arith
-half-most (Failed f) h = h
+half_most : (s : ReaderState) → SmallState s → (state_code_of s).half < 2 ^ 16
+half_most Between h = omega arith
+half_most Opened h = omega arith
+half_most (Inside b) h = h
+half_most (Padded b) h = h
+half_most Ended h = omega arith
+half_most (Failed f) h = h
 
-state-back : (s : ReaderState) → readerStateFrom (stateCodeOf s .kind) (stateCodeOf s .failure) (stateCodeOf s .half) ≡ s
-unfolding readerStateFrom
-state-back Between = refl
-state-back Opened = refl
-state-back (Inside b) = refl
-state-back (Padded b) = refl
-state-back Ended = refl
-state-back (Failed f) = rw (answer-back (f .answer))
+state_back : (s : ReaderState) → reader_state_from (state_code_of s).kind (state_code_of s).failure (state_code_of s).half ≡ s
+unfolding reader_state_from
+state_back Between = refl
+state_back Opened = refl
+state_back (Inside b) = refl
+state_back (Padded b) = refl
+state_back Ended = refl
+state_back (Failed f) = rw (answer_back f.answer)
 
-boards-back : (s : Boards) → boardsFrom (flagOf (s .v1)) (flagOf (s .v2)) ≡ s
-boards-back s = rw (flag-back (s .v1), flag-back (s .v2))
+boards_back : (s : Boards) → boards_from (flag_of s.v1) (flag_of s.v2) ≡ s
+boards_back s = rw (flag_back s.v1, flag_back s.v2)
 
 -- each field of its bytes
 module _ (r : Reader) (h : Small r) where
   abbrev own : List ℕ
-  own = le16 (r .own)
+  own = le16 r.own
 
   abbrev upper : List ℕ
-  upper = le16 (r .upper)
+  upper = le16 r.upper
 
   abbrev offset : List ℕ
-  offset = le32 (r .offset)
+  offset = le32 r.offset
 
   abbrev tag : List ℕ
-  tag = stateCodeBytes (stateCodeOf (r .state))
+  tag = state_code_bytes (state_code_of r.state)
 
   abbrev sections : List ℕ
-  sections = boardsBytes (r .«sections_seen») ++ boardsBytes (r .«data_seen»)
+  sections = boards_bytes r.sections_seen ++ boards_bytes r.data_seen
 
-  own-back : halfAt (readerBytes r) 0 ≡ r .own
-  unfolding readerBytes
-  own-back = half-back [] (r .own) (upper ++ (offset ++ (tag ++ sections))) (h .own)
+  own_back : half_at (reader_bytes r) 0 ≡ r.own
+  unfolding reader_bytes
+  own_back = half_back [] r.own (upper ++ (offset ++ (tag ++ sections))) h.own
 
-  upper-back : halfAt (readerBytes r) 2 ≡ r .upper
-  unfolding readerBytes lowFirst
-  upper-back = half-back own (r .upper) (offset ++ (tag ++ sections)) (h .upper)
+  upper_back : half_at (reader_bytes r) 2 ≡ r.upper
+  unfolding reader_bytes low_first
+  upper_back = half_back own r.upper (offset ++ (tag ++ sections)) h.upper
 
-  offset-back : fieldAt (readerBytes r) 4 ≡ r .offset
-  unfolding readerBytes lowFirst
-  offset-back = field-le32 (own ++ upper) (r .offset) (tag ++ sections) (h .offset)
+  offset_back : field_at (reader_bytes r) 4 ≡ r.offset
+  unfolding reader_bytes low_first
+  offset_back = field_le32 (own ++ upper) r.offset (tag ++ sections) h.offset
 
-  code-half-back : halfAt (readerBytes r) 10 ≡ stateCodeOf (r .state) .half
-  unfolding readerBytes stateCodeBytes lowFirst
-  code-half-back =
-      half-back (own ++ (upper ++ (offset ++ (stateCodeOf (r .state) .kind ∷ stateCodeOf (r .state) .failure ∷ [])))) (stateCodeOf (r .state) .half) sections (half-most (r .state) (h .state))
+  code_half_back : half_at (reader_bytes r) 10 ≡ (state_code_of r.state).half
+  unfolding reader_bytes state_code_bytes low_first
+  code_half_back =
+      half_back (own ++ (upper ++ (offset ++ ((state_code_of r.state).kind ∷ (state_code_of r.state).failure ∷ [])))) (state_code_of r.state).half sections (half_most r.state h.state)
 
-  fields-back : fieldsFrom (readerBytes r) ≡ r
-  unfolding fieldsFrom readerBytes stateCodeBytes lowFirst
-  fields-back =
-      same-reader own-back offset-back (ap (readerStateFrom _ _) code-half-back ∙ state-back (r .state)) upper-back (boards-back (r .«sections_seen»)) (boards-back (r .«data_seen»))
+  fields_back : fields_from (reader_bytes r) ≡ r
+  unfolding fields_from reader_bytes state_code_bytes low_first
+  fields_back =
+      same_reader own_back offset_back (ap (reader_state_from _ _) code_half_back ∙ state_back r.state) upper_back (boards_back r.sections_seen) (boards_back r.data_seen)
 
 -- the reader that is read from the bytes written for a reader is that reader
-pub round-trip : (r : Reader) → Small r → readerFrom (readerBytes r) ≡ r
-unfolding readerFrom readerBytes stateCodeBytes lowFirst
-round-trip r h = rw (kind-most (r .state)) (fields-back r h)
+pub round_trip : (r : Reader) → Small r → reader_from (reader_bytes r) ≡ r
+unfolding reader_from reader_bytes state_code_bytes low_first
+round_trip r h = rw (kind_most r.state) (fields_back r h)
 
-pub written-back : (b : List ℕ) (r : Reader) → length b ≡ 16 → Small r → readerFrom (readerWritten b r) ≡ r
-unfolding readerWritten
-written-back b r e h = rw (eq-eqb (length b) 16 e) (round-trip r h)
+pub written_back : (b : List ℕ) (r : Reader) → length b ≡ 16 → Small r → reader_from (reader_written b r) ≡ r
+unfolding reader_written
+written_back b r e h = rw (eq-eqb (length b) 16 e) (round_trip r h)

@@ -1,10 +1,13 @@
 // Hex readers as bytes: how a reader is written. include/uf2_receiver.h has the layout for C; `readerbytes` reads it.
+#![tactic(auto)]
+
 pub mod kept;
 pub mod reading;
-mod states;
+pub mod states;
 
-ghost use mathlib.Core.Path.{_≡_};
-ghost use Rattle·uhex_layout·specs.specs.Readers.{stateCodeOf, flagOf, readerBytes, readerWritten};
+ghost use Rattle.std.specs.Prelude.{◌≡◌};
+ghost use Rattle.uhex_layout.specs.Readers.{state_code_of, flag_of, reader_bytes, reader_written};
+
 use uhex_effects::Reader;
 use uhex_grammar::ReaderState;
 
@@ -12,6 +15,7 @@ use uhex_grammar::ReaderState;
 const READER: usize = 16;
 
 // A reader's state as numbers: the kind, the failure's number, and the section's board or the failure's position; 0 where there is none.
+#[derive(Clone, Copy)]
 struct StateCode {
     kind: u8,
     failure: u8,
@@ -19,7 +23,7 @@ struct StateCode {
 }
 
 fn state_code(state: ReaderState) -> StateCode
-    ensures { λ r. ⌜ r ≡ stateCodeOf state ⌝ }
+    ensures { result ≡ state_code_of state }
 {
     match state {
         ReaderState::Between => StateCode {
@@ -59,14 +63,14 @@ fn state_code(state: ReaderState) -> StateCode
 }
 
 fn flag(on: bool) -> u8
-    ensures { λ r. ⌜ r ≡ flagOf on ⌝ }
+    ensures { result ≡ flag_of on }
 {
     if on { 1 } else { 0 }
 }
 
 // The bytes that a reader is.
 fn reader_bytes(reader: Reader) -> [u8; READER]
-    ensures { λ r. ⌜ r ≡ readerBytes reader ⌝ }
+    ensures { result ≡ reader_bytes reader }
 {
     let own = reader.own;
     let upper = reader.upper;
@@ -98,11 +102,11 @@ fn reader_bytes(reader: Reader) -> [u8; READER]
 
 // Writes a reader, where there are bytes for it.
 pub fn write_reader(bytes: &mut [u8], reader: Reader)
-    ensures { λ _. ⌜ now (bytes .exit) ≡ readerWritten (now (bytes .entry)) reader ⌝ }
+    ensures { bytes.new ≡ reader_written bytes.old reader }
 {
     if bytes.len() != READER {
         return;
     }
     let new = reader_bytes(reader);
-    bytes::copy(&new, bytes);
+    bytes.copy_from_slice(&new);
 }

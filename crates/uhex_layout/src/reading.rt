@@ -1,25 +1,23 @@
 // A hex reader from its bytes. Every byte slice is read; `readers` has the layout.
-ghost use mathlib.Core.Path.{_≡_};
-ghost use Prim.Native.Nat.{_+_, _*_};
-ghost use lib.ListN.{length};
-ghost use Rattle·uhex_layout·specs.specs.Readers.{boardsFrom, stateAt, fieldsFrom, readerFrom};
+ghost use Rattle.std.specs.Prelude.{◌≡◌, ◌+◌, ◌*◌, length};
+ghost use Rattle.uhex_layout.specs.Readers.{boards_from, state_at, fields_from, reader_from};
+
 use uhex_effects::Reader;
-use uhex_grammar::Boards;
-use uhex_grammar::ReaderState;
+use uhex_grammar::{Boards, ReaderState};
 
 // The bytes of a reader.
 const READER: usize = 16;
 
 // Two bytes as a number, low first.
 fn joined(low: u8, high: u8) -> u16
-    ensures { λ r. ⌜ r ≡ low + 256 * high ⌝ }
+    ensures { result ≡ low + 256 * high }
 {
     (low as u16) + 256 * (high as u16)
 }
 
 // Of V1 and of V2, each a flag.
 fn boards(v1: u8, v2: u8) -> Boards
-    ensures { λ r. ⌜ r ≡ boardsFrom v1 v2 ⌝ }
+    ensures { result ≡ boards_from v1 v2 }
 {
     Boards {
         v1: v1 != 0,
@@ -29,8 +27,8 @@ fn boards(v1: u8, v2: u8) -> Boards
 
 // Where a reader of 16 bytes stands.
 fn state_at(bytes: &[u8]) -> ReaderState
-    requires { ⌜ length (now bytes) ≡ 16 ⌝ }
-    ensures { λ r. ⌜ r ≡ stateAt (now (bytes .entry)) ⌝ }
+    requires { length bytes.now ≡ 16 }
+    ensures { result ≡ state_at bytes.now }
 {
     let half = joined(bytes[10], bytes[11]);
     crate::states::state_from(bytes[8], bytes[9], half)
@@ -38,8 +36,8 @@ fn state_at(bytes: &[u8]) -> ReaderState
 
 // The reader that 16 bytes are.
 fn fields(bytes: &[u8]) -> Reader
-    requires { ⌜ length (now bytes) ≡ 16 ⌝ }
-    ensures { λ r. ⌜ r ≡ fieldsFrom (now (bytes .entry)) ⌝ }
+    requires { length bytes.now ≡ 16 }
+    ensures { result ≡ fields_from bytes.now }
 {
     Reader {
         own: joined(bytes[0], bytes[1]),
@@ -53,7 +51,7 @@ fn fields(bytes: &[u8]) -> Reader
 
 // The reader that bytes are.
 pub fn read_reader(bytes: &[u8]) -> Reader
-    ensures { λ r. ⌜ r ≡ readerFrom (now (bytes .entry)) ⌝ }
+    ensures { result ≡ reader_from bytes.now }
 {
     if bytes.len() != READER {
         return Reader::fresh(0);

@@ -1,13 +1,12 @@
 // Where a hex reader stands, from the numbers that its bytes hold; `readers` has the layout.
-ghost use mathlib.Core.Path.{_≡_};
-ghost use Rattle·uhex_layout·specs.specs.Readers.{answerFrom, readerStateFrom};
-use uhex_grammar::Answer;
-use uhex_grammar::Failure;
-use uhex_grammar::ReaderState;
+ghost use Rattle.std.specs.Prelude.{◌≡◌};
+ghost use Rattle.uhex_layout.specs.Readers.{answer_from, reader_state_from};
+
+use uhex_grammar::{Answer, Failure, ReaderState};
 
 // The answer of a number. Any other number is read as 18, which no reader remembers.
 fn answer(n: u8, position: u16) -> Answer
-    ensures { λ r. ⌜ r ≡ answerFrom n position ⌝ }
+    ensures { result ≡ answer_from n position }
 {
     if (n < 18) | (36 < n) {
         return Answer::BadReader;
@@ -38,8 +37,8 @@ fn answer(n: u8, position: u16) -> Answer
 }
 
 // Any kind over 4 is read as a failure.
-pub(crate) fn state_from(kind: u8, failure: u8, half: u16) -> ReaderState
-    ensures { λ r. ⌜ r ≡ readerStateFrom kind failure half ⌝ }
+pub fn state_from(kind: u8, failure: u8, half: u16) -> ReaderState
+    ensures { result ≡ reader_state_from kind failure half }
 {
     if kind == 0 {
         return ReaderState::Between;

@@ -1,46 +1,42 @@
 -- One line: the next reader, the answer, and the image as it is left (01, "Universal Hex, a line at a time"). The definitions of a good record's
 -- outcome and of a line that is read are passed on. Assumes nothing.
-use Prim.Native.Nat.{ℕ}
-use mathlib.Core.Bool.{Bool, _||_, cond}
-use mathlib.Core.List.{List}
-use lib.Dec.{ltb}
-use lib.ListN.{length}
-use Rattle·uhex_grammar.specs.Answers.{numberOf}
-use Rattle·uhex_grammar.specs.declared.Answer.the-variants as answer
-use Rattle·uhex_grammar.specs.declared.ReaderState.{ReaderState}
-use Rattle·uhex_grammar.specs.declared.ReaderState.the-variants.{Between, Opened, Inside, Padded, Ended, Failed}
-use Rattle·uhex_effects.specs.declared.Reader.{Reader}
-use Rattle·uhex_effects.specs.Reader.{badReader}
-pub use Rattle·uhex_reader·specs.specs.Outcome.{LineOutcome, reply, lineOutcome, failedBy, failing, addressOf, outside, storedAt, recordEffect}
-unfoldable pub use Rattle·uhex_reader·specs.specs.Outcome.{storing, effectOutcome, recordOutcome}
-unfoldable pub use Rattle·uhex_reader·specs.specs.Live.{parsedLine, liveLine}
-use Rattle·uhex_reader·specs.specs.declared.Halt.{Halt}
-use Rattle·uhex_reader·specs.specs.declared.Halt.the-variants.{No, By}
+use Rattle.std.specs.Prelude.{ℕ, Bool, ◌||◌, cond, List, ltb, length}
+use Rattle.uhex_grammar.specs.Answers.{number_of}
+use Rattle.uhex_grammar.specs.declared.Answer.TheVariants as answer
+use Rattle.uhex_grammar.specs.declared.ReaderState.{ReaderState}
+use Rattle.uhex_grammar.specs.declared.ReaderState.TheVariants.{Between, Opened, Inside, Padded, Ended, Failed}
+use Rattle.uhex_effects.specs.declared.Reader.{Reader}
+use Rattle.uhex_effects.specs.Reader.{bad_reader}
+pub use Rattle.uhex_reader.specs.Outcome.{LineOutcome, reply, line_outcome, failed_by, failing, address_of, outside, stored_at, record_effect}
+unfoldable pub use Rattle.uhex_reader.specs.Outcome.{storing, effect_outcome, record_outcome}
+unfoldable pub use Rattle.uhex_reader.specs.Live.{parsed_line, live_line}
+use Rattle.uhex_reader.specs.declared.Halt.{Halt}
+use Rattle.uhex_reader.specs.declared.Halt.TheVariants.{No, By}
 
 -- "A failed reader repeats its number and changes nothing. After the end: 31 AfterEnd, nothing changes."
-abbrev pub haltOf : ReaderState → Halt
-haltOf Between = No
-haltOf Opened = No
-haltOf (Inside b) = No
-haltOf (Padded b) = No
-haltOf Ended = By answer.AfterEnd
-haltOf (Failed f) = By (f .answer)
+abbrev pub halt_of : ReaderState → Halt
+halt_of Between = No
+halt_of Opened = No
+halt_of (Inside b) = No
+halt_of (Padded b) = No
+halt_of Ended = By answer.AfterEnd
+halt_of (Failed f) = By f.answer
 
 -- a line to a reader that reads no further, or to one that does
-unfoldable pub haltLine : Reader → List ℕ → List ℕ → Halt → LineOutcome
-haltLine r l img No = liveLine r l img
-haltLine r l img (By a) = lineOutcome r a img
+unfoldable pub halt_line : Reader → List ℕ → List ℕ → Halt → LineOutcome
+halt_line r l img No = live_line r l img
+halt_line r l img (By a) = line_outcome r a img
 
 -- row 19: a board image has "1 to 1,048,576 bytes"
-abbrev pub badImage : ℕ → Bool
-badImage n = ltb n 1 || ltb 1048576 n
+abbrev pub bad_image : ℕ → Bool
+bad_image n = ltb n 1 || ltb 1048576 n
 
 -- rows 19 and 18, which change nothing, then the rest
-unfoldable pub lineOf : Reader → List ℕ → List ℕ → LineOutcome
-lineOf r l img =
-    cond (badImage (length img)) (lineOutcome r answer.BadImage img)
-    (cond (badReader r) (lineOutcome r answer.BadReader img) (haltLine r l img (haltOf (r .state))))
+unfoldable pub line_of : Reader → List ℕ → List ℕ → LineOutcome
+line_of r l img =
+    cond (bad_image (length img)) (line_outcome r answer.BadImage img)
+    (cond (bad_reader r) (line_outcome r answer.BadReader img) (halt_line r l img (halt_of r.state)))
 
 -- and the answer by 01's number
-unfoldable pub lineNumber : Reader → List ℕ → List ℕ → ℕ
-lineNumber r l img = numberOf (lineOf r l img .answer)
+unfoldable pub line_number : Reader → List ℕ → List ℕ → ℕ
+line_number r l img = number_of (line_of r l img).answer

@@ -1,3 +1,3 @@
 -- The reader's definitions, passed on. Assumes nothing.
-pub use Rattle·uhex_effects.specs.Reader.{freshOf}
-unfoldable pub use Rattle·uhex_effects.specs.Reader.{badFailure, badReader, withState, withUpper, withSection, withData, movedTo, givenOf, effectOf}
+pub use Rattle.uhex_effects.specs.Reader.{fresh_of}
+unfoldable pub use Rattle.uhex_effects.specs.Reader.{bad_failure, bad_reader, with_state, with_upper, with_section, with_data, moved_to, given_of, effect_of}

@@ -1,25 +1,27 @@
 // The reader of Universal Hex, a line at a time, for one board.
-mod live;
+#![tactic(auto)]
+
+pub mod live;
 pub mod replies;
 
-ghost use mathlib.Core.Path.{_≡_};
-ghost use Rattle·uhex_grammar.specs.Answers.{numberOf};
-ghost use Rattle·uhex_effects.specs.Reader.{badFailure, badReader};
-ghost use Rattle·uhex_reader·specs.specs.Line.{lineOutcome, haltOf, lineOf, lineNumber};
+ghost use Rattle.std.specs.Prelude.{◌≡◌};
+ghost use Rattle.uhex_grammar.specs.Answers.{number_of};
+ghost use Rattle.uhex_effects.specs.Reader.{bad_failure, bad_reader};
+ghost use Rattle.uhex_reader.specs.Line.{line_outcome, halt_of, line_of, line_number};
+
 use crate::replies::Reply;
 use uhex_effects::Reader;
-use uhex_grammar::Answer;
-use uhex_grammar::Boards;
-use uhex_grammar::ReaderState;
+use uhex_grammar::{Answer, Boards, ReaderState};
 
 // Whether a reader reads on, by where it stands: a failed one repeats its answer, and after the end there is one.
+#[derive(Clone, Copy)]
 enum Halt {
     No,
     By(Answer),
 }
 
 fn halted(state: ReaderState) -> Halt
-    ensures { λ r. ⌜ r ≡ haltOf state ⌝ }
+    ensures { result ≡ halt_of state }
 {
     match state {
         ReaderState::Between => Halt::No,
@@ -36,7 +38,7 @@ fn halted(state: ReaderState) -> Halt
 
 // A remembered failure that cannot be.
 fn bad_failure(state: ReaderState) -> bool
-    ensures { λ r. ⌜ r ≡ badFailure state ⌝ }
+    ensures { result ≡ bad_failure state }
 {
     match state {
         ReaderState::Between => false,
@@ -53,7 +55,7 @@ fn bad_failure(state: ReaderState) -> bool
 
 // Row 18.
 fn is_bad(reader: Reader) -> bool
-    ensures { λ r. ⌜ r ≡ badReader reader ⌝ }
+    ensures { result ≡ bad_reader reader }
 {
     let own = reader.own;
     let state = reader.state;
@@ -64,8 +66,8 @@ fn is_bad(reader: Reader) -> bool
 
 // Reads one line as it is handed, its ending included.
 pub fn line(reader: Reader, line: &[u8], image: &mut [u8]) -> Reply
-    ensures { λ r. ⌜ lineOutcome (r .reader) (r .answer) (now (image .exit)) ≡ lineOf reader (now (line .entry)) (now (image .entry)) ⌝ }
-    ensures number { λ r. ⌜ numberOf (r .answer) ≡ lineNumber reader (now (line .entry)) (now (image .entry)) ⌝ }
+    ensures image_after { line_outcome result.reader result.answer image.new ≡ line_of reader line.now image.old }
+    ensures number { number_of result.answer ≡ line_number reader line.now image.old }
 {
     if (image.len() < 1) | (Reader::IMAGE < image.len()) {
         return Reply {

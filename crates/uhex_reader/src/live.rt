@@ -1,15 +1,16 @@
 // A line of Universal Hex for a reader that is neither failed nor at the end.
-ghost use mathlib.Core.Path.{_≡_};
-ghost use Rattle·uhex_reader·specs.specs.Outcome.{lineOutcome};
-ghost use Rattle·uhex_reader·specs.specs.Live.{liveLine};
+ghost use Rattle.std.specs.Prelude.{◌≡◌};
+ghost use Rattle.uhex_reader.specs.Outcome.{line_outcome};
+ghost use Rattle.uhex_reader.specs.Live.{live_line};
+
 use crate::replies::Reply;
 use ihex_record::ParseResult;
 use uhex_effects::Reader;
 use uhex_grammar::Answer;
 
 // A line for a reader that is neither failed nor at the end.
-pub(crate) fn live(reader: Reader, line: &[u8], image: &mut [u8]) -> Reply
-    ensures { λ r. ⌜ lineOutcome (r .reader) (r .answer) (now (image .exit)) ≡ liveLine reader (now (line .entry)) (now (image .entry)) ⌝ }
+pub fn live(reader: Reader, line: &[u8], image: &mut [u8]) -> Reply
+    ensures { line_outcome result.reader result.answer image.new ≡ live_line reader line.now image.old }
 {
     let offset = reader.offset as usize;
     if Reader::FILE < offset {

@@ -1,21 +1,16 @@
 // What a good record of a line leaves: the next reader of Universal Hex, the answer, and the image.
-ghost use mathlib.Core.Path.{_≡_};
-ghost use mathlib.Core.Bool.{cond};
-ghost use Prim.Native.Nat.{_+_, _≤_};
-ghost use lib.Dec.{ltb};
-ghost use lib.ListN.{length, take};
-ghost use Rattle·laws.specs.Over.{over};
-ghost use Rattle·uhex_grammar.specs.declared.Answer.the-variants.{Outside, Stored};
-ghost use Rattle·uhex_effects.specs.Reader.{movedTo};
-ghost use Rattle·uhex_reader·specs.specs.Outcome.{lineOutcome, reply, failedBy, storedAt, storing, effectOutcome, boundedOutcome};
+ghost use Rattle.std.specs.Prelude.{◌≡◌, cond, ◌+◌, ◌≤◌, ltb, length, take};
+ghost use Rattle.laws.specs.Over.{over};
+ghost use Rattle.uhex_grammar.specs.declared.Answer.TheVariants.{Outside, Stored};
+ghost use Rattle.uhex_effects.specs.Reader.{moved_to};
+ghost use Rattle.uhex_reader.specs.Outcome.{line_outcome, reply, failed_by, stored_at, storing, effect_outcome, bounded_outcome};
+
 use ihex_record::Record;
-use uhex_effects::Effect;
-use uhex_effects::Reader;
-use uhex_grammar::Answer;
-use uhex_grammar::Failure;
-use uhex_grammar::ReaderState;
+use uhex_effects::{Effect, Reader};
+use uhex_grammar::{Answer, Failure, ReaderState};
 
 // The next reader, and the answer.
+#[derive(Clone, Copy)]
 pub struct Reply {
     pub reader: Reader,
     pub answer: Answer,
@@ -23,17 +18,17 @@ pub struct Reply {
 
 // The first n bytes, over the image from an address on.
 fn put_bytes(bytes: &[u8], n: usize, at: usize, image: &mut [u8])
-    requires { ⌜ n ≤ length (now bytes) ⌝ }
-    requires { ⌜ at + n ≤ length (now image) ⌝ }
-    ensures { λ _. ⌜ now (image .exit) ≡ over (now (image .entry)) at (take n (now (bytes .entry))) ⌝ }
+    requires n_in_bounds { n ≤ length bytes.now }
+    requires n_in_bounds_2 { at + n ≤ length image.old }
+    ensures { image.new ≡ over image.old at (take n bytes.now) }
 {
     let e = at + n;
-    bytes::copy(&bytes[..n], &mut image[at..e]);
+    image[at..e].copy_from_slice(&bytes[..n]);
 }
 
 // A line that fails with an answer.
-pub(crate) fn failing(reader: Reader, answer: Answer) -> Reply
-    ensures { λ r. ⌜ r ≡ reply (failedBy answer reader) answer ⌝ }
+pub fn failing(reader: Reader, answer: Answer) -> Reply
+    ensures { result ≡ reply (failed_by answer reader) answer }
 {
     let failure = Failure { answer };
     Reply {
@@ -44,7 +39,7 @@ pub(crate) fn failing(reader: Reader, answer: Answer) -> Reply
 
 // The reader of a line that ends at an offset, and its answer.
 fn moving(reader: Reader, end: u32, answer: Answer) -> Reply
-    ensures { λ r. ⌜ r ≡ reply (movedTo reader end) answer ⌝ }
+    ensures { result ≡ reply (moved_to reader end) answer }
 {
     Reply {
         reader: reader.moved_to(end),
@@ -54,9 +49,9 @@ fn moving(reader: Reader, end: u32, answer: Answer) -> Reply
 
 // The first n bytes, over the image from an address on, where they are wholly in it.
 fn store_at(at: usize, n: usize, bytes: &[u8], image: &mut [u8]) -> Answer
-    requires { ⌜ (n ≤ 32) × (n ≤ length (now bytes)) × (at ≤ 4294967295) ⌝ }
-    ensures { λ r. ⌜ r ≡ cond (ltb (length (now (image .entry))) (at + n)) Outside Stored ⌝ }
-    ensures image { λ _. ⌜ now (image .exit) ≡ storedAt at n (now (bytes .entry)) (now (image .entry)) ⌝ }
+    requires { (n ≤ 32) × (n ≤ length bytes.now) × (at ≤ 4294967295) }
+    ensures value { result ≡ cond (ltb (length image.old) (at + n)) Outside Stored }
+    ensures image { image.new ≡ stored_at at n bytes.now image.old }
 {
     if image.len() < at + n {
         return Answer::Outside;
@@ -67,8 +62,8 @@ fn store_at(at: usize, n: usize, bytes: &[u8], image: &mut [u8]) -> Answer
 
 // Own data, of a line that ends at an offset.
 fn store(reader: Reader, rec: Record, data: &[u8], end: u32, image: &mut [u8]) -> Reply
-    requires { ⌜ (rec .len ≤ 32) × (length (now «data») ≡ 32) ⌝ }
-    ensures { λ r. ⌜ lineOutcome (r .reader) (r .answer) (now (image .exit)) ≡ storing reader rec (now («data» .entry)) end (now (image .entry)) ⌝ }
+    requires { (rec.len ≤ 32) × (length «data».now ≡ 32) }
+    ensures { line_outcome result.reader result.answer image.new ≡ storing reader rec «data».now end image.old }
 {
     let at = Reader::REACH * (reader.upper as usize) + rec.address as usize;
     let answer = store_at(at, rec.len as usize, data, image);
@@ -84,8 +79,8 @@ fn perform(
     end: u32,
     image: &mut [u8],
 ) -> Reply
-    requires { ⌜ (rec .len ≤ 32) × (length (now «data») ≡ 32) ⌝ }
-    ensures { λ r. ⌜ lineOutcome (r .reader) (r .answer) (now (image .exit)) ≡ effectOutcome reader rec (now («data» .entry)) end (now (image .entry)) effect ⌝ }
+    requires { (rec.len ≤ 32) × (length «data».now ≡ 32) }
+    ensures { line_outcome result.reader result.answer image.new ≡ effect_outcome reader rec «data».now end image.old effect }
 {
     match effect {
         Effect::Fails(answer) => failing(reader, answer),
@@ -96,14 +91,14 @@ fn perform(
 }
 
 // A good record of a line that ends at an offset. None that a line says has more than 32 bytes.
-pub(crate) fn apply(
+pub fn apply(
     reader: Reader,
     rec: Record,
     data: [u8; Record::MAX],
     end: u32,
     image: &mut [u8],
 ) -> Reply
-    ensures { λ r. ⌜ lineOutcome (r .reader) (r .answer) (now (image .exit)) ≡ boundedOutcome reader rec «data» end (now (image .entry)) ⌝ }
+    ensures { line_outcome result.reader result.answer image.new ≡ bounded_outcome reader rec «data» end image.old }
 {
     if Record::MAX < rec.len as usize {
         return failing(reader, Answer::TooLong);

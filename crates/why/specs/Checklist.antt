@@ -1,126 +1,123 @@
 -- Every check of an arrival in 01's order with 02's (L3, L8, L9), each a reason with the numbers that it tests, and the one that decides (02, L6).
 -- Assumes nothing.
-use Prim.Native.Nat.{ℕ, _+_}
-use mathlib.Core.Bool.{Bool, false}
-use mathlib.Core.List.{List, [], _∷_, _++_}
-use lib.ListN.{length}
-use Rattle·memory.specs.Bitmap.{markedIn}
-use Rattle·uf2_block.specs.Block.{fieldAt, hasFlag, fieldsOf}
-use Rattle·uf2_block.specs.declared.Block.{Block}
-use Rattle·partitions.specs.declared.Settings.{Settings}
-use Rattle·placement.specs.Place.{placeOf}
-use Rattle·placement.specs.declared.Place.{Place}
-use Rattle·transfer.specs.Transfer.{headWith}
-use Rattle·transfer.specs.declared.Kind.{Kind}
-use Rattle·transfer.specs.declared.Kind.the-variants.{Flash, MainRam, XipRam}
-use Rattle·transfer.specs.declared.Head.{Head}
-use Rattle·transfer.specs.declared.State.{State}
-use Rattle·uf2_checks.specs.declared.Lengths.{Lengths}
-use Rattle·arrival.specs.Arrive.{World, lengthsOf}
-use Rattle·why_settings.specs.Faults.{faultIn, faultsOf, testedOf}
-use Rattle·why_settings.specs.declared.Fault.{Fault}
-use Rattle·why_place.specs.Placing.{denies, flashDenials, ramDenials}
-use Rattle·why_place.specs.declared.Denial.{Denial}
-use Rattle·why_causes.specs.Causes.{reasonWith, numberTest}
-use Rattle·why_causes.specs.Checks.{rowOf, orLast, stateRow, headerRow}
-use Rattle·why_causes.specs.Lengths.{lengthsRow}
-use Rattle·why_causes.specs.declared.Cause.{Cause}
-use Rattle·why_causes.specs.declared.Cause.the-variants.{BadBuffers, BadSettings, BadState, NotBlock, Container, NoFamily, NoPlace, BadPayload, BadNumbers, BadAddress, Finished, Again, Written, Completed, Noted, Kept}
-use Rattle·why_causes.specs.declared.Reason.{Reason}
-use Rattle·why_checks.specs.Block.{startAt, sizeAt, roomOf, kindOf, bodyRow, raisedOf, fateRow, writtenRow, isDone, isAgain, notKept}
+use Rattle.std.specs.Prelude.{ℕ, Bool, false, List, [], ◌∷◌, ◌++◌, length}
+use Rattle.memory.specs.Bitmap.{marked_in}
+use Rattle.uf2_block.specs.Block.{field_at, has_flag, fields_of}
+use Rattle.uf2_block.specs.declared.Block.{Block}
+use Rattle.partitions.specs.declared.Settings.{Settings}
+use Rattle.placement.specs.Place.{place_of}
+use Rattle.placement.specs.declared.Place.{Place}
+use Rattle.transfer.specs.Transfer.{head_with}
+use Rattle.transfer.specs.declared.Kind.{Kind}
+use Rattle.transfer.specs.declared.Kind.TheVariants.{Flash, MainRam, XipRam}
+use Rattle.transfer.specs.declared.Head.{Head}
+use Rattle.transfer.specs.declared.State.{State}
+use Rattle.uf2_checks.specs.declared.Lengths.{Lengths}
+use Rattle.arrival.specs.Arrive.{World, lengths_of}
+use Rattle.why_settings.specs.Faults.{fault_in, faults_of, tested_of}
+use Rattle.why_settings.specs.declared.Fault.{Fault}
+use Rattle.why_place.specs.Placing.{denies, flash_denials, ram_denials}
+use Rattle.why_place.specs.declared.Denial.{Denial}
+use Rattle.why_causes.specs.Causes.{reason_with, number_test}
+use Rattle.why_causes.specs.Checks.{row_of, or_last, state_row, header_row}
+use Rattle.why_causes.specs.Lengths.{lengths_row}
+use Rattle.why_causes.specs.declared.Cause.{Cause}
+use Rattle.why_causes.specs.declared.Cause.TheVariants.{BadBuffers, BadSettings, BadState, NotBlock, Container, NoFamily, NoPlace, BadPayload, BadNumbers, BadAddress, Finished, Again, Written, Completed, Noted, Kept}
+use Rattle.why_causes.specs.declared.Reason.{Reason}
+use Rattle.why_checks.specs.Block.{start_at, size_at, room_of, kind_of, body_row, raised_of, fate_row, written_row, is_done, is_again, not_kept}
 
 -- ---- row 2
 
 -- a fault, with the numbers that it compares
-abbrev pub faultReason : Settings → ℕ → Fault → Reason
-faultReason s len x = reasonWith (BadSettings x) (testedOf s len x .got) (testedOf s len x .against)
+abbrev pub fault_reason : Settings → ℕ → Fault → Reason
+fault_reason s len x = reason_with (BadSettings x) (tested_of s len x).got (tested_of s len x).against
 
 -- faults one after the other
-unfoldable pub faultRow : Settings → ℕ → List Fault → List Reason
-faultRow s len [] = []
-faultRow s len (x ∷ l) = faultReason s len x ∷ faultRow s len l
+unfoldable pub fault_row : Settings → ℕ → List Fault → List Reason
+fault_row s len [] = []
+fault_row s len (x ∷ l) = fault_reason s len x ∷ fault_row s len l
 
 -- row 2, for a flash of len bytes
-unfoldable pub settingsRow : Settings → ℕ → List Reason
-settingsRow s len = faultRow s len (faultsOf s)
+unfoldable pub settings_row : Settings → ℕ → List Reason
+settings_row s len = fault_row s len (faults_of s)
 
 -- ---- rows 8 to 11
 
 -- "the setting or rule that shut the family out"
-abbrev pub denialReason : ℕ → Denial → Reason
-denialReason f x = reasonWith (NoPlace x) f 0
+abbrev pub denial_reason : ℕ → Denial → Reason
+denial_reason f x = reason_with (NoPlace x) f 0
 
 -- rules one after the other
-unfoldable pub denialRow : ℕ → List Denial → List Reason
-denialRow f [] = []
-denialRow f (x ∷ l) = denialReason f x ∷ denialRow f l
+unfoldable pub denial_row : ℕ → List Denial → List Reason
+denial_row f [] = []
+denial_row f (x ∷ l) = denial_reason f x ∷ denial_row f l
 
 -- row 8, by the kind of the block
-unfoldable pub placeRow : Kind → ℕ → List Reason
-placeRow Flash f = denialRow f flashDenials
-placeRow MainRam f = denialRow f ramDenials
-placeRow XipRam f = denialRow f ramDenials
+unfoldable pub place_row : Kind → ℕ → List Reason
+place_row Flash f = denial_row f flash_denials
+place_row MainRam f = denial_row f ram_denials
+place_row XipRam f = denial_row f ram_denials
 
 -- rows 8 to 11, of a block of this kind, where p is its family's place in the flash
-unfoldable pub blockRow : Place → Kind → Lengths → Block → List Reason
-blockRow p k n b = placeRow k (b .family) ++ bodyRow (roomOf p k) n b
+unfoldable pub block_row : Place → Kind → Lengths → Block → List Reason
+block_row p k n b = place_row k b.family ++ body_row (room_of p k) n b
 
 -- ---- all of them
 
 -- the fields of a block, its kind, and what makes it one transfer with others
-abbrev pub blockKind : World → List ℕ → Kind
-blockKind w a = kindOf (lengthsOf (w .held)) (w .transfer) (fieldsOf a)
+abbrev pub block_kind : World → List ℕ → Kind
+block_kind w a = kind_of (lengths_of w.held) w.transfer (fields_of a)
 
-abbrev pub headIn : World → List ℕ → Head
-headIn w a = headWith (blockKind w a) (fieldAt a 28) (fieldAt a 24)
+abbrev pub head_in : World → List ℕ → Head
+head_in w a = head_with (block_kind w a) (field_at a 28) (field_at a 24)
 
 -- the place of its family in the flash
-abbrev pub placeIn : Settings → World → List ℕ → Place
-placeIn s w a = placeOf s (length (w .held .flash)) (fieldAt a 28)
+abbrev pub place_in : Settings → World → List ℕ → Place
+place_in s w a = place_of s (length w.held.flash) (field_at a 28)
 
 -- rows 1 to 3
-unfoldable pub boardRows : Settings → State → ℕ → Lengths → ℕ → ℕ → List Reason
-boardRows s t a n seen sectors = lengthsRow a n seen sectors ++ (settingsRow s (n .flash) ++ stateRow t)
+unfoldable pub board_rows : Settings → State → ℕ → Lengths → ℕ → ℕ → List Reason
+board_rows s t a n seen sectors = lengths_row a n seen sectors ++ (settings_row s n.flash ++ state_row t)
 
 -- every check, in its order
-unfoldable pub checksOf : Settings → World → List ℕ → List Reason
-checksOf s w a =
-    boardRows s (w .transfer) (length a) (lengthsOf (w .held)) (length (w .seen)) (length (w .held .sectors))
-    ++ (headerRow a
-    ++ (blockRow (placeIn s w a) (blockKind w a) (lengthsOf (w .held)) (fieldsOf a)
-    ++ (fateRow (w .transfer) (headIn w a) (fieldAt a 20)
-    ++ writtenRow (raisedOf (w .transfer) (headIn w a)) (fieldAt a 24))))
+unfoldable pub checks_of : Settings → World → List ℕ → List Reason
+checks_of s w a =
+    board_rows s w.transfer (length a) (lengths_of w.held) (length w.seen) (length w.held.sectors)
+    ++ (header_row a
+    ++ (block_row (place_in s w a) (block_kind w a) (lengths_of w.held) (fields_of a)
+    ++ (fate_row w.transfer (head_in w a) (field_at a 20)
+    ++ written_row (raised_of w.transfer (head_in w a)) (field_at a 24))))
 
 -- and 17, where all pass
-abbrev pub lastOf : World → List ℕ → Reason
-lastOf w a = reasonWith Kept (raisedOf (w .transfer) (headIn w a)) (fieldAt a 24)
+abbrev pub last_of : World → List ℕ → Reason
+last_of w a = reason_with Kept (raised_of w.transfer (head_in w a)) (field_at a 24)
 
 -- ---- what each check tests
 
 -- the condition of a check holds, and so it decides, unless an earlier one does: of settings, world and arrival, and in the rows that compare two
 -- numbers of the two that the reason names
-abbrev pub testOf : Settings → World → List ℕ → Cause → ℕ → ℕ → Bool
-testOf s w a (BadBuffers x) g n = numberTest (BadBuffers x) g n
-testOf s w a (BadSettings x) g n = faultIn s (length (w .held .flash)) x
-testOf s w a (BadState x) g n = numberTest (BadState x) g n
-testOf s w a (NotBlock x) g n = numberTest (NotBlock x) g n
-testOf s w a Container g n = numberTest Container g n
-testOf s w a NoFamily g n = numberTest NoFamily g n
-testOf s w a (NoPlace x) g n = denies s (fieldAt a 28) x
-testOf s w a BadPayload g n = numberTest BadPayload g n
-testOf s w a (BadNumbers x) g n = numberTest (BadNumbers x) g n
-testOf s w a (BadAddress x) g n = numberTest (BadAddress x) g n
-testOf s w a Finished g n = isDone (w .transfer)
-testOf s w a Again g n = isAgain (w .transfer) (headIn w a) (markedIn (w .seen) (fieldAt a 20))
-testOf s w a (Written x) g n = notKept (w .held .flash) (startAt (placeIn s w a)) (sizeAt (placeIn s w a)) (blockKind w a) a x
-testOf s w a Completed g n = numberTest Completed g n
-testOf s w a Noted g n = hasFlag a 0x1
-testOf s w a Kept g n = false
+abbrev pub test_of : Settings → World → List ℕ → Cause → ℕ → ℕ → Bool
+test_of s w a (BadBuffers x) g n = number_test (BadBuffers x) g n
+test_of s w a (BadSettings x) g n = fault_in s (length w.held.flash) x
+test_of s w a (BadState x) g n = number_test (BadState x) g n
+test_of s w a (NotBlock x) g n = number_test (NotBlock x) g n
+test_of s w a Container g n = number_test Container g n
+test_of s w a NoFamily g n = number_test NoFamily g n
+test_of s w a (NoPlace x) g n = denies s (field_at a 28) x
+test_of s w a BadPayload g n = number_test BadPayload g n
+test_of s w a (BadNumbers x) g n = number_test (BadNumbers x) g n
+test_of s w a (BadAddress x) g n = number_test (BadAddress x) g n
+test_of s w a Finished g n = is_done w.transfer
+test_of s w a Again g n = is_again w.transfer (head_in w a) (marked_in w.seen (field_at a 20))
+test_of s w a (Written x) g n = not_kept w.held.flash (start_at (place_in s w a)) (size_at (place_in s w a)) (block_kind w a) a x
+test_of s w a Completed g n = number_test Completed g n
+test_of s w a Noted g n = has_flag a 0x1
+test_of s w a Kept g n = false
 
-abbrev pub holdsIn : Settings → World → List ℕ → Reason → Bool
-holdsIn s w a r = testOf s w a (r .cause) (r .got) (r .against)
+abbrev pub holds_in : Settings → World → List ℕ → Reason → Bool
+holds_in s w a r = test_of s w a r.cause r.got r.against
 
 -- ---- the reason
 
-unfoldable pub reasonOf : Settings → World → List ℕ → Reason
-reasonOf s w a = orLast (lastOf w a) (rowOf (holdsIn s w a) (checksOf s w a))
+unfoldable pub reason_of : Settings → World → List ℕ → Reason
+reason_of s w a = or_last (last_of w a) (row_of (holds_in s w a) (checks_of s w a))

@@ -1,29 +1,26 @@
 // Why an arrival is answered as it is, and why a family has a place or none: the check that decides, first in its row as written.
-ghost use mathlib.Core.Path.{_≡_};
-ghost use Rattle·why·specs.specs.Why.{reasonOf, discardsOf, noMarks, denialMarks, entriesOf, whyNumber, whyOf};
-ghost use Rattle·why·specs.specs.Placed.{placedOf, placedMarks, whyPlaceNumber, whyPlaceOf};
-ghost use Rattle·laws.specs.Numbered.{numbered};
-ghost use Rattle·why·specs.specs.Parts.{findingRow, accessRow, accessIn, boardPart, earlyPart, blockPart, placePart};
-ghost use Rattle·why_settings.specs.Faults.{firstFault};
-ghost use Rattle·arrival.specs.Lending.{lentAt, world};
+#![tactic(auto)]
+
+ghost use Rattle.std.specs.Prelude.{◌≡◌};
+ghost use Rattle.why.specs.Why.{reason_of, discards_of, no_marks, denial_marks, entries_of, why_number, why_of};
+ghost use Rattle.why.specs.Placed.{placed_of, placed_marks, why_place_number, why_place_of};
+ghost use Rattle.laws.specs.Numbered.{numbered};
+ghost use Rattle.why.specs.Parts.{finding_row, access_row, access_in, board_part, early_part, block_part, place_part};
+ghost use Rattle.why_settings.specs.Faults.{first_fault};
+ghost use Rattle.arrival.specs.Lending.{lent_at, world};
+
 use partitions::Settings;
 use placement::Place;
-use transfer::Head;
-use transfer::Kind;
-use transfer::Transfer;
+use transfer::{Head, Kind, Transfer};
 use uf2_block::Block;
 use uf2_checks::Lengths;
-use why_causes::Cause;
-use why_causes::Reason;
-use why_causes::Row;
-use why_place::Access;
-use why_place::Denial;
-use why_place::Rule;
-use why_place::Spot;
+use why_causes::{Cause, Reason, Row};
+use why_place::{Access, Denial, Rule, Spot};
 use why_settings::Finding;
 
 // Why an arrival is answered as it is: the reason, whether a running transfer is discarded and, where no entry of a table takes the family, a mark for
 // each used entry: 1 "B of", else 2 "doesn't accept".
+#[derive(Clone, Copy)]
 pub struct Why {
     pub reason: Reason,
     pub discarded: bool,
@@ -31,6 +28,7 @@ pub struct Why {
 }
 
 // Where a place comes from: the rule that gives the whole flash, or the pass, 1 to 4, and the entry; or why there is none.
+#[derive(Clone, Copy)]
 pub enum PlaceOrigin {
     Refused(Reason),
     Whole(Rule),
@@ -38,6 +36,7 @@ pub enum PlaceOrigin {
 }
 
 // The same with the marks of the entries.
+#[derive(Clone, Copy)]
 pub struct WhyPlace {
     pub placed: PlaceOrigin,
     pub entries: [u8; 16],
@@ -47,7 +46,7 @@ pub struct WhyPlace {
 
 // The first fault of the settings, with its numbers.
 fn fault_row(settings: Settings, flash_len: usize) -> Row
-    ensures { λ r. ⌜ r ≡ findingRow settings «flash_len» (firstFault settings «flash_len») ⌝ }
+    ensures { result ≡ finding_row settings flash_len (first_fault settings flash_len) }
 {
     match why_settings::first::first(settings, flash_len) {
         Finding::Sound => Row::Passes,
@@ -60,7 +59,7 @@ fn fault_row(settings: Settings, flash_len: usize) -> Row
 
 // Row 2. Good settings have no fault, which is told sooner than each fault that they do not have.
 fn settings_row(settings: Settings, flash_len: usize) -> Row
-    ensures { λ r. ⌜ r ≡ findingRow settings «flash_len» (firstFault settings «flash_len») ⌝ }
+    ensures { result ≡ finding_row settings flash_len (first_fault settings flash_len) }
 {
     if partitions::validity::good(settings, flash_len) {
         return Row::Passes;
@@ -77,7 +76,7 @@ fn board_row(
     seen: usize,
     sectors: usize,
 ) -> Row
-    ensures { λ r. ⌜ r ≡ boardPart settings (transfer .state) arrival lens seen sectors ⌝ }
+    ensures { result ≡ board_part settings transfer.state arrival lens seen sectors }
 {
     let first = why_causes::lengths::lengths_row(arrival, lens, seen, sectors);
     if let Row::Decides(x) = first {
@@ -99,7 +98,7 @@ fn early_row(
     seen: usize,
     sectors: usize,
 ) -> Row
-    ensures { λ r. ⌜ r ≡ earlyPart settings (transfer .state) (now (arrival .entry)) lens seen sectors ⌝ }
+    ensures { result ≡ early_part settings transfer.state arrival.now lens seen sectors }
 {
     let board = board_row(settings, transfer, arrival.len(), lens, seen, sectors);
     if let Row::Decides(x) = board {
@@ -111,7 +110,7 @@ fn early_row(
 // ---- rows 8 to 11
 
 fn access_row(access: Access, family: u32) -> Row
-    ensures { λ r. ⌜ r ≡ accessRow family access ⌝ }
+    ensures { result ≡ access_row family access }
 {
     match access {
         Access::Granted => Row::Passes,
@@ -121,7 +120,7 @@ fn access_row(access: Access, family: u32) -> Row
 
 // What shuts a family out, by the kind of its block.
 fn access_in(settings: Settings, kind: Kind, family: u32) -> Access
-    ensures { λ r. ⌜ r ≡ accessIn settings kind family ⌝ }
+    ensures { result ≡ access_in settings kind family }
 {
     match kind {
         Kind::Flash => why_place::flash_access(settings, family),
@@ -132,7 +131,7 @@ fn access_in(settings: Settings, kind: Kind, family: u32) -> Access
 
 // Rows 8 to 11, where `place` is the family's in the flash.
 fn block_row(settings: Settings, place: Place, kind: Kind, lens: Lengths, b: Block) -> Row
-    ensures { λ r. ⌜ r ≡ blockPart settings place kind lens b ⌝ }
+    ensures { result ≡ block_part settings place kind lens b }
 {
     let access = access_in(settings, kind, b.family);
     let denial = access_row(access, b.family);
@@ -156,7 +155,7 @@ fn reason_of(
     main: &[u8],
     xip: &[u8],
 ) -> Reason
-    ensures { λ r. ⌜ r ≡ reasonOf settings (world transfer (lentAt flash seen sectors main xip)) (now (arrival .entry)) ⌝ }
+    ensures { result ≡ reason_of settings (world transfer (lent_at flash.now seen.now sectors.now main.now xip.now)) arrival.now }
 {
     let lens = Lengths {
         flash: flash.len(),
@@ -176,34 +175,27 @@ fn reason_of(
     }
     let head = Head::new(kind, b.family, b.total);
     why_checks::late(
-        transfer,
-        head,
-        place,
-        b.comment,
-        b.number,
-        arrival,
-        flash,
-        seen,
+        transfer, head, place, b.comment, b.number, arrival, flash, seen,
     )
 }
 
 // Is a running transfer discarded, of a block of this head?
 fn discards(transfer: Transfer, head: Head, cause: Cause) -> bool
-    ensures { λ r. ⌜ r ≡ discardsOf (transfer .state) head cause ⌝ }
+    ensures { result ≡ discards_of transfer.state head cause }
 {
     let number = cause.answer().number();
     why_causes::progress::discards(transfer, head, number)
 }
 
 fn no_marks() -> [u8; 16]
-    ensures { λ r. ⌜ r ≡ noMarks ⌝ }
+    ensures { result ≡ no_marks }
 {
     [0; 16]
 }
 
 // The marks of the entries, where no entry of a table takes the family.
 fn denial_marks(settings: Settings, family: u32, denial: Denial) -> [u8; 16]
-    ensures { λ r. ⌜ r ≡ denialMarks settings family denial ⌝ }
+    ensures { result ≡ denial_marks settings family denial }
 {
     let Denial::NoEntry = denial else {
         return no_marks();
@@ -212,7 +204,7 @@ fn denial_marks(settings: Settings, family: u32, denial: Denial) -> [u8; 16]
 }
 
 fn entries_of(settings: Settings, family: u32, cause: Cause) -> [u8; 16]
-    ensures { λ r. ⌜ r ≡ entriesOf settings family cause ⌝ }
+    ensures { result ≡ entries_of settings family cause }
 {
     let Cause::NoPlace(x) = cause else {
         return no_marks();
@@ -231,7 +223,7 @@ pub fn explain(
     main: &[u8],
     xip: &[u8],
 ) -> Why
-    ensures { λ r. ⌜ numbered whyNumber r ≡ numbered whyNumber (whyOf settings (world transfer (lentAt flash seen sectors main xip)) (now (arrival .entry))) ⌝ }
+    ensures { numbered why_number result ≡ numbered why_number (why_of settings (world transfer (lent_at flash.now seen.now sectors.now main.now xip.now)) arrival.now) }
 {
     let reason = reason_of(settings, transfer, arrival, flash, seen, sectors, main, xip);
     let cause = reason.cause;
@@ -256,7 +248,7 @@ pub fn explain(
 
 // Rows 1 and 2.
 fn place_row(settings: Settings, flash_len: usize) -> Row
-    ensures { λ r. ⌜ r ≡ placePart settings «flash_len» ⌝ }
+    ensures { result ≡ place_part settings flash_len }
 {
     let first = why_causes::lengths::flash_row(flash_len);
     if let Row::Decides(x) = first {
@@ -267,7 +259,7 @@ fn place_row(settings: Settings, flash_len: usize) -> Row
 
 // Where the place comes from, or why there is none.
 fn place_source(settings: Settings, flash_len: usize, family: u32) -> PlaceOrigin
-    ensures { λ r. ⌜ r ≡ placedOf settings «flash_len» family ⌝ }
+    ensures { result ≡ placed_of settings flash_len family }
 {
     let row = place_row(settings, flash_len);
     if let Row::Decides(x) = row {
@@ -281,7 +273,7 @@ fn place_source(settings: Settings, flash_len: usize, family: u32) -> PlaceOrigi
 }
 
 fn placed_marks(settings: Settings, family: u32, placed: PlaceOrigin) -> [u8; 16]
-    ensures { λ r. ⌜ r ≡ placedMarks settings family placed ⌝ }
+    ensures { result ≡ placed_marks settings family placed }
 {
     match placed {
         PlaceOrigin::Refused(x) => {
@@ -295,7 +287,7 @@ fn placed_marks(settings: Settings, family: u32, placed: PlaceOrigin) -> [u8; 16
 
 // Why a family has a place in a flash of so many bytes, or none.
 pub fn explain_place(settings: Settings, flash_len: usize, family: u32) -> WhyPlace
-    ensures { λ r. ⌜ numbered whyPlaceNumber r ≡ numbered whyPlaceNumber (whyPlaceOf settings «flash_len» family) ⌝ }
+    ensures { numbered why_place_number result ≡ numbered why_place_number (why_place_of settings flash_len family) }
 {
     let found = place_source(settings, flash_len, family);
     let entries = placed_marks(settings, family, found);

@@ -1,41 +1,41 @@
 -- Rows one after the other, and that the check that is told is the one that decides, whatever the checks and their test. Assumes nothing.
-use mathlib.Core.Path.{_≡_, refl, sym, ap, _∙_}
-use mathlib.Core.Bool.{Bool, true, false, cond, _||_}
-use mathlib.Core.List.{List, [], _∷_, _++_}
-use Rattle·why_causes·specs.specs.declared.Reason.{Reason}
-use Rattle·why_causes·specs.specs.declared.Row.{Row}
-use Rattle·why_causes·specs.specs.declared.Row.the-variants.{Passes, Decides}
-use Rattle·why_causes·specs.specs.Checks.{rowOf, orNext, orLast, Deciding, none, here, later}
+use mathlib.Core.Path.{◌≡◌, refl, sym, ap, ◌∙◌}
+use mathlib.Core.Bool.{Bool, true, false, cond}
+use mathlib.Core.List.{List, [], ◌∷◌, ◌++◌}
+use Rattle.why_causes.specs.declared.Reason.{Reason}
+use Rattle.why_causes.specs.declared.Row.{Row}
+use Rattle.why_causes.specs.declared.Row.TheVariants.{Passes, Decides}
+use Rattle.why_causes.specs.Checks.{row_of, or_next, or_last, Deciding, none, here, later}
 
 module _ (test : Reason → Bool) where
-  pub rows-next : (l m : List Reason) → rowOf test (l ++ m) ≡ orNext (rowOf test l) (rowOf test m)
-  unfolding rowOf
-  rows-next [] m = refl
-  rows-next (c ∷ l) m = by-case (test c) c (rowOf test (l ++ m)) (rowOf test l) (rowOf test m) (rows-next l m)
+  pub rows_next : (l m : List Reason) → row_of test (l ++ m) ≡ or_next (row_of test l) (row_of test m)
+  unfolding row_of
+  rows_next [] m = refl
+  rows_next (c ∷ l) m = by-case (test c) c (row_of test (l ++ m)) (row_of test l) (row_of test m) (rows_next l m)
     where
-      by-case : (b : Bool) (x : Reason) (p q r : Row) → p ≡ orNext q r → cond b (Decides x) p ≡ orNext (cond b (Decides x) q) r
+      by-case : (b : Bool) (x : Reason) (p q r : Row) → p ≡ or_next q r → cond b (Decides x) p ≡ or_next (cond b (Decides x) q) r
       by-case true x p q r e = refl
       by-case false x p q r e = e
 
   -- a row that decides, and one that passes to the next
-  module _ (l m : List Reason) {r : Row} (e : r ≡ rowOf test l) where
-    pub row-decides : {x : Reason} → r ≡ Decides x → Decides x ≡ rowOf test (l ++ m)
-    row-decides h = sym (rows-next l m ∙ ap (λ (q : Row). orNext q (rowOf test m)) (sym e ∙ h))
+  module _ (l m : List Reason) {r : Row} (e : r ≡ row_of test l) where
+    pub row_decides : {x : Reason} → r ≡ Decides x → Decides x ≡ row_of test (l ++ m)
+    row_decides h = sym (rows_next l m ∙ ap (λ (q : Row). or_next q (row_of test m)) (sym e ∙ h))
 
-    pub row-passes : {q : Row} → r ≡ Passes → q ≡ rowOf test m → q ≡ rowOf test (l ++ m)
-    row-passes h k = k ∙ sym (rows-next l m ∙ ap (λ (q : Row). orNext q (rowOf test m)) (sym e ∙ h))
+    pub row_passes : {q : Row} → r ≡ Passes → q ≡ row_of test m → q ≡ row_of test (l ++ m)
+    row_passes h k = k ∙ sym (rows_next l m ∙ ap (λ (q : Row). or_next q (row_of test m)) (sym e ∙ h))
 
   -- a check that passes to the next
-  pub row-later : (c : Reason) (l : List Reason) {q : Row} → test c ≡ false → q ≡ rowOf test l → q ≡ rowOf test (c ∷ l)
-  unfolding rowOf
-  row-later c l h e = e ∙ sym (rw h)
+  pub row_later : (c : Reason) (l : List Reason) {q : Row} → test c ≡ false → q ≡ row_of test l → q ≡ row_of test (c ∷ l)
+  unfolding row_of
+  row_later c l h e = e ∙ sym (rw h)
 
   -- the reason is the true one
-  pub deciding : (last : Reason) (l : List Reason) → Deciding test last l (orLast last (rowOf test l))
-  unfolding rowOf
+  pub deciding : (last : Reason) (l : List Reason) → Deciding test last l (or_last last (row_of test l))
+  unfolding row_of
   deciding last [] = none
   deciding last (c ∷ l) = by-case (test c) refl (deciding last l)
     where
-      by-case : (b : Bool) → test c ≡ b → Deciding test last l (orLast last (rowOf test l)) → Deciding test last (c ∷ l) (orLast last (cond b (Decides c) (rowOf test l)))
+      by-case : (b : Bool) → test c ≡ b → Deciding test last l (or_last last (row_of test l)) → Deciding test last (c ∷ l) (or_last last (cond b (Decides c) (row_of test l)))
       by-case true h d = here h
       by-case false h d = later h d

@@ -1,38 +1,35 @@
 -- Checks in their order, and which of them decides (02, L6): "first in its row as written (then the first field, map or entry in 01)". A check is the
 -- reason that it is where it decides, and a test of its condition and its numbers tells whether it does. Assumes nothing.
-use Prim.Native.Nat.{ℕ}
-use mathlib.Core.Path.{_≡_}
-use mathlib.Core.Bool.{Bool, true, false, cond}
-use mathlib.Core.List.{List, [], _∷_, _++_}
-use Rattle·uf2_block.specs.Block.{fieldAt}
-use Rattle·transfer.specs.declared.Head.{Head}
-use Rattle·transfer.specs.declared.Run.{Run}
-use Rattle·transfer.specs.declared.State.{State}
-use Rattle·transfer.specs.declared.State.the-variants.{Idle, Running, Done}
-use Rattle·why_causes·specs.specs.declared.Bound.the-variants.{CountUnder, CountOver, RunningOver, DoneUnder, DoneOver}
-use Rattle·why_causes·specs.specs.declared.Magic.the-variants.{First, Second, Last}
-use Rattle·why_causes·specs.specs.declared.Cause.the-variants.{BadState, NotBlock, Container, NoFamily}
-use Rattle·why_causes·specs.specs.declared.Reason.{Reason}
-use Rattle·why_causes·specs.specs.declared.Row.{Row}
-use Rattle·why_causes·specs.specs.declared.Row.the-variants.{Passes, Decides}
-use Rattle·why_causes·specs.specs.Causes.{reasonWith, numberTest}
+use Rattle.std.specs.Prelude.{ℕ, ◌≡◌, Bool, true, false, cond, List, [], ◌∷◌, ◌++◌}
+use Rattle.uf2_block.specs.Block.{field_at}
+use Rattle.transfer.specs.declared.Head.{Head}
+use Rattle.transfer.specs.declared.Run.{Run}
+use Rattle.transfer.specs.declared.State.{State}
+use Rattle.transfer.specs.declared.State.TheVariants.{Idle, Running, Done}
+use Rattle.why_causes.specs.declared.Bound.TheVariants.{CountUnder, CountOver, RunningOver, DoneUnder, DoneOver}
+use Rattle.why_causes.specs.declared.Magic.TheVariants.{First, Second, Last}
+use Rattle.why_causes.specs.declared.Cause.TheVariants.{BadState, NotBlock, Container, NoFamily}
+use Rattle.why_causes.specs.declared.Reason.{Reason}
+use Rattle.why_causes.specs.declared.Row.{Row}
+use Rattle.why_causes.specs.declared.Row.TheVariants.{Passes, Decides}
+use Rattle.why_causes.specs.Causes.{reason_with, number_test}
 
 -- ---- which check decides
 
 -- the first check whose test holds
-unfoldable pub rowOf : (Reason → Bool) → List Reason → Row
-rowOf test [] = Passes
-rowOf test (c ∷ l) = cond (test c) (Decides c) (rowOf test l)
+unfoldable pub row_of : (Reason → Bool) → List Reason → Row
+row_of test [] = Passes
+row_of test (c ∷ l) = cond (test c) (Decides c) (row_of test l)
 
 -- the row before, or what comes next
-abbrev pub orNext : Row → Row → Row
-orNext Passes r = r
-orNext (Decides x) r = Decides x
+abbrev pub or_next : Row → Row → Row
+or_next Passes r = r
+or_next (Decides x) r = Decides x
 
 -- the reason of a row, and `last` where every check passes
-abbrev pub orLast : Reason → Row → Reason
-orLast last Passes = last
-orLast last (Decides x) = x
+abbrev pub or_last : Reason → Row → Reason
+or_last last Passes = last
+or_last last (Decides x) = x
 
 -- "every earlier check passes, this one doesn't"; or all pass, and the last reason stands
 pub data Deciding (test : Reason → Bool) (last : Reason) : List Reason → Reason → Type 0 where
@@ -41,37 +38,37 @@ pub data Deciding (test : Reason → Bool) (last : Reason) : List Reason → Rea
   later : {c r : Reason} {l : List Reason} → test c ≡ false → Deciding test last l r → Deciding test last (c ∷ l) r
 
 -- the test of a condition that compares its two numbers
-abbrev pub byNumbers : Reason → Bool
-byNumbers r = numberTest (r .cause) (r .got) (r .against)
+abbrev pub by_numbers : Reason → Bool
+by_numbers r = number_test r.cause r.got r.against
 
 -- ---- row 3: "Running without 1 <= count < total <= 131,072; Done without 1 <= total <= 131,072"
 
-unfoldable pub runningRow : Run → List Reason
-runningRow r =
-    reasonWith (BadState CountUnder) (r .count) 1
-    ∷ reasonWith (BadState CountOver) (r .count) (r .head .total)
-    ∷ reasonWith (BadState RunningOver) (r .head .total) 131072
+unfoldable pub running_row : Run → List Reason
+running_row r =
+    reason_with (BadState CountUnder) r.count 1
+    ∷ reason_with (BadState CountOver) r.count r.head.total
+    ∷ reason_with (BadState RunningOver) r.head.total 131072
     ∷ []
 
-unfoldable pub doneRow : Head → List Reason
-doneRow g = reasonWith (BadState DoneUnder) (g .total) 1 ∷ reasonWith (BadState DoneOver) (g .total) 131072 ∷ []
+unfoldable pub done_row : Head → List Reason
+done_row g = reason_with (BadState DoneUnder) g.total 1 ∷ reason_with (BadState DoneOver) g.total 131072 ∷ []
 
-unfoldable pub stateRow : State → List Reason
-stateRow Idle = []
-stateRow (Running r) = runningRow r
-stateRow (Done g) = doneRow g
+unfoldable pub state_row : State → List Reason
+state_row Idle = []
+state_row (Running r) = running_row r
+state_row (Done g) = done_row g
 
 -- ---- rows 4, 5 and 7: "a magic number differs", "flag 0x1000", "flag 0x2000 clear"
 
-unfoldable pub magicRow : ℕ → ℕ → ℕ → List Reason
-magicRow first second last =
-    reasonWith (NotBlock First) first 0x0A324655
-    ∷ reasonWith (NotBlock Second) second 0x9E5D5157
-    ∷ reasonWith (NotBlock Last) last 0x0AB16F30
+unfoldable pub magic_row : ℕ → ℕ → ℕ → List Reason
+magic_row first second last =
+    reason_with (NotBlock First) first 0x0A324655
+    ∷ reason_with (NotBlock Second) second 0x9E5D5157
+    ∷ reason_with (NotBlock Last) last 0x0AB16F30
     ∷ []
 
-unfoldable pub flagsRow : ℕ → List Reason
-flagsRow flags = reasonWith Container flags 0x1000 ∷ reasonWith NoFamily flags 0x2000 ∷ []
+unfoldable pub flags_row : ℕ → List Reason
+flags_row flags = reason_with Container flags 0x1000 ∷ reason_with NoFamily flags 0x2000 ∷ []
 
-unfoldable pub headerRow : List ℕ → List Reason
-headerRow a = magicRow (fieldAt a 0) (fieldAt a 4) (fieldAt a 508) ++ flagsRow (fieldAt a 8)
+unfoldable pub header_row : List ℕ → List Reason
+header_row a = magic_row (field_at a 0) (field_at a 4) (field_at a 508) ++ flags_row (field_at a 8)

@@ -1,22 +1,21 @@
 -- Rows 9 to 11 of a data block, each check with the numbers that it tests (02, L6). Assumes nothing.
-use Prim.Native.Nat.{ℕ, _+_}
-use mathlib.Core.List.{List, _++_}
-use Rattle·uf2_block.specs.declared.Block.{Block}
-use Rattle·transfer.specs.declared.Kind.{Kind}
-use Rattle·transfer.specs.declared.Kind.the-variants.{Flash, MainRam, XipRam}
-use Rattle·uf2_checks.specs.Screen.{baseOf, extentOf}
-use Rattle·uf2_checks.specs.declared.Window.{Window}
-use Rattle·uf2_checks.specs.declared.Window.the-variants.{Outside, In}
-use Rattle·why_causes·specs.specs.declared.Reason.{Reason}
-use Rattle·why_causes·specs.specs.Numbers.{payloadRow, numbersRow, addressRow, strayRow, windowRow}
+use Rattle.std.specs.Prelude.{ℕ, ◌+◌, List, ◌++◌}
+use Rattle.uf2_block.specs.declared.Block.{Block}
+use Rattle.transfer.specs.declared.Kind.{Kind}
+use Rattle.transfer.specs.declared.Kind.TheVariants.{Flash, MainRam, XipRam}
+use Rattle.uf2_checks.specs.Screen.{base_of, extent_of}
+use Rattle.uf2_checks.specs.declared.Window.{Window}
+use Rattle.uf2_checks.specs.declared.Window.TheVariants.{Outside, In}
+use Rattle.why_causes.specs.declared.Reason.{Reason}
+use Rattle.why_causes.specs.Numbers.{payload_row, numbers_row, address_row, stray_row, window_row}
 
 -- row 11, of a data block in the window of its kind
-unfoldable pub addressIn : Kind → ℕ → ℕ → List Reason
-addressIn Flash address size = addressRow address size
-addressIn MainRam address size = windowRow address (baseOf MainRam + extentOf MainRam)
-addressIn XipRam address size = windowRow address (baseOf XipRam + extentOf XipRam)
+unfoldable pub address_in : Kind → ℕ → ℕ → List Reason
+address_in Flash address size = address_row address size
+address_in MainRam address size = window_row address (base_of MainRam + extent_of MainRam)
+address_in XipRam address size = window_row address (base_of XipRam + extent_of XipRam)
 
 -- rows 9 to 11, of a data block; "For an address in no window .. 11 comes before 10" (02, L8)
-unfoldable pub pageRow : Window → ℕ → Block → List Reason
-pageRow Outside size b = payloadRow (b .size) ++ (strayRow (b .address) ++ numbersRow (b .total) (b .number) size)
-pageRow (In k) size b = payloadRow (b .size) ++ (numbersRow (b .total) (b .number) size ++ addressIn k (b .address) size)
+unfoldable pub page_row : Window → ℕ → Block → List Reason
+page_row Outside size b = payload_row b.size ++ (stray_row b.address ++ numbers_row b.total b.number size)
+page_row (In k) size b = payload_row b.size ++ (numbers_row b.total b.number size ++ address_in k b.address size)

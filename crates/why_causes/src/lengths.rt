@@ -1,26 +1,24 @@
 // Row 1: the lengths of the arrival, the flash, the maps and the buffers of RAM. The first that is wrong decides.
-ghost use mathlib.Core.Path.{_≡_};
-ghost use Rattle·why_causes·specs.specs.Causes.{reasonWith};
-ghost use Rattle·why_causes·specs.specs.Checks.{byNumbers, rowOf};
-ghost use Rattle·why_causes·specs.specs.Lengths.{flashRow, bufferRow, lengthsRow};
-use crate::Cause;
-use crate::Length;
-use crate::Row;
+ghost use Rattle.std.specs.Prelude.{◌≡◌};
+ghost use Rattle.why_causes.specs.Causes.{reason_with};
+ghost use Rattle.why_causes.specs.Checks.{by_numbers, row_of};
+ghost use Rattle.why_causes.specs.Lengths.{flash_row, buffer_row, lengths_row};
+
+use crate::{Cause, Length, Row};
 use memory::flash::Flash;
 use uf2_block::Block;
-use uf2_checks::Lengths;
-use uf2_checks::Window;
+use uf2_checks::{Lengths, Window};
 
 // Row 1: this length is wrong.
 fn bad_length(x: Length, got: usize, against: usize) -> Row
-    ensures { λ r. ⌜ r ≡ Row.Decides (reasonWith (Cause.BadBuffers x) got against) ⌝ }
+    ensures { result ≡ Row.Decides (reason_with (Cause.BadBuffers x) got against) }
 {
     crate::decides(Cause::BadBuffers(x), got as u64, against as u64)
 }
 
 // The flash's length, which a place asked for alone has too.
 pub fn flash_row(len: usize) -> Row
-    ensures { λ r. ⌜ r ≡ rowOf byNumbers (flashRow len) ⌝ }
+    ensures { result ≡ row_of by_numbers (flash_row len) }
 {
     if len % Flash::SECTOR != 0 {
         return bad_length(Length::FlashRagged, len, Flash::SECTOR);
@@ -36,7 +34,7 @@ pub fn flash_row(len: usize) -> Row
 
 // The maps, then the buffers of RAM, which may be empty.
 fn buffer_row(seen: usize, sectors: usize, main: usize, xip: usize) -> Row
-    ensures { λ r. ⌜ r ≡ rowOf byNumbers (bufferRow seen sectors main xip) ⌝ }
+    ensures { result ≡ row_of by_numbers (buffer_row seen sectors main xip) }
 {
     if seen != 16384 {
         return bad_length(Length::Seen, seen, 16384);
@@ -55,7 +53,7 @@ fn buffer_row(seen: usize, sectors: usize, main: usize, xip: usize) -> Row
 
 // Row 1.
 pub fn lengths_row(arrival: usize, lens: Lengths, seen: usize, sectors: usize) -> Row
-    ensures { λ r. ⌜ r ≡ rowOf byNumbers (lengthsRow arrival lens seen sectors) ⌝ }
+    ensures { result ≡ row_of by_numbers (lengths_row arrival lens seen sectors) }
 {
     if arrival != Block::ARRIVAL {
         return bad_length(Length::Arrival, arrival, Block::ARRIVAL);

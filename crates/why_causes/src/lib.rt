@@ -1,23 +1,23 @@
 // Why an arrival is answered as it is: the condition that decided, with the number tested and what it is tested against. Here are the conditions,
 // and the rows of the transfer's state and of a block's header, which are tests of two numbers each: 3 to 7.
+#![tactic(auto)]
+
 pub mod lengths;
 pub mod number_checks;
 pub mod page;
 pub mod progress;
 
-ghost use mathlib.Core.Path.{_≡_};
-ghost use Rattle·why_causes·specs.specs.Causes.{answerOf, causeNumber, lengthNumber, boundNumber, magicNumber, numbersNumber, addressNumber, notKeptNumber, reasonWith};
-ghost use Rattle·why_causes·specs.specs.Checks.{byNumbers, rowOf, runningRow, doneRow, stateRow, magicRow, flagsRow, headerRow};
-use transfer::Answer;
-use transfer::Head;
-use transfer::Run;
-use transfer::State;
-use transfer::Transfer;
+ghost use Rattle.std.specs.Prelude.{◌≡◌};
+ghost use Rattle.why_causes.specs.Causes.{answer_of, cause_number, length_number, bound_number, magic_number, numbers_number, address_number, not_kept_number, reason_with};
+ghost use Rattle.why_causes.specs.Checks.{by_numbers, row_of, running_row, done_row, state_row, magic_row, flags_row, header_row};
+
+use transfer::{Answer, Head, Run, State, Transfer};
 use uf2_block::Block;
 use why_place::Denial;
 use why_settings::Fault;
 
 // Row 1: whose length is wrong.
+#[derive(Clone, Copy)]
 pub enum Length {
     Arrival,
     FlashRagged,
@@ -30,6 +30,7 @@ pub enum Length {
 }
 
 // Row 3: which bound a running transfer, or one that is done, does not keep.
+#[derive(Clone, Copy)]
 pub enum Bound {
     CountUnder,
     CountOver,
@@ -39,6 +40,7 @@ pub enum Bound {
 }
 
 // Row 4: which magic number differs.
+#[derive(Clone, Copy)]
 pub enum Magic {
     First,
     Second,
@@ -46,6 +48,7 @@ pub enum Magic {
 }
 
 // Row 10.
+#[derive(Clone, Copy)]
 pub enum Numbers {
     TotalZero,
     TotalPast,
@@ -53,6 +56,7 @@ pub enum Numbers {
 }
 
 // Row 11: of an address below the windows, of one of flash, of one in a RAM window, and of one in no window.
+#[derive(Clone, Copy)]
 pub enum Address {
     Below,
     Ragged,
@@ -62,6 +66,7 @@ pub enum Address {
 }
 
 // Why a page is written, and not kept as it stands.
+#[derive(Clone, Copy)]
 pub enum NotKept {
     NoRegion,
     InRam,
@@ -73,6 +78,7 @@ pub enum NotKept {
 }
 
 // An answer, with the condition of its row that decided.
+#[derive(Clone, Copy)]
 pub enum Cause {
     BadBuffers(Length),
     BadSettings(Fault),
@@ -93,6 +99,7 @@ pub enum Cause {
 }
 
 // The condition, the number tested and what it is tested against; from 14 on the raised count and the total.
+#[derive(Clone, Copy)]
 pub struct Reason {
     pub cause: Cause,
     pub got: u64,
@@ -100,13 +107,14 @@ pub struct Reason {
 }
 
 // What a row of checks comes to.
+#[derive(Clone, Copy)]
 pub enum Row {
     Passes,
     Decides(Reason),
 }
 
 fn length_number(x: Length) -> u16
-    ensures { λ r. ⌜ r ≡ lengthNumber x ⌝ }
+    ensures { result ≡ length_number x }
 {
     match x {
         Length::Arrival => 101,
@@ -121,7 +129,7 @@ fn length_number(x: Length) -> u16
 }
 
 fn bound_number(x: Bound) -> u16
-    ensures { λ r. ⌜ r ≡ boundNumber x ⌝ }
+    ensures { result ≡ bound_number x }
 {
     match x {
         Bound::CountUnder => 301,
@@ -133,7 +141,7 @@ fn bound_number(x: Bound) -> u16
 }
 
 fn magic_number(x: Magic) -> u16
-    ensures { λ r. ⌜ r ≡ magicNumber x ⌝ }
+    ensures { result ≡ magic_number x }
 {
     match x {
         Magic::First => 401,
@@ -143,7 +151,7 @@ fn magic_number(x: Magic) -> u16
 }
 
 fn numbers_number(x: Numbers) -> u16
-    ensures { λ r. ⌜ r ≡ numbersNumber x ⌝ }
+    ensures { result ≡ numbers_number x }
 {
     match x {
         Numbers::TotalZero => 1001,
@@ -153,7 +161,7 @@ fn numbers_number(x: Numbers) -> u16
 }
 
 fn address_number(x: Address) -> u16
-    ensures { λ r. ⌜ r ≡ addressNumber x ⌝ }
+    ensures { result ≡ address_number x }
 {
     match x {
         Address::Below => 1101,
@@ -165,7 +173,7 @@ fn address_number(x: Address) -> u16
 }
 
 fn not_kept_number(x: NotKept) -> u16
-    ensures { λ r. ⌜ r ≡ notKeptNumber x ⌝ }
+    ensures { result ≡ not_kept_number x }
 {
     match x {
         NotKept::NoRegion => 1401,
@@ -181,7 +189,7 @@ fn not_kept_number(x: NotKept) -> u16
 impl Cause {
     // The answer is the cause's: no field can disagree with it.
     pub fn answer(self) -> Answer
-        ensures { λ r. ⌜ r ≡ answerOf self ⌝ }
+        ensures { result ≡ answer_of self }
     {
         match self {
             Cause::BadBuffers(_) => Answer::BadBuffers,
@@ -205,7 +213,7 @@ impl Cause {
 
     // The row times 100, and the condition in it.
     pub fn number(self) -> u16
-        ensures { λ r. ⌜ r ≡ causeNumber self ⌝ }
+        ensures { result ≡ cause_number self }
     {
         match self {
             Cause::BadBuffers(x) => length_number(x),
@@ -230,7 +238,7 @@ impl Cause {
 
 impl Reason {
     pub fn new(cause: Cause, got: u64, against: u64) -> Self
-        ensures { λ r. ⌜ r ≡ reasonWith cause got against ⌝ }
+        ensures { result ≡ reason_with cause got against }
     {
         Self {
             cause,
@@ -242,21 +250,21 @@ impl Reason {
 
 // This check decides.
 pub fn decides(cause: Cause, got: u64, against: u64) -> Row
-    ensures { λ r. ⌜ r ≡ Row.Decides (reasonWith cause got against) ⌝ }
+    ensures { result ≡ Row.Decides (reason_with cause got against) }
 {
     Row::Decides(Reason::new(cause, got, against))
 }
 
 // Row 3: this bound is not kept.
 fn bad_state(x: Bound, got: u32, against: u32) -> Row
-    ensures { λ r. ⌜ r ≡ Row.Decides (reasonWith (Cause.BadState x) got against) ⌝ }
+    ensures { result ≡ Row.Decides (reason_with (Cause.BadState x) got against) }
 {
     decides(Cause::BadState(x), got as u64, against as u64)
 }
 
 // Row 4: this magic number differs.
 fn not_block(x: Magic, got: u32, against: u32) -> Row
-    ensures { λ r. ⌜ r ≡ Row.Decides (reasonWith (Cause.NotBlock x) got against) ⌝ }
+    ensures { result ≡ Row.Decides (reason_with (Cause.NotBlock x) got against) }
 {
     decides(Cause::NotBlock(x), got as u64, against as u64)
 }
@@ -264,7 +272,7 @@ fn not_block(x: Magic, got: u32, against: u32) -> Row
 // ---- row 3
 
 fn running_row(run: Run) -> Row
-    ensures { λ r. ⌜ r ≡ rowOf byNumbers (runningRow run) ⌝ }
+    ensures { result ≡ row_of by_numbers (running_row run) }
 {
     let total = run.head.total;
     let count = run.count;
@@ -281,7 +289,7 @@ fn running_row(run: Run) -> Row
 }
 
 fn done_row(head: Head) -> Row
-    ensures { λ r. ⌜ r ≡ rowOf byNumbers (doneRow head) ⌝ }
+    ensures { result ≡ row_of by_numbers (done_row head) }
 {
     let total = head.total;
     if total < 1 {
@@ -295,7 +303,7 @@ fn done_row(head: Head) -> Row
 
 // Row 3.
 pub fn state_row(transfer: Transfer) -> Row
-    ensures { λ r. ⌜ r ≡ rowOf byNumbers (stateRow (transfer .state)) ⌝ }
+    ensures { result ≡ row_of by_numbers (state_row transfer.state) }
 {
     let state = transfer.state;
     match state {
@@ -308,7 +316,7 @@ pub fn state_row(transfer: Transfer) -> Row
 // ---- rows 4 to 7
 
 fn magic_row(first: u32, second: u32, last: u32) -> Row
-    ensures { λ r. ⌜ r ≡ rowOf byNumbers (magicRow first second last) ⌝ }
+    ensures { result ≡ row_of by_numbers (magic_row first second last) }
 {
     if first != Block::MAGIC_FIRST {
         return not_block(Magic::First, first, Block::MAGIC_FIRST);
@@ -323,7 +331,7 @@ fn magic_row(first: u32, second: u32, last: u32) -> Row
 }
 
 fn flags_row(flags: u32) -> Row
-    ensures { λ r. ⌜ r ≡ rowOf byNumbers (flagsRow flags) ⌝ }
+    ensures { result ≡ row_of by_numbers (flags_row flags) }
 {
     if flags / Block::FLAG_CONTAINER % 2 == 1 {
         return decides(Cause::Container, flags as u64, Block::FLAG_CONTAINER as u64);
@@ -336,7 +344,7 @@ fn flags_row(flags: u32) -> Row
 
 // Rows 4 to 7.
 pub fn header_row(arrival: &[u8]) -> Row
-    ensures { λ r. ⌜ r ≡ rowOf byNumbers (headerRow (now (arrival .entry))) ⌝ }
+    ensures { result ≡ row_of by_numbers (header_row arrival.now) }
 {
     let r = magic_row(
         uf2_block::field(arrival, 0),

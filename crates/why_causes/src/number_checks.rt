@@ -1,31 +1,29 @@
 // Rows 9 to 11 by their numbers: the size of a payload, the total and the number, the address.
-ghost use mathlib.Core.Path.{_≡_};
-ghost use Rattle·why_causes·specs.specs.Causes.{reasonWith};
-ghost use Rattle·why_causes·specs.specs.Checks.{byNumbers, rowOf};
-ghost use Rattle·why_causes·specs.specs.Numbers.{payloadRow, numbersRow, addressRow, strayRow, windowRow};
-use crate::Address;
-use crate::Cause;
-use crate::Numbers;
-use crate::Row;
+ghost use Rattle.std.specs.Prelude.{◌≡◌};
+ghost use Rattle.why_causes.specs.Causes.{reason_with};
+ghost use Rattle.why_causes.specs.Checks.{by_numbers, row_of};
+ghost use Rattle.why_causes.specs.Numbers.{payload_row, numbers_row, address_row, stray_row, window_row};
+
+use crate::{Address, Cause, Numbers, Row};
 use memory::flash::Flash;
 
 // Row 10.
 fn bad_numbers(x: Numbers, got: u64, against: u64) -> Row
-    ensures { λ r. ⌜ r ≡ Row.Decides (reasonWith (Cause.BadNumbers x) got against) ⌝ }
+    ensures { result ≡ Row.Decides (reason_with (Cause.BadNumbers x) got against) }
 {
     crate::decides(Cause::BadNumbers(x), got, against)
 }
 
 // Row 11.
 fn bad_address(x: Address, got: u64, against: u64) -> Row
-    ensures { λ r. ⌜ r ≡ Row.Decides (reasonWith (Cause.BadAddress x) got against) ⌝ }
+    ensures { result ≡ Row.Decides (reason_with (Cause.BadAddress x) got against) }
 {
     crate::decides(Cause::BadAddress(x), got, against)
 }
 
 // Row 9.
-pub(crate) fn payload_row(size: u32) -> Row
-    ensures { λ r. ⌜ r ≡ rowOf byNumbers (payloadRow size) ⌝ }
+pub fn payload_row(size: u32) -> Row
+    ensures { result ≡ row_of by_numbers (payload_row size) }
 {
     if size as usize != Flash::PAYLOAD {
         return crate::decides(Cause::BadPayload, size as u64, Flash::PAYLOAD as u64);
@@ -35,7 +33,7 @@ pub(crate) fn payload_row(size: u32) -> Row
 
 // Row 10, in a place or a window of so many bytes. The product is of 64 bits, since it may pass 32.
 pub fn numbers_row(total: u32, number: u32, size: usize) -> Row
-    ensures { λ r. ⌜ r ≡ rowOf byNumbers (numbersRow total number size) ⌝ }
+    ensures { result ≡ row_of by_numbers (numbers_row total number size) }
 {
     let bytes = total as u64 * 256;
     if total == 0 {
@@ -51,8 +49,8 @@ pub fn numbers_row(total: u32, number: u32, size: usize) -> Row
 }
 
 // Row 11, of an address of flash, beside a place of so many bytes. The sum is of 64 bits, since it may pass 32.
-pub(crate) fn address_row(address: u32, size: usize) -> Row
-    ensures { λ r. ⌜ r ≡ rowOf byNumbers (addressRow address size) ⌝ }
+pub fn address_row(address: u32, size: usize) -> Row
+    ensures { result ≡ row_of by_numbers (address_row address size) }
 {
     let at = address as u64;
     if at < 0x10000000 {
@@ -70,8 +68,8 @@ pub(crate) fn address_row(address: u32, size: usize) -> Row
 }
 
 // Row 11, of an address in no window.
-pub(crate) fn stray_row(address: u32) -> Row
-    ensures { λ r. ⌜ r ≡ rowOf byNumbers (strayRow address) ⌝ }
+pub fn stray_row(address: u32) -> Row
+    ensures { result ≡ row_of by_numbers (stray_row address) }
 {
     let at = address as u64;
     if at < 0x10000000 {
@@ -84,8 +82,8 @@ pub(crate) fn stray_row(address: u32) -> Row
 }
 
 // Row 11, of an address in a RAM window that ends at `end`.
-pub(crate) fn window_row(address: u32, end: usize) -> Row
-    ensures { λ r. ⌜ r ≡ rowOf byNumbers (windowRow address «end») ⌝ }
+pub fn window_row(address: u32, end: usize) -> Row
+    ensures { result ≡ row_of by_numbers (window_row address «end») }
 {
     let past = address as u64 + 256;
     if (end as u64) < past {

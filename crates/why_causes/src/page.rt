@@ -1,7 +1,8 @@
 // Rows 9 to 11 of a data block: in its window, or in none.
-ghost use mathlib.Core.Path.{_≡_};
-ghost use Rattle·why_causes·specs.specs.Checks.{byNumbers, rowOf};
-ghost use Rattle·why_causes·specs.specs.Pages.{addressIn, pageRow};
+ghost use Rattle.std.specs.Prelude.{◌≡◌};
+ghost use Rattle.why_causes.specs.Checks.{by_numbers, row_of};
+ghost use Rattle.why_causes.specs.Pages.{address_in, page_row};
+
 use crate::Row;
 use transfer::Kind;
 use uf2_block::Block;
@@ -14,7 +15,7 @@ const XIP_END: usize = 0x14000000;
 
 // Row 11 of a data block in the window of its kind.
 fn address_in(kind: Kind, address: u32, size: usize) -> Row
-    ensures { λ r. ⌜ r ≡ rowOf byNumbers (addressIn kind address size) ⌝ }
+    ensures { result ≡ row_of by_numbers (address_in kind address size) }
 {
     match kind {
         Kind::Flash => crate::number_checks::address_row(address, size),
@@ -25,7 +26,7 @@ fn address_in(kind: Kind, address: u32, size: usize) -> Row
 
 // Rows 9 to 11 of a data block in a window.
 fn inside_row(kind: Kind, size: usize, b: Block) -> Row
-    ensures { λ r. ⌜ r ≡ rowOf byNumbers (pageRow (Window.In kind) size b) ⌝ }
+    ensures { result ≡ row_of by_numbers (page_row (Window.In kind) size b) }
 {
     let payload = crate::number_checks::payload_row(b.size);
     if let Row::Decides(x) = payload {
@@ -40,7 +41,7 @@ fn inside_row(kind: Kind, size: usize, b: Block) -> Row
 
 // Rows 9, 11 and 10 of a data block in no window.
 fn outside_row(size: usize, b: Block) -> Row
-    ensures { λ r. ⌜ r ≡ rowOf byNumbers (pageRow Window.Outside size b) ⌝ }
+    ensures { result ≡ row_of by_numbers (page_row Window.Outside size b) }
 {
     let payload = crate::number_checks::payload_row(b.size);
     if let Row::Decides(x) = payload {
@@ -54,7 +55,7 @@ fn outside_row(size: usize, b: Block) -> Row
 }
 
 pub fn page_row(window: Window, size: usize, b: Block) -> Row
-    ensures { λ r. ⌜ r ≡ rowOf byNumbers (pageRow window size b) ⌝ }
+    ensures { result ≡ row_of by_numbers (page_row window size b) }
 {
     match window {
         Window::Outside => outside_row(size, b),

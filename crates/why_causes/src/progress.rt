@@ -1,14 +1,13 @@
 // How a transfer stands beside a block: done, its number marked already, the count once it is counted, or another transfer that runs and is
 // discarded.
-ghost use mathlib.Core.Path.{_≡_};
-ghost use Rattle·why_causes·specs.specs.Progress.{raisedOf, isDone, isAgain, runsOther, discardedBy};
-use transfer::Head;
-use transfer::State;
-use transfer::Transfer;
+ghost use Rattle.std.specs.Prelude.{◌≡◌};
+ghost use Rattle.why_causes.specs.Progress.{raised_of, is_done, is_again, runs_other, discarded_by};
+
+use transfer::{Head, State, Transfer};
 
 // Is the transfer done?
 pub fn is_done(transfer: Transfer) -> bool
-    ensures { λ r. ⌜ r ≡ isDone (transfer .state) ⌝ }
+    ensures { result ≡ is_done transfer.state }
 {
     let state = transfer.state;
     match state {
@@ -20,7 +19,7 @@ pub fn is_done(transfer: Transfer) -> bool
 
 // Does the block belong to the running transfer, with a number that is marked?
 pub fn is_again(transfer: Transfer, head: Head, marked: bool) -> bool
-    ensures { λ r. ⌜ r ≡ isAgain (transfer .state) head marked ⌝ }
+    ensures { result ≡ is_again transfer.state head marked }
 {
     let state = transfer.state;
     match state {
@@ -35,7 +34,7 @@ pub fn is_again(transfer: Transfer, head: Head, marked: bool) -> bool
 
 // The count once the block is counted; where it begins a transfer it is the first. It may not fit 32 bits.
 pub fn raised(transfer: Transfer, head: Head) -> u64
-    ensures { λ r. ⌜ r ≡ raisedOf (transfer .state) head ⌝ }
+    ensures { result ≡ raised_of transfer.state head }
 {
     let state = transfer.state;
     match state {
@@ -53,7 +52,7 @@ pub fn raised(transfer: Transfer, head: Head) -> u64
 
 // Does a transfer of another head run?
 fn runs_other(transfer: Transfer, head: Head) -> bool
-    ensures { λ r. ⌜ r ≡ runsOther (transfer .state) head ⌝ }
+    ensures { result ≡ runs_other transfer.state head }
 {
     let state = transfer.state;
     match state {
@@ -68,7 +67,7 @@ fn runs_other(transfer: Transfer, head: Head) -> bool
 
 // Is a running transfer discarded, of a block of this head with an answer of this number? By those answers alone that accept it.
 pub fn discards(transfer: Transfer, head: Head, number: u8) -> bool
-    ensures { λ r. ⌜ r ≡ discardedBy number (transfer .state) head ⌝ }
+    ensures { result ≡ discarded_by number transfer.state head }
 {
     (14 <= number) & runs_other(transfer, head)
 }

@@ -1,22 +1,18 @@
 // Rows 9 to 17 of a block: beside its place or window, and beside the transfer and the flash.
-ghost use mathlib.Core.Path.{_≡_};
-ghost use Rattle·why_causes.specs.Causes.{reasonWith};
-ghost use Rattle·why_causes.specs.Checks.{byNumbers, rowOf};
-ghost use Rattle·why_checks·specs.specs.Block.{startAt, sizeAt, roomOf, kindOf, bodyRow, within, around};
-ghost use Rattle·why_checks·specs.specs.Parts.{fatePart, regionPart, writtenPart, latePart};
+#![tactic(auto)]
+
+ghost use Rattle.std.specs.Prelude.{◌≡◌};
+ghost use Rattle.why_causes.specs.Causes.{reason_with};
+ghost use Rattle.why_causes.specs.Checks.{by_numbers, row_of};
+ghost use Rattle.why_checks.specs.Block.{start_at, size_at, room_of, kind_of, body_row, within, around};
+ghost use Rattle.why_checks.specs.Parts.{fate_part, region_part, written_part, late_part};
+
 use memory::flash::Flash;
 use placement::Place;
-use transfer::Head;
-use transfer::Kind;
-use transfer::Transfer;
-use uf2_block::Block;
-use uf2_block::Region;
-use uf2_checks::Lengths;
-use uf2_checks::Window;
-use why_causes::Cause;
-use why_causes::NotKept;
-use why_causes::Reason;
-use why_causes::Row;
+use transfer::{Head, Kind, Transfer};
+use uf2_block::{Block, Region};
+use uf2_checks::{Lengths, Window};
+use why_causes::{Cause, NotKept, Reason, Row};
 
 // Where the address window begins, which is where a place's first byte is seen.
 const WINDOW: usize = 0x10000000;
@@ -24,7 +20,7 @@ const WINDOW: usize = 0x10000000;
 // ---- rows 9 to 11
 
 fn start_at(place: Place) -> usize
-    ensures { λ r. ⌜ r ≡ startAt place ⌝ }
+    ensures { result ≡ start_at place }
 {
     match place {
         Place::Nowhere => 0,
@@ -33,7 +29,7 @@ fn start_at(place: Place) -> usize
 }
 
 fn size_at(place: Place) -> usize
-    ensures { λ r. ⌜ r ≡ sizeAt place ⌝ }
+    ensures { result ≡ size_at place }
 {
     match place {
         Place::Nowhere => 0,
@@ -43,7 +39,7 @@ fn size_at(place: Place) -> usize
 
 // The bytes that row 10 asks for: of the place, or of the window.
 pub fn room_of(place: Place, kind: Kind) -> usize
-    ensures { λ r. ⌜ r ≡ roomOf place kind ⌝ }
+    ensures { result ≡ room_of place kind }
 {
     match kind {
         Kind::Flash => size_at(place),
@@ -54,7 +50,7 @@ pub fn room_of(place: Place, kind: Kind) -> usize
 
 // Rows 9 to 11; of a comment row 10 alone.
 pub fn body_row(size: usize, lens: Lengths, b: Block) -> Row
-    ensures { λ r. ⌜ r ≡ rowOf byNumbers (bodyRow size lens b) ⌝ }
+    ensures { result ≡ row_of by_numbers (body_row size lens b) }
 {
     if b.comment {
         return why_causes::number_checks::numbers_row(b.total, b.number, size);
@@ -65,7 +61,7 @@ pub fn body_row(size: usize, lens: Lengths, b: Block) -> Row
 
 // The kind of a block.
 pub fn kind_of(lens: Lengths, transfer: Transfer, b: Block) -> Kind
-    ensures { λ r. ⌜ r ≡ kindOf lens (transfer .state) b ⌝ }
+    ensures { result ≡ kind_of lens transfer.state b }
 {
     if b.comment {
         return uf2_checks::block_kind::note_kind(lens, transfer, b);
@@ -78,7 +74,7 @@ pub fn kind_of(lens: Lengths, transfer: Transfer, b: Block) -> Kind
 
 // Rows 12, 13, 15 and 16.
 fn fate_row(transfer: Transfer, head: Head, number: u32, marked: bool, comment: bool) -> Row
-    ensures { λ r. ⌜ r ≡ fatePart (transfer .state) head number marked comment ⌝ }
+    ensures { result ≡ fate_part transfer.state head number marked comment }
 {
     let total = head.total as u64;
     if why_causes::progress::is_done(transfer) {
@@ -99,7 +95,7 @@ fn fate_row(transfer: Transfer, head: Head, number: u32, marked: bool, comment: 
 
 // Does a region lie in a place of so many bytes?
 fn is_within(region: Region, size: usize) -> bool
-    ensures { λ r. ⌜ r ≡ within size region ⌝ }
+    ensures { result ≡ within size region }
 {
     let start = region.start as usize;
     let len = region.len as usize;
@@ -112,7 +108,7 @@ fn is_within(region: Region, size: usize) -> bool
 
 // Does it lie around a block at this address?
 fn is_around(region: Region, address: u32) -> bool
-    ensures { λ r. ⌜ r ≡ around address region ⌝ }
+    ensures { result ≡ around address region }
 {
     let at = address as usize;
     let start = region.start as usize;
@@ -122,7 +118,7 @@ fn is_around(region: Region, address: u32) -> bool
 
 // Row 14.
 fn not_kept(x: NotKept, count: u64, total: u64) -> Row
-    ensures { λ r. ⌜ r ≡ Row.Decides (reasonWith (Cause.Written x) count total) ⌝ }
+    ensures { result ≡ Row.Decides (reason_with (Cause.Written x) count total) }
 {
     why_causes::decides(Cause::Written(x), count, total)
 }
@@ -137,7 +133,7 @@ fn region_row(
     count: u64,
     total: u64,
 ) -> Row
-    ensures { λ r. ⌜ r ≡ regionPart (now (flash .entry)) start size address region count total ⌝ }
+    ensures { result ≡ region_part flash.now start size address region count total }
 {
     let from = region.start as usize;
     let len = region.len as usize;
@@ -169,7 +165,7 @@ fn written_row(
     count: u64,
     total: u64,
 ) -> Row
-    ensures { λ r. ⌜ r ≡ writtenPart (now (flash .entry)) start size kind (now (arrival .entry)) count total ⌝ }
+    ensures { result ≡ written_part flash.now start size kind arrival.now count total }
 {
     if !uf2_block::has_region(arrival) {
         return not_kept(NotKept::NoRegion, count, total);
@@ -193,7 +189,7 @@ pub fn late(
     flash: &[u8],
     seen: &[u8],
 ) -> Reason
-    ensures { λ r. ⌜ r ≡ latePart (transfer .state) head place comment number (now (arrival .entry)) (now (flash .entry)) (now (seen .entry)) ⌝ }
+    ensures { result ≡ late_part transfer.state head place comment number arrival.now flash.now seen.now }
 {
     let marked = memory::bitmap::marked(seen, number as usize);
     let fate = fate_row(transfer, head, number, marked, comment);

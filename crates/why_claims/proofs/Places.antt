@@ -1,230 +1,230 @@
 -- A place asked for alone: its answer is the receiver's, and its reason the true one. Assumes nothing.
-use mathlib.Core.Path.{_≡_, refl, sym, ap, subst, _∙_}
+use mathlib.Core.Path.{◌≡◌, refl, sym, ap, subst, ◌∙◌}
 use mathlib.Core.Bool.{true, cond, not}
-use mathlib.Core.Logic.{_⊎_, ⊎-elim}
-use Prim.Native.Nat.{ℕ, _<_, _≤_}
-use lib.ListN.{getD}
+use mathlib.Core.Logic.{⊎_elim}
+use Prim.Native.Nat.{ℕ, ◌<◌, ◌≤◌}
+use lib.ListN.{get_or}
 use native.Mathlib.Omega.{arith}
-use Rattle·laws.proofs.Tests.{split}
-use Rattle·memory.specs.Flash.{flashLength}
-use Rattle·partitions.specs.declared.Settings.{Settings}
-use Rattle·partitions.specs.Settings.{entryAt, goodSettings}
-use Rattle·placement.specs.Place.{usedCount, placeOf, foundAt, askOf, placeAnswerNumber}
-use Rattle·placement.specs.declared.Place.{Place}
-use Rattle·placement.specs.declared.Place.the-variants.{Nowhere, At}
-use Rattle·placement.specs.declared.PlaceAnswer.the-variants as ask
-use Rattle·why_place.specs.declared.Rule.the-variants.{Absolute, NoTable}
-use Rattle·partitions.proofs.Laws.{good-count}
-use Rattle·placement.proofs.Laws.{ask-length, ask-settings, ask-place}
-use Rattle·transfer.specs.Transfer.{numberOf}
-use Rattle·transfer.specs.declared.Answer.{Answer}
-use Rattle·transfer.specs.declared.Answer.the-variants as answer
-use Rattle·why_settings.specs.Faults.{firstFault}
-use Rattle·why_place.specs.Placing.{denies, Marked, flashAccess, grantedSpot, spotBy, spotOf, spotPlace, SpotTrue}
-use Rattle·why_place.specs.declared.Denial.the-variants.{NoEntry}
-use Rattle·why_place.specs.declared.Access.{Access}
-use Rattle·why_place.specs.declared.Access.the-variants.{Granted, Denied}
-use Rattle·why_place.specs.declared.Spot.{Spot}
-use Rattle·why_place.specs.declared.Spot.the-variants as spot
-use Rattle·why_place.proofs.Theorems.{granted-is-placed, spot-is-placed, place-is-true}
-use Rattle·why_causes.specs.Causes.{answerOf, reasonWith}
-use Rattle·why_causes.specs.Checks.{byNumbers, rowOf, orNext, orLast, Deciding}
-use Rattle·why_causes.specs.Lengths.{flashRow}
-use Rattle·why_causes.proofs.Rows.{deciding}
-use Rattle·why_causes.specs.declared.Cause.{Cause}
-use Rattle·why_causes.specs.declared.Cause.the-variants.{NoPlace, Kept}
-use Rattle·why_causes.specs.declared.Reason.{Reason}
-use Rattle·why_causes.specs.declared.Row.{Row}
-use Rattle·why_causes.specs.declared.Row.the-variants.{Passes, Decides}
-use Rattle·why.specs.Parts.{findingRow, accessRow, placePart}
-use Rattle·why.specs.Why.{entriesOf}
-use Rattle·why.specs.Placed.{placeChecks, placeTest, holdsOf, placedSpot, placedBy, placedOf, placedNumber, placedMarks, whyPlaceOf}
-use Rattle·why.specs.declared.PlaceOrigin.{PlaceOrigin}
-use Rattle·why.specs.declared.PlaceOrigin.the-variants.{Refused, Whole, Entry}
-use Rattle·why.proofs.Laws.{place-parts}
-use Rattle·why_claims·specs.specs.Claims.{Place-answer-is-the-receivers, refusalOr, Place-reason-is-true, FoundTrue, Found-place-is-true, placeNamed, Found-place-is-the-receivers, Place-marks-are-true}
-use Rattle·why_claims·proofs.proofs.Answers.{told, told-next, flash-answer}
-use Rattle·why_claims·proofs.proofs.Agree.{finding-answer, flash-denied, flash-open}
-use Rattle·why_claims·proofs.proofs.Fields.{mark-fields, low-used, first-fields}
-use Rattle·settings_claims.proofs.Targeting.{gets-said}
-use Rattle·why_claims·proofs.proofs.Theorems.{never, decided-holds, marks-denied}
+use Rattle.laws.proofs.Tests.{split}
+use Rattle.memory.specs.Flash.{flash_length}
+use Rattle.partitions.specs.declared.Settings.{Settings}
+use Rattle.partitions.specs.Settings.{entry_at, good_settings}
+use Rattle.placement.specs.Place.{used_count, place_of, found_at, ask_of, place_answer_number}
+use Rattle.placement.specs.declared.Place.{Place}
+use Rattle.placement.specs.declared.Place.TheVariants.{Nowhere, At}
+use Rattle.placement.specs.declared.PlaceAnswer.TheVariants as ask
+use Rattle.why_place.specs.declared.Rule.TheVariants.{Absolute, NoTable}
+use Rattle.partitions.proofs.Laws.{good_count}
+use Rattle.placement.proofs.Laws.{ask_length, ask_settings, ask_place}
+use Rattle.transfer.specs.Transfer.{number_of}
+use Rattle.transfer.specs.declared.Answer.{Answer}
+use Rattle.transfer.specs.declared.Answer.TheVariants as answer
+use Rattle.why_settings.specs.Faults.{first_fault}
+use Rattle.why_place.specs.Placing.{denies, Marked, flash_access, granted_spot, spot_by, spot_of, spot_place, SpotTrue}
+use Rattle.why_place.specs.declared.Denial.TheVariants.{NoEntry}
+use Rattle.why_place.specs.declared.Access.{Access}
+use Rattle.why_place.specs.declared.Access.TheVariants.{Granted, Denied}
+use Rattle.why_place.specs.declared.Spot.{Spot}
+use Rattle.why_place.specs.declared.Spot.TheVariants as spot
+use Rattle.why_place.proofs.Theorems.{granted_is_placed, spot_is_placed, place_is_true}
+use Rattle.why_causes.specs.Causes.{answer_of, reason_with}
+use Rattle.why_causes.specs.Checks.{by_numbers, row_of, or_next, or_last, Deciding}
+use Rattle.why_causes.specs.Lengths.{flash_row}
+use Rattle.why_causes.proofs.Rows.{deciding}
+use Rattle.why_causes.specs.declared.Cause.{Cause}
+use Rattle.why_causes.specs.declared.Cause.TheVariants.{NoPlace, Kept}
+use Rattle.why_causes.specs.declared.Reason.{Reason}
+use Rattle.why_causes.specs.declared.Row.{Row}
+use Rattle.why_causes.specs.declared.Row.TheVariants.{Passes, Decides}
+use Rattle.why.specs.Parts.{finding_row, access_row, place_part}
+use Rattle.why.specs.Why.{entries_of}
+use Rattle.why.specs.Placed.{place_checks, place_test, holds_of, placed_spot, placed_by, placed_of, placed_number, placed_marks, why_place_of}
+use Rattle.why.specs.declared.PlaceOrigin.{PlaceOrigin}
+use Rattle.why.specs.declared.PlaceOrigin.TheVariants.{Refused}
+use Rattle.why.proofs.Laws.{place_parts}
+use Rattle.why_claims.specs.Claims.{PlaceAnswerIsTheReceivers, refusal_or, PlaceReasonIsTrue, FoundTrue, FoundPlaceIsTrue, place_named, FoundPlaceIsTheReceivers, PlaceMarksAreTrue}
+use Rattle.why_claims.proofs.Answers.{told, told_next, flash_answer}
+use Rattle.why_claims.proofs.Agree.{finding_answer, flash_denied, flash_open}
+use Rattle.why_claims.proofs.Fields.{mark_fields, low_used, first_fields}
+use Rattle.settings_claims.proofs.Targeting.{gets_said}
+use Rattle.why_claims.proofs.Theorems.{never, decided_holds, marks_denied}
 
 -- a row whose answer is the same whatever comes after it decides, and one that leaves what comes after it passes
-number-decides : (r : Row) (q : PlaceOrigin) (x : Answer) → told r answer.Kept ≡ x → told r answer.Noted ≡ x → placedNumber (placedBy r q) ≡ numberOf x
-number-decides Passes q x e h = let z : answer.Kept ≡ answer.Noted = e ∙ sym h in absurd (let v : _≡_ {A = ℕ} 0 1 = cc in omega arith)
-number-decides (Decides z) q x e h = ap numberOf e
+number_decides : (r : Row) (q : PlaceOrigin) (x : Answer) → told r answer.Kept ≡ x → told r answer.Noted ≡ x → placed_number (placed_by r q) ≡ number_of x
+number_decides Passes q x e h = let z : answer.Kept ≡ answer.Noted = e ∙ sym h in absurd (let v : ◌≡◌ {A = ℕ} 0 1 = cc in omega arith)
+number_decides (Decides z) q x e h = ap number_of e
 
-number-passes : (r : Row) (q : PlaceOrigin) → told r answer.Kept ≡ answer.Kept → told r answer.Noted ≡ answer.Noted → placedNumber (placedBy r q) ≡ placedNumber q
-number-passes Passes q e h = refl
-number-passes (Decides z) q e h = let v : answer.Kept ≡ answer.Noted = sym e ∙ h in absurd (let u : _≡_ {A = ℕ} 0 1 = cc in omega arith)
+number_passes : (r : Row) (q : PlaceOrigin) → told r answer.Kept ≡ answer.Kept → told r answer.Noted ≡ answer.Noted → placed_number (placed_by r q) ≡ placed_number q
+number_passes Passes q e h = refl
+number_passes (Decides z) q e h = let v : answer.Kept ≡ answer.Noted = sym e ∙ h in absurd (let u : ◌≡◌ {A = ℕ} 0 1 = cc in omega arith)
 
 -- the reason of no refusal
-abbrev no-reason : Reason
-no-reason = reasonWith Kept 0 0
+abbrev no_reason : Reason
+no_reason = reason_with Kept 0 0
 
 module _ (s : Settings) (len f : ℕ) where
   abbrev row : Row
-  row = rowOf (holdsOf s len f) (placeChecks s len f)
+  row = row_of (holds_of s len f) (place_checks s len f)
 
-  row-told : (y : Answer) → told row y ≡ cond (not (flashLength len)) answer.BadBuffers (cond (not (goodSettings s len)) answer.BadSettings (told (accessRow f (flashAccess s f)) y))
-  unfolding placePart
-  row-told y =
-      let z = told (accessRow f (flashAccess s f)) y in
-      ap (λ (r : Row). told r y) (place-parts s len f)
-      ∙ told-next (placePart s len) (accessRow f (flashAccess s f)) y
-      ∙ told-next (rowOf byNumbers (flashRow len)) (findingRow s len (firstFault s len)) z
-      ∙ flash-answer len (told (findingRow s len (firstFault s len)) z)
-      ∙ ap (cond (not (flashLength len)) answer.BadBuffers) (finding-answer s len z)
+  row_told : (y : Answer) → told row y ≡ cond (not (flash_length len)) answer.BadBuffers (cond (not (good_settings s len)) answer.BadSettings (told (access_row f (flash_access s f)) y))
+  unfolding place_part
+  row_told y =
+      let z = told (access_row f (flash_access s f)) y in
+      ap (λ (r : Row). told r y) (place_parts s len f)
+      ∙ told_next (place_part s len) (access_row f (flash_access s f)) y
+      ∙ told_next (row_of by_numbers (flash_row len)) (finding_row s len (first_fault s len)) z
+      ∙ flash_answer len (told (finding_row s len (first_fault s len)) z)
+      ∙ ap (cond (not (flash_length len)) answer.BadBuffers) (finding_answer s len z)
 
   -- a family that is not shut out has a spot
-  granted-found : flashAccess s f ≡ Granted → (z : Spot) → grantedSpot s f ≡ z → (y : Reason) → (placedNumber (placedSpot f z) ≡ 0) × (refusalOr y (placedSpot f z) ≡ y)
-  unfolding spotOf
-  granted-found g (spot.Refused x) e y =
-      let p : spotPlace s len (spotOf s f) ≡ Nowhere = rw (g, e) refl in
-      absurd (granted-is-placed s len f .0 g (sym (spot-is-placed s len f) ∙ p))
-  granted-found g (spot.Whole r) e y = (refl, refl)
-  granted-found g (spot.Entry p k) e y = (refl, refl)
+  granted_found : flash_access s f ≡ Granted → (z : Spot) → granted_spot s f ≡ z → (y : Reason) → (placed_number (placed_spot f z) ≡ 0) × (refusal_or y (placed_spot f z) ≡ y)
+  unfolding spot_of
+  granted_found g (spot.Refused x) e y =
+      let p : spot_place s len (spot_of s f) ≡ Nowhere = rw (g, e) refl in
+      absurd ((granted_is_placed s len f).0 g (sym (spot_is_placed s len f) ∙ p))
+  granted_found g (spot.Whole r) e y = (refl, refl)
+  granted_found g (spot.Entry p k) e y = (refl, refl)
 
   -- the last of the rows passes where all do
-  access-granted : (p : Row) (x : Access) → orNext p (accessRow f x) ≡ Passes → x ≡ Granted
-  access-granted p Granted e = refl
-  access-granted Passes (Denied x) e = absurd (let u : _≡_ {A = ℕ} 0 1 = cc in omega arith)
-  access-granted (Decides z) (Denied x) e = absurd (let u : _≡_ {A = ℕ} 0 1 = cc in omega arith)
+  access_granted : (p : Row) (x : Access) → or_next p (access_row f x) ≡ Passes → x ≡ Granted
+  access_granted p Granted e = refl
+  access_granted Passes (Denied x) e = absurd (let u : ◌≡◌ {A = ℕ} 0 1 = cc in omega arith)
+  access_granted (Decides z) (Denied x) e = absurd (let u : ◌≡◌ {A = ℕ} 0 1 = cc in omega arith)
 
-  number-at : (p : Place) → placeOf s len f ≡ p → flashLength len ≡ true → goodSettings s len ≡ true → placedNumber (placedOf s len f) ≡ placeAnswerNumber (foundAt p)
-  unfolding placedOf
-  number-at Nowhere e l g =
-      let denied : (y : Answer) → told row y ≡ answer.NoPlace = λ y. row-told y ∙ rw (l, g) (flash-denied s len f y e) in
-      number-decides row (placedSpot f (grantedSpot s f)) answer.NoPlace (denied answer.Kept) (denied answer.Noted)
-  number-at (At a n) e l g =
-      let open-is : (y : Answer) → told row y ≡ y = λ y. row-told y ∙ rw (l, g) (flash-open s len f y e) in
-      number-passes row (placedSpot f (grantedSpot s f)) (open-is answer.Kept) (open-is answer.Noted)
-      ∙ granted-found (granted-is-placed s len f .1 (λ h. let q : Nowhere ≡ At a n = sym h ∙ e in let z : _≡_ {A = ℕ} 0 1 = cc in omega arith)) (grantedSpot s f) refl no-reason .0
+  number_at : (p : Place) → place_of s len f ≡ p → flash_length len ≡ true → good_settings s len ≡ true → placed_number (placed_of s len f) ≡ place_answer_number (found_at p)
+  unfolding placed_of
+  number_at Nowhere e l g =
+      let denied : (y : Answer) → told row y ≡ answer.NoPlace = λ y. row_told y ∙ rw (l, g) (flash_denied s len f y e) in
+      number_decides row (placed_spot f (granted_spot s f)) answer.NoPlace (denied answer.Kept) (denied answer.Noted)
+  number_at (At a n) e l g =
+      let open_is : (y : Answer) → told row y ≡ y = λ y. row_told y ∙ rw (l, g) (flash_open s len f y e) in
+      number_passes row (placed_spot f (granted_spot s f)) (open_is answer.Kept) (open_is answer.Noted)
+      ∙ (granted_found ((granted_is_placed s len f).1 (λ h. let q : Nowhere ≡ At a n = sym h ∙ e in let z : ◌≡◌ {A = ℕ} 0 1 = cc in omega arith)) (granted_spot s f) refl no_reason).0
 
-  answer-is-asked : placedNumber (placedOf s len f) ≡ placeAnswerNumber (askOf s len f)
-  unfolding placedOf
-  answer-is-asked =
-      split (flashLength len)
+  answer_is_asked : placed_number (placed_of s len f) ≡ place_answer_number (ask_of s len f)
+  unfolding placed_of
+  answer_is_asked =
+      split (flash_length len)
       (λ l.
-      split (goodSettings s len)
-      (λ g. number-at (placeOf s len f) refl l g ∙ ap placeAnswerNumber (sym (ask-place s len f l g)))
+      split (good_settings s len)
+      (λ g. number_at (place_of s len f) refl l g ∙ ap place_answer_number (sym (ask_place s len f l g)))
       (λ g.
-      let bad : (y : Answer) → told row y ≡ answer.BadSettings = λ y. row-told y ∙ rw (l, g) refl in
-      number-decides row (placedSpot f (grantedSpot s f)) answer.BadSettings (bad answer.Kept) (bad answer.Noted)
-      ∙ ap placeAnswerNumber (sym (ask-settings s len f l g))))
+      let bad : (y : Answer) → told row y ≡ answer.BadSettings = λ y. row_told y ∙ rw (l, g) refl in
+      number_decides row (placed_spot f (granted_spot s f)) answer.BadSettings (bad answer.Kept) (bad answer.Noted)
+      ∙ ap place_answer_number (sym (ask_settings s len f l g))))
       (λ l.
-      let bad : (y : Answer) → told row y ≡ answer.BadBuffers = λ y. row-told y ∙ rw l refl in
-      number-decides row (placedSpot f (grantedSpot s f)) answer.BadBuffers (bad answer.Kept) (bad answer.Noted)
-      ∙ ap placeAnswerNumber (sym (ask-length s len f l)))
+      let bad : (y : Answer) → told row y ≡ answer.BadBuffers = λ y. row_told y ∙ rw l refl in
+      number_decides row (placed_spot f (granted_spot s f)) answer.BadBuffers (bad answer.Kept) (bad answer.Noted)
+      ∙ ap place_answer_number (sym (ask_length s len f l)))
 
-  reason-decides : (y : Reason) → Deciding (holdsOf s len f) y (placeChecks s len f) (refusalOr y (placedOf s len f))
-  unfolding placedOf
-  reason-decides y =
-      subst (Deciding (holdsOf s len f) y (placeChecks s len f)) (by-row row refl) (deciding (holdsOf s len f) y (placeChecks s len f))
+  reason_decides : (y : Reason) → Deciding (holds_of s len f) y (place_checks s len f) (refusal_or y (placed_of s len f))
+  unfolding placed_of
+  reason_decides y =
+      subst (Deciding (holds_of s len f) y (place_checks s len f)) (by_row row refl) (deciding (holds_of s len f) y (place_checks s len f))
     where
-      by-row : (r : Row) → row ≡ r → orLast y r ≡ refusalOr y (placedBy r (placedSpot f (grantedSpot s f)))
-      by-row (Decides x) e = refl
-      by-row Passes e =
-          sym (granted-found (access-granted (placePart s len) (flashAccess s f) (sym (place-parts s len f) ∙ e)) (grantedSpot s f) refl y .1)
+      by_row : (r : Row) → row ≡ r → or_last y r ≡ refusal_or y (placed_by r (placed_spot f (granted_spot s f)))
+      by_row (Decides x) e = refl
+      by_row Passes e =
+          sym (granted_found (access_granted (place_part s len) (flash_access s f) (sym (place_parts s len f) ∙ e)) (granted_spot s f) refl y).1
 
   -- ---- where no entry takes the family
 
-  marks-true : (x : Reason) → placedOf s len f ≡ Refused x → x .cause ≡ NoPlace NoEntry → (k : ℕ) → k < usedCount (s .count)
-      → Marked (entryAt (s .table) k) f (getD (placedMarks s f (placedOf s len f)) k 0)
-  marks-true x e h k l =
-      let d = subst (λ (p : PlaceOrigin). Deciding (holdsOf s len f) no-reason (placeChecks s len f) (refusalOr no-reason p)) e (reason-decides no-reason) in
+  marks_true : (x : Reason) → placed_of s len f ≡ Refused x → x.cause ≡ NoPlace NoEntry → (k : ℕ) → k < used_count s.count
+      → Marked (entry_at s.table k) f (get_or (placed_marks s f (placed_of s len f)) k 0)
+  marks_true x e h k l =
+      let d = subst (λ (p : PlaceOrigin). Deciding (holds_of s len f) no_reason (place_checks s len f) (refusal_or no_reason p)) e (reason_decides no_reason) in
       let t : denies s f NoEntry ≡ true =
-      ⊎-elim
-      (λ q. let c : NoPlace NoEntry ≡ Kept = sym h ∙ ap (λ (r : Reason). r .cause) q in let z : _≡_ {A = ℕ} 0 1 = cc in absurd (never z))
-      (λ q. ap (λ (c : Cause). placeTest s len f c (x .got) (x .against)) (sym h) ∙ q)
-      (decided-holds (holdsOf s len f) no-reason d) in
-      rw (e, ap (λ (c : Cause). getD (entriesOf s f c) k 0) h) (marks-denied s f t k l)
+      ⊎_elim
+      (λ q. let c : NoPlace NoEntry ≡ Kept = sym h ∙ ap (λ (r : Reason). r.cause) q in let z : ◌≡◌ {A = ℕ} 0 1 = cc in absurd (never z))
+      (λ q. ap (λ (c : Cause). place_test s len f c x.got x.against) (sym h) ∙ q)
+      (decided_holds (holds_of s len f) no_reason d) in
+      rw (e, ap (λ (c : Cause). get_or (entries_of s f c) k 0) h) (marks_denied s f t k l)
 
   -- ---- where it is found
 
   -- what a spot tells is told of the place
-  spot-found : s .count ≤ 16 → (z : Spot) → SpotTrue s f z → FoundTrue s f (placedSpot f z)
-  spot-found most (spot.Refused x) t = tt
-  spot-found most (spot.Whole Absolute) t = t
-  spot-found most (spot.Whole NoTable) t = (t .0, gets-said s f (t .2))
-  spot-found most (spot.Entry p k) t = rw (t .1) (first-fields s f most (t .0) k (t .2))
+  spot_found : s.count ≤ 16 → (z : Spot) → SpotTrue s f z → FoundTrue s f (placed_spot f z)
+  spot_found most (spot.Refused x) t = tt
+  spot_found most (spot.Whole Absolute) t = t
+  spot_found most (spot.Whole NoTable) t = (t.0, gets_said s f t.2)
+  spot_found most (spot.Entry p k) t = rw t.1 (first_fields s f most t.0 k t.2)
 
   -- where every row passes, the settings are good
-  passed-good : row ≡ Passes → goodSettings s len ≡ true
-  passed-good e =
-      split (goodSettings s len)
+  passed_good : row ≡ Passes → good_settings s len ≡ true
+  passed_good e =
+      split (good_settings s len)
       (λ g. g)
       (λ g.
-      let h : answer.Kept ≡ cond (not (flashLength len)) answer.BadBuffers answer.BadSettings =
-      ap (λ (r : Row). told r answer.Kept) (sym e) ∙ row-told answer.Kept ∙ rw g in
-      split (flashLength len)
-      (λ l. let q : answer.Kept ≡ answer.BadSettings = rw l at h in absurd (let z : _≡_ {A = ℕ} 0 1 = cc in omega arith))
-      (λ l. let q : answer.Kept ≡ answer.BadBuffers = rw l at h in absurd (let z : _≡_ {A = ℕ} 0 1 = cc in omega arith)))
+      let h : answer.Kept ≡ cond (not (flash_length len)) answer.BadBuffers answer.BadSettings =
+      ap (λ (r : Row). told r answer.Kept) (sym e) ∙ row_told answer.Kept ∙ rw g in
+      split (flash_length len)
+      (λ l. let q : answer.Kept ≡ answer.BadSettings = rw l at h in absurd (let z : ◌≡◌ {A = ℕ} 0 1 = cc in omega arith))
+      (λ l. let q : answer.Kept ≡ answer.BadBuffers = rw l at h in absurd (let z : ◌≡◌ {A = ℕ} 0 1 = cc in omega arith)))
 
   -- where every row passes, the spot is the one of the place
-  passed-spot : row ≡ Passes → spotOf s f ≡ grantedSpot s f
-  unfolding spotOf
-  passed-spot e = ap (λ (x : Access). spotBy x (grantedSpot s f)) (access-granted (placePart s len) (flashAccess s f) (sym (place-parts s len f) ∙ e))
+  passed_spot : row ≡ Passes → spot_of s f ≡ granted_spot s f
+  unfolding spot_of
+  passed_spot e = ap (λ (x : Access). spot_by x (granted_spot s f)) (access_granted (place_part s len) (flash_access s f) (sym (place_parts s len f) ∙ e))
 
-  found-true : FoundTrue s f (placedOf s len f)
-  unfolding placedOf
-  found-true = by-row row refl
+  found_true : FoundTrue s f (placed_of s len f)
+  unfolding placed_of
+  found_true = by_row row refl
     where
-      by-row : (r : Row) → row ≡ r → FoundTrue s f (placedBy r (placedSpot f (grantedSpot s f)))
-      by-row (Decides x) e = tt
-      by-row Passes e = spot-found (good-count s len (passed-good e)) (grantedSpot s f) (subst (SpotTrue s f) (passed-spot e) (place-is-true s f))
+      by_row : (r : Row) → row ≡ r → FoundTrue s f (placed_by r (placed_spot f (granted_spot s f)))
+      by_row (Decides x) e = tt
+      by_row Passes e = spot_found (good_count s len (passed_good e)) (granted_spot s f) (subst (SpotTrue s f) (passed_spot e) (place_is_true s f))
 
   -- the place that is named is the spot's
-  spot-named : (z : Spot) → placeNamed s len (placedSpot f z) ≡ spotPlace s len z
-  spot-named (spot.Refused x) = refl
-  spot-named (spot.Whole r) = refl
-  spot-named (spot.Entry p k) = refl
+  spot_named : (z : Spot) → place_named s len (placed_spot f z) ≡ spot_place s len z
+  spot_named (spot.Refused x) = refl
+  spot_named (spot.Whole r) = refl
+  spot_named (spot.Entry p k) = refl
 
   -- where the receiver finds a place rows 1 and 2 pass
-  asked-found : (a n : ℕ) → askOf s len f ≡ ask.Found a n → (flashLength len ≡ true) × (goodSettings s len ≡ true) × (placeOf s len f ≡ At a n)
-  asked-found a n e =
-      split (flashLength len)
+  asked_found : (a n : ℕ) → ask_of s len f ≡ ask.Found a n → (flash_length len ≡ true) × (good_settings s len ≡ true) × (place_of s len f ≡ At a n)
+  asked_found a n e =
+      split (flash_length len)
       (λ l.
-      split (goodSettings s len)
-      (λ g. (l, g, same (placeOf s len f) (sym (ask-place s len f l g) ∙ e)))
-      (λ g. let h : ask.BadSettings ≡ ask.Found a n = sym (ask-settings s len f l g) ∙ e in let z : _≡_ {A = ℕ} 0 1 = cc in absurd (omega arith)))
-      (λ l. let h : ask.BadBuffers ≡ ask.Found a n = sym (ask-length s len f l) ∙ e in let z : _≡_ {A = ℕ} 0 1 = cc in absurd (omega arith))
+      split (good_settings s len)
+      (λ g. (l, g, same (place_of s len f) (sym (ask_place s len f l g) ∙ e)))
+      (λ g. let h : ask.BadSettings ≡ ask.Found a n = sym (ask_settings s len f l g) ∙ e in let z : ◌≡◌ {A = ℕ} 0 1 = cc in absurd (omega arith)))
+      (λ l. let h : ask.BadBuffers ≡ ask.Found a n = sym (ask_length s len f l) ∙ e in let z : ◌≡◌ {A = ℕ} 0 1 = cc in absurd (omega arith))
     where
-      same : (p : Place) → foundAt p ≡ ask.Found a n → p ≡ At a n
-      same Nowhere h = absurd (let z : _≡_ {A = ℕ} 0 1 = cc in omega arith)
+      same : (p : Place) → found_at p ≡ ask.Found a n → p ≡ At a n
+      same Nowhere h = absurd (let z : ◌≡◌ {A = ℕ} 0 1 = cc in omega arith)
       same (At b m) h = let x : b ≡ a = cc in let y : m ≡ n = cc in rw (x, y)
 
-  found-named : (a n : ℕ) → askOf s len f ≡ ask.Found a n → placeNamed s len (placedOf s len f) ≡ At a n
-  unfolding placedOf
-  found-named a n e = by-row row refl
+  found_named : (a n : ℕ) → ask_of s len f ≡ ask.Found a n → place_named s len (placed_of s len f) ≡ At a n
+  unfolding placed_of
+  found_named a n e = by_row row refl
     where
-      open-is : (y : Answer) → told row y ≡ y
-      open-is y = let q = asked-found a n e in row-told y ∙ rw (q .0, q .1) (flash-open s len f y (q .2))
+      open_is : (y : Answer) → told row y ≡ y
+      open_is y = let q = asked_found a n e in row_told y ∙ rw (q.0, q.1) (flash_open s len f y q.2)
 
-      by-row : (r : Row) → row ≡ r → placeNamed s len (placedBy r (placedSpot f (grantedSpot s f))) ≡ At a n
-      by-row (Decides x) h =
-          let told-is : (y : Answer) → answerOf (x .cause) ≡ y = λ y. ap (λ (r : Row). told r y) (sym h) ∙ open-is y in
-          let v : answer.Kept ≡ answer.Noted = sym (told-is answer.Kept) ∙ told-is answer.Noted in
-          let z : _≡_ {A = ℕ} 0 1 = cc in absurd (omega arith)
-      by-row Passes h = spot-named (grantedSpot s f) ∙ (ap (spotPlace s len) (sym (passed-spot h)) ∙ (spot-is-placed s len f ∙ asked-found a n e .2))
+      by_row : (r : Row) → row ≡ r → place_named s len (placed_by r (placed_spot f (granted_spot s f))) ≡ At a n
+      by_row (Decides x) h =
+          let told_is : (y : Answer) → answer_of x.cause ≡ y = λ y. ap (λ (r : Row). told r y) (sym h) ∙ open_is y in
+          let v : answer.Kept ≡ answer.Noted = sym (told_is answer.Kept) ∙ told_is answer.Noted in
+          let z : ◌≡◌ {A = ℕ} 0 1 = cc in absurd (omega arith)
+      by_row Passes h = spot_named (granted_spot s f) ∙ (ap (spot_place s len) (sym (passed_spot h)) ∙ (spot_is_placed s len f ∙ (asked_found a n e).2))
 
-pub found-place-is-true : Found-place-is-true
-unfolding Found-place-is-true whyPlaceOf
-found-place-is-true s len f = found-true s len f
+pub found_place_is_true : FoundPlaceIsTrue
+unfolding FoundPlaceIsTrue why_place_of
+found_place_is_true s len f = found_true s len f
 
-pub found-place-is-the-receivers : Found-place-is-the-receivers
-unfolding Found-place-is-the-receivers whyPlaceOf
-found-place-is-the-receivers s len f a n e = found-named s len f a n e
+pub found_place_is_the_receivers : FoundPlaceIsTheReceivers
+unfolding FoundPlaceIsTheReceivers why_place_of
+found_place_is_the_receivers s len f a n e = found_named s len f a n e
 
-pub place-marks-are-true : Place-marks-are-true
-unfolding Place-marks-are-true whyPlaceOf
-place-marks-are-true s len f x e h k l u =
-    mark-fields (entryAt (s .table) k) f _ (marks-true s len f x e h k (low-used (s .count) k l u))
+pub place_marks_are_true : PlaceMarksAreTrue
+unfolding PlaceMarksAreTrue why_place_of
+place_marks_are_true s len f x e h k l u =
+    mark_fields (entry_at s.table k) f _ (marks_true s len f x e h k (low_used s.count k l u))
 
-pub place-answer-is-the-receivers : Place-answer-is-the-receivers
-unfolding Place-answer-is-the-receivers whyPlaceOf
-place-answer-is-the-receivers s len f = answer-is-asked s len f
+pub place_answer_is_the_receivers : PlaceAnswerIsTheReceivers
+unfolding PlaceAnswerIsTheReceivers why_place_of
+place_answer_is_the_receivers s len f = answer_is_asked s len f
 
-pub place-reason-is-true : Place-reason-is-true
-unfolding Place-reason-is-true whyPlaceOf
-place-reason-is-true s len f y = reason-decides s len f y
+pub place_reason_is_true : PlaceReasonIsTrue
+unfolding PlaceReasonIsTrue why_place_of
+place_reason_is_true s len f y = reason_decides s len f y

@@ -1,1 +1,2 @@
 // What is claimed of reasons. No code: specs/ says it, proofs/ proves it.
+#![tactic(auto)]

@@ -1,191 +1,186 @@
 -- Row 8 by its rules: what shuts a family out of the flash or of RAM, what turns each entry down, and which pass and entry, or which rule for the whole
 -- flash, a place comes from (01, "Settings and the place of a family"; 02, L6, L8). Assumes nothing.
-use Prim.Native.Nat.{ℕ, suc, _<_}
-use mathlib.Core.Path.{_≡_}
-use mathlib.Core.Logic.{_↔_, _≢_, _⊎_}
-use mathlib.Core.Bool.{Bool, true, false, cond, not, _&&_, _||_}
-use mathlib.Core.List.{List, [], _∷_}
-use lib.Dec.{ltb, eqb}
-use Rattle·laws.specs.Sets.{any, least}
-use Rattle·laws.specs.Tab.{tab}
-use Rattle·partitions.specs.declared.Entry.{Entry}
-use Rattle·partitions.specs.declared.Settings.{Settings}
-use Rattle·partitions.specs.Settings.{familyRp2040, familyAbsolute, familyData, familyArmS, familyRiscV, entryAt, isA, accepts}
-use Rattle·placement.specs.declared.Place.{Place}
-use Rattle·placement.specs.declared.Place.the-variants.{Nowhere, At}
-use Rattle·placement.specs.Place.{passQueryOf, passTakes, usedCount, getsWhole, bytesOf, placeOf, ramFamily}
-use Rattle·why_place·specs.specs.declared.Denial.{Denial}
-use Rattle·why_place·specs.specs.declared.Denial.the-variants.{AbsoluteOff, Rp2040, ArmOff, RiscvOff, NotWithoutTable, NoEntry, NotForRam}
-use Rattle·why_place·specs.specs.declared.Access.{Access}
-use Rattle·why_place·specs.specs.declared.Access.the-variants.{Granted, Denied}
-use Rattle·why_place·specs.specs.declared.Rule.the-variants.{Absolute, NoTable}
-use Rattle·why_place·specs.specs.declared.Spot.{Spot}
-use Rattle·why_place·specs.specs.declared.Spot.the-variants as spot
+use Rattle.std.specs.Prelude.{ℕ, suc, ◌<◌, ◌≡◌, ◌↔◌, ◌≢◌, ◌⊎◌, Bool, true, false, cond, not, ◌&&◌, ◌||◌, List, [], ◌∷◌, ltb, eqb}
+use Rattle.laws.specs.Sets.{any, least}
+use Rattle.laws.specs.Tab.{tab}
+use Rattle.partitions.specs.declared.Entry.{Entry}
+use Rattle.partitions.specs.declared.Settings.{Settings}
+use Rattle.partitions.specs.Settings.{family_rp2040, family_absolute, family_data, family_arm_s, family_risc_v, entry_at, is_a, accepts}
+use Rattle.placement.specs.declared.Place.{Place}
+use Rattle.placement.specs.declared.Place.TheVariants.{Nowhere, At}
+use Rattle.placement.specs.Place.{pass_query_of, pass_takes, used_count, gets_whole, bytes_of, place_of, ram_family}
+use Rattle.why_place.specs.declared.Denial.{Denial}
+use Rattle.why_place.specs.declared.Denial.TheVariants.{AbsoluteOff, Rp2040, ArmOff, RiscvOff, NotWithoutTable, NoEntry, NotForRam}
+use Rattle.why_place.specs.declared.Access.{Access}
+use Rattle.why_place.specs.declared.Access.TheVariants.{Granted, Denied}
+use Rattle.why_place.specs.declared.Rule.TheVariants.{Absolute, NoTable}
+use Rattle.why_place.specs.declared.Spot.{Spot}
+use Rattle.why_place.specs.declared.Spot.TheVariants as spot
 
 -- ---- what shuts a family out
 
 -- row 8's rules have the numbers 801 to 807, in 01's order, then 02's (L8)
-abbrev pub denialNumber : Denial → ℕ
-denialNumber AbsoluteOff = 801
-denialNumber Rp2040 = 802
-denialNumber ArmOff = 803
-denialNumber RiscvOff = 804
-denialNumber NotWithoutTable = 805
-denialNumber NoEntry = 806
-denialNumber NotForRam = 807
+abbrev pub denial_number : Denial → ℕ
+denial_number AbsoluteOff = 801
+denial_number Rp2040 = 802
+denial_number ArmOff = 803
+denial_number RiscvOff = 804
+denial_number NotWithoutTable = 805
+denial_number NoEntry = 806
+denial_number NotForRam = 807
 
 -- "Count 0, which is no table"
-abbrev pub noTable : Settings → Bool
-noTable s = eqb (s .count) 0
+abbrev pub no_table : Settings → Bool
+no_table s = eqb s.count 0
 
 -- "data, arm-s .. and riscv ..", and absolute, which has a rule of its own
-abbrev pub withoutTable : ℕ → Bool
-withoutTable f = eqb f familyAbsolute || eqb f familyData || eqb f familyArmS || eqb f familyRiscV
+abbrev pub without_table : ℕ → Bool
+without_table f = eqb f family_absolute || eqb f family_data || eqb f family_arm_s || eqb f family_risc_v
 
 -- entry k is an A entry and accepts the family
-unfoldable pub takesAt : List Entry → ℕ → ℕ → Bool
-takesAt table f k = isA (entryAt table k) && accepts (entryAt table k) f
+unfoldable pub takes_at : List Entry → ℕ → ℕ → Bool
+takes_at table f k = is_a (entry_at table k) && accepts (entry_at table k) f
 
 -- the rule shuts the family out
 abbrev pub denies : Settings → ℕ → Denial → Bool
 -- "absolute: the whole flash if allowed, else no place."
-denies s f AbsoluteOff = eqb f familyAbsolute && not (s .absolute)
+denies s f AbsoluteOff = eqb f family_absolute && not s.absolute
 -- "rp2040: no place."
-denies s f Rp2040 = eqb f familyRp2040
+denies s f Rp2040 = eqb f family_rp2040
 -- no table: "arm-s (Arm enabled)"
-denies s f ArmOff = noTable s && eqb f familyArmS && not (s .arm)
+denies s f ArmOff = no_table s && eqb f family_arm_s && not s.arm
 -- no table: "riscv (RISC-V enabled)"
-denies s f RiscvOff = noTable s && eqb f familyRiscV && not (s .riscv)
+denies s f RiscvOff = no_table s && eqb f family_risc_v && not s.riscv
 -- no table: "Others no place."
-denies s f NotWithoutTable = noTable s && not (withoutTable f)
+denies s f NotWithoutTable = no_table s && not (without_table f)
 -- a table: "there is no place exactly if no A entry accepts it"; absolute is not asked of the table
-denies s f NoEntry = not (noTable s) && not (eqb f familyAbsolute) && not (any (usedCount (s .count)) (takesAt (s .table) f))
+denies s f NoEntry = not (no_table s) && not (eqb f family_absolute) && not (any (used_count s.count) (takes_at s.table f))
 -- "In RAM only families ..58 to ..5b or a user family of a used entry; others 8." (02, L8)
-denies s f NotForRam = not (ramFamily s f)
+denies s f NotForRam = not (ram_family s f)
 
 -- the first rule of a list that shuts the family out
-unfoldable pub firstDenial : Settings → ℕ → List Denial → Access
-firstDenial s f [] = Granted
-firstDenial s f (x ∷ l) = cond (denies s f x) (Denied x) (firstDenial s f l)
+unfoldable pub first_denial : Settings → ℕ → List Denial → Access
+first_denial s f [] = Granted
+first_denial s f (x ∷ l) = cond (denies s f x) (Denied x) (first_denial s f l)
 
 -- the rules for the flash, in 01's order
-abbrev pub flashDenials : List Denial
-flashDenials = AbsoluteOff ∷ Rp2040 ∷ ArmOff ∷ RiscvOff ∷ NotWithoutTable ∷ NoEntry ∷ []
+abbrev pub flash_denials : List Denial
+flash_denials = AbsoluteOff ∷ Rp2040 ∷ ArmOff ∷ RiscvOff ∷ NotWithoutTable ∷ NoEntry ∷ []
 
 -- the rule for RAM
-abbrev pub ramDenials : List Denial
-ramDenials = NotForRam ∷ []
+abbrev pub ram_denials : List Denial
+ram_denials = NotForRam ∷ []
 
-unfoldable pub flashAccess : Settings → ℕ → Access
-flashAccess s f = firstDenial s f flashDenials
+unfoldable pub flash_access : Settings → ℕ → Access
+flash_access s f = first_denial s f flash_denials
 
-unfoldable pub ramAccess : Settings → ℕ → Access
-ramAccess s f = firstDenial s f ramDenials
+unfoldable pub ram_access : Settings → ℕ → Access
+ram_access s f = first_denial s f ram_denials
 
 -- the number of the rule, and 0 where none shuts the family out
-abbrev pub accessNumber : Access → ℕ
-accessNumber Granted = 0
-accessNumber (Denied x) = denialNumber x
+abbrev pub access_number : Access → ℕ
+access_number Granted = 0
+access_number (Denied x) = denial_number x
 
 -- ---- what turns an entry down
 
 -- "for each used entry "B of" or else "doesn't accept"" (02, L6): 1 and 2; 0 for an entry that is not used, and for one that would take the family
-abbrev pub markFor : Entry → ℕ → ℕ
-markFor e f = cond (isA e) (cond (accepts e f) 0 2) 1
+abbrev pub mark_for : Entry → ℕ → ℕ
+mark_for e f = cond (is_a e) (cond (accepts e f) 0 2) 1
 
-unfoldable pub markOf : Settings → ℕ → ℕ → ℕ
-markOf s f k = cond (ltb k (usedCount (s .count))) (markFor (entryAt (s .table) k) f) 0
+unfoldable pub mark_of : Settings → ℕ → ℕ → ℕ
+mark_of s f k = cond (ltb k (used_count s.count)) (mark_for (entry_at s.table k) f) 0
 
 -- the marks of all 16 entries
-unfoldable pub marksOf : Settings → ℕ → List ℕ
-marksOf s f = tab 16 (markOf s f)
+unfoldable pub marks_of : Settings → ℕ → List ℕ
+marks_of s f = tab 16 (mark_of s f)
 
 -- ---- where a place comes from
 
 -- pass p + 1 takes entry k
-unfoldable pub takenIn : Settings → ℕ → ℕ → ℕ → Bool
-takenIn s f p k = passTakes (passQueryOf s f) p (entryAt (s .table) k)
+unfoldable pub taken_in : Settings → ℕ → ℕ → ℕ → Bool
+taken_in s f p k = pass_takes (pass_query_of s f) p (entry_at s.table k)
 
 -- pass p + 1 takes a used entry
-unfoldable pub passHas : Settings → ℕ → ℕ → Bool
-passHas s f p = any (usedCount (s .count)) (takenIn s f p)
+unfoldable pub pass_has : Settings → ℕ → ℕ → Bool
+pass_has s f p = any (used_count s.count) (taken_in s f p)
 
 -- the first pass that takes an entry, counted from 0
-unfoldable pub passOf : Settings → ℕ → ℕ
-passOf s f = least 4 (passHas s f)
+unfoldable pub pass_of : Settings → ℕ → ℕ
+pass_of s f = least 4 (pass_has s f)
 
 -- the first entry that a pass takes
-unfoldable pub entryIn : Settings → ℕ → ℕ → ℕ
-entryIn s f p = least (usedCount (s .count)) (takenIn s f p)
+unfoldable pub entry_in : Settings → ℕ → ℕ → ℕ
+entry_in s f p = least (used_count s.count) (taken_in s f p)
 
 -- the entry that the passes choose: 01's passes are 1 to 4
-unfoldable pub tableSpot : Settings → ℕ → Spot
-tableSpot s f = spot.Entry (suc (passOf s f)) (entryIn s f (passOf s f))
+unfoldable pub table_spot : Settings → ℕ → Spot
+table_spot s f = spot.Entry (suc (pass_of s f)) (entry_in s f (pass_of s f))
 
 -- the rule or the pass that gives a place, for a family that is not shut out
-unfoldable pub grantedSpot : Settings → ℕ → Spot
-grantedSpot s f =
-    cond (eqb f familyAbsolute) (spot.Whole Absolute)
-    (cond (noTable s) (spot.Whole NoTable)
-    (tableSpot s f))
+unfoldable pub granted_spot : Settings → ℕ → Spot
+granted_spot s f =
+    cond (eqb f family_absolute) (spot.Whole Absolute)
+    (cond (no_table s) (spot.Whole NoTable)
+    (table_spot s f))
 
-abbrev pub spotBy : Access → Spot → Spot
-spotBy (Denied x) y = spot.Refused x
-spotBy Granted y = y
+abbrev pub spot_by : Access → Spot → Spot
+spot_by (Denied x) y = spot.Refused x
+spot_by Granted y = y
 
-unfoldable pub spotOf : Settings → ℕ → Spot
-spotOf s f = spotBy (flashAccess s f) (grantedSpot s f)
+unfoldable pub spot_of : Settings → ℕ → Spot
+spot_of s f = spot_by (flash_access s f) (granted_spot s f)
 
 -- the rule's number where the family is shut out; else 1 for absolute, 2 for no table, 3 for an entry
-abbrev pub spotNumber : Spot → ℕ
-spotNumber (spot.Refused x) = denialNumber x
-spotNumber (spot.Whole Absolute) = 1
-spotNumber (spot.Whole NoTable) = 2
-spotNumber (spot.Entry p k) = 3
+abbrev pub spot_number : Spot → ℕ
+spot_number (spot.Refused x) = denial_number x
+spot_number (spot.Whole Absolute) = 1
+spot_number (spot.Whole NoTable) = 2
+spot_number (spot.Entry p k) = 3
 
 -- ---- the claims, proved in proofs/Theorems.antt
 
 -- the place that a spot stands for, in a flash of len bytes
-abbrev pub spotPlace : Settings → ℕ → Spot → Place
-spotPlace s len (spot.Refused x) = Nowhere
-spotPlace s len (spot.Whole r) = At 0 len
-spotPlace s len (spot.Entry p k) = bytesOf (entryAt (s .table) k)
+abbrev pub spot_place : Settings → ℕ → Spot → Place
+spot_place s len (spot.Refused x) = Nowhere
+spot_place s len (spot.Whole r) = At 0 len
+spot_place s len (spot.Entry p k) = bytes_of (entry_at s.table k)
 
 -- a family is shut out of the flash exactly where it has no place, for all settings
-abbrev pub Granted-is-placed : Type 0
-Granted-is-placed = (s : Settings) (len f : ℕ) → (flashAccess s f ≡ Granted) ↔ (placeOf s len f ≢ Nowhere)
+abbrev pub GrantedIsPlaced : Type 0
+GrantedIsPlaced = (s : Settings) (len f : ℕ) → (flash_access s f ≡ Granted) ↔ (place_of s len f ≢ Nowhere)
 
-abbrev pub Granted-is-for-ram : Type 0
-Granted-is-for-ram = (s : Settings) (f : ℕ) → (ramAccess s f ≡ Granted) ↔ (ramFamily s f ≡ true)
+abbrev pub GrantedIsForRam : Type 0
+GrantedIsForRam = (s : Settings) (f : ℕ) → (ram_access s f ≡ Granted) ↔ (ram_family s f ≡ true)
 
 -- the place is that of the spot
-abbrev pub Spot-is-placed : Type 0
-Spot-is-placed = (s : Settings) (len f : ℕ) → spotPlace s len (spotOf s f) ≡ placeOf s len f
+abbrev pub SpotIsPlaced : Type 0
+SpotIsPlaced = (s : Settings) (len f : ℕ) → spot_place s len (spot_of s f) ≡ place_of s len f
 
 -- what a mark says of an entry and a family
 abbrev pub Marked : Entry → ℕ → ℕ → Type 0
-Marked e f m = ((m ≡ 1) × (isA e ≡ false)) ⊎ ((m ≡ 2) × (isA e ≡ true) × (accepts e f ≡ false))
+Marked e f m = ((m ≡ 1) × (is_a e ≡ false)) ⊎ ((m ≡ 2) × (is_a e ≡ true) × (accepts e f ≡ false))
 
 -- where no entry accepts the family, each used entry has a mark, and it is true
-abbrev pub Marks-are-true : Type 0
-Marks-are-true =
-    (s : Settings) (f : ℕ) → flashAccess s f ≡ Denied NoEntry → (k : ℕ) → k < usedCount (s .count)
-    → Marked (entryAt (s .table) k) f (markOf s f k)
+abbrev pub MarksAreTrue : Type 0
+MarksAreTrue =
+    (s : Settings) (f : ℕ) → flash_access s f ≡ Denied NoEntry → (k : ℕ) → k < used_count s.count
+    → Marked (entry_at s.table k) f (mark_of s f k)
 
 -- "ending at the first match": no earlier pass takes an entry, this pass takes none before entry k, and it takes entry k, which is used
 pub record FirstMatch (s : Settings) (f p k : ℕ) : Type 0 where
   pub pass : p < 4
-  pub used : k < usedCount (s .count)
-  pub earlier : (q : ℕ) → q < p → (j : ℕ) → j < usedCount (s .count) → takenIn s f q j ≡ false
-  pub before : (j : ℕ) → j < k → takenIn s f p j ≡ false
-  pub taken : takenIn s f p k ≡ true
+  pub used : k < used_count s.count
+  pub earlier : (q : ℕ) → q < p → (j : ℕ) → j < used_count s.count → taken_in s f q j ≡ false
+  pub before : (j : ℕ) → j < k → taken_in s f p j ≡ false
+  pub taken : taken_in s f p k ≡ true
 
 -- what a place that is found tells: absolute is the family and is allowed; there is no table and the family is one of 01's three; or the first match
 abbrev pub SpotTrue : Settings → ℕ → Spot → Type 0
-SpotTrue s f (spot.Refused x) = flashAccess s f ≡ Denied x
-SpotTrue s f (spot.Whole Absolute) = (f ≡ familyAbsolute) × (s .absolute ≡ true)
-SpotTrue s f (spot.Whole NoTable) = (s .count ≡ 0) × (f ≢ familyAbsolute) × (getsWhole (s .arm) (s .riscv) f ≡ true)
+SpotTrue s f (spot.Refused x) = flash_access s f ≡ Denied x
+SpotTrue s f (spot.Whole Absolute) = (f ≡ family_absolute) × (s.absolute ≡ true)
+SpotTrue s f (spot.Whole NoTable) = (s.count ≡ 0) × (f ≢ family_absolute) × (gets_whole s.arm s.riscv f ≡ true)
 SpotTrue s f (spot.Entry p k) = (q : ℕ) × (p ≡ suc q) × FirstMatch s f q k
 
-abbrev pub Place-is-true : Type 0
-Place-is-true = (s : Settings) (f : ℕ) → SpotTrue s f (spotOf s f)
+abbrev pub PlaceIsTrue : Type 0
+PlaceIsTrue = (s : Settings) (f : ℕ) → SpotTrue s f (spot_of s f)

@@ -1,27 +1,28 @@
 // Row 8 by its rules: what shuts a family out, what turns each entry down, and where a place comes from.
-ghost use mathlib.Core.Path.{_≡_};
-ghost use Rattle·laws.specs.Numbered.{numbered};
-ghost use mathlib.Core.Bool.{true};
-ghost use Rattle·laws.specs.Sets.{any};
-ghost use Rattle·placement.specs.Place.{usedCount};
-ghost use Rattle·why_place·specs.specs.Placing.{
-  denialNumber,
-  takesAt,
-  flashAccess,
-  ramAccess,
-  accessNumber,
-  markFor,
-  marksOf,
-  tableSpot,
-  spotOf,
-  spotNumber,
+#![tactic(auto)]
+
+ghost use Rattle.std.specs.Prelude.{◌≡◌, true};
+ghost use Rattle.laws.specs.Numbered.{numbered};
+ghost use Rattle.laws.specs.Sets.{any};
+ghost use Rattle.placement.specs.Place.{used_count};
+ghost use Rattle.why_place.specs.Placing.{
+  denial_number,
+  takes_at,
+  flash_access,
+  ram_access,
+  access_number,
+  mark_for,
+  marks_of,
+  table_spot,
+  spot_of,
+  spot_number,
 };
-ghost use Rattle·why_place·specs.specs.Parts.{deniedIf, withoutAccess};
-use partitions::Entry;
-use partitions::Family;
-use partitions::Settings;
+ghost use Rattle.why_place.specs.Parts.{denied_if, without_access};
+
+use partitions::{Entry, Family, Settings};
 
 // The setting or rule that shuts a family out: five of the flash without asking the table, one of the table, one of RAM.
+#[derive(Clone, Copy)]
 pub enum Denial {
     AbsoluteOff,
     Rp2040,
@@ -32,18 +33,21 @@ pub enum Denial {
     NotForRam,
 }
 
+#[derive(Clone, Copy)]
 pub enum Access {
     Granted,
     Denied(Denial),
 }
 
 // The rules that give the whole flash.
+#[derive(Clone, Copy)]
 pub enum Rule {
     Absolute,
     NoTable,
 }
 
 // Where a place comes from; 01's passes are 1 to 4.
+#[derive(Clone, Copy)]
 pub enum Spot {
     Refused(Denial),
     Whole(Rule),
@@ -52,7 +56,7 @@ pub enum Spot {
 
 impl Denial {
     pub fn number(self) -> u16
-        ensures { λ r. ⌜ r ≡ denialNumber self ⌝ }
+        ensures { result ≡ denial_number self }
     {
         match self {
             Denial::AbsoluteOff => 801,
@@ -67,7 +71,7 @@ impl Denial {
 }
 
 fn denied_if(yes: bool, denial: Denial) -> Access
-    ensures { λ r. ⌜ r ≡ deniedIf yes denial ⌝ }
+    ensures { result ≡ denied_if yes denial }
 {
     if yes {
         Access::Denied(denial)
@@ -78,7 +82,7 @@ fn denied_if(yes: bool, denial: Denial) -> Access
 
 // Does an A entry that is used accept the family?
 fn any_takes(settings: Settings, family: u32) -> bool
-    ensures { λ r. ⌜ r ≡ any (usedCount (settings .count)) (takesAt (settings .table) family) ⌝ }
+    ensures { result ≡ any (used_count settings.count) (takes_at settings.table family) }
 {
     let n = placement::passes::used_count(settings.count);
     let mut k: usize = 0;
@@ -94,7 +98,7 @@ fn any_takes(settings: Settings, family: u32) -> bool
 
 // May a family that is neither absolute nor rp2040 have the flash where there is no table?
 fn without_table(arm: bool, riscv: bool, family: u32) -> Access
-    ensures { λ r. ⌜ r ≡ withoutAccess arm riscv family ⌝ }
+    ensures { result ≡ without_access arm riscv family }
 {
     if family == Family::DATA {
         return Access::Granted;
@@ -110,7 +114,7 @@ fn without_table(arm: bool, riscv: bool, family: u32) -> Access
 
 // Does a rule shut the family out of the flash, and which first?
 pub fn flash_access(settings: Settings, family: u32) -> Access
-    ensures { λ r. ⌜ numbered accessNumber r ≡ numbered accessNumber (flashAccess settings family) ⌝ }
+    ensures { numbered access_number result ≡ numbered access_number (flash_access settings family) }
 {
     if family == Family::ABSOLUTE {
         return denied_if(!settings.absolute, Denial::AbsoluteOff);
@@ -126,7 +130,7 @@ pub fn flash_access(settings: Settings, family: u32) -> Access
 
 // Does the rule for RAM shut the family out?
 pub fn ram_access(settings: Settings, family: u32) -> Access
-    ensures { λ r. ⌜ numbered accessNumber r ≡ numbered accessNumber (ramAccess settings family) ⌝ }
+    ensures { numbered access_number result ≡ numbered access_number (ram_access settings family) }
 {
     denied_if(
         !placement::ram::ram_family(settings, family),
@@ -136,7 +140,7 @@ pub fn ram_access(settings: Settings, family: u32) -> Access
 
 // What turns a used entry down: 1 "B of", else 2 "doesn't accept".
 fn mark(e: Entry, family: u32) -> u8
-    ensures { λ r. ⌜ r ≡ markFor e family ⌝ }
+    ensures { result ≡ mark_for e family }
 {
     if !partitions::is_a(e) {
         return 1;
@@ -149,7 +153,7 @@ fn mark(e: Entry, family: u32) -> u8
 
 // The marks of all 16 entries.
 pub fn marks(settings: Settings, family: u32) -> [u8; 16]
-    ensures { λ r. ⌜ r ≡ marksOf settings family ⌝ }
+    ensures { result ≡ marks_of settings family }
 {
     let mut out: [u8; 16] = [0; 16];
     let n = placement::passes::used_count(settings.count);
@@ -164,8 +168,8 @@ pub fn marks(settings: Settings, family: u32) -> [u8; 16]
 
 // The first pass that takes an entry, and the first entry that it takes.
 fn in_table(settings: Settings, family: u32) -> Spot
-    requires { ⌜ any (usedCount (settings .count)) (takesAt (settings .table) family) ≡ true ⌝ }
-    ensures { λ r. ⌜ r ≡ tableSpot settings family ⌝ }
+    requires { any (used_count settings.count) (takes_at settings.table family) ≡ true }
+    ensures { result ≡ table_spot settings family }
 {
     let n = placement::passes::used_count(settings.count);
     let w = placement::passes::query(settings, family);
@@ -192,7 +196,7 @@ fn in_table(settings: Settings, family: u32) -> Spot
 
 // Where the place of a family comes from, or what shuts it out.
 pub fn locate(settings: Settings, family: u32) -> Spot
-    ensures { λ r. ⌜ numbered spotNumber r ≡ numbered spotNumber (spotOf settings family) ⌝ }
+    ensures { numbered spot_number result ≡ numbered spot_number (spot_of settings family) }
 {
     if let Access::Denied(x) = flash_access(settings, family) {
         return Spot::Refused(x);

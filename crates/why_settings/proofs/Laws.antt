@@ -1,70 +1,70 @@
 -- Laws of the first fault, one step of a loop each. Assumes nothing.
-use Prim.Native.Nat.{ℕ, zero, suc, _+_, _≤_, _<_}
-use mathlib.Core.Path.{_≡_, refl, sym, ap, _∙_}
-use mathlib.Core.Logic.{⊎-elim, _≢_}
-use mathlib.Core.Bool.{Bool, true, false, cond, not, _&&_, _||_, and-false}
-use mathlib.Core.List.{List, [], _∷_, _++_, map}
-use native.Mathlib.Nat.{le-of-suc-le-suc, not-suc-le-zero, eq-or-lt-of-le, le-refl, le-step}
+use Prim.Native.Nat.{ℕ, zero, suc, ◌+◌, ◌≤◌, ◌<◌}
+use mathlib.Core.Path.{◌≡◌, refl, sym, ap, ◌∙◌}
+use mathlib.Core.Logic.{⊎_elim, ◌≢◌}
+use mathlib.Core.Bool.{Bool, true, false, cond, not, ◌&&◌, ◌||◌, and-false}
+use mathlib.Core.List.{List, [], ◌∷◌, ◌++◌, map}
+use native.Mathlib.Nat.{le_of_suc-le-suc, not-suc-le-zero, eq-or-lt_of_le, le_refl, le_step}
 use native.Mathlib.Numerals.{add-one}
 use native.Mathlib.Omega.{arith}
 use lib.Dec.{ltb, leb}
-use lib.ListN.{length, getD, length-map, List·getD-eq-default}
-use borrow.Author.Tests.{ne-eqb, eq-eqb, lt-ltb, le-ltb}
-use Rattle·laws.specs.Sets.{any, least}
-use Rattle·laws.proofs.Tests.{split, is-false, clash, and-right}
-use Rattle·laws.proofs.Laws.{any-none, any-all, any-found, any-hit, least-below, least-none}
-use Rattle·partitions.specs.declared.Entry.{Entry}
-use Rattle·partitions.specs.declared.Settings.{Settings}
-use Rattle·partitions.specs.Settings.{isA, isUnowned, linkTarget, emptyEntry, isReserved, reservedAt, entryAt, sharesWith, noSectors, runsPast, linksUp, linksToB, manyUsers, reservedUser, countOver, enabled}
-use Rattle·why_settings·specs.specs.declared.Fault.{Fault}
-use Rattle·why_settings·specs.specs.declared.Fault.the-variants.{ArchOff, CountOver, NoSectors, PastFlash, Shares, LinksUp, LinksToB, ManyUsers, ReservedUser}
-use Rattle·why_settings·specs.specs.declared.Finding.{Finding}
-use Rattle·why_settings·specs.specs.declared.Finding.the-variants.{Sound, Bad}
-use Rattle·why_settings·specs.specs.declared.Comparison.{Comparison}
-use Rattle·why_settings·specs.specs.Faults.{faultIn, each, sharing, conditionAt, conditionFor, faultsOf, badIf, firstIn, firstShared, firstFault, firstReserved, testedOf}
+use lib.ListN.{length, get_or, length-map, get_or-eq_default}
+use borrow.Author.Tests.{ne_eqb, lt-ltb, le-ltb}
+use Rattle.laws.specs.Sets.{any, least}
+use Rattle.laws.proofs.Tests.{split, and_right}
+use Rattle.laws.proofs.Laws.{any_all, least_below, least_none}
+use Rattle.partitions.specs.declared.Entry.{Entry}
+use Rattle.partitions.specs.declared.Settings.{Settings}
+use Rattle.partitions.specs.Settings.{is_a, is_unowned, link_target, empty_entry, is_reserved, reserved_at, entry_at, shares_with, no_sectors, runs_past, links_up, links_to_b, many_users, reserved_user, enabled}
+use Rattle.why_settings.specs.declared.Fault.{Fault}
+use Rattle.why_settings.specs.declared.Fault.TheVariants.{ArchOff, CountOver, NoSectors, PastFlash, Shares, LinksUp, LinksToB, ManyUsers, ReservedUser}
+use Rattle.why_settings.specs.declared.Finding.{Finding}
+use Rattle.why_settings.specs.declared.Finding.TheVariants.{Sound, Bad}
+use Rattle.why_settings.specs.declared.Comparison.{Comparison}
+use Rattle.why_settings.specs.Faults.{fault_in, each, sharing, condition_at, condition_for, faults_of, bad_if, first_in, first_shared, first_fault, first_reserved, tested_of}
 
 -- ---- the first user family that is reserved
 
 module _ (e : Entry) where
-  pub reserved-by : (k : ℕ) {b v : Bool} → b ≡ isReserved (getD (e .users) k 0) → ltb k (e .«user_count») && b ≡ v → reservedAt e k ≡ v
-  reserved-by k h t = ap (λ (b : Bool). ltb k (e .«user_count») && b) (sym h) ∙ t
+  pub reserved_by : (k : ℕ) {b v : Bool} → b ≡ is_reserved (get_or e.users k 0) → ltb k e.user_count && b ≡ v → reserved_at e k ≡ v
+  reserved_by k h t = ap (λ (b : Bool). ltb k e.user_count && b) (sym h) ∙ t
 
-  pub reserved-0 : reservedAt e 0 ≡ true → getD (e .users) 0 0 ≡ firstReserved e
-  unfolding firstReserved
-  reserved-0 h = rw h
+  pub reserved_0 : reserved_at e 0 ≡ true → get_or e.users 0 0 ≡ first_reserved e
+  unfolding first_reserved
+  reserved_0 h = rw h
 
-  module _ (n0 : reservedAt e 0 ≡ false) where
-    pub reserved-1 : reservedAt e 1 ≡ true → getD (e .users) 1 0 ≡ firstReserved e
-    unfolding firstReserved
-    reserved-1 h = rw (n0, h)
+  module _ (n0 : reserved_at e 0 ≡ false) where
+    pub reserved_1 : reserved_at e 1 ≡ true → get_or e.users 1 0 ≡ first_reserved e
+    unfolding first_reserved
+    reserved_1 h = rw (n0, h)
 
-    module _ (n1 : reservedAt e 1 ≡ false) where
-      pub reserved-2 : reservedAt e 2 ≡ true → getD (e .users) 2 0 ≡ firstReserved e
-      unfolding firstReserved
-      reserved-2 h = rw (n0, n1, h)
+    module _ (n1 : reserved_at e 1 ≡ false) where
+      pub reserved_2 : reserved_at e 2 ≡ true → get_or e.users 2 0 ≡ first_reserved e
+      unfolding first_reserved
+      reserved_2 h = rw (n0, n1, h)
 
-      module _ (n2 : reservedAt e 2 ≡ false) where
-        pub reserved-3 : reservedAt e 3 ≡ true → getD (e .users) 3 0 ≡ firstReserved e
-        unfolding firstReserved
-        reserved-3 h = rw (n0, n1, n2, h)
+      module _ (n2 : reserved_at e 2 ≡ false) where
+        pub reserved_3 : reserved_at e 3 ≡ true → get_or e.users 3 0 ≡ first_reserved e
+        unfolding first_reserved
+        reserved_3 h = rw (n0, n1, n2, h)
 
-        pub reserved-none : reservedAt e 3 ≡ false → 0 ≡ firstReserved e
-        unfolding firstReserved
-        reserved-none h = rw (n0, n1, n2, h)
+        pub reserved_none : reserved_at e 3 ≡ false → 0 ≡ first_reserved e
+        unfolding first_reserved
+        reserved_none h = rw (n0, n1, n2, h)
 
 -- it tells whether there is one
-pub reserved-user : (e : Entry) → isReserved (firstReserved e) ≡ reservedUser e
-unfolding firstReserved reservedUser any
-reserved-user e =
-    four (reservedAt e 0) (reservedAt e 1) (reservedAt e 2) (reservedAt e 3) (user 0) (user 1) (user 2) (user 3) (tells 0) (tells 1) (tells 2) (tells 3)
+pub reserved_user_case : (e : Entry) → is_reserved (first_reserved e) ≡ reserved_user e
+unfolding first_reserved reserved_user any
+reserved_user_case e =
+    four (reserved_at e 0) (reserved_at e 1) (reserved_at e 2) (reserved_at e 3) (user 0) (user 1) (user 2) (user 3) (tells 0) (tells 1) (tells 2) (tells 3)
   where
     user : ℕ → ℕ
-    user k = getD (e .users) k 0
+    user k = get_or e.users k 0
 
-    tells : (k : ℕ) → reservedAt e k ≡ true → isReserved (user k) ≡ true
-    tells k h = and-right (ltb k (e .«user_count»)) (isReserved (user k)) h
+    tells : (k : ℕ) → reserved_at e k ≡ true → is_reserved (user k) ≡ true
+    tells k h = and_right (ltb k e.user_count) (is_reserved (user k)) h
 
-    four : (a b c d : Bool) (p q r s : ℕ) → (a ≡ true → isReserved p ≡ true) → (b ≡ true → isReserved q ≡ true) → (c ≡ true → isReserved r ≡ true) → (d ≡ true → isReserved s ≡ true) → isReserved (cond a p (cond b q (cond c r (cond d s 0)))) ≡ false || a || b || c || d
+    four : (a b c d : Bool) (p q r s : ℕ) → (a ≡ true → is_reserved p ≡ true) → (b ≡ true → is_reserved q ≡ true) → (c ≡ true → is_reserved r ≡ true) → (d ≡ true → is_reserved s ≡ true) → is_reserved (cond a p (cond b q (cond c r (cond d s 0)))) ≡ false || a || b || c || d
     four true b c d p q r s f g h i = f refl
     four false true c d p q r s f g h i = g refl
     four false false true d p q r s f g h i = h refl
@@ -73,176 +73,176 @@ reserved-user e =
 
 -- ---- the first other entry
 
-pub least-most : (P : ℕ → Bool) (n : ℕ) → least n P ≤ n
-least-most P n = split (any n P) (λ h. omega (arith, least-below P n h .0)) (λ h. omega (arith, least-none P n h))
+pub least_most : (P : ℕ → Bool) (n : ℕ) → least n P ≤ n
+least_most P n = split (any n P) (λ h. omega (arith, (least_below P n h).0)) (λ h. omega (arith, least_none P n h))
 
-pub shared-by : (table : List Entry) (n k j : ℕ) → j ≡ least n (sharesWith table k) → badIf (ltb j n) (Shares k j) ≡ firstShared table n k
-unfolding firstShared
-shared-by table n k j h =
+pub shared_by : (table : List Entry) (n k j : ℕ) → j ≡ least n (shares_with table k) → bad_if (ltb j n) (Shares k j) ≡ first_shared table n k
+unfolding first_shared
+shared_by table n k j h =
     rw h
-    (split (any n (sharesWith table k))
-    (λ q. rw (q, lt-ltb (least n (sharesWith table k)) n (least-below (sharesWith table k) n q .0)))
-    (λ q. rw (q, le-ltb (least n (sharesWith table k)) n (omega (arith, least-none (sharesWith table k) n q)))))
+    (split (any n (shares_with table k))
+    (λ q. rw (q, lt-ltb (least n (shares_with table k)) n (least_below (shares_with table k) n q).0))
+    (λ q. rw (q, le-ltb (least n (shares_with table k)) n (omega (arith, least_none (shares_with table k) n q)))))
 
 -- ---- a link
 
 -- the length of a table, from that of the list of its values
-pub length-mapped : {A B : Type 0} (f : A → B) (l : List A) (n : ℕ) → length (map f l) ≡ n → length l ≡ n
-length-mapped f l n h = sym (length-map l f) ∙ h
+pub length_mapped : {A B : Type 0} (f : A → B) (l : List A) (n : ℕ) → length (map f l) ≡ n → length l ≡ n
+length_mapped f l n h = sym (length-map l f) ∙ h
 
 module _ (table : List Entry) (k : ℕ) where
-  pub link-none : isUnowned (entryAt table k) ≡ true → false ≡ linksToB table k
-  link-none u = rw u
+  pub link_none : is_unowned (entry_at table k) ≡ true → false ≡ links_to_b table k
+  link_none u = rw u
 
-  pub up-by : {u : Bool} {j : ℕ} → u ≡ isUnowned (entryAt table k) → j ≡ linkTarget (entryAt table k .link) → not u && leb k j ≡ linksUp table k
-  up-by h e = rw (h, e)
+  pub up_by : {u : Bool} {j : ℕ} → u ≡ is_unowned (entry_at table k) → j ≡ link_target (entry_at table k).link → not u && leb k j ≡ links_up table k
+  up_by h e = rw (h, e)
 
   -- past the table's end no entry is linked
-  pub link-from-past : length table ≡ 16 → 16 ≤ k → false ≡ linksToB table k
-  link-from-past l h =
-      let e : entryAt table k ≡ emptyEntry = List·getD-eq-default table emptyEntry (omega (arith, l, h)) in
+  pub link_from_past : length table ≡ 16 → 16 ≤ k → false ≡ links_to_b table k
+  link_from_past l h =
+      let e : entry_at table k ≡ empty_entry = get_or-eq_default table empty_entry (omega (arith, l, h)) in
       rw e
 
   -- past the table's end there is no entry that is "B of"
-  pub link-past : length table ≡ 16 → 16 ≤ linkTarget (entryAt table k .link) → false ≡ linksToB table k
-  link-past l h =
-      let e : entryAt table (linkTarget (entryAt table k .link)) ≡ emptyEntry = List·getD-eq-default table emptyEntry (omega (arith, l, h)) in
-      rw (e, and-false (not (isUnowned (entryAt table k))))
+  pub link_past : length table ≡ 16 → 16 ≤ link_target (entry_at table k).link → false ≡ links_to_b table k
+  link_past l h =
+      let e : entry_at table (link_target (entry_at table k).link) ≡ empty_entry = get_or-eq_default table empty_entry (omega (arith, l, h)) in
+      rw (e, and-false (not (is_unowned (entry_at table k))))
 
-  pub link-there : {b : Bool} {j : ℕ} → isUnowned (entryAt table k) ≡ false → j ≡ linkTarget (entryAt table k .link) → b ≡ isA (entryAt table j) → not b ≡ linksToB table k
-  link-there u h e = rw (u, e, h)
+  pub link_there : {b : Bool} {j : ℕ} → is_unowned (entry_at table k) ≡ false → j ≡ link_target (entry_at table k).link → b ≡ is_a (entry_at table j) → not b ≡ links_to_b table k
+  link_there u h e = rw (u, e, h)
 
 -- ---- the numbers of a fault that is known
 
-pub tested-as : (s : Settings) (len : ℕ) {x y : Fault} {t : Comparison} → x ≡ y → t ≡ testedOf s len y → t ≡ testedOf s len x
-tested-as s len h e = e ∙ ap (testedOf s len) (sym h)
+pub tested_as : (s : Settings) (len : ℕ) {x y : Fault} {t : Comparison} → x ≡ y → t ≡ tested_of s len y → t ≡ tested_of s len x
+tested_as s len h e = e ∙ ap (tested_of s len) (sym h)
 
 -- ---- the first of several lists
 
-abbrev orNext : Finding → Finding → Finding
-orNext Sound y = y
-orNext (Bad x) y = Bad x
+abbrev or_next : Finding → Finding → Finding
+or_next Sound y = y
+or_next (Bad x) y = Bad x
 
 module _ (s : Settings) (len : ℕ) where
-  first-join : (l m : List Fault) → firstIn s len (l ++ m) ≡ orNext (firstIn s len l) (firstIn s len m)
-  unfolding firstIn
-  first-join [] m = refl
-  first-join (x ∷ l) m = by-case (faultIn s len x) (firstIn s len (l ++ m)) (firstIn s len l) (first-join l m)
+  first_join : (l m : List Fault) → first_in s len (l ++ m) ≡ or_next (first_in s len l) (first_in s len m)
+  unfolding first_in
+  first_join [] m = refl
+  first_join (x ∷ l) m = by-case (fault_in s len x) (first_in s len (l ++ m)) (first_in s len l) (first_join l m)
     where
-      by-case : (b : Bool) (p q : Finding) → p ≡ orNext q (firstIn s len m) → cond b (Bad x) p ≡ orNext (cond b (Bad x) q) (firstIn s len m)
+      by-case : (b : Bool) (p q : Finding) → p ≡ or_next q (first_in s len m) → cond b (Bad x) p ≡ or_next (cond b (Bad x) q) (first_in s len m)
       by-case true p q e = refl
       by-case false p q e = e
 
   -- one fault
-  pub first-one : (x : Fault) → badIf (faultIn s len x) x ≡ firstIn s len (x ∷ [])
-  unfolding firstIn
-  first-one x = refl
+  pub first_one : (x : Fault) → bad_if (fault_in s len x) x ≡ first_in s len (x ∷ [])
+  unfolding first_in
+  first_one x = refl
 
   module _ (f : ℕ → List Fault) where
-    pub each-zero : firstIn s len (each f 0) ≡ Sound
-    unfolding each firstIn
-    each-zero = refl
+    pub each_zero : first_in s len (each f 0) ≡ Sound
+    unfolding each first_in
+    each_zero = refl
 
-    step : (n : ℕ) → firstIn s len (each f (suc n)) ≡ orNext (firstIn s len (each f n)) (firstIn s len (f n))
+    step : (n : ℕ) → first_in s len (each f (suc n)) ≡ or_next (first_in s len (each f n)) (first_in s len (f n))
     unfolding each
-    step n = first-join (each f n) (f n)
+    step n = first_join (each f n) (f n)
 
     -- one list more, as a loop takes it
-    pub each-more : (i : ℕ) → firstIn s len (each f i) ≡ Sound → firstIn s len (f i) ≡ Sound → firstIn s len (each f (i + 1)) ≡ Sound
-    each-more i h q = rw add-one (step i ∙ rw (h, q))
+    pub each_more : (i : ℕ) → first_in s len (each f i) ≡ Sound → first_in s len (f i) ≡ Sound → first_in s len (each f (i + 1)) ≡ Sound
+    each_more i h q = rw add-one (step i ∙ rw (h, q))
 
-    pub each-hit : (n i : ℕ) {x : Fault} → i < n → firstIn s len (each f i) ≡ Sound → firstIn s len (f i) ≡ Bad x → firstIn s len (each f n) ≡ Bad x
-    each-hit zero i l h q = absurd (not-suc-le-zero l)
-    each-hit (suc n) i l h q =
+    pub each_hit : (n i : ℕ) {x : Fault} → i < n → first_in s len (each f i) ≡ Sound → first_in s len (f i) ≡ Bad x → first_in s len (each f n) ≡ Bad x
+    each_hit zero i l h q = absurd (not-suc-le-zero l)
+    each_hit (suc n) i l h q =
         step n
-        ∙ ⊎-elim
+        ∙ ⊎_elim
         (λ (e : i ≡ n). rw (← e, h, q))
-        (λ (b : i < n). rw (each-hit n i b h q))
-        (eq-or-lt-of-le (le-of-suc-le-suc l))
+        (λ (b : i < n). rw (each_hit n i b h q))
+        (eq-or-lt_of_le (le_of_suc-le-suc l))
 
     -- no fault in all, and in each
-    pub each-none : (n : ℕ) → ((i : ℕ) → i < n → firstIn s len (f i) ≡ Sound) → firstIn s len (each f n) ≡ Sound
-    each-none zero h = each-zero
-    each-none (suc n) h = step n ∙ rw (each-none n (λ i l. h i (le-step l)), h n (le-refl (suc n)))
+    pub each_none : (n : ℕ) → ((i : ℕ) → i < n → first_in s len (f i) ≡ Sound) → first_in s len (each f n) ≡ Sound
+    each_none zero h = each_zero
+    each_none (suc n) h = step n ∙ rw (each_none n (λ i l. h i (le_step l)), h n (le_refl (suc n)))
 
-    pub each-all : (n : ℕ) → firstIn s len (each f n) ≡ Sound → (i : ℕ) → i < n → firstIn s len (f i) ≡ Sound
-    each-all zero e i l = absurd (not-suc-le-zero l)
-    each-all (suc n) e i l =
-        ⊎-elim
-        (λ (q : i ≡ n). rw q (next-sound (firstIn s len (each f n)) (firstIn s len (f n)) (sym (step n) ∙ e)))
-        (λ (b : i < n). each-all n (here-sound (firstIn s len (each f n)) (firstIn s len (f n)) (sym (step n) ∙ e)) i b)
-        (eq-or-lt-of-le (le-of-suc-le-suc l))
+    pub each_all : (n : ℕ) → first_in s len (each f n) ≡ Sound → (i : ℕ) → i < n → first_in s len (f i) ≡ Sound
+    each_all zero e i l = absurd (not-suc-le-zero l)
+    each_all (suc n) e i l =
+        ⊎_elim
+        (λ (q : i ≡ n). rw q (next-sound (first_in s len (each f n)) (first_in s len (f n)) (sym (step n) ∙ e)))
+        (λ (b : i < n). each_all n (here-sound (first_in s len (each f n)) (first_in s len (f n)) (sym (step n) ∙ e)) i b)
+        (eq-or-lt_of_le (le_of_suc-le-suc l))
       where
-        here-sound : (p q : Finding) → orNext p q ≡ Sound → p ≡ Sound
+        here-sound : (p q : Finding) → or_next p q ≡ Sound → p ≡ Sound
         here-sound Sound q h = refl
         here-sound (Bad x) q h = h
 
-        next-sound : (p q : Finding) → orNext p q ≡ Sound → q ≡ Sound
+        next-sound : (p q : Finding) → or_next p q ≡ Sound → q ≡ Sound
         next-sound Sound q h = h
-        next-sound (Bad x) q h = let z : _≡_ {A = ℕ} 0 1 = cc in absurd (omega arith)
+        next-sound (Bad x) q h = let z : ◌≡◌ {A = ℕ} 0 1 = cc in absurd (omega arith)
 
 -- ---- one condition of one entry
 
 module _ (s : Settings) (len n k : ℕ) where
   -- the first other entry that shares a sector
-  one-shared : (j : ℕ) {b : Bool} → sharesWith (s .table) k j ≡ b → firstIn s len (Shares k j ∷ []) ≡ badIf b (Shares k j)
-  one-shared j h = sym (first-one s len (Shares k j)) ∙ ap (λ (b : Bool). badIf b (Shares k j)) h
+  one_shared : (j : ℕ) {b : Bool} → shares_with s.table k j ≡ b → first_in s len (Shares k j ∷ []) ≡ bad_if b (Shares k j)
+  one_shared j h = sym (first_one s len (Shares k j)) ∙ ap (λ (b : Bool). bad_if b (Shares k j)) h
 
-  pub first-sharing : firstIn s len (sharing n k) ≡ firstShared (s .table) n k
-  unfolding sharing firstShared
-  first-sharing =
-      let P = sharesWith (s .table) k in
+  pub first_sharing : first_in s len (sharing n k) ≡ first_shared s.table n k
+  unfolding sharing first_shared
+  first_sharing =
+      let P = shares_with s.table k in
       let f : ℕ → List Fault = λ (j : ℕ). Shares k j ∷ [] in
       split (any n P)
       (λ h.
-      let l = least-below P n h in
+      let l = least_below P n h in
       rw h
-      (each-hit s len f n (least n P) (l .0)
-      (each-none s len f (least n P) (λ i b. one-shared i (any-all P (least n P) (l .2) i b)))
-      (one-shared (least n P) (l .1))))
-      (λ h. rw h (each-none s len f n (λ i b. one-shared i (any-all P n h i b))))
+      (each_hit s len f n (least n P) l.0
+      (each_none s len f (least n P) (λ i b. one_shared i (any_all P (least n P) l.2 i b)))
+      (one_shared (least n P) l.1)))
+      (λ h. rw h (each_none s len f n (λ i b. one_shared i (any_all P n h i b))))
 
   module _ {x : Finding} (rule : ℕ) where
-    pub condition-0 : rule ≡ 0 → x ≡ badIf (noSectors (entryAt (s .table) k)) (NoSectors k) → x ≡ firstIn s len (conditionAt n rule k)
-    unfolding conditionAt firstIn
-    condition-0 h e = rw h e
+    pub condition_0 : rule ≡ 0 → x ≡ bad_if (no_sectors (entry_at s.table k)) (NoSectors k) → x ≡ first_in s len (condition_at n rule k)
+    unfolding condition_at first_in
+    condition_0 h e = rw h e
 
-    pub condition-1 : rule ≡ 1 → x ≡ badIf (runsPast len (entryAt (s .table) k)) (PastFlash k) → x ≡ firstIn s len (conditionAt n rule k)
-    unfolding conditionAt firstIn
-    condition-1 h e = rw h e
+    pub condition_1 : rule ≡ 1 → x ≡ bad_if (runs_past len (entry_at s.table k)) (PastFlash k) → x ≡ first_in s len (condition_at n rule k)
+    unfolding condition_at first_in
+    condition_1 h e = rw h e
 
-    pub condition-2 : rule ≡ 2 → x ≡ firstShared (s .table) n k → x ≡ firstIn s len (conditionAt n rule k)
-    unfolding conditionAt
-    condition-2 h e = rw h (e ∙ sym first-sharing)
+    pub condition_2 : rule ≡ 2 → x ≡ first_shared s.table n k → x ≡ first_in s len (condition_at n rule k)
+    unfolding condition_at
+    condition_2 h e = rw h (e ∙ sym first_sharing)
 
-    pub condition-3 : rule ≡ 3 → x ≡ badIf (linksUp (s .table) k) (LinksUp k) → x ≡ firstIn s len (conditionAt n rule k)
-    unfolding conditionAt firstIn
-    condition-3 h e = rw h e
+    pub condition_3 : rule ≡ 3 → x ≡ bad_if (links_up s.table k) (LinksUp k) → x ≡ first_in s len (condition_at n rule k)
+    unfolding condition_at first_in
+    condition_3 h e = rw h e
 
-    pub condition-4 : rule ≡ 4 → x ≡ badIf (linksToB (s .table) k) (LinksToB k) → x ≡ firstIn s len (conditionAt n rule k)
-    unfolding conditionAt firstIn
-    condition-4 h e = rw h e
+    pub condition_4 : rule ≡ 4 → x ≡ bad_if (links_to_b s.table k) (LinksToB k) → x ≡ first_in s len (condition_at n rule k)
+    unfolding condition_at first_in
+    condition_4 h e = rw h e
 
-    pub condition-5 : rule ≡ 5 → x ≡ badIf (manyUsers (entryAt (s .table) k)) (ManyUsers k) → x ≡ firstIn s len (conditionAt n rule k)
-    unfolding conditionAt firstIn
-    condition-5 h e = rw h e
+    pub condition_5 : rule ≡ 5 → x ≡ bad_if (many_users (entry_at s.table k)) (ManyUsers k) → x ≡ first_in s len (condition_at n rule k)
+    unfolding condition_at first_in
+    condition_5 h e = rw h e
 
-    pub condition-6 : rule ≢ 0 → rule ≢ 1 → rule ≢ 2 → rule ≢ 3 → rule ≢ 4 → rule ≢ 5 → x ≡ badIf (reservedUser (entryAt (s .table) k)) (ReservedUser k) → x ≡ firstIn s len (conditionAt n rule k)
-    unfolding conditionAt firstIn
-    condition-6 a b c d f g e =
-        rw (ne-eqb rule 0 a, ne-eqb rule 1 b, ne-eqb rule 2 c, ne-eqb rule 3 d, ne-eqb rule 4 f, ne-eqb rule 5 g) e
+    pub condition_6 : rule ≢ 0 → rule ≢ 1 → rule ≢ 2 → rule ≢ 3 → rule ≢ 4 → rule ≢ 5 → x ≡ bad_if (reserved_user (entry_at s.table k)) (ReservedUser k) → x ≡ first_in s len (condition_at n rule k)
+    unfolding condition_at first_in
+    condition_6 a b c d f g e =
+        rw (ne_eqb rule 0 a, ne_eqb rule 1 b, ne_eqb rule 2 c, ne_eqb rule 3 d, ne_eqb rule 4 f, ne_eqb rule 5 g) e
 
 -- ---- the settings
 
 module _ (s : Settings) (len : ℕ) where
-  pub first-off : enabled s (s .current) ≡ false → firstFault s len ≡ Bad ArchOff
-  unfolding firstFault faultsOf firstIn
-  first-off h = rw h
+  pub first_off : enabled s s.current ≡ false → first_fault s len ≡ Bad ArchOff
+  unfolding first_fault faults_of first_in
+  first_off h = rw h
 
-  pub first-over : enabled s (s .current) ≡ true → 16 < s .count → firstFault s len ≡ Bad CountOver
-  unfolding firstFault faultsOf firstIn
-  first-over h l = rw (h, lt-ltb 16 (s .count) l)
+  pub first_over_lem : enabled s s.current ≡ true → 16 < s.count → first_fault s len ≡ Bad CountOver
+  unfolding first_fault faults_of first_in
+  first_over_lem h l = rw (h, lt-ltb 16 s.count l)
 
-  pub first-entries : enabled s (s .current) ≡ true → s .count ≤ 16 → firstFault s len ≡ firstIn s len (each (conditionFor (s .count)) 7)
-  unfolding firstFault faultsOf firstIn
-  first-entries h l = rw (h, le-ltb 16 (s .count) l)
+  pub first_entries : enabled s s.current ≡ true → s.count ≤ 16 → first_fault s len ≡ first_in s len (each (condition_for s.count) 7)
+  unfolding first_fault faults_of first_in
+  first_entries h l = rw (h, le-ltb 16 s.count l)

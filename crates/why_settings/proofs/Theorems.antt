@@ -1,168 +1,168 @@
 -- No fault is found exactly in good settings, and each fault is a test of the numbers that it names. Assumes nothing.
-use Prim.Native.Nat.{ℕ, zero, suc, _≤_, _<_}
-use mathlib.Core.Path.{_≡_, refl, sym, ap, _∙_}
-use mathlib.Core.Bool.{Bool, true, false, not, _||_, _&&_}
+use Prim.Native.Nat.{ℕ, zero, suc, ◌≤◌, ◌<◌}
+use mathlib.Core.Path.{◌≡◌, refl, sym, ◌∙◌}
+use mathlib.Core.Bool.{Bool, true, false, not, ◌||◌}
 use native.Mathlib.Omega.{arith}
-use lib.Dec.{ltb, leb, eqb}
-use borrow.Author.Tests.{lt-ltb, le-ltb, ltb-true, ltb-false, not-true, not-false}
-use Rattle·laws.specs.Sets.{any, one}
-use Rattle·laws.proofs.Tests.{split, clash, or-left, or-right}
-use Rattle·laws.proofs.Laws.{any-none, any-all}
-use Rattle·partitions.specs.declared.Settings.{Settings}
-use Rattle·partitions.specs.Settings.{entryAt, enabled, countOver, noSectors, runsPast, sharesWith, sharesSector, linksUp, linksToB, manyUsers, reservedUser, badEntry, goodSettings}
-use Rattle·partitions.proofs.Laws.{good-count, good-entry, good-off}
-use Rattle·why_settings·specs.specs.declared.Fault.{Fault}
-use Rattle·why_settings·specs.specs.declared.Fault.the-variants.{ArchOff, CountOver, NoSectors, PastFlash, Shares, LinksUp, LinksToB, ManyUsers, ReservedUser}
-use Rattle·why_settings·specs.specs.declared.Finding.the-variants.{Sound, Bad}
-use Rattle·why_settings·specs.specs.Faults.{each, conditionAt, conditionFor, badIf, firstIn, firstShared, firstFault, Sound-is-good, Fault-is-tested}
-use Rattle·why_settings·proofs.proofs.Laws.{reserved-user, each-none, each-all, condition-0, condition-1, condition-2, condition-3, condition-4, condition-5, condition-6, first-off, first-over, first-entries}
+use lib.Dec.{ltb, eqb}
+use borrow.Author.Tests.{lt-ltb, le-ltb, ltb-true, ltb-false}
+use Rattle.laws.specs.Sets.{any, one}
+use Rattle.laws.proofs.Tests.{split, clash, or_left, or_right}
+use Rattle.laws.proofs.Laws.{any_none, any_all}
+use Rattle.partitions.specs.declared.Settings.{Settings}
+use Rattle.partitions.specs.Settings.{entry_at, enabled, no_sectors, runs_past, shares_with, shares_sector, links_up, links_to_b, many_users, reserved_user, bad_entry, good_settings}
+use Rattle.partitions.proofs.Laws.{good_count, good_entry, good_off}
+use Rattle.why_settings.specs.declared.Fault.{Fault}
+use Rattle.why_settings.specs.declared.Fault.TheVariants.{ArchOff, CountOver, NoSectors, PastFlash, Shares, LinksUp, LinksToB, ManyUsers, ReservedUser}
+use Rattle.why_settings.specs.declared.Finding.TheVariants.{Sound, Bad}
+use Rattle.why_settings.specs.Faults.{each, condition_at, condition_for, bad_if, first_in, first_shared, first_fault, SoundIsGood, FaultIsTested}
+use Rattle.why_settings.proofs.Laws.{reserved_user_case, each_none, each_all, condition_0, condition_1, condition_2, condition_3, condition_4, condition_5, condition_6, first_off, first_over_lem, first_entries}
 
-not-sound : {A : Type 0} {x : Fault} → Bad x ≡ Sound → A
-not-sound h = let z : _≡_ {A = ℕ} 0 1 = cc in absurd (omega arith)
+not_sound : {A : Type 0} {x : Fault} → Bad x ≡ Sound → A
+not_sound h = let z : ◌≡◌ {A = ℕ} 0 1 = cc in absurd (omega arith)
 
-clear : (b : Bool) (x : Fault) → badIf b x ≡ Sound → b ≡ false
-clear true x h = not-sound h
+clear : (b : Bool) (x : Fault) → bad_if b x ≡ Sound → b ≡ false
+clear true x h = not_sound h
 clear false x h = refl
 
 -- ---- one entry
 
 -- entry k, of n used ones, has none of the seven faults
 record Clean (s : Settings) (len n k : ℕ) : Type 0 where
-  sectors : noSectors (entryAt (s .table) k) ≡ false
-  within : runsPast len (entryAt (s .table) k) ≡ false
-  alone : sharesSector (s .table) n k ≡ false
-  down : linksUp (s .table) k ≡ false
-  to-a : linksToB (s .table) k ≡ false
-  few : manyUsers (entryAt (s .table) k) ≡ false
-  free : reservedUser (entryAt (s .table) k) ≡ false
+  sectors : no_sectors (entry_at s.table k) ≡ false
+  within : runs_past len (entry_at s.table k) ≡ false
+  alone : shares_sector s.table n k ≡ false
+  down : links_up s.table k ≡ false
+  to_a : links_to_b s.table k ≡ false
+  few : many_users (entry_at s.table k) ≡ false
+  free : reserved_user (entry_at s.table k) ≡ false
 
 module _ (s : Settings) (len n k : ℕ) where
-  clean-good : Clean s len n k → badEntry (s .table) n len k ≡ false
-  unfolding badEntry
-  clean-good C = rw (C .sectors, C .within, C .alone, C .down, C .to-a, C .few, C .free)
+  clean_good : Clean s len n k → bad_entry s.table n len k ≡ false
+  unfolding bad_entry
+  clean_good C = rw (C.sectors, C.within, C.alone, C.down, C.to_a, C.few, C.free)
 
-  good-clean : badEntry (s .table) n len k ≡ false → Clean s len n k
-  unfolding badEntry
-  good-clean h =
-      let e = entryAt (s .table) k in
-      let o2 = noSectors e || runsPast len e in
-      let o3 = o2 || sharesSector (s .table) n k in
-      let o4 = o3 || linksUp (s .table) k in
-      let o5 = o4 || linksToB (s .table) k in
-      let o6 = o5 || manyUsers e in
-      let h6 = or-left o6 (reservedUser e) h in
-      let h5 = or-left o5 (manyUsers e) h6 in
-      let h4 = or-left o4 (linksToB (s .table) k) h5 in
-      let h3 = or-left o3 (linksUp (s .table) k) h4 in
-      let h2 = or-left o2 (sharesSector (s .table) n k) h3 in
+  good_clean : bad_entry s.table n len k ≡ false → Clean s len n k
+  unfolding bad_entry
+  good_clean h =
+      let e = entry_at s.table k in
+      let o2 = no_sectors e || runs_past len e in
+      let o3 = o2 || shares_sector s.table n k in
+      let o4 = o3 || links_up s.table k in
+      let o5 = o4 || links_to_b s.table k in
+      let o6 = o5 || many_users e in
+      let h6 = or_left o6 (reserved_user e) h in
+      let h5 = or_left o5 (many_users e) h6 in
+      let h4 = or_left o4 (links_to_b s.table k) h5 in
+      let h3 = or_left o3 (links_up s.table k) h4 in
+      let h2 = or_left o2 (shares_sector s.table n k) h3 in
       record {
-        sectors = or-left (noSectors e) (runsPast len e) h2;
-        within = or-right (noSectors e) (runsPast len e) h2;
-        alone = or-right o2 (sharesSector (s .table) n k) h3;
-        down = or-right o3 (linksUp (s .table) k) h4;
-        to-a = or-right o4 (linksToB (s .table) k) h5;
-        few = or-right o5 (manyUsers e) h6;
-        free = or-right o6 (reservedUser e) h;
+        sectors = or_left (no_sectors e) (runs_past len e) h2;
+        within = or_right (no_sectors e) (runs_past len e) h2;
+        alone = or_right o2 (shares_sector s.table n k) h3;
+        down = or_right o3 (links_up s.table k) h4;
+        to_a = or_right o4 (links_to_b s.table k) h5;
+        few = or_right o5 (many_users e) h6;
+        free = or_right o6 (reserved_user e) h;
       }
 
-  shared-none : sharesSector (s .table) n k ≡ false → firstShared (s .table) n k ≡ Sound
-  unfolding sharesSector firstShared
-  shared-none h = rw h
+  shared_none : shares_sector s.table n k ≡ false → first_shared s.table n k ≡ Sound
+  unfolding shares_sector first_shared
+  shared_none h = rw h
 
-  none-shared : firstShared (s .table) n k ≡ Sound → sharesSector (s .table) n k ≡ false
-  unfolding sharesSector firstShared
-  none-shared h = clear (any n (sharesWith (s .table) k)) _ h
+  none_shared : first_shared s.table n k ≡ Sound → shares_sector s.table n k ≡ false
+  unfolding shares_sector first_shared
+  none_shared h = clear (any n (shares_with s.table k)) _ h
 
-  clean-sound : Clean s len n k → (rule : ℕ) → rule < 7 → firstIn s len (conditionAt n rule k) ≡ Sound
-  clean-sound C zero l = sym (condition-0 s len n k 0 refl (rw (C .sectors)))
-  clean-sound C (suc zero) l = sym (condition-1 s len n k 1 refl (rw (C .within)))
-  clean-sound C (suc (suc zero)) l = sym (condition-2 s len n k 2 refl (sym (shared-none (C .alone))))
-  clean-sound C (suc (suc (suc zero))) l = sym (condition-3 s len n k 3 refl (rw (C .down)))
-  clean-sound C (suc (suc (suc (suc zero)))) l = sym (condition-4 s len n k 4 refl (rw (C .to-a)))
-  clean-sound C (suc (suc (suc (suc (suc zero))))) l = sym (condition-5 s len n k 5 refl (rw (C .few)))
-  clean-sound C (suc (suc (suc (suc (suc (suc r)))))) l =
+  clean_sound : Clean s len n k → (rule : ℕ) → rule < 7 → first_in s len (condition_at n rule k) ≡ Sound
+  clean_sound C zero l = sym (condition_0 s len n k 0 refl (rw C.sectors))
+  clean_sound C (suc zero) l = sym (condition_1 s len n k 1 refl (rw C.within))
+  clean_sound C (suc (suc zero)) l = sym (condition_2 s len n k 2 refl (sym (shared_none C.alone)))
+  clean_sound C (suc (suc (suc zero))) l = sym (condition_3 s len n k 3 refl (rw C.down))
+  clean_sound C (suc (suc (suc (suc zero)))) l = sym (condition_4 s len n k 4 refl (rw C.to_a))
+  clean_sound C (suc (suc (suc (suc (suc zero))))) l = sym (condition_5 s len n k 5 refl (rw C.few))
+  clean_sound C (suc (suc (suc (suc (suc (suc r)))))) l =
       let m = suc (suc (suc (suc (suc (suc r))))) in
       sym
-      (condition-6 s len n k m (λ h. absurd (omega arith)) (λ h. absurd (omega arith)) (λ h. absurd (omega arith)) (λ h. absurd (omega arith))
-      (λ h. absurd (omega arith)) (λ h. absurd (omega arith)) (rw (C .free)))
+      (condition_6 s len n k m (λ h. absurd (omega arith)) (λ h. absurd (omega arith)) (λ h. absurd (omega arith)) (λ h. absurd (omega arith))
+      (λ h. absurd (omega arith)) (λ h. absurd (omega arith)) (rw C.free))
 
-  sound-clean : ((rule : ℕ) → rule < 7 → firstIn s len (conditionAt n rule k) ≡ Sound) → Clean s len n k
-  sound-clean h =
-      let e = entryAt (s .table) k in
+  sound_clean : ((rule : ℕ) → rule < 7 → first_in s len (condition_at n rule k) ≡ Sound) → Clean s len n k
+  sound_clean h =
+      let e = entry_at s.table k in
       record {
-        sectors = clear (noSectors e) (NoSectors k) (condition-0 s len n k 0 refl refl ∙ h 0 (omega arith));
-        within = clear (runsPast len e) (PastFlash k) (condition-1 s len n k 1 refl refl ∙ h 1 (omega arith));
-        alone = none-shared (condition-2 s len n k 2 refl refl ∙ h 2 (omega arith));
-        down = clear (linksUp (s .table) k) (LinksUp k) (condition-3 s len n k 3 refl refl ∙ h 3 (omega arith));
-        to-a = clear (linksToB (s .table) k) (LinksToB k) (condition-4 s len n k 4 refl refl ∙ h 4 (omega arith));
-        few = clear (manyUsers e) (ManyUsers k) (condition-5 s len n k 5 refl refl ∙ h 5 (omega arith));
-        free = clear (reservedUser e) (ReservedUser k)
-            (condition-6 s len n k 6 (λ h. absurd (omega arith)) (λ h. absurd (omega arith)) (λ h. absurd (omega arith)) (λ h. absurd (omega arith))
+        sectors = clear (no_sectors e) (NoSectors k) (condition_0 s len n k 0 refl refl ∙ h 0 (omega arith));
+        within = clear (runs_past len e) (PastFlash k) (condition_1 s len n k 1 refl refl ∙ h 1 (omega arith));
+        alone = none_shared (condition_2 s len n k 2 refl refl ∙ h 2 (omega arith));
+        down = clear (links_up s.table k) (LinksUp k) (condition_3 s len n k 3 refl refl ∙ h 3 (omega arith));
+        to_a = clear (links_to_b s.table k) (LinksToB k) (condition_4 s len n k 4 refl refl ∙ h 4 (omega arith));
+        few = clear (many_users e) (ManyUsers k) (condition_5 s len n k 5 refl refl ∙ h 5 (omega arith));
+        free = clear (reserved_user e) (ReservedUser k)
+            (condition_6 s len n k 6 (λ h. absurd (omega arith)) (λ h. absurd (omega arith)) (λ h. absurd (omega arith)) (λ h. absurd (omega arith))
             (λ h. absurd (omega arith)) (λ h. absurd (omega arith)) refl ∙ h 6 (omega arith));
       }
 
 -- ---- all entries
 
 module _ (s : Settings) (len n : ℕ) where
-  grid-sound : any n (badEntry (s .table) n len) ≡ false → firstIn s len (each (conditionFor n) 7) ≡ Sound
-  unfolding conditionFor
-  grid-sound h =
-      each-none s len (conditionFor n) 7
+  grid_sound : any n (bad_entry s.table n len) ≡ false → first_in s len (each (condition_for n) 7) ≡ Sound
+  unfolding condition_for
+  grid_sound h =
+      each_none s len (condition_for n) 7
       (λ rule l.
-      each-none s len (conditionAt n rule) n
-      (λ k b. clean-sound s len n k (good-clean s len n k (any-all (badEntry (s .table) n len) n h k b)) rule l))
+      each_none s len (condition_at n rule) n
+      (λ k b. clean_sound s len n k (good_clean s len n k (any_all (bad_entry s.table n len) n h k b)) rule l))
 
-  sound-grid : firstIn s len (each (conditionFor n) 7) ≡ Sound → any n (badEntry (s .table) n len) ≡ false
-  unfolding conditionFor
-  sound-grid h =
-      any-none (badEntry (s .table) n len) n
+  sound_grid : first_in s len (each (condition_for n) 7) ≡ Sound → any n (bad_entry s.table n len) ≡ false
+  unfolding condition_for
+  sound_grid h =
+      any_none (bad_entry s.table n len) n
       (λ k b.
-      clean-good s len n k
-      (sound-clean s len n k
-      (λ rule l. each-all s len (conditionAt n rule) n (each-all s len (conditionFor n) 7 h rule l) k b)))
+      clean_good s len n k
+      (sound_clean s len n k
+      (λ rule l. each_all s len (condition_at n rule) n (each_all s len (condition_for n) 7 h rule l) k b)))
 
 -- ---- the settings
 
 module _ (s : Settings) (len : ℕ) where
-  is-good : enabled s (s .current) ≡ true → s .count ≤ 16 → any (s .count) (badEntry (s .table) (s .count) len) ≡ false → goodSettings s len ≡ true
-  unfolding goodSettings
-  is-good e l h = let z = le-ltb 16 (s .count) l in simp (e, z, h)
+  is_good_lem : enabled s s.current ≡ true → s.count ≤ 16 → any s.count (bad_entry s.table s.count len) ≡ false → good_settings s len ≡ true
+  unfolding good_settings
+  is_good_lem e l h = let z = le-ltb 16 s.count l in simp (e, z, h)
 
-  good-enabled : goodSettings s len ≡ true → enabled s (s .current) ≡ true
-  good-enabled h = split (enabled s (s .current)) (λ e. e) (λ e. clash (goodSettings s len) h (good-off s len e))
+  good_enabled : good_settings s len ≡ true → enabled s s.current ≡ true
+  good_enabled h = split (enabled s s.current) (λ e. e) (λ e. clash (good_settings s len) h (good_off s len e))
 
-  good-sound : goodSettings s len ≡ true → firstFault s len ≡ Sound
-  good-sound h =
-      first-entries s len (good-enabled h) (good-count s len h)
-      ∙ grid-sound s len (s .count) (any-none (badEntry (s .table) (s .count) len) (s .count) (good-entry s len h))
+  good_sound : good_settings s len ≡ true → first_fault s len ≡ Sound
+  good_sound h =
+      first_entries s len (good_enabled h) (good_count s len h)
+      ∙ grid_sound s len s.count (any_none (bad_entry s.table s.count len) s.count (good_entry s len h))
 
-  sound-good : firstFault s len ≡ Sound → goodSettings s len ≡ true
-  sound-good h =
-      split (enabled s (s .current))
+  sound_good : first_fault s len ≡ Sound → good_settings s len ≡ true
+  sound_good h =
+      split (enabled s s.current)
       (λ e.
-      split (ltb 16 (s .count))
-      (λ o. not-sound (sym (first-over s len e (ltb-true 16 (s .count) o)) ∙ h))
+      split (ltb 16 s.count)
+      (λ o. not_sound (sym (first_over_lem s len e (ltb-true 16 s.count o)) ∙ h))
       (λ o.
-      let l = ltb-false 16 (s .count) o in
-      is-good e l (sound-grid s len (s .count) (sym (first-entries s len e l) ∙ h))))
-      (λ e. not-sound (sym (first-off s len e) ∙ h))
+      let l = ltb-false 16 s.count o in
+      is_good_lem e l (sound_grid s len s.count (sym (first_entries s len e l) ∙ h))))
+      (λ e. not_sound (sym (first_off s len e) ∙ h))
 
-pub sound-is-good : Sound-is-good
-sound-is-good s len = (sound-good s len, good-sound s len)
+pub sound_is_good : SoundIsGood
+sound_is_good s len = (sound_good s len, good_sound s len)
 
 -- ---- the numbers
 
-off-tested : (b : Bool) → not b ≡ eqb (one b) 0
-off-tested true = refl
-off-tested false = refl
+off_tested : (b : Bool) → not b ≡ eqb (one b) 0
+off_tested true = refl
+off_tested false = refl
 
-pub fault-is-tested : Fault-is-tested
-fault-is-tested s len ArchOff h = off-tested (enabled s (s .current))
-fault-is-tested s len CountOver h = refl
-fault-is-tested s len (NoSectors k) h = rw (lt-ltb k 16 h)
-fault-is-tested s len (PastFlash k) h = rw (lt-ltb k 16 h)
-fault-is-tested s len (Shares k j) h = refl
-fault-is-tested s len (LinksUp k) h = rw (lt-ltb k 16 h)
-fault-is-tested s len (LinksToB k) h = refl
-fault-is-tested s len (ManyUsers k) h = rw (lt-ltb k 16 h)
-fault-is-tested s len (ReservedUser k) h = rw (lt-ltb k 16 h) (sym (reserved-user (entryAt (s .table) k)))
+pub fault_is_tested : FaultIsTested
+fault_is_tested s len ArchOff h = off_tested (enabled s s.current)
+fault_is_tested s len CountOver h = refl
+fault_is_tested s len (NoSectors k) h = rw (lt-ltb k 16 h)
+fault_is_tested s len (PastFlash k) h = rw (lt-ltb k 16 h)
+fault_is_tested s len (Shares k j) h = refl
+fault_is_tested s len (LinksUp k) h = rw (lt-ltb k 16 h)
+fault_is_tested s len (LinksToB k) h = refl
+fault_is_tested s len (ManyUsers k) h = rw (lt-ltb k 16 h)
+fault_is_tested s len (ReservedUser k) h = rw (lt-ltb k 16 h) (sym (reserved_user_case (entry_at s.table k)))

@@ -1,16 +1,14 @@
 // The first fault of settings: each of 01's conditions for all used entries before the next for any.
-ghost use mathlib.Core.Path.{_≡_};
-ghost use Prim.Native.Nat.{_≤_, _<_};
-ghost use Rattle·laws.specs.Numbered.{numbered};
-ghost use Rattle·why_settings·specs.specs.Faults.{badIf, conditionAt, conditionFor, each, firstIn, firstShared, firstFault, findingNumber};
-use crate::Fault;
-use crate::Finding;
+ghost use Rattle.std.specs.Prelude.{◌≡◌, ◌≤◌, ◌<◌};
+ghost use Rattle.laws.specs.Numbered.{numbered};
+ghost use Rattle.why_settings.specs.Faults.{bad_if, condition_at, condition_for, each, first_in, first_shared, first_fault, finding_number};
+
+use crate::{Fault, Finding};
 use memory::flash::Flash;
-use partitions::Entry;
-use partitions::Settings;
+use partitions::{Entry, Settings};
 
 fn bad_if(yes: bool, fault: Fault) -> Finding
-    ensures { λ r. ⌜ r ≡ badIf yes fault ⌝ }
+    ensures { result ≡ bad_if yes fault }
 {
     if yes {
         Finding::Bad(fault)
@@ -21,9 +19,9 @@ fn bad_if(yes: bool, fault: Fault) -> Finding
 
 // Does entry k share a sector with another, and with which first?
 fn shares(settings: Settings, k: usize) -> Finding
-    requires { ⌜ settings .count ≤ 16 ⌝ }
-    requires { ⌜ k < 16 ⌝ }
-    ensures { λ r. ⌜ r ≡ firstShared (settings .table) (settings .count) k ⌝ }
+    requires count_bound { settings.count ≤ 16 }
+    requires k_bound { k < 16 }
+    ensures { result ≡ first_shared settings.table settings.count k }
 {
     let j = crate::sharing::first_other(settings, k);
     bad_if(j < settings.count as usize, Fault::Shares(k as u8, j as u8))
@@ -31,9 +29,9 @@ fn shares(settings: Settings, k: usize) -> Finding
 
 // One condition, counted from 0, of entry k.
 fn condition_at(settings: Settings, flash_len: usize, rule: usize, k: usize) -> Finding
-    requires { ⌜ settings .count ≤ 16 ⌝ }
-    requires { ⌜ k < 16 ⌝ }
-    ensures { λ r. ⌜ r ≡ firstIn settings «flash_len» (conditionAt (settings .count) rule k) ⌝ }
+    requires count_bound { settings.count ≤ 16 }
+    requires k_bound { k < 16 }
+    ensures { result ≡ first_in settings flash_len (condition_at settings.count rule k) }
 {
     let e = settings.table[k];
     let entry = k as u8;
@@ -59,8 +57,8 @@ fn condition_at(settings: Settings, flash_len: usize, rule: usize, k: usize) -> 
 
 // Each condition for all used entries before the next for any.
 fn first_of_entries(settings: Settings, flash_len: usize) -> Finding
-    requires { ⌜ settings .count ≤ 16 ⌝ }
-    ensures { λ r. ⌜ r ≡ firstIn settings «flash_len» (each (conditionFor (settings .count)) 7) ⌝ }
+    requires { settings.count ≤ 16 }
+    ensures { result ≡ first_in settings flash_len (each (condition_for settings.count) 7) }
 {
     let n = settings.count as usize;
     let mut rule: usize = 0;
@@ -82,7 +80,7 @@ fn first_of_entries(settings: Settings, flash_len: usize) -> Finding
 
 // The first fault of settings for a flash of this many bytes.
 pub fn first(settings: Settings, flash_len: usize) -> Finding
-    ensures { λ r. ⌜ numbered findingNumber r ≡ numbered findingNumber (firstFault settings «flash_len») ⌝ }
+    ensures { numbered finding_number result ≡ numbered finding_number (first_fault settings flash_len) }
 {
     let current = settings.current;
     if !partitions::is_enabled(settings, current) {

@@ -1,17 +1,19 @@
 // Row 2 by its conditions: what makes settings bad, and the numbers that a fault compares.
-pub mod first;
-mod sharing;
+#![tactic(auto)]
 
-ghost use mathlib.Core.Path.{_≡_};
-ghost use Rattle·laws.specs.Sets.{one};
-ghost use Rattle·partitions.specs.Settings.{linksToB};
-ghost use Rattle·why_settings·specs.specs.Faults.{faultNumber, slotAt, firstReserved, endOf, told, testedOf};
+pub mod first;
+pub mod sharing;
+
+ghost use Rattle.std.specs.Prelude.{◌≡◌};
+ghost use Rattle.laws.specs.Sets.{one};
+ghost use Rattle.partitions.specs.Settings.{links_to_b};
+ghost use Rattle.why_settings.specs.Faults.{fault_number, slot_at, first_reserved, end_of, told, tested_of};
+
 use memory::flash::Flash;
-use partitions::Entry;
-use partitions::Family;
-use partitions::Settings;
+use partitions::{Entry, Family, Settings};
 
 // What makes settings bad, in 01's order. A number is an entry's; of two the second is the other entry's.
+#[derive(Clone, Copy)]
 pub enum Fault {
     ArchOff,
     CountOver,
@@ -24,12 +26,14 @@ pub enum Fault {
     ReservedUser(u8),
 }
 
+#[derive(Clone, Copy)]
 pub enum Finding {
     Sound,
     Bad(Fault),
 }
 
 // The number that a fault tests, and what it is tested against.
+#[derive(Clone, Copy)]
 pub struct Comparison {
     pub got: u64,
     pub against: u64,
@@ -37,7 +41,7 @@ pub struct Comparison {
 
 impl Fault {
     pub fn number(self) -> u16
-        ensures { λ r. ⌜ r ≡ faultNumber self ⌝ }
+        ensures { result ≡ fault_number self }
     {
         match self {
             Fault::ArchOff => 201,
@@ -54,8 +58,8 @@ impl Fault {
 }
 
 // The first user family that is reserved, 0 where none is.
-pub(crate) fn first_reserved(e: Entry) -> u32
-    ensures { λ r. ⌜ r ≡ firstReserved e ⌝ }
+pub fn first_reserved(e: Entry) -> u32
+    ensures { result ≡ first_reserved e }
 {
     let n = e.user_count;
     let users = e.users;
@@ -75,8 +79,8 @@ pub(crate) fn first_reserved(e: Entry) -> u32
 }
 
 // Does entry k link to an entry that is "B of"? Past the table's end there is none.
-pub(crate) fn links_to_b(settings: Settings, k: usize) -> bool
-    ensures { λ r. ⌜ r ≡ linksToB (settings .table) k ⌝ }
+pub fn links_to_b(settings: Settings, k: usize) -> bool
+    ensures { result ≡ links_to_b settings.table k }
 {
     if Settings::ENTRIES <= k {
         return false;
@@ -95,7 +99,7 @@ pub(crate) fn links_to_b(settings: Settings, k: usize) -> bool
 
 // Entry k, and a blank one past the table.
 fn slot(settings: Settings, k: u8) -> Entry
-    ensures { λ r. ⌜ r ≡ slotAt (settings .table) k ⌝ }
+    ensures { result ≡ slot_at settings.table k }
 {
     let i = k as usize;
     if i < Settings::ENTRIES {
@@ -107,27 +111,27 @@ fn slot(settings: Settings, k: u8) -> Entry
 
 // The number of a bool.
 fn bit(yes: bool) -> u64
-    ensures { λ r. ⌜ r ≡ one yes ⌝ }
+    ensures { result ≡ one yes }
 {
     if yes { 1 } else { 0 }
 }
 
 fn tell(got: u64, against: u64) -> Comparison
-    ensures { λ r. ⌜ r ≡ told got against ⌝ }
+    ensures { result ≡ told got against }
 {
     Comparison { got, against }
 }
 
 // Where an entry ends, in bytes.
 fn end_of(e: Entry) -> u64
-    ensures { λ r. ⌜ r ≡ endOf e ⌝ }
+    ensures { result ≡ end_of e }
 {
     (e.first as u64 + e.sectors as u64) * Flash::SECTOR as u64
 }
 
 // The number that a fault tests, and what it is tested against.
 pub fn numbers(settings: Settings, flash_len: usize, fault: Fault) -> Comparison
-    ensures { λ r. ⌜ r ≡ testedOf settings «flash_len» fault ⌝ }
+    ensures { result ≡ tested_of settings flash_len fault }
 {
     let current = settings.current;
     match fault {

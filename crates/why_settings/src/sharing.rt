@@ -1,13 +1,14 @@
 // The first other entry of the table that shares a sector with an entry.
-ghost use mathlib.Core.Path.{_≡_};
-ghost use Rattle·laws.specs.Sets.{least};
-ghost use Rattle·partitions.specs.Settings.{sharesWith};
+ghost use Rattle.std.specs.Prelude.{◌≡◌};
+ghost use Rattle.laws.specs.Sets.{least};
+ghost use Rattle.partitions.specs.Settings.{shares_with};
+
 use partitions::Settings;
 
 // The first other entry that has a sector in common with entry k, and the count where none has. Past the table's
 // end there is no sector.
-pub(crate) fn first_other(settings: Settings, k: usize) -> usize
-    ensures { λ r. ⌜ r ≡ least (settings .count) (sharesWith (settings .table) k) ⌝ }
+pub fn first_other(settings: Settings, k: usize) -> usize
+    ensures { result ≡ least settings.count (shares_with settings.table k) }
 {
     let n = settings.count as usize;
     if Settings::ENTRIES <= k {

@@ -1,13 +1,15 @@
 // Reasons for C: why an arrival is answered as it is, and why a family has a place or none. A library of its own.
-mod reason_bytes;
+#![tactic(auto)]
+
+pub mod reason_bytes;
 pub mod told;
 
-ghost use mathlib.Core.Path.{_≡_};
-ghost use Rattle·arrival.specs.Lending.{lentAt};
-ghost use Rattle·whyapi·specs.specs.WhyCall.{callReturn, whyCallOf, placeCallOf};
+ghost use Rattle.std.specs.Prelude.{◌≡◌};
+ghost use Rattle.arrival.specs.Lending.{lent_at};
+ghost use Rattle.whyapi.specs.WhyCall.{call_return, why_call_of, place_call_of};
 
 // Why an arrival is answered as it is: what `uf2_look` returns, and the reason. Nothing else is written.
-#[no_mangle]
+#[unsafe(no_mangle)]
 pub extern "C" fn uf2_why(
     settings: &[u8],
     transfer: &[u8],
@@ -19,7 +21,7 @@ pub extern "C" fn uf2_why(
     xip: &[u8],
     out: &mut [u8],
 ) -> u32
-    ensures { λ r. ⌜ callReturn r (now (out .exit)) ≡ whyCallOf settings transfer arrival (lentAt flash seen sectors main xip) (now (out .entry)) ⌝ }
+    ensures { call_return result out.new ≡ why_call_of settings.now transfer.now arrival.now (lent_at flash.now seen.now sectors.now main.now xip.now) out.old }
 {
     let s = settings_layout::read_settings(settings);
     let t = transfer_layout::read_transfer(transfer);
@@ -28,14 +30,14 @@ pub extern "C" fn uf2_why(
 }
 
 // Why a family has a place in a flash of so many bytes, or none: 0, 1, 2 or 8, and the reason.
-#[no_mangle]
+#[unsafe(no_mangle)]
 pub extern "C" fn uf2_why_place(
     settings: &[u8],
     flash_len: usize,
     family: u32,
     out: &mut [u8],
 ) -> u32
-    ensures { λ r. ⌜ callReturn r (now (out .exit)) ≡ placeCallOf (now (settings .entry)) «flash_len» family (now (out .entry)) ⌝ }
+    ensures { call_return result out.new ≡ place_call_of settings.now flash_len family out.old }
 {
     let s = settings_layout::read_settings(settings);
     let why = why::explain_place(s, flash_len, family);

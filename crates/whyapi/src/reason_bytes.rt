@@ -1,29 +1,27 @@
 // What the calls for reasons return and write, as bytes.
-ghost use mathlib.Core.Path.{_≡_};
-ghost use lib.ListN.{length};
-ghost use Rattle·whyapi·specs.specs.WhyBytes.{
-  faultEntry,
-  faultOther,
-  entryOf,
-  otherOf,
-  toldOf,
-  transferTold,
-  byteTold,
-  numbersOver,
-  marksOver,
-  toldOver,
-  callReturn,
-  whyCall,
-  ruleNumber,
-  placeTold,
-  placeShown,
-  placeCall,
+ghost use Rattle.std.specs.Prelude.{◌≡◌, length};
+ghost use Rattle.whyapi.specs.WhyBytes.{
+  fault_entry,
+  fault_other,
+  entry_of,
+  other_of,
+  told_of,
+  transfer_told,
+  byte_told,
+  numbers_over,
+  marks_over,
+  told_over,
+  call_return,
+  why_call,
+  rule_number,
+  place_told,
+  place_shown,
+  place_call,
 };
-ghost use Rattle·why.specs.Placed.{placedNumber};
+ghost use Rattle.why.specs.Placed.{placed_number};
+
 use crate::told::ReasonFields;
-use why::PlaceOrigin;
-use why::Why;
-use why::WhyPlace;
+use why::{PlaceOrigin, Why, WhyPlace};
 use why_causes::Cause;
 use why_place::Rule;
 use why_settings::Fault;
@@ -36,7 +34,7 @@ const TRANSFER: usize = 14;
 const WORD: u64 = 4294967296;
 
 fn fault_entry(x: Fault) -> u8
-    ensures { λ r. ⌜ r ≡ faultEntry x ⌝ }
+    ensures { result ≡ fault_entry x }
 {
     match x {
         Fault::ArchOff => 0,
@@ -52,7 +50,7 @@ fn fault_entry(x: Fault) -> u8
 }
 
 fn fault_other(x: Fault) -> u8
-    ensures { λ r. ⌜ r ≡ faultOther x ⌝ }
+    ensures { result ≡ fault_other x }
 {
     let Fault::Shares(_, j) = x else {
         return 0;
@@ -62,7 +60,7 @@ fn fault_other(x: Fault) -> u8
 
 // The entry that a cause is of.
 fn entry_of(cause: Cause) -> u8
-    ensures { λ r. ⌜ r ≡ entryOf cause ⌝ }
+    ensures { result ≡ entry_of cause }
 {
     let Cause::BadSettings(x) = cause else {
         return 0;
@@ -72,7 +70,7 @@ fn entry_of(cause: Cause) -> u8
 
 // The other entry that it names.
 fn other_of(cause: Cause) -> u8
-    ensures { λ r. ⌜ r ≡ otherOf cause ⌝ }
+    ensures { result ≡ other_of cause }
 {
     let Cause::BadSettings(x) = cause else {
         return 0;
@@ -82,7 +80,7 @@ fn other_of(cause: Cause) -> u8
 
 // A reason as it is written.
 fn told_of(why: Why) -> ReasonFields
-    ensures { λ r. ⌜ r ≡ toldOf why ⌝ }
+    ensures { result ≡ told_of why }
 {
     let reason = why.reason;
     let cause = reason.cause;
@@ -95,7 +93,7 @@ fn told_of(why: Why) -> ReasonFields
 
 // Bytes that are no transfer.
 fn transfer_told(bytes: &[u8], told: ReasonFields) -> ReasonFields
-    ensures { λ r. ⌜ r ≡ transferTold (now (bytes .entry)) told ⌝ }
+    ensures { result ≡ transfer_told bytes.now told }
 {
     if bytes.len() != TRANSFER {
         return crate::told::told_with(306, bytes.len() as u64, TRANSFER as u64, 0, 0, [0; 16]);
@@ -113,7 +111,7 @@ fn transfer_told(bytes: &[u8], told: ReasonFields) -> ReasonFields
 
 // What is told of a reason, by its answer's number and the bytes that settings and transfer were read from.
 fn byte_told(number: u8, settings: &[u8], transfer: &[u8], told: ReasonFields) -> ReasonFields
-    ensures { λ r. ⌜ r ≡ byteTold number (now (settings .entry)) (now (transfer .entry)) told ⌝ }
+    ensures { result ≡ byte_told number settings.now transfer.now told }
 {
     if number == 2 {
         return crate::told::settings_told(settings, told);
@@ -126,7 +124,7 @@ fn byte_told(number: u8, settings: &[u8], transfer: &[u8], told: ReasonFields) -
 
 // The condition's number and the two numbers.
 fn put_numbers(out: &mut [u8], number: u32, got: u64, against: u64)
-    ensures { λ _. ⌜ now (out .exit) ≡ numbersOver (now (out .entry)) number got against ⌝ }
+    ensures { out.new ≡ numbers_over out.old number got against }
 {
     let low = got % WORD;
     let high = got / WORD;
@@ -141,17 +139,17 @@ fn put_numbers(out: &mut [u8], number: u32, got: u64, against: u64)
 
 // The entries and the marks.
 fn put_marks(out: &mut [u8], entry: u8, other: u8, marks: [u8; 16])
-    requires { ⌜ length (now out) ≡ 38 ⌝ }
-    ensures { λ _. ⌜ now (out .exit) ≡ marksOver (now (out .entry)) entry other marks ⌝ }
+    requires { length out.old ≡ 38 }
+    ensures { out.new ≡ marks_over out.old entry other marks }
 {
     let pair = [entry, other];
-    bytes::copy(&pair, &mut out[20..22]);
-    bytes::copy(&marks, &mut out[22..38]);
+    out[20..22].copy_from_slice(&pair);
+    out[22..38].copy_from_slice(&marks);
 }
 
 // A reason, where there are bytes for it.
 fn put_told(out: &mut [u8], told: ReasonFields)
-    ensures { λ _. ⌜ now (out .exit) ≡ toldOver (now (out .entry)) told ⌝ }
+    ensures { out.new ≡ told_over out.old told }
 {
     if out.len() != REASON {
         return;
@@ -162,8 +160,8 @@ fn put_told(out: &mut [u8], told: ReasonFields)
 }
 
 // What a call returns of a reason, which it writes.
-pub(crate) fn tell(why: Why, settings: &[u8], transfer: &[u8], out: &mut [u8]) -> u32
-    ensures { λ r. ⌜ callReturn r (now (out .exit)) ≡ whyCall (now (settings .entry)) (now (transfer .entry)) why (now (out .entry)) ⌝ }
+pub fn tell(why: Why, settings: &[u8], transfer: &[u8], out: &mut [u8]) -> u32
+    ensures { call_return result out.new ≡ why_call settings.now transfer.now why out.old }
 {
     let reason = why.reason;
     let cause = reason.cause;
@@ -175,7 +173,7 @@ pub(crate) fn tell(why: Why, settings: &[u8], transfer: &[u8], out: &mut [u8]) -
 }
 
 fn rule_number(rule: Rule) -> u32
-    ensures { λ r. ⌜ r ≡ ruleNumber rule ⌝ }
+    ensures { result ≡ rule_number rule }
 {
     match rule {
         Rule::Absolute => 1,
@@ -185,7 +183,7 @@ fn rule_number(rule: Rule) -> u32
 
 // What is written of a place: the refusal; or 1 where absolute is allowed, 2 where there is no table, or 3 with the pass and the entry.
 fn place_told(placed: PlaceOrigin, marks: [u8; 16]) -> ReasonFields
-    ensures { λ r. ⌜ r ≡ placeTold placed marks ⌝ }
+    ensures { result ≡ place_told placed marks }
 {
     match placed {
         PlaceOrigin::Refused(x) => told_of(Why {
@@ -207,7 +205,7 @@ fn place_told(placed: PlaceOrigin, marks: [u8; 16]) -> ReasonFields
 
 // The refusal's number, and 0 for a place that is found.
 fn place_number(placed: PlaceOrigin) -> u8
-    ensures { λ r. ⌜ r ≡ placedNumber placed ⌝ }
+    ensures { result ≡ placed_number placed }
 {
     match placed {
         PlaceOrigin::Refused(x) => {
@@ -221,7 +219,7 @@ fn place_number(placed: PlaceOrigin) -> u8
 
 // Bytes that are no settings are named as that.
 fn place_shown(number: u8, settings: &[u8], told: ReasonFields) -> ReasonFields
-    ensures { λ r. ⌜ r ≡ placeShown number (now (settings .entry)) told ⌝ }
+    ensures { result ≡ place_shown number settings.now told }
 {
     if number == 2 {
         return crate::told::settings_told(settings, told);
@@ -230,8 +228,8 @@ fn place_shown(number: u8, settings: &[u8], told: ReasonFields) -> ReasonFields
 }
 
 // The same of a place.
-pub(crate) fn tell_place(why: WhyPlace, settings: &[u8], out: &mut [u8]) -> u32
-    ensures { λ r. ⌜ callReturn r (now (out .exit)) ≡ placeCall (now (settings .entry)) why (now (out .entry)) ⌝ }
+pub fn tell_place(why: WhyPlace, settings: &[u8], out: &mut [u8]) -> u32
+    ensures { call_return result out.new ≡ place_call settings.now why out.old }
 {
     let placed = why.placed;
     let marks = why.entries;

@@ -1,10 +1,9 @@
 // What is told of a reason, and of bytes that are no settings.
-ghost use mathlib.Core.Path.{_≡_};
-ghost use Prim.Native.Nat.{_<_};
-ghost use lib.ListN.{length};
-ghost use Rattle·whyapi·specs.specs.Told.{toldWith, linkByte, linkTold, settingsTold};
+ghost use Rattle.std.specs.Prelude.{◌≡◌, ◌<◌, length};
+ghost use Rattle.whyapi.specs.Told.{told_with, link_byte, link_told, settings_told};
 
 // What is written of a reason.
+#[derive(Clone, Copy)]
 pub struct ReasonFields {
     pub number: u32,
     pub got: u64,
@@ -26,7 +25,7 @@ const ENTRY: usize = 34;
 const LINKS_UP: u32 = 206;
 
 // Numbers, entries and marks, as they are told.
-pub(crate) fn told_with(
+pub fn told_with(
     number: u32,
     got: u64,
     against: u64,
@@ -34,7 +33,7 @@ pub(crate) fn told_with(
     other: u8,
     marks: [u8; 16],
 ) -> ReasonFields
-    ensures { λ r. ⌜ r ≡ toldWith number got against entry other marks ⌝ }
+    ensures { result ≡ told_with number got against entry other marks }
 {
     ReasonFields {
         number,
@@ -48,9 +47,9 @@ pub(crate) fn told_with(
 
 // The link kind's byte of entry k.
 fn link_byte(bytes: &[u8], k: usize) -> u8
-    requires { ⌜ length (now bytes) ≡ 550 ⌝ }
-    requires { ⌜ k < 16 ⌝ }
-    ensures { λ r. ⌜ r ≡ linkByte (now (bytes .entry)) k ⌝ }
+    requires bytes_len { length bytes.now ≡ 550 }
+    requires k_bound { k < 16 }
+    ensures { result ≡ link_byte bytes.now k }
 {
     let at = HEAD + k * ENTRY;
     let e = &bytes[at..at + ENTRY];
@@ -59,8 +58,8 @@ fn link_byte(bytes: &[u8], k: usize) -> u8
 
 // What is told of a link to a higher entry, where the byte is that of no link.
 fn link_told(bytes: &[u8], told: ReasonFields) -> ReasonFields
-    requires { ⌜ length (now bytes) ≡ 550 ⌝ }
-    ensures { λ r. ⌜ r ≡ linkTold (now (bytes .entry)) told ⌝ }
+    requires { length bytes.now ≡ 550 }
+    ensures { result ≡ link_told bytes.now told }
 {
     if told.number != LINKS_UP {
         return told;
@@ -77,8 +76,8 @@ fn link_told(bytes: &[u8], told: ReasonFields) -> ReasonFields
 }
 
 // Bytes that are no settings: no number is told that is not theirs.
-pub(crate) fn settings_told(bytes: &[u8], told: ReasonFields) -> ReasonFields
-    ensures { λ r. ⌜ r ≡ settingsTold (now (bytes .entry)) told ⌝ }
+pub fn settings_told(bytes: &[u8], told: ReasonFields) -> ReasonFields
+    ensures { result ≡ settings_told bytes.now told }
 {
     if bytes.len() != SETTINGS {
         return told_with(210, bytes.len() as u64, SETTINGS as u64, 0, 0, [0; 16]);

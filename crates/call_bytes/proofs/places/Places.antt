@@ -1,61 +1,61 @@
 -- The place that is told: it fits its 8 bytes, and is read back from them. Assumes nothing.
-use Prim.Native.Nat.{ℕ, _+_, _<_, _≤_, _^_}
-use mathlib.Core.Path.{_≡_, refl, sym, _∙_, subst}
+use Prim.Native.Nat.{ℕ, ◌+◌, ◌<◌, ◌≤◌, ◌^◌}
+use mathlib.Core.Path.{◌≡◌, refl, sym, ◌∙◌, subst}
 use mathlib.Core.Bool.{true}
-use mathlib.Core.List.{List, [], _++_}
+use mathlib.Core.List.{List, [], ◌++◌}
 use native.Mathlib.Omega.{arith}
 use lib.ListN.{length}
-use Rattle·laws.proofs.Tests.{split}
-use Rattle·laws.specs.Bytes.{lowFirst}
-use Rattle·laws.specs.Over.{over}
-use Rattle·laws.proofs.OverLaws.{length-over, over-next, over-whole}
-use Rattle·uf2_block.specs.Block.{fieldAt}
-use Rattle·memory.specs.Flash.{flashLength}
-use Rattle·memory.proofs.flash.Laws.{length-right}
-use Rattle·partitions.specs.declared.Settings.{Settings}
-use Rattle·partitions.specs.Settings.{goodSettings}
-use Rattle·placement.specs.declared.Place.{Place}
-use Rattle·placement.specs.declared.Place.the-variants.{Nowhere, At}
-use Rattle·placement.specs.declared.PlaceAnswer.{PlaceAnswer}
-use Rattle·placement.specs.Place.{foundAt, placeOf, askOf}
-use Rattle·placement.proofs.Laws.{ask-length, ask-settings, ask-place}
-use Rattle·placement.proofs.Theorems.{place-inside}
-use Rattle·uf2_block.specs.Write.{le32, putAt}
-use Rattle·uf2_block.proofs.WriteLaws.{put-over, field-le32}
-use Rattle·call_bytes·specs.specs.PlacesCalls.{Low}
+use Rattle.laws.proofs.Tests.{split}
+use Rattle.laws.specs.Bytes.{low_first}
+use Rattle.laws.specs.Over.{over}
+use Rattle.laws.proofs.OverLaws.{length_over, over_next, over_whole}
+use Rattle.uf2_block.specs.Block.{field_at}
+use Rattle.memory.specs.Flash.{flash_length}
+use Rattle.memory.proofs.flash.Laws.{length_right}
+use Rattle.partitions.specs.declared.Settings.{Settings}
+use Rattle.partitions.specs.Settings.{good_settings}
+use Rattle.placement.specs.declared.Place.{Place}
+use Rattle.placement.specs.declared.Place.TheVariants.{Nowhere, At}
+use Rattle.placement.specs.declared.PlaceAnswer.{PlaceAnswer}
+use Rattle.placement.specs.Place.{found_at, place_of, ask_of}
+use Rattle.placement.proofs.Laws.{ask_length, ask_settings, ask_place}
+use Rattle.placement.proofs.Theorems.{place_inside}
+use Rattle.uf2_block.specs.Write.{le32, put_at}
+use Rattle.uf2_block.proofs.WriteLaws.{put_over, field_le32}
+use Rattle.call_bytes.specs.PlacesCalls.{Low}
 
 -- ---- it fits
 
 module _ (s : Settings) (len f : ℕ) where
-  found-low : flashLength len ≡ true → goodSettings s len ≡ true → (p : Place) → placeOf s len f ≡ p → Low (foundAt p)
-  found-low right good Nowhere e = tt
-  found-low right good (At a n) e =
-      let inside = place-inside s len f right good a n e .2 in
-      let most = length-right len right .most in
+  found_low : flash_length len ≡ true → good_settings s len ≡ true → (p : Place) → place_of s len f ≡ p → Low (found_at p)
+  found_low right good Nowhere e = tt
+  found_low right good (At a n) e =
+      let inside = (place_inside s len f right good a n e).2 in
+      let most = (length_right len right).most in
       (omega arith, omega arith)
 
-  pub ask-low : {x : PlaceAnswer} → x ≡ askOf s len f → Low x
-  ask-low e =
+  pub ask_low : {x : PlaceAnswer} → x ≡ ask_of s len f → Low x
+  ask_low e =
       subst Low (sym e)
-      (split (flashLength len)
+      (split (flash_length len)
       (λ right.
-      split (goodSettings s len)
-      (λ good. subst Low (sym (ask-place s len f right good)) (found-low right good (placeOf s len f) refl))
-      (λ bad. subst Low (sym (ask-settings s len f right bad)) tt))
-      (λ wrong. subst Low (sym (ask-length s len f wrong)) tt))
+      split (good_settings s len)
+      (λ good. subst Low (sym (ask_place s len f right good)) (found_low right good (place_of s len f) refl))
+      (λ bad. subst Low (sym (ask_settings s len f right bad)) tt))
+      (λ wrong. subst Low (sym (ask_length s len f wrong)) tt))
 
 -- ---- it is written
 
-pub place-put : (b : List ℕ) (a n : ℕ) → length b ≡ 8 → putAt (putAt b 0 a) 4 n ≡ le32 a ++ le32 n
-unfolding lowFirst
-place-put b a n e =
+pub place_put : (b : List ℕ) (a n : ℕ) → length b ≡ 8 → put_at (put_at b 0 a) 4 n ≡ le32 a ++ le32 n
+unfolding low_first
+place_put b a n e =
     let fits : 0 + length (le32 a) ≤ length b = omega arith in
-    let same = length-over b 0 (le32 a) fits in
-    rw (put-over b 0 a (omega arith), put-over (over b 0 (le32 a)) 4 n (omega arith))
-    (over-next b 0 (le32 a) 4 (le32 n) refl (omega arith) ∙ over-whole b (le32 a ++ le32 n) (sym e))
+    let same = length_over b 0 (le32 a) fits in
+    rw (put_over b 0 a (omega arith), put_over (over b 0 (le32 a)) 4 n (omega arith))
+    (over_next b 0 (le32 a) 4 (le32 n) refl (omega arith) ∙ over_whole b (le32 a ++ le32 n) (sym e))
 
 -- ---- it is read back
 
-pub place-back : (a n : ℕ) → a < 2 ^ 32 → n < 2 ^ 32 → (fieldAt (le32 a ++ le32 n) 0 ≡ a) × (fieldAt (le32 a ++ le32 n) 4 ≡ n)
-unfolding lowFirst
-place-back a n p q = (field-le32 [] a (le32 n) p, field-le32 (le32 a) n [] q)
+pub place_back : (a n : ℕ) → a < 2 ^ 32 → n < 2 ^ 32 → (field_at (le32 a ++ le32 n) 0 ≡ a) × (field_at (le32 a ++ le32 n) 4 ≡ n)
+unfolding low_first
+place_back a n p q = (field_le32 [] a (le32 n) p, field_le32 (le32 a) n [] q)

@@ -1,24 +1,24 @@
 -- `capi::uf2_new` meets its contract. Assumes nothing.
-use mathlib.Core.Path.{ap, _∙_}
-use Rattle·transfer.specs.declared.Transfer.{Transfer}
-use Rattle·settings_layout.specs.Layout.{withTransfer}
-use borrow.Author.Needs.{needs}
-use Rattle·capi·proofs.proofs.uf2_new.Statement.{statement}
-use Rattle·capi·proofs.proofs.uf2_new.Tie as tie
+use mathlib.Core.Path.{ap, ◌∙◌}
+use Rattle.transfer.specs.declared.Transfer.{Transfer}
+use Rattle.settings_layout.specs.Layout.{with_transfer}
+use borrow.Author.Rules.{rules}
+use Rattle.capi.proofs.uf2_new.Statement.{statement}
+use Rattle.capi.proofs.uf2_new.Tie as tie
 
 new-requires : tie.Need-new-requires
-new-requires c κs = search needs
+new-requires c κs = search rules
 
 write-transfer-requires : tie.Need-write-transfer-requires
-write-transfer-requires c κs = search needs
+write-transfer-requires c κs = search rules
 
-same-length : tie.Need-same-length
-same-length c = search needs
+same_length : tie.Need-same-length
+same_length c = search rules
 
 returns : tie.Need-returns
 returns c =
-    let b = c .before .before in
-    b .write-transfer .ensures ∙ ap (λ (t : Transfer). withTransfer (b .before .before .before .before .args .transfer .now) (t .state)) (b .before .new .ensures)
+    let b = c.before.before in
+    b.write-transfer.ensures ∙ ap (λ (t : Transfer). with_transfer b.before.before.before.before.args.transfer.now t.state) b.before.new.ensures
 
 pub uf2-new-spec : {M : Type 1} → statement M
-uf2-new-spec = tie.close (tie.spec new-requires write-transfer-requires same-length returns)
+uf2-new-spec = tie.close (tie.spec new-requires write-transfer-requires same_length returns)

@@ -1,48 +1,48 @@
 -- `capi::uf2_take_all` meets its contract. Assumes nothing.
-use Rattle·call_bytes.proofs.Laws.{batch-ran}
-use borrow.Author.Needs.{needs}
-use Rattle·capi·proofs.proofs.uf2_take_all.Statement.{statement}
-use Rattle·capi·proofs.proofs.uf2_take_all.Tie as tie
+use Rattle.call_bytes.proofs.Laws.{batch_ran}
+use borrow.Author.Rules.{rules}
+use Rattle.capi.proofs.uf2_take_all.Statement.{statement}
+use Rattle.capi.proofs.uf2_take_all.Tie as tie
 
 read-settings-requires : tie.Need-read-settings-requires
-read-settings-requires c κs = search needs
+read-settings-requires c κs = search rules
 
 read-transfer-requires : tie.Need-read-transfer-requires
-read-transfer-requires c κs = search needs
+read-transfer-requires c κs = search rules
 
 take-all-requires : tie.Need-take-all-requires
-take-all-requires c κs = search needs
+take-all-requires c κs = search rules
 
 keep-requires : tie.Need-keep-requires
-keep-requires c κs = search needs
+keep-requires c κs = search rules
 
-same-length : tie.Need-same-length
-same-length c = search needs
+same_length : tie.Need-same-length
+same_length c = search rules
 
 same-length-2 : tie.Need-same-length-2
-same-length-2 c = search needs
+same-length-2 c = search rules
 
 same-length-3 : tie.Need-same-length-3
-same-length-3 c = search needs
+same-length-3 c = search rules
 
 same-length-4 : tie.Need-same-length-4
-same-length-4 c = search needs
+same-length-4 c = search rules
 
 same-length-5 : tie.Need-same-length-5
-same-length-5 c = search needs
+same-length-5 c = search rules
 
 same-length-6 : tie.Need-same-length-6
-same-length-6 c = search needs
+same-length-6 c = search rules
 
 same-length-7 : tie.Need-same-length-7
-same-length-7 c = search needs
+same-length-7 c = search rules
 
 returns : tie.Need-returns
 returns c =
-    let kept = c .before .before in
-    let got = kept .before .before .before .before .before .before .before .before .before .before .before .before .before .before .before in
-    let read = got .before .before .before .before .before .before .before in
-    batch-ran _ _ _ _ _ (read .before .before .read-settings .ensures) (read .read-transfer .ensures) (got .take-all .ensures) (kept .keep .ensures)
+    let kept = c.before.before in
+    let got = kept.before.before.before.before.before.before.before.before.before.before.before.before.before.before.before in
+    let read = got.before.before.before.before.before.before.before in
+    batch_ran _ _ _ _ _ read.before.before.read-settings.ensures read.read-transfer.ensures got.take_all.ensures kept.keep.ensures
 
 pub uf2-take-all-spec : {M : Type 1} → statement M
 uf2-take-all-spec =
@@ -52,7 +52,7 @@ uf2-take-all-spec =
     read-transfer-requires
     take-all-requires
     keep-requires
-    same-length
+    same_length
     same-length-2
     same-length-3
     same-length-4

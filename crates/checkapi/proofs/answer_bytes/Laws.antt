@@ -1,23 +1,23 @@
 -- The call by what its parts ensure. Assumes nothing.
 use Prim.Native.Nat.{ℕ}
-use mathlib.Core.Path.{_≡_, ap, sym, _∙_}
-use mathlib.Core.Logic.{_≢_}
+use mathlib.Core.Path.{◌≡◌, ap, sym, ◌∙◌}
+use mathlib.Core.Logic.{◌≢◌}
 use mathlib.Core.Bool.{Bool, true, false}
 use mathlib.Core.List.{List}
 use lib.Dec.{eqb}
 use lib.ListN.{length}
-use borrow.Author.Tests.{eq-eqb, ne-eqb}
-use Rattle·file_check.specs.declared.Checked.{Checked}
-use Rattle·file_check.specs.Check.{checkedNumber}
-use Rattle·checkapi·specs.specs.CheckBytes.{pieceTold, otherTold, numbersOver, callReturn, checkCall}
+use borrow.Author.Tests.{eq-eqb, ne_eqb}
+use Rattle.file_check.specs.declared.Checked.{Checked}
+use Rattle.file_check.specs.Check.{checked_number}
+use Rattle.checkapi.specs.CheckBytes.{piece_told, other_told, numbers_over, call_return, check_call}
 
 module _ (x : Checked) (l : List ℕ) where
-  pub no-bytes : length l ≢ 16 → callReturn 1 l ≡ checkCall x l
-  unfolding checkCall
-  no-bytes d = let z : eqb (length l) 16 ≡ false = ne-eqb _ _ d in rw z
+  pub no_bytes : length l ≢ 16 → call_return 1 l ≡ check_call x l
+  unfolding check_call
+  no_bytes d = let z : eqb (length l) 16 ≡ false = ne_eqb _ _ d in rw z
 
-  pub written : length l ≡ 16 → {i j n : ℕ} → i ≡ pieceTold x → j ≡ otherTold x → {o : List ℕ} → o ≡ numbersOver l i j → n ≡ checkedNumber x → callReturn n o ≡ checkCall x l
-  unfolding checkCall
+  pub written : length l ≡ 16 → {i j n : ℕ} → i ≡ piece_told x → j ≡ other_told x → {o : List ℕ} → o ≡ numbers_over l i j → n ≡ checked_number x → call_return n o ≡ check_call x l
+  unfolding check_call
   written d p q e g =
       let y : eqb (length l) 16 ≡ true = eq-eqb _ _ d in
-      (λ t. callReturn (g t) ((e ∙ (λ u. numbersOver l (p u) (q u))) t)) ∙ sym (rw y)
+      (λ t. call_return (g t) ((e ∙ (λ u. numbers_over l (p u) (q u))) t)) ∙ sym (rw y)

@@ -1,84 +1,84 @@
 -- Regions that are the same, and a region with which nothing is wrong. Assumes nothing.
-use Prim.Native.Nat.{ℕ, _/_, _<_}
-use mathlib.Core.Path.{_≡_, refl, sym, ap, _∙_}
-use mathlib.Core.Bool.{Bool, true, false, cond, not, _&&_}
+use Prim.Native.Nat.{ℕ, ◌/◌, ◌<◌}
+use mathlib.Core.Path.{◌≡◌, refl, sym, ap, ◌∙◌}
+use mathlib.Core.Bool.{Bool, true, false, cond, not, ◌&&◌}
 use mathlib.Core.List.{List}
 use lib.Dec.{eqb}
 use borrow.Author.Tests.{eqb-true, not-true, not-false}
-use Rattle·laws.specs.Sets.{any}
-use Rattle·laws.proofs.Tests.{split, clash, eqb-same, and-left, and-right, both}
-use Rattle·laws.proofs.Laws.{any-all}
-use Rattle·uf2_block.specs.Block.{hasFlag}
-use Rattle·uf2_block.specs.Region.{regionOf}
-use Rattle·uf2_block.specs.declared.Region.{Region}
-use Rattle·md5.specs.Md5.{md5Of}
-use Rattle·uf2_block.specs.Regions.{sameDigest}
-use Rattle·file_check·specs.specs.Check.{pieceAt, piecesIn}
-use Rattle·file_check·specs.specs.Regions.{insideOf, sameRegion, straysFrom, isStray, isBare, finalOf, faultIn, isRight}
-use Rattle·file_check·specs.specs.declared.fileregions.RegionsChecked.{RegionsChecked}
-use Rattle·file_check·specs.specs.declared.fileregions.RegionsChecked.the-variants.{As, OtherRegion, BareSector, OtherDigest, Right}
+use Rattle.laws.specs.Sets.{any}
+use Rattle.laws.proofs.Tests.{split, clash, eqb_same, and_left, and_right, both}
+use Rattle.laws.proofs.Laws.{any_all}
+use Rattle.uf2_block.specs.Block.{has_flag}
+use Rattle.uf2_block.specs.Region.{region_of}
+use Rattle.uf2_block.specs.declared.Region.{Region}
+use Rattle.md5_digest.specs.Md5.{md5_of}
+use Rattle.uf2_block.specs.Regions.{same_digest}
+use Rattle.file_check.specs.Check.{piece_at, pieces_in}
+use Rattle.file_check.specs.Regions.{inside_of, same_region, strays_from, is_stray, is_bare, final_of, fault_in, is_right}
+use Rattle.file_check.specs.declared.fileregions.RegionsChecked.{RegionsChecked}
+use Rattle.file_check.specs.declared.fileregions.RegionsChecked.TheVariants.{As, OtherRegion, BareSector, OtherDigest, Right}
 
-pub same-true : (x g : Region) → sameRegion x g ≡ true → x ≡ g
-unfolding sameRegion
-same-true x g e =
-    let c1 = eqb (x .start) (g .start) in
-    let c2 = eqb (x .len) (g .len) in
-    let c3 = eqb (x .a) (g .a) in
-    let c4 = eqb (x .b) (g .b) in
-    let c5 = eqb (x .c) (g .c) in
-    let c6 = eqb (x .d) (g .d) in
-    let e5 = and-left (c1 && c2 && c3 && c4 && c5) c6 e in
-    let e4 = and-left (c1 && c2 && c3 && c4) c5 e5 in
-    let e3 = and-left (c1 && c2 && c3) c4 e4 in
-    let e2 = and-left (c1 && c2) c3 e3 in
-    let p1 = eqb-true (x .start) (g .start) (and-left c1 c2 e2) in
-    let p2 = eqb-true (x .len) (g .len) (and-right c1 c2 e2) in
-    let p3 = eqb-true (x .a) (g .a) (and-right (c1 && c2) c3 e3) in
-    let p4 = eqb-true (x .b) (g .b) (and-right (c1 && c2 && c3) c4 e4) in
-    let p5 = eqb-true (x .c) (g .c) (and-right (c1 && c2 && c3 && c4) c5 e5) in
-    let p6 = eqb-true (x .d) (g .d) (and-right (c1 && c2 && c3 && c4 && c5) c6 e) in
+pub same_true : (x g : Region) → same_region x g ≡ true → x ≡ g
+unfolding same_region
+same_true x g e =
+    let c1 = eqb x.start g.start in
+    let c2 = eqb x.len g.len in
+    let c3 = eqb x.a g.a in
+    let c4 = eqb x.b g.b in
+    let c5 = eqb x.c g.c in
+    let c6 = eqb x.d g.d in
+    let e5 = and_left (c1 && c2 && c3 && c4 && c5) c6 e in
+    let e4 = and_left (c1 && c2 && c3 && c4) c5 e5 in
+    let e3 = and_left (c1 && c2 && c3) c4 e4 in
+    let e2 = and_left (c1 && c2) c3 e3 in
+    let p1 = eqb-true x.start g.start (and_left c1 c2 e2) in
+    let p2 = eqb-true x.len g.len (and_right c1 c2 e2) in
+    let p3 = eqb-true x.a g.a (and_right (c1 && c2) c3 e3) in
+    let p4 = eqb-true x.b g.b (and_right (c1 && c2 && c3) c4 e4) in
+    let p5 = eqb-true x.c g.c (and_right (c1 && c2 && c3 && c4) c5 e5) in
+    let p6 = eqb-true x.d g.d (and_right (c1 && c2 && c3 && c4 && c5) c6 e) in
     λ i. record { start = p1 i; len = p2 i; a = p3 i; b = p4 i; c = p5 i; d = p6 i }
 
-pub same-yes : (g : Region) → sameRegion g g ≡ true
-unfolding sameRegion
-same-yes g = rw (eqb-same (g .start), eqb-same (g .len), eqb-same (g .a), eqb-same (g .b), eqb-same (g .c), eqb-same (g .d))
+pub same_yes : (g : Region) → same_region g g ≡ true
+unfolding same_region
+same_yes g = rw (eqb_same g.start, eqb_same g.len, eqb_same g.a, eqb_same g.b, eqb_same g.c, eqb_same g.d)
 
 -- data in a region that does not stray names that region
-pub carries : (g : Region) (a : List ℕ) → insideOf g a ≡ true → straysFrom g a ≡ false → (hasFlag a 0x4000 ≡ true) × (regionOf a ≡ g)
-unfolding straysFrom
+pub carries : (g : Region) (a : List ℕ) → inside_of g a ≡ true → strays_from g a ≡ false → (has_flag a 0x4000 ≡ true) × (region_of a ≡ g)
+unfolding strays_from
 carries g a y z =
-    let p = hasFlag a 0x4000 in
-    let q = sameRegion (regionOf a) g in
+    let p = has_flag a 0x4000 in
+    let q = same_region (region_of a) g in
     let e : not (p && q) ≡ false = ap (λ (b : Bool). b && not (p && q)) (sym y) ∙ z in
     let t = not-false (p && q) e in
-    (and-left p q t, same-true (regionOf a) g (and-right p q t))
+    (and_left p q t, same_true (region_of a) g (and_right p q t))
 
-pub right-is : (x : RegionsChecked) → isRight x ≡ true → x ≡ Right
-right-is Right e = refl
-right-is (As x) e = clash false e refl
-right-is (OtherRegion i k) e = clash false e refl
-right-is (BareSector i q) e = clash false e refl
-right-is (OtherDigest i) e = clash false e refl
+pub right_is : (x : RegionsChecked) → is_right x ≡ true → x ≡ Right
+right_is Right e = refl
+right_is (As x) e = clash false e refl
+right_is (OtherRegion i k) e = clash false e refl
+right_is (BareSector i q) e = clash false e refl
+right_is (OtherDigest i) e = clash false e refl
 
 -- a condition that a right region has passed
-right-by : (b : Bool) (x y : RegionsChecked) → isRight x ≡ false → isRight (cond b x y) ≡ true → (b ≡ false) × (isRight y ≡ true)
-right-by true x y z e = clash (isRight x) e z
-right-by false x y z e = (refl, e)
+right_by : (b : Bool) (x y : RegionsChecked) → is_right x ≡ false → is_right (cond b x y) ≡ true → (b ≡ false) × (is_right y ≡ true)
+right_by true x y z e = clash (is_right x) e z
+right_by false x y z e = (refl, e)
 
 -- nothing is wrong with a region
 pub record Fine (f : List ℕ) (g : Region) : Type 0 where
-  pub carried : any (piecesIn f) (isStray f g) ≡ false
-  pub covered : any (g .len / 4096) (isBare f g) ≡ false
-  pub digest : sameDigest (md5Of (finalOf f g)) g ≡ true
+  pub carried : any (pieces_in f) (is_stray f g) ≡ false
+  pub covered : any (g.len / 4096) (is_bare f g) ≡ false
+  pub digest : same_digest (md5_of (final_of f g)) g ≡ true
 
-pub fine-of : (f : List ℕ) (i : ℕ) (g : Region) → isRight (faultIn f i g) ≡ true → Fine f g
-unfolding faultIn
-fine-of f i g e =
-    let p = right-by _ (OtherRegion i _) _ refl e in
-    let q = right-by _ (BareSector i _) _ refl (p .1) in
-    let r = right-by _ (OtherDigest i) Right refl (q .1) in
-    record { carried = p .0; covered = q .0; digest = not-false _ (r .0) }
+pub fine_of : (f : List ℕ) (i : ℕ) (g : Region) → is_right (fault_in f i g) ≡ true → Fine f g
+unfolding fault_in
+fine_of f i g e =
+    let p = right_by _ (OtherRegion i _) _ refl e in
+    let q = right_by _ (BareSector i _) _ refl p.1 in
+    let r = right_by _ (OtherDigest i) Right refl q.1 in
+    record { carried = p.0; covered = q.0; digest = not-false _ r.0 }
 
-pub right-of : (f : List ℕ) (i : ℕ) (g : Region) → Fine f g → isRight (faultIn f i g) ≡ true
-unfolding faultIn
-right-of f i g h = rw (h .carried, h .covered, h .digest)
+pub right_of : (f : List ℕ) (i : ℕ) (g : Region) → Fine f g → is_right (fault_in f i g) ≡ true
+unfolding fault_in
+right_of f i g h = rw (h.carried, h.covered, h.digest)

@@ -1,277 +1,277 @@
 -- A file whose regions are right is what L9 asks of a file. Assumes nothing.
-use Prim.Native.Nat.{ℕ, _+_, _-_, _*_, _/_, _%_, _<_, _≤_}
-use mathlib.Core.Path.{_≡_, refl, sym, ap, subst, _∙_}
-use mathlib.Core.Logic.{_≢_}
-use mathlib.Core.Bool.{Bool, true, false, not, _&&_}
+use Prim.Native.Nat.{ℕ, ◌+◌, ◌-◌, ◌*◌, ◌/◌, ◌%◌, ◌<◌, ◌≤◌}
+use mathlib.Core.Path.{◌≡◌, refl, sym, ap, subst, ◌∙◌}
+use mathlib.Core.Logic.{◌≢◌}
+use mathlib.Core.Bool.{Bool, true, false, not, ◌&&◌}
 use mathlib.Core.List.{List}
 use native.Mathlib.Omega.{arith}
 use lib.Dec.{eqb, ltb, leb}
-use lib.ListN.{length, getD}
-use lib.Seq.{ext-getD}
+use lib.ListN.{length, get_or}
+use lib.Seq.{ext_get_or}
 use borrow.Author.Tests.{eqb-true, eqb-false, eq-eqb, leb-true, ltb-true, lt-ltb, le-leb, not-true}
-use Rattle·laws.specs.Sets.{Set, any, least}
-use Rattle·laws.proofs.Tests.{split, clash, is-false, and-left, and-right, both}
-use Rattle·laws.proofs.Laws.{any-hit, any-all, any-found}
-use Rattle·memory.specs.Flash.{payloadOf, spans}
-use Rattle·memory.proofs.flash.Laws.{length-payload}
-use Rattle·uf2_block.specs.Block.{fieldAt, hasFlag}
-use Rattle·uf2_block.specs.Region.{regionOf}
-use Rattle·uf2_block.specs.declared.Region.{Region}
-use Rattle·md5.specs.Md5.{md5Of}
-use Rattle·uf2_block.specs.Regions.{goodRegion}
-use Rattle·uf2_block.proofs.regions.Laws.{Counting, good-true}
-use Rattle·partitions.specs.declared.Settings.{Settings}
-use Rattle·placement.specs.Place.{placeOf}
-use Rattle·placement.specs.declared.Place.{Place}
-use Rattle·placement.specs.declared.Place.the-variants.{At}
-use Rattle·transfer.specs.Transfer.{sameKind}
-use Rattle·transfer.specs.declared.Kind.{Kind}
-use Rattle·transfer.specs.declared.Kind.the-variants.{Flash}
-use Rattle·transfer.specs.declared.State.the-variants.{Idle}
-use Rattle·uf2_checks.specs.declared.Lengths.{Lengths}
-use Rattle·arrival.specs.Arrive.{World, lengthsOf}
-use Rattle·arrival.specs.Windows.{windowStart, lies}
-use Rattle·arrival.specs.Lists.{receiveAll}
-use Rattle·arrival.specs.Standing.{digestIn}
-use Rattle·arrival.proofs.Heads.{kind-same}
-use Rattle·arrival.proofs.Windows.{lies-true}
-use Rattle·arrival_claims.proofs.Screening.{flashOf}
-use Rattle·arrival_claims.proofs.Effect.{Valid, spans-true, spans-is}
-use Rattle·demand.specs.Demand.{File, isData, addressOf, ValidFile, startOf, originOf, storageOf, holds, liesIn, sizeOf, isGuarded, seenOf, Contents}
-use Rattle·demand.proofs.Files.{Located, located, valid as valid-blocks}
-use Rattle·demand.specs.Regions.{regionStart, regionLength, inRegion, Final, Regions, Complete, Regions-end}
-use Rattle·demand.proofs.Regions.{regions-end}
-use Rattle·file_check·specs.specs.declared.Checked.{Checked}
-use Rattle·file_check·specs.specs.declared.Checked.the-variants.{BadBuffers, BadSettings, Ragged, Empty, Refused, OtherFamily, OtherTotal, OtherKind, SameNumber, Overlap, Missing, Guarded, Valid as ValidFound}
-use Rattle·file_check·specs.specs.Check.{pieceAt, piecesIn, fieldIn, isPage, totalIn, familyIn, kindIn, isSound, guardsIn, isGuarding, checkOf}
-use Rattle·file_check·specs.specs.Valid.{Start, fileOf, Good, answerTo}
-use Rattle·file_check·proofs.proofs.Sound.{Sound, sound, valid, pieces, at, at-of, found-at, number-below, piece-size}
-use Rattle·file_check·proofs.proofs.Theorems.{empty, empty-start, size-all}
-use Rattle·file_check·specs.specs.declared.fileregions.RegionsChecked.{RegionsChecked}
-use Rattle·file_check·specs.specs.declared.fileregions.RegionsChecked.the-variants.{Right}
-use Rattle·file_check·specs.specs.Regions.{insideOf, finalOf, namesRegions, checkRegionsOf}
-use Rattle·file_check·specs.specs.Told.{InRegion, Carries, sectorOf, RightRegion, Told, Regions-answers-are-true}
-use Rattle·file_check·specs.specs.FileregionsValid.{answerOn, Right-is-right, Right-arrives}
-use Rattle·file_check·proofs.proofs.fileregions.Told.{inside-true, inside-yes, length-is, regions-answers-are-true}
-use Rattle·file_check·proofs.proofs.fileregions.Final.{spot, length-final, final-free, final-owned}
+use Rattle.laws.specs.Sets.{Set, any, least}
+use Rattle.laws.proofs.Tests.{split, clash, is_false, and_left, and_right, both}
+use Rattle.laws.proofs.Laws.{any_hit, any_all, any_found}
+use Rattle.memory.specs.Flash.{payload_of, spans}
+use Rattle.memory.proofs.flash.Laws.{length_payload}
+use Rattle.uf2_block.specs.Block.{field_at, has_flag}
+use Rattle.uf2_block.specs.Region.{region_of}
+use Rattle.uf2_block.specs.declared.Region.{Region}
+use Rattle.md5_digest.specs.Md5.{md5_of}
+use Rattle.uf2_block.specs.Regions.{good_region}
+use Rattle.uf2_block.proofs.regions.Laws.{Counting, good_true}
+use Rattle.partitions.specs.declared.Settings.{Settings}
+use Rattle.placement.specs.Place.{place_of}
+use Rattle.placement.specs.declared.Place.{Place}
+use Rattle.placement.specs.declared.Place.TheVariants.{At}
+use Rattle.transfer.specs.Transfer.{same_kind}
+use Rattle.transfer.specs.declared.Kind.{Kind}
+use Rattle.transfer.specs.declared.Kind.TheVariants.{Flash}
+use Rattle.transfer.specs.declared.State.TheVariants.{Idle}
+use Rattle.uf2_checks.specs.declared.Lengths.{Lengths}
+use Rattle.arrival.specs.Arrive.{World, lengths_of}
+use Rattle.arrival.specs.Windows.{window_start, lies}
+use Rattle.arrival.specs.Lists.{receive_all}
+use Rattle.arrival.specs.Standing.{digest_in}
+use Rattle.arrival.proofs.Heads.{kind_same}
+use Rattle.arrival.proofs.Windows.{lies_true}
+use Rattle.arrival_claims.proofs.Screening.{flash_of}
+use Rattle.arrival_claims.proofs.Effect.{Valid, spans_true, spans_is}
+use Rattle.demand.specs.Demand.{File, is_data, address_of, ValidFile, start_of, origin_of, storage_of, holds, lies_in, size_of, is_guarded, seen_of, Contents}
+use Rattle.demand.proofs.Files.{Located, located, valid as valid-blocks}
+use Rattle.demand.specs.Regions.{region_start, region_length, in_region, Final, Regions, Complete, RegionsEnd}
+use Rattle.demand.proofs.Regions.{regions_end}
+use Rattle.file_check.specs.declared.Checked.{Checked}
+use Rattle.file_check.specs.declared.Checked.TheVariants.{BadBuffers, BadSettings, Ragged, Empty, Refused, OtherFamily, OtherTotal, OtherKind, SameNumber, Overlap, Missing, Guarded, Valid as ValidFound}
+use Rattle.file_check.specs.Check.{piece_at, pieces_in, field_in, is_page, total_in, family_in, kind_in, is_sound, guards_in, is_guarding, check_of}
+use Rattle.file_check.specs.Valid.{Start, file_of, Good, answer_to}
+use Rattle.file_check.proofs.Sound.{Sound, sound, valid, pieces, at, at_of, found_at, number-below, piece_size}
+use Rattle.file_check.proofs.Theorems.{empty, empty_start, size_all}
+use Rattle.file_check.specs.declared.fileregions.RegionsChecked.{RegionsChecked}
+use Rattle.file_check.specs.declared.fileregions.RegionsChecked.TheVariants.{Right}
+use Rattle.file_check.specs.Regions.{inside_of, final_of, names_regions, check_regions_of}
+use Rattle.file_check.specs.Told.{InRegion, Carries, sector_of, RightRegion, Told, RegionsAnswersAreTrue}
+use Rattle.file_check.specs.FileregionsValid.{answer_on, RightIsRight, RightArrives}
+use Rattle.file_check.proofs.fileregions.Told.{inside_true, inside_yes, length_is, regions_answers_are_true}
+use Rattle.file_check.proofs.fileregions.Final.{spot, length_final, final_free, final_owned}
 
-guarded-sound : (x : Checked) → namesRegions x ≡ true → isSound x ≡ true
-guarded-sound (Guarded i) e = refl
-guarded-sound ValidFound e = refl
-guarded-sound BadBuffers e = e
-guarded-sound BadSettings e = e
-guarded-sound Ragged e = e
-guarded-sound Empty e = e
-guarded-sound (Refused i x) e = e
-guarded-sound (OtherFamily i) e = e
-guarded-sound (OtherTotal i) e = e
-guarded-sound (OtherKind i) e = e
-guarded-sound (SameNumber i j) e = e
-guarded-sound (Overlap i j) e = e
-guarded-sound (Missing k) e = e
+guarded_sound : (x : Checked) → names_regions x ≡ true → is_sound x ≡ true
+guarded_sound (Guarded i) e = refl
+guarded_sound ValidFound e = refl
+guarded_sound BadBuffers e = e
+guarded_sound BadSettings e = e
+guarded_sound Ragged e = e
+guarded_sound Empty e = e
+guarded_sound (Refused i x) e = e
+guarded_sound (OtherFamily i) e = e
+guarded_sound (OtherTotal i) e = e
+guarded_sound (OtherKind i) e = e
+guarded_sound (SameNumber i j) e = e
+guarded_sound (Overlap i j) e = e
+guarded_sound (Missing k) e = e
 
 module _ (s : Settings) (n : Lengths) (f : List ℕ) (ok : Sound s n f) (w : World) (st : Start n w) where
   abbrev F : File
-  F = fileOf n f
+  F = file_of n f
 
   whole : ValidFile s w F
   whole = valid s n f ok w st
 
-  here : (k : ℕ) → k < totalIn f → at s n f ok k < piecesIn f
-  here k h = found-at s n f ok w st k h .0
+  here : (k : ℕ) → k < total_in f → at s n f ok k < pieces_in f
+  here k h = (found_at s n f ok w st k h).0
 
-  module _ (flat : kindIn n f ≡ Flash) where
+  module _ (flat : kind_in n f ≡ Flash) where
     L : Located s w F
-    L = located s w F (st .idle) whole flat
+    L = located s w F st.idle whole flat
 
-    storage-is : (k : ℕ) → storageOf s w F k ≡ L .start + (fieldIn f (at s n f ok k) 12 - 0x10000000)
-    storage-is k =
-        (λ i. originOf s w (flat i) (familyIn f) + (addressOf F k - windowStart (flat i)))
-        ∙ ap (λ (x : ℕ). x + (addressOf F k - 0x10000000)) (ap startOf (L .place))
+    storage_is : (k : ℕ) → storage_of s w F k ≡ L.start + (field_in f (at s n f ok k) 12 - 0x10000000)
+    storage_is k =
+        (λ i. origin_of s w (flat i) (family_in f) + (address_of F k - window_start (flat i)))
+        ∙ ap (λ (x : ℕ). x + (address_of F k - 0x10000000)) (ap start_of L.place)
 
-    region-is : (i : ℕ) → regionStart s w F i ≡ L .start + (fieldIn f (at s n f ok i) 484 - 0x10000000)
-    region-is i = ap (λ (x : ℕ). x + (fieldAt (F .block i) 484 - 0x10000000)) (ap startOf (L .place))
+    region_is : (i : ℕ) → region_start s w F i ≡ L.start + (field_in f (at s n f ok i) 484 - 0x10000000)
+    region_is i = ap (λ (x : ℕ). x + (field_at (F.block i) 484 - 0x10000000)) (ap start_of L.place)
 
-    low : (k : ℕ) → k < totalIn f → isPage f (at s n f ok k) ≡ true → 0x10000000 ≤ fieldIn f (at s n f ok k) 12
-    low k h y = lies-true Flash (addressOf F k) (subst (λ (u : Kind). lies u (addressOf F k) ≡ true) flat (whole .kinds k h y)) .0
+    low : (k : ℕ) → k < total_in f → is_page f (at s n f ok k) ≡ true → 0x10000000 ≤ field_in f (at s n f ok k) 12
+    low k h y = (lies_true Flash (address_of F k) (subst (λ (u : Kind). lies u (address_of F k) ≡ true) flat (whole.kinds k h y))).0
 
-    aligned : (k : ℕ) → k < totalIn f → isPage f (at s n f ok k) ≡ true → storageOf s w F k % 256 ≡ 0
-    aligned k h y = valid-blocks s w F (st .idle) whole .fits k h y .aligned flat
+    aligned : (k : ℕ) → k < total_in f → is_page f (at s n f ok k) ≡ true → storage_of s w F k % 256 ≡ 0
+    aligned k h y = ((valid-blocks s w F st.idle whole).fits k h y).aligned flat
 
-    module _ (i : ℕ) (hi : i < totalIn f) (gd : isGuarded s w F i ≡ true) (R : RightRegion f (at s n f ok i)) where
+    module _ (i : ℕ) (hi : i < total_in f) (gd : is_guarded s w F i ≡ true) (R : RightRegion f (at s n f ok i)) where
       abbrev a : List ℕ
-      a = pieceAt f (at s n f ok i)
+      a = piece_at f (at s n f ok i)
 
       abbrev g : Region
-      g = regionOf a
+      g = region_of a
 
       -- the conditions of the region, by fields
       record Facts : Type 0 where
-        starts : fieldAt a 484 % 4096 ≡ 0
-        ends : fieldAt a 488 % 4096 ≡ 0
-        window : 0x10000000 ≤ fieldAt a 484
+        starts : field_at a 484 % 4096 ≡ 0
+        ends : field_at a 488 % 4096 ≡ 0
+        window : 0x10000000 ≤ field_at a 484
 
       facts : Facts
-      unfolding regionOf
+      unfolding region_of
       facts =
-          let x = sameKind (kindIn n f) Flash && isData F i && hasFlag a 0x4000 in
-          let c = good-true (L .size) (fieldAt a 12) (regionOf a)
-          (ap (λ (p : Place). goodRegion (sizeOf p) (fieldAt a 12) (regionOf a)) (sym (L .place)) ∙ and-right x (goodRegion (sizeOf (placeOf s (flashOf w) (familyIn f))) (fieldAt a 12) (regionOf a)) gd) in
-          record { starts = c .starts; ends = c .ends; window = c .window }
+          let x = same_kind (kind_in n f) Flash && is_data F i && has_flag a 0x4000 in
+          let c = good_true L.size (field_at a 12) (region_of a)
+          (ap (λ (p : Place). good_region (size_of p) (field_at a 12) (region_of a)) (sym L.place) ∙ and_right x (good_region (size_of (place_of s (flash_of w) (family_in f))) (field_at a 12) (region_of a)) gd) in
+          record { starts = c.starts; ends = c.ends; window = c.window }
 
       -- in the region by its storage address, and by its address
-      in-of : (k : ℕ) → k < totalIn f → isPage f (at s n f ok k) ≡ true → inRegion s w F i (storageOf s w F k) ≡ true → InRegion f (at s n f ok i) (at s n f ok k)
+      in-of : (k : ℕ) → k < total_in f → is_page f (at s n f ok k) ≡ true → in_region s w F i (storage_of s w F k) ≡ true → InRegion f (at s n f ok i) (at s n f ok k)
       in-of k h y e =
-          let lo = regionStart s w F i in
-          let x = storageOf s w F k in
-          let p : lo ≤ x = leb-true _ _ (and-left (leb lo x) (ltb x (lo + regionLength F i)) e) in
-          let q : x < lo + regionLength F i = ltb-true _ _ (and-right (leb lo x) (ltb x (lo + regionLength F i)) e) in
+          let lo = region_start s w F i in
+          let x = storage_of s w F k in
+          let p : lo ≤ x = leb-true _ _ (and_left (leb lo x) (ltb x (lo + region_length F i)) e) in
+          let q : x < lo + region_length F i = ltb-true _ _ (and_right (leb lo x) (ltb x (lo + region_length F i)) e) in
           let u = low k h y in
-          let v = facts .window in
+          let v = facts.window in
           record {
             page = y;
-            from = omega (arith, p, region-is i, storage-is k, u, v);
-            to = omega (arith, q, region-is i, storage-is k, u, v);
+            from = omega (arith, p, region_is i, storage_is k, u, v);
+            to = omega (arith, q, region_is i, storage_is k, u, v);
           }
 
-      same : (k : ℕ) → k < totalIn f → isData F k ≡ true → inRegion s w F i (storageOf s w F k) ≡ true
-          → (hasFlag (F .block k) 0x4000 ≡ true) × (fieldAt (F .block k) 484 ≡ fieldAt (F .block i) 484) × (fieldAt (F .block k) 488 ≡ fieldAt (F .block i) 488)
+      same : (k : ℕ) → k < total_in f → is_data F k ≡ true → in_region s w F i (storage_of s w F k) ≡ true
+          → (has_flag (F.block k) 0x4000 ≡ true) × (field_at (F.block k) 484 ≡ field_at (F.block i) 484) × (field_at (F.block k) 488 ≡ field_at (F.block i) 488)
       same k h y e =
-          let c = R .same (at s n f ok k) (here k h) (in-of k h y e) in
-          (c .flag, c .start, c .len)
+          let c = R.same (at s n f ok k) (here k h) (in-of k h y e) in
+          (c.flag, c.start, c.len)
 
       -- a piece in sector d of the region is a block in sector q of the flash
-      reach : (q d k : ℕ) → k < piecesIn f → InRegion f (at s n f ok i) k → sectorOf f (at s n f ok i) k ≡ d → regionStart s w F i % 4096 ≡ 0
-          → q ≡ d + regionStart s w F i / 4096 → any (totalIn f) (λ k. liesIn s w F k q) ≡ true
+      reach : (q d k : ℕ) → k < pieces_in f → InRegion f (at s n f ok i) k → sector_of f (at s n f ok i) k ≡ d → region_start s w F i % 4096 ≡ 0
+          → q ≡ d + region_start s w F i / 4096 → any (total_in f) (λ k. lies_in s w F k q) ≡ true
       reach q d k h r e m x =
-          let num = fieldIn f k 20 in
-          let back : at s n f ok num ≡ k = at-of s n f ok k h in
-          let z : fieldIn f (at s n f ok num) 12 ≡ fieldIn f k 12 = ap (λ (x : ℕ). fieldIn f x 12) back in
-          let v : storageOf s w F num / 4096 ≡ q = omega (arith, storage-is num, z, region-is i, facts .window, r .from, e, m, x) in
-          any-hit (λ k. liesIn s w F k q) (totalIn f) num (number-below s n f ok w st k h)
-          (both {a = isPage f (at s n f ok num)} {b = eqb q (storageOf s w F num / 4096)} (ap (isPage f) back ∙ r .page) (eq-eqb q (storageOf s w F num / 4096) (sym v)))
+          let num = field_in f k 20 in
+          let back : at s n f ok num ≡ k = at_of s n f ok k h in
+          let z : field_in f (at s n f ok num) 12 ≡ field_in f k 12 = ap (λ (x : ℕ). field_in f x 12) back in
+          let v : storage_of s w F num / 4096 ≡ q = omega (arith, storage_is num, z, region_is i, facts.window, r.from, e, m, x) in
+          any_hit (λ k. lies_in s w F k q) (total_in f) num (number-below s n f ok w st k h)
+          (both {a = is_page f (at s n f ok num)} {b = eqb q (storage_of s w F num / 4096)} (ap (is_page f) back ∙ r.page) (eq-eqb q (storage_of s w F num / 4096) (sym v)))
 
-      every : (q : ℕ) → inRegion s w F i (q * 4096) ≡ true → any (totalIn f) (λ k. liesIn s w F k q) ≡ true
+      every : (q : ℕ) → in_region s w F i (q * 4096) ≡ true → any (total_in f) (λ k. lies_in s w F k q) ≡ true
       every q e =
-          let lo = regionStart s w F i in
-          let len = regionLength F i in
-          let p : lo ≤ q * 4096 = leb-true _ _ (and-left (leb lo (q * 4096)) (ltb (q * 4096) (lo + len)) e) in
-          let r : q * 4096 < lo + len = ltb-true _ _ (and-right (leb lo (q * 4096)) (ltb (q * 4096) (lo + len)) e) in
+          let lo = region_start s w F i in
+          let len = region_length F i in
+          let p : lo ≤ q * 4096 = leb-true _ _ (and_left (leb lo (q * 4096)) (ltb (q * 4096) (lo + len)) e) in
+          let r : q * 4096 < lo + len = ltb-true _ _ (and_right (leb lo (q * 4096)) (ltb (q * 4096) (lo + len)) e) in
           let fa = facts in
           let d : ℕ = q - lo / 4096 in
-          let m : lo % 4096 ≡ 0 = omega (arith, region-is i, L .first, fa .starts, fa .window) in
-          let b : d < fieldAt a 488 / 4096 = omega (arith, p, r, m, fa .ends) in
-          let t = R .every d b in
-          reach q d (t .0) (t .1) (t .2) (t .3) m (omega (arith, p, m))
+          let m : lo % 4096 ≡ 0 = omega (arith, region_is i, L.first, fa.starts, fa.window) in
+          let b : d < field_at a 488 / 4096 = omega (arith, p, r, m, fa.ends) in
+          let t = R.every d b in
+          reach q d t.0 t.1 t.2 t.3 m (omega (arith, p, m))
 
       -- ---- the final bytes
 
-      span : (k : ℕ) → k < totalIn f → isPage f (at s n f ok k) ≡ true → inRegion s w F i (storageOf s w F k) ≡ true
-          → (insideOf g (pieceAt f (at s n f ok k)) ≡ true) × (spot f g (at s n f ok k) ≡ storageOf s w F k - regionStart s w F i) × (storageOf s w F k + 256 ≤ regionStart s w F i + regionLength F i)
-      unfolding regionOf
+      span : (k : ℕ) → k < total_in f → is_page f (at s n f ok k) ≡ true → in_region s w F i (storage_of s w F k) ≡ true
+          → (inside_of g (piece_at f (at s n f ok k)) ≡ true) × (spot f g (at s n f ok k) ≡ storage_of s w F k - region_start s w F i) × (storage_of s w F k + 256 ≤ region_start s w F i + region_length F i)
+      unfolding region_of
       span k h y e =
           let r = in-of k h y e in
           let fa = facts in (
-            inside-yes f (at s n f ok i) (at s n f ok k) r,
-            omega (arith, region-is i, storage-is k, low k h y, fa .window, r .from),
-            omega (arith, region-is i, storage-is k, low k h y, fa .window, fa .starts, fa .ends, L .first, r .from, r .to, aligned k h y),
+            inside_yes f (at s n f ok i) (at s n f ok k) r,
+            omega (arith, region_is i, storage_is k, low k h y, fa.window, r.from),
+            omega (arith, region_is i, storage_is k, low k h y, fa.window, fa.starts, fa.ends, L.first, r.from, r.to, aligned k h y),
           )
 
       -- the block of a piece in the region, and where it stands
-      stands : (m : ℕ) → m < piecesIn f → insideOf g (pieceAt f m) ≡ true
-          → (isPage f m ≡ true) × (fieldAt a 484 ≤ fieldIn f m 12) × (storageOf s w F (fieldIn f m 20) ≡ regionStart s w F i + spot f g m)
-      unfolding regionOf
+      stands : (m : ℕ) → m < pieces_in f → inside_of g (piece_at f m) ≡ true
+          → (is_page f m ≡ true) × (field_at a 484 ≤ field_in f m 12) × (storage_of s w F (field_in f m 20) ≡ region_start s w F i + spot f g m)
+      unfolding region_of
       stands m h y =
-          let r = inside-true f (at s n f ok i) m y in
-          let num = fieldIn f m 20 in
-          let z : fieldIn f (at s n f ok num) 12 ≡ fieldIn f m 12 = ap (λ (x : ℕ). fieldIn f x 12) (at-of s n f ok m h) in
-          (r .page, r .from, omega (arith, storage-is num, z, region-is i, facts .window, r .from))
+          let r = inside_true f (at s n f ok i) m y in
+          let num = field_in f m 20 in
+          let z : field_in f (at s n f ok num) 12 ≡ field_in f m 12 = ap (λ (x : ℕ). field_in f x 12) (at_of s n f ok m h) in
+          (r.page, r.from, omega (arith, storage_is num, z, region_is i, facts.window, r.from))
 
       -- two pieces in the region that hold one byte are one
-      one : (m k j : ℕ) → m < piecesIn f → k < piecesIn f → insideOf g (pieceAt f m) ≡ true → insideOf g (pieceAt f k) ≡ true → spans (spot f g m) j ≡ true → spans (spot f g k) j ≡ true → m ≡ k
-      unfolding regionOf
+      one : (m k j : ℕ) → m < pieces_in f → k < pieces_in f → inside_of g (piece_at f m) ≡ true → inside_of g (piece_at f k) ≡ true → spans (spot f g m) j ≡ true → spans (spot f g k) j ≡ true → m ≡ k
+      unfolding region_of
       one m k j hm hk ym yk pm pk =
           let sm = stands m hm ym in
           let sk = stands k hk yk in
-          let bm = at-of s n f ok m hm in
-          let bk = at-of s n f ok k hk in
-          let x : ℕ = fieldAt a 484 + j in
-          let um = spans-true (spot f g m) j pm in
-          let uk = spans-true (spot f g k) j pk in
-          let zm : fieldIn f (at s n f ok (fieldIn f m 20)) 12 ≡ fieldIn f m 12 = ap (λ (x : ℕ). fieldIn f x 12) bm in
-          let zk : fieldIn f (at s n f ok (fieldIn f k 20)) 12 ≡ fieldIn f k 12 = ap (λ (x : ℕ). fieldIn f x 12) bk in
-          let e = whole .disjoint (fieldIn f m 20) (fieldIn f k 20) x (number-below s n f ok w st m hm) (number-below s n f ok w st k hk)
-          (ap (isPage f) bm ∙ sm .0) (ap (isPage f) bk ∙ sk .0)
-          (spans-is _ x (omega (arith, zm, um, sm .1)) (omega (arith, zm, um, sm .1)))
-          (spans-is _ x (omega (arith, zk, uk, sk .1)) (omega (arith, zk, uk, sk .1))) in
+          let bm = at_of s n f ok m hm in
+          let bk = at_of s n f ok k hk in
+          let x : ℕ = field_at a 484 + j in
+          let um = spans_true (spot f g m) j pm in
+          let uk = spans_true (spot f g k) j pk in
+          let zm : field_in f (at s n f ok (field_in f m 20)) 12 ≡ field_in f m 12 = ap (λ (x : ℕ). field_in f x 12) bm in
+          let zk : field_in f (at s n f ok (field_in f k 20)) 12 ≡ field_in f k 12 = ap (λ (x : ℕ). field_in f x 12) bk in
+          let e = whole.disjoint (field_in f m 20) (field_in f k 20) x (number-below s n f ok w st m hm) (number-below s n f ok w st k hk)
+          (ap (is_page f) bm ∙ sm.0) (ap (is_page f) bk ∙ sk.0)
+          (spans_is _ x (omega (arith, zm, um, sm.1)) (omega (arith, zm, um, sm.1)))
+          (spans_is _ x (omega (arith, zk, uk, sk.1)) (omega (arith, zk, uk, sk.1))) in
           sym bm ∙ ap (at s n f ok) e ∙ bk
 
-      final-is : (c : List ℕ) → Final s w F i c → c ≡ finalOf f g
-      final-is c C = ext-getD 0 c (finalOf f g) (C .whole ∙ sym (length-final f g ∙ length-is f (at s n f ok i))) byte
+      final_is : (c : List ℕ) → Final s w F i c → c ≡ final_of f g
+      final_is c C = ext_get_or 0 c (final_of f g) (C.whole ∙ sym (length_final f g ∙ length_is f (at s n f ok i))) byte
         where
           lo : ℕ
-          lo = regionStart s w F i
+          lo = region_start s w F i
 
           -- no piece holds a byte that no block holds
-          free : (j : ℕ) → any (totalIn f) (λ k. holds s w F k (lo + j)) ≡ false → (k : ℕ) → k < piecesIn f → insideOf g (pieceAt f k) ≡ true → spans (spot f g k) j ≡ false
+          free : (j : ℕ) → any (total_in f) (λ k. holds s w F k (lo + j)) ≡ false → (k : ℕ) → k < pieces_in f → inside_of g (piece_at f k) ≡ true → spans (spot f g k) j ≡ false
           free j z k h y =
-              is-false _
+              is_false _
               (λ p.
               let t = stands k h y in
-              let num = fieldIn f k 20 in
-              let u = spans-true (spot f g k) j p in
+              let num = field_in f k 20 in
+              let u = spans_true (spot f g k) j p in
               clash (holds s w F num (lo + j))
-              (both {a = isPage f (at s n f ok num)} {b = spans (storageOf s w F num) (lo + j)} (ap (isPage f) (at-of s n f ok k h) ∙ t .0)
-              (spans-is (storageOf s w F num) (lo + j) (omega (arith, u, t .2)) (omega (arith, u, t .2))))
-              (any-all (λ k. holds s w F k (lo + j)) (totalIn f) z num (number-below s n f ok w st k h)))
+              (both {a = is_page f (at s n f ok num)} {b = spans (storage_of s w F num) (lo + j)} (ap (is_page f) (at_of s n f ok k h) ∙ t.0)
+              (spans_is (storage_of s w F num) (lo + j) (omega (arith, u, t.2)) (omega (arith, u, t.2))))
+              (any_all (λ k. holds s w F k (lo + j)) (total_in f) z num (number-below s n f ok w st k h)))
 
           -- a byte that block k holds
-          owned : (j : ℕ) → j < regionLength F i → (k : ℕ) → k < totalIn f → holds s w F k (lo + j) ≡ true → getD c j 0 ≡ getD (finalOf f g) j 0
+          owned : (j : ℕ) → j < region_length F i → (k : ℕ) → k < total_in f → holds s w F k (lo + j) ≡ true → get_or c j 0 ≡ get_or (final_of f g) j 0
           owned j m k h e =
-              let y = and-left (isPage f (at s n f ok k)) (spans (storageOf s w F k) (lo + j)) e in
-              let x = storageOf s w F k in
-              let u = spans-true x (lo + j) (and-right (isPage f (at s n f ok k)) (spans x (lo + j)) e) in
+              let y = and_left (is_page f (at s n f ok k)) (spans (storage_of s w F k) (lo + j)) e in
+              let x = storage_of s w F k in
+              let u = spans_true x (lo + j) (and_right (is_page f (at s n f ok k)) (spans x (lo + j)) e) in
               let fa = facts in
-              let v : lo % 4096 ≡ 0 = omega (arith, region-is i, L .first, fa .starts, fa .window) in
+              let v : lo % 4096 ≡ 0 = omega (arith, region_is i, L.first, fa.starts, fa.window) in
               let al = aligned k h y in
               let p : lo ≤ x = omega (arith, u, v, al) in
-              let q : x < lo + regionLength F i = omega (arith, u, m) in
-              let b = both {a = leb lo x} {b = ltb x (lo + regionLength F i)} (le-leb lo x p) (lt-ltb x (lo + regionLength F i) q) in
+              let q : x < lo + region_length F i = omega (arith, u, m) in
+              let b = both {a = leb lo x} {b = ltb x (lo + region_length F i)} (le-leb lo x p) (lt-ltb x (lo + region_length F i) q) in
               let r = span k h y b in
               let d : ℕ = lo + j - x in
               let dj : x - lo + d ≡ j = omega (arith, u, p) in
-              let ds : j - spot f g (at s n f ok k) ≡ d = omega (arith, r .1, u, p) in
-              let near : spans (spot f g (at s n f ok k)) j ≡ true = spans-is _ j (omega (arith, r .1, u, p)) (omega (arith, r .1, u, p)) in
-              ap (λ (x : ℕ). getD c x 0) (sym dj)
-              ∙ C .payloads k h y b d (omega (arith, u))
-              ∙ ap (λ (x : ℕ). getD (payloadOf (pieceAt f (at s n f ok k))) x 0) (sym ds)
+              let ds : j - spot f g (at s n f ok k) ≡ d = omega (arith, r.1, u, p) in
+              let near : spans (spot f g (at s n f ok k)) j ≡ true = spans_is _ j (omega (arith, r.1, u, p)) (omega (arith, r.1, u, p)) in
+              ap (λ (x : ℕ). get_or c x 0) (sym dj)
+              ∙ C.payloads k h y b d (omega (arith, u))
+              ∙ ap (λ (x : ℕ). get_or (payload_of (piece_at f (at s n f ok k))) x 0) (sym ds)
               ∙ sym
-              (final-owned f g (at s n f ok k) j (here k h) (r .0) near (length-payload (pieceAt f (at s n f ok k)) (omega (arith, piece-size f (at s n f ok k) (here k h))))
-              (omega (arith, r .1, r .2, p, length-is f (at s n f ok i)))
-              (λ o ho ne yo. is-false _ (λ po. ne (one o (at s n f ok k) j ho (here k h) yo (r .0) po near))))
+              (final_owned f g (at s n f ok k) j (here k h) r.0 near (length_payload (piece_at f (at s n f ok k)) (omega (arith, piece_size f (at s n f ok k) (here k h))))
+              (omega (arith, r.1, r.2, p, length_is f (at s n f ok i)))
+              (λ o ho ne yo. is_false _ (λ po. ne (one o (at s n f ok k) j ho (here k h) yo r.0 po near))))
 
-          byte : (j : ℕ) → j < length c → getD c j 0 ≡ getD (finalOf f g) j 0
+          byte : (j : ℕ) → j < length c → get_or c j 0 ≡ get_or (final_of f g) j 0
           byte j l =
-              let m : j < regionLength F i = omega (arith, l, C .whole) in
-              split (any (totalIn f) (λ k. holds s w F k (lo + j)))
-              (λ y. let q = any-found (λ k. holds s w F k (lo + j)) (totalIn f) y in owned j m (q .0) (q .1) (q .2))
-              (λ z. C .erased j m z ∙ sym (final-free f g j (omega (arith, m, length-is f (at s n f ok i))) (free j z)))
+              let m : j < region_length F i = omega (arith, l, C.whole) in
+              split (any (total_in f) (λ k. holds s w F k (lo + j)))
+              (λ y. let q = any_found (λ k. holds s w F k (lo + j)) (total_in f) y in owned j m q.0 q.1 q.2)
+              (λ z. C.erased j m z ∙ sym (final_free f g j (omega (arith, m, length_is f (at s n f ok i))) (free j z)))
 
-      right : (c : List ℕ) → Final s w F i c → md5Of c ≡ digestIn a
-      right c C = ap md5Of (final-is c C) ∙ R .digest
+      right : (c : List ℕ) → Final s w F i c → md5_of c ≡ digest_in a
+      right c C = ap md5_of (final_is c C) ∙ R.digest
 
 -- ---- the claims
 
-module _ (s : Settings) (n : Lengths) (f : List ℕ) (e : answerOn s n f ≡ Right) where
-  told : Told s n 16384 16384 2080 (n .flash) f Right
+module _ (s : Settings) (n : Lengths) (f : List ℕ) (e : answer_on s n f ≡ Right) where
+  told : Told s n 16384 16384 2080 n.flash f Right
   told =
-      let k : Told s n 16384 16384 2080 (n .flash) f (answerOn s n f) = unfold Regions-answers-are-true in regions-answers-are-true s n 16384 16384 2080 (n .flash) f in
-      subst (Told s n 16384 16384 2080 (n .flash) f) e k
+      let k : Told s n 16384 16384 2080 n.flash f (answer_on s n f) = unfold RegionsAnswersAreTrue in regions_answers_are_true s n 16384 16384 2080 n.flash f in
+      subst (Told s n 16384 16384 2080 n.flash f) e k
 
   ok : Sound s n f
-  ok = sound s n f (guarded-sound (answerTo s n f) (told .0))
+  ok = sound s n f (guarded_sound (answer_to s n f) told.0)
 
-  regions : (w : World) → Start n w → Regions s w (fileOf n f)
+  regions : (w : World) → Start n w → Regions s w (file_of n f)
   regions w st =
       record {
         same = λ i k hi hk gd y r. same s n f ok w st (flat i gd) i hi gd (right-at i hi gd) k hk y r;
@@ -279,44 +279,44 @@ module _ (s : Settings) (n : Lengths) (f : List ℕ) (e : answerOn s n f ≡ Rig
         right = λ i hi gd c C. right s n f ok w st (flat i gd) i hi gd (right-at i hi gd) c C;
       }
     where
-      kind-at : (i : ℕ) → isGuarded s w (fileOf n f) i ≡ true → sameKind (kindIn n f) Flash ≡ true
-      kind-at i gd =
-          let x = pieceAt f (at s n f ok i) in
-          let u = sameKind (kindIn n f) Flash in
-          let v = isData (fileOf n f) i in
-          let t = hasFlag x 0x4000 in
-          and-left u v (and-left (u && v) t (and-left (u && v && t) (goodRegion (sizeOf (placeOf s (flashOf w) (familyIn f))) (fieldAt x 12) (regionOf x)) gd))
+      kind_at : (i : ℕ) → is_guarded s w (file_of n f) i ≡ true → same_kind (kind_in n f) Flash ≡ true
+      kind_at i gd =
+          let x = piece_at f (at s n f ok i) in
+          let u = same_kind (kind_in n f) Flash in
+          let v = is_data (file_of n f) i in
+          let t = has_flag x 0x4000 in
+          and_left u v (and_left (u && v) t (and_left (u && v && t) (good_region (size_of (place_of s (flash_of w) (family_in f))) (field_at x 12) (region_of x)) gd))
 
-      flat : (i : ℕ) → isGuarded s w (fileOf n f) i ≡ true → kindIn n f ≡ Flash
-      flat i gd = kind-same _ _ (kind-at i gd)
+      flat : (i : ℕ) → is_guarded s w (file_of n f) i ≡ true → kind_in n f ≡ Flash
+      flat i gd = kind_same _ _ (kind_at i gd)
 
-      right-at : (i : ℕ) → i < totalIn f → isGuarded s w (fileOf n f) i ≡ true → RightRegion f (at s n f ok i)
+      right-at : (i : ℕ) → i < total_in f → is_guarded s w (file_of n f) i ≡ true → RightRegion f (at s n f ok i)
       right-at i hi gd =
-          let x = pieceAt f (at s n f ok i) in
-          let place = L s n f ok w st (flat i gd) .place in
-          let len : length (w .held .flash) ≡ n .flash = ap (λ (x : Lengths). x .flash) (st .lengths) in
-          let b : Bool = sameKind (kindIn n f) Flash && isData (fileOf n f) i && hasFlag x 0x4000 in
-          told .1 (at s n f ok i) (here s n f ok w st i hi)
-          (ap (λ (m : ℕ). b && guardsIn (placeOf s m (familyIn f)) x) (sym len)
-          ∙ (λ t. b && guardsIn (place t) x)
-          ∙ sym (λ t. b && goodRegion (sizeOf (place t)) (fieldAt x 12) (regionOf x))
+          let x = piece_at f (at s n f ok i) in
+          let place = (L s n f ok w st (flat i gd)).place in
+          let len : length w.held.flash ≡ n.flash = ap (λ (x : Lengths). x.flash) st.lengths in
+          let b : Bool = same_kind (kind_in n f) Flash && is_data (file_of n f) i && has_flag x 0x4000 in
+          told.1 (at s n f ok i) (here s n f ok w st i hi)
+          (ap (λ (m : ℕ). b && guards_in (place_of s m (family_in f)) x) (sym len)
+          ∙ (λ t. b && guards_in (place t) x)
+          ∙ sym (λ t. b && good_region (size_of (place t)) (field_at x 12) (region_of x))
           ∙ gd)
 
-pub right-is-right : Right-is-right
-unfolding Right-is-right
-right-is-right s n f e =
-    (record { pieces = pieces s n f (ok s n f e) (empty n) (empty-start n); valid = λ w st. valid s n f (ok s n f e) w st }, λ w st. regions s n f e w st)
+pub right_is_right : RightIsRight
+unfolding RightIsRight
+right_is_right s n f e =
+    (record { pieces = pieces s n f (ok s n f e) (empty n) (empty_start n); valid = λ w st. valid s n f (ok s n f e) w st }, λ w st. regions s n f e w st)
 
-ends-of : (s : Settings) (w : World) (F : File) → w .transfer ≡ Idle → ValidFile s w F → Regions s w F → (l : List (List ℕ)) → Complete s w F l
-    → Contents s w F (seenOf F l) (receiveAll s w l)
-ends-of s w F idle ok R l C = unfold Regions-end in regions-end s w F idle ok R l C
+ends_of : (s : Settings) (w : World) (F : File) → w.transfer ≡ Idle → ValidFile s w F → Regions s w F → (l : List (List ℕ)) → Complete s w F l
+    → Contents s w F (seen_of F l) (receive_all s w l)
+ends_of s w F idle ok R l C = unfold RegionsEnd in regions_end s w F idle ok R l C
 
-pub right-arrives : Right-arrives
-unfolding Right-arrives
-right-arrives s w f l idle seen sectors e sent each met =
-    let n = lengthsOf (w .held) in
+pub right_arrives : RightArrives
+unfolding RightArrives
+right_arrives s w f l idle seen sectors e sent each met =
+    let n = lengths_of w.held in
     let st : Start n w = record { idle = idle; lengths = refl; seen = seen; sectors = sectors } in
     let o = ok s n f e in
-    let all : (k : ℕ) → k < totalIn f → seenOf (fileOf n f) l k ≡ true = λ k h. both (lt-ltb k (totalIn f) h) (each (at s n f o k) (found-at s n f o w st k h .0)) in
-    let C : Complete s w (fileOf n f) l = record { sent = sent; met = met; whole = size-all (totalIn f) (seenOf (fileOf n f) l) all } in
-    ends-of s w (fileOf n f) idle (valid s n f o w st) (regions s n f e w st) l C
+    let all : (k : ℕ) → k < total_in f → seen_of (file_of n f) l k ≡ true = λ k h. both (lt-ltb k (total_in f) h) (each (at s n f o k) (found_at s n f o w st k h).0) in
+    let C : Complete s w (file_of n f) l = record { sent = sent; met = met; whole = size_all (total_in f) (seen_of (file_of n f) l) all } in
+    ends_of s w (file_of n f) idle (valid s n f o w st) (regions s n f e w st) l C

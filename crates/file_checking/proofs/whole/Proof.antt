@@ -1,29 +1,29 @@
 -- `checking::whole` meets its contract. Assumes nothing.
-use Rattle·file_checking·proofs.proofs.Files.{number-missing, numbers-whole}
-use borrow.Author.Needs.{needs}
-use Rattle·file_checking·proofs.proofs.whole.Statement.{statement}
-use Rattle·file_checking·proofs.proofs.whole.Tie as tie
+use Rattle.file_checking.proofs.Files.{number_missing, numbers_whole}
+use borrow.Author.Rules.{rules}
+use Rattle.file_checking.proofs.whole.Statement.{statement}
+use Rattle.file_checking.proofs.whole.Tie as tie
 
-cast-if1 : tie.Need-cast-if1
-cast-if1 c = search needs
+cast-if1 : tie.Need-overflow-cast-if1
+cast-if1 c = search rules
 
 first-missing-requires : tie.Need-first-missing-requires
-first-missing-requires c κs = search needs
+first-missing-requires c κs = search rules
 
-cast-t15 : tie.Need-cast-t15
-cast-t15 c = search needs
+cast-t15 : tie.Need-overflow-cast-t15
+cast-t15 c = search rules
 
 returns : tie.Need-returns
-returns c = number-missing _ _ _ _ (c .before .before .before .before .pre .0) (c .before .before .before .before .pre .1) (c .before .if1 .taken) (c .first-missing .ensures)
+returns c = number_missing _ _ _ _ c.before.before.before.before.requires.0 c.before.before.before.before.requires.1 c.before.if1.true c.first-missing.ensures
 
 rooms-for-requires : tie.Need-rooms-for-requires
-rooms-for-requires c κs = search needs
+rooms-for-requires c κs = search rules
 
 guarded-requires : tie.Need-guarded-requires
-guarded-requires c κs = search needs
+guarded-requires c κs = search rules
 
 returns-2 : tie.Need-returns-2
-returns-2 c = numbers-whole _ _ _ _ (c .before .before .before .before .before .pre .0) (c .before .before .before .before .before .pre .1) (c .before .before .if1 .left) (c .before .rooms-for .ensures .0) (c .guarded .ensures)
+returns-2 c = numbers_whole _ _ _ _ c.before.before.before.before.before.requires.0 c.before.before.before.before.before.requires.1 c.before.before.if1.false c.before.rooms-for.ensures.0 c.guarded.ensures
 
 pub whole-spec : {M : Type 1} → statement M
 whole-spec =

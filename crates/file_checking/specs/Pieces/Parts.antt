@@ -1,27 +1,22 @@
 -- One piece of a file, as the code asks: by the maps of the pieces before it. Assumes nothing.
-use Prim.Native.Nat.{ℕ, _+_, _-_, _/_, _%_}
-use mathlib.Core.Path.{_≡_}
-use mathlib.Core.Bool.{Bool, true, false, cond, not, _&&_}
-use mathlib.Core.List.{List}
-use lib.Dec.{eqb}
-use lib.ListN.{length, set}
-use Rattle·laws.specs.Sets.{Set, any, least}
-use Rattle·memory.specs.Bitmap.{markedIn, withMark, mapOf}
-use Rattle·memory.specs.Cells.{touchesIn, Kept}
-use Rattle·partitions.specs.declared.Settings.{Settings}
-use Rattle·transfer.specs.Transfer.{sameKind, headWith}
-use Rattle·transfer.specs.declared.Head.{Head}
-use Rattle·uf2_checks.specs.Screen.{baseOf, roomsOf, roomIn}
-use Rattle·uf2_checks.specs.declared.Lengths.{Lengths}
-use Rattle·uf2_checks.specs.declared.Body.{Body}
-use Rattle·uf2_checks.specs.declared.Body.the-variants.{Page, Note}
-use Rattle·uf2_checks.specs.declared.PlacedBlock.{PlacedBlock}
-use Rattle·uf2_checks.specs.declared.Screening.{Screening}
-use Rattle·uf2_checks.specs.declared.Screening.the-variants as screening
-use Rattle·arrival.specs.File.{startOf}
-use Rattle·file_check.specs.declared.Checked.{Checked}
-use Rattle·file_check.specs.declared.Checked.the-variants.{Refused, OtherFamily, OtherTotal, OtherKind, SameNumber, Overlap, Valid}
-use Rattle·file_check.specs.Check.{fieldIn, isPage, totalIn, familyIn, kindIn, numbersBelow, sameNumber, overlaps, isValid}
+use Rattle.std.specs.Prelude.{ℕ, ◌+◌, ◌-◌, ◌/◌, ◌%◌, ◌≡◌, Bool, true, false, cond, not, ◌&&◌, List, eqb, length, set}
+use Rattle.laws.specs.Sets.{Set, any, least}
+use Rattle.memory.specs.Bitmap.{marked_in, with_mark, map_of}
+use Rattle.memory.specs.Cells.{touches_in, Kept}
+use Rattle.partitions.specs.declared.Settings.{Settings}
+use Rattle.transfer.specs.Transfer.{same_kind, head_with}
+use Rattle.transfer.specs.declared.Head.{Head}
+use Rattle.uf2_checks.specs.Screen.{base_of, rooms_of, room_in}
+use Rattle.uf2_checks.specs.declared.Lengths.{Lengths}
+use Rattle.uf2_checks.specs.declared.Body.{Body}
+use Rattle.uf2_checks.specs.declared.Body.TheVariants.{Page, Note}
+use Rattle.uf2_checks.specs.declared.PlacedBlock.{PlacedBlock}
+use Rattle.uf2_checks.specs.declared.Screening.{Screening}
+use Rattle.uf2_checks.specs.declared.Screening.TheVariants as screening
+use Rattle.arrival.specs.File.{start_of}
+use Rattle.file_check.specs.declared.Checked.{Checked}
+use Rattle.file_check.specs.declared.Checked.TheVariants.{Refused, OtherFamily, OtherTotal, OtherKind, SameNumber, Overlap, Valid}
+use Rattle.file_check.specs.Check.{field_in, is_page, total_in, family_in, kind_in, numbers_below, same_number, overlaps, is_valid}
 
 -- the lent maps: the numbers that came, and where payloads start
 pub record Maps : Type 0 where
@@ -33,64 +28,64 @@ abbrev pub maps : List ℕ → List ℕ → List ℕ → Maps
 maps a b c = record { numbers = a; cells = b; offsets = c }
 
 -- what the first piece says
-abbrev pub fileHead : Lengths → List ℕ → Head
-fileHead n f = headWith (kindIn n f) (familyIn f) (totalIn f)
+abbrev pub file_head : Lengths → List ℕ → Head
+file_head n f = head_with (kind_in n f) (family_in f) (total_in f)
 
 -- a payload has a byte in common with one that the maps hold
-abbrev pub touchingIn : Body → List ℕ → List ℕ → Bool
-touchingIn (Page at) c d = touchesIn c d at
-touchingIn Note c d = false
+abbrev pub touching_in : Body → List ℕ → List ℕ → Bool
+touching_in (Page at) c d = touches_in c d at
+touching_in Note c d = false
 
 abbrev pub touching : Body → Maps → Bool
-touching b m = touchingIn b (m .cells) (m .offsets)
+touching b m = touching_in b m.cells m.offsets
 
 -- the maps with a block
-abbrev pub cellsWith : Body → List ℕ → List ℕ
-cellsWith (Page at) c = withMark c (at / 256)
-cellsWith Note c = c
+abbrev pub cells_with : Body → List ℕ → List ℕ
+cells_with (Page at) c = with_mark c (at / 256)
+cells_with Note c = c
 
-abbrev pub offsetsWith : Body → List ℕ → List ℕ
-offsetsWith (Page at) d = set d (at / 256) (at % 256)
-offsetsWith Note d = d
+abbrev pub offsets_with : Body → List ℕ → List ℕ
+offsets_with (Page at) d = set d (at / 256) (at % 256)
+offsets_with Note d = d
 
 abbrev pub entered : Body → ℕ → Maps → Maps
-entered b k m = maps (withMark (m .numbers) k) (cellsWith b (m .cells)) (offsetsWith b (m .offsets))
+entered b k m = maps (with_mark m.numbers k) (cells_with b m.cells) (offsets_with b m.offsets)
 
 -- what is wrong with a block that passes, by the maps
-unfoldable pub besideBy : Head → PlacedBlock → List ℕ → ℕ → Maps → Checked
-besideBy h p f i m =
-    cond (not (eqb (p .head .family) (h .family))) (OtherFamily i)
-    (cond (not (eqb (p .head .total) (h .total))) (OtherTotal i)
-    (cond (not (sameKind (p .head .kind) (h .kind))) (OtherKind i)
-    (cond (markedIn (m .numbers) (p .number)) (SameNumber i (least i (sameNumber f i)))
-    (cond (touching (p .body) m) (Overlap i (least i (overlaps f i)))
+unfoldable pub beside_by : Head → PlacedBlock → List ℕ → ℕ → Maps → Checked
+beside_by h p f i m =
+    cond (not (eqb p.head.family h.family)) (OtherFamily i)
+    (cond (not (eqb p.head.total h.total)) (OtherTotal i)
+    (cond (not (same_kind p.head.kind h.kind)) (OtherKind i)
+    (cond (marked_in m.numbers p.number) (SameNumber i (least i (same_number f i)))
+    (cond (touching p.body m) (Overlap i (least i (overlaps f i)))
     Valid))))
 
 -- the maps after it: with the block where nothing is wrong
-unfoldable pub mapsBy : Head → PlacedBlock → List ℕ → ℕ → Maps → Maps
-mapsBy h p f i m = cond (isValid (besideBy h p f i m)) (entered (p .body) (p .number) m) m
+unfoldable pub maps_by : Head → PlacedBlock → List ℕ → ℕ → Maps → Maps
+maps_by h p f i m = cond (is_valid (beside_by h p f i m)) (entered p.body p.number m) m
 
 -- by what it is screened to, and the maps then
-abbrev pub screenedBy : Head → List ℕ → ℕ → Maps → Screening → Checked
-screenedBy h f i m (screening.Refused x) = Refused i x
-screenedBy h f i m (screening.Passed p) = besideBy h p f i m
+abbrev pub screened_by : Head → List ℕ → ℕ → Maps → Screening → Checked
+screened_by h f i m (screening.Refused x) = Refused i x
+screened_by h f i m (screening.Passed p) = beside_by h p f i m
 
-abbrev pub mapsThen : Head → List ℕ → ℕ → Maps → Screening → Maps
-mapsThen h f i m (screening.Refused x) = m
-mapsThen h f i m (screening.Passed p) = mapsBy h p f i m
+abbrev pub maps_then : Head → List ℕ → ℕ → Maps → Screening → Maps
+maps_then h f i m (screening.Refused x) = m
+maps_then h f i m (screening.Passed p) = maps_by h p f i m
 
 -- ---- what the maps hold after the pieces below i
 
 -- where piece j is stored
-abbrev pub startIn : Settings → Lengths → List ℕ → ℕ → ℕ
-startIn s n f j = startOf (roomIn (roomsOf s (n .flash) (familyIn f)) (kindIn n f)) + (fieldIn f j 12 - baseOf (kindIn n f))
+abbrev pub start_in : Settings → Lengths → List ℕ → ℕ → ℕ
+start_in s n f j = start_of (room_in (rooms_of s n.flash (family_in f)) (kind_in n f)) + (field_in f j 12 - base_of (kind_in n f))
 
 -- where their payloads start
-abbrev pub startsBelow : Settings → Lengths → List ℕ → ℕ → Set
-startsBelow s n f i x = any i (λ j. isPage f j && eqb (startIn s n f j) x)
+abbrev pub starts_below : Settings → Lengths → List ℕ → ℕ → Set
+starts_below s n f i x = any i (λ j. is_page f j && eqb (start_in s n f j) x)
 
 pub record Holds (s : Settings) (n : Lengths) (f : List ℕ) (i : ℕ) (m : Maps) : Type 0 where
-  pub numbers : m .numbers ≡ mapOf 16384 (numbersBelow f i)
-  pub kept : Kept (startsBelow s n f i) (m .cells) (m .offsets)
-  pub cells-length : length (m .cells) ≡ 16384
-  pub offsets-length : length (m .offsets) ≡ 2080
+  pub numbers : m.numbers ≡ map_of 16384 (numbers_below f i)
+  pub kept : Kept (starts_below s n f i) m.cells m.offsets
+  pub cells_length : length m.cells ≡ 16384
+  pub offsets_length : length m.offsets ≡ 2080

@@ -1,47 +1,47 @@
 -- `hexlines::add` meets its contract. Assumes nothing.
 use native.Mathlib.Omega.{arith}
-use Rattle·text.proofs.hex_answer.Laws.{hex-answer-short}
-use borrow.Author.Needs.{needs}
-use Rattle·hexlines·proofs.proofs.add.Statement.{statement}
-use Rattle·hexlines·proofs.proofs.add.Tie as tie
+use Rattle.text.proofs.hex_answer.Laws.{hex_answer_short}
+use borrow.Author.Rules.{rules}
+use Rattle.hexlines.proofs.add.Statement.{statement}
+use Rattle.hexlines.proofs.add.Tie as tie
 
 hex-answer-line-requires : tie.Need-hex-answer-line-requires
-hex-answer-line-requires c κs = search needs
+hex-answer-line-requires c κs = search rules
 
 room-requires : tie.Need-room-requires
 room-requires c κs =
-    let x = c .before .before .before .before in
-    omega (arith, c .before .hex-answer-line .ensures .0, hex-answer-short (x .args .index) (x .args .answer), x .pre)
+    let x = c.before.before.before.before in
+    omega (arith, c.before.hex-answer-line.ensures.0, hex_answer_short x.args.index x.args.answer, x.requires)
 
-add-e : tie.Need-add-e
-add-e c = search needs
+add-e : tie.Need-overflow-add-e
+add-e c = search rules
 
 array-share-prefix-text : tie.Need-array-share-prefix-text
-array-share-prefix-text c = search needs
+array-share-prefix-text c = search rules
 
 slice-aggregate-copy : tie.Need-slice-aggregate-copy
-slice-aggregate-copy c = search needs
+slice-aggregate-copy c = search rules
 
-sub-copy : tie.Need-sub-copy
-sub-copy c = search needs
+sub-copy : tie.Need-overflow-sub-copy
+sub-copy c = search rules
 
-part-copy-start : tie.Need-part-copy-start
-part-copy-start c = search needs
+part-copy-start : tie.Need-slice-bounds-copy-start
+part-copy-start c = search rules
 
-part-copy-end : tie.Need-part-copy-end
-part-copy-end c = search needs
+part-copy-end : tie.Need-slice-bounds-copy-end
+part-copy-end c = search rules
 
 copy-requires : tie.Need-copy-requires
-copy-requires c κs = search needs
+copy-requires c κs = search rules
 
-same-length : tie.Need-same-length
-same-length c = search needs
+same_length : tie.Need-same-length
+same_length c = search rules
 
 returns : tie.Need-returns
-returns c = search needs
+returns c = search rules
 
-pub add-spec : {M : Type 1} → statement M
-add-spec =
+pub add_spec : {M : Type 1} → statement M
+add_spec =
     tie.close
     (tie.spec
     hex-answer-line-requires
@@ -53,5 +53,5 @@ add-spec =
     part-copy-start
     part-copy-end
     copy-requires
-    same-length
+    same_length
     returns)

@@ -1,64 +1,58 @@
 -- What rows 23 to 25 decide, of bytes that begin with those that a line says. Assumes nothing.
-use mathlib.Core.Path.{_≡_, sym, ap, _∙_}
-use mathlib.Core.List.{List}
-use Prim.Native.Nat.{ℕ, _+_, _*_, _/_, _%_, _<_, _≤_}
-use native.Mathlib.Omega.{arith}
-use lib.Dec.{ltb, eqb}
-use lib.ListN.{take}
-use lib.Seq.{getD-take}
-use borrow.Author.Tests.{ltb-true, ltb-false, eqb-true, eqb-false}
-use Rattle·laws.proofs.Tests.{split}
-use Rattle·ihex_record·specs.specs.declared.ParseResult.the-variants.{TooLong, BadLength, BadSum}
-use Rattle·ihex_record·specs.specs.Record.{lenOf, total, good, refused, lineOfBytes}
-use Rattle·ihex_record·proofs.proofs.Checks.{is-too-long, is-bad-length, is-bad-sum, is-good}
-use Rattle·ihex_record·specs.specs.Bytes.{lineIn}
+use Rattle.std.proofs.Common.{◌≡◌, ℕ, ◌+◌, ◌*◌, ◌/◌, ◌%◌, ◌<◌, ◌≤◌, eqb, ltb, List, take, sym, ap, ◌∙◌, arith, get_or-take, ltb-false, ltb-true, eqb-true}
+use borrow.Author.Tests.{eqb-false}
+use Rattle.laws.proofs.Tests.{split}
+use Rattle.ihex_record.specs.declared.ParseResult.TheVariants.{TooLong, BadLength, BadSum}
+use Rattle.ihex_record.specs.Record.{len_of, total, good, refused, line_of_bytes}
+use Rattle.ihex_record.proofs.Checks.{is_too_long, is_bad_length, is_bad_sum, is_good_lem}
+use Rattle.ihex_record.specs.Bytes.{line_in}
 
 module _ (n : ℕ) (b : List ℕ) where
   -- the bytes that the length field speaks of
   abbrev all : List ℕ
-  all = take (lenOf b + 5) b
+  all = take (len_of b + 5) b
 
-  len-first : (k : ℕ) → 0 < k → lenOf (take k b) ≡ lenOf b
-  len-first k h = getD-take k b 0 0 h
+  len_first : (k : ℕ) → 0 < k → len_of (take k b) ≡ len_of b
+  len_first k h = get_or-take k b 0 0 h
 
-  len-all : lenOf all ≡ lenOf b
-  len-all = len-first (lenOf b + 5) (omega arith)
+  len_all : len_of all ≡ len_of b
+  len_all = len_first (len_of b + 5) (omega arith)
 
-  pub in-too-long : 32 < lenOf b → refused TooLong ≡ lineIn n b
-  unfolding lineIn
-  in-too-long h = is-too-long n all (rw len-all h)
+  pub in_too_long : 32 < len_of b → refused TooLong ≡ line_in n b
+  unfolding line_in
+  in_too_long h = is_too_long n all (rw len_all h)
 
-  module _ (fits : lenOf b ≤ 32) where
-    pub in-bad-length : (n ≡ 11 + 2 * lenOf b → ⊥) → refused BadLength ≡ lineIn n b
-    unfolding lineIn
-    in-bad-length h = is-bad-length n all (rw len-all fits) (rw len-all h)
+  module _ (fits : len_of b ≤ 32) where
+    pub in_bad_length : (n ≡ 11 + 2 * len_of b → ⊥) → refused BadLength ≡ line_in n b
+    unfolding line_in
+    in_bad_length h = is_bad_length n all (rw len_all fits) (rw len_all h)
 
-    module _ (long : n ≡ 11 + 2 * lenOf b) where
-      pub in-bad-sum : (total all % 256 ≡ 0 → ⊥) → refused BadSum ≡ lineIn n b
-      unfolding lineIn
-      in-bad-sum h = is-bad-sum n all (rw len-all fits) (rw len-all long) h
+    module _ (long : n ≡ 11 + 2 * len_of b) where
+      pub in_bad_sum : (total all % 256 ≡ 0 → ⊥) → refused BadSum ≡ line_in n b
+      unfolding line_in
+      in_bad_sum h = is_bad_sum n all (rw len_all fits) (rw len_all long) h
 
-      pub in-good : total all % 256 ≡ 0 → good all ≡ lineIn n b
-      unfolding lineIn
-      in-good h = is-good n all (rw len-all fits) (rw len-all long) h
+      pub in_good : total all % 256 ≡ 0 → good all ≡ line_in n b
+      unfolding line_in
+      in_good h = is_good_lem n all (rw len_all fits) (rw len_all long) h
 
   -- the bytes that n characters say
-  pub in-bytes : 10 < n → lineIn n b ≡ lineOfBytes n (take (n / 2) b)
-  unfolding lineIn
-  in-bytes m =
+  pub in_bytes : 10 < n → line_in n b ≡ line_of_bytes n (take (n / 2) b)
+  unfolding line_in
+  in_bytes m =
       let w = take (n / 2) b in
-      let f : lenOf w ≡ lenOf b = len-first (n / 2) (omega arith) in
-      split (ltb 32 (lenOf b))
+      let f : len_of w ≡ len_of b = len_first (n / 2) (omega arith) in
+      split (ltb 32 (len_of b))
       (λ y.
-      let h : 32 < lenOf b = ltb-true 32 (lenOf b) y in
-      sym (in-too-long h) ∙ is-too-long n w (rw f h))
+      let h : 32 < len_of b = ltb-true 32 (len_of b) y in
+      sym (in_too_long h) ∙ is_too_long n w (rw f h))
       (λ y.
-      let h : lenOf b ≤ 32 = ltb-false 32 (lenOf b) y in
-      split (eqb n (11 + 2 * lenOf b))
+      let h : len_of b ≤ 32 = ltb-false 32 (len_of b) y in
+      split (eqb n (11 + 2 * len_of b))
       (λ z.
-      let q : n ≡ 11 + 2 * lenOf b = eqb-true _ _ z in
-      let k : lenOf b + 5 ≡ n / 2 = omega arith in
-      ap (λ (j : ℕ). lineOfBytes n (take j b)) k)
+      let q : n ≡ 11 + 2 * len_of b = eqb-true _ _ z in
+      let k : len_of b + 5 ≡ n / 2 = omega arith in
+      ap (λ (j : ℕ). line_of_bytes n (take j b)) k)
       (λ z.
-      let q : n ≡ 11 + 2 * lenOf b → ⊥ = eqb-false _ _ z in
-      sym (in-bad-length h q) ∙ is-bad-length n w (rw f h) (rw f q)))
+      let q : n ≡ 11 + 2 * len_of b → ⊥ = eqb-false _ _ z in
+      sym (in_bad_length h q) ∙ is_bad_length n w (rw f h) (rw f q)))

@@ -1,30 +1,30 @@
 -- `lookapi::uf2_look` meets its contract. Assumes nothing.
-use Rattle·laws.proofs.Numbered.{answer-is}
-use Rattle·call_bytes.proofs.Laws.{look-ran}
-use borrow.Author.Needs.{needs}
-use Rattle·lookapi·proofs.proofs.uf2_look.Statement.{statement}
-use Rattle·lookapi·proofs.proofs.uf2_look.Tie as tie
+use Rattle.laws.proofs.Numbered.{answer_is}
+use Rattle.call_bytes.proofs.Laws.{look_ran}
+use borrow.Author.Rules.{rules}
+use Rattle.lookapi.proofs.uf2_look.Statement.{statement}
+use Rattle.lookapi.proofs.uf2_look.Tie as tie
 
 read-settings-requires : tie.Need-read-settings-requires
-read-settings-requires c κs = search needs
+read-settings-requires c κs = search rules
 
 read-transfer-requires : tie.Need-read-transfer-requires
-read-transfer-requires c κs = search needs
+read-transfer-requires c κs = search rules
 
 look-requires : tie.Need-look-requires
-look-requires c κs = search needs
+look-requires c κs = search rules
 
 result-requires : tie.Need-result-requires
-result-requires c κs = search needs
+result-requires c κs = search rules
 
-cast-result : tie.Need-cast-result
-cast-result c = search needs
+cast-result : tie.Need-overflow-cast-result
+cast-result c = search rules
 
 returns : tie.Need-returns
 returns c =
-    let l = c .before in
-    let t = l .before in
-    look-ran _ _ _ _ (t .before .read-settings .ensures) (t .read-transfer .ensures) (answer-is (l .look .ensures)) (c .result .ensures)
+    let l = c.before in
+    let t = l.before in
+    look_ran _ _ _ _ t.before.read-settings.ensures t.read-transfer.ensures (answer_is l.look.ensures) c.result.ensures
 
 pub uf2-look-spec : {M : Type 1} → statement M
 uf2-look-spec =

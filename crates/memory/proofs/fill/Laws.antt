@@ -1,13 +1,13 @@
 -- The laws of `many`. Assumes nothing.
-use mathlib.Core.Path.{_≡_}
-use Prim.Native.Nat.{ℕ, _<_}
-use lib.ListN.{length, getD, length-replicate, getD-replicate}
-use Rattle·memory·specs.specs.Many.{many}
+use mathlib.Core.Path.{◌≡◌}
+use Prim.Native.Nat.{ℕ, ◌<◌}
+use lib.ListN.{length, get_or, length-replicate, get_or-replicate}
+use Rattle.memory.specs.Many.{many}
 
-pub length-many : (n v : ℕ) → length (many n v) ≡ n
+pub length_many : (n v : ℕ) → length (many n v) ≡ n
 unfolding many
-length-many n v = length-replicate n v
+length_many n v = length-replicate n v
 
-pub getD-many : (n v i : ℕ) → i < n → getD (many n v) i 0 ≡ v
+pub get_d_many : (n v i : ℕ) → i < n → get_or (many n v) i 0 ≡ v
 unfolding many
-getD-many n v i l = getD-replicate n i v 0 l
+get_d_many n v i l = get_or-replicate n i v 0 l

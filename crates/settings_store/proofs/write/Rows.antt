@@ -1,65 +1,65 @@
 -- What is written: the head's two bytes, and the rows after it. Assumes nothing.
-use Prim.Native.Nat.{ℕ, _+_, _-_, _*_, _/_, _%_, _≤_}
-use mathlib.Core.Path.{_≡_, refl, sym, ap, _∙_}
-use mathlib.Core.List.{List, [], _∷_, _++_}
+use Prim.Native.Nat.{ℕ, ◌+◌, ◌-◌, ◌*◌, ◌/◌, ◌%◌, ◌≤◌}
+use mathlib.Core.Path.{◌≡◌, refl, sym, ap, ◌∙◌}
+use mathlib.Core.List.{List, [], ◌∷◌}
 use native.Mathlib.Omega.{arith}
-use lib.ListN.{length, take, drop, set, take-append-drop}
-use borrow.Rule.Slice.PartMut.{putMid}
-use Rattle·laws.specs.Over.{over}
-use Rattle·laws.specs.Rows.{rows}
-use Rattle·laws.proofs.OverLaws.{length-over, set-over, over-next, copied-over}
-use Rattle·laws.proofs.RowsLaws.{rows-none, rows-more, length-rows}
-use Rattle·partitions.specs.declared.Entry.{Entry}
-use Rattle·partitions.specs.declared.Settings.{Settings}
-use Rattle·partitions.specs.Settings.{entryAt}
-use Rattle·laws.specs.Packing.{total, packed, unpacked, octets, bytesOf}
-use Rattle·store_entry.specs.EntryBits.{packedEntry}
-use Rattle·settings_store·specs.specs.Written.{headWidths, headFields, rowAt, storeOf}
+use lib.ListN.{length, set, take-append-drop}
+use borrow.Rule.Slice.PartMut.{put_mid}
+use Rattle.laws.specs.Over.{over}
+use Rattle.laws.specs.Rows.{rows}
+use Rattle.laws.proofs.OverLaws.{length_over, set_over, over_next, part_over}
+use Rattle.laws.proofs.RowsLaws.{rows_none, rows_more, length_rows}
+use Rattle.partitions.specs.declared.Entry.{Entry}
+use Rattle.partitions.specs.declared.Settings.{Settings}
+use Rattle.partitions.specs.Settings.{entry_at}
+use Rattle.laws.specs.Packing.{total, packed, unpacked, octets, bytes_of}
+use Rattle.store_entry.specs.EntryBits.{packed_entry}
+use Rattle.settings_store.specs.Written.{head_widths, head_fields, row_at, store_of}
 
 -- ---- the rows
 
-pub length-row : (t : List Entry) (k : ℕ) → length (rowAt t k) ≡ 22
-unfolding rowAt packedEntry bytesOf unpacked octets
-length-row t k = refl
+pub length_row : (t : List Entry) (k : ℕ) → length (row_at t k) ≡ 22
+unfolding row_at packed_entry bytes_of unpacked octets
+length_row t k = refl
 
-row-is : (t : List Entry) (k : ℕ) {e : Entry} {r : List ℕ} → e ≡ entryAt t k → r ≡ packedEntry e → r ≡ rowAt t k
-unfolding rowAt
-row-is t k {e} {r} h q = q ∙ ap packedEntry h
+row_is : (t : List Entry) (k : ℕ) {e : Entry} {r : List ℕ} → e ≡ entry_at t k → r ≡ packed_entry e → r ≡ row_at t k
+unfolding row_at
+row_is t k {e} {r} h q = q ∙ ap packed_entry h
 
-pub rows-first : (out : List ℕ) (t : List Entry) → 2 ≤ length out → out ≡ over out 2 (rows (rowAt t) 0)
+pub rows_first : (out : List ℕ) (t : List Entry) → 2 ≤ length out → out ≡ over out 2 (rows (row_at t) 0)
 unfolding over
-rows-first out t h = rw (rows-none (rowAt t)) (sym (take-append-drop 2 out))
+rows_first out t h = rw (rows_none (row_at t)) (sym (take-append-drop 2 out))
 
 module _ (out₀ : List ℕ) (t : List Entry) where
-  pub rows-long : (out : List ℕ) (k : ℕ) → 2 + 22 * k ≤ length out₀ → out ≡ over out₀ 2 (rows (rowAt t) k) → length out ≡ length out₀
-  rows-long out k room s =
-      let fits : 2 + length (rows (rowAt t) k) ≤ length out₀ = omega (arith, length-rows 22 k (rowAt t) (λ j l. length-row t j) k (omega arith)) in
-      ap length s ∙ length-over out₀ 2 (rows (rowAt t) k) fits
+  pub rows_long : (out : List ℕ) (k : ℕ) → 2 + 22 * k ≤ length out₀ → out ≡ over out₀ 2 (rows (row_at t) k) → length out ≡ length out₀
+  rows_long out k room s =
+      let fits : 2 + length (rows (row_at t) k) ≤ length out₀ = omega (arith, length_rows 22 k (row_at t) (λ j l. length_row t j) k (omega arith)) in
+      ap length s ∙ length_over out₀ 2 (rows (row_at t) k) fits
 
   -- one row more, copied into the part that was lent
-  pub rows-next : (out ys r : List ℕ) (k : ℕ) {e : Entry} → 2 + 22 * (k + 1) ≤ length out₀ → out ≡ over out₀ 2 (rows (rowAt t) k)
-      → e ≡ entryAt t k → r ≡ packedEntry e
-      → ys ≡ take (length r) r ++ drop (length r) (take (2 + 22 * k + 22 - (2 + 22 * k)) (drop (2 + 22 * k) out))
-      → putMid (2 + 22 * k) (2 + 22 * k + 22 - (2 + 22 * k)) out ys ≡ over out₀ 2 (rows (rowAt t) (k + 1))
-  rows-next out ys r k {e} room s he hr hy =
-      let y : r ≡ rowAt t k = row-is t k he hr in
-      let long : length r ≡ 22 = ap length y ∙ length-row t k in
-      let same = rows-long out k (omega arith) s in
-      let at : 2 + length (rows (rowAt t) k) ≡ 2 + 22 * k = omega (arith, length-rows 22 k (rowAt t) (λ j l. length-row t j) k (omega arith)) in
-      copied-over (2 + 22 * k) 22 out r ys long (omega arith) hy
-      ∙ rw (y, s, rows-more (rowAt t) k) (over-next out₀ 2 (rows (rowAt t) k) (2 + 22 * k) (rowAt t k) at (omega (arith, length-row t k)))
+  pub rows_next : (out ys r : List ℕ) (k : ℕ) {e : Entry} → 2 + 22 * (k + 1) ≤ length out₀ → out ≡ over out₀ 2 (rows (row_at t) k)
+      → e ≡ entry_at t k → r ≡ packed_entry e
+      → ys ≡ r
+      → put_mid (2 + 22 * k) (2 + 22 * k + 22 - (2 + 22 * k)) out ys ≡ over out₀ 2 (rows (row_at t) (k + 1))
+  rows_next out ys r k {e} room s he hr hy =
+      let y : r ≡ row_at t k = row_is t k he hr in
+      let long : length r ≡ 22 = ap length y ∙ length_row t k in
+      let same = rows_long out k (omega arith) s in
+      let at : 2 + length (rows (row_at t) k) ≡ 2 + 22 * k = omega (arith, length_rows 22 k (row_at t) (λ j l. length_row t j) k (omega arith)) in
+      part_over (2 + 22 * k) 22 out r ys long (omega arith) hy
+      ∙ rw (y, s, rows_more (row_at t) k) (over_next out₀ 2 (rows (row_at t) k) (2 + 22 * k) (row_at t k) at (omega (arith, length_row t k)))
 
 -- ---- the head
 
-pub head-put : (s : Settings) (out : List ℕ) (x : ℕ) → 2 + 22 * s .count ≤ length out → x ≡ packed headWidths (headFields s)
-    → over (set (set out 0 (x / 256 % 256)) 1 (x / 1 % 256)) 2 (rows (rowAt (s .table)) (s .count)) ≡ over out 0 (storeOf s)
-unfolding storeOf bytesOf unpacked octets total
-head-put s out x room e =
-    let r = rows (rowAt (s .table)) (s .count) in
+pub head_put : (s : Settings) (out : List ℕ) (x : ℕ) → 2 + 22 * s.count ≤ length out → x ≡ packed head_widths (head_fields s)
+    → over (set (set out 0 (x / 256 % 256)) 1 (x / 1 % 256)) 2 (rows (row_at s.table) s.count) ≡ over out 0 (store_of s)
+unfolding store_of bytes_of unpacked octets total
+head_put s out x room e =
+    let r = rows (row_at s.table) s.count in
     let a = x / 256 % 256 in
     let b = x / 1 % 256 in
-    let long : length r ≡ 22 * s .count = length-rows 22 (s .count) (rowAt (s .table)) (λ j l. length-row (s .table) j) (s .count) (omega arith) in
-    let one : set out 0 a ≡ over out 0 (a ∷ []) = set-over out 0 a (omega arith) in
-    let same = length-over out 0 (a ∷ []) (omega arith) in
-    let two : set (over out 0 (a ∷ [])) 1 b ≡ over out 0 (a ∷ b ∷ []) = set-over (over out 0 (a ∷ [])) 1 b (omega arith) ∙ over-next out 0 (a ∷ []) 1 (b ∷ []) refl (omega arith) in
-    rw (one, two, ← e) (over-next out 0 (a ∷ b ∷ []) 2 r refl (omega arith))
+    let long : length r ≡ 22 * s.count = length_rows 22 s.count (row_at s.table) (λ j l. length_row s.table j) s.count (omega arith) in
+    let one : set out 0 a ≡ over out 0 (a ∷ []) = set_over out 0 a (omega arith) in
+    let same = length_over out 0 (a ∷ []) (omega arith) in
+    let two : set (over out 0 (a ∷ [])) 1 b ≡ over out 0 (a ∷ b ∷ []) = set_over (over out 0 (a ∷ [])) 1 b (omega arith) ∙ over_next out 0 (a ∷ []) 1 (b ∷ []) refl (omega arith) in
+    rw (one, two, ← e) (over_next out 0 (a ∷ b ∷ []) 2 r refl (omega arith))

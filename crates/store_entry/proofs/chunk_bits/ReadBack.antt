@@ -1,50 +1,50 @@
 -- Reading 22 bytes as six large fields. Assumes nothing.
-use mathlib.Core.Path.{_≡_, refl, sym, ap, _∙_}
-use mathlib.Core.Logic.{_≢_}
-use mathlib.Core.List.{List, [], _∷_}
-use Prim.Native.Nat.{ℕ, zero, suc, _+_, _*_, _/_, _%_, _^_, _<_}
-use native.Mathlib.Nat.{mod-eq-of-lt}
+use mathlib.Core.Path.{◌≡◌, refl, sym, ap, ◌∙◌}
+use mathlib.Core.Logic.{◌≢◌}
+use mathlib.Core.List.{List, [], ◌∷◌}
+use Prim.Native.Nat.{ℕ, zero, suc, ◌+◌, ◌*◌, ◌/◌, ◌%◌, ◌^◌, ◌<◌}
+use native.Mathlib.Nat.{mod-eq_of_lt}
 use native.Mathlib.Omega.{arith}
-use lib.ListN.{length, getD}
-use borrow.Author.Tests.{eq-eqb, ne-eqb}
-use Rattle·laws.specs.Packing.{total, packed, octets, Fit, none, one}
-use Rattle·laws.proofs.Widths.{fields-are, packed-lt}
-use Rattle·laws.proofs.Groups.{Coarse, done, group, solo, pair, coarse-packed}
-use Rattle·store_entry·specs.specs.declared.chunk_bits.Chunks.{Chunks}
-use Rattle·store_entry·specs.specs.Chunks.{Joined, chunkWidths, chunkBytes, chunksOf, chunksIn, regrouped}
-use Rattle·store_entry·proofs.proofs.chunk_bits.Groups.{fine, grouped, computes}
+use lib.ListN.{length, get_or}
+use borrow.Author.Tests.{eq-eqb, ne_eqb}
+use Rattle.laws.specs.Packing.{total, octets, Fit, none, one}
+use Rattle.laws.proofs.Widths.{fields_are, packed_lt}
+use Rattle.laws.proofs.Groups.{Coarse, done, group, solo, pair, coarse_packed}
+use Rattle.store_entry.specs.declared.chunk_bits.Chunks.{Chunks}
+use Rattle.store_entry.specs.Chunks.{Joined, chunk_widths, chunk_bytes, chunks_of, chunks_in, regrouped}
+use Rattle.store_entry.proofs.chunk_bits.Groups.{fine, grouped, computes}
 
 -- ---- bytes one by one
 
 -- the elements of a list from k on, n of them
 unfoldable pub row : ℕ → ℕ → List ℕ → List ℕ
 row zero k b = []
-row (suc n) k b = getD b k 0 ∷ row n (suc k) b
+row (suc n) k b = get_or b k 0 ∷ row n (suc k) b
 
-row-tail : (n k x : ℕ) (b : List ℕ) → row n (suc k) (x ∷ b) ≡ row n k b
+row_tail : (n k x : ℕ) (b : List ℕ) → row n (suc k) (x ∷ b) ≡ row n k b
 unfolding row
-row-tail zero k x b = refl
-row-tail (suc n) k x b = rw (row-tail n (suc k) x b)
+row_tail zero k x b = refl
+row_tail (suc n) k x b = rw (row_tail n (suc k) x b)
 
-row-whole : (b : List ℕ) → row (length b) 0 b ≡ b
+row_whole : (b : List ℕ) → row (length b) 0 b ≡ b
 unfolding row
-row-whole [] = refl
-row-whole (x ∷ b) = rw (row-tail (length b) 0 x b, row-whole b)
+row_whole [] = refl
+row_whole (x ∷ b) = rw (row_tail (length b) 0 x b, row_whole b)
 
-pub row-all : (n : ℕ) (b : List ℕ) → length b ≡ n → row n 0 b ≡ b
-row-all n b e = ap (λ (m : ℕ). row m 0 b) (sym e) ∙ row-whole b
+pub row_all : (n : ℕ) (b : List ℕ) → length b ≡ n → row n 0 b ≡ b
+row_all n b e = ap (λ (m : ℕ). row m 0 b) (sym e) ∙ row_whole b
 
 -- ---- six fields
 
 abbrev pub list : Chunks → List ℕ
-list c = c .h ∷ c .u ∷ c .v ∷ c .w ∷ c .x ∷ c .tail ∷ []
+list c = c.h ∷ c.u ∷ c.v ∷ c.w ∷ c.x ∷ c.tail ∷ []
 
 module _ (a b c d e f : ℕ) (pa : a < 2 ^ 40) (pb : b < 2 ^ 32) (pc : c < 2 ^ 32) (pd : d < 2 ^ 32) (pe : e < 2 ^ 32) (pf : f < 256) where
   abbrev parts : List ℕ
   parts = a ∷ b / 1073741824 ∷ b % 1073741824 ∷ c / 1073741824 ∷ c % 1073741824 ∷ d / 1073741824 ∷ d % 1073741824 ∷ e / 1073741824 ∷ e % 1073741824 ∷ f / 64 ∷ f % 64 ∷ []
 
-  as-groups : Coarse fine parts grouped (a ∷ b ∷ c ∷ d ∷ e ∷ f ∷ [])
-  as-groups =
+  as_groups : Coarse fine parts grouped (a ∷ b ∷ c ∷ d ∷ e ∷ f ∷ [])
+  as_groups =
       solo 40 a pa
       (pair 2 30 (b / 1073741824) (b % 1073741824) b (omega arith) (omega arith) (omega arith)
       (pair 2 30 (c / 1073741824) (c % 1073741824) c (omega arith) (omega arith) (omega arith)
@@ -52,8 +52,8 @@ module _ (a b c d e f : ℕ) (pa : a < 2 ^ 40) (pb : b < 2 ^ 32) (pc : c < 2 ^ 3
       (pair 2 30 (e / 1073741824) (e % 1073741824) e (omega arith) (omega arith) (omega arith)
       (pair 2 6 (f / 64) (f % 64) f (omega arith) (omega arith) (omega arith) done)))))
 
-  as-chunks : Coarse fine parts chunkWidths (list (regrouped a b c d e f))
-  as-chunks =
+  as_chunks : Coarse fine parts chunk_widths (list (regrouped a b c d e f))
+  as_chunks =
       pair 40 2 a (b / 1073741824) (a * 4 + b / 1073741824) pa (omega arith) refl
       (pair 30 2 (b % 1073741824) (c / 1073741824) (b % 1073741824 * 4 + c / 1073741824) (omega arith) (omega arith) refl
       (pair 30 2 (c % 1073741824) (d / 1073741824) (c % 1073741824 * 4 + d / 1073741824) (omega arith) (omega arith) refl
@@ -61,34 +61,34 @@ module _ (a b c d e f : ℕ) (pa : a < 2 ^ 40) (pb : b < 2 ^ 32) (pc : c < 2 ^ 3
       (pair 30 2 (e % 1073741824) (f / 64) (e % 1073741824 * 4 + f / 64) (omega arith) (omega arith) refl
       (solo 6 (f % 64) (omega arith) done)))))
 
-  chunks-fit : Fit chunkWidths (list (regrouped a b c d e f))
-  chunks-fit = one {w = 42} {v = a * 4 + b / 1073741824} (omega arith) (one {w = 32} {v = b % 1073741824 * 4 + c / 1073741824} (omega arith) (one {w = 32} {v = c % 1073741824 * 4 + d / 1073741824} (omega arith) (one {w = 32} {v = d % 1073741824 * 4 + e / 1073741824} (omega arith) (one {w = 32} {v = e % 1073741824 * 4 + f / 64} (omega arith) (one {w = 6} {v = f % 64} (omega arith) none)))))
+  chunks_fit : Fit chunk_widths (list (regrouped a b c d e f))
+  chunks_fit = one {w = 42} {v = a * 4 + b / 1073741824} (omega arith) (one {w = 32} {v = b % 1073741824 * 4 + c / 1073741824} (omega arith) (one {w = 32} {v = c % 1073741824 * 4 + d / 1073741824} (omega arith) (one {w = 32} {v = d % 1073741824 * 4 + e / 1073741824} (omega arith) (one {w = 32} {v = e % 1073741824 * 4 + f / 64} (omega arith) (one {w = 6} {v = f % 64} (omega arith) none)))))
 
-  pub read-chunks : (p0 p1 p2 p3 p4 p5 p6 p7 p8 p9 p10 p11 p12 p13 p14 p15 p16 p17 p18 p19 p20 : ℕ) → Joined 5 (p0 ∷ p1 ∷ p2 ∷ p3 ∷ p4 ∷ []) a → Joined 4 (p5 ∷ p6 ∷ p7 ∷ p8 ∷ []) b → Joined 4 (p9 ∷ p10 ∷ p11 ∷ p12 ∷ []) c → Joined 4 (p13 ∷ p14 ∷ p15 ∷ p16 ∷ []) d → Joined 4 (p17 ∷ p18 ∷ p19 ∷ p20 ∷ []) e
-      → regrouped a b c d e f ≡ chunksOf (p0 ∷ p1 ∷ p2 ∷ p3 ∷ p4 ∷ p5 ∷ p6 ∷ p7 ∷ p8 ∷ p9 ∷ p10 ∷ p11 ∷ p12 ∷ p13 ∷ p14 ∷ p15 ∷ p16 ∷ p17 ∷ p18 ∷ p19 ∷ p20 ∷ f ∷ [])
-  unfolding chunksOf octets total
-  read-chunks p0 p1 p2 p3 p4 p5 p6 p7 p8 p9 p10 p11 p12 p13 p14 p15 p16 p17 p18 p19 p20 ja jb jc jd je =
-      let bytes : Coarse (octets 22) (p0 ∷ p1 ∷ p2 ∷ p3 ∷ p4 ∷ p5 ∷ p6 ∷ p7 ∷ p8 ∷ p9 ∷ p10 ∷ p11 ∷ p12 ∷ p13 ∷ p14 ∷ p15 ∷ p16 ∷ p17 ∷ p18 ∷ p19 ∷ p20 ∷ f ∷ []) grouped (a ∷ b ∷ c ∷ d ∷ e ∷ f ∷ []) = group (ja .fit) refl (ja .number) (group (jb .fit) refl (jb .number) (group (jc .fit) refl (jc .number) (group (jd .fit) refl (jd .number) (group (je .fit) refl (je .number) (solo 8 f pf done))))) in
-      rw (← fields-are chunkWidths 22 computes (p0 ∷ p1 ∷ p2 ∷ p3 ∷ p4 ∷ p5 ∷ p6 ∷ p7 ∷ p8 ∷ p9 ∷ p10 ∷ p11 ∷ p12 ∷ p13 ∷ p14 ∷ p15 ∷ p16 ∷ p17 ∷ p18 ∷ p19 ∷ p20 ∷ f ∷ []) chunks-fit (sym (coarse-packed as-chunks) ∙ (coarse-packed as-groups ∙ sym (coarse-packed bytes)))) refl
+  pub read_chunks : (p0 p1 p2 p3 p4 p5 p6 p7 p8 p9 p10 p11 p12 p13 p14 p15 p16 p17 p18 p19 p20 : ℕ) → Joined 5 (p0 ∷ p1 ∷ p2 ∷ p3 ∷ p4 ∷ []) a → Joined 4 (p5 ∷ p6 ∷ p7 ∷ p8 ∷ []) b → Joined 4 (p9 ∷ p10 ∷ p11 ∷ p12 ∷ []) c → Joined 4 (p13 ∷ p14 ∷ p15 ∷ p16 ∷ []) d → Joined 4 (p17 ∷ p18 ∷ p19 ∷ p20 ∷ []) e
+      → regrouped a b c d e f ≡ chunks_of (p0 ∷ p1 ∷ p2 ∷ p3 ∷ p4 ∷ p5 ∷ p6 ∷ p7 ∷ p8 ∷ p9 ∷ p10 ∷ p11 ∷ p12 ∷ p13 ∷ p14 ∷ p15 ∷ p16 ∷ p17 ∷ p18 ∷ p19 ∷ p20 ∷ f ∷ [])
+  unfolding chunks_of octets total
+  read_chunks p0 p1 p2 p3 p4 p5 p6 p7 p8 p9 p10 p11 p12 p13 p14 p15 p16 p17 p18 p19 p20 ja jb jc jd je =
+      let bytes : Coarse (octets 22) (p0 ∷ p1 ∷ p2 ∷ p3 ∷ p4 ∷ p5 ∷ p6 ∷ p7 ∷ p8 ∷ p9 ∷ p10 ∷ p11 ∷ p12 ∷ p13 ∷ p14 ∷ p15 ∷ p16 ∷ p17 ∷ p18 ∷ p19 ∷ p20 ∷ f ∷ []) grouped (a ∷ b ∷ c ∷ d ∷ e ∷ f ∷ []) = group ja.fit refl ja.number (group jb.fit refl jb.number (group jc.fit refl jc.number (group jd.fit refl jd.number (group je.fit refl je.number (solo 8 f pf done))))) in
+      rw (← fields_are chunk_widths 22 computes (p0 ∷ p1 ∷ p2 ∷ p3 ∷ p4 ∷ p5 ∷ p6 ∷ p7 ∷ p8 ∷ p9 ∷ p10 ∷ p11 ∷ p12 ∷ p13 ∷ p14 ∷ p15 ∷ p16 ∷ p17 ∷ p18 ∷ p19 ∷ p20 ∷ f ∷ []) chunks_fit (sym (coarse_packed as_chunks) ∙ (coarse_packed as_groups ∙ sym (coarse_packed bytes)))) refl
 
-pub joined-4 : {bs : List ℕ} {x : ℕ} → Joined 4 bs x → x < 2 ^ 32
+pub joined_4 : {bs : List ℕ} {x : ℕ} → Joined 4 bs x → x < 2 ^ 32
 unfolding total octets
-joined-4 j = rw (← j .number) (packed-lt (j .fit))
+joined_4 j = rw (← j.number) (packed_lt j.fit)
 
-pub joined-5 : {bs : List ℕ} {x : ℕ} → Joined 5 bs x → x < 2 ^ 40
+pub joined_5 : {bs : List ℕ} {x : ℕ} → Joined 5 bs x → x < 2 ^ 40
 unfolding total octets
-joined-5 j = rw (← j .number) (packed-lt (j .fit))
+joined_5 j = rw (← j.number) (packed_lt j.fit)
 
 -- ---- every byte string, and every number
 
-pub read-whole : (b : List ℕ) → length b ≡ 22 → chunksIn b ≡ chunksOf b
-unfolding chunksIn
-read-whole b e = rw (eq-eqb (length b) 22 e) refl
+pub read_whole : (b : List ℕ) → length b ≡ 22 → chunks_in b ≡ chunks_of b
+unfolding chunks_in
+read_whole b e = rw (eq-eqb (length b) 22 e) refl
 
-pub read-other : (b : List ℕ) → length b ≢ 22 → record { h = 0; u = 0; v = 0; w = 0; x = 0; tail = 0 } ≡ chunksIn b
-unfolding chunksIn
-read-other b n = rw (ne-eqb (length b) 22 n) refl
+pub read_other : (b : List ℕ) → length b ≢ 22 → record { h = 0; u = 0; v = 0; w = 0; x = 0; tail = 0 } ≡ chunks_in b
+unfolding chunks_in
+read_other b n = rw (ne_eqb (length b) 22 n) refl
 
 -- numbers that fit their fields are kept whole
-pub kept-whole : (h u v w x t : ℕ) → h < 4398046511104 → t < 64 → chunkBytes (h % 4398046511104) u v w x (t % 64) ≡ chunkBytes h u v w x t
-kept-whole h u v w x t p q = rw (mod-eq-of-lt p, mod-eq-of-lt q) refl
+pub kept_whole : (h u v w x t : ℕ) → h < 4398046511104 → t < 64 → chunk_bytes (h % 4398046511104) u v w x (t % 64) ≡ chunk_bytes h u v w x t
+kept_whole h u v w x t p q = rw (mod-eq_of_lt p, mod-eq_of_lt q) refl

@@ -1,58 +1,58 @@
 -- The position of a bad digit, and how long the lines of answers are. Assumes nothing.
-use mathlib.Core.Path.{_≡_, refl, sym, _∙_}
-use mathlib.Core.List.{List, [], _++_}
-use Prim.Native.Nat.{ℕ, _+_, _≤_}
+use mathlib.Core.Path.{◌≡◌, refl, sym, ◌∙◌}
+use mathlib.Core.List.{List, [], ◌++◌}
+use Prim.Native.Nat.{ℕ, ◌+◌, ◌≤◌}
 use native.Mathlib.Omega.{arith}
 use lib.Dec.{eqb}
 use lib.ListN.{length, length-append, take-append-drop}
-use borrow.Author.Tests.{eq-eqb, ne-eqb}
-use Rattle·laws.specs.Over.{over}
-use Rattle·laws.proofs.Tests.{split}
-use Rattle·laws.proofs.OverLaws.{over-next, length-over}
-use Rattle·uhex_grammar.specs.Answers.{numberOf, positionOf}
-use Rattle·uhex_grammar.specs.declared.Answer.{Answer}
-use Rattle·text·specs.specs.Ascii.{ascii}
-use Rattle·text·specs.specs.Parts.{endOf, putPart, decimalOf}
-use Rattle·text·proofs.proofs.Laws.{put-fits, decimal-short}
-use Rattle·text·specs.specs.HexAnswer.{positionText, hexAnswerLine, failedText}
+use borrow.Author.Tests.{eq-eqb, ne_eqb}
+use Rattle.laws.specs.Over.{over}
+use Rattle.laws.proofs.Tests.{split}
+use Rattle.laws.proofs.OverLaws.{over_next, length_over}
+use Rattle.uhex_grammar.specs.Answers.{number_of, position_of}
+use Rattle.uhex_grammar.specs.declared.Answer.{Answer}
+use Rattle.text.specs.Ascii.{ascii}
+use Rattle.text.specs.Parts.{end_of, put_part, decimal_of}
+use Rattle.text.proofs.Laws.{put_fits, decimal_short}
+use Rattle.text.specs.HexAnswer.{position_text, hex_answer_line, failed_text}
 
-over-none : (xs : List ℕ) (at : ℕ) → xs ≡ over xs at []
+over_none : (xs : List ℕ) (at : ℕ) → xs ≡ over xs at []
 unfolding over
-over-none xs at = let e : at + 0 ≡ at = omega arith in rw e (sym (take-append-drop at xs))
+over_none xs at = let e : at + 0 ≡ at = omega arith in rw e (sym (take-append-drop at xs))
 
-pub position-none : (xs : List ℕ) (at p : ℕ) → p ≡ 0 → (at ≡ at + length (positionText p)) × (xs ≡ over xs at (positionText p))
-unfolding positionText
-position-none xs at p e = rw (eq-eqb p 0 e) (omega arith, over-none xs at)
+pub position_none : (xs : List ℕ) (at p : ℕ) → p ≡ 0 → (at ≡ at + length (position_text p)) × (xs ≡ over xs at (position_text p))
+unfolding position_text
+position_none xs at p e = rw (eq-eqb p 0 e) (omega arith, over_none xs at)
 
-pub position-some : (xs : List ℕ) (at p : ℕ) {ys zs : List ℕ} {b e : ℕ} → (p ≡ 0 → ⊥) → at + 30 ≤ length xs
-    → (b ≡ endOf xs at (ascii " position ")) × (ys ≡ putPart xs at (ascii " position ")) → (e ≡ endOf ys b (decimalOf p)) × (zs ≡ putPart ys b (decimalOf p))
-    → (e ≡ at + length (positionText p)) × (zs ≡ over xs at (positionText p))
-unfolding positionText
-position-some xs at p {ys} {zs} {b} {e} n h x' y' =
-    let x = put-fits xs at (ascii " position ") (omega arith) x' in
-    let s : length ys ≡ length xs = rw (x .1) (length-over xs at (ascii " position ") (omega arith)) in
-    let y = put-fits ys b (decimalOf p) (omega (arith, x .0, s, decimal-short p)) y' in
-    rw (ne-eqb p 0 n) (
-      y .0 ∙ rw (x .0) (simp length-append (omega arith)),
-      y .1 ∙ rw (x .1, x .0) (over-next xs at (ascii " position ") (at + 10) (decimalOf p) refl (omega (arith, decimal-short p))),
+pub position_some : (xs : List ℕ) (at p : ℕ) {ys zs : List ℕ} {b e : ℕ} → (p ≡ 0 → ⊥) → at + 30 ≤ length xs
+    → (b ≡ end_of xs at (ascii " position ")) × (ys ≡ put_part xs at (ascii " position ")) → (e ≡ end_of ys b (decimal_of p)) × (zs ≡ put_part ys b (decimal_of p))
+    → (e ≡ at + length (position_text p)) × (zs ≡ over xs at (position_text p))
+unfolding position_text
+position_some xs at p {ys} {zs} {b} {e} n h x' y' =
+    let x = put_fits xs at (ascii " position ") (omega arith) x' in
+    let s : length ys ≡ length xs = rw x.1 (length_over xs at (ascii " position ") (omega arith)) in
+    let y = put_fits ys b (decimal_of p) (omega (arith, x.0, s, decimal_short p)) y' in
+    rw (ne_eqb p 0 n) (
+      y.0 ∙ rw x.0 (simp length-append (omega arith)),
+      y.1 ∙ rw (x.1, x.0) (over_next xs at (ascii " position ") (at + 10) (decimal_of p) refl (omega (arith, decimal_short p))),
     )
 
-pub position-short : (p : ℕ) → length (positionText p) ≤ 30
-unfolding positionText
-position-short p =
-    split (eqb p 0) (λ y. rw y (omega arith)) (λ n. rw n (simp length-append (omega (arith, decimal-short p))))
+pub position_short : (p : ℕ) → length (position_text p) ≤ 30
+unfolding position_text
+position_short p =
+    split (eqb p 0) (λ y. rw y (omega arith)) (λ n. rw n (simp length-append (omega (arith, decimal_short p))))
 
-pub hex-answer-short : (index : ℕ) (a : Answer) → length (hexAnswerLine index a) ≤ 72
-unfolding hexAnswerLine
-hex-answer-short index a =
-    simp length-append (omega (arith, decimal-short index, decimal-short (numberOf a), position-short (positionOf a)))
+pub hex_answer_short : (index : ℕ) (a : Answer) → length (hex_answer_line index a) ≤ 72
+unfolding hex_answer_line
+hex_answer_short index a =
+    simp length-append (omega (arith, decimal_short index, decimal_short (number_of a), position_short (position_of a)))
 
-pub start-short : (n : ℕ) → length (ascii "state failed " ++ decimalOf n) ≤ 33
-start-short n = simp length-append (omega (arith, decimal-short n))
+pub start_short : (n : ℕ) → length (ascii "state failed " ++ decimal_of n) ≤ 33
+start_short n = simp length-append (omega (arith, decimal_short n))
 
-pub text-short : (n p : ℕ) → length (ascii "state failed " ++ decimalOf n ++ positionText p) ≤ 63
-text-short n p = simp length-append (omega (arith, decimal-short n, position-short p))
+pub text_short : (n p : ℕ) → length (ascii "state failed " ++ decimal_of n ++ position_text p) ≤ 63
+text_short n p = simp length-append (omega (arith, decimal_short n, position_short p))
 
-pub failed-short : (a : Answer) → length (failedText a) ≤ 63
-unfolding failedText
-failed-short a = text-short (numberOf a) (positionOf a)
+pub failed_short : (a : Answer) → length (failed_text a) ≤ 63
+unfolding failed_text
+failed_short a = text_short (number_of a) (position_of a)

@@ -1,17 +1,17 @@
 -- How long the texts of a reader's states are. Assumes nothing.
-use Prim.Native.Nat.{_≤_}
+use Prim.Native.Nat.{◌≤◌}
 use native.Mathlib.Omega.{arith}
 use lib.ListN.{length}
-use Rattle·uhex_grammar.specs.declared.ReaderState.{ReaderState}
-use Rattle·uhex_grammar.specs.declared.ReaderState.the-variants.{Between, Opened, Inside, Padded, Ended, Failed}
-use Rattle·text·proofs.proofs.hex_answer.Laws.{failed-short}
-use Rattle·text·specs.specs.HexState.{readerStateText}
+use Rattle.uhex_grammar.specs.declared.ReaderState.{ReaderState}
+use Rattle.uhex_grammar.specs.declared.ReaderState.TheVariants.{Between, Opened, Inside, Padded, Ended, Failed}
+use Rattle.text.proofs.hex_answer.Laws.{failed_short}
+use Rattle.text.specs.HexState.{reader_state_text}
 
-pub state-short : (s : ReaderState) → length (readerStateText s) ≤ 63
-unfolding readerStateText
-state-short Between = omega arith
-state-short Opened = omega arith
-state-short (Inside b) = omega arith
-state-short (Padded b) = omega arith
-state-short Ended = omega arith
-state-short (Failed f) = failed-short (f .answer)
+pub state_short : (s : ReaderState) → length (reader_state_text s) ≤ 63
+unfolding reader_state_text
+state_short Between = omega arith
+state_short Opened = omega arith
+state_short (Inside b) = omega arith
+state_short (Padded b) = omega arith
+state_short Ended = omega arith
+state_short (Failed f) = failed_short f.answer

@@ -1,69 +1,69 @@
 -- A piece by cases, as the code comes to them. Assumes nothing.
-use Prim.Native.Nat.{ℕ, _-_}
-use mathlib.Core.Path.{_≡_, refl, sym, ap, _∙_}
+use Prim.Native.Nat.{ℕ, ◌-◌}
+use mathlib.Core.Path.{◌≡◌, refl, sym, ap, ◌∙◌}
 use mathlib.Core.Bool.{Bool, true, false, true≢false}
 use mathlib.Core.List.{List}
 use native.Mathlib.Omega.{arith}
 use lib.ListN.{length, take, drop, length-drop}
-use lib.Seq.{take-all}
-use Rattle·laws.proofs.Tests.{split, clash}
-use Rattle·partitions.specs.declared.Settings.{Settings}
-use Rattle·transfer.specs.declared.Transfer.{Transfer}
-use Rattle·arrival.specs.Arrive.{Lent, World, Outcome, receiveOf, lookOf, Forecast}
-use Rattle·arrival.specs.Facts.{Look-tells}
-use Rattle·arrival.proofs.Facts.{look-tells}
-use Rattle·uf2_receiver.specs.declared.looking.Preview.{Preview}
-use Rattle·uf2_commit.specs.declared.receipts.Receipt.{Receipt}
-use Rattle·uf2_receiver.specs.Looking.{previewed}
-use Rattle·uf2_receiver.specs.Receiver.{world, outcome}
-use Rattle·trace_piece·specs.specs.declared.PieceAnswer.{PieceAnswer}
-use Rattle·trace_piece·specs.specs.declared.PieceAnswer.the-variants as piece
-use Rattle·trace_piece·specs.specs.Piece.{recorded, arrivalIn, isBad, agrees, comparedOf, isReplayed}
-use Rattle·trace_piece·proofs.proofs.Laws.{good-length}
-use Rattle·trace_piece·specs.specs.Compared.{PieceOutcome, pieceOutcome, pieceOf}
+use lib.Seq.{take_all}
+use Rattle.laws.proofs.Tests.{split, clash}
+use Rattle.partitions.specs.declared.Settings.{Settings}
+use Rattle.transfer.specs.declared.Transfer.{Transfer}
+use Rattle.arrival.specs.Arrive.{Lent, World, Outcome, receive_of, look_of, Forecast}
+use Rattle.arrival.specs.Facts.{LookTells}
+use Rattle.arrival.proofs.Facts.{look_tells}
+use Rattle.uf2_receiver.specs.declared.looking.Preview.{Preview}
+use Rattle.uf2_commit.specs.declared.receipts.Receipt.{Receipt}
+use Rattle.uf2_receiver.specs.Looking.{previewed}
+use Rattle.uf2_receiver.specs.Receiver.{world, outcome}
+use Rattle.trace_piece.specs.declared.PieceAnswer.{PieceAnswer}
+use Rattle.trace_piece.specs.declared.PieceAnswer.TheVariants as piece
+use Rattle.trace_piece.specs.Piece.{recorded, arrival_in, is_bad, agrees, compared_of, is_replayed}
+use Rattle.trace_piece.proofs.Laws.{good_length}
+use Rattle.trace_piece.specs.Compared.{PieceOutcome, piece_outcome, piece_of}
 
 module _ (s : Settings) (w : World) (p : List ℕ) where
   abbrev ours : Outcome
-  ours = receiveOf s w (arrivalIn p)
+  ours = receive_of s w (arrival_in p)
 
   abbrev agreed : Bool
-  agreed = agrees (recorded p) (ours .answer) (ours .discarded)
+  agreed = agrees (recorded p) ours.answer ours.discarded
 
-  bad-is : isBad p ≡ true → pieceOf s w p ≡ pieceOutcome piece.Bad w
-  unfolding pieceOf
-  bad-is b = rw b
+  bad_is : is_bad p ≡ true → piece_of s w p ≡ piece_outcome piece.Bad w
+  unfolding piece_of
+  bad_is b = rw b
 
-  differs-is : isBad p ≡ false → agreed ≡ false → pieceOf s w p ≡ pieceOutcome piece.Differs w
-  unfolding pieceOf
-  differs-is g a = rw (g, a)
+  differs_is : is_bad p ≡ false → agreed ≡ false → piece_of s w p ≡ piece_outcome piece.Differs w
+  unfolding piece_of
+  differs_is g a = rw (g, a)
 
-  replayed-is : isBad p ≡ false → agreed ≡ true → pieceOf s w p ≡ pieceOutcome piece.Replayed (ours .world)
-  unfolding pieceOf
-  replayed-is g a = rw (g, a)
+  replayed_is : is_bad p ≡ false → agreed ≡ true → piece_of s w p ≡ piece_outcome piece.Replayed ours.world
+  unfolding piece_of
+  replayed_is g a = rw (g, a)
 
   -- ---- by what comes of it
 
   -- nothing changes
-  pub piece-left : isReplayed (pieceOf s w p .answer) ≡ false → pieceOutcome (pieceOf s w p .answer) w ≡ pieceOf s w p
-  piece-left z =
-      split (isBad p)
-      (λ b. let e = bad-is b in rw e refl)
+  pub piece_left : is_replayed (piece_of s w p).answer ≡ false → piece_outcome (piece_of s w p).answer w ≡ piece_of s w p
+  piece_left z =
+      split (is_bad p)
+      (λ b. let e = bad_is b in rw e refl)
       (λ g. split agreed
-      (λ a. let e = replayed-is g a in clash true refl (sym (ap (λ (o : PieceOutcome). isReplayed (o .answer)) e) ∙ z))
-      (λ a. let e = differs-is g a in rw e refl))
+      (λ a. let e = replayed_is g a in clash true refl (sym (ap (λ (o : PieceOutcome). is_replayed o.answer) e) ∙ z))
+      (λ a. let e = differs_is g a in rw e refl))
 
   -- it is received, and has a record's length
   pub record Taken : Type 0 where
     pub long : length p ≡ 513
-    pub is : pieceOutcome (pieceOf s w p .answer) (ours .world) ≡ pieceOf s w p
+    pub is : piece_outcome (piece_of s w p).answer ours.world ≡ piece_of s w p
 
-  pub piece-taken : isReplayed (pieceOf s w p .answer) ≡ true → Taken
-  piece-taken y =
-      split (isBad p)
-      (λ b. clash false (sym (ap (λ (o : PieceOutcome). isReplayed (o .answer)) (bad-is b)) ∙ y) refl)
+  pub piece_taken : is_replayed (piece_of s w p).answer ≡ true → Taken
+  piece_taken y =
+      split (is_bad p)
+      (λ b. clash false (sym (ap (λ (o : PieceOutcome). is_replayed o.answer) (bad_is b)) ∙ y) refl)
       (λ g. split agreed
-      (λ a. let e = replayed-is g a in record { long = good-length p g; is = rw e refl })
-      (λ a. clash false (sym (ap (λ (o : PieceOutcome). isReplayed (o .answer)) (differs-is g a)) ∙ y) refl))
+      (λ a. let e = replayed_is g a in record { long = good_length p g; is = rw e refl })
+      (λ a. clash false (sym (ap (λ (o : PieceOutcome). is_replayed o.answer) (differs_is g a)) ∙ y) refl))
 
 -- ---- as the code comes to it
 
@@ -72,30 +72,30 @@ module _ (s : Settings) (w : World) (p : List ℕ) where
   abbrev arrival : List ℕ
   arrival = take (length p - 1) (drop 1 p)
 
-  arrival-is : arrival ≡ arrivalIn p
-  arrival-is = take-all (length p - 1) (drop 1 p) (rw (length-drop 1 p) (omega arith))
+  arrival_is : arrival ≡ arrival_in p
+  arrival_is = take_all (length p - 1) (drop 1 p) (rw (length-drop 1 p) (omega arith))
 
-  pub judge-bad : isBad p ≡ true → piece.Bad ≡ pieceOf s w p .answer
-  judge-bad b = sym (ap (λ (o : PieceOutcome). o .answer) (bad-is s w p b))
+  pub judge_bad : is_bad p ≡ true → piece.Bad ≡ (piece_of s w p).answer
+  judge_bad b = sym (ap (λ (o : PieceOutcome). o.answer) (bad_is s w p b))
 
-  pub judge-compared : isBad p ≡ false → {x : Preview} → previewed x ≡ lookOf s w arrival → comparedOf (recorded p) (x .answer) (x .discarded) ≡ pieceOf s w p .answer
-  unfolding Look-tells
-  judge-compared g {x} e =
-      let same : agrees (recorded p) (x .answer) (x .discarded) ≡ agreed s w p = ap (λ (o : Forecast). agrees (recorded p) (o .answer) (o .discarded)) (e ∙ ap (lookOf s w) arrival-is ∙ look-tells s w (arrivalIn p)) in
+  pub judge_compared : is_bad p ≡ false → {x : Preview} → previewed x ≡ look_of s w arrival → compared_of (recorded p) x.answer x.discarded ≡ (piece_of s w p).answer
+  unfolding LookTells
+  judge_compared g {x} e =
+      let same : agrees (recorded p) x.answer x.discarded ≡ agreed s w p = ap (λ (o : Forecast). agrees (recorded p) o.answer o.discarded) (e ∙ ap (look_of s w) arrival_is ∙ look_tells s w (arrival_in p)) in
       split (agreed s w p)
-      (λ a. rw (same ∙ a) (sym (ap (λ (o : PieceOutcome). o .answer) (replayed-is s w p g a))))
-      (λ a. rw (same ∙ a) (sym (ap (λ (o : PieceOutcome). o .answer) (differs-is s w p g a))))
+      (λ a. rw (same ∙ a) (sym (ap (λ (o : PieceOutcome). o.answer) (replayed_is s w p g a))))
+      (λ a. rw (same ∙ a) (sym (ap (λ (o : PieceOutcome). o.answer) (differs_is s w p g a))))
 
   -- what judge told, and what was taken
-  module _ {x : PieceAnswer} (e : x ≡ pieceOf s w p .answer) where
-    pub told-left : isReplayed x ≡ false → pieceOutcome x w ≡ pieceOf s w p
-    told-left z = ap (λ (x : PieceAnswer). pieceOutcome x w) e ∙ piece-left s w p (ap isReplayed (sym e) ∙ z)
+  module _ {x : PieceAnswer} (e : x ≡ (piece_of s w p).answer) where
+    pub told_left : is_replayed x ≡ false → piece_outcome x w ≡ piece_of s w p
+    told_left z = ap (λ (x : PieceAnswer). piece_outcome x w) e ∙ piece_left s w p (ap is_replayed (sym e) ∙ z)
 
-    pub told-long : isReplayed x ≡ true → length p ≡ 513
-    told-long y = piece-taken s w p (ap isReplayed (sym e) ∙ y) .long
+    pub told_long : is_replayed x ≡ true → length p ≡ 513
+    told_long y = (piece_taken s w p (ap is_replayed (sym e) ∙ y)).long
 
-    pub told-taken : isReplayed x ≡ true → {r : Receipt} {k : Lent} → outcome r k ≡ receiveOf s w arrival → pieceOutcome x (world (r .transfer) k) ≡ pieceOf s w p
-    told-taken y {r} {k} q =
-        ap (λ (o : Outcome). pieceOutcome x (o .world)) (q ∙ ap (receiveOf s w) arrival-is)
-        ∙ ap (λ (x : PieceAnswer). pieceOutcome x (ours s w p .world)) e
-        ∙ piece-taken s w p (ap isReplayed (sym e) ∙ y) .is
+    pub told_taken : is_replayed x ≡ true → {r : Receipt} {k : Lent} → outcome r k ≡ receive_of s w arrival → piece_outcome x (world r.transfer k) ≡ piece_of s w p
+    told_taken y {r} {k} q =
+        ap (λ (o : Outcome). piece_outcome x o.world) (q ∙ ap (receive_of s w) arrival_is)
+        ∙ ap (λ (x : PieceAnswer). piece_outcome x (ours s w p).world) e
+        ∙ (piece_taken s w p (ap is_replayed (sym e) ∙ y)).is

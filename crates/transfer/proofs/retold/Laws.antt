@@ -1,42 +1,42 @@
 -- A step by what the block does: what stays, stays, and what is accepted is accepted. Assumes nothing.
-use mathlib.Core.Path.{_≡_, ap, _∙_}
+use mathlib.Core.Path.{◌≡◌, ap, ◌∙◌}
 use mathlib.Core.Bool.{Bool, true, false}
-use Prim.Native.Nat.{ℕ, _+_}
+use Prim.Native.Nat.{ℕ, ◌+◌}
 use native.Mathlib.Omega.{arith}
 use lib.Dec.{ltb}
-use Rattle·laws.proofs.Tests.{split}
-use Rattle·transfer·specs.specs.Transfer.{sameHead, counted, raised, withDeed, accepted, stepOf}
-use Rattle·transfer·specs.specs.declared.Head.{Head}
-use Rattle·transfer·specs.specs.declared.State.{State}
-use Rattle·transfer·specs.specs.declared.State.the-variants.{Idle, Running, Done}
-use Rattle·transfer·specs.specs.declared.Unchanged.{Unchanged}
-use Rattle·transfer·specs.specs.declared.Accepted.{Accepted}
-use Rattle·transfer·specs.specs.declared.Deed.{Deed}
-use Rattle·transfer·specs.specs.declared.Deed.the-variants.{Stores}
-use Rattle·transfer·specs.specs.declared.Step.the-variants.{Stays, Accepts}
+use Rattle.laws.proofs.Tests.{split}
+use Rattle.transfer.specs.Transfer.{same_head, counted, raised, with_deed, accepted, step_of}
+use Rattle.transfer.specs.declared.Head.{Head}
+use Rattle.transfer.specs.declared.State.{State}
+use Rattle.transfer.specs.declared.State.TheVariants.{Idle, Running, Done}
+use Rattle.transfer.specs.declared.Unchanged.{Unchanged}
+use Rattle.transfer.specs.declared.Accepted.{Accepted}
+use Rattle.transfer.specs.declared.Deed.{Deed}
+use Rattle.transfer.specs.declared.Deed.TheVariants.{Stores}
+use Rattle.transfer.specs.declared.Step.TheVariants.{Stays, Accepts}
 
 -- what stays, stays whatever the block would do
-pub stays-any : (t : State) (g : Head) (m : Bool) (d e : Deed) {x : Unchanged} → stepOf t g m d ≡ Stays x → stepOf t g m e ≡ Stays x
-unfolding stepOf
-stays-any Idle g m d e q = let z : _≡_ {A = ℕ} 0 1 = cc in absurd (omega arith)
-stays-any (Running r) g m d e q =
-    split (sameHead (r .head) g)
-    (λ y. split m (λ z. rw (y, z) (rw (y, z) at q)) (λ z. let v = rw (y, z) at q in let u : _≡_ {A = ℕ} 0 1 = cc in absurd (omega arith)))
-    (λ y. let v = rw y at q in let u : _≡_ {A = ℕ} 0 1 = cc in absurd (omega arith))
-stays-any (Done h) g m d e q = q
+pub stays_any : (t : State) (g : Head) (m : Bool) (d e : Deed) {x : Unchanged} → step_of t g m d ≡ Stays x → step_of t g m e ≡ Stays x
+unfolding step_of
+stays_any Idle g m d e q = let z : ◌≡◌ {A = ℕ} 0 1 = cc in absurd (omega arith)
+stays_any (Running r) g m d e q =
+    split (same_head r.head g)
+    (λ y. split m (λ z. rw (y, z) (rw (y, z) at q)) (λ z. let v = rw (y, z) at q in let u : ◌≡◌ {A = ℕ} 0 1 = cc in absurd (omega arith)))
+    (λ y. let v = rw y at q in let u : ◌≡◌ {A = ℕ} 0 1 = cc in absurd (omega arith))
+stays_any (Done h) g m d e q = q
 
 -- what is accepted as a block that stores is accepted whatever the block does
-accepted-any : (d : Deed) (clears discards : Bool) (g : Head) (c : ℕ) → accepted d clears discards g c ≡ withDeed d (accepted Stores clears discards g c)
+accepted_any : (d : Deed) (clears discards : Bool) (g : Head) (c : ℕ) → accepted d clears discards g c ≡ with_deed d (accepted Stores clears discards g c)
 unfolding accepted counted raised
-accepted-any d clears discards g c = split (ltb c (g .total)) (λ h. rw h) (λ h. rw h)
+accepted_any d clears discards g c = split (ltb c g.total) (λ h. rw h) (λ h. rw h)
 
-pub accepts-any : (t : State) (g : Head) (m : Bool) (d : Deed) {y : Accepted} → stepOf t g m Stores ≡ Accepts y → stepOf t g m d ≡ Accepts (withDeed d y)
-unfolding stepOf
-accepts-any Idle g m d {y} q = let e : accepted Stores true false g 1 ≡ y = cc in ap Accepts (accepted-any d true false g 1 ∙ ap (withDeed d) e)
-accepts-any (Running r) g m d {y} q =
-    split (sameHead (r .head) g)
+pub accepts_any : (t : State) (g : Head) (m : Bool) (d : Deed) {y : Accepted} → step_of t g m Stores ≡ Accepts y → step_of t g m d ≡ Accepts (with_deed d y)
+unfolding step_of
+accepts_any Idle g m d {y} q = let e : accepted Stores true false g 1 ≡ y = cc in ap Accepts (accepted_any d true false g 1 ∙ ap (with_deed d) e)
+accepts_any (Running r) g m d {y} q =
+    split (same_head r.head g)
     (λ h. split m
-    (λ k. let v = rw (h, k) at q in let u : _≡_ {A = ℕ} 0 1 = cc in absurd (omega arith))
-    (λ k. let v = rw (h, k) at q in let e : accepted Stores false false g (r .count + 1) ≡ y = cc in rw (h, k) (ap Accepts (accepted-any d false false g (r .count + 1) ∙ ap (withDeed d) e))))
-    (λ h. let v = rw h at q in let e : accepted Stores true true g 1 ≡ y = cc in rw h (ap Accepts (accepted-any d true true g 1 ∙ ap (withDeed d) e)))
-accepts-any (Done h) g m d q = let z : _≡_ {A = ℕ} 0 1 = cc in absurd (omega arith)
+    (λ k. let v = rw (h, k) at q in let u : ◌≡◌ {A = ℕ} 0 1 = cc in absurd (omega arith))
+    (λ k. let v = rw (h, k) at q in let e : accepted Stores false false g (r.count + 1) ≡ y = cc in rw (h, k) (ap Accepts (accepted_any d false false g (r.count + 1) ∙ ap (with_deed d) e))))
+    (λ h. let v = rw h at q in let e : accepted Stores true true g 1 ≡ y = cc in rw h (ap Accepts (accepted_any d true true g 1 ∙ ap (with_deed d) e)))
+accepts_any (Done h) g m d q = let z : ◌≡◌ {A = ℕ} 0 1 = cc in absurd (omega arith)

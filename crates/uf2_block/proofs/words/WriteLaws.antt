@@ -1,57 +1,57 @@
 -- Fields that are written, and read back. Assumes nothing.
-use Prim.Native.Nat.{ℕ, _+_, _/_, _%_, _<_, _≤_, _^_}
-use mathlib.Core.Path.{_≡_, refl, sym, ap, _∙_}
-use mathlib.Core.List.{List, [], _∷_, _++_}
+use Prim.Native.Nat.{ℕ, ◌+◌, ◌/◌, ◌%◌, ◌<◌, ◌≤◌, ◌^◌}
+use mathlib.Core.Path.{◌≡◌, refl, sym, ap, ◌∙◌}
+use mathlib.Core.List.{List, [], ◌∷◌, ◌++◌}
 use native.Mathlib.Omega.{arith}
 use lib.ListN.{length, set, length-append}
 use borrow.Author.Tests.{le-leb, lt-leb}
-use Rattle·laws.specs.Over.{over}
-use Rattle·laws.proofs.BytesLaws.{length-low, number-back, low-four}
-use Rattle·laws.proofs.OverLaws.{length-over, set-over, over-next}
-use Rattle·uf2_block·specs.specs.Field.{fieldAt}
-use Rattle·uf2_block·specs.specs.WordsWrite.{le32, putAt}
-use Rattle·uf2_block·proofs.proofs.words.Laws.{field-number}
+use Rattle.laws.specs.Over.{over}
+use Rattle.laws.proofs.BytesLaws.{length_low, number_back, low_four}
+use Rattle.laws.proofs.OverLaws.{length_over, set_over, over_next}
+use Rattle.uf2_block.specs.Field.{field_at}
+use Rattle.uf2_block.specs.WordsWrite.{le32, put_at}
+use Rattle.uf2_block.proofs.words.Laws.{field_number}
 
 -- ---- written
 
-pub put-past : (b : List ℕ) (at x : ℕ) → length b < at + 4 → putAt b at x ≡ b
-unfolding putAt
-put-past b at x h = simp (lt-leb (at + 4) (length b) h)
+pub put_past : (b : List ℕ) (at x : ℕ) → length b < at + 4 → put_at b at x ≡ b
+unfolding put_at
+put_past b at x h = simp (lt-leb (at + 4) (length b) h)
 
-pub put-over : (b : List ℕ) (at x : ℕ) → at + 4 ≤ length b → putAt b at x ≡ over b at (le32 x)
-unfolding putAt
-put-over b at x h = simp (le-leb (at + 4) (length b) h)
+pub put_over : (b : List ℕ) (at x : ℕ) → at + 4 ≤ length b → put_at b at x ≡ over b at (le32 x)
+unfolding put_at
+put_over b at x h = simp (le-leb (at + 4) (length b) h)
 
 -- one byte more
-pub set-next : (d : List ℕ) (at : ℕ) (s : List ℕ) (k x : ℕ) → at + length s ≡ k → k < length d → set (over d at s) k x ≡ over d at (s ++ (x ∷ []))
-set-next d at s k x e l =
+pub set_next : (d : List ℕ) (at : ℕ) (s : List ℕ) (k x : ℕ) → at + length s ≡ k → k < length d → set (over d at s) k x ≡ over d at (s ++ (x ∷ []))
+set_next d at s k x e l =
     let fits : at + length s ≤ length d = omega arith in
-    let same = length-over d at s fits in
-    set-over (over d at s) k x (omega arith) ∙ over-next d at s k (x ∷ []) e (omega arith)
+    let same = length_over d at s fits in
+    set_over (over d at s) k x (omega arith) ∙ over_next d at s k (x ∷ []) e (omega arith)
 
-four-set : (b : List ℕ) (at p q r s : ℕ) → at + 4 ≤ length b → set (set (set (set b at p) (at + 1) q) (at + 2) r) (at + 3) s ≡ over b at (p ∷ q ∷ r ∷ s ∷ [])
-four-set b at p q r s l =
-    let one : set b at p ≡ over b at (p ∷ []) = set-over b at p (omega arith) in
-    let two : set (over b at (p ∷ [])) (at + 1) q ≡ over b at (p ∷ q ∷ []) = set-next b at (p ∷ []) (at + 1) q refl (omega arith) in
-    let three : set (over b at (p ∷ q ∷ [])) (at + 2) r ≡ over b at (p ∷ q ∷ r ∷ []) = set-next b at (p ∷ q ∷ []) (at + 2) r refl (omega arith) in
-    rw (one, two, three) (set-next b at (p ∷ q ∷ r ∷ []) (at + 3) s refl (omega arith))
+four_set : (b : List ℕ) (at p q r s : ℕ) → at + 4 ≤ length b → set (set (set (set b at p) (at + 1) q) (at + 2) r) (at + 3) s ≡ over b at (p ∷ q ∷ r ∷ s ∷ [])
+four_set b at p q r s l =
+    let one : set b at p ≡ over b at (p ∷ []) = set_over b at p (omega arith) in
+    let two : set (over b at (p ∷ [])) (at + 1) q ≡ over b at (p ∷ q ∷ []) = set_next b at (p ∷ []) (at + 1) q refl (omega arith) in
+    let three : set (over b at (p ∷ q ∷ [])) (at + 2) r ≡ over b at (p ∷ q ∷ r ∷ []) = set_next b at (p ∷ q ∷ []) (at + 2) r refl (omega arith) in
+    rw (one, two, three) (set_next b at (p ∷ q ∷ r ∷ []) (at + 3) s refl (omega arith))
 
-pub put-set : (b : List ℕ) (at x : ℕ) → at + 4 ≤ length b → set (set (set (set b at (x % 256)) (at + 1) (x / 256 % 256)) (at + 2) (x / 65536 % 256)) (at + 3) (x / 16777216 % 256) ≡ putAt b at x
-put-set b at x l = four-set b at _ _ _ _ l ∙ ap (over b at) (sym (low-four x)) ∙ sym (put-over b at x l)
+pub put_set : (b : List ℕ) (at x : ℕ) → at + 4 ≤ length b → set (set (set (set b at (x % 256)) (at + 1) (x / 256 % 256)) (at + 2) (x / 65536 % 256)) (at + 3) (x / 16777216 % 256) ≡ put_at b at x
+put_set b at x l = four_set b at _ _ _ _ l ∙ ap (over b at) (sym (low_four x)) ∙ sym (put_over b at x l)
 
 -- a field right after what is written already
-pub put-after : (b s : List ℕ) (k x : ℕ) → length s ≡ k → k + 4 ≤ length b → putAt (over b 0 s) k x ≡ over b 0 (s ++ le32 x)
-put-after b s k x e l =
+pub put_after : (b s : List ℕ) (k x : ℕ) → length s ≡ k → k + 4 ≤ length b → put_at (over b 0 s) k x ≡ over b 0 (s ++ le32 x)
+put_after b s k x e l =
     let fits : 0 + length s ≤ length b = omega arith in
-    let same = length-over b 0 s fits in
+    let same = length_over b 0 s fits in
     let at : 0 + length s ≡ k = omega arith in
-    put-over (over b 0 s) k x (omega arith) ∙ over-next b 0 s k (le32 x) at (omega (arith, length-low 4 x))
+    put_over (over b 0 s) k x (omega arith) ∙ over_next b 0 s k (le32 x) at (omega (arith, length_low 4 x))
 
 -- ---- read back
 
 -- four bytes of a number, wherever they stand, are read as it
-pub field-le32 : (p : List ℕ) (x : ℕ) (s : List ℕ) → x < 2 ^ 32 → fieldAt (p ++ (le32 x ++ s)) (length p) ≡ x
-field-le32 p x s h =
+pub field_le32 : (p : List ℕ) (x : ℕ) (s : List ℕ) → x < 2 ^ 32 → field_at (p ++ (le32 x ++ s)) (length p) ≡ x
+field_le32 p x s h =
     let b = le32 x ++ s in
-    let fits : length p + 4 ≤ length (p ++ b) = omega (arith, length-append p b, length-append (le32 x) s, length-low 4 x) in
-    field-number (p ++ b) (length p) fits ∙ number-back 4 x p s h
+    let fits : length p + 4 ≤ length (p ++ b) = omega (arith, length-append p b, length-append (le32 x) s, length_low 4 x) in
+    field_number (p ++ b) (length p) fits ∙ number_back 4 x p s h

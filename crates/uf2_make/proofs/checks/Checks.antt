@@ -1,44 +1,44 @@
 -- Each refusal, by the test that decides, and what holds of a file that is made. Assumes nothing.
-use mathlib.Core.Path.{_≡_, refl, sym, ap}
-use mathlib.Core.Logic.{_≢_}
-use mathlib.Core.Bool.{Bool, true, false, not, cond, _||_, true≢false}
-use Prim.Native.Nat.{ℕ, _+_, _*_, _/_, _%_, _<_, _≤_}
+use mathlib.Core.Path.{◌≡◌, refl, sym, ap}
+use mathlib.Core.Logic.{◌≢◌}
+use mathlib.Core.Bool.{Bool, true, false, not, cond, ◌||◌, true≢false}
+use Prim.Native.Nat.{ℕ, ◌+◌, ◌*◌, ◌/◌, ◌%◌, ◌<◌, ◌≤◌}
 use native.Mathlib.Omega.{arith}
 use lib.Dec.{eqb, ltb, leb}
 use borrow.Author.Tests.{lt-ltb, le-ltb, eqb-true, eqb-false, ltb-false, leb-false}
-use Rattle·laws.proofs.Tests.{or-left, or-right}
-use Rattle·uf2_make·specs.specs.declared.checks.MakeAnswer.{MakeAnswer}
-use Rattle·uf2_make·specs.specs.declared.checks.MakeAnswer.the-variants.{BadImage, BadStart, PastWindow, ShortOutput, Made}
-use Rattle·uf2_make·specs.specs.Uf2check.{badImage, badStart, checkOf}
+use Rattle.laws.proofs.Tests.{or_left, or_right}
+use Rattle.uf2_make.specs.declared.checks.MakeAnswer.{MakeAnswer}
+use Rattle.uf2_make.specs.declared.checks.MakeAnswer.TheVariants.{BadImage, BadStart, PastWindow, ShortOutput, Made}
+use Rattle.uf2_make.specs.Uf2check.{bad_image, bad_start, check_of}
 
 -- a start that is not refused is below the window's end
-pub start-low : (start : ℕ) → badStart start ≡ false → start < 0x12000000
-start-low start e =
+pub start_low : (start : ℕ) → bad_start start ≡ false → start < 0x12000000
+start_low start e =
     leb-false 0x12000000 start
-    (or-left (leb 0x12000000 start) (not (eqb (start % 256) 0)) (or-right (ltb start 0x10000000) (leb 0x12000000 start || not (eqb (start % 256) 0)) e))
+    (or_left (leb 0x12000000 start) (not (eqb (start % 256) 0)) (or_right (ltb start 0x10000000) (leb 0x12000000 start || not (eqb (start % 256) 0)) e))
 
 module _ (n start room : ℕ) where
-  pub image-bad : badImage n ≡ true → BadImage ≡ checkOf n start room
-  unfolding checkOf
-  image-bad h = rw h
+  pub image_bad : bad_image n ≡ true → BadImage ≡ check_of n start room
+  unfolding check_of
+  image_bad h = rw h
 
-  module _ (p : badImage n ≡ false) where
-    pub start-bad : badStart start ≡ true → BadStart ≡ checkOf n start room
-    unfolding checkOf
-    start-bad h = rw (p, h)
+  module _ (p : bad_image n ≡ false) where
+    pub start_bad : bad_start start ≡ true → BadStart ≡ check_of n start room
+    unfolding check_of
+    start_bad h = rw (p, h)
 
-    module _ (q : badStart start ≡ false) where
-      pub past : 0x12000000 < start + n → PastWindow ≡ checkOf n start room
-      unfolding checkOf
+    module _ (q : bad_start start ≡ false) where
+      pub past : 0x12000000 < start + n → PastWindow ≡ check_of n start room
+      unfolding check_of
       past h = rw (p, q, lt-ltb 0x12000000 (start + n) h)
 
       module _ (u : start + n ≤ 0x12000000) where
-        pub short : room < 512 * (n / 256) → ShortOutput ≡ checkOf n start room
-        unfolding checkOf
+        pub short : room < 512 * (n / 256) → ShortOutput ≡ check_of n start room
+        unfolding check_of
         short h = rw (p, q, le-ltb 0x12000000 (start + n) u, lt-ltb room (512 * (n / 256)) h)
 
-        pub passes : 512 * (n / 256) ≤ room → {m : ℕ} → m ≡ n / 256 → Made m ≡ checkOf n start room
-        unfolding checkOf
+        pub passes : 512 * (n / 256) ≤ room → {m : ℕ} → m ≡ n / 256 → Made m ≡ check_of n start room
+        unfolding check_of
         passes h {m} e = rw (p, q, le-ltb 0x12000000 (start + n) u, le-ltb room (512 * (n / 256)) h, e)
 
 -- what holds where m blocks are made
@@ -58,36 +58,36 @@ blocks PastWindow = 0
 blocks ShortOutput = 0
 blocks (Made m) = m
 
-abbrev isMade : MakeAnswer → Bool
-isMade BadImage = false
-isMade BadStart = false
-isMade PastWindow = false
-isMade ShortOutput = false
-isMade (Made m) = true
+abbrev is_made : MakeAnswer → Bool
+is_made BadImage = false
+is_made BadStart = false
+is_made PastWindow = false
+is_made ShortOutput = false
+is_made (Made m) = true
 
 -- no test but the last branch makes a file
-made-tests : (a b c d : Bool) (k m : ℕ) → cond a BadImage (cond b BadStart (cond c PastWindow (cond d ShortOutput (Made k)))) ≡ Made m
+made_tests : (a b c d : Bool) (k m : ℕ) → cond a BadImage (cond b BadStart (cond c PastWindow (cond d ShortOutput (Made k)))) ≡ Made m
     → (a ≡ false) × (b ≡ false) × (c ≡ false) × (d ≡ false) × (k ≡ m)
-made-tests true b c d k m e = absurd (true≢false (ap isMade (sym e)))
-made-tests false true c d k m e = absurd (true≢false (ap isMade (sym e)))
-made-tests false false true d k m e = absurd (true≢false (ap isMade (sym e)))
-made-tests false false false true k m e = absurd (true≢false (ap isMade (sym e)))
-made-tests false false false false k m e = (refl, refl, refl, refl, ap blocks e)
+made_tests true b c d k m e = absurd (true≢false (ap is_made (sym e)))
+made_tests false true c d k m e = absurd (true≢false (ap is_made (sym e)))
+made_tests false false true d k m e = absurd (true≢false (ap is_made (sym e)))
+made_tests false false false true k m e = absurd (true≢false (ap is_made (sym e)))
+made_tests false false false false k m e = (refl, refl, refl, refl, ap blocks e)
 
-not-false : (b : Bool) → not b ≡ false → b ≡ true
-not-false true e = refl
-not-false false e = absurd (true≢false e)
+not_false : (b : Bool) → not b ≡ false → b ≡ true
+not_false true e = refl
+not_false false e = absurd (true≢false e)
 
-pub made-right : (n start room m : ℕ) → checkOf n start room ≡ Made m → Right n start room m
-unfolding checkOf
-made-right n start room m e =
-    let f = made-tests (eqb n 0 || not (eqb (n % 256) 0)) (ltb start 0x10000000 || (leb 0x12000000 start || not (eqb (start % 256) 0))) (ltb 0x12000000 (start + n)) (ltb room (512 * (n / 256))) (n / 256) m e in
-    let w : n % 256 ≡ 0 = eqb-true (n % 256) 0 (not-false (eqb (n % 256) 0) (or-right (eqb n 0) (not (eqb (n % 256) 0)) (f .0))) in
-    let u : start + n ≤ 0x12000000 = ltb-false 0x12000000 (start + n) (f .2) in
-    let r : 512 * (n / 256) ≤ room = ltb-false room (512 * (n / 256)) (f .3) in
-    let k : n / 256 ≡ m = f .4 in
-    let z : n ≢ 0 = eqb-false n 0 (or-left (eqb n 0) (not (eqb (n % 256) 0)) (f .0)) in
-    let l : 0x10000000 ≤ start = ltb-false start 0x10000000 (or-left (ltb start 0x10000000) (leb 0x12000000 start || not (eqb (start % 256) 0)) (f .1)) in
-    let o = or-right (ltb start 0x10000000) (leb 0x12000000 start || not (eqb (start % 256) 0)) (f .1) in
-    let a : start % 256 ≡ 0 = eqb-true (start % 256) 0 (not-false (eqb (start % 256) 0) (or-right (leb 0x12000000 start) (not (eqb (start % 256) 0)) o)) in
+pub made_right : (n start room m : ℕ) → check_of n start room ≡ Made m → Right n start room m
+unfolding check_of
+made_right n start room m e =
+    let f = made_tests (eqb n 0 || not (eqb (n % 256) 0)) (ltb start 0x10000000 || (leb 0x12000000 start || not (eqb (start % 256) 0))) (ltb 0x12000000 (start + n)) (ltb room (512 * (n / 256))) (n / 256) m e in
+    let w : n % 256 ≡ 0 = eqb-true (n % 256) 0 (not_false (eqb (n % 256) 0) (or_right (eqb n 0) (not (eqb (n % 256) 0)) f.0)) in
+    let u : start + n ≤ 0x12000000 = ltb-false 0x12000000 (start + n) f.2 in
+    let r : 512 * (n / 256) ≤ room = ltb-false room (512 * (n / 256)) f.3 in
+    let k : n / 256 ≡ m = f.4 in
+    let z : n ≢ 0 = eqb-false n 0 (or_left (eqb n 0) (not (eqb (n % 256) 0)) f.0) in
+    let l : 0x10000000 ≤ start = ltb-false start 0x10000000 (or_left (ltb start 0x10000000) (leb 0x12000000 start || not (eqb (start % 256) 0)) f.1) in
+    let o = or_right (ltb start 0x10000000) (leb 0x12000000 start || not (eqb (start % 256) 0)) f.1 in
+    let a : start % 256 ≡ 0 = eqb-true (start % 256) 0 (not_false (eqb (start % 256) 0) (or_right (leb 0x12000000 start) (not (eqb (start % 256) 0)) o)) in
     record { some = omega (arith, z); whole = omega arith; low = l; aligned = a; window = omega arith; space = omega arith }

@@ -1,23 +1,23 @@
 -- A sector's final bytes: as the code places them, and byte by byte. Assumes nothing.
-use Prim.Native.Nat.{ℕ, _+_, _-_, _<_, _≤_}
-use mathlib.Core.Path.{_≡_, refl, sym, ap, _∙_}
-use mathlib.Core.List.{List, _++_}
+use Prim.Native.Nat.{ℕ, ◌+◌, ◌-◌, ◌<◌, ◌≤◌}
+use mathlib.Core.Path.{◌≡◌, refl, sym, ap, ◌∙◌}
+use mathlib.Core.List.{List, ◌++◌}
 use native.Mathlib.Omega.{arith}
 use lib.Dec.{leb}
-use lib.ListN.{length, getD, take, drop, replicate, length-take, length-drop}
-use lib.Seq.{take-all, ext-getD, getD-take, getD-drop, length-take-le}
+use lib.ListN.{length, get_or, take, drop, replicate, length-take, length-drop}
+use lib.Seq.{take_all, ext_get_or, get_or-take, get_or-drop, length-take-le}
 use borrow.Author.Tests.{leb-true, leb-false}
-use borrow.Rule.Slice.PartMut.{putMid}
-use Rattle·memory.specs.Many.{many}
-use Rattle·memory.proofs.fill.Laws.{length-many, getD-many}
-use Rattle·laws.specs.Over.{over}
-use Rattle·laws.proofs.Tests.{split}
-use Rattle·laws.proofs.OverLaws.{length-over, over-inside, over-before, over-after, copied-over}
-use Rattle·md5.specs.Md5.{md5Of}
-use Rattle·md5.specs.declared.Digest.{Digest}
-use Rattle·uf2_make_regions·specs.specs.Sector.{sectorOf}
-use Rattle·uf2_make_regions·specs.specs.File.{sectorDigest}
-use Rattle·uf2_make_regions·specs.specs.Claims.{FinalSector}
+use borrow.Rule.Slice.PartMut.{put_mid}
+use Rattle.memory.specs.Many.{many}
+use Rattle.memory.proofs.fill.Laws.{length_many, get_d_many}
+use Rattle.laws.specs.Over.{over}
+use Rattle.laws.proofs.Tests.{split}
+use Rattle.laws.proofs.OverLaws.{length_over, over_inside, over_before, over_after, part_over}
+use Rattle.md5_digest.specs.Md5.{md5_of}
+use Rattle.md5_digest.specs.declared.Digest.{Digest}
+use Rattle.uf2_make_regions.specs.Sector.{sector_of}
+use Rattle.uf2_make_regions.specs.File.{sector_digest}
+use Rattle.uf2_make_regions.specs.Claims.{FinalSector}
 
 pub blank : replicate 4096 255 ≡ many 4096 255
 unfolding many
@@ -26,39 +26,39 @@ blank = refl
 -- ---- the image's part, copied into a blank sector
 
 module _ (image : List ℕ) (at from count : ℕ) (room : at + count ≤ 4096) (inside : from + count ≤ length image) where
-  pub placed-over : {d ys : List ℕ} → d ≡ many 4096 255
-      → ys ≡ take (length (take (from + count - from) (drop from image))) (take (from + count - from) (drop from image)) ++ drop (length (take (from + count - from) (drop from image))) (take (at + count - at) (drop at d))
-      → putMid at (at + count - at) d ys ≡ over (many 4096 255) at (take count (drop from image))
-  placed-over {d} {ys} hd hy =
+  pub placed_over : {d ys : List ℕ} → d ≡ many 4096 255
+      → ys ≡ take (from + count - from) (drop from image)
+      → put_mid at (at + count - at) d ys ≡ over (many 4096 255) at (take count (drop from image))
+  placed_over {d} {ys} hd hy =
       let p = take (from + count - from) (drop from image) in
       let n : from + count - from ≡ count = omega arith in
       let long : length p ≡ count = simp (length-take, length-drop) (omega arith) in
-      let size : length d ≡ 4096 = ap length hd ∙ length-many 4096 255 in
-      copied-over at count d p ys long (omega arith) hy ∙ rw (hd, n) refl
+      let size : length d ≡ 4096 = ap length hd ∙ length_many 4096 255 in
+      part_over at count d p ys long (omega arith) hy ∙ rw (hd, n) refl
 
-  pub placed-long : {d ys : List ℕ} → d ≡ many 4096 255
-      → ys ≡ take (length (take (from + count - from) (drop from image))) (take (from + count - from) (drop from image)) ++ drop (length (take (from + count - from) (drop from image))) (take (at + count - at) (drop at d))
-      → length (putMid at (at + count - at) d ys) ≡ 4096
-  placed-long hd hy =
+  pub placed_long : {d ys : List ℕ} → d ≡ many 4096 255
+      → ys ≡ take (from + count - from) (drop from image)
+      → length (put_mid at (at + count - at) d ys) ≡ 4096
+  placed_long hd hy =
       let fits : at + length (take count (drop from image)) ≤ length (many 4096 255) =
-      omega (arith, length-many 4096 255, length-take-le count (drop from image) (omega (arith, length-drop from image))) in
-      ap length (placed-over hd hy) ∙ length-over (many 4096 255) at (take count (drop from image)) fits ∙ length-many 4096 255
+      omega (arith, length_many 4096 255, length-take-le count (drop from image) (omega (arith, length-drop from image))) in
+      ap length (placed_over hd hy) ∙ length_over (many 4096 255) at (take count (drop from image)) fits ∙ length_many 4096 255
 
 -- ---- the part that the image has of it
 
 module _ (image : List ℕ) (start base : ℕ) {at from : ℕ} (ha : at ≡ start - base) (hf : from ≡ base - start) {x : Digest} where
   -- as much as there is room for
-  pub by-room : x ≡ md5Of (over (many 4096 255) at (take (4096 - at) (drop from image))) → x ≡ sectorDigest image start base
-  unfolding sectorOf
-  by-room e = e ∙ rw (ha, hf) refl
+  pub by_room : x ≡ md5_of (over (many 4096 255) at (take (4096 - at) (drop from image))) → x ≡ sector_digest image start base
+  unfolding sector_of
+  by_room e = e ∙ rw (ha, hf) refl
 
   -- all that is left, where there is room for more
-  pub by-rest : x ≡ md5Of (over (many 4096 255) at (take (length image - from) (drop from image))) → length image - from ≤ 4096 - at → x ≡ sectorDigest image start base
-  by-rest e l =
+  pub by_rest : x ≡ md5_of (over (many 4096 255) at (take (length image - from) (drop from image))) → length image - from ≤ 4096 - at → x ≡ sector_digest image start base
+  by_rest e l =
       let m = length-drop from image in
       let same : take (length image - from) (drop from image) ≡ take (4096 - at) (drop from image) =
-      take-all (length image - from) (drop from image) (omega (arith, m)) ∙ sym (take-all (4096 - at) (drop from image) (omega (arith, m))) in
-      by-room (e ∙ ap (λ (p : List ℕ). md5Of (over (many 4096 255) at p)) same)
+      take_all (length image - from) (drop from image) (omega (arith, m)) ∙ sym (take_all (4096 - at) (drop from image) (omega (arith, m))) in
+      by_room (e ∙ ap (λ (p : List ℕ). md5_of (over (many 4096 255) at p)) same)
 
 -- ---- byte by byte
 
@@ -74,50 +74,50 @@ module _ (image : List ℕ) (start base : ℕ) where
 
   module _ (near : start ≤ base + 4096) where
     fits : at + length part ≤ length (many 4096 255)
-    fits = rw (length-many 4096 255, length-take (4096 - at) (drop from image)) (omega arith)
+    fits = rw (length_many 4096 255, length-take (4096 - at) (drop from image)) (omega arith)
 
-    pub length-sector : length (sectorOf image start base) ≡ 4096
-    unfolding sectorOf
-    length-sector = length-over (many 4096 255) at part fits ∙ length-many 4096 255
+    pub length_sector : length (sector_of image start base) ≡ 4096
+    unfolding sector_of
+    length_sector = length_over (many 4096 255) at part fits ∙ length_many 4096 255
 
     -- where the image's part ends
     part-size : (j : ℕ) → j < 4096 - at → from + j < length image → j < length part
     part-size j h l = rw (length-take (4096 - at) (drop from image), length-drop from image) (omega arith)
 
-    part-none : (j : ℕ) → length image ≤ from + j → length part ≤ j
-    part-none j l = rw (length-take (4096 - at) (drop from image), length-drop from image) (omega arith)
+    part_none : (j : ℕ) → length image ≤ from + j → length part ≤ j
+    part_none j l = rw (length-take (4096 - at) (drop from image), length-drop from image) (omega arith)
 
-    pub final : FinalSector image start base (sectorOf image start base)
-    unfolding sectorOf
+    pub final : FinalSector image start base (sector_of image start base)
+    unfolding sector_of
     final =
         record {
-          long = unfold sectorOf in length-sector;
+          long = unfold sector_of in length_sector;
           pages = λ j h s e.
               let i = j - at in
               let hi : i < 4096 - at = omega arith in
               let p : i < length part = part-size i hi (omega arith) in
               let there : from + i ≡ base + j - start = omega arith in
-              over-inside (many 4096 255) at part fits j (omega arith) (omega arith)
-              ∙ getD-take (4096 - at) (drop from image) i 0 hi
-              ∙ getD-drop from image i 0
-              ∙ ap (λ (k : ℕ). getD image k 0) there;
-          before = λ j h s. over-before (many 4096 255) at part fits j (omega arith) ∙ getD-many 4096 255 j h;
+              over_inside (many 4096 255) at part fits j (omega arith) (omega arith)
+              ∙ get_or-take (4096 - at) (drop from image) i 0 hi
+              ∙ get_or-drop from image i 0
+              ∙ ap (λ (k : ℕ). get_or image k 0) there;
+          before = λ j h s. over_before (many 4096 255) at part fits j (omega arith) ∙ get_d_many 4096 255 j h;
           after = λ j h e.
               split (leb at j)
-              (λ y. let l = leb-true at j y in over-after (many 4096 255) at part fits j (omega (arith, part-none (j - at) (omega arith))) ∙ getD-many 4096 255 j h)
-              (λ z. let l = leb-false at j z in over-before (many 4096 255) at part fits j (omega arith) ∙ getD-many 4096 255 j h);
+              (λ y. let l = leb-true at j y in over_after (many 4096 255) at part fits j (omega (arith, part_none (j - at) (omega arith))) ∙ get_d_many 4096 255 j h)
+              (λ z. let l = leb-false at j z in over_before (many 4096 255) at part fits j (omega arith) ∙ get_d_many 4096 255 j h);
         }
 
 -- the conditions leave one content
-pub one-content : (image : List ℕ) (start base : ℕ) (c d : List ℕ) → FinalSector image start base c → FinalSector image start base d → c ≡ d
-one-content image start base c d p q =
-    ext-getD 0 c d (p .long ∙ sym (q .long))
+pub one_content : (image : List ℕ) (start base : ℕ) (c d : List ℕ) → FinalSector image start base c → FinalSector image start base d → c ≡ d
+one_content image start base c d p q =
+    ext_get_or 0 c d (p.long ∙ sym q.long)
     (λ j h.
-    let l : j < 4096 = omega (arith, p .long) in
+    let l : j < 4096 = omega (arith, p.long) in
     split (leb start (base + j))
     (λ y.
     let s = leb-true start (base + j) y in
     split (leb (start + length image) (base + j))
-    (λ u. let e = leb-true (start + length image) (base + j) u in p .after j l e ∙ sym (q .after j l e))
-    (λ u. let e = leb-false (start + length image) (base + j) u in p .pages j l s e ∙ sym (q .pages j l s e)))
-    (λ z. let s = leb-false start (base + j) z in p .before j l s ∙ sym (q .before j l s)))
+    (λ u. let e = leb-true (start + length image) (base + j) u in p.after j l e ∙ sym (q.after j l e))
+    (λ u. let e = leb-false (start + length image) (base + j) u in p.pages j l s e ∙ sym (q.pages j l s e)))
+    (λ z. let s = leb-false start (base + j) z in p.before j l s ∙ sym (q.before j l s)))

@@ -1,101 +1,93 @@
 -- Each case of what a size and a type say, and answers that are no tag. Assumes nothing.
-use mathlib.Core.Path.{_≡_, refl, ap}
+use mathlib.Core.Path.{◌≡◌, refl, ap}
 use mathlib.Core.Bool.{Bool, true, false, cond}
-use mathlib.Core.Logic.{⊎-elim}
-use mathlib.Core.List.{[], _∷_}
-use Prim.Native.Nat.{ℕ, _+_, _<_, _≤_}
+use Prim.Native.Nat.{ℕ, ◌+◌, ◌<◌, ◌≤◌}
 use native.Mathlib.Omega.{arith}
-use borrow.Author.Tests.{lt-ltb, le-ltb, le-leb, lt-leb, eq-eqb, ne-eqb}
-use types.Run.{OneOf}
-use denote.Enum.Declared.{tagOf as caseOf}
-use Rattle·laws.proofs.Tests.{clash}
-use Rattle·uf2_tags·specs.specs.declared.one_tag.Tag.{Tag}
-use Rattle·uf2_tags·specs.specs.declared.one_tag.Answer.{Answer}
-use Rattle·uf2_tags·specs.specs.declared.one_tag.Answer.the-variants.{Tag as a-tag, End, BadLength, BadPlace, NotBlock, BadPayload, ShortTag, TypedEnd, PastRoom, NoRoom}
-use Rattle·uf2_tags·specs.specs.Tag.{tagOf, sized, isTag, onTag}
-use Rattle·uf2_tags·proofs.proofs.one_tag.Answer.{the-type}
+use borrow.Author.Tests.{lt-ltb, le-ltb, le-leb, lt-leb, eq-eqb, ne_eqb}
+use Rattle.laws.proofs.Tests.{clash}
+use Rattle.uf2_tags.specs.declared.one_tag.Tag.{Tag}
+use Rattle.uf2_tags.specs.declared.one_tag.Answer.{Answer}
+use Rattle.uf2_tags.specs.declared.one_tag.Answer.TheVariants.{Tag as a-tag, End, BadLength, BadPlace, NotBlock, BadPayload, ShortTag, TypedEnd, PastRoom, NoRoom}
+use Rattle.uf2_tags.specs.Tag.{tag_of, sized, is_tag, on_tag}
 
 -- ---- a size and a type
 
 module _ (size kind at end : ℕ) where
-  pub sized-end : size ≡ 0 → kind ≡ 0 → End ≡ sized size kind at end
+  pub sized_end : size ≡ 0 → kind ≡ 0 → End ≡ sized size kind at end
   unfolding sized
-  sized-end p q = rw (eq-eqb size 0 p, eq-eqb kind 0 q) refl
+  sized_end p q = rw (eq-eqb size 0 p, eq-eqb kind 0 q) refl
 
-  pub sized-typed : size ≡ 0 → (kind ≡ 0 → ⊥) → TypedEnd ≡ sized size kind at end
+  pub sized_typed : size ≡ 0 → (kind ≡ 0 → ⊥) → TypedEnd ≡ sized size kind at end
   unfolding sized
-  sized-typed p q = rw (eq-eqb size 0 p, ne-eqb kind 0 q, lt-leb 1 size (omega arith)) refl
+  sized_typed p q = rw (eq-eqb size 0 p, ne_eqb kind 0 q, lt-leb 1 size (omega arith)) refl
 
   module _ (p : size ≡ 0 → ⊥) where
-    pub sized-small : size < 4 → ShortTag ≡ sized size kind at end
+    pub sized_small : size < 4 → ShortTag ≡ sized size kind at end
     unfolding sized
-    sized-small h = rw (ne-eqb size 0 p, le-leb 1 size (omega arith), le-leb size 3 (omega arith)) refl
+    sized_small h = rw (ne_eqb size 0 p, le-leb 1 size (omega arith), le-leb size 3 (omega arith)) refl
 
     module _ (q : 4 ≤ size) where
-      pub sized-past : end < at + size → PastRoom ≡ sized size kind at end
+      pub sized_past : end < at + size → PastRoom ≡ sized size kind at end
       unfolding sized
-      sized-past h = rw (ne-eqb size 0 p, le-leb 1 size (omega arith), lt-leb size 3 (omega arith), lt-ltb end (at + size) h) refl
+      sized_past h = rw (ne_eqb size 0 p, le-leb 1 size (omega arith), lt-leb size 3 (omega arith), lt-ltb end (at + size) h) refl
 
-      pub sized-tag : at + size ≤ end → a-tag (tagOf size kind at) ≡ sized size kind at end
+      pub sized_tag : at + size ≤ end → a-tag (tag_of size kind at) ≡ sized size kind at end
       unfolding sized
-      sized-tag h = rw (ne-eqb size 0 p, le-leb 1 size (omega arith), lt-leb size 3 (omega arith), le-ltb end (at + size) h) refl
+      sized_tag h = rw (ne_eqb size 0 p, le-leb 1 size (omega arith), lt-leb size 3 (omega arith), le-ltb end (at + size) h) refl
 
-pub sized-same : {size s kind k : ℕ} (at end : ℕ) → size ≡ s → kind ≡ k → sized size kind at end ≡ sized s k at end
-sized-same at end e f = rw (e, f)
+pub sized_same : {size s kind k : ℕ} (at end : ℕ) → size ≡ s → kind ≡ k → sized size kind at end ≡ sized s k at end
+sized_same at end e f = rw (e, f)
 
 -- ---- a tag that is answered
 
 -- a check that did not decide
-pub past : (c : Bool) (a x : Answer) (t : Tag) → isTag a ≡ false → cond c a x ≡ a-tag t → (c ≡ false) × (x ≡ a-tag t)
-past true a x t n e = clash (isTag a) (ap isTag e) n
+pub past : (c : Bool) (a x : Answer) (t : Tag) → is_tag a ≡ false → cond c a x ≡ a-tag t → (c ≡ false) × (x ≡ a-tag t)
+past true a x t n e = clash (is_tag a) (ap is_tag e) n
 past false a x t n e = (refl, e)
 
-pub tag-same : (s t : Tag) → a-tag s ≡ a-tag t → s ≡ t
-tag-same s t e = cc
+pub tag_same : (s t : Tag) → a-tag s ≡ a-tag t → s ≡ t
+tag_same s t e = cc
 
 -- ---- answers that are no tag
 
--- by the case, as a `let .. else` tells it
-pub not-tag : (a : Answer) → OneOf (1 ∷ 2 ∷ 3 ∷ 4 ∷ 5 ∷ 6 ∷ 7 ∷ 8 ∷ 9 ∷ []) (caseOf the-type a) → isTag a ≡ false
-not-tag (a-tag t) h = absurd (none h)
-  where
-    none : OneOf (1 ∷ 2 ∷ 3 ∷ 4 ∷ 5 ∷ 6 ∷ 7 ∷ 8 ∷ 9 ∷ []) 0 → ⊥
-    none x = ⊎-elim (λ y. omega arith) (⊎-elim (λ y. omega arith) (⊎-elim (λ y. omega arith) (⊎-elim (λ y. omega arith) (⊎-elim (λ y. omega arith) (⊎-elim (λ y. omega arith) (⊎-elim (λ y. omega arith) (⊎-elim (λ y. omega arith) (λ y. omega arith)))))))) x
-not-tag End h = refl
-not-tag BadLength h = refl
-not-tag BadPlace h = refl
-not-tag NotBlock h = refl
-not-tag BadPayload h = refl
-not-tag ShortTag h = refl
-not-tag TypedEnd h = refl
-not-tag PastRoom h = refl
-not-tag NoRoom h = refl
+-- as a `let .. else` tells it
+pub not_tag : (a : Answer) → ((t : Tag) → a ≡ a-tag t → ⊥) → is_tag a ≡ false
+not_tag (a-tag t) h = absurd (h t refl)
+not_tag End h = refl
+not_tag BadLength h = refl
+not_tag BadPlace h = refl
+not_tag NotBlock h = refl
+not_tag BadPayload h = refl
+not_tag ShortTag h = refl
+not_tag TypedEnd h = refl
+not_tag PastRoom h = refl
+not_tag NoRoom h = refl
 
-pub on-other : {A : Type 0} (d : A) (f : Tag → A) (a : Answer) → isTag a ≡ false → onTag d f a ≡ d
-on-other d f (a-tag t) n = clash true refl n
-on-other d f End n = refl
-on-other d f BadLength n = refl
-on-other d f BadPlace n = refl
-on-other d f NotBlock n = refl
-on-other d f BadPayload n = refl
-on-other d f ShortTag n = refl
-on-other d f TypedEnd n = refl
-on-other d f PastRoom n = refl
-on-other d f NoRoom n = refl
+pub on_other : {A : Type 0} (d : A) (f : Tag → A) (a : Answer) → is_tag a ≡ false → on_tag d f a ≡ d
+on_other d f (a-tag t) n = clash true refl n
+on_other d f End n = refl
+on_other d f BadLength n = refl
+on_other d f BadPlace n = refl
+on_other d f NotBlock n = refl
+on_other d f BadPayload n = refl
+on_other d f ShortTag n = refl
+on_other d f TypedEnd n = refl
+on_other d f PastRoom n = refl
+on_other d f NoRoom n = refl
 
 -- the tag that an answer is
 pub record IsTag (a : Answer) : Type 0 where
   pub tag : Tag
   pub same : a ≡ a-tag tag
 
-pub the-tag : (a : Answer) → isTag a ≡ true → IsTag a
-the-tag (a-tag t) y = record { tag = t; same = refl }
-the-tag End y = clash false y refl
-the-tag BadLength y = clash false y refl
-the-tag BadPlace y = clash false y refl
-the-tag NotBlock y = clash false y refl
-the-tag BadPayload y = clash false y refl
-the-tag ShortTag y = clash false y refl
-the-tag TypedEnd y = clash false y refl
-the-tag PastRoom y = clash false y refl
-the-tag NoRoom y = clash false y refl
+pub the_tag : (a : Answer) → is_tag a ≡ true → IsTag a
+the_tag (a-tag t) y = record { tag = t; same = refl }
+the_tag End y = clash false y refl
+the_tag BadLength y = clash false y refl
+the_tag BadPlace y = clash false y refl
+the_tag NotBlock y = clash false y refl
+the_tag BadPayload y = clash false y refl
+the_tag ShortTag y = clash false y refl
+the_tag TypedEnd y = clash false y refl
+the_tag PastRoom y = clash false y refl
+the_tag NoRoom y = clash false y refl

@@ -1,171 +1,171 @@
 -- Each case of what a call answers at a place, from the facts that lead to it, and what a tag says of its block. Assumes nothing.
-use mathlib.Core.Path.{_≡_, refl, sym, ap, _∙_}
-use mathlib.Core.Bool.{Bool, true, false, not, _&&_}
+use mathlib.Core.Path.{◌≡◌, refl, sym, ap, ◌∙◌}
+use mathlib.Core.Bool.{Bool, true, false, not, ◌&&◌}
 use mathlib.Core.List.{List}
-use Prim.Native.Nat.{ℕ, _+_, _*_, _/_, _%_, _<_, _≤_}
+use Prim.Native.Nat.{ℕ, ◌+◌, ◌*◌, ◌/◌, ◌%◌, ◌<◌, ◌≤◌}
 use native.Mathlib.Omega.{arith}
-use lib.ListN.{length, getD}
+use lib.ListN.{length, get_or}
 use lib.Dec.{ltb, leb, eqb}
-use borrow.Author.Tests.{lt-ltb, le-ltb, le-leb, eq-eqb, ne-eqb, eqb-true, eqb-false, ltb-false, leb-false}
-use Rattle·laws.proofs.Tests.{or-left, or-right, split}
-use Rattle·laws.specs.Bytes.{numberIn}
-use Rattle·uf2_block.specs.Block.{fieldAt, hasFlag, isBlock}
-use Rattle·uf2_block.proofs.Laws.{field-in}
-use Rattle·uf2_tags·specs.specs.declared.one_tag.Tag.{Tag}
-use Rattle·uf2_tags·specs.specs.declared.one_tag.Answer.the-variants.{Tag as a-tag, End, BadLength, BadPlace, NotBlock, BadPayload, ShortTag, TypedEnd, PastRoom, NoRoom}
-use Rattle·uf2_tags·specs.specs.Tag.{tagOf, sized}
-use Rattle·uf2_tags·proofs.proofs.one_tag.Laws.{past, tag-same}
-use Rattle·uf2_tags·specs.specs.Room.{firstPlace, kindAt, roomEnd, badPayload, badPlace, standsAt, tagAt}
+use borrow.Author.Tests.{lt-ltb, le-ltb, le-leb, eq-eqb, ne_eqb, eqb-true, eqb-false, ltb-false, leb-false}
+use Rattle.laws.proofs.Tests.{or_left, or_right, split}
+use Rattle.laws.specs.Bytes.{number_in}
+use Rattle.uf2_block.specs.Block.{field_at, has_flag, is_block}
+use Rattle.uf2_block.proofs.Laws.{field_in_lem}
+use Rattle.uf2_tags.specs.declared.one_tag.Tag.{Tag}
+use Rattle.uf2_tags.specs.declared.one_tag.Answer.TheVariants.{Tag as a-tag, End, BadLength, BadPlace, NotBlock, BadPayload, ShortTag, TypedEnd, PastRoom, NoRoom}
+use Rattle.uf2_tags.specs.Tag.{tag_of, sized}
+use Rattle.uf2_tags.proofs.one_tag.Laws.{past, tag_same}
+use Rattle.uf2_tags.specs.Room.{first_place, kind_at, room_end, bad_payload, bad_place, stands_at, tag_at}
 
-pub not-true : (a : Bool) → not a ≡ true → a ≡ false
-not-true true e = sym e
-not-true false e = refl
+pub not_true : (a : Bool) → not a ≡ true → a ≡ false
+not_true true e = sym e
+not_true false e = refl
 
-pub not-false : (a : Bool) → not a ≡ false → a ≡ true
-not-false true e = refl
-not-false false e = sym e
+pub not_false : (a : Bool) → not a ≡ false → a ≡ true
+not_false true e = refl
+not_false false e = sym e
 
 -- ---- the parts of a call
 
-number-three : (b : List ℕ) (at : ℕ) → numberIn 3 b at ≡ getD b at 0 + 256 * getD b (at + 1) 0 + 65536 * getD b (at + 2) 0
-unfolding numberIn
-number-three b at =
+number_three : (b : List ℕ) (at : ℕ) → number_in 3 b at ≡ get_or b at 0 + 256 * get_or b (at + 1) 0 + 65536 * get_or b (at + 2) 0
+unfolding number_in
+number_three b at =
     let two : at + 1 + 1 ≡ at + 2 = omega arith in
     rw two (omega arith)
 
 -- by the weight of each byte
-kind-three : (b : List ℕ) (at : ℕ) → kindAt b at ≡ getD b (at + 1) 0 + 256 * getD b (at + 2) 0 + 65536 * getD b (at + 3) 0
-unfolding kindAt
-kind-three b at =
-    let two : getD b (at + 1 + 1) 0 ≡ getD b (at + 2) 0 = ap (λ (i : ℕ). getD b i 0) (omega arith) in
-    let three : getD b (at + 1 + 2) 0 ≡ getD b (at + 3) 0 = ap (λ (i : ℕ). getD b i 0) (omega arith) in
-    omega (arith, number-three b (at + 1), two, three)
+kind_three : (b : List ℕ) (at : ℕ) → kind_at b at ≡ get_or b (at + 1) 0 + 256 * get_or b (at + 2) 0 + 65536 * get_or b (at + 3) 0
+unfolding kind_at
+kind_three b at =
+    let two : get_or b (at + 1 + 1) 0 ≡ get_or b (at + 2) 0 = ap (λ (i : ℕ). get_or b i 0) (omega arith) in
+    let three : get_or b (at + 1 + 2) 0 ≡ get_or b (at + 3) 0 = ap (λ (i : ℕ). get_or b i 0) (omega arith) in
+    omega (arith, number_three b (at + 1), two, three)
 
 -- the four bytes of a tag's head as one field, as the code reads them
-module _ (b : List ℕ) (at : ℕ) (h : at + 4 ≤ length b) (low : getD b at 0 < 256) where
-  pub head-size : fieldAt b at % 256 ≡ getD b at 0
-  head-size = omega (arith, field-in b at h)
+module _ (b : List ℕ) (at : ℕ) (h : at + 4 ≤ length b) (low : get_or b at 0 < 256) where
+  pub head_size : field_at b at % 256 ≡ get_or b at 0
+  head_size = omega (arith, field_in_lem b at h)
 
-  pub head-kind : fieldAt b at / 256 ≡ kindAt b at
-  head-kind = omega (arith, field-in b at h, kind-three b at)
+  pub head_kind : field_at b at / 256 ≡ kind_at b at
+  head_kind = omega (arith, field_in_lem b at h, kind_three b at)
 
 module _ (b : List ℕ) where
-  pub room-md5 : fieldAt b 8 / 0x4000 % 2 ≡ 1 → 484 ≡ roomEnd b
-  unfolding roomEnd
-  room-md5 h = rw (eq-eqb (fieldAt b 8 / 0x4000 % 2) 1 h) refl
+  pub room_md5 : field_at b 8 / 0x4000 % 2 ≡ 1 → 484 ≡ room_end b
+  unfolding room_end
+  room_md5 h = rw (eq-eqb (field_at b 8 / 0x4000 % 2) 1 h) refl
 
-  pub room-whole : (fieldAt b 8 / 0x4000 % 2 ≡ 1 → ⊥) → 508 ≡ roomEnd b
-  unfolding roomEnd
-  room-whole h = rw (ne-eqb (fieldAt b 8 / 0x4000 % 2) 1 h) refl
+  pub room_whole : (field_at b 8 / 0x4000 % 2 ≡ 1 → ⊥) → 508 ≡ room_end b
+  unfolding room_end
+  room_whole h = rw (ne_eqb (field_at b 8 / 0x4000 % 2) 1 h) refl
 
 -- the room ends at 484 or at 508
 pub record RoomEnd (b : List ℕ) : Type 0 where
-  pub low : 484 ≤ roomEnd b
-  pub high : roomEnd b ≤ 508
-  pub even : roomEnd b % 4 ≡ 0
+  pub low : 484 ≤ room_end b
+  pub high : room_end b ≤ 508
+  pub even : room_end b % 4 ≡ 0
 
-pub room-end : (b : List ℕ) → RoomEnd b
-unfolding roomEnd
-room-end b =
-    split (hasFlag b 0x4000)
+pub room_end_lem : (b : List ℕ) → RoomEnd b
+unfolding room_end
+room_end_lem b =
+    split (has_flag b 0x4000)
     (λ y. record { low = rw y (omega arith); high = rw y (omega arith); even = rw y refl })
     (λ n. record { low = rw n (omega arith); high = rw n (omega arith); even = rw n refl })
 
 -- ---- a call, by the check that decides
 
 -- what a test answered, of the numbers that it was handed
-pub payload-test : {n m : ℕ} {r v : Bool} → n ≡ m → r ≡ badPayload n → r ≡ v → badPayload m ≡ v
-payload-test e h w = sym (h ∙ ap badPayload e) ∙ w
+pub payload_test : {n m : ℕ} {r v : Bool} → n ≡ m → r ≡ bad_payload n → r ≡ v → bad_payload m ≡ v
+payload_test e h w = sym (h ∙ ap bad_payload e) ∙ w
 
-pub place-test : (at : ℕ) {n m : ℕ} {r v : Bool} → n ≡ m → r ≡ badPlace n at → r ≡ v → badPlace m at ≡ v
-place-test at e h w = sym (h ∙ ap (λ (k : ℕ). badPlace k at) e) ∙ w
+pub place_test_lem : (at : ℕ) {n m : ℕ} {r v : Bool} → n ≡ m → r ≡ bad_place n at → r ≡ v → bad_place m at ≡ v
+place_test_lem at e h w = sym (h ∙ ap (λ (k : ℕ). bad_place k at) e) ∙ w
 
 module _ (b : List ℕ) (at : ℕ) where
-  pub at-length : (length b ≡ 512 → ⊥) → BadLength ≡ tagAt b at
-  unfolding tagAt
-  at-length h = rw (ne-eqb (length b) 512 h) refl
+  pub at_length : (length b ≡ 512 → ⊥) → BadLength ≡ tag_at b at
+  unfolding tag_at
+  at_length h = rw (ne_eqb (length b) 512 h) refl
 
   module _ (p : length b ≡ 512) where
-    pub at-other : isBlock b ≡ false → NotBlock ≡ tagAt b at
-    unfolding tagAt
-    at-other h = rw (eq-eqb (length b) 512 p, h) refl
+    pub at_other : is_block b ≡ false → NotBlock ≡ tag_at b at
+    unfolding tag_at
+    at_other h = rw (eq-eqb (length b) 512 p, h) refl
 
-    module _ (q : isBlock b ≡ true) where
-      pub at-clear : (fieldAt b 8 / 0x8000 % 2 ≡ 1 → ⊥) → End ≡ tagAt b at
-      unfolding tagAt
-      at-clear h = rw (eq-eqb (length b) 512 p, q, ne-eqb (fieldAt b 8 / 0x8000 % 2) 1 h) refl
+    module _ (q : is_block b ≡ true) where
+      pub at_clear : (field_at b 8 / 0x8000 % 2 ≡ 1 → ⊥) → End ≡ tag_at b at
+      unfolding tag_at
+      at_clear h = rw (eq-eqb (length b) 512 p, q, ne_eqb (field_at b 8 / 0x8000 % 2) 1 h) refl
 
-      module _ (f : fieldAt b 8 / 0x8000 % 2 ≡ 1) where
-        pub at-payload : badPayload (fieldAt b 16) ≡ true → BadPayload ≡ tagAt b at
-        unfolding tagAt
-        at-payload h = rw (eq-eqb (length b) 512 p, q, eq-eqb (fieldAt b 8 / 0x8000 % 2) 1 f, h) refl
+      module _ (f : field_at b 8 / 0x8000 % 2 ≡ 1) where
+        pub at_payload : bad_payload (field_at b 16) ≡ true → BadPayload ≡ tag_at b at
+        unfolding tag_at
+        at_payload h = rw (eq-eqb (length b) 512 p, q, eq-eqb (field_at b 8 / 0x8000 % 2) 1 f, h) refl
 
-        pub at-stands : badPayload (fieldAt b 16) ≡ false → standsAt b at ≡ tagAt b at
-        unfolding tagAt
-        at-stands h = rw (eq-eqb (length b) 512 p, q, eq-eqb (fieldAt b 8 / 0x8000 % 2) 1 f, h) refl
+        pub at_stands : bad_payload (field_at b 16) ≡ false → stands_at b at ≡ tag_at b at
+        unfolding tag_at
+        at_stands h = rw (eq-eqb (length b) 512 p, q, eq-eqb (field_at b 8 / 0x8000 % 2) 1 f, h) refl
 
 -- by the check of the place that decides
 module _ (b : List ℕ) (at : ℕ) where
-  pub stands-place : badPlace (firstPlace b) at ≡ true → BadPlace ≡ standsAt b at
-  stands-place h = rw h refl
+  pub stands_place : bad_place (first_place b) at ≡ true → BadPlace ≡ stands_at b at
+  stands_place h = rw h refl
 
-  module _ (s : badPlace (firstPlace b) at ≡ false) where
-    pub stands-none : roomEnd b < at + 4 → NoRoom ≡ standsAt b at
-    stands-none h = rw (s, lt-ltb (roomEnd b) (at + 4) h) refl
+  module _ (s : bad_place (first_place b) at ≡ false) where
+    pub stands_none : room_end b < at + 4 → NoRoom ≡ stands_at b at
+    stands_none h = rw (s, lt-ltb (room_end b) (at + 4) h) refl
 
-    pub stands-tag : at + 4 ≤ roomEnd b → sized (getD b at 0) (kindAt b at) at (roomEnd b) ≡ standsAt b at
-    stands-tag h = rw (s, le-ltb (roomEnd b) (at + 4) h) refl
+    pub stands_tag : at + 4 ≤ room_end b → sized (get_or b at 0) (kind_at b at) at (room_end b) ≡ stands_at b at
+    stands_tag h = rw (s, le-ltb (room_end b) (at + 4) h) refl
 
 -- ---- what a tag says of its block
 
 -- a block that may have tags
 pub record Carries (b : List ℕ) : Type 0 where
   pub whole : length b ≡ 512
-  pub magic : isBlock b ≡ true
-  pub flag : fieldAt b 8 / 0x8000 % 2 ≡ 1
-  pub small : fieldAt b 16 ≤ 476
-  pub even : fieldAt b 16 % 4 ≡ 0
+  pub magic : is_block b ≡ true
+  pub flag : field_at b 8 / 0x8000 % 2 ≡ 1
+  pub small : field_at b 16 ≤ 476
+  pub even : field_at b 16 % 4 ≡ 0
 
 -- a tag stands at a place
 pub record TagHere (b : List ℕ) (at : ℕ) (t : Tag) : Type 0 where
   pub carries : Carries b
-  pub after : firstPlace b ≤ at
+  pub after : first_place b ≤ at
   pub even : at % 4 ≡ 0
-  pub room : at + 4 ≤ roomEnd b
-  pub size : 4 ≤ getD b at 0
-  pub fits : at + getD b at 0 ≤ roomEnd b
-  pub tag : tagOf (getD b at 0) (kindAt b at) at ≡ t
+  pub room : at + 4 ≤ room_end b
+  pub size : 4 ≤ get_or b at 0
+  pub fits : at + get_or b at 0 ≤ room_end b
+  pub tag : tag_of (get_or b at 0) (kind_at b at) at ≡ t
 
-pub tag-here : (b : List ℕ) (at : ℕ) (t : Tag) → tagAt b at ≡ a-tag t → TagHere b at t
-unfolding tagAt sized badPayload badPlace
-tag-here b at t e =
-    let size = getD b at 0 in
-    let kind = kindAt b at in
+pub tag_here : (b : List ℕ) (at : ℕ) (t : Tag) → tag_at b at ≡ a-tag t → TagHere b at t
+unfolding tag_at sized bad_payload bad_place
+tag_here b at t e =
+    let size = get_or b at 0 in
+    let kind = kind_at b at in
     let p1 = past (not (eqb (length b) 512)) BadLength _ t refl e in
-    let p2 = past (not (isBlock b)) NotBlock _ t refl (p1 .1) in
-    let p3 = past (not (hasFlag b 0x8000)) End _ t refl (p2 .1) in
-    let p4 = past (badPayload (fieldAt b 16)) BadPayload _ t refl (p3 .1) in
-    let p5 = past (badPlace (firstPlace b) at) BadPlace _ t refl (p4 .1) in
-    let p6 = past (ltb (roomEnd b) (at + 4)) NoRoom _ t refl (p5 .1) in
-    let q1 = past (eqb size 0 && eqb kind 0) End _ t refl (p6 .1) in
-    let q2 = past (leb 1 size && leb size 3) ShortTag _ t refl (q1 .1) in
-    let q3 = past (eqb size 0) TypedEnd _ t refl (q2 .1) in
-    let q4 = past (ltb (roomEnd b) (at + size)) PastRoom _ t refl (q3 .1) in
+    let p2 = past (not (is_block b)) NotBlock _ t refl p1.1 in
+    let p3 = past (not (has_flag b 0x8000)) End _ t refl p2.1 in
+    let p4 = past (bad_payload (field_at b 16)) BadPayload _ t refl p3.1 in
+    let p5 = past (bad_place (first_place b) at) BadPlace _ t refl p4.1 in
+    let p6 = past (ltb (room_end b) (at + 4)) NoRoom _ t refl p5.1 in
+    let q1 = past (eqb size 0 && eqb kind 0) End _ t refl p6.1 in
+    let q2 = past (leb 1 size && leb size 3) ShortTag _ t refl q1.1 in
+    let q3 = past (eqb size 0) TypedEnd _ t refl q2.1 in
+    let q4 = past (ltb (room_end b) (at + size)) PastRoom _ t refl q3.1 in
     record {
       carries =
           record {
-            whole = eqb-true (length b) 512 (not-false _ (p1 .0));
-            magic = not-false _ (p2 .0);
-            flag = eqb-true (fieldAt b 8 / 0x8000 % 2) 1 (not-false _ (p3 .0));
-            small = ltb-false 476 (fieldAt b 16) (or-left (ltb 476 (fieldAt b 16)) (not (eqb (fieldAt b 16 % 4) 0)) (p4 .0));
-            even = eqb-true (fieldAt b 16 % 4) 0 (not-false _ (or-right (ltb 476 (fieldAt b 16)) (not (eqb (fieldAt b 16 % 4) 0)) (p4 .0)));
+            whole = eqb-true (length b) 512 (not_false _ p1.0);
+            magic = not_false _ p2.0;
+            flag = eqb-true (field_at b 8 / 0x8000 % 2) 1 (not_false _ p3.0);
+            small = ltb-false 476 (field_at b 16) (or_left (ltb 476 (field_at b 16)) (not (eqb (field_at b 16 % 4) 0)) p4.0);
+            even = eqb-true (field_at b 16 % 4) 0 (not_false _ (or_right (ltb 476 (field_at b 16)) (not (eqb (field_at b 16 % 4) 0)) p4.0));
           };
-      after = ltb-false at (firstPlace b) (or-left (ltb at (firstPlace b)) (not (eqb (at % 4) 0)) (p5 .0));
-      even = eqb-true (at % 4) 0 (not-false _ (or-right (ltb at (firstPlace b)) (not (eqb (at % 4) 0)) (p5 .0)));
-      room = ltb-false (roomEnd b) (at + 4) (p6 .0);
-      size = some size (eqb-false size 0 (q3 .0)) (q2 .0);
-      fits = ltb-false (roomEnd b) (at + size) (q4 .0);
-      tag = tag-same _ t (q4 .1);
+      after = ltb-false at (first_place b) (or_left (ltb at (first_place b)) (not (eqb (at % 4) 0)) p5.0);
+      even = eqb-true (at % 4) 0 (not_false _ (or_right (ltb at (first_place b)) (not (eqb (at % 4) 0)) p5.0));
+      room = ltb-false (room_end b) (at + 4) p6.0;
+      size = some size (eqb-false size 0 q3.0) q2.0;
+      fits = ltb-false (room_end b) (at + size) q4.0;
+      tag = tag_same _ t q4.1;
     }
   where
     some : (n : ℕ) → (n ≡ 0 → ⊥) → leb 1 n && leb n 3 ≡ false → 4 ≤ n

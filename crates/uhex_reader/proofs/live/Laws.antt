@@ -1,56 +1,48 @@
 -- Laws of a line of a reader that is neither failed nor at the end, one for each way that the code leaves. Assumes nothing.
-use Prim.Native.Nat.{ℕ, _+_, _≤_, _<_}
-use mathlib.Core.Path.{_≡_, refl, ap, sym, _∙_}
-use mathlib.Core.Logic.{⊎-elim}
-use types.Run.{OneOf}
-use denote.Enum.Declared.{tagOf}
-use native.Mathlib.Omega.{arith}
-use mathlib.Core.List.{List, [], _∷_}
+use Prim.Native.Nat.{ℕ, ◌+◌, ◌≤◌, ◌<◌}
+use mathlib.Core.Path.{◌≡◌, refl, ap, sym, ◌∙◌}
+use mathlib.Core.List.{List}
 use lib.ListN.{length}
 use borrow.Author.Tests.{lt-ltb, le-ltb}
-use Rattle·ihex_record.proofs.ParseResult.{the-type}
-use Rattle·ihex_record.specs.declared.ParseResult.{ParseResult}
-use Rattle·ihex_record.specs.declared.ParseResult.the-variants as parsed
-use Rattle·ihex_record.specs.declared.Line.{Line}
-use Rattle·ihex_record.specs.Record.{readOf}
-use Rattle·uhex_grammar.specs.Answers.{refusalOf}
-use Rattle·uhex_grammar.specs.declared.Answer.{Answer}
-use Rattle·uhex_grammar.specs.declared.Answer.the-variants.{FileTooLong}
-use Rattle·uhex_effects.specs.declared.Reader.{Reader}
-use Rattle·uhex_reader·specs.specs.Outcome.{LineOutcome, failing}
-use Rattle·uhex_reader·specs.specs.Live.{parsedLine, liveLine}
+use Rattle.ihex_record.specs.declared.Record.{Record}
+use Rattle.ihex_record.specs.declared.ParseResult.{ParseResult}
+use Rattle.ihex_record.specs.declared.ParseResult.TheVariants as parsed
+use Rattle.ihex_record.specs.declared.Line.{Line}
+use Rattle.ihex_record.specs.Record.{read_of}
+use Rattle.uhex_grammar.specs.Answers.{refusal_of}
+use Rattle.uhex_grammar.specs.declared.Answer.{Answer}
+use Rattle.uhex_grammar.specs.declared.Answer.TheVariants.{FileTooLong}
+use Rattle.uhex_effects.specs.declared.Reader.{Reader}
+use Rattle.uhex_reader.specs.Outcome.{LineOutcome, failing}
+use Rattle.uhex_reader.specs.Live.{parsed_line, live_line}
 
-parsed-refused : (r : Reader) (d : List ℕ) (e : ℕ) (img : List ℕ) (p : ParseResult) → OneOf (1 ∷ 2 ∷ 3 ∷ 4 ∷ 5 ∷ 6 ∷ []) (tagOf the-type p)
-    → failing r (refusalOf p) img ≡ parsedLine r d e img p
-unfolding parsedLine
-parsed-refused r d e img (parsed.Good rec) t =
-    absurd
-    (⊎-elim (λ x. omega arith)
-    (⊎-elim (λ x. omega arith) (⊎-elim (λ x. omega arith) (⊎-elim (λ x. omega arith) (⊎-elim (λ x. omega arith) (λ x. omega arith)))))
-    t)
-parsed-refused r d e img parsed.NoColon t = refl
-parsed-refused r d e img parsed.BadShape t = refl
-parsed-refused r d e img (parsed.BadDigit p) t = refl
-parsed-refused r d e img parsed.TooLong t = refl
-parsed-refused r d e img parsed.BadLength t = refl
-parsed-refused r d e img parsed.BadSum t = refl
+parsed_refused : (r : Reader) (d : List ℕ) (e : ℕ) (img : List ℕ) (p : ParseResult) → ((rec : Record) → p ≡ parsed.Good rec → ⊥)
+    → failing r (refusal_of p) img ≡ parsed_line r d e img p
+unfolding parsed_line
+parsed_refused r d e img (parsed.Good rec) t = absurd (t rec refl)
+parsed_refused r d e img parsed.NoColon t = refl
+parsed_refused r d e img parsed.BadShape t = refl
+parsed_refused r d e img (parsed.BadDigit p) t = refl
+parsed_refused r d e img parsed.TooLong t = refl
+parsed_refused r d e img parsed.BadLength t = refl
+parsed_refused r d e img parsed.BadSum t = refl
 
-pub live-too-long : (r : Reader) (l img : List ℕ) (o : LineOutcome) → 4194304 < r .offset + length l → o ≡ failing r FileTooLong img → o ≡ liveLine r l img
-unfolding liveLine
-live-too-long r l img o p h = simp (lt-ltb _ _ p) h
+pub live_too_long : (r : Reader) (l img : List ℕ) (o : LineOutcome) → 4194304 < r.offset + length l → o ≡ failing r FileTooLong img → o ≡ live_line r l img
+unfolding live_line
+live_too_long r l img o p h = simp (lt-ltb _ _ p) h
 
-pub live-by : (r : Reader) (l img : List ℕ) (x : Line) (p : ParseResult) (o : LineOutcome) → r .offset + length l ≤ 4194304 → x ≡ readOf l → x .parsed ≡ p
-    → o ≡ parsedLine r (x .«data») (r .offset + length l) img p → o ≡ liveLine r l img
-unfolding liveLine
-live-by r l img x p o q h k f =
+pub live_by : (r : Reader) (l img : List ℕ) (x : Line) (p : ParseResult) (o : LineOutcome) → r.offset + length l ≤ 4194304 → x ≡ read_of l → x.parsed ≡ p
+    → o ≡ parsed_line r x.«data» (r.offset + length l) img p → o ≡ live_line r l img
+unfolding live_line
+live_by r l img x p o q h k f =
     simp (le-ltb _ _ q)
     (f
-    ∙ ap (parsedLine r (x .«data») (r .offset + length l) img) (sym k)
-    ∙ ap (λ (y : Line). parsedLine r (y .«data») (r .offset + length l) img (y .parsed)) h)
+    ∙ ap (parsed_line r x.«data» (r.offset + length l) img) (sym k)
+    ∙ ap (λ (y : Line). parsed_line r y.«data» (r.offset + length l) img y.parsed) h)
 
--- what is read is no record, by its tag
-pub live-refused : (r : Reader) (l img : List ℕ) (x : Line) (a : Answer) (o : LineOutcome) → r .offset + length l ≤ 4194304 → x ≡ readOf l
-    → OneOf (1 ∷ 2 ∷ 3 ∷ 4 ∷ 5 ∷ 6 ∷ []) (tagOf the-type (x .parsed)) → a ≡ refusalOf (x .parsed) → o ≡ failing r a img → o ≡ liveLine r l img
-live-refused r l img x a o q h t k f =
-    live-by r l img x (x .parsed) o q h refl
-    (f ∙ ap (λ (y : Answer). failing r y img) k ∙ parsed-refused r (x .«data») (r .offset + length l) img (x .parsed) t)
+-- what is read is no record
+pub live_refused : (r : Reader) (l img : List ℕ) (x : Line) (a : Answer) (o : LineOutcome) → r.offset + length l ≤ 4194304 → x ≡ read_of l
+    → ((rec : Record) → x.parsed ≡ parsed.Good rec → ⊥) → a ≡ refusal_of x.parsed → o ≡ failing r a img → o ≡ live_line r l img
+live_refused r l img x a o q h t k f =
+    live_by r l img x x.parsed o q h refl
+    (f ∙ ap (λ (y : Answer). failing r y img) k ∙ parsed_refused r x.«data» (r.offset + length l) img x.parsed t)

@@ -1,38 +1,38 @@
 -- `knownbytes::place` meets its contract. Assumes nothing.
-use Rattle·call_bytes·proofs.proofs.known.Laws.{place-absolute-without, place-other-without}
-use borrow.Author.Needs.{needs}
-use Rattle·call_bytes·proofs.proofs.known.place.Statement.{statement}
-use Rattle·call_bytes·proofs.proofs.known.place.Tie as tie
+use Rattle.call_bytes.proofs.known.Laws.{place_absolute_without, place_other_without}
+use borrow.Author.Rules.{rules}
+use Rattle.call_bytes.proofs.known.place.Statement.{statement}
+use Rattle.call_bytes.proofs.known.place.Tie as tie
 
 on-requires : tie.Need-on-requires
-on-requires c κs = search needs
+on-requires c κs = search rules
 
 whole-if-requires : tie.Need-whole-if-requires
-whole-if-requires c κs = search needs
+whole-if-requires c κs = search rules
 
 returns : tie.Need-returns
 returns c = (
-  place-absolute-without _ (c .before .before .before .before .pre) _ (c .before .before .if1 .taken) (c .before .on .ensures) (c .whole-if .ensures .0),
-  c .whole-if .ensures .1,
+  place_absolute_without _ c.before.before.before.before.requires _ c.before.before.if1.true c.before.on.ensures c.whole-if.ensures.0,
+  c.whole-if.ensures.1,
 )
 
 on-requires-2 : tie.Need-on-requires-2
-on-requires-2 c κs = search needs
+on-requires-2 c κs = search rules
 
 on-requires-3 : tie.Need-on-requires-3
-on-requires-3 c κs = search needs
+on-requires-3 c κs = search rules
 
 gets-whole-requires : tie.Need-gets-whole-requires
-gets-whole-requires c κs = search needs
+gets-whole-requires c κs = search rules
 
 whole-if-requires-2 : tie.Need-whole-if-requires-2
-whole-if-requires-2 c κs = search needs
+whole-if-requires-2 c κs = search rules
 
 returns-2 : tie.Need-returns-2
 returns-2 c =
-    let read = c .before .before .before in (
-      place-other-without _ (read .before .before .before .pre) _ (read .before .if1 .left) (read .on2 .ensures) (c .before .before .on3 .ensures) (c .before .gets-whole .ensures) (c .whole-if2 .ensures .0),
-      c .whole-if2 .ensures .1,
+    let read = c.before.before.before in (
+      place_other_without _ read.before.before.before.requires _ read.before.if1.false read.on2.ensures c.before.before.on3.ensures c.before.gets-whole.ensures c.whole-if2.ensures.0,
+      c.whole-if2.ensures.1,
     )
 
 pub place-spec : {M : Type 1} → statement M

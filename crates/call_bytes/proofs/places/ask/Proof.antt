@@ -1,33 +1,33 @@
 -- `placebytes::ask` meets its contract. Assumes nothing.
-use Rattle·laws.proofs.Numbered.{answer-is}
-use Rattle·call_bytes·proofs.proofs.places.Places.{ask-low}
-use Rattle·call_bytes·proofs.proofs.places.Laws.{ask-short, ask-told}
-use borrow.Author.Needs.{needs}
-use Rattle·call_bytes·proofs.proofs.places.ask.Statement.{statement}
-use Rattle·call_bytes·proofs.proofs.places.ask.Tie as tie
+use Rattle.laws.proofs.Numbered.{answer_is}
+use Rattle.call_bytes.proofs.places.Places.{ask_low}
+use Rattle.call_bytes.proofs.places.Laws.{ask_short, ask_told}
+use borrow.Author.Rules.{rules}
+use Rattle.call_bytes.proofs.places.ask.Statement.{statement}
+use Rattle.call_bytes.proofs.places.ask.Tie as tie
 
 returns : tie.Need-returns
-returns c = ask-short _ _ _ _ (c .if1 .taken)
+returns c = ask_short _ _ _ _ c.if1.true
 
 read-settings-requires : tie.Need-read-settings-requires
-read-settings-requires c κs = search needs
+read-settings-requires c κs = search rules
 
 ask-requires : tie.Need-ask-requires
-ask-requires c κs = search needs
+ask-requires c κs = search rules
 
 tell-requires : tie.Need-tell-requires
-tell-requires c κs = (search needs, ask-low _ _ _ (answer-is (c .before .ask .ensures)))
+tell-requires c κs = (search rules, ask_low _ _ _ (answer_is c.before.ask.ensures))
 
-same-length : tie.Need-same-length
-same-length c = search needs
+same_length : tie.Need-same-length
+same_length c = search rules
 
 returns-2 : tie.Need-returns-2
 returns-2 c =
-    let b = c .before .before in
-    let a = b .before .before in
-    ask-told _ _ _ _ (a .before .before .if1 .left) (a .before .read-settings .ensures) (answer-is (a .ask .ensures)) (b .tell .ensures)
+    let b = c.before.before in
+    let a = b.before.before in
+    ask_told _ _ _ _ a.before.before.if1.false a.before.read-settings.ensures (answer_is a.ask.ensures) b.tell.ensures
 
 pub ask-spec : {M : Type 1} → statement M
 ask-spec =
     tie.close
-    (tie.spec returns read-settings-requires ask-requires tell-requires same-length returns-2)
+    (tie.spec returns read-settings-requires ask-requires tell-requires same_length returns-2)

@@ -1,39 +1,39 @@
 -- `checkbytes::put_numbers` meets its contract. Assumes nothing.
-use Rattle·checkapi·specs.specs.CheckBytes.{numbersOver}
-use borrow.Author.Needs.{needs}
-use Rattle·checkapi·proofs.proofs.answer_bytes.put_numbers.Statement.{statement}
-use Rattle·checkapi·proofs.proofs.answer_bytes.put_numbers.Tie as tie
+use Rattle.checkapi.specs.CheckBytes.{numbers_over}
+use borrow.Author.Rules.{rules}
+use Rattle.checkapi.proofs.answer_bytes.put_numbers.Statement.{statement}
+use Rattle.checkapi.proofs.answer_bytes.put_numbers.Tie as tie
 
-cast-put : tie.Need-cast-put
-cast-put c = search needs
+cast-put : tie.Need-overflow-cast-put
+cast-put c = search rules
 
 put-requires : tie.Need-put-requires
-put-requires c κs = search needs
+put-requires c κs = search rules
 
-cast-put-2 : tie.Need-cast-put-2
-cast-put-2 c = search needs
+cast-put-2 : tie.Need-overflow-cast-put-2
+cast-put-2 c = search rules
 
 put-requires-2 : tie.Need-put-requires-2
-put-requires-2 c κs = search needs
+put-requires-2 c κs = search rules
 
-cast-put-3 : tie.Need-cast-put-3
-cast-put-3 c = search needs
+cast-put-3 : tie.Need-overflow-cast-put-3
+cast-put-3 c = search rules
 
 put-requires-3 : tie.Need-put-requires-3
-put-requires-3 c κs = search needs
+put-requires-3 c κs = search rules
 
-cast-put-4 : tie.Need-cast-put-4
-cast-put-4 c = search needs
+cast-put-4 : tie.Need-overflow-cast-put-4
+cast-put-4 c = search rules
 
 put-requires-4 : tie.Need-put-requires-4
-put-requires-4 c κs = search needs
+put-requires-4 c κs = search rules
 
-same-length : tie.Need-same-length
-same-length c = search needs
+same_length : tie.Need-same-length
+same_length c = search rules
 
 returns : tie.Need-returns
-unfolding numbersOver
-returns c = rw (c .before .before .put4 .ensures, c .before .before .before .before .before .before .put3 .ensures, c .before .before .before .before .before .before .before .before .before .before .put2 .ensures, c .before .before .before .before .before .before .before .before .before .before .before .before .before .before .put .ensures)
+unfolding numbers_over
+returns c = rw (c.before.before.put4.ensures, c.before.before.before.before.before.before.put3.ensures, c.before.before.before.before.before.before.before.before.before.before.put2.ensures, c.before.before.before.before.before.before.before.before.before.before.before.before.before.before.put.ensures)
 
 pub put-numbers-spec : {M : Type 1} → statement M
 put-numbers-spec =
@@ -47,5 +47,5 @@ put-numbers-spec =
     put-requires-3
     cast-put-4
     put-requires-4
-    same-length
+    same_length
     returns)

@@ -1,32 +1,32 @@
 -- `checkbytes::tell` meets its contract. Assumes nothing.
-use Rattle·checkapi·proofs.proofs.answer_bytes.Laws.{no-bytes, written}
-use borrow.Author.Needs.{needs}
-use Rattle·checkapi·proofs.proofs.answer_bytes.tell.Statement.{statement}
-use Rattle·checkapi·proofs.proofs.answer_bytes.tell.Tie as tie
+use Rattle.checkapi.proofs.answer_bytes.Laws.{no_bytes, written}
+use borrow.Author.Rules.{rules}
+use Rattle.checkapi.proofs.answer_bytes.tell.Statement.{statement}
+use Rattle.checkapi.proofs.answer_bytes.tell.Tie as tie
 
 returns : tie.Need-returns
-returns c = no-bytes _ _ (c .if1 .taken)
+returns c = no_bytes _ _ c.if1.true
 
 piece-told-requires : tie.Need-piece-told-requires
-piece-told-requires c κs = search needs
+piece-told-requires c κs = search rules
 
 other-told-requires : tie.Need-other-told-requires
-other-told-requires c κs = search needs
+other-told-requires c κs = search rules
 
 put-numbers-requires : tie.Need-put-numbers-requires
-put-numbers-requires c κs = search needs
+put-numbers-requires c κs = search rules
 
 number-requires : tie.Need-number-requires
-number-requires c κs = search needs
+number-requires c κs = search rules
 
-cast-result : tie.Need-cast-result
-cast-result c = search needs
+cast-result : tie.Need-overflow-cast-result
+cast-result c = search rules
 
-same-length : tie.Need-same-length
-same-length c = search needs
+same_length : tie.Need-same-length
+same_length c = search rules
 
 returns-2 : tie.Need-returns-2
-returns-2 c = written _ _ (c .before .before .before .before .before .before .before .if1 .left) (c .before .before .before .before .before .before .piece-told .ensures) (c .before .before .before .before .before .other-told .ensures) (c .before .before .before .put-numbers .ensures) (c .number .ensures)
+returns-2 c = written _ _ c.before.before.before.before.before.before.before.if1.false c.before.before.before.before.before.before.piece-told.ensures c.before.before.before.before.before.other_told_lem.ensures c.before.before.before.put-numbers.ensures c.number.ensures
 
 pub tell-spec : {M : Type 1} → statement M
 tell-spec =
@@ -38,5 +38,5 @@ tell-spec =
     put-numbers-requires
     number-requires
     cast-result
-    same-length
+    same_length
     returns-2)

@@ -1,29 +1,29 @@
 -- `earlier::field_in` meets its contract. Assumes nothing.
-use Rattle·file_checking·proofs.proofs.earlier.Laws.{field-is}
-use borrow.Author.Needs.{needs}
-use Rattle·file_checking·proofs.proofs.earlier.field_in.Statement.{statement}
-use Rattle·file_checking·proofs.proofs.earlier.field_in.Tie as tie
+use Rattle.file_checking.proofs.earlier.Laws.{field_is}
+use borrow.Author.Rules.{rules}
+use Rattle.file_checking.proofs.earlier.field_in.Statement.{statement}
+use Rattle.file_checking.proofs.earlier.field_in.Tie as tie
 
-mul-from : tie.Need-mul-from
-mul-from c = search needs
+mul-from : tie.Need-overflow-mul-from
+mul-from c = search rules
 
-add-to : tie.Need-add-to
-add-to c = search needs
+add-to : tie.Need-overflow-add-to
+add-to c = search rules
 
-sub-field : tie.Need-sub-field
-sub-field c = search needs
+sub-field : tie.Need-overflow-sub-field
+sub-field c = search rules
 
-part-field-start : tie.Need-part-field-start
-part-field-start c = search needs
+part-field-start : tie.Need-slice-bounds-field-start
+part-field-start c = search rules
 
-part-field-end : tie.Need-part-field-end
-part-field-end c = search needs
+part-field-end : tie.Need-slice-bounds-field-end
+part-field-end c = search rules
 
 field-requires : tie.Need-field-requires
-field-requires c κs = search needs
+field-requires c κs = search rules
 
 returns : tie.Need-returns
-returns c = field-is _ _ _ (c .field .ensures)
+returns c = field_is _ _ _ c.field.ensures
 
 pub field-in-spec : {M : Type 1} → statement M
 field-in-spec =

@@ -1,49 +1,49 @@
 -- `piece::settle` meets its contract. Assumes nothing.
-use Rattle·file_checking·proofs.proofs.piece.Steps.{stays-by, enters-by}
-use borrow.Author.Needs.{needs}
-use Rattle·file_checking·proofs.proofs.piece.settle.Statement.{statement}
-use Rattle·file_checking·proofs.proofs.piece.settle.Tie as tie
+use Rattle.file_checking.proofs.piece.Steps.{stays_by, enters_by}
+use borrow.Author.Rules.{rules}
+use Rattle.file_checking.proofs.piece.settle.Statement.{statement}
+use Rattle.file_checking.proofs.piece.settle.Tie as tie
 
 beside-requires : tie.Need-beside-requires
-beside-requires c κs = search needs
+beside-requires c κs = search rules
 
 is-valid-requires : tie.Need-is-valid-requires
-is-valid-requires c κs = search needs
+is-valid-requires c κs = search rules
 
-same-length : tie.Need-same-length
-same-length c = search needs
+same_length : tie.Need-same-length
+same_length c = search rules
 
 same-length-2 : tie.Need-same-length-2
-same-length-2 c = search needs
+same-length-2 c = search rules
 
 same-length-3 : tie.Need-same-length-3
-same-length-3 c = search needs
+same-length-3 c = search rules
 
 returns : tie.Need-returns
-returns c = let b = c .before .before .beside .ensures in (b, stays-by _ _ _ _ _ b (c .before .is-valid .ensures) (c .if1 .taken))
+returns c = let b = c.before.before.beside.ensures in (b, stays_by _ _ _ _ _ b c.before.is-valid.ensures c.if1.true)
 
-cast-mark : tie.Need-cast-mark
-cast-mark c = search needs
+cast-mark : tie.Need-overflow-cast-mark
+cast-mark c = search rules
 
 mark-requires : tie.Need-mark-requires
-mark-requires c κs = search needs
+mark-requires c κs = search rules
 
 put-start-requires : tie.Need-put-start-requires
-put-start-requires c κs = search needs
+put-start-requires c κs = search rules
 
 same-length-4 : tie.Need-same-length-4
-same-length-4 c = search needs
+same-length-4 c = search rules
 
 same-length-5 : tie.Need-same-length-5
-same-length-5 c = search needs
+same-length-5 c = search rules
 
 same-length-6 : tie.Need-same-length-6
-same-length-6 c = search needs
+same-length-6 c = search rules
 
 returns-2 : tie.Need-returns-2
 returns-2 c =
-    let b = c .before .before .before .before .before .before .before .before .before .before .before .before .before .before .beside .ensures in
-    (b, enters-by _ _ _ _ _ b (c .before .before .before .before .before .before .before .before .before .before .before .before .before .is-valid .ensures) (c .before .before .before .before .before .before .before .before .before .before .before .before .if1 .left) _ _ _ (c .before .before .before .before .before .before .before .before .before .mark .ensures) (c .before .before .before .before .put-start .ensures))
+    let b = c.before.before.before.before.before.before.before.before.before.before.before.before.before.before.beside.ensures in
+    (b, enters_by _ _ _ _ _ b c.before.before.before.before.before.before.before.before.before.before.before.before.before.is-valid.ensures c.before.before.before.before.before.before.before.before.before.before.before.before.if1.false _ _ _ c.before.before.before.before.before.before.before.before.before.mark.ensures c.before.before.before.before.put_start.ensures)
 
 pub settle-spec : {M : Type 1} → statement M
 settle-spec =
@@ -51,7 +51,7 @@ settle-spec =
     (tie.spec
     beside-requires
     is-valid-requires
-    same-length
+    same_length
     same-length-2
     same-length-3
     returns

@@ -1,66 +1,66 @@
 -- `asking::ask` meets its contract. Assumes nothing.
 use native.Mathlib.Omega.{arith}
-use Rattle·region_checking·proofs.proofs.Laws.{asked-none, asked-marked, asked-is, region-few, noted-after}
-use borrow.Author.Needs.{needs}
-use Rattle·region_checking·proofs.proofs.asking.ask.Statement.{statement}
-use Rattle·region_checking·proofs.proofs.asking.ask.Tie as tie
+use Rattle.region_checking.proofs.Laws.{asked-none, asked-marked, asked_is, region-few, noted_after_lem}
+use borrow.Author.Rules.{rules}
+use Rattle.region_checking.proofs.asking.ask.Statement.{statement}
+use Rattle.region_checking.proofs.asking.ask.Tie as tie
 
-mul-from : tie.Need-mul-from
-mul-from c = search needs
+mul-from : tie.Need-overflow-mul-from
+mul-from c = search rules
 
-add-to : tie.Need-add-to
-add-to c = search needs
+add-to : tie.Need-overflow-add-to
+add-to c = search rules
 
-sub-names : tie.Need-sub-names
-sub-names c = search needs
+sub-names : tie.Need-overflow-sub-names
+sub-names c = search rules
 
-part-names-start : tie.Need-part-names-start
-part-names-start c = search needs
+part-names-start : tie.Need-slice-bounds-names-start
+part-names-start c = search rules
 
-part-names-end : tie.Need-part-names-end
-part-names-end c = search needs
+part-names-end : tie.Need-slice-bounds-names-end
+part-names-end c = search rules
 
 names-requires : tie.Need-names-requires
-names-requires c κs = search needs
+names-requires c κs = search rules
 
 returns : tie.Need-returns
-returns c = (asked-none _ _ _ (c .before .names .ensures) (c .if1 .taken), c .before .before .before .before .before .before .before .pre .1 .1)
+returns c = (asked-none _ _ _ c.before.names.ensures c.if1.true, c.before.before.before.before.before.before.before.requires.1.1)
 
 marked-requires : tie.Need-marked-requires
-marked-requires c κs = search needs
+marked-requires c κs = search rules
 
-same-length : tie.Need-same-length
-same-length c = search needs
+same_length : tie.Need-same-length
+same_length c = search rules
 
 returns-2 : tie.Need-returns-2
-returns-2 c = (asked-marked _ _ _ (c .before .before .before .before .names .ensures) (c .before .before .before .if1 .left) _ (c .before .before .before .before .before .before .before .before .before .before .pre .1 .1) (c .before .before .before .before .before .before .before .before .before .before .pre .0) (c .before .marked .ensures) (c .if2 .taken), c .before .before .before .before .before .before .before .before .before .before .pre .1 .1)
+returns-2 c = (asked-marked _ _ _ c.before.before.before.before.names.ensures c.before.before.before.if1.false _ c.before.before.before.before.before.before.before.before.before.before.requires.1.1 c.before.before.before.before.before.before.before.before.before.before.requires.0 c.before.marked.ensures c.if2.true, c.before.before.before.before.before.before.before.before.before.before.requires.1.1)
 
-sub-read-region : tie.Need-sub-read-region
-sub-read-region c = search needs
+sub-read-region : tie.Need-overflow-sub-read-region
+sub-read-region c = search rules
 
-part-read-region-start : tie.Need-part-read-region-start
-part-read-region-start c = search needs
+part-read-region-start : tie.Need-slice-bounds-read-region-start
+part-read-region-start c = search rules
 
-part-read-region-end : tie.Need-part-read-region-end
-part-read-region-end c = search needs
+part-read-region-end : tie.Need-slice-bounds-read-region-end
+part-read-region-end c = search rules
 
 read-region-requires : tie.Need-read-region-requires
-read-region-requires c κs = search needs
+read-region-requires c κs = search rules
 
 ask-region-requires : tie.Need-ask-region-requires
-ask-region-requires c κs = let l = region-few _ (c .before .before .before .before .before .before .before .before .before .before .before .before .before .before .before .args .file .now) (c .before .before .before .before .before .before .before .before .before .before .before .before .before .before .before .args .i) (c .before .before .before .before .before .before .before .before .before .names .ensures) (c .before .before .before .before .before .before .before .before .if1 .left) (c .before .before .before .read-region .ensures) in let r = c .before .before .before .before .before .before .before .before .before .before .before .before .before .before .before .pre .1 .0 in (omega (arith, l, r .most), (omega (arith, l, r .image), r .marks))
+ask-region-requires c κs = let l = region-few _ c.before.before.before.before.before.before.before.before.before.before.before.before.before.before.before.args.file.now c.before.before.before.before.before.before.before.before.before.before.before.before.before.before.before.args.i c.before.before.before.before.before.before.before.before.before.names.ensures c.before.before.before.before.before.before.before.before.if1.false c.before.before.before.read-region.ensures in let r = c.before.before.before.before.before.before.before.before.before.before.before.before.before.before.before.requires.1.0 in (omega (arith, l, r.most), (omega (arith, l, r.image), r.marks))
 
 same-length-2 : tie.Need-same-length-2
-same-length-2 c = search needs
+same-length-2 c = search rules
 
 same-length-3 : tie.Need-same-length-3
-same-length-3 c = search needs
+same-length-3 c = search rules
 
 same-length-4 : tie.Need-same-length-4
-same-length-4 c = search needs
+same-length-4 c = search rules
 
 returns-3 : tie.Need-returns-3
-returns-3 c = (asked-is _ _ _ (c .before .before .before .before .before .before .before .before .before .before .before .before .before .before .before .before .names .ensures) (c .before .before .before .before .before .before .before .before .before .before .before .before .before .before .before .if1 .left) (c .before .before .before .before .before .before .before .before .before .before .read-region .ensures) (c .before .before .before .before .before .before .ask-region .ensures .0), noted-after _ _ _ _ _ (c .before .before .before .before .before .before .before .before .before .before .before .before .before .before .before .before .before .before .before .before .before .before .pre .1 .1) (c .before .before .before .before .before .before .ask-region .ensures .1))
+returns-3 c = (asked_is _ _ _ c.before.before.before.before.before.before.before.before.before.before.before.before.before.before.before.before.names.ensures c.before.before.before.before.before.before.before.before.before.before.before.before.before.before.before.if1.false c.before.before.before.before.before.before.before.before.before.before.read-region.ensures c.before.before.before.before.before.before.ask-region.ensures.0, noted_after_lem _ _ _ _ _ c.before.before.before.before.before.before.before.before.before.before.before.before.before.before.before.before.before.before.before.before.before.before.requires.1.1 c.before.before.before.before.before.before.ask-region.ensures.1)
 
 pub ask-spec : {M : Type 1} → statement M
 ask-spec =
@@ -74,7 +74,7 @@ ask-spec =
     names-requires
     returns
     marked-requires
-    same-length
+    same_length
     returns-2
     sub-read-region
     part-read-region-start

@@ -1,62 +1,62 @@
 -- `laying::lay` meets its contract. Assumes nothing.
-use Prim.Native.Nat.{_≤_, _-_, _/_}
-use mathlib.Core.Path.{_≡_, refl, sym, _∙_}
+use Prim.Native.Nat.{◌≤◌, ◌-◌, ◌/◌}
+use mathlib.Core.Path.{◌≡◌, refl, sym, ◌∙◌}
 use native.Mathlib.Omega.{arith}
 use lib.ListN.{length}
-use Rattle·file_check.specs.Regions.{laidOn, laying, inTurn}
-use Rattle·region_checking·proofs.proofs.Laws.{turn-zero, turn-next}
-use borrow.Author.Needs.{needs}
-use Rattle·region_checking·proofs.proofs.laying.lay.Statement.{statement}
-use Rattle·region_checking·proofs.proofs.laying.lay.Tie as tie
+use Rattle.file_check.specs.Regions.{laid_on, laying, in_turn}
+use Rattle.region_checking.proofs.Laws.{turn_zero, turn_next}
+use borrow.Author.Rules.{rules}
+use Rattle.region_checking.proofs.laying.lay.Statement.{statement}
+use Rattle.region_checking.proofs.laying.lay.Tie as tie
 
-abbrev Inv-loop : tie.InvT-loop
-Inv-loop region file bytes₀ n i₀ bytes i = (i ≤ n) × (length bytes ≡ length bytes₀) × (bytes ≡ inTurn (laying file region) bytes₀ i)
+abbrev invariant-loop : tie.invariant-loop
+invariant-loop region file bytes₀ n i₀ bytes i = (i ≤ n) × (length bytes ≡ length bytes₀) × (bytes ≡ in_turn (laying file region) bytes₀ i)
 
-abbrev μ-loop : tie.MeasureT-loop
-μ-loop region file bytes₀ n i₀ bytes i = n - i
+abbrev decreases-loop : tie.decreases-loop
+decreases-loop region file bytes₀ n i₀ bytes i = n - i
 
-loop-holds : tie.Need-loop-holds Inv-loop μ-loop
-loop-holds c = (search needs, refl, sym (turn-zero _ _))
+loop-holds : tie.Need-loop-init invariant-loop decreases-loop
+loop-holds c = (search rules, refl, sym (turn_zero _ _))
 
-mul-from : tie.Need-mul-from Inv-loop μ-loop
-mul-from c = search needs
+mul-from : tie.Need-overflow-mul-from invariant-loop decreases-loop
+mul-from c = search rules
 
-add-to : tie.Need-add-to Inv-loop μ-loop
-add-to c = search needs
+add-to : tie.Need-overflow-add-to invariant-loop decreases-loop
+add-to c = search rules
 
-add-after : tie.Need-add-after Inv-loop μ-loop
-add-after c = search needs
+add-after : tie.Need-overflow-add-after invariant-loop decreases-loop
+add-after c = search rules
 
-sub-lay-piece : tie.Need-sub-lay-piece Inv-loop μ-loop
-sub-lay-piece c = search needs
+sub-lay-piece : tie.Need-overflow-sub-lay-piece invariant-loop decreases-loop
+sub-lay-piece c = search rules
 
-part-lay-piece-start : tie.Need-part-lay-piece-start Inv-loop μ-loop
-part-lay-piece-start c = search needs
+part-lay-piece-start : tie.Need-slice-bounds-lay-piece-start invariant-loop decreases-loop
+part-lay-piece-start c = search rules
 
-part-lay-piece-end : tie.Need-part-lay-piece-end Inv-loop μ-loop
-part-lay-piece-end c = search needs
+part-lay-piece-end : tie.Need-slice-bounds-lay-piece-end invariant-loop decreases-loop
+part-lay-piece-end c = search rules
 
-lay-piece-requires : tie.Need-lay-piece-requires Inv-loop μ-loop
-lay-piece-requires c κs = search needs
+lay-piece-requires : tie.Need-lay-piece-requires invariant-loop decreases-loop
+lay-piece-requires c κs = search rules
 
-loop-less : tie.Need-loop-less Inv-loop μ-loop
-loop-less c = search needs
+loop-less : tie.Need-loop-smaller invariant-loop decreases-loop
+loop-less c = search rules
 
-loop-again : tie.Need-loop-again Inv-loop μ-loop
-loop-again c = (search needs, c .before .bytes .given ∙ c .before .before .before .before .before .before .loop .inv .1, turn-next (λ a k m. laidOn (c .before .before .before .before .before .before .before .before .before .args .region) a m) (c .before .before .before .before .before .before .before .before .before .args .file .now) _ _ (c .before .before .before .before .before .before .loop .inv .2) (c .before .before .lay-piece .ensures))
+loop-again : tie.Need-loop-preserved invariant-loop decreases-loop
+loop-again c = (search rules, c.before.bytes.given ∙ c.before.before.before.before.before.before.loop.invariant.1, turn_next (λ a k m. laid_on c.before.before.before.before.before.before.before.before.before.args.region a m) c.before.before.before.before.before.before.before.before.before.args.file.now _ _ c.before.before.before.before.before.before.loop.invariant.2 c.before.before.lay-piece.ensures)
 
-same-length : tie.Need-same-length Inv-loop μ-loop
-same-length c = c .before .loop .inv .1
+same_length : tie.Need-same-length invariant-loop decreases-loop
+same_length c = c.before.loop.invariant.1
 
-returns : tie.Need-returns Inv-loop μ-loop
-returns c = let e : c .before .loop .i ≡ length (c .before .before .before .before .args .file .now) / 512 = omega arith in rw e at (c .before .loop .inv .2)
+returns : tie.Need-returns invariant-loop decreases-loop
+returns c = let e : c.before.loop.i ≡ length c.before.before.before.before.args.file.now / 512 = omega arith in rw e at c.before.loop.invariant.2
 
 pub lay-spec : {M : Type 1} → statement M
 lay-spec =
     tie.close
     (tie.spec
-    Inv-loop
-    μ-loop
+    invariant-loop
+    decreases-loop
     loop-holds
     mul-from
     add-to
@@ -67,5 +67,5 @@ lay-spec =
     lay-piece-requires
     loop-less
     loop-again
-    same-length
+    same_length
     returns)

@@ -1,36 +1,36 @@
 -- `readerstate::state_from` meets its contract. Assumes nothing.
-use borrow.Author.Tests.{eq-eqb, ne-eqb}
-use Rattle·uhex_layout·specs.specs.Readers.{readerStateFrom}
-use borrow.Author.Needs.{needs}
-use Rattle·uhex_layout·proofs.proofs.states.state_from.Statement.{statement}
-use Rattle·uhex_layout·proofs.proofs.states.state_from.Tie as tie
+use borrow.Author.Tests.{eq-eqb, ne_eqb}
+use Rattle.uhex_layout.specs.Readers.{reader_state_from}
+use borrow.Author.Rules.{rules}
+use Rattle.uhex_layout.proofs.states.state_from.Statement.{statement}
+use Rattle.uhex_layout.proofs.states.state_from.Tie as tie
 
 returns : tie.Need-returns
-unfolding readerStateFrom
-returns c = simp (eq-eqb _ _ (c .if1 .taken))
+unfolding reader_state_from
+returns c = simp (eq-eqb _ _ c.if1.true)
 
 returns-2 : tie.Need-returns-2
-unfolding readerStateFrom
-returns-2 c = simp (ne-eqb _ _ (c .before .if1 .left), eq-eqb _ _ (c .if2 .taken))
+unfolding reader_state_from
+returns-2 c = simp (ne_eqb _ _ c.before.if1.false, eq-eqb _ _ c.if2.true)
 
 returns-3 : tie.Need-returns-3
-unfolding readerStateFrom
-returns-3 c = simp (ne-eqb _ _ (c .before .before .if1 .left), ne-eqb _ _ (c .before .if2 .left), eq-eqb _ _ (c .if3 .taken))
+unfolding reader_state_from
+returns-3 c = simp (ne_eqb _ _ c.before.before.if1.false, ne_eqb _ _ c.before.if2.false, eq-eqb _ _ c.if3.true)
 
 returns-4 : tie.Need-returns-4
-unfolding readerStateFrom
-returns-4 c = simp (ne-eqb _ _ (c .before .before .before .if1 .left), ne-eqb _ _ (c .before .before .if2 .left), ne-eqb _ _ (c .before .if3 .left), eq-eqb _ _ (c .if4 .taken))
+unfolding reader_state_from
+returns-4 c = simp (ne_eqb _ _ c.before.before.before.if1.false, ne_eqb _ _ c.before.before.if2.false, ne_eqb _ _ c.before.if3.false, eq-eqb _ _ c.if4.true)
 
 returns-5 : tie.Need-returns-5
-unfolding readerStateFrom
-returns-5 c = simp (ne-eqb _ _ (c .before .before .before .before .if1 .left), ne-eqb _ _ (c .before .before .before .if2 .left), ne-eqb _ _ (c .before .before .if3 .left), ne-eqb _ _ (c .before .if4 .left), eq-eqb _ _ (c .if5 .taken))
+unfolding reader_state_from
+returns-5 c = simp (ne_eqb _ _ c.before.before.before.before.if1.false, ne_eqb _ _ c.before.before.before.if2.false, ne_eqb _ _ c.before.before.if3.false, ne_eqb _ _ c.before.if4.false, eq-eqb _ _ c.if5.true)
 
 answer-requires : tie.Need-answer-requires
-answer-requires c κs = search needs
+answer-requires c κs = search rules
 
 returns-6 : tie.Need-returns-6
-unfolding readerStateFrom
-returns-6 c = simp (c .answer .ensures, ne-eqb _ _ (c .before .before .before .before .before .if1 .left), ne-eqb _ _ (c .before .before .before .before .if2 .left), ne-eqb _ _ (c .before .before .before .if3 .left), ne-eqb _ _ (c .before .before .if4 .left), ne-eqb _ _ (c .before .if5 .left))
+unfolding reader_state_from
+returns-6 c = simp (c.answer.ensures, ne_eqb _ _ c.before.before.before.before.before.if1.false, ne_eqb _ _ c.before.before.before.before.if2.false, ne_eqb _ _ c.before.before.before.if3.false, ne_eqb _ _ c.before.before.if4.false, ne_eqb _ _ c.before.if5.false)
 
 pub state-from-spec : {M : Type 1} → statement M
 state-from-spec =
