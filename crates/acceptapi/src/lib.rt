@@ -22,7 +22,7 @@ pub extern "C" fn uf2_accept(
     xip: &mut [u8],
     plan: &mut [u8],
 ) -> u32
-    ensures { accept_return result transfer (left_beside flash seen sectors main xip) plan ≡ accept_call_of settings transfer arrival (lent_at flash seen sectors main xip) plan }
+    ensures { accept_return result transfer.new (left_beside flash.now seen.new sectors.new main.new xip.new) plan.new ≡ accept_call_of settings.now transfer.old arrival.now (lent_at flash.now seen.old sectors.old main.old xip.old) plan.old }
 {
     let lens = Lengths {
         flash: flash.len(),

@@ -50,8 +50,8 @@ lies_true k x e = (
 module _ (w : World) where
   -- an address in the window of a kind
   module _ (x : ℕ) where
-    pub lies-is : (k : Kind) → window_start k ≤ x → x < window_end k → lies k x ≡ true
-    lies-is k p q = rw (le-leb (window_start k) x p, lt-ltb x (window_end k) q)
+    pub lies_is : (k : Kind) → window_start k ≤ x → x < window_end k → lies k x ≡ true
+    lies_is k p q = rw (le-leb (window_start k) x p, lt-ltb x (window_end k) q)
 
     pub data_kind_lem : (k : Kind) → InWindow (lengths_of w.held) k x → data_kind w x ≡ k
     data_kind_lem Flash f =
@@ -72,8 +72,8 @@ module _ (w : World) where
         )
 
     -- an address in none
-    pub data-outside : ((k : Kind) → in_window (lengths_of w.held) k x ≡ false) → data_kind w x ≡ Flash
-    data-outside f =
+    pub data_outside : ((k : Kind) → in_window (lengths_of w.held) k x ≡ false) → data_kind w x ≡ Flash
+    data_outside f =
         rw (
           sym (and_assoc (has_buffer w MainRam) (leb 0x20000000 x) (ltb x 0x20082000)) ∙ f MainRam,
           sym (and_assoc (has_buffer w XipRam) (leb 0x13ffc000 x) (ltb x 0x14000000)) ∙ f XipRam,
@@ -82,9 +82,9 @@ module _ (w : World) where
     abbrev Kinded : Window → Type 0
     Kinded u = data_kind w x ≡ window_kind u
 
-    pub data-window : (u : Window) → WindowFacts (lengths_of w.held) x u → Kinded u
-    data-window Outside f = data-outside f
-    data-window (In k) f = data_kind_lem k f
+    pub data_window : (u : Window) → WindowFacts (lengths_of w.held) x u → Kinded u
+    data_window Outside f = data_outside f
+    data_window (In k) f = data_kind_lem k f
 
   -- a comment's kind; flash's buffer is not asked for
   module _ (a : List ℕ) where
@@ -97,8 +97,8 @@ module _ (w : World) where
     run-kind MainRam b = refl
     run-kind XipRam b = refl
 
-    pub comment-kind : (t : State) → note_kind (lengths_of w.held) t (fields_of a) ≡ comment_kind w t a
+    pub comment_kind_lem : (t : State) → note_kind (lengths_of w.held) t (fields_of a) ≡ comment_kind w t a
     unfolding note_kind fields_of
-    comment-kind Idle = refl
-    comment-kind (Running r) = run-kind r.head.kind (eqb r.head.family (field_at a 28) && eqb r.head.total (field_at a 24))
-    comment-kind (Done g) = refl
+    comment_kind_lem Idle = refl
+    comment_kind_lem (Running r) = run-kind r.head.kind (eqb r.head.family (field_at a 28) && eqb r.head.total (field_at a 24))
+    comment_kind_lem (Done g) = refl

@@ -1,7 +1,5 @@
 -- What a call is lent, as the meaning has it. Assumes nothing.
 use Rattle.std.specs.Prelude.{ℕ, List}
-use Rattle.std.specs.Borrow.{Bor}
-use denote.Triple.Both.{Both}
 use Rattle.transfer.specs.declared.Transfer.{Transfer}
 use Rattle.arrival.specs.Arrive.{Held, Lent, World}
 
@@ -15,17 +13,17 @@ held f k u x = record { flash = f; sectors = k; main = u; xip = x }
 abbrev pub lent : List ℕ → List ℕ → List ℕ → List ℕ → List ℕ → Lent
 lent f m k u x = record { flash = f; seen = m; sectors = k; main = u; xip = x }
 
--- a lent slice of bytes, as a contract names it: at a call's entry and at its exit
+-- the bytes of a lent slice: a contract names them at a call's entry or at its exit
 abbrev pub Slice : Type 0
-Slice = Both (Bor (List ℕ)) (Bor (List ℕ))
+Slice = List ℕ
 
 -- the buffers as they are lent
 abbrev pub lent_at : Slice → Slice → Slice → Slice → Slice → Lent
-lent_at f m k u x = lent f.entry.now m.entry.now k.entry.now u.entry.now x.entry.now
+lent_at f m k u x = lent f m k u x
 
 -- the buffers as they are left
 abbrev pub left_at : Slice → Slice → Slice → Slice → Slice → Lent
-left_at f m k u x = lent f.exit.now m.exit.now k.exit.now u.exit.now x.exit.now
+left_at f m k u x = lent f m k u x
 
 -- ---- what goes in and comes out
 

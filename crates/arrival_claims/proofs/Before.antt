@@ -39,7 +39,7 @@ use Rattle.uf2_checks.specs.declared.Screening.TheVariants.{Refused, Passed}
 use Rattle.arrival.specs.Arrive.{World, Decision, stays, outcome_number, right_lengths, standing, deed_of, stepped, after_screening, decide, decided, accept_of, unchanged, done, receive_of}
 use Rattle.arrival.specs.Windows.{lies, kind_of}
 use Rattle.arrival_claims.specs.Before.{placed_before, noted_before, found_before, screen_before, decide_before, receive_before, InFlash, strays, WithoutRam, StaysInFlash}
-use Rattle.arrival.proofs.Windows.{lies-is}
+use Rattle.arrival.proofs.Windows.{lies_is}
 use Rattle.arrival_claims.proofs.Screening.{Fielded, fielded, flash_of, lens, Board, room_of}
 use Rattle.arrival_claims.proofs.DecisionFacts.{right_true, step_late, DecisionFacts, refused, took, decision_facts, raised_count, took_state}
 
@@ -131,7 +131,7 @@ module _ (s : Settings) (w : World) (a : List ℕ) (m : length w.held.main ≡ 0
       ∙ sym (ap (λ (b : Bool). turned false b (found_before here (fields_of a))) i ∙ turned_inside false (found_before here (fields_of a)))
     where
       inside : (k : Kind) → k ≡ Flash → InWindow (lens w) k (fields_of a).address → lies Flash (fields_of a).address ≡ true
-      inside Flash e g = lies-is w (fields_of a).address Flash g.low g.high
+      inside Flash e g = lies_is w (fields_of a).address Flash g.low g.high
       inside MainRam e g = let z : ◌≡◌ {A = ℕ} 0 1 = cc in absurd (omega arith)
       inside XipRam e g = let z : ◌≡◌ {A = ℕ} 0 1 = cc in absurd (omega arith)
 

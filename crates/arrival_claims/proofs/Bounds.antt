@@ -32,7 +32,7 @@ use Rattle.arrival.specs.Arrive.{Held, World, Decision, accepts, buffer_of, stan
 use Rattle.arrival.specs.Windows.{window_start, has_buffer, kind_of}
 use Rattle.arrival_claims.specs.Bounds.{RefusalsChangeNothing, Outside, OutsideKept, Windowed, WindowKept}
 use Rattle.arrival.proofs.Heads.{kind_same}
-use Rattle.arrival.proofs.Windows.{lies-is}
+use Rattle.arrival.proofs.Windows.{lies_is}
 use Rattle.arrival.proofs.Paged.{Fits, paged_other, get_d_prepared}
 use Rattle.arrival.proofs.Facts.{done_none, wiped_buffer}
 use Rattle.arrival.proofs.Standing.{keeps_at}
@@ -175,8 +175,8 @@ window_kept s w a n z = go (rows s w a)
         let i = passing_room s w a g h B in
         let p = h.page z in
         record {
-          first = lies-is w (field_at a 12) k p.low p.high;
-          last = lies-is w (field_at a 12 + 255) k (omega (arith, p.low)) (omega (arith, p.low, p.ends, i.ends));
+          first = lies_is w (field_at a 12) k p.low p.high;
+          last = lies_is w (field_at a 12 + 255) k (omega (arith, p.low)) (omega (arith, p.low, p.ends, i.ends));
           lent = lent_buffer s w B k h.lent;
         }
 

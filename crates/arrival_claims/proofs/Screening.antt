@@ -43,7 +43,7 @@ use Rattle.uf2_checks.specs.declared.Screening.TheVariants.{Refused, Passed}
 use Rattle.arrival.specs.Arrive.{World, buffer_of, lengths_of, ram_length, deed_of}
 use Rattle.arrival.specs.Windows.{window_start, window_end, kind_of}
 use Rattle.arrival.specs.File.{is_found, start_of, origin_of}
-use Rattle.arrival.proofs.Windows.{start_is, end_is, data_kind_lem, data-window, comment-kind}
+use Rattle.arrival.proofs.Windows.{start_is, end_is, data_kind_lem, data_window, comment_kind_lem}
 use Rattle.arrival.proofs.Paged.{Fits}
 
 -- ---- a header that yields a block yields the arrival's fields
@@ -145,7 +145,7 @@ module _ (s : Settings) (w : World) (a : List ℕ) where
   module _ (z : has_flag a 0x1 ≡ false) where
     pub kind-window : kind_of w a ≡ window_kind (window_of (lens w) (fields_of a).address)
     unfolding kind_of fields_of
-    kind-window = rw z (data-window w (field_at a 12) (window_of (lens w) (field_at a 12)) (window_facts (lens w) (field_at a 12)))
+    kind-window = rw z (data_window w (field_at a 12) (window_of (lens w) (field_at a 12)) (window_facts (lens w) (field_at a 12)))
 
     kind-data : (k : Kind) → InWindow (lens w) k (field_at a 12) → kind_of w a ≡ k
     unfolding kind_of
@@ -193,7 +193,7 @@ module _ (s : Settings) (w : World) (a : List ℕ) where
   module _ (y : has_flag a 0x1 ≡ true) where
     pub kind-note : kind_of w a ≡ note_kind (lens w) w.transfer (fields_of a)
     unfolding kind_of
-    kind-note = rw y (sym (comment-kind w a w.transfer))
+    kind-note = rw y (sym (comment_kind_lem w a w.transfer))
 
     note-good : (k : Kind) → kind_of w a ≡ k → is_lent (lens w) k ≡ true → (p : Place) → room_in (rooms_for s w a) k ≡ p → Good s w a (note_found k p (fields_of a))
     unfolding note_found noted fields_of

@@ -34,7 +34,7 @@ look_bytes s t a h = look_result (look_of (settings_from s) (world (transfer_fro
 
 -- the same of the slices that the call is lent, which the contract names
 abbrev pub look_call_of : Slice → Slice → Slice → Lent → ℕ
-look_call_of s t a h = look_bytes s.entry.now t.entry.now a.entry.now h
+look_call_of s t a h = look_bytes s t a h
 
 -- the bytes of the next transfer where a block was accepted; answers 1 to 13 leave them as they were lent
 abbrev pub kept_transfer : List ℕ → Bool → State → List ℕ
@@ -53,10 +53,10 @@ take_bytes s t a h = arrival_call_of t (receive_of (settings_from s) (world (tra
 
 -- the same of the slices that the call is lent, and what it returns and leaves, which the contract names
 abbrev pub take_call_of : Slice → Slice → Slice → Lent → ArrivalCall
-take_call_of s t a h = take_bytes s.entry.now t.entry.now a.entry.now h
+take_call_of s t a h = take_bytes s t a h
 
 abbrev pub take_return : ℕ → Slice → Lent → ArrivalCall
-take_return n t h = arrival_call n t.exit.now h
+take_return n t h = arrival_call n t h
 
 -- ---- one arrival, with a plan for the flash
 
@@ -98,10 +98,10 @@ accept_bytes s t a h p = cond (eqb (length p) 12) (planned_call_of t (accepting_
 
 -- the same of the slices that the call is lent, and what it returns and leaves, which the contract names
 abbrev pub accept_call_of : Slice → Slice → Slice → Lent → Slice → PlannedCall
-accept_call_of s t a h p = accept_bytes s.entry.now t.entry.now a.entry.now h p.entry.now
+accept_call_of s t a h p = accept_bytes s t a h p
 
 abbrev pub accept_return : ℕ → Slice → Lent → Slice → PlannedCall
-accept_return n t h p = planned_call n t.exit.now h p.exit.now
+accept_return n t h p = planned_call n t h p
 
 -- ---- arrivals one after the other
 
@@ -126,7 +126,7 @@ take_batch s t a r h = batch_call_end t (batch_of (settings_from s) (world (tran
 
 -- the same of the slices that the call is lent, and what it returns and leaves, which the contract names
 abbrev pub batch_call_of : Slice → Slice → Slice → Slice → Lent → BatchCall
-batch_call_of s t a r h = take_batch s.entry.now t.entry.now a.entry.now r.entry.now h
+batch_call_of s t a r h = take_batch s t a r h
 
 abbrev pub batch_return : ℕ → Slice → Slice → Lent → BatchCall
-batch_return n t r h = batch_call n t.exit.now r.exit.now h
+batch_return n t r h = batch_call n t r h

@@ -41,7 +41,7 @@ pub extern "C" fn uf2_take_all(
     main: &mut [u8],
     xip: &mut [u8],
 ) -> usize
-    ensures { batch_return result transfer results (left_at flash seen sectors main xip) ≡ batch_call_of settings transfer arrivals results (lent_at flash seen sectors main xip) }
+    ensures { batch_return result transfer.new results.new (left_at flash.new seen.new sectors.new main.new xip.new) ≡ batch_call_of settings.now transfer.old arrivals.now results.old (lent_at flash.old seen.old sectors.old main.old xip.old) }
 {
     let s = settings_layout::read_settings(settings);
     let t = transfer_layout::read_transfer(transfer);

@@ -66,7 +66,7 @@ fn put_numbers(told: &mut [u8], piece: usize, other: usize)
 }
 
 // What a call returns of what a file comes to, which it writes. Without bytes for that nothing is written.
-pub(crate) fn tell(found: Checked, told: &mut [u8]) -> u32
+pub fn tell(found: Checked, told: &mut [u8]) -> u32
     ensures { call_return result told.new ≡ check_call found told.old }
 {
     if told.len() != TOLD {

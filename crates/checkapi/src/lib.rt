@@ -1,7 +1,7 @@
 // A file checked before it is sent, for C: a library of its own.
 #![tactic(auto)]
 
-mod answer_bytes;
+pub mod answer_bytes;
 
 ghost use Rattle.std.specs.Prelude.{◌≡◌, length};
 ghost use Rattle.memory.specs.Bitmap.{unmarked};

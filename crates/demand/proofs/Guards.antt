@@ -145,8 +145,8 @@ module _ (F : Blocks) (start : Held) (Met : List ℕ → ℕ → Type 0) (G : Gu
       noted z = same-buffers (λ q. away x I.marks q (rw (here, z)) (I.state q))
 
       module _ (y : is_data F.file k ≡ true) where
-        lies-is : (q : ℕ) → lies q ≡ eqb q (at / 4096)
-        lies-is q = rw (here, y)
+        lies_is : (q : ℕ) → lies q ≡ eqb q (at / 4096)
+        lies_is q = rw (here, y)
 
         owns-is : (j : ℕ) → (layout Flash F).owns k j ≡ spans at j
         owns-is j = rw (here, y)
@@ -160,7 +160,7 @@ module _ (F : Blocks) (start : Held) (Met : List ℕ → ℕ → Type 0) (G : Gu
             let d = ltb (q * 4096) (G.lo k + G.len k) in
             split (c && d)
             (λ e. settled k h g (leb-true _ _ (and_left c d e)) (ltb-true _ _ (and_right c d e)) f)
-            (λ e. away x I.marks q (lies-is q ∙ ne_eqb q (at / 4096) (out q e)) (I.state q)))
+            (λ e. away x I.marks q (lies_is q ∙ ne_eqb q (at / 4096) (out q e)) (I.state q)))
           where
             out : (q : ℕ) → leb (G.lo k) (q * 4096) && ltb (q * 4096) (G.lo k + G.len k) ≡ false → q ≢ at / 4096
             out q e v =
@@ -221,11 +221,11 @@ module _ (F : Blocks) (start : Held) (Met : List ℕ → ℕ → Type 0) (G : Gu
               ∙ rw (w, f j l e)
               (sym
               (cell_step (count F) (layout Flash F) (apart_of Flash F start ok) (λ j. get_or start.flash j 0) S k j h
-              ∙ rw (owns-is j, lies-is (j / 4096)))))
-              (rw c (sym (touched_add (count F) (layout Flash F) S k q h ∙ rw (lies-is q, c)))))
+              ∙ rw (owns-is j, lies_is (j / 4096)))))
+              (rw c (sym (touched_add (count F) (layout Flash F) S k q h ∙ rw (lies_is q, c)))))
               (λ c.
               let d : q ≢ at / 4096 = eqb-false q (at / 4096) c in
-              let l : lies q ≡ false = lies-is q ∙ c in
+              let l : lies q ≡ false = lies_is q ∙ c in
               ordinary (λ j b e. byte-away j (λ v. d (sym e ∙ v)) ∙ f j b e ∙ sym (away-byte j (ap lies e ∙ l)))
               (rw c (t ∙ sym (away-sector q l))))
 

@@ -14,9 +14,9 @@ use Rattle.uf2_block.specs.Block.{field_at, is_block, has_flag}
 use Rattle.uf2_tags.specs.declared.one_tag.Answer.{Answer}
 use Rattle.uf2_tags.specs.declared.one_tag.Answer.TheVariants.{Tag as a-tag}
 use Rattle.uf2_tags.specs.Tag.{tag_of, sized}
-use Rattle.uf2_tags.proofs.one_tag.Laws.{sized_end, sized_typed, sized-small, sized_past, sized-tag}
+use Rattle.uf2_tags.proofs.one_tag.Laws.{sized_end, sized_typed, sized_small, sized_past, sized_tag}
 use Rattle.uf2_tags.specs.Room.{first_place, kind_at, room_end, bad_payload, bad_place, stands_at, tag_at}
-use Rattle.uf2_tags.proofs.room.Laws.{at_length, at_other, at_clear, at-payload, at-stands, stands_place, stands-none, stands-tag}
+use Rattle.uf2_tags.proofs.room.Laws.{at_length, at_other, at_clear, at_payload, at_stands, stands_place, stands_none, stands_tag}
 use Rattle.file_claims.specs.Answers as words
 use Rattle.file_claims.specs.Answers.{Magic, Place, type_at, row_1, row_4, flag_clear, row_61, row_3, row_65, end, row_62, row_63, row_64, tag, TagsAnswer, TagNumbers}
 
@@ -54,7 +54,7 @@ place_right from at l e = rw (le-ltb at from l, eq-eqb (at % 4) 0 e)
 -- ---- a place
 
 carried : (b : List ℕ) (at : ℕ) → words.Carries b → stands_at b at ≡ tag_at b at
-carried b at c = at-stands b at c.whole (is_block_lem b c.magic) c.flag (payload_right (field_at b 16) c.small c.even)
+carried b at c = at_stands b at c.whole (is_block_lem b c.magic) c.flag (payload_right (field_at b 16) c.small c.even)
 
 module _ (b : List ℕ) (at e : ℕ) (p : Place b at e) where
   fine : bad_place (first_place b) at ≡ false
@@ -79,7 +79,7 @@ module _ (b : List ℕ) (at e : ℕ) (p : Place b at e) where
   here h =
       ap (λ (k : ℕ). sized (get_or b at 0) k at e) (sym type_is)
       ∙ ap (λ (k : ℕ). sized (get_or b at 0) (kind_at b at) at k) (sym end_is)
-      ∙ stands-tag b at fine (rw end_is h)
+      ∙ stands_tag b at fine (rw end_is h)
       ∙ carried b at p.carries
 
 pub tags_answer : TagsAnswer
@@ -87,14 +87,14 @@ unfolding TagsAnswer tag_of
 tags_answer b at x (row_1 h) = sym (at_length b at h)
 tags_answer b at x (row_4 l h) = sym (at_other b at l (no_block b h))
 tags_answer b at x (flag_clear l m h) = sym (at_clear b at l (is_block_lem b m) h)
-tags_answer b at x (row_61 l m f h) = sym (at-payload b at l (is_block_lem b m) f (payload_bad (field_at b 16) h))
+tags_answer b at x (row_61 l m f h) = sym (at_payload b at l (is_block_lem b m) f (payload_bad (field_at b 16) h))
 tags_answer b at x (row_3 c h) = sym (stands_place b at (unfold first_place in place_bad (32 + field_at b 16) at h) ∙ carried b at c)
-tags_answer b at x (row_65 {e} p h) = sym (stands-none b at (fine b at e p) (rw (end_is b at e p) h) ∙ carried b at p.carries)
+tags_answer b at x (row_65 {e} p h) = sym (stands_none b at (fine b at e p) (rw (end_is b at e p) h) ∙ carried b at p.carries)
 tags_answer b at x (end {e} p l s t) = sym (sized_end (get_or b at 0) (type_at b at) at e s t ∙ here b at e p l)
-tags_answer b at x (row_62 {e} p l s t) = sym (sized-small (get_or b at 0) (type_at b at) at e (λ z. omega arith) (omega arith) ∙ here b at e p l)
+tags_answer b at x (row_62 {e} p l s t) = sym (sized_small (get_or b at 0) (type_at b at) at e (λ z. omega arith) (omega arith) ∙ here b at e p l)
 tags_answer b at x (row_63 {e} p l s t) = sym (sized_typed (get_or b at 0) (type_at b at) at e s t ∙ here b at e p l)
 tags_answer b at x (row_64 {e} p l s t) = sym (sized_past (get_or b at 0) (type_at b at) at e (λ z. omega arith) s t ∙ here b at e p l)
-tags_answer b at x (tag {e} p l s t) = sym (sized-tag (get_or b at 0) (type_at b at) at e (λ z. omega arith) s t ∙ here b at e p l)
+tags_answer b at x (tag {e} p l s t) = sym (sized_tag (get_or b at 0) (type_at b at) at e (λ z. omega arith) s t ∙ here b at e p l)
 
 pub tag_numbers : TagNumbers
 unfolding TagNumbers

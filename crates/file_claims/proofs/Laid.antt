@@ -14,9 +14,9 @@ use Rattle.uf2_block.specs.Block.{field_at, has_flag}
 use Rattle.uf2_tags.specs.declared.one_tag.Tag.{Tag}
 use Rattle.uf2_tags.specs.declared.one_tag.Answer.TheVariants.{Tag as a-tag, End}
 use Rattle.uf2_tags.specs.Tag.{tag_of, contents_of, sized}
-use Rattle.uf2_tags.proofs.one_tag.Laws.{sized_end, sized-tag}
+use Rattle.uf2_tags.proofs.one_tag.Laws.{sized_end, sized_tag}
 use Rattle.uf2_tags.specs.Room.{first_place, kind_at, room_end, tag_at}
-use Rattle.uf2_tags.proofs.room.Laws.{Carries, at-stands, stands-tag}
+use Rattle.uf2_tags.proofs.room.Laws.{Carries, at_stands, stands_tag}
 use Rattle.uf2_tags.specs.Reader.{next_place}
 use Rattle.file_claims.specs.Laid.{Item, Proper, AllProper, item_bytes, laid, Reads, TagsReadBack}
 use Rattle.file_claims.proofs.Places.{reader, payload_fine, place_fine}
@@ -71,7 +71,7 @@ record Spot (b : List ℕ) (at : ℕ) : Type 0 where
 call : (b : List ℕ) (at : ℕ) → Spot b at → at + 4 ≤ room_end b → tag_at b at ≡ sized (get_or b at 0) (kind_at b at) at (room_end b)
 call b at s h =
     let c = s.carries in
-    sym (stands-tag b at (place_fine (first_place b) at s.from s.even) h ∙ at-stands b at c.whole c.magic c.flag (payload_fine (field_at b 16) c.small c.even))
+    sym (stands_tag b at (place_fine (first_place b) at s.from s.even) h ∙ at_stands b at c.whole c.magic c.flag (payload_fine (field_at b 16) c.small c.even))
 
 module _ (b : List ℕ) (pre rest : List ℕ) (i : Item) (e : b ≡ pre ++ (item_bytes i ++ rest)) (p : Proper i) (s : Spot b (length pre)) (h : length pre + length (item_bytes i) ≤ room_end b) where
   abbrev tag : Tag
@@ -82,7 +82,7 @@ module _ (b : List ℕ) (pre rest : List ℕ) (i : Item) (e : b ≡ pre ++ (item
       let l = length_item pre rest i in
       let z : get_or b (length pre) 0 ≡ 4 + length i.bytes = ap (λ (x : List ℕ). get_or x (length pre) 0) e ∙ size_in pre rest i in
       let k : kind_at b (length pre) ≡ i.kind = ap (λ (x : List ℕ). kind_at x (length pre)) e ∙ kind_in_lem pre rest i p.kind_fits in
-      call b (length pre) s (omega (arith, l)) ∙ (rw (z, k) (sym (sized-tag (4 + length i.bytes) i.kind (length pre) (room_end b) (λ x. omega arith) (omega arith) (omega (arith, l)))))
+      call b (length pre) s (omega (arith, l)) ∙ (rw (z, k) (sym (sized_tag (4 + length i.bytes) i.kind (length pre) (room_end b) (λ x. omega arith) (omega arith) (omega (arith, l)))))
 
   tag_contents : contents_of b tag ≡ i.bytes
   unfolding contents_of tag_of

@@ -9,7 +9,7 @@ use lib.ListN.{length}
 use borrow.Author.Tests.{eq-eqb, ne_eqb, lt-ltb, le-ltb, le-leb, lt-leb}
 use Rattle.uf2_make.specs.declared.checks.MakeAnswer.{MakeAnswer}
 use Rattle.uf2_make.specs.Uf2check.{bad_image, bad_start, check_of, make_number}
-use Rattle.uf2_make.proofs.checks.Checks.{image_bad, start-bad, past, short, passes}
+use Rattle.uf2_make.proofs.checks.Checks.{image_bad, start_bad, past, short, passes}
 use Rattle.uf2_make.specs.Uf2file.{make_of}
 use Rattle.file_claims.specs.Refusals.{Whole, Started, Refusal, row_50, row_51, row_52, row_53, MakeRefuses, ElseMade}
 
@@ -37,7 +37,7 @@ pub make_refuses : MakeRefuses
 unfolding MakeRefuses make_of
 make_refuses image out family start k (row_50 h) = ap make_number (sym (image_bad (length image) start (length out) (bad_image_lem (length image) h)))
 make_refuses image out family start k (row_51 w h) =
-    ap make_number (sym (start-bad (length image) start (length out) (right_image (length image) w) (bad_start_lem start h)))
+    ap make_number (sym (start_bad (length image) start (length out) (right_image (length image) w) (bad_start_lem start h)))
 make_refuses image out family start k (row_52 w v h) =
     ap make_number (sym (past (length image) start (length out) (right_image (length image) w) (right_start start v) h))
 make_refuses image out family start k (row_53 w v u h) =

@@ -45,7 +45,7 @@ fn first_bad(table: &[u8; 256], chars: &[u8]) -> usize
 
 // The index of the first character that is no digit, or how many there are; the bytes that the characters say go to `out` as far as it
 // has room.
-pub(crate) fn judge(table: &[u8; 256], chars: &[u8], out: &mut [u8]) -> usize
+pub fn judge(table: &[u8; 256], chars: &[u8], out: &mut [u8]) -> usize
     ensures value { result ≡ first_by (value_in table.now) chars.now }
     ensures bytes { out.new ≡ decoded_by (value_in table.now) chars.now out.old }
 {

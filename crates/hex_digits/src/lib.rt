@@ -1,8 +1,8 @@
 // Hex digits: the value of each by one table, the bytes that they say, and the first character that is none.
 #![tactic(auto)]
 
-mod decoding;
-mod pairs;
+pub mod decoding;
+pub mod pairs;
 
 ghost use Rattle.std.specs.Prelude.{◌≡◌};
 ghost use Rattle.hex_digits.specs.Digits.{first_bad, decoded};

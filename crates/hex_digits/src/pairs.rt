@@ -4,7 +4,7 @@ ghost use Rattle.hex_digits.specs.Values.{all_by, value_in};
 ghost use Rattle.hex_digits.specs.Pairs.{decoded_by};
 
 // The lesser of two numbers.
-pub(crate) fn least(a: usize, b: usize) -> usize
+pub fn least(a: usize, b: usize) -> usize
     ensures { result ≡ min a b }
 {
     if a < b { a } else { b }
@@ -12,7 +12,7 @@ pub(crate) fn least(a: usize, b: usize) -> usize
 
 // The bytes that the characters say go to `out` as far as it has room. Are the characters that are said so digits? No branch leaves the loop
 // at one that is none: the values found are or-ed, and judged once, at the end.
-pub(crate) fn pairs(table: &[u8; 256], chars: &[u8], out: &mut [u8]) -> bool
+pub fn pairs(table: &[u8; 256], chars: &[u8], out: &mut [u8]) -> bool
     ensures value { result ≡ all_by (value_in table.now) (take (2 * min (length chars.now / 2) (length out.old)) chars.now) }
     ensures bytes { out.new ≡ decoded_by (value_in table.now) chars.now out.old }
 {

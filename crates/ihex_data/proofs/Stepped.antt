@@ -1,6 +1,6 @@
 -- A line of a plain file, one law for each way that the code leaves. Assumes nothing.
 use mathlib.Core.Path.{◌≡◌, refl, sym, ap, ◌∙◌}
-use mathlib.Core.List.{List, [], ◌∷◌, ◌++◌, append-nil}
+use mathlib.Core.List.{List, [], ◌++◌, append-nil}
 use Prim.Native.Nat.{ℕ, ◌+◌, ◌/◌, ◌≤◌}
 use native.Mathlib.Omega.{arith}
 use lib.Dec.{ltb}
@@ -17,7 +17,7 @@ use Rattle.ihex_file.specs.declared.Plain.{Plain}
 use Rattle.ihex_file.specs.declared.LineReading.{LineReading}
 use Rattle.ihex_file.specs.declared.LineReading.TheVariants.{Refused, Passed, Data}
 use Rattle.ihex_file.specs.Line.{line_taken, taken_of}
-use Rattle.ihex_file.specs.File.{goes_on, next_of, bad_of, gives_of}
+use Rattle.ihex_file.specs.File.{gives_of}
 use Rattle.ihex_file.proofs.Moves.{data_near}
 use Rattle.ihex_data.specs.declared.cuts.Tally.{Tally}
 use Rattle.ihex_data.specs.declared.Scan.{Scan}

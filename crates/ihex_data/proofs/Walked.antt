@@ -1,6 +1,6 @@
 -- A plain file line by line: what holds before each line, and at the end of the file. Assumes nothing.
 use mathlib.Core.Path.{◌≡◌, refl, sym, ap, ◌∙◌}
-use mathlib.Core.Bool.{Bool, true, false, cond}
+use mathlib.Core.Bool.{true, false, cond}
 use mathlib.Core.List.{List, [], ◌∷◌, ◌++◌}
 use Prim.Native.Nat.{ℕ, suc, ◌+◌, ◌-◌, ◌*◌, ◌≤◌, ◌<◌}
 use native.Mathlib.Numerals.{add-one}
@@ -19,10 +19,10 @@ use Rattle.ihex_file.specs.declared.Plain.{Plain}
 use Rattle.ihex_file.specs.declared.LineReading.{LineReading}
 use Rattle.ihex_file.specs.declared.LineReading.TheVariants.{Refused, Passed, Data}
 use Rattle.ihex_file.specs.declared.Verdict.{Verdict}
-use Rattle.ihex_file.specs.declared.Verdict.TheVariants.{Fine, Bad}
+use Rattle.ihex_file.specs.declared.Verdict.TheVariants.{Bad}
 use Rattle.ihex_file.specs.Line.{fresh_plain, taken_of}
-use Rattle.ihex_file.specs.File.{goes_on, next_of, bad_of, gives_of, records_from, records_of, lines_verdict, is_some, data_verdict, then_verdict, verdict_of, close_of}
-use Rattle.ihex_file.proofs.Moves.{Moved, taken_moves}
+use Rattle.ihex_file.specs.File.{goes_on, next_of, bad_of, gives_of, records_from, records_of, lines_verdict, is_some, verdict_of, close_of}
+use Rattle.ihex_file.proofs.Moves.{taken_moves}
 use Rattle.ihex_data.specs.declared.cuts.Tally.{Tally}
 use Rattle.ihex_data.specs.declared.Scan.{Scan}
 use Rattle.ihex_data.specs.declared.Body.{Body}
@@ -30,7 +30,6 @@ use Rattle.ihex_data.specs.declared.Step.{Step}
 use Rattle.ihex_data.specs.declared.Step.TheVariants.{On, Stop}
 use Rattle.ihex_data.specs.Pieces.{split_all, pieces_of}
 use Rattle.ihex_data.specs.Tally.{fresh_tally, tally_all, pieces_lines}
-use Rattle.ihex_data.specs.Lines.{data_lines}
 use Rattle.ihex_data.specs.Scan.{scan, line_pieces, step_of, stop_of, body_of, Walk}
 use Rattle.ihex_data.proofs.Tallied.{tally_append, put_more, split_append, fresh_some, fresh_first, fresh_lines, split_some}
 use Rattle.ihex_data.proofs.Length.{kept_length}
@@ -199,10 +198,10 @@ module _ (out : List ℕ) (at kind : ℕ) (s : List ℕ) {o : List ℕ} {w : Sca
     off-pieces : (l : List ℕ) → goes_on (taken_of w.plain l) ≡ false → line_pieces w.plain l ≡ []
     off-pieces l h = no_pieces w.plain l (taken_of w.plain l) refl h
 
-    pub going-stop : {a : Answer} {q : List ℕ} {step : Step} {b : Answer} → step ≡ step_of w (line e) → step ≡ Stop a → q ≡ put e → b ≡ stop_of step
+    pub going_stop : {a : Answer} {q : List ℕ} {step : Step} {b : Answer} → step ≡ step_of w (line e) → step ≡ Stop a → q ≡ put e → b ≡ stop_of step
         → Walk out at kind s (body (Bad k b) w.tally) q
     unfolding verdict_of
-    going-stop {a} {q} {step} {b} x y p z =
+    going_stop {a} {q} {step} {b} x y p z =
         let l = line e in
         let h = step_stop w l a (sym x ∙ y) in
         let ls = lines_of (drop e s) in

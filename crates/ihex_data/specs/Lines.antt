@@ -1,5 +1,5 @@
 -- The lines of a plain file's data (02, L11). "other address fields are 0000". Assumes nothing.
-use Rattle.std.specs.Prelude.{ℕ, ◌+◌, ◌*◌, ◌/◌, ◌%◌, cond, eqb, length}
+use Rattle.std.specs.Prelude.{ℕ, ◌/◌, ◌%◌, cond, eqb, length}
 use mathlib.Core.List.{List, [], ◌∷◌, flatten}
 use Rattle.laws.specs.Stores.{Store}
 use Rattle.ihex_record.specs.Types.{data_type, extended_linear}

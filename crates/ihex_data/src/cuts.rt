@@ -36,7 +36,7 @@ impl Tally {
 }
 
 // Do n bytes from an address on reach past the next multiple of 65,536?
-pub(crate) fn crosses(address: usize, n: usize) -> bool
+pub fn crosses(address: usize, n: usize) -> bool
     ensures { result ≡ crosses address n }
 {
     let room = REACH - address % REACH;

@@ -1,7 +1,7 @@
 // The data of a plain Intel Hex file: read, split where the upper half of its address changes, counted, and written as lines.
 #![tactic(auto)]
 
-mod cuts;
+pub mod cuts;
 
 ghost use Rattle.std.specs.Prelude.{◌≡◌, cond, ◌+◌, ◌≤◌, length};
 ghost use Rattle.ihex_write.specs.Put.{put_line, put_lines};

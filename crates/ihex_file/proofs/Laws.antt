@@ -1,17 +1,11 @@
 -- Laws of a line, one for each way that the code leaves. Assumes nothing.
 use Prim.Native.Nat.{ℕ, ◌+◌, ◌≤◌, ◌<◌}
 use mathlib.Core.Path.{◌≡◌, refl, ap, sym, ◌∙◌}
-use mathlib.Core.Logic.{⊎_elim}
 use mathlib.Core.Bool.{Bool, true, false, cond}
-use mathlib.Core.List.{List, [], ◌∷◌}
-use types.Run.{OneOf}
-use denote.Enum.Declared.{tag_of}
-use native.Mathlib.Omega.{arith}
 use lib.Dec.{ltb}
 use borrow.Author.Tests.{lt-ltb, le-ltb}
 use Rattle.ihex_record.specs.Record.{on_record}
 use Rattle.ihex_record.specs.declared.Record.{Record}
-use Rattle.ihex_record.specs.contracts.ParseResult.{the_type}
 use Rattle.ihex_record.specs.declared.ParseResult.{ParseResult}
 use Rattle.ihex_record.specs.declared.ParseResult.TheVariants as parsed
 use Rattle.uhex_grammar.specs.Answers.{refusal_of}
@@ -48,14 +42,10 @@ module _ (p : Plain) (n : ℕ) (x : ParseResult) (w : ℕ) where
       → t ≡ fields_taken q w rec → t ≡ line_taken p n x w
   line_record rec q t e h k m f = line_by (parsed.Good rec) t e h k (f ∙ ap (λ (z : Plain). fields_taken z w rec) m)
 
--- what a text says is no record, by its tag
-no_record : (x : ParseResult) (f : Record → LineReading) → OneOf (1 ∷ 2 ∷ 3 ∷ 4 ∷ 5 ∷ 6 ∷ []) (tag_of the_type x)
+-- what a text says is no record
+no_record : (x : ParseResult) (f : Record → LineReading) → ((rec : Record) → x ≡ parsed.Good rec → ⊥)
     → Refused (refusal_of x) ≡ on_record (Refused (refusal_of x)) f x
-no_record (parsed.Good rec) f t =
-    absurd
-    (⊎_elim (λ x. omega arith)
-    (⊎_elim (λ x. omega arith) (⊎_elim (λ x. omega arith) (⊎_elim (λ x. omega arith) (⊎_elim (λ x. omega arith) (λ x. omega arith)))))
-    t)
+no_record (parsed.Good rec) f t = absurd (t rec refl)
 no_record parsed.NoColon f t = refl
 no_record parsed.BadShape f t = refl
 no_record (parsed.BadDigit p) f t = refl
@@ -64,6 +54,6 @@ no_record parsed.BadLength f t = refl
 no_record parsed.BadSum f t = refl
 
 pub line_refused : (p : Plain) (n : ℕ) (x : ParseResult) (w : ℕ) (a : Answer) → p.ended ≡ false → p.offset + n ≤ 4194304
-    → OneOf (1 ∷ 2 ∷ 3 ∷ 4 ∷ 5 ∷ 6 ∷ []) (tag_of the_type x) → a ≡ refusal_of x → Refused a ≡ line_taken p n x w
+    → ((rec : Record) → x ≡ parsed.Good rec → ⊥) → a ≡ refusal_of x → Refused a ≡ line_taken p n x w
 line_refused p n x w a e h t k =
     line_by p n x w x (Refused a) e h refl (ap Refused k ∙ no_record x (fields_taken (moved_by p n) w) t)

@@ -4,7 +4,7 @@
 
 pub mod line;
 pub mod lines;
-mod records;
+pub mod records;
 
 ghost use Rattle.std.specs.Prelude.{◌≡◌};
 ghost use Rattle.laws.specs.Numbered.{numbered};

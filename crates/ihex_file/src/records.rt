@@ -28,7 +28,7 @@ fn data(plain: Plain, address: u16, len: u8) -> LineReading
 }
 
 // A record, its first two data bytes as a number.
-pub(crate) fn record(plain: Plain, kind: u8, address: u16, len: u8, word: u16) -> LineReading
+pub fn record(plain: Plain, kind: u8, address: u16, len: u8, word: u16) -> LineReading
     ensures { numbered taken_number result ≡ numbered taken_number (record_taken plain kind address len word) }
 {
     if kind == Record::DATA {

@@ -14,14 +14,14 @@ module _ (n : ℕ) (b : List ℕ) where
   is_too_long h = rw (lt-ltb 32 (len_of b) h)
 
   module _ (fits : len_of b ≤ 32) where
-    pub is-bad-length : (n ≡ 11 + 2 * len_of b → ⊥) → refused BadLength ≡ line_of_bytes n b
+    pub is_bad_length : (n ≡ 11 + 2 * len_of b → ⊥) → refused BadLength ≡ line_of_bytes n b
     unfolding line_of_bytes
-    is-bad-length h = rw (le-ltb 32 (len_of b) fits, ne_eqb n (11 + 2 * len_of b) h)
+    is_bad_length h = rw (le-ltb 32 (len_of b) fits, ne_eqb n (11 + 2 * len_of b) h)
 
     module _ (long : n ≡ 11 + 2 * len_of b) where
-      pub is-bad-sum : (total b % 256 ≡ 0 → ⊥) → refused BadSum ≡ line_of_bytes n b
+      pub is_bad_sum : (total b % 256 ≡ 0 → ⊥) → refused BadSum ≡ line_of_bytes n b
       unfolding line_of_bytes
-      is-bad-sum h =
+      is_bad_sum h =
           rw (le-ltb 32 (len_of b) fits, eq-eqb n (11 + 2 * len_of b) long, ne_eqb (total b % 256) 0 h)
 
       pub is_good_lem : total b % 256 ≡ 0 → good b ≡ line_of_bytes n b
@@ -56,15 +56,15 @@ module _ (t : List ℕ) where
   is_no_colon h = rw (ne_eqb (get_or t 0 0) 58 h, or-true (eqb (length t) 0))
 
   module _ (some : length t ≡ 0 → ⊥) (colon : get_or t 0 0 ≡ 58) where
-    pub is-bad-shape : bad_shape (length t) ≡ true → refused BadShape ≡ line_of_text t
+    pub is_bad_shape : bad_shape (length t) ≡ true → refused BadShape ≡ line_of_text t
     unfolding line_of_text
-    is-bad-shape e = rw (ne_eqb (length t) 0 some, eq-eqb (get_or t 0 0) 58 colon, e)
+    is_bad_shape e = rw (ne_eqb (length t) 0 some, eq-eqb (get_or t 0 0) 58 colon, e)
 
     module _ (shape : bad_shape (length t) ≡ false) where
-      pub is-bad-digit : {p : ℕ} → p ≡ 1 + first_bad (drop 1 t) → all_digits (drop 1 t) ≡ false → refused (BadDigit p) ≡ line_of_text t
+      pub is_bad_digit : {p : ℕ} → p ≡ 1 + first_bad (drop 1 t) → all_digits (drop 1 t) ≡ false → refused (BadDigit p) ≡ line_of_text t
       unfolding line_of_text
-      is-bad-digit q e = rw (q, ne_eqb (length t) 0 some, eq-eqb (get_or t 0 0) 58 colon, shape, e)
+      is_bad_digit q e = rw (q, ne_eqb (length t) 0 some, eq-eqb (get_or t 0 0) 58 colon, shape, e)
 
-      pub is-bytes : all_digits (drop 1 t) ≡ true → line_of_bytes (length t) (bytes_of (drop 1 t)) ≡ line_of_text t
+      pub is_bytes : all_digits (drop 1 t) ≡ true → line_of_bytes (length t) (bytes_of (drop 1 t)) ≡ line_of_text t
       unfolding line_of_text
-      is-bytes e = rw (ne_eqb (length t) 0 some, eq-eqb (get_or t 0 0) 58 colon, shape, e)
+      is_bytes e = rw (ne_eqb (length t) 0 some, eq-eqb (get_or t 0 0) 58 colon, shape, e)

@@ -1,7 +1,6 @@
 -- The 32 bytes that hold a record's data. Assumes nothing.
 use Rattle.std.proofs.Common.{◌≡◌, ℕ, ◌+◌, ◌-◌, ◌<◌, ◌≤◌, ltb, List, ◌++◌, length, get_or, take, drop, replicate, sym, ◌∙◌, arith, length-append, length-drop, length-take, length-take-le, get_or-drop, get_or-take, get_or-append-add, ext_get_or, ltb-false, ltb-true}
 use lib.ListN.{get_or-replicate, get_or-append, get_or-eq_default}
-use lib.Seq.{take-length}
 use Rattle.laws.proofs.Tests.{split}
 use Rattle.laws.proofs.TabLaws.{length_tab, get_d_tab, is_tab}
 use Rattle.ihex_record.specs.Record.{len_of, data_of, data32}
@@ -35,20 +34,20 @@ data32_append d z e h =
     let g : get_or (d ++ z) j 0 ≡ get_or z (j - length d) 0 = rw f at (get_or-append-add d z (j - length d) 0) in
     g ∙ h (j - length d) (omega arith) ∙ sym (get_or-eq_default d 0 n)))
 
--- bytes that were copied to 32 zeros
-data32_copied : (d : List ℕ) → length d ≤ 32 → take (length d) d ++ drop (length d) (replicate 32 0) ≡ data32 d
+-- bytes over the first of 32 zeros
+data32_copied : (d : List ℕ) → length d ≤ 32 → d ++ drop (length d) (replicate 32 0) ≡ data32 d
 data32_copied d h =
     let z : List ℕ = drop (length d) (replicate 32 0) in
     let n : length z ≡ 32 - length d = length-drop (length d) (replicate 32 0) in
-    rw (take-length d)
-    (data32_append d z (omega arith)
-    (λ i l. get_or-drop (length d) (replicate 32 0) i 0 ∙ get_or-replicate 32 (length d + i) 0 0 (omega arith)))
+    data32_append d z (omega arith)
+    (λ i l. get_or-drop (length d) (replicate 32 0) i 0 ∙ get_or-replicate 32 (length d + i) 0 0 (omega arith))
 
--- the data of a record's bytes, as the code copies it
+-- the data of a record's bytes, as the code copies it to the first of 32 zeros
 pub data32_data : (b : List ℕ) (used : ℕ) {d : List ℕ} → used ≡ len_of b → used ≤ 32 → used + 5 ≤ length b
-    → d ≡ take (length (take (used + 4 - 4) (drop 4 b))) (take (used + 4 - 4) (drop 4 b)) ++ drop (length (take (used + 4 - 4) (drop 4 b))) (replicate 32 0)
-    → d ≡ data32 (data_of b)
-data32_data b used e h n q =
+    → d ≡ take (used + 4 - 4) (drop 4 b) → d ++ drop used (replicate 32 0) ≡ data32 (data_of b)
+data32_data b used {d} e h n q =
     let f : used + 4 - 4 ≡ len_of b = omega arith in
-    let g : length (data_of b) ≤ 32 = simp (length-take, length-drop) (omega arith) in
-    rw f at q ∙ data32_copied (data_of b) g
+    let s : d ≡ data_of b = rw f at q in
+    let m : length (data_of b) ≡ used = simp (length-take, length-drop) (omega arith) in
+    let g : length (data_of b) ≤ 32 = omega arith in
+    rw s (rw m at (data32_copied (data_of b) g))

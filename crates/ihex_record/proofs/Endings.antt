@@ -23,14 +23,14 @@ module _ (l : List ℕ) where
   text_whole h = rw (ends_other 10 l (length l) h)
 
   module _ (last : get_or l (length l - 1) 0 ≡ 10) where
-    pub text-alone : length l ≡ 1 → 0 ≡ text_len l
+    pub text_alone : length l ≡ 1 → 0 ≡ text_len l
     unfolding text_len
-    text-alone e = rw (ends 10 l (length l) (omega arith) last, e)
+    text_alone e = rw (ends 10 l (length l) (omega arith) last, e)
 
-    pub text-lf : 0 < length l → (get_or l (length l - 2) 0 ≡ 13 → ⊥) → length l - 1 ≡ text_len l
+    pub text_lf : 0 < length l → (get_or l (length l - 2) 0 ≡ 13 → ⊥) → length l - 1 ≡ text_len l
     unfolding text_len
-    text-lf p h = rw (ends 10 l (length l) p last, ends_other 13 l (length l - 1) (rw before h))
+    text_lf p h = rw (ends 10 l (length l) p last, ends_other 13 l (length l - 1) (rw before h))
 
-    pub text-crlf : 1 < length l → get_or l (length l - 2) 0 ≡ 13 → length l - 2 ≡ text_len l
+    pub text_crlf : 1 < length l → get_or l (length l - 2) 0 ≡ 13 → length l - 2 ≡ text_len l
     unfolding text_len
-    text-crlf p e = rw (ends 10 l (length l) (omega arith) last, ends 13 l (length l - 1) (omega arith) (rw before e))
+    text_crlf p e = rw (ends 10 l (length l) (omega arith) last, ends 13 l (length l - 1) (omega arith) (rw before e))

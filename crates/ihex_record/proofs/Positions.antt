@@ -1,9 +1,9 @@
 -- The position of a bad digit: within 1 to 520, the first that is none. Assumes nothing.
-use Rattle.std.proofs.Common.{◌≡◌, ℕ, ◌+◌, ◌-◌, ◌<◌, ◌≤◌, Bool, true, false, cond, not, ltb, List, length, get_or, drop, sym, refl, ap, ◌∙◌, arith, length-drop, get_or-drop, ltb-false, ltb-true}
+use Rattle.std.proofs.Common.{◌≡◌, ℕ, ◌+◌, ◌-◌, ◌<◌, ◌≤◌, Bool, true, false, cond, ltb, List, length, get_or, drop, sym, refl, ap, ◌∙◌, arith, length-drop, get_or-drop, ltb-false, ltb-true}
 use Rattle.laws.proofs.Tests.{split, clash}
 use Rattle.ihex_record.specs.declared.Line.{Line}
 use Rattle.ihex_record.specs.declared.ParseResult.{ParseResult}
-use Rattle.ihex_record.specs.declared.ParseResult.TheVariants.{NoColon, BadShape, BadDigit, TooLong, BadLength, BadSum}
+use Rattle.ihex_record.specs.declared.ParseResult.TheVariants.{NoColon, BadShape, BadDigit}
 use Rattle.ihex_record.specs.Record.{text_of, is_digit, all_digits, first_bad, bytes_of, len_of, no_colon, bad_shape, bad_length, bad_sum, refused, line_of_bytes, line_of_text, read_of, parsed_number}
 use Rattle.ihex_record.proofs.Checks.{shaped}
 use Rattle.hex_digits.proofs.FirstBad.{bad_all, bad_is, bad_first}

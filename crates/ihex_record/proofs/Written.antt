@@ -9,9 +9,9 @@ use Rattle.laws.proofs.Tests.{split, both}
 use Rattle.ihex_record.specs.declared.ParseResult.TheVariants.{Good}
 use Rattle.ihex_record.specs.Record.{text_len, text_of, digit_of, all_digits, bytes_of, data32, total, bad_shape, line_of_bytes, line_of_text, read_of, all_by, bytes_by}
 use Rattle.ihex_record.specs.Write.{digit_text, bytes_text, field_bytes, checksum, record_text, Ending, none, lf, crlf, Bytes, ReadsBack}
-use Rattle.ihex_record.proofs.Endings.{text_whole, text-lf, text-crlf}
+use Rattle.ihex_record.proofs.Endings.{text_whole, text_lf, text_crlf}
 use Rattle.ihex_record.proofs.Sums.{total_append, total_one}
-use Rattle.ihex_record.proofs.Checks.{is-bytes, is_good_lem}
+use Rattle.ihex_record.proofs.Checks.{is_bytes, is_good_lem}
 
 -- ---- digits
 
@@ -68,13 +68,13 @@ ended t e n h lf =
     let b : length l - 2 ≡ length t - 1 = omega arith in
     let last : get_or l (length l - 1) 0 ≡ 10 = rw a (get_or-append_seam t 10 [] 0) in
     let f : get_or l (length l - 2) 0 ≡ get_or t (length t - 1) 0 = rw b (get_or-append t (10 ∷ []) 0 (length t - 1) (omega arith)) in
-    cut t (10 ∷ []) (sym a ∙ text-lf l last (omega arith) (λ q. omega arith))
+    cut t (10 ∷ []) (sym a ∙ text_lf l last (omega arith) (λ q. omega arith))
 ended t e n h crlf =
     let l = t ++ (13 ∷ 10 ∷ []) in
     let a : length l - 2 ≡ length t = omega (arith, length-append t (13 ∷ 10 ∷ [])) in
     let b : length l - 1 ≡ length t + 1 = omega (arith, length-append t (13 ∷ 10 ∷ [])) in
     let last : get_or l (length l - 1) 0 ≡ 10 = rw b (get_or-append-add t (13 ∷ 10 ∷ []) 1 0) in
-    cut t (13 ∷ 10 ∷ []) (sym a ∙ text-crlf l last (omega arith) (rw a (get_or-append_seam t 13 (10 ∷ []) 0)))
+    cut t (13 ∷ 10 ∷ []) (sym a ∙ text_crlf l last (omega arith) (rw a (get_or-append_seam t 13 (10 ∷ []) 0)))
 
 -- ---- the bytes of a record
 
@@ -129,7 +129,7 @@ module _ (kind address : ℕ) (d : List ℕ) (hk : kind < 256) (ha : address < 6
       let shape : bad_shape (length t) ≡ false =
       rw (le-ltb (length t) 11 (omega arith), le-ltb 521 (length t) (omega arith), ne_eqb (length t % 2) 0 (λ q. omega arith)) in
       let a : 256 * (address / 256) + address % 256 ≡ address = omega arith in
-      sym (is-bytes t (λ q. omega arith) refl shape r.digits)
+      sym (is_bytes t (λ q. omega arith) refl shape r.digits)
       ∙ ap (line_of_bytes (length t)) r.bytes
       ∙ sym (is_good_lem (length t) whole hd n (sums fields))
       ∙ rw (a, take-append_seam d (checksum fields ∷ []))

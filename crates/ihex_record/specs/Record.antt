@@ -1,5 +1,5 @@
 -- One line of Intel Hex, by the bytes of its text (01, "Universal Hex, a line at a time", rows 20 to 25). Assumes nothing.
-use Rattle.std.specs.Prelude.{◌≡◌, ℕ, ◌+◌, ◌-◌, ◌*◌, ◌%◌, Bool, cond, not, ◌&&◌, ◌||◌, List, [], ◌∷◌, length, take, drop, ◌==◌, nat_lt, slice_index}
+use Rattle.std.specs.Prelude.{ℕ, ◌+◌, ◌-◌, ◌*◌, ◌%◌, Bool, cond, not, ◌&&◌, ◌||◌, List, [], ◌∷◌, length, take, drop, ◌==◌, nat_lt, slice_index}
 use Rattle.laws.specs.Tab.{tab}
 pub use Rattle.hex_digits.specs.Digits.{is_digit, all_digits, first_bad, bytes_of}
 unfoldable pub use Rattle.hex_digits.specs.Digits.{digit_of, all_by, first_by, bytes_by}

@@ -1,7 +1,7 @@
 // One line of Intel Hex: a record, or the check that it fails; the length of its text, a sum, a word, and the line of a refusal.
 #![tactic(auto)]
 
-mod record_bytes;
+pub mod record_bytes;
 pub mod record_line;
 
 ghost use Rattle.std.specs.Prelude.{◌≡◌, ◌%◌, ◌≤◌, length};
@@ -79,7 +79,7 @@ impl ParseResult {
 }
 
 // How many characters are left when the ending is dropped.
-pub(crate) fn text_len(line: &[u8]) -> usize
+pub fn text_len(line: &[u8]) -> usize
     ensures value { result ≡ text_len line.now }
     ensures within { result ≤ length line.now }
 {
@@ -120,7 +120,7 @@ pub fn word(high: u8, low: u8) -> u16
 }
 
 // The line of a refusal.
-pub(crate) fn refusal(parsed: ParseResult) -> Line
+pub fn refusal(parsed: ParseResult) -> Line
     ensures { result ≡ refused parsed }
 {
     Line {

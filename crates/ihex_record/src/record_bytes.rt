@@ -23,7 +23,7 @@ fn good_line(bytes: &[u8], used: usize) -> Line
 }
 
 // Rows 23 to 25 of n characters, whose bytes are the first of these.
-pub(crate) fn read_bytes(n: usize, bytes: &[u8; Record::BYTES]) -> Line
+pub fn read_bytes(n: usize, bytes: &[u8; Record::BYTES]) -> Line
     ensures { result ≡ line_in n bytes.now }
 {
     let room: &[u8] = bytes;

@@ -1,5 +1,5 @@
 -- Lines written into a room (02, L11). What a record's line is stands in record's specs/Write. Assumes nothing.
-use Rattle.std.specs.Prelude.{ℕ, ◌+◌, ◌*◌, cond, ◌&&◌, List, [], ◌∷◌, length, nat_le}
+use Rattle.std.specs.Prelude.{ℕ, ◌+◌, cond, List, [], ◌∷◌, length, nat_le}
 use Rattle.laws.specs.Over.{over}
 use Rattle.ihex_record.specs.Write.{record_line}
 

@@ -14,21 +14,21 @@ fn digit(n: u8) -> u8
 }
 
 // The first digit of a byte.
-pub(crate) fn high_digit(b: u8) -> u8
+pub fn high_digit(b: u8) -> u8
     ensures { result ≡ digit_text (b / 16) }
 {
     digit(b / 16)
 }
 
 // The second digit of a byte.
-pub(crate) fn low_digit(b: u8) -> u8
+pub fn low_digit(b: u8) -> u8
     ensures { result ≡ digit_text (b % 16) }
 {
     digit(b % 16)
 }
 
 // Is there a line of a record with n bytes of data, and does it fit into so much room, from an index on?
-pub(crate) fn has_room(room: usize, at: usize, n: usize) -> bool
+pub fn has_room(room: usize, at: usize, n: usize) -> bool
     ensures { result ≡ has_room room at n }
 {
     if Record::MAX < n {

@@ -1,7 +1,7 @@
 // Records written as lines of Intel Hex: upper case, checksum, LF.
 #![tactic(auto)]
 
-mod digit_text;
+pub mod digit_text;
 pub mod filling;
 
 ghost use Rattle.std.specs.Prelude.{◌≡◌, ◌+◌, ◌*◌, ◌<◌, ◌≤◌, [], ◌∷◌, length};

@@ -77,6 +77,10 @@ put_over a n xs ys e =
     let h : a + n - a ≡ n = omega arith in
     rw (h, drop-drop n a xs, e) refl
 
+-- a source p of n elements that a part of n was made
+pub part_over : (a n : ℕ) (xs p ys : List ℕ) → length p ≡ n → a + n ≤ length xs → ys ≡ p → put_mid a (a + n - a) xs ys ≡ over xs a p
+part_over a n xs p ys k l e = put_over a n xs ys (rw e k) ∙ rw e refl
+
 -- a source p of n elements that was copied into a part of n
 pub copied_over : (a n : ℕ) (xs p ys : List ℕ) → length p ≡ n → a + n ≤ length xs
     → ys ≡ take (length p) p ++ drop (length p) (take (a + n - a) (drop a xs)) → put_mid a (a + n - a) xs ys ≡ over xs a p

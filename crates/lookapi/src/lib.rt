@@ -17,7 +17,7 @@ pub extern "C" fn uf2_look(
     main: &[u8],
     xip: &[u8],
 ) -> u32
-    ensures { result ≡ look_call_of settings transfer arrival (lent_at flash seen sectors main xip) }
+    ensures { result ≡ look_call_of settings.now transfer.now arrival.now (lent_at flash.now seen.now sectors.now main.now xip.now) }
 {
     let s = settings_layout::read_settings(settings);
     let t = transfer_layout::read_transfer(transfer);

@@ -129,7 +129,7 @@ blocks_next l s t u k p q =
 
 -- a block's end: the rest of a message, a bit, zeros, the length from e on
 module _ (rest t : List ℕ) (n e c : ℕ) (hr : length rest ≡ n % 64) (he : n % 64 < e) (hl : e ≤ 120) (hc : c ≡ length rest)
-    (ht : t ≡ take (length rest) rest ++ drop (length rest) (replicate 128 0)) where
+    (y : List ℕ) (hy : y ≡ rest) (ht : t ≡ y ++ drop (length rest) (replicate 128 0)) where
   zeros : drop {A = ℕ} (length rest) (replicate 128 0) ≡ replicate (128 - length rest) 0
   zeros =
       let h : length rest + (128 - length rest) ≡ 128 = omega arith in
@@ -144,7 +144,7 @@ module _ (rest t : List ℕ) (n e c : ℕ) (hr : length rest ≡ n % 64) (he : n
   unfolding front
   written =
       let h : 128 - length rest ≡ suc (e - 1 - n % 64 + (128 - e)) = omega arith in
-      rw (ht, hc, zeros, take-length rest, h, set_at rest 0 (replicate (e - 1 - n % 64 + (128 - e)) 0) 128 (length rest) refl, ← replicate-append-replicate {A = ℕ} (e - 1 - n % 64) (128 - e) 0, append_assoc) refl
+      rw (ht, hy, hc, zeros, h, set_at rest 0 (replicate (e - 1 - n % 64 + (128 - e)) 0) 128 (length rest) refl, ← replicate-append-replicate {A = ℕ} (e - 1 - n % 64) (128 - e) 0, append_assoc) refl
 
   front_long : length front ≡ e
   unfolding front

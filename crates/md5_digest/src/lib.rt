@@ -1,7 +1,7 @@
 // The MD5 message digest (RFC 1321) of a slice of bytes.
 #![tactic(auto)]
 
-mod schedule;
+pub mod schedule;
 
 ghost use Rattle.std.specs.Prelude.{◌≡◌, ◌+◌, ◌-◌, ◌*◌, ◌/◌, ◌%◌, ◌^◌, ◌<◌, ◌≤◌, ◌++◌, length};
 ghost use Rattle.laws.specs.Bytes.{low_first, number_in};

@@ -20,40 +20,40 @@ const SHIFTS: [u32; 64] = [
 ];
 
 // The table T.
-pub(crate) fn sines() -> [u32; 64]
+pub fn sines() -> [u32; 64]
     ensures { result ≡ sines }
 {
     SINES
 }
 
 // The shifts of the operations.
-pub(crate) fn shifts() -> [u32; 64]
+pub fn shifts() -> [u32; 64]
     ensures { result ≡ shifts }
 {
     SHIFTS
 }
 
 // The word that operation i takes in the second, third and fourth round; in the first it is i.
-pub(crate) fn word_g(i: u8) -> usize
+pub fn word_g(i: u8) -> usize
     ensures { result ≡ (5 * i + 1) % 16 }
 {
     (5 * (i as usize) + 1) % 16
 }
 
-pub(crate) fn word_h(i: u8) -> usize
+pub fn word_h(i: u8) -> usize
     ensures { result ≡ (3 * i + 5) % 16 }
 {
     (3 * (i as usize) + 5) % 16
 }
 
-pub(crate) fn word_i(i: u8) -> usize
+pub fn word_i(i: u8) -> usize
     ensures { result ≡ 7 * i % 16 }
 {
     7 * (i as usize) % 16
 }
 
 // Where the length of a message of n bytes stands after its whole blocks: in the last part's block, or where it has no room in one more.
-pub(crate) fn length_at(n: usize) -> usize
+pub fn length_at(n: usize) -> usize
     ensures { result ≡ length_at n }
 {
     if n % 64 < 56 { 56 } else { 120 }

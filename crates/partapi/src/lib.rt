@@ -2,7 +2,7 @@
 // Reports are bytes in the layout of `reports`, parts in that of `parts`.
 #![tactic(auto)]
 
-mod parts;
+pub mod parts;
 
 ghost use Rattle.std.specs.Prelude.{◌≡◌};
 ghost use Rattle.trace_parts.specs.Merging.{merge_number, merge_return};

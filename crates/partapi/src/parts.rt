@@ -24,7 +24,7 @@ fn no_part() -> Part
 }
 
 // The part that bytes are.
-pub(crate) fn read_part(bytes: &[u8]) -> Part
+pub fn read_part(bytes: &[u8]) -> Part
     ensures { result ≡ part_from bytes.now }
 {
     if bytes.len() != PART {
@@ -40,7 +40,7 @@ pub(crate) fn read_part(bytes: &[u8]) -> Part
 }
 
 // Writes a part, where there are bytes for it.
-pub(crate) fn write_part(bytes: &mut [u8], part: Part)
+pub fn write_part(bytes: &mut [u8], part: Part)
     ensures { bytes.new ≡ part_written bytes.old part }
 {
     if bytes.len() != PART {

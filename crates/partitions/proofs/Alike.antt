@@ -1,13 +1,12 @@
 -- Settings that are alike are good for the same flash lengths: no check looks at what is not used, or at "don't restart". Assumes nothing.
 use Prim.Native.Nat.{ℕ, ◌<◌}
-use mathlib.Core.Path.{◌≡◌, refl, ap, ◌∙◌}
+use mathlib.Core.Path.{◌≡◌, ap, ◌∙◌}
 use mathlib.Core.Bool.{Bool, not, ◌&&◌, ◌||◌, false, or-true}
 use mathlib.Core.List.{List}
 use native.Mathlib.Omega.{arith}
-use lib.Dec.{ltb, leb, eqb}
+use lib.Dec.{ltb, eqb}
 use lib.ListN.{get_or}
 use borrow.Author.Tests.{ltb-true, leb-false}
-use Rattle.laws.specs.Sets.{any}
 use Rattle.laws.proofs.Tests.{split}
 use Rattle.laws.proofs.Laws.{any_cong}
 use Rattle.partitions.specs.declared.Arch.{Arch}

@@ -187,7 +187,7 @@ fn reserved_user(e: Entry) -> bool
 }
 
 // Is an entry wrong by itself?
-pub(crate) fn alone_bad(e: Entry, flash_len: usize) -> bool
+pub fn alone_bad(e: Entry, flash_len: usize) -> bool
     ensures { result ≡ alone_bad flash_len e }
 {
     let past = (e.first as usize + e.sectors as usize) * Flash::SECTOR;

@@ -4,7 +4,6 @@ use mathlib.Core.Path.{◌≡◌, refl, ap, ◌∙◌}
 use mathlib.Core.List.{List}
 use native.Mathlib.Nat.{le_refl, le_step}
 use native.Mathlib.Omega.{arith}
-use Rattle.laws.specs.Sets.{any}
 use Rattle.laws.proofs.Laws.{any_cong}
 use Rattle.partitions.specs.declared.Arch.{Arch}
 use Rattle.partitions.specs.declared.Arch.TheVariants.{Arm, RiscV}

@@ -36,13 +36,13 @@ module _ (s : Settings) (len f : ℕ) where
       simp (y, z)
 
   module _ (na : f ≢ family_absolute) (nr : f ≢ family_rp2040) where
-    pub place-whole : s.count ≡ 0 → place_of s len f ≡ whole_if (gets_whole s.arm s.riscv f) len
+    pub place_whole : s.count ≡ 0 → place_of s len f ≡ whole_if (gets_whole s.arm s.riscv f) len
     unfolding place_of
-    place-whole h = let z = eq-eqb s.count 0 h in simp (ne_eqb f family_absolute na, ne_eqb f family_rp2040 nr, z)
+    place_whole h = let z = eq-eqb s.count 0 h in simp (ne_eqb f family_absolute na, ne_eqb f family_rp2040 nr, z)
 
-    pub place-table : s.count ≢ 0 → place_of s len f ≡ place_of_choice s.table (chosen_entry s f)
+    pub place_table : s.count ≢ 0 → place_of s len f ≡ place_of_choice s.table (chosen_entry s f)
     unfolding place_of
-    place-table h = let z = ne_eqb s.count 0 h in simp (ne_eqb f family_absolute na, ne_eqb f family_rp2040 nr, z)
+    place_table h = let z = ne_eqb s.count 0 h in simp (ne_eqb f family_absolute na, ne_eqb f family_rp2040 nr, z)
 
 -- ---- how many entries are looked at
 

@@ -18,7 +18,7 @@ use Rattle.placement.specs.declared.Choice.{Choice}
 use Rattle.placement.specs.declared.Choice.TheVariants.{Nothing, Entry}
 use Rattle.placement.specs.declared.Place.TheVariants.{Nowhere, At}
 use Rattle.placement.proofs.First.{first_all, first_none, if_taken, if_passed}
-use Rattle.placement.proofs.Laws.{place_absolute, place_rp2040, place-whole, place-table, used_least, used_whole, chosen_taken}
+use Rattle.placement.proofs.Laws.{place_absolute, place_rp2040, place_whole, place_table, used_least, used_whole, chosen_taken}
 
 -- ---- what the passes take
 
@@ -74,7 +74,7 @@ choice_none table (Entry k) e = let z : ◌≡◌ {A = ℕ} 0 1 = cc in absurd (
 
 pub no_place : NoPlaceStated
 no_place s len f good table na nr =
-    let placed = place-table s len f na nr table in (
+    let placed = place_table s len f na nr table in (
       λ e. chosen_none s f (good_count s len good) (choice_none s.table (chosen_entry s f) (sym placed ∙ e)),
       λ h. placed ∙ ap (place_of_choice s.table) (none_chosen s f h),
     )
@@ -113,8 +113,8 @@ module _ (s : Settings) (len f : ℕ) (right : flash_length len ≡ true) (good 
       (λ q.
       let nr = eqb-false f family_rp2040 q in
       split (eqb s.count 0)
-      (λ r. whole (gets_whole s.arm s.riscv f) (sym (place-whole s len f na nr (eqb-true s.count 0 r)) ∙ e))
-      (λ r. entry (chosen_entry s f) refl (sym (place-table s len f na nr (eqb-false s.count 0 r)) ∙ e))))
+      (λ r. whole (gets_whole s.arm s.riscv f) (sym (place_whole s len f na nr (eqb-true s.count 0 r)) ∙ e))
+      (λ r. entry (chosen_entry s f) refl (sym (place_table s len f na nr (eqb-false s.count 0 r)) ∙ e))))
 
 pub place_inside : PlaceInside
 place_inside s len f right good a n e = inside s len f right good e

@@ -2,32 +2,29 @@
 use mathlib.Core.Path.{◌≡◌, refl, sym, ap, ◌∙◌}
 use mathlib.Core.Bool.{Bool, true, false}
 use mathlib.Core.List.{List, [], ◌∷◌}
-use Prim.Native.Nat.{ℕ, zero, suc, ◌+◌, ◌-◌, ◌*◌, ◌/◌, ◌%◌, ◌^◌, ◌<◌, ◌≤◌}
-use native.Mathlib.Nat.{mod-eq_of_lt, mul_assoc}
+use Prim.Native.Nat.{ℕ, zero, suc, ◌+◌, ◌*◌, ◌^◌, ◌<◌, ◌≤◌}
+use native.Mathlib.Nat.{mod-eq_of_lt}
 use native.Mathlib.Omega.{arith}
 use lib.ListN.{length, get_or, take, drop}
 use lib.Pow.{pow-add}
 use lib.Seq.{length-take-le}
-use Rattle.laws.specs.Sets.{any}
-use Rattle.laws.proofs.Tests.{split}
 use Rattle.laws.proofs.Laws.{any_hit, any_none}
-use Rattle.memory.specs.Flash.{flash_length}
 use Rattle.partitions.specs.declared.Arch.{Arch}
 use Rattle.partitions.specs.declared.Arch.TheVariants.{Arm, RiscV}
 use Rattle.partitions.specs.declared.Link.{Link}
 use Rattle.partitions.specs.declared.Link.TheVariants.{Unlinked, OwnedBy, BOf}
 use Rattle.partitions.specs.declared.Entry.{Entry}
 use Rattle.partitions.specs.declared.Settings.{Settings}
-use Rattle.partitions.specs.Settings.{entry_at, good_settings}
+use Rattle.partitions.specs.Settings.{entry_at}
 use Rattle.partitions.proofs.Laws.{good_count}
-use Rattle.laws.specs.Packing.{total, packed, unpacked, octets, bytes_of, fields_of, bit}
-use Rattle.store_entry.specs.EntryBits.{kind_of, index_of, slot, entry_widths, entry_fields, packed_entry}
+use Rattle.laws.specs.Packing.{total, packed, unpacked, octets, fields_of, bit}
+use Rattle.store_entry.specs.EntryBits.{kind_of, index_of, slot, entry_widths, entry_fields}
 use Rattle.store_entry.proofs.OneEntry.{Fits}
-use Rattle.settings_store.specs.Store.{arch_bit, head_fields, head_in, head_widths, no_restart_at, part_in, row_at, store_of, version_of}
+use Rattle.settings_store.specs.Store.{arch_bit, head_fields, head_in, head_widths, no_restart_at, row_at, store_of, version_of}
 use Rattle.settings_store.proofs.write.Rows.{length_row}
 use Rattle.settings_claims.specs.Claims.{Narrow}
-use Rattle.settings_claims.specs.Bits.{value_of, head_bits, entry_bits, flag, arch_number, link_kind, link_index, slot_of, EntryLaid, Laid, StoreIsLaid}
-use Rattle.settings_claims.proofs.Written.{good_fields, store_length, head_length, head_back, part_back, row_fields}
+use Rattle.settings_claims.specs.Bits.{value_of, flag, arch_number, link_kind, link_index, EntryLaid, Laid, StoreIsLaid}
+use Rattle.settings_claims.proofs.Written.{good_fields, store_length, head_back, part_back, row_fields}
 
 -- ---- bytes as one number
 

@@ -1,14 +1,10 @@
 -- Settings that compare equal: their encoding, and their canonical form. Assumes nothing.
 use Prim.Native.Nat.{ℕ, zero, suc, ◌<◌, ◌≤◌}
 use mathlib.Core.Path.{◌≡◌, refl, sym, ap, ◌∙◌}
-use mathlib.Core.Bool.{Bool}
-use mathlib.Core.List.{List}
 use native.Mathlib.Omega.{arith}
 use lib.Dec.{ltb}
 use lib.ListN.{get_or}
 use borrow.Author.Tests.{ltb-true}
-use Rattle.laws.specs.Sets.{any}
-use Rattle.laws.specs.Rows.{rows}
 use Rattle.laws.proofs.Tests.{split}
 use Rattle.laws.proofs.Laws.{any_cong}
 use Rattle.laws.proofs.RowsLaws.{rows_cong}

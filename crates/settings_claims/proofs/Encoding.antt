@@ -32,7 +32,7 @@ use Rattle.settings_store.specs.declared.Reading.{Reading}
 use Rattle.settings_store.specs.Store.{no_restart_at, version_of, head_widths, arch_bit, head_fields, row_at, store_of, head_in, part_in, entry_of, arch_from, settings_in, stray_at, strays_in, refusal, found, read_head, read_of}
 use Rattle.settings_claims.specs.Claims.{Narrow, Bytes, neat, ReadIsTheEncoding, OneEncoding, NoOtherBytes}
 use Rattle.settings_claims.proofs.Parts.{rows_parts}
-use Rattle.settings_claims.proofs.Compared.{Few, compared_store, neat_compared}
+use Rattle.settings_claims.proofs.Compared.{compared_store, neat_compared}
 use Rattle.settings_claims.proofs.Written.{head_even, good_few, written_reads_back}
 
 -- ---- the checks, where settings are read

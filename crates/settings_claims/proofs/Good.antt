@@ -1,10 +1,9 @@
 -- Bad settings by fields. Assumes nothing.
 use Prim.Native.Nat.{ℕ, ◌+◌, ◌*◌, ◌<◌, ◌≤◌}
-use mathlib.Core.Path.{◌≡◌, refl, sym, ap, ◌∙◌}
-use mathlib.Core.Logic.{◌↔◌, ◌≢◌}
-use mathlib.Core.Bool.{Bool, true, false, ◌&&◌, ◌||◌, not, or-true}
+use mathlib.Core.Path.{◌≡◌, refl}
+use mathlib.Core.Logic.{◌≢◌}
+use mathlib.Core.Bool.{true, false, not, or-true}
 use mathlib.Core.List.{List}
-use native.Mathlib.Omega.{arith}
 use lib.Dec.{ltb, leb, eqb}
 use lib.ListN.{get_or}
 use borrow.Author.Tests.{eqb-true, eqb-false, eq-eqb, ne_eqb, lt-ltb, ltb-true, le-leb, leb-true, not-true, not-false}
@@ -17,7 +16,7 @@ use Rattle.partitions.specs.declared.Arch.{Arch}
 use Rattle.partitions.specs.declared.Arch.TheVariants.{Arm, RiscV}
 use Rattle.partitions.specs.declared.Link.{Link}
 use Rattle.partitions.specs.declared.Link.TheVariants.{Unlinked, OwnedBy, BOf}
-use Rattle.partitions.specs.Settings.{link_is_b, link_is_none, link_target, is_a, is_unowned, entry_at, enabled, count_over, no_sectors, runs_past, overlap_at, shares_with, shares_sector, links_up, links_to_b, many_users, is_reserved, reserved_at, reserved_user, bad_entry, good_settings}
+use Rattle.partitions.specs.Settings.{link_is_b, link_is_none, link_target, is_a, is_unowned, entry_at, enabled, no_sectors, runs_past, overlap_at, shares_with, shares_sector, links_up, links_to_b, many_users, is_reserved, reserved_at, reserved_user, bad_entry, good_settings}
 use Rattle.partitions.proofs.Laws.{good_off, good_over}
 use Rattle.partitions.proofs.Overlap.{overlap_exact}
 use Rattle.settings_claims.specs.Targeting.{row}

@@ -1,11 +1,9 @@
 -- Bytes that are laid as those of settings are their store. Assumes nothing.
 use Prim.Native.Nat.{ℕ, zero, suc, ◌+◌, ◌*◌, ◌/◌, ◌%◌, ◌^◌, ◌<◌, ◌≤◌}
-use mathlib.Core.Path.{◌≡◌, refl, sym, ap, ◌∙◌, subst}
-use mathlib.Core.Bool.{true, false}
+use mathlib.Core.Path.{◌≡◌, sym, ap, ◌∙◌, subst}
 use mathlib.Core.List.{List, [], ◌∷◌}
 use native.Mathlib.Nat.{mod-eq_of_lt, mod-lt}
 use native.Mathlib.Omega.{arith}
-use lib.Dec.{ltb}
 use lib.ListN.{length, get_or, take, drop, length-take, length-drop, take-append-drop}
 use lib.Pow.{pow_pos}
 use lib.Seq.{drop-drop, length-take-le}
@@ -17,7 +15,7 @@ use Rattle.laws.proofs.Laws.{any_all, any_found}
 use Rattle.partitions.specs.declared.Entry.{Entry}
 use Rattle.partitions.specs.declared.Settings.{Settings}
 use Rattle.partitions.specs.Settings.{entry_at}
-use Rattle.laws.specs.Packing.{total, unpacked, octets, bytes_of, fields_of, Fit}
+use Rattle.laws.specs.Packing.{total, unpacked, bytes_of, fields_of}
 use Rattle.laws.proofs.Widths.{bytes_fields}
 use Rattle.store_entry.specs.EntryBits.{index_of, slot, entry_widths, entry_fields, packed_entry}
 use Rattle.store_entry.proofs.ReadBack.{even}

@@ -1,17 +1,16 @@
 -- What is stray in a store, by its bits. Assumes nothing.
 use Prim.Native.Nat.{ℕ, ◌+◌, ◌*◌, ◌/◌, ◌%◌, ◌<◌, ◌≤◌}
-use mathlib.Core.Path.{◌≡◌, refl, sym, ap, ◌∙◌}
+use mathlib.Core.Path.{◌≡◌, sym, ap, ◌∙◌}
 use mathlib.Core.Logic.{◌≢◌}
 use mathlib.Core.Bool.{Bool, true, false, not, ◌&&◌, ◌||◌, or-true}
 use mathlib.Core.List.{List}
 use native.Mathlib.Omega.{arith}
 use lib.Dec.{leb, eqb, ltb}
-use lib.ListN.{length, get_or, take, drop, length-take, length-drop}
+use lib.ListN.{length, get_or, length-take, length-drop}
 use borrow.Author.Tests.{eq-eqb, ne_eqb, lt-ltb, le-leb}
 use Rattle.laws.specs.Sets.{any}
 use Rattle.laws.proofs.Tests.{split, clash, both}
 use Rattle.laws.proofs.Laws.{any_hit, any_none}
-use Rattle.partitions.specs.declared.Entry.{Entry}
 use Rattle.partitions.specs.Table.{table_of}
 use Rattle.partitions.proofs.Tables.{table_at}
 use Rattle.laws.specs.Packing.{total, unpacked, fields_of}
@@ -21,7 +20,7 @@ use Rattle.settings_store.specs.Written.{no_restart_in}
 use Rattle.settings_store.proofs.write.Cases.{no_restart_few}
 use Rattle.settings_store.specs.Store.{no_restart_at, part_in, entry_of, stray_at}
 use Rattle.settings_claims.specs.Bits.{value_of, entry_bits}
-use Rattle.settings_claims.specs.Refusals.{version_in, count_in, zeros_in, Headed, Whole, Stray, head_zeros, kind_3, unlinked_index, many_users_case, unused_slot_0, unused_slot_1, unused_slot_2, unused_slot_3, sixth_last, last_five, needless_2}
+use Rattle.settings_claims.specs.Refusals.{version_in, count_in, Whole, Stray, head_zeros, kind_3, unlinked_index, many_users_case, unused_slot_0, unused_slot_1, unused_slot_2, unused_slot_3, sixth_last, last_five, needless_2}
 use Rattle.settings_claims.proofs.Bits.{value_fields}
 use Rattle.settings_claims.proofs.Encoding.{entry_whole, stray_whole, no_restart_of}
 

@@ -1,8 +1,8 @@
 -- The place of a family by fields. Assumes nothing.
 use Prim.Native.Nat.{ℕ, zero, suc, ◌*◌, ◌<◌, ◌≤◌}
-use mathlib.Core.Path.{◌≡◌, refl, sym, ap, ◌∙◌}
-use mathlib.Core.Logic.{◌↔◌, ◌≢◌, ◌⊎◌, inl, inr, ⊎_elim}
-use mathlib.Core.Bool.{Bool, true, false, ◌&&◌, ◌||◌, not, cond, or-true}
+use mathlib.Core.Path.{◌≡◌, refl, sym, ◌∙◌}
+use mathlib.Core.Logic.{◌≢◌, ◌⊎◌, inl, inr, ⊎_elim}
+use mathlib.Core.Bool.{Bool, true, false, ◌&&◌, not, or-true}
 use mathlib.Core.List.{List}
 use native.Mathlib.Omega.{arith}
 use lib.Dec.{ltb, eqb}
@@ -10,14 +10,14 @@ use lib.ListN.{get_or}
 use borrow.Author.Tests.{eqb-true, eqb-false, eq-eqb, lt-ltb, ltb-true, not-true}
 use Rattle.laws.specs.Sets.{any}
 use Rattle.laws.proofs.Tests.{split, clash, is_false, and_left, and_right}
-use Rattle.laws.proofs.Laws.{any_hit, any_found, any_all}
+use Rattle.laws.proofs.Laws.{any_hit, any_found}
 use Rattle.partitions.specs.declared.Settings.{Settings}
 use Rattle.partitions.specs.declared.Entry.{Entry}
 use Rattle.partitions.specs.declared.Arch.{Arch}
 use Rattle.partitions.specs.declared.Arch.TheVariants.{Arm, RiscV}
 use Rattle.partitions.specs.declared.Link.{Link}
 use Rattle.partitions.specs.declared.Link.TheVariants.{Unlinked, OwnedBy, BOf}
-use Rattle.partitions.specs.Settings.{link_is_b, link_is_none, is_a, is_unowned, user_is, has_user, accepts, entry_at, good_settings}
+use Rattle.partitions.specs.Settings.{link_is_b, link_is_none, is_a, user_is, has_user, accepts, entry_at}
 use Rattle.partitions.proofs.Laws.{good_count}
 use Rattle.placement.specs.declared.passes.PassQuery.{PassQuery}
 use Rattle.placement.specs.declared.Choice.{Choice}
@@ -25,12 +25,11 @@ use Rattle.placement.specs.declared.Choice.TheVariants as choice
 use Rattle.placement.specs.declared.Place.TheVariants.{Nowhere, At}
 use Rattle.placement.specs.Place.{first_of, entry_if, in_pass, chosen, chosen_entry, pass_query_of, pass_allows, pass_takes, used_count, gets_whole, whole_if, place_of_choice, place_of}
 use Rattle.placement.proofs.First.{first_all, first_none, first_hit, if_taken, if_passed}
-use Rattle.placement.proofs.Laws.{place_absolute, place_rp2040, place-whole, place-table, used_least, used_whole}
+use Rattle.placement.proofs.Laws.{place_absolute, place_rp2040, place_whole, place_table, used_least, used_whole}
 use Rattle.placement.specs.Place as place
 use Rattle.placement.proofs.Theorems.{no_place}
 use native.Mathlib.Nat.{le_refl, le_step}
-use Rattle.placement.specs.Passes.{is_bootable, for_current, for_other}
-use Rattle.settings_claims.specs.Targeting.{row, IsA, Accepts, data_flag, arm_s_flag, riscv_flag, arm_ns_flag, user_slot, Accepting, NoPlaceByFields, Asks, pass_1_arm, pass_1_riscv, pass_2_riscv, pass_2_arm, pass_3, pass_4, Takes, First, HasPlace, absolute, whole_data, whole_arm_s, whole_riscv, entry, PlaceByFields}
+use Rattle.settings_claims.specs.Targeting.{row, Accepts, data_flag, arm_s_flag, riscv_flag, arm_ns_flag, user_slot, Accepting, NoPlaceByFields, Asks, pass_1_arm, pass_1_riscv, pass_2_riscv, pass_2_arm, pass_3, pass_4, Takes, First, HasPlace, absolute, whole_data, whole_arm_s, whole_riscv, entry, PlaceByFields}
 
 -- ---- one entry: each test of the code, and its words
 
@@ -313,10 +312,10 @@ module _ (s : Settings) (len f : ℕ) where
       split (eqb s.count 0)
       (λ c.
       let z = eqb-true s.count 0 c in
-      let x = whole_said (gets_whole s.arm s.riscv f) (sym (place-whole s len f na nr z) ∙ h) in
+      let x = whole_said (gets_whole s.arm s.riscv f) (sym (place_whole s len f na nr z) ∙ h) in
       place_at (gets_data z x.0) x.1 x.2)
       (λ c.
-      let x = choice_said _ (sym (place-table s len f na nr (eqb-false s.count 0 c)) ∙ h) in
+      let x = choice_said _ (sym (place_table s len f na nr (eqb-false s.count 0 c)) ∙ h) in
       let y = chosen_first s f most x.0 x.1 in
       place_at (entry y.0 x.0 na nr y.1) x.2 x.3)))
 
@@ -325,11 +324,11 @@ module _ (s : Settings) (len f : ℕ) where
 
   said_place : s.count ≤ 16 → {a n : ℕ} → HasPlace s len f a n → place_of s len f ≡ At a n
   said_place most (absolute q h) = place_absolute s len f q ∙ rw h
-  said_place most (whole_data z q) = let o = others 0xe48bff58 q (omega arith) (omega arith) in place-whole s len f o.0 o.1 z ∙ rw q
-  said_place most (whole_arm_s z q h) = let o = others 0xe48bff59 q (omega arith) (omega arith) in place-whole s len f o.0 o.1 z ∙ rw (q, h)
-  said_place most (whole_riscv z q h) = let o = others 0xe48bff5a q (omega arith) (omega arith) in place-whole s len f o.0 o.1 z ∙ rw (q, h)
+  said_place most (whole_data z q) = let o = others 0xe48bff58 q (omega arith) (omega arith) in place_whole s len f o.0 o.1 z ∙ rw q
+  said_place most (whole_arm_s z q h) = let o = others 0xe48bff59 q (omega arith) (omega arith) in place_whole s len f o.0 o.1 z ∙ rw (q, h)
+  said_place most (whole_riscv z q h) = let o = others 0xe48bff5a q (omega arith) (omega arith) in place_whole s len f o.0 o.1 z ∙ rw (q, h)
   said_place most (entry p k na nr m) =
-      place-table s len f na nr (omega (arith, m.taken.accepting.used)) ∙ rw (first_chosen s f most p k m)
+      place_table s len f na nr (omega (arith, m.taken.accepting.used)) ∙ rw (first_chosen s f most p k m)
 
 pub place_by_fields : PlaceByFields
 unfolding PlaceByFields

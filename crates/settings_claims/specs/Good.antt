@@ -2,7 +2,6 @@
 use Rattle.std.specs.Prelude.{ℕ, ◌+◌, ◌*◌, ◌<◌, ◌≤◌, ◌≡◌, ◌↔◌, ◌≢◌, false, get_or}
 use Rattle.partitions.specs.declared.Settings.{Settings}
 use Rattle.partitions.specs.declared.Entry.{Entry}
-use Rattle.partitions.specs.declared.Link.{Link}
 use Rattle.partitions.specs.declared.Link.TheVariants.{OwnedBy, BOf}
 use Rattle.partitions.specs.declared.Arch.TheVariants.{Arm, RiscV}
 use Rattle.partitions.specs.Settings.{good_settings}

@@ -1,6 +1,6 @@
 -- A table of places (01, "Settings and the place of a family"; 001, 004): which entry a family gets, in a flash of 65,536 bytes. Entry k has the sectors 2 k
 -- and 2 k + 1, so that its place is 8,192 bytes from 8,192 x k on. Computed in proofs/Places.antt. Assumes nothing.
-use Rattle.std.specs.Prelude.{ℕ, zero, suc, ◌+◌, ◌-◌, ◌*◌, ◌≡◌, Bool, true, false, List, [], ◌∷◌, ◌++◌, map, length, replicate}
+use Rattle.std.specs.Prelude.{ℕ, suc, ◌-◌, ◌*◌, ◌≡◌, Bool, true, false, List, [], ◌∷◌, ◌++◌, map, length, replicate}
 use Rattle.partitions.specs.declared.Settings.{Settings}
 use Rattle.partitions.specs.declared.Entry.{Entry}
 use Rattle.partitions.specs.declared.Arch.{Arch}

@@ -1,6 +1,6 @@
 -- The place of a family by the fields of the settings and of the table's entries (01, "Settings and the place of a family"; demand 2): none of the
 -- definitions that the code meets stands on the side of the words. Proved in proofs/Targeting.antt. Assumes nothing.
-use Rattle.std.specs.Prelude.{ℕ, ◌*◌, ◌<◌, ◌≤◌, ◌≡◌, ◌↔◌, ◌≢◌, true, false, List, get_or}
+use Rattle.std.specs.Prelude.{ℕ, ◌*◌, ◌<◌, ◌≡◌, ◌↔◌, ◌≢◌, true, false, get_or}
 use Rattle.partitions.specs.declared.Settings.{Settings}
 use Rattle.partitions.specs.declared.Entry.{Entry}
 use Rattle.partitions.specs.declared.Arch.TheVariants.{Arm, RiscV}

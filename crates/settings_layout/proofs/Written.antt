@@ -11,7 +11,7 @@ use borrow.Author.Tests.{eq-eqb, ne_eqb, le-leb}
 use borrow.Rule.Slice.PartMut.{put_mid}
 use Rattle.laws.specs.Over.{over}
 use Rattle.laws.specs.Rows.{rows}
-use Rattle.laws.proofs.OverLaws.{length_over, over_next, over_whole, put_over, copied_over}
+use Rattle.laws.proofs.OverLaws.{length_over, over_next, over_whole, put_over, part_over}
 use Rattle.laws.proofs.RowsLaws.{rows_none, length_rows, part_rows, rows_over}
 use Rattle.partitions.specs.declared.Arch.{Arch}
 use Rattle.partitions.specs.declared.Arch.TheVariants.{Arm, RiscV}
@@ -83,7 +83,7 @@ unfolding with_settings
 settings_other b s h = rw (ne_eqb (length b) 550 h)
 
 pub settings_put : (b : List ℕ) (s : Settings) {c h ys zs : List ℕ} → length b ≡ 550
-    → h ≡ switch_bytes s → ys ≡ take (length h) h ++ drop (length h) (take (0 + 6 - 0) (drop 0 b)) → c ≡ put_mid 0 (0 + 6 - 0) b ys
+    → h ≡ switch_bytes s → ys ≡ h → c ≡ put_mid 0 (0 + 6 - 0) b ys
     → zs ≡ rows (row_bytes s.table) 16 → put_mid 6 (6 + 544 - 6) c zs ≡ with_settings b s
 unfolding with_settings settings_bytes
 settings_put b s {c} {h} {ys} {zs} hb hh hy hc hz =
@@ -93,7 +93,7 @@ settings_put b s {c} {h} {ys} {zs} hb hh hy hc hz =
     let lr = length_table s.table in
     let lh : length h ≡ 6 = ap length hh ∙ lw in
     let lz : length zs ≡ 544 = ap length hz ∙ lr in
-    let first : c ≡ over b 0 w = hc ∙ copied_over 0 6 b h ys lh (omega arith) hy ∙ ap (over b 0) hh in
+    let first : c ≡ over b 0 w = hc ∙ part_over 0 6 b h ys lh (omega arith) hy ∙ ap (over b 0) hh in
     let at : 0 + length w ≡ 6 = omega (arith, lw) in
     put_over 6 544 c zs lz
     ∙ rw (first, hz) (over_next b 0 w 6 r at (omega (arith, lr)))

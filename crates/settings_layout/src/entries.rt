@@ -45,7 +45,7 @@ fn users(e: &[u8]) -> [u32; 4]
 }
 
 // The entry that 34 bytes are; what they lack is read as 0.
-pub(crate) fn entry(e: &[u8]) -> Entry
+pub fn entry(e: &[u8]) -> Entry
     ensures { result ≡ entry_from e.now }
 {
     let users = users(e);
@@ -67,7 +67,7 @@ pub(crate) fn entry(e: &[u8]) -> Entry
 }
 
 // A flag as a byte.
-pub(crate) fn flag(on: bool) -> u8
+pub fn flag(on: bool) -> u8
     ensures { result ≡ flag_byte on }
 {
     if on { 1 } else { 0 }

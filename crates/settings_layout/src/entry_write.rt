@@ -63,7 +63,7 @@ fn put_numbers(bytes: &mut [u8], first: u32, sectors: u32, users: [u32; 4])
 }
 
 // Writes an entry, where there are bytes for it.
-pub(crate) fn write_entry(bytes: &mut [u8], e: Entry)
+pub fn write_entry(bytes: &mut [u8], e: Entry)
     ensures { bytes.new ≡ with_entry bytes.old e }
 {
     if bytes.len() != ENTRY {

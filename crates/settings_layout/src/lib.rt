@@ -2,7 +2,7 @@
 #![tactic(auto)]
 
 pub mod entries;
-mod entry_write;
+pub mod entry_write;
 
 ghost use Rattle.std.specs.Prelude.{◌≡◌, ◌≤◌, length};
 ghost use Rattle.laws.specs.Rows.{rows};

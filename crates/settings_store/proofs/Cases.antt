@@ -15,7 +15,7 @@ use Rattle.partitions.specs.declared.Settings.{Settings}
 use Rattle.partitions.specs.Settings.{good_settings}
 use Rattle.partitions.specs.Table.{table_of}
 use Rattle.laws.specs.Packing.{total, packed, unpacked, octets, fields_of}
-use Rattle.settings_store.specs.declared.write.StoreAnswer.TheVariants.{BadBuffers, BadSettings, BadVersion, BadLength, BadBits, Good}
+use Rattle.settings_store.specs.declared.write.StoreAnswer.TheVariants.{BadBuffers, BadSettings, BadVersion, BadLength, BadBits}
 use Rattle.settings_store.specs.Written.{no_restart_in}
 use Rattle.settings_store.proofs.write.Cases.{no_restart_few}
 use Rattle.settings_store.specs.declared.Reading.{Reading}
@@ -38,9 +38,9 @@ module _ (b : List ℕ) (len : ℕ) where
     unfolding read_of
     read_short h = rw (p, lt-ltb (length b) 2 h)
 
-    pub read-on : 2 ≤ length b → (x : ℕ) {r : Reading} → head_in b ≡ unpacked head_widths x → r ≡ read_head (unpacked head_widths x) b len → r ≡ read_of b len
+    pub read_on : 2 ≤ length b → (x : ℕ) {r : Reading} → head_in b ≡ unpacked head_widths x → r ≡ read_head (unpacked head_widths x) b len → r ≡ read_of b len
     unfolding read_of
-    read-on q x {r} e h = h ∙ rw (p, le-ltb (length b) 2 q, e)
+    read_on q x {r} e h = h ∙ rw (p, le-ltb (length b) 2 q, e)
 
 -- the head's number x
 module _ (b : List ℕ) (len x : ℕ) where
@@ -49,14 +49,14 @@ module _ (b : List ℕ) (len x : ℕ) where
   read_40 h = rw h
 
   module _ (r : not (eqb (x / 4096 % 16) 1 || eqb (x / 4096 % 16) 2) ≡ false) where
-    pub read-many : 16 < x / 128 % 32 → refusal BadBits ≡ read_head (unpacked head_widths x) b len
+    pub read_many : 16 < x / 128 % 32 → refusal BadBits ≡ read_head (unpacked head_widths x) b len
     unfolding read_head unpacked total
-    read-many h = rw (r, lt-ltb 16 (x / 128 % 32) h)
+    read_many h = rw (r, lt-ltb 16 (x / 128 % 32) h)
 
     module _ (s : x / 128 % 32 ≤ 16) where
-      pub read-41 : (length b ≢ 2 + 22 * (x / 128 % 32)) → refusal BadLength ≡ read_head (unpacked head_widths x) b len
+      pub read_41 : (length b ≢ 2 + 22 * (x / 128 % 32)) → refusal BadLength ≡ read_head (unpacked head_widths x) b len
       unfolding read_head unpacked total
-      read-41 h = rw (r, le-ltb 16 (x / 128 % 32) s, ne_eqb (length b) (2 + 22 * (x / 128 % 32)) h)
+      read_41 h = rw (r, le-ltb 16 (x / 128 % 32) s, ne_eqb (length b) (2 + 22 * (x / 128 % 32)) h)
 
       module _ (w : length b ≡ 2 + 22 * (x / 128 % 32)) {table : List Entry} (ht : table ≡ table_of (entry_of b) (x / 128 % 32)) {y v : Bool}
           (k : y ≡ any (x / 128 % 32) (stray_at b (x / 4096 % 16))) (m : v ≡ no_restart_in table (x / 128 % 32)) where
@@ -72,16 +72,16 @@ module _ (b : List ℕ) (len x : ℕ) where
         unfolding read_head unpacked total
         reach = rw (r, le-ltb 16 (x / 128 % 32) s, eq-eqb (length b) (2 + 22 * (x / 128 % 32)) w)
 
-        pub read-42 : not (eqb (x / 1 % 4) 0) || y || eqb (x / 4096 % 16) 2 && not v ≡ true → refusal BadBits ≡ read_head (unpacked head_widths x) b len
-        read-42 h = sym (reach ∙ rw (strays, h))
+        pub read_42 : not (eqb (x / 1 % 4) 0) || y || eqb (x / 4096 % 16) 2 && not v ≡ true → refusal BadBits ≡ read_head (unpacked head_widths x) b len
+        read_42 h = sym (reach ∙ rw (strays, h))
 
         module _ (u : not (eqb (x / 1 % 4) 0) || y || eqb (x / 4096 % 16) 2 && not v ≡ false) {z : Settings} (hz : z ≡ settings_of (unpacked head_widths x) table) where
           whole : settings_in (unpacked head_widths x) b ≡ z
           unfolding settings_in unpacked total
           whole = sym (hz ∙ rw ht)
 
-          pub read-2 : good_settings z len ≡ false → refusal BadSettings ≡ read_head (unpacked head_widths x) b len
-          read-2 h = sym (reach ∙ rw (strays, u, whole, h))
+          pub read_2 : good_settings z len ≡ false → refusal BadSettings ≡ read_head (unpacked head_widths x) b len
+          read_2 h = sym (reach ∙ rw (strays, u, whole, h))
 
           pub read_good : good_settings z len ≡ true → found z ≡ read_head (unpacked head_widths x) b len
           read_good h = sym (reach ∙ rw (strays, u, whole, h))

@@ -21,7 +21,7 @@ fn arch_bit(a: Arch) -> u64
 }
 
 // The head as one number, where `no_restart` says whether a used entry has "don't restart".
-pub(crate) fn head_of(s: Settings, no_restart: bool) -> u64
+pub fn head_of(s: Settings, no_restart: bool) -> u64
     ensures value { result ≡ packed head_widths (head_fields_by no_restart s) }
     ensures low { result < 65536 }
 {

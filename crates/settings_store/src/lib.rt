@@ -1,7 +1,7 @@
 // The packed store of settings, read from bytes.
 #![tactic(auto)]
 
-mod head_bits;
+pub mod head_bits;
 pub mod write;
 
 ghost use Rattle.std.specs.Prelude.{◌≡◌, ◌+◌, ◌*◌, ◌≤◌, length};

@@ -61,7 +61,7 @@ fn any_no_restart(table: [Entry; 16], n: usize) -> bool
 }
 
 // Has one of the first n entries of a table of 16 "don't restart"?
-pub(crate) fn no_restart_in(table: [Entry; 16], n: usize) -> bool
+pub fn no_restart_in(table: [Entry; 16], n: usize) -> bool
     ensures { result ≡ no_restart_in table n }
 {
     if 16 < n {

@@ -11,4 +11,4 @@ stands_bytes s a h = stand_number (stand_of (settings_from s) h a)
 
 -- the same of the slices that the call is lent, which the contract names
 abbrev pub stands_call_of : Slice → Slice → Held → ℕ
-stands_call_of s a h = stands_bytes s.entry.now a.entry.now h
+stands_call_of s a h = stands_bytes s a h

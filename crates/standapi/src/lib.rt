@@ -17,7 +17,7 @@ pub extern "C" fn uf2_stands(
     main: &[u8],
     xip: &[u8],
 ) -> u32
-    ensures { result ≡ stands_call_of settings arrival (memory_at flash main xip) }
+    ensures { result ≡ stands_call_of settings.now arrival.now (memory_at flash.now main.now xip.now) }
 {
     let lens = Lengths {
         flash: flash.len(),

@@ -1,5 +1,5 @@
 -- What is read of a part, by its length. Assumes nothing.
-use mathlib.Core.Path.{◌≡◌, refl, sym, ap, ◌∙◌}
+use mathlib.Core.Path.{◌≡◌, ap, ◌∙◌}
 use mathlib.Core.Logic.{◌≢◌}
 use mathlib.Core.Bool.{Bool, true}
 use mathlib.Core.List.{List, [], ◌∷◌}
@@ -10,7 +10,7 @@ use Rattle.partitions.specs.declared.Entry.{Entry}
 use Rattle.partitions.specs.Settings.{blank_entry}
 use Rattle.laws.specs.Packing.{octets, fields_of, Fit, none, one}
 use Rattle.store_entry.specs.declared.chunk_bits.Chunks.{Chunks}
-use Rattle.store_entry.specs.Chunks.{chunks_of, chunks_in}
+use Rattle.store_entry.specs.Chunks.{chunks_in}
 use Rattle.store_entry.proofs.chunk_bits.ReadBack.{read_whole}
 use Rattle.store_entry.specs.EntryBits.{entry_widths, entry_from, stray_from, entry_in, stray_in}
 use Rattle.store_entry.specs.Fields.{chunk_fields}
@@ -44,6 +44,6 @@ module _ (b : List ℕ) where
     unfolding entry_in
     entry_part {e} q = q ∙ ap entry_from same ∙ rw (eq-eqb (length b) 22 n)
 
-    pub stray-part : (version : ℕ) {r : Bool} → r ≡ stray_from version (chunk_fields c) → r ≡ stray_in version b
+    pub stray_part : (version : ℕ) {r : Bool} → r ≡ stray_from version (chunk_fields c) → r ≡ stray_in version b
     unfolding stray_in
-    stray-part version {r} q = q ∙ ap (stray_from version) same ∙ rw (eq-eqb (length b) 22 n)
+    stray_part version {r} q = q ∙ ap (stray_from version) same ∙ rw (eq-eqb (length b) 22 n)

@@ -47,7 +47,7 @@ fn bytes_of(h: u64, s: u32, t: u32, y: u32, z: u32, tail: u64) -> [u8; 22]
 }
 
 // The bytes of six fields. A number that is too large for its field is kept to the field's width.
-pub(crate) fn write(h: u64, s: u32, t: u32, y: u32, z: u32, tail: u64) -> [u8; 22]
+pub fn write(h: u64, s: u32, t: u32, y: u32, z: u32, tail: u64) -> [u8; 22]
     ensures { result ≡ chunk_bytes (h % 4398046511104) s t y z (tail % 64) }
 {
     bytes_of(h % 4398046511104, s, t, y, z, tail % 64)
@@ -108,7 +108,7 @@ fn chunks_in(s: &[u8]) -> Chunks
 }
 
 // The fields of 22 bytes; of another length, zeros.
-pub(crate) fn read(bytes: &[u8]) -> Chunks
+pub fn read(bytes: &[u8]) -> Chunks
     ensures { result ≡ chunks_in bytes.now }
 {
     if bytes.len() != ENTRY {

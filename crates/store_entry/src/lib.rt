@@ -1,8 +1,8 @@
 // One entry of the packed store of settings, read from 22 bytes; its fields stand most significant bit first.
 #![tactic(auto)]
 
-mod chunk_bits;
-mod small_fields;
+pub mod chunk_bits;
+pub mod small_fields;
 pub mod stray;
 pub mod write;
 

@@ -6,14 +6,14 @@ ghost use Rattle.store_entry.specs.EntryBits.{kind_of, index_of};
 use partitions::Link;
 
 // 1 for yes, 0 for no.
-pub(crate) fn bit_of(b: bool) -> u64
+pub fn bit_of(b: bool) -> u64
     ensures { (result ≡ bit b) × (result < 2) }
 {
     if b { 1 } else { 0 }
 }
 
 // The kind of a link.
-pub(crate) fn kind_of(l: Link) -> u64
+pub fn kind_of(l: Link) -> u64
     ensures { (result ≡ kind_of l) × (result < 3) }
 {
     match l {
@@ -24,7 +24,7 @@ pub(crate) fn kind_of(l: Link) -> u64
 }
 
 // The entry that it names.
-pub(crate) fn index_of(l: Link) -> u64
+pub fn index_of(l: Link) -> u64
     ensures { result ≡ index_of l }
 {
     match l {
@@ -35,7 +35,7 @@ pub(crate) fn index_of(l: Link) -> u64
 }
 
 // The last 6: "don't restart", and five zeros.
-pub(crate) fn last_six(no_restart: bool) -> u64
+pub fn last_six(no_restart: bool) -> u64
     ensures { (result ≡ bit no_restart * 32) × (result < 64) }
 {
     bit_of(no_restart) * 32

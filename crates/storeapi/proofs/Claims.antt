@@ -1,7 +1,6 @@
 -- The claims of specs/Claims.antt hold. Assumes nothing.
 use Prim.Native.Nat.{ℕ, zero, suc, ◌+◌, ◌*◌, ◌<◌, ◌≤◌, ◌^◌}
 use mathlib.Core.Path.{◌≡◌, refl, sym, ap, ◌∙◌}
-use mathlib.Core.Bool.{true}
 use mathlib.Core.List.{List, [], ◌∷◌}
 use native.Mathlib.Omega.{arith}
 use lib.ListN.{length, get_or}
@@ -20,8 +19,8 @@ use Rattle.settings_layout.proofs.Written.{settings_back}
 use Rattle.store_entry.specs.EntryBits.{slot, neat_entry}
 use Rattle.store_entry.proofs.OneEntry.{Fits}
 use Rattle.settings_store.specs.declared.write.StoreAnswer.TheVariants.{Good}
-use Rattle.settings_store.specs.Store.{store_of, read_of, found, write_call, write_of}
-use Rattle.settings_store.proofs.write.Cases.{write-good}
+use Rattle.settings_store.specs.Store.{store_of, write_call, write_of}
+use Rattle.settings_store.proofs.write.Cases.{write_good}
 use Rattle.settings_claims.specs.Claims.{neat_at, neat}
 use Rattle.settings_claims.proofs.Written.{good_fields, store_length}
 use Rattle.settings_claims.proofs.Encoding.{Found, read_found, read_is_the_encoding}
@@ -100,7 +99,7 @@ module _ (b : List ℕ) (len : ℕ) (s : Settings) (h : Reads b len s) where
   again out e =
       let n = length_store in
       let store : over out 0 (store_of s) ≡ b = ap (over out 0) known.encoded ∙ over_whole out b (sym e) in
-      sym (write-good s len out known.right known.good (omega arith) (sym store))
+      sym (write_good s len out known.right known.good (omega arith) (sym store))
 
 pub settings_are_read : SettingsAreRead
 settings_are_read b len s l h e = rw (told b len s h l e) (refl, back b len s h)

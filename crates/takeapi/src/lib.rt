@@ -19,7 +19,7 @@ pub extern "C" fn uf2_take(
     main: &mut [u8],
     xip: &mut [u8],
 ) -> u32
-    ensures { take_return result transfer (left_at flash seen sectors main xip) ≡ take_call_of settings transfer arrival (lent_at flash seen sectors main xip) }
+    ensures { take_return result transfer.new (left_at flash.new seen.new sectors.new main.new xip.new) ≡ take_call_of settings.now transfer.old arrival.now (lent_at flash.old seen.old sectors.old main.old xip.old) }
 {
     let lens = Lengths {
         flash: flash.len(),

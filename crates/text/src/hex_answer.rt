@@ -31,7 +31,7 @@ pub fn hex_answer_line(out: &mut [u8; 80], index: u64, answer: Answer) -> usize
 }
 
 // A failed reader, with the number and the position that it remembers.
-pub(crate) fn put_failed(out: &mut [u8; 128], answer: Answer) -> usize
+pub fn put_failed(out: &mut [u8; 128], answer: Answer) -> usize
     ensures value { result ≡ length (failed_text answer) }
     ensures out_after { out.new ≡ over out.old 0 (failed_text answer) }
 {

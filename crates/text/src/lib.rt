@@ -10,7 +10,7 @@ ghost use Rattle.laws.specs.Over.{over};
 ghost use Rattle.text.specs.Parts.{end_of, put_part, decimal_of, pair_text};
 
 // Puts a part at an index, and answers the index after it. Where it does not fit, nothing is put, and the answer is the index.
-pub(crate) fn put(out: &mut [u8], at: usize, part: &[u8]) -> usize
+pub fn put(out: &mut [u8], at: usize, part: &[u8]) -> usize
     ensures value { result ≡ end_of out.old at part.now }
     ensures out_after { out.new ≡ put_part out.old at part.now }
 {
@@ -26,7 +26,7 @@ pub(crate) fn put(out: &mut [u8], at: usize, part: &[u8]) -> usize
 }
 
 // The same of a number in decimal.
-pub(crate) fn put_decimal(out: &mut [u8], at: usize, n: u64) -> usize
+pub fn put_decimal(out: &mut [u8], at: usize, n: u64) -> usize
     ensures value { result ≡ end_of out.old at (decimal_of n) }
     ensures out_after { out.new ≡ put_part out.old at (decimal_of n) }
 {
@@ -36,14 +36,14 @@ pub(crate) fn put_decimal(out: &mut [u8], at: usize, n: u64) -> usize
 }
 
 // 1 or 0, as a character.
-pub(crate) fn flag(b: bool) -> u8
+pub fn flag(b: bool) -> u8
     ensures { result ≡ cond b 49 48 }
 {
     if b { 49 } else { 48 }
 }
 
 // An index and an answer, with a space between.
-pub(crate) fn put_pair(out: &mut [u8; 80], index: u64, answer: u8) -> usize
+pub fn put_pair(out: &mut [u8; 80], index: u64, answer: u8) -> usize
     ensures value { result ≡ length (pair_text index answer) }
     ensures out_after { out.new ≡ over out.old 0 (pair_text index answer) }
 {

@@ -41,14 +41,14 @@ fn number_at(place: usize) -> usize
 }
 
 // A count with so many more, in 32 bits. Nothing wraps where there is room.
-pub(crate) fn plus(count: u32, more: usize) -> u32
+pub fn plus(count: u32, more: usize) -> u32
     ensures { result ≡ plus count more }
 {
     ((count as usize + more % WORD) % WORD) as u32
 }
 
 // The counts with those of a tally.
-pub(crate) fn added_counts(was: [u32; 16], tally: [usize; TALLY]) -> [u32; 16]
+pub fn added_counts(was: [u32; 16], tally: [usize; TALLY]) -> [u32; 16]
     ensures { result ≡ added_counts was tally 16 }
 {
     let mut counts = was;

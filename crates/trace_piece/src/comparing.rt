@@ -18,7 +18,7 @@ pub fn judge(
     main: &[u8],
     xip: &[u8],
 ) -> PieceAnswer
-    ensures { result ≡ (piece_of settings (world transfer (lent_at flash seen sectors main xip)) piece.now).answer }
+    ensures { result ≡ (piece_of settings (world transfer (lent_at flash.now seen.now sectors.now main.now xip.now)) piece.now).answer }
 {
     if crate::is_bad(piece) {
         return PieceAnswer::Bad;

@@ -36,7 +36,7 @@ fn bit(b: bool) -> u8
 }
 
 // Is a piece of another length than a record's, or are there stray bits?
-pub(crate) fn is_bad(piece: &[u8]) -> bool
+pub fn is_bad(piece: &[u8]) -> bool
     ensures { result ≡ is_bad piece.now }
 {
     if piece.len() != RECORD {
@@ -55,7 +55,7 @@ fn agrees(recorded: u8, answer: Answer, discarded: bool) -> bool
 }
 
 // What comes of a record, by its first byte and what we answer.
-pub(crate) fn compared(recorded: u8, answer: Answer, discarded: bool) -> PieceAnswer
+pub fn compared(recorded: u8, answer: Answer, discarded: bool) -> PieceAnswer
     ensures { result ≡ compared_of recorded answer discarded }
 {
     if agrees(recorded, answer, discarded) {
@@ -78,7 +78,7 @@ impl PieceAnswer {
 }
 
 // Where a replay stops, by what came of the piece at an index.
-pub(crate) fn stop_of(answer: PieceAnswer, index: usize) -> Stop
+pub fn stop_of(answer: PieceAnswer, index: usize) -> Stop
     ensures { result ≡ stop_of answer index }
 {
     match answer {

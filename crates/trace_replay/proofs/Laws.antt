@@ -85,11 +85,11 @@ module _ (s : Settings) (trace : List ℕ) (at i : ℕ) (u : Transfer) (h : Lent
         let some : 0 < length (drop at trace) = rw (length-drop at trace) (omega arith) in
         rw (pieces_next (drop at trace) some, ← piece_is trace at e, ← q, left_is trace at e) refl
 
-    pub run-stops : is_replayed r.answer ≡ false → {x : Stop} → x ≡ stop_of r.answer i → trace_outcome x (world r.transfer k) ≡ left
-    run-stops z hx = sym (turned ∙ rw (z, hx))
+    pub run_stops : is_replayed r.answer ≡ false → {x : Stop} → x ≡ stop_of r.answer i → trace_outcome x (world r.transfer k) ≡ left
+    run_stops z hx = sym (turned ∙ rw (z, hx))
 
-    pub run-goes-on : {j : ℕ} → j ≡ i + 1 → is_replayed r.answer ≡ true → replay_from s j (world r.transfer k) (pieces_of (drop to trace)) ≡ left
-    run-goes-on e y = sym (turned ∙ rw (y, e))
+    pub run_goes_on : {j : ℕ} → j ≡ i + 1 → is_replayed r.answer ≡ true → replay_from s j (world r.transfer k) (pieces_of (drop to trace)) ≡ left
+    run_goes_on e y = sym (turned ∙ rw (y, e))
 
   pub run_ends : length trace ≤ at → trace_outcome None (world u h) ≡ left
   unfolding replay_from
@@ -152,7 +152,7 @@ module _ (l₀ t : List ℕ) (i : ℕ) {l : List ℕ} (h : l ≡ tally_to l₀ t
 pub stops_counted : (s : Settings) (l₀ trace : List ℕ) (at i : ℕ) (u : Transfer) (h : Lent) → at < length trace → {to : ℕ} → to ≡ at + min 513 (length trace - at) → {r : PieceReceipt} {k : Lent} → piece_outcome r.answer (world r.transfer k) ≡ piece_of s (world u h) (take (to - at) (drop at trace))
     → is_replayed r.answer ≡ false → {x : Stop} → x ≡ stop_of r.answer i → {l : List ℕ} → l ≡ tally_to l₀ trace i → {o : TraceOutcome} → left s trace at i u h ≡ o → tally_outcome (trace_outcome x (world r.transfer k)) l ≡ with_counts l₀ trace o
 stops_counted s l₀ trace at i u h more e {r} {k} q z hx hl eo =
-    tally_stops l₀ trace i hl r.answer z hx (run-stops s trace at i u h more e {r = r} {k = k} q z hx ∙ eo)
+    tally_stops l₀ trace i hl r.answer z hx (run_stops s trace at i u h more e {r = r} {k = k} q z hx ∙ eo)
 
 -- without the tally
 pub outcome_alone : (l t : List ℕ) {o p : TraceOutcome} {m : List ℕ} → tally_outcome p m ≡ with_counts l t o → p ≡ o

@@ -1,7 +1,7 @@
 // A whole trace of what a site sent, replayed from Idle: its pieces one after the other, and a tally of the records that were replayed.
 #![tactic(auto)]
 
-mod one_piece;
+pub mod one_piece;
 
 ghost use Rattle.std.specs.Prelude.{◌≡◌, ◌+◌, ◌-◌, ◌≤◌, min};
 ghost use Rattle.uf2_receiver.specs.Receiver.{lent_at, left_at, world};
@@ -42,7 +42,7 @@ fn run(
     main: &mut [u8],
     xip: &mut [u8],
 ) -> TraceReceipt
-    ensures { tally_return result.stop result.transfer tally.new (left_at flash seen sectors main xip) ≡ counted_run settings tally.old trace.now (lent_at flash seen sectors main xip) }
+    ensures { tally_return result.stop result.transfer tally.new (left_at flash.new seen.new sectors.new main.new xip.new) ≡ counted_run settings tally.old trace.now (lent_at flash.old seen.old sectors.old main.old xip.old) }
 {
     let len = trace.len();
     let mut t = Transfer::new();
@@ -88,7 +88,7 @@ pub fn replay_counted(
     main: &mut [u8],
     xip: &mut [u8],
 ) -> TraceReceipt
-    ensures { tally_return result.stop result.transfer tally.new (left_at flash seen sectors main xip) ≡ counted_replay settings tally.old trace.now (lent_at flash seen sectors main xip) }
+    ensures { tally_return result.stop result.transfer tally.new (left_at flash.new seen.new sectors.new main.new xip.new) ≡ counted_replay settings tally.old trace.now (lent_at flash.old seen.old sectors.old main.old xip.old) }
 {
     trace_piece::ends::clear_maps(seen, sectors);
     run(settings, trace, tally, flash, seen, sectors, main, xip)
@@ -104,7 +104,7 @@ pub fn replay(
     main: &mut [u8],
     xip: &mut [u8],
 ) -> TraceReceipt
-    ensures { trace_outcome result.stop (world result.transfer (left_at flash seen sectors main xip)) ≡ replay_of settings (lent_at flash seen sectors main xip) trace.now }
+    ensures { trace_outcome result.stop (world result.transfer (left_at flash.new seen.new sectors.new main.new xip.new)) ≡ replay_of settings (lent_at flash.old seen.old sectors.old main.old xip.old) trace.now }
 {
     let mut tally = [0usize; 0];
     replay_counted(settings, trace, &mut tally, flash, seen, sectors, main, xip)

@@ -15,7 +15,7 @@ pub struct PieceReceipt {
 }
 
 // One piece of a trace: it is looked at, and taken where it is a record that says what we answer. Else nothing changes.
-pub(crate) fn replay_piece(
+pub fn replay_piece(
     settings: Settings,
     transfer: Transfer,
     piece: &[u8],
@@ -25,7 +25,7 @@ pub(crate) fn replay_piece(
     main: &mut [u8],
     xip: &mut [u8],
 ) -> PieceReceipt
-    ensures { piece_outcome result.answer (world result.transfer (left_at flash seen sectors main xip)) ≡ piece_of settings (world transfer (lent_at flash seen sectors main xip)) piece.now }
+    ensures { piece_outcome result.answer (world result.transfer (left_at flash.new seen.new sectors.new main.new xip.new)) ≡ piece_of settings (world transfer (lent_at flash.old seen.old sectors.old main.old xip.old)) piece.now }
 {
     let answer = trace_piece::comparing::judge(
         settings, transfer, piece, flash, seen, sectors, main, xip,

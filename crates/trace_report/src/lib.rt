@@ -24,7 +24,7 @@ fn add_replayed(
     main: &mut [u8],
     xip: &mut [u8],
 ) -> Addition
-    ensures { add_return result (left_at flash seen sectors main xip) ≡ replayed_by report settings (lent_at flash seen sectors main xip) trace.now }
+    ensures { add_return result (left_at flash.new seen.new sectors.new main.new xip.new) ≡ replayed_by report settings (lent_at flash.old seen.old sectors.old main.old xip.old) trace.now }
 {
     let pieces = trace.len() / trace_piece::RECORD;
     let mut tally = [0usize; trace_counts::tallies::TALLY];
@@ -55,7 +55,7 @@ pub fn add(
     main: &mut [u8],
     xip: &mut [u8],
 ) -> Addition
-    ensures { numbered outcome_number (add_return result (left_at flash seen sectors main xip)) ≡ numbered outcome_number (add_of report settings (lent_at flash seen sectors main xip) trace.now) }
+    ensures { numbered outcome_number (add_return result (left_at flash.new seen.new sectors.new main.new xip.new)) ≡ numbered outcome_number (add_of report settings (lent_at flash.old seen.old sectors.old main.old xip.old) trace.now) }
 {
     if !trace_counts::is_good(report) {
         return Addition {

@@ -28,7 +28,7 @@ figures_bytes r s trace i h = figures_call_end r i (add_of (report_from r) (sett
 
 -- the same of the slices that the call is lent, and what it returns and leaves, which the contract names
 abbrev pub figures_call_of : Slice → Slice → Slice → Slice → Lent → FiguresCall
-figures_call_of r s trace i h = figures_bytes r.entry.now s.entry.now trace.entry.now i.entry.now h
+figures_call_of r s trace i h = figures_bytes r s trace i h
 
 abbrev pub figures_return : ℕ → Slice → Slice → Lent → FiguresCall
-figures_return n r i h = figures_call n r.exit.now i.exit.now h
+figures_return n r i h = figures_call n r i h

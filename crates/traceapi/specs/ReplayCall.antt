@@ -27,7 +27,7 @@ replay_bytes s trace t i h = replay_call_end t i (replay_of (settings_from s) h 
 
 -- the same of the slices that the call is lent, and what it returns and leaves, which the contract names
 abbrev pub replay_call_of : Slice → Slice → Slice → Slice → Lent → ReplayCall
-replay_call_of s trace t i h = replay_bytes s.entry.now trace.entry.now t.entry.now i.entry.now h
+replay_call_of s trace t i h = replay_bytes s trace t i h
 
 abbrev pub replay_return : ℕ → Slice → Slice → Lent → ReplayCall
-replay_return n t i h = replay_call n t.exit.now i.exit.now h
+replay_return n t i h = replay_call n t i h

@@ -16,7 +16,7 @@ pub extern "C" fn uf2_figures(
     xip: &mut [u8],
     index: &mut [u8],
 ) -> u32
-    ensures { figures_return result report index (left_at flash seen sectors main xip) ≡ figures_call_of report settings trace index (lent_at flash seen sectors main xip) }
+    ensures { figures_return result report.new index.new (left_at flash.new seen.new sectors.new main.new xip.new) ≡ figures_call_of report.old settings.now trace.now index.old (lent_at flash.old seen.old sectors.old main.old xip.old) }
 {
     let was = trace_layout::reports::read_report(report);
     let s = settings_layout::read_settings(settings);

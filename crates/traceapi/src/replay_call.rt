@@ -16,7 +16,7 @@ pub extern "C" fn uf2_replay(
     transfer: &mut [u8],
     index: &mut [u8],
 ) -> u32
-    ensures { replay_return result transfer index (left_at flash seen sectors main xip) ≡ replay_call_of settings trace transfer index (lent_at flash seen sectors main xip) }
+    ensures { replay_return result transfer.new index.new (left_at flash.new seen.new sectors.new main.new xip.new) ≡ replay_call_of settings.now trace.now transfer.old index.old (lent_at flash.old seen.old sectors.old main.old xip.old) }
 {
     let s = settings_layout::read_settings(settings);
     let r = trace_replay::replay(s, trace, flash, seen, sectors, main, xip);

@@ -39,13 +39,13 @@ module _ (r : Run) (g : Head) (m : Bool) (d : Deed) where
   step_other h = simp h
 
   module _ (h : same_head r.head g ≡ true) where
-    pub step-again : m ≡ true → step_of (Running r) g m d ≡ Stays (kept_state (Running r) Again)
+    pub step_again : m ≡ true → step_of (Running r) g m d ≡ Stays (kept_state (Running r) Again)
     unfolding step_of
-    step-again k = simp (h, k)
+    step_again k = simp (h, k)
 
-    pub step-more : m ≡ false → step_of (Running r) g m d ≡ Accepts (accepted d false false g (r.count + 1))
+    pub step_more : m ≡ false → step_of (Running r) g m d ≡ Accepts (accepted d false false g (r.count + 1))
     unfolding step_of
-    step-more k = simp (h, k)
+    step_more k = simp (h, k)
 
 -- a step that stays hands back the transfer that was
 abbrev Handed : State → Step → Type 0

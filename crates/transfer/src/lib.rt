@@ -162,7 +162,7 @@ pub fn same_head(g: Head, h: Head) -> bool
 }
 
 // The answer to a block that does not complete its transfer.
-pub(crate) fn deed_answer(deed: Deed) -> Answer
+pub fn deed_answer(deed: Deed) -> Answer
     ensures { result ≡ deed_answer deed }
 {
     match deed {

@@ -2,7 +2,7 @@
 #![tactic(auto)]
 
 pub mod results;
-mod states;
+pub mod states;
 
 ghost use Rattle.std.specs.Prelude.{◌≡◌, length};
 ghost use Rattle.transfer_layout.specs.Transfers.{

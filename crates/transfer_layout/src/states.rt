@@ -5,7 +5,7 @@ ghost use Rattle.transfer_layout.specs.States.{kind_from, no_state, state_of};
 use transfer::{Head, Kind, Run, State};
 
 // The kind of a number. Any but 1 and 2 gives Flash; `state` refuses one over 2 afterwards, unless the transfer is Idle.
-pub(crate) fn kind(number: u8) -> Kind
+pub fn kind(number: u8) -> Kind
     ensures { result ≡ kind_from number }
 {
     if number == 1 {
@@ -18,7 +18,7 @@ pub(crate) fn kind(number: u8) -> Kind
 }
 
 // Of another tag than 0, 1 and 2, and of another kind where it is not Idle: a running transfer that is bad.
-pub(crate) fn state(tag: u8, kind: u8, head: Head, count: u32) -> State
+pub fn state(tag: u8, kind: u8, head: Head, count: u32) -> State
     ensures { result ≡ state_of tag kind head count }
 {
     if tag == 0 {
@@ -38,7 +38,7 @@ pub(crate) fn state(tag: u8, kind: u8, head: Head, count: u32) -> State
 }
 
 // No state: a running transfer that has counted none.
-pub(crate) fn none() -> State
+pub fn none() -> State
     ensures { result ≡ no_state }
 {
     let head = Head::new(Kind::Flash, 0, 0);

@@ -2,7 +2,7 @@
 // the settings say of a family is asked once for a run of arrivals of one family (`judged`).
 #![tactic(auto)]
 
-mod opening;
+pub mod opening;
 
 ghost use Rattle.std.specs.Prelude.{◌≡◌, ◌≤◌, length};
 ghost use Rattle.arrival.specs.Arrive.{receive_of};
@@ -57,7 +57,7 @@ fn take_next(
     requires judges { Judges settings (lent flash.old seen.old sectors.old main.old xip.old) right good }
     requires knows { Knows settings (length flash.old) before }
     requires whole { length arrival.now ≡ 512 }
-    ensures xip_value { turn_left result (left_at flash seen sectors main xip) ≡ turn_of (receive_of settings (world transfer (lent_at flash seen sectors main xip)) arrival.now) }
+    ensures xip_value { turn_left result (left_at flash.new seen.new sectors.new main.new xip.new) ≡ turn_of (receive_of settings (world transfer (lent_at flash.old seen.old sectors.old main.old xip.old)) arrival.now) }
     ensures knows { Knows settings (length flash.old) result.kept }
 {
     let family = uf2_block::field(arrival, 28);
@@ -87,7 +87,7 @@ pub fn take_all(
     main: &mut [u8],
     xip: &mut [u8],
 ) -> Batch
-    ensures { batch_left result results.new (left_at flash seen sectors main xip) ≡ batch_of settings (world transfer (lent_at flash seen sectors main xip)) arrivals.now results.old }
+    ensures { batch_left result results.new (left_at flash.new seen.new sectors.new main.new xip.new) ≡ batch_of settings (world transfer (lent_at flash.old seen.old sectors.old main.old xip.old)) arrivals.now results.old }
 {
     let n = at_most(arrivals.len() / Block::ARRIVAL, results.len());
     let first = crate::opening::judge_lent(settings, Family::DATA, flash, seen, sectors, main, xip);

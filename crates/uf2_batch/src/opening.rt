@@ -10,7 +10,7 @@ use uf2_checks::Lengths;
 use uf2_known::judged::Judgement;
 
 // Settings, a family and the lent buffers, judged.
-pub(crate) fn judge_lent(
+pub fn judge_lent(
     settings: Settings,
     family: u32,
     flash: &[u8],
@@ -19,7 +19,7 @@ pub(crate) fn judge_lent(
     main: &[u8],
     xip: &[u8],
 ) -> Judgement
-    ensures value { result ≡ judged_of settings (lens_of (lent_at flash seen sectors main xip)) (length seen.now) (length sectors.now) family }
+    ensures value { result ≡ judged_of settings (lens_of (lent_at flash.now seen.now sectors.now main.now xip.now)) (length seen.now) (length sectors.now) family }
     ensures low { StartsLow result.kept.rooms.flash }
 {
     let lens = Lengths {

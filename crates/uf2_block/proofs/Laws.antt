@@ -29,13 +29,13 @@ module _ (a : List ℕ) {n : ℕ} (e : n ≡ field_at a 8) where
   flagged_container h = rw (← e, eq-eqb (n / 0x1000 % 2) 1 h)
 
   module _ (p : n / 0x1000 % 2 ≡ 1 → ⊥) where
-    pub flagged-bare : (n / 0x2000 % 2 ≡ 1 → ⊥) → NoFamily ≡ flagged_of a
+    pub flagged_bare : (n / 0x2000 % 2 ≡ 1 → ⊥) → NoFamily ≡ flagged_of a
     unfolding flagged_of
-    flagged-bare h = rw (← e, ne_eqb (n / 0x1000 % 2) 1 p, ne_eqb (n / 0x2000 % 2) 1 h)
+    flagged_bare h = rw (← e, ne_eqb (n / 0x1000 % 2) 1 p, ne_eqb (n / 0x2000 % 2) 1 h)
 
-    pub flagged-found : n / 0x2000 % 2 ≡ 1 → {b : Block} → b ≡ fields_of a → Found b ≡ flagged_of a
+    pub flagged_found : n / 0x2000 % 2 ≡ 1 → {b : Block} → b ≡ fields_of a → Found b ≡ flagged_of a
     unfolding flagged_of
-    flagged-found h f = rw (← e, ne_eqb (n / 0x1000 % 2) 1 p, eq-eqb (n / 0x2000 % 2) 1 h, f)
+    flagged_found h f = rw (← e, ne_eqb (n / 0x1000 % 2) 1 p, eq-eqb (n / 0x2000 % 2) 1 h, f)
 
 module _ (a : List ℕ) where
   pub header_first : (field_at a 0 ≡ 0x0A324655 → ⊥) → header_of a ≡ NotBlock
@@ -43,18 +43,18 @@ module _ (a : List ℕ) where
   header_first n = rw (ne_eqb (field_at a 0) 0x0A324655 n) refl
 
   module _ (p : field_at a 0 ≡ 0x0A324655) where
-    pub header-second : (field_at a 4 ≡ 0x9E5D5157 → ⊥) → header_of a ≡ NotBlock
+    pub header_second : (field_at a 4 ≡ 0x9E5D5157 → ⊥) → header_of a ≡ NotBlock
     unfolding header_of
-    header-second n = rw (eq-eqb (field_at a 0) 0x0A324655 p, ne_eqb (field_at a 4) 0x9E5D5157 n) refl
+    header_second n = rw (eq-eqb (field_at a 0) 0x0A324655 p, ne_eqb (field_at a 4) 0x9E5D5157 n) refl
 
     module _ (q : field_at a 4 ≡ 0x9E5D5157) where
-      pub header-last : (field_at a 508 ≡ 0x0AB16F30 → ⊥) → header_of a ≡ NotBlock
+      pub header_last : (field_at a 508 ≡ 0x0AB16F30 → ⊥) → header_of a ≡ NotBlock
       unfolding header_of
-      header-last n = rw (eq-eqb (field_at a 0) 0x0A324655 p, eq-eqb (field_at a 4) 0x9E5D5157 q, ne_eqb (field_at a 508) 0x0AB16F30 n) refl
+      header_last n = rw (eq-eqb (field_at a 0) 0x0A324655 p, eq-eqb (field_at a 4) 0x9E5D5157 q, ne_eqb (field_at a 508) 0x0AB16F30 n) refl
 
-      pub header-flagged : field_at a 508 ≡ 0x0AB16F30 → header_of a ≡ flagged_of a
+      pub header_flagged : field_at a 508 ≡ 0x0AB16F30 → header_of a ≡ flagged_of a
       unfolding header_of
-      header-flagged r = rw (eq-eqb (field_at a 0) 0x0A324655 p, eq-eqb (field_at a 4) 0x9E5D5157 q, eq-eqb (field_at a 508) 0x0AB16F30 r) refl
+      header_flagged r = rw (eq-eqb (field_at a 0) 0x0A324655 p, eq-eqb (field_at a 4) 0x9E5D5157 q, eq-eqb (field_at a 508) 0x0AB16F30 r) refl
 
 -- ---- row 4 alone
 

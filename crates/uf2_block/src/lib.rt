@@ -4,7 +4,7 @@
 pub mod covering;
 pub mod digest_bytes;
 pub mod regions;
-mod words;
+pub mod words;
 
 ghost use Rattle.std.specs.Prelude.{◌≡◌};
 ghost use Rattle.laws.specs.Numbered.{numbered};

@@ -48,18 +48,18 @@ module _ (n : Lengths) (x : ℕ) where
   window_flash f = rw f
 
   module _ (f : in_window n Flash x ≡ false) where
-    pub window-main : in_window n MainRam x ≡ true → window_of n x ≡ In MainRam
+    pub window_main : in_window n MainRam x ≡ true → window_of n x ≡ In MainRam
     unfolding window_of
-    window-main m = rw (f, m)
+    window_main m = rw (f, m)
 
     module _ (m : in_window n MainRam x ≡ false) where
-      pub window-xip : in_window n XipRam x ≡ true → window_of n x ≡ In XipRam
+      pub window_xip : in_window n XipRam x ≡ true → window_of n x ≡ In XipRam
       unfolding window_of
-      window-xip q = rw (f, m, q)
+      window_xip q = rw (f, m, q)
 
-      pub window-none : in_window n XipRam x ≡ false → window_of n x ≡ Outside
+      pub window_none : in_window n XipRam x ≡ false → window_of n x ≡ Outside
       unfolding window_of
-      window-none q = rw (f, m, q)
+      window_none q = rw (f, m, q)
 
 -- ---- what row 10 leaves
 
@@ -171,11 +171,11 @@ low_kept (At start size) h = rw (lt-leb 0x100000000000 start h)
 -- ---- an arrival
 
 -- a header that is none but a refusal, by its tag
-pub refusal_header : (h : Header) → OneOf (0 ∷ 1 ∷ 2 ∷ []) (tag_of the_type h) → header_number h ≢ 0
+pub refusal_header : (h : Header) → ((b : Block) → h ≢ header.Found b) → header_number h ≢ 0
 refusal_header header.NotBlock n = λ e. omega arith
 refusal_header header.Container n = λ e. omega arith
 refusal_header header.NoFamily n = λ e. omega arith
-refusal_header (header.Found b) n = absurd (⊎_elim (λ x. omega arith) (⊎_elim (λ x. omega arith) (λ x. omega arith)) n)
+refusal_header (header.Found b) n = absurd (n b refl)
 
 module _ (r : Rooms) (n : Lengths) (t : State) (a : List ℕ) where
   pub screen_header : {h : Header} → h ≡ header_of a → {x : Screening} → x ≡ after_header h (found (low_rooms r) n t) → x ≡ screen_at r n t a

@@ -7,7 +7,7 @@ use transfer::{Head, Kind, State, Transfer};
 use uf2_block::Block;
 
 // Where a window begins, which is where its place's first byte is seen.
-pub(crate) fn base(kind: Kind) -> usize
+pub fn base(kind: Kind) -> usize
     ensures { result ≡ base_of kind }
 {
     match kind {

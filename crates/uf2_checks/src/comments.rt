@@ -24,7 +24,7 @@ fn note(kind: Kind, b: Block, size: usize) -> Screening
 }
 
 // A comment, by the place of its kind.
-pub(crate) fn check_note(kind: Kind, place: Place, b: Block) -> Screening
+pub fn check_note(kind: Kind, place: Place, b: Block) -> Screening
     ensures { result ≡ note_found kind place b }
 {
     match place {

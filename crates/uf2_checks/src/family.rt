@@ -38,7 +38,7 @@ fn low_place(place: Place) -> Place
 }
 
 // The place of a block of each kind.
-pub(crate) fn room_in(rooms: Rooms, kind: Kind) -> Place
+pub fn room_in(rooms: Rooms, kind: Kind) -> Place
     ensures value { result ≡ room_in (low_rooms rooms) kind }
     ensures low { StartsLow result }
 {

@@ -3,9 +3,9 @@
 
 pub mod block_checks;
 pub mod block_kind;
-mod comments;
+pub mod comments;
 pub mod family;
-mod numbers;
+pub mod numbers;
 
 ghost use Rattle.std.specs.Prelude.{◌≡◌};
 ghost use Rattle.uf2_checks.specs.Screen.{extent_of};
@@ -65,7 +65,7 @@ impl Window {
 }
 
 // The bytes of a window.
-pub(crate) fn extent(kind: Kind) -> usize
+pub fn extent(kind: Kind) -> usize
     ensures { result ≡ extent_of kind }
 {
     match kind {

@@ -6,7 +6,7 @@ use memory::flash::Flash;
 use uf2_block::Block;
 
 // Row 10. The product is of 64 bits, since it may pass 32.
-pub(crate) fn bad_numbers(b: Block, size: usize) -> bool
+pub fn bad_numbers(b: Block, size: usize) -> bool
     ensures { result ≡ bad_numbers size b }
 {
     if b.total == 0 {

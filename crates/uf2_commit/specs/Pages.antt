@@ -22,10 +22,10 @@ beside k u x = record { sectors = k; main = u; xip = x }
 
 -- the three as they are lent and as they are left
 abbrev pub beside_at : Slice → Slice → Slice → Beside
-beside_at k u x = beside k.entry.now u.entry.now x.entry.now
+beside_at k u x = beside k u x
 
 abbrev pub beside_left : Slice → Slice → Slice → Beside
-beside_left k u x = beside k.exit.now u.exit.now x.exit.now
+beside_left k u x = beside k u x
 
 -- the plan, with what is left beside the flash
 pub record Writing : Type 0 where

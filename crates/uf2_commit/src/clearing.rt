@@ -12,7 +12,7 @@ fn clear_if(clears: bool, map: &mut [u8])
 }
 
 // The same of the seen map and of the sector map.
-pub(crate) fn clear_maps(clears: bool, seen: &mut [u8], sectors: &mut [u8])
+pub fn clear_maps(clears: bool, seen: &mut [u8], sectors: &mut [u8])
     ensures { (seen.new ≡ cleared_if clears seen.old) × (sectors.new ≡ cleared_if clears sectors.old) }
 {
     clear_if(clears, sectors);

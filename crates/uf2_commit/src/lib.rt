@@ -1,8 +1,8 @@
 // What an accepted block writes beside the flash: the maps and, of a RAM block, its bytes. What it would write to flash is a plan.
 #![tactic(auto)]
 
-mod clearing;
-mod pages;
+pub mod clearing;
+pub mod pages;
 pub mod receipts;
 
 ghost use Rattle.std.specs.Prelude.{◌≡◌};
@@ -25,7 +25,7 @@ fn page_at(body: Body) -> usize
 }
 
 // Enters a block that is accepted into the maps, and a RAM block into RAM.
-pub(crate) fn enter(
+pub fn enter(
     placed: PlacedBlock,
     deed: Deed,
     accepted: Accepted,
@@ -35,7 +35,7 @@ pub(crate) fn enter(
     main: &mut [u8],
     xip: &mut [u8],
 ) -> Plan
-    ensures { entering result seen.new (beside_left sectors main xip) ≡ entering_of placed deed accepted (payload_of arrival.now) seen.old (beside_at sectors main xip) }
+    ensures { entering result seen.new (beside_left sectors.new main.new xip.new) ≡ entering_of placed deed accepted (payload_of arrival.now) seen.old (beside_at sectors.old main.old xip.old) }
 {
     let number = placed.number as usize;
     let body = placed.body;

@@ -15,7 +15,7 @@ fn page(
     main: &mut [u8],
     xip: &mut [u8],
 ) -> Plan
-    ensures { writing result (beside_left sectors main xip) ≡ page_writing kind at (payload_of arrival.now) (beside_at sectors main xip) }
+    ensures { writing result (beside_left sectors.new main.new xip.new) ≡ page_writing kind at (payload_of arrival.now) (beside_at sectors.old main.old xip.old) }
 {
     match kind {
         Kind::Flash => flash_plan::flash_page(at, sectors),
@@ -31,7 +31,7 @@ fn page(
 }
 
 // Writes a page. A comment stores nothing, nor does what is kept.
-pub(crate) fn write(
+pub fn write(
     deed: Deed,
     kind: Kind,
     at: usize,
@@ -40,7 +40,7 @@ pub(crate) fn write(
     main: &mut [u8],
     xip: &mut [u8],
 ) -> Plan
-    ensures { writing result (beside_left sectors main xip) ≡ deed_writing deed kind at (payload_of arrival.now) (beside_at sectors main xip) }
+    ensures { writing result (beside_left sectors.new main.new xip.new) ≡ deed_writing deed kind at (payload_of arrival.now) (beside_at sectors.old main.old xip.old) }
 {
     match deed {
         Deed::Stores => page(kind, at, arrival, sectors, main, xip),

@@ -78,7 +78,7 @@ pub fn enter(
     main: &mut [u8],
     xip: &mut [u8],
 ) -> PlanReceipt
-    ensures { enter_return result seen.new (beside_left sectors main xip) ≡ enter_of acceptance (payload_of arrival.now) seen.old (beside_at sectors main xip) }
+    ensures { enter_return result seen.new (beside_left sectors.new main.new xip.new) ≡ enter_of acceptance (payload_of arrival.now) seen.old (beside_at sectors.old main.old xip.old) }
 {
     let placed = acceptance.placed;
     let deed = acceptance.deed;

@@ -39,15 +39,15 @@ module _ (known : Known) (t : Transfer) (a : List ℕ) (h : Lent) where
   judge_lengths l = rw l
 
   module _ (l : known.right ≡ true) where
-    pub judge-settings : known.good ≡ false → stays BadSettings ≡ known_decision known (world t h) a
+    pub judge_settings : known.good ≡ false → stays BadSettings ≡ known_decision known (world t h) a
     unfolding known_decision
-    judge-settings g = rw (l, g)
+    judge_settings g = rw (l, g)
 
     module _ (g : known.good ≡ true) where
-      pub judge-state : good_state t.state ≡ false → stays BadState ≡ known_decision known (world t h) a
+      pub judge_state : good_state t.state ≡ false → stays BadState ≡ known_decision known (world t h) a
       unfolding known_decision
-      judge-state n = rw (l, g, n)
+      judge_state n = rw (l, g, n)
 
-      pub judge-screened : good_state t.state ≡ true → {d : Decision} → d ≡ after_screening t.state h.seen (stands_at h.flash known.rooms.flash a) (screen_at known.rooms sizes t.state a) → d ≡ known_decision known (world t h) a
+      pub judge_screened : good_state t.state ≡ true → {d : Decision} → d ≡ after_screening t.state h.seen (stands_at h.flash known.rooms.flash a) (screen_at known.rooms sizes t.state a) → d ≡ known_decision known (world t h) a
       unfolding known_decision
-      judge-screened n y = rw (l, g, n) y
+      judge_screened n y = rw (l, g, n) y

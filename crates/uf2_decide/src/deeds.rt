@@ -46,7 +46,7 @@ fn page_deed(kind: Kind, place: Place, flash: &[u8], arrival: &[u8]) -> Deed
 }
 
 // What a block does once it is accepted, where `place` is its family's.
-pub(crate) fn deed_of(placed: PlacedBlock, place: Place, flash: &[u8], arrival: &[u8]) -> Deed
+pub fn deed_of(placed: PlacedBlock, place: Place, flash: &[u8], arrival: &[u8]) -> Deed
     ensures { result ≡ deed_of (stands_at flash.now place arrival.now) placed }
 {
     let named = placed.head;

@@ -1,8 +1,8 @@
 // What an arrival comes to: the checks in their order, and what an accepted block does. Nothing is written.
 #![tactic(auto)]
 
-mod deeds;
-mod settling;
+pub mod deeds;
+pub mod settling;
 
 ghost use Rattle.std.specs.Prelude.{◌≡◌};
 ghost use Rattle.laws.specs.Numbered.{numbered};
@@ -47,7 +47,7 @@ pub fn judge(
     main: &[u8],
     xip: &[u8],
 ) -> Verdict
-    ensures { numbered decision_number (decision result) ≡ numbered decision_number (known_decision known (world transfer (lent_at flash seen sectors main xip)) arrival.now) }
+    ensures { numbered decision_number (decision result) ≡ numbered decision_number (known_decision known (world transfer (lent_at flash.now seen.now sectors.now main.now xip.now)) arrival.now) }
 {
     if !known.right {
         return Verdict::Leaves(Answer::BadBuffers);

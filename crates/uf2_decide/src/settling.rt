@@ -28,7 +28,7 @@ fn accept(
 }
 
 // Rows 12 to 17, of a block that has passed the screening. The flash is read where it is accepted, and not for 12 and 13.
-pub(crate) fn settle(
+pub fn settle(
     transfer: Transfer,
     placed: PlacedBlock,
     place: Place,

@@ -1,13 +1,10 @@
 -- The blocks of a file, one after the other. Assumes nothing.
 use Prim.Native.Nat.{ℕ, ◌+◌, ◌-◌, ◌*◌, ◌/◌, ◌<◌, ◌≤◌}
 use mathlib.Core.Path.{◌≡◌, refl, sym, ap, ◌∙◌}
-use mathlib.Core.Logic.{⊎_elim}
-use mathlib.Core.List.{List, [], ◌∷◌}
+use mathlib.Core.List.{List}
 use native.Mathlib.Omega.{arith}
 use lib.ListN.{length, take, drop, length-take, length-drop}
 use borrow.Rule.Slice.PartMut.{put_mid}
-use types.Run.{OneOf}
-use denote.Enum.Declared.{tag_of}
 use Rattle.laws.specs.Over.{over}
 use Rattle.laws.specs.Rows.{rows}
 use Rattle.laws.proofs.OverLaws.{length_over, put_over}
@@ -16,7 +13,6 @@ use Rattle.uf2_make.specs.declared.checks.MakeAnswer.{MakeAnswer}
 use Rattle.uf2_make.specs.declared.checks.MakeAnswer.TheVariants.{BadImage, BadStart, PastWindow, ShortOutput, Made}
 use Rattle.uf2_make.specs.Uf2check.{check_of}
 use Rattle.uf2_make.specs.Uf2file.{page_of, block_at, file_bytes, make_call, make_of}
-use Rattle.uf2_make.specs.contracts.checks.MakeAnswer.{the_type}
 use Rattle.uf2_make.specs.Uf2block.{block_bytes, block_over}
 use Rattle.uf2_make.proofs.page_block.Blocks.{length_block, one_block}
 
@@ -76,15 +72,15 @@ blocks_none image family start out = rw (rows_none (block_at image family start)
 -- ---- the call
 
 module _ (image : List ℕ) (family start : ℕ) (out : List ℕ) where
-  -- none but a refusal, by its tag
-  pub make_refused : (x : MakeAnswer) → OneOf (0 ∷ 1 ∷ 2 ∷ 3 ∷ []) (tag_of the_type x) → x ≡ check_of (length image) start (length out)
+  -- none but a refusal
+  pub make_refused : (x : MakeAnswer) → ((m : ℕ) → x ≡ Made m → ⊥) → x ≡ check_of (length image) start (length out)
       → make_call x out ≡ make_of image family start out
   unfolding make_of
   make_refused BadImage h e = rw (← e)
   make_refused BadStart h e = rw (← e)
   make_refused PastWindow h e = rw (← e)
   make_refused ShortOutput h e = rw (← e)
-  make_refused (Made n) h e = absurd (⊎_elim (λ q. omega arith) (⊎_elim (λ q. omega arith) (⊎_elim (λ q. omega arith) (λ q. omega arith))) h)
+  make_refused (Made n) h e = absurd (h n refl)
 
   pub make_made : (x : MakeAnswer) (n : ℕ) {b : List ℕ} → x ≡ check_of (length image) start (length out) → x ≡ Made n → b ≡ over out 0 (file_bytes image family start)
       → make_call (Made n) b ≡ make_of image family start out

@@ -5,7 +5,7 @@ ghost use Rattle.uf2_make.specs.Uf2lead.{first_over, last_over};
 use uf2_block::Block;
 
 // Magic numbers, flags and address.
-pub(crate) fn put_first_fields(out: &mut [u8], address: u32)
+pub fn put_first_fields(out: &mut [u8], address: u32)
     ensures { out.new ≡ first_over out.old address }
 {
     uf2_block::put(out, 0, Block::MAGIC_FIRST);

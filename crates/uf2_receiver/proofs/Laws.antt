@@ -24,13 +24,13 @@ use Rattle.uf2_receiver.specs.Receiver.{lent, world, outcome, accepting, receive
 module _ (known : Known) (t : Transfer) (a : List ℕ) (h : Lent) where
   module _ {d : Decision} (k : d ≡ known_decision known (world t h) a) where
     -- what is accepted
-    pub accept-stays : {o : PlanReceipt} {x : Answer} → d ≡ stays x → o ≡ unplanned t x → accepting o h ≡ accept_known known (world t h) a
+    pub accept_stays : {o : PlanReceipt} {x : Answer} → d ≡ stays x → o ≡ unplanned t x → accepting o h ≡ accept_known known (world t h) a
     unfolding accept_known accepting_by done
-    accept-stays e y = ap (λ (o : PlanReceipt). accepting o h) y ∙ ap (accepting_by (world t h) a) (sym e ∙ k)
+    accept_stays e y = ap (λ (o : PlanReceipt). accepting o h) y ∙ ap (accepting_by (world t h) a) (sym e ∙ k)
 
-    pub accept-accepts : {p : PlacedBlock} {e : Deed} {y : Accepted} → d ≡ accepts p e y → {o : PlanReceipt} {m s u x : List ℕ} → enter_return o m (beside s u x) ≡ (receipt_of y, entering_of p e y (payload_of a) h.seen (beside h.sectors h.main h.xip)) → accepting o (lent h.flash m s u x) ≡ accept_known known (world t h) a
+    pub accept_accepts : {p : PlacedBlock} {e : Deed} {y : Accepted} → d ≡ accepts p e y → {o : PlanReceipt} {m s u x : List ℕ} → enter_return o m (beside s u x) ≡ (receipt_of y, entering_of p e y (payload_of a) h.seen (beside h.sectors h.main h.xip)) → accepting o (lent h.flash m s u x) ≡ accept_known known (world t h) a
     unfolding accept_known accepting_by done
-    accept-accepts {p} {e} {y} q {o} {m} {s} {u} {x} g =
+    accept_accepts {p} {e} {y} q {o} {m} {s} {u} {x} g =
         let z = entered p e y (payload_of a) (world t h) (ap (λ (b : Receipt × Entering). b.1) g) in
         ap (λ (b : Receipt × Entering). record { outcome = outcome b.0 (lent h.flash m s u x); plan = o.plan }) g
         ∙ ap (λ (v : World). record { outcome = record { world = v; answer = y.answer; discarded = y.discarded }; plan = o.plan }) z.1

@@ -15,7 +15,7 @@ pub use Rattle.uf2_commit.specs.Receipts.{outcome, accepting}
 
 -- the buffers as they are left, where the flash is lent for reading only
 abbrev pub left_beside : Slice → Slice → Slice → Slice → Slice → Lent
-left_beside f m k u x = lent f.entry.now m.exit.now k.exit.now u.exit.now x.exit.now
+left_beside f m k u x = lent f m k u x
 
 -- what a take returns and leaves, its answer beside its number
 abbrev pub take_return : Receipt → Lent → Outcome × ℕ

@@ -36,7 +36,7 @@ pub fn accept_known(
     main: &mut [u8],
     xip: &mut [u8],
 ) -> PlanReceipt
-    ensures { accepting result (left_beside flash seen sectors main xip) ≡ accept_known known (world transfer (lent_at flash seen sectors main xip)) arrival.now }
+    ensures { accepting result (left_beside flash.now seen.new sectors.new main.new xip.new) ≡ accept_known known (world transfer (lent_at flash.now seen.old sectors.old main.old xip.old)) arrival.now }
 {
     let verdict = uf2_decide::judge(known, transfer, arrival, flash, seen, sectors, main, xip);
     match verdict {
@@ -49,7 +49,7 @@ pub fn accept_known(
 
 // One arrival accepted, for flash that is read where it is mapped and written by a driver: transfer, maps and RAM are left as a take leaves them,
 // and what is to be done to the flash is the plan.
-fn accept(
+pub fn accept(
     settings: Settings,
     transfer: Transfer,
     arrival: &[u8],
@@ -59,7 +59,7 @@ fn accept(
     main: &mut [u8],
     xip: &mut [u8],
 ) -> PlanReceipt
-    ensures { planned_return result (left_beside flash seen sectors main xip) ≡ numbered accepting_number (accepting_of settings (world transfer (lent_at flash seen sectors main xip)) arrival.now) }
+    ensures { planned_return result (left_beside flash.now seen.new sectors.new main.new xip.new) ≡ numbered accepting_number (accepting_of settings (world transfer (lent_at flash.now seen.old sectors.old main.old xip.old)) arrival.now) }
 {
     let lens = Lengths {
         flash: flash.len(),
@@ -81,7 +81,7 @@ pub fn take_known(
     main: &mut [u8],
     xip: &mut [u8],
 ) -> Receipt
-    ensures { take_return result (left_at flash seen sectors main xip) ≡ numbered outcome_number (receive_known known (world transfer (lent_at flash seen sectors main xip)) arrival.now) }
+    ensures { take_return result (left_at flash.new seen.new sectors.new main.new xip.new) ≡ numbered outcome_number (receive_known known (world transfer (lent_at flash.old seen.old sectors.old main.old xip.old)) arrival.now) }
 {
     let planned = accept_known(known, transfer, arrival, flash, seen, sectors, main, xip);
     let plan = planned.plan;
@@ -100,7 +100,7 @@ pub fn take(
     main: &mut [u8],
     xip: &mut [u8],
 ) -> Receipt
-    ensures { take_return result (left_at flash seen sectors main xip) ≡ numbered outcome_number (receive_of settings (world transfer (lent_at flash seen sectors main xip)) arrival.now) }
+    ensures { take_return result (left_at flash.new seen.new sectors.new main.new xip.new) ≡ numbered outcome_number (receive_of settings (world transfer (lent_at flash.old seen.old sectors.old main.old xip.old)) arrival.now) }
 {
     let lens = Lengths {
         flash: flash.len(),

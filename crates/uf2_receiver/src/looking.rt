@@ -28,7 +28,7 @@ pub fn look(
     main: &[u8],
     xip: &[u8],
 ) -> Preview
-    ensures { numbered forecast_number (previewed result) ≡ numbered forecast_number (look_of settings (world transfer (lent_at flash seen sectors main xip)) arrival.now) }
+    ensures { numbered forecast_number (previewed result) ≡ numbered forecast_number (look_of settings (world transfer (lent_at flash.now seen.now sectors.now main.now xip.now)) arrival.now) }
 {
     let lens = Lengths {
         flash: flash.len(),

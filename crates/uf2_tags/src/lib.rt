@@ -45,7 +45,7 @@ fn place_after(at: usize, answer: Answer) -> usize
 }
 
 // What a call answers at a place, and the place after it.
-fn step_at(block: &[u8], at: usize) -> Move
+pub fn step_at(block: &[u8], at: usize) -> Move
     ensures { numbered move_number result ≡ numbered move_number (step_at block.now at) }
 {
     let answer = crate::room::tag_at(block, at);
@@ -79,7 +79,7 @@ impl<'a> Tags<'a> {
 }
 
 // What the first call of a fresh reader answers. Who calls this holds no reader.
-fn first(block: &[u8]) -> Answer
+pub fn first(block: &[u8]) -> Answer
     ensures { numbered answer_number result ≡ numbered answer_number (tag_at block.now (first_place block.now)) }
 {
     let s = Tags::new(block).next();
@@ -118,7 +118,7 @@ fn least(a: usize, b: usize) -> usize
 }
 
 // The contents of a tag, as far as they stand in the block.
-fn contents(block: &[u8], tag: Tag) -> &[u8]
+pub fn contents(block: &[u8], tag: Tag) -> &[u8]
     ensures { result.now ≡ contents_of block.now tag }
 {
     let from = least(tag.start, block.len());

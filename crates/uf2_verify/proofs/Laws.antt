@@ -90,21 +90,21 @@ module _ (known : Known) (h : Held) (a : List ℕ) where
   told_lengths l = rw l
 
   module _ (l : known.right ≡ true) where
-    pub told-settings : known.good ≡ false → Refused BadSettings ≡ known_stand known h a
+    pub told_settings : known.good ≡ false → Refused BadSettings ≡ known_stand known h a
     unfolding known_stand
-    told-settings g = rw (l, g)
+    told_settings g = rw (l, g)
 
     module _ (g : known.good ≡ true) {c : Screening} (e : c ≡ screen_at known.rooms (lengths_of h) Idle a) where
       after : {x : Stand} → x ≡ after_rows h (payload_of a) c → x ≡ known_stand known h a
       unfolding known_stand
       after y = rw (l, g) (y ∙ ap (after_rows h (payload_of a)) e)
 
-      pub told-refused : {x : Answer} → c ≡ screening.Refused x → Refused x ≡ known_stand known h a
-      told-refused q = after (unfold after_rows in rw q)
+      pub told_refused : {x : Answer} → c ≡ screening.Refused x → Refused x ≡ known_stand known h a
+      told_refused q = after (unfold after_rows in rw q)
 
-      pub told-passed : {p : PlacedBlock} → c ≡ screening.Passed p → {x : Stand}
+      pub told_passed : {p : PlacedBlock} → c ≡ screening.Passed p → {x : Stand}
           → x ≡ told_by (body_stands h p.head.kind p.body (payload_of a)) → x ≡ known_stand known h a
-      told-passed q y = after (unfold after_rows in rw q y)
+      told_passed q y = after (unfold after_rows in rw q y)
 
 -- with what the settings and the lengths truly say handed in, it is as the meaning has it
 pub stand_is : (s : Settings) (h : Held) (a : List ℕ) {k : Known} → k ≡ known_of s (lengths_of h) 16384 1024 a → StartsLow k.rooms.flash → known_stand k h a ≡ stand_of s h a

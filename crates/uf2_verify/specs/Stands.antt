@@ -30,7 +30,7 @@ abbrev pub memory : List ℕ → List ℕ → List ℕ → Held
 memory f u x = held f [] u x
 
 abbrev pub memory_at : Slice → Slice → Slice → Held
-memory_at f u x = memory f.entry.now u.entry.now x.entry.now
+memory_at f u x = memory f u x
 
 -- byte i of the one is not that of the other
 abbrev pub differ_at : List ℕ → List ℕ → ℕ → Bool

@@ -76,7 +76,7 @@ fn page_stands(buffer: &[u8], at: usize, arrival: &[u8]) -> bool
 
 // In the buffer of its kind.
 fn page_in(kind: Kind, at: usize, arrival: &[u8], flash: &[u8], main: &[u8], xip: &[u8]) -> bool
-    ensures { result ≡ page_stands (buffer_of kind (memory_at flash main xip)) at (payload_of arrival.now) }
+    ensures { result ≡ page_stands (buffer_of kind (memory_at flash.now main.now xip.now)) at (payload_of arrival.now) }
 {
     match kind {
         Kind::Flash => page_stands(flash, at, arrival),
@@ -94,7 +94,7 @@ fn body_stands(
     main: &[u8],
     xip: &[u8],
 ) -> bool
-    ensures { result ≡ body_stands (memory_at flash main xip) kind body (payload_of arrival.now) }
+    ensures { result ≡ body_stands (memory_at flash.now main.now xip.now) kind body (payload_of arrival.now) }
 {
     match body {
         Body::Page(at) => page_in(kind, at, arrival, flash, main, xip),
@@ -104,7 +104,7 @@ fn body_stands(
 
 // A block that has passed the rows.
 fn compared(placed: PlacedBlock, arrival: &[u8], flash: &[u8], main: &[u8], xip: &[u8]) -> Stand
-    ensures { result ≡ told_by (body_stands (memory_at flash main xip) placed.head.kind placed.body (payload_of arrival.now)) }
+    ensures { result ≡ told_by (body_stands (memory_at flash.now main.now xip.now) placed.head.kind placed.body (payload_of arrival.now)) }
 {
     let head = placed.head;
     let kind = head.kind;
@@ -117,7 +117,7 @@ fn compared(placed: PlacedBlock, arrival: &[u8], flash: &[u8], main: &[u8], xip:
 
 // The rows in their order, and the comparison. What the settings and the lengths say is handed in.
 pub fn stands_known(known: Known, arrival: &[u8], flash: &[u8], main: &[u8], xip: &[u8]) -> Stand
-    ensures { numbered stand_number result ≡ numbered stand_number (known_stand known (memory_at flash main xip) arrival.now) }
+    ensures { numbered stand_number result ≡ numbered stand_number (known_stand known (memory_at flash.now main.now xip.now) arrival.now) }
 {
     if !known.right {
         return Stand::Refused(Answer::BadBuffers);
@@ -141,7 +141,7 @@ pub fn stands_known(known: Known, arrival: &[u8], flash: &[u8], main: &[u8], xip
 
 // Does what the arrival holds stand in the memory?
 pub fn stands(settings: Settings, arrival: &[u8], flash: &[u8], main: &[u8], xip: &[u8]) -> Stand
-    ensures { numbered stand_number result ≡ numbered stand_number (stand_of settings (memory_at flash main xip) arrival.now) }
+    ensures { numbered stand_number result ≡ numbered stand_number (stand_of settings (memory_at flash.now main.now xip.now) arrival.now) }
 {
     let lens = Lengths {
         flash: flash.len(),

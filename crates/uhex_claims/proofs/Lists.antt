@@ -2,11 +2,11 @@
 use Prim.Native.Nat.{ℕ, ◌+◌, ◌≤◌, ◌<◌}
 use mathlib.Core.Path.{◌≡◌, refl, sym, ap, subst, ◌∙◌}
 use mathlib.Core.Logic.{◌⊎◌, inl, inr}
-use mathlib.Core.Bool.{Bool, true, false, ◌||◌, cond}
+use mathlib.Core.Bool.{true, cond}
 use mathlib.Core.List.{List, [], ◌∷◌, ◌++◌}
 use native.Mathlib.Omega.{arith}
-use lib.ListN.{length, replicate}
-use lib.Dec.{ltb, leb, eqb}
+use lib.ListN.{length}
+use lib.Dec.{ltb}
 use borrow.Author.Tests.{le-leb, ltb-true, ltb-false}
 use Rattle.laws.proofs.Tests.{split, clash, both}
 use Rattle.laws.specs.Stores.{Store}
@@ -21,9 +21,9 @@ use Rattle.uhex_grammar.specs.declared.Failure.{Failure}
 use Rattle.uhex_grammar.specs.declared.ReaderState.{ReaderState}
 use Rattle.uhex_grammar.specs.declared.ReaderState.TheVariants as state
 use Rattle.uhex_effects.specs.declared.Reader.{Reader}
-use Rattle.uhex_reader.specs.Reader.{bad_failure, bad_reader, with_state, moved_to}
+use Rattle.uhex_reader.specs.Reader.{with_state, moved_to}
 use Rattle.uhex_effects.specs.declared.Effect.{Effect}
-use Rattle.uhex_reader.specs.Line.{LineOutcome, line_outcome, failing, bad_image, effect_outcome, line_of}
+use Rattle.uhex_reader.specs.Line.{LineOutcome, line_outcome, bad_image, effect_outcome, line_of}
 use Rattle.uhex_claims.specs.Facts.{Ready, moves_offset, LengthKept, StaysGood, FailuresFail}
 use Rattle.uhex_claims.specs.Lines.{Session, read_line, next, read_all, line_answers, store_of, is_stored, stores_of}
 use Rattle.uhex_claims.specs.Claims.{FailureStays, EndStays}
@@ -34,7 +34,7 @@ use Rattle.uhex_claims.specs.Items.{Item, item_of, Says, none, line}
 use Rattle.uhex_claims.specs.State.{Place, between, opened, body, padded, gives_for, State, after, state_after, fits_in, answer_for, answers_for, image_with, image_for, stores_with, stores_for, reader_state_of, both_of, reader_of}
 use Rattle.uhex_claims.specs.WholefileClaims as claims
 use Rattle.uhex_claims.specs.WholefileClaims.{Acceptance, Stop}
-use Rattle.uhex_claims.proofs.OneRecord.{Goes, EffectCase, fails, goes, ends, steps, made, word_item, line_made, line-goes, line-ends, answer_most, answer_least}
+use Rattle.uhex_claims.proofs.OneRecord.{Goes, EffectCase, fails, goes, ends, steps, word_item, line_made, line_goes, line_ends, answer_most, answer_least}
 use Rattle.uhex_claims.proofs.Runs.{Runs, stop, step}
 
 -- a reader that knows what records say, and an image
@@ -74,7 +74,7 @@ module _ (own : ℕ) where
   run_reads none s img y r = (refl, refl, y)
   run_reads (line {l} {ls} {xs} rec p t) s img y (step _ _ q e g m r) =
       let x = item_of l rec in
-      let w = line-goes l rec p own s img y m e g in
+      let w = line_goes l rec p own s img y m e g in
       let n = next_is s l img x w in
       let h = run_reads t (after s x) (image_with own s x img) (ready_on s l img x w y) r in (
         ap (λ (k : Session). read_all k ls) n ∙ h.0,
@@ -101,7 +101,7 @@ module _ (own : ℕ) where
   run_stores none s img y r = refl
   run_stores (line {l} {ls} {xs} rec p t) s img y (step _ _ q e g m r) =
       let x = item_of l rec in
-      let w = line-goes l rec p own s img y m e g in
+      let w = line_goes l rec p own s img y m e g in
       let h = run_stores t (after s x) (image_with own s x img) (ready_on s l img x w y) r in
       ap (λ (z : List Store). z ++ stores_of (next (session own s img) l) ls) (store_one s l img rec p (read_line (session own s img) l) w)
       ∙ ap (λ (k : Session). stores_with own (length img) s x ++ stores_of k ls) (next_is s l img x w)
@@ -184,7 +184,7 @@ module _ (own : ℕ) where
       first : AfterRecords own s l img (line_of (reader_of own s) l img)
           → ((x : Item) → line_of (reader_of own s) l img ≡ onward own s x img → RecordsOf (after s x) ls) → RecordsOf s (l ∷ ls)
       first (refused f) r = fails_not (read_line (session own s img) l).answer f h (omega arith)
-      first (went rec p m g) r = one_more s l img ls rec p m g (r (item_of l rec) (line-goes l rec p own s img y m refl g))
+      first (went rec p m g) r = one_more s l img ls rec p m g (r (item_of l rec) (line_goes l rec p own s img y m refl g))
       first (last rec p m e n z a b q) r = absurd (omega (arith, ap number_of q))
 
   -- an answer 32 to 35 comes only after such lines
@@ -216,7 +216,7 @@ module _ (own : ℕ) where
           let a = (read_line (session own s img) f).answer in
           let e = stays a (failure_stays (session own s img) f ls w).0 (failure_stays (session own s img) f (l ∷ []) w).1 in
           fails_not a w (subst (λ (b : Answer). 32 ≤ number_of b) e h) (subst (λ (b : Answer). number_of b ≤ 35) e k)
-      first (went rec p m g) r = one_more s f img ls rec p m g (r (item_of f rec) (line-goes f rec p own s img y m refl g))
+      first (went rec p m g) r = one_more s f img ls rec p m g (r (item_of f rec) (line_goes f rec p own s img y m refl g))
       first (last rec p m e n z a b q) r =
           let w = stays answer.AfterEnd (end_stays (session own s img) f ls q).0 (end_stays (session own s img) f (l ∷ []) q).1 in
           absurd (omega (arith, ap number_of w))
@@ -278,7 +278,7 @@ module _ (own : ℕ) where
           ((failure_stays (session own s img) l ls f).0 ∙ ap session_of (failures_fail (reader_of own s) l img f))
       first (went rec p m g) r =
           let x = item_of l rec in
-          let e = line-goes l rec p own s img y m refl g in
+          let e = line_goes l rec p own s img y m refl g in
           let n = next_is own s l img x e in
           let k = r x e in
           record {
@@ -296,4 +296,4 @@ module _ (own : ℕ) where
           }
       first (last rec p m e k n a b q) r =
           nothing_more s img (l ∷ ls) state.Ended (s.size + length l) (claims.other_answer (inr (omega (arith, ap number_of q))))
-          ((end_stays (session own s img) l ls q).0 ∙ ap session_of (line-ends l rec p own s img y m e k n a b))
+          ((end_stays (session own s img) l ls q).0 ∙ ap session_of (line_ends l rec p own s img y m e k n a b))

@@ -2,21 +2,21 @@
 use Prim.Native.Nat.{ℕ, ◌+◌, ◌%◌, ◌≤◌}
 use mathlib.Core.Path.{◌≡◌, refl, sym, ap, ◌∙◌}
 use mathlib.Core.Logic.{◌≢◌}
-use mathlib.Core.Bool.{Bool, true, false, not, ◌&&◌, ◌||◌, cond, and-false, or-false}
+use mathlib.Core.Bool.{Bool, true, false, ◌&&◌, ◌||◌, cond, and-false, or-false}
 use mathlib.Core.List.{List}
 use native.Mathlib.Omega.{arith}
 use lib.Dec.{ltb, leb, eqb}
-use lib.ListN.{length, get_or, take}
+use lib.ListN.{length}
 use lib.Seq.{length-take-le, get_or-take}
-use borrow.Author.Tests.{eqb-true, eqb-false, leb-true, leb-false, ltb-false, not-false, eq-eqb, ne_eqb, le-leb, le-ltb, lt-leb, lt-ltb}
+use borrow.Author.Tests.{eqb-true, eqb-false, leb-true, leb-false, ltb-false, eq-eqb, ne_eqb, le-leb, le-ltb, lt-ltb}
 use Rattle.laws.specs.Over.{over}
-use Rattle.laws.proofs.Tests.{split, clash, is_false, eqb_same, or_right, and_left, and_right}
+use Rattle.laws.proofs.Tests.{split, clash, eqb_same, and_left, and_right}
 use Rattle.ihex_record.specs.Record.{read_of, word_of as word_at}
 use Rattle.ihex_record.specs.declared.Record.{Record}
 use Rattle.ihex_record.specs.declared.ParseResult.TheVariants as parsed
 use Rattle.ihex_record.proofs.Good.{good_len, length_data}
 use Rattle.uhex_grammar.specs.Answers.{number_of, is_failure}
-use Rattle.uhex_grammar.specs.Boards.{is_v1, is_v2, has_board, with_board, both_boards}
+use Rattle.uhex_grammar.specs.Boards.{is_v1, is_v2, with_board}
 use Rattle.uhex_grammar.specs.Grammar.{is_extended_linear, is_end_of_file, is_block_start, data_kind, after_padding, role_of}
 use Rattle.uhex_grammar.specs.declared.Answer.{Answer}
 use Rattle.uhex_grammar.specs.declared.Answer.TheVariants as answer
@@ -441,10 +441,10 @@ module _ (l : List ℕ) (rec : Record) (says : (read_of l).parsed ≡ parsed.Goo
     unfolding effect_outcome moved_to answer_for image_with
     line-passed g = rw g
 
-    pub line-goes : {p : Place} → s.place ≡ p → Goes s (item_of l rec) p
+    pub line_goes : {p : Place} → s.place ≡ p → Goes s (item_of l rec) p
         → line_of (reader_of own s) l img
         ≡ line_outcome (reader_of own (after s (item_of l rec))) (answer_for own (length img) s (item_of l rec)) (image_with own s (item_of l rec) img)
-    line-goes {p} e h =
+    line_goes {p} e h =
         let x = item_of l rec in
         let made-it = made_goes own s x (word_at (read_of l).«data») word_item e h in
         line_made p e ∙ ap (effect_outcome (reader_of own s) rec (read_of l).«data» (s.size + length l) img) made-it
@@ -454,10 +454,10 @@ module _ (l : List ℕ) (rec : Record) (says : (read_of l).parsed ≡ parsed.Goo
         (λ z. ap (effect_outcome (reader_of own s) rec (read_of l).«data» (s.size + length l) img)
         (sym (choose (gives_for s.place x own) (Stores (next_of own s x)) (Passes (next_of own s x)) z)) ∙ line-passed z)
 
-    pub line-ends : s.place ≡ between → (item_of l rec).kind ≡ 1 → length (item_of l rec).bytes ≡ 0 → s.data_seen 0x9900 ≡ true → s.data_seen 0x9903 ≡ true
+    pub line_ends : s.place ≡ between → (item_of l rec).kind ≡ 1 → length (item_of l rec).bytes ≡ 0 → s.data_seen 0x9900 ≡ true → s.data_seen 0x9903 ≡ true
         → line_of (reader_of own s) l img ≡ line_outcome (moved_to (with_state (reader_of own s) Ended) (s.size + length l)) answer.Ended img
     unfolding role_of effect_of effect_outcome
-    line-ends e k n a b = line_made between e ∙ rw (k, n, a, b)
+    line_ends e k n a b = line_made between e ∙ rw (k, n, a, b)
 
 pub answer_most : (own k : ℕ) (s : State) (x : Item) → number_of (answer_for own k s x) ≤ 34
 unfolding answer_for

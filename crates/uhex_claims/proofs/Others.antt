@@ -1,6 +1,6 @@
 -- A section of another board stores nothing, and each of its records passes. Assumes nothing.
 use Prim.Native.Nat.{ℕ}
-use mathlib.Core.Path.{◌≡◌, refl, sym, ap, ◌∙◌}
+use mathlib.Core.Path.{◌≡◌, refl, ap}
 use mathlib.Core.Logic.{◌≢◌}
 use mathlib.Core.Bool.{false}
 use mathlib.Core.List.{List, [], ◌∷◌, ◌++◌}
@@ -11,10 +11,10 @@ use Rattle.uhex_grammar.specs.declared.Answer.{Answer}
 use Rattle.uhex_grammar.specs.declared.Answer.TheVariants.{Passed}
 use Rattle.uhex_claims.specs.Items.{Item}
 use Rattle.uhex_claims.specs.Whole.{Tail, tail_ends, tail_0_c, tail_0_e, Body, body_ends, body_04, body_data, body_0_e, body_0_c, Section, section_items, board_of, IsSection}
-use Rattle.uhex_claims.specs.State.{between, opened, body, padded, place_after, gives_for, State, after, state_after, answer_for, answers_for, image_with, image_for}
+use Rattle.uhex_claims.specs.State.{between, body, padded, place_after, gives_for, State, after, state_after, answer_for, answers_for, image_with, image_for}
 use Rattle.uhex_claims.specs.WholefileClaims.{OtherSectionsPass}
 use Rattle.uhex_claims.proofs.OneRecord.{data_not, no_gift, no_gift_at}
-use Rattle.uhex_claims.proofs.Runs.{stays_body, at_opened, at_body}
+use Rattle.uhex_claims.proofs.Runs.{stays_body, at_body}
 
 -- none of the records is own data
 data Quiet (own : ℕ) : State → List Item → Type 0 where

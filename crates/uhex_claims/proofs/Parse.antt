@@ -8,12 +8,12 @@ use native.Mathlib.Omega.{arith}
 use lib.Dec.{eqb}
 use lib.ListN.{length}
 use borrow.Author.Tests.{eqb-true, ne_eqb}
-use Rattle.laws.proofs.Tests.{split, clash, eqb_same, both}
+use Rattle.laws.proofs.Tests.{split}
 use Rattle.uhex_claims.specs.Items.{Item, size_of, word_of}
-use Rattle.uhex_claims.specs.Whole.{data_type_of, Tail, tail_ends, tail_0_c, tail_0_e, Body, body_ends, body_04, body_data, body_0_e, body_0_c, Section, section_items, board_of, IsSection, Sections, no_section, section, all_items, how_many}
+use Rattle.uhex_claims.specs.Whole.{Tail, tail_ends, tail_0_c, tail_0_e, Body, body_ends, body_04, body_data, body_0_e, body_0_c, Section, Sections, no_section, section, all_items, how_many}
 use Rattle.uhex_claims.specs.State.{Place, between, opened, body, padded, place_after, State, after, state_after}
 use Rattle.uhex_claims.proofs.OneRecord.{second, Goes, opening, naming, upper, given, other, padding, closing, tail_other, tail_padding, tail_closing, data_not, a_name}
-use Rattle.uhex_claims.proofs.Runs.{Runs, stop, step, Once, is_v, same_sections, stays_body, size_append}
+use Rattle.uhex_claims.proofs.Runs.{Runs, stop, step, Once, is_v, same_sections, size_append}
 
 -- ---- what is left, by the place where it begins
 

@@ -1,24 +1,20 @@
 -- Row 18 in numbers. Assumes nothing.
-use Prim.Native.Nat.{ℕ, ◌<◌, ◌≤◌}
-use mathlib.Core.Path.{◌≡◌, refl, sym, ap, ◌∙◌}
-use mathlib.Core.Logic.{◌≢◌, ◌↔◌}
-use mathlib.Core.Bool.{Bool, true, false, ◌&&◌, ◌||◌, not, or-true}
-use mathlib.Core.List.{List}
+use mathlib.Core.Path.{◌≡◌, refl, ap, ◌∙◌}
+use mathlib.Core.Bool.{true, false, ◌&&◌, ◌||◌, or-true}
 use native.Mathlib.Omega.{arith}
-use lib.Dec.{ltb, leb, eqb}
+use lib.Dec.{ltb, leb}
 use lib.ListN.{length}
-use borrow.Author.Tests.{eqb-true, eqb-false, eq-eqb, ne_eqb, lt-ltb, le-ltb, ltb-true, le-leb, leb-true, not-true, not-false}
+use borrow.Author.Tests.{eqb-false, ne_eqb, lt-ltb, le-ltb, ltb-true, le-leb, leb-true, not-true, not-false}
 use Rattle.laws.proofs.Tests.{split, clash, is_false, and_left, and_right, or_left, or_right}
 use Rattle.uhex_grammar.specs.Answers.{number_of, is_kept}
 use Rattle.uhex_grammar.specs.Boards.{is_v1, is_v2}
 use Rattle.uhex_grammar.specs.declared.Answer.{Answer}
 use Rattle.uhex_grammar.specs.declared.Answer.TheVariants as answer
-use Rattle.uhex_grammar.specs.declared.Failure.{Failure}
 use Rattle.uhex_grammar.specs.declared.ReaderState.{ReaderState}
 use Rattle.uhex_grammar.specs.declared.ReaderState.TheVariants.{Between, Opened, Inside, Padded, Ended, Failed}
 use Rattle.uhex_effects.specs.declared.Reader.{Reader}
 use Rattle.uhex_reader.specs.Reader.{bad_failure, bad_reader}
-use Rattle.uhex_reader.specs.Line.{LineOutcome, line_of}
+use Rattle.uhex_reader.specs.Line.{LineOutcome}
 use Rattle.uhex_claims.specs.Facts.{Ready, BadExactly}
 use Rattle.uhex_claims.proofs.Facts.{bad_exactly}
 use Rattle.uhex_claims.specs.Exact.{ImageBeforeReader}

@@ -1,23 +1,22 @@
 -- Rows 20 to 25 in numbers. Assumes nothing.
-use Prim.Native.Nat.{ℕ, zero, suc, ◌+◌, ◌-◌, ◌*◌, ◌/◌, ◌%◌, ◌<◌, ◌≤◌}
+use Prim.Native.Nat.{ℕ, zero, suc, ◌+◌, ◌-◌, ◌*◌, ◌%◌, ◌<◌, ◌≤◌}
 use mathlib.Core.Path.{◌≡◌, refl, sym, ap, subst, ◌∙◌}
 use mathlib.Core.Logic.{◌≢◌, ◌⊎◌, inl, inr, ⊎_elim}
-use mathlib.Core.Bool.{Bool, true, false, cond, not, ◌&&◌, ◌||◌}
-use mathlib.Core.List.{List, [], ◌∷◌, ◌++◌, append-nil, append_assoc}
+use mathlib.Core.Bool.{true, false, ◌&&◌, ◌||◌}
+use mathlib.Core.List.{List, [], ◌∷◌, ◌++◌, append_assoc}
 use native.Mathlib.Omega.{arith}
 use lib.Dec.{ltb, leb, eqb}
-use lib.ListN.{length, get_or, take, drop, replicate, length-append, length-replicate, length-take, get_or-append, get_or-eq_default, get_or-replicate}
+use lib.ListN.{length, get_or, replicate, length-append, length-replicate, get_or-append, get_or-eq_default, get_or-replicate}
 use lib.Seq.{take-append_seam, get_or-append_seam, get_or-append-add, take-length}
-use borrow.Author.Tests.{lt-ltb, le-ltb, le-leb, lt-leb, eq-eqb, ne_eqb, eqb-true, eqb-false, ltb-true, ltb-false, leb-true, leb-false}
+use borrow.Author.Tests.{lt-ltb, le-ltb, le-leb, lt-leb, ne_eqb, eqb-true, eqb-false, ltb-true, ltb-false, leb-true}
 use Rattle.laws.proofs.Tests.{split, both, clash, is_false, or_left, or_right}
 use Rattle.laws.proofs.TabLaws.{is_tab}
 use Rattle.ihex_record.specs.declared.Line.{Line}
 use Rattle.ihex_record.specs.declared.ParseResult.{ParseResult}
-use Rattle.ihex_record.specs.declared.ParseResult.TheVariants.{Good, NoColon, BadShape, BadDigit, TooLong, BadLength, BadSum}
-use Rattle.ihex_record.specs.Record.{text_len, text_of, digit_of, all_digits, first_bad, bytes_of, data32, total, refused, bad_shape, line_of_bytes, line_of_text, read_of, all_by, first_by, bytes_by}
-use Rattle.ihex_record.specs.Record as record'
-use Rattle.ihex_record.proofs.Endings.{text_whole, text-lf, text-crlf}
-use Rattle.ihex_record.proofs.Checks.{is_empty, is_no_colon, is-bad-shape, is-bad-digit, is-bytes, is_too_long, is-bad-length, is-bad-sum, is_good_lem}
+use Rattle.ihex_record.specs.declared.ParseResult.TheVariants.{NoColon, BadShape, BadDigit, TooLong, BadLength, BadSum}
+use Rattle.ihex_record.specs.Record.{text_len, text_of, digit_of, all_digits, first_bad, bytes_of, data32, total, bad_shape, line_of_bytes, line_of_text, read_of, all_by, first_by, bytes_by}
+use Rattle.ihex_record.proofs.Endings.{text_whole, text_lf, text_crlf}
+use Rattle.ihex_record.proofs.Checks.{is_no_colon, is_bad_shape, is_bad_digit, is_bytes, is_too_long, is_bad_length, is_bad_sum, is_good_lem}
 use Rattle.uhex_claims.specs.Rows.{Digit, decimal, upper, lower, Bytes, no_byte, byte, TextOf, unended, ended_lf, ended_crlf, sum_of, Shaped, Says, row_20, row_21, row_22, row_23, row_24, row_25, good, LineIsRead, EveryLineSays}
 
 -- ---- digits
@@ -121,28 +120,28 @@ bytes_length (byte p q w) = let h = bytes_length w in omega arith
 
 says_line : {t : List ℕ} {x : ParseResult} {d : List ℕ} → Says t x d → line_of_text t ≡ record { parsed = x; «data» = data32 d }
 says_line {t} (row_20 h) = sym (is_no_colon t h)
-says_line (row_21 {cs} h) = sym (is-bad-shape (58 ∷ cs) (λ q. omega arith) refl (shape_bad (length (58 ∷ cs)) h))
+says_line (row_21 {cs} h) = sym (is_bad_shape (58 ∷ cs) (λ q. omega arith) refl (shape_bad (length (58 ∷ cs)) h))
 says_line (row_22 {cs} p s l b g) =
     let f = first_is cs p l b g in
-    sym (is-bad-digit (58 ∷ cs) (λ q. omega arith) refl (shape_good (length (58 ∷ cs)) s) (ap (λ (n : ℕ). 1 + n) (sym f.0)) f.1)
+    sym (is_bad_digit (58 ∷ cs) (λ q. omega arith) refl (shape_good (length (58 ∷ cs)) s) (ap (λ (n : ℕ). 1 + n) (sym f.0)) f.1)
 says_line (row_23 {cs} {bs} {n} s w h) =
     let r = bytes_are w in
-    sym (is-bytes (58 ∷ cs) (λ q. omega arith) refl (shape_good (length (58 ∷ cs)) s) r.0)
+    sym (is_bytes (58 ∷ cs) (λ q. omega arith) refl (shape_good (length (58 ∷ cs)) s) r.0)
     ∙ ap (line_of_bytes (length (58 ∷ cs))) r.1 ∙ sym (is_too_long (length (58 ∷ cs)) (n ∷ bs) h)
 says_line (row_24 {cs} {bs} {n} s w m h) =
     let r = bytes_are w in
-    sym (is-bytes (58 ∷ cs) (λ q. omega arith) refl (shape_good (length (58 ∷ cs)) s) r.0)
-    ∙ ap (line_of_bytes (length (58 ∷ cs))) r.1 ∙ sym (is-bad-length (length (58 ∷ cs)) (n ∷ bs) m h)
+    sym (is_bytes (58 ∷ cs) (λ q. omega arith) refl (shape_good (length (58 ∷ cs)) s) r.0)
+    ∙ ap (line_of_bytes (length (58 ∷ cs))) r.1 ∙ sym (is_bad_length (length (58 ∷ cs)) (n ∷ bs) m h)
 says_line (row_25 {cs} {bs} {n} s w m e h) =
     let r = bytes_are w in
-    sym (is-bytes (58 ∷ cs) (λ q. omega arith) refl (shape_good (length (58 ∷ cs)) s) r.0)
-    ∙ ap (line_of_bytes (length (58 ∷ cs))) r.1 ∙ sym (is-bad-sum (length (58 ∷ cs)) (n ∷ bs) m e (rw (sum_is (n ∷ bs)) h))
+    sym (is_bytes (58 ∷ cs) (λ q. omega arith) refl (shape_good (length (58 ∷ cs)) s) r.0)
+    ∙ ap (line_of_bytes (length (58 ∷ cs))) r.1 ∙ sym (is_bad_sum (length (58 ∷ cs)) (n ∷ bs) m e (rw (sum_is (n ∷ bs)) h))
 says_line (good {cs} {d} {high} {low} {kind} check w m z) =
     let b : List ℕ = length d ∷ high ∷ low ∷ kind ∷ d ++ (check ∷ []) in
     let r = bytes_are w in
     let k : length cs ≡ 10 + 2 * length d = omega (arith, bytes_length w, length-append d (check ∷ [])) in
     let s : Shaped (length (58 ∷ cs)) = record { least = omega arith; most = omega arith; odd = omega arith } in
-    sym (is-bytes (58 ∷ cs) (λ q. omega arith) refl (shape_good (length (58 ∷ cs)) s) r.0)
+    sym (is_bytes (58 ∷ cs) (λ q. omega arith) refl (shape_good (length (58 ∷ cs)) s) r.0)
     ∙ ap (line_of_bytes (length (58 ∷ cs))) r.1
     ∙ sym (is_good_lem (length (58 ∷ cs)) b m (omega arith) (rw (sum_is b) z))
     ∙ rw (take-append_seam d (check ∷ []))
@@ -156,7 +155,7 @@ text_is (ended_lf {t} h) =
     let l = t ++ (10 ∷ []) in
     let a : length l - 1 ≡ length t = omega (arith, length-append t (10 ∷ [])) in
     let last : get_or l (length l - 1) 0 ≡ 10 = rw a (get_or-append_seam t 10 [] 0) in
-    let e : length t ≡ text_len l = sym a ∙ text-lf l last (omega (arith, length-append t (10 ∷ []))) (before t h) in
+    let e : length t ≡ text_len l = sym a ∙ text_lf l last (omega (arith, length-append t (10 ∷ []))) (before t h) in
     rw (← e) (take-append_seam t (10 ∷ []))
   where
     before : (t : List ℕ) → get_or t (length t - 1) 0 ≢ 13 → get_or (t ++ (10 ∷ [])) (length (t ++ (10 ∷ [])) - 2) 0 ≢ 13
@@ -169,7 +168,7 @@ text_is (ended_crlf {t}) =
     let a : length l - 2 ≡ length t = omega (arith, length-append t (13 ∷ 10 ∷ [])) in
     let b : length l - 1 ≡ length t + 1 = omega (arith, length-append t (13 ∷ 10 ∷ [])) in
     let last : get_or l (length l - 1) 0 ≡ 10 = rw b (get_or-append-add t (13 ∷ 10 ∷ []) 1 0) in
-    let e : length t ≡ text_len l = sym a ∙ text-crlf l last (omega (arith, length-append t (13 ∷ 10 ∷ []))) (rw a (get_or-append_seam t 13 (10 ∷ []) 0)) in
+    let e : length t ≡ text_len l = sym a ∙ text_crlf l last (omega (arith, length-append t (13 ∷ 10 ∷ []))) (rw a (get_or-append_seam t 13 (10 ∷ []) 0)) in
     rw (← e) (take-append_seam t (13 ∷ 10 ∷ []))
 
 -- ---- its data

@@ -1,19 +1,19 @@
 -- Records that go on one after the other; a file's sections are such records, and such records that leave off between sections are
 -- sections. Assumes nothing.
 use Prim.Native.Nat.{ℕ, ◌+◌, ◌%◌, ◌≤◌}
-use mathlib.Core.Path.{◌≡◌, refl, sym, ap, subst, ◌∙◌}
+use mathlib.Core.Path.{◌≡◌, refl, sym, ap, ◌∙◌}
 use mathlib.Core.Logic.{◌⊎◌, ◌≢◌, inl, inr, ⊎_elim}
 use mathlib.Core.Bool.{Bool, true, false, cond, ◌&&◌, ◌||◌, and-false, or-false, or_assoc}
-use mathlib.Core.List.{List, [], ◌∷◌, ◌++◌, append_assoc}
+use mathlib.Core.List.{List, [], ◌∷◌, ◌++◌}
 use native.Mathlib.Omega.{arith}
 use lib.Dec.{leb, eqb}
 use lib.ListN.{length}
-use borrow.Author.Tests.{eqb-true, ne_eqb}
+use borrow.Author.Tests.{ne_eqb}
 use Rattle.laws.proofs.Tests.{split, is_false, eqb_same, and_left, and_right}
-use Rattle.uhex_claims.specs.Items.{Item, size_of, word_of}
+use Rattle.uhex_claims.specs.Items.{Item, size_of}
 use Rattle.uhex_claims.specs.Whole.{data_type_of, Tail, tail_ends, tail_0_c, tail_0_e, Body, body_ends, body_04, body_data, body_0_e, body_0_c, Section, section_items, board_of, IsSection, Sections, no_section, section, all_items, how_many, any_data, any_gives}
-use Rattle.uhex_claims.specs.State.{Place, between, opened, body, padded, place_after, is_in, gives_for, names_for, State, after, state_after}
-use Rattle.uhex_claims.proofs.OneRecord.{second, Goes, opening, naming, upper, given, other, padding, closing, tail_other, tail_padding, tail_closing, not_data, data_not, no_name, a_name, no_gift, no_gift_at}
+use Rattle.uhex_claims.specs.State.{Place, between, opened, body, padded, place_after, gives_for, State, after, state_after}
+use Rattle.uhex_claims.proofs.OneRecord.{second, Goes, opening, naming, upper, given, other, padding, closing, tail_other, tail_padding, tail_closing, not_data, data_not, no_name, a_name, no_gift}
 
 pub data Runs : State → List Item → Type 0 where
   stop : {s : State} → Runs s []

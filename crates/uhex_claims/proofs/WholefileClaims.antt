@@ -2,7 +2,7 @@
 use Prim.Native.Nat.{ℕ, ◌+◌, ◌≤◌}
 use mathlib.Core.Path.{◌≡◌, refl, sym, ap, subst, ◌∙◌}
 use mathlib.Core.Logic.{◌⊎◌, ◌≢◌, inl, inr, ⊎_elim}
-use mathlib.Core.Bool.{Bool, true, false, ◌&&◌, ◌||◌, not, cond}
+use mathlib.Core.Bool.{true, false, ◌&&◌, ◌||◌, not, cond}
 use mathlib.Core.List.{List, [], ◌∷◌, ◌++◌, append_assoc, append-nil}
 use native.Mathlib.Omega.{arith}
 use lib.ListN.{length}
@@ -20,7 +20,7 @@ use Rattle.uhex_grammar.specs.declared.Answer.TheVariants as answer
 use Rattle.uhex_grammar.specs.declared.ReaderState.TheVariants as state
 use Rattle.uhex_effects.specs.declared.Reader.{Reader}
 use Rattle.uhex_reader.specs.Reader.{bad_failure, bad_reader, with_state, moved_to}
-use Rattle.uhex_reader.specs.Line.{LineOutcome, line_outcome, bad_image, line_of}
+use Rattle.uhex_reader.specs.Line.{LineOutcome, line_outcome, line_of}
 use Rattle.uhex_claims.specs.Facts.{Ready, OtherBoardUnchanged}
 use Rattle.uhex_claims.specs.Claims.{ImageLengthKept}
 use Rattle.uhex_claims.proofs.Facts.{other_board_unchanged}
@@ -29,11 +29,11 @@ use Rattle.uhex_claims.specs.Lines.{Session, fresh_session, read_line, next, rea
 use Rattle.uhex_claims.specs.Items.{Item, item_of, Says, none, line, size_of}
 use Rattle.uhex_claims.specs.Whole.{data_type_of, Section, Sections, all_items, how_many, File}
 use Rattle.uhex_claims.specs.State.{Place, between, opened, body, padded, is_in, gives_for, State, begin, state_after, answer_for, answers_for, image_for, stores_for, reader_state_of, reader_of}
-use Rattle.uhex_claims.specs.WholefileClaims.{Setup, FileEnd, FileEnds, EndedIsFile, Acceptance, Agreement, TakenIsKnown, Memory, MemoryIsRecords, OwnStore, StoredIsOwn, OtherBoardUntouched}
-use Rattle.uhex_claims.proofs.OneRecord.{line-goes, line-ends, answer_most, answer_stored}
-use Rattle.uhex_claims.proofs.Runs.{Runs, Once, is_v, size_append, size_after, sections_run, data_all}
+use Rattle.uhex_claims.specs.WholefileClaims.{Setup, FileEnd, FileEnds, EndedIsFile, TakenIsKnown, MemoryIsRecords, OwnStore, StoredIsOwn, OtherBoardUntouched}
+use Rattle.uhex_claims.proofs.OneRecord.{line_goes, line_ends, answer_most, answer_stored}
+use Rattle.uhex_claims.proofs.Runs.{Runs, Once, size_append, size_after, sections_run, data_all}
 use Rattle.uhex_claims.proofs.Parse.{parsed}
-use Rattle.uhex_claims.proofs.Lists.{session, run_reads, run_stores, AfterRecords, refused, went, last, viewed, RecordsOf, taken_run, last_run, run_accepted, recall}
+use Rattle.uhex_claims.proofs.Lists.{session, run_reads, run_stores, AfterRecords, refused, went, last, viewed, taken_run, last_run, run_accepted, recall}
 
 -- ---- lists
 
@@ -139,7 +139,7 @@ module _ (own : ℕ) (img : List ℕ) (g : Setup own img) (xs : List Item) (f : 
         ≡ line_outcome (moved_to (with_state (reader_of own before_end) state.Ended) (before_end.size + length p.final)) answer.Ended (image_for own begin items img)
     last_line =
         let i : f.ending.size ≡ length p.final = ap (λ (x : Item). x.size) p.item in
-        line-ends p.final p.rec p.good own before_end (image_for own begin items img) reads.2
+        line_ends p.final p.rec p.good own before_end (image_for own begin items img) reads.2
         (omega (arith, size_after begin items, file_size)) (data_all 0x9900 f.ordered begin refl).0
         (sym (ap (λ (x : Item). x.kind) p.item) ∙ f.ends)
         (sym (ap (λ (x : Item). length x.bytes) p.item) ∙ f.empty)
@@ -228,7 +228,7 @@ ended_is_file own img ls l g a =
     file-of xs s r i y (refused f) e = clash false (sym (ap is_failure e) ∙ f) refl
     file-of xs s r i y (went rec p m q) e =
         let t = state_after begin xs in
-        let w = ap (λ (o : LineOutcome). o.answer) (line-goes l rec p own t i y m refl q) in
+        let w = ap (λ (o : LineOutcome). o.answer) (line_goes l rec p own t i y m refl q) in
         absurd (omega (arith, ap number_of (sym w ∙ e), answer_most own (length i) t (item_of l rec)))
     file-of xs s r i y (last rec p m q k n a b z) e =
         (xs ++ (item_of l rec ∷ []), says_append s (line rec p none), a_file xs l rec r m q k n a b)
@@ -302,7 +302,7 @@ stored_is_own own img ls l g a =
     store-of xs s i n y (went rec p m q) e =
         let t = state_after begin xs in
         let x = item_of l rec in
-        let w = ap (λ (o : LineOutcome). o.answer) (line-goes l rec p own t i y m refl q) in
+        let w = ap (λ (o : LineOutcome). o.answer) (line_goes l rec p own t i y m refl q) in
         (xs, x, s, line rec p none, subst (λ (k : ℕ). OwnStore own k t x) n (own_store own (length i) t x (sym w ∙ e)))
     store-of xs s i n y (last rec p m q k v a b z) e = absurd (omega (arith, ap number_of (sym z ∙ e)))
 

@@ -1,6 +1,6 @@
 -- Row 18 in numbers: "own board neither of these, offset over the limit, or a remembered failure that isn't 20 to 30 or 36"; "one handed in with 22 and a position
 -- outside 1 to 520 is 18" (02, L12). Proved in proofs/Reader.antt. Assumes nothing.
-use Rattle.std.specs.Prelude.{ℕ, ◌<◌, ◌≤◌, ◌≡◌, ◌≢◌, ◌↔◌, List, [], ◌∷◌, map, length}
+use Rattle.std.specs.Prelude.{ℕ, ◌<◌, ◌≤◌, ◌≡◌, ◌≢◌, ◌↔◌, [], ◌∷◌, map, length}
 use Rattle.uhex_grammar.specs.Answers.{number_of}
 use Rattle.uhex_grammar.specs.declared.Answer.{Answer}
 use Rattle.uhex_grammar.specs.declared.Answer.TheVariants as answer

@@ -1,6 +1,6 @@
 -- A file of four sections, so that the definition is not empty: V1, a third board, V2, and the third board again with nothing in its section.
 -- Checked in proofs/Instance.antt. Assumes nothing.
-use Rattle.std.specs.Prelude.{ℕ, ◌+◌, ◌≡◌, List, [], ◌∷◌, ◌++◌, map, replicate}
+use Rattle.std.specs.Prelude.{ℕ, ◌≡◌, List, [], ◌∷◌, ◌++◌, map, replicate}
 use Rattle.uhex_grammar.specs.Answers.{number_of}
 use Rattle.uhex_claims.specs.Items.{Item, Says, item, line_for}
 use Rattle.uhex_claims.specs.Whole.{Section, all_items, File}

@@ -20,7 +20,7 @@ fn given(reader: Reader, board: u16, len: u8) -> Effect
 }
 
 // A data record of a board.
-pub(crate) fn data(reader: Reader, board: u16, address: u16, len: u8) -> Effect
+pub fn data(reader: Reader, board: u16, address: u16, len: u8) -> Effect
     ensures { result ≡ effect_of reader (Data board) address len 0 }
 {
     if Reader::REACH < address as usize + len as usize {

@@ -6,7 +6,7 @@ use crate::{Effect, Reader};
 use uhex_grammar::{Answer, ReaderState, Role};
 
 // What a good record does: its role, its address field, the number of its data bytes, and the first two of them as a number.
-pub(crate) fn effect(reader: Reader, role: Role, address: u16, len: u8, word: u16) -> Effect
+pub fn effect(reader: Reader, role: Role, address: u16, len: u8, word: u16) -> Effect
     ensures { result ≡ effect_of reader role address len word }
 {
     match role {

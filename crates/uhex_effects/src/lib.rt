@@ -1,9 +1,9 @@
 // A reader of Universal Hex, and a reader with one thing changed. What a good record does to it is a definition here.
 #![tactic(auto)]
 
-mod data_record;
-mod effects;
-mod marks;
+pub mod data_record;
+pub mod effects;
+pub mod marks;
 pub mod record_effect;
 
 ghost use Rattle.std.specs.Prelude.{◌≡◌};

@@ -10,7 +10,7 @@ use uhex_grammar::{Answer, ReaderState};
 const SECTION: u32 = 512;
 
 // The 04 that opens a section.
-pub(crate) fn opening(reader: Reader, word: u16) -> Effect
+pub fn opening(reader: Reader, word: u16) -> Effect
     ensures { result ≡ effect_of reader Opening 0 0 word }
 {
     if reader.offset % SECTION != 0 {
@@ -20,7 +20,7 @@ pub(crate) fn opening(reader: Reader, word: u16) -> Effect
 }
 
 // The 0A that names the board of a section.
-pub(crate) fn naming(reader: Reader, word: u16) -> Effect
+pub fn naming(reader: Reader, word: u16) -> Effect
     ensures { result ≡ effect_of reader Naming 0 0 word }
 {
     let sections_seen = reader.sections_seen;
@@ -35,7 +35,7 @@ pub(crate) fn naming(reader: Reader, word: u16) -> Effect
 }
 
 // The 01.
-pub(crate) fn ending(reader: Reader) -> Effect
+pub fn ending(reader: Reader) -> Effect
     ensures { result ≡ effect_of reader Ending 0 0 0 }
 {
     let data_seen = reader.data_seen;

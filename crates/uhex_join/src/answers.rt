@@ -38,7 +38,7 @@ impl JoinAnswer {
 }
 
 // The refusal of a board's file; nothing asks for it of one that is fine.
-pub(crate) fn refused(board: u16, verdict: Verdict) -> JoinAnswer
+pub fn refused(board: u16, verdict: Verdict) -> JoinAnswer
     ensures { result ≡ refused_by board verdict }
 {
     match verdict {

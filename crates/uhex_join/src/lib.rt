@@ -2,7 +2,7 @@
 #![tactic(auto)]
 
 pub mod answers;
-mod sections;
+pub mod sections;
 
 ghost use Rattle.std.specs.Prelude.{◌≡◌, ◌≤◌, length};
 ghost use Rattle.ihex_data.specs.Pieces.{pieces_of};

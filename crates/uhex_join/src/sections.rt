@@ -24,7 +24,7 @@ fn put_section(out: &mut [u8], at: usize, board: u16, kind: u8, first: usize, te
 }
 
 // V1's section, from the start of the room.
-pub(crate) fn put_v1(out: &mut [u8], first: usize, text: &[u8]) -> usize
+pub fn put_v1(out: &mut [u8], first: usize, text: &[u8]) -> usize
     ensures value { result ≡ section_size (data_length (pieces_of text.now)) }
     ensures lines { out.new ≡ put_lines out.old 0 (section_with 0x9900 data_type first (pieces_of text.now)) }
 {
@@ -39,7 +39,7 @@ fn within(at: usize, len: usize) -> usize
 }
 
 // V2's section, from an index on.
-pub(crate) fn put_v2(out: &mut [u8], at: usize, first: usize, text: &[u8]) -> usize
+pub fn put_v2(out: &mut [u8], at: usize, first: usize, text: &[u8]) -> usize
     ensures value { result ≡ section_size (data_length (pieces_of text.now)) }
     ensures lines { out.new ≡ put_lines out.old at (section_with 0x9903 custom_data first (pieces_of text.now)) }
 {

@@ -1,22 +1,20 @@
 -- A plain file's refusal names its first bad line, and the first row that the line fails. Assumes nothing.
 use Prim.Native.Nat.{ℕ, suc, ◌+◌, ◌≤◌}
-use mathlib.Core.Path.{◌≡◌, refl, sym, ap, subst, ◌∙◌}
+use mathlib.Core.Path.{◌≡◌, refl, sym, subst, ◌∙◌}
 use mathlib.Core.Logic.{◌≢◌}
 use mathlib.Core.Bool.{true, false}
 use mathlib.Core.List.{List, [], ◌∷◌, ◌++◌, append_assoc, append-nil}
 use native.Mathlib.Omega.{arith}
 use lib.ListN.{length, length-append}
-use Rattle.ihex_record.specs.declared.ParseResult.TheVariants.{Good}
 use Rattle.uhex_grammar.specs.declared.Answer.{Answer}
 use Rattle.uhex_grammar.specs.declared.Answer.TheVariants.{OutOfPlace, AfterEnd}
 use Rattle.uhex_claims.specs.Items.{Item, item_of, Says, none, line, size_of}
 use Rattle.uhex_claims.proofs.Runs.{size_append}
 use Rattle.uhex_claims.proofs.WholefileClaims.{says_append}
 use Rattle.ihex_file.specs.declared.Plain.{Plain}
-use Rattle.ihex_file.specs.declared.Verdict.{Verdict}
 use Rattle.ihex_file.specs.declared.Verdict.TheVariants.{Fine, Bad}
 use Rattle.ihex_file.specs.Line.{plain, fresh_plain, line_taken, taken_of}
-use Rattle.ihex_file.specs.File.{goes_on, bad_of, next_of, lines_verdict}
+use Rattle.ihex_file.specs.File.{bad_of, next_of, lines_verdict}
 use Rattle.uhex_join_claims.specs.PlainFile.{Records, base_after}
 use Rattle.uhex_join_claims.specs.Refusals.{PlainType, Begun, nothing, more, BadLine, BadLines, bad_line, after_the_01, no_01}
 use Rattle.uhex_join_claims.proofs.PlainRead.{Went, Last, View, stops, goes, ends, line_view}

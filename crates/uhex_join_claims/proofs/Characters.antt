@@ -1,7 +1,7 @@
 -- The characters of every output. Assumes nothing.
-use Prim.Native.Nat.{ℕ, zero, suc, ◌+◌, ◌*◌, ◌-◌, ◌/◌, ◌%◌, ◌<◌, ◌≤◌}
-use mathlib.Core.Path.{◌≡◌, refl, sym, ap, subst, ◌∙◌}
-use mathlib.Core.Bool.{true, not, cond}
+use Prim.Native.Nat.{ℕ, zero, suc, ◌/◌, ◌%◌, ◌<◌}
+use mathlib.Core.Path.{◌≡◌, refl, sym, ap, ◌∙◌}
+use mathlib.Core.Bool.{not}
 use mathlib.Core.List.{List, [], ◌∷◌, ◌++◌}
 use native.Mathlib.Omega.{arith}
 use lib.Dec.{eqb}
@@ -9,17 +9,15 @@ use lib.ListN.{length, get_or}
 use borrow.Author.Tests.{eqb-true, not-false}
 use Rattle.laws.specs.Sets.{Set, any}
 use Rattle.laws.proofs.Laws.{any_all}
-use Rattle.ihex_record.specs.Record.{total, read_of}
+use Rattle.ihex_record.specs.Record.{total}
 use Rattle.ihex_record.specs.Write.{digit_text, bytes_text, field_bytes, checksum, record_text, record_line, Bytes}
 use Rattle.ihex_record.specs.declared.Record.{Record}
 use Rattle.ihex_record.specs.declared.ParseResult.TheVariants.{Good}
 use Rattle.uhex_claims.specs.Items.{Item, item_of, item, Says, none, line}
-use Rattle.uhex_join_claims.specs.Claims.{TwoSections}
-use Rattle.uhex_join_claims.proofs.Written.{Fits, Written, nothing, more, written_says}
-use Rattle.ihex_data.specs.Pieces.{pieces_of}
+use Rattle.uhex_join_claims.proofs.Written.{Fits, Written, nothing, more}
 use Rattle.uhex_join_claims.proofs.Claims.{output, part_a, part_b, lines_there, says_there}
 use Rattle.uhex_join_claims.proofs.Whole.{file_written}
-use Rattle.uhex_join_claims.specs.Characters.{digits, pairs, sum_of, bytes_in, LineOf, Lines, no_line, next_line, JoinedCharacters}
+use Rattle.uhex_join_claims.specs.Characters.{digits, pairs, sum_of, LineOf, Lines, no_line, next_line, JoinedCharacters}
 
 -- ---- the digits are those of the text
 

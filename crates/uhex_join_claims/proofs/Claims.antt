@@ -18,7 +18,7 @@ use Rattle.ihex_file.specs.Lines.{lines_of}
 use Rattle.uhex_claims.specs.Lines.{fresh_session, stores_of}
 use Rattle.uhex_claims.specs.Claims.{ImageIsLatest, ImageLengthKept}
 use Rattle.uhex_claims.proofs.Claims.{image_is_latest, image_length_kept}
-use Rattle.uhex_claims.specs.Items.{Item, Says, none, line, item, line_for}
+use Rattle.uhex_claims.specs.Items.{Item, Says, item, line_for}
 use Rattle.uhex_claims.specs.Whole.{Section, all_items, File}
 use Rattle.uhex_claims.specs.State.{State, begin, after, answers_for}
 use Rattle.uhex_claims.specs.WholefileClaims as wholefile

@@ -17,6 +17,7 @@ use Rattle.ihex_record.specs.declared.Record.{Record}
 use Rattle.ihex_record.specs.declared.ParseResult.TheVariants.{Good}
 use Rattle.ihex_record.proofs.Good.{says, good_len, good_data, bytes_small}
 use Rattle.uhex_claims.specs.Items.{Item, item_of, Says, line, word_of}
+use Rattle.uhex_claims.specs.Items
 use Rattle.uhex_claims.proofs.OneRecord.{len_item}
 use Rattle.ihex_data.specs.Pieces.{room_of, split_of, split_all}
 use Rattle.uhex_join_claims.specs.PlainFile.{Records, ending_01, data_00, segment_02, start_03, linear_04, start_05, at, base_after, data_from, Cut, uncut, crossing, Cuts, none, one}
@@ -72,6 +73,7 @@ module _ (base : ℕ) (low : base ≤ 4294901760) where
       (λ z. rw z r))
 
 pub data_all : {ls : List (List ℕ)} {xs : List Item} → Says ls xs → Records xs → (base : ℕ) → base ≤ 4294901760 → AllData (data_from base xs)
+data_all Items.none r base m = elim r [ ]
 data_all (line {l} {ls} {xs} rec p t) (ending_01 k n) base m = drops base m (item_of l rec) [] (rw k) (unfold data_from in no_data)
 data_all (line {l} {ls} {xs} rec p t) (data_00 k n r) base m =
     gives base m (item_of l rec) xs k n (omega (arith, len_item l rec p, good_len l rec p)) (item_bytes_lem l rec p) (data_all t r base m)

@@ -1,8 +1,8 @@
 -- The form of its sections and the pieces of the plain files leave one output. Assumes nothing.
-use Prim.Native.Nat.{ℕ, zero, suc, ◌+◌, ◌*◌, ◌/◌, ◌%◌, ◌≤◌, ◌<◌}
+use Prim.Native.Nat.{ℕ, ◌+◌, ◌*◌, ◌/◌, ◌%◌, ◌≤◌, ◌<◌}
 use mathlib.Core.Path.{◌≡◌, refl, sym, ap, subst, ◌∙◌}
 use mathlib.Core.Logic.{◌≢◌}
-use mathlib.Core.Bool.{true, false, cond}
+use mathlib.Core.Bool.{cond}
 use mathlib.Core.List.{List, [], ◌∷◌, ◌++◌, map}
 use native.Mathlib.Omega.{arith}
 use lib.Dec.{eqb, ltb}
@@ -15,11 +15,11 @@ use Rattle.uhex_claims.specs.Whole.{data_type_of, Section, section_items, all_it
 use Rattle.uhex_claims.proofs.OneRecord.{not_data, data_not}
 use Rattle.uhex_claims.proofs.Runs.{size_append}
 use Rattle.uhex_claims.proofs.WholefileClaims.{says_one}
-use Rattle.ihex_data.specs.Lines.{upper_of, first_upper}
+use Rattle.ihex_data.specs.Lines.{first_upper}
 use Rattle.uhex_join_claims.specs.PlainFile.{at, data_from, WithData, Cuts, none, one, PlainPieces}
 use Rattle.uhex_join_claims.specs.Form.{word, filler, UppersAsNeeded, no_more, same, changed, Form}
 use Rattle.uhex_join_claims.specs.Claims.{linear_data, SectionOf, TwoSections, OutputIsOne}
-use Rattle.uhex_join_claims.proofs.Sections.{body_items, pad_item, close_item, pads_size, pads_linear, word_back}
+use Rattle.uhex_join_claims.proofs.Sections.{body_items, pad_item, pads_size, pads_linear, word_back}
 use Rattle.uhex_join_claims.proofs.Cuts.{cuts_one}
 
 -- ---- the pieces of a plain file

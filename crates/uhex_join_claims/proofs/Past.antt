@@ -23,7 +23,7 @@ use Rattle.uhex_join_claims.proofs.PlainRead.{View, stops, goes, ends, line_view
 -- ---- a line
 
 -- one that says a record of a plain file, within the limit, is not bad
-good_line : {x : Answer} (size : ℕ) (l : List ℕ) (rec : Record) → (read_of l).parsed ≡ Good rec → size + length l ≤ 4194304
+good_line : (size : ℕ) (l : List ℕ) {x : Answer} (rec : Record) → (read_of l).parsed ≡ Good rec → size + length l ≤ 4194304
     → PlainType rec.kind (length (item_of l rec).bytes) → (rec.kind ≡ 0 → rec.address + length (item_of l rec).bytes ≤ 65536) → BadLine size l x → ⊥
 good_line size l rec e m t c (row_36 h) = omega arith
 good_line size l rec e m t c (rows_20_to_25 h f) = f rec e
@@ -45,7 +45,7 @@ not_00 l q r f g n k =
     n (subst (λ (z : ℕ). PlainType z q.len) (sym i) type_00)
 
 -- a bad line fails one row first
-bad_one : {x y : Answer} (size : ℕ) (l : List ℕ) → BadLine size l x → BadLine size l y → x ≡ y
+bad_one : (size : ℕ) (l : List ℕ) {x y : Answer} → BadLine size l x → BadLine size l y → x ≡ y
 bad_one size l (row_36 h) (row_36 k) = refl
 bad_one size l (row_36 h) (rows_20_to_25 k g) = absurd (omega arith)
 bad_one size l (row_36 h) (row_26 k r g n) = absurd (omega arith)
@@ -135,6 +135,7 @@ PlainPast p k ks = (q : Plain) × Past p k ks q × (q.ended ≡ true)
 plain_past : {ls : List (List ℕ)} {xs : List Item} → Says ls xs → Records xs → (p : Plain) (k : ℕ) → p.ended ≡ false → p.offset + size_of xs ≤ 4194304
     → PlainPast p k ls
 unfolding size_of
+plain_past none r p k u m = elim r [ ]
 plain_past (line {l} {ls} {xs} rec e t) r p k u m = by-view (line_view p l u) (λ q v w i. plain_past t w q (suc k) v i)
   where
     a : Allowed (item_of l rec) xs

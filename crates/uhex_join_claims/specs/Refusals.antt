@@ -3,7 +3,6 @@
 use Rattle.std.specs.Prelude.{ℕ, ◌+◌, ◌≤◌, ◌<◌, ◌≡◌, ◌≢◌, List, [], ◌∷◌, ◌++◌, length}
 use Rattle.ihex_record.specs.Record.{read_of}
 use Rattle.ihex_record.specs.declared.Record.{Record}
-use Rattle.ihex_record.specs.declared.ParseResult.{ParseResult}
 use Rattle.ihex_record.specs.declared.ParseResult.TheVariants.{Good}
 use Rattle.uhex_grammar.specs.Answers.{refusal_of}
 use Rattle.uhex_grammar.specs.declared.Answer.{Answer}

@@ -3,7 +3,7 @@
 
 pub mod kept;
 pub mod reading;
-mod states;
+pub mod states;
 
 ghost use Rattle.std.specs.Prelude.{◌≡◌};
 ghost use Rattle.uhex_layout.specs.Readers.{state_code_of, flag_of, reader_bytes, reader_written};

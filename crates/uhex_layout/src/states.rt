@@ -37,7 +37,7 @@ fn answer(n: u8, position: u16) -> Answer
 }
 
 // Any kind over 4 is read as a failure.
-pub(crate) fn state_from(kind: u8, failure: u8, half: u16) -> ReaderState
+pub fn state_from(kind: u8, failure: u8, half: u16) -> ReaderState
     ensures { result ≡ reader_state_from kind failure half }
 {
     if kind == 0 {

@@ -1,7 +1,7 @@
 // The reader of Universal Hex, a line at a time, for one board.
 #![tactic(auto)]
 
-mod live;
+pub mod live;
 pub mod replies;
 
 ghost use Rattle.std.specs.Prelude.{◌≡◌};

@@ -9,7 +9,7 @@ use uhex_effects::Reader;
 use uhex_grammar::Answer;
 
 // A line for a reader that is neither failed nor at the end.
-pub(crate) fn live(reader: Reader, line: &[u8], image: &mut [u8]) -> Reply
+pub fn live(reader: Reader, line: &[u8], image: &mut [u8]) -> Reply
     ensures { line_outcome result.reader result.answer image.new ≡ live_line reader line.now image.old }
 {
     let offset = reader.offset as usize;

@@ -27,7 +27,7 @@ fn put_bytes(bytes: &[u8], n: usize, at: usize, image: &mut [u8])
 }
 
 // A line that fails with an answer.
-pub(crate) fn failing(reader: Reader, answer: Answer) -> Reply
+pub fn failing(reader: Reader, answer: Answer) -> Reply
     ensures { result ≡ reply (failed_by answer reader) answer }
 {
     let failure = Failure { answer };
@@ -91,7 +91,7 @@ fn perform(
 }
 
 // A good record of a line that ends at an offset. None that a line says has more than 32 bytes.
-pub(crate) fn apply(
+pub fn apply(
     reader: Reader,
     rec: Record,
     data: [u8; Record::MAX],

@@ -1,12 +1,7 @@
 -- What a cause says of a discard and of the marks, as the code asks it. Assumes nothing.
-use mathlib.Core.Path.{◌≡◌, refl, sym, ap, ◌∙◌}
+use mathlib.Core.Path.{◌≡◌, refl, ap, ◌∙◌}
 use mathlib.Core.Bool.{Bool}
-use mathlib.Core.Logic.{⊎_elim}
-use mathlib.Core.List.{[], ◌∷◌}
 use Prim.Native.Nat.{ℕ}
-use native.Mathlib.Omega.{arith}
-use types.Run.{OneOf}
-use denote.Enum.Declared.{tag_of as case_of}
 use Rattle.partitions.specs.declared.Settings.{Settings}
 use Rattle.transfer.specs.Transfer.{number_of}
 use Rattle.transfer.specs.declared.Answer.{Answer}
@@ -14,11 +9,9 @@ use Rattle.transfer.specs.declared.Head.{Head}
 use Rattle.transfer.specs.declared.State.{State}
 use Rattle.why_place.specs.declared.Denial.{Denial}
 use Rattle.why_place.specs.declared.Denial.TheVariants.{AbsoluteOff, Rp2040, ArmOff, RiscvOff, NotWithoutTable, NoEntry, NotForRam}
-use Rattle.why_place.specs.contracts.Denial.{the_type as denial-type}
 use Rattle.why_causes.specs.Causes.{answer_of}
 use Rattle.why_causes.specs.declared.Cause.{Cause}
 use Rattle.why_causes.specs.declared.Cause.TheVariants.{BadBuffers, BadSettings, BadState, NotBlock, Container, NoFamily, NoPlace, BadPayload, BadNumbers, BadAddress, Finished, Again, Written, Completed, Noted, Kept}
-use Rattle.why_causes.specs.contracts.Cause.{the_type}
 use Rattle.why_causes.specs.Progress.{discarded_by}
 use Rattle.why.specs.Why.{discards_of, no_marks, denial_marks, entries_of}
 
@@ -45,17 +38,14 @@ pub discards_is : (t : State) (g : Head) (c : Cause) {z : Answer} {n : ℕ} {b :
 discards_is t g c e f h = h ∙ (ap (λ (k : ℕ). discarded_by k t g) (f ∙ ap number_of e) ∙ discards_by t g c)
 
 -- by the case, as a `let .. else` tells it
-pub no_denial : (s : Settings) (f : ℕ) (c : Cause) → OneOf (0 ∷ 1 ∷ 2 ∷ 3 ∷ 4 ∷ 5 ∷ 7 ∷ 8 ∷ 9 ∷ 10 ∷ 11 ∷ 12 ∷ 13 ∷ 14 ∷ 15 ∷ []) (case_of the_type c) → entries_of s f c ≡ no_marks
+pub no_denial : (s : Settings) (f : ℕ) (c : Cause) → ((x : Denial) → c ≡ NoPlace x → ⊥) → entries_of s f c ≡ no_marks
 no_denial s f (BadBuffers x) h = refl
 no_denial s f (BadSettings x) h = refl
 no_denial s f (BadState x) h = refl
 no_denial s f (NotBlock x) h = refl
 no_denial s f Container h = refl
 no_denial s f NoFamily h = refl
-no_denial s f (NoPlace x) h = absurd (none h)
-  where
-    none : OneOf (0 ∷ 1 ∷ 2 ∷ 3 ∷ 4 ∷ 5 ∷ 7 ∷ 8 ∷ 9 ∷ 10 ∷ 11 ∷ 12 ∷ 13 ∷ 14 ∷ 15 ∷ []) 6 → ⊥
-    none x = ⊎_elim (λ y. omega arith) (⊎_elim (λ y. omega arith) (⊎_elim (λ y. omega arith) (⊎_elim (λ y. omega arith) (⊎_elim (λ y. omega arith) (⊎_elim (λ y. omega arith) (⊎_elim (λ y. omega arith) (⊎_elim (λ y. omega arith) (⊎_elim (λ y. omega arith) (⊎_elim (λ y. omega arith) (⊎_elim (λ y. omega arith) (⊎_elim (λ y. omega arith) (⊎_elim (λ y. omega arith) (⊎_elim (λ y. omega arith) (λ y. omega arith)))))))))))))) x
+no_denial s f (NoPlace x) h = absurd (h x refl)
 no_denial s f BadPayload h = refl
 no_denial s f (BadNumbers x) h = refl
 no_denial s f (BadAddress x) h = refl
@@ -66,14 +56,11 @@ no_denial s f Completed h = refl
 no_denial s f Noted h = refl
 no_denial s f Kept h = refl
 
-pub no_entry : (s : Settings) (f : ℕ) (x : Denial) → OneOf (0 ∷ 1 ∷ 2 ∷ 3 ∷ 4 ∷ 6 ∷ []) (case_of denial-type x) → denial_marks s f x ≡ no_marks
+pub no_entry : (s : Settings) (f : ℕ) (x : Denial) → (x ≡ NoEntry → ⊥) → denial_marks s f x ≡ no_marks
 no_entry s f AbsoluteOff h = refl
 no_entry s f Rp2040 h = refl
 no_entry s f ArmOff h = refl
 no_entry s f RiscvOff h = refl
 no_entry s f NotWithoutTable h = refl
-no_entry s f NoEntry h = absurd (none h)
-  where
-    none : OneOf (0 ∷ 1 ∷ 2 ∷ 3 ∷ 4 ∷ 6 ∷ []) 5 → ⊥
-    none x = ⊎_elim (λ y. omega arith) (⊎_elim (λ y. omega arith) (⊎_elim (λ y. omega arith) (⊎_elim (λ y. omega arith) (⊎_elim (λ y. omega arith) (λ y. omega arith))))) x
+no_entry s f NoEntry h = absurd (h refl)
 no_entry s f NotForRam h = refl

@@ -24,11 +24,9 @@ use Rattle.why_settings.specs.declared.Finding.{Finding}
 use Rattle.why_settings.specs.declared.Finding.TheVariants.{Sound, Bad}
 use Rattle.why_settings.specs.declared.Comparison.{Comparison}
 use Rattle.why_place.specs.Placing.{flash_denials, flash_access, granted_spot, spot_by, spot_of}
-use Rattle.why_place.specs.declared.Denial.{Denial}
 use Rattle.why_place.specs.declared.Access.{Access}
 use Rattle.why_place.specs.declared.Access.TheVariants.{Granted, Denied}
 use Rattle.why_place.specs.declared.Spot.{Spot}
-use Rattle.why_place.specs.declared.Spot.TheVariants as spot
 use Rattle.why_causes.specs.Causes.{reason_with}
 use Rattle.why_causes.specs.Checks.{by_numbers, row_of, or_next, or_last, state_row, header_row}
 use Rattle.why_causes.specs.Lengths.{flash_row, lengths_row}
@@ -43,7 +41,7 @@ use Rattle.why.specs.declared.Why.{Why}
 use Rattle.why.specs.declared.PlaceOrigin.{PlaceOrigin}
 use Rattle.why.specs.declared.PlaceOrigin.TheVariants.{Refused}
 use Rattle.why.specs.declared.WhyPlace.{WhyPlace}
-use Rattle.why.specs.Why.{settings_row, denial_reason, denial_row, block_kind, head_in, place_in, last_of, reason_of, discards_of, entries_of, why_of}
+use Rattle.why.specs.Why.{settings_row, block_kind, head_in, place_in, last_of, reason_of, discards_of, entries_of, why_of}
 use Rattle.why.specs.Placed.{place_checks, holds_of, placed_spot, placed_by, placed_of, placed_marks, why_place_of}
 use Rattle.why.specs.Parts.{finding_row, access_row, access_in, board_part, early_part, block_part, place_part}
 use Rattle.why.proofs.Rows.{or_three, settings_rows, denial_rows, reason_parts}
@@ -85,13 +83,13 @@ module _ (s : Settings) (t : State) (a : ℕ) (n : Lengths) (m k : ℕ) {r : Row
   board_lengths h = next_decides (row_of by_numbers (lengths_row a n m k)) (or_next second_of_lem third_of) e h
 
   module _ (h : r ≡ Passes) {v : Row} (q : v ≡ finding_row s n.flash (first_fault s n.flash)) where
-    pub board-settings : {x : Reason} → v ≡ Decides x → Decides x ≡ board_part s t a n m k
+    pub board_settings : {x : Reason} → v ≡ Decides x → Decides x ≡ board_part s t a n m k
     unfolding board_part
-    board-settings j = next_passes (row_of by_numbers (lengths_row a n m k)) (or_next second_of_lem third_of) e h (next_decides second_of_lem third_of q j)
+    board_settings j = next_passes (row_of by_numbers (lengths_row a n m k)) (or_next second_of_lem third_of) e h (next_decides second_of_lem third_of q j)
 
-    pub board-state : v ≡ Passes → {u : Row} → u ≡ row_of by_numbers (state_row t) → u ≡ board_part s t a n m k
+    pub board_state : v ≡ Passes → {u : Row} → u ≡ row_of by_numbers (state_row t) → u ≡ board_part s t a n m k
     unfolding board_part
-    board-state j o = next_passes (row_of by_numbers (lengths_row a n m k)) (or_next second_of_lem third_of) e h (next_passes second_of_lem third_of q j o)
+    board_state j o = next_passes (row_of by_numbers (lengths_row a n m k)) (or_next second_of_lem third_of) e h (next_passes second_of_lem third_of q j o)
 
 module _ (s : Settings) (t : State) (a : List ℕ) (n : Lengths) (m k : ℕ) {r : Row} (e : r ≡ board_part s t (length a) n m k) where
   pub early_board : {x : Reason} → r ≡ Decides x → Decides x ≡ early_part s t a n m k
@@ -158,8 +156,8 @@ module _ (s : Settings) (w : World) (a : List ℕ) where
         ∙ ap (λ (x : ℕ). head_with (block_kind w a) (field_at a 28) x) total))
 
   module _ {e : Row} (p : e ≡ early_part s w.transfer a (lengths_of w.held) (length w.seen) (length w.held.sectors)) where
-    pub reason-early : {x : Reason} → e ≡ Decides x → x ≡ reason_of s w a
-    reason-early h = sym (reason_parts s w a ∙ ap (λ (u : Row). or_last (last_of w a) (or_next u (or_next block_of late_of))) (sym p ∙ h))
+    pub reason_early : {x : Reason} → e ≡ Decides x → x ≡ reason_of s w a
+    reason_early h = sym (reason_parts s w a ∙ ap (λ (u : Row). or_last (last_of w a) (or_next u (or_next block_of late_of))) (sym p ∙ h))
 
     module _ (h : e ≡ Passes) {b : Block} (q : b ≡ fields_of a) {k : Kind} (l : k ≡ kind_of (lengths_of w.held) w.transfer b)
         {o : Place} (u : o ≡ place_of s (length w.held.flash) b.family) {r : Row} (z : r ≡ block_part s o k (lengths_of w.held) b) where
@@ -173,17 +171,17 @@ module _ (s : Settings) (w : World) (a : List ℕ) where
           ∙ (ap (λ (x : Kind). block_part s (place_in s w a) x (lengths_of w.held) b) (kind q l)
           ∙ ap (block_part s (place_in s w a) (block_kind w a) (lengths_of w.held)) q))
 
-      pub reason-block : {y : Reason} → r ≡ Decides y → y ≡ reason_of s w a
-      reason-block j =
+      pub reason_block : {y : Reason} → r ≡ Decides y → y ≡ reason_of s w a
+      reason_block j =
           sym
           (reason_parts s w a
           ∙ (ap (λ (x : Row). or_last (last_of w a) (or_next x (or_next block_of late_of))) (sym p ∙ h)
           ∙ ap (λ (x : Row). or_last (last_of w a) (or_next x late_of)) (sym row_is ∙ j)))
 
-      pub reason-late : r ≡ Passes → {g : Head} → g ≡ head_with k b.family b.total → {v : Reason}
+      pub reason_late : r ≡ Passes → {g : Head} → g ≡ head_with k b.family b.total → {v : Reason}
           → v ≡ late_part w.transfer g o b.comment b.number a w.held.flash w.seen → v ≡ reason_of s w a
       unfolding late_part fields_of
-      reason-late j m c =
+      reason_late j m c =
           c
           ∙ (ap (λ (x : Head). late_part w.transfer x o b.comment b.number a w.held.flash w.seen) (head q l m)
           ∙ (ap (λ (x : Place). late_part w.transfer (head_in w a) x b.comment b.number a w.held.flash w.seen) spot_is
@@ -235,9 +233,9 @@ module _ (s : Settings) (len f : ℕ) where
     pub placed_row : {x : Reason} → r ≡ Decides x → Refused x ≡ placed_of s len f
     placed_row h = sym (placed_is h)
 
-    pub placed-spot : r ≡ Passes → {y : Spot} → y ≡ spot_of s f → placed_spot f y ≡ placed_of s len f
+    pub placed_spot_lem : r ≡ Passes → {y : Spot} → y ≡ spot_of s f → placed_spot f y ≡ placed_of s len f
     unfolding spot_of
-    placed-spot h k = ap (placed_spot f) k ∙ (by_access (flash_access s f) (granted_spot s f) ∙ sym (placed_is h))
+    placed_spot_lem h k = ap (placed_spot f) k ∙ (by_access (flash_access s f) (granted_spot s f) ∙ sym (placed_is h))
 
   abbrev told : PlaceOrigin → List ℕ → WhyPlace
   told p m = record { placed = p; entries = m }

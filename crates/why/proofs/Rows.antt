@@ -8,7 +8,6 @@ use Rattle.memory.specs.Bitmap.{marked_in}
 use Rattle.uf2_block.specs.Block.{field_at, has_flag, fields_of}
 use Rattle.uf2_block.specs.declared.Block.{Block}
 use Rattle.partitions.specs.declared.Settings.{Settings}
-use Rattle.placement.specs.declared.Place.{Place}
 use Rattle.transfer.specs.declared.Kind.{Kind}
 use Rattle.transfer.specs.declared.Kind.TheVariants.{Flash, MainRam, XipRam}
 use Rattle.transfer.specs.declared.State.{State}
@@ -21,11 +20,11 @@ use Rattle.arrival.specs.Arrive.{World, lengths_of}
 use Rattle.why_settings.specs.Faults.{fault_in, faults_of, first_in, first_fault}
 use Rattle.why_settings.specs.declared.Fault.{Fault}
 use Rattle.why_settings.specs.declared.Finding.{Finding}
-use Rattle.why_settings.specs.declared.Finding.TheVariants.{Sound, Bad}
+use Rattle.why_settings.specs.declared.Finding.TheVariants.{Bad}
 use Rattle.why_place.specs.Placing.{denies, first_denial, flash_denials, ram_denials, flash_access, ram_access}
 use Rattle.why_place.specs.declared.Denial.{Denial}
 use Rattle.why_place.specs.declared.Access.{Access}
-use Rattle.why_place.specs.declared.Access.TheVariants.{Granted, Denied}
+use Rattle.why_place.specs.declared.Access.TheVariants.{Denied}
 use Rattle.why_causes.specs.Checks.{by_numbers, row_of, or_next, or_last, running_row, done_row, state_row, magic_row, flags_row, header_row}
 use Rattle.why_causes.specs.Lengths.{flash_row, buffer_row, lengths_row}
 use Rattle.why_causes.specs.Numbers.{payload_row, numbers_row, address_row, stray_row, window_row}
@@ -33,8 +32,8 @@ use Rattle.why_causes.specs.declared.Reason.{Reason}
 use Rattle.why_causes.specs.declared.Row.{Row}
 use Rattle.why_causes.specs.declared.Row.TheVariants.{Passes, Decides}
 use Rattle.why_causes.proofs.Rows.{rows_next}
-use Rattle.why_checks.specs.Block.{start_at, size_at, room_of, address_in, page_row, body_row, raised_of, fate_row, written_row}
-use Rattle.why_checks.specs.Parts.{fate_part, region_part, written_part, late_part}
+use Rattle.why_checks.specs.Block.{start_at, size_at, address_in, page_row, body_row, raised_of, fate_row, written_row}
+use Rattle.why_checks.specs.Parts.{fate_part, region_part, written_part}
 use Rattle.why.specs.Checklist.{fault_reason, fault_row, settings_row, denial_reason, denial_row, place_row, block_row, block_kind, head_in, place_in, board_rows, checks_of, last_of, holds_in, reason_of}
 use Rattle.why.specs.Parts.{finding_row, access_row, access_in, board_part, early_part, block_part}
 

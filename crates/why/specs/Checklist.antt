@@ -1,6 +1,6 @@
 -- Every check of an arrival in 01's order with 02's (L3, L8, L9), each a reason with the numbers that it tests, and the one that decides (02, L6).
 -- Assumes nothing.
-use Rattle.std.specs.Prelude.{ℕ, ◌+◌, Bool, false, List, [], ◌∷◌, ◌++◌, length}
+use Rattle.std.specs.Prelude.{ℕ, Bool, false, List, [], ◌∷◌, ◌++◌, length}
 use Rattle.memory.specs.Bitmap.{marked_in}
 use Rattle.uf2_block.specs.Block.{field_at, has_flag, fields_of}
 use Rattle.uf2_block.specs.declared.Block.{Block}

@@ -155,7 +155,7 @@ fn reason_of(
     main: &[u8],
     xip: &[u8],
 ) -> Reason
-    ensures { result ≡ reason_of settings (world transfer (lent_at flash seen sectors main xip)) arrival.now }
+    ensures { result ≡ reason_of settings (world transfer (lent_at flash.now seen.now sectors.now main.now xip.now)) arrival.now }
 {
     let lens = Lengths {
         flash: flash.len(),
@@ -223,7 +223,7 @@ pub fn explain(
     main: &[u8],
     xip: &[u8],
 ) -> Why
-    ensures { numbered why_number result ≡ numbered why_number (why_of settings (world transfer (lent_at flash seen sectors main xip)) arrival.now) }
+    ensures { numbered why_number result ≡ numbered why_number (why_of settings (world transfer (lent_at flash.now seen.now sectors.now main.now xip.now)) arrival.now) }
 {
     let reason = reason_of(settings, transfer, arrival, flash, seen, sectors, main, xip);
     let cause = reason.cause;

@@ -1,6 +1,6 @@
 -- Rows one after the other, and that the check that is told is the one that decides, whatever the checks and their test. Assumes nothing.
 use mathlib.Core.Path.{◌≡◌, refl, sym, ap, ◌∙◌}
-use mathlib.Core.Bool.{Bool, true, false, cond, ◌||◌}
+use mathlib.Core.Bool.{Bool, true, false, cond}
 use mathlib.Core.List.{List, [], ◌∷◌, ◌++◌}
 use Rattle.why_causes.specs.declared.Reason.{Reason}
 use Rattle.why_causes.specs.declared.Row.{Row}
@@ -19,11 +19,11 @@ module _ (test : Reason → Bool) where
 
   -- a row that decides, and one that passes to the next
   module _ (l m : List Reason) {r : Row} (e : r ≡ row_of test l) where
-    pub row-decides : {x : Reason} → r ≡ Decides x → Decides x ≡ row_of test (l ++ m)
-    row-decides h = sym (rows_next l m ∙ ap (λ (q : Row). or_next q (row_of test m)) (sym e ∙ h))
+    pub row_decides : {x : Reason} → r ≡ Decides x → Decides x ≡ row_of test (l ++ m)
+    row_decides h = sym (rows_next l m ∙ ap (λ (q : Row). or_next q (row_of test m)) (sym e ∙ h))
 
-    pub row-passes : {q : Row} → r ≡ Passes → q ≡ row_of test m → q ≡ row_of test (l ++ m)
-    row-passes h k = k ∙ sym (rows_next l m ∙ ap (λ (q : Row). or_next q (row_of test m)) (sym e ∙ h))
+    pub row_passes : {q : Row} → r ≡ Passes → q ≡ row_of test m → q ≡ row_of test (l ++ m)
+    row_passes h k = k ∙ sym (rows_next l m ∙ ap (λ (q : Row). or_next q (row_of test m)) (sym e ∙ h))
 
   -- a check that passes to the next
   pub row_later : (c : Reason) (l : List Reason) {q : Row} → test c ≡ false → q ≡ row_of test l → q ≡ row_of test (c ∷ l)

@@ -22,7 +22,7 @@ fn bad_address(x: Address, got: u64, against: u64) -> Row
 }
 
 // Row 9.
-pub(crate) fn payload_row(size: u32) -> Row
+pub fn payload_row(size: u32) -> Row
     ensures { result ≡ row_of by_numbers (payload_row size) }
 {
     if size as usize != Flash::PAYLOAD {
@@ -49,7 +49,7 @@ pub fn numbers_row(total: u32, number: u32, size: usize) -> Row
 }
 
 // Row 11, of an address of flash, beside a place of so many bytes. The sum is of 64 bits, since it may pass 32.
-pub(crate) fn address_row(address: u32, size: usize) -> Row
+pub fn address_row(address: u32, size: usize) -> Row
     ensures { result ≡ row_of by_numbers (address_row address size) }
 {
     let at = address as u64;
@@ -68,7 +68,7 @@ pub(crate) fn address_row(address: u32, size: usize) -> Row
 }
 
 // Row 11, of an address in no window.
-pub(crate) fn stray_row(address: u32) -> Row
+pub fn stray_row(address: u32) -> Row
     ensures { result ≡ row_of by_numbers (stray_row address) }
 {
     let at = address as u64;
@@ -82,7 +82,7 @@ pub(crate) fn stray_row(address: u32) -> Row
 }
 
 // Row 11, of an address in a RAM window that ends at `end`.
-pub(crate) fn window_row(address: u32, end: usize) -> Row
+pub fn window_row(address: u32, end: usize) -> Row
     ensures { result ≡ row_of by_numbers (window_row address «end») }
 {
     let past = address as u64 + 256;

@@ -1,10 +1,9 @@
 -- Rows 12 to 17 by cases, as the code asks them. Assumes nothing.
-use mathlib.Core.Path.{◌≡◌, refl, sym, ap, ◌∙◌}
+use mathlib.Core.Path.{◌≡◌, sym, ap, ◌∙◌}
 use mathlib.Core.Bool.{Bool, true, false, cond}
 use mathlib.Core.Logic.{◌≢◌}
 use mathlib.Core.List.{List}
 use Prim.Native.Nat.{ℕ, ◌<◌, ◌≤◌}
-use lib.Dec.{leb}
 use borrow.Author.Tests.{eq-eqb, ne_eqb, le-leb, lt-leb}
 use Rattle.memory.specs.Bitmap.{marked_in}
 use Rattle.uf2_block.specs.Block.{field_at, has_flag}
@@ -22,7 +21,7 @@ use Rattle.transfer.specs.declared.Kind.TheVariants.{Flash}
 use Rattle.transfer.specs.declared.Head.{Head}
 use Rattle.transfer.specs.declared.State.{State}
 use Rattle.why_causes.specs.Causes.{reason_with}
-use Rattle.why_causes.specs.Checks.{by_numbers, row_of, or_next, or_last}
+use Rattle.why_causes.specs.Checks.{by_numbers, row_of, or_last}
 use Rattle.why_causes.specs.Numbers.{numbers_row}
 use Rattle.why_causes.specs.declared.NotKept.TheVariants.{NoRegion, InRam, Ragged, Empty, OutsidePlace, NotAround, OtherDigest}
 use Rattle.why_causes.specs.declared.Cause.TheVariants.{Finished, Again, Written, Completed, Noted, Kept}
@@ -64,22 +63,22 @@ module _ (t : State) (g : Head) (number : ℕ) (m cm : Bool) where
   fate_done d = rw d
 
   module _ (d : is_done t ≡ false) where
-    pub fate-again : is_again t g m ≡ true → Decides (reason_with Again number g.total) ≡ fate_part t g number m cm
+    pub fate_again : is_again t g m ≡ true → Decides (reason_with Again number g.total) ≡ fate_part t g number m cm
     unfolding fate_part
-    fate-again a = rw (d, a)
+    fate_again a = rw (d, a)
 
     module _ (a : is_again t g m ≡ false) {n : ℕ} (e : n ≡ raised_of t g) where
-      pub fate-complete : g.total ≤ n → Decides (reason_with Completed n g.total) ≡ fate_part t g number m cm
+      pub fate_complete : g.total ≤ n → Decides (reason_with Completed n g.total) ≡ fate_part t g number m cm
       unfolding fate_part
-      fate-complete l = rw (d, a, ← e, le-leb g.total n l)
+      fate_complete l = rw (d, a, ← e, le-leb g.total n l)
 
-      pub fate-noted : n < g.total → cm ≡ true → Decides (reason_with Noted n g.total) ≡ fate_part t g number m cm
+      pub fate_noted : n < g.total → cm ≡ true → Decides (reason_with Noted n g.total) ≡ fate_part t g number m cm
       unfolding fate_part
-      fate-noted l h = rw (d, a, ← e, lt-leb g.total n l, h)
+      fate_noted l h = rw (d, a, ← e, lt-leb g.total n l, h)
 
-      pub fate-passes : n < g.total → cm ≡ false → Passes ≡ fate_part t g number m cm
+      pub fate_passes : n < g.total → cm ≡ false → Passes ≡ fate_part t g number m cm
       unfolding fate_part
-      fate-passes l h = rw (d, a, ← e, lt-leb g.total n l, h)
+      fate_passes l h = rw (d, a, ← e, lt-leb g.total n l, h)
 
 -- ---- row 14
 
@@ -89,28 +88,28 @@ module _ (flash : List ℕ) (start size at : ℕ) (g : Region) (n total : ℕ) w
   region_ragged h = rw h
 
   module _ (p : ragged g ≡ false) where
-    pub region-empty : g.len ≡ 0 → Decides (reason_with (Written Empty) n total) ≡ region_part flash start size at g n total
+    pub region_empty : g.len ≡ 0 → Decides (reason_with (Written Empty) n total) ≡ region_part flash start size at g n total
     unfolding region_part
-    region-empty h = rw (p, eq-eqb g.len 0 h)
+    region_empty h = rw (p, eq-eqb g.len 0 h)
 
     module _ (q : g.len ≢ 0) where
-      pub region-outside : within size g ≡ false → Decides (reason_with (Written OutsidePlace) n total) ≡ region_part flash start size at g n total
+      pub region_outside : within size g ≡ false → Decides (reason_with (Written OutsidePlace) n total) ≡ region_part flash start size at g n total
       unfolding region_part
-      region-outside h = rw (p, ne_eqb g.len 0 q, h)
+      region_outside h = rw (p, ne_eqb g.len 0 q, h)
 
       module _ (w : within size g ≡ true) where
-        pub region-apart : around at g ≡ false → Decides (reason_with (Written NotAround) n total) ≡ region_part flash start size at g n total
+        pub region_apart : around at g ≡ false → Decides (reason_with (Written NotAround) n total) ≡ region_part flash start size at g n total
         unfolding region_part
-        region-apart h = rw (p, ne_eqb g.len 0 q, w, h)
+        region_apart h = rw (p, ne_eqb g.len 0 q, w, h)
 
         module _ (a : around at g ≡ true) where
-          pub region-other : stands_in flash start g ≡ false → Decides (reason_with (Written OtherDigest) n total) ≡ region_part flash start size at g n total
+          pub region_other : stands_in flash start g ≡ false → Decides (reason_with (Written OtherDigest) n total) ≡ region_part flash start size at g n total
           unfolding region_part
-          region-other h = rw (p, ne_eqb g.len 0 q, w, a, h)
+          region_other h = rw (p, ne_eqb g.len 0 q, w, a, h)
 
-          pub region-passes : stands_in flash start g ≡ true → Passes ≡ region_part flash start size at g n total
+          pub region_passes : stands_in flash start g ≡ true → Passes ≡ region_part flash start size at g n total
           unfolding region_part
-          region-passes h = rw (p, ne_eqb g.len 0 q, w, a, h)
+          region_passes h = rw (p, ne_eqb g.len 0 q, w, a, h)
 
 module _ (flash : List ℕ) (start size : ℕ) (k : Kind) (a : List ℕ) (n total : ℕ) where
   pub written_bare : has_flag a 0x4000 ≡ false → Decides (reason_with (Written NoRegion) n total) ≡ written_part flash start size k a n total
@@ -118,14 +117,14 @@ module _ (flash : List ℕ) (start size : ℕ) (k : Kind) (a : List ℕ) (n tota
   written_bare f = rw f
 
   module _ (f : has_flag a 0x4000 ≡ true) where
-    pub written-ram : same_kind k Flash ≡ false → Decides (reason_with (Written InRam) n total) ≡ written_part flash start size k a n total
+    pub written_ram : same_kind k Flash ≡ false → Decides (reason_with (Written InRam) n total) ≡ written_part flash start size k a n total
     unfolding written_part
-    written-ram h = rw (f, h)
+    written_ram h = rw (f, h)
 
-    pub written-region : same_kind k Flash ≡ true → {g : Region} {at : ℕ} {r : Row} → g ≡ region_of a → at ≡ field_at a 12
+    pub written_region : same_kind k Flash ≡ true → {g : Region} {at : ℕ} {r : Row} → g ≡ region_of a → at ≡ field_at a 12
         → r ≡ region_part flash start size at g n total → r ≡ written_part flash start size k a n total
     unfolding written_part
-    written-region h {g} {at} p q e = rw (f, h, ← p, ← q) e
+    written_region h {g} {at} p q e = rw (f, h, ← p, ← q) e
 
 -- ---- rows 12 to 17
 
@@ -145,8 +144,8 @@ module _ (t : State) (g : Head) (p : Place) (cm : Bool) (number : ℕ) (a flash 
     unfolding late_part
     rest = rw (fated h, ← c, ← b, ← l, ← o)
 
-    pub late-written : {y : Reason} → w ≡ Decides y → y ≡ late_part t g p cm number a flash seen
-    late-written k = sym (rest ∙ ap (or_last (reason_with Kept n g.total)) k)
+    pub late_written : {y : Reason} → w ≡ Decides y → y ≡ late_part t g p cm number a flash seen
+    late_written k = sym (rest ∙ ap (or_last (reason_with Kept n g.total)) k)
 
-    pub late-kept : {y : Reason} → w ≡ Passes → y ≡ reason_with Kept n g.total → y ≡ late_part t g p cm number a flash seen
-    late-kept k j = j ∙ sym (rest ∙ ap (or_last (reason_with Kept n g.total)) k)
+    pub late_kept : {y : Reason} → w ≡ Passes → y ≡ reason_with Kept n g.total → y ≡ late_part t g p cm number a flash seen
+    late_kept k j = j ∙ sym (rest ∙ ap (or_last (reason_with Kept n g.total)) k)

@@ -1,40 +1,36 @@
 -- Rows 2, 4 to 8 and all of them beside the receiver's. Assumes nothing.
 use mathlib.Core.Path.{◌≡◌, refl, sym, ap, ◌∙◌}
-use mathlib.Core.Bool.{Bool, true, false, cond, not, ◌&&◌, ◌||◌}
-use mathlib.Core.Logic.{◌≢◌}
+use mathlib.Core.Bool.{Bool, true, false, cond, not, ◌&&◌}
 use mathlib.Core.List.{List, ◌++◌}
-use Prim.Native.Nat.{ℕ, ◌+◌, ◌-◌, ◌%◌, ◌≤◌}
+use Prim.Native.Nat.{ℕ, ◌+◌, ◌-◌, ◌≤◌}
 use native.Mathlib.Omega.{arith}
-use lib.Dec.{leb, eqb}
+use lib.Dec.{eqb}
 use lib.ListN.{length}
-use Rattle.laws.proofs.Tests.{split, clash, is_false, and_left, and_right}
+use Rattle.laws.proofs.Tests.{is_false}
 use Rattle.memory.specs.Bitmap.{marked_in}
 use Rattle.uf2_block.specs.Block.{field_at, has_flag, fields_of, flagged_of, header_of}
 use Rattle.uf2_block.specs.declared.Block.{Block}
-use Rattle.uf2_block.specs.declared.Header.{Header}
 use Rattle.uf2_block.specs.declared.Header.TheVariants as header
 use Rattle.partitions.specs.Settings.{good_settings}
 use Rattle.partitions.specs.declared.Settings.{Settings}
 use Rattle.placement.specs.Place.{whole_if, place_of, ram_family}
 use Rattle.placement.specs.declared.Place.{Place}
 use Rattle.placement.specs.declared.Place.TheVariants.{Nowhere, At}
-use Rattle.transfer.specs.Transfer.{same_kind, head_with, deed_answer, good_state}
+use Rattle.transfer.specs.Transfer.{same_kind, head_with, good_state}
 use Rattle.transfer.specs.declared.Kind.{Kind}
 use Rattle.transfer.specs.declared.Kind.TheVariants.{Flash, MainRam, XipRam}
-use Rattle.transfer.specs.declared.Deed.TheVariants.{Stores, Notes, Keeps}
 use Rattle.transfer.specs.declared.State.{State}
 use Rattle.transfer.specs.declared.Answer.{Answer}
 use Rattle.transfer.specs.declared.Answer.TheVariants as answer
-use Rattle.uf2_checks.specs.Screen.{base_of, extent_of, window_of, window_kind, note_kind, rooms_of, room_in, bad_numbers, bad_address, placed_at, placed, strayed, fitted, noted, data_found, note_found, found, after_header, screen_in, screen_of}
+use Rattle.uf2_checks.specs.Screen.{base_of, extent_of, window_of, window_kind, note_kind, rooms_of, room_in, bad_numbers, bad_address, placed_at, placed, strayed, noted, data_found, note_found, found, after_header, screen_in, screen_of}
 use Rattle.uf2_checks.specs.declared.Lengths.{Lengths}
 use Rattle.uf2_checks.specs.declared.Window.{Window}
 use Rattle.uf2_checks.specs.declared.Window.TheVariants.{Outside, In}
-use Rattle.uf2_checks.specs.declared.Body.{Body}
 use Rattle.uf2_checks.specs.declared.Body.TheVariants.{Page, Note}
 use Rattle.uf2_checks.specs.declared.Screening.{Screening}
 use Rattle.uf2_checks.specs.declared.Screening.TheVariants.{Refused, Passed}
-use Rattle.uf2_checks.proofs.Windows.{InWindow, WindowFacts, window_facts}
-use Rattle.arrival.specs.Arrive.{World, stays, lengths_of, right_lengths, stands_at, standing, deed_of, after_screening, decide, decided, forecast_of, look_of}
+use Rattle.uf2_checks.proofs.Windows.{WindowFacts, window_facts}
+use Rattle.arrival.specs.Arrive.{World, stays, lengths_of, right_lengths, stands_at, standing, after_screening, decide, forecast_of, look_of}
 use Rattle.why_settings.specs.Faults.{first_fault}
 use Rattle.why_settings.specs.declared.Finding.{Finding}
 use Rattle.why_settings.specs.declared.Finding.TheVariants.{Sound, Bad}
@@ -171,13 +167,13 @@ module _ (s : Settings) (n : Lengths) (t : State) (seen flash a : List ℕ) (kep
     note-ram k true size h = numbers-told k size h
     note-ram k false size h = sym (settled_refused t seen kept answer.NoPlace)
 
-    pub note-answer : (k : Kind) → y ≡ settled t seen kept (Passed (placed_at k Note b))
+    pub note_answer : (k : Kind) → y ≡ settled t seen kept (Passed (placed_at k Note b))
         → told (access_row b.family (access_in s k b.family))
         (told (row_of by_numbers (numbers_row b.total b.number (room_of (place_of s n.flash b.family) k))) y)
         ≡ settled t seen kept (note_found k (room_in (rooms_of s n.flash b.family) k) b)
-    note-answer Flash h = note_flash (place_of s n.flash b.family) refl h
-    note-answer MainRam h = ram_answer s b.family _ ∙ note-ram MainRam (ram_family s b.family) (extent_of MainRam) h
-    note-answer XipRam h = ram_answer s b.family _ ∙ note-ram XipRam (ram_family s b.family) (extent_of XipRam) h
+    note_answer Flash h = note_flash (place_of s n.flash b.family) refl h
+    note_answer MainRam h = ram_answer s b.family _ ∙ note-ram MainRam (ram_family s b.family) (extent_of MainRam) h
+    note_answer XipRam h = ram_answer s b.family _ ∙ note-ram XipRam (ram_family s b.family) (extent_of XipRam) h
 
   -- a data block
   module _ (y : Answer) where
@@ -289,7 +285,7 @@ module _ (s : Settings) (n : Lengths) (t : State) (seen flash a : List ℕ) (b :
       (cond c (note_found (note_kind n t b) (room_in (rooms_of s n.flash b.family) (note_kind n t b)) b)
       (data_found (window_of n b.address) (room_in (rooms_of s n.flash b.family) (window_kind (window_of n b.address))) b))
   block_answer true =
-      note-answer s n t seen flash a (stands_at flash (place_of s n.flash b.family) a) b _ (note_kind n t b)
+      note_answer s n t seen flash a (stands_at flash (place_of s n.flash b.family) a) b _ (note_kind n t b)
       (note_late t seen flash a b (note_kind n t b) (start_at (place_of s n.flash b.family)) (size_at (place_of s n.flash b.family))
       (stands_at flash (place_of s n.flash b.family) a))
   block_answer false = page_answer (window_of n b.address) refl

@@ -1,6 +1,6 @@
 -- What the calls for C return is what the receiver's return. Assumes nothing.
-use Prim.Native.Nat.{ℕ, ◌+◌, ◌*◌, ◌<◌, ◌≤◌}
-use mathlib.Core.Path.{◌≡◌, refl, sym, ap, ◌∙◌}
+use Prim.Native.Nat.{ℕ, ◌+◌, ◌*◌, ◌<◌}
+use mathlib.Core.Path.{◌≡◌, ap, ◌∙◌}
 use mathlib.Core.Bool.{Bool, true, ◌&&◌}
 use mathlib.Core.List.{List}
 use native.Mathlib.Omega.{arith}
@@ -29,11 +29,11 @@ use Rattle.why_claims.proofs.Places.{place_answer_is_the_receivers}
 pub why_returns_the_look : WhyReturnsTheLook
 unfolding WhyReturnsTheLook AnswerIsTheReceivers DiscardIsTheReceivers why_call look_bytes
 why_returns_the_look s t a h l =
-    let c = settings_from s.entry.now in
-    let w = world (transfer_from t.entry.now) h in
-    let d = (why_of c w a.entry.now).discarded in
-    ap (λ (y : Answer). result_of (number_of y) d) (answer_is_the_receivers c w a.entry.now)
-    ∙ ap (result_of _) (discard_is_the_receivers c w a.entry.now)
+    let c = settings_from s in
+    let w = world (transfer_from t) h in
+    let d = (why_of c w a).discarded in
+    ap (λ (y : Answer). result_of (number_of y) d) (answer_is_the_receivers c w a)
+    ∙ ap (result_of _) (discard_is_the_receivers c w a)
 
 pub why_place_returns_the_ask : WhyPlaceReturnsTheAsk
 unfolding WhyPlaceReturnsTheAsk PlaceAnswerIsTheReceivers place_call ask_bytes

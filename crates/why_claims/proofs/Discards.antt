@@ -26,7 +26,7 @@ use Rattle.uf2_checks.specs.declared.PlacedBlock.{PlacedBlock}
 use Rattle.uf2_checks.specs.declared.Screening.{Screening}
 use Rattle.uf2_checks.specs.declared.Screening.TheVariants.{Refused, Passed}
 use Rattle.arrival.specs.Windows as windows
-use Rattle.arrival.specs.Arrive.{World, Forecast, stays, lengths_of, right_lengths, standing, deed_of, stepped, after_screening, decide, decided, forecast_of, look_of}
+use Rattle.arrival.specs.Arrive.{World, Forecast, stays, lengths_of, right_lengths, standing, deed_of, stepped, after_screening, decide, forecast_of, look_of}
 use Rattle.arrival_claims.proofs.Screening.{Good, screen_good, comment_is, kind-window, kind-note}
 use Rattle.why_causes.specs.Causes.{answer_of}
 use Rattle.why_causes.specs.declared.Cause.{Cause}

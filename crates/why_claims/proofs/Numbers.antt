@@ -1,11 +1,11 @@
 -- Each reason of rows 3 to 7 and 9 to 11 tells the numbers of its condition. Assumes nothing.
-use Prim.Native.Nat.{ℕ, ◌+◌, ◌-◌, ◌*◌, ◌/◌, ◌%◌, ◌<◌, ◌≤◌}
+use Prim.Native.Nat.{ℕ, ◌+◌, ◌<◌}
 use mathlib.Core.Path.{◌≡◌, refl, sym, ap, subst, ◌∙◌}
-use mathlib.Core.Logic.{◌≢◌, ◌⊎◌, inl, inr, ⊎_elim}
+use mathlib.Core.Logic.{◌≢◌}
 use mathlib.Core.Bool.{Bool, true, false, cond, not, ◌&&◌}
 use mathlib.Core.List.{List, [], ◌∷◌, ◌++◌, append_assoc}
 use native.Mathlib.Omega.{arith}
-use lib.Dec.{ltb, leb, eqb}
+use lib.Dec.{eqb}
 use lib.ListN.{length}
 use borrow.Author.Tests.{ltb-true, ltb-false, leb-true, leb-false, eqb-true, eqb-false, not-true, le-leb, lt-ltb, ne_eqb}
 use Rattle.laws.proofs.Tests.{split, clash, is_false, and_left, and_right}
@@ -17,12 +17,11 @@ use Rattle.placement.specs.declared.Place.TheVariants.{Nowhere, At}
 use Rattle.transfer.specs.declared.Kind.{Kind}
 use Rattle.transfer.specs.declared.Kind.TheVariants.{Flash, MainRam, XipRam}
 use Rattle.transfer.specs.declared.Head.{Head}
-use Rattle.transfer.specs.declared.Run.{Run}
 use Rattle.transfer.specs.declared.State.{State}
 use Rattle.transfer.specs.declared.State.TheVariants.{Idle, Running, Done}
-use Rattle.uf2_checks.specs.Screen.{base_of, extent_of, in_window, window_of, window_kind}
+use Rattle.uf2_checks.specs.Screen.{base_of, extent_of, in_window, window_of}
 use Rattle.uf2_checks.specs.declared.Lengths.{Lengths}
-use Rattle.uf2_checks.proofs.Windows.{InWindow, WindowFacts, window_facts}
+use Rattle.uf2_checks.proofs.Windows.{WindowFacts, window_facts}
 use Rattle.uf2_checks.specs.declared.Window.{Window}
 use Rattle.uf2_checks.specs.declared.Window.TheVariants.{Outside, In}
 use Rattle.arrival.specs.Arrive.{World, lengths_of}
@@ -47,7 +46,7 @@ use Rattle.why_causes.specs.declared.Reason.{Reason}
 use Rattle.why_causes.specs.Lengths.{flash_row, buffer_row, lengths_row}
 use Rattle.why_causes.specs.Numbers.{payload_row, numbers_row, address_row, stray_row, window_row}
 use Rattle.why_checks.specs.Block.{room_of, address_in, page_row, kind_of, body_row, fate_row, written_row, raised_of}
-use Rattle.why.specs.Why.{fault_row, settings_row, denial_row, place_row, block_row, block_kind, head_in, place_in, board_rows, checks_of, last_of, holds_in, why_of}
+use Rattle.why.specs.Why.{fault_row, settings_row, denial_row, place_row, block_row, block_kind, head_in, place_in, board_rows, checks_of, last_of, holds_in}
 use Rattle.why_claims.specs.Claims.{ReasonIsTrue}
 use Rattle.why_claims.proofs.Theorems.{reason_is_true}
 use Rattle.why_claims.proofs.Answers.{in_none}

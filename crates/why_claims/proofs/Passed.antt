@@ -1,16 +1,15 @@
 -- What an arrival has passed that a later row answers. Assumes nothing.
-use Prim.Native.Nat.{ℕ, ◌+◌, ◌-◌, ◌*◌, ◌/◌, ◌%◌, ◌<◌, ◌≤◌}
+use Prim.Native.Nat.{ℕ, ◌/◌, ◌%◌, ◌<◌, ◌≤◌}
 use mathlib.Core.Path.{◌≡◌, refl, sym, ap, subst, ◌∙◌}
 use mathlib.Core.Logic.{◌≢◌, ◌⊎◌, inl, inr}
 use mathlib.Core.Bool.{Bool, true, false, cond, not, ◌&&◌}
 use mathlib.Core.List.{List, [], ◌∷◌, ◌++◌, append_assoc}
 use native.Mathlib.Omega.{arith}
-use lib.Dec.{ltb, leb, eqb}
+use lib.Dec.{eqb}
 use lib.ListN.{length}
 use borrow.Author.Tests.{ltb-false, leb-false, eqb-true, eqb-false, not-false}
 use Rattle.laws.proofs.Tests.{split, clash}
 use Rattle.uf2_block.specs.Block.{field_at, has_flag, fields_of}
-use Rattle.partitions.specs.Settings.{good_settings}
 use Rattle.partitions.specs.declared.Settings.{Settings}
 use Rattle.transfer.specs.Transfer.{number_of}
 use Rattle.transfer.specs.declared.Answer.{Answer}
@@ -32,7 +31,7 @@ use Rattle.why_settings.proofs.Theorems.{sound_is_good}
 use Rattle.why_place.specs.Placing.{flash_denials, ram_denials}
 use Rattle.why_place.specs.declared.Denial.{Denial}
 use Rattle.why_causes.specs.Causes.{answer_of}
-use Rattle.why_causes.specs.Checks.{Deciding, none, here, later, running_row, done_row, state_row, magic_row, flags_row, header_row}
+use Rattle.why_causes.specs.Checks.{Deciding, here, later, running_row, done_row, state_row, magic_row, flags_row, header_row}
 use Rattle.why_causes.specs.declared.Reason.{Reason}
 use Rattle.why_causes.specs.Lengths.{flash_row, buffer_row, lengths_row}
 use Rattle.why_causes.specs.Numbers.{payload_row, numbers_row, address_row, stray_row, window_row}
@@ -41,9 +40,6 @@ use Rattle.why.specs.Why.{fault_row, settings_row, denial_row, place_row, block_
 use Rattle.why_claims.specs.Claims.{ReasonIsTrue, AnswerIsTheReceivers}
 use Rattle.why_claims.proofs.Theorems.{reason_is_true, answer_is_the_receivers}
 use Rattle.why_claims.proofs.Discards.{kinds}
-use Rattle.placement.specs.Place.{place_of}
-use Rattle.placement.specs.declared.Place.{Place}
-use Rattle.placement.specs.declared.Place.TheVariants.{At}
 use Rattle.why_claims.specs.Numbers.{Room, in_flash, in_main, in_xip}
 use Rattle.why_claims.proofs.Numbers.{All}
 use Rattle.why_claims.proofs.Numbers as numbers

@@ -1,7 +1,7 @@
 -- A place asked for alone: its answer is the receiver's, and its reason the true one. Assumes nothing.
 use mathlib.Core.Path.{◌≡◌, refl, sym, ap, subst, ◌∙◌}
 use mathlib.Core.Bool.{true, cond, not}
-use mathlib.Core.Logic.{◌⊎◌, ⊎_elim}
+use mathlib.Core.Logic.{⊎_elim}
 use Prim.Native.Nat.{ℕ, ◌<◌, ◌≤◌}
 use lib.ListN.{get_or}
 use native.Mathlib.Omega.{arith}
@@ -40,7 +40,7 @@ use Rattle.why.specs.Parts.{finding_row, access_row, place_part}
 use Rattle.why.specs.Why.{entries_of}
 use Rattle.why.specs.Placed.{place_checks, place_test, holds_of, placed_spot, placed_by, placed_of, placed_number, placed_marks, why_place_of}
 use Rattle.why.specs.declared.PlaceOrigin.{PlaceOrigin}
-use Rattle.why.specs.declared.PlaceOrigin.TheVariants.{Refused, Whole, Entry}
+use Rattle.why.specs.declared.PlaceOrigin.TheVariants.{Refused}
 use Rattle.why.proofs.Laws.{place_parts}
 use Rattle.why_claims.specs.Claims.{PlaceAnswerIsTheReceivers, refusal_or, PlaceReasonIsTrue, FoundTrue, FoundPlaceIsTrue, place_named, FoundPlaceIsTheReceivers, PlaceMarksAreTrue}
 use Rattle.why_claims.proofs.Answers.{told, told_next, flash_answer}

@@ -1,6 +1,6 @@
 -- Row 2's faults stand in 01's order: the condition before the entry, the entry before the other. Assumes nothing.
-use mathlib.Core.Path.{◌≡◌, refl, sym, ap, ◌∙◌}
-use mathlib.Core.Bool.{Bool, true, false, cond, ◌&&◌}
+use mathlib.Core.Path.{◌≡◌, refl}
+use mathlib.Core.Bool.{Bool, true, ◌&&◌}
 use mathlib.Core.List.{List, [], ◌∷◌, ◌++◌}
 use Prim.Native.Nat.{ℕ, zero, suc, ◌+◌, ◌*◌, ◌≤◌, ◌<◌}
 use native.Mathlib.Omega.{arith}
@@ -11,7 +11,7 @@ use Rattle.partitions.specs.Settings.{count_over}
 use Rattle.partitions.specs.declared.Settings.{Settings}
 use Rattle.why_settings.specs.Faults.{each, sharing, condition_at, condition_for, used_of, faults_of}
 use Rattle.why_settings.specs.declared.Fault.{Fault}
-use Rattle.why_settings.specs.declared.Fault.TheVariants.{ArchOff, CountOver, NoSectors, PastFlash, Shares, LinksUp, LinksToB, ManyUsers, ReservedUser}
+use Rattle.why_settings.specs.declared.Fault.TheVariants.{NoSectors, PastFlash, Shares, LinksUp, LinksToB, ManyUsers, ReservedUser}
 use Rattle.why_claims.specs.Claims.{rank_of, ranks_from}
 
 -- the rank of the last fault, or n where there is none

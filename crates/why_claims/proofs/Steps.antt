@@ -1,6 +1,6 @@
 -- Rows 12 to 17 beside the step of the transfer. Assumes nothing.
-use mathlib.Core.Path.{◌≡◌, refl, sym, ap, ◌∙◌}
-use mathlib.Core.Bool.{Bool, true, false, cond, not, ◌&&◌, ◌||◌}
+use mathlib.Core.Path.{◌≡◌, refl, ap, ◌∙◌}
+use mathlib.Core.Bool.{Bool, true, false, cond, not, ◌&&◌}
 use mathlib.Core.List.{List}
 use Prim.Native.Nat.{ℕ, ◌+◌, ◌-◌, ◌%◌}
 use lib.Dec.{ltb, leb, eqb}
@@ -9,8 +9,7 @@ use Rattle.uf2_block.specs.Block.{field_at, has_flag}
 use Rattle.uf2_block.specs.Region.{region_of}
 use Rattle.uf2_block.specs.declared.Block.{Block}
 use Rattle.uf2_block.specs.Regions.{good_region, stands_in}
-use Rattle.placement.specs.declared.Place.{Place}
-use Rattle.placement.specs.declared.Place.TheVariants.{Nowhere, At}
+use Rattle.placement.specs.declared.Place.TheVariants.{At}
 use Rattle.transfer.specs.Transfer.{same_kind, same_head, head_with, deed_answer, raised, accepted, step_of}
 use Rattle.transfer.specs.declared.Kind.{Kind}
 use Rattle.transfer.specs.declared.Kind.TheVariants.{Flash}
@@ -28,14 +27,12 @@ use Rattle.uf2_checks.specs.declared.PlacedBlock.{PlacedBlock}
 use Rattle.uf2_checks.specs.declared.Body.TheVariants.{Page, Note}
 use Rattle.uf2_checks.specs.declared.Screening.{Screening}
 use Rattle.uf2_checks.specs.declared.Screening.TheVariants.{Refused, Passed}
-use Rattle.arrival.specs.Arrive.{stands_at, deed_of, stepped, after_screening, forecast_of}
+use Rattle.arrival.specs.Arrive.{stands_at, stepped, after_screening, forecast_of}
 use Rattle.why_causes.specs.Causes.{reason_with}
-use Rattle.why_causes.specs.Checks.{row_of, or_next}
 use Rattle.why_causes.specs.declared.NotKept.TheVariants as not_kept
-use Rattle.why_causes.specs.declared.Cause.TheVariants.{Finished, Again, Written, Completed, Noted}
-use Rattle.why_causes.specs.declared.Row.{Row}
+use Rattle.why_causes.specs.declared.Cause.TheVariants.{Again, Written, Completed, Noted}
 use Rattle.why_causes.specs.declared.Row.TheVariants.{Passes, Decides}
-use Rattle.why_checks.specs.Block.{start_at, size_at, raised_of, ragged, within, around}
+use Rattle.why_checks.specs.Block.{raised_of}
 use Rattle.why_checks.specs.Parts.{fate_part, region_part, written_part}
 use Rattle.why_claims.proofs.Answers.{told, not_ltb}
 

@@ -1,18 +1,18 @@
 -- The rules of row 8 by cases, and the first match of the passes, one step of a loop each. Assumes nothing.
-use Prim.Native.Nat.{ℕ, suc, ◌+◌, ◌≤◌, ◌<◌}
+use Prim.Native.Nat.{ℕ, ◌+◌, ◌<◌}
 use mathlib.Core.Path.{◌≡◌, refl, sym, ap, ◌∙◌}
 use mathlib.Core.Logic.{◌≢◌}
 use mathlib.Core.Bool.{Bool, true, false, cond, not, ◌&&◌}
 use mathlib.Core.List.{List, [], ◌∷◌}
 use native.Mathlib.Numerals.{add-one}
 use native.Mathlib.Omega.{arith}
-use lib.Dec.{ltb, leb, eqb}
+use lib.Dec.{ltb, eqb}
 use lib.ListN.{length, get_or, set, replicate, length-set, length-replicate, get_or-replicate}
 use lib.Seq.{get_or-set_same, get_or-set_other}
 use borrow.Author.Tests.{eq-eqb, ne_eqb, eqb-true, eqb-false, lt-ltb, le-ltb, ltb-true, ltb-false, not-true, not-false}
 use Rattle.laws.specs.Sets.{any, least}
-use Rattle.laws.proofs.Tests.{split, clash, and_left, and_right}
-use Rattle.laws.proofs.Laws.{any_hit, any_found, any_all, least_is}
+use Rattle.laws.proofs.Tests.{split, and_left}
+use Rattle.laws.proofs.Laws.{any_hit, any_found, least_is}
 use Rattle.laws.proofs.TabLaws.{is_tab}
 use Rattle.partitions.specs.declared.Entry as settings
 use Rattle.partitions.specs.declared.Settings.{Settings}
@@ -20,14 +20,12 @@ use Rattle.partitions.specs.Settings.{family_rp2040, family_absolute, family_dat
 use Rattle.placement.specs.declared.passes.PassQuery.{PassQuery}
 use Rattle.placement.specs.Place.{pass_query_of, pass_allows, pass_takes, used_count, ram_family}
 use Rattle.why_place.specs.declared.Denial.{Denial}
-use Rattle.why_place.specs.declared.Denial.TheVariants.{AbsoluteOff, Rp2040, ArmOff, RiscvOff, NotWithoutTable, NoEntry, NotForRam}
-use Rattle.why_place.specs.declared.Access.{Access}
+use Rattle.why_place.specs.declared.Denial.TheVariants.{AbsoluteOff, Rp2040, NoEntry, NotForRam}
 use Rattle.why_place.specs.declared.Access.TheVariants.{Granted, Denied}
-use Rattle.why_place.specs.declared.Spot.{Spot}
 use Rattle.why_place.specs.declared.Spot.TheVariants as spot
 use Rattle.why_place.specs.declared.Rule.TheVariants.{Absolute, NoTable}
 use Rattle.why_place.specs.Parts.{denied_if, without_access}
-use Rattle.why_place.specs.Placing.{no_table, takes_at, denies, first_denial, flash_access, ram_access, mark_for, mark_of, marks_of, taken_in, pass_has, pass_of, entry_in, table_spot, granted_spot, spot_by, spot_of}
+use Rattle.why_place.specs.Placing.{no_table, takes_at, denies, first_denial, flash_access, ram_access, mark_for, mark_of, marks_of, taken_in, pass_has, pass_of, entry_in, table_spot, granted_spot, spot_of}
 
 -- ---- the rules for the flash, by cases
 
@@ -55,9 +53,9 @@ module _ (s : Settings) (f : ℕ) where
         (λ r. rw (eqb-true f family_risc_v r, z))
         (λ r. rw (ne_eqb f family_absolute na, ne_eqb f family_rp2040 nr, d, a, r, z))))
 
-    pub flash-table : s.count ≢ 0 → flash_access s f ≡ denied_if (not (any (used_count s.count) (takes_at s.table f))) NoEntry
+    pub flash_table : s.count ≢ 0 → flash_access s f ≡ denied_if (not (any (used_count s.count) (takes_at s.table f))) NoEntry
     unfolding flash_access first_denial
-    flash-table h = rw (ne_eqb f family_absolute na, ne_eqb f family_rp2040 nr, ne_eqb s.count 0 h)
+    flash_table h = rw (ne_eqb f family_absolute na, ne_eqb f family_rp2040 nr, ne_eqb s.count 0 h)
 
   pub ram_by : ram_access s f ≡ denied_if (not (ram_family s f)) NotForRam
   unfolding ram_access first_denial
@@ -125,24 +123,24 @@ module _ (s : Settings) (f : ℕ) where
   spot_refused h = rw h
 
   module _ (h : flash_access s f ≡ Granted) where
-    pub spot-absolute : f ≡ family_absolute → spot_of s f ≡ spot.Whole Absolute
+    pub spot_absolute : f ≡ family_absolute → spot_of s f ≡ spot.Whole Absolute
     unfolding spot_of granted_spot
-    spot-absolute a = rw (h, eq-eqb f family_absolute a)
+    spot_absolute a = rw (h, eq-eqb f family_absolute a)
 
     module _ (na : f ≢ family_absolute) where
-      pub spot-whole : s.count ≡ 0 → spot_of s f ≡ spot.Whole NoTable
+      pub spot_whole : s.count ≡ 0 → spot_of s f ≡ spot.Whole NoTable
       unfolding spot_of granted_spot
-      spot-whole z = rw (h, ne_eqb f family_absolute na, eq-eqb s.count 0 z)
+      spot_whole z = rw (h, ne_eqb f family_absolute na, eq-eqb s.count 0 z)
 
-      pub spot-table : s.count ≢ 0 → spot_of s f ≡ table_spot s f
+      pub spot_table : s.count ≢ 0 → spot_of s f ≡ table_spot s f
       unfolding spot_of granted_spot
-      spot-table z = rw (h, ne_eqb f family_absolute na, ne_eqb s.count 0 z)
+      spot_table z = rw (h, ne_eqb f family_absolute na, ne_eqb s.count 0 z)
 
-      pub granted-other : f ≢ family_rp2040
-      granted-other e = not_granted (sym (flash_rp2040 s f e) ∙ h)
+      pub granted_other : f ≢ family_rp2040
+      granted_other e = not_granted (sym (flash_rp2040 s f e) ∙ h)
 
-      pub granted-takes : s.count ≢ 0 → any (used_count s.count) (takes_at s.table f) ≡ true
-      granted-takes z = granted_if (any (used_count s.count) (takes_at s.table f)) NoEntry (sym (flash-table s f na granted-other z) ∙ h)
+      pub granted_takes : s.count ≢ 0 → any (used_count s.count) (takes_at s.table f) ≡ true
+      granted_takes z = granted_if (any (used_count s.count) (takes_at s.table f)) NoEntry (sym (flash_table s f na granted_other z) ∙ h)
 
 -- ---- the marks
 
@@ -152,11 +150,11 @@ module _ (e : settings.Entry) (f : ℕ) {a : Bool} (h : a ≡ is_a e) where
   mark_b t = rw (← h, not-true a t)
 
   module _ (t : not a ≡ false) {b : Bool} (q : b ≡ accepts e f) where
-    pub mark-takes : b ≡ true → 0 ≡ mark_for e f
-    mark-takes y = rw (← h, not-false a t, ← q, y)
+    pub mark_takes : b ≡ true → 0 ≡ mark_for e f
+    mark_takes y = rw (← h, not-false a t, ← q, y)
 
-    pub mark-other : b ≡ false → 2 ≡ mark_for e f
-    mark-other y = rw (← h, not-false a t, ← q, y)
+    pub mark_other : b ≡ false → 2 ≡ mark_for e f
+    mark_other y = rw (← h, not-false a t, ← q, y)
 
 -- the marks of the entries before k, and 0 from there on
 unfoldable pub MarkedTo : Settings → ℕ → ℕ → List ℕ → Type 0

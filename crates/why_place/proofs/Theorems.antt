@@ -1,31 +1,28 @@
 -- A family is shut out exactly where it has no place; the spot is the place's, and what it tells is true; the marks are true. Assumes nothing.
-use Prim.Native.Nat.{ℕ, suc, ◌<◌}
+use Prim.Native.Nat.{ℕ}
 use mathlib.Core.Path.{◌≡◌, refl, sym, ap, ◌∙◌}
-use mathlib.Core.Logic.{◌≢◌, ◌⊎◌, inl, inr}
-use mathlib.Core.Bool.{Bool, true, false, cond, not, ◌&&◌, ◌||◌}
+use mathlib.Core.Logic.{◌≢◌, inl, inr}
+use mathlib.Core.Bool.{Bool, true, false, not, ◌&&◌, ◌||◌}
 use native.Mathlib.Omega.{arith}
-use lib.Dec.{ltb, eqb}
+use lib.Dec.{eqb}
 use borrow.Author.Tests.{eqb-true, eqb-false, lt-ltb, not-true}
-use Rattle.laws.specs.Sets.{any, least}
-use Rattle.laws.proofs.Tests.{split, clash, is_false, and_left, and_right}
-use Rattle.laws.proofs.Laws.{any_all, any_hit, least_below}
+use Rattle.laws.specs.Sets.{any}
+use Rattle.laws.proofs.Tests.{split, clash, is_false, and_right}
+use Rattle.laws.proofs.Laws.{any_all, least_below}
 use Rattle.partitions.specs.declared.Settings.{Settings}
 use Rattle.partitions.specs.Settings.{family_rp2040, family_absolute, family_data, family_arm_s, family_risc_v, entry_at, is_a, accepts}
 use Rattle.placement.specs.declared.Choice.TheVariants.{Nothing, Entry}
-use Rattle.placement.specs.declared.Place.{Place}
 use Rattle.placement.specs.declared.Place.TheVariants.{Nowhere, At}
-use Rattle.placement.specs.Place.{pass_query_of, in_pass, chosen, used_count, chosen_entry, gets_whole, whole_if, place_of_choice, place_of, ram_family}
+use Rattle.placement.specs.Place.{pass_query_of, in_pass, chosen, used_count, chosen_entry, gets_whole, place_of, ram_family}
 use Rattle.placement.proofs.First.{first_hit, first_none, if_taken, if_passed}
-use Rattle.placement.proofs.Laws.{place_absolute, place_rp2040, place-whole, place-table}
+use Rattle.placement.proofs.Laws.{place_absolute, place_rp2040, place_whole, place_table}
 use Rattle.why_place.specs.declared.Denial.{Denial}
 use Rattle.why_place.specs.declared.Denial.TheVariants.{AbsoluteOff, ArmOff, RiscvOff, NoEntry, NotForRam}
 use Rattle.why_place.specs.declared.Access.{Access}
 use Rattle.why_place.specs.declared.Access.TheVariants.{Granted, Denied}
-use Rattle.why_place.specs.declared.Spot.{Spot}
-use Rattle.why_place.specs.declared.Spot.TheVariants as spot
 use Rattle.why_place.specs.Parts.{denied_if, without_access}
-use Rattle.why_place.specs.Placing.{no_table, takes_at, flash_denials, flash_access, ram_access, mark_for, mark_of, taken_in, pass_has, pass_of, entry_in, table_spot, granted_spot, spot_of, spot_place, FirstMatch, SpotTrue, Marked, GrantedIsPlaced, GrantedIsForRam, SpotIsPlaced, MarksAreTrue, PlaceIsTrue}
-use Rattle.why_place.proofs.Laws.{flash_absolute, flash_rp2040, flash_whole, flash-table, ram_by, denial_true, taken_takes, takes_pass, not_granted, granted_if, spot_refused, spot-absolute, spot-whole, spot-table, granted-other, granted-takes}
+use Rattle.why_place.specs.Placing.{no_table, takes_at, flash_denials, flash_access, mark_for, mark_of, taken_in, pass_has, pass_of, entry_in, table_spot, spot_of, spot_place, FirstMatch, Marked, GrantedIsPlaced, GrantedIsForRam, SpotIsPlaced, MarksAreTrue, PlaceIsTrue}
+use Rattle.why_place.proofs.Laws.{flash_absolute, flash_rp2040, flash_whole, flash_table, ram_by, denial_true, taken_takes, takes_pass, granted_if, spot_refused, spot_absolute, spot_whole, spot_table, granted_other, granted_takes}
 
 -- ---- the first match
 
@@ -103,7 +100,7 @@ module _ (s : Settings) (len f : ℕ) where
   absolute_placed : f ≡ family_absolute → spot_place s len (spot_of s f) ≡ place_of s len f
   absolute_placed e =
       split s.absolute
-      (λ b. let h : flash_access s f ≡ Granted = flash_absolute s f e ∙ rw b in rw (spot-absolute s f h e, place_absolute s len f e, b))
+      (λ b. let h : flash_access s f ≡ Granted = flash_absolute s f e ∙ rw b in rw (spot_absolute s f h e, place_absolute s len f e, b))
       (λ b. let h : flash_access s f ≡ Denied AbsoluteOff = flash_absolute s f e ∙ rw b in rw (spot_refused s f h, place_absolute s len f e, b))
 
   rp2040_placed : f ≡ family_rp2040 → spot_place s len (spot_of s f) ≡ place_of s len f
@@ -116,19 +113,19 @@ module _ (s : Settings) (len f : ℕ) where
     whole-placed : s.count ≡ 0 → spot_place s len (spot_of s f) ≡ place_of s len f
     whole-placed z =
         by_access (flash_access s f)
-        (λ x h. let g = gets-whole z ∙ ap granted h in rw (spot_refused s f h, place-whole s len f na nr z, g))
-        (λ h. let g = gets-whole z ∙ ap granted h in rw (spot-whole s f h na z, place-whole s len f na nr z, g))
+        (λ x h. let g = gets-whole z ∙ ap granted h in rw (spot_refused s f h, place_whole s len f na nr z, g))
+        (λ h. let g = gets-whole z ∙ ap granted h in rw (spot_whole s f h na z, place_whole s len f na nr z, g))
 
     table-placed : s.count ≢ 0 → spot_place s len (spot_of s f) ≡ place_of s len f
     unfolding table_spot
     table-placed z =
         by_access (flash_access s f)
         (λ x h.
-        let none = denied_none (any (used_count s.count) (takes_at s.table f)) NoEntry (sym (flash-table s f na nr z) ∙ h) in
-        rw (spot_refused s f h, place-table s len f na nr z, chosen_none s f none))
+        let none = denied_none (any (used_count s.count) (takes_at s.table f)) NoEntry (sym (flash_table s f na nr z) ∙ h) in
+        rw (spot_refused s f h, place_table s len f na nr z, chosen_none s f none))
         (λ h.
-        let c = chosen_match s f (pass_of s f) (entry_in s f (pass_of s f)) (match s f (granted-takes s f h na z)) in
-        rw (spot-table s f h na z, place-table s len f na nr z, c))
+        let c = chosen_match s f (pass_of s f) (entry_in s f (pass_of s f)) (match s f (granted_takes s f h na z)) in
+        rw (spot_table s f h na z, place_table s len f na nr z, c))
 
 pub spot_is_placed : SpotIsPlaced
 spot_is_placed s len f =
@@ -154,12 +151,12 @@ module _ (s : Settings) (len f : ℕ) where
   unfolding table_spot
   granted_somewhere h e =
       split (eqb f family_absolute)
-      (λ a. let q = rw (spot-absolute s f h (eqb-true f family_absolute a)) at e in somewhere 0 len q)
+      (λ a. let q = rw (spot_absolute s f h (eqb-true f family_absolute a)) at e in somewhere 0 len q)
       (λ a.
       let na = eqb-false f family_absolute a in
       split (eqb s.count 0)
-      (λ z. let q = rw (spot-whole s f h na (eqb-true s.count 0 z)) at e in somewhere 0 len q)
-      (λ z. let q = rw (spot-table s f h na (eqb-false s.count 0 z)) at e in somewhere _ _ q))
+      (λ z. let q = rw (spot_whole s f h na (eqb-true s.count 0 z)) at e in somewhere 0 len q)
+      (λ z. let q = rw (spot_table s f h na (eqb-false s.count 0 z)) at e in somewhere _ _ q))
 
   granted_placed : flash_access s f ≡ Granted → place_of s len f ≢ Nowhere
   granted_placed h e = granted_somewhere h (spot_is_placed s len f ∙ e)
@@ -190,16 +187,16 @@ place_is_true s f =
     split (eqb f family_absolute)
     (λ a.
     let e = eqb-true f family_absolute a in
-    rw (spot-absolute s f h e) (e, granted_if s.absolute AbsoluteOff (sym (flash_absolute s f e) ∙ h)))
+    rw (spot_absolute s f h e) (e, granted_if s.absolute AbsoluteOff (sym (flash_absolute s f e) ∙ h)))
     (λ a.
     let na = eqb-false f family_absolute a in
     split (eqb s.count 0)
     (λ z.
     let e = eqb-true s.count 0 z in
-    rw (spot-whole s f h na e) (e, na, gets-whole s 0 f na (granted-other s f h na) e ∙ ap granted h))
+    rw (spot_whole s f h na e) (e, na, gets-whole s 0 f na (granted_other s f h na) e ∙ ap granted h))
     (λ z.
     let n = eqb-false s.count 0 z in
-    rw (spot-table s f h na n) (pass_of s f, refl, match s f (granted-takes s f h na n)))))
+    rw (spot_table s f h na n) (pass_of s f, refl, match s f (granted_takes s f h na n)))))
 
 -- ---- the marks
 

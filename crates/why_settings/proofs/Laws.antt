@@ -9,13 +9,13 @@ use native.Mathlib.Numerals.{add-one}
 use native.Mathlib.Omega.{arith}
 use lib.Dec.{ltb, leb}
 use lib.ListN.{length, get_or, length-map, get_or-eq_default}
-use borrow.Author.Tests.{ne_eqb, eq-eqb, lt-ltb, le-ltb}
+use borrow.Author.Tests.{ne_eqb, lt-ltb, le-ltb}
 use Rattle.laws.specs.Sets.{any, least}
-use Rattle.laws.proofs.Tests.{split, is_false, clash, and_right}
-use Rattle.laws.proofs.Laws.{any_none, any_all, any_found, any_hit, least_below, least_none}
+use Rattle.laws.proofs.Tests.{split, and_right}
+use Rattle.laws.proofs.Laws.{any_all, least_below, least_none}
 use Rattle.partitions.specs.declared.Entry.{Entry}
 use Rattle.partitions.specs.declared.Settings.{Settings}
-use Rattle.partitions.specs.Settings.{is_a, is_unowned, link_target, empty_entry, is_reserved, reserved_at, entry_at, shares_with, no_sectors, runs_past, links_up, links_to_b, many_users, reserved_user, count_over, enabled}
+use Rattle.partitions.specs.Settings.{is_a, is_unowned, link_target, empty_entry, is_reserved, reserved_at, entry_at, shares_with, no_sectors, runs_past, links_up, links_to_b, many_users, reserved_user, enabled}
 use Rattle.why_settings.specs.declared.Fault.{Fault}
 use Rattle.why_settings.specs.declared.Fault.TheVariants.{ArchOff, CountOver, NoSectors, PastFlash, Shares, LinksUp, LinksToB, ManyUsers, ReservedUser}
 use Rattle.why_settings.specs.declared.Finding.{Finding}
@@ -34,23 +34,23 @@ module _ (e : Entry) where
   reserved_0 h = rw h
 
   module _ (n0 : reserved_at e 0 ≡ false) where
-    pub reserved-1 : reserved_at e 1 ≡ true → get_or e.users 1 0 ≡ first_reserved e
+    pub reserved_1 : reserved_at e 1 ≡ true → get_or e.users 1 0 ≡ first_reserved e
     unfolding first_reserved
-    reserved-1 h = rw (n0, h)
+    reserved_1 h = rw (n0, h)
 
     module _ (n1 : reserved_at e 1 ≡ false) where
-      pub reserved-2 : reserved_at e 2 ≡ true → get_or e.users 2 0 ≡ first_reserved e
+      pub reserved_2 : reserved_at e 2 ≡ true → get_or e.users 2 0 ≡ first_reserved e
       unfolding first_reserved
-      reserved-2 h = rw (n0, n1, h)
+      reserved_2 h = rw (n0, n1, h)
 
       module _ (n2 : reserved_at e 2 ≡ false) where
-        pub reserved-3 : reserved_at e 3 ≡ true → get_or e.users 3 0 ≡ first_reserved e
+        pub reserved_3 : reserved_at e 3 ≡ true → get_or e.users 3 0 ≡ first_reserved e
         unfolding first_reserved
-        reserved-3 h = rw (n0, n1, n2, h)
+        reserved_3 h = rw (n0, n1, n2, h)
 
-        pub reserved-none : reserved_at e 3 ≡ false → 0 ≡ first_reserved e
+        pub reserved_none : reserved_at e 3 ≡ false → 0 ≡ first_reserved e
         unfolding first_reserved
-        reserved-none h = rw (n0, n1, n2, h)
+        reserved_none h = rw (n0, n1, n2, h)
 
 -- it tells whether there is one
 pub reserved_user_case : (e : Entry) → is_reserved (first_reserved e) ≡ reserved_user e
@@ -139,9 +139,9 @@ module _ (s : Settings) (len : ℕ) where
   first_one x = refl
 
   module _ (f : ℕ → List Fault) where
-    pub each-zero : first_in s len (each f 0) ≡ Sound
+    pub each_zero : first_in s len (each f 0) ≡ Sound
     unfolding each first_in
-    each-zero = refl
+    each_zero = refl
 
     step : (n : ℕ) → first_in s len (each f (suc n)) ≡ or_next (first_in s len (each f n)) (first_in s len (f n))
     unfolding each
@@ -151,18 +151,18 @@ module _ (s : Settings) (len : ℕ) where
     pub each_more : (i : ℕ) → first_in s len (each f i) ≡ Sound → first_in s len (f i) ≡ Sound → first_in s len (each f (i + 1)) ≡ Sound
     each_more i h q = rw add-one (step i ∙ rw (h, q))
 
-    pub each-hit : (n i : ℕ) {x : Fault} → i < n → first_in s len (each f i) ≡ Sound → first_in s len (f i) ≡ Bad x → first_in s len (each f n) ≡ Bad x
-    each-hit zero i l h q = absurd (not-suc-le-zero l)
-    each-hit (suc n) i l h q =
+    pub each_hit : (n i : ℕ) {x : Fault} → i < n → first_in s len (each f i) ≡ Sound → first_in s len (f i) ≡ Bad x → first_in s len (each f n) ≡ Bad x
+    each_hit zero i l h q = absurd (not-suc-le-zero l)
+    each_hit (suc n) i l h q =
         step n
         ∙ ⊎_elim
         (λ (e : i ≡ n). rw (← e, h, q))
-        (λ (b : i < n). rw (each-hit n i b h q))
+        (λ (b : i < n). rw (each_hit n i b h q))
         (eq-or-lt_of_le (le_of_suc-le-suc l))
 
     -- no fault in all, and in each
     pub each_none : (n : ℕ) → ((i : ℕ) → i < n → first_in s len (f i) ≡ Sound) → first_in s len (each f n) ≡ Sound
-    each_none zero h = each-zero
+    each_none zero h = each_zero
     each_none (suc n) h = step n ∙ rw (each_none n (λ i l. h i (le_step l)), h n (le_refl (suc n)))
 
     pub each_all : (n : ℕ) → first_in s len (each f n) ≡ Sound → (i : ℕ) → i < n → first_in s len (f i) ≡ Sound
@@ -197,39 +197,39 @@ module _ (s : Settings) (len n k : ℕ) where
       (λ h.
       let l = least_below P n h in
       rw h
-      (each-hit s len f n (least n P) l.0
+      (each_hit s len f n (least n P) l.0
       (each_none s len f (least n P) (λ i b. one_shared i (any_all P (least n P) l.2 i b)))
       (one_shared (least n P) l.1)))
       (λ h. rw h (each_none s len f n (λ i b. one_shared i (any_all P n h i b))))
 
   module _ {x : Finding} (rule : ℕ) where
-    pub condition-0 : rule ≡ 0 → x ≡ bad_if (no_sectors (entry_at s.table k)) (NoSectors k) → x ≡ first_in s len (condition_at n rule k)
+    pub condition_0 : rule ≡ 0 → x ≡ bad_if (no_sectors (entry_at s.table k)) (NoSectors k) → x ≡ first_in s len (condition_at n rule k)
     unfolding condition_at first_in
-    condition-0 h e = rw h e
+    condition_0 h e = rw h e
 
-    pub condition-1 : rule ≡ 1 → x ≡ bad_if (runs_past len (entry_at s.table k)) (PastFlash k) → x ≡ first_in s len (condition_at n rule k)
+    pub condition_1 : rule ≡ 1 → x ≡ bad_if (runs_past len (entry_at s.table k)) (PastFlash k) → x ≡ first_in s len (condition_at n rule k)
     unfolding condition_at first_in
-    condition-1 h e = rw h e
+    condition_1 h e = rw h e
 
-    pub condition-2 : rule ≡ 2 → x ≡ first_shared s.table n k → x ≡ first_in s len (condition_at n rule k)
+    pub condition_2 : rule ≡ 2 → x ≡ first_shared s.table n k → x ≡ first_in s len (condition_at n rule k)
     unfolding condition_at
-    condition-2 h e = rw h (e ∙ sym first_sharing)
+    condition_2 h e = rw h (e ∙ sym first_sharing)
 
-    pub condition-3 : rule ≡ 3 → x ≡ bad_if (links_up s.table k) (LinksUp k) → x ≡ first_in s len (condition_at n rule k)
+    pub condition_3 : rule ≡ 3 → x ≡ bad_if (links_up s.table k) (LinksUp k) → x ≡ first_in s len (condition_at n rule k)
     unfolding condition_at first_in
-    condition-3 h e = rw h e
+    condition_3 h e = rw h e
 
-    pub condition-4 : rule ≡ 4 → x ≡ bad_if (links_to_b s.table k) (LinksToB k) → x ≡ first_in s len (condition_at n rule k)
+    pub condition_4 : rule ≡ 4 → x ≡ bad_if (links_to_b s.table k) (LinksToB k) → x ≡ first_in s len (condition_at n rule k)
     unfolding condition_at first_in
-    condition-4 h e = rw h e
+    condition_4 h e = rw h e
 
-    pub condition-5 : rule ≡ 5 → x ≡ bad_if (many_users (entry_at s.table k)) (ManyUsers k) → x ≡ first_in s len (condition_at n rule k)
+    pub condition_5 : rule ≡ 5 → x ≡ bad_if (many_users (entry_at s.table k)) (ManyUsers k) → x ≡ first_in s len (condition_at n rule k)
     unfolding condition_at first_in
-    condition-5 h e = rw h e
+    condition_5 h e = rw h e
 
-    pub condition-6 : rule ≢ 0 → rule ≢ 1 → rule ≢ 2 → rule ≢ 3 → rule ≢ 4 → rule ≢ 5 → x ≡ bad_if (reserved_user (entry_at s.table k)) (ReservedUser k) → x ≡ first_in s len (condition_at n rule k)
+    pub condition_6 : rule ≢ 0 → rule ≢ 1 → rule ≢ 2 → rule ≢ 3 → rule ≢ 4 → rule ≢ 5 → x ≡ bad_if (reserved_user (entry_at s.table k)) (ReservedUser k) → x ≡ first_in s len (condition_at n rule k)
     unfolding condition_at first_in
-    condition-6 a b c d f g e =
+    condition_6 a b c d f g e =
         rw (ne_eqb rule 0 a, ne_eqb rule 1 b, ne_eqb rule 2 c, ne_eqb rule 3 d, ne_eqb rule 4 f, ne_eqb rule 5 g) e
 
 -- ---- the settings

@@ -1,21 +1,21 @@
 -- No fault is found exactly in good settings, and each fault is a test of the numbers that it names. Assumes nothing.
 use Prim.Native.Nat.{ℕ, zero, suc, ◌≤◌, ◌<◌}
-use mathlib.Core.Path.{◌≡◌, refl, sym, ap, ◌∙◌}
-use mathlib.Core.Bool.{Bool, true, false, not, ◌||◌, ◌&&◌}
+use mathlib.Core.Path.{◌≡◌, refl, sym, ◌∙◌}
+use mathlib.Core.Bool.{Bool, true, false, not, ◌||◌}
 use native.Mathlib.Omega.{arith}
-use lib.Dec.{ltb, leb, eqb}
-use borrow.Author.Tests.{lt-ltb, le-ltb, ltb-true, ltb-false, not-true, not-false}
+use lib.Dec.{ltb, eqb}
+use borrow.Author.Tests.{lt-ltb, le-ltb, ltb-true, ltb-false}
 use Rattle.laws.specs.Sets.{any, one}
 use Rattle.laws.proofs.Tests.{split, clash, or_left, or_right}
 use Rattle.laws.proofs.Laws.{any_none, any_all}
 use Rattle.partitions.specs.declared.Settings.{Settings}
-use Rattle.partitions.specs.Settings.{entry_at, enabled, count_over, no_sectors, runs_past, shares_with, shares_sector, links_up, links_to_b, many_users, reserved_user, bad_entry, good_settings}
+use Rattle.partitions.specs.Settings.{entry_at, enabled, no_sectors, runs_past, shares_with, shares_sector, links_up, links_to_b, many_users, reserved_user, bad_entry, good_settings}
 use Rattle.partitions.proofs.Laws.{good_count, good_entry, good_off}
 use Rattle.why_settings.specs.declared.Fault.{Fault}
 use Rattle.why_settings.specs.declared.Fault.TheVariants.{ArchOff, CountOver, NoSectors, PastFlash, Shares, LinksUp, LinksToB, ManyUsers, ReservedUser}
 use Rattle.why_settings.specs.declared.Finding.TheVariants.{Sound, Bad}
 use Rattle.why_settings.specs.Faults.{each, condition_at, condition_for, bad_if, first_in, first_shared, first_fault, SoundIsGood, FaultIsTested}
-use Rattle.why_settings.proofs.Laws.{reserved_user_case, each_none, each_all, condition-0, condition-1, condition-2, condition-3, condition-4, condition-5, condition-6, first_off, first_over_lem, first_entries}
+use Rattle.why_settings.proofs.Laws.{reserved_user_case, each_none, each_all, condition_0, condition_1, condition_2, condition_3, condition_4, condition_5, condition_6, first_off, first_over_lem, first_entries}
 
 not_sound : {A : Type 0} {x : Fault} → Bad x ≡ Sound → A
 not_sound h = let z : ◌≡◌ {A = ℕ} 0 1 = cc in absurd (omega arith)
@@ -74,30 +74,30 @@ module _ (s : Settings) (len n k : ℕ) where
   none_shared h = clear (any n (shares_with s.table k)) _ h
 
   clean_sound : Clean s len n k → (rule : ℕ) → rule < 7 → first_in s len (condition_at n rule k) ≡ Sound
-  clean_sound C zero l = sym (condition-0 s len n k 0 refl (rw C.sectors))
-  clean_sound C (suc zero) l = sym (condition-1 s len n k 1 refl (rw C.within))
-  clean_sound C (suc (suc zero)) l = sym (condition-2 s len n k 2 refl (sym (shared_none C.alone)))
-  clean_sound C (suc (suc (suc zero))) l = sym (condition-3 s len n k 3 refl (rw C.down))
-  clean_sound C (suc (suc (suc (suc zero)))) l = sym (condition-4 s len n k 4 refl (rw C.to_a))
-  clean_sound C (suc (suc (suc (suc (suc zero))))) l = sym (condition-5 s len n k 5 refl (rw C.few))
+  clean_sound C zero l = sym (condition_0 s len n k 0 refl (rw C.sectors))
+  clean_sound C (suc zero) l = sym (condition_1 s len n k 1 refl (rw C.within))
+  clean_sound C (suc (suc zero)) l = sym (condition_2 s len n k 2 refl (sym (shared_none C.alone)))
+  clean_sound C (suc (suc (suc zero))) l = sym (condition_3 s len n k 3 refl (rw C.down))
+  clean_sound C (suc (suc (suc (suc zero)))) l = sym (condition_4 s len n k 4 refl (rw C.to_a))
+  clean_sound C (suc (suc (suc (suc (suc zero))))) l = sym (condition_5 s len n k 5 refl (rw C.few))
   clean_sound C (suc (suc (suc (suc (suc (suc r)))))) l =
       let m = suc (suc (suc (suc (suc (suc r))))) in
       sym
-      (condition-6 s len n k m (λ h. absurd (omega arith)) (λ h. absurd (omega arith)) (λ h. absurd (omega arith)) (λ h. absurd (omega arith))
+      (condition_6 s len n k m (λ h. absurd (omega arith)) (λ h. absurd (omega arith)) (λ h. absurd (omega arith)) (λ h. absurd (omega arith))
       (λ h. absurd (omega arith)) (λ h. absurd (omega arith)) (rw C.free))
 
   sound_clean : ((rule : ℕ) → rule < 7 → first_in s len (condition_at n rule k) ≡ Sound) → Clean s len n k
   sound_clean h =
       let e = entry_at s.table k in
       record {
-        sectors = clear (no_sectors e) (NoSectors k) (condition-0 s len n k 0 refl refl ∙ h 0 (omega arith));
-        within = clear (runs_past len e) (PastFlash k) (condition-1 s len n k 1 refl refl ∙ h 1 (omega arith));
-        alone = none_shared (condition-2 s len n k 2 refl refl ∙ h 2 (omega arith));
-        down = clear (links_up s.table k) (LinksUp k) (condition-3 s len n k 3 refl refl ∙ h 3 (omega arith));
-        to_a = clear (links_to_b s.table k) (LinksToB k) (condition-4 s len n k 4 refl refl ∙ h 4 (omega arith));
-        few = clear (many_users e) (ManyUsers k) (condition-5 s len n k 5 refl refl ∙ h 5 (omega arith));
+        sectors = clear (no_sectors e) (NoSectors k) (condition_0 s len n k 0 refl refl ∙ h 0 (omega arith));
+        within = clear (runs_past len e) (PastFlash k) (condition_1 s len n k 1 refl refl ∙ h 1 (omega arith));
+        alone = none_shared (condition_2 s len n k 2 refl refl ∙ h 2 (omega arith));
+        down = clear (links_up s.table k) (LinksUp k) (condition_3 s len n k 3 refl refl ∙ h 3 (omega arith));
+        to_a = clear (links_to_b s.table k) (LinksToB k) (condition_4 s len n k 4 refl refl ∙ h 4 (omega arith));
+        few = clear (many_users e) (ManyUsers k) (condition_5 s len n k 5 refl refl ∙ h 5 (omega arith));
         free = clear (reserved_user e) (ReservedUser k)
-            (condition-6 s len n k 6 (λ h. absurd (omega arith)) (λ h. absurd (omega arith)) (λ h. absurd (omega arith)) (λ h. absurd (omega arith))
+            (condition_6 s len n k 6 (λ h. absurd (omega arith)) (λ h. absurd (omega arith)) (λ h. absurd (omega arith)) (λ h. absurd (omega arith))
             (λ h. absurd (omega arith)) (λ h. absurd (omega arith)) refl ∙ h 6 (omega arith));
       }
 

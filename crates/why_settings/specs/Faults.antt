@@ -1,29 +1,10 @@
 -- Row 2 by its conditions: what each says of settings, which of them is the first, and the numbers that it compares. Numbers are natural, so
 -- nothing wraps. Assumes nothing.
-use Rattle.std.specs.Prelude.{ℕ, zero, suc, ◌+◌, ◌*◌, ◌<◌, ◌≡◌, Bool, true, false, cond, not, ◌&&◌, ◌↔◌, List, [], ◌∷◌, ◌++◌, ltb, leb, eqb, get_or}
+use Rattle.std.specs.Prelude.{ℕ, zero, suc, ◌+◌, ◌*◌, ◌<◌, ◌≡◌, Bool, true, cond, not, ◌&&◌, ◌↔◌, List, [], ◌∷◌, ◌++◌, ltb, leb, eqb, get_or}
 use Rattle.laws.specs.Sets.{one, any, least}
 use Rattle.partitions.specs.declared.Entry.{Entry}
 use Rattle.partitions.specs.declared.Settings.{Settings}
-use Rattle.partitions.specs.Settings.{
-  family_rp2040,
-  family_arm_ns,
-  is_unowned,
-  link_target,
-  entry_at,
-  enabled,
-  count_over,
-  no_sectors,
-  runs_past,
-  shares_with,
-  links_up,
-  links_to_b,
-  many_users,
-  is_reserved,
-  reserved_at,
-  reserved_user,
-  good_settings,
-  blank_entry,
-}
+use Rattle.partitions.specs.Settings.{family_rp2040, family_arm_ns, is_unowned, link_target, entry_at, enabled, count_over, no_sectors, runs_past, shares_with, links_up, links_to_b, many_users, reserved_at, reserved_user, good_settings, blank_entry}
 use Rattle.why_settings.specs.declared.Fault.{Fault}
 use Rattle.why_settings.specs.declared.Fault.TheVariants.{ArchOff, CountOver, NoSectors, PastFlash, Shares, LinksUp, LinksToB, ManyUsers, ReservedUser}
 use Rattle.why_settings.specs.declared.Finding.{Finding}

@@ -2,7 +2,7 @@
 #![tactic(auto)]
 
 pub mod first;
-mod sharing;
+pub mod sharing;
 
 ghost use Rattle.std.specs.Prelude.{◌≡◌};
 ghost use Rattle.laws.specs.Sets.{one};
@@ -58,7 +58,7 @@ impl Fault {
 }
 
 // The first user family that is reserved, 0 where none is.
-pub(crate) fn first_reserved(e: Entry) -> u32
+pub fn first_reserved(e: Entry) -> u32
     ensures { result ≡ first_reserved e }
 {
     let n = e.user_count;
@@ -79,7 +79,7 @@ pub(crate) fn first_reserved(e: Entry) -> u32
 }
 
 // Does entry k link to an entry that is "B of"? Past the table's end there is none.
-pub(crate) fn links_to_b(settings: Settings, k: usize) -> bool
+pub fn links_to_b(settings: Settings, k: usize) -> bool
     ensures { result ≡ links_to_b settings.table k }
 {
     if Settings::ENTRIES <= k {

@@ -7,7 +7,7 @@ use partitions::Settings;
 
 // The first other entry that has a sector in common with entry k, and the count where none has. Past the table's
 // end there is no sector.
-pub(crate) fn first_other(settings: Settings, k: usize) -> usize
+pub fn first_other(settings: Settings, k: usize) -> usize
     ensures { result ≡ least settings.count (shares_with settings.table k) }
 {
     let n = settings.count as usize;

@@ -12,8 +12,8 @@ unfoldable pub use Rattle.whyapi.specs.WhyBytes.{why_call, place_call}
 -- of settings, transfer and arrival, what is lent, and the bytes of the reason as they were lent
 abbrev pub why_call_of : Slice → Slice → Slice → Lent → List ℕ → Call
 why_call_of s t a h l =
-    why_call s.entry.now t.entry.now
-    (why_of (settings_from s.entry.now) (world (transfer_from t.entry.now) h) a.entry.now)
+    why_call s t
+    (why_of (settings_from s) (world (transfer_from t) h) a)
     l
 
 -- a place asked for alone

@@ -1,7 +1,7 @@
 // Reasons for C: why an arrival is answered as it is, and why a family has a place or none. A library of its own.
 #![tactic(auto)]
 
-mod reason_bytes;
+pub mod reason_bytes;
 pub mod told;
 
 ghost use Rattle.std.specs.Prelude.{◌≡◌};
@@ -21,7 +21,7 @@ pub extern "C" fn uf2_why(
     xip: &[u8],
     out: &mut [u8],
 ) -> u32
-    ensures { call_return result out.new ≡ why_call_of settings transfer arrival (lent_at flash seen sectors main xip) out.old }
+    ensures { call_return result out.new ≡ why_call_of settings.now transfer.now arrival.now (lent_at flash.now seen.now sectors.now main.now xip.now) out.old }
 {
     let s = settings_layout::read_settings(settings);
     let t = transfer_layout::read_transfer(transfer);

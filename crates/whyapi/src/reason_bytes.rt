@@ -160,7 +160,7 @@ fn put_told(out: &mut [u8], told: ReasonFields)
 }
 
 // What a call returns of a reason, which it writes.
-pub(crate) fn tell(why: Why, settings: &[u8], transfer: &[u8], out: &mut [u8]) -> u32
+pub fn tell(why: Why, settings: &[u8], transfer: &[u8], out: &mut [u8]) -> u32
     ensures { call_return result out.new ≡ why_call settings.now transfer.now why out.old }
 {
     let reason = why.reason;
@@ -228,7 +228,7 @@ fn place_shown(number: u8, settings: &[u8], told: ReasonFields) -> ReasonFields
 }
 
 // The same of a place.
-pub(crate) fn tell_place(why: WhyPlace, settings: &[u8], out: &mut [u8]) -> u32
+pub fn tell_place(why: WhyPlace, settings: &[u8], out: &mut [u8]) -> u32
     ensures { call_return result out.new ≡ place_call settings.now why out.old }
 {
     let placed = why.placed;

@@ -25,7 +25,7 @@ const ENTRY: usize = 34;
 const LINKS_UP: u32 = 206;
 
 // Numbers, entries and marks, as they are told.
-pub(crate) fn told_with(
+pub fn told_with(
     number: u32,
     got: u64,
     against: u64,
@@ -76,7 +76,7 @@ fn link_told(bytes: &[u8], told: ReasonFields) -> ReasonFields
 }
 
 // Bytes that are no settings: no number is told that is not theirs.
-pub(crate) fn settings_told(bytes: &[u8], told: ReasonFields) -> ReasonFields
+pub fn settings_told(bytes: &[u8], told: ReasonFields) -> ReasonFields
     ensures { result ≡ settings_told bytes.now told }
 {
     if bytes.len() != SETTINGS {

@@ -14,7 +14,7 @@ use Rattle.partitions.proofs.Laws.{good_off, good_none}
 use Rattle.placement.specs.Passes.{used_count}
 use Rattle.placement.specs.Place.{place_of, ram_family, user_of, whole_if, gets_whole}
 use Rattle.placement.specs.declared.Place.{Place}
-use Rattle.placement.proofs.Laws.{place_absolute, place_rp2040, place-whole}
+use Rattle.placement.proofs.Laws.{place_absolute, place_rp2040, place_whole}
 use Rattle.uf2_checks.specs.Screen.{rooms_of}
 use Rattle.uf2_checks.specs.declared.Rooms.{Rooms}
 use Rattle.settings_layout.specs.Layout.{byte_at, is_on, arch_from, count_from, settings_from, settings_of}
@@ -57,7 +57,7 @@ module _ (b : List ℕ) (z : count_from b ≡ 0) where
       (λ e.
       let r = eqb-true f family_rp2040 e in
       place_rp2040 (settings_from b) len f r ∙ rw r refl)
-      (λ e. place-whole (settings_from b) len f d (eqb-false f family_rp2040 e) none)
+      (λ e. place_whole (settings_from b) len f d (eqb-false f family_rp2040 e) none)
 
   pub place_absolute_without : (len : ℕ) {f : ℕ} {y : Bool} {p : Place} → f ≡ family_absolute → y ≡ is_on (byte_at b 4) → p ≡ whole_if y len → p ≡ place_of (settings_from b) len f
   unfolding settings_from settings_of

@@ -1,15 +1,18 @@
 -- Where lines end, and the lines from an index on. Assumes nothing.
 use Prim.Native.Nat.{ℕ, suc, min, ◌+◌, ◌-◌, ◌≤◌, ◌<◌}
 use mathlib.Core.Path.{◌≡◌, refl, sym, ap, ◌∙◌}
-use mathlib.Core.Bool.{cond}
+use mathlib.Core.Bool.{cond, not}
 use mathlib.Core.List.{List, [], ◌∷◌}
 use native.Mathlib.Omega.{arith}
 use lib.Dec.{eqb, ltb}
 use lib.ListN.{length, take, drop, length-drop}
-use lib.Seq.{drop-drop, take-length}
+use lib.Seq.{drop-drop}
 use borrow.Author.Tests.{lt-ltb, le-ltb, ltb-true, ltb-false, eqb-true}
 use Rattle.laws.proofs.Tests.{split}
-use Rattle.bytes.specs.Bytes.{slice, index_after, index_of}
+use Rattle.std.specs.List.{position_or_len}
+use Rattle.std.proofs.Common.{Option, Some, None}
+use Rattle.std.proofs.lemmas.Option.{cond_some, none-some}
+use Rattle.std.proofs.lemmas.List.Sums.{prefix_len-le-length}
 use Rattle.ihex_file.specs.Lines.{glue, lines_of, line_len, end_of}
 
 -- ---- the first line
@@ -65,18 +68,21 @@ lines_at s i h =
 
 -- ---- as the code finds it
 
--- by the index of the first LF
-len_index : (s : List ℕ) → line_len s ≡ cond (ltb (index_of 10 s) (length s)) (index_of 10 s + 1) (index_of 10 s)
-unfolding line_len index_of index_after
+-- by the place of the first LF
+abbrev pub first_lf : List ℕ → ℕ
+first_lf s = position_or_len (λ x. eqb x 10) s
+
+len_index : (s : List ℕ) → line_len s ≡ cond (ltb (first_lf s) (length s)) (first_lf s + 1) (first_lf s)
+unfolding line_len
 len_index [] = refl
 len_index (c ∷ cs) =
     split (eqb c 10)
     (λ y. rw (y, lt-ltb 0 (suc (length cs)) (omega arith)))
     (λ n.
     rw (n, len_index cs)
-    (split (ltb (index_of 10 cs) (length cs))
-    (λ y. rw (y, lt-ltb (suc (index_of 10 cs)) (suc (length cs)) (omega (arith, ltb-true (index_of 10 cs) (length cs) y))) (omega arith))
-    (λ z. rw (z, le-ltb (suc (index_of 10 cs)) (suc (length cs)) (omega (arith, ltb-false (index_of 10 cs) (length cs) z))) (omega arith))))
+    (split (ltb (first_lf cs) (length cs))
+    (λ y. rw (y, lt-ltb (1 + first_lf cs) (suc (length cs)) (omega (arith, ltb-true (first_lf cs) (length cs) y))) (omega arith))
+    (λ z. rw (z, le-ltb (1 + first_lf cs) (suc (length cs)) (omega (arith, ltb-false (first_lf cs) (length cs) z))) (omega arith))))
 
 end_after : (s : List ℕ) (at : ℕ) → min (at + 1) (length s) ≤ end_of s at
 end_after s at =
@@ -93,22 +99,23 @@ ends_at s at r e = (e, (rw e (end_most s at), rw e (end_after s at)))
 pub ends_past : (s : List ℕ) (at : ℕ) → length s ≤ at → Ends s at (length s)
 ends_past s at h = ends_at s at (length s) (unfold end_of in rw (le-ltb at (length s) h))
 
--- the search from an index on found f
-module _ (s : List ℕ) (at f : ℕ) (inside : at < length s) (found : f ≡ at + index_of 10 (slice at (length s) s)) where
-  from_here : f ≡ at + index_of 10 (drop at s)
-  unfolding slice
-  from_here = rw (take-length s) at found
+-- what the search in the text from an index on gives
+module _ (s : List ℕ) (at : ℕ) (inside : at < length s) where
+  abbrev found : Option ℕ
+  found = cond (ltb (first_lf (drop at s)) (length (drop at s))) (Some (first_lf (drop at s))) None
 
-  pub ends_lf : f < length s → Ends s at (f + 1)
+  pub ends_lf : (k : ℕ) → found ≡ Some k → Ends s at (at + k + 1)
   unfolding end_of
-  ends_lf h =
-      let k = index_of 10 (drop at s) in
-      ends_at s at (f + 1)
-      (rw (lt-ltb at (length s) inside, len_index (drop at s), lt-ltb k (length (drop at s)) (omega (arith, length-drop at s, from_here))) (omega (arith, from_here)))
+  ends_lf k e =
+      let f = cond_some (ltb (first_lf (drop at s)) (length (drop at s))) (first_lf (drop at s)) k e in
+      ends_at s at (at + k + 1) (rw (lt-ltb at (length s) inside, len_index (drop at s), f.0, f.1) (omega arith))
 
-  pub ends_text : length s ≤ f → Ends s at f
+  pub ends_text : found ≡ None → Ends s at (length s)
   unfolding end_of
-  ends_text h =
-      let k = index_of 10 (drop at s) in
-      ends_at s at f
-      (rw (lt-ltb at (length s) inside, len_index (drop at s), le-ltb k (length (drop at s)) (omega (arith, length-drop at s, from_here))) from_here)
+  ends_text e =
+      split (ltb (first_lf (drop at s)) (length (drop at s)))
+      (λ y. absurd (none-some (first_lf (drop at s)) (sym (rw y at e))))
+      (λ n.
+      let h = ltb-false (first_lf (drop at s)) (length (drop at s)) n in
+      ends_at s at (length s)
+      (rw (lt-ltb at (length s) inside, len_index (drop at s), n) (omega (arith, length-drop at s, prefix_len-le-length (λ x. not (eqb x 10)) (drop at s)))))

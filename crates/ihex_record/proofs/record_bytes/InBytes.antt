@@ -4,7 +4,7 @@ use borrow.Author.Tests.{eqb-false}
 use Rattle.laws.proofs.Tests.{split}
 use Rattle.ihex_record.specs.declared.ParseResult.TheVariants.{TooLong, BadLength, BadSum}
 use Rattle.ihex_record.specs.Record.{len_of, total, good, refused, line_of_bytes}
-use Rattle.ihex_record.proofs.Checks.{is_too_long, is-bad-length, is-bad-sum, is_good_lem}
+use Rattle.ihex_record.proofs.Checks.{is_too_long, is_bad_length, is_bad_sum, is_good_lem}
 use Rattle.ihex_record.specs.Bytes.{line_in}
 
 module _ (n : ℕ) (b : List ℕ) where
@@ -23,18 +23,18 @@ module _ (n : ℕ) (b : List ℕ) where
   in_too_long h = is_too_long n all (rw len_all h)
 
   module _ (fits : len_of b ≤ 32) where
-    pub in-bad-length : (n ≡ 11 + 2 * len_of b → ⊥) → refused BadLength ≡ line_in n b
+    pub in_bad_length : (n ≡ 11 + 2 * len_of b → ⊥) → refused BadLength ≡ line_in n b
     unfolding line_in
-    in-bad-length h = is-bad-length n all (rw len_all fits) (rw len_all h)
+    in_bad_length h = is_bad_length n all (rw len_all fits) (rw len_all h)
 
     module _ (long : n ≡ 11 + 2 * len_of b) where
-      pub in-bad-sum : (total all % 256 ≡ 0 → ⊥) → refused BadSum ≡ line_in n b
+      pub in_bad_sum : (total all % 256 ≡ 0 → ⊥) → refused BadSum ≡ line_in n b
       unfolding line_in
-      in-bad-sum h = is-bad-sum n all (rw len_all fits) (rw len_all long) h
+      in_bad_sum h = is_bad_sum n all (rw len_all fits) (rw len_all long) h
 
-      pub in-good : total all % 256 ≡ 0 → good all ≡ line_in n b
+      pub in_good : total all % 256 ≡ 0 → good all ≡ line_in n b
       unfolding line_in
-      in-good h = is_good_lem n all (rw len_all fits) (rw len_all long) h
+      in_good h = is_good_lem n all (rw len_all fits) (rw len_all long) h
 
   -- the bytes that n characters say
   pub in_bytes : 10 < n → line_in n b ≡ line_of_bytes n (take (n / 2) b)
@@ -55,4 +55,4 @@ module _ (n : ℕ) (b : List ℕ) where
       ap (λ (j : ℕ). line_of_bytes n (take j b)) k)
       (λ z.
       let q : n ≡ 11 + 2 * len_of b → ⊥ = eqb-false _ _ z in
-      sym (in-bad-length h q) ∙ is-bad-length n w (rw f h) (rw f q)))
+      sym (in_bad_length h q) ∙ is_bad_length n w (rw f h) (rw f q)))

@@ -5,7 +5,7 @@ use Rattle.ihex_record.specs.declared.ParseResult.TheVariants.{BadDigit}
 use Rattle.ihex_record.specs.Record.{digit_of, all_digits, first_bad, bytes_of, len_of, bad_shape, refused, line_of_bytes, line_of_text}
 use Rattle.hex_digits.proofs.Digits.{length_bytes, Decoding, rest}
 use Rattle.hex_digits.proofs.FirstBad.{bad_some, bad_all}
-use Rattle.ihex_record.proofs.Checks.{is_too_long, is-bad-length, shaped, is-bad-digit, is-bytes}
+use Rattle.ihex_record.proofs.Checks.{is_too_long, is_bad_length, shaped, is_bad_digit, is_bytes}
 use Rattle.ihex_record.specs.Bytes.{line_in}
 use Rattle.ihex_record.proofs.record_bytes.InBytes.{in_bytes}
 
@@ -22,7 +22,7 @@ first_37 n b e =
     sym (is_too_long n (take 37 b) (rw f g)) ∙ is_too_long n b g)
     (λ t.
     let g : len_of b ≤ 32 = ltb-false 32 (len_of b) t in
-    sym (is-bad-length n (take 37 b) (rw f g) (λ q. omega arith)) ∙ is-bad-length n b g (λ q. omega arith)))
+    sym (is_bad_length n (take 37 b) (rw f g) (λ q. omega arith)) ∙ is_bad_length n b g (λ q. omega arith)))
     (λ y. ap (line_of_bytes n) (take_all 37 b (ltb-false 37 (length b) y)))
 
 module _ (t : List ℕ) (some : length t ≡ 0 → ⊥) (colon : get_or t 0 0 ≡ 58) (shape : bad_shape (length t) ≡ false) where
@@ -31,12 +31,12 @@ module _ (t : List ℕ) (some : length t ≡ 0 → ⊥) (colon : get_or t 0 0 �
     found_in : b ≡ first_bad (drop 1 t)
     found_in = found ∙ ap first_bad (rest 1 t)
 
-    pub is-bad-at : b < length t - 1 → refused (BadDigit (b + 1)) ≡ line_of_text t
-    is-bad-at h =
-        is-bad-digit t some colon shape (omega (arith, found_in)) (bad_some (drop 1 t) (omega (arith, found_in, length-drop 1 t)))
+    pub is_bad_at : b < length t - 1 → refused (BadDigit (b + 1)) ≡ line_of_text t
+    is_bad_at h =
+        is_bad_digit t some colon shape (omega (arith, found_in)) (bad_some (drop 1 t) (omega (arith, found_in, length-drop 1 t)))
 
-    pub is-all-good : length t - 1 ≤ b → all_digits (drop 1 t) ≡ true
-    is-all-good h = bad_all (drop 1 t) (omega (arith, found_in, length-drop 1 t))
+    pub is_all_good : length t - 1 ≤ b → all_digits (drop 1 t) ≡ true
+    is_all_good h = bad_all (drop 1 t) (omega (arith, found_in, length-drop 1 t))
 
   pub is_decoded : (out : List ℕ) → all_digits (drop 1 t) ≡ true → length out ≡ 37 → Decoding (drop 1 t) out → line_in (length t) out ≡ line_of_text t
   is_decoded out e n d =
@@ -46,4 +46,4 @@ module _ (t : List ℕ) (some : length t ≡ 0 → ⊥) (colon : get_or t 0 0 �
       let f : take (length t / 2) out ≡ take 37 (bytes_of (drop 1 t)) = rw (h, n) at d in
       in_bytes (length t) out m
       ∙ rw f (first_37 (length t) (bytes_of (drop 1 t)) (omega (arith, length_bytes digit_of (drop 1 t), length-drop 1 t)))
-      ∙ is-bytes t some colon shape e
+      ∙ is_bytes t some colon shape e

@@ -2,11 +2,10 @@
 use Rattle.std.proofs.Common.{◌≡◌, ℕ, zero, suc, ◌+◌, ◌-◌, ◌*◌, ◌/◌, ◌%◌, ◌<◌, ◌≤◌, List, [], ◌∷◌, ◌++◌, length, take, replicate, sym, refl, ap, ◌∙◌, arith, length-append, length-take-le}
 use mathlib.Core.List.{flatten}
 use Rattle.ihex_record.specs.Types.{block_end, padded_data}
-use Rattle.ihex_record.specs.Write.{record_line}
 use Rattle.ihex_write.specs.Put.{put_line, put_lines}
 use Rattle.ihex_write.proofs.Line.{length_line}
 use Rattle.ihex_write.proofs.Lines.{put_one}
-use Rattle.ihex_write.specs.Fill.{missing, pads, pad_line, close_line, fill_lines}
+use Rattle.ihex_write.specs.Fill.{pads, pad_line, close_line, fill_lines}
 
 pub fill_more : (m : ℕ) → 64 < m → fill_lines m ≡ pad_line ∷ fill_lines (m - 64)
 unfolding fill_lines

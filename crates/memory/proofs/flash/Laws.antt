@@ -13,7 +13,7 @@ use lib.Dec.{eqb, ltb, leb}
 use borrow.Rule.Slice.PartMut.{put_mid}
 use borrow.Author.Tests.{lt-ltb, le-ltb, le-leb, eq-eqb, ltb-true, ltb-false, leb-true, leb-false, eqb-true, eqb-false}
 use Rattle.laws.specs.Over.{over}
-use Rattle.laws.proofs.OverLaws.{length_over, over_inside, over_before, over_after, put_over, copied_over}
+use Rattle.laws.proofs.OverLaws.{length_over, over_inside, over_before, over_after, put_over, part_over}
 use Rattle.laws.proofs.Tests.{split, and_left, and_right, is_false}
 use Rattle.memory.specs.Many.{many}
 use Rattle.memory.proofs.fill.Laws.{length_many, get_d_many}
@@ -176,9 +176,9 @@ store_out f at a h = sym (store_past f at (payload_of a) (λ r. omega (arith, r)
 
 -- a part of 256 bytes into which the payload was copied
 pub stored : (at : ℕ) (f a ys : List ℕ) → 288 ≤ length a → at + 256 ≤ length f
-    → ys ≡ take (length (take (288 - 32) (drop 32 a))) (take (288 - 32) (drop 32 a)) ++ drop (length (take (288 - 32) (drop 32 a))) (take (at + 256 - at) (drop at f))
+    → ys ≡ payload_of a
     → put_mid at (at + 256 - at) f ys ≡ store_at f at (payload_of a)
 unfolding payload_of
 stored at f a ys h l e =
     let n : length (payload_of a) ≡ 256 = length_payload a h in
-    copied_over at 256 f (payload_of a) ys n l e ∙ sym (store_in f at (payload_of a) (room_yes f at (payload_of a) n l))
+    part_over at 256 f (payload_of a) ys n l e ∙ sym (store_in f at (payload_of a) (room_yes f at (payload_of a) n l))

@@ -4,12 +4,12 @@ use mathlib.Core.Path.{◌≡◌, refl, ap, ◌∙◌}
 use mathlib.Core.Logic.{◌≢◌}
 use mathlib.Core.List.{List, ◌++◌}
 use native.Mathlib.Omega.{arith}
-use lib.ListN.{length, take, drop, length-append}
+use lib.ListN.{length, length-append}
 use borrow.Author.Tests.{eq-eqb, ne_eqb}
 use borrow.Rule.Slice.PartMut.{put_mid}
 use Rattle.laws.specs.Bytes.{low_first}
 use Rattle.laws.specs.Over.{over}
-use Rattle.laws.proofs.OverLaws.{length_over, over_next, over_whole, copied_over}
+use Rattle.laws.proofs.OverLaws.{length_over, over_next, over_whole, part_over}
 use Rattle.uf2_block.specs.Write.{le32, put_at}
 use Rattle.uf2_block.proofs.WriteLaws.{put_after}
 use Rattle.uf2_block.proofs.WriteLaws as fields
@@ -32,7 +32,7 @@ six_put b f s u v w x e =
 
 -- the numbers, and then the flags, copied after them
 pub entry_put : (b : List ℕ) (e : Entry) {c f ys : List ℕ} → length b ≡ 34 → c ≡ over b 0 (number_bytes e) → f ≡ flag_bytes e
-    → ys ≡ take (length f) f ++ drop (length f) (take (24 + 10 - 24) (drop 24 c))
+    → ys ≡ f
     → put_mid 24 (24 + 10 - 24) c ys ≡ with_entry b e
 unfolding with_entry
 entry_put b e {c} {f} {ys} hb hc hf hy =
@@ -43,7 +43,7 @@ entry_put b e {c} {f} {ys} hb hc hf hy =
     let lc : length c ≡ 34 = ap length hc ∙ length_over b 0 n (omega (arith, ln)) ∙ hb in
     let lf : length f ≡ 10 = ap length hf ∙ lg in
     let at : 0 + length n ≡ 24 = omega (arith, ln) in
-    copied_over 24 10 c f ys lf (omega arith) hy
+    part_over 24 10 c f ys lf (omega arith) hy
     ∙ rw (hc, hf) (over_next b 0 n 24 g at (omega (arith, lg)))
     ∙ over_whole b (n ++ g) (omega (arith, length-append n g, ln, lg))
     ∙ rw (eq-eqb (length b) 34 hb)

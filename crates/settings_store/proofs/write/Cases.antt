@@ -40,15 +40,15 @@ module _ (s : Settings) (len : ℕ) (out : List ℕ) where
   write_1 h = rw h
 
   module _ (p : flash_length len ≡ true) where
-    pub write-2 : good_settings s len ≡ false → write_call BadSettings out ≡ write_of s len out
+    pub write_2 : good_settings s len ≡ false → write_call BadSettings out ≡ write_of s len out
     unfolding write_of
-    write-2 h = rw (p, h)
+    write_2 h = rw (p, h)
 
     module _ (q : good_settings s len ≡ true) where
-      pub write-41 : length out < 2 + 22 * s.count → write_call BadLength out ≡ write_of s len out
+      pub write_41 : length out < 2 + 22 * s.count → write_call BadLength out ≡ write_of s len out
       unfolding write_of
-      write-41 h = rw (p, q, lt-ltb (length out) (2 + 22 * s.count) h)
+      write_41 h = rw (p, q, lt-ltb (length out) (2 + 22 * s.count) h)
 
-      pub write-good : 2 + 22 * s.count ≤ length out → {b : List ℕ} → b ≡ over out 0 (store_of s) → write_call Good b ≡ write_of s len out
+      pub write_good : 2 + 22 * s.count ≤ length out → {b : List ℕ} → b ≡ over out 0 (store_of s) → write_call Good b ≡ write_of s len out
       unfolding write_of
-      write-good h {b} e = rw (p, q, le-ltb (length out) (2 + 22 * s.count) h, e)
+      write_good h {b} e = rw (p, q, le-ltb (length out) (2 + 22 * s.count) h, e)

@@ -1,13 +1,13 @@
 -- What is written: the head's two bytes, and the rows after it. Assumes nothing.
 use Prim.Native.Nat.{ℕ, ◌+◌, ◌-◌, ◌*◌, ◌/◌, ◌%◌, ◌≤◌}
 use mathlib.Core.Path.{◌≡◌, refl, sym, ap, ◌∙◌}
-use mathlib.Core.List.{List, [], ◌∷◌, ◌++◌}
+use mathlib.Core.List.{List, [], ◌∷◌}
 use native.Mathlib.Omega.{arith}
-use lib.ListN.{length, take, drop, set, take-append-drop}
+use lib.ListN.{length, set, take-append-drop}
 use borrow.Rule.Slice.PartMut.{put_mid}
 use Rattle.laws.specs.Over.{over}
 use Rattle.laws.specs.Rows.{rows}
-use Rattle.laws.proofs.OverLaws.{length_over, set_over, over_next, copied_over}
+use Rattle.laws.proofs.OverLaws.{length_over, set_over, over_next, part_over}
 use Rattle.laws.proofs.RowsLaws.{rows_none, rows_more, length_rows}
 use Rattle.partitions.specs.declared.Entry.{Entry}
 use Rattle.partitions.specs.declared.Settings.{Settings}
@@ -39,14 +39,14 @@ module _ (out₀ : List ℕ) (t : List Entry) where
   -- one row more, copied into the part that was lent
   pub rows_next : (out ys r : List ℕ) (k : ℕ) {e : Entry} → 2 + 22 * (k + 1) ≤ length out₀ → out ≡ over out₀ 2 (rows (row_at t) k)
       → e ≡ entry_at t k → r ≡ packed_entry e
-      → ys ≡ take (length r) r ++ drop (length r) (take (2 + 22 * k + 22 - (2 + 22 * k)) (drop (2 + 22 * k) out))
+      → ys ≡ r
       → put_mid (2 + 22 * k) (2 + 22 * k + 22 - (2 + 22 * k)) out ys ≡ over out₀ 2 (rows (row_at t) (k + 1))
   rows_next out ys r k {e} room s he hr hy =
       let y : r ≡ row_at t k = row_is t k he hr in
       let long : length r ≡ 22 = ap length y ∙ length_row t k in
       let same = rows_long out k (omega arith) s in
       let at : 2 + length (rows (row_at t) k) ≡ 2 + 22 * k = omega (arith, length_rows 22 k (row_at t) (λ j l. length_row t j) k (omega arith)) in
-      copied_over (2 + 22 * k) 22 out r ys long (omega arith) hy
+      part_over (2 + 22 * k) 22 out r ys long (omega arith) hy
       ∙ rw (y, s, rows_more (row_at t) k) (over_next out₀ 2 (rows (row_at t) k) (2 + 22 * k) (row_at t k) at (omega (arith, length_row t k)))
 
 -- ---- the head

@@ -7,7 +7,7 @@ use native.Mathlib.Nat.{mod-eq_of_lt}
 use native.Mathlib.Omega.{arith}
 use lib.ListN.{length, get_or}
 use borrow.Author.Tests.{eq-eqb, ne_eqb}
-use Rattle.laws.specs.Packing.{total, packed, octets, Fit, none, one}
+use Rattle.laws.specs.Packing.{total, octets, Fit, none, one}
 use Rattle.laws.proofs.Widths.{fields_are, packed_lt}
 use Rattle.laws.proofs.Groups.{Coarse, done, group, solo, pair, coarse_packed}
 use Rattle.store_entry.specs.declared.chunk_bits.Chunks.{Chunks}

@@ -71,19 +71,19 @@ module _ (r : Report) where
     word_count l = rw (ne_eqb k 0 some, lt-ltb k 17 l)
 
     module _ (past : 17 ≤ k) where
-      pub word-discards : k ≡ 17 → r.discards ≡ word_of r k
+      pub word_discards : k ≡ 17 → r.discards ≡ word_of r k
       unfolding word_of
-      word-discards e = rw (ne_eqb k 0 some, le-ltb k 17 past, eq-eqb k 17 e)
+      word_discards e = rw (ne_eqb k 0 some, le-ltb k 17 past, eq-eqb k 17 e)
 
       module _ (no17 : k ≢ 17) where
-        pub word-marked : k ≡ 18 → r.marked ≡ word_of r k
+        pub word_marked : k ≡ 18 → r.marked ≡ word_of r k
         unfolding word_of
-        word-marked e = rw (ne_eqb k 0 some, le-ltb k 17 past, ne_eqb k 17 no17, eq-eqb k 18 e)
+        word_marked e = rw (ne_eqb k 0 some, le-ltb k 17 past, ne_eqb k 17 no17, eq-eqb k 18 e)
 
         module _ (no18 : k ≢ 18) where
-          pub word-flag : k ≡ 19 → flag_of r.missing ≡ word_of r k
+          pub word_flag : k ≡ 19 → flag_of r.missing ≡ word_of r k
           unfolding word_of
-          word-flag e = rw (ne_eqb k 0 some, le-ltb k 17 past, ne_eqb k 17 no17, ne_eqb k 18 no18, eq-eqb k 19 e)
+          word_flag e = rw (ne_eqb k 0 some, le-ltb k 17 past, ne_eqb k 17 no17, ne_eqb k 18 no18, eq-eqb k 19 e)
 
           pub word_number : k ≢ 19 → missing_number r.missing ≡ word_of r k
           unfolding word_of

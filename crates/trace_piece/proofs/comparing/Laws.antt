@@ -88,14 +88,14 @@ module _ (s : Settings) (w : World) (p : List ℕ) where
 
   -- what judge told, and what was taken
   module _ {x : PieceAnswer} (e : x ≡ (piece_of s w p).answer) where
-    pub told-left : is_replayed x ≡ false → piece_outcome x w ≡ piece_of s w p
-    told-left z = ap (λ (x : PieceAnswer). piece_outcome x w) e ∙ piece_left s w p (ap is_replayed (sym e) ∙ z)
+    pub told_left : is_replayed x ≡ false → piece_outcome x w ≡ piece_of s w p
+    told_left z = ap (λ (x : PieceAnswer). piece_outcome x w) e ∙ piece_left s w p (ap is_replayed (sym e) ∙ z)
 
-    pub told-long : is_replayed x ≡ true → length p ≡ 513
-    told-long y = (piece_taken s w p (ap is_replayed (sym e) ∙ y)).long
+    pub told_long : is_replayed x ≡ true → length p ≡ 513
+    told_long y = (piece_taken s w p (ap is_replayed (sym e) ∙ y)).long
 
-    pub told-taken : is_replayed x ≡ true → {r : Receipt} {k : Lent} → outcome r k ≡ receive_of s w arrival → piece_outcome x (world r.transfer k) ≡ piece_of s w p
-    told-taken y {r} {k} q =
+    pub told_taken : is_replayed x ≡ true → {r : Receipt} {k : Lent} → outcome r k ≡ receive_of s w arrival → piece_outcome x (world r.transfer k) ≡ piece_of s w p
+    told_taken y {r} {k} q =
         ap (λ (o : Outcome). piece_outcome x o.world) (q ∙ ap (receive_of s w) arrival_is)
         ∙ ap (λ (x : PieceAnswer). piece_outcome x (ours s w p).world) e
         ∙ (piece_taken s w p (ap is_replayed (sym e) ∙ y)).is

@@ -83,18 +83,18 @@ module _ (flash : List ℕ) (start : ℕ) (g : Region) where
   stands_low h = rw (lt-leb 0x10000000 g.start h)
 
   module _ (w : 0x10000000 ≤ g.start) where
-    pub stands-past : length flash < from_of start g + g.len → false ≡ stands_in flash start g
+    pub stands_past : length flash < from_of start g + g.len → false ≡ stands_in flash start g
     unfolding stands_in
-    stands-past h = rw (le-leb 0x10000000 g.start w, lt-leb (from_of start g + g.len) (length flash) h)
+    stands_past h = rw (le-leb 0x10000000 g.start w, lt-leb (from_of start g + g.len) (length flash) h)
 
     pub stands_there : from_of start g + g.len ≤ length flash → same_digest (md5_of (part_of flash start g)) g ≡ stands_in flash start g
     unfolding stands_in
     stands_there h = rw (le-leb 0x10000000 g.start w, le-leb (from_of start g + g.len) (length flash) h)
 
     -- as the code has it
-    pub stands-part : from_of start g + g.len ≤ length flash → {x : Digest} {r : Bool}
+    pub stands_part : from_of start g + g.len ≤ length flash → {x : Digest} {r : Bool}
         → x ≡ md5_of (take (from_of start g + g.len - from_of start g) (drop (from_of start g) flash)) → r ≡ same_digest x g → r ≡ stands_in flash start g
-    stands-part h d s =
+    stands_part h d s =
         let n : from_of start g + g.len - from_of start g ≡ g.len = omega arith in
         s ∙ ap (λ (x : Digest). same_digest x g) (d ∙ rw n) ∙ stands_there h
 

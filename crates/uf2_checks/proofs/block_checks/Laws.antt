@@ -56,14 +56,14 @@ module _ (k : Kind) (start size : ℕ) (b : Block) where
   address_ragged e w = address_wrong (λ r. w (ap (λ (m : ℕ). b.address % m) e ∙ aligned size b k r))
 
   module _ {from : ℕ} (f : from ≡ base_of k) (l : base_of k ≤ b.address) where
-    pub address-past : {past : ℕ} → size < past - from → past ≡ b.address + 256 → addressed k start size b ≡ Refused BadAddress
-    address-past h q = address_wrong (λ r. omega (arith, h, q, f, l, r.inside))
+    pub address_past : {past : ℕ} → size < past - from → past ≡ b.address + 256 → addressed k start size b ≡ Refused BadAddress
+    address_past h q = address_wrong (λ r. omega (arith, h, q, f, l, r.inside))
 
-    pub address-passed : {step : ℕ} → step ≡ alignment_of k → b.address % step ≡ 0 → {past : ℕ} → past - from ≤ size → past ≡ b.address + 256
+    pub address_passed : {step : ℕ} → step ≡ alignment_of k → b.address % step ≡ 0 → {past : ℕ} → past - from ≤ size → past ≡ b.address + 256
         → {g : Head} → g ≡ head_with k b.family b.total
         → Passed (record { head = g; number = b.number; body = Page (start + (b.address - from)) }) ≡ addressed k start size b
     unfolding addressed
-    address-passed e w i q h =
+    address_passed e w i q h =
         let whole = sym (ap (λ (m : ℕ). b.address % m) e) ∙ w in
         rw (address_right size b k l whole (omega (arith, f, l, i, q)), h, f)
 
@@ -75,13 +75,13 @@ module _ (k : Kind) (start size : ℕ) (b : Block) where
   placed_payload n = rw (ne_eqb b.size 256 n)
 
   module _ (p : b.size ≡ 256) where
-    pub placed-numbers : bad_numbers size b ≡ true → placed k start size b ≡ Refused BadNumbers
+    pub placed_numbers : bad_numbers size b ≡ true → placed k start size b ≡ Refused BadNumbers
     unfolding placed
-    placed-numbers h = rw (eq-eqb b.size 256 p, h)
+    placed_numbers h = rw (eq-eqb b.size 256 p, h)
 
-    pub placed-address : bad_numbers size b ≡ false → placed k start size b ≡ addressed k start size b
+    pub placed_address : bad_numbers size b ≡ false → placed k start size b ≡ addressed k start size b
     unfolding placed addressed
-    placed-address h = rw (eq-eqb b.size 256 p, h)
+    placed_address h = rw (eq-eqb b.size 256 p, h)
 
 -- ---- the window of an address
 

@@ -17,9 +17,9 @@ module _ (f a : List ℕ) (start size : ℕ) where
   stands_bare h = rw h
 
   module _ (h : has_flag a 0x4000 ≡ true) {g : Region} (e : g ≡ region_of a) {x : ℕ} (q : x ≡ field_at a 12) where
-    pub stands-bad : good_region size x g ≡ false → false ≡ stands_at f (At start size) a
+    pub stands_bad : good_region size x g ≡ false → false ≡ stands_at f (At start size) a
     unfolding stands_at
-    stands-bad n = rw (h, sym e, sym q, n)
+    stands_bad n = rw (h, sym e, sym q, n)
 
     pub stands_good : good_region size x g ≡ true → {r : Bool} → r ≡ stands_in f start g → r ≡ stands_at f (At start size) a
     unfolding stands_at

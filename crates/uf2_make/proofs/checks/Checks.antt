@@ -23,9 +23,9 @@ module _ (n start room : ℕ) where
   image_bad h = rw h
 
   module _ (p : bad_image n ≡ false) where
-    pub start-bad : bad_start start ≡ true → BadStart ≡ check_of n start room
+    pub start_bad : bad_start start ≡ true → BadStart ≡ check_of n start room
     unfolding check_of
-    start-bad h = rw (p, h)
+    start_bad h = rw (p, h)
 
     module _ (q : bad_start start ≡ false) where
       pub past : 0x12000000 < start + n → PastWindow ≡ check_of n start room

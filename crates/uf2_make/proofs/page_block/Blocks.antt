@@ -14,7 +14,7 @@ use Rattle.memory.proofs.fill.Laws.{length_many}
 use Rattle.laws.specs.Over.{over}
 use Rattle.laws.specs.Bytes.{low_first}
 use Rattle.laws.proofs.BytesLaws.{length_low}
-use Rattle.laws.proofs.OverLaws.{length_over, over_next, over_whole, put_over, copied_over}
+use Rattle.laws.proofs.OverLaws.{length_over, over_next, over_whole, put_over, part_over}
 use Rattle.uf2_block.specs.Write.{le32, put_at}
 use Rattle.uf2_block.proofs.WriteLaws.{put_after}
 use Rattle.uf2_block.proofs.WriteLaws as fields
@@ -56,7 +56,7 @@ length_block a n t f page h =
 
 pub block_put : (b : List ℕ) (a n t f : ℕ) (page : List ℕ) {x c d e g ys zs : List ℕ} → length b ≡ 512 → length page ≡ 256
     → x ≡ first_over b a → c ≡ last_over x n t f
-    → ys ≡ take (length page) page ++ drop (length page) (take (32 + 256 - 32) (drop 32 c)) → d ≡ put_mid 32 (32 + 256 - 32) c ys
+    → ys ≡ page → d ≡ put_mid 32 (32 + 256 - 32) c ys
     → zs ≡ many (length (take (288 + 220 - 288) (drop 288 d))) 0 → e ≡ put_mid 288 (288 + 220 - 288) d zs
     → g ≡ put_at e 508 0x0AB16F30 → g ≡ block_bytes a n t f page
 unfolding block_bytes
@@ -66,7 +66,7 @@ block_put b a n t f page {x} {c} {d} {e} {g} {ys} {zs} hb hp hx hl hy hd hz he h
     let hc : c ≡ over b 0 lead = hl ∙ rw hx (lead_put b a n t f hb) in
     let lc : length c ≡ 512 = ap length hc ∙ length_over b 0 lead (omega (arith, l)) ∙ hb in
     let d2 : d ≡ over b 0 (lead ++ page) =
-    hd ∙ copied_over 32 256 c page ys hp (omega arith) hy ∙ rw hc (piece b lead page 32 256 l hp (omega arith)) in
+    hd ∙ part_over 32 256 c page ys hp (omega arith) hy ∙ rw hc (piece b lead page 32 256 l hp (omega arith)) in
     let m : length (lead ++ page) ≡ 288 = omega (arith, length-append lead page, l, hp) in
     let ld : length d ≡ 512 = ap length d2 ∙ length_over b 0 (lead ++ page) (omega (arith, m)) ∙ hb in
     let z : zs ≡ many 220 0 = hz ∙ ap (λ (k : ℕ). many k 0) (part d ld) in

@@ -12,7 +12,7 @@ use Rattle.memory.specs.Many.{many}
 use Rattle.memory.proofs.fill.Laws.{length_many, get_d_many}
 use Rattle.laws.specs.Over.{over}
 use Rattle.laws.proofs.Tests.{split}
-use Rattle.laws.proofs.OverLaws.{length_over, over_inside, over_before, over_after, copied_over}
+use Rattle.laws.proofs.OverLaws.{length_over, over_inside, over_before, over_after, part_over}
 use Rattle.md5_digest.specs.Md5.{md5_of}
 use Rattle.md5_digest.specs.declared.Digest.{Digest}
 use Rattle.uf2_make_regions.specs.Sector.{sector_of}
@@ -27,17 +27,17 @@ blank = refl
 
 module _ (image : List ℕ) (at from count : ℕ) (room : at + count ≤ 4096) (inside : from + count ≤ length image) where
   pub placed_over : {d ys : List ℕ} → d ≡ many 4096 255
-      → ys ≡ take (length (take (from + count - from) (drop from image))) (take (from + count - from) (drop from image)) ++ drop (length (take (from + count - from) (drop from image))) (take (at + count - at) (drop at d))
+      → ys ≡ take (from + count - from) (drop from image)
       → put_mid at (at + count - at) d ys ≡ over (many 4096 255) at (take count (drop from image))
   placed_over {d} {ys} hd hy =
       let p = take (from + count - from) (drop from image) in
       let n : from + count - from ≡ count = omega arith in
       let long : length p ≡ count = simp (length-take, length-drop) (omega arith) in
       let size : length d ≡ 4096 = ap length hd ∙ length_many 4096 255 in
-      copied_over at count d p ys long (omega arith) hy ∙ rw (hd, n) refl
+      part_over at count d p ys long (omega arith) hy ∙ rw (hd, n) refl
 
   pub placed_long : {d ys : List ℕ} → d ≡ many 4096 255
-      → ys ≡ take (length (take (from + count - from) (drop from image))) (take (from + count - from) (drop from image)) ++ drop (length (take (from + count - from) (drop from image))) (take (at + count - at) (drop at d))
+      → ys ≡ take (from + count - from) (drop from image)
       → length (put_mid at (at + count - at) d ys) ≡ 4096
   placed_long hd hy =
       let fits : at + length (take count (drop from image)) ≤ length (many 4096 255) =
@@ -76,9 +76,9 @@ module _ (image : List ℕ) (start base : ℕ) where
     fits : at + length part ≤ length (many 4096 255)
     fits = rw (length_many 4096 255, length-take (4096 - at) (drop from image)) (omega arith)
 
-    pub length-sector : length (sector_of image start base) ≡ 4096
+    pub length_sector : length (sector_of image start base) ≡ 4096
     unfolding sector_of
-    length-sector = length_over (many 4096 255) at part fits ∙ length_many 4096 255
+    length_sector = length_over (many 4096 255) at part fits ∙ length_many 4096 255
 
     -- where the image's part ends
     part-size : (j : ℕ) → j < 4096 - at → from + j < length image → j < length part
@@ -91,7 +91,7 @@ module _ (image : List ℕ) (start base : ℕ) where
     unfolding sector_of
     final =
         record {
-          long = unfold sector_of in length-sector;
+          long = unfold sector_of in length_sector;
           pages = λ j h s e.
               let i = j - at in
               let hi : i < 4096 - at = omega arith in

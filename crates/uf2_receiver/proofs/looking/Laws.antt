@@ -18,11 +18,11 @@ use Rattle.uf2_known.proofs.KnownLaws.{Knows, decision_is}
 module _ (known : Known) (t : Transfer) (a : List ℕ) (h : Lent) where
   module _ {d : Decision} (k : d ≡ known_decision known (world t h) a) where
     -- what is said
-    pub look-stays : {x : Answer} → d ≡ stays x → forecast x false ≡ forecast_of (known_decision known (world t h) a)
-    look-stays e = ap forecast_of (sym e ∙ k)
+    pub look_stays : {x : Answer} → d ≡ stays x → forecast x false ≡ forecast_of (known_decision known (world t h) a)
+    look_stays e = ap forecast_of (sym e ∙ k)
 
-    pub look-accepts : {p : PlacedBlock} {e : Deed} {y : Accepted} → d ≡ accepts p e y → forecast y.answer y.discarded ≡ forecast_of (known_decision known (world t h) a)
-    look-accepts q = ap forecast_of (sym q ∙ k)
+    pub look_accepts : {p : PlacedBlock} {e : Deed} {y : Accepted} → d ≡ accepts p e y → forecast y.answer y.discarded ≡ forecast_of (known_decision known (world t h) a)
+    look_accepts q = ap forecast_of (sym q ∙ k)
 
 -- with what the settings and the lengths truly say handed in, it is as the meaning has it
 pub look_is : (s : Settings) (w : World) (a : List ℕ) {k : Known} → Knows s w a k → forecast_of (known_decision k w a) ≡ look_of s w a

@@ -1,19 +1,14 @@
 -- Each case of what a size and a type say, and answers that are no tag. Assumes nothing.
 use mathlib.Core.Path.{◌≡◌, refl, ap}
 use mathlib.Core.Bool.{Bool, true, false, cond}
-use mathlib.Core.Logic.{⊎_elim}
-use mathlib.Core.List.{[], ◌∷◌}
 use Prim.Native.Nat.{ℕ, ◌+◌, ◌<◌, ◌≤◌}
 use native.Mathlib.Omega.{arith}
 use borrow.Author.Tests.{lt-ltb, le-ltb, le-leb, lt-leb, eq-eqb, ne_eqb}
-use types.Run.{OneOf}
-use denote.Enum.Declared.{tag_of as case_of}
 use Rattle.laws.proofs.Tests.{clash}
 use Rattle.uf2_tags.specs.declared.one_tag.Tag.{Tag}
 use Rattle.uf2_tags.specs.declared.one_tag.Answer.{Answer}
 use Rattle.uf2_tags.specs.declared.one_tag.Answer.TheVariants.{Tag as a-tag, End, BadLength, BadPlace, NotBlock, BadPayload, ShortTag, TypedEnd, PastRoom, NoRoom}
 use Rattle.uf2_tags.specs.Tag.{tag_of, sized, is_tag, on_tag}
-use Rattle.uf2_tags.specs.contracts.one_tag.Answer.{the_type}
 
 -- ---- a size and a type
 
@@ -27,18 +22,18 @@ module _ (size kind at end : ℕ) where
   sized_typed p q = rw (eq-eqb size 0 p, ne_eqb kind 0 q, lt-leb 1 size (omega arith)) refl
 
   module _ (p : size ≡ 0 → ⊥) where
-    pub sized-small : size < 4 → ShortTag ≡ sized size kind at end
+    pub sized_small : size < 4 → ShortTag ≡ sized size kind at end
     unfolding sized
-    sized-small h = rw (ne_eqb size 0 p, le-leb 1 size (omega arith), le-leb size 3 (omega arith)) refl
+    sized_small h = rw (ne_eqb size 0 p, le-leb 1 size (omega arith), le-leb size 3 (omega arith)) refl
 
     module _ (q : 4 ≤ size) where
       pub sized_past : end < at + size → PastRoom ≡ sized size kind at end
       unfolding sized
       sized_past h = rw (ne_eqb size 0 p, le-leb 1 size (omega arith), lt-leb size 3 (omega arith), lt-ltb end (at + size) h) refl
 
-      pub sized-tag : at + size ≤ end → a-tag (tag_of size kind at) ≡ sized size kind at end
+      pub sized_tag : at + size ≤ end → a-tag (tag_of size kind at) ≡ sized size kind at end
       unfolding sized
-      sized-tag h = rw (ne_eqb size 0 p, le-leb 1 size (omega arith), lt-leb size 3 (omega arith), le-ltb end (at + size) h) refl
+      sized_tag h = rw (ne_eqb size 0 p, le-leb 1 size (omega arith), lt-leb size 3 (omega arith), le-ltb end (at + size) h) refl
 
 pub sized_same : {size s kind k : ℕ} (at end : ℕ) → size ≡ s → kind ≡ k → sized size kind at end ≡ sized s k at end
 sized_same at end e f = rw (e, f)
@@ -55,12 +50,9 @@ tag_same s t e = cc
 
 -- ---- answers that are no tag
 
--- by the case, as a `let .. else` tells it
-pub not_tag : (a : Answer) → OneOf (1 ∷ 2 ∷ 3 ∷ 4 ∷ 5 ∷ 6 ∷ 7 ∷ 8 ∷ 9 ∷ []) (case_of the_type a) → is_tag a ≡ false
-not_tag (a-tag t) h = absurd (none h)
-  where
-    none : OneOf (1 ∷ 2 ∷ 3 ∷ 4 ∷ 5 ∷ 6 ∷ 7 ∷ 8 ∷ 9 ∷ []) 0 → ⊥
-    none x = ⊎_elim (λ y. omega arith) (⊎_elim (λ y. omega arith) (⊎_elim (λ y. omega arith) (⊎_elim (λ y. omega arith) (⊎_elim (λ y. omega arith) (⊎_elim (λ y. omega arith) (⊎_elim (λ y. omega arith) (⊎_elim (λ y. omega arith) (λ y. omega arith)))))))) x
+-- as a `let .. else` tells it
+pub not_tag : (a : Answer) → ((t : Tag) → a ≡ a-tag t → ⊥) → is_tag a ≡ false
+not_tag (a-tag t) h = absurd (h t refl)
 not_tag End h = refl
 not_tag BadLength h = refl
 not_tag BadPlace h = refl

@@ -10,7 +10,7 @@ use borrow.Author.Tests.{lt-ltb, le-ltb, le-leb, eq-eqb, ne_eqb, eqb-true, eqb-f
 use Rattle.laws.proofs.Tests.{or_left, or_right, split}
 use Rattle.laws.specs.Bytes.{number_in}
 use Rattle.uf2_block.specs.Block.{field_at, has_flag, is_block}
-use Rattle.uf2_block.proofs.Laws.{field_in}
+use Rattle.uf2_block.proofs.Laws.{field_in_lem}
 use Rattle.uf2_tags.specs.declared.one_tag.Tag.{Tag}
 use Rattle.uf2_tags.specs.declared.one_tag.Answer.TheVariants.{Tag as a-tag, End, BadLength, BadPlace, NotBlock, BadPayload, ShortTag, TypedEnd, PastRoom, NoRoom}
 use Rattle.uf2_tags.specs.Tag.{tag_of, sized}
@@ -44,10 +44,10 @@ kind_three b at =
 -- the four bytes of a tag's head as one field, as the code reads them
 module _ (b : List ℕ) (at : ℕ) (h : at + 4 ≤ length b) (low : get_or b at 0 < 256) where
   pub head_size : field_at b at % 256 ≡ get_or b at 0
-  head_size = omega (arith, field_in b at h)
+  head_size = omega (arith, field_in_lem b at h)
 
   pub head_kind : field_at b at / 256 ≡ kind_at b at
-  head_kind = omega (arith, field_in b at h, kind_three b at)
+  head_kind = omega (arith, field_in_lem b at h, kind_three b at)
 
 module _ (b : List ℕ) where
   pub room_md5 : field_at b 8 / 0x4000 % 2 ≡ 1 → 484 ≡ room_end b
@@ -96,13 +96,13 @@ module _ (b : List ℕ) (at : ℕ) where
       at_clear h = rw (eq-eqb (length b) 512 p, q, ne_eqb (field_at b 8 / 0x8000 % 2) 1 h) refl
 
       module _ (f : field_at b 8 / 0x8000 % 2 ≡ 1) where
-        pub at-payload : bad_payload (field_at b 16) ≡ true → BadPayload ≡ tag_at b at
+        pub at_payload : bad_payload (field_at b 16) ≡ true → BadPayload ≡ tag_at b at
         unfolding tag_at
-        at-payload h = rw (eq-eqb (length b) 512 p, q, eq-eqb (field_at b 8 / 0x8000 % 2) 1 f, h) refl
+        at_payload h = rw (eq-eqb (length b) 512 p, q, eq-eqb (field_at b 8 / 0x8000 % 2) 1 f, h) refl
 
-        pub at-stands : bad_payload (field_at b 16) ≡ false → stands_at b at ≡ tag_at b at
+        pub at_stands : bad_payload (field_at b 16) ≡ false → stands_at b at ≡ tag_at b at
         unfolding tag_at
-        at-stands h = rw (eq-eqb (length b) 512 p, q, eq-eqb (field_at b 8 / 0x8000 % 2) 1 f, h) refl
+        at_stands h = rw (eq-eqb (length b) 512 p, q, eq-eqb (field_at b 8 / 0x8000 % 2) 1 f, h) refl
 
 -- by the check of the place that decides
 module _ (b : List ℕ) (at : ℕ) where
@@ -110,11 +110,11 @@ module _ (b : List ℕ) (at : ℕ) where
   stands_place h = rw h refl
 
   module _ (s : bad_place (first_place b) at ≡ false) where
-    pub stands-none : room_end b < at + 4 → NoRoom ≡ stands_at b at
-    stands-none h = rw (s, lt-ltb (room_end b) (at + 4) h) refl
+    pub stands_none : room_end b < at + 4 → NoRoom ≡ stands_at b at
+    stands_none h = rw (s, lt-ltb (room_end b) (at + 4) h) refl
 
-    pub stands-tag : at + 4 ≤ room_end b → sized (get_or b at 0) (kind_at b at) at (room_end b) ≡ stands_at b at
-    stands-tag h = rw (s, le-ltb (room_end b) (at + 4) h) refl
+    pub stands_tag : at + 4 ≤ room_end b → sized (get_or b at 0) (kind_at b at) at (room_end b) ≡ stands_at b at
+    stands_tag h = rw (s, le-ltb (room_end b) (at + 4) h) refl
 
 -- ---- what a tag says of its block
 

@@ -1,14 +1,10 @@
 -- Laws of a line of a reader that is neither failed nor at the end, one for each way that the code leaves. Assumes nothing.
 use Prim.Native.Nat.{ℕ, ◌+◌, ◌≤◌, ◌<◌}
 use mathlib.Core.Path.{◌≡◌, refl, ap, sym, ◌∙◌}
-use mathlib.Core.Logic.{⊎_elim}
-use types.Run.{OneOf}
-use denote.Enum.Declared.{tag_of}
-use native.Mathlib.Omega.{arith}
-use mathlib.Core.List.{List, [], ◌∷◌}
+use mathlib.Core.List.{List}
 use lib.ListN.{length}
 use borrow.Author.Tests.{lt-ltb, le-ltb}
-use Rattle.ihex_record.specs.contracts.ParseResult.{the_type}
+use Rattle.ihex_record.specs.declared.Record.{Record}
 use Rattle.ihex_record.specs.declared.ParseResult.{ParseResult}
 use Rattle.ihex_record.specs.declared.ParseResult.TheVariants as parsed
 use Rattle.ihex_record.specs.declared.Line.{Line}
@@ -20,14 +16,10 @@ use Rattle.uhex_effects.specs.declared.Reader.{Reader}
 use Rattle.uhex_reader.specs.Outcome.{LineOutcome, failing}
 use Rattle.uhex_reader.specs.Live.{parsed_line, live_line}
 
-parsed_refused : (r : Reader) (d : List ℕ) (e : ℕ) (img : List ℕ) (p : ParseResult) → OneOf (1 ∷ 2 ∷ 3 ∷ 4 ∷ 5 ∷ 6 ∷ []) (tag_of the_type p)
+parsed_refused : (r : Reader) (d : List ℕ) (e : ℕ) (img : List ℕ) (p : ParseResult) → ((rec : Record) → p ≡ parsed.Good rec → ⊥)
     → failing r (refusal_of p) img ≡ parsed_line r d e img p
 unfolding parsed_line
-parsed_refused r d e img (parsed.Good rec) t =
-    absurd
-    (⊎_elim (λ x. omega arith)
-    (⊎_elim (λ x. omega arith) (⊎_elim (λ x. omega arith) (⊎_elim (λ x. omega arith) (⊎_elim (λ x. omega arith) (λ x. omega arith)))))
-    t)
+parsed_refused r d e img (parsed.Good rec) t = absurd (t rec refl)
 parsed_refused r d e img parsed.NoColon t = refl
 parsed_refused r d e img parsed.BadShape t = refl
 parsed_refused r d e img (parsed.BadDigit p) t = refl
@@ -48,9 +40,9 @@ live_by r l img x p o q h k f =
     ∙ ap (parsed_line r x.«data» (r.offset + length l) img) (sym k)
     ∙ ap (λ (y : Line). parsed_line r y.«data» (r.offset + length l) img y.parsed) h)
 
--- what is read is no record, by its tag
+-- what is read is no record
 pub live_refused : (r : Reader) (l img : List ℕ) (x : Line) (a : Answer) (o : LineOutcome) → r.offset + length l ≤ 4194304 → x ≡ read_of l
-    → OneOf (1 ∷ 2 ∷ 3 ∷ 4 ∷ 5 ∷ 6 ∷ []) (tag_of the_type x.parsed) → a ≡ refusal_of x.parsed → o ≡ failing r a img → o ≡ live_line r l img
+    → ((rec : Record) → x.parsed ≡ parsed.Good rec → ⊥) → a ≡ refusal_of x.parsed → o ≡ failing r a img → o ≡ live_line r l img
 live_refused r l img x a o q h t k f =
     live_by r l img x x.parsed o q h refl
     (f ∙ ap (λ (y : Answer). failing r y img) k ∙ parsed_refused r x.«data» (r.offset + length l) img x.parsed t)

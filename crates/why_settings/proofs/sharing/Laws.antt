@@ -35,11 +35,11 @@ module _ (table : List Entry) (k : ℕ) where
     other-past j h =
         rw (empty-past j h, overlap_before (entry_at table k).first (entry_at table k).sectors 0 0 (omega arith)) (and-false (not (eqb j k)))
 
-    pub least-own-past : (n : ℕ) → 16 ≤ k → n ≡ least n (shares_with table k)
-    least-own-past n h = sym (least_none (shares_with table k) n (any_none (shares_with table k) n (λ j b. own-past h j)))
+    pub least_own_past : (n : ℕ) → 16 ≤ k → n ≡ least n (shares_with table k)
+    least_own_past n h = sym (least_none (shares_with table k) n (any_none (shares_with table k) n (λ j b. own-past h j)))
 
-    pub least-past : (n j : ℕ) → 16 ≤ j → any j (shares_with table k) ≡ false → n ≡ least n (shares_with table k)
-    least-past n j h q =
+    pub least_past : (n j : ℕ) → 16 ≤ j → any j (shares_with table k) ≡ false → n ≡ least n (shares_with table k)
+    least_past n j h q =
         sym
         (least_none (shares_with table k) n
         (any_none (shares_with table k) n

@@ -1,27 +1,23 @@
 -- The calls by what their parts ensure. Assumes nothing.
 use mathlib.Core.Path.{◌≡◌, refl, sym, ap, ◌∙◌}
 use mathlib.Core.Bool.{Bool, cond}
-use mathlib.Core.Logic.{◌≢◌, ⊎_elim}
-use mathlib.Core.List.{List, [], ◌∷◌, ◌++◌}
+use mathlib.Core.Logic.{◌≢◌}
+use mathlib.Core.List.{List, [], ◌∷◌}
 use Prim.Native.Nat.{ℕ, ◌-◌}
 use native.Mathlib.Omega.{arith}
-use lib.ListN.{length, take, drop}
+use lib.ListN.{length}
 use borrow.Author.Tests.{eq-eqb, ne_eqb}
-use types.Run.{OneOf}
 use borrow.Rule.Slice.PartMut.{put_mid}
-use denote.Enum.Declared.{tag_of as case_of}
 use Rattle.laws.specs.Over.{over}
-use Rattle.laws.proofs.OverLaws.{length_over, over_next, copied_over}
+use Rattle.laws.proofs.OverLaws.{length_over, over_next, part_over}
 use Rattle.transfer.specs.Transfer.{number_of}
 use Rattle.transfer.specs.declared.Answer.{Answer}
 use Rattle.transfer_layout.specs.Results.{result_of}
 use Rattle.why_settings.specs.declared.Fault.{Fault}
 use Rattle.why_settings.specs.declared.Fault.TheVariants.{ArchOff, CountOver, NoSectors, PastFlash, Shares, LinksUp, LinksToB, ManyUsers, ReservedUser}
-use Rattle.why_settings.specs.contracts.Fault.{the_type as fault-type}
 use Rattle.why_causes.specs.Causes.{answer_of}
 use Rattle.why_causes.specs.declared.Cause.{Cause}
 use Rattle.why_causes.specs.declared.Cause.TheVariants.{BadBuffers, BadSettings, BadState, NotBlock, Container, NoFamily, NoPlace, BadPayload, BadNumbers, BadAddress, Finished, Again, Written, Completed, Noted, Kept}
-use Rattle.why_causes.specs.contracts.Cause.{the_type}
 use Rattle.why.specs.Placed.{placed_number}
 use Rattle.why.specs.declared.Why.{Why}
 use Rattle.why.specs.declared.WhyPlace.{WhyPlace}
@@ -30,13 +26,10 @@ use Rattle.whyapi.specs.WhyBytes.{fault_other, on_fault, told_of, byte_told, num
 
 -- ---- causes that are no fault of the settings
 
-none : OneOf (0 ∷ 2 ∷ 3 ∷ 4 ∷ 5 ∷ 6 ∷ 7 ∷ 8 ∷ 9 ∷ 10 ∷ 11 ∷ 12 ∷ 13 ∷ 14 ∷ 15 ∷ []) 1 → ⊥
-none h = ⊎_elim (λ y. omega arith) (⊎_elim (λ y. omega arith) (⊎_elim (λ y. omega arith) (⊎_elim (λ y. omega arith) (⊎_elim (λ y. omega arith) (⊎_elim (λ y. omega arith) (⊎_elim (λ y. omega arith) (⊎_elim (λ y. omega arith) (⊎_elim (λ y. omega arith) (⊎_elim (λ y. omega arith) (⊎_elim (λ y. omega arith) (⊎_elim (λ y. omega arith) (⊎_elim (λ y. omega arith) (⊎_elim (λ y. omega arith) (λ y. omega arith)))))))))))))) h
-
 -- by the case, as a `let .. else` tells it
-pub no_fault : (f : Fault → ℕ) (c : Cause) → OneOf (0 ∷ 2 ∷ 3 ∷ 4 ∷ 5 ∷ 6 ∷ 7 ∷ 8 ∷ 9 ∷ 10 ∷ 11 ∷ 12 ∷ 13 ∷ 14 ∷ 15 ∷ []) (case_of the_type c) → on_fault f c ≡ 0
+pub no_fault : (f : Fault → ℕ) (c : Cause) → ((x : Fault) → c ≡ BadSettings x → ⊥) → on_fault f c ≡ 0
 no_fault f (BadBuffers x) h = refl
-no_fault f (BadSettings x) h = absurd (none h)
+no_fault f (BadSettings x) h = absurd (h x refl)
 no_fault f (BadState x) h = refl
 no_fault f (NotBlock x) h = refl
 no_fault f Container h = refl
@@ -52,15 +45,12 @@ no_fault f Completed h = refl
 no_fault f Noted h = refl
 no_fault f Kept h = refl
 
-no_pair : OneOf (0 ∷ 1 ∷ 2 ∷ 3 ∷ 5 ∷ 6 ∷ 7 ∷ 8 ∷ []) 4 → ⊥
-no_pair h = ⊎_elim (λ y. omega arith) (⊎_elim (λ y. omega arith) (⊎_elim (λ y. omega arith) (⊎_elim (λ y. omega arith) (⊎_elim (λ y. omega arith) (⊎_elim (λ y. omega arith) (⊎_elim (λ y. omega arith) (λ y. omega arith))))))) h
-
-pub no_other : (x : Fault) → OneOf (0 ∷ 1 ∷ 2 ∷ 3 ∷ 5 ∷ 6 ∷ 7 ∷ 8 ∷ []) (case_of fault-type x) → fault_other x ≡ 0
+pub no_other : (x : Fault) → ((k j : ℕ) → x ≡ Shares k j → ⊥) → fault_other x ≡ 0
 no_other ArchOff h = refl
 no_other CountOver h = refl
 no_other (NoSectors k) h = refl
 no_other (PastFlash k) h = refl
-no_other (Shares k j) h = absurd (no_pair h)
+no_other (Shares k j) h = absurd (h k j refl)
 no_other (LinksUp k) h = refl
 no_other (LinksToB k) h = refl
 no_other (ManyUsers k) h = refl
@@ -83,13 +73,13 @@ module _ (l : List ℕ) (x : ReasonFields) where
 
 -- the two entries, then the marks
 pub marks_put : (l : List ℕ) (entry other : ℕ) (m : List ℕ) → length l ≡ 38 → length m ≡ 16 → {x y z : List ℕ}
-    → x ≡ take 2 (entry ∷ other ∷ []) ++ drop 2 (take (22 - 20) (drop 20 l)) → z ≡ put_mid 20 (22 - 20) l x
-    → y ≡ take (length m) m ++ drop (length m) (take (38 - 22) (drop 22 z)) → put_mid 22 (38 - 22) z y ≡ marks_over l entry other m
+    → x ≡ entry ∷ other ∷ [] → z ≡ put_mid 20 (22 - 20) l x
+    → y ≡ m → put_mid 22 (38 - 22) z y ≡ marks_over l entry other m
 marks_put l entry other m e n {x} {y} {z} p q r =
     let two = entry ∷ other ∷ [] in
-    let pair : z ≡ over l 20 two = q ∙ copied_over 20 2 l two x refl (omega arith) p in
+    let pair : z ≡ over l 20 two = q ∙ part_over 20 2 l two x refl (omega arith) p in
     let long : length z ≡ 38 = ap length pair ∙ (length_over l 20 two (omega arith) ∙ e) in
-    copied_over 22 16 z m y n (omega (arith, long)) r ∙ (ap (λ (k : List ℕ). over k 22 m) pair ∙ over_next l 20 two 22 m refl (omega (arith, n)))
+    part_over 22 16 z m y n (omega (arith, long)) r ∙ (ap (λ (k : List ℕ). over k 22 m) pair ∙ over_next l 20 two 22 m refl (omega (arith, n)))
 
 -- ---- an arrival
 

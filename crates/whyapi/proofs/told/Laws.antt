@@ -34,18 +34,18 @@ module _ (b : List ℕ) (x : ReasonFields) where
   link_other n = rw (ne_eqb x.number 206 n)
 
   module _ (e : x.number ≡ 206) where
-    pub link-far : 16 ≤ x.entry → x ≡ link_told b x
+    pub link_far : 16 ≤ x.entry → x ≡ link_told b x
     unfolding link_told
-    link-far l = rw (eq-eqb x.number 206 e, le-ltb x.entry 16 l)
+    link_far l = rw (eq-eqb x.number 206 e, le-ltb x.entry 16 l)
 
     module _ (l : x.entry < 16) {y : ℕ} (r : y ≡ link_byte b x.entry) where
       both : (c : Bool) → link_over b x.entry ≡ c → picked c ≡ link_told b x
       unfolding link_told
       both c h = rw (eq-eqb x.number 206 e, lt-ltb x.entry 16 l, h)
 
-      pub link-tells : {t : ReasonFields} → 2 < y → t ≡ told_with 211 y 2 x.entry 0 (replicate 16 0) → t ≡ link_told b x
+      pub link_tells : {t : ReasonFields} → 2 < y → t ≡ told_with 211 y 2 x.entry 0 (replicate 16 0) → t ≡ link_told b x
       unfolding link_over
-      link-tells o t =
+      link_tells o t =
           t
           ∙ (ap (λ (z : ℕ). told_with 211 z 2 x.entry 0 (replicate 16 0)) r
           ∙ both true (lt-ltb 2 (link_byte b x.entry) (rw r at o)))

@@ -1,0 +1,24 @@
+use Rattle.ihex_data.proofs.Walked.{going_first, going_next, going_stop, going_last}
+use Rattle.laws.proofs.Numbered.{answer_is}
+use borrow.Author.Rules.{rules}
+use Rattle.ihex_data.proofs.walk.Goals as goal
+
+pub loop-i-init : goal.loop-i-init
+loop-i-init c = rw (c.fresh.ensures, c.fresh-2.ensures) (going_first _ _ _ _)
+
+pub returns-in_default : goal.returns-in_default
+returns-in_default c =
+    let a = c.args in
+    let w = c.loop-i in
+    going_stop a.out.now a.at a.kind a.text.now w.invariant c.loop-i-test.true c.line_end-e.ensures.value c.put_line-step.ensures.value c.in_default.is c.put_line-step.ensures.lines c.answer_of.ensures
+
+pub loop-i-preserved : goal.loop-i-preserved
+loop-i-preserved c =
+    let a = c.args in
+    let w = c.loop-i in
+    going_next a.out.now a.at a.kind a.text.now w.invariant c.loop-i-test.true c.line_end-e.ensures.value c.put_line-step.ensures.value c.in-On.is c.put_line-step.ensures.lines (search rules)
+
+pub returns : goal.returns
+returns c =
+    let a = c.args in
+    going_last a.out.now a.at a.kind a.text.now c.loop-i.invariant c.loop-i-test.false (answer_is c.close.ensures)

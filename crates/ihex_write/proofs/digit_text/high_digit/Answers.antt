@@ -1,0 +1,4 @@
+use Rattle.ihex_write.proofs.digit_text.high_digit.Goals as goal
+
+pub returns : goal.returns
+returns c = c.digit.ensures

@@ -1,0 +1,4 @@
+use Rattle.settings_layout.proofs.entries.on.Goals as goal
+
+pub returns : goal.returns
+returns c = simp c.byte.ensures

@@ -1,0 +1,5 @@
+use Rattle.toolsapi.proofs.Laws.{regions_told}
+use Rattle.toolsapi.proofs.uf2_make_regions.Goals as goal
+
+pub returns : goal.returns
+returns c = regions_told _ _ _ _ c.make.ensures c.number.ensures

@@ -1,0 +1,5 @@
+use mathlib.Core.Path.{refl}
+use Rattle.uf2_make.proofs.checks.bad_start.Goals as goal
+
+pub returns : goal.returns
+returns c = refl

@@ -1,0 +1,12 @@
+use Rattle.uf2_make.specs.Uf2lead.{first_over}
+use Rattle.uf2_make.proofs.lead.put_first_fields.Goals as goal
+
+pub returns : goal.returns
+unfolding first_over
+returns c =
+    rw (
+      c.put-4.ensures,
+      c.put-3.ensures,
+      c.put-2.ensures,
+      c.put.ensures,
+    )

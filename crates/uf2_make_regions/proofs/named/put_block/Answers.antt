@@ -1,0 +1,9 @@
+use mathlib.Core.Path.{refl}
+use Rattle.uf2_make_regions.proofs.named.Laws.{block_put}
+use Rattle.uf2_make_regions.proofs.named.put_block.Goals as goal
+
+pub returns : goal.returns
+returns c =
+    let start = c in
+    block_put start.args.out.now _ _ _ _ start.args.page.now _ _ start.requires.out_len start.requires.size c.put_lead.ensures
+    c.copy_from_slice.ensures.after refl c.fill.ensures refl c.put_region.ensures refl c.put.ensures
