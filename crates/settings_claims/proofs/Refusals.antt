@@ -10,7 +10,7 @@ use borrow.Author.Tests.{eq-eqb, ne_eqb}
 use Rattle.settings_store.proofs.Cases.{head_two, read_1, read_short, read_on, read_40, read_many, read_41, read_42}
 use Rattle.settings_store.specs.Store.{entry_of, read_of, read_number}
 use Rattle.partitions.specs.Table.{table_of}
-use Rattle.settings_claims.specs.Refusals.{version_in, count_in, Headed, row_1, row_41, row_40, row_42, row_41_length, row_42_stray, row_2, ReadRefuses, StoreNumbers}
+use Rattle.settings_claims.specs.Refusals.{version_in, count_in, Headed, row_1, row_41, row_40, row_42, row_41_length, ReadRefuses, row_42_stray, row_2, ReadRefusesLate, StoreNumbers}
 use Rattle.settings_claims.proofs.Compared.{good_neat}
 use Rattle.settings_claims.proofs.Written.{read_bad}
 use Rattle.settings_claims.proofs.Strays.{stray_tested}
@@ -34,13 +34,16 @@ read_refuses b len n (row_42 h m) =
     ap read_number (sym (read_on b len h.right h.some (head b) (head_two b h.some) (read_many b len (head b) (known_is b len h) m)))
 read_refuses b len n (row_41_length h f w) =
     ap read_number (sym (read_on b len h.right h.some (head b) (head_two b h.some) (read_41 b len (head b) (known_is b len h) f w)))
-read_refuses b len n (row_42_stray w x) =
+
+pub read_refuses_late : ReadRefusesLate
+unfolding ReadRefusesLate
+read_refuses_late b len n (row_42_stray w x) =
     let h = w.headed in
     ap read_number
     (sym
     (read_on b len h.right h.some (head b) (head_two b h.some)
     (read_42 b len (head b) (known_is b len h) w.few w.long {table = table_of (entry_of b) (count_in b)} refl refl refl (stray_tested b len w x))))
-read_refuses b len n (row_2 s right low few users laid bad) =
+read_refuses_late b len n (row_2 s right low few users laid bad) =
     let bad-neat = good_neat s len (record { entries = few; users = users }) ∙ bad in
     ap (λ (x : List ℕ). read_number (read_of x len)) (sym (laid_store s b low few users laid))
     ∙ ap read_number (read_bad s few (laid_fits s b low few users laid) (laid_narrow s b low few users laid) len right bad-neat)

@@ -48,19 +48,25 @@ pub data Stray (b : List ℕ) : Type 0 where
   last_five : (k : ℕ) → k < count_in b → entry_bits b k 171 5 ≢ 0 → Stray b
   needless_2 : version_in b ≡ 2 → ((k : ℕ) → k < count_in b → entry_bits b k 170 1 ≡ 0) → Stray b
 
--- the first row that holds; the last is of bytes that are laid as those of bad settings
+-- the first row that holds, up to the length
 pub data Refusal (b : List ℕ) (len : ℕ) : ℕ → Type 0 where
   row_1 : flash_length len ≡ false → Refusal b len 1
   row_41 : flash_length len ≡ true → length b < 2 → Refusal b len 41
   row_40 : flash_length len ≡ true → 2 ≤ length b → version_in b ≢ 1 → version_in b ≢ 2 → Refusal b len 40
   row_42 : Headed b len → 16 < count_in b → Refusal b len 42
   row_41_length : Headed b len → count_in b ≤ 16 → length b ≢ 2 + 22 * count_in b → Refusal b len 41
-  row_42_stray : Whole b len → Stray b → Refusal b len 42
-  row_2 : (s : Settings) → flash_length len ≡ true → Bytes b → s.count ≤ 16 → ((k : ℕ) → k < s.count → (get_or s.table k empty_entry).user_count ≤ 4)
-      → Laid s b → good_settings s len ≡ false → Refusal b len 2
 
 unfoldable pub ReadRefuses : Type 0
 ReadRefuses = (b : List ℕ) (len n : ℕ) → Refusal b len n → read_number (read_of b len) ≡ n
+
+-- the rows after the length; the last is of bytes that are laid as those of bad settings
+pub data LateRefusal (b : List ℕ) (len : ℕ) : ℕ → Type 0 where
+  row_42_stray : Whole b len → Stray b → LateRefusal b len 42
+  row_2 : (s : Settings) → flash_length len ≡ true → Bytes b → s.count ≤ 16 → ((k : ℕ) → k < s.count → (get_or s.table k empty_entry).user_count ≤ 4)
+      → Laid s b → good_settings s len ≡ false → LateRefusal b len 2
+
+unfoldable pub ReadRefusesLate : Type 0
+ReadRefusesLate = (b : List ℕ) (len n : ℕ) → LateRefusal b len n → read_number (read_of b len) ≡ n
 
 -- the refusals' numbers
 unfoldable pub StoreNumbers : Type 0
