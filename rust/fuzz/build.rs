@@ -1,4 +1,4 @@
-//! Links every static library that `rt staticlib NAME` writes to target/staticlib.
+//! Links every static library that `tools/target --host` writes to target/staticlib.
 
 use std::path::Path;
 

@@ -21,9 +21,9 @@ use Rattle.placement.specs.Place.{place_of, ram_family}
 use Rattle.transfer.specs.Transfer.{good_state, counted, raised, accepted, step_of}
 use Rattle.transfer.specs.declared.Kind.TheVariants.{Flash, MainRam, XipRam}
 use Rattle.transfer.specs.declared.Head.{Head}
-use Rattle.transfer.specs.declared.State.TheVariants.{Done}
+use Rattle.transfer.specs.declared.State.TheVariants.{Idle, Done}
 use Rattle.uf2_checks.specs.Screen.{window_of, note_kind, placed, strayed, noted, data_found, note_found, found, screen_in, screen_of}
-use Rattle.arrival.specs.Arrive.{World, right_lengths, stands_at, after_screening, decide, done, receive_of}
+use Rattle.arrival.specs.Arrive.{World, right_lengths, stands_at, after_screening, decide, done, receive_of, outcome_number, standing}
 use Rattle.arrival.specs.Lists.{receive_all}
 use Rattle.arrival.specs.Windows.{lies}
 use Rattle.demand.specs.Demand.{File, ValidFile, Foreign, is_comment_of, address_of, nothing, own, other, answer_number, is_data, same_bytes, among, seen_of, how_many, storage_of, held_by, touched_by, changed_by, SameSet, Plain, is_guarded, Ends, ListEnds}
@@ -329,9 +329,14 @@ one : (P : ℕ → Type 0) → P 0 → (k : ℕ) → k < 1 → P k
 one P a zero h = a
 one P a (suc k) h = absurd (omega arith)
 
+-- the answer by the length of main RAM alone: its 532,480 bytes are not computed
+main_answer : (n : ℕ) → n ≡ 532480 → outcome_number (done main_start (payload_of (main_file.block 0)) (decide plain (record { flash = length main_start.held.flash; main = n; xip = 0 }) (length main_start.held.sectors) Idle main_start.seen (standing plain main_start.held.flash (main_file.block 0)) (main_file.block 0))) ≡ 15
+unfolding ram_family many any flash_length payload_of low_first number_in field_at fields_of flagged_of header_of good_settings place_of good_state counted raised accepted step_of window_of note_kind placed strayed noted data_found note_found found screen_in screen_of right_lengths stands_at after_screening decide done
+main_answer n e = rw e refl
+
 main_number : (k : ℕ) → k < 1 → answer_number plain main_start (main_file.block k) ≡ 15
-unfolding ram_family many any flash_length payload_of low_first number_in field_at fields_of flagged_of header_of good_settings place_of good_state counted raised accepted step_of window_of note_kind placed strayed noted data_found note_found found screen_in screen_of right_lengths stands_at after_screening decide done receive_of
-main_number = one (λ k. answer_number plain main_start (main_file.block k) ≡ 15) refl
+unfolding receive_of
+main_number = one (λ k. answer_number plain main_start (main_file.block k) ≡ 15) (main_answer (length main_start.held.main) (length-replicate {A = ℕ} 532480 5))
 
 main_valid : ValidFile plain main_start main_file
 main_valid =

@@ -1,4 +1,4 @@
-// Reasons for C: why an arrival is answered as it is, and why a family has a place or none. A library of its own.
+// Reasons as bytes: why an arrival is answered as it is, and why a family has a place or none. whyapi_c exports the two calls for C.
 #![tactic(auto)]
 
 pub mod reason_bytes;
@@ -9,8 +9,7 @@ ghost use Rattle.arrival.specs.Lending.{lent_at};
 ghost use Rattle.whyapi.specs.WhyCall.{call_return, why_call_of, place_call_of};
 
 // Why an arrival is answered as it is: what `uf2_look` returns, and the reason. Nothing else is written.
-#[unsafe(no_mangle)]
-pub extern "C" fn uf2_why(
+pub fn uf2_why(
     settings: &[u8],
     transfer: &[u8],
     arrival: &[u8],
@@ -30,13 +29,7 @@ pub extern "C" fn uf2_why(
 }
 
 // Why a family has a place in a flash of so many bytes, or none: 0, 1, 2 or 8, and the reason.
-#[unsafe(no_mangle)]
-pub extern "C" fn uf2_why_place(
-    settings: &[u8],
-    flash_len: usize,
-    family: u32,
-    out: &mut [u8],
-) -> u32
+pub fn uf2_why_place(settings: &[u8], flash_len: usize, family: u32, out: &mut [u8]) -> u32
     ensures { call_return result out.new ≡ place_call_of settings.now flash_len family out.old }
 {
     let s = settings_layout::read_settings(settings);

@@ -9,7 +9,7 @@ use compare::region::{any_region, put_region};
 use compare::{any_arrival, page, Ram, Random};
 use reference::md5::md5;
 
-/// A program that `rt check` has made.
+/// A program that the gate or `tools/target --programs` has put there.
 fn proved(name: &str) -> PathBuf {
     PathBuf::from(concat!(env!("CARGO_MANIFEST_DIR"), "/../../target/bin")).join(name)
 }
