@@ -10,7 +10,7 @@ use Rattle.partitions.specs.declared.Settings.{Settings}
 use Rattle.transfer.specs.declared.Transfer.{Transfer}
 use Rattle.transfer.specs.Transfer.{number_of}
 use Rattle.arrival.specs.Arrive.{Lent, receive_of, look_of}
-use Rattle.flash_plan.specs.Plan.{Accepting, accepting_of}
+use Rattle.flash_plan.specs.Plan.{accepting_of}
 use Rattle.uf2_commit.specs.declared.receipts.Receipt.{Receipt}
 use Rattle.uf2_receiver.specs.declared.looking.Preview.{Preview}
 use Rattle.uf2_commit.specs.declared.receipts.PlanReceipt.{PlanReceipt}

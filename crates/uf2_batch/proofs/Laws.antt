@@ -12,7 +12,6 @@ use Rattle.placement.specs.Place.{StartsLow}
 use Rattle.uf2_checks.specs.Screen.{rooms_of}
 use Rattle.transfer.specs.Transfer.{number_of}
 use Rattle.transfer.specs.declared.Transfer.{Transfer}
-use Rattle.transfer.specs.declared.Answer.{Answer}
 use Rattle.arrival.specs.Arrive.{Lent, World, Outcome, receive_of}
 use Rattle.arrival.specs.Lists.{receive_all, answers_of, discards_of}
 use Rattle.uf2_commit.specs.declared.receipts.Receipt.{Receipt}
@@ -24,7 +23,6 @@ use Rattle.uf2_known.specs.declared.judged.FamilyRooms.{FamilyRooms}
 use Rattle.uf2_known.specs.declared.judged.Judgement.{Judgement}
 use Rattle.uf2_known.specs.Judged.{rooms_at, rooms_next, judged_of}
 use Rattle.uf2_known.proofs.judged.Laws.{next_is}
-use Rattle.uf2_batch.specs.declared.Batch.{Batch}
 use Rattle.uf2_batch.specs.declared.Turn.{Turn}
 use Rattle.uf2_batch.specs.Batch.{arrivals_of, results_of, any_acceptance, stored_from, BatchEnd, batch_left, fewer, batch_of}
 use Rattle.uf2_batch.specs.Parts.{Knows, Judges, TurnEnd, turn_left, turn_of}

@@ -16,8 +16,7 @@ use Rattle.placement.specs.Place.{place_of, ram_family, user_of, whole_if, gets_
 use Rattle.placement.specs.declared.Place.{Place}
 use Rattle.placement.proofs.Laws.{place_absolute, place_rp2040, place_whole}
 use Rattle.uf2_checks.specs.Screen.{rooms_of}
-use Rattle.uf2_checks.specs.declared.Rooms.{Rooms}
-use Rattle.settings_layout.specs.Layout.{byte_at, is_on, arch_from, count_from, settings_from, settings_of}
+use Rattle.settings_layout.specs.Layout.{byte_at, is_on, count_from, settings_from, settings_of}
 
 or_none : (b : Bool) → b || false ≡ b
 or_none true = refl
