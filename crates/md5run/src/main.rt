@@ -30,7 +30,10 @@ fn main(rt: HostRuntime) -> io::Result<()> {
     print_line(&rt, b"abc")?;
     print_line(&rt, b"message digest")?;
     print_line(&rt, b"abcdefghijklmnopqrstuvwxyz")?;
-    print_line(&rt, b"ABCDEFGHIJKLMNOPQRSTUVWXYZabcdefghijklmnopqrstuvwxyz0123456789")?;
+    print_line(
+        &rt,
+        b"ABCDEFGHIJKLMNOPQRSTUVWXYZabcdefghijklmnopqrstuvwxyz0123456789",
+    )?;
     print_line(
         &rt,
         b"12345678901234567890123456789012345678901234567890123456789012345678901234567890",
