@@ -37,7 +37,7 @@ use Rattle.arrival.proofs.Paged.{Fits, paged_other, get_d_prepared}
 use Rattle.arrival.proofs.Facts.{done_none, wiped_buffer}
 use Rattle.arrival.proofs.Standing.{keeps_at}
 use Rattle.arrival_claims.proofs.Effect.{spans_true}
-use Rattle.arrival_claims.proofs.Screening.{flash_of, lens, Board, Passing, Good, screen_good, passing_room, passing-body, passing-fits, passing_deed}
+use Rattle.arrival_claims.proofs.Screening.{flash_of, lens, Board, Passing, Good, screen_good, passing_room, passing_body, passing_fits, passing_deed}
 use Rattle.arrival_claims.proofs.DecisionFacts.{board_decides, Rows, stopped, through, rows, deed_at, DecisionFacts, refused, took, decision_facts, took_number}
 
 -- ---- answers 1 to 13
@@ -80,21 +80,21 @@ module _ (s : Settings) (w : World) (a : List ℕ) (g : PlacedBlock) (k : Accept
     at = q.start + (field_at a 12 - window_start (kind_of w a))
 
     -- what stands is kept
-    pub left-kept : keeps_at s w a ≡ true → after ≡ before
-    left-kept y = left_none Keeps (deed_is ∙ rw (z, y)) (λ e. let u : ◌≡◌ {A = ℕ} 0 1 = cc in omega arith)
+    pub left_kept : keeps_at s w a ≡ true → after ≡ before
+    left_kept y = left_none Keeps (deed_is ∙ rw (z, y)) (λ e. let u : ◌≡◌ {A = ℕ} 0 1 = cc in omega arith)
 
     pub left_page : keeps_at s w a ≡ false → after ≡ paged_at (kind_of w a) at (payload_of a) before
     unfolding done accept_of
     left_page n =
         let e : deed_at s w a g ≡ Stores = deed_is ∙ rw (z, n) in
         ap (λ (d : Deed). done_to d g.head.kind (at_of g.body) (payload_of a) before) e
-        ∙ ap (λ (b : Body). paged_at g.head.kind (at_of b) (payload_of a) before) (passing-body s w a g q B z)
+        ∙ ap (λ (b : Body). paged_at g.head.kind (at_of b) (payload_of a) before) (passing_body s w a g q B z)
         ∙ ap (λ (u : Kind). paged_at u at (payload_of a) before) kind_is
 
-    pub left-fits : length a ≡ 512 → Fits (kind_of w a) (length (buffer_of (kind_of w a) before)) at (payload_of a)
-    left-fits l =
+    pub left_fits : length a ≡ 512 → Fits (kind_of w a) (length (buffer_of (kind_of w a) before)) at (payload_of a)
+    left_fits l =
         subst (λ (x : List ℕ). Fits (kind_of w a) (length x) at (payload_of a)) (sym (wiped_buffer k.clears w.held (kind_of w a)))
-        (passing-fits s w a g q B z l)
+        (passing_fits s w a g q B z l)
 
   -- a buffer of another kind
   pub left_other : (u : Kind) → u ≢ kind_of w a → buffer_of u after ≡ buffer_of u w.held
@@ -103,7 +103,7 @@ module _ (s : Settings) (w : World) (a : List ℕ) (g : PlacedBlock) (k : Accept
       (λ y. ap (buffer_of u) (left_note y))
       (λ z.
       split (keeps_at s w a)
-      (λ y. ap (buffer_of u) (left-kept z y))
+      (λ y. ap (buffer_of u) (left_kept z y))
       (λ x. ap (buffer_of u) (left_page z x) ∙ paged_other u (kind_of w a) (at z) (payload_of a) before n))
       ∙ wiped_buffer k.clears w.held u
 
@@ -148,7 +148,7 @@ outside_done s w a j (took g k B l q t) o =
         (λ y. ap (λ (h : Held). get_or h.flash j 0) (left_note s w a g k q B y))
         (λ z.
         split (keeps_at s w a)
-        (λ y. ap (λ (h : Held). get_or h.flash j 0) (left-kept s w a g k q B z y))
+        (λ y. ap (λ (h : Held). get_or h.flash j 0) (left_kept s w a g k q B z y))
         (λ n. ap (λ (h : Held). get_or h.flash j 0) (left_page s w a g k q B z n) ∙ inside e z))
         ∙ ap (λ (b : List ℕ). get_or b j 0) (wiped_buffer k.clears w.held Flash)
 

@@ -28,7 +28,7 @@ use Rattle.arrival.specs.Arrive.{World, Outcome, buffer_of, Decision, stays, acc
 use Rattle.arrival_claims.specs.Bounds.{Outside}
 use Rattle.arrival.specs.Lists.{receive_all}
 use Rattle.arrival.specs.Windows.{window_start, kind_of}
-use Rattle.arrival_claims.proofs.Screening.{flash_of, rooms_for, Board, Passing, passing_room, passing-body, passing-fits}
+use Rattle.arrival_claims.proofs.Screening.{flash_of, rooms_for, Board, Passing, passing_room, passing_body, passing_fits}
 use Rattle.arrival_claims.proofs.DecisionFacts.{deed_at, DecisionFacts, refused, took, decision_facts}
 use Rattle.arrival.proofs.Standing.{keeps_at}
 use Rattle.arrival_claims.proofs.Bounds.{deed_is}
@@ -54,14 +54,14 @@ all_performed_are_taken s w (a ∷ l) =
 module _ (s : Settings) (w : World) (a : List ℕ) where
   module _ (g : PlacedBlock) (k : Accepted) (B : Board s w) (l : length a ≡ 512) (q : Passing s w a g) where
     -- a page of flash that is stored
-    pub page-lies : kind_of w a ≡ Flash → deed_at s w a g ≡ Stores → Lies s w a (at_of g.body)
-    page-lies e d =
+    pub page_lies : kind_of w a ≡ Flash → deed_at s w a g ≡ Stores → Lies s w a (at_of g.body)
+    page_lies e d =
         split (has_flag a 0x1)
         (λ y. let z : ◌≡◌ {A = Deed} Notes Stores = sym (deed_is s w a g k q B ∙ rw y) ∙ d in absurd (let v : ◌≡◌ {A = ℕ} 0 1 = cc in omega arith))
         (λ z.
-        let f = passing-fits s w a g q B z l in
+        let f = passing_fits s w a g q B z l in
         let i = passing_room s w a g q B in
-        let b : at_of g.body ≡ q.start + (field_at a 12 - window_start (kind_of w a)) = ap at_of (passing-body s w a g q B z) in
+        let b : at_of g.body ≡ q.start + (field_at a 12 - window_start (kind_of w a)) = ap at_of (passing_body s w a g q B z) in
         record {
           aligned = ap (λ (n : ℕ). n % 256) b ∙ f.aligned e;
           start = q.start;
@@ -79,7 +79,7 @@ module _ (s : Settings) (w : World) (a : List ℕ) where
 
     plan-lies : (d : Deed) (u : Kind) → deed_at s w a g ≡ d → g.head.kind ≡ u → (m : List ℕ) → PlanLies s w a (deed_plan d u (at_of g.body) m)
     plan-lies Stores Flash e f m =
-        let p = page-lies (sym (ap (λ (h : Head). h.kind) q.head) ∙ f) e in
+        let p = page_lies (sym (ap (λ (h : Head). h.kind) q.head) ∙ f) e in
         split (marked_in m (at_of g.body / 4096)) (λ y. rw y p) (λ z. rw z (p, refl))
     plan-lies Stores MainRam e f m = tt
     plan-lies Stores XipRam e f m = tt

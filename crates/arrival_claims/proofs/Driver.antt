@@ -36,7 +36,7 @@ use Rattle.flash_plan.specs.declared.Plan.{Plan}
 use Rattle.flash_plan.specs.declared.Plan.TheVariants.{Nothing, Program, EraseProgram}
 use Rattle.flash_plan.specs.Plan.{sector_plan, deed_plan, decision_plan, accepting_by, accepting_of}
 use Rattle.arrival_claims.specs.Driver.{Sight, is_idle, begins_with, sight_of, sights_of, erases, still_erased, erased_after, Allowed, Obeys, ErasedOnceAndFirst}
-use Rattle.arrival_claims.proofs.Claims.{page-lies}
+use Rattle.arrival_claims.proofs.Claims.{page_lies}
 
 -- ---- a transfer begins where the maps are cleared
 
@@ -154,7 +154,7 @@ module _ (s : Settings) (w : World) (a : List ℕ) (E : ℕ → Bool) (T : Tells
       let at = at_of g.body in
       let low : deed_at s w a g ≡ Stores → g.head.kind ≡ Flash → at / 4096 / 8 < length (wiped_if k.clears w.held).sectors =
       λ d u.
-      let p = page-lies s w a g k B l q (sym (ap (λ (h : Head). h.kind) q.head) ∙ u) d in
+      let p = page_lies s w a g k B l q (sym (ap (λ (h : Head). h.kind) q.head) ∙ u) d in
       omega (arith, p.to, p.within, p.flash, length_cleared k.clears w.held.sectors, B.sectors) in
       let F : ℕ → Bool = λ j. not (leb 14 (number_of k.answer) && (is_idle w.transfer || k.discarded)) && E j in (
         deed_allowed F (wiped_if k.clears w.held) e at (payload_of a) (deed_at s w a g) g.head.kind,

@@ -28,7 +28,7 @@ use Rattle.arrival_claims.proofs.Screening.{Board, Passing, room_origin}
 use Rattle.arrival_claims.proofs.DecisionFacts.{deed_at, DecisionFacts, refused, took, decision_facts, took_clears}
 use Rattle.arrival.proofs.Standing.{keeps_at}
 use Rattle.arrival.proofs.Facts.{wiped_buffer, wiped_sectors}
-use Rattle.arrival_claims.proofs.Bounds.{left_note, left_page, left-fits, left_other}
+use Rattle.arrival_claims.proofs.Bounds.{left_note, left_page, left_fits, left_other}
 
 -- ---- the other kinds
 
@@ -70,7 +70,7 @@ module _ (s : Settings) (w : World) (a : List ℕ) (g : PlacedBlock) (c : Accept
       let h = wiped_if c.clears w.held in
       let e : q.start + x ≡ x = omega (arith, start_zero) in
       ap (λ (v : Held). get_or (buffer_of k v) j 0) (left_page s w a g c q B z (keeps_ram s w a n))
-      ∙ get_d_ram k (q.start + x) (payload_of a) h n (left-fits s w a g c q B z l) j
+      ∙ get_d_ram k (q.start + x) (payload_of a) h n (left_fits s w a g c q B z l) j
       ∙ ap (λ (i : ℕ). cond (spans i j) (get_or (payload_of a) (j - i) 0) (get_or (buffer_of k h) j 0)) e
       ∙ ap (λ (b : List ℕ). cond (spans x j) (get_or (payload_of a) (j - x) 0) (get_or b j 0)) (wiped_buffer c.clears w.held k)
 

@@ -41,7 +41,7 @@ use Rattle.arrival.specs.Arrive.{World, Decision, standing, deed_of, after_scree
 use Rattle.arrival.specs.Windows.{window_start, window_end, kind_of}
 use Rattle.arrival_claims.specs.Ram.{RamFamily, named, user, RamFamilies, RamAddresses}
 use Rattle.arrival.proofs.Windows.{start_is}
-use Rattle.arrival_claims.proofs.Screening.{Fielded, fielded, comment_is, kind-note, kind-window, flash_of, lens, Board, rooms_for, whole_is}
+use Rattle.arrival_claims.proofs.Screening.{Fielded, fielded, comment_is, kind_note, kind_window, flash_of, lens, Board, rooms_for, whole_is}
 use Rattle.arrival_claims.proofs.DecisionFacts.{board_decides, Rows, stopped, through, rows, step_late}
 
 -- ---- the families
@@ -143,12 +143,12 @@ module _ (s : Settings) (w : World) (a : List ℕ) where
       (λ y.
       let k = note_kind (lens w) w.transfer (fields_of a) in
       subst (ByPlace (room_in (rooms_for s w a) (kind_of w a))) (sym (found_comment (rooms_for s w a) (lens w) w.transfer (fields_of a) (comment_is a ∙ y)))
-      (subst (λ (v : Kind). ByPlace (room_in (rooms_for s w a) v) (note_found k (room_in (rooms_for s w a) k) (fields_of a))) (sym (kind-note s w a y))
+      (subst (λ (v : Kind). ByPlace (room_in (rooms_for s w a) v) (note_found k (room_in (rooms_for s w a) k) (fields_of a))) (sym (kind_note s w a y))
       (note_by k (room_in (rooms_for s w a) k) (fields_of a))))
       (λ z.
       let u = window_of (lens w) (fields_of a).address in
       subst (ByPlace (room_in (rooms_for s w a) (kind_of w a))) (sym (found_data (rooms_for s w a) (lens w) w.transfer (fields_of a) (comment_is a ∙ z)))
-      (subst (λ (v : Kind). ByPlace (room_in (rooms_for s w a) v) (data_found u (room_in (rooms_for s w a) (window_kind u)) (fields_of a))) (sym (kind-window s w a z))
+      (subst (λ (v : Kind). ByPlace (room_in (rooms_for s w a) v) (data_found u (room_in (rooms_for s w a) (window_kind u)) (fields_of a))) (sym (kind_window s w a z))
       (data_by u (room_in (rooms_for s w a) (window_kind u)) (fields_of a))))
 
   -- of a family that may not go to RAM nothing passes row 8, and of one that may nothing is refused there
@@ -249,7 +249,7 @@ module _ (s : Settings) (w : World) (a : List ℕ) (n : kind_of w a ≢ Flash) (
   past_found : screening_number (found (rooms_for s w a) (lens w) w.transfer (fields_of a)) ≡ 11 → Past
   past_found e =
       let u = window_of (lens w) (fields_of a).address in
-      let k : kind_of w a ≡ window_kind u = kind-window s w a z in
+      let k : kind_of w a ≡ window_kind u = kind_window s w a z in
       let q : screening_number (data_found u (room_in (rooms_for s w a) (window_kind u)) (fields_of a)) ≡ 11 =
       ap screening_number (sym (found_data (rooms_for s w a) (lens w) w.transfer (fields_of a) (comment_is a ∙ z))) ∙ e in
       subst (λ (v : Kind). window_end v < field_at a 12 + 256) (sym k)

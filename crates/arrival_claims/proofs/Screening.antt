@@ -143,9 +143,9 @@ module _ (s : Settings) (w : World) (a : List ℕ) where
 
   -- of a data block
   module _ (z : has_flag a 0x1 ≡ false) where
-    pub kind-window : kind_of w a ≡ window_kind (window_of (lens w) (fields_of a).address)
+    pub kind_window : kind_of w a ≡ window_kind (window_of (lens w) (fields_of a).address)
     unfolding kind_of fields_of
-    kind-window = rw z (data_window w (field_at a 12) (window_of (lens w) (field_at a 12)) (window_facts (lens w) (field_at a 12)))
+    kind_window = rw z (data_window w (field_at a 12) (window_of (lens w) (field_at a 12)) (window_facts (lens w) (field_at a 12)))
 
     kind-data : (k : Kind) → InWindow (lens w) k (field_at a 12) → kind_of w a ≡ k
     unfolding kind_of
@@ -191,9 +191,9 @@ module _ (s : Settings) (w : World) (a : List ℕ) where
 
   -- of a comment
   module _ (y : has_flag a 0x1 ≡ true) where
-    pub kind-note : kind_of w a ≡ note_kind (lens w) w.transfer (fields_of a)
+    pub kind_note : kind_of w a ≡ note_kind (lens w) w.transfer (fields_of a)
     unfolding kind_of
-    kind-note = rw y (sym (comment_kind_lem w a w.transfer))
+    kind_note = rw y (sym (comment_kind_lem w a w.transfer))
 
     note-good : (k : Kind) → kind_of w a ≡ k → is_lent (lens w) k ≡ true → (p : Place) → room_in (rooms_for s w a) k ≡ p → Good s w a (note_found k p (fields_of a))
     unfolding note_found noted fields_of
@@ -222,7 +222,7 @@ module _ (s : Settings) (w : World) (a : List ℕ) where
       (λ y.
       let k = note_kind (lens w) w.transfer (fields_of a) in
       subst (Good s w a) (sym (found_comment (rooms_for s w a) (lens w) w.transfer (fields_of a) (comment_is a ∙ y)))
-      (note-good y k (kind-note y) (note_lent (lens w) w.transfer (fields_of a)) (room_in (rooms_for s w a) k) refl))
+      (note-good y k (kind_note y) (note_lent (lens w) w.transfer (fields_of a)) (room_in (rooms_for s w a) k) refl))
       (λ z.
       let u = window_of (lens w) (fields_of a).address in
       subst (Good s w a) (sym (found_data (rooms_for s w a) (lens w) w.transfer (fields_of a) (comment_is a ∙ z)))
@@ -343,11 +343,11 @@ module _ (s : Settings) (w : World) (a : List ℕ) (g : PlacedBlock) (p : Passin
     abbrev pub pageAt : ℕ
     pageAt = p.start + (field_at a 12 - window_start (kind_of w a))
 
-    pub passing-body : g.body ≡ Page pageAt
-    passing-body = p.body ∙ rw z
+    pub passing_body : g.body ≡ Page pageAt
+    passing_body = p.body ∙ rw z
 
-    pub passing-fits : length a ≡ 512 → Fits (kind_of w a) (length (buffer_of (kind_of w a) w.held)) pageAt (payload_of a)
-    passing-fits l =
+    pub passing_fits : length a ≡ 512 → Fits (kind_of w a) (length (buffer_of (kind_of w a) w.held)) pageAt (payload_of a)
+    passing_fits l =
         let i = passing_room in
         let y = p.page z in
         record {

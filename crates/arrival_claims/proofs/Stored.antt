@@ -40,7 +40,7 @@ use Rattle.arrival.proofs.Facts.{length_cleared, wiped_buffer, wiped_sectors}
 use Rattle.uf2_checks.specs.Screen.{room_in}
 use Rattle.arrival_claims.proofs.Screening.{rooms_for, Board, Passing, passing_few, passing_room}
 use Rattle.arrival_claims.proofs.DecisionFacts.{AcceptFacts, runs_other, deed_at, DecisionFacts, raised_count, took_state, took_answer, took_clears, took_discarded, refused, took, decision_facts}
-use Rattle.arrival_claims.proofs.Bounds.{deed_is, left_page, left-fits}
+use Rattle.arrival_claims.proofs.Bounds.{deed_is, left_page, left_fits}
 use Rattle.arrival_claims.specs.Stored.{Raised, goes_on_case, opens, discards, Stored, FlashStored, FlashStoredStated}
 
 -- ---- a map after a mark
@@ -119,7 +119,7 @@ module _ (s : Settings) (w : World) (a : List ℕ) (g : PlacedBlock) (k : Accept
   held = left_page s w a g k q B z keeps ∙ ap (λ (u : Kind). paged_at u (q.start + (field_at a 12 - window_start u)) (payload_of a) h0) f
 
   fits : Fits Flash (length h0.flash) at (payload_of a)
-  fits = subst (λ (u : Kind). Fits u (length (buffer_of u h0)) (q.start + (field_at a 12 - window_start u)) (payload_of a)) f (left-fits s w a g k q B z l)
+  fits = subst (λ (u : Kind). Fits u (length (buffer_of u h0)) (q.start + (field_at a 12 - window_start u)) (payload_of a)) f (left_fits s w a g k q B z l)
 
   flash_same : h0.flash ≡ w.held.flash
   flash_same = wiped_buffer k.clears w.held Flash

@@ -51,13 +51,13 @@ module _ (s t a : List ℕ) (h : Lent) where
       rw hv (ap (batch_call_end t) p)
 
   module _ (p : List ℕ) where
-    pub accept-short : length p ≢ 12 → planned_call 1 t h p ≡ accept_bytes s t a h p
+    pub accept_short : length p ≢ 12 → planned_call 1 t h p ≡ accept_bytes s t a h p
     unfolding accept_bytes
-    accept-short n = simp (ne_eqb (length p) 12 n)
+    accept_short n = simp (ne_eqb (length p) 12 n)
 
-    pub accept-ran : {z : Settings} {u : Transfer} {r : PlanReceipt} {g : Lent} {v q : List ℕ} {y : ℕ} {b : Bool} → length p ≡ 12 → z ≡ settings_from s → u ≡ transfer_from t → accepting r g ≡ accepting_of z (world u h) a → b ≡ is_acceptance (number_of r.receipt.answer) → v ≡ kept_transfer t b r.receipt.transfer.state → y ≡ result_of (number_of r.receipt.answer) r.receipt.discarded → q ≡ plan_bytes r.plan → planned_call y v g q ≡ accept_bytes s t a h p
+    pub accept_ran : {z : Settings} {u : Transfer} {r : PlanReceipt} {g : Lent} {v q : List ℕ} {y : ℕ} {b : Bool} → length p ≡ 12 → z ≡ settings_from s → u ≡ transfer_from t → accepting r g ≡ accepting_of z (world u h) a → b ≡ is_acceptance (number_of r.receipt.answer) → v ≡ kept_transfer t b r.receipt.transfer.state → y ≡ result_of (number_of r.receipt.answer) r.receipt.discarded → q ≡ plan_bytes r.plan → planned_call y v g q ≡ accept_bytes s t a h p
     unfolding accept_bytes
-    accept-ran {u = u} l hz hu ho hb hv hy hq =
+    accept_ran {u = u} l hz hu ho hb hv hy hq =
         let e =
         ho
         ∙ ap (λ (z : Settings). accepting_of z (world u h) a) hz

@@ -25,7 +25,7 @@ use Rattle.arrival.specs.Windows.{window_start}
 use Rattle.arrival.proofs.Heads.{kind_same}
 use Rattle.demand.specs.Demand.{File, address_of, ValidFile, Sent, is_data, seen_of, how_many, storage_of, holds, held_by, lies_in, touched_by, changed_by, Plain, Ends, ListEnds}
 use Rattle.demand.proofs.Demand.{list_ends}
-use Rattle.demand.proofs.Starts.{origin_there, valid-there, sent-there, plain-there}
+use Rattle.demand.proofs.Starts.{origin_there, valid_there, sent_there, plain_there}
 use Rattle.demand.specs.Cut.{all_of, Cut, CutThenWhole, Standing, StandingIsReceived}
 
 under : (x y z : Bool) → (y ≡ false → z ≡ false) → x && y ≡ false → x && z ≡ false
@@ -157,7 +157,7 @@ unfolding CutThenWhole ListEnds
 cut_then_whole s v w F C ok plain l sent e =
     let idle = C.back ∙ sym C.before in
     world_is s v w F C (seen_of F l) (receive_all s v l) (receive_all s w l)
-    (list_ends s v F C.back (valid-there s v w C.lengths idle F ok) l (sent-there s v w C.lengths idle F sent) (plain-there s v w C.lengths idle F plain))
+    (list_ends s v F C.back (valid_there s v w C.lengths idle F ok) l (sent_there s v w C.lengths idle F sent) (plain_there s v w C.lengths idle F plain))
     (list_ends s w F C.before ok l sent plain)
     (λ k h. size_full F.total (seen_of F l) k (omega arith) h) e ok.some
 

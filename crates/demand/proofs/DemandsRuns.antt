@@ -121,15 +121,15 @@ module _ (s : Settings) (w : World) (F : Blocks) (P : List ℕ → Type 0) (R : 
 
   -- what is asked of an arrival and the world that it finds gives what is asked of the flash
   module _ (Q : World → List ℕ → Type 0) (asks : (k : ℕ) (v : World) → k < count F → Q v (bytes_of F k) → 14 ≤ answer_number s v (bytes_of F k) → Met v.held.flash k) where
-    pub run-met : {l : List (List ℕ)} → Mixed F.file P l → (S : Set) (v : World) → Reached s w v → After F w Inv S v → AtEach Q s v l
+    pub run_met : {l : List (List ℕ)} → Mixed F.file P l → (S : Set) (v : World) → Reached s w v → After F w Inv S v → AtEach Q s v l
         → After F w Inv (seen_from F S l) (receive_all s v l)
     unfolding receive_all AtEach
-    run-met nothing S v m a e =
+    run_met nothing S v m a e =
         subst (λ (T : Set). After F w Inv T v) (fun_ext (λ j. sym (ap (λ (b : Bool). S j || b) (seen_nothing F.file j) ∙ or_comm (S j) false))) a
-    run-met (own {l = l} k h r) S v m a e =
+    run_met (own {l = l} k h r) S v m a e =
         subst (λ (T : Set). After F w Inv T (receive_all s (receive_of s v (bytes_of F k)).world l)) (from_own s w F P R Free Any free d o S k l h)
-        (run-met r (add k S) (receive_of s v (bytes_of F k)).world (reached_next s w v (bytes_of F k) m) (met-step k h S v m a (asks k v h e.0)) e.1)
-    run-met (other {l = l} x f r) S v m a e =
+        (run_met r (add k S) (receive_of s v (bytes_of F k)).world (reached_next s w v (bytes_of F k) m) (met-step k h S v m a (asks k v h e.0)) e.1)
+    run_met (other {l = l} x f r) S v m a e =
         subst (λ (T : Set). After F w Inv T (receive_all s (receive_of s v x).world l)) (from_other s w F P R Free Any free d o S x l f)
-        (run-met r S (receive_of s v x).world (reached_next s w v x m)
+        (run_met r S (receive_of s v x).world (reached_next s w v x m)
         (subst (After F w Inv S) (sym (R.foreign v m (after_carried F w Inv S v a) x f)) a) e.1)

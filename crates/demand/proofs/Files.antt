@@ -37,7 +37,7 @@ use Rattle.arrival.proofs.Pages.{arrive}
 use Rattle.arrival.proofs.Count.{Blocks, body_of, placed_of, Opens, Carried}
 use Rattle.arrival.proofs.Paged.{Fits}
 use Rattle.arrival_claims.proofs.Effect.{Valid, spans_true, spans_is}
-use Rattle.arrival_claims.proofs.Screening.{flash_of, lens, Board, Passing, Good, screen_good, screen_turn, note_counted, room_origin, passing_few, passing-fits}
+use Rattle.arrival_claims.proofs.Screening.{flash_of, lens, Board, Passing, Good, screen_good, screen_turn, note_counted, room_origin, passing_few, passing_fits}
 use Rattle.arrival_claims.proofs.DecisionFacts.{Rows, stopped, through, rows, raised_number}
 use Rattle.demand.proofs.Lists.{receive_refused, receive_passed, Reached}
 use Rattle.demand.proofs.Runs.{Steady}
@@ -176,7 +176,7 @@ module _ (s : Settings) (w : World) (F : File) (idle : w.transfer ≡ Idle) (ok 
       fits k h y =
           subst (λ (u : Kind). Fits u (length (buffer_of u w.held)) (storage_of s w F k) (payload_of (F.block k))) (kind_is k h)
           (subst (λ (x : ℕ). Fits (kind_of w (F.block k)) (length (buffer_of (kind_of w (F.block k)) w.held)) x (payload_of (F.block k))) (storage_is k h)
-          (passing-fits s w (F.block k) (passed k h).0 (passed k h).2 board (data_clear k y) (block_size k h)))
+          (passing_fits s w (F.block k) (passed k h).0 (passed k h).2 board (data_clear k y) (block_size k h)))
 
       -- one kind and family has one origin, so that disjoint ranges are stored apart
       apart : (i k j : ℕ) → i < F.total → k < F.total → is_data F i ≡ true → is_data F k ≡ true

@@ -42,7 +42,7 @@ use Rattle.arrival_claims.proofs.Screening.{flash_of}
 use Rattle.demand.proofs.Contents.{byte_in, As, contents_of_lem}
 use Rattle.demand.proofs.Files.{Located, blocks_of, board, valid, located, opens, steady}
 use Rattle.demand.proofs.Guards.{every, final, Finished, Guard, Guards, Inv, begins, goes_on, whole_flash}
-use Rattle.demand.proofs.DemandsRuns.{run-met}
+use Rattle.demand.proofs.DemandsRuns.{run_met}
 use Rattle.demand.proofs.Demand.{ends, same_set, same_count, others}
 
 -- a part of a list, by its elements
@@ -300,7 +300,7 @@ module _ (s : Settings) (w : World) (F : File) (idle : w.transfer ≡ Idle) (ok 
     after-regions : {l : List (List ℕ)} → Sent s w F l → AtEach (NoOther s w F) s w l
         → After P w (Inv P w.held Met guards) (seen_of F l) (receive_all s w l)
     after-regions sent met =
-        run-met s w P (Foreign s w F) (steady s w F idle ok) sound.few false (opens s w F idle ok) (Inv P w.held Met guards) Met
+        run_met s w P (Foreign s w F) (steady s w F idle ok) sound.few false (opens s w F idle ok) (Inv P w.held Met guards) Met
         (begins P w.held Met guards sound) (λ S k x h I m. goes_on P w.held Met guards sound S k h x I m)
         (NoOther s w F) (λ k v h q late g e. q k h refl (omega (arith, late)) g e)
         sent none w (record { board = board s w F idle ok; lengths = refl }) (untouched refl refl) met
@@ -318,12 +318,12 @@ module _ (s : Settings) (w : World) (F : File) (idle : w.transfer ≡ Idle) (ok 
           let r = some_seen P w (Inv P w.held Met guards) S v (after-regions C.sent C.met) (omega (arith, C.whole, ok.some)) in
           (r.0, r.1, ap (λ (u : World). u.held) r.2)
 
-      pub flash-is : (j : ℕ) → j < flash_of w → get_or v.held.flash j 0 ≡ cell F.total (layout Flash P) (byte_in Flash w.held) S j
-      flash-is j h =
+      pub flash_is : (j : ℕ) → j < flash_of w → get_or v.held.flash j 0 ≡ cell F.total (layout Flash P) (byte_in Flash w.held) S j
+      flash_is j h =
           ap (λ (x : Held). get_or x.flash j 0) inv.2 ∙ whole_flash P w.held Met guards sound S inv.0 inv.1 (omega (arith, C.whole)) j h
 
-      pub lengths-are : lengths_of v.held ≡ lengths_of w.held
-      lengths-are = ap lengths_of inv.2 ∙ inv.1.lengths
+      pub lengths_are : lengths_of v.held ≡ lengths_of w.held
+      lengths_are = ap lengths_of inv.2 ∙ inv.1.lengths
 
       -- a buffer of another kind has no block
       other-is : (u : Kind) → same_kind u Flash ≡ false → u ≢ Flash → (j : ℕ) → byte_in u v.held j ≡ cell F.total (layout u P) (byte_in u w.held) S j
@@ -335,12 +335,12 @@ module _ (s : Settings) (w : World) (F : File) (idle : w.transfer ≡ Idle) (ok 
           ∙ rw (any_none (λ k. S k && (layout u P).touches k (j / 4096)) F.total (λ k h. rw no (and-false (S k)))))
 
       as-cells : As P w.held S v.held
-      as-cells Flash j h = flash-is j h
+      as-cells Flash j h = flash_is j h
       as-cells MainRam j h = other-is MainRam refl (λ e. let z : ◌≡◌ {A = ℕ} 0 1 = cc in omega arith) j
       as-cells XipRam j h = other-is XipRam refl (λ e. let z : ◌≡◌ {A = ℕ} 0 1 = cc in omega arith) j
 
-      pub contents-at : Contents s w F S v
-      contents-at = contents_of_lem s w F sound S v as-cells lengths-are
+      pub contents_at : Contents s w F S v
+      contents_at = contents_of_lem s w F sound S v as-cells lengths_are
 
 -- ---- the claims
 
@@ -352,7 +352,7 @@ pub regions_end : RegionsEnd
 unfolding RegionsEnd
 regions_end s w F idle ok R l C =
     split (same_kind F.kind Flash)
-    (λ y. contents-at s w F idle ok (kind_same F.kind Flash y) R C)
+    (λ y. contents_at s w F idle ok (kind_same F.kind Flash y) R C)
     (λ z. (ends s w F idle ok (ram_plain s w F z) C.sent).contents)
 
 pub whole_alike : WholeAlike
@@ -381,8 +381,8 @@ whole_alike s w F idle ok R l m C D =
 
     flash : F.kind ≡ Flash → WholeSame (receive_all s w l) (receive_all s w m)
     flash flat =
-        let a = lengths-are s w F idle ok flat R C in
-        let b = lengths-are s w F idle ok flat R D in
+        let a = lengths_are s w F idle ok flat R C in
+        let b = lengths_are s w F idle ok flat R D in
         let n : length (receive_all s w l).held.flash ≡ flash_of w = ap (λ n. n.flash) a in
         let k : length (receive_all s w m).held.flash ≡ flash_of w = ap (λ n. n.flash) b in
         record {
@@ -391,9 +391,9 @@ whole_alike s w F idle ok R l m C D =
               ext_get_or 0 (receive_all s w l).held.flash (receive_all s w m).held.flash (n ∙ sym k)
               (λ j h.
               let l' : j < flash_of w = omega (arith, n) in
-              flash-is s w F idle ok flat R C j l'
+              flash_is s w F idle ok flat R C j l'
               ∙ ap (λ (S : Set). cell F.total (layout Flash (blocks_of s w F)) (byte_in Flash w.held) S j) same
-              ∙ sym (flash-is s w F idle ok flat R D j l'));
+              ∙ sym (flash_is s w F idle ok flat R D j l'));
           main = others s w F idle ok C.sent MainRam main ∙ sym (others s w F idle ok D.sent MainRam main);
           xip = others s w F idle ok C.sent XipRam xip ∙ sym (others s w F idle ok D.sent XipRam xip);
         }

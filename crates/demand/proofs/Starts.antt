@@ -75,8 +75,8 @@ module _ (s : Settings) (v w : World) (L : LengthsKept v w) (t : v.transfer ≡ 
   origin_there XipRam f = refl
 
   module _ (F : File) where
-    pub valid-there : ValidFile s w F → ValidFile s v F
-    valid-there ok =
+    pub valid_there : ValidFile s w F → ValidFile s v F
+    valid_there ok =
         record {
           some = ok.some;
           numbers = ok.numbers;
@@ -93,11 +93,11 @@ module _ (s : Settings) (v w : World) (L : LengthsKept v w) (t : v.transfer ≡ 
         let e = (answered a f.least).refusal f.most in
         record { least = omega (arith, e, f.least); most = omega (arith, e, f.most); quiet = f.quiet }
 
-    pub sent-there : {l : List (List ℕ)} → Sent s w F l → Sent s v F l
-    sent-there m = mixed_map foreign-there m
+    pub sent_there : {l : List (List ℕ)} → Sent s w F l → Sent s v F l
+    sent_there m = mixed_map foreign-there m
 
-    pub plain-there : Plain s w F → Plain s v F
-    plain-there p k h =
+    pub plain_there : Plain s w F → Plain s v F
+    plain_there p k h =
         ap
         (λ (n : Lengths).
         same_kind F.kind Flash && is_data F k && has_flag (F.block k) 0x4000

@@ -40,7 +40,7 @@ use Rattle.uf2_verify.specs.Stands.{stand_number, differ_at, same_page, page_sta
 use Rattle.demand.specs.Demand.{File, address_of, is_data, origin_of, storage_of, ValidFile, Sent, seen_of, Plain, ListEnds}
 use Rattle.demand.proofs.Files.{blocks_of, board, block_size, screen_block, valid}
 use Rattle.demand.proofs.Demand.{list_ends}
-use Rattle.demand.proofs.Starts.{origin_there, valid-there}
+use Rattle.demand.proofs.Starts.{origin_there, valid_there}
 use Rattle.demand.specs.Verify.{told_of, payload_byte, memory_byte, InMemory, EveryMemory, AllStand, DiffersByAByte, EitherIsTold, InMemoryIsTold, ReceivedStands, RefusalsOfALook}
 
 -- ---- 95 and 96 by the comparison
@@ -85,7 +85,7 @@ module _ (s : Settings) (w : World) (F : File) (idle : w.transfer ≡ Idle) (ok 
   alike = record { buffers = n; seen = refl; sectors = refl }
 
   there : ValidFile s v F
-  there = valid-there s v w alike (sym idle) F ok
+  there = valid_there s v w alike (sym idle) F ok
 
   buffer_is : (u : Kind) → buffer_of u v.held ≡ buffer_of u h
   buffer_is Kind.Flash = refl

@@ -32,7 +32,7 @@ use Rattle.uf2_checks.specs.declared.Screening.TheVariants as screening
 use Rattle.arrival.specs.Arrive.{World, lengths_of, ram_length, right_lengths, receive_of, after_screening, standing, deed_of}
 use Rattle.arrival.specs.Windows.{window_start, window_end, lies, kind_of}
 use Rattle.arrival.proofs.Heads.{kind_same, same_kind_lem}
-use Rattle.arrival_claims.proofs.Screening.{lens, Board, Passing, Good, screen_good, kind-window}
+use Rattle.arrival_claims.proofs.Screening.{lens, Board, Passing, Good, screen_good, kind_window}
 use Rattle.arrival_claims.proofs.DecisionFacts.{board_decides, right_true, step_late}
 use Rattle.demand.specs.Demand.{File, is_data, address_of, answer_number, ValidFile}
 use Rattle.file_check.specs.declared.Checked.{Checked}
@@ -143,7 +143,7 @@ pub kind_alone_lem : (s : Settings) (n : Lengths) (w : World) → Start n w → 
 kind_alone_lem s n w st a =
     split (has_flag a 0x1)
     (λ y. unfold kind_of in rw (y, st.idle))
-    (λ z. kind-window s w a z ∙ unfold fields_of in rw z (ap (λ (x : Lengths). window_kind (window_of x (field_at a 12))) st.lengths))
+    (λ z. kind_window s w a z ∙ unfold fields_of in rw z (ap (λ (x : Lengths). window_kind (window_of x (field_at a 12))) st.lengths))
 
 pub spans_near : (a b j : ℕ) → spans a j ≡ true → spans b j ≡ true → near a b ≡ true
 spans_near a b j p q =
@@ -201,12 +201,12 @@ module _ (s : Settings) (n : Lengths) (f : List ℕ) (ok : Sound s n f) where
     passing : (i : ℕ) (h : i < pieces_in f) → Passing s w (piece_at f i) (ok.fines i h).placed
     passing i h = subst (Good s w (piece_at f i)) (screened i h) (screen_good s w (piece_at f i))
 
-    pub number-below : (i : ℕ) → i < pieces_in f → field_in f i 20 < total_in f
-    number-below i h = omega (arith, (passing i h).below, (ok.fines i h).beside.total)
+    pub number_below : (i : ℕ) → i < pieces_in f → field_in f i 20 < total_in f
+    number_below i h = omega (arith, (passing i h).below, (ok.fines i h).beside.total)
 
     pub found_at : (k : ℕ) → k < total_in f → (at k < pieces_in f) × (field_in f (at k) 20 ≡ k)
     found_at k h =
-        let c : size (total_in f) (numbers_below f (pieces_in f)) ≡ pieces_in f = counted f (total_in f) (pieces_in f) (λ j l. (number-below j l, (ok.fines j l).beside.new)) in
+        let c : size (total_in f) (numbers_below f (pieces_in f)) ≡ pieces_in f = counted f (total_in f) (pieces_in f) (λ j l. (number_below j l, (ok.fines j l).beside.new)) in
         let y : numbers_below f (pieces_in f) k ≡ true = size_full (total_in f) (numbers_below f (pieces_in f)) k (omega (arith, c, ok.count)) h in
         let r = least_below (λ i. eqb (field_in f i 20) k) (pieces_in f) y in
         (r.0, eqb-true _ _ r.1)
@@ -272,7 +272,7 @@ module _ (s : Settings) (n : Lengths) (f : List ℕ) (ok : Sound s n f) where
     pieces =
         record {
           count = omega (arith, ok.count, ok.whole);
-          below = λ i h. number-below i (omega (arith, ok.count));
+          below = λ i h. number_below i (omega (arith, ok.count));
           each = λ i h. ap (piece_at f) (at_of i (omega (arith, ok.count)));
           once = λ i j hi hj e. sym (at_of i (omega (arith, ok.count))) ∙ ap at e ∙ at_of j (omega (arith, ok.count));
         }

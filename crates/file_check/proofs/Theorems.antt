@@ -47,7 +47,7 @@ use Rattle.file_check.specs.declared.Checked.{Checked}
 use Rattle.file_check.specs.declared.Checked.TheVariants.{BadBuffers, BadSettings, Ragged, Empty, Refused, OtherFamily, OtherTotal, OtherKind, SameNumber, Overlap, Missing, Guarded, Valid}
 use Rattle.file_check.specs.Check.{piece_at, pieces_in, field_in, is_page, kind_alone, total_in, family_in, kind_in, same_number, near, overlaps, beside_of, screened_to, fault_at, is_valid, is_sound, is_faulty, guards_in, is_guarding, whole_of, pieces_of, right_maps, check_of}
 use Rattle.file_check.specs.Valid.{Start, file_of, Pieces, Good as GoodFile, answer_to, PlainAt, ValidIsValid, GuardedIsValid, NothingElseIsValid, PlainIsValid, Delivered, ValidArrives}
-use Rattle.file_check.proofs.Sound.{Sound, sound, valid, pieces, at, kind_alone_lem, found_at, at_of, number-below, spans_near, Fine, Beside, answer_is}
+use Rattle.file_check.proofs.Sound.{Sound, sound, valid, pieces, at, kind_alone_lem, found_at, at_of, number_below, spans_near, Fine, Beside, answer_is}
 
 -- ---- regions
 

@@ -74,16 +74,16 @@ module _ (p : Place) (k : Kind) (f : List ℕ) where
     flash : same_kind k Flash ≡ true
     flash = sym e ∙ not-false b y
 
-    pub one-guards : i < pieces_in f → Guarded i ≡ guarded_by p k f
+    pub one_guards : i < pieces_in f → Guarded i ≡ guarded_by p k f
     unfolding guarded_by
-    one-guards l =
+    one_guards l =
         split (any (pieces_in f) (guards_at p f))
         (λ t. rw (flash, t) (ap Guarded q))
         (λ z. let d = least_none (guards_at p f) (pieces_in f) z in absurd (omega (arith, d, q)))
 
-    pub none-guards : pieces_in f ≤ i → Valid ≡ guarded_by p k f
+    pub none_guards : pieces_in f ≤ i → Valid ≡ guarded_by p k f
     unfolding guarded_by
-    none-guards l =
+    none_guards l =
         split (any (pieces_in f) (guards_at p f))
         (λ t. let d = (least_below (guards_at p f) (pieces_in f) t).0 in absurd (omega (arith, d, q)))
         (λ z. rw (flash, z))
@@ -206,16 +206,16 @@ module _ (s : Settings) (n : Lengths) (a b c : ℕ) (f : List ℕ) where
       unfolding check_of
       ragged d = let w : eqb (length f % 512) 0 ≡ false = ne_eqb _ _ d in rw (right_is, good_is, w)
 
-      pub nothing-there : length f % 512 ≡ 0 → length f ≡ 0 → Empty ≡ check_of s n a b c f
+      pub nothing_there : length f % 512 ≡ 0 → length f ≡ 0 → Empty ≡ check_of s n a b c f
       unfolding check_of
-      nothing-there d q =
+      nothing_there d q =
           let w : eqb (length f % 512) 0 ≡ true = eq-eqb _ _ d in
           let v : eqb (length f) 0 ≡ true = eq-eqb _ _ q in
           rw (right_is, good_is, w, v)
 
-      pub by-pieces : length f % 512 ≡ 0 → length f ≢ 0 → {r : Checked} → r ≡ pieces_of s n f → r ≡ check_of s n a b c f
+      pub by_pieces : length f % 512 ≡ 0 → length f ≢ 0 → {r : Checked} → r ≡ pieces_of s n f → r ≡ check_of s n a b c f
       unfolding check_of
-      by-pieces d q t =
+      by_pieces d q t =
           let w : eqb (length f % 512) 0 ≡ true = eq-eqb _ _ d in
           let v : eqb (length f) 0 ≡ false = ne_eqb _ _ q in
           t ∙ sym (rw (right_is, good_is, w, v))

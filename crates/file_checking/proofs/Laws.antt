@@ -31,7 +31,7 @@ use Rattle.file_check.specs.Check.{piece_at, pieces_in, field_in, beside_of, scr
 use Rattle.file_check.proofs.Sound.{Fine, fine, board_of_lem}
 use Rattle.file_check.proofs.Theorems.{empty, empty_start}
 use Rattle.file_checking.specs.Pieces.Parts.{Maps, file_head, entered, beside_by, maps_by, screened_by, maps_then, Holds}
-use Rattle.file_checking.proofs.piece.Laws.{beside-is, holds-next}
+use Rattle.file_checking.proofs.piece.Laws.{beside_is, holds_next}
 use Rattle.file_checking.specs.Parts.{first_of, Opened, Knows}
 
 -- ---- what the settings say of a family
@@ -70,7 +70,7 @@ module _ (s : Settings) (n : Lengths) (f : List ℕ) {m₀ : Maps} (op : Opened 
   by_screening : (x : Screening) → screen_of s n Idle (piece_at f i) ≡ x → screened_by (file_head n f) f i m x ≡ screened_to n f i x
   by_screening (screening.Refused x) e = refl
   by_screening (screening.Passed p) e =
-      beside-is s n f (empty n) (empty_start n) (board_of_lem s n (empty n) (empty_start n) op.right op.good) i m held h fines p e
+      beside_is s n f (empty n) (empty_start n) (board_of_lem s n (empty n) (empty_start n) op.right op.good) i m held h fines p e
 
   pub found_is : {found : Checked} → found ≡ screened_by head f i m (screen_at k.rooms n Idle (piece_at f i)) → found ≡ fault_at s n f i
   unfolding fault_at
@@ -80,8 +80,8 @@ module _ (s : Settings) (n : Lengths) (f : List ℕ) {m₀ : Maps} (op : Opened 
   after (screening.Refused x) e v = clash false v refl
   after (screening.Passed p) e v =
       let B = board_of_lem s n (empty n) (empty_start n) op.right op.good in
-      let q : is_valid (beside_by (file_head n f) p f i m) ≡ true = ap is_valid (beside-is s n f (empty n) (empty_start n) B i m held h fines p e) ∙ v in
-      subst (Holds s n f (suc i)) (sym (maps_valid (file_head n f) p f i m q)) (holds-next s n f (empty n) (empty_start n) B i m held h fines p e v)
+      let q : is_valid (beside_by (file_head n f) p f i m) ≡ true = ap is_valid (beside_is s n f (empty n) (empty_start n) B i m held h fines p e) ∙ v in
+      subst (Holds s n f (suc i)) (sym (maps_valid (file_head n f) p f i m q)) (holds_next s n f (empty n) (empty_start n) B i m held h fines p e v)
 
   pub holds_after : {found : Checked} → found ≡ screened_by head f i m (screen_at k.rooms n Idle (piece_at f i)) → is_valid found ≡ true
       → (m' : Maps) → m' ≡ maps_then head f i m (screen_at k.rooms n Idle (piece_at f i)) → Holds s n f (i + 1) m'

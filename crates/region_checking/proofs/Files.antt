@@ -100,9 +100,9 @@ module _ (s : Settings) (n : Lengths) (f : List ℕ) (yes : names_regions (answe
     unfolding piece_at
     size_is = e ∙ ap (λ (x : Rooms). size_of x.flash) r ∙ ap (λ (x : ℕ). size_of (place_of s n.flash x)) g ∙ ap size_of place_is
 
-    pub regions-is : {x : RegionsChecked} → x ≡ regions_by k f → x ≡ regions_of s n f
+    pub regions_is : {x : RegionsChecked} → x ≡ regions_by k f → x ≡ regions_of s n f
     unfolding regions_by regions_of
-    regions-is q =
+    regions_is q =
         let h : (j : ℕ) → j < pieces_in f → wrong_at L.size f j ≡ is_wrong s n f j = λ j l. ap (λ (b : Bool). b && not (is_right (region_fault f j))) (sym (names_same j)) in
         let a = any_cong (pieces_in f) (wrong_at L.size f) (is_wrong s n f) h in
         let b = least_cong (pieces_in f) (wrong_at L.size f) (is_wrong s n f) h in
@@ -126,16 +126,16 @@ module _ (s : Settings) (n : Lengths) (d : ℕ) (f : List ℕ) (x : Checked) {b 
   stays y = let z : names_regions x ≡ false = sym e ∙ not-true b y in rw z
 
   module _ (y : not b ≡ false) where
-    pub no-image : d ≢ n.flash → As BadBuffers ≡ after_check s n d f x
+    pub no_image : d ≢ n.flash → As BadBuffers ≡ after_check s n d f x
     unfolding after_check
-    no-image h =
+    no_image h =
         let z : names_regions x ≡ true = sym e ∙ not-false b y in
         let q : eqb d n.flash ≡ false = ne_eqb _ _ h in
         rw (z, q)
 
-    pub by-regions : d ≡ n.flash → {r : RegionsChecked} → r ≡ regions_of s n f → r ≡ after_check s n d f x
+    pub by_regions : d ≡ n.flash → {r : RegionsChecked} → r ≡ regions_of s n f → r ≡ after_check s n d f x
     unfolding after_check
-    by-regions h k =
+    by_regions h k =
         let z : names_regions x ≡ true = sym e ∙ not-false b y in
         let q : eqb d n.flash ≡ true = eq-eqb _ _ h in
         k ∙ sym (rw (z, q))

@@ -68,26 +68,26 @@ module _ (g : Region) (a : List ℕ) where
       ltb-true _ _ (and_right (u && v) w e)
 
   module _ {b : Bool} (e : b ≡ inside_of g a) where
-    pub low-is : not b ≡ false → {y : ℕ} → y ≡ field_at a 12 → g.start ≤ y
-    low-is z q = let l = inside_low (sym e ∙ not-false b z) in omega (arith, l, q)
+    pub low_is : not b ≡ false → {y : ℕ} → y ≡ field_at a 12 → g.start ≤ y
+    low_is z q = let l = inside_low (sym e ∙ not-false b z) in omega (arith, l, q)
 
-    pub not-laid : not b ≡ true → (c : List ℕ) → c ≡ laid_on g a c
+    pub not_laid : not b ≡ true → (c : List ℕ) → c ≡ laid_on g a c
     unfolding laid_on
-    not-laid y c = let z : inside_of g a ≡ false = sym e ∙ not-true b y in rw z
+    not_laid y c = let z : inside_of g a ≡ false = sym e ∙ not-true b y in rw z
 
-    pub is-laid : not b ≡ false → (c : List ℕ) {y : ℕ} → y ≡ field_at a 12 → {r : List ℕ} → r ≡ store_at c (y - g.start) (payload_of a) → r ≡ laid_on g a c
+    pub is_laid : not b ≡ false → (c : List ℕ) {y : ℕ} → y ≡ field_at a 12 → {r : List ℕ} → r ≡ store_at c (y - g.start) (payload_of a) → r ≡ laid_on g a c
     unfolding laid_on
-    is-laid z c q h =
+    is_laid z c q h =
         let t : inside_of g a ≡ true = sym e ∙ not-false b z in
         h ∙ ap (λ (x : ℕ). store_at c (x - g.start) (payload_of a)) q ∙ sym (rw t)
 
-    pub not-sector : not b ≡ true → (m : List ℕ) → m ≡ sector_with g a m
+    pub not_sector : not b ≡ true → (m : List ℕ) → m ≡ sector_with g a m
     unfolding sector_with
-    not-sector y m = let z : inside_of g a ≡ false = sym e ∙ not-true b y in rw z
+    not_sector y m = let z : inside_of g a ≡ false = sym e ∙ not-true b y in rw z
 
-    pub is-sector : not b ≡ false → (m : List ℕ) {y : ℕ} → y ≡ field_at a 12 → {r : List ℕ} → r ≡ with_mark m ((y - g.start) / 4096) → r ≡ sector_with g a m
+    pub is_sector : not b ≡ false → (m : List ℕ) {y : ℕ} → y ≡ field_at a 12 → {r : List ℕ} → r ≡ with_mark m ((y - g.start) / 4096) → r ≡ sector_with g a m
     unfolding sector_with
-    is-sector z m q h =
+    is_sector z m q h =
         let t : inside_of g a ≡ true = sym e ∙ not-false b z in
         h ∙ ap (λ (x : ℕ). with_mark m ((x - g.start) / 4096)) q ∙ sym (rw t)
 
@@ -95,9 +95,9 @@ module _ (g : Region) (a : List ℕ) where
     unfolding note_with
     not_noted y k m = let z : inside_of g a ≡ false = sym e ∙ not-true b y in rw z
 
-    pub is-noted : not b ≡ false → (k : ℕ) (m : List ℕ) {r : List ℕ} → r ≡ with_mark m k → r ≡ note_with g a k m
+    pub is_noted_lem : not b ≡ false → (k : ℕ) (m : List ℕ) {r : List ℕ} → r ≡ with_mark m k → r ≡ note_with g a k m
     unfolding note_with
-    is-noted z k m h = let t : inside_of g a ≡ true = sym e ∙ not-false b z in h ∙ sym (rw t)
+    is_noted_lem z k m h = let t : inside_of g a ≡ true = sym e ∙ not-false b z in h ∙ sym (rw t)
 
 pub names_is : (size : ℕ) (a : List ℕ) {x y : ℕ} {flag r : Bool} {g : Region} → x ≡ field_at a 8 → flag ≡ has_flag a 0x4000 → g ≡ region_of a → y ≡ field_at a 12
     → r ≡ good_region size y g → not (eqb (x / 1 % 2) 1) && flag && r ≡ names_in size a
@@ -204,9 +204,9 @@ module _ (f : List ℕ) (i : ℕ) (g : Region) {k : ℕ} (e : k ≡ least (piece
   stray_told l = let y = told (pieces_in f) (is_stray f g) e l in rw y (ap (OtherRegion i) e)
 
   module _ (l : pieces_in f ≤ k) {q : ℕ} (h : q ≡ least (g.len / 4096) (is_bare f g)) where
-    pub bare-told : q < g.len / 4096 → BareSector i q ≡ fault_in f i g
+    pub bare_told : q < g.len / 4096 → BareSector i q ≡ fault_in f i g
     unfolding fault_in
-    bare-told b =
+    bare_told b =
         let z = untold (pieces_in f) (is_stray f g) e l in
         let y = told (g.len / 4096) (is_bare f g) h b in
         rw (z, y) (ap (BareSector i) h)
@@ -220,9 +220,9 @@ module _ (f : List ℕ) (i : ℕ) (g : Region) {k : ℕ} (e : k ≡ least (piece
           let v : same_digest (md5_of (final_of f g)) g ≡ false = sym d ∙ x in
           rw (z, y, v)
 
-      pub right-told : r ≡ true → Right ≡ fault_in f i g
+      pub right_told : r ≡ true → Right ≡ fault_in f i g
       unfolding fault_in
-      right-told x =
+      right_told x =
           let z = untold (pieces_in f) (is_stray f g) e l in
           let y = untold (g.len / 4096) (is_bare f g) h b in
           let v : same_digest (md5_of (final_of f g)) g ≡ true = sym d ∙ x in
@@ -286,17 +286,17 @@ module _ (size : ℕ) (f : List ℕ) where
     named : {v : Bool} → b ≡ v → names_at size f i ≡ v
     named y = ap (names_in size) (sym (part_is f i)) ∙ sym e ∙ y
 
-    pub asked-none : not b ≡ true → Right ≡ asked_of size f i
+    pub asked_none : not b ≡ true → Right ≡ asked_of size f i
     unfolding asked_of
-    asked-none y = let z = named (not-true b y) in rw z
+    asked_none y = let z = named (not-true b y) in rw z
 
     module _ (y : not b ≡ false) where
       names : names_at size f i ≡ true
       names = named (not-false b y)
 
-      pub asked-marked : (m : List ℕ) → Noted size f m → i < pieces_in f → {k : Bool} → k ≡ marked_in m i → k ≡ true → Right ≡ asked_of size f i
+      pub asked_marked : (m : List ℕ) → Noted size f m → i < pieces_in f → {k : Bool} → k ≡ marked_in m i → k ≡ true → Right ≡ asked_of size f i
       unfolding asked_of
-      asked-marked m noted h q t =
+      asked_marked m noted h q t =
           let z : wrong_at size f i ≡ false = noted i h (sym q ∙ t) in
           let u : not (is_right (region_fault f i)) ≡ false = ap (λ (b : Bool). b && not (is_right (region_fault f i))) (sym names) ∙ z in
           sym (rw names (right_is (region_fault f i) (not-false _ u)))
@@ -305,9 +305,9 @@ module _ (size : ℕ) (f : List ℕ) where
       unfolding asked_of
       asked_is p q = q ∙ ap (fault_in f i) (p ∙ ap region_of (part_is f i)) ∙ sym (rw names)
 
-      pub region-few : {g : Region} → g ≡ region_of (take (i * 512 + 512 - i * 512) (drop (i * 512) f)) → g.len ≤ size
+      pub region_few : {g : Region} → g ≡ region_of (take (i * 512 + 512 - i * 512) (drop (i * 512) f)) → g.len ≤ size
       unfolding names_in
-      region-few {g} p =
+      region_few {g} p =
           let a = piece_at f i in
           let q = good_true size (field_at a 12) (region_of a) (and_right (not (has_flag a 0x1) && has_flag a 0x4000) _ names) in
           let d : g.len ≡ (region_of a).len = ap (λ (x : Region). x.len) (p ∙ ap region_of (part_is f i)) in

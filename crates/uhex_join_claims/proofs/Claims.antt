@@ -120,13 +120,13 @@ module _ (a b out : List ℕ) (n : ℕ) (o : OutputFacts a b out n) where
   says_there = rw lines_there (written_says (file_written part_a.pieces part_b.pieces))
 
   file_there : (f : File (file_items (pieces_of a) (pieces_of b))) × (f.sections ≡ sections (pieces_of a) (pieces_of b)) × (f.ending ≡ item 0x01 0 [])
-  file_there = by-pieces part_a.pieces part_b.pieces part_a.some part_b.some (omega (arith, o.size, o.most))
+  file_there = by_pieces part_a.pieces part_b.pieces part_a.some part_b.some (omega (arith, o.size, o.most))
     where
-      by-pieces : {p q : List Store} → Pieces p → Pieces q → 1 ≤ length p → 1 ≤ length q → length (file_text p q) ≤ 4194304
+      by_pieces : {p q : List Store} → Pieces p → Pieces q → 1 ≤ length p → 1 ≤ length q → length (file_text p q) ≤ 4194304
           → (f : File (file_items p q)) × (f.sections ≡ sections p q) × (f.ending ≡ item 0x01 0 [])
-      by-pieces no_piece w h k m = absurd (omega arith)
-      by-pieces (next_piece f fs) no_piece h k m = absurd (omega arith)
-      by-pieces (next_piece f fs) (next_piece g gs) h k m = is_file f fs g gs m
+      by_pieces no_piece w h k m = absurd (omega arith)
+      by_pieces (next_piece f fs) no_piece h k m = absurd (omega arith)
+      by_pieces (next_piece f fs) (next_piece g gs) h k m = is_file f fs g gs m
 
 accepted : (own n : ℕ) (s : State) (xs : List Item) → Acceptance (answers_for own n s xs)
 unfolding answers_for

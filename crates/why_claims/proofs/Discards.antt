@@ -27,7 +27,7 @@ use Rattle.uf2_checks.specs.declared.Screening.{Screening}
 use Rattle.uf2_checks.specs.declared.Screening.TheVariants.{Refused, Passed}
 use Rattle.arrival.specs.Windows as windows
 use Rattle.arrival.specs.Arrive.{World, Forecast, stays, lengths_of, right_lengths, standing, deed_of, stepped, after_screening, decide, forecast_of, look_of}
-use Rattle.arrival_claims.proofs.Screening.{Good, screen_good, comment_is, kind-window, kind-note}
+use Rattle.arrival_claims.proofs.Screening.{Good, screen_good, comment_is, kind_window, kind_note}
 use Rattle.why_causes.specs.Causes.{answer_of}
 use Rattle.why_causes.specs.declared.Cause.{Cause}
 use Rattle.why_causes.specs.declared.Cause.TheVariants.{BadBuffers, BadSettings, BadState, NotBlock, Container, NoFamily, NoPlace, BadPayload, BadNumbers, BadAddress, Finished, Again, Written, Completed, Noted, Kept}
@@ -98,7 +98,7 @@ module _ (s : Settings) (w : World) (a : List ℕ) where
   pub kinds : kind_of (lengths_of w.held) w.transfer (fields_of a) ≡ windows.kind_of w a
   unfolding kind_of
   kinds =
-      split (has_flag a 0x1) (λ y. ap kind_if (comment_is a ∙ y) ∙ sym (kind-note s w a y)) (λ z. ap kind_if (comment_is a ∙ z) ∙ sym (kind-window s w a z))
+      split (has_flag a 0x1) (λ y. ap kind_if (comment_is a ∙ y) ∙ sym (kind_note s w a y)) (λ z. ap kind_if (comment_is a ∙ z) ∙ sym (kind_window s w a z))
 
   screened : (kept : Bool) (x : Screening) → Good s w a x → Told w.transfer (head_in w a) (forecast_of (after_screening w.transfer w.seen kept x))
   unfolding after_screening

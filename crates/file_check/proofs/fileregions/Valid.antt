@@ -45,7 +45,7 @@ use Rattle.file_check.specs.declared.Checked.{Checked}
 use Rattle.file_check.specs.declared.Checked.TheVariants.{BadBuffers, BadSettings, Ragged, Empty, Refused, OtherFamily, OtherTotal, OtherKind, SameNumber, Overlap, Missing, Guarded, Valid as ValidFound}
 use Rattle.file_check.specs.Check.{piece_at, pieces_in, field_in, is_page, total_in, family_in, kind_in, is_sound, guards_in, is_guarding, check_of}
 use Rattle.file_check.specs.Valid.{Start, file_of, Good, answer_to}
-use Rattle.file_check.proofs.Sound.{Sound, sound, valid, pieces, at, at_of, found_at, number-below, piece_size}
+use Rattle.file_check.proofs.Sound.{Sound, sound, valid, pieces, at, at_of, found_at, number_below, piece_size}
 use Rattle.file_check.proofs.Theorems.{empty, empty_start, size_all}
 use Rattle.file_check.specs.declared.fileregions.RegionsChecked.{RegionsChecked}
 use Rattle.file_check.specs.declared.fileregions.RegionsChecked.TheVariants.{Right}
@@ -148,7 +148,7 @@ module _ (s : Settings) (n : Lengths) (f : List ℕ) (ok : Sound s n f) (w : Wor
           let back : at s n f ok num ≡ k = at_of s n f ok k h in
           let z : field_in f (at s n f ok num) 12 ≡ field_in f k 12 = ap (λ (x : ℕ). field_in f x 12) back in
           let v : storage_of s w F num / 4096 ≡ q = omega (arith, storage_is num, z, region_is i, facts.window, r.from, e, m, x) in
-          any_hit (λ k. lies_in s w F k q) (total_in f) num (number-below s n f ok w st k h)
+          any_hit (λ k. lies_in s w F k q) (total_in f) num (number_below s n f ok w st k h)
           (both {a = is_page f (at s n f ok num)} {b = eqb q (storage_of s w F num / 4096)} (ap (is_page f) back ∙ r.page) (eq-eqb q (storage_of s w F num / 4096) (sym v)))
 
       every : (q : ℕ) → in_region s w F i (q * 4096) ≡ true → any (total_in f) (λ k. lies_in s w F k q) ≡ true
@@ -200,7 +200,7 @@ module _ (s : Settings) (n : Lengths) (f : List ℕ) (ok : Sound s n f) (w : Wor
           let uk = spans_true (spot f g k) j pk in
           let zm : field_in f (at s n f ok (field_in f m 20)) 12 ≡ field_in f m 12 = ap (λ (x : ℕ). field_in f x 12) bm in
           let zk : field_in f (at s n f ok (field_in f k 20)) 12 ≡ field_in f k 12 = ap (λ (x : ℕ). field_in f x 12) bk in
-          let e = whole.disjoint (field_in f m 20) (field_in f k 20) x (number-below s n f ok w st m hm) (number-below s n f ok w st k hk)
+          let e = whole.disjoint (field_in f m 20) (field_in f k 20) x (number_below s n f ok w st m hm) (number_below s n f ok w st k hk)
           (ap (is_page f) bm ∙ sm.0) (ap (is_page f) bk ∙ sk.0)
           (spans_is _ x (omega (arith, zm, um, sm.1)) (omega (arith, zm, um, sm.1)))
           (spans_is _ x (omega (arith, zk, uk, sk.1)) (omega (arith, zk, uk, sk.1))) in
@@ -223,7 +223,7 @@ module _ (s : Settings) (n : Lengths) (f : List ℕ) (ok : Sound s n f) (w : Wor
               clash (holds s w F num (lo + j))
               (both {a = is_page f (at s n f ok num)} {b = spans (storage_of s w F num) (lo + j)} (ap (is_page f) (at_of s n f ok k h) ∙ t.0)
               (spans_is (storage_of s w F num) (lo + j) (omega (arith, u, t.2)) (omega (arith, u, t.2))))
-              (any_all (λ k. holds s w F k (lo + j)) (total_in f) z num (number-below s n f ok w st k h)))
+              (any_all (λ k. holds s w F k (lo + j)) (total_in f) z num (number_below s n f ok w st k h)))
 
           -- a byte that block k holds
           owned : (j : ℕ) → j < region_length F i → (k : ℕ) → k < total_in f → holds s w F k (lo + j) ≡ true → get_or c j 0 ≡ get_or (final_of f g) j 0

@@ -1,5 +1,5 @@
 use native.Mathlib.Omega.{arith}
-use Rattle.file_checking.proofs.Files.{bad_buffers, bad_settings, ragged, nothing-there, by-pieces, right_is, good_is, opened}
+use Rattle.file_checking.proofs.Files.{bad_buffers, bad_settings, ragged, nothing_there, by_pieces, right_is, good_is, opened}
 use Rattle.file_checking.proofs.judge.Goals as goal
 
 pub returns-then-not-right_maps : goal.returns-then-not-right_maps
@@ -12,7 +12,7 @@ pub returns-then-file-ne0 : goal.returns-then-file-ne0
 returns-then-file-ne0 c = ragged _ _ _ _ _ _ c.right_maps.ensures c.if-not-right_maps.false-raw c.good.ensures c.if-not-good.false-raw c.if-file-ne0.true
 
 pub returns-then-file-eq0 : goal.returns-then-file-eq0
-returns-then-file-eq0 c = nothing-there _ _ _ _ _ _ c.right_maps.ensures c.if-not-right_maps.false-raw c.good.ensures c.if-not-good.false-raw c.if-file-ne0.false c.if-file-eq0.true
+returns-then-file-eq0 c = nothing_there _ _ _ _ _ _ c.right_maps.ensures c.if-not-right_maps.false-raw c.good.ensures c.if-not-good.false-raw c.if-file-ne0.false c.if-file-eq0.true
 
 pub every_piece-requires : goal.every_piece-requires
 every_piece-requires c = record {
@@ -21,4 +21,4 @@ every_piece-requires c = record {
 }
 
 pub returns : goal.returns
-returns c = by-pieces _ _ _ _ _ _ c.right_maps.ensures c.if-not-right_maps.false-raw c.good.ensures c.if-not-good.false-raw c.if-file-ne0.false c.if-file-eq0.false c.every_piece.ensures
+returns c = by_pieces _ _ _ _ _ _ c.right_maps.ensures c.if-not-right_maps.false-raw c.good.ensures c.if-not-good.false-raw c.if-file-ne0.false c.if-file-eq0.false c.every_piece.ensures

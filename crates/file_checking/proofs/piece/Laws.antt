@@ -39,7 +39,7 @@ use Rattle.arrival.specs.Windows.{window_start, kind_of}
 use Rattle.arrival.proofs.Heads.{kind_same, same_kind_lem}
 use Rattle.arrival.proofs.Windows.{start_is}
 use Rattle.arrival.proofs.Paged.{Fits}
-use Rattle.arrival_claims.proofs.Screening.{lens, Board, Passing, Good, Room, screen_good, passing_room, passing_few, passing-body, passing_note, passing-fits}
+use Rattle.arrival_claims.proofs.Screening.{lens, Board, Passing, Good, Room, screen_good, passing_room, passing_few, passing_body, passing_note, passing_fits}
 use Rattle.file_check.specs.declared.Checked.{Checked}
 use Rattle.file_check.specs.declared.Checked.TheVariants.{OtherFamily, OtherTotal, OtherKind, SameNumber, Overlap, Valid}
 use Rattle.file_check.specs.Check.{piece_at, pieces_in, field_in, is_page, kind_alone, total_in, family_in, kind_in, numbers_below, same_number, near, overlaps, beside_of, is_valid}
@@ -101,7 +101,7 @@ module _ (s : Settings) (n : Lengths) (f : List ℕ) (w : World) (st : Start n w
 
       body_at : p.body ≡ Page (start_in s n f i)
       body_at =
-          passing-body s w (piece_at f i) p passing B z
+          passing_body s w (piece_at f i) p passing B z
           ∙ (λ t. Page (start-at t + (field_in f i 12 - window_start (kind_is t))))
           ∙ ap (λ (b : ℕ). Page (start_of (room_in (rooms_of s n.flash (family_in f)) (kind_in n f)) + (field_in f i 12 - b))) (sym (start_is (kind_in n f)))
 
@@ -166,9 +166,9 @@ module _ (s : Settings) (n : Lengths) (f : List ℕ) (w : World) (st : Start n w
           (λ z. ap (λ (b : Body). touching b m) (body_at i p e fam knd z) ∙ page-touches z)
 
     -- what the maps say is what the definition says
-    pub beside-is : beside_by (file_head n f) p f i m ≡ beside_of n f i
+    pub beside_is : beside_by (file_head n f) p f i m ≡ beside_of n f i
     unfolding beside_by beside_of
-    beside-is =
+    beside_is =
         rw (ap (λ (x : Head). x.family) (head_is i p e), ap (λ (x : Head). x.total) (head_is i p e), ap (λ (x : Head). x.kind) (head_is i p e), marked-is)
         (split (eqb (field_in f i 28) (family_in f))
         (λ y1. rw y1
@@ -236,7 +236,7 @@ module _ (s : Settings) (n : Lengths) (f : List ℕ) (w : World) (st : Start n w
           inside : Inside s w (kind_of w (piece_at f i)) (start_in s n f i)
           inside =
               subst (Inside s w (kind_of w (piece_at f i))) stored
-              (fits_inside s w B (kind_of w (piece_at f i)) _ (payload_of (piece_at f i)) (passing-fits s w (piece_at f i) p (passing i p e) B z (piece_size f i h)))
+              (fits_inside s w B (kind_of w (piece_at f i)) _ (payload_of (piece_at f i)) (passing_fits s w (piece_at f i) p (passing i p e) B z (piece_size f i h)))
 
           bound : start_in s n f i + 256 ≤ 33554432
           bound = inside.most
@@ -250,5 +250,5 @@ module _ (s : Settings) (n : Lengths) (f : List ℕ) (w : World) (st : Start n w
           (λ y. subst (λ (c : Body). Holds s n f (suc i) (entered c p.number m)) (sym (passing_note s w (piece_at f i) p (passing i p e) B y)) (note-next y))
           (λ z. subst (λ (c : Body). Holds s n f (suc i) (entered c p.number m)) (sym (body_at i p e b.family b.kind z)) (page-next z))
 
-    pub holds-next : is_valid (beside_of n f i) ≡ true → Holds s n f (suc i) (entered p.body p.number m)
-    holds-next ok = next (beside n f i ok)
+    pub holds_next : is_valid (beside_of n f i) ≡ true → Holds s n f (suc i) (entered p.body p.number m)
+    holds_next ok = next (beside n f i ok)

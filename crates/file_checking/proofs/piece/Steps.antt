@@ -49,14 +49,14 @@ module _ (h : Head) (p : PlacedBlock) (f : List ℕ) (i : ℕ) (m : Maps) where
         by_number t q = rw (eq-eqb p.head.family h.family e, eq-eqb p.head.total h.total g, sym k ∙ not-false b y, sym n ∙ t) (ap (SameNumber i) q)
 
         module _ (u : c ≡ false) {d : Bool} (o : d ≡ touching p.body m) where
-          pub by-overlap : d ≡ true → {j : ℕ} → j ≡ least i (overlaps f i) → Overlap i j ≡ beside_by h p f i m
+          pub by_overlap : d ≡ true → {j : ℕ} → j ≡ least i (overlaps f i) → Overlap i j ≡ beside_by h p f i m
           unfolding beside_by
-          by-overlap t q =
+          by_overlap t q =
               rw (eq-eqb p.head.family h.family e, eq-eqb p.head.total h.total g, sym k ∙ not-false b y, sym n ∙ u, sym o ∙ t) (ap (Overlap i) q)
 
-          pub by-none : d ≡ false → Valid ≡ beside_by h p f i m
+          pub by_none : d ≡ false → Valid ≡ beside_by h p f i m
           unfolding beside_by
-          by-none t = rw (eq-eqb p.head.family h.family e, eq-eqb p.head.total h.total g, sym k ∙ not-false b y, sym n ∙ u, sym o ∙ t)
+          by_none t = rw (eq-eqb p.head.family h.family e, eq-eqb p.head.total h.total g, sym k ∙ not-false b y, sym n ∙ u, sym o ∙ t)
 
 -- ---- the maps after it
 

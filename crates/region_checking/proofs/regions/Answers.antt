@@ -1,6 +1,6 @@
 use native.Mathlib.Omega.{arith}
 use Rattle.region_checking.proofs.Laws.{noted_none}
-use Rattle.region_checking.proofs.Files.{some_piece, roomy_is, regions-is}
+use Rattle.region_checking.proofs.Files.{some_piece, roomy_is, regions_is}
 use Rattle.region_checking.proofs.regions.Goals as goal
 
 pub slice_bounds-field-end : goal.slice_bounds-field-end
@@ -13,4 +13,4 @@ each_region-requires c = record {
 }
 
 pub returns : goal.returns
-returns c = regions-is _ _ _ c.requires.checked c.size_of-size.ensures c.rooms_for-rooms.ensures.value c.field-family.ensures c.each_region.ensures
+returns c = regions_is _ _ _ c.requires.checked c.size_of-size.ensures c.rooms_for-rooms.ensures.value c.field-family.ensures c.each_region.ensures

@@ -1,4 +1,4 @@
-use Rattle.file_checking.proofs.piece.Steps.{by_family, by_total, by_kind, by_number, by-overlap, by-none}
+use Rattle.file_checking.proofs.piece.Steps.{by_family, by_total, by_kind, by_number, by_overlap, by_none}
 use native.Mathlib.Omega.{arith}
 use Rattle.file_checking.proofs.piece.beside.Goals as goal
 
@@ -15,7 +15,7 @@ pub returns-then-marked : goal.returns-then-marked
 returns-then-marked c = by_number _ _ _ _ _ (omega arith) (omega arith) c.same_kind.ensures c.if-not-same_kind.false-raw c.marked.ensures c.if-marked.true c.first_number.ensures
 
 pub returns-then-touching : goal.returns-then-touching
-returns-then-touching c = by-overlap _ _ _ _ _ (omega arith) (omega arith) c.same_kind.ensures c.if-not-same_kind.false-raw c.marked.ensures c.if-marked.false c.touching.ensures c.if-touching.true c.first_overlap.ensures
+returns-then-touching c = by_overlap _ _ _ _ _ (omega arith) (omega arith) c.same_kind.ensures c.if-not-same_kind.false-raw c.marked.ensures c.if-marked.false c.touching.ensures c.if-touching.true c.first_overlap.ensures
 
 pub returns : goal.returns
-returns c = by-none _ _ _ _ _ (omega arith) (omega arith) c.same_kind.ensures c.if-not-same_kind.false-raw c.marked.ensures c.if-marked.false c.touching.ensures c.if-touching.false
+returns c = by_none _ _ _ _ _ (omega arith) (omega arith) c.same_kind.ensures c.if-not-same_kind.false-raw c.marked.ensures c.if-marked.false c.touching.ensures c.if-touching.false

@@ -1,11 +1,11 @@
-use Rattle.region_checking.proofs.Laws.{low-is, not-laid, is-laid}
+use Rattle.region_checking.proofs.Laws.{low_is, not_laid, is_laid}
 use Rattle.region_checking.proofs.laying.lay_piece.Goals as goal
 
 pub returns-then-not-is_inside : goal.returns-then-not-is_inside
-returns-then-not-is_inside c = not-laid _ _ c.is_inside.ensures c.if-not-is_inside.true-raw _
+returns-then-not-is_inside c = not_laid _ _ c.is_inside.ensures c.if-not-is_inside.true-raw _
 
 pub overflow_sub-at : goal.overflow_sub-at
-overflow_sub-at c = low-is _ _ c.is_inside.ensures c.if-not-is_inside.false-raw c.field-address.ensures
+overflow_sub-at c = low_is _ _ c.is_inside.ensures c.if-not-is_inside.false-raw c.field-address.ensures
 
 pub returns : goal.returns
-returns c = is-laid _ _ c.is_inside.ensures c.if-not-is_inside.false-raw _ c.field-address.ensures c.store.ensures
+returns c = is_laid _ _ c.is_inside.ensures c.if-not-is_inside.false-raw _ c.field-address.ensures c.store.ensures
