@@ -1,8 +1,8 @@
 /* A file checked before it is sent, for tools on a host: whether its pieces are the blocks of a file of which demand 3 speaks, for a board with given
  * settings and buffers. Proved to do what crates/checkapi/specs says, for every input.
  *
- * Built for the machines that uf2_receiver.h names: `rt staticlib checkapi` writes target/staticlib/libcheckapi.a, which links beside libcapi.a. It
- * calls nothing but memcpy and memset, allocates nothing and keeps nothing between calls. What uf2_receiver.h says of UF2_STACK_SIZE holds here
+ * Built for the machines that uf2_receiver.h names: `tools/target --host` writes target/staticlib/libcheckapi.a, which links beside libcapi.a. It
+ * calls nothing but memcpy, memmove and memset, allocates nothing and keeps nothing between calls. What uf2_receiver.h says of UF2_STACK_SIZE holds here
  * too.
  *
  * A slice is a pointer to bytes and then their number, and no function keeps a pointer. A pointer is never null, also of an empty slice, and

@@ -1,7 +1,7 @@
 /* Figures of a fleet, made in pieces: the part of one trace, and two parts as one. Each function is proved to do what crates/partapi/specs says,
  * for every input; crates/trace_claims/specs/MergesClaims.antt says what parts that are merged come to.
  *
- * `rt staticlib partapi` writes target/staticlib/libpartapi.a, for the machines that uf2_receiver.h names. It replays nothing: uf2_figures of
+ * `tools/target --host` writes target/staticlib/libpartapi.a, for the machines that uf2_receiver.h names. It replays nothing: uf2_figures of
  * uf2_tools.h does. What uf2_tools.h says of slices and of what a library calls holds here too. */
 #ifndef UF2_PARTS_H
 #define UF2_PARTS_H

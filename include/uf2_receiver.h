@@ -1,11 +1,10 @@
-/* The update receiver for C: every function is proved to do what the folder `specs` of a crate says, for every input. It is that of callbytes for
- * uf2_look, uf2_take, uf2_accept and uf2_take_all, of placebytes for uf2_ask, of transferbytes for uf2_new, of hexbytes for uhex_line and of
- * readers for uhex_new.
+/* The update receiver for C: every function is proved to do what the folder `specs` of a crate says, for every input. It is that of call_bytes for
+ * uf2_look, uf2_take, uf2_accept, uf2_take_all, uf2_ask and uhex_line, of transfer_layout for uf2_new and of uhex_layout for uhex_new.
  *
  * vantorel.h has the same calls with buffers that carry their lengths; libvantorel.a has all of them.
  *
- * Built for: x86-64 Linux, for which `rt staticlib NAME` writes target/staticlib/libNAME.a (System V calling convention); Cortex-M33,
- * RV32IMAC, AArch64, WebAssembly and x86-64 Windows, by `tools/target` (docs/BOARD.md). The code calls nothing but memcpy and memset (Cortex-M33: under
+ * Built for: x86-64 Linux, for which `tools/target --host` writes target/staticlib/libNAME.a (System V calling convention); Cortex-M33,
+ * RV32IMAC, AArch64, WebAssembly and x86-64 Windows, by `tools/target` (docs/BOARD.md). The code calls nothing but memcpy, memmove and memset (Cortex-M33: under
  * Arm's names for them), allocates nothing and keeps nothing between calls, so that calls on different buffers may run at the same time. A
  * call needs at most UF2_STACK_SIZE bytes of stack (measured: docs/BENCHMARKS.md). Each library stands alone: link those of the calls that
  * you use, in any order, or all of them (gcc .. target/staticlib/lib*.a). A call for one arrival is a library of its own, since it is then

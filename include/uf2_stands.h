@@ -1,7 +1,7 @@
 /* Does what a block holds stand in the memory? Proved to do what crates/standapi/specs says, for every input.
  *
- * Built for the machines that uf2_receiver.h names: `rt staticlib standapi` writes target/staticlib/libstandapi.a, which links beside the
- * others. It calls nothing but memcpy and memset, allocates nothing and keeps nothing between calls. What uf2_receiver.h says of slices and of
+ * Built for the machines that uf2_receiver.h names: `tools/target --host` writes target/staticlib/libstandapi.a, which links beside the
+ * others. It calls nothing but memcpy, memmove and memset, allocates nothing and keeps nothing between calls. What uf2_receiver.h says of slices and of
  * UF2_STACK_SIZE holds here too.
  *
  * Why one asks: UF2_ANSWER_COMPLETED says that a block of every number was accepted, and not what the flash holds. A receiver knows a file by

@@ -1,6 +1,6 @@
 /* Settings kept in the board, for C: every function is proved to do what crates/storeapi/specs says, for every input.
  *
- * `rt staticlib storeapi` writes target/staticlib/libstoreapi.a, a library of its own: it calls nothing but memcpy and memset, allocates nothing
+ * `tools/target --host` writes target/staticlib/libstoreapi.a, a library of its own: it calls nothing but memcpy, memmove and memset, allocates nothing
  * and keeps nothing between calls. It is linked beside libcapi.a or without it. What uf2_receiver.h says of slices, pointers and names,
  * of settings as bytes and of UF2_STACK_SIZE holds here too.
  *

@@ -1,8 +1,8 @@
 /* The extension tags of a UF2 block for C: every function is proved to do what crates/tagsapi/specs says, uf2_tag_first what crates/uf2_tags/specs
  * does, for every input.
  *
- * `rt staticlib tagsapi` writes target/staticlib/libtagsapi.a, a library of its own: it calls nothing (on RV32IMAC memcpy, and nothing
- * else), allocates nothing and keeps nothing between calls. It is linked beside the libraries of uf2_receiver.h or without them. What
+ * `tools/target --host` writes target/staticlib/libtagsapi.a, a library of its own: it calls nothing (on RV32IMAC memcpy and memset, and
+ * nothing else), allocates nothing and keeps nothing between calls. It is linked beside the libraries of uf2_receiver.h or without them. What
  * uf2_receiver.h says of slices, pointers and names holds here too.
  *
  *     uint8_t tag[UF2_TAG_SIZE];

@@ -1,10 +1,10 @@
 /* Files made of images, digests, one Universal Hex file from two plain ones, traces replayed, and exact figures over them, for tools on a host:
  * every function is proved to do what the folder `specs` of a crate says, for every input. It is that of toolsapi for uf2_make, uf2_make_regions,
- * uf2_md5 and uhex_join, of uf2file for uf2_make_check, of uf2block for uf2_make_block, of traceapi for uf2_replay and uf2_figures.
+ * uf2_md5 and uhex_join, of uf2_make for uf2_make_check and uf2_make_block, of traceapi for uf2_replay and uf2_figures.
  * What a board links is include/uf2_receiver.h.
  *
- * Built for the machines that uf2_receiver.h names: `rt staticlib toolsapi` writes target/staticlib/libtoolsapi.a, and `rt staticlib traceapi`
- * libtraceapi.a, which has uf2_replay and uf2_figures. Both link beside the libraries of uf2_receiver.h; they call nothing but memcpy and memset
+ * Built for the machines that uf2_receiver.h names: `tools/target --host` writes target/staticlib/libtoolsapi.a, and
+ * libtraceapi.a, which has uf2_replay and uf2_figures. Both link beside the libraries of uf2_receiver.h; they call nothing but memcpy, memmove and memset
  * (libtraceapi.a on Cortex-M33 and RV32IMAC also the compiler's own division of 64 bits), allocate nothing and keep nothing between calls. What
  * uf2_receiver.h says of UF2_STACK_SIZE holds here too.
  *

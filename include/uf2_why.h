@@ -1,8 +1,8 @@
 /* Why an arrival was answered as it was, and why a family has a place or none, for tools on a host: every function is proved to do what
  * crates/whyapi/specs says, for every input.
  *
- * Built for the machines that uf2_receiver.h names: `rt staticlib whyapi` writes target/staticlib/libwhyapi.a, which links beside libcapi.a. It
- * calls nothing but memcpy and memset, allocates nothing and keeps nothing between calls. What uf2_receiver.h says of UF2_STACK_SIZE holds here
+ * Built for the machines that uf2_receiver.h names: `tools/target --host` writes target/staticlib/libwhyapi.a, which links beside libcapi.a. It
+ * calls nothing but memcpy, memmove and memset, allocates nothing and keeps nothing between calls. What uf2_receiver.h says of UF2_STACK_SIZE holds here
  * too.
  *
  * A slice is a pointer to bytes and then their number, and no function keeps a pointer. A pointer is never null, also of an empty slice, and
