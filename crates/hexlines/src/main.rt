@@ -1,7 +1,7 @@
 // Reads lines of Universal Hex from standard input for one board and prints the answer to each: a board image of 262,144 bytes.
 #![tactic(auto)]
 
-ghost use Rattle.std.specs.Prelude.{◌+◌, ◌≤◌, length, IfOk};
+ghost use Rattle.std.specs.Prelude.{◌+◌, ◌≤◌, length, IfOk, IfErr, ◌≡◌};
 
 use std::env::{Env, FillError};
 use std::io;
@@ -53,7 +53,8 @@ fn add(
     answer: Answer,
 ) -> io::Result<usize>
     requires { (used ≤ length waiting.old) × (80 ≤ length waiting.old) }
-    ensures { IfOk result (λ n. n ≤ length waiting.old) }
+    ensures used { IfOk result (λ n. n ≤ length waiting.old) }
+    ensures kept { IfErr result (λ _. waiting.new ≡ waiting.old) }
 {
     let mut text = [0u8; 80];
     let n = text::hex_answer::hex_answer_line(&mut text, index, answer);
