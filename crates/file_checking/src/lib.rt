@@ -147,6 +147,7 @@ fn right_maps(lens: Lengths, a: usize, b: usize, c: usize) -> bool
 }
 
 // The conditions in their order, with cleared maps.
+#[tactic(auto, using(crate::proofs::Files::nothing_there, crate::proofs::Files::by_pieces))]
 fn judge(
     settings: Settings,
     lens: Lengths,

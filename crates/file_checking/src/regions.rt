@@ -22,6 +22,7 @@ fn counts_in(place: Place, arrival: &[u8]) -> bool
 }
 
 // Is an arrival data, and does it name a region that counts? Most files name none: the flag is asked first.
+#[tactic(auto, using(crate::proofs::regions::Laws::by_comment, crate::proofs::regions::Laws::by_region))]
 fn guards(place: Place, arrival: &[u8]) -> bool
     ensures { result ≡ guards_alone place arrival.now }
 {

@@ -1,5 +1,5 @@
 use native.Mathlib.Omega.{arith}
-use Rattle.file_checking.proofs.Files.{bad_buffers, bad_settings, ragged, nothing_there, by_pieces, right_is, good_is, opened}
+use Rattle.file_checking.proofs.Files.{bad_buffers, bad_settings, ragged, right_is, good_is, opened}
 use Rattle.file_checking.proofs.judge.Goals as goal
 
 pub returns-then-not-right_maps : goal.returns-then-not-right_maps
@@ -11,14 +11,8 @@ returns-then-not-good c = bad_settings _ _ _ _ _ _ c.right_maps.ensures c.if-not
 pub returns-then-file-ne0 : goal.returns-then-file-ne0
 returns-then-file-ne0 c = ragged _ _ _ _ _ _ c.right_maps.ensures c.if-not-right_maps.false-raw c.good.ensures c.if-not-good.false-raw c.if-file-ne0.true
 
-pub returns-then-file-eq0 : goal.returns-then-file-eq0
-returns-then-file-eq0 c = nothing_there _ _ _ _ _ _ c.right_maps.ensures c.if-not-right_maps.false-raw c.good.ensures c.if-not-good.false-raw c.if-file-ne0.false c.if-file-eq0.true
-
 pub every_piece-requires : goal.every_piece-requires
 every_piece-requires c = record {
   opened = opened _ _ _ _ _ _ c.requires (right_is c.args.settings _ _ _ _ c.args.file.now c.right_maps.ensures c.if-not-right_maps.false-raw) (good_is _ _ _ _ _ c.args.file.now c.right_maps.ensures c.if-not-right_maps.false-raw c.good.ensures c.if-not-good.false-raw);
-  some = omega (arith, c.if-file-ne0.false, c.if-file-eq0.false);
+  some = omega arith;
 }
-
-pub returns : goal.returns
-returns c = by_pieces _ _ _ _ _ _ c.right_maps.ensures c.if-not-right_maps.false-raw c.good.ensures c.if-not-good.false-raw c.if-file-ne0.false c.if-file-eq0.false c.every_piece.ensures
