@@ -1,8 +1,8 @@
 /* A file of eight blocks, sent in another order and with one block twice, into flash that only a driver writes: each block goes through
- * uf2_take_through, which accepts it and has the driver perform the plan. The flash here is a small simulated NOR flash, which refuses what a real one cannot do: an
- * erase that is not at a sector's start, a page that is not at a multiple of its size or not in the flash, and a bit from 0 to 1, which only
- * an erase does. Prints for each block what was done, and the answer. Then the same file, with a driver that fails once: its transfer is
- * dropped, and the file sent again from its start, as the header says.
+ * uf2_take_through, which accepts it and has the driver perform the plan. The flash here is a small simulated NOR flash, which refuses what a
+ * real one cannot do: an erase that is not at a sector's start, a page that is not at a multiple of its size or not in the flash, and a bit
+ * from 0 to 1, which only an erase does. Prints the answer to each block and what was done. Then the same file, with a driver that fails once:
+ * its transfer is dropped, and the file sent again from its start, as the header says.
  *
  *     gcc -std=c99 example_flash.c $(pkg-config --cflags --libs vantorel) -o example_flash
  *
@@ -39,7 +39,7 @@ static int flash_erase(void *with, uint32_t sector) {
         return -1;
     memset(mapped + sector, 0xFF, UF2_SECTOR_SIZE);
     erased[sector / UF2_SECTOR_SIZE]++;
-    printf("erased 0x%04x, ", (unsigned)sector);
+    printf(", erased 0x%04x", (unsigned)sector);
     return 0;
 }
 
@@ -54,7 +54,7 @@ static int flash_program(void *with, uint32_t page, const uint8_t *bytes) {
             return -1; /* a bit from 0 to 1 */
     for (i = 0; i < UF2_PAYLOAD_SIZE; i++)
         mapped[page + i] &= bytes[i];
-    printf("programmed 0x%04x, ", (unsigned)page);
+    printf(", programmed 0x%04x", (unsigned)page);
     return 0;
 }
 
@@ -65,15 +65,17 @@ static const struct uf2_driver driver = {mapped, sizeof mapped, flash_erase, fla
 static uint8_t settings[UF2_SETTINGS_SIZE], arrival[UF2_ARRIVAL_SIZE];
 static struct uf2_buffers board;
 
-/* Takes the arrival through the driver: the answer, or 0 where the driver failed. The transfer is then dropped, and the file has to be sent again. */
+/* Takes the arrival through the driver: the answer, or 0 where the driver failed. The transfer is then dropped, and the file has to be sent again.
+ * The look is for the printed line alone: the answer stands before what the driver says, and where the driver fails, a take has none. */
 static uint32_t receive(void) {
-    struct uf2_outcome outcome;
+    struct uf2_outcome seen = uf2_look_at(&board, mapped, sizeof mapped, arrival, sizeof arrival), outcome;
 
+    printf("%u", (unsigned)seen.answer);
     if (uf2_take_through(&board, &driver, arrival, sizeof arrival, &outcome) != 0) {
-        printf("the driver failed\n");
+        printf(", the driver failed\n");
         return 0;
     }
-    printf("%u\n", (unsigned)outcome.answer);
+    printf(outcome.answer == seen.answer ? "\n" : ", and the take answers otherwise\n");
     return (uint32_t)outcome.answer;
 }
 

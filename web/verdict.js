@@ -3,7 +3,7 @@ import { missingPages, someKept, standsThere } from './pages.js';
 import { ARRIVAL, readBlock } from './block.js';
 import { SECTOR } from './board.js';
 import { N } from './numbers.js';
-import { answerWords, familyName, pageSentence, pageWords, reasonWords } from './words.js';
+import { answerWords, familyName, pageSentence, reasonWords } from './words.js';
 import { text } from './text.js';
 
 const LISTED = 4;
@@ -29,8 +29,8 @@ function rightAnswer(session, page) {
 
 // A missing page in words: why the board refuses its block, or what stands where it belongs; and that its block never came, where that is so.
 function missingWords(session, run, file, page) {
-  if (page.refused) return pageWords(page, page.address, text.verdict.rightAnswer(...rightAnswer(session, page)));
-  if (!page.storage) return page.name ? text.verdict.namedNowhere(page.number, text.pages[page.name]) : text.verdict.neverNowhere(page.number);
+  if (page.refused) return text.verdict.page(page.number, page.address, text.verdict.rightAnswer(...rightAnswer(session, page)));
+  if (!page.storage) return text.verdict.neverNowhere(page.number);
   const there = standsThere(run.receiver, page, file);
   if (page.piece) return pageSentence(page, there);
   return text.verdict.never(page.number, pageSentence({ ...page, address: text.verdict.likely(page.address) }, there));

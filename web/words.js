@@ -66,15 +66,10 @@ export function faultWords(checked) {
   return unspoken ? text.file.unspoken(fault) : text.file.notValid(fault);
 }
 
-// What is said of a page, with its name where it has one. `address` is a number, or words.
-export function pageWords(page, address, said) {
-  return page.name ? text.verdict.namedPage(page.number, address, said, text.pages[page.name]) : text.verdict.page(page.number, address, said);
-}
-
 export function pageSentence(page, there) {
   const start = Array.from(there.start ?? [], (x) => x.toString(16).toUpperCase().padStart(2, '0')).join(' ');
   const words = text.verdict.stands[there.what];
-  return pageWords(page, page.address, typeof words === 'function' ? words(there.number, start) : words);
+  return text.verdict.page(page.number, page.address, typeof words === 'function' ? words(there.number, start) : words);
 }
 
 // The command line that plays a file of arrivals into this board, or null where it has no words for the board: partitions.

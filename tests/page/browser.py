@@ -44,7 +44,7 @@ def lessons(page):
         words = page.text("#proved .verdict")
         for part in ["1 of 8 pages is missing", "block 5", "0x10000500", "there stands 0xFF, erased"]:
             assert part in words, words
-        assert "IT SAYS COMPLETE, AND A PAGE IS MISSING" in page.text("#wrong .verdict")
+        assert "GREEN, AND A PAGE IS MISSING" in page.text("#wrong .verdict")
         equal(page.grid("proved"), {"lent": 112, "erased": 8, "stored": 7, "missing": 1})
         equal([page.colour("proved", k) for k in (0, 4, 5, 7, 40)], [STORED, STORED, MISSING, STORED, LENT], "colours of the grid")
         equal([page.text(f"#proved [data-stat={name}] .stat-number") for name in ("counted", "arrived")], ["7 of 8", "8"])
@@ -119,10 +119,10 @@ def lessons(page):
         equal(page.log()[-1][4], "15 Completed")
         equal([page.verdict("proved"), page.lamp("proved")], ["unspoken", ["done", "true"]])
         words = page.words("proved")
-        equal(words[0], "IT SAYS COMPLETE, AND A PAGE IS MISSING")
+        equal(words[0], "GREEN, AND A PAGE IS MISSING")
         assert "The file is at fault" in words[1] and "vantorel check" in words[1], words
         assert words[2].endswith("block 2 differs."), words
-        equal(words[3:], ["Page of block 2, the reading, for 0x10000200: there stands the page of block 5."])
+        equal(words[3:], ["Page of block 2, for 0x10000200: there stands the page of block 5."])
         equal([page.colour("proved", k) for k in (1, 2, 3)], [STORED, MISSING, STORED], "colours of the grid")
         page.lesson("lostPage")
         equal(page.fault(), "", "gone with the next lesson")
@@ -135,9 +135,9 @@ def lessons(page):
         equal([row[4] for row in page.log()], ["14 Written"] * 3 + ["13 Again"] * 3 + ["14 Written"] * 2 + ["15 Completed"])
         equal([page.verdict("proved"), page.lamp("proved")], ["unspoken", ["done", "true"]])
         words = page.words("proved")
-        equal(words[0], "IT SAYS COMPLETE, AND 3 PAGES ARE MISSING")
+        equal(words[0], "GREEN, AND 3 PAGES ARE MISSING")
         assert "uf2_stands" in words[2] and words[2].endswith("blocks 0, 1, 2 differ."), words
-        equal(words[3], "Page of block 0, the start, for 0x10000000: there stands the page of another block 0.")
+        equal(words[3], "Page of block 0, for 0x10000000: there stands the page of another block 0.")
         equal([page.colour("proved", k) for k in (0, 2, 3, 5)], [MISSING, MISSING, STORED, STORED], "colours of the grid")
         # as a person would: the list saved and opened as a file ends no better
         saved = page.saved()
@@ -145,7 +145,7 @@ def lessons(page):
         page.until(lambda: "mixed.uf2" in page.text("#file-note"), "the file")
         equal(page.fault(), "This file is not valid for this board: the proof does not speak of it. Piece 3 and piece 0 have the same number.")
         page.end()
-        equal([page.verdict("proved"), page.lamp("proved"), page.words("proved")[0]], ["unspoken", ["done", "true"], "IT SAYS COMPLETE, AND 3 PAGES ARE MISSING"])
+        equal([page.verdict("proved"), page.lamp("proved"), page.words("proved")[0]], ["unspoken", ["done", "true"], "GREEN, AND 3 PAGES ARE MISSING"])
 
 
 def playing(page):
@@ -341,7 +341,7 @@ def not_of_the_proof(page):
         page.end()
         why = "A comment and a data block both have the number 7, so the proof does not speak of this list."
         words = page.words("proved")
-        equal([*words[:2], words[3]], ["IT SAYS COMPLETE, AND A PAGE IS MISSING", why, "Page of block 7, the words, for 0x10000700: there stands 0xFF, erased."])
+        equal([*words[:2], words[3]], ["GREEN, AND A PAGE IS MISSING", why, "Page of block 7, for 0x10000700: there stands 0xFF, erased."])
         equal(page.lamp("proved"), ["done", "true"])
         # the file itself is valid
         equal(page.fault(), "")
@@ -353,7 +353,7 @@ def not_of_the_proof(page):
         page.until(lambda: "address.uf2" in page.text("#file-note"), "the file")
         page.end()
         equal(page.fault(), "This file is not valid for this board: the proof does not speak of it. Piece 40 and piece 3 hold the same address.")
-        equal(page.words("proved")[0], "IT SAYS COMPLETE, AND A PAGE IS MISSING")
+        equal(page.words("proved")[0], "GREEN, AND A PAGE IS MISSING")
         assert "does not speak" not in page.text("#proved .verdict"), page.text("#proved .verdict")
         # the sentence is above both receivers, and in sight before the first arrival
         page.press("#to-start")
@@ -364,7 +364,7 @@ def not_of_the_proof(page):
         page.until(lambda: "families.uf2" in page.text("#file-note"), "the file")
         page.end()
         why = "Arrival 1 is of another file, data and 6 blocks, and what that file stored stays, so the proof does not speak of this list."
-        equal(page.words("proved"), ["IT SAYS COMPLETE, AND BYTES OUTSIDE OF THE FILE HAVE CHANGED", why])
+        equal(page.words("proved"), ["GREEN, AND BYTES OUTSIDE OF THE FILE HAVE CHANGED", why])
         equal(page.fault(), "This file is not valid for this board. Piece 2's family is not the first piece's.")
 
     @check("a file for RAM on a board without it, and one without families: the verdict has the library's reason")

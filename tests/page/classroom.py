@@ -233,7 +233,7 @@ def guessing(page):
         hands(1, [1, 0, 0, 0, 0, 0, 9])
         press_show()
         equal(result(1), "9 of 10 were right.")
-        assert "IT SAYS COMPLETE, AND A PAGE IS MISSING" in page.text("#guess")
+        assert "GREEN, AND A PAGE IS MISSING" in page.text("#guess")
         equal([word for word in secrets(shown_of_view()) if word in ("PROVED", "WRONG", "It counts arrivals")], [], "names before the last question")
         hands(2, [7, 7, 0])
         press_show()
@@ -286,7 +286,7 @@ def printing(driver, page):
             page.lesson(lesson)
             equal(choose("handout"), "page")
             words = page.text("#handout")
-            assert "14 Written" not in words and "Completed:" not in words and "IT SAYS" not in words, words
+            assert "14 Written" not in words and "Completed:" not in words and "GREEN" not in words, words
             counts[f"handout_{lesson}"] = pages(f"handout_{lesson}")
             page.js("delete document.body.dataset.print")
             equal(choose("trainer"), "page")

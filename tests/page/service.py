@@ -137,13 +137,13 @@ def scenes(page):
         equal(page.text("#service-hint"), "Only for the sample of at least 4 pages: what the pages of another file do is not known here.")
         equal(page.get("#to-service").is_enabled(), False)
 
-    @check("the pages have names: on the buttons, in the grid and in the verdict")
+    @check("the pages have names on the buttons and in the grid, and none in the verdict")
     def _():
         page.lesson("lostPage")
         equal(page.js("return [...document.querySelectorAll('#blocks button')].map((n) => n.textContent)")[5], "5✕the timeout")
         equal(page.get("[data-block='5']").get_attribute("aria-label"), "Block 5, the timeout: dropped")
         page.end()
-        words = "Page of block 5, the timeout, for 0x10000500: there stands 0xFF, erased."
+        words = "Page of block 5, for 0x10000500: there stands 0xFF, erased."
         equal([page.words("proved")[1], page.words("wrong")[1]], [words, words])
         canvas = page.get("#wrong [data-memory=flash] canvas")
         for _ in range(6):

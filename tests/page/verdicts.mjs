@@ -5,7 +5,7 @@ import { chance, check, libraryModule, load, stored, storedText } from './common
 
 const { Libraries } = await load('wasm.js');
 const { FAMILY, newBoard, newEntry } = await load('board.js');
-const { PAYLOAD_AT, changed } = await load('block.js');
+const { changed } = await load('block.js');
 const { LESSONS, lessonParts, samplePieces } = await load('lessons.js');
 const { arrivalList, newPlan } = await load('arrivals.js');
 const { EXTRAS } = await load('maker.js');
@@ -63,8 +63,7 @@ async function everyReceiver(board, pieces) {
 
 const expected = JSON.parse(storedText('tests/page/verdicts.json'));
 const eight = await sample(8);
-// blocks of no sample, as browser.py makes them: their pages have no names
-const twentyFour = (await sample(24)).map((piece, k) => changed(piece, {}).fill(k, PAYLOAD_AT, PAYLOAD_AT + 256));
+const twentyFour = await sample(24);
 const upTo = (n) => Array.from({ length: n }, (_, k) => k);
 
 // ---- A block that never came
@@ -86,14 +85,14 @@ await check('a block that never came is named in both columns, for every receive
 
 await check('where the others do not lie in one piece, the address of a block that never came is not guessed', async () => {
   const pieces = [eight[0], changed(eight[1], { address: 0x10002000 }), ...eight.slice(3)];
-  assert.deepEqual(await provedWords(newBoard(), newPlan(pieces)), ['Not completed: 1 of 8 pages is missing.', 'Block 2, the reading, never came, and its address is not known.']);
+  assert.deepEqual(await provedWords(newBoard(), newPlan(pieces)), ['Not completed: 1 of 8 pages is missing.', 'Block 2 never came, and its address is not known.']);
 });
 
 await check('a comment that is lost, and the receiver that counts arrivals', async () => {
   const three = upTo(3).map((k) => changed(eight[k], { total: 3, flags: k === 1 ? 0x2001 : 0x2000 }));
   const [proved, wrong] = await played(newBoard(), newPlan(three, { times: new Map([[0, 2], [1, 0]]) }), 'countsArrivals');
   assert.deepEqual(said(proved), ['Not completed: 2 of 3 blocks have been counted.', 'Block 1, a comment, has not been counted.']);
-  assert.deepEqual(said(wrong), ['IT SAYS COMPLETE, AND A BLOCK WAS NOT COUNTED', 'Block 1, a comment, has not been counted.']);
+  assert.deepEqual(said(wrong), ['GREEN, AND A BLOCK WAS NOT COUNTED', 'Block 1, a comment, has not been counted.']);
 });
 
 await check('every lesson saved and opened as a file: the proved receiver ends as it did in the lesson, and no wrong one is called right', async () => {
@@ -117,27 +116,27 @@ await check('a comment with the number of a data block: the page says why the pr
   const { board, plan } = await libraries.use((library) => lessonParts(library, LESSONS[2]));
   const extras = [{ kind: 'comment', after: 1, bytes: EXTRAS.comment(plan.pieces[1], 8) }];
   const why = 'A comment and a data block both have the number 7, so the proof does not speak of this list.';
-  const page = 'Page of block 7, the words, for 0x10000700: there stands 0xFF, erased.';
+  const page = 'Page of block 7, for 0x10000700: there stands 0xFF, erased.';
   const [proved, wrong] = await played(board, { ...plan, extras }, 'clearsOneMap');
-  assert.deepEqual(said(proved), ['IT SAYS COMPLETE, AND A PAGE IS MISSING', why, remedy('block 7 differs'), page]);
-  assert.deepEqual(said(wrong), ['IT SAYS COMPLETE, AND A PAGE IS MISSING', why, page]);
+  assert.deepEqual(said(proved), ['GREEN, AND A PAGE IS MISSING', why, remedy('block 7 differs'), page]);
+  assert.deepEqual(said(wrong), ['GREEN, AND A PAGE IS MISSING', why, page]);
   // also where the data block is never sent
-  assert.deepEqual(await provedWords(board, { ...plan, extras, times: new Map([[7, 0]]) }), ['IT SAYS COMPLETE, AND A PAGE IS MISSING', why, remedy('block 7 differs'), page]);
+  assert.deepEqual(await provedWords(board, { ...plan, extras, times: new Map([[7, 0]]) }), ['GREEN, AND A PAGE IS MISSING', why, remedy('block 7 differs'), page]);
 });
 
 await check('two blocks with one address: told once, over the receivers of a file and in the verdict of a list', async () => {
   const pieces = (await sample(41)).map((piece, k) => (k === 40 ? changed(piece, { address: 0x10000300 }) : piece));
-  const page = 'Page of block 3, the screen, for 0x10000300: there stands the page of block 40.';
+  const page = 'Page of block 3, for 0x10000300: there stands the page of block 40.';
   assert.equal(await faultOf(newBoard(), pieces), 'This file is not valid for this board: the proof does not speak of it. Piece 40 and piece 3 hold the same address.');
-  assert.deepEqual(await provedWords(newBoard(), newPlan(pieces)), ['IT SAYS COMPLETE, AND A PAGE IS MISSING', FILE_AT_FAULT, remedy('block 3 differs'), page]);
+  assert.deepEqual(await provedWords(newBoard(), newPlan(pieces)), ['GREEN, AND A PAGE IS MISSING', FILE_AT_FAULT, remedy('block 3 differs'), page]);
   assert.deepEqual(await provedWords(newBoard(), listOf(pieces)), [
-    'IT SAYS COMPLETE, AND A PAGE IS MISSING',
+    'GREEN, AND A PAGE IS MISSING',
     'Block 3 and block 40 name the same address, 0x10000300, so the proof does not speak of this list.',
     remedy('block 3 differs'),
     page,
   ]);
   // a wrong receiver keeps its alarm, and the file is told for it too
-  assert.deepEqual(said((await played(newBoard(), newPlan(pieces), 'countsArrivals'))[1]), ['IT SAYS COMPLETE, AND A PAGE IS MISSING', page]);
+  assert.deepEqual(said((await played(newBoard(), newPlan(pieces), 'countsArrivals'))[1]), ['GREEN, AND A PAGE IS MISSING', page]);
 });
 
 await check('lesson 9, two blocks with one address: the file is at fault, and the green display is not called right', async () => {
@@ -147,7 +146,7 @@ await check('lesson 9, two blocks with one address: the file is at fault, and th
     return [faultWords(session.checked), found, lampOf(session.proved, found)];
   });
   assert.equal(fault, 'This file is not valid for this board: the proof does not speak of it. Piece 5 and piece 2 hold the same address.');
-  assert.deepEqual(said(verdict), ['IT SAYS COMPLETE, AND A PAGE IS MISSING', FILE_AT_FAULT, remedy('block 2 differs'), 'Page of block 2, the reading, for 0x10000200: there stands the page of block 5.']);
+  assert.deepEqual(said(verdict), ['GREEN, AND A PAGE IS MISSING', FILE_AT_FAULT, remedy('block 2 differs'), 'Page of block 2, for 0x10000200: there stands the page of block 5.']);
   assert.deepEqual([lamp.state, lamp.wrongly], ['done', true]);
 });
 
@@ -157,18 +156,18 @@ await check('lesson 10, another build of the same size: Completed over a mixture
     const found = verdictOf(session, session.proved);
     return [faultWords(session.checked), [...session.proved.answers], found, lampOf(session.proved, found)];
   });
-  const pages = upTo(3).map((k) => `Page of block ${k}, ${['the start', 'the socket', 'the reading'][k]}, for 0x10000${k}00: there stands the page of another block ${k}.`);
+  const pages = upTo(3).map((k) => `Page of block ${k}, for 0x10000${k}00: there stands the page of another block ${k}.`);
   const why = 'Two different blocks have the number 0, so the proof does not speak of this list.';
   assert.deepEqual([fault, answers], ['', [14, 14, 14, 13, 13, 13, 14, 14, 15]]);
-  assert.deepEqual(said(verdict), ['IT SAYS COMPLETE, AND 3 PAGES ARE MISSING', why, remedy('blocks 0, 1, 2 differ'), ...pages]);
+  assert.deepEqual(said(verdict), ['GREEN, AND 3 PAGES ARE MISSING', why, remedy('blocks 0, 1, 2 differ'), ...pages]);
   assert.deepEqual([lamp.state, lamp.wrongly], ['done', true]);
   // saved and opened, the first of two blocks is the first build's, which stands: the other build's are missed all the same
   const arrivals = arrivalList(plan).map(({ bytes }) => bytes);
   assert.deepEqual(await provedWords(board, listOf(arrivals)), said(verdict));
-  assert.deepEqual(await provedWords(board, newPlan(arrivals)), ['IT SAYS COMPLETE, AND 3 PAGES ARE MISSING', FILE_AT_FAULT, remedy('blocks 0, 1, 2 differ'), ...pages]);
+  assert.deepEqual(await provedWords(board, newPlan(arrivals)), ['GREEN, AND 3 PAGES ARE MISSING', FILE_AT_FAULT, remedy('blocks 0, 1, 2 differ'), ...pages]);
   // a block of the first build that comes after the other is complete: green is right until then
   const late = { ...plan, extras: [{ ...plan.extras[0], after: 6 }] };
-  assert.equal((await provedWords(board, late))[0], 'IT SAYS COMPLETE, AND A PAGE IS MISSING');
+  assert.equal((await provedWords(board, late))[0], 'GREEN, AND A PAGE IS MISSING');
   const session = await Session.open(libraries, board, late, null);
   await session.moveTo(6);
   assert.equal(verdictOf(session, session.proved).kind, 'completed');
@@ -180,7 +179,7 @@ await check('lesson 10, another build of the same size: Completed over a mixture
 await check('a file of two families', async () => {
   const earlier = eight.slice(0, 2).map((piece, k) => changed(piece, { family: FAMILY.data, total: 6, address: 0x10004000 + 256 * k }));
   assert.deepEqual(await provedWords(newBoard(), newPlan([...earlier, ...eight])), [
-    'IT SAYS COMPLETE, AND BYTES OUTSIDE OF THE FILE HAVE CHANGED',
+    'GREEN, AND BYTES OUTSIDE OF THE FILE HAVE CHANGED',
     'Arrival 1 is of another file, data and 6 blocks, and what that file stored stays, so the proof does not speak of this list.',
   ]);
 });
@@ -328,7 +327,7 @@ await check('a page that is refused, and a wrong receiver that takes it: the rig
   const [proved, wrong] = await played(newBoard(), newPlan([far]), 'addsIn32Bits');
   const why = await reasonOf(far);
   assert.deepEqual(said(proved), ['Not completed: no block of the file was accepted.', `Arrival 1: 11 BadAddress. ${why}`]);
-  assert.deepEqual(said(wrong), ['IT SAYS COMPLETE, AND THE FILE IS NOT WHERE IT BELONGS', `The right answer to block 0 is 11 BadAddress. ${why} The pages went somewhere else.`]);
+  assert.deepEqual(said(wrong), ['GREEN, AND THE FILE IS NOT WHERE IT BELONGS', `The right answer to block 0 is 11 BadAddress. ${why} The pages went somewhere else.`]);
   const three = upTo(3).map((k) => changed(eight[k], { total: 3, address: k === 2 ? 0x10000280 : 0x10000000 + 256 * k }));
   assert.deepEqual(await provedWords(newBoard(), newPlan(three)), [
     'Not completed: 1 of 3 pages is missing.',

@@ -89,7 +89,7 @@ def marking(page):
         page.until(lambda: page.text("#position") == "Arrival 2 of 2", "the list")
         equal([page.text("#wrong-stamp"), page.text("#wrong-name")], ["YOURS", "Your receiver"])
         equal([page.lamp("proved")[0], page.lamp("wrong")], ["running", ["done", "true"]])
-        assert "IT SAYS COMPLETE, AND A PAGE IS MISSING" in page.text("#wrong .verdict")
+        assert "GREEN, AND A PAGE IS MISSING" in page.text("#wrong .verdict")
         rows = page.log()
         equal([rows[1][4], rows[1][6]], ["13 Again", "15 Completed ≠"])
 

@@ -234,8 +234,15 @@ fn what_has_to_be_checked() {
         );
         assert!(after.contains("overlaps no other of the call"), "{page}");
     }
-    // the example for a board lends no slice by hand
+    // the example for a board lends no array twice
     let text = text("docs/BOARD.md");
+    let (_, call) = text.split_once("*result = uf2_accept(").expect("a call");
+    let (call, _) = call.split_once(");").expect("its end");
+    let lent: Vec<&str> = call.split(',').map(str::trim).collect();
+    let rams = [lent[12], lent[14]];
+    assert_eq!([lent[13], lent[15]], ["0", "0"]);
+    assert_ne!(rams[0], rams[1]);
+    // and the one before it, with vantorel.h, lends no slice by hand
     let (_, example) = text.split_once("```c\n").expect("an example");
     let (example, _) = example.split_once("```").expect("its end");
     assert!(example.contains("uf2_take_through(") && !example.contains("uf2_accept("));
