@@ -1,18 +1,16 @@
 -- Where lines end, and the lines from an index on. Assumes nothing.
 use Prim.Native.Nat.{ℕ, suc, min, ◌+◌, ◌-◌, ◌≤◌, ◌<◌}
 use mathlib.Core.Path.{◌≡◌, refl, sym, ap, ◌∙◌}
-use mathlib.Core.Bool.{cond, not}
+use mathlib.Core.Bool.{cond}
+use mathlib.Core.Logic.{◌≢◌}
 use mathlib.Core.List.{List, [], ◌∷◌}
 use native.Mathlib.Omega.{arith}
 use lib.Dec.{eqb, ltb}
-use lib.ListN.{length, take, drop, length-drop}
-use lib.Seq.{drop-drop}
-use borrow.Author.Tests.{lt-ltb, le-ltb, ltb-true, ltb-false, eqb-true}
+use lib.ListN.{length, get_or, take, drop, length-drop, drop_of_length-le}
+use lib.Seq.{drop-drop, drop-cons}
+use borrow.Author.Tests.{lt-ltb, le-ltb, eq-eqb, ne_eqb, ltb-true, ltb-false, eqb-true}
 use Rattle.laws.proofs.Tests.{split}
 use Rattle.std.specs.List.{position_or_len}
-use Rattle.std.proofs.Common.{Option, Some, None}
-use Rattle.std.proofs.lemmas.Option.{cond_some, none-some}
-use Rattle.std.proofs.lemmas.List.Sums.{prefix_len-le-length}
 use Rattle.ihex_file.specs.Lines.{glue, lines_of, line_len, end_of}
 
 -- ---- the first line
@@ -99,23 +97,36 @@ ends_at s at r e = (e, (rw e (end_most s at), rw e (end_after s at)))
 pub ends_past : (s : List ℕ) (at : ℕ) → length s ≤ at → Ends s at (length s)
 ends_past s at h = ends_at s at (length s) (unfold end_of in rw (le-ltb at (length s) h))
 
--- what the search in the text from an index on gives
-module _ (s : List ℕ) (at : ℕ) (inside : at < length s) where
-  abbrev found : Option ℕ
-  found = cond (ltb (first_lf (drop at s)) (length (drop at s))) (Some (first_lf (drop at s))) None
-
-  pub ends_lf : (k : ℕ) → found ≡ Some k → Ends s at (at + k + 1)
+-- the search from an index on found f
+module _ (s : List ℕ) (at f : ℕ) (inside : at < length s) (found : f ≡ at + first_lf (drop at s)) where
+  pub ends_lf : f < length s → Ends s at (f + 1)
   unfolding end_of
-  ends_lf k e =
-      let f = cond_some (ltb (first_lf (drop at s)) (length (drop at s))) (first_lf (drop at s)) k e in
-      ends_at s at (at + k + 1) (rw (lt-ltb at (length s) inside, len_index (drop at s), f.0, f.1) (omega arith))
+  ends_lf h =
+      let k = first_lf (drop at s) in
+      ends_at s at (f + 1)
+      (rw (lt-ltb at (length s) inside, len_index (drop at s), lt-ltb k (length (drop at s)) (omega (arith, length-drop at s, found))) (omega (arith, found)))
 
-  pub ends_text : found ≡ None → Ends s at (length s)
+  pub ends_text : length s ≤ f → Ends s at f
   unfolding end_of
-  ends_text e =
-      split (ltb (first_lf (drop at s)) (length (drop at s)))
-      (λ y. absurd (none-some (first_lf (drop at s)) (sym (rw y at e))))
-      (λ n.
-      let h = ltb-false (first_lf (drop at s)) (length (drop at s)) n in
-      ends_at s at (length s)
-      (rw (lt-ltb at (length s) inside, len_index (drop at s), n) (omega (arith, length-drop at s, prefix_len-le-length (λ x. not (eqb x 10)) (drop at s)))))
+  ends_text h =
+      let k = first_lf (drop at s) in
+      ends_at s at f
+      (rw (lt-ltb at (length s) inside, len_index (drop at s), le-ltb k (length (drop at s)) (omega (arith, length-drop at s, found))) found)
+
+-- ---- a byte sought from an index on
+
+abbrev pub first_of : ℕ → List ℕ → ℕ
+first_of b s = position_or_len (λ x. eqb x b) s
+
+module _ (b : ℕ) (s : List ℕ) (i : ℕ) where
+  pub found_here : i < length s → get_or s i 0 ≡ b → first_of b (drop i s) ≡ 0
+  found_here l e = rw (drop-cons s i 0 l, eq-eqb (get_or s i 0) b e) refl
+
+  pub found_later : i < length s → get_or s i 0 ≢ b → first_of b (drop i s) ≡ 1 + first_of b (drop (i + 1) s)
+  found_later l e = rw (drop-cons s i 0 l, ne_eqb (get_or s i 0) b e, suc_is) refl
+    where
+      suc_is : i + 1 ≡ suc i
+      suc_is = omega arith
+
+  pub found_none : length s ≤ i → first_of b (drop i s) ≡ 0
+  found_none l = rw (drop_of_length-le s l) refl
