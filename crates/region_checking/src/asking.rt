@@ -74,7 +74,7 @@ fn ask_region(
 
 // What is wrong with the region of piece i, where it names one that counts in a place of so many bytes. A marked piece is in a region that was found
 // right.
-pub fn ask(
+pub(crate) fn ask(
     size: usize,
     file: &[u8],
     i: usize,

@@ -1,7 +1,7 @@
 // The regions of a file checked (02, L9), after the check of the file: every region that a piece names, once.
 #![tactic(auto)]
 
-pub mod asking;
+mod asking;
 mod inside;
 mod laying;
 mod marking;
